@@ -1,0 +1,30 @@
+//! The types of a trace, and what a scheduler and a suballocator promise.
+#![tactic(auto)]
+
+mod command;
+mod config;
+mod copying;
+mod entry;
+mod layout;
+mod masks;
+mod resource;
+mod rule;
+mod scheduler;
+mod sequence;
+mod suballoc;
+
+pub use command::{
+    BufferCopy, BufferElement, BufferImageCopy, Cmd, Dependency, Element, Families, ImageCopy,
+    ImageElement, Length, SubresourceRange,
+};
+pub use config::Config;
+pub use entry::{Batch, Entry, SemaphoreSubmit, SemaphoreValue};
+pub use layout::{Format, Layout};
+pub use masks::{Accesses, Stages, Usage};
+pub use resource::{
+    BufferInfo, ImageInfo, Kind, MemoryInfo, Need, Place, PoolInfo, PoolKind, Sharing, Spot,
+};
+pub use rule::{At, Rule};
+pub use scheduler::{First, Scheduler};
+pub use sequence::Sequence;
+pub use suballoc::{SubFault, Suballoc};

@@ -1,0 +1,109 @@
+use crate::layout::Format;
+use crate::masks::Usage;
+
+/// Whether a resource belongs to one queue family at a time, as `VkSharingMode`.
+#[derive(Clone, Copy, PartialEq, Eq, Debug)]
+pub enum Sharing {
+    /// One family at a time owns the resource.
+    Exclusive,
+    /// All families use it, and none owns it.
+    Concurrent,
+}
+
+/// How the bytes of a resource lie, as `VkImageTiling`; a buffer is linear.
+#[derive(Clone, Copy, PartialEq, Eq, Debug)]
+pub enum Kind {
+    /// Row by row.
+    Linear,
+    /// Tile by tile.
+    Optimal,
+}
+
+/// Which algorithm places the allocations of a pool, as `VmaPoolCreateFlags`.
+#[derive(Clone, Copy, PartialEq, Eq, Debug)]
+pub enum PoolKind {
+    /// Two-level segregated fit, which can be defragmented.
+    Tlsf,
+    /// One allocation after the other: a stack, a ring or a double stack.
+    Linear,
+}
+
+/// Where a resource gets its memory.
+#[derive(Clone, Copy, PartialEq, Eq, Debug)]
+pub enum Place {
+    /// A memory object of its own, of this memory type.
+    Dedicated { memory_type: u32 },
+    /// A block of the pool.
+    Pool { pool: u32 },
+    /// The upper end of the only block of a linear pool.
+    PoolUpper { pool: u32 },
+    /// An offset in bytes in a memory object that the trace made.
+    Memory { memory: u32, offset: u64 },
+}
+
+/// What a pool is made with, as `VmaPoolCreateInfo`.
+#[derive(Clone, Copy, PartialEq, Eq, Debug)]
+pub struct PoolInfo {
+    pub kind: PoolKind,
+    pub memory_type: u32,
+    /// The bytes of each block.
+    pub block_size: u64,
+    /// How many blocks may stand at once.
+    pub block_limit: u32,
+}
+
+/// What a buffer is made with, as `VkBufferCreateInfo`, and its place.
+#[derive(Clone, Copy, PartialEq, Eq, Debug)]
+pub struct BufferInfo {
+    /// In bytes.
+    pub size: u64,
+    pub usage: Usage,
+    pub sharing: Sharing,
+    pub place: Place,
+}
+
+/// What an image is made with, as `VkImageCreateInfo`, and its place.
+#[derive(Clone, Copy, PartialEq, Eq, Debug)]
+pub struct ImageInfo {
+    pub format: Format,
+    /// In texels, of level 0.
+    pub width: u32,
+    /// In texels, of level 0.
+    pub height: u32,
+    pub levels: u32,
+    pub layers: u32,
+    pub tiling: Kind,
+    pub usage: Usage,
+    pub sharing: Sharing,
+    pub place: Place,
+}
+
+/// What a memory object is made with, as `VkMemoryAllocateInfo`.
+#[derive(Clone, Copy, PartialEq, Eq, Debug)]
+pub struct MemoryInfo {
+    pub memory_type: u32,
+    /// In bytes.
+    pub size: u64,
+}
+
+/// What a resource asks of the memory that it is put in, as `VkMemoryRequirements`.
+#[derive(Clone, Copy, PartialEq, Eq, Debug)]
+pub struct Need {
+    /// In bytes.
+    pub size: u64,
+    /// Its place starts at a multiple of this many bytes.
+    pub align: u64,
+    /// Bit `t` is set where memory type `t` is allowed.
+    pub types: u32,
+}
+
+/// A range of bytes of a memory object.
+#[derive(Clone, Copy, PartialEq, Eq, Debug)]
+pub struct Spot {
+    /// The number of the memory object.
+    pub memory: u32,
+    /// In bytes from the object's start.
+    pub offset: u64,
+    /// In bytes.
+    pub size: u64,
+}
