@@ -4,3 +4,6 @@
 mod memories;
 
 pub use memories::{MapState, Memories, MemoryFault};
+
+#[cfg(test)]
+mod tests;
