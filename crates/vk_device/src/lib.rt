@@ -1,2 +1,10 @@
-//! Not written yet.
+//! The device: it runs the entries of a trace on regions of memory.
 #![tactic(auto)]
+
+mod applied;
+mod device;
+mod replaying;
+
+pub use applied::{Applied, ApplyFault};
+pub use device::Device;
+pub use replaying::{Replayed, replay};

@@ -1,4 +1,64 @@
-//! Not written yet.
+//! `replay`: reads a trace from standard input, and writes what it gives to standard output.
 #![tactic(auto)]
 
-fn main() {}
+mod exit;
+mod options;
+
+use exit::exit_status;
+use options::{Options, OptionsFault};
+use std::io;
+use std::process::ExitCode;
+use std::rt::Env;
+use vk_model::First;
+use vk_trace::{RunFault, Watched, run};
+
+/// Where the words of the command line can't be had, or aren't understood.
+const COMMAND_LINE_REFUSED: u8 = 6;
+
+/// Prints a line to standard error. That it can't be printed changes no status.
+fn complain(rt: &impl Eprint, fault: RunFault) -> u8 {
+    let _unprinted = eprintln!(rt; "{fault}").is_err();
+    exit_status(Err(fault))
+}
+
+/// What the words of the command line ask for, or the exit status where they don't.
+fn chosen<R: Env + Eprint + AllocGlobal>(rt: &R) -> Result<Options, u8> {
+    let Ok(words) = std::env::args(rt) else {
+        return Err(COMMAND_LINE_REFUSED);
+    };
+    let Ok(words) = words.collect::<Vec<String>>(rt.alloc()) else {
+        return Err(complain(rt, RunFault::NoMemory));
+    };
+    match options::read(rt.alloc(), words.as_slice()) {
+        Ok(options) => Ok(options),
+        Err(OptionsFault::NoMemory) => Err(complain(rt, RunFault::NoMemory)),
+        Err(OptionsFault::Refused(text)) => {
+            let _unprinted = rt.eprint(&text).is_err();
+            Err(COMMAND_LINE_REFUSED)
+        }
+    }
+}
+
+/// Does what the command line asks, and answers the exit status.
+fn perform<R: Env + Input + Print + Eprint + AllocGlobal>(rt: &R) -> u8 {
+    let options = match chosen(rt) {
+        Ok(options) => options,
+        Err(status) => return status,
+    };
+    let mut reader = Watched::new(rt.reader());
+    let mut writer = Watched::new(io::writer(rt));
+    match run(
+        rt.alloc(),
+        &mut reader,
+        &mut writer,
+        options.config,
+        &mut First,
+    ) {
+        Ok(status) => exit_status(Ok(status)),
+        Err(fault) => complain(rt, fault),
+    }
+}
+
+fn main(rt: HostRuntime) -> ExitCode {
+    ExitCode::from(perform(&rt))
+}

@@ -1,0 +1,47 @@
+use std::alloc::{AllocError, AllocFailed};
+use thiserror::Error;
+use vk_model::Sequence;
+
+/// What an entry gave.
+#[derive(Debug, Drop)]
+pub enum Applied {
+    /// It was applied, and read nothing.
+    Done,
+    /// The bytes that the host read.
+    Bytes(Sequence<u8>),
+    /// Its allocation found no room. The device is as it was.
+    NoRoom,
+}
+
+/// Why an entry was not applied.
+#[derive(Clone, Copy, Debug, Drop, PartialEq, Eq, Error)]
+pub enum ApplyFault {
+    /// The program's own memory could not grow. The device answers `Failed` from now on.
+    #[error("no memory")]
+    NoMemory,
+    /// An earlier entry met `NoMemory`.
+    #[error("the device has failed before")]
+    Failed,
+}
+
+impl From<AllocError> for ApplyFault {
+    ghost use Rattle.vk_device.specs.declared.applied.ApplyFault.TheVariants.{NoMemory};
+    ghost use Rattle.std.specs.Prelude.{◌≡◌};
+
+    ghost from_gives = { λ _ e. e ≡ NoMemory };
+
+    fn from(_refused: AllocError) -> ApplyFault {
+        ApplyFault::NoMemory
+    }
+}
+
+impl<T: Drop> From<AllocFailed<T>> for ApplyFault {
+    ghost use Rattle.vk_device.specs.declared.applied.ApplyFault.TheVariants.{NoMemory};
+    ghost use Rattle.std.specs.Prelude.{◌≡◌};
+
+    ghost from_gives = { λ _ e. e ≡ NoMemory };
+
+    fn from(_refused: AllocFailed<T>) -> ApplyFault {
+        ApplyFault::NoMemory
+    }
+}

@@ -1,0 +1,77 @@
+use clap::error::ErrorKind;
+use clap::{Arg, Command, Error, value_parser};
+use std::alloc::{AllocError, Global};
+use vk_model::Config;
+
+/// What the command line asks for.
+#[derive(Drop)]
+pub struct Options {
+    pub config: Config,
+}
+
+/// Why the command line asks for nothing.
+#[derive(Drop)]
+pub enum OptionsFault {
+    NoMemory,
+    /// The words are refused, or ask for help; with the text to show.
+    Refused(Error),
+}
+
+impl From<AllocError> for OptionsFault {
+    fn from(_refused: AllocError) -> OptionsFault {
+        OptionsFault::NoMemory
+    }
+}
+
+impl From<Error> for OptionsFault {
+    fn from(error: Error) -> OptionsFault {
+        if error.kind() == ErrorKind::OutOfMemory {
+            OptionsFault::NoMemory
+        } else {
+            OptionsFault::Refused(error)
+        }
+    }
+}
+
+/// Bytes of each heap where nothing else is said.
+const HEAP_BYTES: u64 = 4_194_304;
+
+/// The command line of `replay`.
+fn command<'a>(alloc: Global) -> Result<Command<'a>, AllocError> {
+    let order = Arg::new(alloc, "order")
+        .long("order")
+        .value_name("ORDER")
+        .value_parser(["first"].as_slice())
+        .default_value("first")
+        .help("Which of the commands that may run next is run");
+    let heap0 = Arg::new(alloc, "heap0")
+        .long("heap0")
+        .value_name("BYTES")
+        .value_parser(value_parser!(u64).range(65_536..=67_108_864))
+        .default_value("4194304")
+        .help("The size of heap 0, device memory");
+    let heap1 = Arg::new(alloc, "heap1")
+        .long("heap1")
+        .value_name("BYTES")
+        .value_parser(value_parser!(u64).range(65_536..=67_108_864))
+        .default_value("4194304")
+        .help("The size of heap 1, host memory");
+    Command::new(alloc, "replay")
+        .about(
+            "Replays a trace of Vulkan transfers from standard input, or tells the first rule that it breaks",
+        )
+        .arg(order)?
+        .arg(heap0)?
+        .arg(heap1)
+}
+
+/// What the words ask for; the first word is the program's own name.
+pub fn read(alloc: Global, words: &[String]) -> Result<Options, OptionsFault> {
+    let matches = command(alloc)?.try_get_matches_from(words)?;
+    let heap0 = matches.get_one::<u64>("heap0").unwrap_or(HEAP_BYTES);
+    let heap1 = matches.get_one::<u64>("heap1").unwrap_or(HEAP_BYTES);
+    match Config::new(heap0, heap1) {
+        Some(config) => Ok(Options { config }),
+        None => Err(OptionsFault::NoMemory),
+    }
+}

@@ -1,0 +1,16 @@
+use Rattle.std.proofs.Common.{◌≤◌, ◌-◌, length, take, drop, arith, inl, inr, length-drop}
+use Rattle.std.proofs.lemmas.List.{length-take}
+use Rattle.vk_trace.proofs.ByteLemmas.{written_more, not_true}
+use Rattle.vk_trace.proofs.running.write_all.Goals as goal
+
+pub loop-preserved : goal.loop-preserved
+loop-preserved g c =
+    let bytes = c.args.bytes.now in
+    let sent = c.loop.sent in
+    let some = c.in-Ok.n-test.1 in
+    let bound : c.in-Ok.n ≤ length (take (length bytes - sent) (drop sent bytes)) = c.in-Ok.ensures.bound in record {
+      written = written_more _ _ _ bytes sent c.in-Ok.n c.loop.invariant.written c.in-Ok.ensures.bytes;
+      turns = omega arith;
+      within = omega (arith, bound, length-take (length bytes - sent) (drop sent bytes), length-drop sent bytes);
+      whole = not_true _ (λ h. elim (c.in-Ok.ensures.failed.0 h) [ inl a ↦ cc (c.loop.invariant.whole, a) | inr (inl b) ↦ cc b | inr (inr d) ↦ some (cc d) ]);
+    }

@@ -1,0 +1,130 @@
+-- Which bytes are a trace, and of which entries: tables with a row for each form. The format is our own (profile).
+-- A value of any other form is no trace.
+use Rattle.std.specs.Prelude.{◌≡◌, ℕ, ◌==◌, List, [], ◌∷◌, codes, Option, Some, None, option_map, if◌then◌else◌, IsUtf8}
+use Rattle.serde_json.specs.Data.{Data}
+use Rattle.serde_json.specs.Read.{read}
+use Rattle.serde_json.specs.Find.{as_str}
+use Rattle.vk_model.specs.declared.resource.Sharing.{Sharing}
+use Rattle.vk_model.specs.declared.resource.Sharing.TheVariants.{Exclusive, Concurrent}
+use Rattle.vk_model.specs.declared.resource.Place.{Place}
+use Rattle.vk_model.specs.declared.resource.Place.TheVariants.{Dedicated}
+use Rattle.vk_model.specs.declared.command.Length.{Length}
+use Rattle.vk_model.specs.declared.command.Length.TheVariants.{Bytes, Whole}
+use Rattle.vk_model.specs.declared.command.Dependency.{Dependency}
+use Rattle.vk_model.specs.declared.command.Element.{Element}
+use Rattle.vk_model.specs.declared.command.Element.TheVariants.{Memory}
+use Rattle.vk_model.specs.declared.command.Cmd.{Cmd}
+use Rattle.vk_model.specs.declared.command.Cmd.TheVariants.{Fill, Barrier}
+use Rattle.vk_model.specs.declared.entry.SemaphoreValue.{SemaphoreValue}
+use Rattle.vk_model.specs.declared.entry.SemaphoreSubmit.{SemaphoreSubmit}
+use Rattle.vk_model.specs.declared.entry.Batch.{Batch}
+use Rattle.vk_model.specs.declared.entry.Entry.{Entry}
+use Rattle.vk_model.specs.declared.entry.Entry.TheVariants.{Buffer, Map, Read, Semaphore, Wait, Submit}
+use Rattle.vk_trace.specs.Members.{Reader, Row, ◌>>=◌, from, ◌<*>◌, members, at_word, one_word, tagged, list_of, empty_list, u64_value, u32_value}
+
+-- profile: a number of bytes, or the word that stands for all to the end (`VK_WHOLE_SIZE`)
+unfoldable pub length_or_whole : Reader Length
+length_or_whole d = by_word (as_str d)
+  where
+    by_word : Option (List ℕ) → Option Length
+    by_word (Some word) = at_word ((codes "whole", Whole) ∷ []) word
+    by_word None = option_map Bytes (u64_value d)
+
+-- profile: source stages, source accesses, destination stages, destination accesses, as in `VkMemoryBarrier2`
+unfoldable pub dependency_value : Reader Dependency
+dependency_value = members (from dependency <*> u32_value <*> u32_value <*> u32_value <*> u32_value)
+  where
+    dependency : ℕ → ℕ → ℕ → ℕ → Dependency
+    dependency a b c d = record { source_stages = record { 0 = a }; source_accesses = record { 0 = b }; destination_stages = record { 0 = c }; destination_accesses = record { 0 = d } }
+
+-- profile: an element of a barrier, on all memory
+unfoldable pub memory_element : Reader Element
+memory_element d = option_map Memory (dependency_value d)
+
+-- profile: the words of commands and the members after each; elements of buffers and of images are not served yet
+unfoldable pub command_rows : List (List ℕ × Row Cmd)
+command_rows
+    -- buffer, offset, size, word
+    = (codes "fill", from Fill <*> u32_value <*> u64_value <*> length_or_whole <*> u32_value)
+    -- elements of memory, of buffers, of images
+    ∷ (codes "barrier", from (λ elements _ _. Barrier elements) <*> list_of memory_element <*> empty_list <*> empty_list)
+    ∷ []
+
+-- profile: a command is a word and its members
+unfoldable pub command_value : Reader Cmd
+command_value = tagged command_rows
+
+-- profile: semaphore, value, stages, as in `VkSemaphoreSubmitInfo`
+unfoldable pub semaphore_submit : Reader SemaphoreSubmit
+semaphore_submit = members (from submit <*> u32_value <*> u64_value <*> u32_value)
+  where
+    submit : ℕ → ℕ → ℕ → SemaphoreSubmit
+    submit semaphore value stages = record { semaphore = semaphore; value = value; stages = record { 0 = stages } }
+
+-- profile: waits, commands, signals, as in `VkSubmitInfo2`; waits are not served yet
+unfoldable pub batch_value : Reader Batch
+batch_value = members (from (λ _ commands signals. record { waits = []; commands = commands; signals = signals })
+    <*> empty_list <*> list_of command_value <*> list_of semaphore_submit)
+
+-- profile: semaphore, value
+unfoldable pub semaphore_value : Reader SemaphoreValue
+semaphore_value = members (from (λ semaphore value. record { semaphore = semaphore; value = value }) <*> u32_value <*> u64_value)
+
+-- profile: the number of a queue; only 0 is served yet
+unfoldable pub queue_value : Reader ℕ
+queue_value d = u32_value d >>= λ n. if n == 0 then Some n else None
+
+-- profile: the number of a memory type; 2 is not served yet
+unfoldable pub memory_type_value : Reader ℕ
+memory_type_value d = u32_value d >>= λ n. if n == 2 then None else Some n
+
+-- profile: the words of places and the members after each
+unfoldable pub place_rows : List (List ℕ × Row Place)
+place_rows
+    -- memory type
+    = (codes "dedicated", from Dedicated <*> memory_type_value)
+    ∷ []
+
+-- profile: a place is a word and its members
+unfoldable pub place_value : Reader Place
+place_value = tagged place_rows
+
+-- profile: the words of `VkSharingMode`
+unfoldable pub sharing_value : Reader Sharing
+sharing_value = one_word ((codes "exclusive", Exclusive) ∷ (codes "concurrent", Concurrent) ∷ [])
+
+-- profile: a buffer of an id, a size, a usage, a sharing and a place
+abbrev pub buffer : ℕ → ℕ → ℕ → Sharing → Place → Entry
+buffer id size usage sharing place = Buffer id (record { size = size; usage = record { 0 = usage }; sharing = sharing; place = place })
+
+-- profile: the words of entries and the members after each
+unfoldable pub entry_rows : List (List ℕ × Row Entry)
+entry_rows
+    -- id, size, usage, sharing, place
+    = (codes "buffer", from buffer <*> u32_value <*> u64_value <*> u32_value <*> sharing_value <*> place_value)
+    -- buffer
+    ∷ (codes "map", from Map <*> u32_value)
+    -- buffer, offset, size
+    ∷ (codes "read", from Read <*> u32_value <*> u64_value <*> u64_value)
+    -- id, initial value
+    ∷ (codes "semaphore", from Semaphore <*> u32_value <*> u64_value)
+    -- the values that the host waits for
+    ∷ (codes "wait", from Wait <*> list_of semaphore_value)
+    -- queue, batches
+    ∷ (codes "submit", from Submit <*> queue_value <*> list_of batch_value)
+    ∷ []
+
+-- profile: an entry is a word and its members
+unfoldable pub entry_value : Reader Entry
+entry_value = tagged entry_rows
+
+-- profile: a trace is an array of entries
+abbrev pub trace_value : Reader (List Entry)
+trace_value = list_of entry_value
+
+-- The bytes are UTF-8, and spell a value of JSON that stands for these entries.
+pub record IsTrace (bytes : List ℕ) (entries : List Entry) : Type 0 where
+  pub text : IsUtf8 bytes
+  pub value : Data
+  pub json : read bytes ≡ Some value
+  pub means : trace_value value ≡ Some entries

@@ -1,0 +1,97 @@
+ghost use Rattle.std.specs.Prelude.{map, codes};
+ghost use Rattle.serde_json.specs.View.{view};
+ghost use Rattle.vk_trace.specs.Members.{after_word};
+ghost use Rattle.vk_trace.specs.Trace.{length_or_whole, dependency_value, memory_element, command_rows, command_value};
+ghost use Rattle.vk_trace.specs.Gives.{Gives};
+
+use crate::faults::ReadTraceFault;
+use crate::members::{Member, Reading, end, first, list_members, word_first};
+use bitflags::Flags;
+use serde_json::Value;
+use std::alloc::Global;
+use vk_model::{Accesses, Cmd, Dependency, Element, Length, Stages};
+
+impl Member for Length {
+    ghost means = { length_or_whole };
+
+    #[tactic(auto, unfolding(crate::specs::Trace::length_or_whole))]
+    fn member(alloc: Global, value: &Value) -> Reading<Length> {
+        match value.as_str() {
+            Some("whole") => Ok(Length::Whole),
+            Some(_) => Err(ReadTraceFault::NotTrace),
+            None => Ok(Length::Bytes(u64::member(alloc, value)?)),
+        }
+    }
+}
+
+impl Member for Dependency {
+    ghost means = { dependency_value };
+
+    #[tactic(auto, unfolding(crate::specs::Trace::dependency_value))]
+    fn member(alloc: Global, value: &Value) -> Reading<Dependency> {
+        let rest = list_members(value)?;
+        let (source_stages, rest) = first::<u32>(alloc, rest)?;
+        let (source_accesses, rest) = first::<u32>(alloc, rest)?;
+        let (destination_stages, rest) = first::<u32>(alloc, rest)?;
+        let (destination_accesses, rest) = first::<u32>(alloc, rest)?;
+        end(rest)?;
+        Ok(Dependency {
+            source_stages: Stages::from_bits_retain(source_stages),
+            source_accesses: Accesses::from_bits_retain(source_accesses),
+            destination_stages: Stages::from_bits_retain(destination_stages),
+            destination_accesses: Accesses::from_bits_retain(destination_accesses),
+        })
+    }
+}
+
+/// A dependency on all memory.
+impl Member for Element {
+    ghost means = { memory_element };
+
+    #[tactic(auto, unfolding(crate::specs::Trace::memory_element))]
+    fn member(alloc: Global, value: &Value) -> Reading<Element> {
+        Ok(Element::Memory(Dependency::member(alloc, value)?))
+    }
+}
+
+impl Member for Cmd {
+    ghost means = { command_value };
+
+    #[tactic(auto, unfolding(crate::specs::Trace::command_value, crate::specs::Trace::command_rows))]
+    fn member(alloc: Global, value: &Value) -> Reading<Cmd> {
+        let (word, rest) = word_first(value)?;
+        match word {
+            "fill" => fill_of(alloc, rest),
+            "barrier" => barrier_of(alloc, rest),
+            _ => Err(ReadTraceFault::NotTrace),
+        }
+    }
+}
+
+#[tactic(auto, unfolding(crate::specs::Trace::command_rows))]
+fn fill_of(alloc: Global, rest: &[Value]) -> Reading<Cmd>
+    ensures { Gives (λ x. x) result (after_word command_rows (codes "fill") (map view rest.now)) }
+{
+    let (buffer, rest) = first::<u32>(alloc, rest)?;
+    let (offset, rest) = first::<u64>(alloc, rest)?;
+    let (size, rest) = first::<Length>(alloc, rest)?;
+    let (word, rest) = first::<u32>(alloc, rest)?;
+    end(rest)?;
+    Ok(Cmd::Fill {
+        buffer,
+        offset,
+        size,
+        word,
+    })
+}
+
+#[tactic(auto, unfolding(crate::specs::Trace::command_rows))]
+fn barrier_of(alloc: Global, rest: &[Value]) -> Reading<Cmd>
+    ensures { Gives (λ x. x) result (after_word command_rows (codes "barrier") (map view rest.now)) }
+{
+    let (elements, rest) = first(alloc, rest)?;
+    let ((), rest) = first::<()>(alloc, rest)?;
+    let ((), rest) = first::<()>(alloc, rest)?;
+    end(rest)?;
+    Ok(Cmd::Barrier { elements })
+}

@@ -1,0 +1,219 @@
+ghost use Rattle.std.specs.Prelude.{map, codes};
+ghost use Rattle.serde_json.specs.View.{view};
+ghost use Rattle.vk_trace.specs.Members.{after_word};
+ghost use Rattle.vk_trace.specs.Trace.{sharing_value, memory_type_value, place_rows, place_value, semaphore_value, semaphore_submit, batch_value, queue_value, entry_rows, entry_value};
+ghost use Rattle.vk_trace.specs.Gives.{Gives};
+
+use crate::faults::ReadTraceFault;
+use crate::members::{Member, Reading, end, first, list_members, text_of, word_first};
+use bitflags::Flags;
+use serde_json::Value;
+use std::alloc::Global;
+use vk_model::{
+    Batch, BufferInfo, Entry, Place, SemaphoreSubmit, SemaphoreValue, Sequence, Sharing, Stages,
+    Usage,
+};
+
+impl Member for Sharing {
+    ghost means = { sharing_value };
+
+    #[tactic(auto, unfolding(crate::specs::Trace::sharing_value))]
+    fn member(_alloc: Global, value: &Value) -> Reading<Sharing> {
+        match text_of(value)? {
+            "exclusive" => Ok(Sharing::Exclusive),
+            "concurrent" => Ok(Sharing::Concurrent),
+            _ => Err(ReadTraceFault::NotTrace),
+        }
+    }
+}
+
+impl Member for Place {
+    ghost means = { place_value };
+
+    #[tactic(auto, unfolding(crate::specs::Trace::place_value, crate::specs::Trace::place_rows))]
+    fn member(alloc: Global, value: &Value) -> Reading<Place> {
+        let (word, rest) = word_first(value)?;
+        match word {
+            "dedicated" => dedicated_of(alloc, rest),
+            _ => Err(ReadTraceFault::NotTrace),
+        }
+    }
+}
+
+#[tactic(auto, unfolding(crate::specs::Trace::place_rows))]
+fn dedicated_of(alloc: Global, rest: &[Value]) -> Reading<Place>
+    ensures { Gives (λ x. x) result (after_word place_rows (codes "dedicated") (map view rest.now)) }
+{
+    match rest {
+        [] => Err(ReadTraceFault::NotTrace),
+        [memory_type, rest @ ..] => {
+            let memory_type = memory_type_of(alloc, memory_type)?;
+            end(rest)?;
+            Ok(Place::Dedicated { memory_type })
+        }
+    }
+}
+
+#[tactic(auto, unfolding(crate::specs::Trace::memory_type_value))]
+fn memory_type_of(alloc: Global, value: &Value) -> Reading<u32>
+    ensures { Gives (λ x. x) result (memory_type_value (view value.now)) }
+{
+    match u32::member(alloc, value)? {
+        2 => Err(ReadTraceFault::NotTrace),
+        memory_type => Ok(memory_type),
+    }
+}
+
+impl Member for SemaphoreValue {
+    ghost means = { semaphore_value };
+
+    #[tactic(auto, unfolding(crate::specs::Trace::semaphore_value))]
+    fn member(alloc: Global, value: &Value) -> Reading<SemaphoreValue> {
+        let rest = list_members(value)?;
+        let (semaphore, rest) = first::<u32>(alloc, rest)?;
+        let (value, rest) = first::<u64>(alloc, rest)?;
+        end(rest)?;
+        Ok(SemaphoreValue { semaphore, value })
+    }
+}
+
+impl Member for SemaphoreSubmit {
+    ghost means = { semaphore_submit };
+
+    #[tactic(auto, unfolding(crate::specs::Trace::semaphore_submit))]
+    fn member(alloc: Global, value: &Value) -> Reading<SemaphoreSubmit> {
+        let rest = list_members(value)?;
+        let (semaphore, rest) = first::<u32>(alloc, rest)?;
+        let (value, rest) = first::<u64>(alloc, rest)?;
+        let (stages, rest) = first::<u32>(alloc, rest)?;
+        end(rest)?;
+        Ok(SemaphoreSubmit {
+            semaphore,
+            value,
+            stages: Stages::from_bits_retain(stages),
+        })
+    }
+}
+
+impl Member for Batch {
+    ghost means = { batch_value };
+
+    #[tactic(auto, unfolding(crate::specs::Trace::batch_value))]
+    fn member(alloc: Global, value: &Value) -> Reading<Batch> {
+        let rest = list_members(value)?;
+        let ((), rest) = first::<()>(alloc, rest)?;
+        let (commands, rest) = first(alloc, rest)?;
+        let (signals, rest) = first(alloc, rest)?;
+        end(rest)?;
+        Ok(Batch {
+            waits: Sequence::new(Vec::new(alloc)),
+            commands,
+            signals,
+        })
+    }
+}
+
+impl Member for Entry {
+    ghost means = { entry_value };
+
+    #[tactic(auto, unfolding(crate::specs::Trace::entry_value, crate::specs::Trace::entry_rows))]
+    fn member(alloc: Global, value: &Value) -> Reading<Entry> {
+        let (word, rest) = word_first(value)?;
+        match word {
+            "buffer" => buffer_of(alloc, rest),
+            "semaphore" => semaphore_of(alloc, rest),
+            "submit" => submit_of(alloc, rest),
+            "wait" => wait_of(alloc, rest),
+            "map" => map_of(alloc, rest),
+            "read" => read_of(alloc, rest),
+            _ => Err(ReadTraceFault::NotTrace),
+        }
+    }
+}
+
+#[tactic(auto, unfolding(crate::specs::Trace::entry_rows))]
+fn buffer_of(alloc: Global, rest: &[Value]) -> Reading<Entry>
+    ensures { Gives (λ x. x) result (after_word entry_rows (codes "buffer") (map view rest.now)) }
+{
+    let (id, rest) = first::<u32>(alloc, rest)?;
+    let (size, rest) = first::<u64>(alloc, rest)?;
+    let (usage, rest) = first::<u32>(alloc, rest)?;
+    let (sharing, rest) = first::<Sharing>(alloc, rest)?;
+    let (place, rest) = first::<Place>(alloc, rest)?;
+    end(rest)?;
+    let info = BufferInfo {
+        size,
+        usage: Usage::from_bits_retain(usage),
+        sharing,
+        place,
+    };
+    Ok(Entry::Buffer { id, info })
+}
+
+#[tactic(auto, unfolding(crate::specs::Trace::entry_rows))]
+fn semaphore_of(alloc: Global, rest: &[Value]) -> Reading<Entry>
+    ensures { Gives (λ x. x) result (after_word entry_rows (codes "semaphore") (map view rest.now)) }
+{
+    let (id, rest) = first::<u32>(alloc, rest)?;
+    let (initial, rest) = first::<u64>(alloc, rest)?;
+    end(rest)?;
+    Ok(Entry::Semaphore { id, initial })
+}
+
+#[tactic(auto, unfolding(crate::specs::Trace::entry_rows))]
+fn submit_of(alloc: Global, rest: &[Value]) -> Reading<Entry>
+    ensures { Gives (λ x. x) result (after_word entry_rows (codes "submit") (map view rest.now)) }
+{
+    match rest {
+        [] => Err(ReadTraceFault::NotTrace),
+        [queue, rest @ ..] => {
+            let queue = queue_of(alloc, queue)?;
+            let (batches, rest) = first(alloc, rest)?;
+            end(rest)?;
+            Ok(Entry::Submit { queue, batches })
+        }
+    }
+}
+
+#[tactic(auto, unfolding(crate::specs::Trace::queue_value))]
+fn queue_of(alloc: Global, value: &Value) -> Reading<u32>
+    ensures { Gives (λ x. x) result (queue_value (view value.now)) }
+{
+    match u32::member(alloc, value)? {
+        0 => Ok(0),
+        _ => Err(ReadTraceFault::NotTrace),
+    }
+}
+
+#[tactic(auto, unfolding(crate::specs::Trace::entry_rows))]
+fn wait_of(alloc: Global, rest: &[Value]) -> Reading<Entry>
+    ensures { Gives (λ x. x) result (after_word entry_rows (codes "wait") (map view rest.now)) }
+{
+    let (waits, rest) = first(alloc, rest)?;
+    end(rest)?;
+    Ok(Entry::Wait { waits })
+}
+
+#[tactic(auto, unfolding(crate::specs::Trace::entry_rows))]
+fn map_of(alloc: Global, rest: &[Value]) -> Reading<Entry>
+    ensures { Gives (λ x. x) result (after_word entry_rows (codes "map") (map view rest.now)) }
+{
+    let (buffer, rest) = first::<u32>(alloc, rest)?;
+    end(rest)?;
+    Ok(Entry::Map { buffer })
+}
+
+#[tactic(auto, unfolding(crate::specs::Trace::entry_rows))]
+fn read_of(alloc: Global, rest: &[Value]) -> Reading<Entry>
+    ensures { Gives (λ x. x) result (after_word entry_rows (codes "read") (map view rest.now)) }
+{
+    let (buffer, rest) = first::<u32>(alloc, rest)?;
+    let (offset, rest) = first::<u64>(alloc, rest)?;
+    let (size, rest) = first::<u64>(alloc, rest)?;
+    end(rest)?;
+    Ok(Entry::Read {
+        buffer,
+        offset,
+        size,
+    })
+}

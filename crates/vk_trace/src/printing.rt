@@ -1,0 +1,105 @@
+ghost use Rattle.std.specs.Prelude.{◌≡◌, ◌++◌, IfOk, OnOk, string_bytes, decimal};
+ghost use Rattle.std.specs.List.{flat_map};
+ghost use Rattle.vk_trace.specs.Text.{read_line, stop_line, part_text, at_text, lines_of};
+
+use itoa::Buffer;
+use std::alloc::{AllocError, Global};
+use vk_model::{At, Rule, Sequence};
+
+/// What there is to tell of a trace. Entries are named by their place in the trace, from 0 on.
+#[derive(Debug, Drop)]
+pub enum Outcome {
+    /// The bytes that each `read` gave, with its entry, in the order of the trace, and the entry that
+    /// found no room, where the replay stopped at one.
+    Reads(Sequence<(usize, Sequence<u8>)>, Option<usize>),
+    /// The first point that breaks a rule, and the rule.
+    Refused(At, Rule),
+}
+
+/// The text of an outcome: `5 01020304` for a read, `stopped 6 NO_ROOM`, or `refused 2.0.1 STAGE`,
+/// each a line.
+pub fn text(alloc: Global, outcome: &Outcome) -> Result<String, AllocError>
+    ensures { IfOk result (λ s. string_bytes s ≡ lines_of outcome.now) }
+{
+    let mut out = String::new(alloc);
+    match outcome {
+        Outcome::Reads(reads, stop) => {
+            push_reads(alloc, &mut out, reads.as_slice())?;
+            push_stop(&mut out, *stop)?;
+        }
+        Outcome::Refused(at, rule) => push_refusal(&mut out, *at, *rule)?,
+    }
+    Ok(out)
+}
+
+fn push_reads(
+    alloc: Global,
+    out: &mut String,
+    reads: &[(usize, Sequence<u8>)],
+) -> Result<(), AllocError>
+    ensures { OnOk result (string_bytes out.new ≡ string_bytes out.old ++ flat_map read_line reads.now) }
+{
+    for (entry, bytes) in reads {
+        push_read(alloc, out, *entry, bytes.as_slice())?;
+    }
+    Ok(())
+}
+
+fn push_read(alloc: Global, out: &mut String, entry: usize, bytes: &[u8]) -> Result<(), AllocError>
+    ensures { OnOk result (string_bytes out.new ≡ string_bytes out.old ++ read_line (entry, bytes.now)) }
+{
+    push_number(out, entry)?;
+    out.push_str(" ")?;
+    let digits = hex::encode(alloc, bytes)?;
+    out.push_str(digits.as_str())?;
+    out.push_str("\n")
+}
+
+fn push_stop(out: &mut String, stop: Option<usize>) -> Result<(), AllocError>
+    ensures { OnOk result (string_bytes out.new ≡ string_bytes out.old ++ stop_line stop) }
+{
+    if let Some(entry) = stop {
+        out.push_str("stopped ")?;
+        push_number(out, entry)?;
+        out.push_str(" NO_ROOM\n")?;
+    }
+    Ok(())
+}
+
+fn push_refusal(out: &mut String, at: At, rule: Rule) -> Result<(), AllocError>
+    ensures { OnOk result (string_bytes out.new ≡ string_bytes out.old ++ lines_of (Outcome.Refused at rule)) }
+{
+    out.push_str("refused ")?;
+    push_at(out, at)?;
+    out.push_str(" ")?;
+    out.push_str(rule.name())?;
+    out.push_str("\n")
+}
+
+fn push_number(out: &mut String, n: usize) -> Result<(), AllocError>
+    ensures { OnOk result (string_bytes out.new ≡ string_bytes out.old ++ decimal n) }
+{
+    let mut buffer = Buffer::new();
+    out.push_str(buffer.format(n))
+}
+
+fn push_part(out: &mut String, e: usize, b: usize, mark: &str, k: usize) -> Result<(), AllocError>
+    ensures { OnOk result (string_bytes out.new ≡ string_bytes out.old ++ part_text e b mark.now k) }
+{
+    push_number(out, e)?;
+    out.push_str(".")?;
+    push_number(out, b)?;
+    out.push_str(mark)?;
+    push_number(out, k)
+}
+
+fn push_at(out: &mut String, at: At) -> Result<(), AllocError>
+    ensures { OnOk result (string_bytes out.new ≡ string_bytes out.old ++ at_text at) }
+{
+    match at {
+        At::Entry(e) => push_number(out, e),
+        At::Command(e, b, c) => push_part(out, e, b, ".", c),
+        At::Wait(e, b, k) => push_part(out, e, b, ".w", k),
+        At::Signal(e, b, k) => push_part(out, e, b, ".s", k),
+    }
+}

@@ -1,0 +1,190 @@
+ghost use Rattle.std.specs.Prelude.{◌≡◌, ◌↔◌, ◌≤◌, ℕ, List, take, length, IfOk, IfErr, OnOk, IfSome, IsTrue, string_bytes, vec_len, false};
+ghost use Rattle.std.specs.Io.KnownBytes.{Appends, Keeps};
+ghost use Rattle.vk_model.specs.declared.entry.Entry.{Entry};
+ghost use Rattle.vk_trace.specs.declared.printing.Outcome.{Outcome};
+ghost use Rattle.vk_trace.specs.Trace.{IsTrace};
+ghost use Rattle.vk_trace.specs.Run.{Tells, status_of, IsBeforeWriting, IsOfReading, IsOfAnswering};
+
+use crate::faults::{ReadTraceFault, RunFault};
+use crate::printing::{Outcome, text};
+use crate::reading::read_trace;
+use crate::watched::Watched;
+use std::alloc::{AllocError, Global};
+use std::io::{Read, Write};
+use vk_device::{Replayed, replay};
+use vk_model::{Config, Entry, Scheduler};
+use vk_validate::{Verdict, validate};
+
+/// How a run went that gave an answer.
+#[derive(Clone, Copy, Debug, PartialEq, Eq)]
+pub enum Status {
+    /// Each entry was replayed.
+    Replayed,
+    /// The trace breaks a rule, and no entry was replayed.
+    Refused,
+    /// An entry found no room. Those before it were replayed.
+    Stopped,
+}
+
+const MOST_BYTES: usize = 16_777_216;
+
+const MOST_READS: u64 = 1_048_576;
+
+const CHUNK: usize = 65_536;
+
+/// Reads a trace to its end, looks for a broken rule, replays it where there is none, and writes the
+/// text of the answer. Nothing is written before the whole text is built, so only `WriteFault` has
+/// written a part of it. Nothing is flushed.
+pub fn run<R: Read, W: Write, S: Scheduler>(
+    alloc: Global,
+    reader: &mut Watched<R>,
+    writer: &mut Watched<W>,
+    config: Config,
+    sched: &mut S,
+) -> Result<Status, RunFault>
+    requires reads { reader.old.failed ≡ false }
+    requires writes { writer.old.failed ≡ false }
+    // What is written tells an outcome of the trace that was read, and nothing else is written.
+    ensures done { IfOk result (λ status. IfSome (R.remaining reader.old.inner) (λ input.
+        (text : List ℕ) × (outcome : Outcome) × Tells input text outcome × (status ≡ status_of outcome)
+        × Appends (W.contents writer.old.inner) (W.contents writer.new.inner) text)) }
+    // There is no trace only where the bytes are none.
+    ensures no_trace { result ≡ Err RunFault.NotTrace
+        → IfSome (R.remaining reader.old.inner) (λ input. (t : List Entry) → IsTrace input t → ⊥) }
+    // Every fault but that of a write has written nothing.
+    ensures silent { IfErr result (λ e. IsBeforeWriting e
+        → Keeps (W.contents writer.old.inner) (W.contents writer.new.inner)) }
+    // A failed write has written the front of the text.
+    ensures sent { (n : ℕ) → result ≡ Err (RunFault.WriteFault n)
+        → IfSome (R.remaining reader.old.inner) (λ input. (text : List ℕ) × (outcome : Outcome)
+        × Tells input text outcome × (n ≤ length text)
+        × Appends (W.contents writer.old.inner) (W.contents writer.new.inner) (take n text)) }
+    ensures read_fault { (result ≡ Err RunFault.ReadFault) ↔ IsTrue reader.new.failed }
+    ensures write_fault { (n : ℕ) → result ≡ Err (RunFault.WriteFault n) → IsTrue writer.new.failed }
+    ensures write_failed { IsTrue writer.new.failed → (n : ℕ) × (result ≡ Err (RunFault.WriteFault n)) }
+    ensures within { IfOk result (λ _. IfSome (R.remaining reader.old.inner)
+        (λ input. length input ≤ 16777216)) }
+    // Either there are more bytes than that, or each of the reads gave one.
+    ensures too_long { result ≡ Err RunFault.TooLong
+        → IfSome (R.remaining reader.old.inner) (λ input. 1048576 ≤ length input) }
+    ensures view { S.held sched.new ≡ S.held sched.old }
+{
+    let input = read_all(alloc, reader)?;
+    let (status, output) = answer(alloc, &input, config, sched)?;
+    write_all(writer, output.as_bytes())?;
+    Ok(status)
+}
+
+// Apart from its caller, whose goals would otherwise write out all of the zeroes.
+fn zeroes(alloc: Global, size: usize) -> Result<Vec<u8>, AllocError>
+    ensures { IfOk result (λ v. vec_len v ≡ size) }
+{
+    vec![in alloc; 0u8; size]
+}
+
+/// Reads to the end.
+fn read_all<R: Read>(alloc: Global, reader: &mut Watched<R>) -> Result<Vec<u8>, RunFault>
+    requires { reader.old.failed ≡ false }
+    ensures ok { IfOk result (λ v. IfSome (R.remaining reader.old.inner) (λ input. input ≡ v.items)) }
+    ensures kinds { IfErr result IsOfReading }
+    ensures failed { (result ≡ Err RunFault.ReadFault) ↔ IsTrue reader.new.failed }
+    ensures within { IfOk result (λ v. length v.items ≤ 16777216) }
+    ensures too_long { result ≡ Err RunFault.TooLong
+        → IfSome (R.remaining reader.old.inner) (λ input. 1048576 ≤ length input) }
+{
+    let mut input = Vec::new(alloc);
+    let mut chunk = zeroes(alloc, CHUNK)?;
+    for _ in 0..MOST_READS {
+        match reader.read(&mut chunk) {
+            Err(_) => return Err(RunFault::ReadFault),
+            Ok(0) => return Ok(input),
+            Ok(n) => {
+                if input.len() + n > MOST_BYTES {
+                    return Err(RunFault::TooLong);
+                }
+                input.extend_from_slice(&chunk[..n])?;
+            }
+        }
+    }
+    Err(RunFault::TooLong)
+}
+
+/// What to write for the bytes of a trace.
+fn answer<S: Scheduler>(
+    alloc: Global,
+    input: &[u8],
+    config: Config,
+    sched: &mut S,
+) -> Result<(Status, String), RunFault>
+    ensures ok { IfOk result (λ r. (outcome : Outcome) × Tells input.now (string_bytes r.1) outcome × (r.0 ≡ status_of outcome)) }
+    ensures kinds { IfErr result IsOfAnswering }
+    ensures no_trace { result ≡ Err RunFault.NotTrace → (t : List Entry) → IsTrace input.now t → ⊥ }
+    ensures view { S.held sched.new ≡ S.held sched.old }
+{
+    let entries = match read_trace(alloc, input) {
+        Ok(entries) => entries,
+        Err(ReadTraceFault::NotTrace) => return Err(RunFault::NotTrace),
+        Err(ReadTraceFault::NoMemory) => return Err(RunFault::NoMemory),
+    };
+    let outcome = outcome_of(alloc, &entries, config, sched)?;
+    let status = told_status(&outcome);
+    let output = text(alloc, &outcome)?;
+    Ok((status, output))
+}
+
+fn told_status(outcome: &Outcome) -> Status
+    ensures { result ≡ status_of outcome.now }
+{
+    match outcome {
+        Outcome::Refused(_, _) => Status::Refused,
+        Outcome::Reads(_, None) => Status::Replayed,
+        Outcome::Reads(_, Some(_)) => Status::Stopped,
+    }
+}
+
+/// What there is to tell of a trace. A device that is new has no fault but want of memory.
+fn outcome_of<S: Scheduler>(
+    alloc: Global,
+    entries: &[Entry],
+    config: Config,
+    sched: &mut S,
+) -> Result<Outcome, AllocError>
+    ensures { S.held sched.new ≡ S.held sched.old }
+{
+    match validate(alloc, entries)? {
+        Verdict::Refused(at, rule) => Ok(Outcome::Refused(at, rule)),
+        Verdict::Accepted(accepted) => match replay(alloc, &accepted, config, sched) {
+            Ok(
+                Replayed {
+                    reads,
+                    stop,
+                    device: _,
+                },
+            ) => Ok(Outcome::Reads(reads, stop)),
+            Err(_) => Err(AllocError),
+        },
+    }
+}
+
+/// Writes all the bytes.
+fn write_all<W: Write>(writer: &mut Watched<W>, bytes: &[u8]) -> Result<(), RunFault>
+    requires { writer.old.failed ≡ false }
+    ensures ok { OnOk result (Appends (W.contents writer.old.inner) (W.contents writer.new.inner) bytes.now) }
+    ensures unharmed { OnOk result (writer.new.failed ≡ false) }
+    ensures err { IfErr result (λ e. (n : ℕ) × (e ≡ RunFault.WriteFault n) × (n ≤ length bytes.now)
+        × Appends (W.contents writer.old.inner) (W.contents writer.new.inner) (take n bytes.now)
+        × IsTrue writer.new.failed) }
+{
+    let mut sent = 0usize;
+    for _ in 0..bytes.len() {
+        if sent >= bytes.len() {
+            break;
+        }
+        match writer.write(&bytes[sent..]) {
+            Err(_) => return Err(RunFault::WriteFault(sent as u64)),
+            Ok(0) => return Err(RunFault::WriteFault(sent as u64)),
+            Ok(n) => sent += n,
+        }
+    }
+    Ok(())
+}

@@ -1,0 +1,30 @@
+-- Which command last wrote a byte, as bounds say it: from each key on, up to the next one, the bytes have the key's writer.
+use Rattle.std.specs.Prelude.{◌≡◌, ◌<◌, ◌≤◌, ℕ, ◌⊎◌, Option, Some, None}
+use Rattle.std.specs.Ordering.{nat_cmp}
+use Rattle.std.specs.BTreeMap.{BTreeMap, get}
+
+abbrev pub Bounds : Type 0
+Bounds = BTreeMap ℕ (Option ℕ)
+
+-- no key above one number and up to another
+abbrev pub IsFreeBetween : Bounds → ℕ → ℕ → Type 0
+IsFreeBetween bounds low high = (key : ℕ) → low < key → key ≤ high → get nat_cmp bounds key ≡ None
+
+-- the greatest key at or below the byte has this writer
+pub record IsFrom (bounds : Bounds) (byte : ℕ) (writer : Option ℕ) : Type 0 where
+  pub key : ℕ
+  pub below : key ≤ byte
+  pub has : get nat_cmp bounds key ≡ Some writer
+  pub greatest : IsFreeBetween bounds key byte
+
+-- there is no key at or below the byte, and no writer
+pub record IsUnwritten (bounds : Bounds) (byte : ℕ) (writer : Option ℕ) : Type 0 where
+  pub free : (key : ℕ) → key ≤ byte → get nat_cmp bounds key ≡ None
+  pub none : writer ≡ None
+
+abbrev pub IsLastWriter : Bounds → ℕ → Option ℕ → Type 0
+IsLastWriter bounds byte writer = IsFrom bounds byte writer ⊎ IsUnwritten bounds byte writer
+
+-- the byte has the writer that it had
+abbrev pub Keeps : Bounds → Bounds → ℕ → Type 0
+Keeps old new byte = (writer : Option ℕ) → IsLastWriter old byte writer → IsLastWriter new byte writer

@@ -1,0 +1,100 @@
+mod commands;
+mod hazards;
+mod resources;
+mod synchronization;
+
+use crate::history::History;
+use crate::steps::Step;
+use vk_model::Rule;
+
+/// How many points a trace may have.
+const MOST_POINTS: usize = 131_072;
+
+/// The rules in the order in which they are tested at a point.
+const RULES: [Rule; 40] = [
+    Rule::NewId,
+    Rule::LiveId,
+    Rule::Queue,
+    Rule::QueueKind,
+    Rule::Size,
+    Rule::Usage,
+    Rule::MemoryType,
+    Rule::MemorySize,
+    Rule::PoolSize,
+    Rule::BindRange,
+    Rule::BindAlign,
+    Rule::Aliased,
+    Rule::Range,
+    Rule::Align,
+    Rule::Overlap,
+    Rule::Format,
+    Rule::Subresource,
+    Rule::Stage,
+    Rule::Layout,
+    Rule::OldLayout,
+    Rule::OwnerWhole,
+    Rule::OwnerPair,
+    Rule::EventState,
+    Rule::EventDependency,
+    Rule::SignalValue,
+    Rule::SignalOrder,
+    Rule::WaitBeforeSignal,
+    Rule::WaitNever,
+    Rule::MapState,
+    Rule::HostVisible,
+    Rule::PoolKind,
+    Rule::PassState,
+    Rule::PassBusy,
+    Rule::PassWrite,
+    Rule::HazardWar,
+    Rule::HazardRaw,
+    Rule::HazardWaw,
+    Rule::InUse,
+    Rule::ReadUndefined,
+    Rule::Limit,
+];
+
+/// The first rule of the table that a point breaks.
+pub fn first_rule(history: &History<'_>, step: &Step<'_>) -> Option<Rule> {
+    first_of(&RULES, history, step)
+}
+
+fn first_of(rules: &[Rule], history: &History<'_>, step: &Step<'_>) -> Option<Rule> {
+    for rule in rules {
+        if breaks(*rule, history, step) {
+            return Some(*rule);
+        }
+    }
+    None
+}
+
+// Points of the forms that are served can't break the rules that aren't listed. Those speak of images,
+// pools, memory objects, events, other queues, waits of batches, reads by commands, or of what is unmapped
+// or destroyed; and the signals of one queue, or a read of the host and a later batch, are always in order.
+fn breaks(rule: Rule, history: &History<'_>, step: &Step<'_>) -> bool {
+    match rule {
+        Rule::NewId => resources::breaks_new_id(history, step),
+        Rule::LiveId => resources::breaks_live_id(history, step),
+        Rule::Size => resources::breaks_size(history, step),
+        Rule::Usage => resources::breaks_usage(history, step),
+        Rule::MemoryType => resources::breaks_memory_type(step),
+        Rule::MemorySize => resources::breaks_memory_size(step),
+        Rule::Range => commands::breaks_range(history, step),
+        Rule::Align => commands::breaks_align(step),
+        Rule::Stage => synchronization::breaks_stage(step),
+        Rule::SignalValue => synchronization::breaks_signal_value(history, step),
+        Rule::WaitNever => synchronization::breaks_wait_never(history, step),
+        Rule::MapState => resources::breaks_map_state(history, step),
+        Rule::HostVisible => resources::breaks_host_visible(history, step),
+        Rule::HazardRaw => hazards::breaks_hazard_raw(history, step),
+        Rule::HazardWaw => hazards::breaks_hazard_waw(history, step),
+        Rule::ReadUndefined => hazards::breaks_read_undefined(history, step),
+        Rule::Limit => breaks_limit(history),
+        _ => false,
+    }
+}
+
+/// LIMIT: the trace has too many points.
+fn breaks_limit(history: &History<'_>) -> bool {
+    history.count() >= MOST_POINTS
+}

@@ -1,0 +1,141 @@
+use std::alloc::{AllocError, Global};
+use vk_model::{At, Batch, Cmd, Entry, SemaphoreSubmit};
+
+/// What happens at a point of a trace.
+#[derive(Clone, Copy)]
+pub enum Deed<'a> {
+    /// An entry of the host, a submit too.
+    Host(&'a Entry),
+    /// A wait of a batch.
+    Wait(&'a SemaphoreSubmit),
+    /// A command of a batch.
+    Run(&'a Cmd),
+    /// A signal of a batch.
+    Signal(&'a SemaphoreSubmit),
+}
+
+/// A point of a trace: its entry, its batch in the submit and its place in the batch's list, each
+/// counted from 0, and the queue that it runs on.
+#[derive(Clone, Copy)]
+pub struct Step<'a> {
+    pub entry: usize,
+    pub batch: usize,
+    pub place: usize,
+    pub queue: u32,
+    pub deed: Deed<'a>,
+}
+
+impl<'a> Step<'a> {
+    /// How the point is told.
+    pub fn at(&self) -> At {
+        match self.deed {
+            Deed::Host(_) => At::Entry(self.entry),
+            Deed::Wait(_) => At::Wait(self.entry, self.batch, self.place),
+            Deed::Run(_) => At::Command(self.entry, self.batch, self.place),
+            Deed::Signal(_) => At::Signal(self.entry, self.batch, self.place),
+        }
+    }
+}
+
+/// The points of a trace in the order in which they are judged, the oldest first: each entry of the
+/// host, and after a submit the waits, the commands and the signals of its batches.
+pub fn reference_order<'a>(
+    alloc: Global,
+    entries: &'a [Entry],
+) -> Result<Vec<Step<'a>>, AllocError> {
+    let mut points = Vec::new(alloc);
+    for (number, entry) in entries.iter().enumerate() {
+        points.push(Step {
+            entry: number,
+            batch: 0,
+            place: 0,
+            queue: 0,
+            deed: Deed::Host(entry),
+        })?;
+        push_batches(&mut points, number, entry)?;
+    }
+    Ok(points)
+}
+
+fn push_batches<'a>(
+    points: &mut Vec<Step<'a>>,
+    number: usize,
+    entry: &'a Entry,
+) -> Result<(), AllocError> {
+    let Entry::Submit { queue, batches } = entry else {
+        return Ok(());
+    };
+    for (batch, content) in batches.as_slice().iter().enumerate() {
+        push_batch(points, number, batch, *queue, content)?;
+    }
+    Ok(())
+}
+
+fn push_batch<'a>(
+    points: &mut Vec<Step<'a>>,
+    entry: usize,
+    batch: usize,
+    queue: u32,
+    content: &'a Batch,
+) -> Result<(), AllocError> {
+    push_waits(points, entry, batch, queue, content.waits.as_slice())?;
+    push_commands(points, entry, batch, queue, content.commands.as_slice())?;
+    push_signals(points, entry, batch, queue, content.signals.as_slice())
+}
+
+fn push_waits<'a>(
+    points: &mut Vec<Step<'a>>,
+    entry: usize,
+    batch: usize,
+    queue: u32,
+    waits: &'a [SemaphoreSubmit],
+) -> Result<(), AllocError> {
+    for (place, wait) in waits.iter().enumerate() {
+        points.push(Step {
+            entry,
+            batch,
+            place,
+            queue,
+            deed: Deed::Wait(wait),
+        })?;
+    }
+    Ok(())
+}
+
+fn push_commands<'a>(
+    points: &mut Vec<Step<'a>>,
+    entry: usize,
+    batch: usize,
+    queue: u32,
+    commands: &'a [Cmd],
+) -> Result<(), AllocError> {
+    for (place, command) in commands.iter().enumerate() {
+        points.push(Step {
+            entry,
+            batch,
+            place,
+            queue,
+            deed: Deed::Run(command),
+        })?;
+    }
+    Ok(())
+}
+
+fn push_signals<'a>(
+    points: &mut Vec<Step<'a>>,
+    entry: usize,
+    batch: usize,
+    queue: u32,
+    signals: &'a [SemaphoreSubmit],
+) -> Result<(), AllocError> {
+    for (place, signal) in signals.iter().enumerate() {
+        points.push(Step {
+            entry,
+            batch,
+            place,
+            queue,
+            deed: Deed::Signal(signal),
+        })?;
+    }
+    Ok(())
+}
