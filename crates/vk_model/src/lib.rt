@@ -5,6 +5,7 @@ mod command;
 mod config;
 mod copying;
 mod entry;
+mod laws;
 mod layout;
 mod masks;
 mod resource;
@@ -19,6 +20,10 @@ pub use command::{
 };
 pub use config::Config;
 pub use entry::{Batch, Entry, SemaphoreSubmit, SemaphoreValue};
+pub use laws::{
+    before_is_order, before_is_path, fault_is_first, growth_keeps, names_differ, no_fault_is_sound,
+    pieces_are_moves, table_is_whole,
+};
 pub use layout::{Format, Layout};
 pub use masks::{Accesses, Stages, Usage};
 pub use resource::{

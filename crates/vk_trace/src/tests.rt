@@ -218,42 +218,42 @@ fn run_bytes(alloc: Global, input: &[u8]) -> (Ending, Vec<u8>) {
     (ending, writer.into_inner())
 }
 
-/// Expects that a run ends so and writes this. Where a single allocation is made to fail, one run may
-/// end for want of memory, and then it has written nothing.
-fn expect_run(
-    rt: &impl Abort,
-    alloc: Global,
-    ran_out: &mut bool,
-    input: &[u8],
-    output: &str,
-    ending: Ending,
-) {
-    let (got, written) = run_bytes(alloc, input);
-    if got == NO_MEMORY && !*ran_out {
-        *ran_out = true;
+/// Whether an allocation failed: one of the run, or that of the vector which is written to.
+fn ran_out(ending: Ending) -> bool {
+    ending == NO_MEMORY || ending == Err(RunFault::WriteFault(0))
+}
+
+/// Expects that a run ends so and writes this. Where it ran out of memory it has written nothing, and
+/// is run again: of all allocations at most one is made to fail.
+fn expect_run(rt: &impl Abort, alloc: Global, input: &[u8], output: &str, ending: Ending) {
+    let (mut got, mut written) = run_bytes(alloc, input);
+    if ran_out(got) {
         assert!(rt; written.is_empty());
-    } else {
-        let shown = str::from_utf8(input).unwrap_or("bytes that are no text");
-        assert_eq!(rt; got, ending, "at {shown}");
-        assert_eq!(rt; written.as_slice(), output.as_bytes(), "at {shown}");
+        (got, written) = run_bytes(alloc, input);
+    }
+    let shown = str::from_utf8(input).unwrap_or("bytes that are no text");
+    assert_eq!(rt; got, ending, "at {shown}");
+    assert_eq!(rt; written.as_slice(), output.as_bytes(), "at {shown}");
+}
+
+/// Expects that no front of a trace is a trace.
+fn expect_no_front(rt: &impl Abort, alloc: Global, bytes: &[u8]) {
+    for size in 0..bytes.len() {
+        expect_run(rt, alloc, &bytes[..size], "", NO_TRACE);
     }
 }
 
 #[test]
 fn traces(rt: HostRuntime) {
     let alloc = rt.alloc();
-    let mut ran_out = false;
     for (input, output, ending) in TRACES {
-        expect_run(&rt, alloc, &mut ran_out, input.as_bytes(), output, ending);
+        expect_run(&rt, alloc, input.as_bytes(), output, ending);
     }
     for input in NO_TRACES {
-        expect_run(&rt, alloc, &mut ran_out, input.as_bytes(), "", NO_TRACE);
+        expect_run(&rt, alloc, input.as_bytes(), "", NO_TRACE);
     }
-    expect_run(&rt, alloc, &mut ran_out, b"[[\"map\",\xff]]", "", NO_TRACE);
-    let bytes = FILL_AND_READ.as_bytes();
-    for size in 0..bytes.len() {
-        expect_run(&rt, alloc, &mut ran_out, &bytes[..size], "", NO_TRACE);
-    }
+    expect_run(&rt, alloc, b"[[\"map\",\xff]]", "", NO_TRACE);
+    expect_no_front(&rt, alloc, FILL_AND_READ.as_bytes());
 }
 
 /// Gives its bytes, 16 at most in each read, and an error after some reads.
@@ -331,35 +331,36 @@ fn semaphores(alloc: Global, count: u32) -> Result<String, Fail> {
     Ok(trace)
 }
 
-/// Expects `ReadFault` where the reader fails, and that nothing is written then.
-fn expect_read_fault(rt: &impl Abort, alloc: Global, reads: usize) {
+/// Runs over a reader that fails: how that ended, whether the reader failed, and what was written.
+fn run_failing_reader(alloc: Global, reads: usize) -> (Ending, bool, Vec<u8>) {
     let bytes = FILL_AND_READ.as_bytes();
     let mut reader = Watched::new(FailingReader { bytes, reads });
     let mut writer = Watched::new(Vec::new(alloc));
     let ending = run(alloc, &mut reader, &mut writer, CONFIG, &mut First);
-    // The text comes in 14 reads, and one more finds the end.
-    let fails = reads < 15;
-    if ending == NO_MEMORY {
-        assert!(rt; writer.into_inner().is_empty());
-    } else {
-        assert_eq!(rt;
-            ending == Err(RunFault::ReadFault),
-            fails,
-            "after {reads} reads"
-        );
-        assert_eq!(rt; ending == REPLAYED, !fails, "after {reads} reads");
-        assert_eq!(rt; reader.failed(), fails, "after {reads} reads");
-        assert_eq!(rt;
-            writer.into_inner().is_empty(),
-            fails,
-            "after {reads} reads"
-        );
-    }
+    (ending, reader.failed(), writer.into_inner())
 }
 
-/// Expects `WriteFault` where the writer has no room for the whole text, and that it has its front.
-fn expect_write_fault(rt: &impl Abort, alloc: Global, room: usize, fails: bool) {
-    let output = b"5 01020304\n";
+/// Expects `ReadFault` where the reader fails, and that nothing is written then.
+fn expect_read_fault(rt: &impl Abort, alloc: Global, reads: usize) {
+    let (mut ending, mut failed, mut written) = run_failing_reader(alloc, reads);
+    if ran_out(ending) {
+        assert!(rt; written.is_empty());
+        (ending, failed, written) = run_failing_reader(alloc, reads);
+    }
+    // The text comes in 14 reads, and one more finds the end.
+    let fails = reads < 15;
+    let wanted = if fails {
+        Err(RunFault::ReadFault)
+    } else {
+        REPLAYED
+    };
+    assert_eq!(rt; ending, wanted, "after {reads} reads");
+    assert_eq!(rt; failed, fails, "after {reads} reads");
+    assert_eq!(rt; written.is_empty(), fails, "after {reads} reads");
+}
+
+/// Runs over a writer with this much room: how that ended, whether the writer failed, and the writer.
+fn run_short_writer(alloc: Global, room: usize, fails: bool) -> (Ending, bool, ShortWriter) {
     let mut reader = Watched::new(FILL_AND_READ.as_bytes());
     let mut writer = Watched::new(ShortWriter {
         taken: [0; 16],
@@ -368,26 +369,27 @@ fn expect_write_fault(rt: &impl Abort, alloc: Global, room: usize, fails: bool) 
         fails,
     });
     let ending = run(alloc, &mut reader, &mut writer, CONFIG, &mut First);
-    let failed = writer.failed();
-    let ShortWriter {
-        taken,
-        count,
-        room: _,
-        fails: _,
-    } = writer.into_inner();
+    (ending, writer.failed(), writer.into_inner())
+}
+
+/// Expects `WriteFault` where the writer has no room for the whole text, and that it has its front.
+fn expect_write_fault(rt: &impl Abort, alloc: Global, room: usize, fails: bool) {
+    let output = b"5 01020304\n";
+    let (mut ending, mut failed, mut writer) = run_short_writer(alloc, room, fails);
     if ending == NO_MEMORY {
-        assert_eq!(rt; count, 0);
-    } else if room < output.len() {
-        assert_eq!(rt; ending, Err(RunFault::WriteFault(room as u64)));
-        assert_eq!(rt; count, room);
-        assert_eq!(rt; &taken[..count], &output[..room]);
-        assert!(rt; failed);
-    } else {
-        assert_eq!(rt; ending, REPLAYED);
-        assert_eq!(rt; count, output.len());
-        assert_eq!(rt; &taken[..count], output.as_slice());
-        assert!(rt; !failed);
+        assert_eq!(rt; writer.count, 0);
+        (ending, failed, writer) = run_short_writer(alloc, room, fails);
     }
+    let held = room.min(output.len());
+    let wanted = if room < output.len() {
+        Err(RunFault::WriteFault(room as u64))
+    } else {
+        REPLAYED
+    };
+    assert_eq!(rt; ending, wanted);
+    assert_eq!(rt; failed, room < output.len());
+    assert_eq!(rt; writer.count, held);
+    assert_eq!(rt; &writer.taken[..held], &output[..held]);
 }
 
 /// Expects that a failed flush is kept, and no other.

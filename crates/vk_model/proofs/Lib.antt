@@ -1,0 +1,6 @@
+mod RuleTable
+mod FaultLaws
+mod GrowthLaws
+mod PathLaws
+mod PieceLaws
+mod OrderLaws

@@ -1,0 +1,5 @@
+use Rattle.vk_model.proofs.RuleTable.{has_one_place}
+use Rattle.vk_model.proofs.laws.table_is_whole.Goals as goal
+
+pub returns : goal.returns
+returns c = has_one_place

@@ -1,0 +1,92 @@
+-- Laws of the definitions: what they say together.
+use Rattle.std.specs.Prelude.{◌≡◌, ℕ, ◌<◌, ◌++◌, Bool, Contains, List, Option, Some, None, IsTrue, ◌↔◌, false, slice_get}
+use Rattle.vk_model.specs.declared.entry.Entry.{Entry}
+use Rattle.vk_model.specs.declared.rule.At.{At}
+use Rattle.vk_model.specs.declared.rule.Rule.{Rule}
+use Rattle.vk_model.specs.Point.{Past, Point, at_of}
+use Rattle.vk_model.specs.World.{Byte}
+use Rattle.vk_model.specs.Order.{plain_order, order}
+use Rattle.vk_model.specs.declared.rule.Rule.TheVariants as rule
+use Rattle.vk_model.specs.Node.{Node, nodes}
+use Rattle.vk_model.specs.Edge.{edge}
+use Rattle.vk_model.specs.Before.{before, Path}
+use Rattle.vk_model.specs.Seen.{Access, seen}
+use Rattle.vk_model.specs.Moves.{moves}
+use Rattle.vk_model.specs.Pieces.{pieces}
+use Rattle.vk_model.specs.declared.command.Cmd.{Cmd}
+use Rattle.std.specs.List.{flat_map}
+use Rattle.vk_model.specs.RuleNames.{rule_name}
+use Rattle.vk_model.specs.Rules.{breaks, rules, first_fault}
+use Rattle.vk_model.specs.Fault.{Comes, IsSound}
+
+-- The first fault is none exactly where no point breaks any rule.
+abbrev pub NoFaultIsSound : Type 0
+NoFaultIsSound = (t : List Entry) → (first_fault t ≡ None) ↔ IsSound t
+
+-- A point of a trace is told with a rule that it breaks; no earlier point breaks any, and the point breaks no earlier rule of the table.
+pub record IsFirst (t : List Entry) (told : At) (r : Rule) : Type 0 where
+  pub before : Past
+  pub point : Point
+  pub comes : Comes (plain_order t) before point
+  pub is_told : at_of point ≡ told
+  pub broken : IsTrue (breaks r before point)
+  pub earlier_points : (older : Past) (p : Point) (s : Rule) → Comes before older p → IsTrue (breaks s older p) → ⊥
+  pub earlier_rules : (i j : ℕ) (s : Rule) → slice_get rules i ≡ Some s → slice_get rules j ≡ Some r → i < j → breaks s before point ≡ false
+
+-- The first fault of a trace is first among its points, and first among the rules there.
+abbrev pub FaultIsFirst : Type 0
+FaultIsFirst = (t : List Entry) (told : At) (r : Rule) → first_fault t ≡ Some (told, r) → IsFirst t told r
+
+-- Among the old nodes every edge, order and sight is as it was when these were all.
+pub record Keeps (old new : List Node) : Type 0 where
+  pub stand : (front : List Node) × (new ≡ front ++ old)
+  pub edges : (m n : Node) → Contains old n → edge new m n ≡ edge old m n
+  pub orders : (m n : Node) → Contains old n → before new m n ≡ before old m n
+  pub sights : (cached : Byte → Bool) (w a : Node) (k : Access) (b : Byte) → Contains old a → seen cached new w a k b ≡ seen cached old w a k b
+
+-- Points that come change no edge, no order and no sight among the nodes that were there.
+abbrev pub GrowthKeeps : Type 0
+GrowthKeeps = (past more : Past) → Keeps (nodes past) (nodes (more ++ past))
+
+-- Before is computed as it is defined: one node of a past is before another exactly where a path of edges leads to it.
+abbrev pub BeforeIsPath : Type 0
+BeforeIsPath = (past : Past) (x y : Node) → Contains (nodes past) x → Contains (nodes past) y → IsTrue (before (nodes past) x y) ↔ Path (nodes past) x y
+
+-- What is before what is before a node is before it.
+abbrev pub BeforeIsTransitive : Type 0
+BeforeIsTransitive = (past : Past) (x y z : Node) → Contains (nodes past) x → Contains (nodes past) y → Contains (nodes past) z
+    → IsTrue (before (nodes past) x y) → IsTrue (before (nodes past) y z) → IsTrue (before (nodes past) x z)
+
+-- Before leads to later nodes alone, so never back.
+abbrev pub BeforeLeadsOn : Type 0
+BeforeLeadsOn = (ns : List Node) (x y : Node) → IsTrue (before ns x y) → x.number < y.number
+
+-- No batch of the trace waits for a value above the counter at its place in the plain order.
+abbrev pub NeverAhead : List Entry → Type 0
+NeverAhead t = (before : Past) (p : Point) → Comes (plain_order t) before p → breaks rule.WaitBeforeSignal before p ≡ false
+
+-- Then every batch is taken right after its submit, and the two orders are one.
+abbrev pub OrdersAgree : Type 0
+OrdersAgree = (t : List Entry) → NeverAhead t → order t ≡ plain_order t
+
+-- Parts put one after the other.
+abbrev pub together : {A : Type 0} → List (List A) → List A
+together parts = flat_map (λ part. part) parts
+
+-- The pieces of a command, put together, are its moves.
+abbrev pub PiecesAreMoves : Type 0
+PiecesAreMoves = (past : Past) (c : Cmd) → together (pieces past c) ≡ moves past c
+
+-- Rules that are printed alike are the same rule.
+abbrev pub NamesDiffer : Type 0
+NamesDiffer = (r s : Rule) → rule_name r ≡ rule_name s → r ≡ s
+
+-- A rule has one place in the table.
+pub record HasOnePlace (r : Rule) : Type 0 where
+  pub place : ℕ
+  pub here : slice_get rules place ≡ Some r
+  pub only : (k : ℕ) → slice_get rules k ≡ Some r → k ≡ place
+
+-- Each rule stands in the table just once.
+abbrev pub TableIsWhole : Type 0
+TableIsWhole = (r : Rule) → HasOnePlace r

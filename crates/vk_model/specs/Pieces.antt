@@ -1,0 +1,45 @@
+-- The pieces that commands are run in.
+use Rattle.std.specs.Prelude.{ℕ, zero, suc, ◌+◌, ◌*◌, List, [], ◌∷◌, map, take, drop, length, Option, Some, None}
+use Rattle.std.specs.List.{flat_map}
+use Rattle.vk_model.specs.declared.command.Cmd.{Cmd}
+use Rattle.vk_model.specs.declared.command.Cmd.TheVariants as cmd
+use Rattle.vk_model.specs.declared.command.SubresourceRange.{SubresourceRange}
+use Rattle.vk_model.specs.declared.resource.ImageInfo.{ImageInfo}
+use Rattle.vk_model.specs.Words.{below}
+use Rattle.vk_model.specs.Image.{texel, level_width}
+use Rattle.vk_model.specs.Point.{Past}
+use Rattle.vk_model.specs.Objects.{image}
+use Rattle.vk_model.specs.Moves.{Move, moves, clear_move, level_bytes, copy_moves, copy_in_moves, copy_out_moves, copy_image_moves}
+
+-- A list in parts of n items, the last one maybe shorter; the first number is at least how many parts there are.
+abbrev pub parts : {A : Type 0} → ℕ → ℕ → List A → List (List A)
+parts zero n xs = []
+parts (suc k) n [] = []
+parts (suc k) n (x ∷ xs) = take n (x ∷ xs) ∷ parts k n (drop n (x ∷ xs))
+
+-- A list in parts of n items, n above 0.
+abbrev pub cut : {A : Type 0} → ℕ → List A → List (List A)
+cut n xs = parts (length xs) n xs
+
+-- The bytes of a row of texels.
+abbrev pub row_bytes : Option ImageInfo → ℕ → ℕ
+row_bytes None w = 0
+row_bytes (Some m) w = w * texel m.format
+
+-- The rows of level k of a range that is cleared.
+abbrev pub level_pieces : ℕ → List ℕ → ImageInfo → SubresourceRange → ℕ → List (List Move)
+level_pieces i color m r k = cut (level_width m k * texel m.format) (map (clear_move m color) (level_bytes i m r k))
+
+-- The rows of a range that is cleared.
+abbrev pub clear_pieces : ℕ → List ℕ → Option ImageInfo → SubresourceRange → List (List Move)
+clear_pieces i color None r = []
+clear_pieces i color (Some m) r = flat_map (λ k. level_pieces i color m r (r.first_level + k)) (below r.levels)
+
+-- The pieces of a command: each row of a region or range, or 4,096 bytes at most. In order they are its moves; run in any order they have its effect (profile).
+abbrev pub pieces : Past → Cmd → List (List Move)
+pieces past (cmd.Copy s d gs) = flat_map (λ g. cut 4096 (copy_moves s d g)) gs
+pieces past (cmd.CopyIn b i l gs) = flat_map (λ g. cut (row_bytes (image past i) g.width) (copy_in_moves b i (image past i) g)) gs
+pieces past (cmd.CopyOut i l b gs) = flat_map (λ g. cut (row_bytes (image past i) g.width) (copy_out_moves i b (image past i) g)) gs
+pieces past (cmd.CopyImage s l d m gs) = flat_map (λ g. cut (row_bytes (image past d) g.width) (copy_image_moves s d (image past d) g)) gs
+pieces past (cmd.Clear i l color rs) = flat_map (clear_pieces i color (image past i)) rs
+pieces past c = cut 4096 (moves past c)

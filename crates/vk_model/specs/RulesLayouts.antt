@@ -1,0 +1,125 @@
+-- The rules on masks and layouts: STAGE, LAYOUT, OLD_LAYOUT.
+use Rattle.std.specs.Prelude.{ℕ, ◌+◌, List, [], ◌∷◌, ◌++◌, map, Bool, true, false, not, ◌&&◌, ◌||◌, ◌==◌, if◌then◌else◌}
+use Rattle.std.specs.List.{list_any}
+use Rattle.vk_model.specs.declared.command.Cmd.{Cmd}
+use Rattle.vk_model.specs.declared.command.Cmd.TheVariants as cmd
+use Rattle.vk_model.specs.declared.command.Dependency.{Dependency}
+use Rattle.vk_model.specs.declared.command.Element.{Element}
+use Rattle.vk_model.specs.declared.command.Element.TheVariants as element
+use Rattle.vk_model.specs.declared.command.SubresourceRange.{SubresourceRange}
+use Rattle.vk_model.specs.declared.entry.SemaphoreSubmit.{SemaphoreSubmit}
+use Rattle.vk_model.specs.Words.{among, below, has_bits, has_some}
+use Rattle.vk_model.specs.Point.{Past, Point, Deed, Host, Wait, Run, Signal, on_command}
+use Rattle.vk_model.specs.World.{World}
+use Rattle.vk_model.specs.Effect.{world}
+use Rattle.vk_model.specs.Ownership.{elements_of, dependency_of, is_transition, is_acquire}
+use Rattle.vk_model.specs.Edge.{transfer_stage, host_stage, all_commands}
+
+-- ---- STAGE
+
+-- The stages of the profile (Vulkan, "Pipeline Stages").
+abbrev pub known_stages : ℕ
+known_stages = transfer_stage + host_stage + all_commands
+
+-- The accesses of the profile: of TRANSFER, HOST and MEMORY, reads and writes (Vulkan, "Access Types").
+abbrev pub known_accesses : ℕ
+known_accesses = 2048 + 4096 + 8192 + 16384 + 32768 + 65536
+
+-- Whether a side of a dependency has an unknown bit, or an access that none of its stages makes (Vulkan, "Access Types", on supported access types).
+abbrev pub bad_masks : ℕ → ℕ → Bool
+bad_masks stages accesses = not (has_bits known_stages stages) || not (has_bits known_accesses accesses)
+    || has_some accesses (2048 + 4096) && not (has_some stages (transfer_stage + all_commands))
+    || has_some accesses (8192 + 16384) && not (has_some stages host_stage)
+
+-- Each side of a dependency is judged by itself, an ignored one too (Vulkan, "Memory Barriers"; the ignored ones: profile).
+abbrev pub bad_dependency : Dependency → Bool
+bad_dependency d = bad_masks d.source_stages.0 d.source_accesses.0 || bad_masks d.destination_stages.0 d.destination_accesses.0
+
+-- An event's element hasn't HOST in its source stages (Vulkan, "Events", without host events).
+abbrev pub bad_event_element : Dependency → Bool
+bad_event_element d = bad_dependency d || has_some d.source_stages.0 host_stage
+
+-- Whether an element of a command has bad masks.
+abbrev pub bad_stages : Cmd → Bool
+bad_stages (cmd.Barrier es) = list_any (λ e. bad_dependency (dependency_of e)) es
+bad_stages (cmd.Set v ms) = list_any bad_event_element ms
+bad_stages (cmd.Await v ms) = list_any bad_event_element ms
+bad_stages _ = false
+
+-- A batch's wait or signal hasn't an unknown stage, nor HOST (Vulkan, "Queue Submission", on `VkSemaphoreSubmitInfo`; HOST: profile).
+abbrev pub bad_submit_stages : SemaphoreSubmit → Bool
+bad_submit_stages s = not (has_bits known_stages s.stages.0) || has_some s.stages.0 host_stage
+
+-- Whether a deed has bad stages.
+abbrev pub deed_stages : Deed → Bool
+deed_stages (Host x) = false
+deed_stages (Wait s) = bad_submit_stages s
+deed_stages (Run c) = bad_stages c
+deed_stages (Signal s) = bad_submit_stages s
+
+-- STAGE: a stage or access that isn't known or doesn't fit (Vulkan, "Pipeline Stages" and "Access Types").
+abbrev pub breaks_stage : Past → Point → Bool
+breaks_stage past p = deed_stages p.deed
+
+-- ---- LAYOUT
+
+-- Subresources of an image that a command names in a layout, as what it writes or as what it reads.
+pub record Named : Type 0 where
+  pub image : ℕ
+  pub layout : ℕ
+  pub range : SubresourceRange
+  pub written : Bool
+
+-- Layers of one level of an image in a layout.
+abbrev pub named : ℕ → ℕ → Bool → ℕ → ℕ → ℕ → Named
+named i l written level layer layers = record { image = i; layout = l; range = record { first_level = level; levels = 1; first_layer = layer; layers = layers }; written = written }
+
+-- The subresources that a command names, and in which layouts (Vulkan, "Clear Commands" and "Copy Commands").
+abbrev pub layouts_named : Cmd → List Named
+layouts_named (cmd.Clear i l color rs) = map (λ r. record { image = i; layout = l; range = r; written = true }) rs
+layouts_named (cmd.CopyIn b i l gs) = map (λ g. named i l true g.level g.first_layer g.layers) gs
+layouts_named (cmd.CopyOut i l b gs) = map (λ g. named i l false g.level g.first_layer g.layers) gs
+layouts_named (cmd.CopyImage s l d m gs) =
+    map (λ g. named s l false g.source_level g.source_first_layer g.layers) gs
+    ++ map (λ g. named d m true g.destination_level g.destination_first_layer g.layers) gs
+layouts_named _ = []
+
+-- GENERAL 1 is for both, TRANSFER_SRC_OPTIMAL 6 to be read, TRANSFER_DST_OPTIMAL 7 to be written (Vulkan, "Image Layouts").
+abbrev pub is_allowed : Bool → ℕ → Bool
+is_allowed written l = l == 1 || l == (if written then 7 else 6)
+
+-- Whether some subresource of a range stands in another layout.
+abbrev pub stands_otherwise : World → ℕ → SubresourceRange → ℕ → Bool
+stands_otherwise w i r l = list_any (λ k. list_any (λ m. not (w.layout i (r.first_level + k) (r.first_layer + m) == l)) (below r.layers)) (below r.levels)
+
+-- Whether a layout isn't allowed for its use or isn't current.
+abbrev pub bad_named : World → Named → Bool
+bad_named w x = not (is_allowed x.written x.layout) || stands_otherwise w x.image x.range x.layout
+
+-- Whether a number is a layout of the profile (Vulkan, "Image Layouts").
+abbrev pub is_layout : ℕ → Bool
+is_layout l = among l (0 ∷ 1 ∷ 6 ∷ 7 ∷ [])
+
+-- A transition between layouts that aren't known, or to UNDEFINED (Vulkan, "Image Memory Barriers").
+abbrev pub bad_transition : Element → Bool
+bad_transition (element.Image e) = is_transition e && (not (is_layout e.old_layout) || not (is_layout e.new_layout) || e.new_layout == 0)
+bad_transition _ = false
+
+-- Whether a command names a layout wrongly, in the world before it.
+abbrev pub bad_layout : World → Cmd → Bool
+bad_layout w c = list_any (bad_named w) (layouts_named c) || list_any bad_transition (elements_of c)
+
+-- LAYOUT: a layout that isn't allowed for its use or isn't current, or a transition between layouts that it can't have (Vulkan, "Image Layouts").
+abbrev pub breaks_layout : Past → Point → Bool
+breaks_layout past p = on_command (bad_layout (world past)) p
+
+-- ---- OLD_LAYOUT
+
+-- A transition whose old layout is neither UNDEFINED nor current; that of an ownership transfer is tested at its release (Vulkan, "Image Memory Barriers"; at the release alone: profile).
+abbrev pub bad_old_layout : World → ℕ → Element → Bool
+bad_old_layout w q (element.Image e) = is_transition e && not (is_acquire q (element.Image e)) && not (e.old_layout == 0) && stands_otherwise w e.image e.range e.old_layout
+bad_old_layout w q _ = false
+
+-- OLD_LAYOUT: a transition from a layout in which the subresources don't stand (Vulkan, "Image Memory Barriers").
+abbrev pub breaks_old_layout : Past → Point → Bool
+breaks_old_layout past p = on_command (λ c. list_any (bad_old_layout (world past) p.queue) (elements_of c)) p

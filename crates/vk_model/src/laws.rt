@@ -1,0 +1,50 @@
+//! Laws of the definitions, each the contract of a function that does nothing.
+ghost use Rattle.vk_model.specs.Laws.{NoFaultIsSound, FaultIsFirst, NamesDiffer, TableIsWhole, GrowthKeeps, BeforeIsPath, BeforeIsTransitive, BeforeLeadsOn, PiecesAreMoves, OrdersAgree};
+
+/// The first fault of a trace is none exactly where no point of it breaks any rule.
+pub fn no_fault_is_sound()
+    ensures { NoFaultIsSound }
+{}
+
+/// Where there is a first fault, its point breaks its rule, no earlier point breaks any rule, and the
+/// point breaks no earlier rule of the table.
+pub fn fault_is_first()
+    ensures { FaultIsFirst }
+{}
+
+/// Rules that are printed alike are the same rule.
+pub fn names_differ()
+    ensures { NamesDiffer }
+{}
+
+/// Each rule stands in the table just once.
+pub fn table_is_whole()
+    ensures { TableIsWhole }
+{}
+
+/// Points that come change no edge, no order and no sight among the nodes that were there.
+pub fn growth_keeps()
+    ensures { GrowthKeeps }
+{}
+
+/// One node of a past is before another exactly where a path of edges leads to it.
+pub fn before_is_path()
+    ensures { BeforeIsPath }
+{}
+
+/// Before is an order: transitive, and it leads to later nodes alone.
+pub fn before_is_order()
+    ensures transitive { BeforeIsTransitive }
+    ensures forward { BeforeLeadsOn }
+{}
+
+/// The pieces of a command, put together, are its moves.
+pub fn pieces_are_moves()
+    ensures { PiecesAreMoves }
+{}
+
+/// Where no batch waits for a value above the counter, each is taken right after its submit: the order
+/// with waiting batches is the plain order.
+pub fn orders_agree()
+    ensures { OrdersAgree }
+{}

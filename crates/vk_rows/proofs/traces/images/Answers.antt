@@ -1,0 +1,17 @@
+use Rattle.std.specs.Prelude.{refl}
+use Rattle.vk_rows.specs.Claims.{on_rows}
+use Rattle.vk_rows.proofs.traces.images.Goals as goal
+
+pub returns : goal.returns
+unfolding on_rows
+returns c = record {
+  partial_tiles = (refl, refl, (refl, refl));
+  cleared_then_discarded = (refl, refl);
+  cleared = (refl, refl, (refl, refl));
+  wrong_old_layout = (refl, refl);
+  equal_layouts = (refl, refl);
+  clear_undefined = (refl, refl);
+  clear_on_transfer_queue = (refl, refl);
+  image_to_image = (refl, refl, (refl, refl));
+  other_texels = (refl, refl);
+}

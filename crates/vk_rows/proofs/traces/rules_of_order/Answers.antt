@@ -1,0 +1,20 @@
+use Rattle.std.specs.Prelude.{refl}
+use Rattle.vk_rows.specs.Claims.{on_rows}
+use Rattle.vk_rows.proofs.traces.rules_of_order.Goals as goal
+
+pub returns : goal.returns
+unfolding on_rows
+returns c = record {
+  event_state = refl;
+  event_state_mended = refl;
+  event_dependency = refl;
+  event_dependency_mended = refl;
+  signal_value = refl;
+  signal_value_mended = refl;
+  signal_order = refl;
+  signal_order_mended = refl;
+  wait_before_signal = refl;
+  wait_before_signal_mended = refl;
+  wait_never = refl;
+  wait_never_mended = refl;
+}

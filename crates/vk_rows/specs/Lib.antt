@@ -1,0 +1,16 @@
+pub mod Writing
+pub mod Claims
+pub mod Uploads
+pub mod Objects
+pub mod Images
+pub mod Queues
+pub mod Pools
+pub mod Ahead
+pub mod RulesOfObjects
+pub mod RulesOfCommands
+pub mod RulesOfOrder
+pub mod RulesOfAccess
+pub mod NoRoom
+pub mod Places
+pub mod Work
+pub mod Limits

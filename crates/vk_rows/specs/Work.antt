@@ -1,0 +1,166 @@
+-- Pieces of commands, the order of nodes, what may run next, and what a scheduler is asked.
+use Rattle.std.specs.Prelude.{Some, option_map, ◌≡◌, ℕ, ◌-◌, List, [], ◌∷◌, map, reverse, length, Bool, true, false, slice_get}
+use Rattle.vk_model.specs.declared.command.Cmd.{Cmd}
+use Rattle.vk_model.specs.declared.command.Cmd.TheVariants as cmd
+use Rattle.vk_model.specs.declared.command.Element.TheVariants as element
+use Rattle.vk_model.specs.declared.entry.Entry.{Entry}
+use Rattle.vk_model.specs.declared.entry.Entry.TheVariants as entry
+use Rattle.vk_model.specs.declared.layout.Format.TheVariants as texel_format
+use Rattle.vk_model.specs.declared.resource.ImageInfo.{ImageInfo}
+use Rattle.vk_model.specs.declared.resource.Kind.{Kind}
+use Rattle.vk_model.specs.declared.resource.Kind.TheVariants as kind
+use Rattle.vk_model.specs.declared.resource.Place.TheVariants as place
+use Rattle.vk_model.specs.declared.resource.Sharing.TheVariants as sharing
+use Rattle.vk_model.specs.declared.rule.At.TheVariants as at
+use Rattle.vk_model.specs.declared.rule.Rule.TheVariants as rule
+use Rattle.vk_model.specs.Words.{holds}
+use Rattle.vk_model.specs.Point.{at_of}
+use Rattle.vk_model.specs.Objects.{resource}
+use Rattle.vk_model.specs.Moves.{moves}
+use Rattle.vk_model.specs.Rules.{first_fault}
+use Rattle.vk_model.specs.Image.{image_size, row_pitch}
+use Rattle.vk_model.specs.Order.{plain_order}
+use Rattle.vk_model.specs.World.{in_buffer}
+use Rattle.vk_model.specs.Effect.{world}
+use Rattle.vk_model.specs.Node.{Node, nodes}
+use Rattle.vk_model.specs.Edge.{edge}
+use Rattle.vk_model.specs.Before.{before}
+use Rattle.vk_model.specs.Seen.{Read, seen}
+use Rattle.vk_model.specs.Pieces.{pieces}
+use Rattle.vk_model.specs.Run.{Name, Apply, RunPiece, offered, start, Allowed}
+use Rattle.vk_model.specs.Picks.{Picked, trace_picks}
+use Rattle.vk_rows.specs.Writing.{bytes, to_end, dependency, levels, image_element, submit_info, semaphore_value, batch, buffer_entry, image_entry, transfer, host, all_commands, transfer_write, host_read, both, undefined, destination_optimal, ignored}
+
+-- ---- pieces, layouts and sizes
+
+-- The sizes of a command's pieces, after some entries.
+abbrev pub piece_sizes : List Entry → Cmd → List ℕ
+piece_sizes t c = map length (pieces (plain_order t) c)
+
+-- A buffer of 5,000 bytes.
+abbrev pub large_buffer : List Entry
+large_buffer = buffer_entry 1 5000 both sharing.Exclusive (place.Dedicated 1) ∷ []
+
+-- An image of two levels, the first of which goes to TRANSFER_DST_OPTIMAL.
+abbrev pub two_levels : List Entry
+two_levels = image_entry 1 texel_format.R8Uint 8 8 2 1 kind.Optimal both sharing.Exclusive (place.Dedicated 0)
+    ∷ entry.Submit 0 (batch []
+    (cmd.Barrier (image_element (dependency 0 0 transfer transfer_write) ignored ignored 1 undefined destination_optimal (levels 0 1 0 1) ∷ []) ∷ [])
+    [] ∷ [])
+    ∷ []
+
+-- An image of 9 by 5 texels of two bytes.
+abbrev pub nine_by_five : Kind → ImageInfo
+nine_by_five k = record { format = texel_format.R16Uint; width = 9; height = 5; levels = 1; layers = 1; tiling = k; usage = record { 0 = 3 }; sharing = sharing.Exclusive; place = place.Dedicated 0 }
+
+-- ---- the order of nodes
+
+-- A fill, a barrier if it's given, a signal, a wait, a map and a read: nodes 0 to 7, or 6 without the barrier.
+abbrev pub upload : List Cmd → List Entry
+upload barrier = buffer_entry 1 16 both sharing.Exclusive (place.Dedicated 1) ∷ entry.Semaphore 2 0
+    ∷ entry.Submit 0 (batch [] (cmd.Fill 1 0 (bytes 16) 67305985 ∷ barrier) (submit_info 2 1 all_commands ∷ []) ∷ [])
+    ∷ entry.Wait (semaphore_value 2 1 ∷ []) ∷ entry.Map 1 ∷ entry.Read 1 0 4 ∷ []
+
+-- A barrier from the transfers' writes to the host's reads.
+abbrev pub to_host : List Cmd
+to_host = cmd.Barrier (element.Memory (dependency transfer transfer_write host host_read) ∷ []) ∷ []
+
+-- Whether nodes of these numbers are related so, among the nodes of a trace.
+abbrev pub related : (List Node → Node → Node → Bool) → List Entry → ℕ → ℕ → Bool
+related test t m n =
+    let ns = nodes (plain_order t) in
+    holds (slice_get (reverse ns) m) (λ x. holds (slice_get (reverse ns) n) (test ns x))
+
+-- Whether the read of byte 0 of buffer 1 by one node sees the write by another.
+abbrev pub sees_byte : List Node → Node → Node → Bool
+sees_byte ns w a = seen (λ b. false) ns w a Read (in_buffer 1 0)
+
+-- ---- what may run next
+
+-- Fills of one buffer on queue 0, with a barrier between, and of another on queue 1: nodes 3, 5 and 7.
+abbrev pub three_fills : List Entry
+three_fills = buffer_entry 1 16 both sharing.Exclusive (place.Dedicated 1) ∷ buffer_entry 2 16 both sharing.Exclusive (place.Dedicated 1)
+    ∷ entry.Submit 0 (batch [] (cmd.Fill 1 0 (bytes 16) 1
+    ∷ cmd.Barrier (element.Memory (dependency transfer transfer_write transfer transfer_write) ∷ [])
+    ∷ cmd.Fill 1 0 (bytes 16) 2 ∷ []) [] ∷ [])
+    ∷ entry.Submit 1 (batch [] (cmd.Fill 2 0 (bytes 16) 3 ∷ []) [] ∷ [])
+    ∷ []
+
+-- The pieces that are offered when some have run.
+abbrev pub offers : List Name → List Name
+offers done = offered (plain_order three_fills) done
+
+-- ---- what a scheduler is asked
+
+-- Two fills and a barrier to the host, and a wait for both.
+abbrev pub two_fills : List Entry
+two_fills = buffer_entry 1 16 both sharing.Exclusive (place.Dedicated 1) ∷ entry.Semaphore 2 0
+    ∷ entry.Submit 0 (batch [] (cmd.Fill 1 0 (bytes 8) 67305985 ∷ cmd.Fill 1 8 (bytes 8) 134678021 ∷ to_host) (submit_info 2 1 all_commands ∷ []) ∷ [])
+    ∷ entry.Wait (semaphore_value 2 1 ∷ []) ∷ []
+
+-- A scheduler that answers by the number of options, and holds those numbers, the newest first.
+abbrev pub picked : (ℕ → ℕ) → List Entry → Picked
+picked answer t = trace_picks (λ past. 0) (λ held n. answer n) (λ held n. n ∷ held) (start t) [] t
+
+-- The first option.
+abbrev pub the_first : ℕ → ℕ
+the_first n = 0
+
+-- The last option.
+abbrev pub the_last : ℕ → ℕ
+the_last n = n - 1
+
+-- A buffer in cached memory that the host writes and invalidates.
+abbrev pub cached_write : List Entry
+cached_write = buffer_entry 1 128 both sharing.Exclusive (place.Dedicated 2) ∷ entry.Map 1 ∷ entry.Write 1 0 (170 ∷ []) ∷ entry.Invalidate 1 0 (bytes 1) ∷ []
+
+-- Two fills of the same bytes, with a barrier that names no access.
+abbrev pub ordered_fills : List Entry
+ordered_fills = buffer_entry 1 16 both sharing.Exclusive (place.Dedicated 1)
+    ∷ entry.Submit 0 (batch [] (cmd.Fill 1 0 (bytes 16) 1
+    ∷ cmd.Barrier (element.Memory (dependency transfer 0 transfer 0) ∷ [])
+    ∷ cmd.Fill 1 0 (bytes 16) 2 ∷ []) [] ∷ [])
+    ∷ []
+
+-- Pieces, order, what may run next, and picks.
+pub record Work : Type 0 where
+  -- The points of a fill, a barrier, a signal, a wait, a map and a read, in order.
+  pub points : map at_of (reverse (plain_order (upload to_host)))
+      ≡ at.Entry 0 ∷ at.Entry 1 ∷ at.Entry 2 ∷ at.Command 2 0 0 ∷ at.Command 2 0 1 ∷ at.Signal 2 0 0 ∷ at.Entry 3 ∷ at.Entry 4 ∷ at.Entry 5 ∷ []
+  -- A buffer of 5,000 bytes asks for 5,008, at a multiple of 16.
+  pub asked_size : option_map (λ r. r.size) (resource (plain_order large_buffer) 1) ≡ Some 5008
+  pub asked_align : option_map (λ r. r.align) (resource (plain_order large_buffer) 1) ≡ Some 16
+  -- A fill to the end of 5,000 bytes from byte 2 on writes 4,996.
+  pub moves_to_end : length (moves (plain_order large_buffer) (cmd.Fill 1 2 to_end 7)) ≡ 4996
+  -- An order without a memory dependency doesn't mend a write after a write.
+  pub no_memory_dependency : first_fault ordered_fills ≡ Some (at.Command 1 0 2, rule.HazardWaw)
+  -- A fill of 5,000 bytes has a piece of 4,096 and one of 904.
+  pub fill_pieces : piece_sizes large_buffer (cmd.Fill 1 0 (bytes 5000) 7) ≡ 4096 ∷ 904 ∷ []
+  -- After the transition level 0 is in TRANSFER_DST_OPTIMAL, level 1 in UNDEFINED.
+  pub level_0 : (world (plain_order two_levels)).layout 1 0 0 ≡ destination_optimal
+  pub level_1 : (world (plain_order two_levels)).layout 1 1 0 ≡ undefined
+  -- An image of 9 by 5 texels of two bytes takes 256 bytes in tiles, and 320 in rows of 64.
+  pub tiled_size : image_size (nine_by_five kind.Optimal) kind.Optimal ≡ 256
+  pub linear_size : image_size (nine_by_five kind.Linear) kind.Linear ≡ 320
+  pub linear_pitch : row_pitch (nine_by_five kind.Linear) ≡ 64
+  -- The fill comes before the host's read, which sees it.
+  pub fill_before_read : related before (upload to_host) 3 8 ≡ true
+  pub read_sees_fill : related sees_byte (upload to_host) 3 8 ≡ true
+  -- Without the barrier it comes before the read all the same, which doesn't see it.
+  pub still_before : related before (upload []) 3 7 ≡ true
+  pub not_seen : related sees_byte (upload []) 3 7 ≡ false
+  -- The fill is ordered directly before the signal.
+  pub fill_to_signal : related edge (upload to_host) 3 5 ≡ true
+  -- The fill after the barrier waits for the first one; that on the other queue doesn't.
+  pub at_first : offers [] ≡ (3, 0) ∷ (7, 0) ∷ []
+  pub then_the_second : offers ((3, 0) ∷ []) ≡ (5, 0) ∷ (7, 0) ∷ []
+  -- Before the wait both fills are two options once; after that one is left, and then the wait.
+  pub asked_once : (picked the_first two_fills).held ≡ 2 ∷ []
+  pub in_order : (picked the_first two_fills).steps ≡ Apply [] ∷ Apply [] ∷ Apply [] ∷ RunPiece (3, 0) ∷ RunPiece (4, 0) ∷ Apply [] ∷ []
+  pub last_first : (picked the_last two_fills).steps ≡ Apply [] ∷ Apply [] ∷ Apply [] ∷ RunPiece (4, 0) ∷ RunPiece (3, 0) ∷ Apply [] ∷ []
+  -- Both orders of the fills are allowed runs.
+  pub runs_in_order : Allowed (λ past. 0) (start two_fills) (Apply [] ∷ Apply [] ∷ Apply [] ∷ RunPiece (3, 0) ∷ RunPiece (4, 0) ∷ Apply [] ∷ []) (picked the_first two_fills).stage
+  pub runs_last_first : Allowed (λ past. 0) (start two_fills) (Apply [] ∷ Apply [] ∷ Apply [] ∷ RunPiece (4, 0) ∷ RunPiece (3, 0) ∷ Apply [] ∷ []) (picked the_last two_fills).stage
+  -- Both atoms are touched at each host access by the last answer, and none by the first.
+  pub atoms_touched : (picked the_last cached_write).steps ≡ Apply [] ∷ Apply [] ∷ Apply (0 ∷ 1 ∷ []) ∷ Apply (0 ∷ 1 ∷ []) ∷ []
+  pub no_atom_touched : (picked the_first cached_write).steps ≡ Apply [] ∷ Apply [] ∷ Apply [] ∷ Apply [] ∷ []
