@@ -307,10 +307,10 @@ impl Write for ShortWriter {
     }
 }
 
-/// An empty trace, followed by blanks up to this many bytes.
-fn blanks(alloc: Global, size: usize) -> Result<Vec<u8>, Fail> {
+/// A text, followed by blanks up to this many bytes.
+fn blanks(alloc: Global, text: &str, size: usize) -> Result<Vec<u8>, Fail> {
     let mut trace = Vec::new(alloc);
-    trace.extend_from_slice(b"[]")?;
+    trace.extend_from_slice(text.as_bytes())?;
     trace.resize(size, b' ')?;
     Ok(trace)
 }
@@ -428,9 +428,14 @@ fn faults_and_limits(rt: HostRuntime) -> Result<(), Fail> {
     let (ending, written) = run_bytes(alloc, more.as_bytes());
     assert_eq!(rt; ending, REFUSED);
     assert_eq!(rt; written.as_slice(), b"refused 131072 LIMIT\n".as_slice());
-    let longest = blanks(alloc, 16_777_216)?;
+    let longest = blanks(alloc, "[]", 16_777_216)?;
     assert_eq!(rt; run_bytes(alloc, &longest).0, REPLAYED);
-    let longer = blanks(alloc, 16_777_217)?;
+    let longer = blanks(alloc, "[]", 16_777_217)?;
     assert_eq!(rt; run_bytes(alloc, &longer).0, Err(RunFault::TooLong));
+    let longer_and_none = blanks(alloc, "]", 16_777_217)?;
+    assert_eq!(rt;
+        run_bytes(alloc, &longer_and_none).0,
+        Err(RunFault::TooLong)
+    );
     Ok(())
 }
