@@ -1,12 +1,12 @@
 -- A node that comes changes no edge, no order and no sight among those that were there.
-use Rattle.std.proofs.Common.{◌≡◌, ℕ, zero, suc, ◌+◌, ◌<◌, ◌≤◌, List, [], ◌∷◌, ◌++◌, length, Bool, true, false, ◌&&◌, ◌||◌, not, ◌==◌, refl, ap, sym, ◌∙◌, subst, arith, inl, inr, ◌⊎◌, IsTrue}
+use Rattle.std.proofs.Common.{◌≡◌, ℕ, zero, suc, ◌<◌, ◌≤◌, List, [], ◌∷◌, ◌++◌, length, Bool, true, false, ◌&&◌, ◌||◌, refl, ap, sym, ◌∙◌, arith, inl, inr, ◌⊎◌}
 use Rattle.std.specs.Prelude.{nat_lt, nat_le, Contains, if◌then◌else◌}
 use Rattle.std.specs.List.{list_any, filter}
 use Rattle.std.proofs.lemmas.Bool.{le-ltb, ne_eqb}
 use Rattle.vk_model.specs.World.{Byte}
 use Rattle.vk_model.specs.Point.{Past, Point}
 use Rattle.vk_model.specs.Node.{Node, Act, nodes, with_acts, acts, same_node}
-use Rattle.vk_model.specs.Edge.{edge, earlier}
+use Rattle.vk_model.specs.Edge.{edge}
 use Rattle.vk_model.specs.Before.{before, reached, IsNumbered}
 use Rattle.vk_model.specs.Laws.{Keeps}
 use Rattle.vk_model.specs.Seen.{Access, seen, passes, available_by, visible_by}

@@ -4,3 +4,6 @@ mod GrowthLaws
 mod PathLaws
 mod PieceLaws
 mod OrderLaws
+mod Pairs
+mod BytePlaces
+mod ApartLaws

@@ -1,5 +1,5 @@
 -- The plain order, and the order in which batches are taken once their waits are met, where no wait is ahead of its signal.
-use Rattle.std.proofs.Common.{◌≡◌, ℕ, zero, suc, ◌+◌, ◌<◌, ◌≤◌, List, [], ◌∷◌, ◌++◌, length, Bool, true, false, ◌&&◌, not, ◌==◌, refl, ap, sym, ◌∙◌, subst, arith, inl, inr, ◌⊎◌, Option, Some, None}
+use Rattle.std.proofs.Common.{◌≡◌, ℕ, ◌+◌, ◌<◌, List, [], ◌∷◌, length, Bool, true, false, not, ◌==◌, refl, ap, sym, ◌∙◌, arith, Option, Some, None}
 use Rattle.std.specs.Prelude.{⊤, nat_lt, nat_le, is_some, option_map, option_and_then, if◌then◌else◌}
 use Rattle.std.specs.List.{list_all, filter, fold}
 use Rattle.std.proofs.lemmas.Bool.{ltb-false, ne_eqb, eq-eqb, le-leb}
@@ -8,7 +8,7 @@ use Rattle.vk_model.specs.declared.entry.Entry.{Entry}
 use Rattle.vk_model.specs.declared.entry.Entry.TheVariants as entry
 use Rattle.vk_model.specs.declared.entry.SemaphoreSubmit.{SemaphoreSubmit}
 use Rattle.vk_model.specs.declared.rule.Rule.TheVariants as rule
-use Rattle.vk_model.specs.Words.{holds, among}
+use Rattle.vk_model.specs.Words.{holds}
 use Rattle.vk_model.specs.Point.{Point, Past, Deed, Host, Wait, Run, Signal}
 use Rattle.vk_model.specs.Objects.{live, made, ended, initial, semaphore_in}
 use Rattle.vk_model.specs.Order.{Turn, Front, host, deeds, taken, turn, turns_from, turns_of, plain_from, plain_order, counter, is_met, same_turn, next_turn, take_turn, settled, after_entry, order_from, order}

@@ -1,6 +1,6 @@
 -- The pieces of a command, put together.
-use Rattle.std.proofs.Common.{◌≡◌, ℕ, zero, suc, ◌+◌, ◌-◌, ◌*◌, ◌<◌, ◌≤◌, max, ◌/◌, ◌^◌, List, [], ◌∷◌, ◌++◌, map, length, take, drop, refl, ap, sym, ◌∙◌, arith, inl, inr, ◌⊎◌, Option, Some, None}
-use Rattle.std.specs.List.{flat_map, range_with_len}
+use Rattle.std.proofs.Common.{◌≡◌, ℕ, zero, suc, ◌+◌, ◌*◌, ◌<◌, ◌≤◌, max, ◌/◌, ◌^◌, List, [], ◌∷◌, ◌++◌, map, length, take, drop, refl, ap, sym, ◌∙◌, arith, inl, inr, ◌⊎◌, Option, Some, None}
+use Rattle.std.specs.List.{flat_map}
 use Rattle.std.proofs.lemmas.List.{take-append-drop, length-drop, map-append}
 use Rattle.std.proofs.lemmas.Grind.{flat_map-append}
 use Rattle.vk_model.specs.declared.command.Cmd.{Cmd}
@@ -12,11 +12,10 @@ use Rattle.vk_model.specs.declared.resource.ImageInfo.{ImageInfo}
 use Rattle.vk_model.specs.declared.layout.Format.{Format}
 use Rattle.vk_model.specs.declared.layout.Format.TheVariants as format
 use Rattle.vk_model.specs.Words.{below, grid}
-use Rattle.vk_model.specs.Image.{texel, level_width, level_height}
+use Rattle.vk_model.specs.Image.{texel, level_width}
 use Rattle.vk_model.specs.Point.{Past}
 use Rattle.vk_model.specs.Objects.{image}
-use Rattle.vk_model.specs.World.{Byte}
-use Rattle.vk_model.specs.Moves.{Move, moves, copy_moves, copy_in_moves, copy_out_moves, copy_image_moves, clear_move, clear_moves, level_bytes, subresource_bytes}
+use Rattle.vk_model.specs.Moves.{Move, moves, copy_moves, copy_in_moves, copy_out_moves, copy_image_moves, clear_move, clear_moves, level_bytes}
 use Rattle.vk_model.specs.Pieces.{parts, cut, row_bytes, level_pieces, clear_pieces, pieces}
 use Rattle.vk_model.specs.Laws.{together}
 
@@ -112,17 +111,17 @@ clear_together i color (Some m) r =
 
 -- ---- commands
 
-four : (past : Past) (xs : List Move) → together (cut 4096 xs) ≡ xs
-four past xs = cut_together 4096 xs (inl (omega arith))
+cut_by_4096 : (xs : List Move) → together (cut 4096 xs) ≡ xs
+cut_by_4096 xs = cut_together 4096 xs (inl (omega arith))
 
 pub pieces_together : (past : Past) (c : Cmd) → together (pieces past c) ≡ moves past c
-pieces_together past (cmd.Copy s d gs) = each_together (λ g. cut 4096 (copy_moves s d g)) (copy_moves s d) gs (λ g. four past (copy_moves s d g))
+pieces_together past (cmd.Copy s d gs) = each_together (λ g. cut 4096 (copy_moves s d g)) (copy_moves s d) gs (λ g. cut_by_4096 (copy_moves s d g))
 pieces_together past (cmd.CopyIn b i l gs) = each_together (λ g. cut (row_bytes (image past i) g.width) (copy_in_moves b i (image past i) g)) (copy_in_moves b i (image past i)) gs (copy_in_together b i (image past i))
 pieces_together past (cmd.CopyOut i l b gs) = each_together (λ g. cut (row_bytes (image past i) g.width) (copy_out_moves i b (image past i) g)) (copy_out_moves i b (image past i)) gs (copy_out_together i b (image past i))
 pieces_together past (cmd.CopyImage s l d m gs) = each_together (λ g. cut (row_bytes (image past d) g.width) (copy_image_moves s d (image past d) g)) (copy_image_moves s d (image past d)) gs (copy_image_together s d (image past d))
 pieces_together past (cmd.Clear i l color rs) = each_together (clear_pieces i color (image past i)) (clear_moves i color (image past i)) rs (clear_together i color (image past i))
-pieces_together past (cmd.Fill b o n w) = four past (moves past (cmd.Fill b o n w))
-pieces_together past (cmd.Update b o bytes) = four past (moves past (cmd.Update b o bytes))
+pieces_together past (cmd.Fill b o n w) = cut_by_4096 (moves past (cmd.Fill b o n w))
+pieces_together past (cmd.Update b o bytes) = cut_by_4096 (moves past (cmd.Update b o bytes))
 pieces_together past (cmd.Barrier es) = refl
 pieces_together past (cmd.Set v ms) = refl
 pieces_together past (cmd.Await v ms) = refl

@@ -1,9 +1,9 @@
 -- Laws of the definitions: what they say together.
-use Rattle.std.specs.Prelude.{◌≡◌, ℕ, ◌<◌, ◌++◌, Bool, Contains, List, Option, Some, None, IsTrue, ◌↔◌, false, slice_get}
+use Rattle.std.specs.Prelude.{◌≡◌, ℕ, ◌<◌, ◌++◌, Bool, Contains, List, Some, None, IsTrue, ◌↔◌, false, slice_get}
 use Rattle.vk_model.specs.declared.entry.Entry.{Entry}
 use Rattle.vk_model.specs.declared.rule.At.{At}
 use Rattle.vk_model.specs.declared.rule.Rule.{Rule}
-use Rattle.vk_model.specs.Point.{Past, Point, at_of}
+use Rattle.vk_model.specs.Point.{Past, Point, Run, at_of}
 use Rattle.vk_model.specs.World.{Byte}
 use Rattle.vk_model.specs.Order.{plain_order, order}
 use Rattle.vk_model.specs.declared.rule.Rule.TheVariants as rule
@@ -11,7 +11,9 @@ use Rattle.vk_model.specs.Node.{Node, nodes}
 use Rattle.vk_model.specs.Edge.{edge}
 use Rattle.vk_model.specs.Before.{before, Path}
 use Rattle.vk_model.specs.Seen.{Access, seen}
-use Rattle.vk_model.specs.Moves.{moves}
+use Rattle.vk_model.specs.Moves.{Move, moves}
+use Rattle.vk_model.specs.Access.{targets, share}
+use Rattle.vk_model.specs.Words.{some_pair}
 use Rattle.vk_model.specs.Pieces.{pieces}
 use Rattle.vk_model.specs.declared.command.Cmd.{Cmd}
 use Rattle.std.specs.List.{flat_map}
@@ -76,6 +78,15 @@ together parts = flat_map (λ part. part) parts
 -- The pieces of a command, put together, are its moves.
 abbrev pub PiecesAreMoves : Type 0
 PiecesAreMoves = (past : Past) (c : Cmd) → together (pieces past c) ≡ moves past c
+
+-- Whether two pieces write a common byte.
+abbrev pub write_common : List Move → List Move → Bool
+write_common p q = share (targets p) (targets q)
+
+-- No two pieces of a command write one byte where it breaks neither OVERLAP nor RANGE; no other rule is needed.
+abbrev pub PiecesWriteApart : Type 0
+PiecesWriteApart = (past : Past) (p : Point) (c : Cmd) → p.deed ≡ Run c → breaks rule.Overlap past p ≡ false → breaks rule.Range past p ≡ false
+    → some_pair write_common (pieces past c) ≡ false
 
 -- Rules that are printed alike are the same rule.
 abbrev pub NamesDiffer : Type 0

@@ -1,5 +1,5 @@
 //! Laws of the definitions, each the contract of a function that does nothing.
-ghost use Rattle.vk_model.specs.Laws.{NoFaultIsSound, FaultIsFirst, NamesDiffer, TableIsWhole, GrowthKeeps, BeforeIsPath, BeforeIsTransitive, BeforeLeadsOn, PiecesAreMoves, OrdersAgree};
+ghost use Rattle.vk_model.specs.Laws.{NoFaultIsSound, FaultIsFirst, NamesDiffer, TableIsWhole, GrowthKeeps, BeforeIsPath, BeforeIsTransitive, BeforeLeadsOn, PiecesAreMoves, PiecesWriteApart, OrdersAgree};
 
 /// The first fault of a trace is none exactly where no point of it breaks any rule.
 pub fn no_fault_is_sound()
@@ -47,4 +47,9 @@ pub fn pieces_are_moves()
 /// with waiting batches is the plain order.
 pub fn orders_agree()
     ensures { OrdersAgree }
+{}
+
+/// No two pieces of a command write one byte where the command breaks neither OVERLAP nor RANGE.
+pub fn pieces_write_apart()
+    ensures { PiecesWriteApart }
 {}
