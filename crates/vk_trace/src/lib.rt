@@ -4,6 +4,7 @@
 mod commands;
 mod entries;
 mod faults;
+pub mod forms;
 mod members;
 mod printing;
 mod reading;

@@ -1,0 +1,87 @@
+-- Worked texts: what some bytes mean, which bytes mean nothing, and how answers are told.
+use Rattle.std.specs.Prelude.{◌≡◌, ℕ, List, [], ◌∷◌, codes, Option, Some, None}
+use Rattle.serde_json.specs.Read.{read}
+use Rattle.vk_model.specs.declared.resource.Sharing.TheVariants as sharing
+use Rattle.vk_model.specs.declared.resource.Place.TheVariants as place
+use Rattle.vk_model.specs.declared.command.Length.TheVariants as length_of
+use Rattle.vk_model.specs.declared.command.Element.TheVariants as element
+use Rattle.vk_model.specs.declared.command.Cmd.TheVariants as cmd
+use Rattle.vk_model.specs.declared.entry.Entry.{Entry}
+use Rattle.vk_model.specs.declared.entry.Entry.TheVariants as entry
+use Rattle.vk_model.specs.declared.rule.Rule.TheVariants as rule
+use Rattle.vk_model.specs.declared.rule.At.TheVariants as at
+use Rattle.vk_trace.specs.declared.printing.Outcome.TheVariants.{Reads, Refused}
+use Rattle.vk_trace.specs.Members.{◌>>=◌}
+use Rattle.vk_trace.specs.Trace.{trace_value}
+use Rattle.vk_trace.specs.Text.{lines_of}
+
+-- the entries that a text of JSON stands for
+abbrev pub meant_by : List ℕ → Option (List Entry)
+meant_by bytes = read bytes >>= trace_value
+
+-- a buffer is filled on a queue, and the host reads it
+abbrev pub first_upload : List Entry
+first_upload =
+    entry.Buffer 1 (record { size = 16; usage = record { 0 = 3 }; sharing = sharing.Exclusive; place = place.Dedicated 1 })
+    ∷ entry.Semaphore 2 0
+    ∷ entry.Submit 0 (record {
+      waits = [];
+      commands = cmd.Fill 1 0 (length_of.Bytes 16) 67305985
+          ∷ cmd.Barrier (element.Memory (record {
+            source_stages = record { 0 = 4096 };
+            source_accesses = record { 0 = 4096 };
+            destination_stages = record { 0 = 16384 };
+            destination_accesses = record { 0 = 8192 };
+          }) ∷ []) ∷ [];
+      signals = record { semaphore = 2; value = 1; stages = record { 0 = 65536 } } ∷ [];
+    } ∷ [])
+    ∷ entry.Wait (record { semaphore = 2; value = 1 } ∷ [])
+    ∷ entry.Map 1
+    ∷ entry.Read 1 0 4
+    ∷ []
+
+-- Texts that are traces.
+pub record Traces : Type 0 where
+  pub upload : meant_by (codes "[[\"buffer\",1,16,3,\"exclusive\",[\"dedicated\",1]],[\"semaphore\",2,0],[\"submit\",0,[[[],[[\"fill\",1,0,16,67305985],[\"barrier\",[[4096,4096,16384,8192]],[],[]]],[[2,1,65536]]]]],[\"wait\",[[2,1]]],[\"map\",1],[\"read\",1,0,4]]") ≡ Some first_upload
+  pub nothing : meant_by (codes " [ ] ") ≡ Some []
+  -- a word written with escapes is that word
+  pub escapes : meant_by (codes "[[\"\\u006dap\",1]]") ≡ Some (entry.Map 1 ∷ [])
+  pub greatest_id : meant_by (codes "[[\"map\",4294967295]]") ≡ Some (entry.Map 4294967295 ∷ [])
+  pub greatest_value : meant_by (codes "[[\"semaphore\",1,18446744073709551615]]") ≡ Some (entry.Semaphore 1 18446744073709551615 ∷ [])
+
+-- Texts that are no trace.
+pub record NoTraces : Type 0 where
+  pub empty : meant_by [] ≡ None
+  pub unfinished : meant_by (codes "[[\"map\",1]") ≡ None
+  pub second_array : meant_by (codes "[][]") ≡ None
+  pub comma_at_the_end : meant_by (codes "[[\"map\",1],]") ≡ None
+  -- numbers
+  pub sign : meant_by (codes "[[\"map\",-1]]") ≡ None
+  pub negative_zero : meant_by (codes "[[\"map\",-0]]") ≡ None
+  pub plus : meant_by (codes "[[\"map\",+1]]") ≡ None
+  pub point : meant_by (codes "[[\"map\",1.0]]") ≡ None
+  pub exponent : meant_by (codes "[[\"map\",1e0]]") ≡ None
+  pub leading_zero : meant_by (codes "[[\"map\",01]]") ≡ None
+  pub id_too_large : meant_by (codes "[[\"map\",4294967296]]") ≡ None
+  pub value_too_large : meant_by (codes "[[\"semaphore\",1,18446744073709551616]]") ≡ None
+  pub truth : meant_by (codes "[[\"map\",true]]") ≡ None
+  pub number_as_text : meant_by (codes "[[\"map\",\"1\"]]") ≡ None
+  -- members
+  pub member_too_few : meant_by (codes "[[\"map\"]]") ≡ None
+  pub member_too_many : meant_by (codes "[[\"map\",1,1]]") ≡ None
+  pub object_for_array : meant_by (codes "[{\"map\":1}]") ≡ None
+  -- words
+  pub unknown_entry : meant_by (codes "[[\"Map\",1]]") ≡ None
+  pub unknown_length : meant_by (codes "[[\"submit\",0,[[[],[[\"fill\",1,0,\"Whole\",0]],[]]]]]") ≡ None
+  -- forms that are not served yet
+  pub other_queue : meant_by (codes "[[\"submit\",1,[]]]") ≡ None
+  pub cached_memory : meant_by (codes "[[\"buffer\",1,16,3,\"exclusive\",[\"dedicated\",2]]]") ≡ None
+
+-- The texts of answers.
+pub record Texts : Type 0 where
+  pub one_read : lines_of (Reads ((5, 1 ∷ 2 ∷ 3 ∷ 4 ∷ []) ∷ []) None) ≡ codes "5 01020304\n"
+  pub stopped : lines_of (Reads ((15, 171 ∷ 205 ∷ []) ∷ []) (Some 16)) ≡ codes "15 abcd\nstopped 16 NO_ROOM\n"
+  pub at_entry : lines_of (Refused (at.Entry 5) rule.HazardRaw) ≡ codes "refused 5 HAZARD_RAW\n"
+  pub at_command : lines_of (Refused (at.Command 2 0 1) rule.HazardWaw) ≡ codes "refused 2.0.1 HAZARD_WAW\n"
+  pub at_wait : lines_of (Refused (at.Wait 3 0 0) rule.WaitBeforeSignal) ≡ codes "refused 3.0.w0 WAIT_BEFORE_SIGNAL\n"
+  pub at_signal : lines_of (Refused (at.Signal 2 0 0) rule.SignalOrder) ≡ codes "refused 2.0.s0 SIGNAL_ORDER\n"
