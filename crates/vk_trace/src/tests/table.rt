@@ -1,0 +1,200 @@
+use crate::{RunFault, Status};
+
+/// How a run ends.
+pub type Ending = Result<Status, RunFault>;
+
+pub const REPLAYED: Ending = Ok(Status::Replayed);
+
+pub const REFUSED: Ending = Ok(Status::Refused);
+
+pub const STOPPED: Ending = Ok(Status::Stopped);
+
+pub const NO_TRACE: Ending = Err(RunFault::NotTrace);
+
+pub const NO_MEMORY: Ending = Err(RunFault::NoMemory);
+
+/// A buffer is filled, and read by the host after a barrier and a wait.
+pub const FILL_AND_READ: &str =
+    r#"[["buffer",1,16,3,"exclusive",["dedicated",1]],["semaphore",2,0],["submit",0,[[[],[["fill",1,0,16,67305985],["barrier",[[4096,4096,16384,8192]],[],[]]],[[2,1,65536]]]]],["wait",[[2,1]]],["map",1],["read",1,0,4]]"#;
+
+/// Traces, with what is written for them and how the run ends.
+pub const TRACES: [(&str, &str, Ending); 26] = [
+    ("[]", "", REPLAYED),
+    (
+        r#"[["buffer",1,16,3,"exclusive",["dedicated",1]],["semaphore",2,0],["submit",0,[[[],[["fill",1,0,16,67305985],["barrier",[[4096,4096,16384,8192]],[],[]]],[[2,1,65536]]]]],["wait",[[2,1]]],["map",1],["read",1,0,4]]"#,
+        "5 01020304\n",
+        REPLAYED,
+    ),
+    (
+        r#"[["buffer",1,16,3,"exclusive",["dedicated",1]],["semaphore",2,0],["submit",0,[[[],[["fill",1,0,16,67305985]],[[2,1,65536]]]]],["wait",[[2,1]]],["map",1],["read",1,0,4]]"#,
+        "refused 5 HAZARD_RAW\n",
+        REFUSED,
+    ),
+    (
+        r#"[["buffer",1,16,3,"exclusive",["dedicated",1]],["semaphore",2,0],["submit",0,[[[],[["fill",1,0,16,67305985],["fill",1,0,16,67305985],["barrier",[[4096,4096,16384,8192]],[],[]]],[[2,1,65536]]]]],["wait",[[2,1]]],["map",1],["read",1,0,4]]"#,
+        "refused 2.0.1 HAZARD_WAW\n",
+        REFUSED,
+    ),
+    (
+        r#"[["buffer",1,16,3,"exclusive",["dedicated",1]],["semaphore",2,0],["submit",0,[[[],[["fill",1,0,16,67305985],["barrier",[[4096,8192,16384,8192]],[],[]]],[[2,1,65536]]]]],["wait",[[2,1]]],["map",1],["read",1,0,4]]"#,
+        "refused 2.0.1 STAGE\n",
+        REFUSED,
+    ),
+    (
+        r#"[["buffer",1,16,3,"exclusive",["dedicated",1]],["semaphore",2,0],["submit",0,[[[],[["fill",1,0,8,67305985],["fill",1,8,8,134678021],["barrier",[[4096,4096,16384,8192]],[],[]]],[[2,1,65536]]]]],["wait",[[2,1]]],["map",1],["read",1,4,8]]"#,
+        "5 0102030405060708\n",
+        REPLAYED,
+    ),
+    (
+        r#"[["buffer",1,18,3,"exclusive",["dedicated",1]],["semaphore",2,0],["submit",0,[[[],[["fill",1,0,"whole",67305985],["barrier",[[4096,4096,16384,8192]],[],[]]],[[2,1,65536]]]]],["wait",[[2,1]]],["map",1],["read",1,12,4]]"#,
+        "5 01020304\n",
+        REPLAYED,
+    ),
+    (
+        r#"[["buffer",1,18,3,"exclusive",["dedicated",1]],["semaphore",2,0],["submit",0,[[[],[["fill",1,0,"whole",67305985],["barrier",[[4096,4096,16384,8192]],[],[]]],[[2,1,65536]]]]],["wait",[[2,1]]],["map",1],["read",1,12,5]]"#,
+        "refused 5 READ_UNDEFINED\n",
+        REFUSED,
+    ),
+    (
+        r#"[["semaphore",1,0],["semaphore",1,0]]"#,
+        "refused 1 NEW_ID\n",
+        REFUSED,
+    ),
+    (
+        r#"[["semaphore",1,0],["wait",[[1,1]]]]"#,
+        "refused 1 WAIT_NEVER\n",
+        REFUSED,
+    ),
+    (
+        r#"[["buffer",1,4194304,1,"exclusive",["dedicated",1]],["buffer",2,16,1,"exclusive",["dedicated",1]]]"#,
+        "stopped 1 NO_ROOM\n",
+        STOPPED,
+    ),
+    (
+        r#"[["buffer",1,4194304,1,"exclusive",["dedicated",1]]]"#,
+        "",
+        REPLAYED,
+    ),
+    (
+        r#"[["buffer",1,0,0,"exclusive",["dedicated",3]]]"#,
+        "refused 0 SIZE\n",
+        REFUSED,
+    ),
+    (
+        r#"[["buffer",1,16,0,"exclusive",["dedicated",3]]]"#,
+        "refused 0 USAGE\n",
+        REFUSED,
+    ),
+    (
+        r#"[["buffer",1,16,3,"exclusive",["dedicated",3]]]"#,
+        "refused 0 MEMORY_TYPE\n",
+        REFUSED,
+    ),
+    (r#"[["wait",[]],["wait",[]]]"#, "refused 0 SIZE\n", REFUSED),
+    (
+        r#"[["semaphore",1,0],["submit",0,[[[],[],[[1,1,65536],[1,1,65536]]]]]]"#,
+        "refused 1.0.s1 SIGNAL_VALUE\n",
+        REFUSED,
+    ),
+    (r#"[["submit",0,[]]]"#, "", REPLAYED),
+    (
+        r#"[["buffer",1,16,3,"exclusive",["dedicated",1]],["semaphore",2,0],["submit",0,[[[],[["fill",1,0,8,67305985],["fill",1,4,8,134678021],["barrier",[[4096,4096,16384,8192]],[],[]]],[[2,1,65536]]]]],["wait",[[2,1]]],["map",1],["read",1,4,8]]"#,
+        "refused 2.0.1 HAZARD_WAW\n",
+        REFUSED,
+    ),
+    (r#"[["semaphore",1,18446744073709551615]]"#, "", REPLAYED),
+    (
+        r#"[["buffer",1,16,3,"exclusive",["dedicated",1]],["semaphore",2,0],["submit",0,[[[],[["fill",1,0,16,67305985],["barrier",[[4096,4096,16384,8192]],[],[]]],[[2,1,65536]]]]],["wait",[[2,1]]],["map",1],["read",1,0,4],["buffer",3,4194304,1,"exclusive",["dedicated",1]]]"#,
+        "5 01020304\nstopped 6 NO_ROOM\n",
+        STOPPED,
+    ),
+    (
+        r#"[["buffer",1,16,3,"concurrent",["dedicated",1]],["semaphore",2,0],["submit",0,[[[],[["fill",1,0,"whole",67305985],["barrier",[[4096,4096,16384,8192]],[],[]]],[[2,1,65536]]]]],["wait",[[2,1]]],["map",1],["read",1,0,4]]"#,
+        "5 01020304\n",
+        REPLAYED,
+    ),
+    (
+        r#"[["submit",0,[[[],[["barrier",[],[],[]]],[]],[[],[],[]]]],["submit",0,[]]]"#,
+        "",
+        REPLAYED,
+    ),
+    (
+        "\t[\r\n [ \"semaphore\" , 4294967295 , 0 ] ]\n",
+        "",
+        REPLAYED,
+    ),
+    (r#"[["s\u0065maphore",0,0]]"#, "", REPLAYED),
+    (
+        r#"[["semaphore",0,0],["semaphore",0,0]]"#,
+        "refused 1 NEW_ID\n",
+        REFUSED,
+    ),
+];
+
+/// Texts that are no trace, or none yet.
+pub const NO_TRACES: [&str; 64] = [
+    r#"[["buffer",1,128,1,"exclusive",["dedicated",2]],["map",1],["write",1,0,"aa"],["write",1,64,"bb"],["invalidate",1,0,1],["read",1,64,1]]"#,
+    r#"[["event",1],["submit",0,[[[],[["set",1,[[4096,4096,4096,2048]]],["await",1,[[4096,4096,4096,6144]]]],[]]]]]"#,
+    r#"[["pool",1,"linear",1,4096,1],["defrag",2,1,0,0]]"#,
+    r#"[["memory",1,0,4096],["image",2,"R8_UINT",8,8,1,1,"optimal",3,"exclusive",["memory",1,0]],["buffer",3,16,3,"exclusive",["memory",1,256]]]"#,
+    r#"[["semaphore",1,5],["signal",1,5]]"#,
+    r#"[["image",1,"R8_UINT",8,8,1,1,"optimal",3,"exclusive",["dedicated",0]],["submit",2,[[[],[["clear",1,7,[0,0,0,0],[[0,1,0,1]]]],[]]]]]"#,
+    r#"[["memory",1,2,4096],["buffer",2,16,3,"exclusive",["memory",1,16]]]"#,
+    r#"[["pool",1,"tlsf",1,4096,2],["buffer",2,2064,3,"exclusive",["pool",1]]]"#,
+    r#"[["submit",4,[]]]"#,
+    r#"[["submit",3,[]]]"#,
+    r#"[["submit",0,[[[[1,1,65536]],[],[]]]]]"#,
+    r#"[["memory",1,1,64],["buffer",2,16,3,"exclusive",["memory",1,0]],["map",2],["map",2]]"#,
+    r#"[["pool",1,"tlsf",2,4096,2],["buffer",2,64,1,"exclusive",["pool",1]],["buffer",3,64,1,"exclusive",["pool",1]],["map",3],["write",3,0,"aa"],["destroy",2],["defrag",4,1,0,0],["pass",4],["end_pass",4,[],[]],["read",3,0,1]]"#,
+    r#"[["memory",1,1,65536],["memory",2,1,1]]"#,
+    r#"[["semaphore",4294967296,0]]"#,
+    r#"[["semaphore",-1,0]]"#,
+    r#"[["semaphore",1.0,0]]"#,
+    r#"[["semaphore",1e0,0]]"#,
+    r#"[["semaphore",-0,0]]"#,
+    r#"[["semaphore",01,0]]"#,
+    r#"[["semaphore",+1,0]]"#,
+    r#"[["semaphore",1E0,0]]"#,
+    r#"[["semaphore",null,0]]"#,
+    r#"[["semaphore","1",0]]"#,
+    r#"[["semaphore",true,0]]"#,
+    r#"[["semaphore",{},0]]"#,
+    r#"[["semaphore",1,0,0]]"#,
+    r#"[["semaphore",1]]"#,
+    r#"[["semaphore",1,18446744073709551616]]"#,
+    "",
+    "null",
+    "{}",
+    "[[]]",
+    "[null]",
+    r#"[["semaphore",1,0],]"#,
+    r#"[["semaphore",1,0]"#,
+    r#"[["semaphore",1,0]]]"#,
+    r#"[["Semaphore",1,0]]"#,
+    r#"[["semaphore",1,0]] x"#,
+    "[1]",
+    r#"[["wait",[[1,1,1]]]]"#,
+    r#"[["wait",[1,1]]]"#,
+    r#"[["wait"]]"#,
+    r#"[["submit",0,[[[],[]]]]]"#,
+    r#"[["submit",0,[[[],[],[[1,1]]]]]]"#,
+    r#"[["submit",1,[]]]"#,
+    r#"[["submit",0,[[[],[["fill",1,0,"Whole",1]],[]]]]]"#,
+    r#"[["submit",0,[[[],[["fill",1,0,-1,1]],[]]]]]"#,
+    r#"[["submit",0,[[[],[["fill",1,0,4,4294967296]],[]]]]]"#,
+    r#"[["submit",0,[[[],[["barrier",[[1,1,1]],[],[]]],[]]]]]"#,
+    r#"[["submit",0,[[[],[["barrier",[],[[4096,4096,4096,4096,0,0,1,0,4]],[]]],[]]]]]"#,
+    r#"[["submit",0,[[[],[["Fill",1,0,4,1]],[]]]]]"#,
+    r#"[["buffer",1,16,3,"shared",["dedicated",1]]]"#,
+    r#"[["buffer",1,16,3,"exclusive",["dedicated",2]]]"#,
+    r#"[["buffer",1,16,3,"exclusive",["dedicated"]]]"#,
+    r#"[["buffer",1,16,3,"exclusive",["dedicated",1,1]]]"#,
+    r#"[["buffer",1,16,3,"exclusive",["pool",1]]]"#,
+    r#"[["buffer",1,16,3,"exclusive",1]]"#,
+    r#"[["buffer",1,"16",3,"exclusive",["dedicated",1]]]"#,
+    r#"[["map",[1]]]"#,
+    r#"[["read",1,0,18446744073709551616]]"#,
+    r#"[["read",1,0,1e1]]"#,
+    "\u{feff}[]",
+    "[[[[[[[[[[[[[[[[[[[[[[[[[[[[[[[[[[[[[[[[[[[[[[[[[[[[[[[[[[[[[[[[[[[[[[[[[[[[[[[[[[[[[[[[[[[[[[[[[[[[[[[[[[[[[[[[[[[[[[[[[[[[[[[[[[[[[[[[[[[[[[[[[[[[[[[[[[[[[[[[[[[[[[[[[[[[[[[[[[[[[[[[[[[[[[[[[[[[[[[[",
+];
