@@ -1,0 +1,46 @@
+-- What holds at every moment of a run: the ghost bytes, and each byte's region and caches beside them.
+use Rattle.std.proofs.Common.{◌≡◌, ◌⊎◌, ℕ, suc, ◌<◌, ◌≤◌, IsTrue, List, Option, Some, None}
+use Rattle.std.specs.Prelude.{⊤}
+use Rattle.vk_model.specs.World.{Byte}
+use Rattle.vk_model.specs.Moves.{Value, From}
+use Rattle.vk_laws.specs.Machine.{IsIn, Task, Put, Puts, Anything, Traffic, Writes, Precedes, latest}
+use Rattle.vk_laws.specs.Caches.{Clean, Dirty, Cell, Caching}
+
+-- A byte before and after a task that writes this to it, by the bytes before.
+abbrev pub Stores : Option Put → (Byte → ℕ) → ℕ → ℕ → Type 0
+Stores None memory old new = new ≡ old
+Stores (Some (Puts (Value value))) memory old new = new ≡ value
+Stores (Some (Puts (From byte))) memory old new = new ≡ memory byte
+Stores (Some Anything) memory old new = ⊤
+
+-- The writes of the byte before node n are done, and none of the later ones is.
+pub record Settled (tr : Traffic) (done : List Task) (c : Byte) (n : ℕ) : Type 0 where
+  pub earlier : (t : Task) → t.node < n → Writes tr t c → IsIn t done
+  pub later : (t : Task) → n ≤ t.node → Writes tr t c → IsIn t done → ⊥
+
+-- Each byte has the model's value after the command that wrote it last.
+abbrev pub Follows : Traffic → (ℕ → Byte → Option ℕ) → List Task → (Byte → ℕ) → Type 0
+Follows tr value done memory = (c : Byte) (w : Task) (v : ℕ) → latest tr c done ≡ Some w → value (suc w.node) c ≡ Some v → memory c ≡ v
+
+-- x is the byte that was written last, and owner the agent that may hold it dirty; whether it has been made available, and visible to an agent.
+pub record CellOk (x : ℕ) (cell : Cell) (owner : Option ℕ) (freed : Type 0) (shown : ℕ → Type 0) : Type 0 where
+  pub dirty : (a u : ℕ) → cell.held a ≡ Some (Dirty u) → (u ≡ x) × (owner ≡ Some a) × (freed → ⊥)
+  pub home : (cell.region ≡ x) ⊎ (a : ℕ) × (owner ≡ Some a) × (cell.held a ≡ Some (Dirty x))
+  pub clean : (a u : ℕ) → shown a → cell.held a ≡ Some (Clean u) → u ≡ x
+  pub is_shown : (a : ℕ) → shown a → (owner ≡ Some a) ⊎ freed
+
+module _ (tr : Traffic) (ca : Caching) where
+  abbrev pub owner_of : Option Task → Option ℕ
+  owner_of None = None
+  owner_of (Some w) = Some (ca.agent w)
+
+  abbrev pub Freed : List Task → Byte → Option Task → Type 0
+  Freed done c None = ⊤
+  Freed done c (Some w) = (p : Task) × IsIn p done × IsTrue (ca.makes_available p w c)
+
+  abbrev pub Shown : List Task → Byte → Option Task → ℕ → Type 0
+  Shown done c None a = ⊤
+  Shown done c (Some w) a = (ca.agent w ≡ a) ⊎ (p : Task) × (q : Task) × IsIn p done × IsIn q done × IsTrue (ca.makes_available p w c) × ((p ≡ q) ⊎ Precedes tr p q) × IsTrue (ca.makes_visible q a c)
+
+  abbrev pub Coherent : List Task → (Byte → Cell) → (Byte → ℕ) → Type 0
+  Coherent done cells memory = (c : Byte) → CellOk (memory c) (cells c) (owner_of (latest tr c done)) (Freed done c (latest tr c done)) (Shown done c (latest tr c done))

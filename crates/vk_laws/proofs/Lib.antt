@@ -1,0 +1,12 @@
+pub mod Coherent
+pub mod Fresh
+pub mod Cells
+pub mod Coherence
+pub mod Commands
+pub mod Growth
+pub mod Example
+pub mod NoHazard
+pub mod Steady
+pub mod Points
+pub mod Ordered
+pub mod TaskAccesses

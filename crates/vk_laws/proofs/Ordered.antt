@@ -1,0 +1,98 @@
+-- Two accesses of a byte anywhere in a trace without a fault are in order.
+use Rattle.std.proofs.Common.{◌≡◌, ⊎_elim, ◌<◌, List, [], ◌∷◌, ◌++◌, Bool, true, false, ◌&&◌, not, IsTrue, None, refl, ap, sym, ◌∙◌, subst, arith}
+use Rattle.std.specs.Prelude.{Contains}
+use Rattle.std.proofs.lemmas.Bool.{lt-ltb}
+use Rattle.vk_model.specs.declared.entry.Entry.{Entry}
+use Rattle.vk_model.specs.declared.command.Cmd.{Cmd}
+use Rattle.vk_model.specs.Order.{plain_order}
+use Rattle.vk_model.specs.World.{Byte}
+use Rattle.vk_model.specs.Point.{Past, Point}
+use Rattle.vk_model.specs.Moves.{moves}
+use Rattle.vk_model.specs.Node.{Node, Act, Hosts, Waits, Signals, Runs, Depends, nodes}
+use Rattle.vk_model.specs.Edge.{is_host}
+use Rattle.vk_model.specs.Before.{before}
+use Rattle.vk_model.specs.Seen.{Read, Write}
+use Rattle.vk_model.specs.Access.{reads, writes, reads_of, writes_of, origins, targets, is_in, precedes}
+use Rattle.vk_model.specs.Laws.{GrowthKeeps}
+use Rattle.vk_model.specs.Rules.{first_fault}
+use Rattle.vk_model.specs.Fault.{Comes}
+use Rattle.vk_laws.specs.Trace.{HasNoHazard, NoHazardLaw, SeenIsBefore, HostInOrder, CommandsStay, Meets, accesses}
+use Rattle.vk_laws.proofs.NoHazard.{number_below, numbered}
+use Rattle.vk_laws.proofs.Steady.{comes_here}
+use Rattle.vk_laws.proofs.Points.{Stands, stands, deed_of, older_node}
+
+join_again : (newer between past : Past) → newer ++ (between ++ past) ≡ (newer ++ between) ++ past
+join_again [] between past = refl
+join_again (p ∷ newer) between past = ap (λ (l : Past). p ∷ l) (join_again newer between past)
+
+module _ (stay : CommandsStay) (t : List Entry) (none : first_fault t ≡ None) (newer past : Past) (p : Point) (whole : plain_order t ≡ newer ++ p ∷ past) (x : Node) (cx : Contains (nodes (p ∷ past)) x) where
+  -- a command's moves are those of the whole trace
+  same_moves : (c : Cmd) → x.act ≡ Runs c → moves (plain_order t) c ≡ moves (p ∷ past) c
+  same_moves c e =
+      let s = stands (p ∷ past) x cx in
+      let deed = deed_of s.at.deed c (subst (λ (a : Act). Contains (Rattle.vk_model.specs.Node.acts s.at.deed) a) e s.acted) in
+      let all : plain_order t ≡ newer ++ (s.newer ++ s.at ∷ s.past) = whole ∙ ap (λ (l : Past). newer ++ l) s.whole in
+      let far : plain_order t ≡ (newer ++ s.newer) ++ s.at ∷ s.past = all ∙ join_again newer s.newer (s.at ∷ s.past) in
+      let a = stay t newer s.newer s.past s.at c none all deed in
+      let b = stay t [] (newer ++ s.newer) s.past s.at c none far deed in
+      ap (λ (l : Past). moves l c) far ∙ b ∙ sym a ∙ ap (λ (l : Past). moves l c) (sym s.whole)
+
+  same_reads : IsTrue (accesses x.act) → reads (plain_order t) x ≡ reads (p ∷ past) x
+  same_reads h = go x.act refl h
+    where
+      go : (a : Act) → x.act ≡ a → IsTrue (accesses a) → reads_of (plain_order t) x.point.queue a ≡ reads_of (p ∷ past) x.point.queue a
+      go (Hosts y) e h = refl
+      go (Runs c) e h = ap origins (same_moves c e)
+      go (Waits s) e h = absurd cc
+      go (Signals s) e h = absurd cc
+      go (Depends r s) e h = absurd cc
+
+  same_writes : IsTrue (accesses x.act) → writes (plain_order t) x ≡ writes (p ∷ past) x
+  same_writes h = go x.act refl h
+    where
+      go : (a : Act) → x.act ≡ a → IsTrue (accesses a) → writes_of (plain_order t) x.point.queue a ≡ writes_of (p ∷ past) x.point.queue a
+      go (Hosts y) e h = refl
+      go (Runs c) e h = ap targets (same_moves c e)
+      go (Waits s) e h = absurd cc
+      go (Signals s) e h = absurd cc
+      go (Depends r s) e h = absurd cc
+
+module _ (stay : CommandsStay) (hazards : NoHazardLaw) (sights : SeenIsBefore) (hosts : HostInOrder) (keeps : GrowthKeeps) (t : List Entry) (none : first_fault t ≡ None) (x y : Node)
+    (cx : Contains (nodes (plain_order t)) x) (cy : Contains (nodes (plain_order t)) y) (lt : x.number < y.number) (ax : IsTrue (accesses x.act)) (ay : IsTrue (accesses y.act)) (b : Byte) where
+  here : (s : Stands (plain_order t) y) → Contains (nodes (s.at ∷ s.past)) x
+  here s =
+      let old = nodes (s.at ∷ s.past) in
+      let kept = keeps (s.at ∷ s.past) s.newer in
+      let low = number_below old (numbered (s.at ∷ s.past)) y s.here in
+      let moved = subst (λ (l : Past). Contains (nodes l) x) s.whole cx in
+      older_node kept.stand.0 old x (subst (λ (l : List Node). Rattle.vk_model.specs.Before.IsNumbered l) kept.stand.1 (numbered (s.newer ++ s.at ∷ s.past)))
+      (subst (λ (l : List Node). Contains l x) kept.stand.1 moved) (omega arith)
+
+  apart : IsTrue (not (is_host x.act && is_host y.act)) → IsTrue (precedes x y)
+  apart h = rw (lt-ltb x.number y.number lt, h) refl
+
+  by_hazards : IsTrue (not (is_host x.act && is_host y.act)) → Meets (plain_order t) x y b → IsTrue (before (nodes (plain_order t)) x y)
+  by_hazards h meet =
+      let s = stands (plain_order t) y cy in
+      let cx' = here s in
+      let nh : HasNoHazard t (s.at ∷ s.past) x y =
+      hazards t s.past s.at x y none (subst (λ (l : Past). Comes l s.past s.at) (sym s.whole) (comes_here s.newer s.past s.at)) cx' s.here s.new (apart h) in
+      let xr = same_reads stay t none s.newer s.past s.at s.whole x cx' ax in
+      let xw = same_writes stay t none s.newer s.past s.at s.whole x cx' ax in
+      let yr = same_reads stay t none s.newer s.past s.at s.whole y s.here ay in
+      let yw = same_writes stay t none s.newer s.past s.at s.whole y s.here ay in
+      ⊎_elim
+      (λ m. sights (plain_order t) _ x y Read b cx cy lt (nh.read_after b (subst (λ (l : List Byte). IsTrue (is_in b l)) xw m.0) (subst (λ (l : List Byte). Contains l b) yr m.1)))
+      (λ rest. ⊎_elim
+      (λ m. nh.read_first b (subst (λ (l : List Byte). IsTrue (is_in b l)) yw m.1) (subst (λ (l : List Byte). Contains l b) xr m.0))
+      (λ m. sights (plain_order t) _ x y Write b cx cy lt (nh.written_after b (subst (λ (l : List Byte). IsTrue (is_in b l)) xw m.0) (subst (λ (l : List Byte). Contains l b) yw m.1)))
+      rest)
+      meet
+
+  pub in_order : Meets (plain_order t) x y b → IsTrue (before (nodes (plain_order t)) x y)
+  in_order meet = go (is_host x.act) (is_host y.act) refl refl
+    where
+      go : (g h : Bool) → is_host x.act ≡ g → is_host y.act ≡ h → IsTrue (before (nodes (plain_order t)) x y)
+      go true true e f = hosts (plain_order t) x y cx cy e f lt
+      go true false e f = by_hazards (rw (e, f) refl) meet
+      go false h e f = by_hazards (rw e refl) meet

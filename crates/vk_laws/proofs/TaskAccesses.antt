@@ -1,0 +1,265 @@
+-- What a trace's tasks access, their nodes access.
+use Rattle.std.proofs.Common.{◌≡◌, inl, inr, ⊎_elim, ℕ, zero, suc, ◌+◌, ◌-◌, ◌<◌, ◌≤◌, List, [], ◌∷◌, ◌++◌, map, length, Bool, true, false, cond, ◌&&◌, IsTrue, Option, Some, None, refl, ap, sym, ◌∙◌, subst, arith, slice_get}
+use Rattle.std.specs.Prelude.{Contains, nat_lt, nat_le, ◌==◌, option_map}
+use Rattle.std.specs.List.{find, flat_map, filter_map, range_with_len, cons_option}
+use Rattle.std.proofs.lemmas.Bool.{eqb-true, eq-eqb, leb-true, lt-ltb}
+use Rattle.vk_model.specs.World.{Byte, in_buffer, in_image, same_byte}
+use Rattle.vk_model.specs.declared.entry.Entry.{Entry}
+use Rattle.vk_model.specs.declared.entry.Entry.TheVariants as entry
+use Rattle.vk_model.specs.declared.command.Cmd.{Cmd}
+use Rattle.vk_model.specs.Point.{Past}
+use Rattle.vk_model.specs.Moves.{Value, Move, moves}
+use Rattle.vk_model.specs.Pieces.{pieces}
+use Rattle.vk_model.specs.Node.{Node, Act, Hosts, Waits, Signals, Runs, Depends, nodes}
+use Rattle.vk_model.specs.Access.{is_in, origin, origins, targets, bytes_of, host_reads, host_writes, reads_of, writes_of, reads, writes}
+use Rattle.vk_model.specs.Laws.{PiecesAreMoves}
+use Rattle.vk_model.specs.Order.{plain_order}
+use Rattle.vk_model.specs.Rules.{first_fault}
+use Rattle.vk_model.specs.Before.{before}
+use Rattle.vk_laws.specs.EveryOrder.{IsSettled}
+use Rattle.vk_laws.specs.Machine.{Task, Put, Puts, Writes, Reads, Precedes, Conflict, MayRun, IsAllowed}
+use Rattle.vk_laws.specs.Trace.{accesses, AccessesInOrder}
+use Rattle.vk_laws.specs.Tasks.{moves_of, host_value, part_write, part_read, task_count, node_at, by_act, traffic_of}
+use Rattle.vk_laws.proofs.Fresh.{closed}
+use Rattle.vk_laws.proofs.NoHazard.{contains-cons, contains-head, contains-tail, some_of, any_of}
+
+-- ---- lists
+
+pub found : {X : Type 0} (f : X → Bool) (xs : List X) (x : X) → find f xs ≡ Some x → Contains xs x × IsTrue (f x)
+found f [] x e = absurd cc
+found {X} f (y ∷ ys) x e = go (f y) refl e (found f ys x)
+  where
+    go : (b : Bool) → f y ≡ b → cond b (Some y) (find f ys) ≡ Some x → (find f ys ≡ Some x → Contains ys x × IsTrue (f x)) → Contains (y ∷ ys) x × IsTrue (f x)
+    go true h e rest = let same : y ≡ x = cc in (subst (λ (z : X). Contains (y ∷ ys) z) same (contains-head y ys), subst (λ (z : X). IsTrue (f z)) same h)
+    go false h e rest = let r = rest e in (contains-tail y ys x r.0, r.1)
+
+pub map_has : {X Y : Type 0} (f : X → Y) (xs : List X) (x : X) → Contains xs x → Contains (map f xs) (f x)
+map_has f [] x c = absurd (let none : c.0 < 0 = c.1 in omega arith)
+map_has {X} {Y} f (y ∷ ys) x c = ⊎_elim
+    (λ e. subst (λ (z : X). Contains (f y ∷ map f ys) (f z)) e (contains-head (f y) (map f ys)))
+    (λ later. contains-tail (f y) (map f ys) (f x) (map_has f ys x later)) (contains-cons y ys x c)
+
+left_has : {X : Type 0} (xs ys : List X) (x : X) → Contains xs x → Contains (xs ++ ys) x
+left_has [] ys x c = absurd (let none : c.0 < 0 = c.1 in omega arith)
+left_has {X} (y ∷ xs) ys x c = ⊎_elim
+    (λ e. subst (λ (z : X). Contains (y ∷ (xs ++ ys)) z) e (contains-head y (xs ++ ys)))
+    (λ later. contains-tail y (xs ++ ys) x (left_has xs ys x later)) (contains-cons y xs x c)
+
+right_has : {X : Type 0} (xs ys : List X) (x : X) → Contains ys x → Contains (xs ++ ys) x
+right_has [] ys x c = c
+right_has (y ∷ xs) ys x c = contains-tail y (xs ++ ys) x (right_has xs ys x c)
+
+pub part_has : {X : Type 0} (parts : List (List X)) (k : ℕ) (part : List X) (x : X) → slice_get parts k ≡ Some part → Contains part x → Contains (flat_map (λ p. p) parts) x
+part_has [] k part x e c = absurd cc
+part_has {X} (p ∷ parts) zero part x e c = let same : p ≡ part = cc in left_has p (flat_map (λ p. p) parts) x (subst (λ (l : List X). Contains l x) (sym same) c)
+part_has (p ∷ parts) (suc k) part x e c = right_has p (flat_map (λ p. p) parts) x (part_has parts k part x e c)
+
+pub chosen_has : {X Y : Type 0} (f : X → Option Y) (xs : List X) (x : X) (y : Y) → Contains xs x → f x ≡ Some y → Contains (filter_map f xs) y
+chosen_has f [] x y c e = absurd (let none : c.0 < 0 = c.1 in omega arith)
+chosen_has {X} {Y} f (z ∷ xs) x y c e = ⊎_elim (λ same. here (f z) (ap f same ∙ e)) (λ later. there (f z) (chosen_has f xs x y later e)) (contains-cons z xs x c)
+  where
+    here : (o : Option Y) → o ≡ Some y → Contains (cons_option o (filter_map f xs)) y
+    here None h = absurd cc
+    here (Some w) h = let same : w ≡ y = cc in subst (λ (v : Y). Contains (w ∷ filter_map f xs) v) same (contains-head w (filter_map f xs))
+
+    there : (o : Option Y) → Contains (filter_map f xs) y → Contains (cons_option o (filter_map f xs)) y
+    there None h = h
+    there (Some w) h = contains-tail w (filter_map f xs) y h
+
+pub chosen_from : {X Y : Type 0} (f : X → Option Y) (xs : List X) (y : Y) → Contains (filter_map f xs) y → (x : X) × Contains xs x × (f x ≡ Some y)
+chosen_from f [] y c = absurd (let none : c.0 < 0 = c.1 in omega arith)
+chosen_from {X} {Y} f (z ∷ xs) y c = go (f z) refl c (chosen_from f xs y)
+  where
+    go : (o : Option Y) → f z ≡ o → Contains (cons_option o (filter_map f xs)) y → (Contains (filter_map f xs) y → (x : X) × Contains xs x × (f x ≡ Some y)) → (x : X) × Contains (z ∷ xs) x × (f x ≡ Some y)
+    go None e c rest = let r = rest c in (r.0, contains-tail z xs r.0 r.1, r.2)
+    go (Some w) e c rest = ⊎_elim (λ same. (z, contains-head z xs, e ∙ ap Some same)) (λ later. let r = rest later in (r.0, contains-tail z xs r.0 r.1, r.2)) (contains-cons w (filter_map f xs) y c)
+
+pub numbers_have : (a n k : ℕ) → k < n → Contains (range_with_len a n) (a + k)
+numbers_have a zero k lt = absurd (omega arith)
+numbers_have a (suc n) zero lt = subst (λ (z : ℕ). Contains (range_with_len a (suc n)) z) (let e : a ≡ a + 0 = omega arith in e) (contains-head a (range_with_len (a + 1) n))
+numbers_have a (suc n) (suc k) lt = subst (λ (z : ℕ). Contains (range_with_len a (suc n)) z) (let e : (a + 1) + k ≡ a + suc k = omega arith in e) (contains-tail a (range_with_len (a + 1) n) ((a + 1) + k) (numbers_have (a + 1) n k (omega arith)))
+
+pub place_below : {X : Type 0} (xs : List X) (k : ℕ) (x : X) → slice_get xs k ≡ Some x → k < length xs
+place_below [] k x e = absurd cc
+place_below (y ∷ ys) zero x e = omega arith
+place_below (y ∷ ys) (suc k) x e = let lt = place_below ys k x e in omega arith
+
+-- ---- bytes
+
+first : (a b : Bool) → IsTrue (a && b) → IsTrue a
+first true b h = refl
+first false b h = absurd cc
+
+second : (a b : Bool) → IsTrue (a && b) → IsTrue b
+second true b h = h
+second false b h = absurd cc
+
+pub byte_same : (a b : Byte) → IsTrue (same_byte a b) → a ≡ b
+byte_same (in_buffer b k) (in_buffer c l) h =
+    let e = eqb-true b c (first _ _ h) in let f = eqb-true k l (second _ _ h) in cc
+byte_same (in_image i a b x y p) (in_image j c d u v q) h =
+    let h4 = first _ _ h in let h3 = first _ _ h4 in let h2 = first _ _ h3 in let h1 = first _ _ h2 in
+    let e0 = eqb-true i j (first _ _ h1) in let e1 = eqb-true a c (second _ _ h1) in let e2 = eqb-true b d (second _ _ h2) in
+    let e3 = eqb-true x u (second _ _ h3) in let e4 = eqb-true y v (second _ _ h4) in let e5 = eqb-true p q (second _ _ h) in cc
+byte_same (in_buffer b k) (in_image j c d u v q) h = absurd cc
+byte_same (in_image i a b x y p) (in_buffer c l) h = absurd cc
+
+pub byte_itself : (a : Byte) → IsTrue (same_byte a a)
+byte_itself (in_buffer b k) = rw (eq-eqb b b refl, eq-eqb k k refl) refl
+byte_itself (in_image i a b x y p) = rw (eq-eqb i i refl, eq-eqb a a refl, eq-eqb b b refl, eq-eqb x x refl, eq-eqb y y refl, eq-eqb p p refl) refl
+
+-- ---- what tasks access
+
+module _ (together : PiecesAreMoves) (all : Past) where
+  piece_move : (x : Cmd) (k : ℕ) (m : Move) → Contains (moves_of (slice_get (pieces all x) k)) m → Contains (moves all x) m
+  piece_move x k m c = go (slice_get (pieces all x) k) refl c
+    where
+      go : (o : Option (List Move)) → slice_get (pieces all x) k ≡ o → Contains (moves_of o) m → Contains (moves all x) m
+      go None e c = absurd (let none : c.0 < 0 = c.1 in omega arith)
+      go (Some ms) e c = subst (λ (l : List Move). Contains l m) (together all x) (part_has (pieces all x) k ms m e c)
+
+  run_writes : (x : Cmd) (k : ℕ) (c : Byte) (w : Put) → part_write all (Runs x) k c ≡ Some w → Contains (targets (moves all x)) c
+  run_writes x k c w e = go (find (λ m. same_byte m.to c) (moves_of (slice_get (pieces all x) k))) refl e
+    where
+      go : (o : Option Move) → find (λ m. same_byte m.to c) (moves_of (slice_get (pieces all x) k)) ≡ o → option_map (λ m. Puts m.source) o ≡ Some w → Contains (targets (moves all x)) c
+      go None f e = absurd cc
+      go (Some m) f e =
+          let h = found (λ m. same_byte m.to c) (moves_of (slice_get (pieces all x) k)) m f in
+          subst (λ (b : Byte). Contains (targets (moves all x)) b) (byte_same m.to c h.1) (map_has (λ m. m.to) (moves all x) m (piece_move x k m h.0))
+
+  host_bytes : (b o n j : ℕ) → o ≤ j → j - o < n → Contains (bytes_of b o n) (in_buffer b j)
+  host_bytes b o n j le lt = subst (λ (i : ℕ). Contains (bytes_of b o n) (in_buffer b i)) (let e : o + (0 + (j - o)) ≡ j = omega arith in e) (map_has (λ k. in_buffer b (o + k)) (range_with_len 0 n) (0 + (j - o)) (numbers_have 0 n (j - o) lt))
+
+  host_writes_it : (x : Entry) (c : Byte) (v : ℕ) → host_value x c ≡ Some v → Contains (host_writes x) c
+  host_writes_it (entry.Write b o bytes) (in_buffer d j) v e = go (b == d) (nat_le o j) refl refl e
+    where
+      go : (f g : Bool) → (b == d) ≡ f → nat_le o j ≡ g → cond (f && g) (slice_get bytes (j - o)) None ≡ Some v → Contains (bytes_of b o (length bytes)) (in_buffer d j)
+      go true true h k e = subst (λ (i : ℕ). Contains (bytes_of b o (length bytes)) (in_buffer i j)) (eqb-true b d h) (host_bytes b o (length bytes) j (leb-true o j k) (place_below bytes (j - o) v e))
+      go true false h k e = absurd cc
+      go false g h k e = absurd cc
+  host_writes_it (entry.Write b o bytes) (in_image i l m x y p) v e = absurd cc
+  host_writes_it _ c v e = absurd cc
+
+  writes_it : (a : Act) (q k : ℕ) (c : Byte) (w : Put) → part_write all a k c ≡ Some w → IsTrue (accesses a) × Contains (writes_of all q a) c
+  writes_it (Runs x) q k c w e = (refl, run_writes x k c w e)
+  writes_it (Hosts x) q k c w e = (refl, go (k == 0) (host_value x c) refl e)
+    where
+      go : (b : Bool) (o : Option ℕ) → host_value x c ≡ o → cond b (option_map (λ v. Puts (Value v)) o) None ≡ Some w → Contains (host_writes x) c
+      go true None f e = absurd cc
+      go true (Some v) f e = host_writes_it x c v f
+      go false o f e = absurd cc
+  writes_it (Waits s) q k c w e = absurd cc
+  writes_it (Signals s) q k c w e = absurd cc
+  writes_it (Depends r s) q k c w e = absurd cc
+
+  is_there : (c : Byte) (bs : List Byte) → IsTrue (is_in c bs) → Contains bs c
+  is_there c bs h = let s = some_of (same_byte c) bs h in subst (λ (b : Byte). Contains bs b) (sym (byte_same c s.0 s.2)) s.1
+
+  reads_it : (a : Act) (q k : ℕ) (c : Byte) → IsTrue (part_read all a k c) → IsTrue (accesses a) × Contains (reads_of all q a) c
+  reads_it (Runs x) q k c h =
+      let there = is_there c (origins (moves_of (slice_get (pieces all x) k))) h in
+      let m = chosen_from (λ m. origin m.source) (moves_of (slice_get (pieces all x) k)) c there in
+      (refl, chosen_has (λ m. origin m.source) (moves all x) m.0 c (piece_move x k m.0 m.1) m.2)
+  reads_it (Hosts x) q k c h = (refl, is_there c (host_reads x) (second (k == 0) _ h))
+  reads_it (Waits s) q k c h = absurd cc
+  reads_it (Signals s) q k c h = absurd cc
+  reads_it (Depends r s) q k c h = absurd cc
+
+  pub is_in_of : (c : Byte) (bs : List Byte) → Contains bs c → IsTrue (is_in c bs)
+  is_in_of c bs h = any_of (same_byte c) bs c h (byte_itself c)
+
+  -- ---- and that there are such tasks
+
+  piece_there : (x : Cmd) (k : ℕ) (m : Move) → Contains (moves_of (slice_get (pieces all x) k)) m → IsTrue (nat_lt k (length (pieces all x)))
+  piece_there x k m c = go (slice_get (pieces all x) k) refl c
+    where
+      go : (o : Option (List Move)) → slice_get (pieces all x) k ≡ o → Contains (moves_of o) m → IsTrue (nat_lt k (length (pieces all x)))
+      go None e c = absurd (let none : c.0 < 0 = c.1 in omega arith)
+      go (Some ms) e c = lt-ltb k (length (pieces all x)) (place_below (pieces all x) k ms e)
+
+  only_part : (k : ℕ) → (k == 0) ≡ true → IsTrue (nat_lt k 1)
+  only_part k h = let e = eqb-true k 0 h in lt-ltb k 1 (omega arith)
+
+  writer_there : (a : Act) (k : ℕ) (c : Byte) (w : Put) → part_write all a k c ≡ Some w → IsTrue (nat_lt k (task_count all a))
+  writer_there (Runs x) k c w e = go (find (λ m. same_byte m.to c) (moves_of (slice_get (pieces all x) k))) refl e
+    where
+      go : (o : Option Move) → find (λ m. same_byte m.to c) (moves_of (slice_get (pieces all x) k)) ≡ o → option_map (λ m. Puts m.source) o ≡ Some w → IsTrue (nat_lt k (length (pieces all x)))
+      go None f e = absurd cc
+      go (Some m) f e = piece_there x k m (found (λ m. same_byte m.to c) (moves_of (slice_get (pieces all x) k)) m f).0
+  writer_there (Hosts x) k c w e = go (k == 0) refl e
+    where
+      go : (b : Bool) → (k == 0) ≡ b → cond b (option_map (λ v. Puts (Value v)) (host_value x c)) None ≡ Some w → IsTrue (nat_lt k 1)
+      go true f e = only_part k f
+      go false f e = absurd cc
+  writer_there (Waits s) k c w e = absurd cc
+  writer_there (Signals s) k c w e = absurd cc
+  writer_there (Depends r s) k c w e = absurd cc
+
+  reader_there : (a : Act) (k : ℕ) (c : Byte) → IsTrue (part_read all a k c) → IsTrue (nat_lt k (task_count all a))
+  reader_there (Runs x) k c h =
+      let there = is_there c (origins (moves_of (slice_get (pieces all x) k))) h in
+      let m = chosen_from (λ m. origin m.source) (moves_of (slice_get (pieces all x) k)) c there in
+      piece_there x k m.0 m.1
+  reader_there (Hosts x) k c h = only_part k (first (k == 0) _ h)
+  reader_there (Waits s) k c h = absurd cc
+  reader_there (Signals s) k c h = absurd cc
+  reader_there (Depends r s) k c h = absurd cc
+
+  -- ---- nodes of tasks
+
+  -- the node of a task, with an access of it
+  pub record Accessor (t : Task) (access : Node → Type 0) : Type 0 where
+    pub node : Node
+    pub at : node_at all t.node ≡ Some node
+    pub stands : Contains (nodes all) node
+    pub number : node.number ≡ t.node
+    pub there : IsTrue (nat_lt t.part (task_count all node.act))
+    pub is_access : IsTrue (accesses node.act)
+    pub accessed : access node
+
+  pub writer : (t : Task) (c : Byte) → Writes (traffic_of all) t c → Accessor t (λ n. Contains (writes all n) c)
+  writer t c w = go (node_at all t.node) refl w.1
+    where
+      go : (o : Option Node) → node_at all t.node ≡ o → by_act None (λ a. part_write all a t.part c) o ≡ Some w.0 → Accessor t (λ n. Contains (writes all n) c)
+      go None e h = absurd cc
+      go (Some n) e h =
+          let f = found (λ m. m.number == t.node) (nodes all) n e in
+          let both = writes_it n.act n.point.queue t.part c w.0 h in
+          record { node = n; at = e; stands = f.0; number = eqb-true n.number t.node f.1; there = writer_there n.act t.part c w.0 h; is_access = both.0; accessed = both.1 }
+
+  pub reader : (t : Task) (c : Byte) → Reads (traffic_of all) t c → Accessor t (λ n. Contains (reads all n) c)
+  reader t c r = go (node_at all t.node) refl r
+    where
+      go : (o : Option Node) → node_at all t.node ≡ o → IsTrue (by_act false (λ a. part_read all a t.part c) o) → Accessor t (λ n. Contains (reads all n) c)
+      go None e h = absurd cc
+      go (Some n) e h =
+          let f = found (λ m. m.number == t.node) (nodes all) n e in
+          let both = reads_it n.act n.point.queue t.part c h in
+          record { node = n; at = e; stands = f.0; number = eqb-true n.number t.node f.1; there = reader_there n.act t.part c h; is_access = both.0; accessed = both.1 }
+
+-- ---- the law
+
+module _ (together : PiecesAreMoves) (order : AccessesInOrder) (t : List Entry) (none : first_fault t ≡ None) where
+  abbrev all : Past
+  all = plain_order t
+
+  by_nodes : (s u : Task) (m n : Node) → node_at all s.node ≡ Some m → node_at all u.node ≡ Some n → IsTrue (nat_lt s.part (task_count all m.act)) → IsTrue (before (nodes all) m n) → Precedes (traffic_of all) s u
+  by_nodes s u m n e f there b = (rw e there, rw (e, f) b)
+
+  pub ordered : (s u : Task) (c : Byte) → s.node < u.node → Conflict (traffic_of all) s u c → Precedes (traffic_of all) s u
+  ordered s u c lt meet = ⊎_elim
+      (λ wr. let x = writer together all s c wr.0 in let y = reader together all u c wr.1 in
+      by_nodes s u x.node y.node x.at y.at x.there (order t x.node y.node c none x.stands y.stands (let e = x.number in let f = y.number in omega arith) x.is_access y.is_access (inl (is_in_of together all c _ x.accessed, y.accessed))))
+      (λ rest. ⊎_elim
+      (λ rw'. let x = reader together all s c rw'.0 in let y = writer together all u c rw'.1 in
+      by_nodes s u x.node y.node x.at y.at x.there (order t x.node y.node c none x.stands y.stands (let e = x.number in let f = y.number in omega arith) x.is_access y.is_access (inr (inl (x.accessed, is_in_of together all c _ y.accessed)))))
+      (λ ww. let x = writer together all s c ww.0 in let y = writer together all u c ww.1 in
+      by_nodes s u x.node y.node x.at y.at x.there (order t x.node y.node c none x.stands y.stands (let e = x.number in let f = y.number in omega arith) x.is_access y.is_access (inr (inr (is_in_of together all c _ x.accessed, y.accessed)))))
+      rest)
+      meet
+
+  pub settled : (done : List Task) (next : Task) → IsAllowed (traffic_of all) done → MayRun (traffic_of all) done next → IsSettled (traffic_of all) done next
+  settled done next ok may = record {
+    earlier = λ s c lt meet. may.after s (ordered s next c lt meet);
+    later = λ s c lt meet h. may.fresh (closed (traffic_of all) done ok s next h (ordered next s c lt meet));
+  }

@@ -1,0 +1,5 @@
+use Rattle.vk_laws.proofs.Growth.{may_run}
+use Rattle.vk_laws.proofs.machine.pieces_suffice.Goals as goal
+
+pub returns : goal.returns
+returns c = may_run

@@ -1,0 +1,5 @@
+use Rattle.vk_laws.proofs.Example.{meets_premises}
+use Rattle.vk_laws.proofs.machine.premises_can_be_met.Goals as goal
+
+pub returns : goal.returns
+returns c = meets_premises

@@ -1,0 +1,9 @@
+pub mod Machine
+pub mod Caches
+pub mod Commands
+pub mod EveryOrder
+pub mod Growth
+pub mod Example
+pub mod Reader
+pub mod Trace
+pub mod Tasks

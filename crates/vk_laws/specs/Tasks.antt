@@ -1,0 +1,69 @@
+-- The tasks of a trace: its commands' pieces, its host entries and its events, as the machine's traffic.
+use Rattle.std.specs.Prelude.{◌≡◌, ℕ, List, [], length, Bool, false, ◌&&◌, ◌==◌, nat_lt, Option, Some, None, option_map, slice_get, if◌then◌else◌}
+use Rattle.std.specs.List.{find}
+use Rattle.vk_model.specs.declared.entry.Entry.{Entry}
+use Rattle.vk_model.specs.declared.entry.Entry.TheVariants as entry
+use Rattle.vk_model.specs.Words.{holds}
+use Rattle.vk_model.specs.World.{Byte, same_byte}
+use Rattle.vk_model.specs.Point.{Past}
+use Rattle.vk_model.specs.Order.{plain_order}
+use Rattle.vk_model.specs.Moves.{Value, Move}
+use Rattle.vk_model.specs.Effect.{written}
+use Rattle.vk_model.specs.Node.{Node, Act, Hosts, Runs, nodes}
+use Rattle.vk_model.specs.Before.{before}
+use Rattle.vk_model.specs.Access.{is_in, origins, host_reads}
+use Rattle.vk_model.specs.Pieces.{pieces}
+use Rattle.vk_model.specs.Rules.{first_fault}
+use Rattle.vk_laws.specs.Machine.{Task, Put, Puts, Traffic, IsAllowed, MayRun}
+use Rattle.vk_laws.specs.EveryOrder.{IsSettled}
+
+-- The node of a number.
+abbrev pub node_at : Past → ℕ → Option Node
+node_at all k = find (λ n. n.number == k) (nodes all)
+
+-- How many tasks an act has: a command one for each piece, any other one.
+abbrev pub task_count : Past → Act → ℕ
+task_count all (Runs c) = length (pieces all c)
+task_count all _ = 1
+
+-- The moves of a piece, if there is such a piece.
+abbrev pub moves_of : Option (List Move) → List Move
+moves_of None = []
+moves_of (Some ms) = ms
+
+-- What the host writes to a byte by an entry (Vulkan, "Host Access to Device Memory Objects").
+abbrev pub host_value : Entry → Byte → Option ℕ
+host_value (entry.Write b o bytes) c = written b o bytes c
+host_value _ c = None
+
+-- What part k of an act writes to a byte; an event writes nothing.
+abbrev pub part_write : Past → Act → ℕ → Byte → Option Put
+part_write all (Runs x) k c = option_map (λ m. Puts m.source) (find (λ m. same_byte m.to c) (moves_of (slice_get (pieces all x) k)))
+part_write all (Hosts x) k c = if k == 0 then option_map (λ v. Puts (Value v)) (host_value x c) else None
+part_write all _ k c = None
+
+-- Whether part k of an act reads a byte.
+abbrev pub part_read : Past → Act → ℕ → Byte → Bool
+part_read all (Runs x) k c = is_in c (origins (moves_of (slice_get (pieces all x) k)))
+part_read all (Hosts x) k c = k == 0 && is_in c (host_reads x)
+part_read all _ k c = false
+
+-- What a node's act gives, if there is the node.
+abbrev pub by_act : {A : Type 0} → A → (Act → A) → Option Node → A
+by_act nothing f None = nothing
+by_act nothing f (Some n) = f n.act
+
+-- A trace as the machine's traffic, with the order of its nodes (Vulkan, "Execution and Memory Dependencies").
+abbrev pub traffic_of : Past → Traffic
+traffic_of all = record {
+  has = λ t. by_act false (λ a. nat_lt t.part (task_count all a)) (node_at all t.node);
+  write_of = λ t c. by_act None (λ a. part_write all a t.part c) (node_at all t.node);
+  reads = λ t c. by_act false (λ a. part_read all a t.part c) (node_at all t.node);
+  before = λ a b. holds (node_at all a) (λ m. holds (node_at all b) (λ n. before (nodes all) m n));
+}
+
+-- In every allowed run of the pieces, host entries and events of a trace without a fault: when a piece or host entry may come next, of those whose accesses meet its own the earlier ones are done, and the later ones aren't.
+abbrev pub TraceSettledLaw : Type 0
+TraceSettledLaw =
+    (t : List Entry) (done : List Task) (next : Task) → first_fault t ≡ None → IsAllowed (traffic_of (plain_order t)) done → MayRun (traffic_of (plain_order t)) done next
+    → IsSettled (traffic_of (plain_order t)) done next

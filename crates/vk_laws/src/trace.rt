@@ -1,0 +1,61 @@
+//! Laws of traces: what the rules on hazards say of two nodes, each the contract of a function that does nothing.
+ghost use Rattle.vk_laws.specs.Trace.{AccessesInOrder, CommandsStay, HostInOrder, NoHazardLaw, SeenIsBefore};
+ghost use Rattle.vk_laws.specs.Tasks.{TraceSettledLaw};
+
+use vk_model::{
+    before_is_order, before_is_path, growth_keeps, no_fault_is_sound, pieces_are_moves,
+};
+
+/// In a trace without a fault no node of a point has a hazard with an earlier node, commands and host
+/// accesses alike: what one reads and the other then writes is ordered, and what one writes the other
+/// sees, among all nodes of the trace.
+pub fn no_hazard()
+    ensures { NoHazardLaw }
+{
+    no_fault_is_sound();
+    growth_keeps();
+}
+
+/// What an access sees is before it, so a memory dependency is an execution dependency.
+pub fn seen_is_before()
+    ensures { SeenIsBefore }
+{
+    before_is_path();
+    before_is_order();
+}
+
+/// Host entries come one after another.
+pub fn host_in_order()
+    ensures { HostInOrder }
+{
+    before_is_path();
+}
+
+/// What a command of a trace without a fault reads and writes stays as it was at its own point.
+pub fn commands_stay()
+    ensures { CommandsStay }
+{
+    no_fault_is_sound();
+}
+
+/// In a trace without a fault, of two commands or host entries anywhere in it that access a byte, not both
+/// only reading, the earlier one comes before the other in every allowed order.
+pub fn accesses_in_order()
+    ensures { AccessesInOrder }
+{
+    commands_stay();
+    no_hazard();
+    seen_is_before();
+    host_in_order();
+    growth_keeps();
+}
+
+/// In every allowed run of the pieces, host entries and events of a trace without a fault: when a piece or
+/// host entry may come next, of those whose accesses meet its own the earlier ones are done and the later
+/// ones aren't.
+pub fn trace_is_settled()
+    ensures { TraceSettledLaw }
+{
+    pieces_are_moves();
+    accesses_in_order();
+}
