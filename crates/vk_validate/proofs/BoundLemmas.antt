@@ -1,6 +1,9 @@
 -- What bounds say of the last writers of bytes, and what a change of the bounds does to them.
 use Rattle.std.proofs.Common.{◌≡◌, ℕ, ◌<◌, ◌≤◌, ◌≢◌, List, [], ◌∷◌, ◌++◌, refl, sym, ◌∙◌, ap, Option, Some, None, inl, inr, ◌⊎◌, arith, rules}
-use Rattle.std.specs.Ordering.{nat_cmp}
+use Rattle.std.specs.Ordering.{nat_cmp, is_gt}
+use Rattle.std.specs.Cmp.{nat_cmp_is}
+use Rattle.std.specs.declared.cmp.Ordering.TheVariants.{Less, Equal}
+use Rattle.std.proofs.Common.{false}
 use Rattle.std.specs.Option.{IsSome}
 use Rattle.std.specs.BTreeMap.{get}
 use Rattle.std.specs.BTreeMap.Range.{IsRangeOf}
@@ -8,9 +11,12 @@ use Rattle.std.specs.declared.ops.Bound.TheVariants.{Included, Unbounded}
 use Rattle.std.proofs.lemmas.Bool.{cases_lt, cases_order}
 use Rattle.std.proofs.lemmas.Map.Keys.{ge_from_not_lt, le_from_not_gt}
 use Rattle.std.proofs.lemmas.Option.{none-some}
-use Rattle.vk_validate.specs.Writers.{Bounds, IsFrom, IsLastWriter, Keeps}
+use Rattle.vk_validate.specs.Writers.{Bounds, IsFrom, IsLastWriter, Keeps, WasLast}
+use Rattle.vk_validate.specs.declared.writers.LastWriters.{LastWriters}
+use Rattle.std.specs.BTreeMap.{IsEmpty}
+use Rattle.std.proofs.Common.{subst}
 
-none_unless : {A : Type 0} (o : Option A) → (IsSome o → ⊥) → o ≡ None
+pub none_unless : {A : Type 0} (o : Option A) → (IsSome o → ⊥) → o ≡ None
 none_unless None missing = refl
 none_unless (Some x) missing = absurd (missing refl)
 
@@ -85,3 +91,35 @@ keeps_by_key old new end v at here others byte = by_side (cases_lt byte end) whe
   by_side : (byte < end) ⊎ (end ≤ byte) → Keeps old new byte
   by_side (inl lt) = keeps_below old new end (λ key low. others key (omega arith)) byte lt
   by_side (inr le) = from_end le
+
+-- a byte has one last writer
+pub same_writer : (bounds : Bounds) (byte : ℕ) (v w : Option ℕ) → IsLastWriter bounds byte v → IsLastWriter bounds byte w → v ≡ w
+same_writer bounds byte v w a (inl from) = one_writer bounds byte byte v w a from from.below (omega arith)
+same_writer bounds byte v w (inl from) (inr none) = absurd (none-some v (sym (none.free from.key from.below) ∙ from.has))
+same_writer bounds byte v w (inr left) (inr right) = left.none ∙ sym right.none
+
+-- with no key in between, a byte has the writer of an earlier one
+pub writer_before : (bounds : Bounds) (first byte : ℕ) (w : Option ℕ) → first ≤ byte → ((key : ℕ) → first < key → key ≤ byte → get nat_cmp bounds key ≡ None) → IsLastWriter bounds byte w → IsLastWriter bounds first w
+writer_before bounds first byte w le free (inl from) = by_key (cases_lt first from.key) where
+  by_key : (first < from.key) ⊎ (from.key ≤ first) → IsLastWriter bounds first w
+  by_key (inl high) = absurd (none-some w (sym (free from.key high from.below) ∙ from.has))
+  by_key (inr low) = inl (record { key = from.key; below = low; has = from.has; greatest = λ key above upto. from.greatest key above (omega arith) })
+writer_before bounds first byte w le free (inr none) = inr (record { free = λ key upto. none.free key (omega arith); none = none.none })
+
+pub was_some : (o : Option LastWriters) (x y : LastWriters) → o ≡ Some x → y ≡ x → (byte : ℕ) (writer : Option ℕ) → WasLast o byte writer → IsLastWriter y.bounds byte writer
+was_some o x y is same byte writer h =
+    let at : IsLastWriter x.bounds byte writer = subst (λ (z : Option LastWriters). WasLast z byte writer) is h in
+    subst (λ (z : LastWriters). IsLastWriter z.bounds byte writer) (sym same) at
+
+pub was_none : (o : Option LastWriters) (x y : LastWriters) → o ≡ None → y ≡ x → IsEmpty x.bounds → (byte : ℕ) (writer : Option ℕ) → WasLast o byte writer → IsLastWriter y.bounds byte writer
+was_none o x y is same empty byte writer h =
+    let none : writer ≡ None = subst (λ (z : Option LastWriters). WasLast z byte writer) is h in
+    subst (λ (z : LastWriters). IsLastWriter z.bounds byte writer) (sym same) (inr (record { free = λ key le. rw empty refl; none = none }))
+
+-- a number that isn't above another, as a map's order tells it
+pub not_gt : (a b : ℕ) → a ≤ b → is_gt (nat_cmp a b) ≡ false
+not_gt a b le = by_order (cases_order a b) where
+  by_order : (a ≡ b) ⊎ ((a < b) ⊎ (b < a)) → is_gt (nat_cmp a b) ≡ false
+  by_order (inl same) = ap is_gt (sym (nat_cmp_is a b Equal same))
+  by_order (inr (inl less)) = ap is_gt (sym (nat_cmp_is a b Less less))
+  by_order (inr (inr more)) = absurd (omega arith)

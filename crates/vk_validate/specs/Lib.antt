@@ -1,2 +1,12 @@
+pub mod Served
+pub mod Told
+pub mod Laid
+pub mod Tabled
+pub mod Fits
+pub mod Tests
+pub mod Cleared
+pub mod Refused
+pub mod Covered
 pub mod Verdicts
 pub mod Writers
+pub mod Seeks

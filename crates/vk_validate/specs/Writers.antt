@@ -1,7 +1,8 @@
 -- Which command last wrote a byte, as bounds say it: from each key on, up to the next one, the bytes have the key's writer.
-use Rattle.std.specs.Prelude.{◌≡◌, ◌<◌, ◌≤◌, ℕ, ◌⊎◌, Option, Some, None}
+use Rattle.std.specs.Prelude.{◌≡◌, ◌<◌, ◌≤◌, ◌^◌, ℕ, ◌⊎◌, Option, Some, None}
 use Rattle.std.specs.Ordering.{nat_cmp}
 use Rattle.std.specs.BTreeMap.{BTreeMap, get}
+use Rattle.vk_validate.specs.declared.writers.LastWriters.{LastWriters}
 
 abbrev pub Bounds : Type 0
 Bounds = BTreeMap ℕ (Option ℕ)
@@ -28,3 +29,14 @@ IsLastWriter bounds byte writer = IsFrom bounds byte writer ⊎ IsUnwritten boun
 -- the byte has the writer that it had
 abbrev pub Keeps : Bounds → Bounds → ℕ → Type 0
 Keeps old new byte = (writer : Option ℕ) → IsLastWriter old byte writer → IsLastWriter new byte writer
+
+-- a byte has this writer, where there may be no bounds yet
+abbrev pub WasLast : Option LastWriters → ℕ → Option ℕ → Type 0
+WasLast None byte writer = writer ≡ None
+WasLast (Some writers) byte writer = IsLastWriter writers.bounds byte writer
+
+-- the bytes from `first` to `last` have a new writer, and the others the one that they had
+pub record IsAssigned (old : Option LastWriters) (new : LastWriters) (first last point : ℕ) : Type 0 where
+  pub inside : (byte : ℕ) → first ≤ byte → byte ≤ last → IsLastWriter new.bounds byte (Some point)
+  pub before : (byte : ℕ) (writer : Option ℕ) → byte < first → WasLast old byte writer → IsLastWriter new.bounds byte writer
+  pub after : (byte : ℕ) (writer : Option ℕ) → last < byte → byte < 2 ^ 64 → WasLast old byte writer → IsLastWriter new.bounds byte writer

@@ -1,8 +1,23 @@
+ghost use Rattle.std.specs.Prelude.{◌≡◌, ◌≤◌, ◌<◌, ◌+◌, ◌∷◌, ℕ, length, slice_get, Option, Some, None, IfOk, OnOk, IfSome, IfNone, IsSome, IsTrue, unwrap_or, max, min, false, ◌-◌, ◌^◌, if◌then◌else◌};
+ghost use Rattle.std.specs.Option.{option_map};
+ghost use Rattle.std.specs.List.{fold};
+ghost use Rattle.std.specs.Ordering.{nat_cmp};
+ghost use Rattle.std.specs.BTreeMap.{get};
+ghost use Rattle.vk_model.specs.Point.{Past, Host, Run};
+ghost use Rattle.vk_model.specs.Objects.{made, buffer, initial};
+ghost use Rattle.vk_model.specs.Order.{counter, signaled};
+ghost use Rattle.vk_model.specs.Moves.{buffer_size, fill_size};
+ghost use Rattle.vk_validate.specs.Served.{is_served_deed, is_served_entry, is_served_command};
+ghost use Rattle.vk_validate.specs.Told.{deed_of, point_of, past};
+ghost use Rattle.vk_validate.specs.Tabled.{was_mapped, last_writer};
+ghost use Rattle.vk_validate.specs.Fits.{Fits};
+
 use crate::clocks::{Clock, Order};
 use crate::steps::{Deed, Step};
 use crate::tables::{Change, Tables, note};
-use crate::writers::Span;
+use crate::writers::{Sought, Span};
 use std::alloc::{AllocError, Global};
+use std::marker::Model;
 use vk_model::{BufferInfo, Cmd, Entry, Length, SemaphoreValue};
 
 /// What has happened: the first `count` of the points. What the rules ask of it is kept in tables.
@@ -14,9 +29,23 @@ pub struct History<'a> {
     tables: Tables<'a>,
 }
 
+impl<'a> Model for History<'a> {
+    ghost use Rattle.std.specs.Prelude.{◌≡◌, ◌≤◌, ℕ, Option, List, length};
+    ghost use Rattle.vk_validate.specs.Told.{Walk, past};
+    ghost use Rattle.vk_validate.specs.Tabled.{IsTabled};
+
+    ghost Value = { Walk };
+
+    ghost view = { λ h. record { points = h.points.now; count = h.count } };
+
+    ghost invariant = { λ h. (h.count ≤ length h.points.now) × IsTabled h.tables (past (record { points = h.points.now; count = h.count })) };
+}
+
 impl<'a> History<'a> {
     /// Before the first point.
-    pub fn new(alloc: Global, points: &'a [Step<'a>]) -> History<'a> {
+    pub fn new(alloc: Global, points: &'a [Step<'a>]) -> History<'a>
+        ensures { result ≡ record { points = points.now; count = 0 } }
+    {
         History {
             alloc,
             points,
@@ -26,17 +55,24 @@ impl<'a> History<'a> {
     }
 
     /// How many points have happened.
-    pub fn count(&self) -> usize {
+    pub fn count(&self) -> usize
+        ensures count { result ≡ self.now.count }
+        ensures within { self.now.count ≤ length self.now.points }
+    {
         self.count
     }
 
     /// The entry that made an object.
-    pub fn made(&self, id: u32) -> Option<&'a Entry> {
+    pub fn made(&self, id: u32) -> Option<&'a Entry>
+        ensures { option_map (λ x. x.now) result ≡ made (past self.now) id }
+    {
         self.tables.makers.get(&id).copied()
     }
 
     /// What a buffer was made with.
-    pub fn buffer(&self, id: u32) -> Option<&'a BufferInfo> {
+    pub fn buffer(&self, id: u32) -> Option<&'a BufferInfo>
+        ensures { option_map (λ x. x.now) result ≡ buffer (past self.now) id }
+    {
         match self.made(id) {
             Some(Entry::Buffer { info, .. }) => Some(info),
             _ => None,
@@ -44,32 +80,44 @@ impl<'a> History<'a> {
     }
 
     /// The initial value of a semaphore.
-    pub fn initial(&self, id: u32) -> Option<u64> {
+    pub fn initial(&self, id: u32) -> Option<u64>
+        ensures { result ≡ initial (past self.now) id }
+    {
         match self.made(id) {
             Some(Entry::Semaphore { initial, .. }) => Some(*initial),
             _ => None,
         }
     }
 
-    /// The value of a semaphore after all signals so far.
-    pub fn counter(&self, semaphore: u32) -> u64 {
-        let initial = self.initial(semaphore).unwrap_or(0);
-        match self.tables.timelines.get(&semaphore) {
-            Some(timeline) => initial.max(timeline.greatest().unwrap_or(0)),
-            None => initial,
+    /// The value of a semaphore after all signals so far; none for what is no semaphore.
+    #[tactic(auto, using(crate::proofs::TableLemmas::counters))]
+    pub fn counter(&self, semaphore: u32) -> Option<u64>
+        ensures { result ≡ counter (past self.now) semaphore }
+    {
+        match self.initial(semaphore) {
+            Some(initial) => Some(initial.max(self.peak(semaphore))),
+            None => None,
         }
     }
 
-    /// Whether a buffer is mapped.
-    pub fn is_mapped(&self, buffer: u32) -> bool {
-        self.tables
-            .maps
-            .get(&buffer)
-            .is_some_and(|count| *count > 0)
+    /// The greatest value signaled to a semaphore.
+    fn peak(&self, semaphore: u32) -> u64
+        ensures { result ≡ fold max 0 (signaled (past self.now) semaphore) }
+    {
+        self.tables.peaks.get(&semaphore).copied().unwrap_or(0)
+    }
+
+    /// Whether a buffer was mapped.
+    pub fn is_mapped(&self, buffer: u32) -> bool
+        ensures { result ≡ was_mapped (past self.now) buffer }
+    {
+        self.tables.maps.get(&buffer).copied().unwrap_or(0) > 0
     }
 
     /// The size of a buffer in bytes; 0 for what is no buffer.
-    pub fn size(&self, buffer: u32) -> u64 {
+    pub fn size(&self, buffer: u32) -> u64
+        ensures { result ≡ buffer_size (past self.now) buffer }
+    {
         match self.buffer(buffer) {
             Some(info) => info.size,
             None => 0,
@@ -77,7 +125,12 @@ impl<'a> History<'a> {
     }
 
     /// The bytes that a fill writes.
-    pub fn filled(&self, buffer: u32, offset: u64, size: Length) -> Option<Span> {
+    pub fn filled(&self, buffer: u32, offset: u64, size: Length) -> Option<Span>
+        ensures none { IfNone result (fill_size (buffer_size (past self.now) buffer) offset size ≡ 0) }
+        ensures some { IfSome result (λ span. 0 < fill_size (buffer_size (past self.now) buffer) offset size) }
+        ensures first { IfSome result (λ span. span.first ≡ offset) }
+        ensures last { IfSome result (λ span. span.last ≡ min (offset + (fill_size (buffer_size (past self.now) buffer) offset size - 1)) (2 ^ 64 - 1)) }
+    {
         match size {
             Length::Bytes(bytes) => Span::new(offset, bytes),
             Length::Whole => {
@@ -91,7 +144,7 @@ impl<'a> History<'a> {
     /// command.
     pub fn has_unseen_by_write(&self, buffer: u32, span: Span) -> bool {
         match self.tables.writers.get(&buffer) {
-            Some(writers) => writers.has_since(span, self.tables.order.seen_by_write()),
+            Some(writers) => writers.has(span, Sought::Since(self.tables.order.seen_by_write())),
             None => false,
         }
     }
@@ -99,25 +152,31 @@ impl<'a> History<'a> {
     /// Whether a byte was written by a command whose write isn't visible to reads of the host.
     pub fn has_unseen_by_host_read(&self, buffer: u32, span: Span) -> bool {
         match self.tables.writers.get(&buffer) {
-            Some(writers) => writers.has_since(span, self.tables.order.seen_by_host_read()),
+            Some(writers) => writers.has(
+                span,
+                Sought::Since(self.tables.order.seen_by_host_read()),
+            ),
             None => false,
         }
     }
 
     /// Whether a byte was never written, so that its value is undefined.
-    pub fn has_undefined(&self, buffer: u32, span: Span) -> bool {
+    pub fn has_undefined(&self, buffer: u32, span: Span) -> bool
+        ensures { result ≡ false → (byte : ℕ) → span.first ≤ byte → byte ≤ span.last → byte < 2 ^ 64 → IsSome (last_writer (past self.now) buffer byte) }
+    {
         match self.tables.writers.get(&buffer) {
-            Some(writers) => writers.has_unwritten(span),
+            Some(writers) => writers.has(span, Sought::Nothing),
             None => true,
         }
     }
 
-    /// Takes the next point. After an error the history begins anew.
-    pub fn advance(&mut self) -> Result<(), AllocError> {
+    /// Takes the next point, which is of a form that is served. After an error the history begins anew.
+    pub fn advance(&mut self, step: &Step<'a>) -> Result<(), AllocError>
+        requires here { slice_get self.old.points self.old.count ≡ Some step.now }
+        requires served { IsTrue (is_served_deed (deed_of step.now.deed)) }
+        ensures { OnOk result (self.new ≡ record self.old { count = self.old.count + 1 }) }
+    {
         let points = self.points;
-        let Some(step) = points.get(self.count) else {
-            return Ok(());
-        };
         let change = self.change(step);
         match note(self.alloc, &mut self.tables, change) {
             Ok(()) => {
@@ -132,7 +191,10 @@ impl<'a> History<'a> {
     }
 
     /// What the next point changes.
-    fn change(&self, step: &Step<'a>) -> Change<'a> {
+    fn change(&self, step: &Step<'a>) -> Change<'a>
+        requires { IsTrue (is_served_deed (deed_of step.now.deed)) }
+        ensures { Fits result (past self.now) (deed_of step.now.deed) }
+    {
         match step.deed {
             Deed::Host(entry) => self.change_by_entry(entry),
             Deed::Wait(_) => Change::Nothing,
@@ -144,7 +206,10 @@ impl<'a> History<'a> {
         }
     }
 
-    fn change_by_entry(&self, entry: &'a Entry) -> Change<'a> {
+    fn change_by_entry(&self, entry: &'a Entry) -> Change<'a>
+        requires { IsTrue (is_served_entry entry.now) }
+        ensures { Fits result (past self.now) (Host entry.now) }
+    {
         match entry {
             Entry::Buffer { id, .. } | Entry::Semaphore { id, .. } => Change::Made(*id, entry),
             Entry::Map { buffer } => Change::Mapped(*buffer),
@@ -153,7 +218,10 @@ impl<'a> History<'a> {
         }
     }
 
-    fn change_by_command(&self, command: &Cmd) -> Change<'a> {
+    fn change_by_command(&self, command: &Cmd) -> Change<'a>
+        requires { IsTrue (is_served_command command.now) }
+        ensures { Fits result (past self.now) (Run command.now) }
+    {
         match command {
             Cmd::Fill {
                 buffer,

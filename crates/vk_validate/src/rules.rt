@@ -1,3 +1,11 @@
+ghost use Rattle.std.specs.Prelude.{IfSome, true, ◌≡◌, IfNone, None, false, IsTrue};
+ghost use Rattle.std.specs.List.{find};
+ghost use Rattle.vk_model.specs.Point.{Point};
+ghost use Rattle.vk_model.specs.RulesBytes.{breaks_limit};
+ghost use Rattle.vk_validate.specs.Served.{is_served_deed};
+ghost use Rattle.vk_validate.specs.Told.{deed_of, point_of, past};
+ghost use Rattle.vk_validate.specs.Cleared.{tests, first_test, is_exact};
+
 mod commands;
 mod hazards;
 mod resources;
@@ -55,11 +63,21 @@ const RULES: [Rule; 40] = [
 ];
 
 /// The first rule of the table that a point breaks.
-pub fn first_rule(history: &History<'_>, step: &Step<'_>) -> Option<Rule> {
+#[tactic(auto, unfolding(crate::specs::Cleared::first_test))]
+pub fn first_rule(history: &History<'_>, step: &Step<'_>) -> Option<Rule>
+    requires { IsTrue (is_served_deed (deed_of step.now.deed)) }
+    ensures none { IfNone result (first_test (past history.now) (point_of step.now) ≡ None) }
+    ensures some { IfSome result (λ r. is_exact r ≡ true → tests r (past history.now) (point_of step.now) ≡ true) }
+{
     first_of(&RULES, history, step)
 }
 
-fn first_of(rules: &[Rule], history: &History<'_>, step: &Step<'_>) -> Option<Rule> {
+#[tactic(auto, using(crate::proofs::Clears::finds))]
+fn first_of(rules: &[Rule], history: &History<'_>, step: &Step<'_>) -> Option<Rule>
+    requires { IsTrue (is_served_deed (deed_of step.now.deed)) }
+    ensures none { IfNone result (find (λ r. tests r (past history.now) (point_of step.now)) rules.now ≡ None) }
+    ensures some { IfSome result (λ r. is_exact r ≡ true → tests r (past history.now) (point_of step.now) ≡ true) }
+{
     for rule in rules {
         if breaks(*rule, history, step) {
             return Some(*rule);
@@ -71,7 +89,12 @@ fn first_of(rules: &[Rule], history: &History<'_>, step: &Step<'_>) -> Option<Ru
 // Points of the forms that are served can't break the rules that aren't listed. Those speak of images,
 // pools, memory objects, events, other queues, waits of batches, reads by commands, or of what is unmapped
 // or destroyed; and the signals of one queue, or a read of the host and a later batch, are always in order.
-fn breaks(rule: Rule, history: &History<'_>, step: &Step<'_>) -> bool {
+#[tactic(auto, unfolding(crate::specs::Cleared::tests))]
+fn breaks(rule: Rule, history: &History<'_>, step: &Step<'_>) -> bool
+    requires { IsTrue (is_served_deed (deed_of step.now.deed)) }
+    ensures clear { result ≡ false → tests rule (past history.now) (point_of step.now) ≡ false }
+    ensures exact { is_exact rule ≡ true → result ≡ tests rule (past history.now) (point_of step.now) }
+{
     match rule {
         Rule::NewId => resources::breaks_new_id(history, step),
         Rule::LiveId => resources::breaks_live_id(history, step),
@@ -95,6 +118,9 @@ fn breaks(rule: Rule, history: &History<'_>, step: &Step<'_>) -> bool {
 }
 
 /// LIMIT: the trace has too many points.
-fn breaks_limit(history: &History<'_>) -> bool {
+#[tactic(auto, using(crate::proofs::Clears::limits))]
+fn breaks_limit(history: &History<'_>) -> bool
+    ensures { (p : Point) → result ≡ breaks_limit (past history.now) p }
+{
     history.count() >= MOST_POINTS
 }

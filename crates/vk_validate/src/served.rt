@@ -1,9 +1,16 @@
+ghost use Rattle.std.specs.Prelude.{◌≡◌};
+ghost use Rattle.std.specs.List.{list_all};
+ghost use Rattle.vk_validate.specs.Served as served;
+ghost use Rattle.vk_validate.specs.Told.{deed_of};
+
 use crate::steps::{Deed, Step};
 use vk_model::{Cmd, Element, Entry, Place};
 
 /// Whether the rules of this crate cover the point's form. The others have rules that are not written
 /// yet.
-pub fn is_served(step: &Step<'_>) -> bool {
+pub fn is_served(step: &Step<'_>) -> bool
+    ensures { result ≡ served.is_served_deed (deed_of step.now.deed) }
+{
     match step.deed {
         Deed::Host(entry) => is_served_entry(entry),
         Deed::Wait(_) => false,
@@ -12,7 +19,9 @@ pub fn is_served(step: &Step<'_>) -> bool {
     }
 }
 
-fn is_served_entry(entry: &Entry) -> bool {
+fn is_served_entry(entry: &Entry) -> bool
+    ensures { result ≡ served.is_served_entry entry.now }
+{
     match entry {
         Entry::Buffer { info, .. } => is_served_place(info.place),
         Entry::Map { .. } | Entry::Read { .. } | Entry::Semaphore { .. } | Entry::Wait { .. } => {
@@ -24,22 +33,34 @@ fn is_served_entry(entry: &Entry) -> bool {
 }
 
 // Memory type 2 keeps the host's accesses in a cache.
-fn is_served_place(place: Place) -> bool {
+fn is_served_place(place: Place) -> bool
+    ensures { result ≡ served.is_served_place place }
+{
     match place {
         Place::Dedicated { memory_type } => memory_type != 2,
         _ => false,
     }
 }
 
-fn is_served_command(command: &Cmd) -> bool {
+fn is_served_command(command: &Cmd) -> bool
+    ensures { result ≡ served.is_served_command command.now }
+{
     match command {
         Cmd::Fill { .. } => true,
-        Cmd::Barrier { elements } => elements.as_slice().iter().all(|element| is_memory(element)),
+        Cmd::Barrier { elements } => are_memory(elements.as_slice()),
         _ => false,
     }
 }
 
-fn is_memory(element: &Element) -> bool {
+fn are_memory(elements: &[Element]) -> bool
+    ensures { result ≡ list_all served.is_memory elements.now }
+{
+    elements.iter().all(|element| is_memory(element))
+}
+
+fn is_memory(element: &Element) -> bool
+    ensures { result ≡ served.is_memory element.now }
+{
     match element {
         Element::Memory(_) => true,
         _ => false,

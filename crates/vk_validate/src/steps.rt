@@ -1,3 +1,9 @@
+ghost use Rattle.std.specs.Prelude.{◌≡◌, [], OnOk, IfOk};
+ghost use Rattle.vk_model.specs.Point.{at_of, Run, Signal, Wait};
+ghost use Rattle.vk_model.specs.Order.{deeds, plain_order};
+ghost use Rattle.vk_validate.specs.Told.{past_of, point_of};
+ghost use Rattle.vk_validate.specs.Laid.{laid_batch, laid_batches, laid_submit, turn_at};
+
 use std::alloc::{AllocError, Global};
 use vk_model::{At, Batch, Cmd, Entry, SemaphoreSubmit};
 
@@ -27,7 +33,9 @@ pub struct Step<'a> {
 
 impl<'a> Step<'a> {
     /// How the point is told.
-    pub fn at(&self) -> At {
+    pub fn at(&self) -> At
+        ensures { result ≡ at_of (point_of self.now) }
+    {
         match self.deed {
             Deed::Host(_) => At::Entry(self.entry),
             Deed::Wait(_) => At::Wait(self.entry, self.batch, self.place),
@@ -39,10 +47,10 @@ impl<'a> Step<'a> {
 
 /// The points of a trace in the order in which they are judged, the oldest first: each entry of the
 /// host, and after a submit the waits, the commands and the signals of its batches.
-pub fn reference_order<'a>(
-    alloc: Global,
-    entries: &'a [Entry],
-) -> Result<Vec<Step<'a>>, AllocError> {
+#[tactic(auto, using(crate::proofs::Batches::entries_pushed))]
+pub fn reference_order<'a>(alloc: Global, entries: &'a [Entry]) -> Result<Vec<Step<'a>>, AllocError>
+    ensures { IfOk result (λ points. past_of points.items ≡ plain_order entries.now) }
+{
     let mut points = Vec::new(alloc);
     for (number, entry) in entries.iter().enumerate() {
         points.push(Step {
@@ -52,44 +60,66 @@ pub fn reference_order<'a>(
             queue: 0,
             deed: Deed::Host(entry),
         })?;
-        push_batches(&mut points, number, entry)?;
+        push_submit(&mut points, number, entry)?;
     }
     Ok(points)
 }
 
-fn push_batches<'a>(
+fn push_submit<'a>(
     points: &mut Vec<Step<'a>>,
     number: usize,
     entry: &'a Entry,
-) -> Result<(), AllocError> {
-    let Entry::Submit { queue, batches } = entry else {
-        return Ok(());
-    };
-    for (batch, content) in batches.as_slice().iter().enumerate() {
-        push_batch(points, number, batch, *queue, content)?;
+) -> Result<(), AllocError>
+    ensures { OnOk result (past_of points.new.items ≡ laid_submit number entry.now (past_of points.old.items)) }
+{
+    match entry {
+        Entry::Submit { queue, batches } => {
+            push_batches(points, number, *queue, batches.as_slice())
+        }
+        _ => Ok(()),
+    }
+}
+
+#[tactic(auto, using(crate::proofs::Batches::batches_pushed))]
+fn push_batches<'a>(
+    points: &mut Vec<Step<'a>>,
+    number: usize,
+    queue: u32,
+    batches: &'a [Batch],
+) -> Result<(), AllocError>
+    ensures { OnOk result (past_of points.new.items ≡ laid_batches number queue 0 batches.now (past_of points.old.items)) }
+{
+    for (batch, content) in batches.iter().enumerate() {
+        push_batch(points, number, batch, queue, content)?;
     }
     Ok(())
 }
 
+#[tactic(auto, unfolding(crate::specs::Laid::laid_batch))]
 fn push_batch<'a>(
     points: &mut Vec<Step<'a>>,
     entry: usize,
     batch: usize,
     queue: u32,
     content: &'a Batch,
-) -> Result<(), AllocError> {
+) -> Result<(), AllocError>
+    ensures { OnOk result (past_of points.new.items ≡ laid_batch entry batch queue content.now (past_of points.old.items)) }
+{
     push_waits(points, entry, batch, queue, content.waits.as_slice())?;
     push_commands(points, entry, batch, queue, content.commands.as_slice())?;
     push_signals(points, entry, batch, queue, content.signals.as_slice())
 }
 
+#[tactic(auto, using(crate::proofs::Batches::pushes))]
 fn push_waits<'a>(
     points: &mut Vec<Step<'a>>,
     entry: usize,
     batch: usize,
     queue: u32,
     waits: &'a [SemaphoreSubmit],
-) -> Result<(), AllocError> {
+) -> Result<(), AllocError>
+    ensures { OnOk result (past_of points.new.items ≡ deeds Wait (turn_at entry batch queue) 0 waits.now (past_of points.old.items)) }
+{
     for (place, wait) in waits.iter().enumerate() {
         points.push(Step {
             entry,
@@ -102,13 +132,16 @@ fn push_waits<'a>(
     Ok(())
 }
 
+#[tactic(auto, using(crate::proofs::Batches::pushes))]
 fn push_commands<'a>(
     points: &mut Vec<Step<'a>>,
     entry: usize,
     batch: usize,
     queue: u32,
     commands: &'a [Cmd],
-) -> Result<(), AllocError> {
+) -> Result<(), AllocError>
+    ensures { OnOk result (past_of points.new.items ≡ deeds Run (turn_at entry batch queue) 0 commands.now (past_of points.old.items)) }
+{
     for (place, command) in commands.iter().enumerate() {
         points.push(Step {
             entry,
@@ -121,13 +154,16 @@ fn push_commands<'a>(
     Ok(())
 }
 
+#[tactic(auto, using(crate::proofs::Batches::pushes))]
 fn push_signals<'a>(
     points: &mut Vec<Step<'a>>,
     entry: usize,
     batch: usize,
     queue: u32,
     signals: &'a [SemaphoreSubmit],
-) -> Result<(), AllocError> {
+) -> Result<(), AllocError>
+    ensures { OnOk result (past_of points.new.items ≡ deeds Signal (turn_at entry batch queue) 0 signals.now (past_of points.old.items)) }
+{
     for (place, signal) in signals.iter().enumerate() {
         points.push(Step {
             entry,

@@ -1,3 +1,12 @@
+ghost use Rattle.std.specs.Prelude.{◌≡◌, ◌==◌, ◌||◌, ◌+◌, ◌∷◌, ℕ, IfOk, OnOk, IfSome, IsSome, ◌≢◌, nat_lt, max, unwrap_or, if◌then◌else◌, Option, Some, None};
+ghost use Rattle.std.specs.Option.{option_map};
+ghost use Rattle.std.specs.Ordering.{nat_cmp};
+ghost use Rattle.std.specs.BTreeMap.{get, IsEmpty};
+ghost use Rattle.vk_model.specs.Point.{Past, Point};
+ghost use Rattle.vk_validate.specs.Tabled.{IsTabled};
+ghost use Rattle.vk_validate.specs.Fits.{Fits};
+ghost use Rattle.vk_validate.specs.Writers.{IsAssigned};
+
 use crate::clocks::{Clock, Order};
 use crate::timelines::Timeline;
 use crate::writers::{LastWriters, Span};
@@ -12,6 +21,8 @@ pub struct Tables<'a> {
     pub makers: BTreeMap<u32, &'a Entry>,
     /// How often each buffer was mapped.
     pub maps: BTreeMap<u32, u64>,
+    /// The greatest value signaled to each semaphore.
+    pub peaks: BTreeMap<u32, u64>,
     /// The signals of each semaphore that was signaled.
     pub timelines: BTreeMap<u32, Timeline>,
     /// The last writers of each buffer that was written.
@@ -37,10 +48,16 @@ pub enum Change<'a> {
 
 impl<'a> Tables<'a> {
     /// Nothing has happened.
-    pub fn new(alloc: Global) -> Tables<'a> {
+    pub fn new(alloc: Global) -> Tables<'a>
+        ensures makers { IsEmpty result.makers }
+        ensures maps { IsEmpty result.maps }
+        ensures peaks { IsEmpty result.peaks }
+        ensures writers { IsEmpty result.writers }
+    {
         Tables {
             makers: BTreeMap::new(alloc),
             maps: BTreeMap::new(alloc),
+            peaks: BTreeMap::new(alloc),
             timelines: BTreeMap::new(alloc),
             writers: BTreeMap::new(alloc),
             order: Order::START,
@@ -53,15 +70,19 @@ pub fn note<'a>(
     alloc: Global,
     tables: &mut Tables<'a>,
     change: Change<'a>,
-) -> Result<(), AllocError> {
+) -> Result<(), AllocError>
+    ensures { OnOk result ((past : Past) (p : Point) → Fits change.entry past p.deed → IsTabled tables.old past → IsTabled tables.new (p ∷ past)) }
+{
     match change {
         Change::Nothing => Ok(()),
         Change::Made(id, entry) => note_maker(&mut tables.makers, id, entry),
         Change::Mapped(buffer) => note_map(&mut tables.maps, buffer),
         Change::Written(buffer, span, point) => {
-            note_write(alloc, &mut tables.writers, buffer, span, point)
+            note_write(alloc, &mut tables.writers, buffer, span, point)?;
+            Ok(())
         }
         Change::Signaled(semaphore, value, clock) => {
+            note_peak(&mut tables.peaks, semaphore, value)?;
             note_signal(alloc, &mut tables.timelines, semaphore, value, clock)?;
             tables.order = tables.order.after_signal(clock);
             Ok(())
@@ -77,14 +98,29 @@ fn note_maker<'a>(
     makers: &mut BTreeMap<u32, &'a Entry>,
     id: u32,
     entry: &'a Entry,
-) -> Result<(), AllocError> {
+) -> Result<(), AllocError>
+    ensures { OnOk result ((other : ℕ) → option_map (λ x. x.now) (get nat_cmp makers.new other)
+        ≡ (if other == id then Some entry.now else option_map (λ x. x.now) (get nat_cmp makers.old other))) }
+{
     makers.insert(id, entry)?;
     Ok(())
 }
 
-fn note_map(maps: &mut BTreeMap<u32, u64>, buffer: u32) -> Result<(), AllocError> {
-    let count = maps.entry(buffer)?.or_insert(0);
-    *count = count.saturating_add(1);
+fn note_map(maps: &mut BTreeMap<u32, u64>, buffer: u32) -> Result<(), AllocError>
+    ensures { OnOk result ((other : ℕ) → nat_lt 0 (unwrap_or (get nat_cmp maps.new other) 0)
+        ≡ (other == buffer || nat_lt 0 (unwrap_or (get nat_cmp maps.old other) 0))) }
+{
+    let count = maps.get(&buffer).copied().unwrap_or(0);
+    maps.insert(buffer, count.saturating_add(1))?;
+    Ok(())
+}
+
+fn note_peak(peaks: &mut BTreeMap<u32, u64>, semaphore: u32, value: u64) -> Result<(), AllocError>
+    ensures { OnOk result ((other : ℕ) → unwrap_or (get nat_cmp peaks.new other) 0
+        ≡ (if semaphore == other then max value (unwrap_or (get nat_cmp peaks.old other) 0) else unwrap_or (get nat_cmp peaks.old other) 0)) }
+{
+    let peak = peaks.get(&semaphore).copied().unwrap_or(0);
+    peaks.insert(semaphore, peak.max(value))?;
     Ok(())
 }
 
@@ -94,9 +130,18 @@ fn note_write(
     buffer: u32,
     span: Span,
     point: usize,
-) -> Result<(), AllocError> {
-    let of_buffer = writers.entry(buffer)?.or_insert(LastWriters::new(alloc));
-    of_buffer.assign(span, point)
+) -> Result<(), AllocError>
+    ensures here { OnOk result (IfSome (get nat_cmp writers.new buffer) (λ new. IsAssigned (get nat_cmp writers.old buffer) new span.first span.last point)) }
+    ensures stands { OnOk result (IsSome (get nat_cmp writers.new buffer)) }
+    ensures others { OnOk result ((other : ℕ) → other ≢ buffer → get nat_cmp writers.new other ≡ get nat_cmp writers.old other) }
+{
+    let mut of_buffer = match writers.remove(&buffer) {
+        Some(known) => known,
+        None => LastWriters::new(alloc),
+    };
+    of_buffer.assign(span, point)?;
+    writers.insert(buffer, of_buffer)?;
+    Ok(())
 }
 
 fn note_signal(

@@ -22,14 +22,6 @@ impl Timeline {
         Ok(())
     }
 
-    /// The greatest value that was signaled.
-    pub fn greatest(&self) -> Option<u64> {
-        match self.signals.last_key_value() {
-            Some((value, _)) => Some(*value),
-            None => None,
-        }
-    }
-
     /// The clock of the signal of the least value at or above this one: a wait for the value ends
     /// with that signal, and comes after no later one.
     pub fn least_from(&self, value: u64) -> Option<Clock> {

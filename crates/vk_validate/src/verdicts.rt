@@ -1,5 +1,11 @@
-ghost use Rattle.std.specs.Prelude.{◌≡◌, IfOk};
+ghost use Rattle.std.specs.Prelude.{IfSome, ◌≡◌, IfOk, IfNone, IsTrue};
+ghost use Rattle.vk_model.specs.Order.{plain_order};
+ghost use Rattle.vk_validate.specs.Served.{is_served};
+ghost use Rattle.vk_validate.specs.Covered.{is_free_of, covered};
 ghost use Rattle.vk_validate.specs.Verdicts.{IsAbout};
+ghost use Rattle.vk_validate.specs.Cleared.{IsCleared};
+ghost use Rattle.vk_validate.specs.Refused.{IsRefused};
+ghost use Rattle.vk_validate.specs.Told.{past_of};
 
 use crate::history::History;
 use crate::rules::first_rule;
@@ -9,7 +15,8 @@ use std::alloc::{AllocError, Global};
 use std::marker::Model;
 use vk_model::{At, Entry, Rule};
 
-/// The entries of a trace that breaks no rule. Only `validate` makes one. Contracts see the entries.
+/// The entries of a trace that breaks no rule. Only `validate` makes one. Contracts see the entries; that
+/// no point of theirs breaks a rule is proved of the rules of `covered`.
 #[derive(Drop)]
 pub struct Accepted<'a> {
     entries: &'a [Entry],
@@ -21,13 +28,19 @@ impl<'a> Model for Accepted<'a> {
 
     ghost Value = { List Each };
 
+    ghost use Rattle.vk_validate.specs.Covered.{IsAcceptable};
+
     ghost view = { λ a. a.entries.now };
+
+    ghost invariant = { λ a. IsAcceptable a.entries.now };
 }
 
 impl<'a> Accepted<'a> {
     /// The entries.
     pub fn entries(&self) -> &'a [Entry]
-        ensures { result.now ≡ self.now }
+        ensures same { result.now ≡ self.now }
+        ensures served { IsTrue (is_served (plain_order self.now)) }
+        ensures free { IsTrue (is_free_of covered (plain_order self.now)) }
     {
         self.entries
     }
@@ -48,6 +61,7 @@ pub enum Verdict<'a> {
 /// signals of its batches. The forms that are served so far: dedicated buffers on memory types other
 /// than 2, semaphores, submits on queue 0, maps, reads and waits of the host; fills and barriers with
 /// memory elements alone; signals of batches. A point of any other form is refused by `Rule::LiveId`.
+#[tactic(auto, using(crate::proofs::Free::acceptable))]
 pub fn validate<'a>(alloc: Global, entries: &'a [Entry]) -> Result<Verdict<'a>, AllocError>
     ensures { IfOk result (IsAbout entries.now) }
 {
@@ -59,23 +73,19 @@ pub fn validate<'a>(alloc: Global, entries: &'a [Entry]) -> Result<Verdict<'a>, 
 }
 
 /// The first of the points that breaks a rule, with its first rule.
-fn first_fault<'a>(
-    alloc: Global,
-    points: &'a [Step<'a>],
-) -> Result<Option<(At, Rule)>, AllocError> {
+fn first_fault<'a>(alloc: Global, points: &'a [Step<'a>]) -> Result<Option<(At, Rule)>, AllocError>
+    ensures none { IfOk result (λ fault. IfNone fault (IsCleared (past_of points.now))) }
+    ensures some { IfOk result (λ fault. IfSome fault (λ f. IsRefused points.now f.0 f.1)) }
+{
     let mut history = History::new(alloc, points);
     for step in points {
-        if let Some(rule) = broken_at(&history, step) {
+        if !is_served(step) {
+            return Ok(Some((step.at(), Rule::LiveId)));
+        }
+        if let Some(rule) = first_rule(&history, step) {
             return Ok(Some((step.at(), rule)));
         }
-        history.advance()?;
+        history.advance(step)?;
     }
     Ok(None)
-}
-
-fn broken_at(history: &History<'_>, step: &Step<'_>) -> Option<Rule> {
-    if !is_served(step) {
-        return Some(Rule::LiveId);
-    }
-    first_rule(history, step)
 }

@@ -1,7 +1,8 @@
-ghost use Rattle.std.specs.Prelude.{◌≡◌, ◌<◌, ◌≤◌, ◌+◌, ◌-◌, ◌^◌, ◌↔◌, min, IfSome, IfNone, IsSome, ℕ, None, ◌≢◌, OnOk, OnErr};
+ghost use Rattle.std.specs.Prelude.{◌≡◌, Option, Some, false, ◌<◌, ◌≤◌, ◌+◌, ◌-◌, ◌^◌, ◌↔◌, min, IfSome, IfNone, IsSome, ℕ, None, ◌≢◌, OnOk, OnErr};
 ghost use Rattle.std.specs.Ordering.{nat_cmp};
-ghost use Rattle.std.specs.BTreeMap.{get};
+ghost use Rattle.std.specs.BTreeMap.{get, IsEmpty};
 ghost use Rattle.vk_validate.specs.Writers.{IsLastWriter, Keeps};
+ghost use Rattle.vk_validate.specs.Seeks.{is_sought};
 
 use std::alloc::{AllocError, Global};
 use std::collections::BTreeMap;
@@ -30,6 +31,15 @@ impl Span {
     }
 }
 
+/// What is sought among the last writers of bytes.
+#[derive(Clone, Copy)]
+pub enum Sought {
+    /// A writer at the point of this number or after it.
+    Since(usize),
+    /// That there is none: the byte was never written.
+    Nothing,
+}
+
 /// The command that last wrote each byte of a buffer, by the number of its point.
 ///
 /// From each key on, up to the next one, the bytes have the key's writer, or were never written. So a
@@ -41,7 +51,9 @@ pub struct LastWriters {
 
 impl LastWriters {
     /// No byte was written.
-    pub fn new(alloc: Global) -> LastWriters {
+    pub fn new(alloc: Global) -> LastWriters
+        ensures { IsEmpty result.bounds }
+    {
         LastWriters {
             bounds: BTreeMap::new(alloc),
         }
@@ -57,22 +69,23 @@ impl LastWriters {
         }
     }
 
-    /// Whether a byte of the span was last written at the point of this number or after it.
-    pub fn has_since(&self, span: Span, point: usize) -> bool {
-        is_since(self.at(span.first), point)
-            || self
-                .bounds
-                .range(span.first..=span.last)
-                .any(|(_, writer)| is_since(*writer, point))
-    }
-
-    /// Whether a byte of the span was never written.
-    pub fn has_unwritten(&self, span: Span) -> bool {
-        self.at(span.first).is_none()
-            || self
-                .bounds
-                .range(span.first..=span.last)
-                .any(|(_, writer)| writer.is_none())
+    /// Whether a byte of the span has what is sought.
+    pub fn has(&self, span: Span, sought: Sought) -> bool
+        ensures { result ≡ false → (byte : ℕ) (writer : Option ℕ) → span.first ≤ byte → byte ≤ span.last
+            → IsLastWriter self.now.bounds byte writer → is_sought sought writer ≡ false }
+    {
+        if is_sought(sought, self.at(span.first)) {
+            return true;
+        }
+        let last = span.last;
+        let mut first = span.first;
+        while let Some(bound) = self.inner_bound(Span { first, last }) {
+            if is_sought(sought, self.at(bound)) {
+                return true;
+            }
+            first = bound;
+        }
+        false
     }
 
     /// Makes the command at a point the last writer of the span. An error changes no byte's writer.
@@ -129,6 +142,7 @@ impl LastWriters {
     /// The first key within the span, but for that of its first byte.
     fn inner_bound(&self, span: Span) -> Option<u64>
         ensures found { IfSome result (λ bound. IsSome (get nat_cmp self.now.bounds bound) × (span.first < bound) × (bound ≤ span.last)) }
+        ensures least { IfSome result (λ bound. (byte : ℕ) → span.first < byte → byte < bound → get nat_cmp self.now.bounds byte ≡ None) }
         ensures none { IfNone result ((byte : ℕ) → span.first < byte → byte ≤ span.last → get nat_cmp self.now.bounds byte ≡ None) }
     {
         if span.first == span.last {
@@ -141,9 +155,17 @@ impl LastWriters {
     }
 }
 
-fn is_since(writer: Option<usize>, point: usize) -> bool {
+fn is_sought(sought: Sought, writer: Option<usize>) -> bool
+    ensures { result ≡ is_sought sought writer }
+{
     match writer {
-        Some(number) => point <= number,
-        None => false,
+        Some(number) => match sought {
+            Sought::Since(point) => point <= number,
+            Sought::Nothing => false,
+        },
+        None => match sought {
+            Sought::Since(_) => false,
+            Sought::Nothing => true,
+        },
     }
 }

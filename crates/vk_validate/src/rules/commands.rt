@@ -1,11 +1,18 @@
-ghost use Rattle.std.specs.Prelude.{◌≡◌, ◌%◌, ◌==◌, not};
+ghost use Rattle.std.specs.Prelude.{◌≡◌, ◌%◌, ◌==◌, not, IsTrue, ◌||◌, nat_lt, nat_le, ◌+◌};
+ghost use Rattle.vk_model.specs.Point.{Past};
+ghost use Rattle.vk_model.specs.RulesRanges as ranges;
+ghost use Rattle.vk_validate.specs.Served.{is_served_deed, is_served_command};
+ghost use Rattle.vk_validate.specs.Told.{deed_of, point_of, past};
 
 use crate::history::History;
 use crate::steps::{Deed, Step};
 use vk_model::{Cmd, Entry, Length};
 
 /// RANGE: bytes outside the buffer, or to the end from the end or past it.
-pub fn breaks_range(history: &History<'_>, step: &Step<'_>) -> bool {
+pub fn breaks_range(history: &History<'_>, step: &Step<'_>) -> bool
+    requires { IsTrue (is_served_deed (deed_of step.now.deed)) }
+    ensures { result ≡ ranges.breaks_range (past history.now) (point_of step.now) }
+{
     match step.deed {
         Deed::Host(
             Entry::Read {
@@ -14,19 +21,31 @@ pub fn breaks_range(history: &History<'_>, step: &Step<'_>) -> bool {
                 size,
             },
         ) => ends_past(history.size(*buffer), *offset, Length::Bytes(*size)),
-        Deed::Run(
-            Cmd::Fill {
-                buffer,
-                offset,
-                size,
-                ..
-            },
-        ) => ends_past(history.size(*buffer), *offset, *size),
+        Deed::Run(command) => ends_past_buffer(history, command),
         _ => false,
     }
 }
 
-fn ends_past(buffer_size: u64, offset: u64, size: Length) -> bool {
+#[tactic(auto, using(crate::proofs::Fills::fill_range))]
+fn ends_past_buffer(history: &History<'_>, command: &Cmd) -> bool
+    requires { IsTrue (is_served_command command.now) }
+    ensures { result ≡ ranges.command_past (past history.now) command.now }
+{
+    match command {
+        Cmd::Fill {
+            buffer,
+            offset,
+            size,
+            ..
+        } => ends_past(history.size(*buffer), *offset, *size),
+        Cmd::Barrier { .. } => false,
+        _ => false,
+    }
+}
+
+fn ends_past(buffer_size: u64, offset: u64, size: Length) -> bool
+    ensures { result ≡ ranges.ends_past buffer_size offset size }
+{
     match size {
         Length::Bytes(bytes) => bytes > buffer_size || offset > buffer_size - bytes,
         Length::Whole => offset >= buffer_size,
@@ -34,7 +53,10 @@ fn ends_past(buffer_size: u64, offset: u64, size: Length) -> bool {
 }
 
 /// ALIGN: a fill whose offset or size isn't a multiple of 4.
-pub fn breaks_align(step: &Step<'_>) -> bool {
+pub fn breaks_align(step: &Step<'_>) -> bool
+    requires { IsTrue (is_served_deed (deed_of step.now.deed)) }
+    ensures { (past : Past) → result ≡ ranges.breaks_align past (point_of step.now) }
+{
     match step.deed {
         Deed::Run(Cmd::Fill { offset, size, .. }) => is_off_4(*offset) || has_rest(*size),
         _ => false,
@@ -48,7 +70,9 @@ fn is_off_4(number: u64) -> bool
 }
 
 // To the end, a rest is left out.
-fn has_rest(size: Length) -> bool {
+fn has_rest(size: Length) -> bool
+    ensures { result ≡ ranges.off_4_length size }
+{
     match size {
         Length::Bytes(bytes) => is_off_4(bytes),
         Length::Whole => false,

@@ -1,3 +1,8 @@
+ghost use Rattle.std.specs.Prelude.{◌≡◌, false, IsTrue};
+ghost use Rattle.vk_validate.specs.Served.{is_served_deed};
+ghost use Rattle.vk_validate.specs.Told.{deed_of, past};
+ghost use Rattle.vk_validate.specs.Tests.{ReadsWritten};
+
 use crate::history::History;
 use crate::steps::{Deed, Step};
 use crate::writers::Span;
@@ -39,7 +44,10 @@ pub fn breaks_hazard_waw(history: &History<'_>, step: &Step<'_>) -> bool {
 }
 
 /// READ_UNDEFINED: a read of a byte that was never written.
-pub fn breaks_read_undefined(history: &History<'_>, step: &Step<'_>) -> bool {
+pub fn breaks_read_undefined(history: &History<'_>, step: &Step<'_>) -> bool
+    requires { IsTrue (is_served_deed (deed_of step.now.deed)) }
+    ensures { result ≡ false → ReadsWritten (past history.now) (deed_of step.now.deed) }
+{
     match step.deed {
         Deed::Host(
             Entry::Read {
@@ -48,7 +56,9 @@ pub fn breaks_read_undefined(history: &History<'_>, step: &Step<'_>) -> bool {
                 size,
             },
         ) => match Span::new(*offset, *size) {
-            Some(span) => history.has_undefined(*buffer, span),
+            Some(span) => {
+                span.last - span.first < *size - 1 || history.has_undefined(*buffer, span)
+            }
             None => false,
         },
         _ => false,

@@ -1,3 +1,15 @@
+ghost use Rattle.std.specs.Prelude.{◌≡◌, ◌==◌, ◌&&◌, not, IsTrue, ◌||◌, nat_lt, nat_le, ◌+◌, is_some, is_none};
+ghost use Rattle.std.specs.List.{list_any};
+ghost use Rattle.vk_model.specs.Point.{Past, Host, Run};
+ghost use Rattle.vk_model.specs.Words.{holds, has_bits};
+ghost use Rattle.vk_model.specs.Objects.{initial, buffer};
+ghost use Rattle.vk_model.specs.RulesIds as ids;
+ghost use Rattle.vk_model.specs.RulesSizes as sizes;
+ghost use Rattle.vk_model.specs.RulesMapping as mapping;
+ghost use Rattle.vk_validate.specs.Served.{is_served_deed, is_served_entry, is_served_command};
+ghost use Rattle.vk_validate.specs.Told.{deed_of, point_of, past};
+ghost use Rattle.vk_validate.specs.Tests.{names_dead, lacks_usage, reads_unmapped, is_on_type_0, maps_local};
+
 use crate::history::History;
 use crate::steps::{Deed, Step};
 use bitflags::Flags;
@@ -9,10 +21,14 @@ const GREATEST_MEMORY: u64 = 67_108_864;
 /// The greatest memory type.
 const GREATEST_TYPE: u32 = 2;
 
-const KNOWN_USAGES: Usage = Usage(3);
+/// All usages that there are.
+const KNOWN_USAGES: u32 = 3;
 
 /// NEW_ID: the id made was made before.
-pub fn breaks_new_id(history: &History<'_>, step: &Step<'_>) -> bool {
+pub fn breaks_new_id(history: &History<'_>, step: &Step<'_>) -> bool
+    requires { IsTrue (is_served_deed (deed_of step.now.deed)) }
+    ensures { result ≡ ids.breaks_new_id (past history.now) (point_of step.now) }
+{
     match step.deed {
         Deed::Host(Entry::Buffer { id, .. } | Entry::Semaphore { id, .. }) => {
             history.made(*id).is_some()
@@ -22,58 +38,95 @@ pub fn breaks_new_id(history: &History<'_>, step: &Step<'_>) -> bool {
 }
 
 /// LIVE_ID: an id named isn't an object of the kind asked.
-pub fn breaks_live_id(history: &History<'_>, step: &Step<'_>) -> bool {
+pub fn breaks_live_id(history: &History<'_>, step: &Step<'_>) -> bool
+    requires { IsTrue (is_served_deed (deed_of step.now.deed)) }
+    ensures { result ≡ names_dead (past history.now) (deed_of step.now.deed) }
+{
     match step.deed {
         Deed::Host(entry) => names_dead(history, entry),
-        Deed::Wait(submit) => history.initial(submit.semaphore).is_none(),
+        Deed::Wait(submit) => is_no_semaphore(history, submit.semaphore),
         Deed::Run(command) => runs_on_dead(history, command),
-        Deed::Signal(submit) => history.initial(submit.semaphore).is_none(),
+        Deed::Signal(submit) => is_no_semaphore(history, submit.semaphore),
     }
 }
 
-fn names_dead(history: &History<'_>, entry: &Entry) -> bool {
+fn names_dead(history: &History<'_>, entry: &Entry) -> bool
+    requires { IsTrue (is_served_entry entry.now) }
+    ensures { result ≡ names_dead (past history.now) (Host entry.now) }
+{
     match entry {
-        Entry::Map { buffer } => history.buffer(*buffer).is_none(),
-        Entry::Read { buffer, .. } => history.buffer(*buffer).is_none(),
+        Entry::Map { buffer } => is_no_buffer(history, *buffer),
+        Entry::Read { buffer, .. } => is_no_buffer(history, *buffer),
         Entry::Wait { waits } => waits_for_dead(history, waits.as_slice()),
         _ => false,
     }
 }
 
-fn waits_for_dead(history: &History<'_>, waits: &[SemaphoreValue]) -> bool {
+fn waits_for_dead(history: &History<'_>, waits: &[SemaphoreValue]) -> bool
+    ensures { result ≡ list_any (λ w. not (is_some (initial (past history.now) w.semaphore))) waits.now }
+{
     waits
         .iter()
-        .any(|wait| history.initial(wait.semaphore).is_none())
+        .any(|wait| is_no_semaphore(history, wait.semaphore))
 }
 
-fn runs_on_dead(history: &History<'_>, command: &Cmd) -> bool {
+fn is_no_semaphore(history: &History<'_>, semaphore: u32) -> bool
+    ensures { result ≡ not (is_some (initial (past history.now) semaphore)) }
+{
+    history.initial(semaphore).is_none()
+}
+
+fn is_no_buffer(history: &History<'_>, id: u32) -> bool
+    ensures { result ≡ not (is_some (buffer (past history.now) id)) }
+{
+    history.buffer(id).is_none()
+}
+
+fn runs_on_dead(history: &History<'_>, command: &Cmd) -> bool
+    requires { IsTrue (is_served_command command.now) }
+    ensures { result ≡ names_dead (past history.now) (Run command.now) }
+{
     match command {
-        Cmd::Fill { buffer, .. } => history.buffer(*buffer).is_none(),
+        Cmd::Fill { buffer, .. } => is_no_buffer(history, *buffer),
         _ => false,
     }
 }
 
 /// SIZE: a buffer, a read or a fill of no bytes, or a wait for nothing.
-pub fn breaks_size(history: &History<'_>, step: &Step<'_>) -> bool {
+pub fn breaks_size(history: &History<'_>, step: &Step<'_>) -> bool
+    requires { IsTrue (is_served_deed (deed_of step.now.deed)) }
+    ensures { result ≡ sizes.breaks_size (past history.now) (point_of step.now) }
+{
     match step.deed {
         Deed::Host(Entry::Buffer { info, .. }) => info.size == 0,
         Deed::Host(Entry::Read { size, .. }) => *size == 0,
         Deed::Host(Entry::Wait { waits }) => waits.is_empty(),
-        Deed::Run(
-            Cmd::Fill {
-                buffer,
-                offset,
-                size,
-                ..
-            },
-        ) => fills_none(history.size(*buffer), *offset, *size),
+        Deed::Run(command) => is_empty_command(history, command),
+        _ => false,
+    }
+}
+
+fn is_empty_command(history: &History<'_>, command: &Cmd) -> bool
+    requires { IsTrue (is_served_command command.now) }
+    ensures { result ≡ sizes.bad_command_size (past history.now) command.now }
+{
+    match command {
+        Cmd::Fill {
+            buffer,
+            offset,
+            size,
+            ..
+        } => fills_none(history.size(*buffer), *offset, *size),
+        Cmd::Barrier { .. } => false,
         _ => false,
     }
 }
 
 /// Whether a fill writes nothing. One to the end does where 1 to 3 bytes are left; from the end or past
 /// it it breaks RANGE.
-fn fills_none(buffer_size: u64, offset: u64, size: Length) -> bool {
+fn fills_none(buffer_size: u64, offset: u64, size: Length) -> bool
+    ensures { result ≡ sizes.fills_none buffer_size offset size }
+{
     match size {
         Length::Bytes(bytes) => bytes == 0,
         Length::Whole => offset < buffer_size && buffer_size - offset < 4,
@@ -81,7 +134,10 @@ fn fills_none(buffer_size: u64, offset: u64, size: Length) -> bool {
 }
 
 /// USAGE: a buffer for nothing or for what isn't known, or a fill of one that isn't a destination.
-pub fn breaks_usage(history: &History<'_>, step: &Step<'_>) -> bool {
+pub fn breaks_usage(history: &History<'_>, step: &Step<'_>) -> bool
+    requires { IsTrue (is_served_deed (deed_of step.now.deed)) }
+    ensures { result ≡ lacks_usage (past history.now) (deed_of step.now.deed) }
+{
     match step.deed {
         Deed::Host(Entry::Buffer { info, .. }) => is_bad_usage(info.usage),
         Deed::Run(Cmd::Fill { buffer, .. }) => is_no_destination(history, *buffer),
@@ -89,19 +145,26 @@ pub fn breaks_usage(history: &History<'_>, step: &Step<'_>) -> bool {
     }
 }
 
-fn is_bad_usage(usage: Usage) -> bool {
-    usage.bits() == 0 || !KNOWN_USAGES.contains(usage)
+fn is_bad_usage(usage: Usage) -> bool
+    ensures { result ≡ sizes.is_outside 3 usage.0 }
+{
+    usage.bits() == 0 || usage.bits() > KNOWN_USAGES
 }
 
-fn is_no_destination(history: &History<'_>, buffer: u32) -> bool {
-    match history.buffer(buffer) {
+fn is_no_destination(history: &History<'_>, id: u32) -> bool
+    ensures { result ≡ not (holds (buffer (past history.now) id) (λ i. has_bits i.usage.0 2)) }
+{
+    match history.buffer(id) {
         Some(info) => !info.usage.contains(Usage::TRANSFER_DST),
         None => true,
     }
 }
 
 /// MEMORY_TYPE: a type that there isn't. A buffer is allowed on each.
-pub fn breaks_memory_type(step: &Step<'_>) -> bool {
+pub fn breaks_memory_type(step: &Step<'_>) -> bool
+    requires { IsTrue (is_served_deed (deed_of step.now.deed)) }
+    ensures { (past : Past) → result ≡ sizes.breaks_memory_type past (point_of step.now) }
+{
     match step.deed {
         Deed::Host(Entry::Buffer { info, .. }) => match info.place {
             Place::Dedicated { memory_type } => memory_type > GREATEST_TYPE,
@@ -113,7 +176,10 @@ pub fn breaks_memory_type(step: &Step<'_>) -> bool {
 
 /// MEMORY_SIZE: a buffer that asks for more than a memory object can have. It asks for its size rounded
 /// up to 16, which passes the limit just where the size does.
-pub fn breaks_memory_size(step: &Step<'_>) -> bool {
+pub fn breaks_memory_size(step: &Step<'_>) -> bool
+    requires { IsTrue (is_served_deed (deed_of step.now.deed)) }
+    ensures { (past : Past) → result ≡ sizes.breaks_memory_size past (point_of step.now) }
+{
     match step.deed {
         Deed::Host(Entry::Buffer { info, .. }) => info.size > GREATEST_MEMORY,
         _ => false,
@@ -121,7 +187,10 @@ pub fn breaks_memory_size(step: &Step<'_>) -> bool {
 }
 
 /// MAP_STATE: a read of a buffer that isn't mapped. A dedicated buffer may be mapped again.
-pub fn breaks_map_state(history: &History<'_>, step: &Step<'_>) -> bool {
+pub fn breaks_map_state(history: &History<'_>, step: &Step<'_>) -> bool
+    requires { IsTrue (is_served_deed (deed_of step.now.deed)) }
+    ensures { result ≡ reads_unmapped (past history.now) (deed_of step.now.deed) }
+{
     match step.deed {
         Deed::Host(Entry::Read { buffer, .. }) => !history.is_mapped(*buffer),
         _ => false,
@@ -129,15 +198,20 @@ pub fn breaks_map_state(history: &History<'_>, step: &Step<'_>) -> bool {
 }
 
 /// HOST_VISIBLE: a map of a buffer on type 0, which is local to the device.
-pub fn breaks_host_visible(history: &History<'_>, step: &Step<'_>) -> bool {
+pub fn breaks_host_visible(history: &History<'_>, step: &Step<'_>) -> bool
+    requires { IsTrue (is_served_deed (deed_of step.now.deed)) }
+    ensures { result ≡ maps_local (past history.now) (deed_of step.now.deed) }
+{
     match step.deed {
         Deed::Host(Entry::Map { buffer }) => is_device_local(history, *buffer),
         _ => false,
     }
 }
 
-fn is_device_local(history: &History<'_>, buffer: u32) -> bool {
-    match history.buffer(buffer) {
+fn is_device_local(history: &History<'_>, id: u32) -> bool
+    ensures { result ≡ holds (buffer (past history.now) id) (λ i. is_on_type_0 i.place) }
+{
+    match history.buffer(id) {
         Some(info) => match info.place {
             Place::Dedicated { memory_type } => memory_type == 0,
             _ => false,

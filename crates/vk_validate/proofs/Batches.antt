@@ -1,0 +1,65 @@
+-- Points that are laid out one after another make the plain order.
+use Rattle.std.proofs.Common.{◌≡◌, ◌≤◌, ◌<◌, ◌+◌, ℕ, List, [], ◌∷◌, ◌++◌, refl, ap, ◌∙◌, drop, length, get_or, add-one, drop-cons}
+use Rattle.std.specs.List.{fold}
+use Rattle.std.proofs.lemmas.List.{drop_all}
+use Rattle.std.proofs.lemmas.List.Sums.{fold-append}
+use Rattle.vk_model.specs.declared.entry.Batch.{Batch}
+use Rattle.vk_model.specs.declared.entry.Entry.{Entry}
+use Rattle.vk_model.specs.declared.entry.Entry.TheVariants as entry
+use Rattle.vk_model.specs.Point.{Past, Deed, Wait, Run, Signal}
+use Rattle.vk_model.specs.Order.{Turn, deeds, taken, turn, turns_from, turns_of, plain_from, plain_order, host}
+use Rattle.vk_validate.specs.declared.steps.Step.{Step}
+use Rattle.vk_validate.specs.Told.{past_of, point_of, add}
+use Rattle.vk_validate.specs.Laid.{turn_at, laid_batch, laid_batches, laid_submit, laid_entries}
+
+pub past_of-push : (ps : List Step) (p : Step) → past_of (ps ++ p ∷ []) ≡ point_of p ∷ past_of ps
+past_of-push ps p = fold-append add [] ps (p ∷ [])
+
+pub deeds-drop : {A : Type 0} (of : A → Deed) (t : Turn) (xs : List A) (k : ℕ) (d : A) (past : Past) → k < length xs → deeds of t k (drop k xs) past ≡ deeds of t (k + 1) (drop (k + 1) xs) (record { entry = t.entry; batch = t.batch; place = k; queue = t.queue; deed = of (get_or xs k d) } ∷ past)
+deeds-drop of t xs k d past lt = let e : drop k xs ≡ get_or xs k d ∷ drop (k + 1) xs = rw (add-one, drop-cons xs k d) refl in rw e refl
+
+pub deeds-all : {A : Type 0} (of : A → Deed) (t : Turn) (xs : List A) (k : ℕ) (past : Past) → length xs ≤ k → deeds of t k (drop k xs) past ≡ past
+deeds-all of t xs k past le = rw (drop_all k xs le) refl
+
+pub ruleset pushes = (deeds-drop, deeds-all, past_of-push)
+
+pub laid_batches-drop : (e q : ℕ) (bs : List Batch) (k : ℕ) (d : Batch) (past : Past) → k < length bs → laid_batches e q k (drop k bs) past ≡ laid_batches e q (k + 1) (drop (k + 1) bs) (laid_batch e k q (get_or bs k d) past)
+laid_batches-drop e q bs k d past lt = let is : drop k bs ≡ get_or bs k d ∷ drop (k + 1) bs = rw (add-one, drop-cons bs k d) refl in rw is refl
+
+pub laid_batches-all : (e q : ℕ) (bs : List Batch) (k : ℕ) (past : Past) → length bs ≤ k → laid_batches e q k (drop k bs) past ≡ past
+laid_batches-all e q bs k past le = rw (drop_all k bs le) refl
+
+pub ruleset batches_pushed = (laid_batches-drop, laid_batches-all)
+
+pub laid_entries-drop : (xs : List Entry) (k : ℕ) (d : Entry) (past : Past) → k < length xs → laid_entries k (drop k xs) past ≡ laid_entries (k + 1) (drop (k + 1) xs) (laid_submit k (get_or xs k d) (host k (get_or xs k d) ∷ past))
+laid_entries-drop xs k d past lt = let is : drop k xs ≡ get_or xs k d ∷ drop (k + 1) xs = rw (add-one, drop-cons xs k d) refl in rw is refl
+
+-- what points keep of a batch is all that they read of it
+deeds-same : {A : Type 0} (of : A → Deed) (t u : Turn) → t.entry ≡ u.entry → t.batch ≡ u.batch → t.queue ≡ u.queue → (k : ℕ) (xs : List A) (past : Past) → deeds of t k xs past ≡ deeds of u k xs past
+deeds-same of t u e b q k [] past = refl
+deeds-same of t u e b q k (x ∷ xs) past = rw (e, b, q) (deeds-same of t u e b q (k + 1) xs _)
+
+laid-taken : (p : Past) (e q k : ℕ) (b : Batch) (past : Past) → laid_batch e k q b past ≡ taken (turn p e q k b) past
+unfolding laid_batch
+laid-taken p e q k b past =
+    let t : Turn = turn_at e k q in let u : Turn = turn p e q k b in
+    deeds-same Signal t u refl refl refl 0 b.signals _
+    ∙ ap (deeds Signal u 0 b.signals) (deeds-same Run t u refl refl refl 0 b.commands _ ∙ ap (deeds Run u 0 b.commands) (deeds-same Wait t u refl refl refl 0 b.waits past))
+
+laid-turns : (p : Past) (e q k : ℕ) (bs : List Batch) (past : Past) → laid_batches e q k bs past ≡ fold (λ p t. taken t p) past (turns_from p e q k bs)
+laid-turns p e q k [] past = refl
+laid-turns p e q k (b ∷ bs) past = ap (laid_batches e q (k + 1) bs) (laid-taken p e q k b past) ∙ laid-turns p e q (k + 1) bs _
+
+laid-of : (p : Past) (e : ℕ) (x : Entry) (past : Past) → laid_submit e x past ≡ fold (λ p t. taken t p) past (turns_of p e x)
+laid-of p e (entry.Submit q bs) past = laid-turns p e q 0 bs past
+laid-of p e _ past = refl
+
+pub laid-plain : (e : ℕ) (xs : List Entry) (past : Past) → laid_entries e xs past ≡ plain_from e past xs
+laid-plain e [] past = refl
+laid-plain e (x ∷ xs) past = ap (laid_entries (e + 1) xs) (laid-of past e x (host e x ∷ past)) ∙ laid-plain (e + 1) xs _
+
+-- when all entries are laid out, the plain order is
+pub laid_entries-all : (xs : List Entry) (k : ℕ) (past : Past) → length xs ≤ k → laid_entries k (drop k xs) past ≡ laid_entries 0 xs [] → past ≡ plain_order xs
+laid_entries-all xs k past le is = (rw (drop_all k xs le) at is) ∙ laid-plain 0 xs []
+
+pub ruleset entries_pushed = (laid_entries-drop, laid_entries-all, past_of-push)

@@ -1,0 +1,121 @@
+-- Rules that need what a past of served forms has made.
+use Rattle.std.proofs.Common.{◌≡◌, ◌+◌, ℕ, List, [], ◌∷◌, Bool, true, false, not, ◌||◌, ◌==◌, nat_lt, cond, refl, ap, ◌∙◌, arith, Option, Some, None}
+use Rattle.std.specs.Prelude.{is_some, option_and_then, count_by}
+use Rattle.std.specs.List.{list_any, list_all, filter, filter_map}
+use Rattle.std.proofs.lemmas.Bool.Decides.{nat_tests}
+use Rattle.std.proofs.lemmas.List.Sums.{sum_by-cons}
+use Rattle.vk_model.specs.declared.entry.Entry.{Entry}
+use Rattle.vk_model.specs.Words.{holds, has_bits}
+use Rattle.vk_model.specs.World.{resource_at}
+use Rattle.vk_model.specs.Node.{acts}
+use Rattle.vk_model.specs.Access.{writes_of}
+use Rattle.vk_model.specs.Point.{Past, Point, Deed, Host, Run, entries}
+use Rattle.vk_model.specs.Objects.{made, made_by, live, buffer, buffer_in, resource_in, type_at, is_of_type, defrag_in}
+use Rattle.vk_model.specs.RulesSizes.{lacks, layout_lacks, breaks_usage}
+use Rattle.vk_model.specs.RulesMapping.{mapping, maps, unmaps, count_for, is_mapped, breaks_map_state, breaks_host_visible}
+use Rattle.vk_model.specs.RulesPasses.{some_pass, in_pass, breaks_pass_state, breaks_pass_write}
+use Rattle.vk_validate.specs.Served.{is_served, is_served_deed, is_served_entry}
+use Rattle.vk_validate.specs.Tests.{is_on_type_0, lacks_usage, reads_unmapped, maps_local}
+use Rattle.vk_validate.specs.Tabled.{was_mapped}
+use Rattle.vk_validate.proofs.Barriers.{memory_any}
+use Rattle.vk_validate.proofs.Forms.{entry_cases, command_cases, deed_cases}
+use Rattle.vk_validate.proofs.Pasts.{and-true, served_entries, made_served, live_made, none_bound, none_moves, maps_itself}
+
+pub any_none : {A : Type 0} (f : A → Bool) → ((x : A) → f x ≡ false) → (xs : List A) → list_any f xs ≡ false
+any_none f none [] = refl
+any_none f none (x ∷ xs) = rw (none x) (any_none f none xs)
+
+filter_none : {A : Type 0} (f : A → Bool) → ((x : A) → f x ≡ false) → (xs : List A) → filter f xs ≡ []
+filter_none f none [] = refl
+filter_none f none (x ∷ xs) = rw (none x) (filter_none f none xs)
+
+-- a count is above 0 where some entry passes
+count_any : (f g : Entry → Bool) → ((x : Entry) → f x ≡ g x) → (xs : List Entry) → nat_lt 0 (count_by f xs) ≡ list_any g xs
+count_any f g same [] = refl
+count_any f g same (x ∷ xs) = ap (nat_lt 0) (sum_by-cons (λ x. cond (f x) 1 0) x xs) ∙ ap (λ b. nat_lt 0 (cond b 1 0 + count_by f xs)) (same x) ∙ go (g x) (count_any f g same xs) where
+  go : (b : Bool) → nat_lt 0 (count_by f xs) ≡ list_any g xs → nat_lt 0 (cond b 1 0 + count_by f xs) ≡ (b || list_any g xs)
+  go true e = grind (arith, nat_tests)
+  go false e = ap (λ n. nat_lt 0 n) (let zero_left : 0 + count_by f xs ≡ count_by f xs = omega arith in zero_left) ∙ e
+
+count_none : (f : Entry → Bool) → ((x : Entry) → is_served_entry x ≡ true → f x ≡ false) → (xs : List Entry) → list_all is_served_entry xs ≡ true → count_by f xs ≡ 0
+count_none f none [] all = refl
+count_none f none (x ∷ xs) all = let h = and-true (is_served_entry x) (list_all is_served_entry xs) all in sum_by-cons (λ x. cond (f x) 1 0) x xs ∙ ap (λ b. cond b 1 0 + count_by f xs) (none x h.0) ∙ ap (λ n. 0 + n) (count_none f none xs h.1)
+
+holds_then : {A B : Type 0} (f : A → Option B) (o : Option A) → holds o (λ x. is_some (f x)) ≡ is_some (option_and_then f o)
+holds_then f None = refl
+holds_then f (Some x) = refl
+
+or_false : (b : Bool) → (b || false) ≡ b
+or_false true = refl
+or_false false = refl
+
+module _ (past : Past) (served : is_served past ≡ true) where
+  -- a served past's mapping counts only the maps
+  mapped_once : (b : ℕ) → is_mapped past b ≡ was_mapped past b
+  mapped_once b =
+      let none : count_for past b unmaps ≡ 0 = count_none (λ x. holds (unmaps x) (λ c. mapping past c == mapping past b)) (let P : Entry → Type 0 = λ x. holds (unmaps x) (λ c. mapping past c == mapping past b) ≡ false in entry_cases P (λ i b t is other. refl) (λ b. refl) (λ b o n. refl) (λ i v. refl) (λ ws. refl) (λ bs. refl)) (entries past) (served_entries past served) in
+      rw none (count_any _ _ (λ x. same (maps x)) (entries past))
+    where
+      same : (o : Option ℕ) → holds o (λ c. mapping past c == mapping past b) ≡ holds o (λ c. c == b)
+      same None = refl
+      same (Some c) = rw (maps_itself past served c, maps_itself past served b) refl
+
+  no_pass_open : some_pass past ≡ false
+  no_pass_open = ap (list_any (in_pass past)) (filter_none _ none (filter_map made_by (entries past))) where
+    by_made : (i : ℕ) (o : Option Entry) → made past i ≡ o → is_some (option_and_then defrag_in o) ≡ false
+    by_made i None e = refl
+    by_made i (Some x) e = let P : Entry → Type 0 = λ x. is_some (defrag_in x) ≡ false in entry_cases P (λ i b t is other. refl) (λ b. refl) (λ b o n. refl) (λ i v. refl) (λ ws. refl) (λ bs. refl) x (made_served past served i x e)
+
+    none : (i : ℕ) → is_some (option_and_then defrag_in (live past i)) ≡ false
+    none i = rw (live_made past served i) (by_made i (made past i) refl)
+
+  -- what has a type is a buffer
+  on_type_0 : (b : ℕ) → is_of_type past 0 b ≡ holds (buffer past b) (λ i. is_on_type_0 i.place)
+  on_type_0 b = go (made past b) refl where
+    by_form : (x : Entry) → is_served_entry x ≡ true → holds (option_and_then (λ r. type_at past r.place) (resource_in x)) (λ u. u == 0) ≡ holds (buffer_in x) (λ i. is_on_type_0 i.place)
+    by_form = let P : Entry → Type 0 = λ x. holds (option_and_then (λ r. type_at past r.place) (resource_in x)) (λ u. u == 0) ≡ holds (buffer_in x) (λ i. is_on_type_0 i.place) in entry_cases P (λ i b t is other. rw is refl) (λ b. refl) (λ b o n. refl) (λ i v. refl) (λ ws. refl) (λ bs. refl)
+
+    go : (o : Option Entry) → made past b ≡ o → holds (option_and_then (λ r. type_at past r.place) (option_and_then resource_in o)) (λ u. u == 0) ≡ holds (option_and_then buffer_in o) (λ i. is_on_type_0 i.place)
+    go None e = refl
+    go (Some x) e = by_form x (made_served past served b x e)
+
+  lacks_destination : (b : ℕ) → lacks past 2 b ≡ not (holds (buffer past b) (λ i. has_bits i.usage.0 2))
+  lacks_destination b = go (made past b) refl where
+    by_form : (x : Entry) → is_served_entry x ≡ true → not (holds (resource_in x) (λ r. has_bits r.usage 2)) ≡ not (holds (buffer_in x) (λ i. has_bits i.usage.0 2))
+    by_form = let P : Entry → Type 0 = λ x. not (holds (resource_in x) (λ r. has_bits r.usage 2)) ≡ not (holds (buffer_in x) (λ i. has_bits i.usage.0 2)) in entry_cases P (λ i b t is other. refl) (λ b. refl) (λ b o n. refl) (λ i v. refl) (λ ws. refl) (λ bs. refl)
+
+    go : (o : Option Entry) → made past b ≡ o → not (holds (option_and_then resource_in o) (λ r. has_bits r.usage 2)) ≡ not (holds (option_and_then buffer_in o) (λ i. has_bits i.usage.0 2))
+    go None e = refl
+    go (Some x) e = by_form x (made_served past served b x e)
+
+  module _ (p : Point) (now : is_served_deed p.deed ≡ true) where
+    pub usage_is : breaks_usage past p ≡ lacks_usage past p.deed
+    usage_is =
+        let P : Deed → Type 0 = λ d. breaks_usage past (record p { deed = d }) ≡ lacks_usage past d in
+        deed_cases P (entry_cases (λ x. P (Host x)) (λ i b t is other. or_false _) (λ b. refl) (λ b o n. refl) (λ i v. refl) (λ ws. refl) (λ bs. refl))
+        (command_cases (λ c. P (Run c)) (λ b o n w. rw (lacks_destination b) (two _)) (λ es all. memory_any (layout_lacks past) (λ d. refl) es all)) (λ s. refl) p.deed now
+      where
+        two : (b : Bool) → ((b || false) || false) ≡ b
+        two true = refl
+        two false = refl
+
+    pub map_state_is : breaks_map_state past p ≡ reads_unmapped past p.deed
+    map_state_is =
+        let P : Deed → Type 0 = λ d. breaks_map_state past (record p { deed = d }) ≡ reads_unmapped past d in
+        deed_cases P (entry_cases (λ x. P (Host x)) (λ i b t is other. refl) (λ b. rw (none_bound past served b) refl) (λ b o n. ap not (mapped_once b)) (λ i v. refl) (λ ws. refl) (λ bs. refl))
+        (command_cases (λ c. P (Run c)) (λ b o n w. refl) (λ es all. refl)) (λ s. refl) p.deed now
+
+    pub host_visible_is : breaks_host_visible past p ≡ maps_local past p.deed
+    host_visible_is =
+        let P : Deed → Type 0 = λ d. breaks_host_visible past (record p { deed = d }) ≡ maps_local past d in
+        deed_cases P (entry_cases (λ x. P (Host x)) (λ i b t is other. refl) (λ b. on_type_0 b) (λ b o n. refl) (λ i v. refl) (λ ws. refl) (λ bs. refl))
+        (command_cases (λ c. P (Run c)) (λ b o n w. refl) (λ es all. refl)) (λ s. refl) p.deed now
+
+    pub no_pass_state : breaks_pass_state past p ≡ false
+    no_pass_state =
+        let P : Deed → Type 0 = λ d. breaks_pass_state past (record p { deed = d }) ≡ false in
+        deed_cases P (entry_cases (λ x. P (Host x)) (λ i b t is other. rw no_pass_open refl) (λ b. rw no_pass_open refl) (λ b o n. rw no_pass_open refl) (λ i v. rw no_pass_open refl) (λ ws. rw no_pass_open refl) (λ bs. rw no_pass_open refl))
+        (command_cases (λ c. P (Run c)) (λ b o n w. refl) (λ es all. refl)) (λ s. refl) p.deed now
+
+    pub no_pass_write : breaks_pass_write past p ≡ false
+    no_pass_write = any_none _ (λ a. any_none _ (λ b. none_moves past served (resource_at b)) (writes_of past p.queue a)) (acts p.deed)

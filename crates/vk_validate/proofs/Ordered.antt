@@ -1,0 +1,181 @@
+-- SIGNAL_ORDER and HAZARD_WAR: what is always ordered on one queue.
+use Rattle.std.proofs.Common.{◌≡◌, ◌<◌, ◌+◌, ℕ, List, [], ◌∷◌, map, length, Bool, true, false, not, ◌&&◌, ◌||◌, ◌==◌, refl, ap, sym, ◌∙◌, subst, arith, Option, Some, None, inl, inr, ◌⊎◌}
+use Rattle.std.specs.Prelude.{Contains}
+use Rattle.std.specs.List.{list_any}
+use Rattle.std.proofs.lemmas.Bool.{eq-eqb, lt-ltb}
+use Rattle.vk_model.specs.declared.command.Cmd.TheVariants as cmd
+use Rattle.vk_model.specs.declared.command.Element.{Element}
+use Rattle.vk_model.specs.declared.entry.Entry.{Entry}
+use Rattle.vk_model.specs.declared.entry.Entry.TheVariants as entry
+use Rattle.vk_model.specs.Words.{holds}
+use Rattle.vk_model.specs.Point.{Past, Point, Deed, Host, Wait, Run, Signal, host_of}
+use Rattle.vk_model.specs.Node.{Node, Act, Hosts, Waits, Signals, Runs, Depends, Barrier, acts, nodes, with_acts}
+use Rattle.vk_model.specs.Edge.{edge, signaled_by, is_host, is_signal, is_submit, by_host, by_stages, by_signal, by_all_commands, pairs, by_semaphore, earlier}
+use Rattle.vk_model.specs.Before.{before, Path, direct}
+use Rattle.vk_model.specs.RulesSync.{same_semaphore, breaks_signal_order}
+use Rattle.vk_validate.specs.Served.{is_served, is_served_deed}
+use Rattle.vk_validate.proofs.Forms.{command_cases, deed_cases}
+use Rattle.vk_validate.proofs.Pasts.{served-cons}
+use Rattle.vk_validate.proofs.Judged.{any_none}
+use Rattle.vk_validate.proofs.Plain.{IsPlain, LastSubmit, LastBy, IsSubmitOn}
+use Rattle.vk_validate.proofs.Growth.{contains-cons, contains-head, numbered, number_below, none_passes_any}
+use Rattle.vk_validate.proofs.Paths.{before_of_path, joined}
+use Rattle.vk_validate.proofs.NextNodes.{lined, next_nodes-lined}
+use Rattle.vk_validate.proofs.Acts.{with_member, with_keeps, batch_acts, all_passes, on_queue_0, signals_none, signals_by}
+
+pub third : (a b c d e f : Bool) → c ≡ true → (a || b || c || d || e || f) ≡ true
+third true b c d e f h = refl
+third false true c d e f h = refl
+third false false true d e f h = refl
+third false false false d e f h = absurd cc
+
+first : (a b c d e f : Bool) → a ≡ true → (a || b || c || d || e || f) ≡ true
+first true b c d e f h = refl
+first false b c d e f h = absurd cc
+
+-- ---- SIGNAL_ORDER
+
+pub signal_edge : (ns : List Node) (m n : Node) → m.number < n.number → is_signal m.act ≡ true → is_signal n.act ≡ true → m.point.queue ≡ n.point.queue → edge ns m n ≡ true
+unfolding edge
+signal_edge ns m n lt sm sn q = rw (lt-ltb m.number n.number lt) (third (by_host m n) (by_stages m n) (by_signal m n) (by_all_commands m n) (pairs m.act n.act) (by_semaphore (earlier n ns) m n) (rw (on_queue m.act sm, on_queue n.act sn, eq-eqb m.point.queue n.point.queue q, sm, sn) refl)) where
+  on_queue : (a : Act) → is_signal a ≡ true → is_host a ≡ false
+  on_queue (Signals s) h = refl
+  on_queue (Hosts x) h = absurd cc
+  on_queue (Waits s) h = absurd cc
+  on_queue (Runs c) h = absurd cc
+  on_queue (Depends r e) h = absurd cc
+
+host_is_no_signal : (a : Act) → is_signal a ≡ true → is_host a ≡ false
+host_is_no_signal (Signals s) h = refl
+host_is_no_signal (Hosts x) h = absurd cc
+host_is_no_signal (Waits s) h = absurd cc
+host_is_no_signal (Runs c) h = absurd cc
+host_is_no_signal (Depends r e) h = absurd cc
+
+module _ (past : Past) (p : Point) (served : is_served past ≡ true) (now : is_served_deed p.deed ≡ true) (plain : IsPlain (p ∷ past)) where
+  pub served_all : is_served (p ∷ past) ≡ true
+  unfolding is_served
+  served_all = rw (now, served) refl
+
+  -- a signal of an earlier point comes before a signal of this one
+  ordered_signals : (n : Node) → n.number ≡ length (nodes past) → Contains (nodes (p ∷ past)) n → is_signal n.act ≡ true → (m : Node) → Contains (nodes past) m → (same_semaphore m n && not (before (nodes (p ∷ past)) m n)) ≡ false
+  ordered_signals n here cn sn m cm = go (signaled_by m.act) refl where
+    go : (o : Option (ℕ × ℕ)) → signaled_by m.act ≡ o → (holds o (λ x. holds (signaled_by n.act) (λ y. x.0 == y.0)) && not (before (nodes (p ∷ past)) m n)) ≡ false
+    go None e = refl
+    go (Some x) e =
+        let sm : is_signal m.act ≡ true = signals_by past served m cm x e in
+        let all : Contains (nodes (p ∷ past)) m = with_keeps p (acts p.deed) (nodes past) m cm in
+        let qm : m.point.queue ≡ 0 = on_queue_0 (p ∷ past) served_all plain m all (host_is_no_signal m.act sm) in
+        let qn : n.point.queue ≡ 0 = on_queue_0 (p ∷ past) served_all plain n cn (host_is_no_signal n.act sn) in
+        let low : m.number < length (nodes past) = number_below (nodes past) (numbered past) m cm in
+        let is : before (nodes (p ∷ past)) m n ≡ true = before_of_path (nodes (p ∷ past)) (numbered (p ∷ past)) m n all cn (direct all cn (signal_edge (nodes (p ∷ past)) m n (omega arith) sm sn (qm ∙ sym qn))) in
+        rw is (and_false _)
+      where
+        and_false : (b : Bool) → (b && false) ≡ false
+        and_false true = refl
+        and_false false = refl
+
+no_values : (m : Node) (b : Bool) → (holds (signaled_by m.act) (λ x. false) && b) ≡ false
+no_values m b = go (signaled_by m.act) where
+  go : (o : Option (ℕ × ℕ)) → (holds o (λ x. false) && b) ≡ false
+  go None = refl
+  go (Some x) = refl
+
+pub no_signal_order : (past : Past) (p : Point) → is_served past ≡ true → is_served_deed p.deed ≡ true → IsPlain (p ∷ past) → breaks_signal_order past p ≡ false
+no_signal_order past p served now plain = rw (next_nodes-lined past p) (by_deed p.deed now refl) where
+  none_of : (n : Node) → signaled_by n.act ≡ None → list_any (λ m. same_semaphore m n && not (before (nodes (p ∷ past)) m n)) (nodes past) ≡ false
+  none_of n is = any_none _ (λ m. rw is (no_values m _)) (nodes past)
+
+  elements : (es : List Element) (k : ℕ) → list_any (λ n. list_any (λ m. same_semaphore m n && not (before (nodes (p ∷ past)) m n)) (nodes past)) (lined p k (map (Depends Barrier) es)) ≡ false
+  elements [] k = refl
+  elements (e ∷ es) k = rw (none_of (record { number = k; point = p; act = Depends Barrier e }) refl) (elements es (k + 1))
+
+  or_none : (b : Bool) → b ≡ false → (b || false) ≡ false
+  or_none b e = rw e refl
+
+  head_is : (d : Deed) (a : Act) → p.deed ≡ d → acts d ≡ a ∷ [] → Contains (nodes (p ∷ past)) (record { number = length (nodes past); point = p; act = a })
+  head_is d a e f = rw (e, f) (contains-head _ _)
+
+  by_deed : (d : Deed) → is_served_deed d ≡ true → p.deed ≡ d → list_any (λ n. list_any (λ m. same_semaphore m n && not (before (nodes (p ∷ past)) m n)) (nodes past)) (lined p (length (nodes past)) (acts d)) ≡ false
+  by_deed = let P : Deed → Type 0 = λ d. p.deed ≡ d → list_any (λ n. list_any (λ m. same_semaphore m n && not (before (nodes (p ∷ past)) m n)) (nodes past)) (lined p (length (nodes past)) (acts d)) ≡ false in
+      deed_cases P
+      (λ x h is. or_none _ (none_of (record { number = length (nodes past); point = p; act = Hosts x }) (signals_none x h)))
+      (command_cases (λ c. P (Run c)) (λ b o n w is. or_none _ (none_of (record { number = length (nodes past); point = p; act = Runs (cmd.Fill b o n w) }) refl)) (λ es all is. elements es (length (nodes past))))
+      (λ s is. or_none _ (none_passes_any _ (nodes past) (λ m c. ordered_signals past p served now plain (record { number = length (nodes past); point = p; act = Signals s }) refl (head_is (Signal s) (Signals s) is refl) refl m c)))
+
+-- ---- HAZARD_WAR
+
+-- the submit of a batch stands among the nodes, and no host entry came after it
+pub record Submitted (e : ℕ) (ns : List Node) : Type 0 where
+  pub node : Node
+  pub stands : Contains ns node
+  pub submits : is_submit node.act ≡ true
+  pub entry_is : node.point.entry ≡ e
+  pub newest : (x : Node) → Contains ns x → is_host x.act ≡ true → (x ≡ node) ⊎ (x.number < node.number)
+
+submit_is : (q : ℕ) (x : Entry) → IsSubmitOn q x → is_submit (Hosts x) ≡ true
+submit_is q (entry.Submit r bs) h = refl
+submit_is q _ h = absurd h
+
+pub submitted : (e q : ℕ) (past : Past) → is_served past ≡ true → LastSubmit e q past → Submitted e (nodes past)
+submitted e q [] served last = absurd last
+submitted e q (p ∷ past) served last = let s = served-cons p past served in go p.deed s.0 last (submitted e q past s.1) where
+  later : (d : Deed) → is_served_deed d ≡ true → host_of d ≡ None → Submitted e (nodes past) → Submitted e (with_acts p (acts d) (nodes past))
+  later d h is found = record {
+    node = found.node;
+    stands = with_keeps p (acts d) (nodes past) found.node found.stands;
+    submits = found.submits;
+    entry_is = found.entry_is;
+    newest = λ x c host. elim (with_member p (acts d) (nodes past) x c) [
+      | inl older ↦ found.newest x older host
+      | inr new ↦ absurd (let b = all_passes (λ a. not (is_host a)) (acts d) x.act (batch_acts d h is) new.1 in let bad : not true ≡ true = ap not (sym host) ∙ b in cc)
+    ];
+  }
+
+  go : (d : Deed) → is_served_deed d ≡ true → LastBy (host_of d) e q p (LastSubmit e q past) → (LastSubmit e q past → Submitted e (nodes past)) → Submitted e (with_acts p (acts d) (nodes past))
+  go (Host x) h last rest = record {
+    node = record { number = length (nodes past); point = p; act = Hosts x };
+    stands = contains-head _ _;
+    submits = submit_is q x last.1;
+    entry_is = last.0;
+    newest = λ y c host. elim (contains-cons (record { number = length (nodes past); point = p; act = Hosts x }) (nodes past) y c) [
+      | inl same ↦ inl (sym same)
+      | inr older ↦ inr (number_below (nodes past) (numbered past) y older)
+    ];
+  }
+  go (Wait s) h last rest = later (Wait s) h refl (rest last)
+  go (Run c) h last rest = later (Run c) h refl (rest last)
+  go (Signal s) h last rest = later (Signal s) h refl (rest last)
+
+pub submit_hosts : (a : Act) → is_submit a ≡ true → is_host a ≡ true
+submit_hosts (Hosts x) h = refl
+submit_hosts (Waits s) h = absurd cc
+submit_hosts (Signals s) h = absurd cc
+submit_hosts (Runs c) h = absurd cc
+submit_hosts (Depends r e) h = absurd cc
+
+pub host_edge : (ns : List Node) (m n : Node) → m.number < n.number → by_host m n ≡ true → edge ns m n ≡ true
+unfolding edge
+host_edge ns m n lt is = rw (lt-ltb m.number n.number lt) (first (by_host m n) (by_stages m n) (by_signal m n) (by_all_commands m n) (pairs m.act n.act) (by_semaphore (earlier n ns) m n) is)
+
+pub hosts_follow : (m n : Node) → is_host m.act ≡ true → is_host n.act ≡ true → by_host m n ≡ true
+hosts_follow m n a b = rw (a, b) refl
+
+pub submit_leads : (m n : Node) → is_submit m.act ≡ true → m.point.entry ≡ n.point.entry → by_host m n ≡ true
+submit_leads m n a e = go (is_host m.act && is_host n.act) where
+  go : (b : Bool) → (b || is_submit m.act && m.point.entry == n.point.entry) ≡ true
+  go true = refl
+  go false = rw (a, eq-eqb m.point.entry n.point.entry e) refl
+
+-- a host entry comes before the later batches
+pub host_before : (past : Past) (p : Point) (y : Node) → is_served past ≡ true → LastSubmit p.entry p.queue past → y.point ≡ p → y.number ≡ length (nodes past) → Contains (nodes (p ∷ past)) y → (x : Node) → Contains (nodes past) x → is_host x.act ≡ true → before (nodes (p ∷ past)) x y ≡ true
+host_before past p y served last at here cy x cx host =
+    let s = submitted p.entry p.queue past served last in
+    let ns : List Node = nodes (p ∷ past) in
+    let kept : (n : Node) → Contains (nodes past) n → Contains ns n = with_keeps p (acts p.deed) (nodes past) in
+    let low : s.node.number < length (nodes past) = number_below (nodes past) (numbered past) s.node s.stands in
+    let on : Path ns s.node y = direct (kept s.node s.stands) cy (host_edge ns s.node y (omega arith) (submit_leads s.node y s.submits (s.entry_is ∙ ap (λ (q : Point). q.entry) (sym at)))) in
+    before_of_path ns (numbered (p ∷ past)) x y (kept x cx) cy (elim (s.newest x cx host) [
+      | inl same ↦ subst (λ (n : Node). Path ns n y) (sym same) on
+      | inr less ↦ joined ns x s.node y (direct (kept x cx) (kept s.node s.stands) (host_edge ns x s.node less (hosts_follow x s.node host (submit_hosts s.node.act s.submits)))) on
+    ])

@@ -1,0 +1,87 @@
+-- What holds of a past whose points are all of forms that are served.
+use Rattle.std.proofs.Common.{◌≡◌, ℕ, List, [], ◌∷◌, Bool, true, false, ◌&&◌, ◌==◌, cond, refl, ap, sym, ◌∙◌, Option, Some, None}
+use Rattle.std.specs.Prelude.{option_and_then, option_map}
+use Rattle.std.specs.List.{list_any, list_all, find, cons_option}
+use Rattle.vk_model.specs.declared.entry.Entry.{Entry}
+use Rattle.vk_model.specs.declared.resource.BufferInfo.{BufferInfo}
+use Rattle.vk_model.specs.declared.resource.Place.TheVariants as place
+use Rattle.vk_model.specs.Words.{holds, among}
+use Rattle.vk_model.specs.Point.{Past, Point, Deed, Host, Wait, Run, Signal, entries, host_of}
+use Rattle.vk_model.specs.Objects.{made, made_by, ended, ended_by, live, buffer, buffer_in, resource, resource_in, Resource, of_buffer, memory_of, pool_of, bound_at, pool_at}
+use Rattle.vk_model.specs.RulesMapping.{mapping}
+use Rattle.vk_model.specs.RulesPasses.{moves_now}
+use Rattle.vk_validate.specs.Served.{is_served, is_served_deed, is_served_entry}
+use Rattle.vk_validate.proofs.Forms.{entry_cases}
+
+pub and-true : (a b : Bool) → (a && b) ≡ true → (a ≡ true) × (b ≡ true)
+and-true true b e = (refl, e)
+and-true false b e = absurd cc
+
+pub served-cons : (p : Point) (past : Past) → is_served (p ∷ past) ≡ true → (is_served_deed p.deed ≡ true) × (is_served past ≡ true)
+unfolding is_served
+served-cons p past e = and-true (is_served_deed p.deed) _ e
+
+-- the host entries of a served past are served
+pub served_entries : (past : Past) → is_served past ≡ true → list_all is_served_entry (entries past) ≡ true
+served_entries [] e = refl
+served_entries (p ∷ past) e = let s = served-cons p past e in go p.deed s.0 (served_entries past s.1) where
+  go : (d : Deed) → is_served_deed d ≡ true → list_all is_served_entry (entries past) ≡ true → list_all is_served_entry (cons_option (host_of d) (entries past)) ≡ true
+  go (Host x) h rest = rw (h, rest) refl
+  go (Wait s) h rest = rest
+  go (Run c) h rest = rest
+  go (Signal s) h rest = rest
+
+-- what is found among entries that all pass a test passes it
+found_passes : (test : Entry → Bool) (pick : Entry → Bool) (xs : List Entry) (x : Entry) → list_all test xs ≡ true → find pick xs ≡ Some x → test x ≡ true
+found_passes test pick [] x all is = absurd cc
+found_passes test pick (y ∷ ys) x all is = go (pick y) is (and-true (test y) (list_all test ys) all) (found_passes test pick ys x) where
+  go : (b : Bool) → cond b (Some y) (find pick ys) ≡ Some x → (test y ≡ true) × (list_all test ys ≡ true) → (list_all test ys ≡ true → find pick ys ≡ Some x → test x ≡ true) → test x ≡ true
+  go true e h rest = let same : y ≡ x = cc in ap test (sym same) ∙ h.0
+  go false e h rest = rest h.1 e
+
+-- no entry passes a test that no served one does
+none_of : (test : Entry → Bool) → ((x : Entry) → is_served_entry x ≡ true → test x ≡ false) → (xs : List Entry) → list_all is_served_entry xs ≡ true → list_any test xs ≡ false
+none_of test none [] all = refl
+none_of test none (x ∷ xs) all = let h = and-true (is_served_entry x) (list_all is_served_entry xs) all in rw (none x h.0) (none_of test none xs h.1)
+
+none_ends : (i : ℕ) (x : Entry) → is_served_entry x ≡ true → among i (ended_by x) ≡ false
+none_ends i = let P : Entry → Type 0 = λ x. among i (ended_by x) ≡ false in entry_cases P (λ i b t is other. refl) (λ b. refl) (λ b o n. refl) (λ i v. refl) (λ ws. refl) (λ bs. refl)
+
+module _ (past : Past) (served : is_served past ≡ true) where
+  pub made_served : (i : ℕ) (x : Entry) → made past i ≡ Some x → is_served_entry x ≡ true
+  made_served i x is = found_passes is_served_entry (λ x. holds (made_by x) (λ j. i == j)) (entries past) x (served_entries past served) is
+
+  pub none_ended : (i : ℕ) → ended past i ≡ false
+  none_ended i = none_of (λ x. among i (ended_by x)) (none_ends i) (entries past) (served_entries past served)
+
+  pub live_made : (i : ℕ) → live past i ≡ made past i
+  live_made i = rw (none_ended i) refl
+
+  -- a resource is a buffer in memory of its own
+  pub resource_own : (i : ℕ) (r : Resource) → resource past i ≡ Some r → (t : ℕ) × (b : BufferInfo) × (r.place ≡ place.Dedicated t) × (buffer past i ≡ Some b) × (r ≡ of_buffer b)
+  resource_own i r is = go (made past i) refl is where
+    go : (o : Option Entry) → made past i ≡ o → option_and_then resource_in o ≡ Some r → (t : ℕ) × (b : BufferInfo) × (r.place ≡ place.Dedicated t) × (option_and_then buffer_in o ≡ Some b) × (r ≡ of_buffer b)
+    go None e h = absurd cc
+    go (Some x) e h = by_form x (made_served i x e) h where
+      by_form : (x : Entry) → is_served_entry x ≡ true → resource_in x ≡ Some r → (t : ℕ) × (b : BufferInfo) × (r.place ≡ place.Dedicated t) × (buffer_in x ≡ Some b) × (r ≡ of_buffer b)
+      by_form = let P : Entry → Type 0 = λ x. resource_in x ≡ Some r → (t : ℕ) × (b : BufferInfo) × (r.place ≡ place.Dedicated t) × (buffer_in x ≡ Some b) × (r ≡ of_buffer b) in
+          entry_cases P (λ i b t is other h. let same : of_buffer b ≡ r = cc in (t, b, ap (λ (q : Resource). q.place) (sym same) ∙ is, refl, sym same)) (λ b h. absurd cc) (λ b o n h. absurd cc) (λ i v h. absurd cc) (λ ws h. absurd cc) (λ bs h. absurd cc)
+
+  -- so it's in no pool, and bound to no memory object
+  pub none_bound : (i : ℕ) → memory_of past i ≡ None
+  none_bound i = go (resource past i) refl where
+    go : (o : Option Resource) → resource past i ≡ o → option_and_then (λ r. option_map (λ x. x.0) (bound_at r.place)) o ≡ None
+    go None e = refl
+    go (Some r) e = let own = resource_own i r e in rw own.2 refl
+
+  pub none_pooled : (i : ℕ) → pool_of past i ≡ None
+  none_pooled i = go (resource past i) refl where
+    go : (o : Option Resource) → resource past i ≡ o → option_and_then (λ r. pool_at r.place) o ≡ None
+    go None e = refl
+    go (Some r) e = let own = resource_own i r e in rw own.2 refl
+
+  pub none_moves : (i : ℕ) → moves_now past i ≡ false
+  none_moves i = rw (none_pooled i) refl
+
+  pub maps_itself : (i : ℕ) → mapping past i ≡ i
+  maps_itself i = rw (none_bound i) refl

@@ -1,0 +1,84 @@
+-- In plain order the points of a batch follow their submit, with no other host entry between.
+use Rattle.std.proofs.Common.{◌≡◌, ◌+◌, ℕ, List, [], ◌∷◌, Bool, true, false, ◌&&◌, ◌==◌, refl, sym, subst, Option, Some, None, eq-eqb}
+use Rattle.std.specs.Prelude.{⊤, is_some, if◌then◌else◌}
+use Rattle.std.specs.List.{fold, find, cons_option}
+use Rattle.vk_model.specs.declared.entry.Batch.{Batch}
+use Rattle.vk_model.specs.declared.entry.Entry.{Entry}
+use Rattle.vk_model.specs.declared.entry.Entry.TheVariants as entry
+use Rattle.vk_model.specs.Words.{holds}
+use Rattle.vk_model.specs.Point.{Past, Point, Deed, Wait, Run, Signal, host_of, entries}
+use Rattle.vk_model.specs.Objects.{made, made_by}
+use Rattle.vk_model.specs.Order.{Turn, deeds, taken, turn, turns_from, turns_of, plain_from, plain_order, host}
+use Rattle.vk_model.specs.RulesIds.{until}
+
+-- an entry is a submit on a queue
+abbrev pub IsSubmitOn : ℕ → Entry → Type 0
+IsSubmitOn q (entry.Submit r bs) = q ≡ r
+IsSubmitOn q _ = ⊥
+
+-- the newest host entry of a past is submit number e on queue q
+abbrev pub LastBy : Option Entry → ℕ → ℕ → Point → Type 0 → Type 0
+LastBy (Some x) e q p older = (p.entry ≡ e) × IsSubmitOn q x
+LastBy None e q p older = older
+
+abbrev pub LastSubmit : ℕ → ℕ → Past → Type 0
+LastSubmit e q [] = ⊥
+LastSubmit e q (p ∷ past) = LastBy (host_of p.deed) e q p (LastSubmit e q past)
+
+abbrev pub Placed : Option Entry → Point → Past → Type 0
+Placed (Some x) p past = ⊤
+Placed None p past = LastSubmit p.entry p.queue past
+
+-- each point of a batch comes so after its submit
+abbrev pub IsPlain : Past → Type 0
+IsPlain [] = ⊤
+IsPlain (p ∷ past) = Placed (host_of p.deed) p past × IsPlain past
+
+module _ {A : Type 0} (of : A → Deed) (on_queue : (x : A) → host_of (of x) ≡ None) (t : Turn) where
+  plain_deeds : (k : ℕ) (xs : List A) (past : Past) → LastSubmit t.entry t.queue past → IsPlain past → LastSubmit t.entry t.queue (deeds of t k xs past) × IsPlain (deeds of t k xs past)
+  plain_deeds k [] past last plain = (last, plain)
+  plain_deeds k (x ∷ xs) past last plain =
+      let p : Point = record { entry = t.entry; batch = t.batch; place = k; queue = t.queue; deed = of x } in
+      plain_deeds (k + 1) xs (p ∷ past) (subst (λ (o : Option Entry). LastBy o t.entry t.queue p (LastSubmit t.entry t.queue past)) (sym (on_queue x)) last) (subst (λ (o : Option Entry). Placed o p past) (sym (on_queue x)) last, plain)
+
+plain_taken : (t : Turn) (past : Past) → LastSubmit t.entry t.queue past → IsPlain past → LastSubmit t.entry t.queue (taken t past) × IsPlain (taken t past)
+plain_taken t past last plain =
+    let a = plain_deeds Wait (λ x. refl) t 0 t.content.waits past last plain in
+    let b = plain_deeds Run (λ x. refl) t 0 t.content.commands _ a.0 a.1 in
+    plain_deeds Signal (λ x. refl) t 0 t.content.signals _ b.0 b.1
+
+plain_turns : (before : Past) (e q k : ℕ) (bs : List Batch) (past : Past) → LastSubmit e q past → IsPlain past → IsPlain (fold (λ p t. taken t p) past (turns_from before e q k bs))
+plain_turns before e q k [] past last plain = plain
+plain_turns before e q k (b ∷ bs) past last plain =
+    let a = plain_taken (turn before e q k b) past last plain in
+    plain_turns before e q (k + 1) bs (taken (turn before e q k b) past) a.0 a.1
+
+plain_entry : (before : Past) (e : ℕ) (x : Entry) (past : Past) → IsPlain past → IsPlain (fold (λ p t. taken t p) (host e x ∷ past) (turns_of before e x))
+plain_entry before e (entry.Submit q bs) past plain = plain_turns before e q 0 bs (host e (entry.Submit q bs) ∷ past) (refl, refl) (tt, plain)
+plain_entry before e _ past plain = (tt, plain)
+
+plain_entries : (e : ℕ) (xs : List Entry) (past : Past) → IsPlain past → IsPlain (plain_from e past xs)
+plain_entries e [] past plain = plain
+plain_entries e (x ∷ xs) past plain = plain_entries (e + 1) xs _ (plain_entry past e x past plain)
+
+pub plain_order_plain : (xs : List Entry) → IsPlain (plain_order xs)
+plain_order_plain xs = plain_entries 0 xs [] tt
+
+-- ---- what a submit makes: nothing
+
+submit_makes : (q : ℕ) (x : Entry) → IsSubmitOn q x → made_by x ≡ None
+submit_makes q (entry.Submit r bs) h = refl
+submit_makes q _ h = absurd h
+
+-- the past in which the ids of a batch's points are judged has made what their own has
+pub made_until : (e q i : ℕ) (past : Past) → LastSubmit e q past → made (until e past) i ≡ made past i
+made_until e q i [] last = absurd last
+made_until e q i (p ∷ past) last = go (host_of p.deed) last (made_until e q i past) where
+  and_false : (b : Bool) → (b && false) ≡ false
+  and_false true = refl
+  and_false false = refl
+
+  go : (o : Option Entry) → LastBy o e q p (LastSubmit e q past) → (LastSubmit e q past → made (until e past) i ≡ made past i)
+      → made (if p.entry == e && is_some o then past else until e past) i ≡ find (λ x. holds (made_by x) (λ j. i == j)) (cons_option o (entries past))
+  go None last rest = rw (and_false (p.entry == e)) (rest last)
+  go (Some x) last rest = rw (eq-eqb p.entry e last.0, submit_makes q x last.1) refl

@@ -1,0 +1,21 @@
+use Rattle.std.proofs.Common.{◌≡◌, length, refl, sym, ap}
+use Rattle.vk_model.specs.Point.{Run}
+use Rattle.vk_validate.specs.Told.{past}
+use Rattle.vk_validate.proofs.Clears.{length-past}
+use Rattle.vk_validate.proofs.history.History.change_by_command.Goals as goal
+
+pub returns-in-Some : goal.returns-in-Some
+returns-in-Some c =
+    let count : c.self.inside.count ≡ length (past c.args.self.now) = sym (rw c.self.view_is at (length-past (record { points = c.self.inside.points.now; count = c.self.inside.count }) c.self.invariant.0)) in (
+      record { makes_none = λ x e. absurd cc; maps_none = λ x e. absurd cc; signals_none = refl },
+      record {
+        offset = c.in-Fill.offset;
+        size = c.in-Fill.size;
+        word = c.in-Fill.word;
+        is = ap Run c.in-Fill.is;
+        some = c.in-Some.ensures.some;
+        first_is = c.in-Some.ensures.first;
+        last_is = c.in-Some.ensures.last;
+      },
+      count,
+    )

@@ -1,0 +1,8 @@
+use Rattle.std.proofs.Common.{refl, sym, ap, false, ◌||◌}
+use Rattle.vk_model.specs.RulesRanges.{element_past}
+use Rattle.vk_validate.specs.Told.{past}
+use Rattle.vk_validate.proofs.Barriers.{memory_any}
+use Rattle.vk_validate.proofs.rules.commands.ends_past_buffer.Goals as goal
+
+pub returns-in-Barrier : goal.returns-in-Barrier
+returns-in-Barrier c = rw c.in-Barrier.is (sym (ap (λ b. b || false) (memory_any (element_past (past c.args.history.now)) (λ d. refl) c.in-Barrier.elements (rw c.in-Barrier.is at c.requires))))

@@ -1,0 +1,10 @@
+use Rattle.std.proofs.Common.{◌≡◌}
+use Rattle.vk_validate.specs.Told.{past}
+use Rattle.vk_validate.specs.Cleared.{IsCleared}
+use Rattle.vk_validate.proofs.verdicts.first_fault.Given as goal
+
+abbrev pub invariant-loop-step : goal.invariant-loop-step
+invariant-loop-step l = record {
+  here : l.history ≡ record { points = l.points; count = l.step-index };
+  cleared : IsCleared (past l.history);
+}

@@ -1,0 +1,54 @@
+-- What is tested of each point of a trace.
+use Rattle.std.specs.Prelude.{◌≡◌, [], ◌∷◌, Bool, true, false, Option, None, ⊤}
+use Rattle.std.specs.List.{find}
+use Rattle.vk_model.specs.declared.rule.Rule.{Rule}
+use Rattle.vk_model.specs.declared.rule.Rule.TheVariants as rule
+use Rattle.vk_model.specs.Point.{Past, Point}
+use Rattle.vk_model.specs.Rules.{rules}
+use Rattle.vk_model.specs.RulesIds.{breaks_new_id}
+use Rattle.vk_model.specs.RulesSizes.{breaks_size, breaks_memory_type, breaks_memory_size}
+use Rattle.vk_model.specs.RulesRanges.{breaks_range, breaks_align}
+use Rattle.vk_model.specs.RulesLayouts.{breaks_stage}
+use Rattle.vk_model.specs.RulesSync.{breaks_signal_value, breaks_wait_never}
+use Rattle.vk_model.specs.RulesBytes.{breaks_limit}
+use Rattle.vk_validate.specs.Served.{is_served_deed}
+use Rattle.vk_validate.specs.Tests.{names_dead, lacks_usage, reads_unmapped, maps_local, reads_unwritten}
+
+-- The test of a rule, of a point of a form that is served. Such a point can't break the rules that have none, but for HAZARD_RAW and HAZARD_WAW: of what the code tests for these two nothing is said here.
+unfoldable pub tests : Rule → Past → Point → Bool
+tests rule.NewId past p = breaks_new_id past p
+tests rule.LiveId past p = names_dead past p.deed
+tests rule.Size past p = breaks_size past p
+tests rule.Usage past p = lacks_usage past p.deed
+tests rule.MemoryType past p = breaks_memory_type past p
+tests rule.MemorySize past p = breaks_memory_size past p
+tests rule.Range past p = breaks_range past p
+tests rule.Align past p = breaks_align past p
+tests rule.Stage past p = breaks_stage past p
+tests rule.SignalValue past p = breaks_signal_value past p
+tests rule.WaitNever past p = breaks_wait_never past p
+tests rule.MapState past p = reads_unmapped past p.deed
+tests rule.HostVisible past p = maps_local past p.deed
+tests rule.ReadUndefined past p = reads_unwritten past p.deed
+tests rule.Limit past p = breaks_limit past p
+tests _ past p = false
+
+-- The first rule whose test finds a point.
+unfoldable pub first_test : Past → Point → Option Rule
+first_test past p = find (λ r. tests r past p) rules
+
+-- No test finds a point, and all are of forms that are served.
+pub record IsClear (past : Past) (p : Point) : Type 0 where
+  pub served : is_served_deed p.deed ≡ true
+  pub clear : first_test past p ≡ None
+
+abbrev pub IsCleared : Past → Type 0
+IsCleared [] = ⊤
+IsCleared (p ∷ past) = IsClear past p × IsCleared past
+
+-- Whether the test of a rule finds just the points that break it. That of READ_UNDEFINED may find more, and of those of HAZARD_RAW and HAZARD_WAW nothing is said.
+abbrev pub is_exact : Rule → Bool
+is_exact rule.HazardRaw = false
+is_exact rule.HazardWaw = false
+is_exact rule.ReadUndefined = false
+is_exact _ = true

@@ -1,0 +1,41 @@
+-- What a change of the tables has to do with the point that makes it.
+use Rattle.std.specs.Prelude.{◌≡◌, ◌<◌, ◌+◌, ◌-◌, ◌^◌, min, ℕ, Some, None, false, length}
+use Rattle.vk_model.specs.declared.command.Cmd.TheVariants as cmd
+use Rattle.vk_model.specs.declared.command.Length.{Length}
+use Rattle.vk_model.specs.declared.entry.Entry.{Entry}
+use Rattle.vk_model.specs.Moves.{buffer_size, fill_size}
+use Rattle.vk_model.specs.Point.{Past, Deed, Host, Run, host_of}
+use Rattle.vk_model.specs.Objects.{made_by}
+use Rattle.vk_model.specs.Order.{signal_of}
+use Rattle.vk_model.specs.RulesMapping.{maps}
+use Rattle.vk_validate.specs.declared.tables.Change.{Change}
+use Rattle.vk_validate.specs.declared.tables.Change.TheVariants as change
+use Rattle.vk_validate.specs.Tabled.{writes_byte}
+
+-- a deed that makes, maps and signals nothing
+pub record IsQuiet (d : Deed) : Type 0 where
+  pub makes_none : (x : Entry) → d ≡ Host x → made_by x ≡ None
+  pub maps_none : (x : Entry) → d ≡ Host x → maps x ≡ None
+  pub signals_none : signal_of d ≡ None
+
+-- a deed that writes nothing
+abbrev pub WritesNone : Past → Deed → Type 0
+WritesNone past d = (b k : ℕ) → writes_byte past d b k ≡ false
+
+-- a fill that writes just the bytes from `first` to `last` of a buffer
+pub record IsFillOf (past : Past) (d : Deed) (b first last : ℕ) : Type 0 where
+  pub offset : ℕ
+  pub size : Length
+  pub word : ℕ
+  pub is : d ≡ Run (cmd.Fill b offset size word)
+  pub some : 0 < fill_size (buffer_size past b) offset size
+  pub first_is : first ≡ offset
+  pub last_is : last ≡ min (offset + (fill_size (buffer_size past b) offset size - 1)) (2 ^ 64 - 1)
+
+abbrev pub Fits : Change → Past → Deed → Type 0
+Fits change.Nothing past d = IsQuiet d × WritesNone past d
+Fits (change.Made i x) past d = (d ≡ Host x.now) × (made_by x.now ≡ Some i) × (maps x.now ≡ None) × (signal_of d ≡ None)
+Fits (change.Mapped b) past d = (x : Entry) × (d ≡ Host x) × (made_by x ≡ None) × (maps x ≡ Some b) × (signal_of d ≡ None)
+Fits (change.Written b s n) past d = IsQuiet d × IsFillOf past d b s.first s.last × (n ≡ length past)
+Fits (change.Signaled s v clock) past d = (host_of d ≡ None) × (signal_of d ≡ Some (s, v)) × WritesNone past d
+Fits (change.Ordered o) past d = IsQuiet d × WritesNone past d

@@ -1,0 +1,47 @@
+-- The forms that are served so far: buffers in memory of their own, fills, memory barriers, signals and host waits on queue 0.
+use Rattle.std.specs.Prelude.{Bool, true, false, not, ◌==◌}
+use Rattle.std.specs.List.{list_all}
+use Rattle.vk_model.specs.declared.command.Cmd.{Cmd}
+use Rattle.vk_model.specs.declared.command.Cmd.TheVariants as cmd
+use Rattle.vk_model.specs.declared.command.Element.{Element}
+use Rattle.vk_model.specs.declared.command.Element.TheVariants as element
+use Rattle.vk_model.specs.declared.entry.Entry.{Entry}
+use Rattle.vk_model.specs.declared.entry.Entry.TheVariants as entry
+use Rattle.vk_model.specs.declared.resource.Place.{Place}
+use Rattle.vk_model.specs.declared.resource.Place.TheVariants as place
+use Rattle.vk_model.specs.Point.{Past, Deed, Host, Wait, Run, Signal}
+
+-- Memory of a buffer's own, of a type other than 2, whose host accesses go through a cache.
+abbrev pub is_served_place : Place → Bool
+is_served_place (place.Dedicated t) = not (t == 2)
+is_served_place _ = false
+
+-- Whether an element is on all memory.
+abbrev pub is_memory : Element → Bool
+is_memory (element.Memory d) = true
+is_memory _ = false
+
+abbrev pub is_served_command : Cmd → Bool
+is_served_command (cmd.Fill b o n w) = true
+is_served_command (cmd.Barrier es) = list_all is_memory es
+is_served_command _ = false
+
+-- Whether an entry is of a form that is served; what a submit carries is judged point by point.
+abbrev pub is_served_entry : Entry → Bool
+is_served_entry (entry.Buffer i b) = is_served_place b.place
+is_served_entry (entry.Map b) = true
+is_served_entry (entry.Read b o n) = true
+is_served_entry (entry.Semaphore i v) = true
+is_served_entry (entry.Wait ws) = true
+is_served_entry (entry.Submit q bs) = q == 0
+is_served_entry _ = false
+
+abbrev pub is_served_deed : Deed → Bool
+is_served_deed (Host x) = is_served_entry x
+is_served_deed (Wait s) = false
+is_served_deed (Run c) = is_served_command c
+is_served_deed (Signal s) = true
+
+-- Whether every point of a past is of a form that is served.
+unfoldable pub is_served : Past → Bool
+is_served past = list_all (λ p. is_served_deed p.deed) past

@@ -1,0 +1,58 @@
+-- The tables of a history say what its past does.
+use Rattle.std.specs.Prelude.{◌≡◌, ℕ, ◌==◌, ◌&&◌, ◌<◌, ◌^◌, [], ◌∷◌, length, false, if◌then◌else◌, Some, None, nat_lt, Bool, max, Option, unwrap_or}
+use Rattle.std.specs.Option.{option_map}
+use Rattle.std.specs.List.{fold, list_any}
+use Rattle.std.specs.Ordering.{nat_cmp}
+use Rattle.std.specs.BTreeMap.{get}
+use Rattle.vk_model.specs.declared.entry.Entry.{Entry}
+use Rattle.vk_model.specs.Words.{holds, within}
+use Rattle.vk_model.specs.Point.{Past, Deed, Run, entries}
+use Rattle.vk_model.specs.Objects.{made}
+use Rattle.vk_model.specs.Order.{signaled}
+use Rattle.vk_model.specs.RulesMapping.{maps}
+use Rattle.vk_model.specs.declared.command.Cmd.{Cmd}
+use Rattle.vk_model.specs.declared.command.Cmd.TheVariants as cmd
+use Rattle.vk_model.specs.Moves.{buffer_size, fill_size}
+use Rattle.vk_validate.specs.declared.writers.LastWriters.{LastWriters}
+use Rattle.vk_validate.specs.Writers.{WasLast}
+use Rattle.vk_validate.specs.declared.tables.Tables.{Tables}
+use denote.Ref.{Bor}
+
+-- the entry that made each id
+abbrev pub Makers : (ℕ → Option (Bor Entry)) → Past → Type 0
+Makers makers past = (i : ℕ) → option_map (λ x. x.now) (makers i) ≡ made past i
+
+-- whether an entry has mapped a buffer
+abbrev pub was_mapped : Past → ℕ → Bool
+was_mapped past b = list_any (λ x. holds (maps x) (λ c. c == b)) (entries past)
+
+abbrev pub Maps : (ℕ → Option ℕ) → Past → Type 0
+Maps counts past = (b : ℕ) → nat_lt 0 (unwrap_or (counts b) 0) ≡ was_mapped past b
+
+-- the greatest value signaled to each semaphore
+abbrev pub Peaks : (ℕ → Option ℕ) → Past → Type 0
+Peaks peaks past = (s : ℕ) → unwrap_or (peaks s) 0 ≡ fold max 0 (signaled past s)
+
+-- whether a fill writes byte k of a buffer
+abbrev pub fills_byte : Past → Cmd → ℕ → ℕ → Bool
+fills_byte past (cmd.Fill c o n w) b k = c == b && within o (fill_size (buffer_size past c) o n) k
+fills_byte past _ b k = false
+
+-- whether a point writes byte k of a buffer
+abbrev pub writes_byte : Past → Deed → ℕ → ℕ → Bool
+writes_byte past (Run c) b k = fills_byte past c b k
+writes_byte past _ b k = false
+
+-- the number of the point whose command wrote byte k of a buffer last
+abbrev pub last_writer : Past → ℕ → ℕ → Option ℕ
+last_writer [] b k = None
+last_writer (p ∷ past) b k = if writes_byte past p.deed b k then Some (length past) else last_writer past b k
+
+abbrev pub WritersAre : (ℕ → Option LastWriters) → Past → Type 0
+WritersAre writers past = (b k : ℕ) → k < 2 ^ 64 → WasLast (writers b) k (last_writer past b k)
+
+pub record IsTabled (tables : Tables) (past : Past) : Type 0 where
+  pub makers_are : Makers (get nat_cmp tables.makers) past
+  pub maps_are : Maps (get nat_cmp tables.maps) past
+  pub peaks_are : Peaks (get nat_cmp tables.peaks) past
+  pub writers_are : WritersAre (get nat_cmp tables.writers) past

@@ -1,0 +1,87 @@
+-- What is tested of a point, where the forms that are served need less than the rule says.
+use Rattle.std.specs.Prelude.{ℕ, ◌+◌, ◌<◌, ◌≤◌, ⊤, IsSome, Bool, false, not, ◌==◌, is_some, is_none}
+use Rattle.std.specs.List.{list_any}
+use Rattle.vk_model.specs.declared.command.Cmd.{Cmd}
+use Rattle.vk_model.specs.declared.command.Cmd.TheVariants as cmd
+use Rattle.vk_model.specs.declared.entry.Entry.{Entry}
+use Rattle.vk_model.specs.declared.entry.Entry.TheVariants as entry
+use Rattle.vk_model.specs.declared.resource.Place.{Place}
+use Rattle.vk_model.specs.declared.resource.Place.TheVariants as place
+use Rattle.vk_model.specs.Words.{holds, has_bits, below}
+use Rattle.vk_model.specs.Point.{Past, Deed, Host, Wait, Run, Signal}
+use Rattle.vk_model.specs.Objects.{buffer, initial}
+use Rattle.vk_model.specs.RulesSizes.{is_outside}
+use Rattle.vk_validate.specs.Tabled.{was_mapped, last_writer}
+
+-- Whether an entry names what was never made as the kind asked.
+abbrev pub entry_names_dead : Past → Entry → Bool
+entry_names_dead past (entry.Map b) = not (is_some (buffer past b))
+entry_names_dead past (entry.Read b o n) = not (is_some (buffer past b))
+entry_names_dead past (entry.Wait ws) = list_any (λ w. not (is_some (initial past w.semaphore))) ws
+entry_names_dead past _ = false
+
+-- Whether a command does.
+abbrev pub command_names_dead : Past → Cmd → Bool
+command_names_dead past (cmd.Fill b o n w) = not (is_some (buffer past b))
+command_names_dead past _ = false
+
+-- LIVE_ID: no object ends, and a submit makes none.
+abbrev pub names_dead : Past → Deed → Bool
+names_dead past (Host x) = entry_names_dead past x
+names_dead past (Wait s) = not (is_some (initial past s.semaphore))
+names_dead past (Run c) = command_names_dead past c
+names_dead past (Signal s) = not (is_some (initial past s.semaphore))
+
+-- USAGE: what a fill names is no image, and a memory dependency names nothing.
+abbrev pub entry_lacks_usage : Entry → Bool
+entry_lacks_usage (entry.Buffer i b) = is_outside 3 b.usage.0
+entry_lacks_usage _ = false
+
+abbrev pub command_lacks_usage : Past → Cmd → Bool
+command_lacks_usage past (cmd.Fill b o n w) = not (holds (buffer past b) (λ i. has_bits i.usage.0 2))
+command_lacks_usage past _ = false
+
+abbrev pub lacks_usage : Past → Deed → Bool
+lacks_usage past (Host x) = entry_lacks_usage x
+lacks_usage past (Run c) = command_lacks_usage past c
+lacks_usage past _ = false
+
+-- MAP_STATE: nothing is unmapped.
+abbrev pub reads_unmapped_entry : Past → Entry → Bool
+reads_unmapped_entry past (entry.Read b o n) = not (was_mapped past b)
+reads_unmapped_entry past _ = false
+
+abbrev pub reads_unmapped : Past → Deed → Bool
+reads_unmapped past (Host x) = reads_unmapped_entry past x
+reads_unmapped past _ = false
+
+-- HOST_VISIBLE: each buffer has memory of its own.
+abbrev pub is_on_type_0 : Place → Bool
+is_on_type_0 (place.Dedicated t) = t == 0
+is_on_type_0 _ = false
+
+abbrev pub maps_local_entry : Past → Entry → Bool
+maps_local_entry past (entry.Map b) = holds (buffer past b) (λ i. is_on_type_0 i.place)
+maps_local_entry past _ = false
+
+abbrev pub maps_local : Past → Deed → Bool
+maps_local past (Host x) = maps_local_entry past x
+maps_local past _ = false
+
+-- READ_UNDEFINED: what a read names was written.
+abbrev pub EntryReadsWritten : Past → Entry → Type 0
+EntryReadsWritten past (entry.Read b o n) = (k : ℕ) → o ≤ k → k < o + n → IsSome (last_writer past b k)
+EntryReadsWritten past _ = ⊤
+
+abbrev pub ReadsWritten : Past → Deed → Type 0
+ReadsWritten past (Host x) = EntryReadsWritten past x
+ReadsWritten past _ = ⊤
+
+-- The same, to be computed.
+abbrev pub entry_reads_unwritten : Past → Entry → Bool
+entry_reads_unwritten past (entry.Read b o n) = list_any (λ k. is_none (last_writer past b (o + k))) (below n)
+entry_reads_unwritten past _ = false
+
+abbrev pub reads_unwritten : Past → Deed → Bool
+reads_unwritten past (Host x) = entry_reads_unwritten past x
+reads_unwritten past _ = false

@@ -1,0 +1,31 @@
+-- What the points that the code keeps stand for.
+use Rattle.std.specs.Prelude.{ℕ, List, [], ◌∷◌, take}
+use Rattle.std.specs.List.{fold}
+use Rattle.vk_model.specs.Point as spec
+use Rattle.vk_validate.specs.declared.steps.Deed.{Deed}
+use Rattle.vk_validate.specs.declared.steps.Deed.TheVariants as deed
+use Rattle.vk_validate.specs.declared.steps.Step.{Step}
+
+abbrev pub deed_of : Deed → spec.Deed
+deed_of (deed.Host x) = spec.Host x.now
+deed_of (deed.Wait s) = spec.Wait s.now
+deed_of (deed.Run c) = spec.Run c.now
+deed_of (deed.Signal s) = spec.Signal s.now
+
+abbrev pub point_of : Step → spec.Point
+point_of p = record { entry = p.entry; batch = p.batch; place = p.place; queue = p.queue; deed = deed_of p.deed }
+
+abbrev pub add : spec.Past → Step → spec.Past
+add past p = point_of p ∷ past
+
+-- the past, from points in order
+abbrev pub past_of : List Step → spec.Past
+past_of ps = fold add [] ps
+
+-- some points, of which the first `count` have happened
+pub record Walk : Type 0 where
+  pub points : List Step
+  pub count : ℕ
+
+unfoldable pub past : Walk → spec.Past
+past w = past_of (take w.count w.points)
