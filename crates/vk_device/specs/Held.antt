@@ -1,24 +1,42 @@
--- What a device holds: its buffers, and the memory under them.
-use Rattle.std.specs.Prelude.{◌≡◌, ℕ, ◌<◌, ◌≤◌, List, length, Bool, Option, Some, IfSome}
+-- What a device holds: its buffers and the memory under them.
+use Rattle.std.specs.Prelude.{◌≡◌, ℕ, ◌<◌, ◌≤◌, ◌⊎◌, true, List, length, slice_index, Bool, Option, Some, None, IfSome}
 use Rattle.std.specs.Ordering.{nat_cmp}
 use Rattle.std.specs.Map.{lookup}
 use Rattle.std.specs.BTreeMap.{is_at}
-use Rattle.vk_memory.specs.Standing.{Standing, region_of}
+use Rattle.vk_memory.specs.Standing.{Standing, region_of, with_mapped}
+use Rattle.vk_model.specs.World.{Byte, in_buffer, in_image}
 use Rattle.vk_device.specs.declared.device.Placed.{Placed}
 
+-- What is seen of a device: its memory objects, where each buffer lies, by its id, and whether an earlier entry has failed.
 pub record Held : Type 0 where
   pub memory : Standing
   pub buffers : List (ℕ × Placed)
   pub failed : Bool
 
+-- Where the buffer of an id lies; none where there is no such buffer.
 abbrev pub placed_in : List (ℕ × Placed) → ℕ → Option Placed
 placed_in buffers id = lookup (is_at (nat_cmp id)) buffers
 
--- where a buffer lies, if it was made
+-- The same in a device.
 abbrev pub placed : Held → ℕ → Option Placed
 placed s id = placed_in s.buffers id
 
--- Each buffer lies in an object that is there and has its bytes, and no other buffer lies in that object.
+-- Each buffer lies in a memory object that is there and long enough, and no other buffer lies in it (VMA, "Choosing memory type", on dedicated allocations).
 pub record IsApart (memory : Standing) (buffers : List (ℕ × Placed)) : Type 0 where
   pub inside : (id : ℕ) → IfSome (placed_in buffers id) (λ b. (b.object < length memory.objects) × (b.size ≤ length (region_of memory b.object)))
   pub own : (b c : ℕ) (p q : Placed) → placed_in buffers b ≡ Some p → placed_in buffers c ≡ Some q → p.object ≡ q.object → b ≡ c
+
+-- Byte k of a buffer that lies in memory; 0 for one that doesn't.
+abbrev pub byte_in : Standing → Option Placed → ℕ → ℕ
+byte_in memory None k = 0
+byte_in memory (Some p) k = slice_index (region_of memory p.object) k
+
+-- The value that memory holds for a byte of a resource. Images lie nowhere yet.
+abbrev pub byte_at : Held → Byte → ℕ
+byte_at s (in_buffer b k) = byte_in s.memory (placed s b) k
+byte_at s (in_image i l a x y p) = 0
+
+-- The memory object under a buffer may have been mapped, and nothing else has changed (Vulkan, "Host Access to Device Memory Objects").
+abbrev pub MapsAt : Held → Held → Option Placed → Type 0
+MapsAt old new None = new ≡ old
+MapsAt old new (Some p) = (new ≡ old) ⊎ ((p.object < length old.memory.objects) × (new ≡ record old { memory = with_mapped old.memory p.object true }))

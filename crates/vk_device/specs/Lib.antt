@@ -1,1 +1,6 @@
 pub mod Held
+pub mod Allotted
+pub mod Clean
+pub mod Fits
+pub mod Stands
+pub mod Replays

@@ -1,16 +1,18 @@
-ghost use Rattle.std.specs.Prelude.{◌≡◌, ◌<◌, ◌+◌, ◌*◌, ◌≤◌, [], true, false, IfOk, IfErr, IfSome, OnErr, if◌then◌else◌, length};
-ghost use Rattle.vk_memory.specs.Standing.{region_of};
-ghost use Rattle.vk_heap.specs.Region.{piece};
+ghost use Rattle.std.specs.Prelude.{◌≡◌, ◌⊎◌, ℕ, ◌+◌, ◌/◌, ◌<◌, ◌≤◌, true, false, IfOk, IsTrue, Some, None, OnErr, IfErr, [], ◌∷◌, if◌then◌else◌};
+ghost use Rattle.std.specs.Int.{to_le_bytes, w32};
+ghost use Rattle.vk_heap.specs.Region.{splice, piece, repeated};
+ghost use Rattle.vk_memory.specs.Standing.{region_of, with_region};
+ghost use Rattle.vk_model.specs.Moves.{fill_size};
 
 use crate::applied::{Applied, ApplyFault};
 use std::alloc::Global;
 use std::collections::BTreeMap;
 use std::marker::Model;
 use vk_memory::{Memories, MemoryFault};
-use vk_model::{Batch, BufferInfo, Cmd, Config, Entry, Length, Place, Scheduler, Sequence};
+use vk_model::{Batch, Cmd, Config, Entry, Length, Place, Scheduler, Sequence};
 
 /// Where a buffer lies: at the start of a memory object of its own.
-#[derive(Clone, Copy, Debug)]
+#[derive(Clone, Copy)]
 pub struct Placed {
     /// The buffer's size in bytes, as it was asked for.
     pub size: u64,
@@ -18,7 +20,7 @@ pub struct Placed {
     pub object: u32,
 }
 
-/// A device with its memory. It runs the pieces of a submit when the submit is applied.
+/// A device with its memory. It runs the commands of a submit when the submit is applied.
 #[derive(Drop)]
 pub struct Device {
     alloc: Global,
@@ -28,6 +30,7 @@ pub struct Device {
 }
 
 impl Model for Device {
+    ghost use Rattle.std.specs.Prelude.{ℕ, List};
     ghost use Rattle.vk_device.specs.Held.{Held, IsApart};
 
     ghost Value = { Held };
@@ -40,29 +43,32 @@ impl Model for Device {
 /// Buffers are rounded up to this many bytes (profile).
 const BUFFER_UNIT: u64 = 16;
 
-/// How many words a fill writes in a buffer of `size` bytes, or none where it does not lie in it.
-fn filled_words(size: u64, offset: u64, length: Length) -> Option<u64>
-    ensures { IfSome result (λ words. offset + 4 * words ≤ size) }
+/// How many bytes a fill of a buffer of `size` bytes writes.
+fn fill_size(size: u64, offset: u64, length: Length) -> u64
+    requires { offset ≤ size }
+    ensures { result ≡ fill_size size offset length }
 {
-    let rest = size.checked_sub(offset)?;
     match length {
-        Length::Bytes(bytes) if bytes <= rest => Some(bytes / 4),
-        Length::Bytes(_) => None,
-        Length::Whole => Some(rest / 4),
+        Length::Bytes(n) => n,
+        Length::Whole => (size - offset) / 4 * 4,
     }
 }
 
 impl Device {
-    ghost use Rattle.vk_device.specs.Held.{Held, placed, IsApart};
+    ghost use Rattle.vk_model.specs.Order.{Turn, deeds, taken};
+    ghost use Rattle.vk_model.specs.Point.{Past, Run};
+    ghost use Rattle.vk_device.specs.Held.{placed, IsApart, MapsAt};
+    ghost use Rattle.vk_device.specs.Allotted.{allotted};
+    ghost use Rattle.vk_device.specs.Clean.{IsClean};
+    ghost use Rattle.vk_device.specs.Fits.{AllFit, FitsCommand};
+    ghost use Rattle.vk_device.specs.Stands.{Stands, run_point, batches_past, next_past, CommandReady, CommandsReady, BatchReady, BatchesReady, Ready, IsNext, MayFill, MayRead, MadeOr, Told, Rooms, Allots};
     ghost use Rattle.vk_device.specs.declared.applied.ApplyFault.TheVariants.{NoMemory, Failed};
 
     /// A device with heaps of these sizes, without resources. It takes no memory.
     pub fn new(alloc: Global, config: Config) -> Device
-        ensures { result ≡ record {
-          memory = record { heap0 = config.heap0; heap1 = config.heap1; objects = [] };
-          buffers = [];
-          failed = false;
-        } }
+        ensures stands { Stands [] result }
+        ensures empty { result.memory ≡ record { heap0 = config.heap0; heap1 = config.heap1; objects = [] } }
+        ensures works { result.failed ≡ false }
     {
         Device {
             alloc,
@@ -72,36 +78,131 @@ impl Device {
         }
     }
 
-    /// Applies one entry: what it allocates is placed, what it submits is run, and what it reads is
-    /// answered. The entries so far with this one are to break no rule; an entry that does may do nothing.
-    /// After `NoMemory` it only answers `Failed`.
-    pub fn apply<S: Scheduler>(
-        &mut self,
-        entry: &Entry,
-        sched: &mut S,
-    ) -> Result<Applied, ApplyFault>
-        ensures works { IfOk result (λ a. (self.old.failed ≡ false) × (self.new.failed ≡ false)) }
-        ensures fault { IfErr result (λ f. f ≡ (if self.old.failed then Failed else NoMemory)) }
-        ensures failed { OnErr result (self.new.failed ≡ true) }
-        ensures unasked { S.held sched.new ≡ S.held sched.old }
+    /// Fills a part of a buffer with a word, where the buffer is there.
+    fn fill(&mut self, id: u32, offset: u64, size: Length, word: u32)
+        requires { MayFill (placed self.old id) offset size }
+        ensures filled { (b : Placed) → placed self.old id ≡ Some b → self.new ≡ record self.old {
+          memory = with_region self.old.memory b.object
+              (splice (region_of self.old.memory b.object) offset (repeated (fill_size b.size offset size / 4) (to_le_bytes w32 word)));
+        } }
+        ensures allotted { allotted self.new.memory ≡ allotted self.old.memory }
+        ensures apart { IsApart self.old.memory self.old.buffers }
     {
-        let _unasked: &S = sched;
-        if self.failed {
-            return Err(ApplyFault::Failed);
+        if let Some(buffer) = self.buffers.get(&id) {
+            let object = buffer.object;
+            let words = fill_size(buffer.size, offset, size) / 4;
+            self.memories.region_mut(object).fill(offset, words, word);
         }
-        let applied = self.apply_entry(entry);
-        if applied.is_err() {
-            self.failed = true;
-        }
-        applied
     }
 
+    /// Runs a fill; a barrier has nothing to do, since each command has ended before the next begins.
+    fn run_command(&mut self, command: &Cmd)
+        requires { CommandReady self.old command.now }
+        ensures stands { (e b k q : ℕ) (past : Past) → Stands past self.old → FitsCommand past command.now → Stands (run_point e b k q command.now ∷ past) self.new }
+        ensures allotted { allotted self.new.memory ≡ allotted self.old.memory }
+        ensures failed { self.new.failed ≡ self.old.failed }
+    {
+        if let Cmd::Fill {
+            buffer,
+            offset,
+            size,
+            word,
+        } = command
+        {
+            self.fill(*buffer, *offset, *size, *word);
+        }
+    }
+
+    fn run_commands(&mut self, commands: &[Cmd])
+        requires { CommandsReady self.old commands.now }
+        ensures stands { (t : Turn) (past : Past) → Stands past self.old → AllFit (deeds Run t 0 commands.now past) → Stands (deeds Run t 0 commands.now past) self.new }
+        ensures allotted { allotted self.new.memory ≡ allotted self.old.memory }
+        ensures failed { self.new.failed ≡ self.old.failed }
+    {
+        for command in commands {
+            self.run_command(command);
+        }
+    }
+
+    fn run_batch(&mut self, batch: &Batch)
+        requires { BatchReady self.old batch.now }
+        ensures stands { (t : Turn) (past : Past) → t.content ≡ batch.now → Stands past self.old → AllFit (taken t past) → Stands (taken t past) self.new }
+        ensures allotted { allotted self.new.memory ≡ allotted self.old.memory }
+        ensures failed { self.new.failed ≡ self.old.failed }
+    {
+        self.run_commands(batch.commands.as_slice());
+    }
+
+    fn run_batches(&mut self, batches: &[Batch])
+        requires { BatchesReady self.old batches.now }
+        ensures stands { (at : Past) (e q : ℕ) (past : Past) → Stands past self.old → AllFit (batches_past at e q 0 batches.now past) → Stands (batches_past at e q 0 batches.now past) self.new }
+        ensures allotted { allotted self.new.memory ≡ allotted self.old.memory }
+        ensures failed { self.new.failed ≡ self.old.failed }
+    {
+        for batch in batches {
+            self.run_batch(batch);
+        }
+    }
+
+    /// Makes a buffer in a memory object of its own.
+    fn make_buffer(&mut self, id: u32, memory_type: u32, size: u64) -> Result<Applied, ApplyFault>
+        requires absent { placed self.old id ≡ None }
+        requires some { 0 < size }
+        requires bounded { size ≤ 67108864 }
+        ensures made { IfOk result (λ a. MadeOr a self.old self.new id memory_type size) }
+        ensures failed { self.new.failed ≡ self.old.failed }
+        ensures fault { IfErr result (λ f. f ≡ NoMemory) }
+        ensures apart { IsApart self.old.memory self.old.buffers }
+    {
+        let bytes = (size + (BUFFER_UNIT - 1)) / BUFFER_UNIT * BUFFER_UNIT;
+        let object = match self.memories.allocate(memory_type, bytes) {
+            Ok(number) => number,
+            Err(MemoryFault::NoRoom) => return Ok(Applied::NoRoom),
+            Err(MemoryFault::NoMemory) => return Err(ApplyFault::NoMemory),
+        };
+        self.buffers.insert(id, Placed { size, object })?;
+        Ok(Applied::Done)
+    }
+
+    /// Maps the memory object under a buffer. A buffer's mapping is counted, and nothing ends it yet, so
+    /// the first mapping is the one that the object sees.
+    fn map(&mut self, id: u32)
+        ensures mapped { MapsAt self.old self.new (placed self.old id) }
+    {
+        if let Some(buffer) = self.buffers.get(&id) {
+            let object = buffer.object;
+            let _mapped_before = self.memories.map(object).is_err();
+        }
+    }
+
+    /// Reads bytes of a buffer that is there.
+    fn read(&self, id: u32, offset: u64, size: u64) -> Result<Sequence<u8>, ApplyFault>
+        requires { MayRead (placed self.now id) offset size }
+        ensures bytes { (b : Placed) → placed self.now id ≡ Some b → IfOk result (λ bytes. bytes ≡ piece (region_of self.now.memory b.object) offset size) }
+        ensures fault { IfErr result (λ f. f ≡ NoMemory) }
+        ensures apart { IsApart self.now.memory self.now.buffers }
+    {
+        let mut bytes = vec![in self.alloc; 0u8; size as usize]?;
+        if let Some(buffer) = self.buffers.get(&id) {
+            self.memories.region(buffer.object).read(offset, &mut bytes);
+        }
+        Ok(Sequence::new(bytes))
+    }
+
+    /// Applies an entry, and leaves it to the caller to keep that it failed.
     fn apply_entry(&mut self, entry: &Entry) -> Result<Applied, ApplyFault>
+        requires { Ready self.old entry.now }
+        ensures told { IfOk result (λ a. (e : ℕ) (past : Past) → Stands past self.old → AllFit (next_past e entry.now past) → Told a e entry.now past self.old self.new) }
+        ensures rooms { IfOk result (λ a. Rooms a self.old entry.now) }
+        ensures allots { IfOk result (λ a. Allots a entry.now self.old self.new) }
         ensures failed { self.new.failed ≡ self.old.failed }
         ensures fault { IfErr result (λ f. f ≡ NoMemory) }
     {
         match entry {
-            Entry::Buffer { id, info } => self.make_buffer(*id, *info),
+            Entry::Buffer { id, info } => match info.place {
+                Place::Dedicated { memory_type } => self.make_buffer(*id, memory_type, info.size),
+                _ => Ok(Applied::Done),
+            },
             Entry::Map { buffer } => {
                 self.map(*buffer);
                 Ok(Applied::Done)
@@ -122,100 +223,31 @@ impl Device {
         }
     }
 
-    /// Makes a buffer in a memory object of its own.
-    fn make_buffer(&mut self, id: u32, info: BufferInfo) -> Result<Applied, ApplyFault>
-        ensures failed { self.new.failed ≡ self.old.failed }
-        ensures fault { IfErr result (λ f. f ≡ NoMemory) }
+    /// Applies one entry: what it allocates is placed, what it submits is run, and what it reads is
+    /// answered. The entries so far with this one are to break no rule. `NoRoom` comes exactly where the
+    /// memory object that the entry asks for cannot be made. After `NoMemory` it only answers `Failed`.
+    pub fn apply<S: Scheduler>(
+        &mut self,
+        entry: &Entry,
+        sched: &mut S,
+    ) -> Result<Applied, ApplyFault>
+        requires { IsTrue self.old.failed ⊎ IsNext self.old entry.now }
+        ensures told { IfOk result (λ a. (e : ℕ) (past : Past) → Stands past self.old → IsClean (next_past e entry.now past) → Told a e entry.now past self.old self.new) }
+        ensures rooms { IfOk result (λ a. Rooms a self.old entry.now) }
+        ensures allots { IfOk result (λ a. Allots a entry.now self.old self.new) }
+        ensures works { IfOk result (λ a. (self.old.failed ≡ false) × (self.new.failed ≡ false)) }
+        ensures fault { IfErr result (λ f. f ≡ (if self.old.failed then Failed else NoMemory)) }
+        ensures failed { OnErr result (self.new.failed ≡ true) }
+        ensures unasked { S.held sched.new ≡ S.held sched.old }
     {
-        let Place::Dedicated { memory_type } = info.place else {
-            return Ok(Applied::Done);
-        };
-        if info.size == 0 || self.buffers.contains_key(&id) {
-            return Ok(Applied::Done);
+        let _unasked: &S = sched;
+        if self.failed {
+            return Err(ApplyFault::Failed);
         }
-        let Some(bytes) = info.size.checked_next_multiple_of(BUFFER_UNIT) else {
-            return Ok(Applied::NoRoom);
-        };
-        let object = match self.memories.allocate(memory_type, bytes) {
-            Ok(object) => object,
-            Err(MemoryFault::NoRoom) => return Ok(Applied::NoRoom),
-            Err(MemoryFault::NoMemory) => return Err(ApplyFault::NoMemory),
-        };
-        self.buffers.insert(
-            id,
-            Placed {
-                size: info.size,
-                object,
-            },
-        )?;
-        Ok(Applied::Done)
-    }
-
-    /// Maps the memory object under a buffer. A buffer's mapping is counted, and nothing ends it yet, so
-    /// the first mapping is the one that the object sees.
-    fn map(&mut self, id: u32)
-        ensures { self.new.failed ≡ self.old.failed }
-    {
-        if let Some(buffer) = self.buffers.get(&id) {
-            let object = buffer.object;
-            let _mapped_before = self.memories.map(object).is_err();
+        let applied = self.apply_entry(entry);
+        if applied.is_err() {
+            self.failed = true;
         }
-    }
-
-    /// Bytes of a buffer as they stand in its memory object.
-    fn read(&self, id: u32, offset: u64, size: u64) -> Result<Sequence<u8>, ApplyFault>
-        ensures { IfErr result (λ f. f ≡ NoMemory) }
-    {
-        let Some(buffer) = self.buffers.get(&id) else {
-            return Ok(Sequence::new(Vec::new(self.alloc)));
-        };
-        if size > buffer.size || offset > buffer.size - size {
-            return Ok(Sequence::new(Vec::new(self.alloc)));
-        }
-        let mut bytes = vec![in self.alloc; 0u8; size as usize]?;
-        self.memories.region(buffer.object).read(offset, &mut bytes);
-        Ok(Sequence::new(bytes))
-    }
-
-    fn run_batches(&mut self, batches: &[Batch])
-        ensures { self.new.failed ≡ self.old.failed }
-    {
-        for batch in batches {
-            self.run_commands(batch.commands.as_slice());
-        }
-    }
-
-    fn run_commands(&mut self, commands: &[Cmd])
-        ensures { self.new.failed ≡ self.old.failed }
-    {
-        for command in commands {
-            self.run_command(command);
-        }
-    }
-
-    fn run_command(&mut self, command: &Cmd)
-        ensures { self.new.failed ≡ self.old.failed }
-    {
-        if let Cmd::Fill {
-            buffer,
-            offset,
-            size,
-            word,
-        } = command
-        {
-            self.fill(*buffer, *offset, *size, *word);
-        }
-    }
-
-    /// Fills a part of a buffer with a word.
-    fn fill(&mut self, id: u32, offset: u64, length: Length, word: u32)
-        ensures { self.new.failed ≡ self.old.failed }
-    {
-        if let Some(buffer) = self.buffers.get(&id)
-            && let Some(words) = filled_words(buffer.size, offset, length)
-        {
-            let object = buffer.object;
-            self.memories.region_mut(object).fill(offset, words, word);
-        }
+        applied
     }
 }

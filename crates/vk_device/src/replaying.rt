@@ -1,10 +1,17 @@
-ghost use Rattle.std.specs.Prelude.{◌≡◌, ◌<◌, length, IfOk, IfErr, IfSome};
+ghost use Rattle.std.specs.Prelude.{◌≡◌, length, IfOk, IfErr, MatchOption, None};
+ghost use Rattle.vk_model.specs.Order.{plain_order};
+ghost use Rattle.vk_model.specs.Meaning.{meaning};
+ghost use Rattle.vk_validate.specs.Covered.{IsAcceptable};
+ghost use Rattle.vk_device.specs.Clean.{IsClean};
+ghost use Rattle.vk_device.specs.Stands.{Stands};
+ghost use Rattle.vk_device.specs.Allotted.{first_stop};
+ghost use Rattle.vk_device.specs.Replays.{StopsAt};
 ghost use Rattle.vk_device.specs.declared.applied.ApplyFault.TheVariants.{NoMemory};
 
 use crate::applied::{Applied, ApplyFault};
 use crate::device::Device;
 use std::alloc::Global;
-use vk_model::{Config, Scheduler, Sequence};
+use vk_model::{Config, Entry, Scheduler, Sequence};
 use vk_validate::Accepted;
 
 /// What a trace gave.
@@ -26,13 +33,40 @@ pub fn replay<S: Scheduler>(
     config: Config,
     sched: &mut S,
 ) -> Result<Replayed, ApplyFault>
-    ensures stop { IfOk result (λ r. IfSome r.stop (λ entry. entry < length accepted.now)) }
+    ensures sound { IfOk result (λ _. IsAcceptable accepted.now) }
+    // The reads are what the trace means, up to the stop where there is one.
+    ensures meaning { IfOk result (λ r. MatchOption r.stop
+        (r.reads ≡ meaning accepted.now (length accepted.now)) (λ n. r.reads ≡ meaning accepted.now n)) }
+    // It stops at the first entry that finds no room, and nowhere else.
+    ensures first { IfOk result (λ r. r.stop ≡ first_stop config accepted.now) }
+    // The device stands to the entries that were applied.
+    ensures stop { IfOk result (λ r. MatchOption r.stop
+        (Stands (plain_order accepted.now) r.device) (λ n. StopsAt accepted.now n r.device)) }
+    ensures fault { IfErr result (λ f. f ≡ NoMemory) }
+    ensures unasked { S.held sched.new ≡ S.held sched.old }
+{
+    replay_entries(alloc, accepted.entries(), config, sched)
+}
+
+/// The same for entries that break no rule.
+fn replay_entries<S: Scheduler>(
+    alloc: Global,
+    entries: &[Entry],
+    config: Config,
+    sched: &mut S,
+) -> Result<Replayed, ApplyFault>
+    requires { IsClean (plain_order entries.now) }
+    ensures meaning { IfOk result (λ r. MatchOption r.stop
+        (r.reads ≡ meaning entries.now (length entries.now)) (λ n. r.reads ≡ meaning entries.now n)) }
+    ensures first { IfOk result (λ r. r.stop ≡ first_stop config entries.now) }
+    ensures stop { IfOk result (λ r. MatchOption r.stop
+        (Stands (plain_order entries.now) r.device) (λ n. StopsAt entries.now n r.device)) }
     ensures fault { IfErr result (λ f. f ≡ NoMemory) }
     ensures unasked { S.held sched.new ≡ S.held sched.old }
 {
     let mut device = Device::new(alloc, config);
     let mut reads = Vec::new(alloc);
-    for (index, entry) in accepted.entries().iter().enumerate() {
+    for (index, entry) in entries.iter().enumerate() {
         match device.apply(entry, sched)? {
             Applied::Done => {}
             Applied::Bytes(bytes) => reads.push((index, bytes))?,

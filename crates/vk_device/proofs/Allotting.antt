@@ -1,0 +1,130 @@
+-- Which memory objects stand after each step, and which entry finds no room for its own.
+use Rattle.std.proofs.Common.{◌≡◌, ◌⊎◌, inl, inr, ℕ, ◌+◌, List, [], ◌∷◌, map, length, Bool, true, false, ◌==◌, ◌||◌, refl, ap, sym, ◌∙◌, subst, append-nil, Option, Some, None}
+use Rattle.std.proofs.Math.Seq.{map-set_same}
+use Rattle.std.proofs.Math.Bool.{or-false}
+use Rattle.std.proofs.lemmas.Bool.{leb-true, ltb-true, lt-ltb, le-leb}
+use Rattle.std.proofs.lemmas.List.{length-map}
+use Rattle.std.specs.Prelude.{if◌then◌else◌, nat_lt, nat_le}
+use Rattle.std.specs.List.{fold, list_any}
+use Rattle.vk_memory.specs.declared.memories.Object.{Object}
+use Rattle.vk_memory.specs.Standing.{Standing, IsFull, size_on, sizes_on, nothing, object_at, with_region, with_mapped}
+use Rattle.vk_model.specs.declared.entry.Entry.{Entry}
+use Rattle.vk_model.specs.declared.entry.Entry.TheVariants as entry
+use Rattle.vk_model.specs.declared.resource.BufferInfo.{BufferInfo}
+use Rattle.vk_model.specs.declared.resource.Place.{Place}
+use Rattle.vk_model.specs.declared.resource.Place.TheVariants as place
+use Rattle.vk_model.specs.Words.{round_up}
+use Rattle.vk_model.specs.Room.{heap_of, no_object}
+use Rattle.vk_device.specs.declared.applied.Applied.{Applied}
+use Rattle.vk_device.specs.declared.applied.Applied.TheVariants as applied
+use Rattle.vk_device.specs.declared.device.Placed.{Placed}
+use Rattle.vk_device.specs.Allotted.{Allotted, allotted, asked_by, asked_at, with_asked, heaps_with, finds_no_room, stop_from}
+use Rattle.vk_device.specs.Held.{Held, MapsAt}
+use Rattle.vk_device.specs.Stands.{MadeOr, Rooms}
+
+-- ---- an object keeps its type and its size
+
+abbrev kind : Object → ℕ × ℕ
+kind o = (o.memory_type, o.size)
+
+pub region_allots : (m : Standing) (o : ℕ) (bytes : List ℕ) → allotted (with_region m o bytes) ≡ allotted m
+region_allots m o bytes = ap (λ (l : List (ℕ × ℕ)). record (allotted m) { objects = l }) (map-set_same kind m.objects o (record (object_at m o) { region = bytes }) nothing refl)
+
+mapped_allots : (m : Standing) (o : ℕ) (b : Bool) → allotted (with_mapped m o b) ≡ allotted m
+mapped_allots m o b = ap (λ (l : List (ℕ × ℕ)). record (allotted m) { objects = l }) (map-set_same kind m.objects o (record (object_at m o) { mapped = b }) nothing refl)
+
+pub map_allots : (old new : Held) (p : Option Placed) → MapsAt old new p → allotted new.memory ≡ allotted old.memory
+map_allots old new None same = ap (λ (s : Held). allotted s.memory) same
+map_allots old new (Some p) (inl same) = ap (λ (s : Held). allotted s.memory) same
+map_allots old new (Some p) (inr now) = ap (λ (s : Held). allotted s.memory) now.1 ∙ mapped_allots old.memory p.object true
+
+-- ---- an entry that asks for nothing
+
+pub nothing_allots : (x : Entry) (old new : Held) → asked_by x ≡ [] → allotted new.memory ≡ allotted old.memory → allotted new.memory ≡ with_asked (allotted old.memory) x
+nothing_allots x old new none same = same ∙ rw none (ap (λ (l : List (ℕ × ℕ)). record (allotted old.memory) { objects = l }) (sym (append-nil (allotted old.memory).objects)))
+
+-- ---- room for an object, as the heaps tell it
+
+used_same : (g : ℕ × ℕ → ℕ) (f : Object → ℕ) → ((o : Object) → g (kind o) ≡ f o) → (n : ℕ) (os : List Object) → fold (λ a x. a + g x) n (map kind os) ≡ fold (λ a x. a + f x) n os
+used_same g f same n [] = refl
+used_same g f same n (o ∷ os) = used_same g f same (n + g (kind o)) os ∙ ap (λ (m : ℕ). fold (λ a x. a + f x) (n + m) os) (same o)
+
+on_heap0 : (b : Bool) (n : ℕ) → (if (if b then 0 else 1) == 0 then n else 0) ≡ (if b then n else 0)
+on_heap0 true n = refl
+on_heap0 false n = refl
+
+on_heap1 : (b : Bool) (n : ℕ) → (if (if b then 0 else 1) == 1 then n else 0) ≡ (if b then 0 else n)
+on_heap1 true n = refl
+on_heap1 false n = refl
+
+either : (a b : Bool) → (a || b) ≡ true → (a ≡ true) ⊎ (b ≡ true)
+either true b h = inl refl
+either false b h = inr h
+
+or_right : (a b : Bool) → b ≡ true → (a || b) ≡ true
+or_right true b h = refl
+or_right false b h = h
+
+or_left : (a b : Bool) → a ≡ true → (a || b) ≡ true
+or_left true b h = refl
+or_left false b h = absurd cc
+
+module _ (m : Standing) where
+  limit_at : (b : Bool) → (heaps_with (allotted m)).limit (if b then 0 else 1) ≡ (if b then m.heap0 else m.heap1)
+  limit_at true = refl
+  limit_at false = refl
+
+  used_at : (b : Bool) → (heaps_with (allotted m)).used (if b then 0 else 1) ≡ sizes_on b m.objects
+  used_at true = used_same (λ o. if heap_of o.0 == 0 then o.1 else 0) (size_on true) (λ o. on_heap0 (o.memory_type == 0) o.size) 0 m.objects
+  used_at false = used_same (λ o. if heap_of o.0 == 1 then o.1 else 0) (size_on false) (λ o. on_heap1 (o.memory_type == 0) o.size) 0 m.objects
+
+  counted : (heaps_with (allotted m)).objects ≡ length m.objects
+  counted = length-map m.objects kind
+
+  abbrev is_over : ℕ → ℕ → Bool
+  is_over t size = nat_lt ((heaps_with (allotted m)).limit (heap_of t)) ((heaps_with (allotted m)).used (heap_of t) + size)
+
+  abbrev has_most : Bool
+  has_most = nat_le 4096 (heaps_with (allotted m)).objects
+
+  pub full_found : (t size : ℕ) → IsFull m t size → no_object (heaps_with (allotted m)) t size ≡ true
+  full_found t size (inl many) = or_right (is_over t size) has_most (le-leb 4096 (heaps_with (allotted m)).objects (rw counted many))
+  full_found t size (inr over) =
+      or_left (is_over t size) has_most (lt-ltb ((heaps_with (allotted m)).limit (heap_of t)) ((heaps_with (allotted m)).used (heap_of t) + size) (rw (limit_at (t == 0), used_at (t == 0)) over))
+
+  pub found_full : (t size : ℕ) → no_object (heaps_with (allotted m)) t size ≡ true → IsFull m t size
+  found_full t size found = elim (either (is_over t size) has_most found) [
+    | inl over ↦ inr (rw (limit_at (t == 0), used_at (t == 0)) at (ltb-true ((heaps_with (allotted m)).limit (heap_of t)) ((heaps_with (allotted m)).used (heap_of t) + size) over))
+    | inr many ↦ inl (rw counted at (leb-true 4096 (heaps_with (allotted m)).objects many))
+  ]
+
+-- ---- a buffer
+
+not_so : (b : Bool) → (b ≡ true → ⊥) → b ≡ false
+not_so true h = absurd (h refl)
+not_so false h = refl
+
+one_asked : (a : Allotted) (t size : ℕ) → list_any (λ (o : ℕ × ℕ). no_object (heaps_with a) o.0 o.1) ((t, size) ∷ []) ≡ no_object (heaps_with a) t size
+one_asked a t size = or-false (no_object (heaps_with a) t size)
+
+pub buffer_rooms : (old new : Held) (y : Entry) (i t : ℕ) (info : BufferInfo) → y ≡ entry.Buffer i info → info.place ≡ place.Dedicated t → (a : Applied) → MadeOr a old new i t info.size → Rooms a old y
+buffer_rooms old new y i t info is there a made = subst (λ (x : Entry). Rooms a old x) (sym is) (go a made)
+  where
+    size : ℕ
+    size = round_up info.size 16
+
+    found : finds_no_room (allotted old.memory) (entry.Buffer i info) ≡ no_object (heaps_with (allotted old.memory)) t size
+    found = ap (λ (p : Place). list_any (λ (o : ℕ × ℕ). no_object (heaps_with (allotted old.memory)) o.0 o.1) (asked_at p size)) there ∙ one_asked (allotted old.memory) t size
+
+    go : (a : Applied) → MadeOr a old new i t info.size → Rooms a old (entry.Buffer i info)
+    go applied.Done made = found ∙ not_so _ (λ h. made.1 (found_full old.memory t size h))
+    go (applied.Bytes bytes) made = absurd made
+    go applied.NoRoom made = found ∙ full_found old.memory t size made.1
+
+-- ---- entries one after another
+
+pub stop_here : (a : Allotted) (e : ℕ) (x : Entry) (xs : List Entry) → finds_no_room a x ≡ true → stop_from a e (x ∷ xs) ≡ Some e
+stop_here a e x xs found = rw found refl
+
+pub stop_later : (a b : Allotted) (e : ℕ) (x : Entry) (xs : List Entry) → finds_no_room a x ≡ false → b ≡ with_asked a x → stop_from a e (x ∷ xs) ≡ stop_from b (e + 1) xs
+stop_later a b e x xs found more = rw (found, more) refl

@@ -1,0 +1,315 @@
+-- What the rules promise of the points of a clean past.
+use Rattle.std.proofs.Common.{◌≡◌, ◌≢◌, ℕ, zero, suc, ◌+◌, ◌-◌, ◌*◌, ◌/◌, ◌%◌, ◌<◌, ◌≤◌, List, [], ◌∷◌, Bool, true, false, not, ◌&&◌, ◌||◌, ◌==◌, nat_lt, nat_le, refl, ap, sym, ◌∙◌, subst, arith, inl, inr, Option, Some, None}
+use Rattle.std.specs.Prelude.{IsSome, is_some, is_none, slice_get}
+use Rattle.std.specs.List.{fold, list_any, list_all, range_with_len}
+use Rattle.vk_model.specs.Order.{Turn, deeds, taken, turns_of, plain_from, host}
+use Rattle.std.proofs.lemmas.Bool.{ltb-false, leb-false, eqb-false, eqb-true}
+use Rattle.vk_model.specs.declared.rule.Rule.{Rule}
+use Rattle.vk_model.specs.declared.rule.Rule.TheVariants as rule
+use Rattle.vk_model.specs.Point.{Past, Point, Deed, Host, Wait, Run, Signal}
+use Rattle.vk_model.specs.Rules.{breaks}
+use Rattle.vk_validate.specs.Covered.{is_free_of, covered}
+use Rattle.vk_model.specs.RulesIds.{breaks_new_id}
+use Rattle.vk_model.specs.RulesSizes.{breaks_size, bad_entry_size, bad_command_size, fills_none, breaks_memory_size, bad_memory_size}
+use Rattle.vk_model.specs.RulesRanges.{breaks_range, host_past, command_past, fills_from_end, breaks_align, misaligned, off_4_length}
+use Rattle.vk_model.specs.RulesBytes.{breaks_read_undefined, reads_undefined}
+use Rattle.vk_model.specs.Effect.{world}
+use Rattle.vk_model.specs.Moves.{buffer_size, fill_size}
+use Rattle.vk_model.specs.World.{in_buffer}
+use Rattle.vk_model.specs.declared.command.Length.{Length}
+use Rattle.vk_model.specs.declared.command.Length.TheVariants as length_of
+use Rattle.vk_model.specs.declared.command.Cmd.TheVariants as cmd
+use Rattle.vk_model.specs.declared.command.Element.{Element}
+use Rattle.vk_model.specs.declared.command.Element.TheVariants as element
+use Rattle.vk_model.specs.declared.entry.Entry.TheVariants as entry
+use Rattle.vk_model.specs.declared.resource.BufferInfo.{BufferInfo}
+use Rattle.vk_model.specs.declared.resource.Place.{Place}
+use Rattle.vk_model.specs.declared.resource.Place.TheVariants as place
+use Rattle.vk_validate.specs.Served.{is_served, is_served_deed, is_served_place, is_memory}
+use Rattle.vk_device.specs.Clean.{IsClean}
+use Rattle.vk_device.specs.Fits.{FitsFill, FitsCommand, FitsRead, FitsEntry, FitsDeed, AllFit, AllMemory, IsOwn}
+use Rattle.std.proofs.Math.Nat.{eq-or-lt_of_le, div-add-mod, div-mul-le_self, mul-div_cancel, mod-lt}
+use Rattle.vk_model.specs.declared.command.Cmd.{Cmd}
+use Rattle.vk_model.specs.Objects.{made, made_by, buffer}
+use Rattle.vk_model.specs.declared.entry.Entry.{Entry}
+
+and-left : (a b : Bool) → (a && b) ≡ true → a ≡ true
+and-left true b e = refl
+and-left false b e = absurd cc
+
+and-right : (a b : Bool) → (a && b) ≡ true → b ≡ true
+and-right true b e = e
+and-right false b e = absurd cc
+
+not_true : (b : Bool) → not b ≡ true → b ≡ false
+not_true true e = absurd cc
+not_true false e = refl
+
+-- no rule of a list is broken, so none at a place of it is
+none_broken : (past : Past) (p : Point) (rs : List Rule) (r : Rule) (i : ℕ) → list_all (λ s. not (breaks s past p)) rs ≡ true → slice_get rs i ≡ Some r → breaks r past p ≡ false
+none_broken past p [] r i all at = absurd cc
+none_broken past p (s ∷ rs) r zero all at =
+    let same : s ≡ r = cc in
+    not_true (breaks r past p) (ap (λ q. not (breaks q past p)) (sym same) ∙ and-left (not (breaks s past p)) (list_all (λ q. not (breaks q past p)) rs) all)
+none_broken past p (s ∷ rs) r (suc i) all at = none_broken past p rs r i (and-right (not (breaks s past p)) (list_all (λ q. not (breaks q past p)) rs) all) at
+
+-- what is older keeps the rules too
+older_free : (past : Past) (p : Point) → is_free_of covered (p ∷ past) ≡ true → is_free_of covered past ≡ true
+older_free past p free = and-right (list_all (λ r. not (breaks r past p)) covered) (is_free_of covered past) free
+
+-- and the rule at a place of those that are kept isn't broken
+no_rule : (past : Past) (p : Point) (r : Rule) (i : ℕ) → slice_get covered i ≡ Some r → is_free_of covered (p ∷ past) ≡ true → breaks r past p ≡ false
+no_rule past p r i at free = none_broken past p covered r i (and-left (list_all (λ s. not (breaks s past p)) covered) (is_free_of covered past) free) at
+
+-- ---- what the forms that are served get of it
+
+not_some : {A : Type 0} (o : Option A) → is_some o ≡ false → o ≡ None
+not_some None e = refl
+not_some (Some x) e = absurd cc
+
+or-left : (a b : Bool) → (a || b) ≡ false → a ≡ false
+or-left true b e = absurd cc
+or-left false b e = refl
+
+or-right : (a b : Bool) → (a || b) ≡ false → b ≡ false
+or-right true b e = absurd cc
+or-right false b e = e
+
+and-true : (a b : Bool) → (a && b) ≡ true → (a ≡ true) × (b ≡ true)
+and-true true b e = (refl, e)
+and-true false b e = absurd cc
+
+not-false : (b : Bool) → not b ≡ false → b ≡ true
+not-false true e = refl
+not-false false e = absurd cc
+
+-- a test that is false of a sum says that it doesn't pass the bound
+not_above : (n m : ℕ) → nat_lt n m ≡ false → m ≤ n
+not_above n m e = ltb-false n m e
+
+not_zero : (n : ℕ) → (n == 0) ≡ false → 0 < n
+not_zero n e = let apart : n ≢ 0 = eqb-false n 0 e in omega arith
+
+-- Whether a fill to the end begins at the end or past it.
+abbrev ends_at : ℕ → ℕ → Length → Bool
+ends_at size o (length_of.Bytes n) = false
+ends_at size o length_of.Whole = nat_le size o
+
+module _ (past : Past) (p : Point) (none : is_free_of covered (p ∷ past) ≡ true) where
+  new_made : (x : Entry) (i : ℕ) → p.deed ≡ Host x → made_by x ≡ Some i → made past i ≡ None
+  unfolding breaks
+  new_made x i is makes =
+      let unbroken : breaks_new_id past p ≡ false = no_rule past p rule.NewId 0 refl none in
+      not_some (made past i) (rw (is, makes) at unbroken)
+
+  entry_size : (x : Entry) → p.deed ≡ Host x → bad_entry_size x ≡ false
+  unfolding breaks
+  entry_size x is =
+      let unbroken : breaks_size past p ≡ false = no_rule past p rule.Size 4 refl none in
+      or-left (bad_entry_size x) false (rw is at unbroken)
+
+  command_size : (c : Cmd) → p.deed ≡ Run c → bad_command_size past c ≡ false
+  unfolding breaks
+  command_size c is =
+      let unbroken : breaks_size past p ≡ false = no_rule past p rule.Size 4 refl none in
+      rw is at unbroken
+
+  memory_size : (x : Entry) → p.deed ≡ Host x → bad_memory_size x ≡ false
+  unfolding breaks
+  memory_size x is =
+      let unbroken : breaks_memory_size past p ≡ false = no_rule past p rule.MemorySize 7 refl none in
+      rw is at unbroken
+
+  entry_range : (x : Entry) → p.deed ≡ Host x → host_past past x ≡ false
+  unfolding breaks
+  entry_range x is =
+      let unbroken : breaks_range past p ≡ false = no_rule past p rule.Range 12 refl none in
+      or-left (host_past past x) false (rw is at unbroken)
+
+  command_range : (c : Cmd) → p.deed ≡ Run c → command_past past c ≡ false
+  unfolding breaks
+  command_range c is =
+      let unbroken : breaks_range past p ≡ false = no_rule past p rule.Range 12 refl none in
+      rw is at unbroken
+
+  command_align : (c : Cmd) → p.deed ≡ Run c → misaligned past p.queue c ≡ false
+  unfolding breaks
+  command_align c is =
+      let unbroken : breaks_align past p ≡ false = no_rule past p rule.Align 13 refl none in
+      rw is at unbroken
+
+  entry_defined : (x : Entry) → p.deed ≡ Host x → reads_undefined (world past) x ≡ false
+  unfolding breaks
+  entry_defined x is =
+      let unbroken : breaks_read_undefined past p ≡ false = no_rule past p rule.ReadUndefined 36 refl none in
+      rw is at unbroken
+
+-- no number of a range passes a test
+none_of : (test : ℕ → Bool) (a n k : ℕ) → list_any test (range_with_len a n) ≡ false → a ≤ k → k < a + n → test k ≡ false
+none_of test a zero k none low high = absurd (omega arith)
+none_of test a (suc n) k none low high =
+    elim (eq-or-lt_of_le low) [
+      | inl same ↦ subst (λ (j : ℕ). test j ≡ false) same (or-left (test a) (list_any test (range_with_len (a + 1) n)) none)
+      | inr later ↦ none_of test (a + 1) n k (or-right (test a) (list_any test (range_with_len (a + 1) n)) none) (omega (arith, later)) (omega arith)
+    ]
+
+some_of : {A : Type 0} (o : Option A) → is_none o ≡ false → IsSome o
+some_of None e = absurd cc
+some_of (Some x) e = refl
+
+-- ---- reads
+
+-- a read of some bytes within what is no buffer
+read_fits : (past : Past) (b o n : ℕ) → 0 < n → o + n ≤ buffer_size past b → FitsRead (buffer past b) o n
+read_fits past b o n some range = go (buffer past b) refl
+  where
+    go : (x : Option BufferInfo) → buffer past b ≡ x → FitsRead x o n
+    go None is = let le : o + n ≤ 0 = rw (buffer_size, is) at range in absurd (omega arith)
+    go (Some i) is = rw (buffer_size, is) at range
+
+read_point : (past : Past) (p : Point) (b o n : ℕ) → p.deed ≡ Host (entry.Read b o n) → is_free_of covered (p ∷ past) ≡ true → FitsEntry past (entry.Read b o n)
+read_point past p b o n is none = (
+  read_fits past b o n (not_zero n (entry_size past p none (entry.Read b o n) is)) (not_above (buffer_size past b) (o + n) (entry_range past p none (entry.Read b o n) is)),
+  λ k lt. some_of ((world past).value (in_buffer b (o + k))) (none_of (λ k. is_none ((world past).value (in_buffer b (o + k)))) 0 n k (entry_defined past p none (entry.Read b o n) is) (omega arith) (omega arith)),
+)
+
+-- ---- fills
+
+fill_fits : (size o : ℕ) (n : Length) → fills_none size o n ≡ false → nat_lt size (o + fill_size size o n) ≡ false → ends_at size o n ≡ false → off_4_length n ≡ false
+    → (o ≤ size) × (o + fill_size size o n ≤ size) × (fill_size size o n ≡ 4 * (fill_size size o n / 4)) × (0 < size)
+fill_fits size o (length_of.Bytes n) some inside here whole =
+    let le : o + n ≤ size = not_above size (o + n) inside in
+    let pos : 0 < n = not_zero n some in
+    let rest : n % 4 ≡ 0 = eqb-true (n % 4) 0 (not-false (n % 4 == 0) whole) in
+    let parts : 4 * (n / 4) + n % 4 ≡ n = div-add-mod n 4 in
+    (omega arith, le, omega arith, omega arith)
+fill_fits size o length_of.Whole some inside here whole =
+    let lt : o < size = below_end size o here in
+    let words : ℕ = (size - o) / 4 in
+    let parts : words * 4 ≤ size - o = div-mul-le_self (size - o) 4 in
+    let again : words * 4 / 4 ≡ words = mul-div_cancel words (omega arith) in
+    (omega arith, omega arith, omega (arith, ap (λ (k : ℕ). 4 * k) again), omega arith)
+  where
+    below_end : (size o : ℕ) → nat_le size o ≡ false → o < size
+    below_end size o e = leb-false size o e
+
+abbrev outside : Past → ℕ → ℕ → Length → Bool
+outside past b o n = nat_lt (buffer_size past b) (o + fill_size (buffer_size past b) o n)
+
+fill_point : (past : Past) (p : Point) (b o : ℕ) (n : Length) (w : ℕ) → p.deed ≡ Run (cmd.Fill b o n w) → is_free_of covered (p ∷ past) ≡ true → FitsFill (buffer past b) o n
+fill_point past p b o n w is none =
+    go (buffer past b) refl (fill_fits (buffer_size past b) o n (command_size past p none (cmd.Fill b o n w) is) inside (from_end n ranged) (or-right _ _ (command_align past p none (cmd.Fill b o n w) is)))
+  where
+    -- the parts and the end, without the elements and regions that a fill hasn't
+    ranged : ((outside past b o n || false) || fills_from_end past (cmd.Fill b o n w)) ≡ false
+    ranged = or-left _ false (or-left _ false (command_range past p none (cmd.Fill b o n w) is))
+
+    inside : outside past b o n ≡ false
+    inside = or-left (outside past b o n) false (or-left (outside past b o n || false) (fills_from_end past (cmd.Fill b o n w)) ranged)
+
+    from_end : (n : Length) → ((outside past b o n || false) || fills_from_end past (cmd.Fill b o n w)) ≡ false → ends_at (buffer_size past b) o n ≡ false
+    from_end (length_of.Bytes n) e = refl
+    from_end length_of.Whole e = or-right (outside past b o length_of.Whole || false) (nat_le (buffer_size past b) o) e
+
+    go : (x : Option BufferInfo) → buffer past b ≡ x → (o ≤ buffer_size past b) × (o + fill_size (buffer_size past b) o n ≤ buffer_size past b) × (fill_size (buffer_size past b) o n ≡ 4 * (fill_size (buffer_size past b) o n / 4)) × (0 < buffer_size past b) → FitsFill x o n
+    go None e f = let pos : 0 < 0 = rw (buffer_size, e) at f.3 in absurd (omega arith)
+    go (Some i) e f = let f' = rw (buffer_size, e) at f in (f'.0, f'.1, f'.2)
+
+-- ---- the other forms
+
+all_memory : (es : List Element) → list_all is_memory es ≡ true → AllMemory es
+all_memory [] e = tt
+all_memory (element.Memory d ∷ es) e = all_memory es e
+all_memory (element.Buffer b ∷ es) e = absurd cc
+all_memory (element.Image b ∷ es) e = absurd cc
+
+own_place : (q : Place) → is_served_place q ≡ true → IsOwn q
+own_place (place.Dedicated t) e = tt
+own_place (place.Pool q) e = absurd cc
+own_place (place.PoolUpper q) e = absurd cc
+own_place (place.Memory m o) e = absurd cc
+
+rounded_bound : (size : ℕ) → (size + 15) / 16 * 16 ≤ 67108864 → size ≤ 67108864
+rounded_bound size le = let parts = div-add-mod (size + 15) 16 in let rest : (size + 15) % 16 < 16 = mod-lt (size + 15) (omega arith) in omega arith
+
+buffer_point : (past : Past) (p : Point) (i : ℕ) (b : BufferInfo) → p.deed ≡ Host (entry.Buffer i b) → is_served_place b.place ≡ true → is_free_of covered (p ∷ past) ≡ true → FitsEntry past (entry.Buffer i b)
+buffer_point past p i b is served none = (
+  new_made past p none (entry.Buffer i b) i is refl,
+  not_zero b.size (entry_size past p none (entry.Buffer i b) is),
+  rounded_bound b.size (not_above 67108864 ((b.size + 15) / 16 * 16) (memory_size past p none (entry.Buffer i b) is)),
+  own_place b.place served,
+)
+
+fits_entry : (past : Past) (p : Point) (x : Entry) → p.deed ≡ Host x → is_served_deed (Host x) ≡ true → is_free_of covered (p ∷ past) ≡ true → FitsEntry past x
+fits_entry past p (entry.Buffer i b) is served none = buffer_point past p i b is served none
+fits_entry past p (entry.Map b) is served none = tt
+fits_entry past p (entry.Read b o n) is served none = read_point past p b o n is none
+fits_entry past p (entry.Semaphore i v) is served none = new_made past p none (entry.Semaphore i v) i is refl
+fits_entry past p (entry.Wait ws) is served none = tt
+fits_entry past p (entry.Submit q bs) is served none = tt
+fits_entry past p (entry.Pool i x) is served none = absurd cc
+fits_entry past p (entry.Image i x) is served none = absurd cc
+fits_entry past p (entry.Memory i x) is served none = absurd cc
+fits_entry past p (entry.Free m) is served none = absurd cc
+fits_entry past p (entry.Destroy r) is served none = absurd cc
+fits_entry past p (entry.DropPool q) is served none = absurd cc
+fits_entry past p (entry.Unmap b) is served none = absurd cc
+fits_entry past p (entry.Write b o bytes) is served none = absurd cc
+fits_entry past p (entry.Flush b o n) is served none = absurd cc
+fits_entry past p (entry.Invalidate b o n) is served none = absurd cc
+fits_entry past p (entry.Event i) is served none = absurd cc
+fits_entry past p (entry.Signal s v) is served none = absurd cc
+fits_entry past p (entry.Defrag i q n m) is served none = absurd cc
+fits_entry past p (entry.Pass d) is served none = absurd cc
+fits_entry past p (entry.EndPass d kept lost) is served none = absurd cc
+fits_entry past p (entry.EndDefrag d) is served none = absurd cc
+
+fits_command : (past : Past) (p : Point) (c : Cmd) → p.deed ≡ Run c → is_served_deed (Run c) ≡ true → is_free_of covered (p ∷ past) ≡ true → FitsCommand past c
+fits_command past p (cmd.Fill b o n w) is served none = fill_point past p b o n w is none
+fits_command past p (cmd.Barrier es) is served none = all_memory es served
+fits_command past p (cmd.Update b o bytes) is served none = absurd cc
+fits_command past p (cmd.Copy a b gs) is served none = absurd cc
+fits_command past p (cmd.Clear i l color rs) is served none = absurd cc
+fits_command past p (cmd.CopyIn b i l gs) is served none = absurd cc
+fits_command past p (cmd.CopyOut i l b gs) is served none = absurd cc
+fits_command past p (cmd.CopyImage a l b m gs) is served none = absurd cc
+fits_command past p (cmd.Set v ms) is served none = absurd cc
+fits_command past p (cmd.Await v ms) is served none = absurd cc
+
+fits_deed : (past : Past) (p : Point) (d : Deed) → p.deed ≡ d → is_served_deed d ≡ true → is_free_of covered (p ∷ past) ≡ true → FitsDeed past d
+fits_deed past p (Host x) is served none = fits_entry past p x is served none
+fits_deed past p (Run c) is served none = fits_command past p c is served none
+fits_deed past p (Wait s) is served none = tt
+fits_deed past p (Signal s) is served none = tt
+
+-- every point of a clean past fits
+pub fits_clean : (past : Past) → is_free_of covered past ≡ true → is_served past ≡ true → AllFit past
+unfolding is_served
+fits_clean [] none served = tt
+fits_clean (p ∷ past) none served =
+    let both = and-true (is_served_deed p.deed) (list_all (λ q. is_served_deed q.deed) past) served in
+    (fits_deed past p p.deed refl both.0 none, fits_clean past (older_free past p none) both.1)
+
+-- ---- what is older is clean too
+
+clean_older : (past : Past) (p : Point) → IsClean (p ∷ past) → IsClean past
+unfolding is_served
+clean_older past p clean = record {
+  sound = older_free past p clean.sound;
+  served = (and-true (is_served_deed p.deed) (list_all (λ q. is_served_deed q.deed) past) clean.served).1;
+}
+
+clean_deeds : {A : Type 0} (of : A → Deed) (t : Turn) (k : ℕ) (xs : List A) (past : Past) → IsClean (deeds of t k xs past) → IsClean past
+clean_deeds of t k [] past clean = clean
+clean_deeds of t k (x ∷ xs) past clean = clean_older past _ (clean_deeds of t (k + 1) xs _ clean)
+
+clean_taken : (t : Turn) (past : Past) → IsClean (taken t past) → IsClean past
+clean_taken t past clean = clean_deeds Wait t 0 t.content.waits past (clean_deeds Run t 0 t.content.commands _ (clean_deeds Signal t 0 t.content.signals _ clean))
+
+clean_turns : (ts : List Turn) (past : Past) → IsClean (fold (λ p t. taken t p) past ts) → IsClean past
+clean_turns [] past clean = clean
+clean_turns (t ∷ ts) past clean = clean_taken t past (clean_turns ts (taken t past) clean)
+
+pub clean_plain : (e : ℕ) (xs : List Entry) (past : Past) → IsClean (plain_from e past xs) → IsClean past
+clean_plain e [] past clean = clean
+clean_plain e (x ∷ xs) past clean = clean_older past (host e x) (clean_turns (turns_of past e x) (host e x ∷ past) (clean_plain (e + 1) xs _ clean))

@@ -1,0 +1,9 @@
+pub mod Clean
+pub mod Running
+pub mod Filling
+pub mod Steps
+pub mod Loops
+pub mod Entries
+pub mod Whole
+pub mod Next
+pub mod Allotting

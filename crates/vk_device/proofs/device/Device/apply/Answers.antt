@@ -1,0 +1,14 @@
+use Rattle.std.proofs.Common.{◌≡◌, false, ap}
+use Rattle.vk_device.specs.Held.{Held}
+use Rattle.vk_device.proofs.Next.{if_ok, ready_next, clean_fits}
+use Rattle.vk_device.proofs.device.Device.apply.Goals as goal
+
+pub apply_entry-applied-requires : goal.apply_entry-applied-requires
+apply_entry-applied-requires g c =
+    let same = ap (λ (s : Held). s.failed) c.self.view_is in
+    let works : c.args.self.now.failed ≡ false = cc (same, c.if-self.false) in
+    ready_next c.args.self.now c.args.entry.now works c.requires
+
+pub returns-else-is_err-clause-told : goal.returns-else-is_err-clause-told
+returns-else-is_err-clause-told g c =
+    if_ok c.apply_entry-applied.result _ _ (λ a told. λ e past st clean. told e past st (clean_fits _ clean)) c.apply_entry-applied.ensures.told

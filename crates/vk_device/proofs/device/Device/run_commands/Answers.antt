@@ -1,0 +1,14 @@
+use Rattle.vk_device.proofs.Loops.{commands_start, command_ready, command_more, commands_end}
+use Rattle.vk_device.proofs.device.Device.run_commands.Goals as goal
+
+pub loop-command-init : goal.loop-command-init
+loop-command-init c = commands_start c.args.self.now c.args.commands.now
+
+pub run_command-requires : goal.run_command-requires
+run_command-requires c = command_ready c.args.self.now c.args.commands.now c.loop-command.command-index c.loop-command.self c.command-item.result c.requires c.loop-command.invariant c.command-item.is c.loop-command-test.true
+
+pub loop-command-preserved : goal.loop-command-preserved
+loop-command-preserved c = command_more c.args.self.now c.args.commands.now c.loop-command.command-index c.loop-command.self c.run_command.new.self c.command-item.result c.requires c.loop-command.invariant c.command-item.is c.loop-command-test.true (record { stands = c.run_command.ensures.stands; allotted = c.run_command.ensures.allotted; failed = c.run_command.ensures.failed })
+
+pub returns-clause-stands : goal.returns-clause-stands
+returns-clause-stands c = commands_end c.args.self.now c.args.commands.now c.loop-command.command-index c.loop-command.self c.loop-command.invariant c.loop-command-test.false
