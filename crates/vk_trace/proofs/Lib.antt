@@ -1,2 +1,4 @@
 pub mod MemberLemmas
 pub mod ByteLemmas
+pub mod ServedLemmas
+pub mod Refusals

@@ -1,9 +1,11 @@
 ghost use Rattle.std.specs.Prelude.{◌≡◌, ◌↔◌, ◌≤◌, ℕ, List, take, length, IfOk, IfErr, OnOk, IfSome, IsTrue, string_bytes, vec_len, false};
 ghost use Rattle.std.specs.Io.KnownBytes.{Appends, Keeps};
 ghost use Rattle.vk_model.specs.declared.entry.Entry.{Entry};
+ghost use Rattle.vk_model.specs.Order.{plain_order};
+ghost use Rattle.vk_validate.specs.Served.{is_served};
 ghost use Rattle.vk_trace.specs.declared.printing.Outcome.{Outcome};
 ghost use Rattle.vk_trace.specs.Trace.{IsTrace};
-ghost use Rattle.vk_trace.specs.Run.{Tells, status_of, IsBeforeWriting, IsOfReading, IsOfAnswering};
+ghost use Rattle.vk_trace.specs.Run.{Tells, IsAnswer, status_of, IsBeforeWriting, IsOfReading, IsOfAnswering};
 
 use crate::faults::{ReadTraceFault, RunFault};
 use crate::printing::{Outcome, text};
@@ -33,7 +35,8 @@ const MOST_READS: u64 = 1_048_576;
 const CHUNK: usize = 65_536;
 
 /// Reads a trace to its end, looks for a broken rule, replays it where there is none, and writes the
-/// text of the answer. Nothing is written before the whole text is built, so only `WriteFault` has
+/// text of the answer: the bytes that the trace means, up to the first entry that finds no room in heaps
+/// of these sizes, or a refusal. Nothing is written before the whole text is built, so only `WriteFault` has
 /// written a part of it. Nothing is flushed.
 pub fn run<R: Read, W: Write, S: Scheduler>(
     alloc: Global,
@@ -44,9 +47,9 @@ pub fn run<R: Read, W: Write, S: Scheduler>(
 ) -> Result<Status, RunFault>
     requires reads { reader.old.failed ≡ false }
     requires writes { writer.old.failed ≡ false }
-    // What is written tells an outcome of the trace that was read, and nothing else is written.
+    // The bytes that were read are a trace, the answer to it is written, and nothing else is.
     ensures done { IfOk result (λ status. IfSome (R.remaining reader.old.inner) (λ input.
-        (text : List ℕ) × (outcome : Outcome) × Tells input text outcome × (status ≡ status_of outcome)
+        (text : List ℕ) × (outcome : Outcome) × Tells config input text outcome × (status ≡ status_of outcome)
         × Appends (W.contents writer.old.inner) (W.contents writer.new.inner) text)) }
     // There is no trace only where the bytes are none.
     ensures no_trace { result ≡ Err RunFault.NotTrace
@@ -54,10 +57,10 @@ pub fn run<R: Read, W: Write, S: Scheduler>(
     // Every fault but that of a write has written nothing.
     ensures silent { IfErr result (λ e. IsBeforeWriting e
         → Keeps (W.contents writer.old.inner) (W.contents writer.new.inner)) }
-    // A failed write has written the front of the text.
+    // A failed write has written the front of the answer.
     ensures sent { (n : ℕ) → result ≡ Err (RunFault.WriteFault n)
         → IfSome (R.remaining reader.old.inner) (λ input. (text : List ℕ) × (outcome : Outcome)
-        × Tells input text outcome × (n ≤ length text)
+        × Tells config input text outcome × (n ≤ length text)
         × Appends (W.contents writer.old.inner) (W.contents writer.new.inner) (take n text)) }
     ensures read_fault { (result ≡ Err RunFault.ReadFault) ↔ IsTrue reader.new.failed }
     ensures write_fault { (n : ℕ) → result ≡ Err (RunFault.WriteFault n) → IsTrue writer.new.failed }
@@ -116,7 +119,7 @@ fn answer<S: Scheduler>(
     config: Config,
     sched: &mut S,
 ) -> Result<(Status, String), RunFault>
-    ensures ok { IfOk result (λ r. (outcome : Outcome) × Tells input.now (string_bytes r.1) outcome × (r.0 ≡ status_of outcome)) }
+    ensures ok { IfOk result (λ r. (outcome : Outcome) × Tells config input.now (string_bytes r.1) outcome × (r.0 ≡ status_of outcome)) }
     ensures kinds { IfErr result IsOfAnswering }
     ensures no_trace { result ≡ Err RunFault.NotTrace → (t : List Entry) → IsTrace input.now t → ⊥ }
     ensures view { S.held sched.new ≡ S.held sched.old }
@@ -142,14 +145,17 @@ fn told_status(outcome: &Outcome) -> Status
     }
 }
 
-/// What there is to tell of a trace. A device that is new has no fault but want of memory.
+/// The answer to a trace. A device that is new has no fault but want of memory.
+#[tactic(auto, using(crate::proofs::Refusals::refusal_tells))]
 fn outcome_of<S: Scheduler>(
     alloc: Global,
     entries: &[Entry],
     config: Config,
     sched: &mut S,
 ) -> Result<Outcome, AllocError>
-    ensures { S.held sched.new ≡ S.held sched.old }
+    requires { IsTrue (is_served (plain_order entries.now)) }
+    ensures answer { IfOk result (IsAnswer config entries.now) }
+    ensures view { S.held sched.new ≡ S.held sched.old }
 {
     match validate(alloc, entries)? {
         Verdict::Refused(at, rule) => Ok(Outcome::Refused(at, rule)),

@@ -1,0 +1,238 @@
+-- Whatever is a trace has only forms that are served.
+use Rattle.std.proofs.Common.{◌≡◌, ℕ, ◌+◌, List, [], ◌∷◌, Bool, true, false, not, ◌==◌, refl, ap, sym, subst, Option, Some, None, IsTrue}
+use Rattle.std.specs.Prelude.{⊤, bytes_eq, if◌then◌else◌, unwrap_or, option_map}
+use Rattle.std.specs.List.{fold, list_all}
+use Rattle.serde_json.specs.Data.{Data}
+use Rattle.vk_model.specs.declared.command.Cmd.{Cmd}
+use Rattle.vk_model.specs.declared.command.Cmd.TheVariants as cmd
+use Rattle.vk_model.specs.declared.command.Element.{Element}
+use Rattle.vk_model.specs.declared.command.Element.TheVariants as element
+use Rattle.vk_model.specs.declared.command.Dependency.{Dependency}
+use Rattle.vk_model.specs.declared.entry.Batch.{Batch}
+use Rattle.vk_model.specs.declared.entry.Entry.{Entry}
+use Rattle.vk_model.specs.declared.entry.Entry.TheVariants as entry
+use Rattle.vk_model.specs.declared.entry.SemaphoreSubmit.{SemaphoreSubmit}
+use Rattle.vk_model.specs.declared.resource.Place.{Place}
+use Rattle.vk_model.specs.declared.resource.Place.TheVariants as place
+use Rattle.vk_model.specs.Point.{Past, Point, Deed, Wait, Run, Signal}
+use Rattle.vk_model.specs.Order.{Turn, host, deeds, taken, turns_from, turns_of, plain_from, plain_order}
+use Rattle.vk_validate.specs.Served.{is_served, is_served_deed, is_served_entry, is_served_command, is_served_place, is_memory}
+use Rattle.vk_trace.specs.Members.{Reader, Row, ◌>>=◌, array_members, first_member, no_member, from, ◌<*>◌, only, members, at_word, after_word, word_and_members, tagged, each_member, list_of, empty_list, u32_value, u64_value}
+use Rattle.vk_trace.specs.Trace.{memory_element, dependency_value, command_rows, command_value, semaphore_submit, batch_value, semaphore_value, queue_value, memory_type_value, place_rows, place_value, sharing_value, length_or_whole, buffer, entry_rows, entry_value, IsTrace}
+
+-- ---- what holds of all that a reader gives
+
+abbrev pub Each : {A : Type 0} → (A → Type 0) → List A → Type 0
+Each P [] = ⊤
+Each P (x ∷ xs) = P x × Each P xs
+
+abbrev Makes : {A : Type 0} → (A → Type 0) → Reader A → Type 0
+Makes {A} P read = (d : Data) (x : A) → read d ≡ Some x → P x
+
+abbrev RowMakes : {A : Type 0} → (A → Type 0) → Row A → Type 0
+RowMakes {A} P row = (ds : List Data) (x : A) (rest : List Data) → row ds ≡ Some (x, rest) → P x
+
+-- what was read before it went on
+went_on : {A B : Type 0} (o : Option A) (next : A → Option B) (y : B) → (o >>= next) ≡ Some y → (x : A) × (o ≡ Some x) × (next x ≡ Some y)
+went_on None next y h = absurd cc
+went_on (Some x) next y h = (x, refl, h)
+
+same_first : (A B : Type 0) (p q : A × B) → Some p ≡ Some q → p.0 ≡ q.0
+same_first A B p q h = ap (λ (o : Option (A × B)). (unwrap_or o p).0) h
+
+first_makes : {A : Type 0} (P : A → Type 0) (read : Reader A) → Makes P read → (ds : List Data) (x : A) (rest : List Data) → first_member read ds ≡ Some (x, rest) → P x
+first_makes P read makes [] x rest h = absurd cc
+first_makes {A} P read makes (d ∷ ds) x rest h =
+    let one = went_on (read d) (λ (y : A). Some (y, ds)) (x, rest) h in
+    subst P (same_first A (List Data) (one.0, ds) (x, rest) one.2) (makes d one.0 one.1)
+
+from_makes : {A : Type 0} (P : A → Type 0) (f : A) → P f → RowMakes P (from f)
+from_makes {A} P f holds ds x rest h = subst P (same_first A (List Data) (f, ds) (x, rest) h) holds
+
+-- one member more, of which Q holds
+more_makes : {A B : Type 0} (P : B → Type 0) (Q : A → Type 0) (row : Row (A → B)) (read : Reader A) → RowMakes (λ f. (a : A) → Q a → P (f a)) row → Makes Q read → RowMakes P (row <*> read)
+more_makes {A} {B} P Q row read makes_row makes ds x rest h =
+    let before = went_on (row ds) (λ (b : (A → B) × List Data). first_member read b.1 >>= λ y. Some (b.0 y.0, y.1)) (x, rest) h in
+    let one = went_on (first_member read before.0.1) (λ (y : A × List Data). Some (before.0.0 y.0, y.1)) (x, rest) before.2 in
+    subst P (same_first B (List Data) (before.0.0 one.0.0, one.0.1) (x, rest) one.2) (makes_row ds before.0.0 before.0.1 before.1 one.0.0 (first_makes Q read makes before.0.1 one.0.0 one.0.1 one.1))
+
+-- one member more, of any kind
+any_makes : {A B : Type 0} (P : B → Type 0) (row : Row (A → B)) (read : Reader A) → RowMakes (λ f. (a : A) → P (f a)) row → RowMakes P (row <*> read)
+any_makes {A} P row read makes_row = more_makes P (λ (a : A). ⊤) row read (λ ds f rest h a _. makes_row ds f rest h a) (λ d a h. tt)
+
+only_makes : {A : Type 0} (P : A → Type 0) (row : Row A) → RowMakes P row → (ds : List Data) (x : A) → only row ds ≡ Some x → P x
+only_makes {A} P row makes ds x h =
+    let before = went_on (row ds) (λ (y : A × List Data). no_member y.1 >>= λ _. Some y.0) x h in
+    let end = went_on (no_member before.0.1) (λ (u : Unit {0}). Some before.0.0) x before.2 in
+    let same : before.0.0 ≡ x = cc in
+    subst P same (makes ds before.0.0 before.0.1 before.1)
+
+members_make : {A : Type 0} (P : A → Type 0) (row : Row A) → RowMakes P row → Makes P (members row)
+members_make P row makes d x h =
+    let ds = went_on (array_members d) (only row) x h in
+    only_makes P row makes ds.0 x ds.2
+
+-- each row of a table
+abbrev EachRow : {A : Type 0} → (A → Type 0) → List (List ℕ × Row A) → Type 0
+EachRow P [] = ⊤
+EachRow P (r ∷ rows) = RowMakes P r.1 × EachRow P rows
+
+row_found : {A : Type 0} (P : A → Type 0) (rows : List (List ℕ × Row A)) (word : List ℕ) (row : Row A) → EachRow P rows → at_word rows word ≡ Some row → RowMakes P row
+row_found P [] word row each h = absurd cc
+row_found {A} P (r ∷ rows) word row each h = go (bytes_eq word r.0) h (row_found P rows word row each.1)
+  where
+    go : (b : Bool) → (if b then Some r.1 else at_word rows word) ≡ Some row → (at_word rows word ≡ Some row → RowMakes P row) → RowMakes P row
+    go true e later = let same : r.1 ≡ row = cc in subst (λ (s : Row A). RowMakes P s) same each.0
+    go false e later = later e
+
+tagged_makes : {A : Type 0} (P : A → Type 0) (rows : List (List ℕ × Row A)) → EachRow P rows → Makes P (tagged rows)
+tagged_makes {A} P rows each d x h =
+    let front = went_on (word_and_members d) (λ (y : List ℕ × List Data). after_word rows y.0 y.1) x h in
+    let row = went_on (at_word rows front.0.0) (λ (r : Row A). only r front.0.1) x front.2 in
+    only_makes P row.0 (row_found P rows front.0.0 row.0 each row.1) front.0.1 x row.2
+
+each_makes : {A : Type 0} (P : A → Type 0) (read : Reader A) → Makes P read → (ds : List Data) (xs : List A) → each_member read ds ≡ Some xs → Each P xs
+unfolding each_member
+each_makes P read makes [] xs h = let same : [] ≡ xs = cc in subst (Each P) same tt
+each_makes {A} P read makes (d ∷ ds) xs h =
+    let one = went_on (read d) (λ (y : A). each_member read ds >>= λ ys. Some (y ∷ ys)) xs h in
+    let more = went_on (each_member read ds) (λ (ys : List A). Some (one.0 ∷ ys)) xs one.2 in
+    let same : one.0 ∷ more.0 ≡ xs = cc in
+    subst (Each P) same (makes d one.0 one.1, each_makes P read makes ds more.0 more.1)
+
+list_makes : {A : Type 0} (P : A → Type 0) (read : Reader A) → Makes P read → Makes (Each P) (list_of read)
+unfolding list_of
+list_makes P read makes d xs h =
+    let ds = went_on (array_members d) (each_member read) xs h in
+    each_makes P read makes ds.0 xs ds.2
+
+-- ---- what holds of the forms of a trace
+
+all_pass : {A : Type 0} (test : A → Bool) (xs : List A) → Each (λ x. test x ≡ true) xs → list_all test xs ≡ true
+all_pass test [] each = refl
+all_pass test (x ∷ xs) each = rw (each.0, all_pass test xs each.1) refl
+
+memory_makes : Makes (λ (e : Element). is_memory e ≡ true) memory_element
+unfolding memory_element
+memory_makes d x h = go (dependency_value d) h
+  where
+    go : (o : Option Dependency) → option_map element.Memory o ≡ Some x → is_memory x ≡ true
+    go None e = absurd cc
+    go (Some v) e = let same : element.Memory v ≡ x = cc in subst (λ (y : Element). is_memory y ≡ true) same refl
+
+abbrev IsServedCommand : Cmd → Type 0
+IsServedCommand c = is_served_command c ≡ true
+
+command_makes : Makes IsServedCommand command_value
+unfolding command_value command_rows
+command_makes = tagged_makes IsServedCommand command_rows (
+  any_makes IsServedCommand _ u32_value (any_makes _ _ length_or_whole (any_makes _ _ u64_value (any_makes _ _ u32_value (from_makes _ cmd.Fill (λ b o n w. refl))))),
+  (
+    any_makes IsServedCommand _ empty_list (any_makes _ _ empty_list (more_makes _ (Each (λ (e : Element). is_memory e ≡ true)) _ (list_of memory_element) (from_makes _ _ (λ es each _ _. all_pass is_memory es each)) (list_makes _ memory_element memory_makes))),
+    tt,
+  ),
+)
+
+-- a batch without waits, of commands that are served
+pub record IsServedBatch (b : Batch) : Type 0 where
+  pub waits : b.waits ≡ []
+  pub commands : Each IsServedCommand b.commands
+
+batch_makes : Makes IsServedBatch batch_value
+unfolding batch_value
+batch_makes = members_make IsServedBatch _ (
+    any_makes IsServedBatch _ (list_of semaphore_submit) (more_makes _ (Each IsServedCommand) _ (list_of command_value) (any_makes _ _ empty_list (from_makes _ _ (λ _ cs each ss. record { waits = refl; commands = each }))) (list_makes _ command_value command_makes))
+    )
+
+abbrev IsServedPlace : Place → Type 0
+IsServedPlace p = is_served_place p ≡ true
+
+type_makes : Makes (λ (t : ℕ). not (t == 2) ≡ true) memory_type_value
+unfolding memory_type_value
+type_makes d x h =
+    let read = went_on (u32_value d) (λ (n : ℕ). if n == 2 then None else Some n) x h in
+    go read.0 (read.0 == 2) refl read.2
+  where
+    go : (n : ℕ) (b : Bool) → (n == 2) ≡ b → (if b then None else Some n) ≡ Some x → not (x == 2) ≡ true
+    go n true is e = absurd cc
+    go n false is e = let same : n ≡ x = cc in subst (λ (m : ℕ). not (m == 2) ≡ true) same (rw is refl)
+
+place_makes : Makes IsServedPlace place_value
+unfolding place_value place_rows
+place_makes = tagged_makes IsServedPlace place_rows (more_makes IsServedPlace (λ (t : ℕ). not (t == 2) ≡ true) _ memory_type_value (from_makes _ place.Dedicated (λ t other. other)) type_makes, tt)
+
+queue_makes : Makes (λ (q : ℕ). (q == 0) ≡ true) queue_value
+unfolding queue_value
+queue_makes d x h =
+    let read = went_on (u32_value d) (λ (n : ℕ). if n == 0 then Some n else None) x h in
+    go read.0 (read.0 == 0) refl read.2
+  where
+    go : (n : ℕ) (b : Bool) → (n == 0) ≡ b → (if b then Some n else None) ≡ Some x → (x == 0) ≡ true
+    go n false is e = absurd cc
+    go n true is e = let same : n ≡ x = cc in subst (λ (m : ℕ). (m == 0) ≡ true) same is
+
+-- an entry, and the batches that it submits
+pub record IsServedEntry (x : Entry) : Type 0 where
+  pub host : is_served_entry x ≡ true
+  pub turns : (past : Past) (e : ℕ) → Each (λ (t : Turn). IsServedBatch t.content) (turns_of past e x)
+
+of_batches : (past : Past) (e q k : ℕ) (bs : List Batch) → Each IsServedBatch bs → Each (λ (t : Turn). IsServedBatch t.content) (turns_from past e q k bs)
+of_batches past e q k [] each = tt
+of_batches past e q k (b ∷ bs) each = (each.0, of_batches past e q (k + 1) bs each.1)
+
+entry_makes : Makes IsServedEntry entry_value
+unfolding entry_value entry_rows
+entry_makes = tagged_makes IsServedEntry entry_rows (
+  more_makes IsServedEntry IsServedPlace _ place_value (any_makes _ _ sharing_value (any_makes _ _ u32_value (any_makes _ _ u64_value (any_makes _ _ u32_value (from_makes _ buffer (λ i n u s p own. record { host = own; turns = λ past e. tt })))))) place_makes,
+  (
+    any_makes IsServedEntry _ u32_value (from_makes _ entry.Map (λ b. record { host = refl; turns = λ past e. tt })),
+    (
+      any_makes IsServedEntry _ u64_value (any_makes _ _ u64_value (any_makes _ _ u32_value (from_makes _ entry.Read (λ b o n. record { host = refl; turns = λ past e. tt })))),
+      (
+        any_makes IsServedEntry _ u64_value (any_makes _ _ u32_value (from_makes _ entry.Semaphore (λ i v. record { host = refl; turns = λ past e. tt }))),
+        (
+          any_makes IsServedEntry _ (list_of semaphore_value) (from_makes _ entry.Wait (λ ws. record { host = refl; turns = λ past e. tt })),
+          (
+            more_makes IsServedEntry (Each IsServedBatch) _ (list_of batch_value) (more_makes _ (λ (q : ℕ). (q == 0) ≡ true) _ queue_value (from_makes _ entry.Submit (λ q first bs each. record { host = first; turns = λ past e. of_batches past e q 0 bs each })) queue_makes) (list_makes _ batch_value batch_makes),
+            tt,
+          ),
+        ),
+      ),
+    ),
+  ),
+)
+
+-- ---- every point of a trace
+
+point_served : (p : Point) (past : Past) → is_served_deed p.deed ≡ true → is_served past ≡ true → is_served (p ∷ past) ≡ true
+unfolding is_served
+point_served p past here before = rw (here, before) refl
+
+deeds_served : {A : Type 0} (of : A → Deed) (t : Turn) (k : ℕ) (xs : List A) (past : Past) → Each (λ x. is_served_deed (of x) ≡ true) xs → is_served past ≡ true → is_served (deeds of t k xs past) ≡ true
+deeds_served of t k [] past each before = before
+deeds_served of t k (x ∷ xs) past each before = deeds_served of t (k + 1) xs _ each.1 (point_served (record { entry = t.entry; batch = t.batch; place = k; queue = t.queue; deed = of x }) past each.0 before)
+
+signals : (xs : List SemaphoreSubmit) → Each (λ x. is_served_deed (Signal x) ≡ true) xs
+signals [] = tt
+signals (x ∷ xs) = (refl, signals xs)
+
+taken_served : (t : Turn) (past : Past) → IsServedBatch t.content → is_served past ≡ true → is_served (taken t past) ≡ true
+taken_served t past batch before =
+    let waited : is_served (deeds Wait t 0 t.content.waits past) ≡ true = subst (λ (ws : List SemaphoreSubmit). is_served (deeds Wait t 0 ws past) ≡ true) (sym batch.waits) before in
+    deeds_served Signal t 0 t.content.signals _ (signals t.content.signals) (deeds_served Run t 0 t.content.commands _ batch.commands waited)
+
+turns_served : (ts : List Turn) (past : Past) → Each (λ (t : Turn). IsServedBatch t.content) ts → is_served past ≡ true → is_served (fold (λ p t. taken t p) past ts) ≡ true
+turns_served [] past each before = before
+turns_served (t ∷ ts) past each before = turns_served ts (taken t past) each.1 (taken_served t past each.0 before)
+
+plain_served : (e : ℕ) (past : Past) (xs : List Entry) → Each IsServedEntry xs → is_served past ≡ true → is_served (plain_from e past xs) ≡ true
+plain_served e past [] each before = before
+plain_served e past (x ∷ xs) each before =
+    plain_served (e + 1) _ xs each.1 (turns_served (turns_of past e x) (host e x ∷ past) (each.0.turns past e) (point_served (host e x) past each.0.host before))
+
+nothing_served : is_served [] ≡ true
+unfolding is_served
+nothing_served = refl
+
+pub trace_served : (bytes : List ℕ) (t : List Entry) → IsTrace bytes t → IsTrue (is_served (plain_order t))
+trace_served bytes t is = plain_served 0 [] t (list_makes IsServedEntry entry_value entry_makes is.value t is.means) nothing_served
