@@ -2,26 +2,26 @@
 use Rattle.std.specs.Prelude.{◌≡◌, ℕ, ◌+◌, ◌<◌, ◌≤◌, ◌==◌, ◌⊎◌, List, [], ◌∷◌, length, replicate, slice_index_or, slice_set, sum_by, Bool, true, false, if◌then◌else◌}
 use Rattle.vk_memory.specs.declared.memories.Object.{Object}
 
--- the sizes of the heaps, and the objects by their numbers
+-- The sizes of the heaps, and the objects by their numbers.
 pub record Standing : Type 0 where
   pub heap0 : ℕ
   pub heap1 : ℕ
   pub objects : List Object
 
--- whether the memory of a type lies on heap 0 (profile)
+-- Whether the memory of a type lies on heap 0 (profile).
 abbrev pub on_first : ℕ → Bool
 on_first memory_type = memory_type == 0
 
--- the bytes of an object on heap 0, or on heap 1
+-- The bytes of an object on heap 0, or on heap 1.
 abbrev pub size_on : Bool → Object → ℕ
 size_on true o = if on_first o.memory_type then o.size else 0
 size_on false o = if on_first o.memory_type then 0 else o.size
 
--- the bytes of the objects on heap 0, or of those on heap 1
+-- The bytes of the objects on heap 0, or of those on heap 1.
 abbrev pub sizes_on : Bool → List Object → ℕ
 sizes_on first objects = sum_by (size_on first) objects
 
--- the size of a type's heap
+-- The size of a type's heap.
 abbrev pub heap_size : Standing → ℕ → ℕ
 heap_size s memory_type = if on_first memory_type then s.heap0 else s.heap1
 
@@ -33,26 +33,26 @@ fresh t size = record { memory_type = t; size = size; mapped = false; region = r
 abbrev pub IsFull : Standing → ℕ → ℕ → Type 0
 IsFull s memory_type size = (4096 ≤ length s.objects) ⊎ (heap_size s memory_type < sizes_on (on_first memory_type) s.objects + size)
 
--- stands for the object of a number that none has
+-- Stands for the object of a number that none has.
 abbrev pub nothing : Object
 nothing = record { memory_type = 0; size = 0; mapped = false; region = [] }
 
--- the object of a number
+-- The object of a number.
 abbrev pub object_at : Standing → ℕ → Object
 object_at s number = slice_index_or s.objects number nothing
 
--- the bytes of an object
+-- The bytes of an object.
 abbrev pub region_of : Standing → ℕ → List ℕ
 region_of s number = (object_at s number).region
 
--- whether an object is mapped
+-- Whether an object is mapped.
 abbrev pub is_mapped : Standing → ℕ → Bool
 is_mapped s number = (object_at s number).mapped
 
--- the objects, with other bytes in one of them
+-- The objects, with other bytes in one of them.
 abbrev pub with_region : Standing → ℕ → List ℕ → Standing
 with_region s number bytes = record s { objects = slice_set s.objects number (record (object_at s number) { region = bytes }) }
 
--- the objects, with one of them mapped or not
+-- The objects, with one of them mapped or not.
 abbrev pub with_mapped : Standing → ℕ → Bool → Standing
 with_mapped s number mapped = record s { objects = slice_set s.objects number (record (object_at s number) { mapped = mapped }) }

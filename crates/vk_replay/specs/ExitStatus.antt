@@ -5,6 +5,7 @@ use Rattle.vk_trace.specs.declared.running.Status.TheVariants as status
 use Rattle.vk_trace.specs.declared.faults.RunFault.{RunFault}
 use Rattle.vk_trace.specs.declared.faults.RunFault.TheVariants as fault
 
+-- The exit status by how a run went (profile).
 abbrev pub exit_status_of : Result Status RunFault → ℕ
 exit_status_of (Ok status.Replayed) = 0
 exit_status_of (Ok status.Refused) = 1

@@ -15,11 +15,11 @@ use Rattle.vk_trace.specs.Members.{◌>>=◌}
 use Rattle.vk_trace.specs.Trace.{trace_value}
 use Rattle.vk_trace.specs.Text.{lines_of}
 
--- the entries that a text of JSON stands for
+-- The entries that a text of JSON stands for.
 abbrev pub meant_by : List ℕ → Option (List Entry)
 meant_by bytes = read bytes >>= trace_value
 
--- a buffer is filled on a queue, and the host reads it
+-- A buffer is filled on a queue, and the host reads it.
 abbrev pub first_upload : List Entry
 first_upload =
     entry.Buffer 1 (record { size = 16; usage = record { 0 = 3 }; sharing = sharing.Exclusive; place = place.Dedicated 1 })

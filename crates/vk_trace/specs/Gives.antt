@@ -3,12 +3,12 @@ use Rattle.std.specs.Prelude.{◌≡◌, Option, Some, None, Result, Ok, Err}
 use Rattle.vk_trace.specs.declared.faults.ReadTraceFault.{ReadTraceFault}
 use Rattle.vk_trace.specs.declared.faults.ReadTraceFault.TheVariants.{NotTrace, NoMemory}
 
--- the fault says that nothing is meant, unless memory ran out
+-- The fault says that nothing is meant, unless memory ran out.
 abbrev pub Fails : {Y : Type 0} → ReadTraceFault → Option Y → Type 0
 Fails NoMemory means = Unit {0}
 Fails NotTrace means = means ≡ None
 
--- what was returned is, as it is seen, what is meant
+-- What was returned is, as it is seen, what is meant.
 abbrev pub Gives : {X Y : Type 0} → (X → Y) → Result X ReadTraceFault → Option Y → Type 0
 Gives seen (Ok x) means = means ≡ Some (seen x)
 Gives seen (Err e) means = Fails e means

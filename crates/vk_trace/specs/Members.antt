@@ -3,94 +3,96 @@ use Rattle.std.specs.Prelude.{ℕ, ◌^◌, List, [], ◌∷◌, Option, Some, N
 use Rattle.serde_json.specs.Data.{Data, Items, no_items, item}
 use Rattle.serde_json.specs.Find.{as_array, as_number, as_u64, as_str}
 
--- what a value stands for, if it stands for anything
+-- What a value stands for, if it stands for anything.
 abbrev pub Reader : Type 0 → Type 0
 Reader A = Data → Option A
 
--- what the members at the front of an array stand for, and the members after them
+-- What the members at the front of an array stand for, and the members after them.
 abbrev pub Row : Type 0 → Type 0
 Row A = List Data → Option (A × List Data)
 
 -- goes on with what was read
 infixl 10 ◌>>=◌
+-- What is made of a value, if there is one.
 abbrev pub ◌>>=◌ : {A B : Type 0} → Option A → (A → Option B) → Option B
 (Some x) >>= next = next x
 None >>= next = None
 
--- the values of an array as a list
+-- The values of an array as a list.
 abbrev pub items_list : Items → List Data
 items_list no_items = []
 items_list (item d ds) = d ∷ items_list ds
 
--- the members of an array
+-- The members of an array.
 abbrev pub array_members : Reader (List Data)
 array_members d = option_map items_list (as_array d)
 
--- the first member
+-- The first member.
 abbrev pub first_member : {A : Type 0} → Reader A → Row A
 first_member read [] = None
 first_member read (d ∷ ds) = read d >>= λ x. Some (x, ds)
 
--- there is no further member
+-- There is no further member.
 abbrev pub no_member : List Data → Option (Unit {0})
 no_member [] = Some tt
 no_member (d ∷ ds) = None
 
--- a row with no member yet, of what its members are put into
+-- A row with no member yet, of what its members are put into.
 abbrev pub from : {A : Type 0} → A → Row A
 from x ds = Some (x, ds)
 
 -- a row with one member more
 infixl 20 ◌<*>◌
+-- A row with one member more.
 abbrev pub ◌<*>◌ : {A B : Type 0} → Row (A → B) → Reader A → Row B
 ◌<*>◌ row read ds = row ds >>= λ before. first_member read before.1 >>= λ x. Some (before.0 x.0, x.1)
 
--- the members of a row and no other
+-- The members of a row and no other.
 abbrev pub only : {A : Type 0} → Row A → List Data → Option A
 only row ds = row ds >>= λ x. no_member x.1 >>= λ _. Some x.0
 
--- an array with exactly the members of a row
+-- An array with exactly the members of a row.
 abbrev pub members : {A : Type 0} → Row A → Reader A
 members row d = array_members d >>= only row
 
--- what stands beside a word in a table
+-- What stands beside a word in a table.
 abbrev pub at_word : {A : Type 0} → List (List ℕ × A) → List ℕ → Option A
 at_word [] word = None
 at_word ((w, x) ∷ table) word = if bytes_eq word w then Some x else at_word table word
 
--- one of the words of a table
+-- One of the words of a table.
 abbrev pub one_word : {A : Type 0} → List (List ℕ × A) → Reader A
 one_word table d = as_str d >>= at_word table
 
--- a word and the members after it
+-- A word and the members after it.
 unfoldable pub word_and_members : Reader (List ℕ × List Data)
 word_and_members d = array_members d >>= first_member as_str
 
--- the members after a word, by its row
+-- The members after a word, by its row.
 abbrev pub after_word : {A : Type 0} → List (List ℕ × Row A) → List ℕ → List Data → Option A
 after_word rows word ds = at_word rows word >>= λ row. only row ds
 
--- an array that begins with one of these words, and has exactly the members of its row after it
+-- An array that begins with one of these words, and has exactly the members of its row after it.
 abbrev pub tagged : {A : Type 0} → List (List ℕ × Row A) → Reader A
 tagged rows d = word_and_members d >>= λ x. after_word rows x.0 x.1
 
--- what each of the members stands for
+-- What each of the members stands for.
 unfoldable pub each_member : {A : Type 0} → Reader A → List Data → Option (List A)
 each_member read [] = Some []
 each_member read (d ∷ ds) = read d >>= λ x. each_member read ds >>= λ xs. Some (x ∷ xs)
 
--- an array of these, of any length
+-- An array of these, of any length.
 unfoldable pub list_of : {A : Type 0} → Reader A → Reader (List A)
 list_of read d = array_members d >>= each_member read
 
--- an array without members
+-- An array without members.
 unfoldable pub empty_list : Reader (Unit {0})
 empty_list d = array_members d >>= no_member
 
--- profile: a whole number below 2 ^ 64, written with no sign, point or exponent
+-- A whole number below 2 ^ 64, written with no sign, point or exponent (profile).
 abbrev pub u64_value : Reader ℕ
 u64_value d = option_and_then as_u64 (as_number d)
 
--- profile: such a number below 2 ^ 32
+-- Such a number below 2 ^ 32 (profile).
 unfoldable pub u32_value : Reader ℕ
 u32_value d = u64_value d >>= λ n. if nat_lt n (2 ^ 32) then Some n else None

@@ -21,7 +21,7 @@ use Rattle.vk_trace.specs.declared.faults.RunFault.TheVariants.{NotTrace, NoMemo
 use Rattle.vk_trace.specs.Trace.{IsTrace}
 use Rattle.vk_trace.specs.Text.{lines_of}
 
--- how a run ended, by what it told
+-- How a run ended, by what it told.
 abbrev pub status_of : Outcome → Status
 status_of (Reads reads None) = status.Replayed
 status_of (Reads reads (Some e)) = status.Stopped
@@ -49,7 +49,7 @@ pub record Tells (config : Config) (input text : List ℕ) (outcome : Outcome) :
   pub answer : IsAnswer config entries outcome
   pub told : text ≡ lines_of outcome
 
--- a fault that comes before anything is written
+-- A fault that comes before anything is written.
 abbrev pub IsBeforeWriting : RunFault → Type 0
 IsBeforeWriting NotTrace = Unit {0}
 IsBeforeWriting NoMemory = Unit {0}
@@ -57,7 +57,7 @@ IsBeforeWriting TooLong = Unit {0}
 IsBeforeWriting ReadFault = Unit {0}
 IsBeforeWriting (WriteFault n) = ⊥
 
--- a fault of reading the input
+-- A fault of reading the input.
 abbrev pub IsOfReading : RunFault → Type 0
 IsOfReading NotTrace = ⊥
 IsOfReading NoMemory = Unit {0}
@@ -65,7 +65,7 @@ IsOfReading TooLong = Unit {0}
 IsOfReading ReadFault = Unit {0}
 IsOfReading (WriteFault n) = ⊥
 
--- a fault between reading and writing
+-- A fault between reading and writing.
 abbrev pub IsOfAnswering : RunFault → Type 0
 IsOfAnswering NotTrace = Unit {0}
 IsOfAnswering NoMemory = Unit {0}

@@ -8,27 +8,27 @@ use Rattle.vk_model.specs.declared.rule.At.TheVariants.{Entry, Command, Wait, Si
 use Rattle.vk_trace.specs.declared.printing.Outcome.{Outcome}
 use Rattle.vk_trace.specs.declared.printing.Outcome.TheVariants.{Reads, Refused}
 
--- profile: the number of the entry that read, and the bytes in lower hex
+-- The number of the entry that read, and the bytes in lower hex (profile).
 abbrev pub read_line : ℕ × List ℕ → List ℕ
 read_line r = decimal r.0 ++ codes " " ++ encode_lower r.1 ++ codes "\n"
 
--- profile: the entry that found no room, if one did
+-- The entry that found no room, if one did (profile).
 abbrev pub stop_line : Option ℕ → List ℕ
 stop_line None = []
 stop_line (Some e) = codes "stopped " ++ decimal e ++ codes " NO_ROOM\n"
 
--- profile: a part of a batch by the entry, the batch, a mark, and its place in the list
+-- A part of a batch by the entry, the batch, a mark, and its place in the list (profile).
 abbrev pub part_text : ℕ → ℕ → List ℕ → ℕ → List ℕ
 part_text e b mark k = decimal e ++ codes "." ++ decimal b ++ mark ++ decimal k
 
--- profile: a point of a trace; all numbers count from 0
+-- A point of a trace; all numbers count from 0 (profile).
 abbrev pub at_text : At → List ℕ
 at_text (Entry e) = decimal e
 at_text (Command e b c) = part_text e b (codes ".") c
 at_text (Wait e b k) = part_text e b (codes ".w") k
 at_text (Signal e b k) = part_text e b (codes ".s") k
 
--- profile: a line for each read, in order, and the stop; or the first point that breaks a rule, with the rule
+-- A line for each read, in order, and the stop; or the first point that breaks a rule, with the rule (profile).
 abbrev pub lines_of : Outcome → List ℕ
 lines_of (Reads reads stop) = flat_map read_line reads ++ stop_line stop
 lines_of (Refused at rule) = codes "refused " ++ at_text at ++ codes " " ++ rule_name rule ++ codes "\n"

@@ -22,7 +22,7 @@ use Rattle.vk_model.specs.declared.entry.Entry.{Entry}
 use Rattle.vk_model.specs.declared.entry.Entry.TheVariants.{Buffer, Map, Read, Semaphore, Wait, Submit}
 use Rattle.vk_trace.specs.Members.{Reader, Row, ◌>>=◌, from, ◌<*>◌, members, at_word, one_word, tagged, list_of, empty_list, u64_value, u32_value}
 
--- profile: a number of bytes, or the word that stands for all to the end (`VK_WHOLE_SIZE`)
+-- A number of bytes, or the word that stands for all to the end (`VK_WHOLE_SIZE`) (profile).
 unfoldable pub length_or_whole : Reader Length
 length_or_whole d = by_word (as_str d)
   where
@@ -30,18 +30,18 @@ length_or_whole d = by_word (as_str d)
     by_word (Some word) = at_word ((codes "whole", Whole) ∷ []) word
     by_word None = option_map Bytes (u64_value d)
 
--- profile: source stages, source accesses, destination stages, destination accesses, as in `VkMemoryBarrier2`
+-- Source stages, source accesses, destination stages, destination accesses, as in `VkMemoryBarrier2` (profile).
 unfoldable pub dependency_value : Reader Dependency
 dependency_value = members (from dependency <*> u32_value <*> u32_value <*> u32_value <*> u32_value)
   where
     dependency : ℕ → ℕ → ℕ → ℕ → Dependency
     dependency a b c d = record { source_stages = record { 0 = a }; source_accesses = record { 0 = b }; destination_stages = record { 0 = c }; destination_accesses = record { 0 = d } }
 
--- profile: an element of a barrier, on all memory
+-- An element of a barrier, on all memory (profile).
 unfoldable pub memory_element : Reader Element
 memory_element d = option_map Memory (dependency_value d)
 
--- profile: the words of commands and the members after each; elements of buffers and of images are not served yet
+-- The words of commands and the members after each; elements of buffers and of images are not served yet (profile).
 unfoldable pub command_rows : List (List ℕ × Row Cmd)
 command_rows
     -- buffer, offset, size, word
@@ -50,54 +50,54 @@ command_rows
     ∷ (codes "barrier", from (λ elements _ _. Barrier elements) <*> list_of memory_element <*> empty_list <*> empty_list)
     ∷ []
 
--- profile: a command is a word and its members
+-- A command is a word and its members (profile).
 unfoldable pub command_value : Reader Cmd
 command_value = tagged command_rows
 
--- profile: semaphore, value, stages, as in `VkSemaphoreSubmitInfo`
+-- Semaphore, value, stages, as in `VkSemaphoreSubmitInfo` (profile).
 unfoldable pub semaphore_submit : Reader SemaphoreSubmit
 semaphore_submit = members (from submit <*> u32_value <*> u64_value <*> u32_value)
   where
     submit : ℕ → ℕ → ℕ → SemaphoreSubmit
     submit semaphore value stages = record { semaphore = semaphore; value = value; stages = record { 0 = stages } }
 
--- profile: waits, commands, signals, as in `VkSubmitInfo2`; waits are not served yet
+-- Waits, commands, signals, as in `VkSubmitInfo2`; waits are not served yet (profile).
 unfoldable pub batch_value : Reader Batch
 batch_value = members (from (λ _ commands signals. record { waits = []; commands = commands; signals = signals })
     <*> empty_list <*> list_of command_value <*> list_of semaphore_submit)
 
--- profile: semaphore, value
+-- Semaphore, value (profile).
 unfoldable pub semaphore_value : Reader SemaphoreValue
 semaphore_value = members (from (λ semaphore value. record { semaphore = semaphore; value = value }) <*> u32_value <*> u64_value)
 
--- profile: the number of a queue; only 0 is served yet
+-- The number of a queue; only 0 is served yet (profile).
 unfoldable pub queue_value : Reader ℕ
 queue_value d = u32_value d >>= λ n. if n == 0 then Some n else None
 
--- profile: the number of a memory type; 2 is not served yet
+-- The number of a memory type; 2 is not served yet (profile).
 unfoldable pub memory_type_value : Reader ℕ
 memory_type_value d = u32_value d >>= λ n. if n == 2 then None else Some n
 
--- profile: the words of places and the members after each
+-- The words of places and the members after each (profile).
 unfoldable pub place_rows : List (List ℕ × Row Place)
 place_rows
     -- memory type
     = (codes "dedicated", from Dedicated <*> memory_type_value)
     ∷ []
 
--- profile: a place is a word and its members
+-- A place is a word and its members (profile).
 unfoldable pub place_value : Reader Place
 place_value = tagged place_rows
 
--- profile: the words of `VkSharingMode`
+-- The words of `VkSharingMode` (profile).
 unfoldable pub sharing_value : Reader Sharing
 sharing_value = one_word ((codes "exclusive", Exclusive) ∷ (codes "concurrent", Concurrent) ∷ [])
 
--- profile: a buffer of an id, a size, a usage, a sharing and a place
+-- A buffer of an id, a size, a usage, a sharing and a place (profile).
 abbrev pub buffer : ℕ → ℕ → ℕ → Sharing → Place → Entry
 buffer id size usage sharing place = Buffer id (record { size = size; usage = record { 0 = usage }; sharing = sharing; place = place })
 
--- profile: the words of entries and the members after each
+-- The words of entries and the members after each (profile).
 unfoldable pub entry_rows : List (List ℕ × Row Entry)
 entry_rows
     -- id, size, usage, sharing, place
@@ -114,11 +114,11 @@ entry_rows
     ∷ (codes "submit", from Submit <*> queue_value <*> list_of batch_value)
     ∷ []
 
--- profile: an entry is a word and its members
+-- An entry is a word and its members (profile).
 unfoldable pub entry_value : Reader Entry
 entry_value = tagged entry_rows
 
--- profile: a trace is an array of entries
+-- A trace is an array of entries (profile).
 abbrev pub trace_value : Reader (List Entry)
 trace_value = list_of entry_value
 

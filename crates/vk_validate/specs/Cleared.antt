@@ -42,6 +42,7 @@ pub record IsClear (past : Past) (p : Point) : Type 0 where
   pub served : is_served_deed p.deed ≡ true
   pub clear : first_test past p ≡ None
 
+-- The same of all points of a past.
 abbrev pub IsCleared : Past → Type 0
 IsCleared [] = ⊤
 IsCleared (p ∷ past) = IsClear past p × IsCleared past

@@ -12,17 +12,17 @@ use Rattle.vk_validate.specs.declared.tables.Change.{Change}
 use Rattle.vk_validate.specs.declared.tables.Change.TheVariants as change
 use Rattle.vk_validate.specs.Tabled.{writes_byte}
 
--- a deed that makes, maps and signals nothing
+-- A deed that makes, maps and signals nothing.
 pub record IsQuiet (d : Deed) : Type 0 where
   pub makes_none : (x : Entry) → d ≡ Host x → made_by x ≡ None
   pub maps_none : (x : Entry) → d ≡ Host x → maps x ≡ None
   pub signals_none : signal_of d ≡ None
 
--- a deed that writes nothing
+-- A deed that writes nothing.
 abbrev pub WritesNone : Past → Deed → Type 0
 WritesNone past d = (b k : ℕ) → writes_byte past d b k ≡ false
 
--- a fill that writes just the bytes from `first` to `last` of a buffer
+-- A fill that writes just the bytes from `first` to `last` of a buffer.
 pub record IsFillOf (past : Past) (d : Deed) (b first last : ℕ) : Type 0 where
   pub offset : ℕ
   pub size : Length
@@ -32,6 +32,7 @@ pub record IsFillOf (past : Past) (d : Deed) (b first last : ℕ) : Type 0 where
   pub first_is : first ≡ offset
   pub last_is : last ≡ min (offset + (fill_size (buffer_size past b) offset size - 1)) (2 ^ 64 - 1)
 
+-- A change of the tables is what a deed does.
 abbrev pub Fits : Change → Past → Deed → Type 0
 Fits change.Nothing past d = IsQuiet d × WritesNone past d
 Fits (change.Made i x) past d = (d ≡ Host x.now) × (made_by x.now ≡ Some i) × (maps x.now ≡ None) × (signal_of d ≡ None)

@@ -6,25 +6,25 @@ use Rattle.vk_model.specs.declared.entry.Entry.TheVariants as entry
 use Rattle.vk_model.specs.Point.{Past, Run, Signal, Wait}
 use Rattle.vk_model.specs.Order.{Turn, deeds, host}
 
--- of a batch, what its points keep
+-- Of a batch, what its points keep.
 abbrev pub turn_at : ℕ → ℕ → ℕ → Turn
 turn_at e k q = record { entry = e; batch = k; queue = q; content = record { waits = []; commands = []; signals = [] }; waits = [] }
 
--- a batch: its waits, its commands, its signals
+-- A batch: its waits, its commands, its signals.
 unfoldable pub laid_batch : ℕ → ℕ → ℕ → Batch → Past → Past
 laid_batch e k q b past = deeds Signal (turn_at e k q) 0 b.signals (deeds Run (turn_at e k q) 0 b.commands (deeds Wait (turn_at e k q) 0 b.waits past))
 
--- batches from number k on
+-- Batches from number k on.
 abbrev pub laid_batches : ℕ → ℕ → ℕ → List Batch → Past → Past
 laid_batches e q k [] past = past
 laid_batches e q k (b ∷ bs) past = laid_batches e q (k + 1) bs (laid_batch e k q b past)
 
--- the batches of a submit
+-- The batches of a submit.
 abbrev pub laid_submit : ℕ → Entry → Past → Past
 laid_submit e (entry.Submit q bs) past = laid_batches e q 0 bs past
 laid_submit e _ past = past
 
--- entries from number e on
+-- Entries from number e on.
 abbrev pub laid_entries : ℕ → List Entry → Past → Past
 laid_entries e [] past = past
 laid_entries e (x ∷ xs) past = laid_entries (e + 1) xs (laid_submit e x (host e x ∷ past))

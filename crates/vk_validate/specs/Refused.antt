@@ -8,7 +8,7 @@ use Rattle.vk_validate.specs.Served.{is_served_deed}
 use Rattle.vk_validate.specs.Told.{past, point_of, deed_of}
 use Rattle.vk_validate.specs.Cleared.{IsCleared, tests, is_exact}
 
--- a point is told, and no test finds an earlier one; its form isn't served, or the test of the rule finds it
+-- A point is told, and no test finds an earlier one; its form isn't served, or the test of the rule finds it.
 pub record IsRefused (points : List Step) (told : At) (r : Rule) : Type 0 where
   pub number : ℕ
   pub step : Step

@@ -21,6 +21,7 @@ abbrev pub is_memory : Element → Bool
 is_memory (element.Memory d) = true
 is_memory _ = false
 
+-- Whether a command is of a form that is served: a fill, or a barrier on all memory (profile).
 abbrev pub is_served_command : Cmd → Bool
 is_served_command (cmd.Fill b o n w) = true
 is_served_command (cmd.Barrier es) = list_all is_memory es
@@ -36,6 +37,7 @@ is_served_entry (entry.Wait ws) = true
 is_served_entry (entry.Submit q bs) = q == 0
 is_served_entry _ = false
 
+-- Whether what happens at a point is of a form that is served; a batch's wait is not (profile).
 abbrev pub is_served_deed : Deed → Bool
 is_served_deed (Host x) = is_served_entry x
 is_served_deed (Wait s) = false

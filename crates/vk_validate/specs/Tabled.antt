@@ -18,39 +18,42 @@ use Rattle.vk_validate.specs.Writers.{WasLast}
 use Rattle.vk_validate.specs.declared.tables.Tables.{Tables}
 use denote.Ref.{Bor}
 
--- the entry that made each id
+-- The entry that made each id.
 abbrev pub Makers : (ℕ → Option (Bor Entry)) → Past → Type 0
 Makers makers past = (i : ℕ) → option_map (λ x. x.now) (makers i) ≡ made past i
 
--- whether an entry has mapped a buffer
+-- Whether an entry has mapped a buffer.
 abbrev pub was_mapped : Past → ℕ → Bool
 was_mapped past b = list_any (λ x. holds (maps x) (λ c. c == b)) (entries past)
 
+-- Just those buffers are counted as mapped that an entry has mapped.
 abbrev pub Maps : (ℕ → Option ℕ) → Past → Type 0
 Maps counts past = (b : ℕ) → nat_lt 0 (unwrap_or (counts b) 0) ≡ was_mapped past b
 
--- the greatest value signaled to each semaphore
+-- The greatest value signaled to each semaphore.
 abbrev pub Peaks : (ℕ → Option ℕ) → Past → Type 0
 Peaks peaks past = (s : ℕ) → unwrap_or (peaks s) 0 ≡ fold max 0 (signaled past s)
 
--- whether a fill writes byte k of a buffer
+-- Whether a fill writes byte k of a buffer.
 abbrev pub fills_byte : Past → Cmd → ℕ → ℕ → Bool
 fills_byte past (cmd.Fill c o n w) b k = c == b && within o (fill_size (buffer_size past c) o n) k
 fills_byte past _ b k = false
 
--- whether a point writes byte k of a buffer
+-- Whether a point writes byte k of a buffer.
 abbrev pub writes_byte : Past → Deed → ℕ → ℕ → Bool
 writes_byte past (Run c) b k = fills_byte past c b k
 writes_byte past _ b k = false
 
--- the number of the point whose command wrote byte k of a buffer last
+-- The number of the point whose command wrote byte k of a buffer last.
 abbrev pub last_writer : Past → ℕ → ℕ → Option ℕ
 last_writer [] b k = None
 last_writer (p ∷ past) b k = if writes_byte past p.deed b k then Some (length past) else last_writer past b k
 
+-- The last writer of each byte of each buffer.
 abbrev pub WritersAre : (ℕ → Option LastWriters) → Past → Type 0
 WritersAre writers past = (b k : ℕ) → k < 2 ^ 64 → WasLast (writers b) k (last_writer past b k)
 
+-- All tables say what the past does.
 pub record IsTabled (tables : Tables) (past : Past) : Type 0 where
   pub makers_are : Makers (get nat_cmp tables.makers) past
   pub maps_are : Maps (get nat_cmp tables.maps) past

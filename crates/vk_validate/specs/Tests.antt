@@ -37,10 +37,12 @@ abbrev pub entry_lacks_usage : Entry → Bool
 entry_lacks_usage (entry.Buffer i b) = is_outside 3 b.usage.0
 entry_lacks_usage _ = false
 
+-- USAGE, of a command.
 abbrev pub command_lacks_usage : Past → Cmd → Bool
 command_lacks_usage past (cmd.Fill b o n w) = not (holds (buffer past b) (λ i. has_bits i.usage.0 2))
 command_lacks_usage past _ = false
 
+-- USAGE, of what happens at a point.
 abbrev pub lacks_usage : Past → Deed → Bool
 lacks_usage past (Host x) = entry_lacks_usage x
 lacks_usage past (Run c) = command_lacks_usage past c
@@ -51,6 +53,7 @@ abbrev pub reads_unmapped_entry : Past → Entry → Bool
 reads_unmapped_entry past (entry.Read b o n) = not (was_mapped past b)
 reads_unmapped_entry past _ = false
 
+-- The same of what happens at a point.
 abbrev pub reads_unmapped : Past → Deed → Bool
 reads_unmapped past (Host x) = reads_unmapped_entry past x
 reads_unmapped past _ = false
@@ -60,10 +63,12 @@ abbrev pub is_on_type_0 : Place → Bool
 is_on_type_0 (place.Dedicated t) = t == 0
 is_on_type_0 _ = false
 
+-- HOST_VISIBLE, of an entry.
 abbrev pub maps_local_entry : Past → Entry → Bool
 maps_local_entry past (entry.Map b) = holds (buffer past b) (λ i. is_on_type_0 i.place)
 maps_local_entry past _ = false
 
+-- The same of what happens at a point.
 abbrev pub maps_local : Past → Deed → Bool
 maps_local past (Host x) = maps_local_entry past x
 maps_local past _ = false
@@ -73,6 +78,7 @@ abbrev pub EntryReadsWritten : Past → Entry → Type 0
 EntryReadsWritten past (entry.Read b o n) = (k : ℕ) → o ≤ k → k < o + n → IsSome (last_writer past b k)
 EntryReadsWritten past _ = ⊤
 
+-- The same of what happens at a point.
 abbrev pub ReadsWritten : Past → Deed → Type 0
 ReadsWritten past (Host x) = EntryReadsWritten past x
 ReadsWritten past _ = ⊤
@@ -82,6 +88,7 @@ abbrev pub entry_reads_unwritten : Past → Entry → Bool
 entry_reads_unwritten past (entry.Read b o n) = list_any (λ k. is_none (last_writer past b (o + k))) (below n)
 entry_reads_unwritten past _ = false
 
+-- The same of what happens at a point.
 abbrev pub reads_unwritten : Past → Deed → Bool
 reads_unwritten past (Host x) = entry_reads_unwritten past x
 reads_unwritten past _ = false
