@@ -1,6 +1,6 @@
 -- What the rules promise of the points of a clean past.
-use Rattle.std.proofs.Common.{◌≡◌, ◌≢◌, ℕ, zero, suc, ◌+◌, ◌-◌, ◌*◌, ◌/◌, ◌%◌, ◌<◌, ◌≤◌, List, [], ◌∷◌, Bool, true, false, not, ◌&&◌, ◌||◌, ◌==◌, nat_lt, nat_le, refl, ap, sym, ◌∙◌, subst, arith, inl, inr, Option, Some, None}
-use Rattle.std.specs.Prelude.{IsSome, is_some, is_none, slice_get}
+use Rattle.std.proofs.Common.{◌≡◌, ◌≢◌, ℕ, zero, suc, ◌+◌, ◌-◌, ◌*◌, ◌/◌, ◌%◌, ◌<◌, ◌≤◌, List, [], ◌∷◌, Bool, true, false, not, ◌&&◌, ◌||◌, ◌==◌, nat_lt, nat_le, refl, ap, subst, arith, inl, inr, Option, Some, None}
+use Rattle.std.specs.Prelude.{IsSome, is_some, is_none}
 use Rattle.std.specs.List.{fold, list_any, list_all, range_with_len}
 use Rattle.vk_model.specs.Order.{Turn, deeds, taken, turns_of, plain_from, host}
 use Rattle.std.proofs.lemmas.Bool.{ltb-false, leb-false, eqb-false, eqb-true}
@@ -8,7 +8,7 @@ use Rattle.vk_model.specs.declared.rule.Rule.{Rule}
 use Rattle.vk_model.specs.declared.rule.Rule.TheVariants as rule
 use Rattle.vk_model.specs.Point.{Past, Point, Deed, Host, Wait, Run, Signal}
 use Rattle.vk_model.specs.Rules.{breaks}
-use Rattle.vk_validate.specs.Covered.{is_free_of, covered}
+use Rattle.vk_model.specs.Fault.{newest, older}
 use Rattle.vk_model.specs.RulesIds.{breaks_new_id}
 use Rattle.vk_model.specs.RulesSizes.{breaks_size, bad_entry_size, bad_command_size, fills_none, breaks_memory_size, bad_memory_size}
 use Rattle.vk_model.specs.RulesRanges.{breaks_range, host_past, command_past, fills_from_end, breaks_align, misaligned, off_4_length}
@@ -33,33 +33,15 @@ use Rattle.vk_model.specs.declared.command.Cmd.{Cmd}
 use Rattle.vk_model.specs.Objects.{made, made_by, buffer}
 use Rattle.vk_model.specs.declared.entry.Entry.{Entry}
 
-and-left : (a b : Bool) → (a && b) ≡ true → a ≡ true
-and-left true b e = refl
-and-left false b e = absurd cc
+-- a point breaks no rule
+abbrev BreaksNone : Past → Point → Type 0
+BreaksNone past p = (r : Rule) → breaks r past p ≡ false
 
-and-right : (a b : Bool) → (a && b) ≡ true → b ≡ true
-and-right true b e = e
-and-right false b e = absurd cc
-
-not_true : (b : Bool) → not b ≡ true → b ≡ false
-not_true true e = absurd cc
-not_true false e = refl
-
--- no rule of a list is broken, so none at a place of it is
-none_broken : (past : Past) (p : Point) (rs : List Rule) (r : Rule) (i : ℕ) → list_all (λ s. not (breaks s past p)) rs ≡ true → slice_get rs i ≡ Some r → breaks r past p ≡ false
-none_broken past p [] r i all at = absurd cc
-none_broken past p (s ∷ rs) r zero all at =
-    let same : s ≡ r = cc in
-    not_true (breaks r past p) (ap (λ q. not (breaks q past p)) (sym same) ∙ and-left (not (breaks s past p)) (list_all (λ q. not (breaks q past p)) rs) all)
-none_broken past p (s ∷ rs) r (suc i) all at = none_broken past p rs r i (and-right (not (breaks s past p)) (list_all (λ q. not (breaks q past p)) rs) all) at
-
--- what is older keeps the rules too
-older_free : (past : Past) (p : Point) → is_free_of covered (p ∷ past) ≡ true → is_free_of covered past ≡ true
-older_free past p free = and-right (list_all (λ r. not (breaks r past p)) covered) (is_free_of covered past) free
-
--- and the rule at a place of those that are kept isn't broken
-no_rule : (past : Past) (p : Point) (r : Rule) (i : ℕ) → slice_get covered i ≡ Some r → is_free_of covered (p ∷ past) ≡ true → breaks r past p ≡ false
-no_rule past p r i at free = none_broken past p covered r i (and-left (list_all (λ s. not (breaks s past p)) covered) (is_free_of covered past) free) at
+breaks_none : (past : Past) (p : Point) → IsClean (p ∷ past) → BreaksNone past p
+breaks_none past p clean r = go (breaks r past p) (clean.sound past p r newest) where
+  go : (b : Bool) → (b ≡ true → ⊥) → b ≡ false
+  go true refuted = absurd (refuted refl)
+  go false refuted = refl
 
 -- ---- what the forms that are served get of it
 
@@ -95,53 +77,53 @@ abbrev ends_at : ℕ → ℕ → Length → Bool
 ends_at size o (length_of.Bytes n) = false
 ends_at size o length_of.Whole = nat_le size o
 
-module _ (past : Past) (p : Point) (none : is_free_of covered (p ∷ past) ≡ true) where
+module _ (past : Past) (p : Point) (none : BreaksNone past p) where
   new_made : (x : Entry) (i : ℕ) → p.deed ≡ Host x → made_by x ≡ Some i → made past i ≡ None
   unfolding breaks
   new_made x i is makes =
-      let unbroken : breaks_new_id past p ≡ false = no_rule past p rule.NewId 0 refl none in
+      let unbroken : breaks_new_id past p ≡ false = none rule.NewId in
       not_some (made past i) (rw (is, makes) at unbroken)
 
   entry_size : (x : Entry) → p.deed ≡ Host x → bad_entry_size x ≡ false
   unfolding breaks
   entry_size x is =
-      let unbroken : breaks_size past p ≡ false = no_rule past p rule.Size 4 refl none in
+      let unbroken : breaks_size past p ≡ false = none rule.Size in
       or-left (bad_entry_size x) false (rw is at unbroken)
 
   command_size : (c : Cmd) → p.deed ≡ Run c → bad_command_size past c ≡ false
   unfolding breaks
   command_size c is =
-      let unbroken : breaks_size past p ≡ false = no_rule past p rule.Size 4 refl none in
+      let unbroken : breaks_size past p ≡ false = none rule.Size in
       rw is at unbroken
 
   memory_size : (x : Entry) → p.deed ≡ Host x → bad_memory_size x ≡ false
   unfolding breaks
   memory_size x is =
-      let unbroken : breaks_memory_size past p ≡ false = no_rule past p rule.MemorySize 7 refl none in
+      let unbroken : breaks_memory_size past p ≡ false = none rule.MemorySize in
       rw is at unbroken
 
   entry_range : (x : Entry) → p.deed ≡ Host x → host_past past x ≡ false
   unfolding breaks
   entry_range x is =
-      let unbroken : breaks_range past p ≡ false = no_rule past p rule.Range 12 refl none in
+      let unbroken : breaks_range past p ≡ false = none rule.Range in
       or-left (host_past past x) false (rw is at unbroken)
 
   command_range : (c : Cmd) → p.deed ≡ Run c → command_past past c ≡ false
   unfolding breaks
   command_range c is =
-      let unbroken : breaks_range past p ≡ false = no_rule past p rule.Range 12 refl none in
+      let unbroken : breaks_range past p ≡ false = none rule.Range in
       rw is at unbroken
 
   command_align : (c : Cmd) → p.deed ≡ Run c → misaligned past p.queue c ≡ false
   unfolding breaks
   command_align c is =
-      let unbroken : breaks_align past p ≡ false = no_rule past p rule.Align 13 refl none in
+      let unbroken : breaks_align past p ≡ false = none rule.Align in
       rw is at unbroken
 
   entry_defined : (x : Entry) → p.deed ≡ Host x → reads_undefined (world past) x ≡ false
   unfolding breaks
   entry_defined x is =
-      let unbroken : breaks_read_undefined past p ≡ false = no_rule past p rule.ReadUndefined 36 refl none in
+      let unbroken : breaks_read_undefined past p ≡ false = none rule.ReadUndefined in
       rw is at unbroken
 
 -- no number of a range passes a test
@@ -167,7 +149,7 @@ read_fits past b o n some range = go (buffer past b) refl
     go None is = let le : o + n ≤ 0 = rw (buffer_size, is) at range in absurd (omega arith)
     go (Some i) is = rw (buffer_size, is) at range
 
-read_point : (past : Past) (p : Point) (b o n : ℕ) → p.deed ≡ Host (entry.Read b o n) → is_free_of covered (p ∷ past) ≡ true → FitsEntry past (entry.Read b o n)
+read_point : (past : Past) (p : Point) (b o n : ℕ) → p.deed ≡ Host (entry.Read b o n) → BreaksNone past p → FitsEntry past (entry.Read b o n)
 read_point past p b o n is none = (
   read_fits past b o n (not_zero n (entry_size past p none (entry.Read b o n) is)) (not_above (buffer_size past b) (o + n) (entry_range past p none (entry.Read b o n) is)),
   λ k lt. some_of ((world past).value (in_buffer b (o + k))) (none_of (λ k. is_none ((world past).value (in_buffer b (o + k)))) 0 n k (entry_defined past p none (entry.Read b o n) is) (omega arith) (omega arith)),
@@ -196,7 +178,7 @@ fill_fits size o length_of.Whole some inside here whole =
 abbrev outside : Past → ℕ → ℕ → Length → Bool
 outside past b o n = nat_lt (buffer_size past b) (o + fill_size (buffer_size past b) o n)
 
-fill_point : (past : Past) (p : Point) (b o : ℕ) (n : Length) (w : ℕ) → p.deed ≡ Run (cmd.Fill b o n w) → is_free_of covered (p ∷ past) ≡ true → FitsFill (buffer past b) o n
+fill_point : (past : Past) (p : Point) (b o : ℕ) (n : Length) (w : ℕ) → p.deed ≡ Run (cmd.Fill b o n w) → BreaksNone past p → FitsFill (buffer past b) o n
 fill_point past p b o n w is none =
     go (buffer past b) refl (fill_fits (buffer_size past b) o n (command_size past p none (cmd.Fill b o n w) is) inside (from_end n ranged) (or-right _ _ (command_align past p none (cmd.Fill b o n w) is)))
   where
@@ -232,7 +214,7 @@ own_place (place.Memory m o) e = absurd cc
 rounded_bound : (size : ℕ) → (size + 15) / 16 * 16 ≤ 67108864 → size ≤ 67108864
 rounded_bound size le = let parts = div-add-mod (size + 15) 16 in let rest : (size + 15) % 16 < 16 = mod-lt (size + 15) (omega arith) in omega arith
 
-buffer_point : (past : Past) (p : Point) (i : ℕ) (b : BufferInfo) → p.deed ≡ Host (entry.Buffer i b) → is_served_place b.place ≡ true → is_free_of covered (p ∷ past) ≡ true → FitsEntry past (entry.Buffer i b)
+buffer_point : (past : Past) (p : Point) (i : ℕ) (b : BufferInfo) → p.deed ≡ Host (entry.Buffer i b) → is_served_place b.place ≡ true → BreaksNone past p → FitsEntry past (entry.Buffer i b)
 buffer_point past p i b is served none = (
   new_made past p none (entry.Buffer i b) i is refl,
   not_zero b.size (entry_size past p none (entry.Buffer i b) is),
@@ -240,7 +222,7 @@ buffer_point past p i b is served none = (
   own_place b.place served,
 )
 
-fits_entry : (past : Past) (p : Point) (x : Entry) → p.deed ≡ Host x → is_served_deed (Host x) ≡ true → is_free_of covered (p ∷ past) ≡ true → FitsEntry past x
+fits_entry : (past : Past) (p : Point) (x : Entry) → p.deed ≡ Host x → is_served_deed (Host x) ≡ true → BreaksNone past p → FitsEntry past x
 fits_entry past p (entry.Buffer i b) is served none = buffer_point past p i b is served none
 fits_entry past p (entry.Map b) is served none = tt
 fits_entry past p (entry.Read b o n) is served none = read_point past p b o n is none
@@ -264,7 +246,7 @@ fits_entry past p (entry.Pass d) is served none = absurd cc
 fits_entry past p (entry.EndPass d kept lost) is served none = absurd cc
 fits_entry past p (entry.EndDefrag d) is served none = absurd cc
 
-fits_command : (past : Past) (p : Point) (c : Cmd) → p.deed ≡ Run c → is_served_deed (Run c) ≡ true → is_free_of covered (p ∷ past) ≡ true → FitsCommand past c
+fits_command : (past : Past) (p : Point) (c : Cmd) → p.deed ≡ Run c → is_served_deed (Run c) ≡ true → BreaksNone past p → FitsCommand past c
 fits_command past p (cmd.Fill b o n w) is served none = fill_point past p b o n w is none
 fits_command past p (cmd.Barrier es) is served none = all_memory es served
 fits_command past p (cmd.Update b o bytes) is served none = absurd cc
@@ -276,28 +258,27 @@ fits_command past p (cmd.CopyImage a l b m gs) is served none = absurd cc
 fits_command past p (cmd.Set v ms) is served none = absurd cc
 fits_command past p (cmd.Await v ms) is served none = absurd cc
 
-fits_deed : (past : Past) (p : Point) (d : Deed) → p.deed ≡ d → is_served_deed d ≡ true → is_free_of covered (p ∷ past) ≡ true → FitsDeed past d
+fits_deed : (past : Past) (p : Point) (d : Deed) → p.deed ≡ d → is_served_deed d ≡ true → BreaksNone past p → FitsDeed past d
 fits_deed past p (Host x) is served none = fits_entry past p x is served none
 fits_deed past p (Run c) is served none = fits_command past p c is served none
 fits_deed past p (Wait s) is served none = tt
 fits_deed past p (Signal s) is served none = tt
-
--- every point of a clean past fits
-pub fits_clean : (past : Past) → is_free_of covered past ≡ true → is_served past ≡ true → AllFit past
-unfolding is_served
-fits_clean [] none served = tt
-fits_clean (p ∷ past) none served =
-    let both = and-true (is_served_deed p.deed) (list_all (λ q. is_served_deed q.deed) past) served in
-    (fits_deed past p p.deed refl both.0 none, fits_clean past (older_free past p none) both.1)
 
 -- ---- what is older is clean too
 
 clean_older : (past : Past) (p : Point) → IsClean (p ∷ past) → IsClean past
 unfolding is_served
 clean_older past p clean = record {
-  sound = older_free past p clean.sound;
+  sound = λ before q r comes. clean.sound before q r (older comes);
   served = (and-true (is_served_deed p.deed) (list_all (λ q. is_served_deed q.deed) past) clean.served).1;
 }
+
+-- every point of a clean past fits
+pub fits_clean : (past : Past) → IsClean past → AllFit past
+unfolding is_served
+fits_clean [] clean = tt
+fits_clean (p ∷ past) clean =
+    (fits_deed past p p.deed refl (and-true (is_served_deed p.deed) (list_all (λ q. is_served_deed q.deed) past) clean.served).0 (breaks_none past p clean), fits_clean past (clean_older past p clean))
 
 clean_deeds : {A : Type 0} (of : A → Deed) (t : Turn) (k : ℕ) (xs : List A) (past : Past) → IsClean (deeds of t k xs past) → IsClean past
 clean_deeds of t k [] past clean = clean

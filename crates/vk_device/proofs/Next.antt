@@ -2,11 +2,8 @@
 use Rattle.std.proofs.Common.{◌≡◌, ◌⊎◌, inl, inr, false, Result, Ok, Err}
 use Rattle.std.specs.Prelude.{IfOk, IsTrue}
 use Rattle.vk_model.specs.declared.entry.Entry.{Entry}
-use Rattle.vk_model.specs.Point.{Past}
 use Rattle.vk_device.specs.declared.applied.Applied.{Applied}
 use Rattle.vk_device.specs.declared.applied.ApplyFault.{ApplyFault}
-use Rattle.vk_device.specs.Clean.{IsClean}
-use Rattle.vk_device.specs.Fits.{AllFit}
 use Rattle.vk_device.specs.Held.{Held}
 use Rattle.vk_device.specs.Stands.{IsNext, Ready}
 use Rattle.vk_device.proofs.Clean.{fits_clean}
@@ -15,9 +12,6 @@ pub if_ok : (r : Result Applied ApplyFault) (P Q : Applied → Type 0) → ((a :
 if_ok (Ok a) P Q f p = f a p
 if_ok (Err e) P Q f p = p
 
-pub clean_fits : (past : Past) → IsClean past → AllFit past
-clean_fits past clean = fits_clean past clean.sound clean.served
-
 pub ready_next : (s : Held) (x : Entry) → s.failed ≡ false → IsTrue s.failed ⊎ IsNext s x → Ready s x
 ready_next s x works (inl failed) = absurd cc
-ready_next s x works (inr next) = (next.0, next.1, next.2, clean_fits _ next.3)
+ready_next s x works (inr next) = (next.0, next.1, next.2, fits_clean _ next.3)

@@ -1,10 +1,12 @@
 -- What may have happened on a device.
 use Rattle.std.specs.Prelude.{IsTrue}
-use Rattle.vk_model.specs.Point.{Past}
-use Rattle.vk_validate.specs.Covered.{is_free_of, covered}
+use Rattle.vk_model.specs.declared.rule.Rule.{Rule}
+use Rattle.vk_model.specs.Point.{Past, Point}
+use Rattle.vk_model.specs.Rules.{breaks}
+use Rattle.vk_model.specs.Fault.{Comes}
 use Rattle.vk_validate.specs.Served.{is_served}
 
--- No point of a past breaks a rule that validation is proved to keep, and each is of a form that is served so far.
+-- No point of a past breaks a rule, and each is of a form that is served so far.
 pub record IsClean (past : Past) : Type 0 where
-  pub sound : IsTrue (is_free_of covered past)
+  pub sound : (before : Past) (p : Point) (r : Rule) → Comes past before p → IsTrue (breaks r before p) → ⊥
   pub served : IsTrue (is_served past)

@@ -1,7 +1,7 @@
 ghost use Rattle.std.specs.Prelude.{◌≡◌, length, IfOk, IfErr, MatchOption, None};
 ghost use Rattle.vk_model.specs.Order.{plain_order};
 ghost use Rattle.vk_model.specs.Meaning.{meaning};
-ghost use Rattle.vk_validate.specs.Covered.{IsAcceptable};
+ghost use Rattle.vk_model.specs.Rules.{first_fault};
 ghost use Rattle.vk_device.specs.Clean.{IsClean};
 ghost use Rattle.vk_device.specs.Stands.{Stands};
 ghost use Rattle.vk_device.specs.Allotted.{first_stop};
@@ -11,7 +11,7 @@ ghost use Rattle.vk_device.specs.declared.applied.ApplyFault.TheVariants.{NoMemo
 use crate::applied::{Applied, ApplyFault};
 use crate::device::Device;
 use std::alloc::Global;
-use vk_model::{Config, Entry, Scheduler, Sequence};
+use vk_model::{Config, Entry, Scheduler, Sequence, no_fault_is_sound};
 use vk_validate::Accepted;
 
 /// What a trace gave.
@@ -33,7 +33,7 @@ pub fn replay<S: Scheduler>(
     config: Config,
     sched: &mut S,
 ) -> Result<Replayed, ApplyFault>
-    ensures sound { IfOk result (λ _. IsAcceptable accepted.now) }
+    ensures sound { IfOk result (λ _. first_fault accepted.now ≡ None) }
     // The reads are what the trace means, up to the stop where there is one.
     ensures meaning { IfOk result (λ r. MatchOption r.stop
         (r.reads ≡ meaning accepted.now (length accepted.now)) (λ n. r.reads ≡ meaning accepted.now n)) }
@@ -45,6 +45,7 @@ pub fn replay<S: Scheduler>(
     ensures fault { IfErr result (λ f. f ≡ NoMemory) }
     ensures unasked { S.held sched.new ≡ S.held sched.old }
 {
+    no_fault_is_sound();
     replay_entries(alloc, accepted.entries(), config, sched)
 }
 

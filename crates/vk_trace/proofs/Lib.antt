@@ -1,4 +1,3 @@
 pub mod MemberLemmas
 pub mod ByteLemmas
 pub mod ServedLemmas
-pub mod Refusals

@@ -1,15 +1,8 @@
 -- What a run tells of the trace that it reads, and how it ends.
-use Rattle.std.specs.Prelude.{◌≡◌, ℕ, List, length, true, Some, None}
+use Rattle.std.specs.Prelude.{◌≡◌, ℕ, List, length, Some, None}
 use Rattle.vk_model.specs.declared.config.Config.{Config}
 use Rattle.vk_model.specs.declared.entry.Entry.{Entry}
-use Rattle.vk_model.specs.declared.rule.At.{At}
-use Rattle.vk_model.specs.declared.rule.Rule.{Rule}
-use Rattle.vk_model.specs.Point.{Past, Point, at_of}
-use Rattle.vk_model.specs.Order.{plain_order}
-use Rattle.vk_model.specs.Rules.{breaks}
-use Rattle.vk_model.specs.Fault.{Comes}
-use Rattle.vk_validate.specs.Cleared.{is_exact}
-use Rattle.vk_validate.specs.Covered.{IsAcceptable, is_free_of, covered}
+use Rattle.vk_model.specs.Rules.{first_fault}
 use Rattle.vk_model.specs.Meaning.{meaning}
 use Rattle.vk_device.specs.Allotted.{first_stop}
 use Rattle.vk_trace.specs.declared.printing.Outcome.{Outcome}
@@ -27,20 +20,11 @@ status_of (Reads reads None) = status.Replayed
 status_of (Reads reads (Some e)) = status.Stopped
 status_of (Refused at rule) = status.Refused
 
--- A refusal tells a point of the trace. No point before it breaks a rule of `covered`, and it breaks the rule that is told, where that is one whose test is exact.
-pub record RefusalTells (t : List Entry) (told : At) (rule : Rule) : Type 0 where
-  pub before : Past
-  pub point : Point
-  pub comes : Comes (plain_order t) before point
-  pub is_told : at_of point ≡ told
-  pub free_before : is_free_of covered before ≡ true
-  pub broken : is_exact rule ≡ true → breaks rule before point ≡ true
-
--- What is told of a trace. It is refused; or no point of it breaks a rule of `covered`, and then told are the bytes that it means: all of them where each entry finds room in heaps of these sizes, else those of the entries before the first one that finds none.
+-- What is told of a trace. It is refused by its first fault; or it has none, and then told are the bytes that it means: all of them where each entry finds room in heaps of these sizes, else those of the entries before the first one that finds none.
 abbrev pub IsAnswer : Config → List Entry → Outcome → Type 0
-IsAnswer config t (Refused at rule) = RefusalTells t at rule
-IsAnswer config t (Reads reads None) = IsAcceptable t × (first_stop config t ≡ None) × (reads ≡ meaning t (length t))
-IsAnswer config t (Reads reads (Some n)) = IsAcceptable t × (first_stop config t ≡ Some n) × (reads ≡ meaning t n)
+IsAnswer config t (Refused at rule) = first_fault t ≡ Some (at, rule)
+IsAnswer config t (Reads reads None) = (first_fault t ≡ None) × (first_stop config t ≡ None) × (reads ≡ meaning t (length t))
+IsAnswer config t (Reads reads (Some n)) = (first_fault t ≡ None) × (first_stop config t ≡ Some n) × (reads ≡ meaning t n)
 
 -- The input is a trace, the outcome is the answer to it, and the text tells the outcome.
 pub record Tells (config : Config) (input text : List ℕ) (outcome : Outcome) : Type 0 where

@@ -146,7 +146,6 @@ fn told_status(outcome: &Outcome) -> Status
 }
 
 /// The answer to a trace. A device that is new has no fault but want of memory.
-#[tactic(auto, using(crate::proofs::Refusals::refusal_tells))]
 fn outcome_of<S: Scheduler>(
     alloc: Global,
     entries: &[Entry],

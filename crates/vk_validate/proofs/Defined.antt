@@ -1,8 +1,8 @@
--- READ_UNDEFINED: a byte that a fill wrote has a value.
-use Rattle.std.proofs.Common.{◌≡◌, ◌<◌, ◌≤◌, ◌+◌, ◌-◌, ℕ, zero, suc, List, [], ◌∷◌, map, length, Bool, true, false, ◌&&◌, ◌||◌, ◌==◌, nat_lt, nat_le, cond, refl, ap, sym, ◌∙◌, subst, arith, Option, Some, None, eq-eqb, eqb}
-use Rattle.std.specs.Prelude.{is_none, IsSome, ◌%◌, if◌then◌else◌}
+-- READ_UNDEFINED: the bytes that fills wrote have a value, and no others.
+use Rattle.std.proofs.Common.{◌≡◌, ◌^◌, ◌<◌, ◌≤◌, ◌+◌, ◌-◌, ℕ, zero, suc, List, [], ◌∷◌, map, length, Bool, true, false, ◌&&◌, ◌==◌, nat_lt, nat_le, cond, refl, ap, sym, ◌∙◌, subst, arith, Option, Some, None, eq-eqb, eqb}
+use Rattle.std.specs.Prelude.{is_none, ◌%◌, if◌then◌else◌}
 use Rattle.std.specs.List.{list_any, list_all, find, fold, range_with_len}
-use Rattle.std.proofs.lemmas.Bool.{eqb-true, eqb-false, ltb-true, leb-true}
+use Rattle.std.proofs.lemmas.Bool.{eqb-true, eqb-false, ltb-true, leb-true, le-leb, lt-ltb}
 use Rattle.vk_model.specs.declared.command.Cmd.{Cmd}
 use Rattle.vk_model.specs.declared.command.Cmd.TheVariants as cmd
 use Rattle.vk_model.specs.declared.command.Length.{Length}
@@ -15,35 +15,35 @@ use Rattle.vk_model.specs.Ownership.{family_of}
 use Rattle.vk_model.specs.Objects.{is_exclusive}
 use Rattle.vk_model.specs.Effect.{world, after_deed, after_command, after_element, moved, used, is_other, set_owner, without}
 use Rattle.vk_model.specs.Point.{Past, Point, Deed, Host, Run, host_of}
-use Rattle.vk_validate.specs.Served.{is_served, is_served_deed, is_memory}
+use Rattle.vk_validate.specs.Served.{is_served_deed, is_memory}
 use Rattle.vk_model.specs.RulesBytes.{breaks_read_undefined}
 use Rattle.vk_validate.specs.Tests.{reads_unwritten}
 use Rattle.vk_validate.specs.Tabled.{writes_byte, last_writer}
 use Rattle.vk_validate.proofs.Forms.{entry_cases, command_cases, deed_cases}
-use Rattle.vk_validate.proofs.Pasts.{and-true, served-cons}
+use Rattle.vk_validate.proofs.Pasts.{and-true}
+use Rattle.vk_model.specs.Fault.{newest}
+use Rattle.vk_validate.specs.Cleared.{IsCleared}
 use Rattle.vk_validate.proofs.Plain.{IsPlain, Placed}
+use Rattle.vk_validate.proofs.Reach.{fills_low, served_of}
 use Rattle.vk_validate.proofs.Acts.{last_queue}
 
 -- ---- what a fill's moves leave
 
 module _ (value : Byte → Option ℕ) (to : ℕ → Byte) (of : ℕ → ℕ) (at : Byte) where
-  written : List ℕ → Option ℕ
+  abbrev written : List ℕ → Option ℕ
   written ks = moved value (find (λ m. same_byte m.to at) (map (λ k. move (to k) (Value (of k))) ks)) at
 
-  -- a byte with a value keeps one
-  kept : (ks : List ℕ) → IsSome (value at) → IsSome (moved value (find (λ m. same_byte m.to at) (map (λ k. move (to k) (Value (of k))) ks)) at)
-  kept [] h = h
-  kept (k ∷ ks) h = go (same_byte (to k) at) (kept ks h) where
-    go : (b : Bool) → IsSome (moved value (find (λ m. same_byte m.to at) (map (λ k. move (to k) (Value (of k))) ks)) at) → IsSome (moved value (cond b (Some (move (to k) (Value (of k)))) (find (λ m. same_byte m.to at) (map (λ k. move (to k) (Value (of k))) ks))) at)
-    go true rest = refl
-    go false rest = rest
+  -- a byte that no move is to stays as it is
+  missed : (a n : ℕ) → ((k : ℕ) → a ≤ k → k < a + n → same_byte (to k) at ≡ false) → written (range_with_len a n) ≡ value at
+  missed a zero none = refl
+  missed a (suc n) none = rw (none a (omega arith) (omega arith)) (missed (a + 1) n (λ k low high. none k (omega arith) (omega arith)))
 
-  -- a byte that a move is to has one
-  hit : (a n k : ℕ) → a ≤ k → k < a + n → same_byte (to k) at ≡ true → IsSome (moved value (find (λ m. same_byte m.to at) (map (λ k. move (to k) (Value (of k))) (range_with_len a n))) at)
+  -- a byte that a move is to has a value
+  hit : (a n k : ℕ) → a ≤ k → k < a + n → same_byte (to k) at ≡ true → is_none (written (range_with_len a n)) ≡ false
   hit a zero k low high e = absurd (omega arith)
   hit a (suc n) k low high e = go (same_byte (to a) at) refl (eqb a k) refl (λ next. hit (a + 1) n k next (omega arith) e) where
-    go : (b : Bool) → same_byte (to a) at ≡ b → (c : Bool) → eqb a k ≡ c → (a + 1 ≤ k → IsSome (moved value (find (λ m. same_byte m.to at) (map (λ k. move (to k) (Value (of k))) (range_with_len (a + 1) n))) at))
-        → IsSome (moved value (cond b (Some (move (to a) (Value (of a)))) (find (λ m. same_byte m.to at) (map (λ k. move (to k) (Value (of k))) (range_with_len (a + 1) n)))) at)
+    go : (b : Bool) → same_byte (to a) at ≡ b → (c : Bool) → eqb a k ≡ c → (a + 1 ≤ k → is_none (written (range_with_len (a + 1) n)) ≡ false)
+        → is_none (moved value (cond b (Some (move (to a) (Value (of a)))) (find (λ m. same_byte m.to at) (map (λ k. move (to k) (Value (of k))) (range_with_len (a + 1) n)))) at) ≡ false
     go true s c t rest = refl
     go false s true t rest = absurd (let same : a ≡ k = eqb-true a k t in let bad : true ≡ false = sym e ∙ ap (λ j. same_byte (to j) at) (sym same) ∙ s in cc)
     go false s false t rest = let other : a ≡ k → ⊥ = eqb-false a k t in rest (omega arith)
@@ -71,80 +71,75 @@ memory_does_nothing past (element.Image e ∷ es) all w = absurd cc
 
 -- ---- the world and the last writers
 
+-- just the bytes that have a last writer have a value
 pub record IsKnown (past : Past) : Type 0 where
   pub owned : OwnedBy0 (world past)
-  pub defined : (b k : ℕ) → IsSome (last_writer past b k) → IsSome ((world past).value (in_buffer b k))
+  pub defined : (b k : ℕ) → is_none ((world past).value (in_buffer b k)) ≡ is_none (last_writer past b k)
 
-batch_queue : (past : Past) (p : Point) → is_served past ≡ true → Placed None p past → p.queue ≡ 0
-batch_queue past p served placed = last_queue p.entry p.queue past served placed
+abbrev Becomes : Past → World → Deed → Type 0
+Becomes past w d = OwnedBy0 w × ((b k : ℕ) → is_none (w.value (in_buffer b k)) ≡ is_none (if writes_byte past d b k then Some (length past) else last_writer past b k))
 
-abbrev Becomes : Past → Point → World → Deed → Type 0
-Becomes past p w d = OwnedBy0 w × ((b k : ℕ) → IsSome (if writes_byte past d b k then Some (length past) else last_writer past b k) → IsSome (w.value (in_buffer b k)))
-
-known_next : (past : Past) (p : Point) → is_served past ≡ true → is_served_deed p.deed ≡ true → IsPlain (p ∷ past) → IsKnown past → IsKnown (p ∷ past)
-known_next past p served now plain known = let h = by_deed p.deed now plain.0 in record { owned = h.0; defined = h.1 } where
-  same : OwnedBy0 (world past) × ((b k : ℕ) → IsSome (last_writer past b k) → IsSome ((world past).value (in_buffer b k)))
+known_next : (past : Past) (p : Point) → IsCleared (p ∷ past) → IsPlain (p ∷ past) → IsKnown past → IsKnown (p ∷ past)
+known_next past p cleared plain known = let h = by_deed p.deed cleared.0.served refl plain.0 in record { owned = h.0; defined = h.1 } where
+  same : OwnedBy0 (world past) × ((b k : ℕ) → is_none ((world past).value (in_buffer b k)) ≡ is_none (last_writer past b k))
   same = (known.owned, known.defined)
 
-  fill : (b o : ℕ) (n : Length) (w : ℕ) → Becomes past p (after_command past 0 (cmd.Fill b o n w) (world past)) (Run (cmd.Fill b o n w))
-  fill b o n w = (kept_owners.0, λ c k. by_test c k (b == c && within o size k) refl) where
+  fill : (b o : ℕ) (n : Length) (w : ℕ) → p.deed ≡ Run (cmd.Fill b o n w) → Becomes past (after_command past 0 (cmd.Fill b o n w) (world past)) (Run (cmd.Fill b o n w))
+  fill b o n w is = (kept_owners.0, λ c k. by_test c k (b == c && within o size k && nat_lt k (2 ^ 64)) refl) where
     size : ℕ
     size = fill_size (buffer_size past b) o n
 
     kept_owners : OwnedBy0 (used past 0 b (world past)) × ((at : Byte) → (used past 0 b (world past)).value at ≡ (world past).value at)
     kept_owners = used_keeps past b (world past) known.owned
 
-    to : ℕ → Byte
-    to j = in_buffer b (o + j)
+    low : (k : ℕ) → within o size k ≡ true → k < 2 ^ 64
+    low k h = fills_low (p ∷ past) past p b o n w k cleared newest is h
 
-    of : ℕ → ℕ
-    of j = byte_of w (j % 4)
+    beside : (c k : ℕ) → (b == c && within o size k && nat_lt k (2 ^ 64)) ≡ false → (j : ℕ) → j < size → (t : Bool) → same_byte (in_buffer b (o + j)) (in_buffer c k) ≡ t → t ≡ false
+    beside c k e j high false h = refl
+    beside c k e j high true h =
+        let both = and-true (b == c) ((o + j) == k) h in
+        let is_k : o + j ≡ k = eqb-true (o + j) k both.1 in
+        let inside : within o size k ≡ true = rw (le-leb o k (omega arith), lt-ltb k (o + size) (omega arith)) refl in
+        let bad : true ≡ false = rw (both.0, inside, lt-ltb k (2 ^ 64) (low k inside)) at e in cc
 
-    by_test : (c k : ℕ) (t : Bool) → (b == c && within o size k) ≡ t → IsSome (if t then Some (length past) else last_writer past c k)
-        → IsSome (moved (used past 0 b (world past)).value (find (λ m. same_byte m.to (in_buffer c k)) (map (λ j. move (in_buffer b (o + j)) (Value (byte_of w (j % 4)))) (below size))) (in_buffer c k))
-    by_test c k false e h = kept (used past 0 b (world past)).value (λ j. in_buffer b (o + j)) (λ j. byte_of w (j % 4)) (in_buffer c k) (below size) (subst (λ (v : Option ℕ). IsSome v) (sym (kept_owners.1 (in_buffer c k))) (known.defined c k h))
-    by_test c k true e h =
-        let both = and-true (b == c) (within o size k) e in
+    by_test : (c k : ℕ) (t : Bool) → (b == c && within o size k && nat_lt k (2 ^ 64)) ≡ t
+        → is_none (moved (used past 0 b (world past)).value (find (λ m. same_byte m.to (in_buffer c k)) (map (λ j. move (in_buffer b (o + j)) (Value (byte_of w (j % 4)))) (below size))) (in_buffer c k)) ≡ is_none (if t then Some (length past) else last_writer past c k)
+    by_test c k false e = ap is_none (missed (used past 0 b (world past)).value (λ j. in_buffer b (o + j)) (λ j. byte_of w (j % 4)) (in_buffer c k) 0 size (λ j from high. beside c k e j (omega arith) (same_byte (in_buffer b (o + j)) (in_buffer c k)) refl) ∙ kept_owners.1 (in_buffer c k)) ∙ known.defined c k
+    by_test c k true e =
+        let both = and-true (b == c) (within o size k) (and-true (b == c && within o size k) (nat_lt k (2 ^ 64)) e).0 in
         let inside = and-true (nat_le o k) (nat_lt k (o + size)) both.1 in
         let low : o ≤ k = leb-true o k inside.0 in
         let high : k < o + size = ltb-true k (o + size) inside.1 in
         let back : o + (k - o) ≡ k = omega arith in
         hit (used past 0 b (world past)).value (λ j. in_buffer b (o + j)) (λ j. byte_of w (j % 4)) (in_buffer c k) 0 size (k - o) (omega arith) (omega arith) (rw (both.0, eq-eqb (o + (k - o)) k back) refl)
 
-  barrier : (es : List Element) → list_all is_memory es ≡ true → Becomes past p (after_command past 0 (cmd.Barrier es) (world past)) (Run (cmd.Barrier es))
-  barrier es all = subst (λ (w : World). OwnedBy0 w × ((b k : ℕ) → IsSome (last_writer past b k) → IsSome (w.value (in_buffer b k)))) (sym (memory_does_nothing past es all (world past))) same
+  barrier : (es : List Element) → list_all is_memory es ≡ true → Becomes past (after_command past 0 (cmd.Barrier es) (world past)) (Run (cmd.Barrier es))
+  barrier es all = subst (λ (w : World). OwnedBy0 w × ((b k : ℕ) → is_none (w.value (in_buffer b k)) ≡ is_none (last_writer past b k))) (sym (memory_does_nothing past es all (world past))) same
 
-  on_0 : (c : Cmd) → Placed None p past → Becomes past p (after_command past 0 c (world past)) (Run c) → Becomes past p (after_command past (family_of p.queue) c (world past)) (Run c)
-  on_0 c placed h = subst (λ (q : ℕ). Becomes past p (after_command past (family_of q) c (world past)) (Run c)) (sym (batch_queue past p served placed)) h
+  on_0 : (c : Cmd) → Placed None p past → Becomes past (after_command past 0 c (world past)) (Run c) → Becomes past (after_command past (family_of p.queue) c (world past)) (Run c)
+  on_0 c placed h = subst (λ (q : ℕ). Becomes past (after_command past (family_of q) c (world past)) (Run c)) (sym (last_queue p.entry p.queue past (served_of past cleared.1) placed)) h
 
-  by_deed : (d : Deed) → is_served_deed d ≡ true → Placed (host_of d) p past → Becomes past p (after_deed past p.queue d (world past)) d
-  by_deed = let P : Deed → Type 0 = λ d. Placed (host_of d) p past → Becomes past p (after_deed past p.queue d (world past)) d in
+  by_deed : (d : Deed) → is_served_deed d ≡ true → p.deed ≡ d → Placed (host_of d) p past → Becomes past (after_deed past p.queue d (world past)) d
+  by_deed = let P : Deed → Type 0 = λ d. p.deed ≡ d → Placed (host_of d) p past → Becomes past (after_deed past p.queue d (world past)) d in
       deed_cases P
-      (entry_cases (λ x. P (Host x)) (λ i b t is other placed. same) (λ b placed. same) (λ b o n placed. same) (λ i v placed. same) (λ ws placed. same) (λ bs placed. same))
-      (command_cases (λ c. P (Run c)) (λ b o n w placed. on_0 (cmd.Fill b o n w) placed (fill b o n w)) (λ es all placed. on_0 (cmd.Barrier es) placed (barrier es all)))
-      (λ s placed. same)
+      (entry_cases (λ x. P (Host x)) (λ i b t at other is placed. same) (λ b is placed. same) (λ b o n is placed. same) (λ i v is placed. same) (λ ws is placed. same) (λ bs is placed. same))
+      (command_cases (λ c. P (Run c)) (λ b o n w is placed. on_0 (cmd.Fill b o n w) placed (fill b o n w is)) (λ es all is placed. on_0 (cmd.Barrier es) placed (barrier es all)))
+      (λ s is placed. same)
 
-pub known : (past : Past) → is_served past ≡ true → IsPlain past → IsKnown past
-known [] served plain = record { owned = λ r. refl; defined = λ b k h. absurd cc }
-known (p ∷ past) served plain = let s = served-cons p past served in known_next past p s.1 s.0 plain (known past s.1 plain.1)
+pub known : (past : Past) → IsCleared past → IsPlain past → IsKnown past
+known [] cleared plain = record { owned = λ r. refl; defined = λ b k. refl }
+known (p ∷ past) cleared plain = known_next past p cleared plain (known past cleared.1 plain.1)
 
--- a read of what was written is of defined bytes
-defined_bytes : (past : Past) → IsKnown past → (b o : ℕ) (ks : List ℕ) → list_any (λ k. is_none (last_writer past b (o + k))) ks ≡ false → list_any (λ k. is_none ((world past).value (in_buffer b (o + k)))) ks ≡ false
-defined_bytes past known b o [] h = refl
-defined_bytes past known b o (k ∷ ks) h = go (last_writer past b (o + k)) refl h (defined_bytes past known b o ks) where
-  some_is : (v : Option ℕ) → IsSome v → is_none v ≡ false
-  some_is None h = absurd cc
-  some_is (Some x) h = refl
+-- a read of undefined bytes is one of bytes that were never written
+undefined_bytes : (past : Past) → IsKnown past → (b o : ℕ) (ks : List ℕ) → list_any (λ k. is_none ((world past).value (in_buffer b (o + k)))) ks ≡ list_any (λ k. is_none (last_writer past b (o + k))) ks
+undefined_bytes past known b o [] = refl
+undefined_bytes past known b o (k ∷ ks) = rw (known.defined b (o + k), undefined_bytes past known b o ks) refl
 
-  go : (w : Option ℕ) → last_writer past b (o + k) ≡ w → (is_none w || list_any (λ k. is_none (last_writer past b (o + k))) ks) ≡ false → (list_any (λ k. is_none (last_writer past b (o + k))) ks ≡ false → list_any (λ k. is_none ((world past).value (in_buffer b (o + k)))) ks ≡ false)
-      → (is_none ((world past).value (in_buffer b (o + k))) || list_any (λ k. is_none ((world past).value (in_buffer b (o + k)))) ks) ≡ false
-  go None e h rest = absurd cc
-  go (Some x) e h rest = rw (some_is ((world past).value (in_buffer b (o + k))) (known.defined b (o + k) (rw e refl))) (rest h)
-
-pub no_read_undefined : (past : Past) (p : Point) → is_served past ≡ true → is_served_deed p.deed ≡ true → IsPlain past → reads_unwritten past p.deed ≡ false → breaks_read_undefined past p ≡ false
-no_read_undefined past p served now plain reads =
-    let P : Deed → Type 0 = λ d. reads_unwritten past d ≡ false → breaks_read_undefined past (record p { deed = d }) ≡ false in
+pub read_undefined_is : (past : Past) (p : Point) → IsCleared past → is_served_deed p.deed ≡ true → IsPlain past → breaks_read_undefined past p ≡ reads_unwritten past p.deed
+read_undefined_is past p cleared now plain =
+    let P : Deed → Type 0 = λ d. breaks_read_undefined past (record p { deed = d }) ≡ reads_unwritten past d in
     deed_cases P
-    (entry_cases (λ x. P (Host x)) (λ i b t is other h. refl) (λ b h. refl) (λ b o n h. defined_bytes past (known past served plain) b o (below n) h) (λ i v h. refl) (λ ws h. refl) (λ bs h. refl))
-    (command_cases (λ c. P (Run c)) (λ b o n w h. refl) (λ es all h. refl))
-    (λ s h. refl) p.deed now reads
+    (entry_cases (λ x. P (Host x)) (λ i b t is other. refl) (λ b. refl) (λ b o n. undefined_bytes past (known past cleared plain) b o (below n)) (λ i v. refl) (λ ws. refl) (λ bs. refl))
+    (command_cases (λ c. P (Run c)) (λ b o n w. refl) (λ es all. refl))
+    (λ s. refl) p.deed now

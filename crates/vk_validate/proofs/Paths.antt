@@ -32,7 +32,7 @@ member_passes f (y ∷ ys) x c e = elim (contains-cons y ys x c) [
 
 -- ---- nodes by their numbers
 
-unique : (ns : List Node) → IsNumbered ns → (m n : Node) → Contains ns m → Contains ns n → m.number ≡ n.number → m ≡ n
+pub unique : (ns : List Node) → IsNumbered ns → (m n : Node) → Contains ns m → Contains ns n → m.number ≡ n.number → m ≡ n
 unique [] numbers m n c d same = absurd (let none : c.0 < 0 = c.1 in omega arith)
 unique (k ∷ ns) numbers m n c d same = go (contains-cons k ns m c) (contains-cons k ns n d) (unique ns numbers.1 m n)
   where
@@ -76,7 +76,7 @@ joined ns l m n p (longer {k = k} q d e) = longer (joined ns l m k p q) d e
 -- ---- one node more
 
 module _ (n : Node) (ns : List Node) (new : n.number ≡ length ns) (numbers : IsNumbered ns) where
-  in_rest : (k : Node) → Contains (n ∷ ns) k → k.number < length ns → Contains ns k
+  pub in_rest : (k : Node) → Contains (n ∷ ns) k → k.number < length ns → Contains ns k
   in_rest k c lt = elim (contains-cons n ns k c) [
     | inl same ↦ let here : k.number ≡ length ns = ap (λ (x : Node). x.number) (sym same) ∙ new in absurd (omega arith)
     | inr later ↦ later
@@ -97,7 +97,7 @@ module _ (n : Node) (ns : List Node) (new : n.number ≡ length ns) (numbers : I
       longer (restricted a k p (omega arith)) (in_rest b d lt) (rw (edge-older n ns new k b lt) at e)
 
   -- edges to the new node don't look at it
-  edge-new : (m : Node) → edge (n ∷ ns) m n ≡ edge ns m n
+  pub edge-new : (m : Node) → edge (n ∷ ns) m n ≡ edge ns m n
   unfolding edge
   edge-new m = rw (le-ltb n.number n.number (omega arith)) refl
 

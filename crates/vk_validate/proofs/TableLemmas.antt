@@ -18,7 +18,7 @@ use Rattle.vk_validate.specs.Fits.{IsFillOf}
 use Rattle.vk_model.specs.Words.{within}
 use Rattle.vk_model.specs.Moves.{fill_size, buffer_size}
 use Rattle.std.proofs.Common.{◌≢◌}
-use Rattle.std.specs.Prelude.{IsSome, IfSome, ◌&&◌, nat_le, if◌then◌else◌, ◌^◌}
+use Rattle.std.specs.Prelude.{IsSome, IfSome, ◌&&◌, nat_le, nat_lt, if◌then◌else◌, ◌^◌}
 use Rattle.std.proofs.lemmas.Bool.{lt-leb, le-leb, lt-ltb, le-ltb, eqb-true, eqb-false, cases_lt}
 use Rattle.vk_validate.specs.declared.writers.LastWriters.{LastWriters}
 use Rattle.vk_validate.proofs.Batches.{past_of-push}
@@ -77,19 +77,19 @@ writers_next old new p past b first last n are fill here stands assigned others 
 
   -- of the buffer that is filled, by where the byte lies
   in_buffer : (w : LastWriters) → IsAssigned (old b) w first last n → (k : ℕ) → k < 2 ^ 64 → (k < fill.offset) ⊎ (fill.offset ≤ k) → (k < fill.offset + size) ⊎ (fill.offset + size ≤ k)
-      → IsLastWriter w.bounds k (if within fill.offset size k then Some (length past) else last_writer past b k)
+      → IsLastWriter w.bounds k (if within fill.offset size k && nat_lt k (2 ^ 64) then Some (length past) else last_writer past b k)
   in_buffer w a k lt (inl low) side = let first_is = fill.first_is in rw (within_not_low fill.offset size k low) (a.before k (last_writer past b k) (omega arith) (are b k lt))
-  in_buffer w a k lt (inr from) (inl high) = let first_is = fill.first_is in let last_is = fill.last_is in let some = fill.some in rw (within_yes fill.offset size k from high, ← here) (a.inside k (omega arith) (omega arith))
+  in_buffer w a k lt (inr from) (inl high) = let first_is = fill.first_is in let last_is = fill.last_is in let some = fill.some in rw (within_yes fill.offset size k from high, lt-ltb k (2 ^ 64) lt, ← here) (a.inside k (omega arith) (omega arith))
   in_buffer w a k lt (inr from) (inr above) = let last_is = fill.last_is in let some = fill.some in rw (within_not_high fill.offset size k above) (a.after k (last_writer past b k) (omega arith) lt (are b k lt))
 
-  found : (k : ℕ) → k < 2 ^ 64 → (o : Option LastWriters) → IsSome o → IfSome o (λ w. IsAssigned (old b) w first last n) → WasLast o k (if within fill.offset size k then Some (length past) else last_writer past b k)
+  found : (k : ℕ) → k < 2 ^ 64 → (o : Option LastWriters) → IsSome o → IfSome o (λ w. IsAssigned (old b) w first last n) → WasLast o k (if within fill.offset size k && nat_lt k (2 ^ 64) then Some (length past) else last_writer past b k)
   found k lt None some a = absurd cc
   found k lt (Some w) some a = in_buffer w a k lt (cases_lt k fill.offset) (cases_lt k (fill.offset + size))
 
   by_buffer : (c k : ℕ) → k < 2 ^ 64 → (t : Bool) → (b == c) ≡ t → WasLast (new c) k (last_writer (p ∷ past) c k)
   by_buffer c k lt true e =
       let same : b ≡ c = eqb-true b c e in
-      rw (fill.is, e) (subst (λ (x : ℕ). WasLast (new x) k (if within fill.offset size k then Some (length past) else last_writer past x k)) same (found k lt (new b) stands assigned))
+      rw (fill.is, e) (subst (λ (x : ℕ). WasLast (new x) k (if within fill.offset size k && nat_lt k (2 ^ 64) then Some (length past) else last_writer past x k)) same (found k lt (new b) stands assigned))
   by_buffer c k lt false e =
       let apart : b ≢ c = eqb-false b c e in
       rw (fill.is, e) (subst (λ (o : Option LastWriters). WasLast o k (last_writer past c k)) (sym (others c (λ same. apart (sym same)))) (are c k lt))

@@ -12,9 +12,9 @@ use Rattle.vk_model.specs.RulesLayouts.{breaks_stage}
 use Rattle.vk_model.specs.RulesSync.{breaks_signal_value, breaks_wait_never}
 use Rattle.vk_model.specs.RulesBytes.{breaks_limit}
 use Rattle.vk_validate.specs.Served.{is_served_deed}
-use Rattle.vk_validate.specs.Tests.{names_dead, lacks_usage, reads_unmapped, maps_local, reads_unwritten}
+use Rattle.vk_validate.specs.Tests.{names_dead, lacks_usage, reads_unmapped, maps_local, reads_unseen, overwrites_unseen, reads_unwritten}
 
--- The test of a rule, of a point of a form that is served. Such a point can't break the rules that have none, but for HAZARD_RAW and HAZARD_WAW: of what the code tests for these two nothing is said here.
+-- The test of a rule, of a point of a form that is served. Such a point can't break the rules that have none.
 unfoldable pub tests : Rule → Past → Point → Bool
 tests rule.NewId past p = breaks_new_id past p
 tests rule.LiveId past p = names_dead past p.deed
@@ -29,6 +29,8 @@ tests rule.SignalValue past p = breaks_signal_value past p
 tests rule.WaitNever past p = breaks_wait_never past p
 tests rule.MapState past p = reads_unmapped past p.deed
 tests rule.HostVisible past p = maps_local past p.deed
+tests rule.HazardRaw past p = reads_unseen past p.deed
+tests rule.HazardWaw past p = overwrites_unseen past p.deed
 tests rule.ReadUndefined past p = reads_unwritten past p.deed
 tests rule.Limit past p = breaks_limit past p
 tests _ past p = false
@@ -46,10 +48,3 @@ pub record IsClear (past : Past) (p : Point) : Type 0 where
 abbrev pub IsCleared : Past → Type 0
 IsCleared [] = ⊤
 IsCleared (p ∷ past) = IsClear past p × IsCleared past
-
--- Whether the test of a rule finds just the points that break it. That of READ_UNDEFINED may find more, and of those of HAZARD_RAW and HAZARD_WAW nothing is said.
-abbrev pub is_exact : Rule → Bool
-is_exact rule.HazardRaw = false
-is_exact rule.HazardWaw = false
-is_exact rule.ReadUndefined = false
-is_exact _ = true

@@ -1,12 +1,14 @@
 pub mod Served
 pub mod Told
 pub mod Laid
+pub mod Standing
+pub mod Signals
 pub mod Tabled
 pub mod Fits
 pub mod Tests
 pub mod Cleared
-pub mod Refused
-pub mod Covered
+pub mod Faults
+pub mod Acceptable
 pub mod Verdicts
 pub mod Writers
 pub mod Seeks

@@ -1,5 +1,5 @@
 -- The tables of a history say what its past does.
-use Rattle.std.specs.Prelude.{◌≡◌, ℕ, ◌==◌, ◌&&◌, ◌<◌, ◌^◌, [], ◌∷◌, length, false, if◌then◌else◌, Some, None, nat_lt, Bool, max, Option, unwrap_or}
+use Rattle.std.specs.Prelude.{◌≡◌, ◌≤◌, List, ℕ, ◌==◌, ◌&&◌, ◌<◌, ◌^◌, [], ◌∷◌, length, false, if◌then◌else◌, Some, None, nat_lt, Bool, max, Option, unwrap_or}
 use Rattle.std.specs.Option.{option_map}
 use Rattle.std.specs.List.{fold, list_any}
 use Rattle.std.specs.Ordering.{nat_cmp}
@@ -15,6 +15,8 @@ use Rattle.vk_model.specs.declared.command.Cmd.TheVariants as cmd
 use Rattle.vk_model.specs.Moves.{buffer_size, fill_size}
 use Rattle.vk_validate.specs.declared.writers.LastWriters.{LastWriters}
 use Rattle.vk_validate.specs.Writers.{WasLast}
+use Rattle.vk_validate.specs.Standing.{Signaled, least_signal, standing}
+use Rattle.vk_validate.specs.declared.timelines.Timeline.{Timeline}
 use Rattle.vk_validate.specs.declared.tables.Tables.{Tables}
 use denote.Ref.{Bor}
 
@@ -34,9 +36,9 @@ Maps counts past = (b : ℕ) → nat_lt 0 (unwrap_or (counts b) 0) ≡ was_mappe
 abbrev pub Peaks : (ℕ → Option ℕ) → Past → Type 0
 Peaks peaks past = (s : ℕ) → unwrap_or (peaks s) 0 ≡ fold max 0 (signaled past s)
 
--- Whether a fill writes byte k of a buffer.
+-- Whether a fill writes byte k of a buffer. No buffer has a byte from 2^64 on.
 abbrev pub fills_byte : Past → Cmd → ℕ → ℕ → Bool
-fills_byte past (cmd.Fill c o n w) b k = c == b && within o (fill_size (buffer_size past c) o n) k
+fills_byte past (cmd.Fill c o n w) b k = c == b && within o (fill_size (buffer_size past c) o n) k && nat_lt k (2 ^ 64)
 fills_byte past _ b k = false
 
 -- Whether a point writes byte k of a buffer.
@@ -53,9 +55,21 @@ last_writer (p ∷ past) b k = if writes_byte past p.deed b k then Some (length 
 abbrev pub WritersAre : (ℕ → Option LastWriters) → Past → Type 0
 WritersAre writers past = (b k : ℕ) → k < 2 ^ 64 → WasLast (writers b) k (last_writer past b k)
 
+-- The signal of the least value at or above v in a timeline, if there is one.
+abbrev pub IsLeast : Option Timeline → ℕ → Option Signaled → Type 0
+IsLeast None v found = found ≡ None
+IsLeast (Some timeline) v None = (key : ℕ) → v ≤ key → get nat_cmp timeline.signals key ≡ None
+IsLeast (Some timeline) v (Some x) = (v ≤ x.value) × (get nat_cmp timeline.signals x.value ≡ Some x.clock) × ((key : ℕ) → v ≤ key → key < x.value → get nat_cmp timeline.signals key ≡ None)
+
+-- The timelines answer from their keys what the list of signals has.
+abbrev pub TimelinesAre : (ℕ → Option Timeline) → List Signaled → Type 0
+TimelinesAre timelines signals = (s v : ℕ) → IsLeast (timelines s) v (least_signal signals s v)
+
 -- All tables say what the past does.
 pub record IsTabled (tables : Tables) (past : Past) : Type 0 where
   pub makers_are : Makers (get nat_cmp tables.makers) past
   pub maps_are : Maps (get nat_cmp tables.maps) past
   pub peaks_are : Peaks (get nat_cmp tables.peaks) past
   pub writers_are : WritersAre (get nat_cmp tables.writers) past
+  pub timelines_are : TimelinesAre (get nat_cmp tables.timelines) (standing past).signals
+  pub order_is : tables.order ≡ (standing past).order

@@ -1,5 +1,5 @@
 -- What is tested of a point, where the forms that are served need less than the rule says.
-use Rattle.std.specs.Prelude.{ℕ, ◌+◌, ◌<◌, ◌≤◌, ⊤, IsSome, Bool, false, not, ◌==◌, is_some, is_none}
+use Rattle.std.specs.Prelude.{◌+◌, Bool, false, not, ◌==◌, is_some, is_none, nat_le}
 use Rattle.std.specs.List.{list_any}
 use Rattle.vk_model.specs.declared.command.Cmd.{Cmd}
 use Rattle.vk_model.specs.declared.command.Cmd.TheVariants as cmd
@@ -11,6 +11,8 @@ use Rattle.vk_model.specs.Words.{holds, has_bits, below}
 use Rattle.vk_model.specs.Point.{Past, Deed, Host, Wait, Run, Signal}
 use Rattle.vk_model.specs.Objects.{buffer, initial}
 use Rattle.vk_model.specs.RulesSizes.{is_outside}
+use Rattle.vk_model.specs.Moves.{buffer_size, fill_size}
+use Rattle.vk_validate.specs.Standing.{standing}
 use Rattle.vk_validate.specs.Tabled.{was_mapped, last_writer}
 
 -- Whether an entry names what was never made as the kind asked.
@@ -73,17 +75,27 @@ abbrev pub maps_local : Past → Deed → Bool
 maps_local past (Host x) = maps_local_entry past x
 maps_local past _ = false
 
--- READ_UNDEFINED: what a read names was written.
-abbrev pub EntryReadsWritten : Past → Entry → Type 0
-EntryReadsWritten past (entry.Read b o n) = (k : ℕ) → o ≤ k → k < o + n → IsSome (last_writer past b k)
-EntryReadsWritten past _ = ⊤
+-- HAZARD_RAW: a read names a byte whose last writer the host doesn't see: the writers before it it then sees.
+abbrev pub entry_reads_unseen : Past → Entry → Bool
+entry_reads_unseen past (entry.Read b o n) = list_any (λ k. holds (last_writer past b (o + k)) (nat_le (standing past).order.host.readable)) (below n)
+entry_reads_unseen past _ = false
 
 -- The same of what happens at a point.
-abbrev pub ReadsWritten : Past → Deed → Type 0
-ReadsWritten past (Host x) = EntryReadsWritten past x
-ReadsWritten past _ = ⊤
+abbrev pub reads_unseen : Past → Deed → Bool
+reads_unseen past (Host x) = entry_reads_unseen past x
+reads_unseen past _ = false
 
--- The same, to be computed.
+-- HAZARD_WAW: a fill writes a byte whose last writer it doesn't see.
+abbrev pub command_overwrites_unseen : Past → Cmd → Bool
+command_overwrites_unseen past (cmd.Fill b o n w) = list_any (λ k. holds (last_writer past b (o + k)) (nat_le (standing past).order.to_writes)) (below (fill_size (buffer_size past b) o n))
+command_overwrites_unseen past _ = false
+
+-- The same of what happens at a point.
+abbrev pub overwrites_unseen : Past → Deed → Bool
+overwrites_unseen past (Run c) = command_overwrites_unseen past c
+overwrites_unseen past _ = false
+
+-- READ_UNDEFINED: a read names a byte that was never written.
 abbrev pub entry_reads_unwritten : Past → Entry → Bool
 entry_reads_unwritten past (entry.Read b o n) = list_any (λ k. is_none (last_writer past b (o + k))) (below n)
 entry_reads_unwritten past _ = false

@@ -1,3 +1,6 @@
+ghost use Rattle.std.specs.Prelude.{◌≡◌, Some};
+ghost use Rattle.vk_validate.specs.Standing as standing;
+
 use crate::scopes::{HOST_READS, TRANSFER_WRITES, TRANSFERS};
 use bitflags::Flags;
 use vk_model::{Dependency, Element, Stages};
@@ -23,7 +26,9 @@ impl Clock {
     };
 
     /// The clock of what comes after both.
-    fn join(self, other: Clock) -> Clock {
+    fn join(self, other: Clock) -> Clock
+        ensures { result ≡ standing.joined self other }
+    {
         Clock {
             available: self.available.max(other.available),
             readable: self.readable.max(other.readable),
@@ -62,18 +67,24 @@ impl Order {
     };
 
     /// A write of the next command sees the writes of commands at points below this number.
-    pub fn seen_by_write(&self) -> usize {
+    pub fn seen_by_write(&self) -> usize
+        ensures { result ≡ self.now.to_writes }
+    {
         self.to_writes
     }
 
     /// A read of the host sees the writes of commands at points below this number.
-    pub fn seen_by_host_read(&self) -> usize {
+    pub fn seen_by_host_read(&self) -> usize
+        ensures { result ≡ self.now.host.readable }
+    {
         self.host.readable
     }
 
     /// Where a dependency of the command at this point stands. A batch comes after its submit, which
     /// is the last entry of the host.
-    fn available_at(&self, dependency: &Dependency, point: usize) -> usize {
+    fn available_at(&self, dependency: &Dependency, point: usize) -> usize
+        ensures { result ≡ standing.available_at self.now dependency.now point }
+    {
         let mut available = self.host.available;
         if dependency.source_stages.intersects(TRANSFERS) {
             available = available.max(self.to_transfers);
@@ -88,7 +99,9 @@ impl Order {
     }
 
     /// With a dependency more, which stands where `available` says.
-    fn with_dependency(mut self, dependency: &Dependency, available: usize) -> Order {
+    fn with_dependency(mut self, dependency: &Dependency, available: usize) -> Order
+        ensures { result ≡ standing.with_dependency self dependency.now available }
+    {
         if dependency.destination_stages.intersects(TRANSFERS) {
             self.to_transfers = self.to_transfers.max(available);
             if dependency.destination_accesses.intersects(TRANSFER_WRITES) {
@@ -106,7 +119,9 @@ impl Order {
 
     /// After a barrier at this point. Its elements don't come after each other: all stand in the order
     /// as it was before the barrier.
-    pub fn after_barrier(self, elements: &[Element], point: usize) -> Order {
+    pub fn after_barrier(self, elements: &[Element], point: usize) -> Order
+        ensures { result ≡ standing.after_elements self point elements.now self }
+    {
         let mut after = self;
         for element in elements {
             if let Element::Memory(dependency) = element {
@@ -119,7 +134,9 @@ impl Order {
 
     /// The clock of a signal of a batch at this point. It covers all earlier commands where its stages
     /// have the transfers, and then their dependencies too.
-    pub fn signal_at(&self, stages: Stages, point: usize) -> Clock {
+    pub fn signal_at(&self, stages: Stages, point: usize) -> Clock
+        ensures { result ≡ standing.signal_at self.now stages.0 point }
+    {
         let covered = if stages.intersects(TRANSFERS) {
             point
         } else {
@@ -133,7 +150,9 @@ impl Order {
     }
 
     /// After a signal of this clock.
-    pub fn after_signal(self, clock: Clock) -> Order {
+    pub fn after_signal(self, clock: Clock) -> Order
+        ensures { result ≡ record self { signals = standing.joined self.signals clock } }
+    {
         Order {
             signals: self.signals.join(clock),
             ..self
@@ -141,7 +160,9 @@ impl Order {
     }
 
     /// After an entry of the host that comes after a signal of this clock.
-    pub fn after_wait(self, clock: Clock) -> Order {
+    pub fn after_wait(self, clock: Clock) -> Order
+        ensures { result ≡ standing.after_wait (Some clock) self }
+    {
         Order {
             host: self.host.join(clock),
             ..self

@@ -1,4 +1,4 @@
-ghost use Rattle.std.specs.Prelude.{◌≡◌, ◌≤◌, ◌<◌, ◌+◌, ◌∷◌, ℕ, length, slice_get, Option, Some, None, IfOk, OnOk, IfSome, IfNone, IsSome, IsTrue, unwrap_or, max, min, false, ◌-◌, ◌^◌, if◌then◌else◌};
+ghost use Rattle.std.specs.Prelude.{◌≡◌, ◌≤◌, ◌<◌, ◌+◌, ◌∷◌, ℕ, length, slice_get, Option, Some, None, IfOk, OnOk, IfSome, IfNone, IsTrue, unwrap_or, is_none, nat_le, max, min, false, ◌-◌, ◌^◌, if◌then◌else◌};
 ghost use Rattle.std.specs.Option.{option_map};
 ghost use Rattle.std.specs.List.{fold};
 ghost use Rattle.std.specs.Ordering.{nat_cmp};
@@ -11,6 +11,9 @@ ghost use Rattle.vk_validate.specs.Served.{is_served_deed, is_served_entry, is_s
 ghost use Rattle.vk_validate.specs.Told.{deed_of, point_of, past};
 ghost use Rattle.vk_validate.specs.Tabled.{was_mapped, last_writer};
 ghost use Rattle.vk_validate.specs.Fits.{Fits};
+ghost use Rattle.vk_validate.specs.Seeks.{Tells};
+ghost use Rattle.vk_validate.specs.Standing.{standing, after_waits, awaited};
+ghost use Rattle.vk_model.specs.Words.{holds};
 
 use crate::clocks::{Clock, Order};
 use crate::steps::{Deed, Step};
@@ -142,7 +145,9 @@ impl<'a> History<'a> {
 
     /// Whether a byte was written by a command whose write isn't visible to the writes of the next
     /// command.
-    pub fn has_unseen_by_write(&self, buffer: u32, span: Span) -> bool {
+    pub fn has_unseen_by_write(&self, buffer: u32, span: Span) -> bool
+        ensures { Tells result span.first span.last (λ k. holds (last_writer (past self.now) buffer k) (nat_le (standing (past self.now)).order.to_writes)) }
+    {
         match self.tables.writers.get(&buffer) {
             Some(writers) => writers.has(span, Sought::Since(self.tables.order.seen_by_write())),
             None => false,
@@ -150,7 +155,9 @@ impl<'a> History<'a> {
     }
 
     /// Whether a byte was written by a command whose write isn't visible to reads of the host.
-    pub fn has_unseen_by_host_read(&self, buffer: u32, span: Span) -> bool {
+    pub fn has_unseen_by_host_read(&self, buffer: u32, span: Span) -> bool
+        ensures { Tells result span.first span.last (λ k. holds (last_writer (past self.now) buffer k) (nat_le (standing (past self.now)).order.host.readable)) }
+    {
         match self.tables.writers.get(&buffer) {
             Some(writers) => writers.has(
                 span,
@@ -162,7 +169,7 @@ impl<'a> History<'a> {
 
     /// Whether a byte was never written, so that its value is undefined.
     pub fn has_undefined(&self, buffer: u32, span: Span) -> bool
-        ensures { result ≡ false → (byte : ℕ) → span.first ≤ byte → byte ≤ span.last → byte < 2 ^ 64 → IsSome (last_writer (past self.now) buffer byte) }
+        ensures { Tells result span.first span.last (λ k. is_none (last_writer (past self.now) buffer k)) }
     {
         match self.tables.writers.get(&buffer) {
             Some(writers) => writers.has(span, Sought::Nothing),
@@ -240,7 +247,9 @@ impl<'a> History<'a> {
         }
     }
 
-    fn after_waits(&self, waits: &[SemaphoreValue]) -> Order {
+    fn after_waits(&self, waits: &[SemaphoreValue]) -> Order
+        ensures { result ≡ after_waits (past self.now) (standing (past self.now)).signals waits.now (standing (past self.now)).order }
+    {
         let mut order = self.tables.order;
         for wait in waits {
             if let Some(clock) = self.awaited(wait) {
@@ -251,7 +260,9 @@ impl<'a> History<'a> {
     }
 
     /// The signal that a wait comes after; none where the initial value is enough.
-    fn awaited(&self, wait: &SemaphoreValue) -> Option<Clock> {
+    fn awaited(&self, wait: &SemaphoreValue) -> Option<Clock>
+        ensures { result ≡ awaited (past self.now) (standing (past self.now)).signals wait.now }
+    {
         if self
             .initial(wait.semaphore)
             .is_some_and(|initial| wait.value <= initial)

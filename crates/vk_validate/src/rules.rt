@@ -1,10 +1,10 @@
-ghost use Rattle.std.specs.Prelude.{IfSome, true, ◌≡◌, IfNone, None, false, IsTrue};
+ghost use Rattle.std.specs.Prelude.{◌≡◌, IsTrue};
 ghost use Rattle.std.specs.List.{find};
 ghost use Rattle.vk_model.specs.Point.{Point};
 ghost use Rattle.vk_model.specs.RulesBytes.{breaks_limit};
 ghost use Rattle.vk_validate.specs.Served.{is_served_deed};
 ghost use Rattle.vk_validate.specs.Told.{deed_of, point_of, past};
-ghost use Rattle.vk_validate.specs.Cleared.{tests, first_test, is_exact};
+ghost use Rattle.vk_validate.specs.Cleared.{tests, first_test};
 
 mod commands;
 mod hazards;
@@ -66,8 +66,7 @@ const RULES: [Rule; 40] = [
 #[tactic(auto, unfolding(crate::specs::Cleared::first_test))]
 pub fn first_rule(history: &History<'_>, step: &Step<'_>) -> Option<Rule>
     requires { IsTrue (is_served_deed (deed_of step.now.deed)) }
-    ensures none { IfNone result (first_test (past history.now) (point_of step.now) ≡ None) }
-    ensures some { IfSome result (λ r. is_exact r ≡ true → tests r (past history.now) (point_of step.now) ≡ true) }
+    ensures { result ≡ first_test (past history.now) (point_of step.now) }
 {
     first_of(&RULES, history, step)
 }
@@ -75,8 +74,7 @@ pub fn first_rule(history: &History<'_>, step: &Step<'_>) -> Option<Rule>
 #[tactic(auto, using(crate::proofs::Clears::finds))]
 fn first_of(rules: &[Rule], history: &History<'_>, step: &Step<'_>) -> Option<Rule>
     requires { IsTrue (is_served_deed (deed_of step.now.deed)) }
-    ensures none { IfNone result (find (λ r. tests r (past history.now) (point_of step.now)) rules.now ≡ None) }
-    ensures some { IfSome result (λ r. is_exact r ≡ true → tests r (past history.now) (point_of step.now) ≡ true) }
+    ensures { result ≡ find (λ r. tests r (past history.now) (point_of step.now)) rules.now }
 {
     for rule in rules {
         if breaks(*rule, history, step) {
@@ -92,8 +90,7 @@ fn first_of(rules: &[Rule], history: &History<'_>, step: &Step<'_>) -> Option<Ru
 #[tactic(auto, unfolding(crate::specs::Cleared::tests))]
 fn breaks(rule: Rule, history: &History<'_>, step: &Step<'_>) -> bool
     requires { IsTrue (is_served_deed (deed_of step.now.deed)) }
-    ensures clear { result ≡ false → tests rule (past history.now) (point_of step.now) ≡ false }
-    ensures exact { is_exact rule ≡ true → result ≡ tests rule (past history.now) (point_of step.now) }
+    ensures { result ≡ tests rule (past history.now) (point_of step.now) }
 {
     match rule {
         Rule::NewId => resources::breaks_new_id(history, step),

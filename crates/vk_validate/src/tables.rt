@@ -6,6 +6,8 @@ ghost use Rattle.vk_model.specs.Point.{Past, Point};
 ghost use Rattle.vk_validate.specs.Tabled.{IsTabled};
 ghost use Rattle.vk_validate.specs.Fits.{Fits};
 ghost use Rattle.vk_validate.specs.Writers.{IsAssigned};
+ghost use Rattle.vk_validate.specs.Standing.{start};
+ghost use Rattle.vk_validate.specs.Signals.{IsSignaled};
 
 use crate::clocks::{Clock, Order};
 use crate::timelines::Timeline;
@@ -52,7 +54,9 @@ impl<'a> Tables<'a> {
         ensures makers { IsEmpty result.makers }
         ensures maps { IsEmpty result.maps }
         ensures peaks { IsEmpty result.peaks }
+        ensures timelines { IsEmpty result.timelines }
         ensures writers { IsEmpty result.writers }
+        ensures order { result.order ≡ start.order }
     {
         Tables {
             makers: BTreeMap::new(alloc),
@@ -150,7 +154,11 @@ fn note_signal(
     semaphore: u32,
     value: u64,
     clock: Clock,
-) -> Result<(), AllocError> {
+) -> Result<(), AllocError>
+    ensures here { OnOk result (IfSome (get nat_cmp timelines.new semaphore) (λ new. IsSignaled (get nat_cmp timelines.old semaphore) new value clock)) }
+    ensures stands { OnOk result (IsSome (get nat_cmp timelines.new semaphore)) }
+    ensures others { OnOk result ((other : ℕ) → other ≢ semaphore → get nat_cmp timelines.new other ≡ get nat_cmp timelines.old other) }
+{
     let timeline = timelines.entry(semaphore)?.or_insert(Timeline::new(alloc));
     timeline.signal(value, clock)
 }

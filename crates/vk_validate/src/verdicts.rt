@@ -1,10 +1,9 @@
-ghost use Rattle.std.specs.Prelude.{IfSome, ◌≡◌, IfOk, IfNone, IsTrue};
+ghost use Rattle.std.specs.Prelude.{◌≡◌, IfOk, IsTrue, None};
 ghost use Rattle.vk_model.specs.Order.{plain_order};
+ghost use Rattle.vk_model.specs.Rules.{first_fault};
 ghost use Rattle.vk_validate.specs.Served.{is_served};
-ghost use Rattle.vk_validate.specs.Covered.{is_free_of, covered};
-ghost use Rattle.vk_validate.specs.Verdicts.{IsAbout};
-ghost use Rattle.vk_validate.specs.Cleared.{IsCleared};
-ghost use Rattle.vk_validate.specs.Refused.{IsRefused};
+ghost use Rattle.vk_validate.specs.Faults.{told_fault, tested_fault};
+ghost use Rattle.vk_validate.specs.Verdicts.{told, IsAbout};
 ghost use Rattle.vk_validate.specs.Told.{past_of};
 
 use crate::history::History;
@@ -15,8 +14,7 @@ use std::alloc::{AllocError, Global};
 use std::marker::Model;
 use vk_model::{At, Entry, Rule};
 
-/// The entries of a trace that breaks no rule. Only `validate` makes one. Contracts see the entries; that
-/// no point of theirs breaks a rule is proved of the rules of `covered`.
+/// The entries of a trace that breaks no rule. Only `validate` makes one. Contracts see the entries.
 #[derive(Drop)]
 pub struct Accepted<'a> {
     entries: &'a [Entry],
@@ -28,7 +26,7 @@ impl<'a> Model for Accepted<'a> {
 
     ghost Value = { List Each };
 
-    ghost use Rattle.vk_validate.specs.Covered.{IsAcceptable};
+    ghost use Rattle.vk_validate.specs.Acceptable.{IsAcceptable};
 
     ghost view = { λ a. a.entries.now };
 
@@ -40,7 +38,7 @@ impl<'a> Accepted<'a> {
     pub fn entries(&self) -> &'a [Entry]
         ensures same { result.now ≡ self.now }
         ensures served { IsTrue (is_served (plain_order self.now)) }
-        ensures free { IsTrue (is_free_of covered (plain_order self.now)) }
+        ensures faultless { first_fault self.now ≡ None }
     {
         self.entries
     }
@@ -61,9 +59,10 @@ pub enum Verdict<'a> {
 /// signals of its batches. The forms that are served so far: dedicated buffers on memory types other
 /// than 2, semaphores, submits on queue 0, maps, reads and waits of the host; fills and barriers with
 /// memory elements alone; signals of batches. A point of any other form is refused by `Rule::LiveId`.
-#[tactic(auto, using(crate::proofs::Free::acceptable))]
 pub fn validate<'a>(alloc: Global, entries: &'a [Entry]) -> Result<Verdict<'a>, AllocError>
-    ensures { IfOk result (IsAbout entries.now) }
+    ensures told { IfOk result (λ v. told v ≡ told_fault (plain_order entries.now)) }
+    ensures exact { IfOk result (λ v. IsTrue (is_served (plain_order entries.now)) → told v ≡ first_fault entries.now) }
+    ensures same { IfOk result (IsAbout entries.now) }
 {
     let points = reference_order(alloc, entries)?;
     match first_fault(alloc, points.as_slice())? {
@@ -74,8 +73,7 @@ pub fn validate<'a>(alloc: Global, entries: &'a [Entry]) -> Result<Verdict<'a>, 
 
 /// The first of the points that breaks a rule, with its first rule.
 fn first_fault<'a>(alloc: Global, points: &'a [Step<'a>]) -> Result<Option<(At, Rule)>, AllocError>
-    ensures none { IfOk result (λ fault. IfNone fault (IsCleared (past_of points.now))) }
-    ensures some { IfOk result (λ fault. IfSome fault (λ f. IsRefused points.now f.0 f.1)) }
+    ensures { IfOk result (λ fault. fault ≡ tested_fault (past_of points.now)) }
 {
     let mut history = History::new(alloc, points);
     for step in points {

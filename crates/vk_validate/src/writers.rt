@@ -1,8 +1,8 @@
-ghost use Rattle.std.specs.Prelude.{◌≡◌, Option, Some, false, ◌<◌, ◌≤◌, ◌+◌, ◌-◌, ◌^◌, ◌↔◌, min, IfSome, IfNone, IsSome, ℕ, None, ◌≢◌, OnOk, OnErr};
+ghost use Rattle.std.specs.Prelude.{◌≡◌, Option, Some, true, false, ◌<◌, ◌≤◌, ◌+◌, ◌-◌, ◌^◌, ◌↔◌, min, IfSome, IfNone, IsSome, ℕ, None, ◌≢◌, OnOk, OnErr};
 ghost use Rattle.std.specs.Ordering.{nat_cmp};
 ghost use Rattle.std.specs.BTreeMap.{get, IsEmpty};
 ghost use Rattle.vk_validate.specs.Writers.{IsLastWriter, Keeps};
-ghost use Rattle.vk_validate.specs.Seeks.{is_sought};
+ghost use Rattle.vk_validate.specs.Seeks.{is_sought, HasSought};
 
 use std::alloc::{AllocError, Global};
 use std::collections::BTreeMap;
@@ -71,8 +71,9 @@ impl LastWriters {
 
     /// Whether a byte of the span has what is sought.
     pub fn has(&self, span: Span, sought: Sought) -> bool
-        ensures { result ≡ false → (byte : ℕ) (writer : Option ℕ) → span.first ≤ byte → byte ≤ span.last
+        ensures none { result ≡ false → (byte : ℕ) (writer : Option ℕ) → span.first ≤ byte → byte ≤ span.last
             → IsLastWriter self.now.bounds byte writer → is_sought sought writer ≡ false }
+        ensures some { result ≡ true → HasSought self.now.bounds sought span.first span.last }
     {
         if is_sought(sought, self.at(span.first)) {
             return true;

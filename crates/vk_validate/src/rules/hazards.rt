@@ -1,7 +1,6 @@
-ghost use Rattle.std.specs.Prelude.{◌≡◌, false, IsTrue};
-ghost use Rattle.vk_validate.specs.Served.{is_served_deed};
+ghost use Rattle.std.specs.Prelude.{◌≡◌};
 ghost use Rattle.vk_validate.specs.Told.{deed_of, past};
-ghost use Rattle.vk_validate.specs.Tests.{ReadsWritten};
+ghost use Rattle.vk_validate.specs.Tests.{reads_unseen, overwrites_unseen, reads_unwritten};
 
 use crate::history::History;
 use crate::steps::{Deed, Step};
@@ -9,7 +8,9 @@ use crate::writers::Span;
 use vk_model::{Cmd, Entry};
 
 /// HAZARD_RAW: a read of the host without a memory dependency on an earlier write of the byte.
-pub fn breaks_hazard_raw(history: &History<'_>, step: &Step<'_>) -> bool {
+pub fn breaks_hazard_raw(history: &History<'_>, step: &Step<'_>) -> bool
+    ensures { result ≡ reads_unseen (past history.now) (deed_of step.now.deed) }
+{
     match step.deed {
         Deed::Host(
             Entry::Read {
@@ -26,7 +27,9 @@ pub fn breaks_hazard_raw(history: &History<'_>, step: &Step<'_>) -> bool {
 }
 
 /// HAZARD_WAW: a write without a memory dependency on an earlier write of the byte.
-pub fn breaks_hazard_waw(history: &History<'_>, step: &Step<'_>) -> bool {
+pub fn breaks_hazard_waw(history: &History<'_>, step: &Step<'_>) -> bool
+    ensures { result ≡ overwrites_unseen (past history.now) (deed_of step.now.deed) }
+{
     match step.deed {
         Deed::Run(
             Cmd::Fill {
@@ -45,8 +48,7 @@ pub fn breaks_hazard_waw(history: &History<'_>, step: &Step<'_>) -> bool {
 
 /// READ_UNDEFINED: a read of a byte that was never written.
 pub fn breaks_read_undefined(history: &History<'_>, step: &Step<'_>) -> bool
-    requires { IsTrue (is_served_deed (deed_of step.now.deed)) }
-    ensures { result ≡ false → ReadsWritten (past history.now) (deed_of step.now.deed) }
+    ensures { result ≡ reads_unwritten (past history.now) (deed_of step.now.deed) }
 {
     match step.deed {
         Deed::Host(

@@ -1,14 +1,19 @@
-use Rattle.std.proofs.Common.{◌∙◌, ap, subst}
-use Rattle.vk_model.specs.Point.{Past}
+use Rattle.std.proofs.Common.{◌∙◌, ap, sym}
 use Rattle.vk_validate.specs.Told.{past_of}
-use Rattle.vk_validate.specs.Cleared.{IsCleared}
-use Rattle.vk_validate.proofs.Free.{acceptable, faulty}
+use Rattle.vk_validate.proofs.Faults.{tells, tells_first, accepts}
 use Rattle.vk_validate.proofs.verdicts.validate.Goals as goal
 
-pub invariant_of-result : goal.invariant_of-result
-invariant_of-result c =
-    acceptable c.args.entries.now (subst (λ (q : Past). IsCleared q) (ap past_of c.as_slice.ensures.value ∙ c.in_ok-points.ensures) (rw c.in-None.is at c.in_ok-at.ensures.none))
+pub returns-in-Some-clause-told : goal.returns-in-Some-clause-told
+returns-in-Some-clause-told c = sym c.in-Some.is ∙ tells c.args.entries.now _ (ap past_of c.as_slice.ensures.value ∙ c.in_ok-points.ensures) _ c.in_ok-at.ensures
 
-pub returns-in-Some : goal.returns-in-Some
-returns-in-Some c =
-    faulty c.args.entries.now c.as_slice.result.now (ap past_of c.as_slice.ensures.value ∙ c.in_ok-points.ensures) c.in-Some.at c.in-Some.rule (rw c.in-Some.is at c.in_ok-at.ensures.some)
+pub returns-in-Some-clause-exact : goal.returns-in-Some-clause-exact
+returns-in-Some-clause-exact c = λ served. sym c.in-Some.is ∙ tells_first c.args.entries.now _ (ap past_of c.as_slice.ensures.value ∙ c.in_ok-points.ensures) _ c.in_ok-at.ensures served
+
+pub invariant_of-result : goal.invariant_of-result
+invariant_of-result c = accepts c.args.entries.now _ (ap past_of c.as_slice.ensures.value ∙ c.in_ok-points.ensures) _ c.in_ok-at.ensures c.in-None.is
+
+pub returns-clause-told : goal.returns-clause-told
+returns-clause-told c = sym c.in-None.is ∙ tells c.args.entries.now _ (ap past_of c.as_slice.ensures.value ∙ c.in_ok-points.ensures) _ c.in_ok-at.ensures
+
+pub returns-clause-exact : goal.returns-clause-exact
+returns-clause-exact c = λ served. sym c.in-None.is ∙ tells_first c.args.entries.now _ (ap past_of c.as_slice.ensures.value ∙ c.in_ok-points.ensures) _ c.in_ok-at.ensures served

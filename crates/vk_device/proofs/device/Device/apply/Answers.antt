@@ -1,6 +1,7 @@
 use Rattle.std.proofs.Common.{◌≡◌, false, ap}
 use Rattle.vk_device.specs.Held.{Held}
-use Rattle.vk_device.proofs.Next.{if_ok, ready_next, clean_fits}
+use Rattle.vk_device.proofs.Clean.{fits_clean}
+use Rattle.vk_device.proofs.Next.{if_ok, ready_next}
 use Rattle.vk_device.proofs.device.Device.apply.Goals as goal
 
 pub apply_entry-applied-requires : goal.apply_entry-applied-requires
@@ -11,4 +12,4 @@ apply_entry-applied-requires g c =
 
 pub returns-else-is_err-clause-told : goal.returns-else-is_err-clause-told
 returns-else-is_err-clause-told g c =
-    if_ok c.apply_entry-applied.result _ _ (λ a told. λ e past st clean. told e past st (clean_fits _ clean)) c.apply_entry-applied.ensures.told
+    if_ok c.apply_entry-applied.result _ _ (λ a told. λ e past st clean. told e past st (fits_clean _ clean)) c.apply_entry-applied.ensures.told

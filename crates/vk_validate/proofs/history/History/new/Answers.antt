@@ -11,5 +11,7 @@ invariant_of-result c = (
     maps_are = λ i. rw c.new.ensures.maps refl;
     writers_are = λ b k lt. rw c.new.ensures.writers refl;
     peaks_are = λ i. rw c.new.ensures.peaks refl;
+    timelines_are = λ s v. rw c.new.ensures.timelines refl;
+    order_is = c.new.ensures.order;
   },
 )

@@ -13,5 +13,5 @@ loop-bound-preserved c =
       below = without_next c.args.self.now.bounds c.args.sought c.args.span.first c.loop-bound.first at.low at.below c.in-Some.bound c.at-in-Some.result c.in-Some.ensures.least c.at-in-Some.ensures (sym c.is_sought-in-Some.ensures ∙ c.if-is_sought-2.false);
     }
 
-pub returns : goal.returns
-returns c = λ e. let at = c.loop-bound.invariant in without_end c.args.self.now.bounds c.args.sought c.args.span.first c.loop-bound.first at.low at.below c.args.span.last c.in_default.ensures.none
+pub returns-clause-none : goal.returns-clause-none
+returns-clause-none c = λ e. let at = c.loop-bound.invariant in without_end c.args.self.now.bounds c.args.sought c.args.span.first c.loop-bound.first at.low at.below c.args.span.last c.in_default.ensures.none

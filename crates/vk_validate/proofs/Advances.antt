@@ -1,0 +1,154 @@
+-- One node more, of each form that is served: the thresholds go on saying what they say.
+use Rattle.std.proofs.Common.{◌≡◌, ◌<◌, ℕ, List, [], ◌∷◌, length, map, true, refl, sym, ◌∙◌, subst, arith, inl, inr, ◌⊎◌, Option, Some, None}
+use Rattle.std.specs.Prelude.{Contains, ◌↔◌}
+use Rattle.vk_model.specs.declared.command.Cmd.{Cmd}
+use Rattle.vk_model.specs.declared.entry.Entry.{Entry}
+use Rattle.vk_model.specs.declared.entry.SemaphoreValue.{SemaphoreValue}
+use Rattle.vk_model.specs.Point.{Past, Point}
+use Rattle.vk_model.specs.Node.{Node, Hosts, Runs, nodes}
+use Rattle.vk_model.specs.Edge.{edge, is_host, is_signal, is_command, by_semaphore, earlier, signaled_by, host_waits}
+use Rattle.vk_model.specs.Before.{IsNumbered}
+use Rattle.vk_validate.specs.Cleared.{IsCleared}
+use Rattle.vk_validate.specs.Standing.{joined, Signaled, after_waits, awaited, after_wait}
+use Rattle.vk_validate.specs.declared.clocks.Clock.{Clock}
+use Rattle.vk_validate.specs.declared.clocks.Order.{Order}
+use Rattle.vk_validate.proofs.Growth.{number_below, numbered}
+use Rattle.vk_validate.proofs.Ordered.{host_edge, hosts_follow}
+use Rattle.vk_validate.proofs.Freed.{Freed, Shown, Via, ShownVia, leads_to_transfers, leads_to_writes, leads_to_host, leads_to_reads, freed_stands, shown_stands, via_splits, via_stays, via_new, shown_splits, shown_via_stays}
+use Rattle.vk_validate.proofs.Causes.{is_simple, no, into_host, into_command}
+use Rattle.vk_validate.proofs.Waits.{IsRising, AnyLinked, waits_join, linked_by, edge_of}
+use Rattle.vk_validate.proofs.Clocked.{Means, clash, reads_signal, semaphore_edge, all_below, freed_from, freed_by, shown_from, shown_by, keeps, keeps_shown, keeps_commands}
+
+-- waits change the host's clock alone
+waits_host : (past : Past) (signals : List Signaled) (ws : List SemaphoreValue) (o : Order) → after_waits past signals ws o ≡ record o { host = (after_waits past signals ws o).host }
+waits_host past signals [] o = refl
+waits_host past signals (w ∷ ws) o = go (awaited past signals w) (waits_host past signals ws) where
+  go : (c : Option Clock) → ((q : Order) → after_waits past signals ws q ≡ record q { host = (after_waits past signals ws q).host }) → after_waits past signals ws (after_wait c o) ≡ record o { host = (after_waits past signals ws (after_wait c o)).host }
+  go None next = next o
+  go (Some c) next = next (record o { host = joined o.host c })
+
+-- ---- a host entry
+
+module _ (past : Past) (cleared : IsCleared past) (simple : (m : Node) → Contains (nodes past) m → is_simple m.act ≡ true) (w : Node) (j : ℕ) (signals : List Signaled) (rising : IsRising signals)
+    (forward : (x : Signaled) → Contains signals x → (m : Node) × Contains (nodes past) m × (signaled_by m.act ≡ Some (x.semaphore, x.value)) × (Freed (nodes past) w m ↔ (j < x.clock.available)) × (Shown (nodes past) w m ↔ (j < x.clock.readable)))
+    (backward : (m : Node) → Contains (nodes past) m → (s v : ℕ) → signaled_by m.act ≡ Some (s, v) → (x : Signaled) × Contains signals x × (x.semaphore ≡ s) × (x.value ≡ v) × (Freed (nodes past) w m ↔ (j < x.clock.available)) × (Shown (nodes past) w m ↔ (j < x.clock.readable)))
+    (p : Point) (x : Entry) (ws : List SemaphoreValue) (waits : host_waits x ≡ map (λ (w : SemaphoreValue). (w.semaphore, w.value)) ws) (o : Order) (means : Means o (nodes past) w j) where
+  abbrev n : Node
+  n = record { number = length (nodes past); point = p; act = Hosts x }
+
+  forward_freed : (x : Signaled) → Contains signals x → (m : Node) × Contains (nodes past) m × (signaled_by m.act ≡ Some (x.semaphore, x.value)) × (Freed (nodes past) w m ↔ (j < x.clock.available))
+  forward_freed x c = let f = forward x c in (f.0, f.1, f.2, f.3)
+
+  forward_shown : (x : Signaled) → Contains signals x → (m : Node) × Contains (nodes past) m × (signaled_by m.act ≡ Some (x.semaphore, x.value)) × (Shown (nodes past) w m ↔ (j < x.clock.readable))
+  forward_shown x c = let f = forward x c in (f.0, f.1, f.2, f.4)
+
+  backward_freed : (m : Node) → Contains (nodes past) m → (s v : ℕ) → signaled_by m.act ≡ Some (s, v) → (x : Signaled) × Contains signals x × (x.semaphore ≡ s) × (x.value ≡ v) × (Freed (nodes past) w m ↔ (j < x.clock.available))
+  backward_freed m c s v e = let f = backward m c s v e in (f.0, f.1, f.2, f.3, f.4)
+
+  backward_shown : (m : Node) → Contains (nodes past) m → (s v : ℕ) → signaled_by m.act ≡ Some (s, v) → (x : Signaled) × Contains signals x × (x.semaphore ≡ s) × (x.value ≡ v) × (Shown (nodes past) w m ↔ (j < x.clock.readable))
+  backward_shown m c s v e = let f = backward m c s v e in (f.0, f.1, f.2, f.3, f.5)
+
+  abbrev LinkedFreed : Type 0
+  LinkedFreed = AnyLinked (nodes past) signals rising (Freed (nodes past) w) (λ c. c.available) (λ c d u. u.0) (λ c d. refl) j forward_freed backward_freed past cleared refl ws
+
+  abbrev LinkedShown : Type 0
+  LinkedShown = AnyLinked (nodes past) signals rising (Shown (nodes past) w) (λ c. c.readable) (λ c d u. u.1) (λ c d. refl) j forward_shown backward_shown past cleared refl ws
+
+  low : (m : Node) → Contains (nodes past) m → m.number < length (nodes past)
+  low m c = number_below (nodes past) (numbered past) m c
+
+  earlier_is : earlier n (nodes past) ≡ nodes past
+  earlier_is = all_below (length (nodes past)) (nodes past) (numbered past) (omega arith)
+
+  linked_edge : (m : Node) → Contains (nodes past) m → by_semaphore (nodes past) m n ≡ true → edge (nodes past) m n ≡ true
+  linked_edge m c e = semaphore_edge (nodes past) m n (low m c) (subst (λ (l : List Node). by_semaphore l m n ≡ true) (sym earlier_is) e)
+
+  among_all : (m : Node) → by_semaphore (earlier n (nodes past)) m n ≡ true → by_semaphore (nodes past) m n ≡ true
+  among_all m e = subst (λ (l : List Node). by_semaphore l m n ≡ true) earlier_is e
+
+  host_edge_of : (m : Node) → Contains (nodes past) m → is_host m.act ≡ true → edge (nodes past) m n ≡ true
+  host_edge_of m c h = host_edge (nodes past) m n (low m c) (hosts_follow m n h refl)
+
+  freed_to : Freed (n ∷ nodes past) w n → Via (nodes past) w is_host ⊎ LinkedFreed
+  freed_to f = elim (freed_from n (nodes past) refl (numbered past) w j f) [
+    | inl sent ↦ no sent.1
+    | inr m ↦ (let c = freed_stands (nodes past) w m.0 m.1 in elim (into_host (nodes past) m.0 (length (nodes past)) p x (simple m.0 c) m.2) [
+      | inl host ↦ inl (record { node = m.0; passes = host; freed = m.1 })
+      | inr sem ↦ inr (linked_by (nodes past) signals rising (Freed (nodes past) w) (λ c. c.available) (λ c d u. u.0) (λ c d. refl) j forward_freed backward_freed past cleared refl ws (length (nodes past)) p x waits m.0 c m.1 (among_all m.0 sem))
+    ])
+  ]
+
+  freed_back : LinkedFreed → Freed (n ∷ nodes past) w n
+  freed_back l =
+      let m = edge_of (nodes past) signals rising (Freed (nodes past) w) (λ c. c.available) (λ c d u. u.0) (λ c d. refl) j forward_freed backward_freed past cleared refl ws (length (nodes past)) p x waits l in
+      freed_by n (nodes past) refl (numbered past) w j m.0 m.2 (linked_edge m.0 m.1 m.3)
+
+  shown_to : Shown (n ∷ nodes past) w n → ShownVia (nodes past) w is_host ⊎ LinkedShown
+  shown_to s = elim (shown_from n (nodes past) refl (numbered past) w j s) [
+    | inl q ↦ (let c = freed_stands (nodes past) w q.0 q.1 in let none = reads_signal q.0.act q.2 in elim (into_host (nodes past) q.0 (length (nodes past)) p x (simple q.0 c) q.3) [
+      | inl host ↦ clash host none.0
+      | inr sem ↦ no (sym (rw none.1 refl) ∙ sem)
+    ])
+    | inr m ↦ (let c = shown_stands (nodes past) w m.0 m.1 in elim (into_host (nodes past) m.0 (length (nodes past)) p x (simple m.0 c) m.2) [
+      | inl host ↦ inl (record { node = m.0; passes = host; shown = m.1 })
+      | inr sem ↦ inr (linked_by (nodes past) signals rising (Shown (nodes past) w) (λ c. c.readable) (λ c d u. u.1) (λ c d. refl) j forward_shown backward_shown past cleared refl ws (length (nodes past)) p x waits m.0 c m.1 (among_all m.0 sem))
+    ])
+  ]
+
+  shown_back : LinkedShown → Shown (n ∷ nodes past) w n
+  shown_back l =
+      let m = edge_of (nodes past) signals rising (Shown (nodes past) w) (λ c. c.readable) (λ c d u. u.1) (λ c d. refl) j forward_shown backward_shown past cleared refl ws (length (nodes past)) p x waits l in
+      shown_by n (nodes past) refl (numbered past) w j m.0 m.2 (linked_edge m.0 m.1 m.3)
+
+  joined_freed : (Via (nodes past) w is_host ⊎ LinkedFreed) ↔ (j < (after_waits past signals ws o).host.available)
+  joined_freed = waits_join (nodes past) signals rising (Freed (nodes past) w) (λ c. c.available) (λ c d u. u.0) (λ c d. refl) j forward_freed backward_freed past cleared refl ws o (Via (nodes past) w is_host) means.hosts
+
+  joined_shown : (ShownVia (nodes past) w is_host ⊎ LinkedShown) ↔ (j < (after_waits past signals ws o).host.readable)
+  joined_shown = waits_join (nodes past) signals rising (Shown (nodes past) w) (λ c. c.readable) (λ c d u. u.1) (λ c d. refl) j forward_shown backward_shown past cleared refl ws o (ShownVia (nodes past) w is_host) means.shown_hosts
+
+  pub host_means : Means (after_waits past signals ws o) (n ∷ nodes past) w j
+  host_means = subst (λ (q : Order). Means q (n ∷ nodes past) w j) (sym (waits_host past signals ws o)) (record {
+    transfers = keeps n (nodes past) refl (numbered past) w j leads_to_transfers o.to_transfers refl means.transfers;
+    writes = keeps n (nodes past) refl (numbered past) w j leads_to_writes o.to_writes refl means.writes;
+    host_stages = keeps n (nodes past) refl (numbered past) w j leads_to_host o.to_host refl means.host_stages;
+    host_reads = keeps n (nodes past) refl (numbered past) w j leads_to_reads o.to_host_reads refl means.host_reads;
+    signals = keeps n (nodes past) refl (numbered past) w j is_signal o.signals.available refl means.signals;
+    shown_signals = keeps_shown n (nodes past) refl (numbered past) w j is_signal o.signals.readable refl means.shown_signals;
+    hosts = (
+      λ v. elim (via_splits n (nodes past) refl (numbered past) w is_host v) [ inl old ↦ joined_freed.0 (inl old) | inr here ↦ joined_freed.0 (freed_to here.1) ],
+      λ lt. elim (joined_freed.1 lt) [ inl old ↦ via_stays n (nodes past) refl (numbered past) w is_host old | inr l ↦ via_new n (nodes past) refl (numbered past) w is_host refl (freed_back l) ],
+    );
+    shown_hosts = (
+      λ v. elim (shown_splits n (nodes past) refl (numbered past) w is_host v) [ inl old ↦ joined_shown.0 (inl old) | inr here ↦ joined_shown.0 (shown_to here.1) ],
+      λ lt. elim (joined_shown.1 lt) [ inl old ↦ shown_via_stays n (nodes past) refl (numbered past) w is_host old | inr l ↦ record { node = n; passes = refl; shown = shown_back l } ],
+    );
+    commands = keeps_commands n (nodes past) refl (numbered past) w j refl means.commands;
+  })
+
+-- ---- a command
+
+module _ (ns : List Node) (numbers : IsNumbered ns) (simple : (m : Node) → Contains ns m → is_simple m.act ≡ true) (p : Point) (c : Cmd) (o : Order) where
+  -- what earlier commands' writes have come to stays
+  pub run_means : (w : Node) (j : ℕ) → Means o ns w j → Means o (record { number = length ns; point = p; act = Runs c } ∷ ns) w j
+  run_means w j means =
+      let n : Node = record { number = length ns; point = p; act = Runs c } in
+      record {
+        transfers = keeps n ns refl numbers w j leads_to_transfers o.to_transfers refl means.transfers;
+        writes = keeps n ns refl numbers w j leads_to_writes o.to_writes refl means.writes;
+        host_stages = keeps n ns refl numbers w j leads_to_host o.to_host refl means.host_stages;
+        host_reads = keeps n ns refl numbers w j leads_to_reads o.to_host_reads refl means.host_reads;
+        signals = keeps n ns refl numbers w j is_signal o.signals.available refl means.signals;
+        shown_signals = keeps_shown n ns refl numbers w j is_signal o.signals.readable refl means.shown_signals;
+        hosts = keeps n ns refl numbers w j is_host o.host.available refl means.hosts;
+        shown_hosts = keeps_shown n ns refl numbers w j is_host o.host.readable refl means.shown_hosts;
+        commands = λ v. elim (via_splits n ns refl numbers w is_command v) [
+          | inl old ↦ elim (means.commands old) [ inl t ↦ inl (via_stays n ns refl numbers w leads_to_transfers t) | inr h ↦ inr (via_stays n ns refl numbers w is_host h) ]
+          | inr here ↦ elim (freed_from n ns refl numbers w j here.1) [
+            | inl sent ↦ no sent.1
+            | inr m ↦ elim (into_command ns m.0 (length ns) p c (simple m.0 (freed_stands ns w m.0 m.1)) m.2) [
+              | inl host ↦ inr (via_stays n ns refl numbers w is_host (record { node = m.0; passes = host; freed = m.1 }))
+              | inr leads ↦ inl (via_stays n ns refl numbers w leads_to_transfers (record { node = m.0; passes = leads; freed = m.1 }))
+            ]
+          ]
+        ];
+      }

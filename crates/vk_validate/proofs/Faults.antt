@@ -1,0 +1,127 @@
+-- What is told of a trace is its first fault.
+use Rattle.std.proofs.Common.{◌≡◌, ◌≤◌, ◌+◌, ℕ, List, [], ◌∷◌, Bool, true, false, refl, ap, sym, ◌∙◌, subst, length, take, drop, Option, Some, None}
+use Rattle.std.specs.Prelude.{option_map, slice_get, if◌then◌else◌}
+use Rattle.std.specs.List.{fold}
+use Rattle.std.proofs.lemmas.List.{take-append-drop, take_all}
+use Rattle.std.proofs.lemmas.List.Sums.{fold-append}
+use Rattle.vk_model.specs.declared.entry.Entry.{Entry}
+use Rattle.vk_model.specs.declared.rule.At.{At}
+use Rattle.vk_model.specs.declared.rule.Rule.{Rule}
+use Rattle.vk_model.specs.declared.rule.Rule.TheVariants as rule
+use Rattle.vk_model.specs.Point.{Past, Point, at_of}
+use Rattle.vk_model.specs.Order.{plain_order}
+use Rattle.vk_model.specs.Rules.{first_rule, fault, first_fault}
+use Rattle.vk_validate.specs.declared.steps.Step.{Step}
+use Rattle.vk_validate.specs.Served.{is_served, is_served_deed}
+use Rattle.vk_validate.specs.Told.{past, past_of, point_of, deed_of, add, Walk}
+use Rattle.vk_validate.specs.Cleared.{first_test, IsClear, IsCleared}
+use Rattle.vk_validate.specs.Faults.{fault_by, told_rule, told_fault, tested_rule, tested_fault}
+use Rattle.vk_validate.specs.Acceptable.{IsAcceptable}
+use Rattle.vk_validate.proofs.Exact.{first_test_is}
+use Rattle.vk_validate.proofs.Pasts.{served-cons}
+use Rattle.vk_validate.proofs.Plain.{IsPlain, plain_order_plain}
+use Rattle.vk_validate.proofs.Places.{IsApart, plain_order_apart}
+use Rattle.vk_validate.proofs.Reach.{served_of}
+use Rattle.vk_validate.proofs.TableLemmas.{past-next}
+
+-- ---- the first of the points of which a rule is told
+
+-- the fault of a past with one point more: the older one, or that of the point
+abbrev or_here : Option (At × Rule) → Point → Option Rule → Option (At × Rule)
+or_here older p here = elim older [ Some f ↦ Some f | None ↦ option_map (λ r. (at_of p, r)) here ]
+
+none_before : (older : Option (At × Rule)) (p : Point) (here : Option Rule) → or_here older p here ≡ None → (older ≡ None) × (here ≡ None)
+none_before (Some f) p here none = absurd cc
+none_before None p None none = (refl, refl)
+none_before None p (Some r) none = absurd cc
+
+-- a past in which no test tells a rule is cleared, and the other way round
+cleared_of : (past : Past) → fault_by tested_rule past ≡ None → IsCleared past
+cleared_of [] none = tt
+cleared_of (p ∷ past) none = let h = none_before (fault_by tested_rule past) p (tested_rule past p) none in (here (is_served_deed p.deed) refl h.1, cleared_of past h.0) where
+  here : (b : Bool) → is_served_deed p.deed ≡ b → (if b then first_test past p else Some rule.LiveId) ≡ None → IsClear past p
+  here true e none = record { served = e; clear = none }
+  here false e none = absurd cc
+
+none_tested : (past : Past) → IsCleared past → fault_by tested_rule past ≡ None
+none_tested [] cleared = refl
+none_tested (p ∷ past) cleared = rw (none_tested past cleared.1, cleared.0.served, cleared.0.clear) refl
+
+-- ---- the tests tell what is to be told
+
+tested_rule_is : (past : Past) (p : Point) → IsCleared past → IsPlain (p ∷ past) → IsApart past → tested_rule past p ≡ told_rule past p
+tested_rule_is past p cleared plain apart = go (is_served_deed p.deed) refl where
+  go : (b : Bool) → is_served_deed p.deed ≡ b → (if b then first_test past p else Some rule.LiveId) ≡ (if b then first_rule past p else Some rule.LiveId)
+  go true e = first_test_is past p cleared e plain apart
+  go false e = refl
+
+tested_is : (past : Past) → IsPlain past → IsApart past → fault_by tested_rule past ≡ fault_by told_rule past
+tested_is [] plain apart = refl
+tested_is (p ∷ past) plain apart = go (fault_by tested_rule past) refl (tested_is past plain.1 apart.1) where
+  go : (older : Option (At × Rule)) → fault_by tested_rule past ≡ older → older ≡ fault_by told_rule past → or_here older p (tested_rule past p) ≡ or_here (fault_by told_rule past) p (told_rule past p)
+  go (Some f) e same = ap (λ (o : Option (At × Rule)). or_here o p (told_rule past p)) same
+  go None e same = ap (λ (o : Option Rule). or_here None p o) (tested_rule_is past p (cleared_of past e) plain apart.1) ∙ ap (λ (o : Option (At × Rule)). or_here o p (told_rule past p)) same
+
+tested_plain : (xs : List Entry) → tested_fault (plain_order xs) ≡ told_fault (plain_order xs)
+unfolding tested_fault told_fault
+tested_plain xs = tested_is (plain_order xs) (plain_order_plain xs) (plain_order_apart xs)
+
+-- ---- of forms that are served the first fault is told
+
+served_is : (past : Past) → is_served past ≡ true → fault_by told_rule past ≡ fault past
+unfolding fault
+served_is [] served = refl
+served_is (p ∷ past) served =
+    let h = served-cons p past served in
+    ap (λ (o : Option (At × Rule)). or_here o p (told_rule past p)) (served_is past h.1) ∙ ap (λ (b : Bool). or_here (fault past) p (if b then first_rule past p else Some rule.LiveId)) h.0
+
+told_served : (xs : List Entry) → is_served (plain_order xs) ≡ true → told_fault (plain_order xs) ≡ first_fault xs
+unfolding told_fault first_fault
+told_served xs served = served_is (plain_order xs) served
+
+-- what no test finds is accepted
+acceptable : (xs : List Entry) → tested_fault (plain_order xs) ≡ None → IsAcceptable xs
+unfolding tested_fault
+acceptable xs none =
+    let served : is_served (plain_order xs) ≡ true = served_of (plain_order xs) (cleared_of (plain_order xs) none) in
+    record { served = served; faultless = sym (told_served xs served) ∙ sym (tested_plain xs) ∙ none }
+
+-- what the tests tell of the points of a trace
+module _ (xs : List Entry) (points : Past) (laid : points ≡ plain_order xs) (f : Option (At × Rule)) (found : f ≡ tested_fault points) where
+  pub tells : f ≡ told_fault (plain_order xs)
+  tells = found ∙ ap tested_fault laid ∙ tested_plain xs
+
+  pub tells_first : is_served (plain_order xs) ≡ true → f ≡ first_fault xs
+  tells_first served = tells ∙ told_served xs served
+
+  pub accepts : f ≡ None → IsAcceptable xs
+  accepts none = acceptable xs (ap tested_fault (sym laid) ∙ sym found ∙ none)
+
+-- ---- the points one after another
+
+fault_stays : (f : At × Rule) (ps : List Step) (a : Past) → fault_by tested_rule a ≡ Some f → fault_by tested_rule (fold add a ps) ≡ Some f
+fault_stays f [] a some = some
+fault_stays f (x ∷ ps) a some = fault_stays f ps (add a x) (rw some refl)
+
+fault_here : (past : Past) (p : Point) (r : Rule) → IsCleared past → tested_rule past p ≡ Some r → fault_by tested_rule (p ∷ past) ≡ Some (at_of p, r)
+fault_here past p r cleared some = ap (λ (o : Option (At × Rule)). or_here o p (tested_rule past p)) (none_tested past cleared) ∙ ap (λ (o : Option Rule). or_here None p o) some
+
+module _ (h : Walk) (points : List Step) (k : ℕ) (here : h ≡ record { points = points; count = k }) (cleared : IsCleared (past h)) where
+  pub next : (n : Walk) (x : Step) → n ≡ record h { count = h.count + 1 } → slice_get points k ≡ Some x → is_served_deed (deed_of x.deed) ≡ true → first_test (past h) (point_of x) ≡ None → IsCleared (past n)
+  next n x new at served none =
+      let w : Walk = record { points = points; count = k } in
+      let is : past n ≡ point_of x ∷ past h = ap past (new ∙ ap (λ (v : Walk). record v { count = v.count + 1 }) here) ∙ past-next points k x at ∙ ap (λ (v : Walk). point_of x ∷ past v) (sym here) in
+      subst IsCleared (sym is) (record { served = served; clear = none }, cleared)
+
+  pub done : length points ≤ k → None ≡ tested_fault (past_of points)
+  unfolding past tested_fault
+  done le = sym (none_tested (past_of points) (subst IsCleared (ap past here ∙ ap past_of (take_all k points le)) cleared))
+
+  pub found : (x : Step) (r : Rule) → slice_get points k ≡ Some x → tested_rule (past h) (point_of x) ≡ Some r → Some (at_of (point_of x), r) ≡ tested_fault (past_of points)
+  unfolding past tested_fault
+  found x r at some =
+      let w : Walk = record { points = points; count = k } in
+      let cut : past_of points ≡ fold add (point_of x ∷ past h) (drop (k + 1) points) =
+      ap past_of (sym (take-append-drop (k + 1) points)) ∙ fold-append add [] (take (k + 1) points) (drop (k + 1) points)
+      ∙ ap (λ (a : Past). fold add a (drop (k + 1) points)) (past-next points k x at ∙ ap (λ (v : Walk). point_of x ∷ past v) (sym here)) in
+      sym (ap (λ (a : Past). fault_by tested_rule a) cut ∙ fault_stays (at_of (point_of x), r) (drop (k + 1) points) (point_of x ∷ past h) (fault_here (past h) (point_of x) r cleared some))
