@@ -1,7 +1,10 @@
 -- The nodes of a past of served forms.
-use Rattle.std.proofs.Common.{◌≡◌, ◌<◌, ◌+◌, ℕ, List, [], ◌∷◌, map, length, Bool, true, false, not, refl, ap, sym, ◌∙◌, subst, arith, Option, Some, None, inl, inr, ◌⊎◌}
+use Rattle.std.proofs.Common.{◌≡◌, ◌+◌, ℕ, List, [], ◌∷◌, map, length, Bool, true, false, not, refl, ap, sym, ◌∙◌, subst, Option, Some, None, inl, inr, ◌⊎◌}
 use Rattle.std.specs.Prelude.{Contains}
 use Rattle.std.specs.List.{list_all}
+use Rattle.std.proofs.lemmas.Bool.{and_parts}
+use Rattle.vk_model.specs.declared.command.Cmd.{Cmd}
+use Rattle.vk_model.specs.declared.command.Cmd.TheVariants as cmd
 use Rattle.vk_model.specs.declared.command.Element.{Element}
 use Rattle.vk_model.specs.declared.command.Element.TheVariants as element
 use Rattle.vk_model.specs.declared.entry.Entry.{Entry}
@@ -10,48 +13,63 @@ use Rattle.vk_model.specs.World.{World}
 use Rattle.vk_model.specs.Effect.{world}
 use Rattle.vk_model.specs.Point.{Past, Point, Deed, Host, Wait, Run, Signal, host_of}
 use Rattle.vk_model.specs.Order.{signal_in}
-use Rattle.vk_model.specs.Node.{Node, Act, Hosts, Waits, Signals, Runs, Depends, Barrier, acts, nodes, with_acts}
+use Rattle.vk_model.specs.Node.{Node, Act, Hosts, Waits, Signals, Runs, Depends, Barrier, acts, nodes, with_acts, SetOf, AwaitOf}
 use Rattle.vk_model.specs.Edge.{signaled_by, is_host, is_signal}
 use Rattle.vk_model.specs.RulesOwners.{some_bad_pair, bad_pair, element_in, after_some, breaks_owner_pair}
 use Rattle.vk_validate.specs.Served.{is_served, is_served_deed, is_served_entry, is_memory}
+use Rattle.vk_validate.proofs.Truths.{clash}
+use Rattle.vk_validate.proofs.Members.{none_in, contains-cons, contains-head, contains-tail, all_passes}
 use Rattle.vk_validate.proofs.Forms.{entry_cases, command_cases, deed_cases}
-use Rattle.vk_validate.proofs.Pasts.{and-true, served-cons}
+use Rattle.vk_validate.proofs.Pasts.{served-cons}
 use Rattle.vk_validate.proofs.Plain.{IsPlain, Placed, LastSubmit, LastBy, IsSubmitOn}
-use Rattle.vk_validate.proofs.Growth.{contains-cons, contains-head, contains-tail}
 use Rattle.vk_validate.proofs.NextNodes.{lined, next_nodes-lined}
 
--- a dependency on all memory, or no dependency
-abbrev pub is_plain_act : Act → Bool
-is_plain_act (Depends r e) = is_memory e
-is_plain_act _ = true
+-- ---- the acts of forms that are served
 
-plain_elements : (es : List Element) → list_all is_memory es ≡ true → list_all is_plain_act (map (Depends Barrier) es) ≡ true
-plain_elements [] all = refl
-plain_elements (e ∷ es) all = let h = and-true (is_memory e) (list_all is_memory es) all in rw (h.0) (plain_elements es h.1)
+abbrev pub is_fill : Cmd → Bool
+is_fill (cmd.Fill b o n w) = true
+is_fill _ = false
 
-pub plain_acts : (d : Deed) → is_served_deed d ≡ true → list_all is_plain_act (acts d) ≡ true
-plain_acts = let P : Deed → Type 0 = λ d. list_all is_plain_act (acts d) ≡ true in
-    deed_cases P (λ x h. refl) (command_cases (λ c. P (Run c)) (λ b o n w. refl) (λ es all. plain_elements es all)) (λ s. refl)
+abbrev pub is_served_act : Act → Bool
+is_served_act (Hosts x) = is_served_entry x
+is_served_act (Waits s) = false
+is_served_act (Signals s) = true
+is_served_act (Runs c) = is_fill c
+is_served_act (Depends Barrier e) = is_memory e
+is_served_act (Depends (SetOf v k) e) = false
+is_served_act (Depends (AwaitOf v k) e) = false
+
+-- the acts of a point of a served form are served
+pub served_acts : (d : Deed) → is_served_deed d ≡ true → list_all is_served_act (acts d) ≡ true
+served_acts = let P : Deed → Type 0 = λ d. list_all is_served_act (acts d) ≡ true in
+    deed_cases P (λ x h. rw h refl) (command_cases (λ c. P (Run c)) (λ b o n w. refl) (λ es all. elements es all)) (λ s. refl)
+  where
+    elements : (es : List Element) → list_all is_memory es ≡ true → list_all is_served_act (map (Depends Barrier) es) ≡ true
+    elements [] all = refl
+    elements (e ∷ es) all = let h = and_parts (is_memory e) (list_all is_memory es) all in rw (h.0) (elements es h.1)
 
 -- ---- OWNER_PAIR
 
-unpaired : (past : Past) (ns : List Node) (p : Point) (more : List Act) (k : ℕ) (w : World) → list_all is_plain_act more ≡ true → some_bad_pair past ns w (lined p k more) ≡ false
+unpaired : (past : Past) (ns : List Node) (p : Point) (more : List Act) (k : ℕ) (w : World) → list_all is_served_act more ≡ true → some_bad_pair past ns w (lined p k more) ≡ false
 unpaired past ns p [] k w all = refl
-unpaired past ns p (a ∷ more) k w all = let h = and-true (is_plain_act a) (list_all is_plain_act more) all in rw (one a h.0) (unpaired past ns p more (k + 1) (after_some past p.queue (element_in a) w) h.1) where
-  one : (a : Act) → is_plain_act a ≡ true → holds (element_in a) (bad_pair past ns w (record { number = k; point = p; act = a })) ≡ false
+unpaired past ns p (a ∷ more) k w all = let h = and_parts (is_served_act a) (list_all is_served_act more) all in rw (one a h.0) (unpaired past ns p more (k + 1) (after_some past p.queue (element_in a) w) h.1) where
+  one : (a : Act) → is_served_act a ≡ true → holds (element_in a) (bad_pair past ns w (record { number = k; point = p; act = a })) ≡ false
   one (Hosts x) h = refl
   one (Waits s) h = refl
   one (Signals s) h = refl
   one (Runs c) h = refl
-  one (Depends r (element.Memory d)) h = refl
-  one (Depends r (element.Buffer e)) h = absurd cc
-  one (Depends r (element.Image e)) h = absurd cc
+  one (Depends Barrier (element.Memory d)) h = refl
+  one (Depends Barrier (element.Buffer e)) h = absurd cc
+  one (Depends Barrier (element.Image e)) h = absurd cc
+  one (Depends (SetOf v l) e) h = absurd cc
+  one (Depends (AwaitOf v l) e) h = absurd cc
 
 pub no_owner_pair : (past : Past) (p : Point) → is_served_deed p.deed ≡ true → breaks_owner_pair past p ≡ false
-no_owner_pair past p now = rw (next_nodes-lined past p) (unpaired past (nodes (p ∷ past)) p (acts p.deed) (length (nodes past)) (world past) (plain_acts p.deed now))
+no_owner_pair past p now = rw (next_nodes-lined past p) (unpaired past (nodes (p ∷ past)) p (acts p.deed) (length (nodes past)) (world past) (served_acts p.deed now))
 
 -- ---- where nodes come from
 
+-- a node that stands once acts are added is an older one, or is of one of the acts
 pub with_member : (p : Point) (more : List Act) (ns : List Node) (n : Node) → Contains (with_acts p more ns) n → Contains ns n ⊎ ((n.point ≡ p) × Contains more n.act)
 with_member p [] ns n c = inl c
 with_member p (a ∷ more) ns n c = elim (with_member p more (record { number = length ns; point = p; act = a } ∷ ns) n c) [
@@ -62,12 +80,18 @@ with_member p (a ∷ more) ns n c = elim (with_member p more (record { number = 
   | inr late ↦ inr (late.0, contains-tail a more n.act late.1)
 ]
 
+-- the older nodes stay
 pub with_keeps : (p : Point) (more : List Act) (ns : List Node) (n : Node) → Contains ns n → Contains (with_acts p more ns) n
 with_keeps p [] ns n c = c
 with_keeps p (a ∷ more) ns n c = with_keeps p more (record { number = length ns; point = p; act = a } ∷ ns) n (contains-tail (record { number = length ns; point = p; act = a }) ns n c)
 
-pub none_in : {A : Type 0} (x : A) → Contains [] x → ⊥
-none_in x c = let lt : c.0 < 0 = c.1 in omega arith
+-- nodes of a past of served forms are of served acts
+pub served_node : (past : Past) → is_served past ≡ true → (n : Node) → Contains (nodes past) n → is_served_act n.act ≡ true
+served_node [] served n c = absurd (none_in n c)
+served_node (p ∷ past) served n c = let s = served-cons p past served in elim (with_member p (acts p.deed) (nodes past) n c) [
+  | inl older ↦ served_node past s.1 n older
+  | inr new ↦ all_passes is_served_act (acts p.deed) n.act (served_acts p.deed s.0) new.1
+]
 
 -- the act of a host entry is of the host, and no other is
 pub host_acts : (d : Deed) (x : Entry) (a : Act) → host_of d ≡ Some x → Contains (acts d) a → a ≡ Hosts x
@@ -76,10 +100,7 @@ host_acts (Wait s) x a is c = absurd cc
 host_acts (Run y) x a is c = absurd cc
 host_acts (Signal s) x a is c = absurd cc
 
-pub all_passes : {A : Type 0} (f : A → Bool) (xs : List A) (x : A) → list_all f xs ≡ true → Contains xs x → f x ≡ true
-all_passes f [] x all c = absurd (none_in x c)
-all_passes f (y ∷ ys) x all c = let h = and-true (f y) (list_all f ys) all in elim (contains-cons y ys x c) [ inl same ↦ ap f (sym same) ∙ h.0 | inr later ↦ all_passes f ys x h.1 later ]
-
+-- a point of a batch has no act of the host
 pub batch_acts : (d : Deed) → is_served_deed d ≡ true → host_of d ≡ None → list_all (λ a. not (is_host a)) (acts d) ≡ true
 batch_acts = let P : Deed → Type 0 = λ d. host_of d ≡ None → list_all (λ a. not (is_host a)) (acts d) ≡ true in
     deed_cases P (λ x h is. absurd cc) (command_cases (λ c. P (Run c)) (λ b o n w is. refl) (λ es all is. elements es)) (λ s is. refl)
@@ -110,7 +131,7 @@ on_queue_0 (p ∷ past) served plain n c is = let s = served-cons p past served 
 ] where
   by_host_of : (o : Option Entry) → host_of p.deed ≡ o → Placed o p past → Contains (acts p.deed) n.act → p.queue ≡ 0
   by_host_of None e placed at = last_queue p.entry p.queue past (served-cons p past served).1 placed
-  by_host_of (Some x) e placed at = absurd (let bad : true ≡ false = sym (ap is_host (host_acts p.deed x n.act e at)) ∙ is in cc)
+  by_host_of (Some x) e placed at = clash (ap is_host (host_acts p.deed x n.act e at)) is
 
 -- served host entries signal nothing
 pub signals_none : (x : Entry) → is_served_entry x ≡ true → signal_in x ≡ None

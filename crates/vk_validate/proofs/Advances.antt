@@ -12,12 +12,13 @@ use Rattle.vk_validate.specs.Cleared.{IsCleared}
 use Rattle.vk_validate.specs.Standing.{joined, Signaled, after_waits, awaited, after_wait}
 use Rattle.vk_validate.specs.declared.clocks.Clock.{Clock}
 use Rattle.vk_validate.specs.declared.clocks.Order.{Order}
+use Rattle.vk_validate.proofs.Acts.{is_served_act}
+use Rattle.vk_validate.proofs.Truths.{no, clash}
 use Rattle.vk_validate.proofs.Growth.{number_below, numbered}
-use Rattle.vk_validate.proofs.Ordered.{host_edge, hosts_follow}
 use Rattle.vk_validate.proofs.Freed.{Freed, Shown, Via, ShownVia, leads_to_transfers, leads_to_writes, leads_to_host, leads_to_reads, freed_stands, shown_stands, via_splits, via_stays, via_new, shown_splits, shown_via_stays}
-use Rattle.vk_validate.proofs.Causes.{is_simple, no, into_host, into_command}
+use Rattle.vk_validate.proofs.Causes.{into_host, into_command}
 use Rattle.vk_validate.proofs.Waits.{IsRising, AnyLinked, waits_join, linked_by, edge_of}
-use Rattle.vk_validate.proofs.Clocked.{Means, clash, reads_signal, semaphore_edge, all_below, freed_from, freed_by, shown_from, shown_by, keeps, keeps_shown, keeps_commands}
+use Rattle.vk_validate.proofs.Clocked.{Means, reads_signal, semaphore_edge, all_below, freed_from, freed_by, shown_from, shown_by, keeps, keeps_shown, keeps_commands}
 
 -- waits change the host's clock alone
 waits_host : (past : Past) (signals : List Signaled) (ws : List SemaphoreValue) (o : Order) → after_waits past signals ws o ≡ record o { host = (after_waits past signals ws o).host }
@@ -29,7 +30,7 @@ waits_host past signals (w ∷ ws) o = go (awaited past signals w) (waits_host p
 
 -- ---- a host entry
 
-module _ (past : Past) (cleared : IsCleared past) (simple : (m : Node) → Contains (nodes past) m → is_simple m.act ≡ true) (w : Node) (j : ℕ) (signals : List Signaled) (rising : IsRising signals)
+module _ (past : Past) (cleared : IsCleared past) (simple : (m : Node) → Contains (nodes past) m → is_served_act m.act ≡ true) (w : Node) (j : ℕ) (signals : List Signaled) (rising : IsRising signals)
     (forward : (x : Signaled) → Contains signals x → (m : Node) × Contains (nodes past) m × (signaled_by m.act ≡ Some (x.semaphore, x.value)) × (Freed (nodes past) w m ↔ (j < x.clock.available)) × (Shown (nodes past) w m ↔ (j < x.clock.readable)))
     (backward : (m : Node) → Contains (nodes past) m → (s v : ℕ) → signaled_by m.act ≡ Some (s, v) → (x : Signaled) × Contains signals x × (x.semaphore ≡ s) × (x.value ≡ v) × (Freed (nodes past) w m ↔ (j < x.clock.available)) × (Shown (nodes past) w m ↔ (j < x.clock.readable)))
     (p : Point) (x : Entry) (ws : List SemaphoreValue) (waits : host_waits x ≡ map (λ (w : SemaphoreValue). (w.semaphore, w.value)) ws) (o : Order) (means : Means o (nodes past) w j) where
@@ -65,9 +66,6 @@ module _ (past : Past) (cleared : IsCleared past) (simple : (m : Node) → Conta
 
   among_all : (m : Node) → by_semaphore (earlier n (nodes past)) m n ≡ true → by_semaphore (nodes past) m n ≡ true
   among_all m e = subst (λ (l : List Node). by_semaphore l m n ≡ true) earlier_is e
-
-  host_edge_of : (m : Node) → Contains (nodes past) m → is_host m.act ≡ true → edge (nodes past) m n ≡ true
-  host_edge_of m c h = host_edge (nodes past) m n (low m c) (hosts_follow m n h refl)
 
   freed_to : Freed (n ∷ nodes past) w n → Via (nodes past) w is_host ⊎ LinkedFreed
   freed_to f = elim (freed_from n (nodes past) refl (numbered past) w j f) [
@@ -106,6 +104,7 @@ module _ (past : Past) (cleared : IsCleared past) (simple : (m : Node) → Conta
   joined_shown : (ShownVia (nodes past) w is_host ⊎ LinkedShown) ↔ (j < (after_waits past signals ws o).host.readable)
   joined_shown = waits_join (nodes past) signals rising (Shown (nodes past) w) (λ c. c.readable) (λ c d u. u.1) (λ c d. refl) j forward_shown backward_shown past cleared refl ws o (ShownVia (nodes past) w is_host) means.shown_hosts
 
+  -- the thresholds after the waits of a host entry say what they say
   pub host_means : Means (after_waits past signals ws o) (n ∷ nodes past) w j
   host_means = subst (λ (q : Order). Means q (n ∷ nodes past) w j) (sym (waits_host past signals ws o)) (record {
     transfers = keeps n (nodes past) refl (numbered past) w j leads_to_transfers o.to_transfers refl means.transfers;
@@ -127,7 +126,7 @@ module _ (past : Past) (cleared : IsCleared past) (simple : (m : Node) → Conta
 
 -- ---- a command
 
-module _ (ns : List Node) (numbers : IsNumbered ns) (simple : (m : Node) → Contains ns m → is_simple m.act ≡ true) (p : Point) (c : Cmd) (o : Order) where
+module _ (ns : List Node) (numbers : IsNumbered ns) (simple : (m : Node) → Contains ns m → is_served_act m.act ≡ true) (p : Point) (c : Cmd) (o : Order) where
   -- what earlier commands' writes have come to stays
   pub run_means : (w : Node) (j : ℕ) → Means o ns w j → Means o (record { number = length ns; point = p; act = Runs c } ∷ ns) w j
   run_means w j means =

@@ -1,8 +1,8 @@
 -- Which signal a wait of the host comes after.
-use Rattle.std.proofs.Common.{◌≡◌, ℕ, List, [], ◌∷◌, length, Bool, true, false, not, ◌||◌, ◌==◌, cond, refl, ap, sym, ◌∙◌, subst, Option, Some, None, inl, inr}
+use Rattle.std.proofs.Common.{◌≡◌, ℕ, List, [], ◌∷◌, length, Bool, true, false, not, ◌==◌, cond, refl, ap, sym, ◌∙◌, subst, Option, Some, None, inl, inr}
 use Rattle.std.specs.Prelude.{Contains, nat_le, is_some, option_and_then}
 use Rattle.std.specs.List.{list_any, find, cons_option}
-use Rattle.std.proofs.lemmas.Bool.{eqb-true, eq-eqb}
+use Rattle.std.proofs.lemmas.Bool.{eqb-true, eq-eqb, or_cases, or_right}
 use Rattle.vk_model.specs.declared.entry.Entry.{Entry}
 use Rattle.vk_model.specs.declared.entry.Entry.TheVariants as entry
 use Rattle.vk_model.specs.Words.{holds}
@@ -13,14 +13,13 @@ use Rattle.vk_model.specs.Node.{Node, Act, Hosts, Waits, Signals, Runs, Depends,
 use Rattle.vk_model.specs.Edge.{signaled_by, values_to, initial_by, is_enough, is_host}
 use Rattle.vk_validate.specs.Cleared.{IsCleared}
 use Rattle.vk_validate.specs.Served.{is_served_deed}
-use Rattle.vk_validate.proofs.Growth.{contains-cons, contains-head, contains-tail}
-use Rattle.vk_validate.proofs.Paths.{some_member, member_passes}
-use Rattle.vk_validate.proofs.Acts.{with_member, with_keeps, none_in, host_acts, batch_acts, all_passes}
-use Rattle.vk_validate.proofs.Causes.{either}
+use Rattle.vk_validate.proofs.Members.{none_in, contains-cons, contains-head, contains-tail, all_passes, some_member, member_passes}
+use Rattle.vk_validate.proofs.Acts.{with_member, with_keeps, host_acts, batch_acts}
 use Rattle.vk_validate.proofs.Reach.{kept_made}
 
 -- ---- values that nodes signal
 
+-- a test that a signaled value passes finds one among the values of its semaphore
 pub signals_value : (f : ℕ → Bool) (ns : List Node) (m : Node) (s v : ℕ) → Contains ns m → signaled_by m.act ≡ Some (s, v) → f v ≡ true → list_any f (values_to ns s) ≡ true
 signals_value f [] m s v c is e = absurd (none_in m c)
 signals_value f (n ∷ ns) m s v c is e = elim (contains-cons n ns m c) [
@@ -33,11 +32,9 @@ signals_value f (n ∷ ns) m s v c is e = elim (contains-cons n ns m c) [
 
     there : (o : Option ℕ) → list_any f (values_to ns s) ≡ true → list_any f (cons_option o (values_to ns s)) ≡ true
     there None rest = rest
-    there (Some u) rest = go (f u) where
-      go : (b : Bool) → (b || list_any f (values_to ns s)) ≡ true
-      go true = refl
-      go false = rest
+    there (Some u) rest = or_right (f u) (list_any f (values_to ns s)) rest
 
+-- and a value that it finds was signaled by some node
 pub value_signaled : (f : ℕ → Bool) (ns : List Node) (s : ℕ) → list_any f (values_to ns s) ≡ true → (m : Node) × Contains ns m × (v : ℕ) × (signaled_by m.act ≡ Some (s, v)) × (f v ≡ true)
 value_signaled f [] s e = absurd cc
 value_signaled f (n ∷ ns) s e = go (value_signaled f ns s) (signaled_by n.act) refl e where
@@ -47,7 +44,7 @@ value_signaled f (n ∷ ns) s e = go (value_signaled f ns s) (signaled_by n.act)
   by_test : (list_any f (values_to ns s) ≡ true → (m : Node) × Contains ns m × (v : ℕ) × (signaled_by m.act ≡ Some (s, v)) × (f v ≡ true))
       → (x : ℕ × ℕ) → signaled_by n.act ≡ Some x → (t : Bool) → (x.0 == s) ≡ t → list_any f (cons_option (cond t (Some x.1) None) (values_to ns s)) ≡ true → (m : Node) × Contains (n ∷ ns) m × (v : ℕ) × (signaled_by m.act ≡ Some (s, v)) × (f v ≡ true)
   by_test next x is false e any = later (next any)
-  by_test next x is true e any = elim (either (f x.1) (list_any f (values_to ns s)) any) [
+  by_test next x is true e any = elim (or_cases (f x.1) (list_any f (values_to ns s)) any) [
     | inl here ↦ (n, contains-head n ns, x.1, is ∙ ap (λ (k : ℕ). Some (k, x.1)) (eqb-true x.0 s e), here)
     | inr rest ↦ later (next rest)
   ]
@@ -60,7 +57,7 @@ value_signaled f (n ∷ ns) s e = go (value_signaled f ns s) (signaled_by n.act)
 -- ---- initial values
 
 -- a node that gives a semaphore its initial value is of the entry that made it
-pub initial_node : (past : Past) → IsCleared past → (n : Node) (s u : ℕ) → Contains (nodes past) n → initial_by s n.act ≡ Some u → initial past s ≡ Some u
+initial_node : (past : Past) → IsCleared past → (n : Node) (s u : ℕ) → Contains (nodes past) n → initial_by s n.act ≡ Some u → initial past s ≡ Some u
 initial_node [] cleared n s u c is = absurd (none_in n c)
 initial_node (p ∷ past) cleared n s u c is = elim (with_member p (acts p.deed) (nodes past) n c) [
   | inl older ↦ stays (initial_node past cleared.1 n s u older is)
@@ -94,7 +91,7 @@ initial_node (p ∷ past) cleared n s u c is = elim (with_member p (acts p.deed)
     by_deed (Signal t) at c = absurd (let h = hosts_only n.act is in let b = all_passes (λ a. not (is_host a)) (acts (Signal t)) n.act refl c in let bad : not (is_host (Hosts h.0)) ≡ true = ap (λ (a : Act). not (is_host a)) (sym h.1) ∙ b in cc)
 
 -- and the entry that made a semaphore has a node
-pub initial_stands : (past : Past) (s u : ℕ) → initial past s ≡ Some u → (n : Node) × Contains (nodes past) n × (initial_by s n.act ≡ Some u)
+initial_stands : (past : Past) (s u : ℕ) → initial past s ≡ Some u → (n : Node) × Contains (nodes past) n × (initial_by s n.act ≡ Some u)
 initial_stands [] s u is = absurd cc
 initial_stands (p ∷ past) s u is = by_deed (λ e. later (initial_stands past s u e)) p.deed refl is where
   later : ((n : Node) × Contains (nodes past) n × (initial_by s n.act ≡ Some u)) → (n : Node) × Contains (nodes (p ∷ past)) n × (initial_by s n.act ≡ Some u)
@@ -126,6 +123,7 @@ initial_stands (p ∷ past) s u is = by_deed (λ e. later (initial_stands past s
   by_deed next (Run t) at e = next e
   by_deed next (Signal t) at e = next e
 
+-- a wait needs no signal just where the initial value is enough
 pub enough_is : (past : Past) → IsCleared past → (s v : ℕ) → is_enough (nodes past) s v ≡ holds (initial past s) (nat_le v)
 enough_is past cleared s v = go (holds (initial past s) (nat_le v)) refl where
   found : (o : Option ℕ) → initial past s ≡ o → holds o (nat_le v) ≡ true → is_enough (nodes past) s v ≡ true

@@ -6,6 +6,7 @@ use Rattle.vk_model.specs.declared.command.Element.{Element}
 use Rattle.vk_model.specs.declared.command.Element.TheVariants as element
 use Rattle.vk_validate.specs.Served.{is_memory}
 
+-- a test that no memory dependency passes finds none of its elements
 pub memory_any : (test : Element → Bool) → ((d : Dependency) → test (element.Memory d) ≡ false) → (es : List Element) → list_all is_memory es ≡ true → list_any test es ≡ false
 memory_any test none [] all = refl
 memory_any test none (element.Memory d ∷ es) all = rw (none d, memory_any test none es all) refl

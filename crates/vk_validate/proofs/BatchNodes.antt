@@ -2,7 +2,8 @@
 use Rattle.std.proofs.Common.{◌≡◌, ◌<◌, ◌≤◌, ℕ, List, [], ◌∷◌, length, map, Bool, true, false, ◌&&◌, ◌||◌, cond, refl, ap, sym, ◌∙◌, subst, arith, inl, inr, ◌⊎◌, max, Some}
 use Rattle.std.specs.Prelude.{Contains, ◌↔◌}
 use Rattle.std.specs.List.{list_all}
-use Rattle.std.proofs.lemmas.Bool.{eq-eqb, cases_lt}
+use Rattle.std.proofs.lemmas.Bool.{eq-eqb, cases_lt, or_right}
+use Rattle.std.proofs.Math.Bool.{and-false}
 use Rattle.vk_model.specs.declared.command.Dependency.{Dependency}
 use Rattle.vk_model.specs.declared.command.Element.{Element}
 use Rattle.vk_model.specs.declared.command.Element.TheVariants as element
@@ -18,15 +19,19 @@ use Rattle.vk_validate.specs.Served.{is_memory}
 use Rattle.vk_validate.specs.Standing.{on_transfers, on_host, counted, available_at, with_dependency, after_elements, signal_at, joined}
 use Rattle.vk_validate.specs.declared.clocks.Clock.{Clock}
 use Rattle.vk_validate.specs.declared.clocks.Order.{Order}
-use Rattle.vk_validate.proofs.Growth.{contains-cons, contains-tail, number_below}
-use Rattle.vk_validate.proofs.Ordered.{Submitted, host_edge, hosts_follow, submit_hosts, submit_leads}
-use Rattle.vk_validate.proofs.Freed.{Freed, Shown, Via, ShownVia, frees, leads_to_transfers, leads_to_writes, leads_to_host, leads_to_reads, freed_stands, shown_stands, shown_via, freed_stays, freed_was, shown_stays, shown_was, via_splits, via_stays, via_new, shown_splits, shown_via_stays}
-use Rattle.vk_validate.proofs.Causes.{is_simple, no, meets, meet_transfers, meet_host, into_element, into_signal, IntoElement, FromHost, FromCommand, FromTransfers, FromElement, IntoSignal, FromHosts, FromSignal, FromToHost}
+use Rattle.vk_validate.proofs.Acts.{is_served_act}
+use Rattle.vk_validate.proofs.Members.{contains-cons, contains-tail}
+use Rattle.vk_validate.proofs.Truths.{no, clash}
+use Rattle.vk_validate.proofs.Growth.{number_below}
+use Rattle.vk_validate.proofs.Ordered.{Submitted, host_edge, hosts_follow, submit_hosts, submit_leads, signal_hosts}
+use Rattle.vk_validate.proofs.Freed.{Freed, Shown, Via, leads_to_transfers, leads_to_writes, leads_to_host, leads_to_reads, freed_stands, shown_via, freed_stays, freed_was, shown_splits, shown_via_stays, Passed}
+use Rattle.vk_validate.proofs.Causes.{meets, meet_transfers, meet_host, into_element, into_signal, IntoElement, FromHost, FromCommand, FromTransfers, FromElement, IntoSignal, FromHosts, FromSignal, FromToHost}
 use Rattle.vk_validate.proofs.Waits.{max_iff}
-use Rattle.vk_validate.proofs.Clocked.{Means, clash, command_signals, command_hosts, command_leads, reads_to_host, stage_edge, order_edge, freed_from, freed_by, freed_sent, shown_from, shown_begins, keeps, keeps_shown, joins, keeps_commands}
+use Rattle.vk_validate.proofs.Clocked.{Means, command_signals, command_hosts, command_leads, reads_to_host, stage_edge, order_edge, freed_from, freed_by, freed_sent, shown_from, shown_begins, keeps, keeps_shown, joins, keeps_commands}
 
 -- ---- edges of batches
 
+-- what makes an edge by stages on one queue
 pub queue_stages : (m n : Node) (a b : ℕ) → is_host m.act ≡ false → is_host n.act ≡ false → m.point.queue ≡ n.point.queue → siblings m n ≡ false → (is_command m.act && is_command n.act) ≡ false
     → second_scope m.act ≡ Some a → first_scope n.act ≡ Some b → meet a b ≡ true → by_stages m n ≡ true
 queue_stages m n a b mh nh q apart alone from to is = rw (mh, nh, eq-eqb m.point.queue n.point.queue q, apart, alone, from, to, is) refl
@@ -34,12 +39,8 @@ queue_stages m n a b mh nh q apart alone from to is = rw (mh, nh, eq-eqb m.point
 queue_signal : (m n : Node) → is_host m.act ≡ false → is_host n.act ≡ false → m.point.queue ≡ n.point.queue → is_signal n.act ≡ true → (is_signal m.act || is_element m.act && holds (second_scope m.act) (λ s. has_some s host_stage)) ≡ true → by_signal m n ≡ true
 queue_signal m n mh nh q sn is = rw (mh, nh, eq-eqb m.point.queue n.point.queue q, sn, is) refl
 
-and_false : (b : Bool) → (b && false) ≡ false
-and_false true = refl
-and_false false = refl
-
 -- an element is of a barrier
-pub barrier_of : (a : Act) → is_simple a ≡ true → is_element a ≡ true → (e : Element) × (a ≡ Depends Barrier e)
+pub barrier_of : (a : Act) → is_served_act a ≡ true → is_element a ≡ true → (e : Element) × (a ≡ Depends Barrier e)
 barrier_of (Depends Barrier e) h is = (e, refl)
 barrier_of (Depends (SetOf v k) e) h is = no h
 barrier_of (Depends (AwaitOf v k) e) h is = no h
@@ -48,6 +49,7 @@ barrier_of (Waits s) h is = no is
 barrier_of (Signals s) h is = no is
 barrier_of (Runs c) h is = no is
 
+-- what leads to the transfers or to the host is an element
 pub leads_element : (a : Act) → (leads_to_transfers a ≡ true) ⊎ (leads_to_host a ≡ true) → is_element a ≡ true
 leads_element (Depends r e) l = refl
 leads_element (Hosts x) l = elim l [ inl e ↦ no e | inr e ↦ no e ]
@@ -55,6 +57,7 @@ leads_element (Waits s) l = elim l [ inl e ↦ no e | inr e ↦ no e ]
 leads_element (Signals s) l = elim l [ inl e ↦ no e | inr e ↦ no e ]
 leads_element (Runs c) l = elim l [ inl e ↦ no e | inr e ↦ no e ]
 
+-- an element is no act of the host, and no command
 pub element_hosts : (a : Act) → is_element a ≡ true → (is_host a ≡ false) × (is_command a ≡ false)
 element_hosts (Depends r e) is = (refl, refl)
 element_hosts (Hosts x) is = no is
@@ -74,13 +77,13 @@ same_itself p = rw (eq-eqb p.entry p.entry refl, eq-eqb p.batch p.batch refl, eq
 
 -- ---- a batch's node, after what it is submitted with
 
-module _ (base : List Node) (numbers : IsNumbered base) (simple : (m : Node) → Contains base m → is_simple m.act ≡ true) (on_0 : (m : Node) → Contains base m → is_host m.act ≡ false → m.point.queue ≡ 0)
+module _ (base : List Node) (numbers : IsNumbered base) (simple : (m : Node) → Contains base m → is_served_act m.act ≡ true) (on_0 : (m : Node) → Contains base m → is_host m.act ≡ false → m.point.queue ≡ 0)
     (p : Point) (queue : p.queue ≡ 0) (submitted : Submitted p.entry base) (w : Node) (j point : ℕ) (stands : Contains base w) (command : is_command w.act ≡ true) (lt : j < point) (o : Order) (means : Means o base w j) where
   -- what has come to some host entry has come to the submit
   fed : Via base w is_host → Freed base w submitted.node
   fed v = elim (submitted.newest v.node (freed_stands base w v.node v.freed) v.passes) [
     | inl same ↦ subst (λ (m : Node). Freed base w m) same v.freed
-    | inr less ↦ Rattle.vk_validate.proofs.Freed.Passed v.freed submitted.stands (host_edge base v.node submitted.node less (hosts_follow v.node submitted.node v.passes (submit_hosts submitted.node.act submitted.submits)))
+    | inr less ↦ Passed v.freed submitted.stands (host_edge base v.node submitted.node less (hosts_follow v.node submitted.node v.passes (submit_hosts submitted.node.act submitted.submits)))
   ]
 
   -- ---- an element of a barrier
@@ -89,7 +92,7 @@ module _ (base : List Node) (numbers : IsNumbered base) (simple : (m : Node) →
   pub record Amid (ns : List Node) : Type 0 where
     pub numbering : IsNumbered ns
     pub split : (m : Node) → Contains ns m → ((m.point ≡ p) × (is_element m.act ≡ true)) ⊎ Contains base m
-    pub forms : (m : Node) → Contains ns m → is_simple m.act ≡ true
+    pub forms : (m : Node) → Contains ns m → is_served_act m.act ≡ true
     pub grows : (m : Node) → Contains base m → Contains ns m
     pub up : (m : Node) → Freed base w m → Freed ns w m
     pub down : (m : Node) → Contains base m → Freed ns w m → Freed base w m
@@ -103,7 +106,7 @@ module _ (base : List Node) (numbers : IsNumbered base) (simple : (m : Node) →
       record {
         numbering = (refl, amid.numbering);
         split = λ m c. elim (contains-cons n ns m c) [ inl same ↦ inl (ap (λ (k : Node). k.point) (sym same), sym (ap (λ (k : Node). is_element k.act) same)) | inr older ↦ amid.split m older ];
-        forms = λ m c. elim (contains-cons n ns m c) [ inl same ↦ sym (ap (λ (k : Node). is_simple k.act) same) ∙ memory | inr older ↦ amid.forms m older ];
+        forms = λ m c. elim (contains-cons n ns m c) [ inl same ↦ sym (ap (λ (k : Node). is_served_act k.act) same) ∙ memory | inr older ↦ amid.forms m older ];
         grows = λ m c. contains-tail n ns m (amid.grows m c);
         up = λ m f. freed_stays n ns refl amid.numbering w m (amid.up m f);
         down = λ m c f. amid.down m c (freed_was n ns refl amid.numbering w m f (number_below ns amid.numbering m (amid.grows m c)));
@@ -161,7 +164,7 @@ module _ (base : List Node) (numbers : IsNumbered base) (simple : (m : Node) →
     element_edge : (m : Node) → Contains base m → is_element m.act ≡ true → (a : ℕ) → second_scope m.act ≡ Some a → meet a source ≡ true → edge ns m n ≡ true
     element_edge m c is a scope meets =
         let hosts = element_hosts m.act is in
-        stage_edge ns m n (low m (amid.grows m c)) (queue_stages m n a source hosts.0 refl (on_0 m c hosts.0 ∙ sym queue) (rw (apart m c is) (and_false _)) (rw hosts.1 refl) scope refl meets)
+        stage_edge ns m n (low m (amid.grows m c)) (queue_stages m n a source hosts.0 refl (on_0 m c hosts.0 ∙ sym queue) (rw (apart m c is) (and-false _)) (rw hosts.1 refl) scope refl meets)
 
     scope_of : (m : Node) → Contains base m → is_element m.act ≡ true → (e : Element) × (m.act ≡ Depends Barrier e) × (second_scope m.act ≡ Some (dependency_of e).destination_stages.0)
     scope_of m c is = let e = barrier_of m.act (simple m c) is in (e.0, e.1, ap second_scope e.1)
@@ -191,7 +194,7 @@ module _ (base : List Node) (numbers : IsNumbered base) (simple : (m : Node) →
     from_command t a =
         let scope = command_scope w.act command in
         let host = command_hosts w.act command in
-        freed_sent n ns refl amid.numbering w j (stage_edge ns w n (low w (amid.grows w stands)) (queue_stages w n transfer_stage source host refl (on_0 w stands host ∙ sym queue) (rw scope.1 refl) (and_false _) scope.0 refl (meet_transfers transfer_stage source refl t))) a
+        freed_sent n ns refl amid.numbering w j (stage_edge ns w n (low w (amid.grows w stands)) (queue_stages w n transfer_stage source host refl (on_0 w stands host ∙ sym queue) (rw scope.1 refl) (and-false _) scope.0 refl (meet_transfers transfer_stage source refl t))) a
 
     from : j < available_at o d point → Freed (n ∷ ns) w n
     from lt = by_stages_of (on_transfers source) refl (has_some d.source_accesses.0 (command_mask Write)) refl (on_host source) refl lt where
@@ -238,6 +241,7 @@ module _ (base : List Node) (numbers : IsNumbered base) (simple : (m : Node) →
     elements_means (element.Buffer e ∷ es) all ns amid q known = no all
     elements_means (element.Image e ∷ es) all ns amid q known = no all
 
+    -- the thresholds after a barrier say what they say
     pub barrier_means : (es : List Element) → list_all is_memory es ≡ true → Means (after_elements o point es o) (with_acts p (map (Depends Barrier) es) base) w j
     barrier_means es all = elements_means es all base amid_start o means
 
@@ -265,25 +269,16 @@ module _ (base : List Node) (numbers : IsNumbered base) (simple : (m : Node) →
         let is = leads_element m.act (inr l) in
         let hosts = element_hosts m.act is in
         let e = barrier_of m.act (simple m c) is in
-        order_edge base m signal (below_signal m c) (queue_signal m signal hosts.0 refl (on_0 m c hosts.0 ∙ sym queue) refl (rw (is, ap second_scope e.1) (or_right (is_signal m.act) _ (sym (ap leads_to_host e.1) ∙ l)))) where
-          or_right : (a b : Bool) → b ≡ true → (a || b) ≡ true
-          or_right true b e = refl
-          or_right false b e = e
+        order_edge base m signal (below_signal m c) (queue_signal m signal hosts.0 refl (on_0 m c hosts.0 ∙ sym queue) refl (rw (is, ap second_scope e.1) (or_right (is_signal m.act) _ (sym (ap leads_to_host e.1) ∙ l))))
 
     after_signals : (m : Node) → Contains base m → is_signal m.act ≡ true → edge base m signal ≡ true
-    after_signals m c is = order_edge base m signal (below_signal m c) (queue_signal m signal (host_of m.act is) refl (on_0 m c (host_of m.act is) ∙ sym queue) refl (rw is refl)) where
-      host_of : (a : Act) → is_signal a ≡ true → is_host a ≡ false
-      host_of (Signals t) e = refl
-      host_of (Hosts x) e = no e
-      host_of (Waits t) e = no e
-      host_of (Runs c) e = no e
-      host_of (Depends r f) e = no e
+    after_signals m c is = order_edge base m signal (below_signal m c) (queue_signal m signal (signal_hosts m.act is) refl (on_0 m c (signal_hosts m.act is) ∙ sym queue) refl (rw is refl))
 
     after_commands : on_transfers s.stages.0 ≡ true → Freed (signal ∷ base) w signal
     after_commands t =
         let scope = command_scope w.act command in
         let host = command_hosts w.act command in
-        freed_sent signal base refl numbers w j (stage_edge base w signal (below_signal w stands) (queue_stages w signal transfer_stage s.stages.0 host refl (on_0 w stands host ∙ sym queue) (rw scope.1 refl) (and_false _) scope.0 refl (meet_transfers transfer_stage s.stages.0 refl t))) refl
+        freed_sent signal base refl numbers w j (stage_edge base w signal (below_signal w stands) (queue_stages w signal transfer_stage s.stages.0 host refl (on_0 w stands host ∙ sym queue) (rw scope.1 refl) (and-false _) scope.0 refl (meet_transfers transfer_stage s.stages.0 refl t))) refl
 
     -- with the transfers a signal covers all commands, and otherwise what leads to the host
     uncovered : on_transfers s.stages.0 ≡ false → Freed (signal ∷ base) w signal → (Via base w leads_to_host ⊎ Via base w is_signal) ⊎ Via base w is_host
@@ -306,6 +301,7 @@ module _ (base : List Node) (numbers : IsNumbered base) (simple : (m : Node) →
     covering (inl (inl v)) = signal_after v.node v.freed (after_host_stage v.node (freed_stands base w v.node v.freed) v.passes)
     covering (inl (inr v)) = signal_after v.node v.freed (after_signals v.node (freed_stands base w v.node v.freed) v.passes)
 
+    -- a write is available at a signal just where its clock counts it
     pub signal_freed : Freed (signal ∷ base) w signal ↔ (j < clock.available)
     signal_freed = go (on_transfers s.stages.0) refl where
       go : (t : Bool) → on_transfers s.stages.0 ≡ t → Freed (signal ∷ base) w signal ↔ (j < max (max (cond t point o.to_host) o.signals.available) o.host.available)
@@ -314,6 +310,7 @@ module _ (base : List Node) (numbers : IsNumbered base) (simple : (m : Node) →
           let all = max_iff j (max o.to_host o.signals.available) o.host.available (max_iff j o.to_host o.signals.available means.host_stages means.signals) means.hosts in
           (λ f. all.0 (uncovered t f), λ more. covering (all.1 more))
 
+    -- and shown there just where its clock counts it as shown
     pub signal_shown : Shown (signal ∷ base) w signal ↔ (j < clock.readable)
     signal_shown = (to_number, from_number) where
       to_number : Shown (signal ∷ base) w signal → j < clock.readable
@@ -333,6 +330,7 @@ module _ (base : List Node) (numbers : IsNumbered base) (simple : (m : Node) →
         ]
       ]
 
+    -- the thresholds after a signal say what they say
     pub signal_means : Means (record o { signals = joined o.signals clock }) (signal ∷ base) w j
     signal_means = record {
       transfers = keeps signal base refl numbers w j leads_to_transfers o.to_transfers refl means.transfers;

@@ -21,6 +21,7 @@ deeds-drop of t xs k d past lt = let e : drop k xs ≡ get_or xs k d ∷ drop (k
 pub deeds-all : {A : Type 0} (of : A → Deed) (t : Turn) (xs : List A) (k : ℕ) (past : Past) → length xs ≤ k → deeds of t k (drop k xs) past ≡ past
 deeds-all of t xs k past le = rw (drop_all k xs le) refl
 
+-- what the loops over the waits, commands and signals of a batch go by
 pub ruleset pushes = (deeds-drop, deeds-all, past_of-push)
 
 pub laid_batches-drop : (e q : ℕ) (bs : List Batch) (k : ℕ) (d : Batch) (past : Past) → k < length bs → laid_batches e q k (drop k bs) past ≡ laid_batches e q (k + 1) (drop (k + 1) bs) (laid_batch e k q (get_or bs k d) past)
@@ -29,6 +30,7 @@ laid_batches-drop e q bs k d past lt = let is : drop k bs ≡ get_or bs k d ∷ 
 pub laid_batches-all : (e q : ℕ) (bs : List Batch) (k : ℕ) (past : Past) → length bs ≤ k → laid_batches e q k (drop k bs) past ≡ past
 laid_batches-all e q bs k past le = rw (drop_all k bs le) refl
 
+-- what the loop over batches goes by
 pub ruleset batches_pushed = (laid_batches-drop, laid_batches-all)
 
 pub laid_entries-drop : (xs : List Entry) (k : ℕ) (d : Entry) (past : Past) → k < length xs → laid_entries k (drop k xs) past ≡ laid_entries (k + 1) (drop (k + 1) xs) (laid_submit k (get_or xs k d) (host k (get_or xs k d) ∷ past))
@@ -62,4 +64,5 @@ laid-plain e (x ∷ xs) past = ap (laid_entries (e + 1) xs) (laid-of past e x (h
 pub laid_entries-all : (xs : List Entry) (k : ℕ) (past : Past) → length xs ≤ k → laid_entries k (drop k xs) past ≡ laid_entries 0 xs [] → past ≡ plain_order xs
 laid_entries-all xs k past le is = (rw (drop_all k xs le) at is) ∙ laid-plain 0 xs []
 
+-- what the loop over entries goes by
 pub ruleset entries_pushed = (laid_entries-drop, laid_entries-all, past_of-push)

@@ -1,11 +1,10 @@
 -- What bounds say of the last writers of bytes, and what a change of the bounds does to them.
-use Rattle.std.proofs.Common.{◌≡◌, ℕ, ◌<◌, ◌≤◌, ◌≢◌, List, [], ◌∷◌, ◌++◌, refl, sym, ◌∙◌, ap, Option, Some, None, inl, inr, ◌⊎◌, arith, rules}
+use Rattle.std.proofs.Common.{◌≡◌, ℕ, ◌<◌, ◌≤◌, ◌≢◌, List, [], ◌∷◌, ◌++◌, refl, sym, ◌∙◌, ap, Option, Some, None, inl, inr, ◌⊎◌, arith, rules, false, subst}
 use Rattle.std.specs.Ordering.{nat_cmp, is_gt}
 use Rattle.std.specs.Cmp.{nat_cmp_is}
 use Rattle.std.specs.declared.cmp.Ordering.TheVariants.{Less, Equal}
-use Rattle.std.proofs.Common.{false}
 use Rattle.std.specs.Option.{IsSome}
-use Rattle.std.specs.BTreeMap.{get}
+use Rattle.std.specs.BTreeMap.{get, IsEmpty}
 use Rattle.std.specs.BTreeMap.Range.{IsRangeOf}
 use Rattle.std.specs.declared.ops.Bound.TheVariants.{Included, Unbounded}
 use Rattle.std.proofs.lemmas.Bool.{cases_lt, cases_order}
@@ -13,9 +12,8 @@ use Rattle.std.proofs.lemmas.Map.Keys.{ge_from_not_lt, le_from_not_gt}
 use Rattle.std.proofs.lemmas.Option.{none-some}
 use Rattle.vk_validate.specs.Writers.{Bounds, IsFrom, IsLastWriter, Keeps, WasLast}
 use Rattle.vk_validate.specs.declared.writers.LastWriters.{LastWriters}
-use Rattle.std.specs.BTreeMap.{IsEmpty}
-use Rattle.std.proofs.Common.{subst}
 
+-- what is not there is none
 pub none_unless : {A : Type 0} (o : Option A) → (IsSome o → ⊥) → o ≡ None
 none_unless None missing = refl
 none_unless (Some x) missing = absurd (missing refl)
@@ -34,7 +32,7 @@ last_up_to bounds byte r t e range is =
 abbrev pub SameBelow : Bounds → Bounds → ℕ → Type 0
 SameBelow old new end = (key : ℕ) → key < end → get nat_cmp new key ≡ get nat_cmp old key
 
-pub keeps_below : (old new : Bounds) (end : ℕ) → SameBelow old new end → (byte : ℕ) → byte < end → Keeps old new byte
+keeps_below : (old new : Bounds) (end : ℕ) → SameBelow old new end → (byte : ℕ) → byte < end → Keeps old new byte
 keeps_below old new end same byte lt writer (inl from) =
     inl (record {
       key = from.key;
@@ -106,11 +104,13 @@ writer_before bounds first byte w le free (inl from) = by_key (cases_lt first fr
   by_key (inr low) = inl (record { key = from.key; below = low; has = from.has; greatest = λ key above upto. from.greatest key above (omega arith) })
 writer_before bounds first byte w le free (inr none) = inr (record { free = λ key upto. none.free key (omega arith); none = none.none })
 
+-- what the last writers said, a copy of them says
 pub was_some : (o : Option LastWriters) (x y : LastWriters) → o ≡ Some x → y ≡ x → (byte : ℕ) (writer : Option ℕ) → WasLast o byte writer → IsLastWriter y.bounds byte writer
 was_some o x y is same byte writer h =
     let at : IsLastWriter x.bounds byte writer = subst (λ (z : Option LastWriters). WasLast z byte writer) is h in
     subst (λ (z : LastWriters). IsLastWriter z.bounds byte writer) (sym same) at
 
+-- and where there were none, empty bounds say it
 pub was_none : (o : Option LastWriters) (x y : LastWriters) → o ≡ None → y ≡ x → IsEmpty x.bounds → (byte : ℕ) (writer : Option ℕ) → WasLast o byte writer → IsLastWriter y.bounds byte writer
 was_none o x y is same empty byte writer h =
     let none : writer ≡ None = subst (λ (z : Option LastWriters). WasLast z byte writer) is h in

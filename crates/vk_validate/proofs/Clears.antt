@@ -13,12 +13,14 @@ find-drop p xs i d lt = rw (add-one, drop-cons xs i d) refl
 pub find-all : {X : Type 0} (p : X → Bool) (xs : List X) (i : ℕ) → length xs ≤ i → find p (drop i xs) ≡ None
 find-all p xs i le = rw (drop_all i xs le) refl
 
+-- what the loop over the rules goes by
 pub ruleset finds = (find-drop, find-all)
 
 length-fold : (ps : List Step) (a : spec.Past) → length (fold add a ps) ≡ length ps + length a
 length-fold [] a = omega arith
 length-fold (p ∷ ps) a = let e = length-fold ps (add a p) in grind (arith, e)
 
+-- the past of a walk is as long as its count
 pub length-past : (w : Walk) → w.count ≤ length w.points → length (past w) ≡ w.count
 unfolding past
 length-past w le = let e = length-fold (take w.count w.points) [] in grind (arith, common_steps, e)

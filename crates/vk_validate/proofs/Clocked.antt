@@ -1,19 +1,17 @@
 -- What the thresholds of the order say of one command's write, node after node.
-use Rattle.std.proofs.Common.{◌≡◌, ◌<◌, ◌≤◌, ℕ, List, [], ◌∷◌, length, Bool, true, false, ◌||◌, refl, sym, ◌∙◌, arith, inl, inr, ◌⊎◌, max, None}
+use Rattle.std.proofs.Common.{◌≡◌, ◌<◌, ◌≤◌, ℕ, List, [], ◌∷◌, length, Bool, true, false, refl, sym, ◌∙◌, arith, inl, inr, ◌⊎◌, max, None}
 use Rattle.std.specs.Prelude.{nat_lt, ◌↔◌}
 use Rattle.std.specs.List.{filter}
-use Rattle.std.proofs.lemmas.Bool.{lt-ltb}
-use Rattle.vk_model.specs.declared.command.Element.{Element}
-use Rattle.vk_model.specs.Node.{Node, Act, Hosts, Waits, Signals, Runs, Depends, Role}
+use Rattle.std.proofs.lemmas.Bool.{lt-ltb, and_parts}
+use Rattle.vk_model.specs.Node.{Node, Act, Hosts, Waits, Signals, Runs, Depends}
 use Rattle.vk_model.specs.Edge.{edge, is_host, is_signal, is_command, by_host, by_stages, by_signal, by_all_commands, pairs, by_semaphore, earlier, signaled_by}
 use Rattle.vk_model.specs.Before.{IsNumbered}
 use Rattle.vk_validate.specs.Standing.{counted}
 use Rattle.vk_validate.specs.declared.clocks.Order.{Order}
-use Rattle.vk_validate.proofs.Growth.{contains-head}
+use Rattle.vk_validate.proofs.Members.{contains-head}
+use Rattle.vk_validate.proofs.Truths.{no, clash, second_of_six, third_of_six, last_of_six}
 use Rattle.vk_validate.proofs.Paths.{edge_forward, edge-new}
-use Rattle.vk_validate.proofs.Ordered.{third}
 use Rattle.vk_validate.proofs.Freed.{Freed, Sent, Passed, Shown, Begun, Carried, Via, ShownVia, frees, leads_to_transfers, leads_to_writes, leads_to_host, leads_to_reads, freed_stays, freed_was, shown_stays, shown_was, via_splits, via_stays, via_new, shown_splits, shown_via_stays}
-use Rattle.vk_validate.proofs.Causes.{no, both}
 use Rattle.vk_validate.proofs.Waits.{max_iff}
 
 -- a command's write is available, visible or shown where the thresholds are above its point's number
@@ -30,9 +28,7 @@ pub record Means (o : Order) (ns : List Node) (w : Node) (j : ℕ) : Type 0 wher
 
 -- ---- acts
 
-pub clash : {A : Type 0} {b : Bool} → b ≡ true → b ≡ false → A
-clash e f = no (sym f ∙ e)
-
+-- a command is no signal, no act of the host, and leads to nothing
 pub command_signals : (a : Act) → is_command a ≡ true → is_signal a ≡ false
 command_signals (Runs c) e = refl
 command_signals (Hosts x) e = no e
@@ -54,23 +50,9 @@ command_leads (Waits s) e = no e
 command_leads (Signals s) e = no e
 command_leads (Depends r f) e = no e
 
--- what leads to the host's reads, or to transfers, or to the host is an element
-transfers_element : (a : Act) → leads_to_transfers a ≡ true → (r : Role) × (e : Element) × (a ≡ Depends r e)
-transfers_element (Depends r f) e = (r, f, refl)
-transfers_element (Hosts x) e = no e
-transfers_element (Waits s) e = no e
-transfers_element (Signals s) e = no e
-transfers_element (Runs c) e = no e
-
-host_element : (a : Act) → leads_to_host a ≡ true → (r : Role) × (e : Element) × (a ≡ Depends r e)
-host_element (Depends r f) e = (r, f, refl)
-host_element (Hosts x) e = no e
-host_element (Waits s) e = no e
-host_element (Signals s) e = no e
-host_element (Runs c) e = no e
-
+-- what leads to the host's reads leads to the host, and is no signal
 pub reads_to_host : (a : Act) → leads_to_reads a ≡ true → leads_to_host a ≡ true
-reads_to_host (Depends r f) e = (both _ _ e).0
+reads_to_host (Depends r f) e = (and_parts _ _ e).0
 reads_to_host (Hosts x) e = no e
 reads_to_host (Waits s) e = no e
 reads_to_host (Signals s) e = no e
@@ -85,32 +67,20 @@ reads_signal (Runs c) e = no e
 
 -- ---- edges that there are
 
-second_of : (a b c d e f : Bool) → b ≡ true → (a || b || c || d || e || f) ≡ true
-second_of true b c d e f h = refl
-second_of false true c d e f h = refl
-second_of false false c d e f h = absurd cc
-
-last_of : (a b c d e f : Bool) → f ≡ true → (a || b || c || d || e || f) ≡ true
-last_of true b c d e f h = refl
-last_of false true c d e f h = refl
-last_of false false true d e f h = refl
-last_of false false false true e f h = refl
-last_of false false false false true f h = refl
-last_of false false false false false f h = h
-
 module _ (ns : List Node) (m n : Node) (lt : m.number < n.number) where
   pub stage_edge : by_stages m n ≡ true → edge ns m n ≡ true
   unfolding edge
-  stage_edge is = rw (lt-ltb m.number n.number lt) (second_of (by_host m n) (by_stages m n) (by_signal m n) (by_all_commands m n) (pairs m.act n.act) (by_semaphore (earlier n ns) m n) is)
+  stage_edge is = rw (lt-ltb m.number n.number lt) (second_of_six (by_host m n) (by_stages m n) (by_signal m n) (by_all_commands m n) (pairs m.act n.act) (by_semaphore (earlier n ns) m n) is)
 
   pub order_edge : by_signal m n ≡ true → edge ns m n ≡ true
   unfolding edge
-  order_edge is = rw (lt-ltb m.number n.number lt) (third (by_host m n) (by_stages m n) (by_signal m n) (by_all_commands m n) (pairs m.act n.act) (by_semaphore (earlier n ns) m n) is)
+  order_edge is = rw (lt-ltb m.number n.number lt) (third_of_six (by_host m n) (by_stages m n) (by_signal m n) (by_all_commands m n) (pairs m.act n.act) (by_semaphore (earlier n ns) m n) is)
 
   pub semaphore_edge : by_semaphore (earlier n ns) m n ≡ true → edge ns m n ≡ true
   unfolding edge
-  semaphore_edge is = rw (lt-ltb m.number n.number lt) (last_of (by_host m n) (by_stages m n) (by_signal m n) (by_all_commands m n) (pairs m.act n.act) (by_semaphore (earlier n ns) m n) is)
+  semaphore_edge is = rw (lt-ltb m.number n.number lt) (last_of_six (by_host m n) (by_stages m n) (by_signal m n) (by_all_commands m n) (pairs m.act n.act) (by_semaphore (earlier n ns) m n) is)
 
+-- all nodes have numbers below one that is no less than their count
 pub all_below : (k : ℕ) (ns : List Node) → IsNumbered ns → length ns ≤ k → filter (λ m. nat_lt m.number k) ns ≡ ns
 all_below k [] numbers le = refl
 all_below k (n ∷ ns) numbers le = let here = numbers.0 in rw (lt-ltb n.number k (omega (arith, here, le)), all_below k ns numbers.1 (omega (arith, le))) refl
@@ -127,28 +97,35 @@ module _ (n : Node) (ns : List Node) (new : n.number ≡ length ns) (numbers : I
   freed_from (Sent c e f) = inl (sym (edge-new n ns new numbers w) ∙ e, f)
   freed_from (Passed {m = m} f c e) = let less = edge_forward (n ∷ ns) m n e in inr (m, freed_was n ns new numbers w m f (omega (arith, less, new)), sym (edge-new n ns new numbers m) ∙ e)
 
+  -- a write comes to a new node from an older one
   pub freed_by : (m : Node) → Freed ns w m → edge ns m n ≡ true → Freed (n ∷ ns) w n
   freed_by m f e = Passed (freed_stays n ns new numbers w m f) (contains-head n ns) (edge-new n ns new numbers m ∙ e)
 
+  -- or from the command itself
   pub freed_sent : edge ns w n ≡ true → frees n.act ≡ true → Freed (n ∷ ns) w n
   freed_sent e f = Sent (contains-head n ns) (edge-new n ns new numbers w ∙ e) f
 
+  -- where a write that is shown at a new node comes from
   pub shown_from : Shown (n ∷ ns) w n → ((q : Node) × Freed ns w q × (leads_to_reads q.act ≡ true) × (edge ns q n ≡ true)) ⊎ ((m : Node) × Shown ns w m × (edge ns m n ≡ true))
   shown_from (Begun {q = q} f l c e) = let less = edge_forward (n ∷ ns) q n e in inl (q, freed_was n ns new numbers w q f (omega (arith, less, new)), l, sym (edge-new n ns new numbers q) ∙ e)
   shown_from (Carried {m = m} s c e) = let less = edge_forward (n ∷ ns) m n e in inr (m, shown_was n ns new numbers w m s (omega (arith, less, new)), sym (edge-new n ns new numbers m) ∙ e)
 
+  -- from a node where it is shown
   pub shown_by : (m : Node) → Shown ns w m → edge ns m n ≡ true → Shown (n ∷ ns) w n
   shown_by m s e = Carried (shown_stays n ns new numbers w m s) (contains-head n ns) (edge-new n ns new numbers m ∙ e)
 
+  -- or from an element that leads to the host's reads
   pub shown_begins : (q : Node) → Freed ns w q → leads_to_reads q.act ≡ true → edge ns q n ≡ true → Shown (n ∷ ns) w n
   shown_begins q f l e = Begun (freed_stays n ns new numbers w q f) l (contains-head n ns) (edge-new n ns new numbers q ∙ e)
 
+  -- a node that fails a test leaves its threshold
   pub keeps : (test : Act → Bool) (a : ℕ) → test n.act ≡ false → Via ns w test ↔ (j < a) → Via (n ∷ ns) w test ↔ (j < a)
   keeps test a none is = (λ v. elim (via_splits n ns new numbers w test v) [ inl old ↦ is.0 old | inr here ↦ clash here.0 none ], λ lt. via_stays n ns new numbers w test (is.1 lt))
 
   pub keeps_shown : (test : Act → Bool) (a : ℕ) → test n.act ≡ false → ShownVia ns w test ↔ (j < a) → ShownVia (n ∷ ns) w test ↔ (j < a)
   keeps_shown test a none is = (λ v. elim (shown_splits n ns new numbers w test v) [ inl old ↦ is.0 old | inr here ↦ clash here.0 none ], λ lt. shown_via_stays n ns new numbers w test (is.1 lt))
 
+  -- and one that passes it raises it
   pub joins : (test : Act → Bool) (a b : ℕ) → Via ns w test ↔ (j < a) → Freed (n ∷ ns) w n ↔ (j < b) → Via (n ∷ ns) w test ↔ (j < max a (counted (test n.act) b))
   joins test a b is here = counted_iff j a b (test n.act) is (λ e. here) (via_splits n ns new numbers w test) (via_stays n ns new numbers w test) (via_new n ns new numbers w test)
 

@@ -2,7 +2,7 @@
 use Rattle.std.proofs.Common.{◌≡◌, ◌^◌, ◌<◌, ◌≤◌, ◌+◌, ◌-◌, ℕ, zero, suc, List, [], ◌∷◌, map, length, Bool, true, false, ◌&&◌, ◌==◌, nat_lt, nat_le, cond, refl, ap, sym, ◌∙◌, subst, arith, Option, Some, None, eq-eqb, eqb}
 use Rattle.std.specs.Prelude.{is_none, ◌%◌, if◌then◌else◌}
 use Rattle.std.specs.List.{list_any, list_all, find, fold, range_with_len}
-use Rattle.std.proofs.lemmas.Bool.{eqb-true, eqb-false, ltb-true, leb-true, le-leb, lt-ltb}
+use Rattle.std.proofs.lemmas.Bool.{eqb-true, eqb-false, ltb-true, leb-true, le-leb, lt-ltb, and_parts}
 use Rattle.vk_model.specs.declared.command.Cmd.{Cmd}
 use Rattle.vk_model.specs.declared.command.Cmd.TheVariants as cmd
 use Rattle.vk_model.specs.declared.command.Length.{Length}
@@ -15,14 +15,13 @@ use Rattle.vk_model.specs.Ownership.{family_of}
 use Rattle.vk_model.specs.Objects.{is_exclusive}
 use Rattle.vk_model.specs.Effect.{world, after_deed, after_command, after_element, moved, used, is_other, set_owner, without}
 use Rattle.vk_model.specs.Point.{Past, Point, Deed, Host, Run, host_of}
-use Rattle.vk_validate.specs.Served.{is_served_deed, is_memory}
 use Rattle.vk_model.specs.RulesBytes.{breaks_read_undefined}
+use Rattle.vk_model.specs.Fault.{newest}
+use Rattle.vk_validate.specs.Served.{is_served_deed, is_memory}
 use Rattle.vk_validate.specs.Tests.{reads_unwritten}
 use Rattle.vk_validate.specs.Tabled.{writes_byte, last_writer}
-use Rattle.vk_validate.proofs.Forms.{entry_cases, command_cases, deed_cases}
-use Rattle.vk_validate.proofs.Pasts.{and-true}
-use Rattle.vk_model.specs.Fault.{newest}
 use Rattle.vk_validate.specs.Cleared.{IsCleared}
+use Rattle.vk_validate.proofs.Forms.{entry_cases, command_cases, deed_cases}
 use Rattle.vk_validate.proofs.Plain.{IsPlain, Placed}
 use Rattle.vk_validate.proofs.Reach.{fills_low, served_of}
 use Rattle.vk_validate.proofs.Acts.{last_queue}
@@ -98,7 +97,7 @@ known_next past p cleared plain known = let h = by_deed p.deed cleared.0.served 
     beside : (c k : ℕ) → (b == c && within o size k && nat_lt k (2 ^ 64)) ≡ false → (j : ℕ) → j < size → (t : Bool) → same_byte (in_buffer b (o + j)) (in_buffer c k) ≡ t → t ≡ false
     beside c k e j high false h = refl
     beside c k e j high true h =
-        let both = and-true (b == c) ((o + j) == k) h in
+        let both = and_parts (b == c) ((o + j) == k) h in
         let is_k : o + j ≡ k = eqb-true (o + j) k both.1 in
         let inside : within o size k ≡ true = rw (le-leb o k (omega arith), lt-ltb k (o + size) (omega arith)) refl in
         let bad : true ≡ false = rw (both.0, inside, lt-ltb k (2 ^ 64) (low k inside)) at e in cc
@@ -107,8 +106,8 @@ known_next past p cleared plain known = let h = by_deed p.deed cleared.0.served 
         → is_none (moved (used past 0 b (world past)).value (find (λ m. same_byte m.to (in_buffer c k)) (map (λ j. move (in_buffer b (o + j)) (Value (byte_of w (j % 4)))) (below size))) (in_buffer c k)) ≡ is_none (if t then Some (length past) else last_writer past c k)
     by_test c k false e = ap is_none (missed (used past 0 b (world past)).value (λ j. in_buffer b (o + j)) (λ j. byte_of w (j % 4)) (in_buffer c k) 0 size (λ j from high. beside c k e j (omega arith) (same_byte (in_buffer b (o + j)) (in_buffer c k)) refl) ∙ kept_owners.1 (in_buffer c k)) ∙ known.defined c k
     by_test c k true e =
-        let both = and-true (b == c) (within o size k) (and-true (b == c && within o size k) (nat_lt k (2 ^ 64)) e).0 in
-        let inside = and-true (nat_le o k) (nat_lt k (o + size)) both.1 in
+        let both = and_parts (b == c) (within o size k) (and_parts (b == c && within o size k) (nat_lt k (2 ^ 64)) e).0 in
+        let inside = and_parts (nat_le o k) (nat_lt k (o + size)) both.1 in
         let low : o ≤ k = leb-true o k inside.0 in
         let high : k < o + size = ltb-true k (o + size) inside.1 in
         let back : o + (k - o) ≡ k = omega arith in
@@ -127,6 +126,7 @@ known_next past p cleared plain known = let h = by_deed p.deed cleared.0.served 
       (command_cases (λ c. P (Run c)) (λ b o n w is placed. on_0 (cmd.Fill b o n w) placed (fill b o n w is)) (λ es all is placed. on_0 (cmd.Barrier es) placed (barrier es all)))
       (λ s is placed. same)
 
+-- a cleared past in plain order is known
 pub known : (past : Past) → IsCleared past → IsPlain past → IsKnown past
 known [] cleared plain = record { owned = λ r. refl; defined = λ b k. refl }
 known (p ∷ past) cleared plain = known_next past p cleared plain (known past cleared.1 plain.1)
@@ -136,6 +136,7 @@ undefined_bytes : (past : Past) → IsKnown past → (b o : ℕ) (ks : List ℕ)
 undefined_bytes past known b o [] = refl
 undefined_bytes past known b o (k ∷ ks) = rw (known.defined b (o + k), undefined_bytes past known b o ks) refl
 
+-- READ_UNDEFINED finds what the test finds
 pub read_undefined_is : (past : Past) (p : Point) → IsCleared past → is_served_deed p.deed ≡ true → IsPlain past → breaks_read_undefined past p ≡ reads_unwritten past p.deed
 read_undefined_is past p cleared now plain =
     let P : Deed → Type 0 = λ d. breaks_read_undefined past (record p { deed = d }) ≡ reads_unwritten past d in

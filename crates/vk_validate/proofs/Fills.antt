@@ -10,10 +10,6 @@ use Rattle.vk_model.specs.Point.{Past}
 use Rattle.vk_model.specs.Moves.{buffer_size}
 use Rattle.vk_model.specs.RulesRanges.{command_past, ends_past}
 
-or-false : (b : Bool) → (b || false) ≡ b
-or-false true = refl
-or-false false = refl
-
 whole_past : (size o : ℕ) → (nat_lt size (o + (size - o) / 4 * 4) || nat_le size o) ≡ nat_le size o
 whole_past size o = let le : (size - o) / 4 * 4 ≤ size - o = div-mul-le_self (size - o) 4 in grind (arith, nat_tests)
 

@@ -1,7 +1,7 @@
 -- The forms of points that are served, one by one.
-use Rattle.std.proofs.Common.{◌≡◌, ℕ, List, Bool, true, false, not, ◌==◌, refl, sym, subst}
+use Rattle.std.proofs.Common.{◌≡◌, ℕ, List, true, false, ◌==◌, refl, sym, subst}
 use Rattle.std.specs.List.{list_all}
-use Rattle.std.proofs.lemmas.Bool.{eqb-true}
+use Rattle.std.proofs.lemmas.Bool.{eqb-true, not-true}
 use Rattle.vk_model.specs.declared.command.Cmd.{Cmd}
 use Rattle.vk_model.specs.declared.command.Cmd.TheVariants as cmd
 use Rattle.vk_model.specs.declared.command.Element.{Element}
@@ -16,10 +16,6 @@ use Rattle.vk_model.specs.declared.resource.Place.{Place}
 use Rattle.vk_model.specs.declared.resource.Place.TheVariants as place
 use Rattle.vk_model.specs.Point.{Deed, Host, Wait, Run, Signal}
 use Rattle.vk_validate.specs.Served.{is_served_deed, is_served_entry, is_served_place, is_served_command, is_memory}
-
-pub not-true : (b : Bool) → not b ≡ true → b ≡ false
-not-true true e = absurd cc
-not-true false e = refl
 
 module _ (P : Entry → Type 0)
     (buffer : (i : ℕ) (b : BufferInfo) (t : ℕ) → b.place ≡ place.Dedicated t → (t == 2) ≡ false → P (entry.Buffer i b))

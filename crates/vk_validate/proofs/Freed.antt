@@ -8,7 +8,8 @@ use Rattle.vk_model.specs.Edge.{edge}
 use Rattle.vk_model.specs.Before.{IsNumbered}
 use Rattle.vk_model.specs.Seen.{Read, Write, command_mask, host_mask}
 use Rattle.vk_validate.specs.Standing.{on_transfers, on_host}
-use Rattle.vk_validate.proofs.Growth.{contains-cons, contains-tail, number_below, edge-older}
+use Rattle.vk_validate.proofs.Members.{contains-cons, contains-tail}
+use Rattle.vk_validate.proofs.Growth.{number_below, edge-older}
 use Rattle.vk_validate.proofs.Paths.{edge_forward, in_rest}
 
 -- an act makes earlier commands' writes available
@@ -44,6 +45,7 @@ pub data Shown (ns : List Node) (w : Node) : Node → Type 0 where
   Begun : {q n : Node} → Freed ns w q → leads_to_reads q.act ≡ true → Contains ns n → edge ns q n ≡ true → Shown ns w n
   Carried : {m n : Node} → Shown ns w m → Contains ns n → edge ns m n ≡ true → Shown ns w n
 
+-- where a write is available or shown stands among the nodes
 pub freed_stands : (ns : List Node) (w n : Node) → Freed ns w n → Contains ns n
 freed_stands ns w n (Sent c e f) = c
 freed_stands ns w n (Passed f c e) = c
@@ -52,6 +54,7 @@ pub shown_stands : (ns : List Node) (w n : Node) → Shown ns w n → Contains n
 shown_stands ns w n (Begun f l c e) = c
 shown_stands ns w n (Carried s c e) = c
 
+-- and comes after the command
 pub freed_later : (ns : List Node) (w n : Node) → Freed ns w n → w.number < n.number
 freed_later ns w n (Sent c e f) = edge_forward ns w n e
 freed_later ns w n (Passed {m = m} f c e) = let a = freed_later ns w m f in let b = edge_forward ns m n e in omega (arith, a, b)
@@ -84,10 +87,12 @@ module _ (n : Node) (ns : List Node) (new : n.number ≡ length ns) (numbers : I
   lift_edge : (a b : Node) → Contains ns b → edge ns a b ≡ true → edge (n ∷ ns) a b ≡ true
   lift_edge a b c e = edge-older n ns new a b (number_below ns numbers b c) ∙ e
 
+  -- what is available or shown at a node stays so
   pub freed_stays : (m : Node) → Freed ns w m → Freed (n ∷ ns) w m
   freed_stays m (Sent c e f) = Sent (contains-tail n ns m c) (lift_edge w m c e) f
   freed_stays m (Passed {m = k} f c e) = Passed (freed_stays k f) (contains-tail n ns m c) (lift_edge k m c e)
 
+  -- and was so before the new node came
   pub freed_was : (m : Node) → Freed (n ∷ ns) w m → m.number < length ns → Freed ns w m
   freed_was m (Sent c e f) lt = Sent (in_rest n ns new numbers m c lt) (sym (edge-older n ns new w m lt) ∙ e) f
   freed_was m (Passed {m = k} f c e) lt =
@@ -113,12 +118,15 @@ module _ (n : Node) (ns : List Node) (new : n.number ≡ length ns) (numbers : I
     | inr older ↦ inl (record { node = v.node; passes = v.passes; freed = freed_was v.node v.freed (number_below ns numbers v.node older) })
   ]
 
+  -- what passed before passes still
   pub via_stays : (test : Act → Bool) → Via ns w test → Via (n ∷ ns) w test
   via_stays test v = record { node = v.node; passes = v.passes; freed = freed_stays v.node v.freed }
 
+  -- and so does the new node, where it passes and the write is available
   pub via_new : (test : Act → Bool) → test n.act ≡ true → Freed (n ∷ ns) w n → Via (n ∷ ns) w test
   via_new test is f = record { node = n; passes = is; freed = f }
 
+  -- the same of what is shown
   pub shown_splits : (test : Act → Bool) → ShownVia (n ∷ ns) w test → ShownVia ns w test ⊎ ((test n.act ≡ true) × Shown (n ∷ ns) w n)
   shown_splits test v = elim (contains-cons n ns v.node (shown_stands (n ∷ ns) w v.node v.shown)) [
     | inl same ↦ inr (ap (λ (k : Node). test k.act) same ∙ v.passes, subst (λ (k : Node). Shown (n ∷ ns) w k) (sym same) v.shown)

@@ -1,9 +1,9 @@
--- Hazards between the points of served forms: which accesses there are, and HAZARD_WAR.
+-- What acts of served forms read and write, and that none of them breaks HAZARD_WAR.
 use Rattle.std.proofs.Common.{◌≡◌, ◌≤◌, ◌+◌, ℕ, List, [], ◌∷◌, map, length, Bool, true, false, not, ◌&&◌, refl, ap, sym, subst, arith, inl, inr}
 use Rattle.std.specs.Prelude.{Contains, ◌%◌}
 use Rattle.std.specs.List.{list_all}
-use Rattle.std.proofs.lemmas.Bool.{le-ltb}
-use Rattle.vk_model.specs.declared.command.Cmd.{Cmd}
+use Rattle.std.proofs.lemmas.Bool.{le-ltb, not-true}
+use Rattle.std.proofs.Math.Bool.{and-false}
 use Rattle.vk_model.specs.declared.command.Cmd.TheVariants as cmd
 use Rattle.vk_model.specs.declared.command.Length.{Length}
 use Rattle.vk_model.specs.declared.command.Element.{Element}
@@ -13,50 +13,20 @@ use Rattle.vk_model.specs.World.{Byte, in_buffer}
 use Rattle.vk_model.specs.Words.{below, byte_of}
 use Rattle.vk_model.specs.Moves.{Move, moves, Value, move, fill_size, buffer_size}
 use Rattle.vk_model.specs.Point.{Past, Point, Deed, Host, Run, Signal, host_of}
-use Rattle.vk_model.specs.Node.{Node, Act, Hosts, Waits, Signals, Runs, Depends, Barrier, acts, nodes, with_acts}
-use Rattle.vk_model.specs.Edge.{is_host}
+use Rattle.vk_model.specs.Node.{Node, Act, Hosts, Waits, Signals, Runs, Depends, Barrier, acts, nodes, with_acts, SetOf, AwaitOf}
+use Rattle.vk_model.specs.Edge.{is_host, is_command}
 use Rattle.vk_model.specs.Before.{before}
 use Rattle.vk_model.specs.Access.{hazard, war, share, reads, writes, precedes, host_writes, writes_of, reads_of, origins, targets, bytes_of}
 use Rattle.vk_model.specs.RulesBytes.{breaks_hazard_war}
-use Rattle.vk_validate.specs.Served.{is_served, is_served_deed, is_served_entry, is_memory}
-use Rattle.vk_validate.proofs.Forms.{not-true, entry_cases, command_cases, deed_cases}
-use Rattle.vk_validate.proofs.Pasts.{and-true, served-cons}
-use Rattle.vk_validate.proofs.Judged.{any_none}
+use Rattle.vk_validate.specs.Served.{is_served, is_served_deed, is_served_entry}
+use Rattle.vk_validate.proofs.Members.{none_in, contains-cons, contains-head, contains-tail, all_passes, none_passes_any}
+use Rattle.vk_validate.proofs.Forms.{entry_cases, command_cases, deed_cases}
 use Rattle.vk_validate.proofs.Plain.{IsPlain, Placed, LastSubmit}
-use Rattle.vk_validate.proofs.Growth.{contains-cons, contains-head, contains-tail, none_passes_any}
 use Rattle.vk_validate.proofs.NextNodes.{lined, next_nodes-lined}
-use Rattle.vk_validate.proofs.Acts.{with_member, none_in, all_passes}
+use Rattle.vk_validate.proofs.Acts.{is_served_act, served_acts, served_node}
 use Rattle.vk_validate.proofs.Ordered.{host_before}
 
--- ---- acts of served forms
-
-abbrev pub is_fill : Cmd → Bool
-is_fill (cmd.Fill b o n w) = true
-is_fill _ = false
-
-abbrev pub is_served_act : Act → Bool
-is_served_act (Hosts x) = is_served_entry x
-is_served_act (Waits s) = false
-is_served_act (Signals s) = true
-is_served_act (Runs c) = is_fill c
-is_served_act (Depends r e) = is_memory e
-
-pub served_acts : (d : Deed) → is_served_deed d ≡ true → list_all is_served_act (acts d) ≡ true
-served_acts = let P : Deed → Type 0 = λ d. list_all is_served_act (acts d) ≡ true in
-    deed_cases P (λ x h. rw h refl) (command_cases (λ c. P (Run c)) (λ b o n w. refl) (λ es all. elements es all)) (λ s. refl)
-  where
-    elements : (es : List Element) → list_all is_memory es ≡ true → list_all is_served_act (map (Depends Barrier) es) ≡ true
-    elements [] all = refl
-    elements (e ∷ es) all = let h = and-true (is_memory e) (list_all is_memory es) all in rw (h.0) (elements es h.1)
-
-pub served_node : (past : Past) → is_served past ≡ true → (n : Node) → Contains (nodes past) n → is_served_act n.act ≡ true
-served_node [] served n c = absurd (none_in n c)
-served_node (p ∷ past) served n c = let s = served-cons p past served in elim (with_member p (acts p.deed) (nodes past) n c) [
-  | inl older ↦ served_node past s.1 n older
-  | inr new ↦ all_passes is_served_act (acts p.deed) n.act (served_acts p.deed s.0) new.1
-]
-
--- ---- what they read and write
+-- ---- what acts of served forms read and write
 
 values_only : (b o : ℕ) (f : ℕ → ℕ) (ks : List ℕ) → origins (map (λ k. move (in_buffer b (o + k)) (Value (f k))) ks) ≡ []
 values_only b o f [] = refl
@@ -67,9 +37,11 @@ pub reads_none : (past : Past) (q : ℕ) (a : Act) → is_served_act a ≡ true 
 reads_none past q (Hosts x) h host = absurd cc
 reads_none past q (Waits s) h host = refl
 reads_none past q (Signals s) h host = refl
-reads_none past q (Depends r (element.Memory d)) h host = refl
-reads_none past q (Depends r (element.Buffer e)) h host = absurd cc
-reads_none past q (Depends r (element.Image e)) h host = absurd cc
+reads_none past q (Depends Barrier (element.Memory d)) h host = refl
+reads_none past q (Depends Barrier (element.Buffer e)) h host = absurd cc
+reads_none past q (Depends Barrier (element.Image e)) h host = absurd cc
+reads_none past q (Depends (SetOf v l) e) h host = absurd cc
+reads_none past q (Depends (AwaitOf v l) e) h host = absurd cc
 reads_none past q (Runs (cmd.Fill b o n w)) h host = values_only b o (λ k. byte_of w (k % 4)) (below (fill_size (buffer_size past b) o n))
 reads_none past q (Runs (cmd.Update b o bytes)) h host = absurd cc
 reads_none past q (Runs (cmd.Copy a b gs)) h host = absurd cc
@@ -85,38 +57,35 @@ to-map : {A : Type 0} (f : A → Move) (xs : List A) → targets (map f xs) ≡ 
 to-map f [] = refl
 to-map f (x ∷ xs) = ap (λ (bs : List Byte). (f x).to ∷ bs) (to-map f xs)
 
+-- a fill writes the bytes of its range
 pub fill-targets : (past : Past) (b o : ℕ) (n : Length) (w : ℕ) → targets (moves past (cmd.Fill b o n w)) ≡ bytes_of b o (fill_size (buffer_size past b) o n)
 fill-targets past b o n w = to-map _ (below (fill_size (buffer_size past b) o n))
 
 host_writes_none : (x : Entry) → is_served_entry x ≡ true → host_writes x ≡ []
 host_writes_none = let P : Entry → Type 0 = λ x. host_writes x ≡ [] in entry_cases P (λ i b t is other. refl) (λ b. refl) (λ b o n. refl) (λ i v. refl) (λ ws. refl) (λ bs. refl)
 
-abbrev pub runs : Act → Bool
-runs (Runs c) = true
-runs _ = false
-
 -- and no act but a command writes
-pub writes_none : (past : Past) (q : ℕ) (a : Act) → is_served_act a ≡ true → runs a ≡ false → writes_of past q a ≡ []
+pub writes_none : (past : Past) (q : ℕ) (a : Act) → is_served_act a ≡ true → is_command a ≡ false → writes_of past q a ≡ []
 writes_none past q (Hosts x) h is = host_writes_none x h
 writes_none past q (Waits s) h is = refl
 writes_none past q (Signals s) h is = refl
 writes_none past q (Runs c) h is = absurd cc
-writes_none past q (Depends r (element.Memory d)) h is = refl
-writes_none past q (Depends r (element.Buffer e)) h is = absurd cc
-writes_none past q (Depends r (element.Image e)) h is = absurd cc
+writes_none past q (Depends Barrier (element.Memory d)) h is = refl
+writes_none past q (Depends Barrier (element.Buffer e)) h is = absurd cc
+writes_none past q (Depends Barrier (element.Image e)) h is = absurd cc
+writes_none past q (Depends (SetOf v l) e) h is = absurd cc
+writes_none past q (Depends (AwaitOf v l) e) h is = absurd cc
 
 share_none : (bs : List Byte) → share bs [] ≡ false
-share_none bs = any_none _ (λ b. refl) bs
+share_none bs = none_passes_any _ bs (λ b c. refl)
 
 -- ---- hazards
 
-pub and_false : (b : Bool) → (b && false) ≡ false
-and_false true = refl
-and_false false = refl
-
+-- no hazard, where no pair of a new node and another is one
 pub hazard_none : (kind : Past → Node → Node → Bool) (past : Past) (p : Point) → ((y : Node) → Contains (lined p (length (nodes past)) (acts p.deed)) y → (x : Node) → Contains (nodes (p ∷ past)) x → (precedes x y && kind (p ∷ past) x y) ≡ false) → hazard kind past p ≡ false
 hazard_none kind past p none = rw (next_nodes-lined past p) (none_passes_any _ (lined p (length (nodes past)) (acts p.deed)) (λ y cy. none_passes_any _ (nodes (p ∷ past)) (λ x cx. none y cy x cx)))
 
+-- a node of a point that comes next has one of its acts, and a new number
 pub lined_act : (p : Point) (k : ℕ) (more : List Act) (y : Node) → Contains (lined p k more) y → Contains more y.act × (y.point ≡ p) × (k ≤ y.number)
 lined_act p k [] y c = absurd (none_in y c)
 lined_act p k (a ∷ more) y c = elim (contains-cons (record { number = k; point = p; act = a }) (lined p (k + 1) more) y c) [
@@ -124,21 +93,24 @@ lined_act p k (a ∷ more) y c = elim (contains-cons (record { number = k; point
   | inr later ↦ (let h = lined_act p (k + 1) more y later in (contains-tail a more y.act h.0, h.1, omega (arith, h.2)))
 ]
 
+-- the elements of a barrier are no commands
+pub idle_elements : (es : List Element) → list_all (λ a. not (is_command a)) (map (Depends Barrier) es) ≡ true
+idle_elements [] = refl
+idle_elements (e ∷ es) = idle_elements es
+
+-- no point of a served form breaks HAZARD_WAR
 pub no_hazard_war : (past : Past) (p : Point) → is_served past ≡ true → is_served_deed p.deed ≡ true → IsPlain (p ∷ past) → breaks_hazard_war past p ≡ false
 no_hazard_war past p served now plain = hazard_none war past p (by_deed p.deed now refl plain.0) where
-  pair : Node → Node → Type 0
-  pair y x = (precedes x y && war (p ∷ past) x y) ≡ false
-
   unwritten : (y x : Node) → writes (p ∷ past) y ≡ [] → (precedes x y && war (p ∷ past) x y) ≡ false
-  unwritten y x e = rw (e, share_none (reads (p ∷ past) x)) (and_false (precedes x y))
+  unwritten y x e = rw (e, share_none (reads (p ∷ past) x)) (and-false (precedes x y))
 
   unread : (y x : Node) → reads (p ∷ past) x ≡ [] → (precedes x y && war (p ∷ past) x y) ≡ false
-  unread y x e = rw e (and_false (precedes x y))
+  unread y x e = rw e (and-false (precedes x y))
 
   after : (y x : Node) → before (nodes (p ∷ past)) x y ≡ true → (precedes x y && war (p ∷ past) x y) ≡ false
-  after y x e = rw (e, and_false (share (reads (p ∷ past) x) (writes (p ∷ past) y))) (and_false (precedes x y))
+  after y x e = rw (e, and-false (share (reads (p ∷ past) x) (writes (p ∷ past) y))) (and-false (precedes x y))
 
-  by_writer : (y : Node) → is_served_act y.act ≡ true → runs y.act ≡ false → (x : Node) → (precedes x y && war (p ∷ past) x y) ≡ false
+  by_writer : (y : Node) → is_served_act y.act ≡ true → is_command y.act ≡ false → (x : Node) → (precedes x y && war (p ∷ past) x y) ≡ false
   by_writer y h is x = unwritten y x (writes_none (p ∷ past) y.point.queue y.act h is)
 
   fill : (b o : ℕ) (n : Length) (w : ℕ) → p.deed ≡ Run (cmd.Fill b o n w) → LastSubmit p.entry p.queue past → (x : Node) → Contains (nodes (p ∷ past)) x → (precedes x (record { number = length (nodes past); point = p; act = Runs (cmd.Fill b o n w) }) && war (p ∷ past) x (record { number = length (nodes past); point = p; act = Runs (cmd.Fill b o n w) })) ≡ false
@@ -153,14 +125,10 @@ no_hazard_war past p served now plain = hazard_none war past p (by_deed p.deed n
     by_host true host older = after y x (host_before past p y served last refl refl (subst (λ (d : Deed). Contains (with_acts p (acts d) (nodes past)) y) (sym is) (contains-head y (nodes past))) x older host)
     by_host false host older = unread y x (reads_none (p ∷ past) x.point.queue x.act (served_node past served x older) host)
 
-  quiet : (d : Deed) → is_served_deed d ≡ true → list_all (λ a. not (runs a)) (acts d) ≡ true → (y : Node) → Contains (lined p (length (nodes past)) (acts d)) y → (x : Node) → (precedes x y && war (p ∷ past) x y) ≡ false
+  quiet : (d : Deed) → is_served_deed d ≡ true → list_all (λ a. not (is_command a)) (acts d) ≡ true → (y : Node) → Contains (lined p (length (nodes past)) (acts d)) y → (x : Node) → (precedes x y && war (p ∷ past) x y) ≡ false
   quiet d h none y cy x =
       let m = lined_act p (length (nodes past)) (acts d) y cy in
-      by_writer y (all_passes is_served_act (acts d) y.act (served_acts d h) m.0) (not-true (runs y.act) (all_passes (λ a. not (runs a)) (acts d) y.act none m.0)) x
-
-  elements : (es : List Element) → list_all (λ a. not (runs a)) (map (Depends Barrier) es) ≡ true
-  elements [] = refl
-  elements (e ∷ es) = elements es
+      by_writer y (all_passes is_served_act (acts d) y.act (served_acts d h) m.0) (not-true (is_command y.act) (all_passes (λ a. not (is_command a)) (acts d) y.act none m.0)) x
 
   by_deed : (d : Deed) → is_served_deed d ≡ true → p.deed ≡ d → Placed (host_of d) p past → (y : Node) → Contains (lined p (length (nodes past)) (acts d)) y → (x : Node) → Contains (nodes (p ∷ past)) x → (precedes x y && war (p ∷ past) x y) ≡ false
   by_deed = let P : Deed → Type 0 = λ d. p.deed ≡ d → Placed (host_of d) p past → (y : Node) → Contains (lined p (length (nodes past)) (acts d)) y → (x : Node) → Contains (nodes (p ∷ past)) x → (precedes x y && war (p ∷ past) x y) ≡ false in
@@ -171,5 +139,5 @@ no_hazard_war past p served now plain = hazard_none war past p (by_deed p.deed n
         | inl same ↦ subst (λ (z : Node). (precedes x z && war (p ∷ past) x z) ≡ false) same (fill b o n w is placed x cx)
         | inr later ↦ absurd (none_in y later)
       ])
-      (λ es all is placed y cy x cx. quiet (Run (cmd.Barrier es)) all (elements es) y cy x))
+      (λ es all is placed y cy x cx. quiet (Run (cmd.Barrier es)) all (idle_elements es) y cy x))
       (λ s is placed y cy x cx. quiet (Signal s) refl refl y cy x)

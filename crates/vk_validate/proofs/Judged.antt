@@ -4,6 +4,8 @@ use Rattle.std.specs.Prelude.{is_some, option_and_then, count_by}
 use Rattle.std.specs.List.{list_any, list_all, filter, filter_map}
 use Rattle.std.proofs.lemmas.Bool.Decides.{nat_tests}
 use Rattle.std.proofs.lemmas.List.Sums.{sum_by-cons}
+use Rattle.std.proofs.lemmas.Bool.{and_parts}
+use Rattle.std.proofs.Math.Bool.{or-false}
 use Rattle.vk_model.specs.declared.entry.Entry.{Entry}
 use Rattle.vk_model.specs.Words.{holds, has_bits}
 use Rattle.vk_model.specs.World.{resource_at}
@@ -17,13 +19,11 @@ use Rattle.vk_model.specs.RulesPasses.{some_pass, in_pass, breaks_pass_state, br
 use Rattle.vk_validate.specs.Served.{is_served, is_served_deed, is_served_entry}
 use Rattle.vk_validate.specs.Tests.{is_on_type_0, lacks_usage, reads_unmapped, maps_local}
 use Rattle.vk_validate.specs.Tabled.{was_mapped}
+use Rattle.vk_validate.proofs.Members.{none_passes_any}
+use Rattle.vk_validate.proofs.Truths.{or-false-false}
 use Rattle.vk_validate.proofs.Barriers.{memory_any}
 use Rattle.vk_validate.proofs.Forms.{entry_cases, command_cases, deed_cases}
-use Rattle.vk_validate.proofs.Pasts.{and-true, served_entries, made_served, live_made, none_bound, none_moves, maps_itself}
-
-pub any_none : {A : Type 0} (f : A → Bool) → ((x : A) → f x ≡ false) → (xs : List A) → list_any f xs ≡ false
-any_none f none [] = refl
-any_none f none (x ∷ xs) = rw (none x) (any_none f none xs)
+use Rattle.vk_validate.proofs.Pasts.{served_entries, made_served, live_made, none_bound, none_moves, maps_itself}
 
 filter_none : {A : Type 0} (f : A → Bool) → ((x : A) → f x ≡ false) → (xs : List A) → filter f xs ≡ []
 filter_none f none [] = refl
@@ -39,15 +39,7 @@ count_any f g same (x ∷ xs) = ap (nat_lt 0) (sum_by-cons (λ x. cond (f x) 1 0
 
 count_none : (f : Entry → Bool) → ((x : Entry) → is_served_entry x ≡ true → f x ≡ false) → (xs : List Entry) → list_all is_served_entry xs ≡ true → count_by f xs ≡ 0
 count_none f none [] all = refl
-count_none f none (x ∷ xs) all = let h = and-true (is_served_entry x) (list_all is_served_entry xs) all in sum_by-cons (λ x. cond (f x) 1 0) x xs ∙ ap (λ b. cond b 1 0 + count_by f xs) (none x h.0) ∙ ap (λ n. 0 + n) (count_none f none xs h.1)
-
-holds_then : {A B : Type 0} (f : A → Option B) (o : Option A) → holds o (λ x. is_some (f x)) ≡ is_some (option_and_then f o)
-holds_then f None = refl
-holds_then f (Some x) = refl
-
-or_false : (b : Bool) → (b || false) ≡ b
-or_false true = refl
-or_false false = refl
+count_none f none (x ∷ xs) all = let h = and_parts (is_served_entry x) (list_all is_served_entry xs) all in sum_by-cons (λ x. cond (f x) 1 0) x xs ∙ ap (λ b. cond b 1 0 + count_by f xs) (none x h.0) ∙ ap (λ n. 0 + n) (count_none f none xs h.1)
 
 module _ (past : Past) (served : is_served past ≡ true) where
   -- a served past's mapping counts only the maps
@@ -92,12 +84,8 @@ module _ (past : Past) (served : is_served past ≡ true) where
     pub usage_is : breaks_usage past p ≡ lacks_usage past p.deed
     usage_is =
         let P : Deed → Type 0 = λ d. breaks_usage past (record p { deed = d }) ≡ lacks_usage past d in
-        deed_cases P (entry_cases (λ x. P (Host x)) (λ i b t is other. or_false _) (λ b. refl) (λ b o n. refl) (λ i v. refl) (λ ws. refl) (λ bs. refl))
-        (command_cases (λ c. P (Run c)) (λ b o n w. rw (lacks_destination b) (two _)) (λ es all. memory_any (layout_lacks past) (λ d. refl) es all)) (λ s. refl) p.deed now
-      where
-        two : (b : Bool) → ((b || false) || false) ≡ b
-        two true = refl
-        two false = refl
+        deed_cases P (entry_cases (λ x. P (Host x)) (λ i b t is other. or-false _) (λ b. refl) (λ b o n. refl) (λ i v. refl) (λ ws. refl) (λ bs. refl))
+        (command_cases (λ c. P (Run c)) (λ b o n w. rw (lacks_destination b) (or-false-false _)) (λ es all. memory_any (layout_lacks past) (λ d. refl) es all)) (λ s. refl) p.deed now
 
     pub map_state_is : breaks_map_state past p ≡ reads_unmapped past p.deed
     map_state_is =
@@ -118,4 +106,4 @@ module _ (past : Past) (served : is_served past ≡ true) where
         (command_cases (λ c. P (Run c)) (λ b o n w. refl) (λ es all. refl)) (λ s. refl) p.deed now
 
     pub no_pass_write : breaks_pass_write past p ≡ false
-    no_pass_write = any_none _ (λ a. any_none _ (λ b. none_moves past served (resource_at b)) (writes_of past p.queue a)) (acts p.deed)
+    no_pass_write = none_passes_any _ (acts p.deed) (λ a c. none_passes_any _ (writes_of past p.queue a) (λ b d. none_moves past served (resource_at b)))

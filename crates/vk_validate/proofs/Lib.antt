@@ -1,3 +1,5 @@
+pub mod Truths
+pub mod Members
 pub mod BoundLemmas
 pub mod Batches
 pub mod TableLemmas

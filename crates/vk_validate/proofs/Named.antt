@@ -1,7 +1,8 @@
 -- LIVE_ID on a past of served forms in plain order.
-use Rattle.std.proofs.Common.{◌≡◌, ℕ, List, [], ◌∷◌, map, Bool, true, false, not, ◌&&◌, ◌||◌, ◌==◌, refl, ap, ◌∙◌, Option, Some, None}
+use Rattle.std.proofs.Common.{◌≡◌, ℕ, List, [], ◌∷◌, map, Bool, true, false, not, ◌&&◌, ◌==◌, refl, ap, ◌∙◌, Option, Some, None}
 use Rattle.std.specs.Prelude.{is_some, option_and_then, if◌then◌else◌}
 use Rattle.std.specs.List.{list_any, list_all, flat_map}
+use Rattle.std.proofs.Math.Bool.{or-false}
 use Rattle.vk_model.specs.declared.command.Element.{Element}
 use Rattle.vk_model.specs.declared.command.Element.TheVariants as element
 use Rattle.vk_model.specs.declared.entry.Entry.{Entry}
@@ -12,6 +13,7 @@ use Rattle.vk_model.specs.Objects.{made, live, buffer_in, semaphore_in, initial}
 use Rattle.vk_model.specs.RulesIds.{asked_by_element, is_semaphore, is_dead, breaks_live_id, until}
 use Rattle.vk_validate.specs.Served.{is_served, is_served_deed, is_memory}
 use Rattle.vk_validate.specs.Tests.{names_dead}
+use Rattle.vk_validate.proofs.Truths.{or-false-false}
 use Rattle.vk_validate.proofs.Forms.{entry_cases, command_cases, deed_cases}
 use Rattle.vk_validate.proofs.Pasts.{served-cons, live_made}
 use Rattle.vk_validate.proofs.Plain.{LastSubmit, Placed, made_until}
@@ -33,10 +35,6 @@ memory_asks (element.Memory d ∷ es) all = memory_asks es all
 memory_asks (element.Buffer e ∷ es) all = absurd cc
 memory_asks (element.Image e ∷ es) all = absurd cc
 
-two : (b : Bool) → ((b || false) || false) ≡ b
-two true = refl
-two false = refl
-
 module _ (past : Past) (served : is_served past ≡ true) where
   dead_is : {A : Type 0} (f : Entry → Option A) (i : ℕ) → not (holds (live past i) (λ x. is_some (f x))) ≡ not (is_some (option_and_then f (made past i)))
   dead_is f i = ap not (ap (λ o. holds o (λ x. is_some (f x))) (live_made past served i) ∙ holds_then f (made past i))
@@ -53,11 +51,7 @@ module _ (past : Past) (served : is_served past ≡ true) where
   live_id_is p now placed =
       let P : Deed → Type 0 = λ d. Placed (host_of d) p past → breaks_live_id past (record p { deed = d }) ≡ names_dead past d in
       deed_cases P
-      (entry_cases (λ x. P (Host x)) (λ i b t is other last. rw is refl) (λ b last. two _ ∙ dead_is buffer_in b) (λ b o n last. two _ ∙ dead_is buffer_in b) (λ i v last. refl) (λ ws last. or_false _ ∙ dead_waits ws) (λ bs last. refl))
-      (command_cases (λ c. P (Run c)) (λ b o n w last. two _ ∙ dead_until buffer_in p.entry p.queue b last) (λ es all last. rw (memory_asks es all) refl))
-      (λ s last. two _ ∙ dead_until semaphore_in p.entry p.queue s.semaphore last)
+      (entry_cases (λ x. P (Host x)) (λ i b t is other last. rw is refl) (λ b last. or-false-false _ ∙ dead_is buffer_in b) (λ b o n last. or-false-false _ ∙ dead_is buffer_in b) (λ i v last. refl) (λ ws last. or-false _ ∙ dead_waits ws) (λ bs last. refl))
+      (command_cases (λ c. P (Run c)) (λ b o n w last. or-false-false _ ∙ dead_until buffer_in p.entry p.queue b last) (λ es all last. rw (memory_asks es all) refl))
+      (λ s last. or-false-false _ ∙ dead_until semaphore_in p.entry p.queue s.semaphore last)
       p.deed now placed
-    where
-      or_false : (b : Bool) → (b || false) ≡ b
-      or_false true = refl
-      or_false false = refl

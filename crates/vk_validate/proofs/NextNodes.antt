@@ -15,7 +15,7 @@ abbrev pub lined : Point → ℕ → List Act → List Node
 lined p k [] = []
 lined p k (a ∷ more) = record { number = k; point = p; act = a } ∷ lined p (k + 1) more
 
-pub with_acts-lined : (p : Point) (more : List Act) (ns : List Node) → with_acts p more ns ≡ reverse (lined p (length ns) more) ++ ns
+with_acts-lined : (p : Point) (more : List Act) (ns : List Node) → with_acts p more ns ≡ reverse (lined p (length ns) more) ++ ns
 with_acts-lined p [] ns = refl
 with_acts-lined p (a ∷ more) ns =
     let n : Node = record { number = length ns; point = p; act = a } in
@@ -47,6 +47,7 @@ onto_none : (xs : List Node) → xs ++ [] ≡ xs
 onto_none [] = refl
 onto_none (x ∷ xs) = ap (λ (l : List Node). x ∷ l) (onto_none xs)
 
+-- the nodes of the next point are those of its acts
 pub next_nodes-lined : (past : Past) (p : Point) → next_nodes past p ≡ lined p (length (nodes past)) (acts p.deed)
 next_nodes-lined past p =
     let k : ℕ = length (nodes past) in

@@ -1,8 +1,9 @@
--- SIGNAL_ORDER and HAZARD_WAR: what is always ordered on one queue.
-use Rattle.std.proofs.Common.{◌≡◌, ◌<◌, ◌+◌, ℕ, List, [], ◌∷◌, map, length, Bool, true, false, not, ◌&&◌, ◌||◌, ◌==◌, refl, ap, sym, ◌∙◌, subst, arith, Option, Some, None, inl, inr, ◌⊎◌}
+-- SIGNAL_ORDER, and what else is always ordered on one queue: host entries come before their batches.
+use Rattle.std.proofs.Common.{◌≡◌, ◌<◌, ◌+◌, ℕ, List, [], ◌∷◌, map, length, Bool, true, false, not, ◌&&◌, ◌==◌, refl, ap, sym, ◌∙◌, subst, arith, Option, Some, None, inl, inr, ◌⊎◌}
 use Rattle.std.specs.Prelude.{Contains}
 use Rattle.std.specs.List.{list_any}
-use Rattle.std.proofs.lemmas.Bool.{eq-eqb, lt-ltb}
+use Rattle.std.proofs.lemmas.Bool.{eq-eqb, lt-ltb, or_from, or_right}
+use Rattle.std.proofs.Math.Bool.{and-false}
 use Rattle.vk_model.specs.declared.command.Cmd.TheVariants as cmd
 use Rattle.vk_model.specs.declared.command.Element.{Element}
 use Rattle.vk_model.specs.declared.entry.Entry.{Entry}
@@ -14,48 +15,33 @@ use Rattle.vk_model.specs.Edge.{edge, signaled_by, is_host, is_signal, is_submit
 use Rattle.vk_model.specs.Before.{before, Path, direct}
 use Rattle.vk_model.specs.RulesSync.{same_semaphore, breaks_signal_order}
 use Rattle.vk_validate.specs.Served.{is_served, is_served_deed}
+use Rattle.vk_validate.proofs.Members.{contains-cons, contains-head, all_passes, none_passes_any}
+use Rattle.vk_validate.proofs.Truths.{first_of_six, third_of_six}
 use Rattle.vk_validate.proofs.Forms.{command_cases, deed_cases}
-use Rattle.vk_validate.proofs.Pasts.{served-cons}
-use Rattle.vk_validate.proofs.Judged.{any_none}
+use Rattle.vk_validate.proofs.Pasts.{served-cons, served-next}
 use Rattle.vk_validate.proofs.Plain.{IsPlain, LastSubmit, LastBy, IsSubmitOn}
-use Rattle.vk_validate.proofs.Growth.{contains-cons, contains-head, numbered, number_below, none_passes_any}
-use Rattle.vk_validate.proofs.Paths.{before_of_path, joined}
+use Rattle.vk_validate.proofs.Growth.{numbered, number_below}
+use Rattle.vk_validate.proofs.Paths.{before_of_path, path_joined}
 use Rattle.vk_validate.proofs.NextNodes.{lined, next_nodes-lined}
-use Rattle.vk_validate.proofs.Acts.{with_member, with_keeps, batch_acts, all_passes, on_queue_0, signals_none, signals_by}
-
-pub third : (a b c d e f : Bool) → c ≡ true → (a || b || c || d || e || f) ≡ true
-third true b c d e f h = refl
-third false true c d e f h = refl
-third false false true d e f h = refl
-third false false false d e f h = absurd cc
-
-first : (a b c d e f : Bool) → a ≡ true → (a || b || c || d || e || f) ≡ true
-first true b c d e f h = refl
-first false b c d e f h = absurd cc
+use Rattle.vk_validate.proofs.Acts.{with_member, with_keeps, batch_acts, on_queue_0, signals_none, signals_by}
 
 -- ---- SIGNAL_ORDER
 
-pub signal_edge : (ns : List Node) (m n : Node) → m.number < n.number → is_signal m.act ≡ true → is_signal n.act ≡ true → m.point.queue ≡ n.point.queue → edge ns m n ≡ true
-unfolding edge
-signal_edge ns m n lt sm sn q = rw (lt-ltb m.number n.number lt) (third (by_host m n) (by_stages m n) (by_signal m n) (by_all_commands m n) (pairs m.act n.act) (by_semaphore (earlier n ns) m n) (rw (on_queue m.act sm, on_queue n.act sn, eq-eqb m.point.queue n.point.queue q, sm, sn) refl)) where
-  on_queue : (a : Act) → is_signal a ≡ true → is_host a ≡ false
-  on_queue (Signals s) h = refl
-  on_queue (Hosts x) h = absurd cc
-  on_queue (Waits s) h = absurd cc
-  on_queue (Runs c) h = absurd cc
-  on_queue (Depends r e) h = absurd cc
+-- a signal is no act of the host
+pub signal_hosts : (a : Act) → is_signal a ≡ true → is_host a ≡ false
+signal_hosts (Signals s) h = refl
+signal_hosts (Hosts x) h = absurd cc
+signal_hosts (Waits s) h = absurd cc
+signal_hosts (Runs c) h = absurd cc
+signal_hosts (Depends r e) h = absurd cc
 
-host_is_no_signal : (a : Act) → is_signal a ≡ true → is_host a ≡ false
-host_is_no_signal (Signals s) h = refl
-host_is_no_signal (Hosts x) h = absurd cc
-host_is_no_signal (Waits s) h = absurd cc
-host_is_no_signal (Runs c) h = absurd cc
-host_is_no_signal (Depends r e) h = absurd cc
+signal_edge : (ns : List Node) (m n : Node) → m.number < n.number → is_signal m.act ≡ true → is_signal n.act ≡ true → m.point.queue ≡ n.point.queue → edge ns m n ≡ true
+unfolding edge
+signal_edge ns m n lt sm sn q = rw (lt-ltb m.number n.number lt) (third_of_six (by_host m n) (by_stages m n) (by_signal m n) (by_all_commands m n) (pairs m.act n.act) (by_semaphore (earlier n ns) m n) (rw (signal_hosts m.act sm, signal_hosts n.act sn, eq-eqb m.point.queue n.point.queue q, sm, sn) refl))
 
 module _ (past : Past) (p : Point) (served : is_served past ≡ true) (now : is_served_deed p.deed ≡ true) (plain : IsPlain (p ∷ past)) where
-  pub served_all : is_served (p ∷ past) ≡ true
-  unfolding is_served
-  served_all = rw (now, served) refl
+  served_all : is_served (p ∷ past) ≡ true
+  served_all = served-next p past now served
 
   -- a signal of an earlier point comes before a signal of this one
   ordered_signals : (n : Node) → n.number ≡ length (nodes past) → Contains (nodes (p ∷ past)) n → is_signal n.act ≡ true → (m : Node) → Contains (nodes past) m → (same_semaphore m n && not (before (nodes (p ∷ past)) m n)) ≡ false
@@ -65,15 +51,11 @@ module _ (past : Past) (p : Point) (served : is_served past ≡ true) (now : is_
     go (Some x) e =
         let sm : is_signal m.act ≡ true = signals_by past served m cm x e in
         let all : Contains (nodes (p ∷ past)) m = with_keeps p (acts p.deed) (nodes past) m cm in
-        let qm : m.point.queue ≡ 0 = on_queue_0 (p ∷ past) served_all plain m all (host_is_no_signal m.act sm) in
-        let qn : n.point.queue ≡ 0 = on_queue_0 (p ∷ past) served_all plain n cn (host_is_no_signal n.act sn) in
+        let qm : m.point.queue ≡ 0 = on_queue_0 (p ∷ past) served_all plain m all (signal_hosts m.act sm) in
+        let qn : n.point.queue ≡ 0 = on_queue_0 (p ∷ past) served_all plain n cn (signal_hosts n.act sn) in
         let low : m.number < length (nodes past) = number_below (nodes past) (numbered past) m cm in
         let is : before (nodes (p ∷ past)) m n ≡ true = before_of_path (nodes (p ∷ past)) (numbered (p ∷ past)) m n all cn (direct all cn (signal_edge (nodes (p ∷ past)) m n (omega arith) sm sn (qm ∙ sym qn))) in
-        rw is (and_false _)
-      where
-        and_false : (b : Bool) → (b && false) ≡ false
-        and_false true = refl
-        and_false false = refl
+        rw is (and-false _)
 
 no_values : (m : Node) (b : Bool) → (holds (signaled_by m.act) (λ x. false) && b) ≡ false
 no_values m b = go (signaled_by m.act) where
@@ -84,14 +66,11 @@ no_values m b = go (signaled_by m.act) where
 pub no_signal_order : (past : Past) (p : Point) → is_served past ≡ true → is_served_deed p.deed ≡ true → IsPlain (p ∷ past) → breaks_signal_order past p ≡ false
 no_signal_order past p served now plain = rw (next_nodes-lined past p) (by_deed p.deed now refl) where
   none_of : (n : Node) → signaled_by n.act ≡ None → list_any (λ m. same_semaphore m n && not (before (nodes (p ∷ past)) m n)) (nodes past) ≡ false
-  none_of n is = any_none _ (λ m. rw is (no_values m _)) (nodes past)
+  none_of n is = none_passes_any _ (nodes past) (λ m c. rw is (no_values m _))
 
   elements : (es : List Element) (k : ℕ) → list_any (λ n. list_any (λ m. same_semaphore m n && not (before (nodes (p ∷ past)) m n)) (nodes past)) (lined p k (map (Depends Barrier) es)) ≡ false
   elements [] k = refl
   elements (e ∷ es) k = rw (none_of (record { number = k; point = p; act = Depends Barrier e }) refl) (elements es (k + 1))
-
-  or_none : (b : Bool) → b ≡ false → (b || false) ≡ false
-  or_none b e = rw e refl
 
   head_is : (d : Deed) (a : Act) → p.deed ≡ d → acts d ≡ a ∷ [] → Contains (nodes (p ∷ past)) (record { number = length (nodes past); point = p; act = a })
   head_is d a e f = rw (e, f) (contains-head _ _)
@@ -99,9 +78,9 @@ no_signal_order past p served now plain = rw (next_nodes-lined past p) (by_deed 
   by_deed : (d : Deed) → is_served_deed d ≡ true → p.deed ≡ d → list_any (λ n. list_any (λ m. same_semaphore m n && not (before (nodes (p ∷ past)) m n)) (nodes past)) (lined p (length (nodes past)) (acts d)) ≡ false
   by_deed = let P : Deed → Type 0 = λ d. p.deed ≡ d → list_any (λ n. list_any (λ m. same_semaphore m n && not (before (nodes (p ∷ past)) m n)) (nodes past)) (lined p (length (nodes past)) (acts d)) ≡ false in
       deed_cases P
-      (λ x h is. or_none _ (none_of (record { number = length (nodes past); point = p; act = Hosts x }) (signals_none x h)))
-      (command_cases (λ c. P (Run c)) (λ b o n w is. or_none _ (none_of (record { number = length (nodes past); point = p; act = Runs (cmd.Fill b o n w) }) refl)) (λ es all is. elements es (length (nodes past))))
-      (λ s is. or_none _ (none_passes_any _ (nodes past) (λ m c. ordered_signals past p served now plain (record { number = length (nodes past); point = p; act = Signals s }) refl (head_is (Signal s) (Signals s) is refl) refl m c)))
+      (λ x h is. or_from _ false (none_of (record { number = length (nodes past); point = p; act = Hosts x }) (signals_none x h)) refl)
+      (command_cases (λ c. P (Run c)) (λ b o n w is. or_from _ false (none_of (record { number = length (nodes past); point = p; act = Runs (cmd.Fill b o n w) }) refl) refl) (λ es all is. elements es (length (nodes past))))
+      (λ s is. or_from _ false (none_passes_any _ (nodes past) (λ m c. ordered_signals past p served now plain (record { number = length (nodes past); point = p; act = Signals s }) refl (head_is (Signal s) (Signals s) is refl) refl m c)) refl)
 
 -- ---- HAZARD_WAR
 
@@ -117,6 +96,7 @@ submit_is : (q : ℕ) (x : Entry) → IsSubmitOn q x → is_submit (Hosts x) ≡
 submit_is q (entry.Submit r bs) h = refl
 submit_is q _ h = absurd h
 
+-- before the points of a batch stands their submit
 pub submitted : (e q : ℕ) (past : Past) → is_served past ≡ true → LastSubmit e q past → Submitted e (nodes past)
 submitted e q [] served last = absurd last
 submitted e q (p ∷ past) served last = let s = served-cons p past served in go p.deed s.0 last (submitted e q past s.1) where
@@ -147,6 +127,7 @@ submitted e q (p ∷ past) served last = let s = served-cons p past served in go
   go (Run c) h last rest = later (Run c) h refl (rest last)
   go (Signal s) h last rest = later (Signal s) h refl (rest last)
 
+-- a submit is an act of the host
 pub submit_hosts : (a : Act) → is_submit a ≡ true → is_host a ≡ true
 submit_hosts (Hosts x) h = refl
 submit_hosts (Waits s) h = absurd cc
@@ -156,16 +137,15 @@ submit_hosts (Depends r e) h = absurd cc
 
 pub host_edge : (ns : List Node) (m n : Node) → m.number < n.number → by_host m n ≡ true → edge ns m n ≡ true
 unfolding edge
-host_edge ns m n lt is = rw (lt-ltb m.number n.number lt) (first (by_host m n) (by_stages m n) (by_signal m n) (by_all_commands m n) (pairs m.act n.act) (by_semaphore (earlier n ns) m n) is)
+host_edge ns m n lt is = rw (lt-ltb m.number n.number lt) (first_of_six (by_host m n) (by_stages m n) (by_signal m n) (by_all_commands m n) (pairs m.act n.act) (by_semaphore (earlier n ns) m n) is)
 
+-- host entries come one after another
 pub hosts_follow : (m n : Node) → is_host m.act ≡ true → is_host n.act ≡ true → by_host m n ≡ true
 hosts_follow m n a b = rw (a, b) refl
 
+-- a submit leads to what it submits
 pub submit_leads : (m n : Node) → is_submit m.act ≡ true → m.point.entry ≡ n.point.entry → by_host m n ≡ true
-submit_leads m n a e = go (is_host m.act && is_host n.act) where
-  go : (b : Bool) → (b || is_submit m.act && m.point.entry == n.point.entry) ≡ true
-  go true = refl
-  go false = rw (a, eq-eqb m.point.entry n.point.entry e) refl
+submit_leads m n a e = or_right (is_host m.act && is_host n.act) (is_submit m.act && m.point.entry == n.point.entry) (rw (a, eq-eqb m.point.entry n.point.entry e) refl)
 
 -- a host entry comes before the later batches
 pub host_before : (past : Past) (p : Point) (y : Node) → is_served past ≡ true → LastSubmit p.entry p.queue past → y.point ≡ p → y.number ≡ length (nodes past) → Contains (nodes (p ∷ past)) y → (x : Node) → Contains (nodes past) x → is_host x.act ≡ true → before (nodes (p ∷ past)) x y ≡ true
@@ -177,5 +157,5 @@ host_before past p y served last at here cy x cx host =
     let on : Path ns s.node y = direct (kept s.node s.stands) cy (host_edge ns s.node y (omega arith) (submit_leads s.node y s.submits (s.entry_is ∙ ap (λ (q : Point). q.entry) (sym at)))) in
     before_of_path ns (numbered (p ∷ past)) x y (kept x cx) cy (elim (s.newest x cx host) [
       | inl same ↦ subst (λ (n : Node). Path ns n y) (sym same) on
-      | inr less ↦ joined ns x s.node y (direct (kept x cx) (kept s.node s.stands) (host_edge ns x s.node less (hosts_follow x s.node host (submit_hosts s.node.act s.submits)))) on
+      | inr less ↦ path_joined ns x s.node y (direct (kept x cx) (kept s.node s.stands) (host_edge ns x s.node less (hosts_follow x s.node host (submit_hosts s.node.act s.submits)))) on
     ])

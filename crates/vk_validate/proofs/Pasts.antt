@@ -1,7 +1,8 @@
 -- What holds of a past whose points are all of forms that are served.
-use Rattle.std.proofs.Common.{◌≡◌, ℕ, List, [], ◌∷◌, Bool, true, false, ◌&&◌, ◌==◌, cond, refl, ap, sym, ◌∙◌, Option, Some, None}
+use Rattle.std.proofs.Common.{◌≡◌, ℕ, List, [], ◌∷◌, Bool, true, false, ◌==◌, cond, refl, ap, sym, ◌∙◌, Option, Some, None}
 use Rattle.std.specs.Prelude.{option_and_then, option_map}
 use Rattle.std.specs.List.{list_any, list_all, find, cons_option}
+use Rattle.std.proofs.lemmas.Bool.{and_parts}
 use Rattle.vk_model.specs.declared.entry.Entry.{Entry}
 use Rattle.vk_model.specs.declared.resource.BufferInfo.{BufferInfo}
 use Rattle.vk_model.specs.declared.resource.Place.TheVariants as place
@@ -13,13 +14,14 @@ use Rattle.vk_model.specs.RulesPasses.{moves_now}
 use Rattle.vk_validate.specs.Served.{is_served, is_served_deed, is_served_entry}
 use Rattle.vk_validate.proofs.Forms.{entry_cases}
 
-pub and-true : (a b : Bool) → (a && b) ≡ true → (a ≡ true) × (b ≡ true)
-and-true true b e = (refl, e)
-and-true false b e = absurd cc
-
+-- a past is served where its newest point and the older ones are
 pub served-cons : (p : Point) (past : Past) → is_served (p ∷ past) ≡ true → (is_served_deed p.deed ≡ true) × (is_served past ≡ true)
 unfolding is_served
-served-cons p past e = and-true (is_served_deed p.deed) _ e
+served-cons p past e = and_parts (is_served_deed p.deed) _ e
+
+pub served-next : (p : Point) (past : Past) → is_served_deed p.deed ≡ true → is_served past ≡ true → is_served (p ∷ past) ≡ true
+unfolding is_served
+served-next p past now served = rw (now, served) refl
 
 -- the host entries of a served past are served
 pub served_entries : (past : Past) → is_served past ≡ true → list_all is_served_entry (entries past) ≡ true
@@ -34,15 +36,15 @@ served_entries (p ∷ past) e = let s = served-cons p past e in go p.deed s.0 (s
 -- what is found among entries that all pass a test passes it
 found_passes : (test : Entry → Bool) (pick : Entry → Bool) (xs : List Entry) (x : Entry) → list_all test xs ≡ true → find pick xs ≡ Some x → test x ≡ true
 found_passes test pick [] x all is = absurd cc
-found_passes test pick (y ∷ ys) x all is = go (pick y) is (and-true (test y) (list_all test ys) all) (found_passes test pick ys x) where
+found_passes test pick (y ∷ ys) x all is = go (pick y) is (and_parts (test y) (list_all test ys) all) (found_passes test pick ys x) where
   go : (b : Bool) → cond b (Some y) (find pick ys) ≡ Some x → (test y ≡ true) × (list_all test ys ≡ true) → (list_all test ys ≡ true → find pick ys ≡ Some x → test x ≡ true) → test x ≡ true
   go true e h rest = let same : y ≡ x = cc in ap test (sym same) ∙ h.0
   go false e h rest = rest h.1 e
 
 -- no entry passes a test that no served one does
-none_of : (test : Entry → Bool) → ((x : Entry) → is_served_entry x ≡ true → test x ≡ false) → (xs : List Entry) → list_all is_served_entry xs ≡ true → list_any test xs ≡ false
-none_of test none [] all = refl
-none_of test none (x ∷ xs) all = let h = and-true (is_served_entry x) (list_all is_served_entry xs) all in rw (none x h.0) (none_of test none xs h.1)
+no_entry_passes : (test : Entry → Bool) → ((x : Entry) → is_served_entry x ≡ true → test x ≡ false) → (xs : List Entry) → list_all is_served_entry xs ≡ true → list_any test xs ≡ false
+no_entry_passes test none [] all = refl
+no_entry_passes test none (x ∷ xs) all = let h = and_parts (is_served_entry x) (list_all is_served_entry xs) all in rw (none x h.0) (no_entry_passes test none xs h.1)
 
 none_ends : (i : ℕ) (x : Entry) → is_served_entry x ≡ true → among i (ended_by x) ≡ false
 none_ends i = let P : Entry → Type 0 = λ x. among i (ended_by x) ≡ false in entry_cases P (λ i b t is other. refl) (λ b. refl) (λ b o n. refl) (λ i v. refl) (λ ws. refl) (λ bs. refl)
@@ -51,9 +53,11 @@ module _ (past : Past) (served : is_served past ≡ true) where
   pub made_served : (i : ℕ) (x : Entry) → made past i ≡ Some x → is_served_entry x ≡ true
   made_served i x is = found_passes is_served_entry (λ x. holds (made_by x) (λ j. i == j)) (entries past) x (served_entries past served) is
 
+  -- no object is ended
   pub none_ended : (i : ℕ) → ended past i ≡ false
-  none_ended i = none_of (λ x. among i (ended_by x)) (none_ends i) (entries past) (served_entries past served)
+  none_ended i = no_entry_passes (λ x. among i (ended_by x)) (none_ends i) (entries past) (served_entries past served)
 
+  -- so what is made is live
   pub live_made : (i : ℕ) → live past i ≡ made past i
   live_made i = rw (none_ended i) refl
 

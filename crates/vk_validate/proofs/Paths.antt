@@ -1,39 +1,20 @@
 -- `before` is the relation of paths of edges.
-use Rattle.std.proofs.Common.{◌≡◌, ◌<◌, ◌≤◌, List, [], ◌∷◌, length, Bool, true, false, ◌&&◌, ◌||◌, refl, ap, sym, ◌∙◌, subst, arith, inl, inr, ◌⊎◌, IsTrue}
-use Rattle.std.specs.Prelude.{nat_lt, Contains, if◌then◌else◌, ◌↔◌}
+use Rattle.std.proofs.Common.{◌≡◌, ◌<◌, ◌≤◌, List, [], ◌∷◌, length, Bool, true, false, ◌||◌, refl, ap, sym, ◌∙◌, subst, arith, inl, inr, ◌⊎◌, IsTrue}
+use Rattle.std.specs.Prelude.{nat_lt, Contains, if◌then◌else◌}
 use Rattle.std.specs.List.{list_any}
-use Rattle.std.proofs.lemmas.Bool.{le-ltb, ne_eqb, eqb-true, eq-eqb, ltb-true, lt-ltb}
-use Rattle.vk_model.specs.Point.{Past}
-use Rattle.vk_model.specs.Node.{Node, nodes, same_node}
+use Rattle.std.proofs.lemmas.Bool.{le-ltb, ne_eqb, eqb-true, eq-eqb, ltb-true, lt-ltb, and_parts}
+use Rattle.vk_model.specs.Node.{Node, same_node}
 use Rattle.vk_model.specs.Edge.{edge}
 use Rattle.vk_model.specs.Before.{before, reached, Path, direct, longer, IsNumbered}
-use Rattle.vk_validate.proofs.Growth.{contains-cons, contains-head, contains-tail, number_below, numbered, edge-older}
-
--- ---- members that pass a test
-
-pub some_member : {X : Type 0} (f : X → Bool) (xs : List X) → list_any f xs ≡ true → (x : X) × Contains xs x × (f x ≡ true)
-some_member f [] e = absurd cc
-some_member {X} f (x ∷ xs) e = go (f x) refl e (some_member f xs)
-  where
-    go : (t : Bool) → f x ≡ t → (t || list_any f xs) ≡ true → (list_any f xs ≡ true → (y : X) × Contains xs y × (f y ≡ true)) → (y : X) × Contains (x ∷ xs) y × (f y ≡ true)
-    go true is e next = (x, contains-head x xs, is)
-    go false is e next = let later = next e in (later.0, contains-tail x xs later.0 later.1, later.2)
-
-or_true : (a : Bool) → (a || true) ≡ true
-or_true true = refl
-or_true false = refl
-
-pub member_passes : {X : Type 0} (f : X → Bool) (xs : List X) (x : X) → Contains xs x → f x ≡ true → list_any f xs ≡ true
-member_passes f [] x c e = absurd (let none : c.0 < 0 = c.1 in omega arith)
-member_passes f (y ∷ ys) x c e = elim (contains-cons y ys x c) [
-  | inl same ↦ rw (ap f same ∙ e) refl
-  | inr later ↦ rw (member_passes f ys x later e) (or_true (f y))
-]
+use Rattle.vk_validate.proofs.Members.{none_in, contains-cons, contains-head, contains-tail, some_member, member_passes}
+use Rattle.vk_validate.proofs.Truths.{second}
+use Rattle.vk_validate.proofs.Growth.{number_below, edge-older}
 
 -- ---- nodes by their numbers
 
+-- two nodes with one number are one
 pub unique : (ns : List Node) → IsNumbered ns → (m n : Node) → Contains ns m → Contains ns n → m.number ≡ n.number → m ≡ n
-unique [] numbers m n c d same = absurd (let none : c.0 < 0 = c.1 in omega arith)
+unique [] numbers m n c d same = absurd (none_in m c)
 unique (k ∷ ns) numbers m n c d same = go (contains-cons k ns m c) (contains-cons k ns n d) (unique ns numbers.1 m n)
   where
     go : (k ≡ m) ⊎ Contains ns m → (k ≡ n) ⊎ Contains ns n → (Contains ns m → Contains ns n → m.number ≡ n.number → m ≡ n) → m ≡ n
@@ -42,36 +23,29 @@ unique (k ∷ ns) numbers m n c d same = go (contains-cons k ns m c) (contains-c
     go (inr a) (inl b) next = let lt = number_below ns numbers.1 m a in let here : n.number ≡ length ns = ap (λ (x : Node). x.number) (sym b) ∙ numbers.0 in absurd (omega arith)
     go (inr a) (inr b) next = next a b same
 
-and_left : (a b : Bool) → (a && b) ≡ true → a ≡ true
-and_left true b e = refl
-and_left false b e = absurd cc
-
-and_right : (a b : Bool) → (a && b) ≡ true → b ≡ true
-and_right true b e = e
-and_right false b e = absurd cc
-
 -- an edge leads to a greater number
 pub edge_forward : (ns : List Node) (m n : Node) → IsTrue (edge ns m n) → m.number < n.number
 unfolding edge
-edge_forward ns m n e = ltb-true m.number n.number (and_left _ _ e)
+edge_forward ns m n e = ltb-true m.number n.number (and_parts _ _ e).0
 
 -- a path leads to a greater number
-pub forward : (ns : List Node) (m n : Node) → Path ns m n → m.number < n.number
+forward : (ns : List Node) (m n : Node) → Path ns m n → m.number < n.number
 forward ns m n (direct c d e) = edge_forward ns m n e
 forward ns m n (longer {k = k} p d e) = let one = forward ns m k p in let two = edge_forward ns k n e in omega arith
 
-pub source : (ns : List Node) (m n : Node) → Path ns m n → Contains ns m
+source : (ns : List Node) (m n : Node) → Path ns m n → Contains ns m
 source ns m n (direct c d e) = c
 source ns m n (longer {k = k} p d e) = source ns m k p
 
+-- a path ends at a node that stands
 pub target : (ns : List Node) (m n : Node) → Path ns m n → Contains ns n
 target ns m n (direct c d e) = d
 target ns m n (longer p d e) = d
 
 -- paths join
-pub joined : (ns : List Node) (l m n : Node) → Path ns l m → Path ns m n → Path ns l n
-joined ns l m n p (direct c d e) = longer p d e
-joined ns l m n p (longer {k = k} q d e) = longer (joined ns l m k p q) d e
+pub path_joined : (ns : List Node) (l m n : Node) → Path ns l m → Path ns m n → Path ns l n
+path_joined ns l m n p (direct c d e) = longer p d e
+path_joined ns l m n p (longer {k = k} q d e) = longer (path_joined ns l m k p q) d e
 
 -- ---- one node more
 
@@ -112,8 +86,8 @@ reached_none (n ∷ ns) x numbers le =
 abbrev Reached : List Node → Node → Node → Type 0
 Reached ns x y = (y ≡ x) ⊎ Path ns x y
 
-pub reached_paths : (ns : List Node) → IsNumbered ns → (x : Node) → Contains ns x → (y : Node) → (Contains (reached x ns) y → Reached ns x y) × (Reached ns x y → Contains (reached x ns) y)
-reached_paths [] numbers x c y = absurd (let none : c.0 < 0 = c.1 in omega arith)
+reached_paths : (ns : List Node) → IsNumbered ns → (x : Node) → Contains ns x → (y : Node) → (Contains (reached x ns) y → Reached ns x y) × (Reached ns x y → Contains (reached x ns) y)
+reached_paths [] numbers x c y = absurd (none_in x c)
 reached_paths (n ∷ ns) numbers x c y = elim (contains-cons n ns x c) [
   | inl same ↦ at_head same
   | inr older ↦ further older (λ z. reached_paths ns numbers.1 x older z)
@@ -208,18 +182,15 @@ reached_paths (n ∷ ns) numbers x c y = elim (contains-cons n ns x c) [
 
 before_lt : (ns : List Node) (x y : Node) → IsTrue (before ns x y) → x.number < y.number
 unfolding before
-before_lt ns x y e = ltb-true x.number y.number (and_left (nat_lt x.number y.number) (list_any (same_node y) (reached x ns)) e)
+before_lt ns x y e = ltb-true x.number y.number (and_parts (nat_lt x.number y.number) (list_any (same_node y) (reached x ns)) e).0
 
 before_found : (ns : List Node) (x y : Node) → IsTrue (before ns x y) → list_any (same_node y) (reached x ns) ≡ true
 unfolding before
-before_found ns x y e = and_right (nat_lt x.number y.number) (list_any (same_node y) (reached x ns)) e
+before_found ns x y e = second (nat_lt x.number y.number) (list_any (same_node y) (reached x ns)) e
 
 found_before : (ns : List Node) (x y : Node) → x.number < y.number → list_any (same_node y) (reached x ns) ≡ true → IsTrue (before ns x y)
 unfolding before
 found_before ns x y lt e = rw (lt-ltb x.number y.number lt, e) refl
-
-pub leads_on : (ns : List Node) (x y : Node) → IsTrue (before ns x y) → x.number < y.number
-leads_on = before_lt
 
 -- what is reached stands among the nodes
 reached_stands : (ns : List Node) → IsNumbered ns → (x y : Node) → Contains ns x → Contains (reached x ns) y → Contains ns y
@@ -243,11 +214,3 @@ module _ (ns : List Node) (numbers : IsNumbered ns) (x y : Node) (cx : Contains 
   pub before_of_path : Path ns x y → IsTrue (before ns x y)
   before_of_path p =
       found_before ns x y (forward ns x y p) (member_passes (same_node y) (reached x ns) y ((reached_paths ns numbers x cx y).1 (inr p)) (eq-eqb y.number y.number refl))
-
-pub before_path : (past : Past) (x y : Node) → Contains (nodes past) x → Contains (nodes past) y → IsTrue (before (nodes past) x y) ↔ Path (nodes past) x y
-before_path past x y cx cy = (path_of_before (nodes past) (numbered past) x y cx cy, before_of_path (nodes past) (numbered past) x y cx cy)
-
-pub transitive : (past : Past) (x y z : Node) → Contains (nodes past) x → Contains (nodes past) y → Contains (nodes past) z
-    → IsTrue (before (nodes past) x y) → IsTrue (before (nodes past) y z) → IsTrue (before (nodes past) x z)
-transitive past x y z cx cy cz a b =
-    (before_path past x z cx cz).1 (joined (nodes past) x y z ((before_path past x y cx cy).0 a) ((before_path past y z cy cz).0 b))

@@ -1,8 +1,9 @@
 -- In plain order no two commands are told alike.
-use Rattle.std.proofs.Common.{◌≡◌, ◌<◌, ◌+◌, ℕ, List, [], ◌∷◌, Bool, true, false, ◌&&◌, ◌==◌, refl, ap, sym, subst, arith, inl, inr, ◌⊎◌}
+use Rattle.std.proofs.Common.{◌≡◌, ◌<◌, ◌+◌, ℕ, List, [], ◌∷◌, true, false, ◌&&◌, ◌==◌, refl, ap, sym, subst, arith, inl, inr, ◌⊎◌}
 use Rattle.std.specs.Prelude.{Contains, ⊤}
 use Rattle.std.specs.List.{fold}
 use Rattle.std.proofs.lemmas.Bool.{ne_eqb}
+use Rattle.std.proofs.Math.Bool.{and-false}
 use Rattle.vk_model.specs.declared.command.Cmd.{Cmd}
 use Rattle.vk_model.specs.declared.entry.Batch.{Batch}
 use Rattle.vk_model.specs.declared.entry.Entry.{Entry}
@@ -12,8 +13,8 @@ use Rattle.vk_model.specs.Fault.{Comes, newest, older}
 use Rattle.vk_model.specs.Order.{Turn, deeds, taken, turn, turns_from, turns_of, plain_from, plain_order, host}
 use Rattle.vk_model.specs.Node.{Node, Act, acts, nodes, same_place}
 use Rattle.vk_model.specs.Edge.{is_element}
-use Rattle.vk_validate.proofs.Growth.{contains-cons}
-use Rattle.vk_validate.proofs.Acts.{with_member, none_in}
+use Rattle.vk_validate.proofs.Members.{none_in, contains-cons}
+use Rattle.vk_validate.proofs.Acts.{with_member}
 
 -- a command of an older point is at another place
 abbrev pub IsElsewhere : Point → Past → Type 0
@@ -32,14 +33,8 @@ AllLower past e b k = (before : Past) (q : Point) (d : Cmd) → Comes past befor
 
 other_place : (q p : Point) → Lower q p.entry p.batch p.place → same_place q p ≡ false
 other_place q p (inl less) = rw (ne_eqb q.entry p.entry (λ e. omega (arith, less, e))) refl
-other_place q p (inr (inl less)) = rw (ne_eqb q.batch p.batch (λ e. let lt = less.1 in omega (arith, lt, e))) (go (q.entry == p.entry)) where
-  go : (t : Bool) → (t && false && q.place == p.place) ≡ false
-  go true = refl
-  go false = refl
-other_place q p (inr (inr less)) = rw (ne_eqb q.place p.place (λ e. let lt = less.2 in omega (arith, lt, e))) (go (q.entry == p.entry && q.batch == p.batch)) where
-  go : (t : Bool) → (t && false) ≡ false
-  go true = refl
-  go false = refl
+other_place q p (inr (inl less)) = rw (ne_eqb q.batch p.batch (λ e. let lt = less.1 in omega (arith, lt, e)), and-false (q.entry == p.entry)) refl
+other_place q p (inr (inr less)) = rw (ne_eqb q.place p.place (λ e. let lt = less.2 in omega (arith, lt, e))) (and-false (q.entry == p.entry && q.batch == p.batch))
 
 -- one point more that is no command
 quiet_lower : (p : Point) (past : Past) (e b k : ℕ) → ((c : Cmd) → p.deed ≡ Run c → ⊥) → AllLower past e b k → AllLower (p ∷ past) e b k
@@ -109,6 +104,7 @@ entries_apart : (e : ℕ) (xs : List Entry) (past : Past) → AllLower past e 0 
 entries_apart e [] past low apart = apart
 entries_apart e (x ∷ xs) past low apart = let a = entry_apart past e x past low apart in entries_apart (e + 1) xs _ a.0 a.1
 
+-- in the plain order commands are at places of their own
 pub plain_order_apart : (xs : List Entry) → IsApart (plain_order xs)
 plain_order_apart xs = entries_apart 0 xs [] (λ before q d c is. absurd (none_comes [] before q c refl)) tt where
   none_comes : (past before : Past) (q : Point) → Comes past before q → past ≡ [] → ⊥
@@ -118,7 +114,7 @@ plain_order_apart xs = entries_apart 0 xs [] (λ before q d c is. absurd (none_c
 -- ---- nodes
 
 -- a node's point stands in the past
-pub member_point : (past : Past) (m : Node) → Contains (nodes past) m → (before : Past) × Comes past before m.point × Contains (acts m.point.deed) m.act
+member_point : (past : Past) (m : Node) → Contains (nodes past) m → (before : Past) × Comes past before m.point × Contains (acts m.point.deed) m.act
 member_point [] m c = absurd (none_in m c)
 member_point (p ∷ past) m c = elim (with_member p (acts p.deed) (nodes past) m c) [
   | inl old ↦ (let found = member_point past m old in (found.0, older found.1, found.2))

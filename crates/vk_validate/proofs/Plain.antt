@@ -1,7 +1,8 @@
 -- In plain order the points of a batch follow their submit, with no other host entry between.
-use Rattle.std.proofs.Common.{◌≡◌, ◌+◌, ℕ, List, [], ◌∷◌, Bool, true, false, ◌&&◌, ◌==◌, refl, sym, subst, Option, Some, None, eq-eqb}
+use Rattle.std.proofs.Common.{◌≡◌, ◌+◌, ℕ, List, [], ◌∷◌, ◌&&◌, ◌==◌, refl, sym, subst, Option, Some, None, eq-eqb}
 use Rattle.std.specs.Prelude.{⊤, is_some, if◌then◌else◌}
 use Rattle.std.specs.List.{fold, find, cons_option}
+use Rattle.std.proofs.Math.Bool.{and-false}
 use Rattle.vk_model.specs.declared.entry.Batch.{Batch}
 use Rattle.vk_model.specs.declared.entry.Entry.{Entry}
 use Rattle.vk_model.specs.declared.entry.Entry.TheVariants as entry
@@ -61,6 +62,7 @@ plain_entries : (e : ℕ) (xs : List Entry) (past : Past) → IsPlain past → I
 plain_entries e [] past plain = plain
 plain_entries e (x ∷ xs) past plain = plain_entries (e + 1) xs _ (plain_entry past e x past plain)
 
+-- in the plain order each point of a batch comes after its submit
 pub plain_order_plain : (xs : List Entry) → IsPlain (plain_order xs)
 plain_order_plain xs = plain_entries 0 xs [] tt
 
@@ -74,11 +76,7 @@ submit_makes q _ h = absurd h
 pub made_until : (e q i : ℕ) (past : Past) → LastSubmit e q past → made (until e past) i ≡ made past i
 made_until e q i [] last = absurd last
 made_until e q i (p ∷ past) last = go (host_of p.deed) last (made_until e q i past) where
-  and_false : (b : Bool) → (b && false) ≡ false
-  and_false true = refl
-  and_false false = refl
-
   go : (o : Option Entry) → LastBy o e q p (LastSubmit e q past) → (LastSubmit e q past → made (until e past) i ≡ made past i)
       → made (if p.entry == e && is_some o then past else until e past) i ≡ find (λ x. holds (made_by x) (λ j. i == j)) (cons_option o (entries past))
-  go None last rest = rw (and_false (p.entry == e)) (rest last)
+  go None last rest = rw (and-false (p.entry == e)) (rest last)
   go (Some x) last rest = rw (eq-eqb p.entry e last.0, submit_makes q x last.1) refl

@@ -67,7 +67,7 @@ served_of [] cleared = refl
 served_of (p ∷ past) cleared = rw (cleared.0.served, served_of past cleared.1) refl
 
 -- a point of a cleared past is clear, and so is the past before it
-pub clear_at : (past before : Past) (q : Point) → IsCleared past → Comes past before q → IsClear before q × IsCleared before
+clear_at : (past before : Past) (q : Point) → IsCleared past → Comes past before q → IsClear before q × IsCleared before
 clear_at past before q cleared newest = cleared
 clear_at past before q cleared (older {past = rest} {q = p} comes) = clear_at rest before q cleared.1 comes
 
@@ -97,10 +97,6 @@ small_buffer (p ∷ past) cleared b = go (host_of p.deed) (small past p cleared.
 
 -- ---- what a fill reaches
 
-or-left : (b c : Bool) → (b || c) ≡ false → (b ≡ false) × (c ≡ false)
-or-left true c e = absurd cc
-or-left false c e = (refl, e)
-
 inside : (past : Past) (q : Point) (b o : ℕ) (n : Length) (w : ℕ) → IsClear past q → q.deed ≡ Run (cmd.Fill b o n w) → ends_past (buffer_size past b) o n ≡ false
 inside past q b o n w clear is =
     let unbroken : (holds (host_of (Run (cmd.Fill b o n w))) (host_past past) || holds (command_of (Run (cmd.Fill b o n w))) (command_past past)) ≡ false = subst (λ (d : Deed). (holds (host_of d) (host_past past) || holds (command_of d) (command_past past)) ≡ false) is (within_range past q clear) in
@@ -110,6 +106,7 @@ ends_inside : (size o : ℕ) (n : Length) (k : ℕ) → ends_past size o n ≡ f
 ends_inside size o (length_of.Bytes n) k e h = grind (arith, nat_tests)
 ends_inside size o length_of.Whole k e h = let le : (size - o) / 4 * 4 ≤ size - o = div-mul-le_self (size - o) 4 in grind (arith, nat_tests)
 
+-- a byte that a fill writes is below 2^64
 pub fills_low : (past before : Past) (q : Point) (b o : ℕ) (n : Length) (w k : ℕ) → IsCleared past → Comes past before q → q.deed ≡ Run (cmd.Fill b o n w)
     → within o (fill_size (buffer_size before b) o n) k ≡ true → k < 2 ^ 64
 fills_low past before q b o n w k cleared comes is h =
@@ -120,6 +117,7 @@ fills_low past before q b o n w k cleared comes is h =
 
 -- ---- what was made isn't made again
 
+-- what was made stays as it was made
 pub kept_made : (past : Past) (p : Point) (i : ℕ) → IsClear past p → is_some (made past i) ≡ true → made (p ∷ past) i ≡ made past i
 kept_made past p i clear stands = go (host_of p.deed) (new_id past p clear) where
   other : (j : ℕ) → is_some (made past j) ≡ false → (t : Bool) → (i == j) ≡ t → t ≡ false
@@ -140,6 +138,7 @@ kept_since i past before q cleared (older {past = rest} {q = p} comes) stands =
     let same : made rest i ≡ made before i = kept_since i rest before q cleared.1 comes stands in
     kept_made rest p i cleared.0 (rw same stands) ∙ same
 
+-- a buffer that a fill names keeps its size from then on
 pub kept_size : (past before : Past) (q : Point) (b o : ℕ) (n : Length) (w : ℕ) → IsCleared past → Comes past before q → q.deed ≡ Run (cmd.Fill b o n w) → buffer_size past b ≡ buffer_size before b
 kept_size past before q b o n w cleared comes is =
     let alive : not (is_some (buffer before b)) ≡ false = subst (λ (d : Deed). names_dead before d ≡ false) is (live_id before q (clear_at past before q cleared comes).0) in

@@ -1,8 +1,9 @@
--- HAZARD_RAW and HAZARD_WAW: what the numbers of last writers tell of all writers.
+-- What a read of the host and a write of a command see: what is made available on the way to them, and visible.
 use Rattle.std.proofs.Common.{◌≡◌, ℕ, List, ◌∷◌, Bool, true, false, not, ◌&&◌, ◌||◌, ◌==◌, refl, ap, sym, ◌∙◌, subst, inl, inr, ◌⊎◌, Option, Some, None}
 use Rattle.std.specs.Prelude.{Contains, ◌↔◌, option_and_then}
 use Rattle.std.specs.List.{list_any}
-use Rattle.std.proofs.lemmas.Bool.{eqb-true, eq-eqb}
+use Rattle.std.proofs.lemmas.Bool.{eqb-true, eq-eqb, and_parts, or_cases, or_right}
+use Rattle.std.proofs.Math.Bool.{and-true}
 use Rattle.vk_model.specs.declared.command.Cmd.{Cmd}
 use Rattle.vk_model.specs.declared.command.Element.{Element}
 use Rattle.vk_model.specs.declared.command.Element.TheVariants as element
@@ -14,22 +15,25 @@ use Rattle.vk_model.specs.Objects.{made, is_cached, resource_in, type_at}
 use Rattle.vk_model.specs.Ownership.{dependency_of}
 use Rattle.vk_model.specs.Node.{Node, Act, Hosts, Waits, Signals, Runs, Depends, Barrier, SetOf, AwaitOf, nodes, same_node}
 use Rattle.vk_model.specs.Edge.{edge, is_host, is_command, is_submit}
-use Rattle.vk_model.specs.Before.{before, Path, direct, longer}
+use Rattle.vk_model.specs.Before.{before, Path, direct, longer, IsNumbered}
 use Rattle.vk_model.specs.Seen.{Access, Read, Write, seen, sends, receives, available_by, visible_by, passes, invalidates, command_mask, host_mask, is_wait, to_host}
-use Rattle.vk_validate.specs.Served.{is_served, is_served_deed, is_memory}
+use Rattle.vk_validate.specs.Served.{is_served, is_memory, is_served_entry}
+use Rattle.vk_validate.proofs.Acts.{is_served_act}
+use Rattle.vk_validate.proofs.Members.{some_member, member_passes}
+use Rattle.vk_validate.proofs.Truths.{no, clash}
 use Rattle.vk_validate.proofs.Forms.{entry_cases}
 use Rattle.vk_validate.proofs.Pasts.{made_served}
 use Rattle.vk_validate.proofs.Growth.{numbered}
-use Rattle.vk_validate.proofs.Paths.{some_member, member_passes, path_of_before, before_of_path, target, unique}
+use Rattle.vk_validate.proofs.Paths.{path_of_before, before_of_path, target, unique}
 use Rattle.vk_validate.proofs.Freed.{Freed, Sent, Passed, Shown, Begun, Carried, Via, frees, leads_to_transfers, leads_to_writes, leads_to_reads, freed_stands}
-use Rattle.vk_validate.proofs.Causes.{is_simple, no, both, either, into_command}
-use Rattle.vk_validate.proofs.Clocked.{clash, command_hosts}
+use Rattle.vk_validate.proofs.Causes.{into_command}
+use Rattle.vk_validate.proofs.Clocked.{command_hosts}
 
 -- ---- memory of served forms is not cached
 
 pub uncached : (past : Past) → is_served past ≡ true → (i : ℕ) → is_cached past i ≡ false
 uncached past served i = go (made past i) refl where
-  by_form : (x : Entry) → Rattle.vk_validate.specs.Served.is_served_entry x ≡ true → holds (option_and_then (λ r. type_at past r.place) (resource_in x)) (λ u. u == 2) ≡ false
+  by_form : (x : Entry) → is_served_entry x ≡ true → holds (option_and_then (λ r. type_at past r.place) (resource_in x)) (λ u. u == 2) ≡ false
   by_form = let P : Entry → Type 0 = λ x. holds (option_and_then (λ r. type_at past r.place) (resource_in x)) (λ u. u == 2) ≡ false in entry_cases P (λ i b t is other. rw is other) (λ b. refl) (λ b o n. refl) (λ i v. refl) (λ ws. refl) (λ bs. refl)
 
   go : (o : Option Entry) → made past i ≡ o → holds (option_and_then (λ r. type_at past r.place) (option_and_then resource_in o)) (λ u. u == 2) ≡ false
@@ -38,30 +42,27 @@ uncached past served i = go (made past i) refl where
 
 -- ---- what makes available and visible, on memory of all
 
-simple_sends : (cached : Byte → Bool) (ns : List Node) (p : Node) (b : Byte) → is_simple p.act ≡ true → sends cached ns p b p.act ≡ frees p.act
-simple_sends cached ns p b = go p.act where
-  go : (a : Act) → is_simple a ≡ true → sends cached ns p b a ≡ frees a
+served_sends : (cached : Byte → Bool) (ns : List Node) (p : Node) (b : Byte) → is_served_act p.act ≡ true → sends cached ns p b p.act ≡ frees p.act
+served_sends cached ns p b = go p.act where
+  go : (a : Act) → is_served_act a ≡ true → sends cached ns p b a ≡ frees a
   go (Hosts x) h = refl
   go (Waits s) h = no h
   go (Signals s) h = refl
   go (Runs c) h = refl
-  go (Depends Barrier (element.Memory d)) h = and_true (has_some d.source_accesses.0 (command_mask Write)) where
-    and_true : (t : Bool) → (t && true) ≡ t
-    and_true true = refl
-    and_true false = refl
+  go (Depends Barrier (element.Memory d)) h = and-true (has_some d.source_accesses.0 (command_mask Write))
   go (Depends Barrier (element.Buffer e)) h = no h
   go (Depends Barrier (element.Image e)) h = no h
   go (Depends (SetOf v k) e) h = no h
   go (Depends (AwaitOf v k) e) h = no h
 
-simple_receives : (cached : Byte → Bool) (ns : List Node) (mask : ℕ) (b : Byte) (q : Node) → is_simple q.act ≡ true → receives cached ns mask b q q.act ≡ true → (e : Element) × (q.act ≡ Depends Barrier e) × (has_some (dependency_of e).destination_accesses.0 mask ≡ true)
-simple_receives cached ns mask b q = go q.act where
-  go : (a : Act) → is_simple a ≡ true → receives cached ns mask b q a ≡ true → (e : Element) × (a ≡ Depends Barrier e) × (has_some (dependency_of e).destination_accesses.0 mask ≡ true)
+served_receives : (cached : Byte → Bool) (ns : List Node) (mask : ℕ) (b : Byte) (q : Node) → is_served_act q.act ≡ true → receives cached ns mask b q q.act ≡ true → (e : Element) × (q.act ≡ Depends Barrier e) × (has_some (dependency_of e).destination_accesses.0 mask ≡ true)
+served_receives cached ns mask b q = go q.act where
+  go : (a : Act) → is_served_act a ≡ true → receives cached ns mask b q a ≡ true → (e : Element) × (a ≡ Depends Barrier e) × (has_some (dependency_of e).destination_accesses.0 mask ≡ true)
   go (Hosts x) h r = no r
   go (Waits s) h r = no r
   go (Signals s) h r = no r
   go (Runs c) h r = no r
-  go (Depends Barrier (element.Memory d)) h r = (element.Memory d, refl, (both _ _ r).0)
+  go (Depends Barrier (element.Memory d)) h r = (element.Memory d, refl, (and_parts _ _ r).0)
   go (Depends Barrier (element.Buffer e)) h r = no h
   go (Depends Barrier (element.Image e)) h r = no h
   go (Depends (SetOf v k) e) h r = no h
@@ -76,8 +77,8 @@ makes_visible cached ns mask b q (element.Image e) m at has = no m
 -- ---- sights
 
 -- an element to the host's reads
-reads_parts : (a : Act) → is_simple a ≡ true → leads_to_reads a ≡ true → (e : Element) × (a ≡ Depends Barrier e) × (is_memory e ≡ true) × (to_host a ≡ true) × (has_some (dependency_of e).destination_accesses.0 (host_mask Read) ≡ true)
-reads_parts (Depends Barrier e) h l = let parts = both _ _ l in (e, refl, h, parts.0, parts.1)
+reads_parts : (a : Act) → is_served_act a ≡ true → leads_to_reads a ≡ true → (e : Element) × (a ≡ Depends Barrier e) × (is_memory e ≡ true) × (to_host a ≡ true) × (has_some (dependency_of e).destination_accesses.0 (host_mask Read) ≡ true)
+reads_parts (Depends Barrier e) h l = let parts = and_parts _ _ l in (e, refl, h, parts.0, parts.1)
 reads_parts (Depends (SetOf v k) e) h l = no h
 reads_parts (Depends (AwaitOf v k) e) h l = no h
 reads_parts (Hosts x) h l = no l
@@ -86,8 +87,8 @@ reads_parts (Signals s) h l = no l
 reads_parts (Runs c) h l = no l
 
 -- an element to later writes
-writes_parts : (a : Act) → is_simple a ≡ true → leads_to_writes a ≡ true → (e : Element) × (a ≡ Depends Barrier e) × (is_memory e ≡ true) × (leads_to_transfers a ≡ true) × (has_some (dependency_of e).destination_accesses.0 (command_mask Write) ≡ true)
-writes_parts (Depends Barrier e) h l = let parts = both _ _ l in (e, refl, h, parts.0, parts.1)
+writes_parts : (a : Act) → is_served_act a ≡ true → leads_to_writes a ≡ true → (e : Element) × (a ≡ Depends Barrier e) × (is_memory e ≡ true) × (leads_to_transfers a ≡ true) × (has_some (dependency_of e).destination_accesses.0 (command_mask Write) ≡ true)
+writes_parts (Depends Barrier e) h l = let parts = and_parts _ _ l in (e, refl, h, parts.0, parts.1)
 writes_parts (Depends (SetOf v k) e) h l = no h
 writes_parts (Depends (AwaitOf v k) e) h l = no h
 writes_parts (Hosts x) h l = no l
@@ -95,12 +96,12 @@ writes_parts (Waits s) h l = no l
 writes_parts (Signals s) h l = no l
 writes_parts (Runs c) h l = no l
 
-simple_waits : (a : Act) → is_simple a ≡ true → is_wait a ≡ false
-simple_waits (Hosts x) h = refl
-simple_waits (Waits s) h = no h
-simple_waits (Signals s) h = refl
-simple_waits (Runs c) h = refl
-simple_waits (Depends r e) h = refl
+served_waits : (a : Act) → is_served_act a ≡ true → is_wait a ≡ false
+served_waits (Hosts x) h = refl
+served_waits (Waits s) h = no h
+served_waits (Signals s) h = refl
+served_waits (Runs c) h = refl
+served_waits (Depends r e) h = refl
 
 -- a sight, by the acts
 abbrev sight : (Byte → Bool) → List Node → Node → Node → Act → Act → Access → Byte → Bool
@@ -110,11 +111,11 @@ seen_is : (cached : Byte → Bool) (ns : List Node) (w a : Node) (k : Access) (b
 unfolding seen
 seen_is cached ns w a k b = refl
 
-module _ (past : Past) (p : Point) (w : Node) (cached : Byte → Bool) (b : Byte) (command : is_command w.act ≡ true) (stands_w : Contains (nodes (p ∷ past)) w) (simple : (m : Node) → Contains (nodes (p ∷ past)) m → is_simple m.act ≡ true) where
+module _ (past : Past) (p : Point) (w : Node) (cached : Byte → Bool) (b : Byte) (command : is_command w.act ≡ true) (stands_w : Contains (nodes (p ∷ past)) w) (simple : (m : Node) → Contains (nodes (p ∷ past)) m → is_served_act m.act ≡ true) where
   abbrev ns : List Node
   ns = nodes (p ∷ past)
 
-  numbers : Rattle.vk_model.specs.Before.IsNumbered (nodes (p ∷ past))
+  numbers : IsNumbered (nodes (p ∷ past))
   numbers = numbered (p ∷ past)
 
   -- a write is available at all that comes after a node that makes it so
@@ -128,13 +129,13 @@ module _ (past : Past) (p : Point) (w : Node) (cached : Byte → Bool) (b : Byte
 
   -- the same node, or a path
   reaches : (m n : Node) → Contains ns m → Contains ns n → (same_node m n || before ns m n) ≡ true → (m ≡ n) ⊎ Path ns m n
-  reaches m n cm cn e = elim (either (same_node m n) (before ns m n) e) [
+  reaches m n cm cn e = elim (or_cases (same_node m n) (before ns m n) e) [
     | inl same ↦ inl (unique ns numbers m n cm cn (eqb-true m.number n.number same))
     | inr later ↦ inr (path_of_before ns numbers m n cm cn later)
   ]
 
   available_is : (q : Node) → Contains ns q → (edge ns w q && sends cached ns q b q.act) ≡ true → Freed ns w q
-  available_is q c e = let h = both (edge ns w q) (sends cached ns q b q.act) e in Sent c h.0 (sym (simple_sends cached ns q b (simple q c)) ∙ h.1)
+  available_is q c e = let h = and_parts (edge ns w q) (sends cached ns q b q.act) e in Sent c h.0 (sym (served_sends cached ns q b (simple q c)) ∙ h.1)
 
   freed_at : (m n : Node) → Freed ns w m → (m ≡ n) ⊎ Path ns m n → Freed ns w n
   freed_at m n f (inl same) = subst (λ (k : Node). Freed ns w k) same f
@@ -149,16 +150,12 @@ module _ (past : Past) (p : Point) (w : Node) (cached : Byte → Bool) (b : Byte
   origin n (Sent c e f) = (n, c, e, f, inl refl)
   origin n (Passed {m = k} f c e) = let o = origin k f in (o.0, o.1, o.2, o.3, inr (extended o.0 k n (freed_stands ns w k f) c e o.4))
 
-  or_right : (a b : Bool) → b ≡ true → (a || b) ≡ true
-  or_right true b e = refl
-  or_right false b e = e
-
   is_reached : (m n : Node) → Contains ns m → (m ≡ n) ⊎ Path ns m n → (same_node m n || before ns m n) ≡ true
   is_reached m n c (inl same) = rw (eq-eqb m.number n.number (ap (λ (k : Node). k.number) same)) refl
   is_reached m n c (inr q) = or_right (same_node m n) (before ns m n) (before_of_path ns numbers m n c (target ns m n q) q)
 
   freed_by_some : (n : Node) → Freed ns w n → (m : Node) × Contains ns m × ((edge ns w m && sends cached ns m b m.act) ≡ true) × ((same_node m n || before ns m n) ≡ true)
-  freed_by_some n f = let o = origin n f in (o.0, o.1, rw (o.2, simple_sends cached ns o.0 b (simple o.0 o.1), o.3) refl, is_reached o.0 n o.1 o.4)
+  freed_by_some n f = let o = origin n f in (o.0, o.1, rw (o.2, served_sends cached ns o.0 b (simple o.0 o.1), o.3) refl, is_reached o.0 n o.1 o.4)
 
   -- where the write is shown: by an element to the host's reads, and a path from it
   pub shown_begin : (n : Node) → Shown ns w n → (q : Node) × Freed ns w q × (leads_to_reads q.act ≡ true) × Path ns q n
@@ -172,10 +169,10 @@ module _ (past : Past) (p : Point) (w : Node) (cached : Byte → Bool) (b : Byte
         → (before ns q a && to_host q.act && receives cached ns (host_mask Read) b q q.act && (not (cached b) || passes cached ns (λ f. invalidates f b) q a)) ≡ true → Shown ns w a
     shown_of m q cm cq sent reached visible =
         let f : Freed ns w q = freed_at m q (available_is m cm sent) (reaches m q cm cq reached) in
-        let v1 = both (before ns q a && to_host q.act && receives cached ns (host_mask Read) b q q.act) _ visible in
-        let v2 = both (before ns q a && to_host q.act) (receives cached ns (host_mask Read) b q q.act) v1.0 in
-        let v3 = both (before ns q a) (to_host q.act) v2.0 in
-        let e = simple_receives cached ns (host_mask Read) b q (simple q cq) v2.1 in
+        let v1 = and_parts (before ns q a && to_host q.act && receives cached ns (host_mask Read) b q q.act) _ visible in
+        let v2 = and_parts (before ns q a && to_host q.act) (receives cached ns (host_mask Read) b q q.act) v1.0 in
+        let v3 = and_parts (before ns q a) (to_host q.act) v2.0 in
+        let e = served_receives cached ns (host_mask Read) b q (simple q cq) v2.1 in
         shown_along q a f (leads q.act e.0 e.1 v3.1 e.2) (path_of_before ns numbers q a cq stands_a v3.0)
       where
         leads : (act : Act) (e : Element) → act ≡ Depends Barrier e → to_host act ≡ true → has_some (dependency_of e).destination_accesses.0 (host_mask Read) ≡ true → leads_to_reads act ≡ true
@@ -187,6 +184,7 @@ module _ (past : Past) (p : Point) (w : Node) (cached : Byte → Bool) (b : Byte
         let parts = reads_parts q.act (simple q c) l in
         rw (before_of_path ns numbers q a c stands_a path, parts.3, makes_visible cached ns (host_mask Read) b q parts.0 parts.2 parts.1 parts.4, coherent) refl
 
+    -- a read of the host sees a write just where the write is shown
     pub seen_by_read : (c : Cmd) → w.act ≡ Runs c → (seen cached ns w a Read b ≡ true) ↔ Shown ns w a
     seen_by_read c runs = (λ e. to (sym (is_sight) ∙ e), λ s. is_sight ∙ from s) where
       is_sight : seen cached ns w a Read b ≡ sight cached ns w a (Runs c) (Hosts x) Read b
@@ -195,10 +193,10 @@ module _ (past : Past) (p : Point) (w : Node) (cached : Byte → Bool) (b : Byte
       to : sight cached ns w a (Runs c) (Hosts x) Read b ≡ true → Shown ns w a
       to e =
           let m = some_member _ ns e in
-          let h = both (edge ns w m.0 && sends cached ns m.0 b m.0.act) _ m.2 in
+          let h = and_parts (edge ns w m.0 && sends cached ns m.0 b m.0.act) _ m.2 in
           let q = some_member _ ns h.1 in
-          let g = both ((same_node m.0 q.0 || before ns m.0 q.0) && visible_by cached ns w a (Hosts x) Read b q.0) (same_node q.0 a || before ns q.0 a) q.2 in
-          let k = both (same_node m.0 q.0 || before ns m.0 q.0) (visible_by cached ns w a (Hosts x) Read b q.0) g.0 in
+          let g = and_parts ((same_node m.0 q.0 || before ns m.0 q.0) && visible_by cached ns w a (Hosts x) Read b q.0) (same_node q.0 a || before ns q.0 a) q.2 in
+          let k = and_parts (same_node m.0 q.0 || before ns m.0 q.0) (visible_by cached ns w a (Hosts x) Read b q.0) g.0 in
           shown_of m.0 q.0 m.1 q.1 h.0 k.0 k.1
 
       from : Shown ns w a → sight cached ns w a (Runs c) (Hosts x) Read b ≡ true
@@ -218,21 +216,22 @@ module _ (past : Past) (p : Point) (w : Node) (cached : Byte → Bool) (b : Byte
         → (edge ns q a && (receives cached ns (command_mask Write) b q q.act || is_wait q.act || is_host w.act && is_submit q.act)) ≡ true → Via ns w leads_to_writes
     via_of c runs m q cm cq sent reached visible =
         let f : Freed ns w q = freed_at m q (available_is m cm sent) (reaches m q cm cq reached) in
-        let v = both (edge ns q a) (receives cached ns (command_mask Write) b q q.act || is_wait q.act || is_host w.act && is_submit q.act) visible in
+        let v = and_parts (edge ns q a) (receives cached ns (command_mask Write) b q q.act || is_wait q.act || is_host w.act && is_submit q.act) visible in
         let r : receives cached ns (command_mask Write) b q q.act ≡ true = received v.1 in
-        let e = simple_receives cached ns (command_mask Write) b q (simple q cq) r in
+        let e = served_receives cached ns (command_mask Write) b q (simple q cq) r in
         record { node = q; passes = leads q.act e.0 e.1 (into_command ns q n on d (simple q cq) v.0) e.2; freed = f }
       where
         received : (receives cached ns (command_mask Write) b q q.act || is_wait q.act || is_host w.act && is_submit q.act) ≡ true → receives cached ns (command_mask Write) b q q.act ≡ true
-        received e = elim (either (receives cached ns (command_mask Write) b q q.act || is_wait q.act) (is_host w.act && is_submit q.act) e) [
-          | inl some ↦ elim (either (receives cached ns (command_mask Write) b q q.act) (is_wait q.act) some) [ inl r ↦ r | inr waits ↦ clash waits (simple_waits q.act (simple q cq)) ]
-          | inr host ↦ clash (both (is_host w.act) (is_submit q.act) host).0 (command_hosts w.act command)
+        received e = elim (or_cases (receives cached ns (command_mask Write) b q q.act || is_wait q.act) (is_host w.act && is_submit q.act) e) [
+          | inl some ↦ elim (or_cases (receives cached ns (command_mask Write) b q q.act) (is_wait q.act) some) [ inl r ↦ r | inr waits ↦ clash waits (served_waits q.act (simple q cq)) ]
+          | inr host ↦ clash (and_parts (is_host w.act) (is_submit q.act) host).0 (command_hosts w.act command)
         ]
 
         leads : (act : Act) (e : Element) → act ≡ Depends Barrier e → (is_host act ≡ true) ⊎ (leads_to_transfers act ≡ true) → has_some (dependency_of e).destination_accesses.0 (command_mask Write) ≡ true → leads_to_writes act ≡ true
         leads act e at (inl host) has = clash host (ap is_host at)
         leads act e at (inr to) has = rw at (rw (sym (ap leads_to_transfers at) ∙ to, has) refl)
 
+    -- a command's write sees another just where that is available at an element that leads to writes
     pub seen_by_write : (c : Cmd) → w.act ≡ Runs c → (seen cached ns w a Write b ≡ true) ↔ Via ns w leads_to_writes
     seen_by_write c runs = (λ e. to (sym (is_sight) ∙ e), λ v. is_sight ∙ from v) where
       is_sight : seen cached ns w a Write b ≡ sight cached ns w a (Runs c) (Runs d) Write b
@@ -241,10 +240,10 @@ module _ (past : Past) (p : Point) (w : Node) (cached : Byte → Bool) (b : Byte
       to : sight cached ns w a (Runs c) (Runs d) Write b ≡ true → Via ns w leads_to_writes
       to e =
           let m = some_member _ ns e in
-          let h = both (edge ns w m.0 && sends cached ns m.0 b m.0.act) _ m.2 in
+          let h = and_parts (edge ns w m.0 && sends cached ns m.0 b m.0.act) _ m.2 in
           let q = some_member _ ns h.1 in
-          let g = both ((same_node m.0 q.0 || before ns m.0 q.0) && visible_by cached ns w a (Runs d) Write b q.0) (same_node q.0 a || before ns q.0 a) q.2 in
-          let k = both (same_node m.0 q.0 || before ns m.0 q.0) (visible_by cached ns w a (Runs d) Write b q.0) g.0 in
+          let g = and_parts ((same_node m.0 q.0 || before ns m.0 q.0) && visible_by cached ns w a (Runs d) Write b q.0) (same_node q.0 a || before ns q.0 a) q.2 in
+          let k = and_parts (same_node m.0 q.0 || before ns m.0 q.0) (visible_by cached ns w a (Runs d) Write b q.0) g.0 in
           via_of c runs m.0 q.0 m.1 q.1 h.0 k.0 k.1
 
       from : Via ns w leads_to_writes → sight cached ns w a (Runs c) (Runs d) Write b ≡ true

@@ -1,12 +1,12 @@
 -- A test of the bytes of a span, and of the bytes of a range.
 use Rattle.std.proofs.Common.{◌⊎◌, inl, inr, ◌≡◌, ◌≤◌, ◌<◌, ◌+◌, ◌-◌, min, ℕ, zero, suc, [], ◌∷◌, refl, sym, ◌∙◌, ap, None, Bool, true, false, arith}
-use Rattle.std.specs.Prelude.{◌^◌, ◌||◌, ◌&&◌, ◌==◌, nat_lt, nat_le}
+use Rattle.std.specs.Prelude.{◌^◌, ◌||◌}
 use Rattle.std.specs.List.{list_any, range_with_len}
 use Rattle.std.proofs.lemmas.Bool.{le-ltb, cases_lt}
+use Rattle.std.proofs.Math.Bool.{or-true, and-false}
 use Rattle.vk_model.specs.Words.{below}
 use Rattle.vk_model.specs.declared.command.Cmd.{Cmd}
 use Rattle.vk_model.specs.declared.command.Cmd.TheVariants as cmd
-use Rattle.vk_model.specs.Moves.{buffer_size, fill_size}
 use Rattle.vk_model.specs.Point as spec
 use Rattle.vk_validate.specs.Tabled.{last_writer, fills_byte, writes_byte}
 use Rattle.vk_validate.specs.Seeks.{Tells}
@@ -18,17 +18,15 @@ none_of : (test : ℕ → Bool) (a n : ℕ) → ((k : ℕ) → a ≤ k → k < a
 none_of test a zero none = refl
 none_of test a (suc n) none = rw (none a (omega arith) (omega arith)) (none_of test (a + 1) n (λ k low high. none k (omega arith) (omega arith)))
 
-or_true : (b : Bool) → (b || true) ≡ true
-or_true true = refl
-or_true false = refl
-
+-- one number of a range that passes
 pub one_of : (test : ℕ → Bool) (a n k : ℕ) → a ≤ k → k < a + n → test k ≡ true → list_any test (range_with_len a n) ≡ true
 one_of test a zero k low high is = absurd (omega arith)
 one_of test a (suc n) k low high is = by_first (λ lt. one_of test (a + 1) n k (omega arith) (omega arith) is) (cases_lt a k) where
   by_first : (a < k → list_any test (range_with_len (a + 1) n) ≡ true) → (a < k) ⊎ (k ≤ a) → list_any test (range_with_len a (suc n)) ≡ true
-  by_first rest (inl lt) = rw (rest lt) (or_true (test a))
+  by_first rest (inl lt) = rw (rest lt) (or-true (test a))
   by_first rest (inr le) = let same : a ≡ k = omega arith in let here : test a ≡ true = ap test same ∙ is in rw here refl
 
+-- and where some number passes, here is one
 pub some_of : (test : ℕ → Bool) (a n : ℕ) → list_any test (range_with_len a n) ≡ true → (k : ℕ) × (a ≤ k) × (k < a + n) × (test k ≡ true)
 some_of test a zero is = absurd cc
 some_of test a (suc n) is = by_test (test a) refl is (some_of test (a + 1) n) where
@@ -62,20 +60,14 @@ module _ (test : ℕ → Bool) (first last n : ℕ) (some : 0 < n) (last_is : la
 
 -- ---- no byte from 2^64 on has a writer
 
-three_false : (a b c : Bool) → (a && (b && c) && false) ≡ false
-three_false false b c = refl
-three_false true false c = refl
-three_false true true false = refl
-three_false true true true = refl
+fills_none_above : (past : spec.Past) (c : Cmd) (b k : ℕ) → 2 ^ 64 ≤ k → fills_byte past c b k ≡ false
+fills_none_above past (cmd.Fill c o n w) b k le = rw (le-ltb k (2 ^ 64) le) (and-false _)
+fills_none_above past _ b k le = refl
 
-fills_none : (past : spec.Past) (c : Cmd) (b k : ℕ) → 2 ^ 64 ≤ k → fills_byte past c b k ≡ false
-fills_none past (cmd.Fill c o n w) b k le = rw (le-ltb k (2 ^ 64) le) (three_false (c == b) (nat_le o k) (nat_lt k (o + fill_size (buffer_size past c) o n)))
-fills_none past _ b k le = refl
-
-writes_none : (past : spec.Past) (d : spec.Deed) (b k : ℕ) → 2 ^ 64 ≤ k → writes_byte past d b k ≡ false
-writes_none past (spec.Run c) b k le = fills_none past c b k le
-writes_none past _ b k le = refl
+writes_none_above : (past : spec.Past) (d : spec.Deed) (b k : ℕ) → 2 ^ 64 ≤ k → writes_byte past d b k ≡ false
+writes_none_above past (spec.Run c) b k le = fills_none_above past c b k le
+writes_none_above past _ b k le = refl
 
 pub no_writer : (past : spec.Past) (b k : ℕ) → 2 ^ 64 ≤ k → last_writer past b k ≡ None
 no_writer [] b k le = refl
-no_writer (p ∷ past) b k le = unwritten-next p past b k (writes_none past p.deed b k le) ∙ no_writer past b k le
+no_writer (p ∷ past) b k le = unwritten-next p past b k (writes_none_above past p.deed b k le) ∙ no_writer past b k le

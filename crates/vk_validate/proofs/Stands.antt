@@ -20,41 +20,23 @@ use Rattle.vk_model.specs.Edge.{is_host, is_command, signaled_by, host_waits}
 use Rattle.vk_model.specs.Before.{IsNumbered}
 use Rattle.vk_model.specs.Seen.{Read, Write, command_mask, host_mask}
 use Rattle.vk_validate.specs.Cleared.{IsCleared}
-use Rattle.vk_validate.specs.Served.{is_served, is_served_deed, is_memory}
-use Rattle.vk_validate.specs.Standing.{Standing, standing, start, after_deed, on_transfers, on_host, counted, available_at, with_dependency, after_elements, signal_at, joined, Signaled, least_signal, after_waits, awaited, after_wait}
+use Rattle.vk_validate.specs.Served.{is_served_deed, is_memory}
+use Rattle.vk_validate.specs.Standing.{Standing, standing, after_deed, on_transfers, on_host, counted, available_at, with_dependency, after_elements, signal_at, joined, Signaled, least_signal, after_waits, awaited, after_wait, after_signal}
 use Rattle.vk_validate.specs.declared.clocks.Clock.{Clock}
 use Rattle.vk_validate.specs.declared.clocks.Order.{Order}
+use Rattle.vk_validate.proofs.Members.{none_in, contains-cons, contains-head, contains-tail}
 use Rattle.vk_validate.proofs.Forms.{entry_cases, command_cases, deed_cases}
-use Rattle.vk_validate.proofs.Pasts.{and-true, served-cons}
 use Rattle.vk_validate.proofs.Plain.{IsPlain, Placed, LastSubmit}
-use Rattle.vk_validate.proofs.Growth.{contains-cons, contains-head, contains-tail, number_below, numbered}
-use Rattle.vk_validate.proofs.Acts.{with_member, with_keeps, none_in, all_passes, on_queue_0, last_queue}
+use Rattle.vk_validate.proofs.Growth.{number_below, numbered}
+use Rattle.vk_validate.proofs.Acts.{with_member, with_keeps, on_queue_0, last_queue, is_served_act, served_node}
 use Rattle.vk_validate.proofs.Ordered.{Submitted, submitted}
 use Rattle.vk_validate.proofs.Places.{IsApart, IsElsewhere, elsewhere}
 use Rattle.vk_validate.proofs.Reach.{served_of}
 use Rattle.vk_validate.proofs.Freed.{Freed, Shown, Via, ShownVia, freed_stands, freed_later, shown_via, shown_freed, freed_stays, freed_was, shown_stays, shown_was}
-use Rattle.vk_validate.proofs.Causes.{is_simple}
 use Rattle.vk_validate.proofs.Waits.{IsRising, Under, least_some}
 use Rattle.vk_validate.proofs.Clocked.{Means}
 use Rattle.vk_validate.proofs.Advances.{host_means, run_means}
 use Rattle.vk_validate.proofs.BatchNodes.{barrier_means, signal_freed, signal_shown, signal_means}
-
--- ---- nodes of served forms
-
-simple_acts : (d : Deed) → is_served_deed d ≡ true → list_all is_simple (acts d) ≡ true
-simple_acts = let P : Deed → Type 0 = λ d. list_all is_simple (acts d) ≡ true in
-    deed_cases P (λ x h. rw h refl) (command_cases (λ c. P (Run c)) (λ b o n w. refl) (λ es all. elements es all)) (λ s. refl)
-  where
-    elements : (es : List Element) → list_all is_memory es ≡ true → list_all is_simple (map (Depends Barrier) es) ≡ true
-    elements [] all = refl
-    elements (e ∷ es) all = let h = and-true (is_memory e) (list_all is_memory es) all in rw (h.0) (elements es h.1)
-
-pub simple_node : (past : Past) → is_served past ≡ true → (n : Node) → Contains (nodes past) n → is_simple n.act ≡ true
-simple_node [] served n c = absurd (none_in n c)
-simple_node (p ∷ past) served n c = let s = served-cons p past served in elim (with_member p (acts p.deed) (nodes past) n c) [
-  | inl older ↦ simple_node past s.1 n older
-  | inr new ↦ all_passes is_simple (acts p.deed) n.act (simple_acts p.deed s.0) new.1
-]
 
 -- ---- several nodes more
 
@@ -64,6 +46,7 @@ module _ (p : Point) (w : Node) where
   freed_grows (a ∷ more) ns numbers m f =
       let n : Node = record { number = length ns; point = p; act = a } in freed_grows more (n ∷ ns) (refl, numbers) m (freed_stays n ns refl numbers w m f)
 
+  -- more nodes change nothing of what is available or shown at an older one
   pub freed_ungrown : (more : List Act) (ns : List Node) → IsNumbered ns → (m : Node) → Contains ns m → Freed (with_acts p more ns) w m → Freed ns w m
   freed_ungrown [] ns numbers m c f = f
   freed_ungrown (a ∷ more) ns numbers m c f =
@@ -94,6 +77,7 @@ abbrev pub IsCommandAt : Past → Node → ℕ → Type 0
 IsCommandAt [] w j = ⊥
 IsCommandAt (p ∷ past) w j = IsRunAt past p w j ⊎ IsCommandAt past w j
 
+-- a command at a point stands among the nodes
 pub command_stands : (past : Past) (w : Node) (j : ℕ) → IsCommandAt past w j → Contains (nodes past) w × (is_command w.act ≡ true) × (j < length past)
 command_stands [] w j at = absurd at
 command_stands (p ∷ past) w j (inr old) = let h = command_stands past w j old in (with_keeps p (acts p.deed) (nodes past) w h.0, h.1, let lt = h.2 in omega (arith, lt))
@@ -229,7 +213,7 @@ newest_means o n ns new numbers j b = record {
   hidden v = let u = shown_via (n ∷ ns) n v.node v.shown in none_after n ns new numbers u.node u.freed
 
 -- what a clock says of an older node stays
-pub clocked_stays : (p : Point) (past : Past) (c : Clock) (m : Node) → Contains (nodes past) m → c.available ≤ length past → c.readable ≤ length past → IsClocked past c m → IsClocked (p ∷ past) c m
+clocked_stays : (p : Point) (past : Past) (c : Clock) (m : Node) → Contains (nodes past) m → c.available ≤ length past → c.readable ≤ length past → IsClocked past c m → IsClocked (p ∷ past) c m
 clocked_stays p past c m stands a r is w j (inr old) =
     let h = is w j old in
     let ns : List Node = nodes past in (
@@ -272,8 +256,8 @@ module _ (past : Past) (cleared : IsCleared past) (plain : IsPlain past) (s : St
     | inr new ↦ absurd (let bad : None ≡ Some (t, v) = sym (none m.act new.1) ∙ e in cc)
   ]
 
-  simple : (m : Node) → Contains (nodes past) m → is_simple m.act ≡ true
-  simple = simple_node past (served_of past cleared)
+  simple : (m : Node) → Contains (nodes past) m → is_served_act m.act ≡ true
+  simple = served_node past (served_of past cleared)
 
   on_0 : (m : Node) → Contains (nodes past) m → is_host m.act ≡ false → m.point.queue ≡ 0
   on_0 = on_queue_0 past (served_of past cleared) plain
@@ -303,6 +287,7 @@ module _ (past : Past) (cleared : IsCleared past) (plain : IsPlain past) (s : St
   abbrev filling : Point → Cmd → Node
   filling p c = record { number = length (nodes past); point = record p { deed = Run c }; act = Runs c }
 
+  -- the order still stands after a fill
   pub after_fill : (p : Point) (b o : ℕ) (n : Length) (word : ℕ) → IsStanding s (record p { deed = Run (cmd.Fill b o n word) } ∷ past)
   after_fill p b o n word = record {
     bounded = more_points s.order (length past) stands.bounded;
@@ -333,6 +318,7 @@ module _ (past : Past) (cleared : IsCleared past) (plain : IsPlain past) (s : St
     abbrev at_run : Cmd → Point
     at_run c = record p { deed = Run c }
 
+    -- and after a barrier
     pub after_barrier : (es : List Element) → list_all is_memory es ≡ true → IsElsewhere (record p { deed = Run (cmd.Barrier es) }) past
         → IsStanding (record { order = after_elements s.order (length past) es s.order; signals = s.signals }) (record p { deed = Run (cmd.Barrier es) } ∷ past)
     after_barrier es all away = record {
@@ -375,7 +361,8 @@ module _ (past : Past) (cleared : IsCleared past) (plain : IsPlain past) (s : St
     abbrev new_signal : SemaphoreSubmit → Signaled
     new_signal x = record { semaphore = x.semaphore; value = x.value; clock = signal_at s.order x.stages.0 (length past) }
 
-    pub after_signal_point : (x : SemaphoreSubmit) → IsStanding (Rattle.vk_validate.specs.Standing.after_signal x (signal_at s.order x.stages.0 (length past)) s) (record p { deed = Signal x } ∷ past)
+    -- and after a signal
+    pub after_signal_point : (x : SemaphoreSubmit) → IsStanding (after_signal x (signal_at s.order x.stages.0 (length past)) s) (record p { deed = Signal x } ∷ past)
     after_signal_point x = record {
       bounded = more_points (record s.order { signals = joined s.order.signals (new_clock x) }) (length past) (record {
         transfers = b.transfers;

@@ -1,25 +1,21 @@
 -- The tables after a point, and what they say of counters.
-use Rattle.std.proofs.Common.{◌≡◌, ◌≤◌, ◌<◌, ◌+◌, max, ℕ, List, [], ◌∷◌, ◌++◌, refl, ap, sym, ◌∙◌, take, length, Option, Some, None, arith, ◌⊎◌, inl, inr, subst}
-use Rattle.std.specs.Prelude.{Bool, true, false, slice_get}
-use Rattle.std.specs.List.{fold}
+use Rattle.std.proofs.Common.{◌≡◌, ◌≤◌, ◌<◌, ◌+◌, max, ℕ, List, [], ◌∷◌, ◌++◌, refl, ap, sym, ◌∙◌, take, length, Option, Some, None, arith, ◌⊎◌, inl, inr, subst, cond, ◌≢◌}
+use Rattle.std.specs.Prelude.{Bool, true, false, slice_get, ◌==◌, IsSome, IfSome, ◌&&◌, nat_le, nat_lt, if◌then◌else◌, ◌^◌}
+use Rattle.std.specs.List.{fold, cons_option}
 use Rattle.std.proofs.lemmas.List.{take_more}
 use Rattle.std.proofs.lemmas.Option.{slice_get_within, get_or_from_slice_get}
-use Rattle.std.specs.List.{cons_option}
-use Rattle.std.proofs.Common.{cond}
-use Rattle.std.specs.Prelude.{◌==◌}
+use Rattle.std.proofs.lemmas.Bool.{lt-leb, le-leb, lt-ltb, le-ltb, eqb-true, eqb-false, cases_lt}
+use Rattle.std.proofs.Math.Bool.{and-false}
 use Rattle.vk_model.specs.Point as spec
 use Rattle.vk_model.specs.Objects.{initial}
 use Rattle.vk_model.specs.Order.{counter, signaled, signal_of}
+use Rattle.vk_model.specs.Words.{within}
+use Rattle.vk_model.specs.Moves.{fill_size, buffer_size}
 use Rattle.vk_validate.specs.declared.steps.Step.{Step}
 use Rattle.vk_validate.specs.Told.{past, past_of, point_of}
 use Rattle.vk_validate.specs.Tabled.{writes_byte, last_writer, WritersAre}
 use Rattle.vk_validate.specs.Writers.{WasLast, IsLastWriter, IsAssigned}
 use Rattle.vk_validate.specs.Fits.{IsFillOf}
-use Rattle.vk_model.specs.Words.{within}
-use Rattle.vk_model.specs.Moves.{fill_size, buffer_size}
-use Rattle.std.proofs.Common.{◌≢◌}
-use Rattle.std.specs.Prelude.{IsSome, IfSome, ◌&&◌, nat_le, nat_lt, if◌then◌else◌, ◌^◌}
-use Rattle.std.proofs.lemmas.Bool.{lt-leb, le-leb, lt-ltb, le-ltb, eqb-true, eqb-false, cases_lt}
 use Rattle.vk_validate.specs.declared.writers.LastWriters.{LastWriters}
 use Rattle.vk_validate.proofs.Batches.{past_of-push}
 
@@ -40,12 +36,14 @@ take_next xs n x is =
     let lt : n < length xs = slice_get_within xs n x is in
     take_more xs n x lt ∙ ap (λ y. take n xs ++ y ∷ []) (get_or_from_slice_get xs n x x is)
 
+-- the past of a walk that goes one point on
 pub past-next : (points : List Step) (count : ℕ) (x : Step) → slice_get points count ≡ Some x → past (record { points = points; count = count + 1 }) ≡ point_of x ∷ past (record { points = points; count = count })
 unfolding past
 past-next points count x is = ap past_of (take_next points count x is) ∙ past_of-push (take count points) x
 
 pub ruleset steps = (past-next)
 
+-- what a signal adds to the values of its semaphore
 pub signaled-some : (p : spec.Point) (past : spec.Past) (x y : ℕ) → signal_of p.deed ≡ Some (x, y) → (s : ℕ) → fold max 0 (signaled (p ∷ past) s) ≡ cond (x == s) (max y (fold max 0 (signaled past s))) (fold max 0 (signaled past s))
 signaled-some p past x y e s = rw e (elim (x == s) as (λ b. fold max 0 (cons_option (cond b (Some y) None) (signaled past s)) ≡ cond b (max y (fold max 0 (signaled past s))) (fold max 0 (signaled past s))) [ true ↦ (let f = fold-max (signaled past s) (max 0 y) in omega arith) | false ↦ refl ])
 
@@ -53,6 +51,7 @@ signaled-some p past x y e s = rw e (elim (x == s) as (λ b. fold max 0 (cons_op
 pub unwritten-next : (p : spec.Point) (past : spec.Past) (b k : ℕ) → writes_byte past p.deed b k ≡ false → last_writer (p ∷ past) b k ≡ last_writer past b k
 unwritten-next p past b k e = rw e refl
 
+-- a point that writes nothing leaves the last writers
 pub writers_stay : (writers : ℕ → Option LastWriters) (p : spec.Point) (past : spec.Past) → ((b k : ℕ) → writes_byte past p.deed b k ≡ false) → WritersAre writers past → WritersAre writers (p ∷ past)
 writers_stay writers p past none are b k lt = subst (λ (w : Option ℕ). WasLast (writers b) k w) (sym (unwritten-next p past b k (none b k))) (are b k lt)
 
@@ -60,10 +59,7 @@ within_not_low : (o n k : ℕ) → k < o → within o n k ≡ false
 within_not_low o n k lt = rw (lt-leb o k lt) refl
 
 within_not_high : (o n k : ℕ) → o + n ≤ k → within o n k ≡ false
-within_not_high o n k le = rw (le-ltb k (o + n) le) (and_false (nat_le o k)) where
-  and_false : (b : Bool) → (b && false) ≡ false
-  and_false true = refl
-  and_false false = refl
+within_not_high o n k le = rw (le-ltb k (o + n) le) (and-false (nat_le o k))
 
 within_yes : (o n k : ℕ) → o ≤ k → k < o + n → within o n k ≡ true
 within_yes o n k low high = rw (le-leb o k low, lt-ltb k (o + n) high) refl

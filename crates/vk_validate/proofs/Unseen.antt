@@ -2,7 +2,8 @@
 use Rattle.std.proofs.Common.{◌≡◌, ◌<◌, ◌≤◌, ◌+◌, ◌-◌, ◌^◌, ℕ, List, [], ◌∷◌, length, map, Bool, true, false, not, ◌&&◌, ◌||◌, ◌==◌, refl, ap, sym, ◌∙◌, subst, arith, inl, inr, Option, Some, None, cond}
 use Rattle.std.specs.Prelude.{Contains, ◌↔◌, nat_lt, nat_le}
 use Rattle.std.specs.List.{list_any, list_all}
-use Rattle.std.proofs.lemmas.Bool.{eqb-true, eq-eqb, ltb-true, lt-ltb, leb-true, le-leb, le-ltb, cases_lt}
+use Rattle.std.proofs.lemmas.Bool.{eqb-true, eq-eqb, ltb-true, lt-ltb, leb-true, le-leb, le-ltb, cases_lt, and_parts, or_cases, not-true, false_from_ne_true, or_left}
+use Rattle.std.proofs.Math.Bool.{and-false}
 use Rattle.vk_model.specs.declared.command.Cmd.{Cmd}
 use Rattle.vk_model.specs.declared.command.Cmd.TheVariants as cmd
 use Rattle.vk_model.specs.declared.command.Element.{Element}
@@ -19,42 +20,39 @@ use Rattle.vk_model.specs.Node.{Node, Act, Hosts, Waits, Signals, Runs, Depends,
 use Rattle.vk_model.specs.Edge.{edge, is_host, is_command, transfer_stage, second_scope}
 use Rattle.vk_model.specs.Ownership.{dependency_of}
 use Rattle.vk_model.specs.Seen.{Read, Write}
-use Rattle.vk_model.specs.Access.{hazard, raw, waw, reads, writes, sees, precedes, is_in, bytes_of, writes_of, targets}
+use Rattle.vk_model.specs.Access.{raw, waw, reads, writes, sees, precedes, is_in, bytes_of, writes_of, host_reads}
 use Rattle.vk_model.specs.RulesBytes.{breaks_hazard_raw, breaks_hazard_waw}
 use Rattle.vk_validate.specs.Cleared.{IsCleared}
 use Rattle.vk_validate.specs.Served.{is_served, is_served_deed}
 use Rattle.vk_validate.specs.Standing.{standing}
 use Rattle.vk_validate.specs.Tabled.{writes_byte, last_writer}
 use Rattle.vk_validate.specs.Tests.{reads_unseen, overwrites_unseen}
+use Rattle.vk_validate.proofs.Members.{none_in, contains-cons, contains-head, contains-tail, all_passes, some_member, member_passes, any_map}
+use Rattle.vk_validate.proofs.Truths.{no, clash, bool_same}
 use Rattle.vk_validate.proofs.Forms.{entry_cases, command_cases, deed_cases}
-use Rattle.vk_validate.proofs.Pasts.{served-cons}
+use Rattle.vk_validate.proofs.Pasts.{served-cons, served-next}
 use Rattle.vk_validate.proofs.Plain.{IsPlain, Placed, LastSubmit}
-use Rattle.vk_validate.proofs.Growth.{contains-cons, contains-head, contains-tail, number_below, numbered}
-use Rattle.vk_validate.proofs.Paths.{some_member, member_passes}
+use Rattle.vk_validate.proofs.Growth.{number_below, numbered}
 use Rattle.vk_validate.proofs.NextNodes.{next_nodes-lined}
-use Rattle.vk_validate.proofs.Acts.{with_member, none_in, all_passes, on_queue_0, last_queue}
+use Rattle.vk_validate.proofs.Acts.{with_member, on_queue_0, last_queue, served_acts, served_node, is_served_act, batch_acts}
 use Rattle.vk_validate.proofs.Ordered.{host_edge, hosts_follow}
-use Rattle.vk_validate.proofs.Hazards.{hazard_none, lined_act, served_acts, served_node, is_served_act, reads_none, writes_none, runs, fill-targets, and_false}
+use Rattle.vk_validate.proofs.Hazards.{hazard_none, lined_act, reads_none, writes_none, fill-targets, idle_elements}
 use Rattle.vk_validate.proofs.Spans.{one_of, some_of}
 use Rattle.vk_validate.proofs.Places.{IsApart}
 use Rattle.vk_validate.proofs.Reach.{served_of, fills_low, kept_size}
 use Rattle.vk_validate.proofs.Freed.{Shown, Via, ShownVia, leads_to_transfers, leads_to_writes, shown_stands}
-use Rattle.vk_validate.proofs.Causes.{no, both, either, opposite, meet_transfers}
-use Rattle.vk_validate.proofs.Clocked.{Means, clash, stage_edge, shown_by}
+use Rattle.vk_validate.proofs.Causes.{meet_transfers}
+use Rattle.vk_validate.proofs.Clocked.{Means, stage_edge, shown_by}
 use Rattle.vk_validate.proofs.BatchNodes.{queue_stages, barrier_of, leads_element, element_hosts}
-use Rattle.vk_validate.proofs.Stands.{IsStanding, IsCommandAt, command_stands, simple_node, stands, after_host, after_fill}
+use Rattle.vk_validate.proofs.Stands.{IsStanding, IsCommandAt, command_stands, stands, after_host, after_fill}
 use Rattle.vk_validate.proofs.Sights.{uncached, seen_by_read, seen_by_write}
 
 -- ---- bytes of a range
 
-any_map : {A B : Type 0} (f : B → Bool) (g : A → B) (xs : List A) → list_any f (map g xs) ≡ list_any (λ x. f (g x)) xs
-any_map f g [] = refl
-any_map f g (x ∷ xs) = ap (λ (t : Bool). f (g x) || t) (any_map f g xs)
-
 byte_within : (b k c o s : ℕ) → is_in (in_buffer b k) (bytes_of c o s) ≡ true → (b ≡ c) × (o ≤ k) × (k < o + s)
 byte_within b k c o s e =
     let at = some_of (λ j. b == c && k == o + j) 0 s (sym (any_map (same_byte (in_buffer b k)) (λ j. in_buffer c (o + j)) (below s)) ∙ e) in
-    let parts = both (b == c) (k == o + at.0) at.3 in
+    let parts = and_parts (b == c) (k == o + at.0) at.3 in
     let is : k ≡ o + at.0 = eqb-true k (o + at.0) parts.1 in
     let high = at.2 in (eqb-true b c parts.0, omega (arith, is), omega (arith, is, high))
 
@@ -87,17 +85,17 @@ last_is (p ∷ past) b k m e = go (writes_byte past p.deed b k) refl e (last_is 
   go false w e rest = let found = rest e in (found.0, found.1, older found.2, found.3, found.4)
 
 -- a fill that writes a byte
-pub record IsFillOf (d : Deed) (before : Past) (b k : ℕ) : Type 0 where
+pub record IsFillOfByte (d : Deed) (before : Past) (b k : ℕ) : Type 0 where
   pub offset : ℕ
   pub size : Length
   pub word : ℕ
   pub is : d ≡ Run (cmd.Fill b offset size word)
   pub inside : within offset (fill_size (buffer_size before b) offset size) k ≡ true
 
-fill_of : (d : Deed) (before : Past) (b k : ℕ) → writes_byte before d b k ≡ true → IsFillOf d before b k
+fill_of : (d : Deed) (before : Past) (b k : ℕ) → writes_byte before d b k ≡ true → IsFillOfByte d before b k
 fill_of (Run (cmd.Fill c o n w)) before b k e =
-    let outer = both (c == b && within o (fill_size (buffer_size before c) o n) k) (nat_lt k (2 ^ 64)) e in
-    let inner = both (c == b) (within o (fill_size (buffer_size before c) o n) k) outer.0 in
+    let outer = and_parts (c == b && within o (fill_size (buffer_size before c) o n) k) (nat_lt k (2 ^ 64)) e in
+    let inner = and_parts (c == b) (within o (fill_size (buffer_size before c) o n) k) outer.0 in
     let same : c ≡ b = eqb-true c b inner.0 in
     record { offset = o; size = n; word = w; is = ap (λ (x : ℕ). Run (cmd.Fill x o n w)) same; inside = subst (λ (x : ℕ). within o (fill_size (buffer_size before x) o n) k ≡ true) same inner.1 }
 fill_of (Run (cmd.Update b o bytes)) before c k e = no e
@@ -182,12 +180,7 @@ fill_point (p ∷ past) served x c at is = let s = served-cons p past served in 
 
 -- ---- writers of a byte, before a point that makes nothing
 
-bool_same : (a b : Bool) → (a ≡ true → b ≡ true) → (b ≡ true → a ≡ true) → a ≡ b
-bool_same true b f g = sym (f refl)
-bool_same false true f g = g refl
-bool_same false false f g = refl
-
-is_run : (a : Act) → runs a ≡ true → is_served_act a ≡ true → (b o : ℕ) × (n : Length) × (w : ℕ) × (a ≡ Runs (cmd.Fill b o n w))
+is_run : (a : Act) → is_command a ≡ true → is_served_act a ≡ true → (b o : ℕ) × (n : Length) × (w : ℕ) × (a ≡ Runs (cmd.Fill b o n w))
 is_run (Runs (cmd.Fill b o n w)) r h = (b, o, n, w, refl)
 is_run (Runs (cmd.Update b o bytes)) r h = no h
 is_run (Runs (cmd.Copy a b gs)) r h = no h
@@ -218,7 +211,7 @@ module _ (past : Past) (cleared : IsCleared past) (pt : Point) (same_size : (c :
   writes_fill x c o n w is = ap (λ (a : Act). writes_of (pt ∷ past) x.point.queue a) is ∙ fill-targets (pt ∷ past) c o n w ∙ ap (λ (s : ℕ). bytes_of c o (fill_size s o n)) (same_size c)
 
   writer_of : (x : Node) → Contains (nodes past) x → (b k : ℕ) → is_in (in_buffer b k) (writes (pt ∷ past) x) ≡ true → IsWriter x b k
-  writer_of x cx b k e = by_act (runs x.act) refl where
+  writer_of x cx b k e = by_act (is_command x.act) refl where
     served : is_served past ≡ true
     served = served_of past cleared
 
@@ -235,7 +228,7 @@ module _ (past : Past) (cleared : IsCleared past) (pt : Point) (same_size : (c :
         let last = last_from past at.before x.point b k at.comes writes_it in
         record { command = cmd.Fill c o n w; runs_it = is; number = length at.before; at = at.at; last = last.0; last_is_it = last.1; not_after = last.2 }
 
-    by_act : (t : Bool) → runs x.act ≡ t → IsWriter x b k
+    by_act : (t : Bool) → is_command x.act ≡ t → IsWriter x b k
     by_act true r = let f = is_run x.act r (served_node past served x cx) in by_fill f.0 f.1 f.2 f.3 f.4
     by_act false r = no (sym (ap (λ (bs : List Byte). is_in (in_buffer b k) bs) (writes_none (pt ∷ past) x.point.queue x.act (served_node past served x cx) r)) ∙ e)
 
@@ -256,7 +249,7 @@ module _ (past : Past) (cleared : IsCleared past) (pt : Point) (same_size : (c :
       let x : Node = fill_node from.0 from.1 c in
       let at : IsCommandAt past x (length from.0) = fill_stands past from.0 from.1 b fill.offset fill.size fill.word from.2 fill.is in
       let size_is : buffer_size past b ≡ buffer_size from.0 b = kept_size past from.0 from.1 b fill.offset fill.size fill.word cleared from.2 fill.is in
-      let parts = both (nat_le fill.offset k) (nat_lt k (fill.offset + fill_size (buffer_size from.0 b) fill.offset fill.size)) fill.inside in
+      let parts = and_parts (nat_le fill.offset k) (nat_lt k (fill.offset + fill_size (buffer_size from.0 b) fill.offset fill.size)) fill.inside in
       let high : k < fill.offset + fill_size (buffer_size from.0 b) fill.offset fill.size = ltb-true k (fill.offset + fill_size (buffer_size from.0 b) fill.offset fill.size) parts.1 in
       record {
         node = x;
@@ -267,14 +260,6 @@ module _ (past : Past) (cleared : IsCleared past) (pt : Point) (same_size : (c :
         writes_it = ap (λ (bs : List Byte). is_in (in_buffer b k) bs) (writes_fill x b fill.offset fill.size fill.word refl)
             ∙ within_byte b k b fill.offset (fill_size (buffer_size past b) fill.offset fill.size) refl (leb-true fill.offset k parts.0) (subst (λ (s : ℕ). k < fill.offset + fill_size s fill.offset fill.size) (sym size_is) high);
       }
-
-opposite_of : (t : Bool) → (t ≡ true → ⊥) → t ≡ false
-opposite_of true none = absurd (none refl)
-opposite_of false none = refl
-
-or_left : (t : Bool) → t ≡ true → (t || false) ≡ true
-or_left true e = refl
-or_left false e = no e
 
 -- ---- HAZARD_RAW
 
@@ -289,8 +274,7 @@ module _ (past : Past) (cleared : IsCleared past) (plain : IsPlain past) (apart 
   readable = (standing past).order.host.readable
 
   served_now : is_served (reading ∷ past) ≡ true
-  unfolding is_served
-  served_now = rw (served_of past cleared) refl
+  served_now = served-next reading past refl (served_of past cleared)
 
   -- a read sees a write where it comes after the number of its point
   read_sees : (x : Node) (j : ℕ) (c : Cmd) (byte : Byte) → IsCommandAt past x j → x.act ≡ Runs c → (sees (reading ∷ past) x reader Read byte ≡ true) ↔ (j < readable)
@@ -308,17 +292,18 @@ module _ (past : Past) (cleared : IsCleared past) (plain : IsPlain past) (apart 
     h = command_stands past x j at
 
     seen_it : (sees (reading ∷ past) x reader Read byte ≡ true) ↔ Shown (reader ∷ nodes past) x reader
-    seen_it = seen_by_read past reading x (λ c. is_cached (reading ∷ past) (resource_at c)) byte h.1 (contains-tail reader (nodes past) x h.0) (simple_node (reading ∷ past) served_now) reader (entry.Read b o n) refl (contains-head reader (nodes past)) (uncached (reading ∷ past) served_now (resource_at byte)) c is
+    seen_it = seen_by_read past reading x (λ c. is_cached (reading ∷ past) (resource_at c)) byte h.1 (contains-tail reader (nodes past) x h.0) (served_node (reading ∷ past) served_now) reader (entry.Read b o n) refl (contains-head reader (nodes past)) (uncached (reading ∷ past) served_now (resource_at byte)) c is
 
     comes : ShownVia (nodes past) x is_host → Shown (reader ∷ nodes past) x reader
     comes v = shown_by reader (nodes past) refl (numbered past) x j v.node v.shown (host_edge (nodes past) v.node reader (number_below (nodes past) (numbered past) v.node (shown_stands (nodes past) x v.node v.shown)) (hosts_follow v.node reader v.passes refl))
 
+  -- HAZARD_RAW of a read of the host
   pub raw_is : breaks_hazard_raw past reading ≡ reads_unseen past (Host (entry.Read b o n))
   raw_is = rw (next_nodes-lined past reading) (bool_same _ _ to from) where
     to : (list_any (λ x. precedes x reader && raw (reading ∷ past) x reader) (reader ∷ nodes past) || false) ≡ true → reads_unseen past (Host (entry.Read b o n)) ≡ true
     to e =
-        let x = some_member (λ x. precedes x reader && raw (reading ∷ past) x reader) (reader ∷ nodes past) (elim (either _ false e) [ inl is ↦ is | inr bad ↦ no bad ]) in
-        let parts = both (precedes x.0 reader) (raw (reading ∷ past) x.0 reader) x.2 in
+        let x = some_member (λ x. precedes x reader && raw (reading ∷ past) x reader) (reader ∷ nodes past) (elim (or_cases _ false e) [ inl is ↦ is | inr bad ↦ no bad ]) in
+        let parts = and_parts (precedes x.0 reader) (raw (reading ∷ past) x.0 reader) x.2 in
         elim (contains-cons reader (nodes past) x.0 x.1) [
           | inl same ↦ no (sym (ap (λ (t : Bool). t && not (is_host x.0.act && true)) (le-ltb x.0.number (length (nodes past)) (let e : length (nodes past) ≡ x.0.number = ap (λ (m : Node). m.number) same in omega arith))) ∙ parts.0)
           | inr old ↦ at_byte x.0 old (some_of (λ k. is_in (in_buffer b (o + k)) (writes (reading ∷ past) x.0) && not (sees (reading ∷ past) x.0 reader Read (in_buffer b (o + k)))) 0 n (sym (any_map (λ c. is_in c (writes (reading ∷ past) x.0) && not (sees (reading ∷ past) x.0 reader Read c)) (λ k. in_buffer b (o + k)) (below n)) ∙ parts.1))
@@ -326,11 +311,11 @@ module _ (past : Past) (cleared : IsCleared past) (plain : IsPlain past) (apart 
       where
         at_byte : (x : Node) → Contains (nodes past) x → ((k : ℕ) × (0 ≤ k) × (k < 0 + n) × ((is_in (in_buffer b (o + k)) (writes (reading ∷ past) x) && not (sees (reading ∷ past) x reader Read (in_buffer b (o + k)))) ≡ true)) → reads_unseen past (Host (entry.Read b o n)) ≡ true
         at_byte x old k =
-            let parts = both (is_in (in_buffer b (o + k.0)) (writes (reading ∷ past) x)) (not (sees (reading ∷ past) x reader Read (in_buffer b (o + k.0)))) k.3 in
+            let parts = and_parts (is_in (in_buffer b (o + k.0)) (writes (reading ∷ past) x)) (not (sees (reading ∷ past) x reader Read (in_buffer b (o + k.0)))) k.3 in
             let w = writer_of past cleared reading (λ c. refl) x old b (o + k.0) parts.0 in
             let sight = read_sees x w.number w.command (in_buffer b (o + k.0)) w.at w.runs_it in
             let late = w.not_after in
-            let unseen : readable ≤ w.last = elim (cases_lt w.number readable) [ inl lt ↦ clash (sight.1 lt) (opposite (sees (reading ∷ past) x reader Read (in_buffer b (o + k.0))) parts.1) | inr ge ↦ omega (arith, ge, late) ] in
+            let unseen : readable ≤ w.last = elim (cases_lt w.number readable) [ inl lt ↦ clash (sight.1 lt) (not-true (sees (reading ∷ past) x reader Read (in_buffer b (o + k.0))) parts.1) | inr ge ↦ omega (arith, ge, late) ] in
             one_of (λ k. holds (last_writer past b (o + k)) (nat_le readable)) 0 n k.0 k.1 k.2 (rw w.last_is_it (le-leb readable w.last unseen))
 
     from : reads_unseen past (Host (entry.Read b o n)) ≡ true → (list_any (λ x. precedes x reader && raw (reading ∷ past) x reader) (reader ∷ nodes past) || false) ≡ true
@@ -341,12 +326,12 @@ module _ (past : Past) (cleared : IsCleared past) (plain : IsPlain past) (apart 
           let w = last_node past cleared reading (λ c. refl) b (o + k) m at in
           let sight = read_sees w.node m w.command (in_buffer b (o + k)) w.at w.runs_it in
           let late : readable ≤ m = leb-true readable m h in
-          let unseen : sees (reading ∷ past) w.node reader Read (in_buffer b (o + k)) ≡ false = opposite_of (sees (reading ∷ past) w.node reader Read (in_buffer b (o + k))) (λ e. let lt = sight.0 e in omega (arith, lt, late)) in
+          let unseen : sees (reading ∷ past) w.node reader Read (in_buffer b (o + k)) ≡ false = false_from_ne_true (sees (reading ∷ past) w.node reader Read (in_buffer b (o + k))) (λ e. let lt = sight.0 e in omega (arith, lt, late)) in
           let hit : raw (reading ∷ past) w.node reader ≡ true =
           any_map (λ c. is_in c (writes (reading ∷ past) w.node) && not (sees (reading ∷ past) w.node reader Read c)) (λ k. in_buffer b (o + k)) (below n)
           ∙ one_of (λ k. is_in (in_buffer b (o + k)) (writes (reading ∷ past) w.node) && not (sees (reading ∷ past) w.node reader Read (in_buffer b (o + k)))) 0 n k low high (rw (w.writes_it, unseen) refl) in
           let first : precedes w.node reader ≡ true = rw (lt-ltb w.node.number (length (nodes past)) (number_below (nodes past) (numbered past) w.node w.stands_in), ap is_host w.runs_it) refl in
-          or_left (list_any (λ x. precedes x reader && raw (reading ∷ past) x reader) (reader ∷ nodes past)) (member_passes (λ x. precedes x reader && raw (reading ∷ past) x reader) (reader ∷ nodes past) w.node (contains-tail reader (nodes past) w.node w.stands_in) (rw (first, hit) refl))
+          or_left (list_any (λ x. precedes x reader && raw (reading ∷ past) x reader) (reader ∷ nodes past)) false (member_passes (λ x. precedes x reader && raw (reading ∷ past) x reader) (reader ∷ nodes past) w.node (contains-tail reader (nodes past) w.node w.stands_in) (rw (first, hit) refl))
 
 -- ---- HAZARD_WAW
 
@@ -364,8 +349,7 @@ module _ (past : Past) (cleared : IsCleared past) (plain : IsPlain past) (apart 
   size = fill_size (buffer_size past b) o n
 
   served_then : is_served (writing ∷ past) ≡ true
-  unfolding is_served
-  served_then = rw (served_of past cleared) refl
+  served_then = served-next writing past refl (served_of past cleared)
 
   -- elements before the transfers come before the command
   edge_to : (q : Node) → Contains (writer ∷ nodes past) q → leads_to_transfers q.act ≡ true → edge (writer ∷ nodes past) q writer ≡ true
@@ -374,7 +358,7 @@ module _ (past : Past) (cleared : IsCleared past) (plain : IsPlain past) (apart 
     | inr old ↦ (
         let is = leads_element q.act (inl leads) in
         let hosts = element_hosts q.act is in
-        let e = barrier_of q.act (simple_node past (served_of past cleared) q old) is in
+        let e = barrier_of q.act (served_node past (served_of past cleared) q old) is in
         let on : q.point.queue ≡ p.queue = on_queue_0 past (served_of past cleared) plain q old hosts.0 ∙ sym (last_queue p.entry p.queue past (served_of past cleared) last) in
         stage_edge (writer ∷ nodes past) q writer (number_below (nodes past) (numbered past) q old) (queue_stages q writer (dependency_of e.0).destination_stages.0 transfer_stage hosts.0 refl on (rw is refl) (rw hosts.1 refl) (ap second_scope e.1) refl (meet_transfers (dependency_of e.0).destination_stages.0 transfer_stage (sym (ap leads_to_transfers e.1) ∙ leads) refl)))
   ]
@@ -389,7 +373,7 @@ module _ (past : Past) (cleared : IsCleared past) (plain : IsPlain past) (apart 
     h = command_stands past x j at
 
     seen_it : (sees (writing ∷ past) x writer Write byte ≡ true) ↔ Via (writer ∷ nodes past) x leads_to_writes
-    seen_it = seen_by_write past writing x (λ c. is_cached (writing ∷ past) (resource_at c)) byte h.1 (contains-tail writer (nodes past) x h.0) (simple_node (writing ∷ past) served_then) (length (nodes past)) writing (cmd.Fill b o n word) (contains-head writer (nodes past)) edge_to c is
+    seen_it = seen_by_write past writing x (λ c. is_cached (writing ∷ past) (resource_at c)) byte h.1 (contains-tail writer (nodes past) x h.0) (served_node (writing ∷ past) served_then) (length (nodes past)) writing (cmd.Fill b o n word) (contains-head writer (nodes past)) edge_to c is
 
   abbrev overwrites : Node → Byte → Bool
   overwrites x c = is_in c (writes (writing ∷ past) x) && not (sees (writing ∷ past) x writer Write c)
@@ -397,12 +381,13 @@ module _ (past : Past) (cleared : IsCleared past) (plain : IsPlain past) (apart 
   writes_range : (x : Node) → waw (writing ∷ past) x writer ≡ list_any (λ k. overwrites x (in_buffer b (o + k))) (below size)
   writes_range x = ap (λ (bs : List Byte). list_any (overwrites x) bs) (fill-targets (writing ∷ past) b o n word) ∙ any_map (overwrites x) (λ k. in_buffer b (o + k)) (below size)
 
+  -- HAZARD_WAW of a fill
   pub waw_is : breaks_hazard_waw past writing ≡ overwrites_unseen past (Run (cmd.Fill b o n word))
   waw_is = rw (next_nodes-lined past writing) (bool_same _ _ to from) where
     to : (list_any (λ x. precedes x writer && waw (writing ∷ past) x writer) (writer ∷ nodes past) || false) ≡ true → overwrites_unseen past (Run (cmd.Fill b o n word)) ≡ true
     to e =
-        let x = some_member (λ x. precedes x writer && waw (writing ∷ past) x writer) (writer ∷ nodes past) (elim (either _ false e) [ inl is ↦ is | inr bad ↦ no bad ]) in
-        let parts = both (precedes x.0 writer) (waw (writing ∷ past) x.0 writer) x.2 in
+        let x = some_member (λ x. precedes x writer && waw (writing ∷ past) x writer) (writer ∷ nodes past) (elim (or_cases _ false e) [ inl is ↦ is | inr bad ↦ no bad ]) in
+        let parts = and_parts (precedes x.0 writer) (waw (writing ∷ past) x.0 writer) x.2 in
         elim (contains-cons writer (nodes past) x.0 x.1) [
           | inl same ↦ no (sym (ap (λ (t : Bool). t && not (is_host x.0.act && false)) (le-ltb x.0.number (length (nodes past)) (let e : length (nodes past) ≡ x.0.number = ap (λ (m : Node). m.number) same in omega arith))) ∙ parts.0)
           | inr old ↦ at_byte x.0 old (some_of (λ k. overwrites x.0 (in_buffer b (o + k))) 0 size (sym (writes_range x.0) ∙ parts.1))
@@ -410,11 +395,11 @@ module _ (past : Past) (cleared : IsCleared past) (plain : IsPlain past) (apart 
       where
         at_byte : (x : Node) → Contains (nodes past) x → ((k : ℕ) × (0 ≤ k) × (k < 0 + size) × (overwrites x (in_buffer b (o + k)) ≡ true)) → overwrites_unseen past (Run (cmd.Fill b o n word)) ≡ true
         at_byte x old k =
-            let parts = both (is_in (in_buffer b (o + k.0)) (writes (writing ∷ past) x)) (not (sees (writing ∷ past) x writer Write (in_buffer b (o + k.0)))) k.3 in
+            let parts = and_parts (is_in (in_buffer b (o + k.0)) (writes (writing ∷ past) x)) (not (sees (writing ∷ past) x writer Write (in_buffer b (o + k.0)))) k.3 in
             let w = writer_of past cleared writing (λ c. refl) x old b (o + k.0) parts.0 in
             let sight = write_sees x w.number w.command (in_buffer b (o + k.0)) w.at w.runs_it in
             let late = w.not_after in
-            let unseen : to_writes ≤ w.last = elim (cases_lt w.number to_writes) [ inl lt ↦ clash (sight.1 lt) (opposite (sees (writing ∷ past) x writer Write (in_buffer b (o + k.0))) parts.1) | inr ge ↦ omega (arith, ge, late) ] in
+            let unseen : to_writes ≤ w.last = elim (cases_lt w.number to_writes) [ inl lt ↦ clash (sight.1 lt) (not-true (sees (writing ∷ past) x writer Write (in_buffer b (o + k.0))) parts.1) | inr ge ↦ omega (arith, ge, late) ] in
             one_of (λ k. holds (last_writer past b (o + k)) (nat_le to_writes)) 0 size k.0 k.1 k.2 (rw w.last_is_it (le-leb to_writes w.last unseen))
 
     from : overwrites_unseen past (Run (cmd.Fill b o n word)) ≡ true → (list_any (λ x. precedes x writer && waw (writing ∷ past) x writer) (writer ∷ nodes past) || false) ≡ true
@@ -425,51 +410,43 @@ module _ (past : Past) (cleared : IsCleared past) (plain : IsPlain past) (apart 
           let w = last_node past cleared writing (λ c. refl) b (o + k) m at in
           let sight = write_sees w.node m w.command (in_buffer b (o + k)) w.at w.runs_it in
           let late : to_writes ≤ m = leb-true to_writes m h in
-          let unseen : sees (writing ∷ past) w.node writer Write (in_buffer b (o + k)) ≡ false = opposite_of (sees (writing ∷ past) w.node writer Write (in_buffer b (o + k))) (λ e. let lt = sight.0 e in omega (arith, lt, late)) in
+          let unseen : sees (writing ∷ past) w.node writer Write (in_buffer b (o + k)) ≡ false = false_from_ne_true (sees (writing ∷ past) w.node writer Write (in_buffer b (o + k))) (λ e. let lt = sight.0 e in omega (arith, lt, late)) in
           let hit : waw (writing ∷ past) w.node writer ≡ true = writes_range w.node ∙ one_of (λ k. overwrites w.node (in_buffer b (o + k))) 0 size k low high (rw (w.writes_it, unseen) refl) in
           let first : precedes w.node writer ≡ true = rw (lt-ltb w.node.number (length (nodes past)) (number_below (nodes past) (numbered past) w.node w.stands_in), ap is_host w.runs_it) refl in
-          or_left (list_any (λ x. precedes x writer && waw (writing ∷ past) x writer) (writer ∷ nodes past)) (member_passes (λ x. precedes x writer && waw (writing ∷ past) x writer) (writer ∷ nodes past) w.node (contains-tail writer (nodes past) w.node w.stands_in) (rw (first, hit) refl))
+          or_left (list_any (λ x. precedes x writer && waw (writing ∷ past) x writer) (writer ∷ nodes past)) false (member_passes (λ x. precedes x writer && waw (writing ∷ past) x writer) (writer ∷ nodes past) w.node (contains-tail writer (nodes past) w.node w.stands_in) (rw (first, hit) refl))
 
 -- ---- all forms
 
 module _ (past : Past) (p : Point) (cleared : IsCleared past) (now : is_served_deed p.deed ≡ true) (plain : IsPlain (p ∷ past)) (apart : IsApart past) where
   -- nodes that read nothing, and such as write nothing, have no hazard of these
   unread : (pt : Point) (y x : Node) → reads (pt ∷ past) y ≡ [] → (precedes x y && raw (pt ∷ past) x y) ≡ false
-  unread pt y x e = rw e (and_false (precedes x y))
+  unread pt y x e = rw e (and-false (precedes x y))
 
   unwritten : (pt : Point) (y x : Node) → writes (pt ∷ past) y ≡ [] → (precedes x y && waw (pt ∷ past) x y) ≡ false
-  unwritten pt y x e = rw e (and_false (precedes x y))
+  unwritten pt y x e = rw e (and-false (precedes x y))
 
   quiet_raw : (d : Deed) → is_served_deed d ≡ true → list_all (λ a. not (is_host a)) (acts d) ≡ true → breaks_hazard_raw past (record p { deed = d }) ≡ false
   quiet_raw d h none = hazard_none raw past (record p { deed = d }) (λ y cy x cx.
       let m = lined_act (record p { deed = d }) (length (nodes past)) (acts d) y cy in
-      unread (record p { deed = d }) y x (reads_none (record p { deed = d } ∷ past) y.point.queue y.act (all_passes is_served_act (acts d) y.act (served_acts d h) m.0) (opposite (is_host y.act) (all_passes (λ a. not (is_host a)) (acts d) y.act none m.0))))
+      unread (record p { deed = d }) y x (reads_none (record p { deed = d } ∷ past) y.point.queue y.act (all_passes is_served_act (acts d) y.act (served_acts d h) m.0) (not-true (is_host y.act) (all_passes (λ a. not (is_host a)) (acts d) y.act none m.0))))
 
-  quiet_waw : (d : Deed) → is_served_deed d ≡ true → list_all (λ a. not (runs a)) (acts d) ≡ true → breaks_hazard_waw past (record p { deed = d }) ≡ false
+  quiet_waw : (d : Deed) → is_served_deed d ≡ true → list_all (λ a. not (is_command a)) (acts d) ≡ true → breaks_hazard_waw past (record p { deed = d }) ≡ false
   quiet_waw d h none = hazard_none waw past (record p { deed = d }) (λ y cy x cx.
       let m = lined_act (record p { deed = d }) (length (nodes past)) (acts d) y cy in
-      unwritten (record p { deed = d }) y x (writes_none (record p { deed = d } ∷ past) y.point.queue y.act (all_passes is_served_act (acts d) y.act (served_acts d h) m.0) (opposite (runs y.act) (all_passes (λ a. not (runs a)) (acts d) y.act none m.0))))
+      unwritten (record p { deed = d }) y x (writes_none (record p { deed = d } ∷ past) y.point.queue y.act (all_passes is_served_act (acts d) y.act (served_acts d h) m.0) (not-true (is_command y.act) (all_passes (λ a. not (is_command a)) (acts d) y.act none m.0))))
 
-  host_raw : (x : Entry) → Rattle.vk_model.specs.Access.host_reads x ≡ [] → breaks_hazard_raw past (record p { deed = Host x }) ≡ false
+  host_raw : (x : Entry) → host_reads x ≡ [] → breaks_hazard_raw past (record p { deed = Host x }) ≡ false
   host_raw x none = hazard_none raw past (record p { deed = Host x }) (λ y cy z cz. elim (contains-cons (record { number = length (nodes past); point = record p { deed = Host x }; act = Hosts x }) [] y cy) [
     | inl same ↦ unread (record p { deed = Host x }) y z (ap (λ (m : Node). reads (record p { deed = Host x } ∷ past) m) (sym same) ∙ none)
     | inr later ↦ absurd (none_in y later)
   ])
-
-  batch_elements : (es : List Element) → list_all (λ a. not (is_host a)) (map (Depends Barrier) es) ≡ true
-  batch_elements [] = refl
-  batch_elements (e ∷ es) = batch_elements es
-
-  idle_elements : (es : List Element) → list_all (λ a. not (runs a)) (map (Depends Barrier) es) ≡ true
-  idle_elements [] = refl
-  idle_elements (e ∷ es) = idle_elements es
 
   pub hazard_raw_is : breaks_hazard_raw past p ≡ reads_unseen past p.deed
   hazard_raw_is =
       let P : Deed → Type 0 = λ d. breaks_hazard_raw past (record p { deed = d }) ≡ reads_unseen past d in
       deed_cases P
       (entry_cases (λ x. P (Host x)) (λ i b t is other. host_raw (entry.Buffer i b) refl) (λ b. host_raw (entry.Map b) refl) (λ b o n. raw_is past cleared plain.1 apart p b o n) (λ i v. host_raw (entry.Semaphore i v) refl) (λ ws. host_raw (entry.Wait ws) refl) (λ bs. host_raw (entry.Submit 0 bs) refl))
-      (command_cases (λ c. P (Run c)) (λ b o n w. quiet_raw (Run (cmd.Fill b o n w)) refl refl) (λ es all. quiet_raw (Run (cmd.Barrier es)) all (batch_elements es)))
+      (command_cases (λ c. P (Run c)) (λ b o n w. quiet_raw (Run (cmd.Fill b o n w)) refl refl) (λ es all. quiet_raw (Run (cmd.Barrier es)) all (batch_acts (Run (cmd.Barrier es)) all refl)))
       (λ s. quiet_raw (Signal s) refl refl) p.deed now
 
   pub hazard_waw_is : breaks_hazard_waw past p ≡ overwrites_unseen past p.deed

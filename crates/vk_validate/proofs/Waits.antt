@@ -1,8 +1,8 @@
 -- What a host entry that waits comes after, and where that makes it stand.
-use Rattle.std.proofs.Common.{◌≡◌, ◌<◌, ◌≤◌, ℕ, List, [], ◌∷◌, map, Bool, true, false, not, ◌&&◌, ◌||◌, ◌==◌, cond, refl, ap, sym, ◌∙◌, subst, arith, Option, Some, None, inl, inr, ◌⊎◌, max}
+use Rattle.std.proofs.Common.{◌≡◌, ◌<◌, ◌≤◌, ℕ, List, [], ◌∷◌, map, Bool, true, false, not, ◌&&◌, ◌==◌, cond, refl, ap, sym, ◌∙◌, subst, arith, Option, Some, None, inl, inr, ◌⊎◌, max}
 use Rattle.std.specs.Prelude.{Contains, nat_lt, nat_le, ⊤, option_map, ◌↔◌}
 use Rattle.std.specs.List.{list_any}
-use Rattle.std.proofs.lemmas.Bool.{eqb-true, eq-eqb, ltb-true, lt-ltb, leb-true, le-leb, cases_lt}
+use Rattle.std.proofs.lemmas.Bool.{eqb-true, eq-eqb, ltb-true, lt-ltb, leb-true, le-leb, cases_lt, and_parts, or_cases, not-true, or_right}
 use Rattle.vk_model.specs.declared.entry.Entry.{Entry}
 use Rattle.vk_model.specs.declared.entry.SemaphoreValue.{SemaphoreValue}
 use Rattle.vk_model.specs.Words.{holds}
@@ -14,9 +14,8 @@ use Rattle.vk_validate.specs.Cleared.{IsCleared}
 use Rattle.vk_validate.specs.Standing.{Signaled, least_signal, after_wait, after_waits, joined}
 use Rattle.vk_validate.specs.declared.clocks.Clock.{Clock}
 use Rattle.vk_validate.specs.declared.clocks.Order.{Order}
-use Rattle.vk_validate.proofs.Growth.{contains-cons, contains-head, contains-tail}
-use Rattle.vk_validate.proofs.Acts.{none_in}
-use Rattle.vk_validate.proofs.Causes.{both, either, opposite}
+use Rattle.vk_validate.proofs.Truths.{clash}
+use Rattle.vk_validate.proofs.Members.{none_in, contains-cons, contains-head, contains-tail}
 use Rattle.vk_validate.proofs.Awaited.{signals_value, value_signaled, enough_is}
 
 -- one clock counts no more than another
@@ -45,15 +44,15 @@ passed_over : (x : Signaled) (o : Option Signaled) (s v : ℕ) → is_next x o s
 passed_over x o s v e sem from = go (holds o (λ y. nat_lt y.value x.value)) refl where
   go : (t : Bool) → holds o (λ y. nat_lt y.value x.value) ≡ t → t ≡ true
   go true h = refl
-  go false h = absurd (let here : is_next x o s v ≡ true = rw (eq-eqb x.semaphore s sem, le-leb v x.value from, h) refl in let bad : true ≡ false = sym here ∙ e in cc)
+  go false h = let here : is_next x o s v ≡ true = rw (eq-eqb x.semaphore s sem, le-leb v x.value from, h) refl in clash here e
 
 taken : (x : Signaled) (o : Option Signaled) (s v : ℕ) → is_next x o s v ≡ true → (x.semaphore ≡ s) × (v ≤ x.value) × (holds o (λ y. nat_lt y.value x.value) ≡ false)
 taken x o s v e =
-    let a = both (x.semaphore == s && nat_le v x.value) (not (holds o (λ y. nat_lt y.value x.value))) e in
-    let b = both (x.semaphore == s) (nat_le v x.value) a.0 in
-    (eqb-true x.semaphore s b.0, leb-true v x.value b.1, opposite (holds o (λ y. nat_lt y.value x.value)) a.1)
+    let a = and_parts (x.semaphore == s && nat_le v x.value) (not (holds o (λ y. nat_lt y.value x.value))) e in
+    let b = and_parts (x.semaphore == s) (nat_le v x.value) a.0 in
+    (eqb-true x.semaphore s b.0, leb-true v x.value b.1, not-true (holds o (λ y. nat_lt y.value x.value)) a.1)
 
-pub least_none : (signals : List Signaled) (s v : ℕ) → least_signal signals s v ≡ None → (y : Signaled) → Contains signals y → y.semaphore ≡ s → v ≤ y.value → ⊥
+least_none : (signals : List Signaled) (s v : ℕ) → least_signal signals s v ≡ None → (y : Signaled) → Contains signals y → y.semaphore ≡ s → v ≤ y.value → ⊥
 least_none [] s v none y c sem from = none_in y c
 least_none (x ∷ xs) s v none y c sem from = go (is_next x (least_signal xs s v) s v) refl none (λ none c. least_none xs s v none y c sem from) where
   go : (t : Bool) → is_next x (least_signal xs s v) s v ≡ t → cond t (Some x) (least_signal xs s v) ≡ None → (least_signal xs s v ≡ None → Contains xs y → ⊥) → ⊥
@@ -64,6 +63,7 @@ least_none (x ∷ xs) s v none y c sem from = go (is_next x (least_signal xs s v
     | inr older ↦ rest none older
   ]
 
+-- the signal that is picked is the least that is enough, and the newest of these
 pub least_some : (signals : List Signaled) → IsRising signals → (s v : ℕ) (z : Signaled) → least_signal signals s v ≡ Some z → Least signals s v z
 least_some [] rising s v z is = absurd cc
 least_some (x ∷ xs) rising s v z is = go (is_next x (least_signal xs s v) s v) refl is (least_some xs rising.1 s v) where
@@ -88,7 +88,7 @@ least_some (x ∷ xs) rising s v z is = go (is_next x (least_signal xs s v) s v)
         let found = next u at in
         let le : u.value ≤ y.value = found.least y c sem from in
         elim (cases_lt u.value x.value) [
-          | inl lt ↦ absurd (let bad : true ≡ false = sym (lt-ltb u.value x.value lt) ∙ h in cc)
+          | inl lt ↦ clash (lt-ltb u.value x.value lt) h
           | inr ge ↦ omega (arith, le, ge)
         ]
 
@@ -116,6 +116,7 @@ least_some (x ∷ xs) rising s v z is = go (is_next x (least_signal xs s v) s v)
 
 -- ---- numbers that count together
 
+-- either of two numbers is above j just where the greater is
 pub max_iff : {A B : Type 0} (j a b : ℕ) → A ↔ (j < a) → B ↔ (j < b) → (A ⊎ B) ↔ (j < max a b)
 max_iff {A} {B} j a b f g = (to, λ lt. from lt (cases_lt j a)) where
   to : A ⊎ B → j < max a b
@@ -144,15 +145,16 @@ module _ (ns : List Node) (signals : List Signaled) (rising : IsRising signals) 
     pub is : is_linked ns s v signal ≡ true
     pub passes : F node
 
+  -- a wait that needs no signal is linked to none
   pub linked_enough : (s v : ℕ) → is_enough ns s v ≡ true → Linked s v → ⊥
-  linked_enough s v e l = let a = both (l.signal.0 == s && is_least ns s v l.signal.1) (not (is_enough ns s v)) l.is in let bad : is_enough ns s v ≡ false = opposite (is_enough ns s v) a.1 in let worse : true ≡ false = sym e ∙ bad in cc
+  linked_enough s v e l = let a = and_parts (l.signal.0 == s && is_least ns s v l.signal.1) (not (is_enough ns s v)) l.is in clash e (not-true (is_enough ns s v) a.1)
 
   -- of a linked signal: its place in the list
   listed : (s v : ℕ) → Linked s v → (x : Signaled) × Contains signals x × (x.semaphore ≡ s) × (v ≤ x.value) × (j < of x.clock) × (list_any (λ u. nat_le v u && nat_lt u x.value) (values_to ns s) ≡ false)
   listed s v l =
-      let a = both (l.signal.0 == s && is_least ns s v l.signal.1) (not (is_enough ns s v)) l.is in
-      let b = both (l.signal.0 == s) (is_least ns s v l.signal.1) a.0 in
-      let c = both (nat_le v l.signal.1) (not (list_any (λ u. nat_le v u && nat_lt u l.signal.1) (values_to ns s))) b.1 in
+      let a = and_parts (l.signal.0 == s && is_least ns s v l.signal.1) (not (is_enough ns s v)) l.is in
+      let b = and_parts (l.signal.0 == s) (is_least ns s v l.signal.1) a.0 in
+      let c = and_parts (nat_le v l.signal.1) (not (list_any (λ u. nat_le v u && nat_lt u l.signal.1) (values_to ns s))) b.1 in
       let x = backward l.node l.stands l.signal.0 l.signal.1 l.signals_it in
       let low : v ≤ l.signal.1 = leb-true v l.signal.1 c.0 in
       let value_is : x.0.value ≡ l.signal.1 = x.3 in (
@@ -161,12 +163,14 @@ module _ (ns : List Node) (signals : List Signaled) (rising : IsRising signals) 
         x.2 ∙ eqb-true l.signal.0 s b.0,
         omega (arith, low, value_is),
         x.4.0 l.passes,
-        subst (λ (k : ℕ). list_any (λ u. nat_le v u && nat_lt u k) (values_to ns s) ≡ false) (sym value_is) (opposite (list_any (λ u. nat_le v u && nat_lt u l.signal.1) (values_to ns s)) c.1),
+        subst (λ (k : ℕ). list_any (λ u. nat_le v u && nat_lt u k) (values_to ns s) ≡ false) (sym value_is) (not-true (list_any (λ u. nat_le v u && nat_lt u l.signal.1) (values_to ns s)) c.1),
       )
 
+  -- and so is one for which no signal is enough
   pub linked_none : (s v : ℕ) → least_signal signals s v ≡ None → Linked s v → ⊥
   linked_none s v none l = let x = listed s v l in least_none signals s v none x.0 x.1 x.2 x.3
 
+  -- and another is linked just where the clock of the picked signal counts the write
   pub linked_some : (s v : ℕ) (z : Signaled) → least_signal signals s v ≡ Some z → is_enough ns s v ≡ false → Linked s v ↔ (j < of z.clock)
   linked_some s v z at more = (to, from) where
     found : Least signals s v z
@@ -179,7 +183,7 @@ module _ (ns : List Node) (signals : List Signaled) (rising : IsRising signals) 
         let m = forward z found.stands in
         let from = found.from in
         let same : x.0.value ≡ z.value = elim (cases_lt z.value x.0.value) [
-          | inl lt ↦ absurd (let hit : list_any (λ u. nat_le v u && nat_lt u x.0.value) (values_to ns s) ≡ true = signals_value (λ u. nat_le v u && nat_lt u x.0.value) ns m.0 s z.value m.1 (m.2 ∙ ap (λ (k : ℕ). Some (k, z.value)) found.semaphore_is) (rw (le-leb v z.value from, lt-ltb z.value x.0.value lt) refl) in let bad : true ≡ false = sym hit ∙ x.5 in cc)
+          | inl lt ↦ (let hit : list_any (λ u. nat_le v u && nat_lt u x.0.value) (values_to ns s) ≡ true = signals_value (λ u. nat_le v u && nat_lt u x.0.value) ns m.0 s z.value m.1 (m.2 ∙ ap (λ (k : ℕ). Some (k, z.value)) found.semaphore_is) (rw (le-leb v z.value from, lt-ltb z.value x.0.value lt) refl) in clash hit x.5)
           | inr ge ↦ omega (arith, le, ge)
         ] in
         let up = of_under x.0.clock z.clock (found.newest x.0 x.1 x.2 same) in
@@ -203,7 +207,7 @@ module _ (ns : List Node) (signals : List Signaled) (rising : IsRising signals) 
           go false e = refl
           go true e = absurd (
               let u = value_signaled (λ u. nat_le v u && nat_lt u z.value) ns s e in
-              let parts = both (nat_le v u.2) (nat_lt u.2 z.value) u.4 in
+              let parts = and_parts (nat_le v u.2) (nat_lt u.2 z.value) u.4 in
               let low : v ≤ u.2 = leb-true v u.2 parts.0 in
               let high : u.2 < z.value = ltb-true u.2 z.value parts.1 in
               let y = backward u.0 u.1 s u.2 u.3 in
@@ -219,6 +223,7 @@ module _ (ns : List Node) (signals : List Signaled) (rising : IsRising signals) 
     AnyLinked [] = ⊥
     AnyLinked (w ∷ ws) = Linked w.semaphore w.value ⊎ AnyLinked ws
 
+    -- the clock after the waits counts what it counted, and what some wait is linked to
     pub waits_join : (ws : List SemaphoreValue) (o : Order) (A : Type 0) → A ↔ (j < of o.host) → (A ⊎ AnyLinked ws) ↔ (j < of (after_waits past signals ws o).host)
     waits_join [] o A is = (λ x. elim x [ inl a ↦ is.0 a | inr bad ↦ absurd bad ], λ lt. inl (is.1 lt))
     waits_join (w ∷ ws) o A is = by_wait (holds (initial past w.semaphore) (nat_le w.value)) refl (waits_join ws o A is) (λ c joins. waits_join ws (record o { host = joined o.host c }) (A ⊎ Linked w.semaphore w.value) joins) where
@@ -247,11 +252,12 @@ module _ (ns : List Node) (signals : List Signaled) (rising : IsRising signals) 
     -- an edge by a semaphore is one of these
     linked_in : (ws : List SemaphoreValue) (m : Node) → Contains ns m → F m → (x : ℕ × ℕ) → signaled_by m.act ≡ Some x → list_any (waits_for x) (map (λ (w : SemaphoreValue). (w.semaphore, w.value)) ws) ≡ true → AnyLinked ws
     linked_in [] m c f x at e = absurd cc
-    linked_in (w ∷ ws) m c f x at e = elim (either (is_linked ns w.semaphore w.value x) _ e) [
+    linked_in (w ∷ ws) m c f x at e = elim (or_cases (is_linked ns w.semaphore w.value x) _ e) [
       | inl here ↦ inl (record { node = m; stands = c; signal = x; signals_it = at; is = here; passes = f })
       | inr more ↦ inr (linked_in ws m c f x at more)
     ]
 
+    -- an edge by a semaphore into a host entry is of one of these links
     pub linked_by : (ws : List SemaphoreValue) (k : ℕ) (p : Point) (x : Entry) → host_waits x ≡ map (λ (w : SemaphoreValue). (w.semaphore, w.value)) ws → (m : Node) → Contains ns m → F m → by_semaphore ns m (record { number = k; point = p; act = Hosts x }) ≡ true → AnyLinked ws
     linked_by ws k p x waits m c f e = go (signaled_by m.act) refl e where
       go : (o : Option (ℕ × ℕ)) → signaled_by m.act ≡ o → holds o (λ y. list_any (waits_for y) (host_waits x)) ≡ true → AnyLinked ws
@@ -262,10 +268,8 @@ module _ (ns : List Node) (signals : List Signaled) (rising : IsRising signals) 
     link_of : (ws : List SemaphoreValue) → AnyLinked ws → (m : Node) × Contains ns m × F m × (x : ℕ × ℕ) × (signaled_by m.act ≡ Some x) × (list_any (waits_for x) (map (λ (w : SemaphoreValue). (w.semaphore, w.value)) ws) ≡ true)
     link_of [] l = absurd l
     link_of (w ∷ ws) (inl l) = (l.node, l.stands, l.passes, l.signal, l.signals_it, rw l.is refl)
-    link_of (w ∷ ws) (inr l) = let rest = link_of ws l in (rest.0, rest.1, rest.2, rest.3, rest.4, or_right _ _ rest.5) where
-      or_right : (a b : Bool) → b ≡ true → (a || b) ≡ true
-      or_right true b e = refl
-      or_right false b e = e
+    link_of (w ∷ ws) (inr l) = let rest = link_of ws l in (rest.0, rest.1, rest.2, rest.3, rest.4, or_right _ _ rest.5)
 
+    -- and each link makes such an edge
     pub edge_of : (ws : List SemaphoreValue) (k : ℕ) (p : Point) (x : Entry) → host_waits x ≡ map (λ (w : SemaphoreValue). (w.semaphore, w.value)) ws → AnyLinked ws → (m : Node) × Contains ns m × F m × (by_semaphore ns m (record { number = k; point = p; act = Hosts x }) ≡ true)
     edge_of ws k p x waits l = let found = link_of ws l in (found.0, found.1, found.2, rw (found.4, waits) found.5)

@@ -1,8 +1,8 @@
 use Rattle.std.proofs.Common.{◌≡◌, ◌∷◌, refl, sym, ap, ◌∙◌}
-use Rattle.vk_validate.proofs.TableLemmas.{signaled-some, writers_stay, writers_next}
-use Rattle.vk_validate.proofs.TimelineLemmas.{timelines_next}
 use Rattle.vk_validate.specs.Standing.{Signaled, standing, joined}
 use Rattle.vk_validate.specs.declared.clocks.Order.{Order}
+use Rattle.vk_validate.proofs.TableLemmas.{signaled-some, writers_stay, writers_next}
+use Rattle.vk_validate.proofs.TimelineLemmas.{timelines_next}
 use Rattle.vk_validate.proofs.tables.note.Goals as goal
 
 pub returns-in_ok-note_signal-in-Signaled : goal.returns-in_ok-note_signal-in-Signaled
