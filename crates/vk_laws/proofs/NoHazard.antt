@@ -52,11 +52,11 @@ some_of {X} f (x ∷ xs) h = go (f x) refl h (some_of f xs)
     go true e h rest = (x, contains-head x xs, e)
     go false e h rest = let r = rest h in (r.0, contains-tail x xs r.0 r.1, r.2)
 
-both : (a b : Bool) → IsTrue (a && b) → IsTrue a × IsTrue b
+pub both : (a b : Bool) → IsTrue (a && b) → IsTrue a × IsTrue b
 both true b h = (refl, h)
 both false b h = absurd cc
 
-either : (a b : Bool) → IsTrue (a || b) → IsTrue a ⊎ IsTrue b
+pub either : (a b : Bool) → IsTrue (a || b) → IsTrue a ⊎ IsTrue b
 either true b h = inl refl
 either false b h = inr h
 
@@ -85,7 +85,7 @@ pub numbered : (past : Past) → IsNumbered (nodes past)
 numbered [] = tt
 numbered (p ∷ past) = numbered_acts p (acts p.deed) (nodes past) (numbered past)
 
-unique : (ns : List Node) → IsNumbered ns → (m n : Node) → Contains ns m → Contains ns n → m.number ≡ n.number → m ≡ n
+pub unique : (ns : List Node) → IsNumbered ns → (m n : Node) → Contains ns m → Contains ns n → m.number ≡ n.number → m ≡ n
 unique [] numbers m n c d same = absurd (let none : c.0 < 0 = c.1 in omega arith)
 unique (k ∷ ns) numbers m n c d same = go (contains-cons k ns m c) (contains-cons k ns n d) (unique ns numbers.1 m n)
   where
@@ -98,7 +98,7 @@ unique (k ∷ ns) numbers m n c d same = go (contains-cons k ns m c) (contains-c
 -- ---- orders
 
 module _ (paths : BeforeIsPath) (past : Past) where
-  edge_before : (m n : Node) → Contains (nodes past) m → Contains (nodes past) n → IsTrue (edge (nodes past) m n) → IsTrue (before (nodes past) m n)
+  pub edge_before : (m n : Node) → Contains (nodes past) m → Contains (nodes past) n → IsTrue (edge (nodes past) m n) → IsTrue (before (nodes past) m n)
   edge_before m n cm cn e = (paths past m n cm cn).1 (direct cm cn e)
 
   pub host_in_order : (m n : Node) → Contains (nodes past) m → Contains (nodes past) n → IsTrue (is_host m.act) → IsTrue (is_host n.act) → m.number < n.number → IsTrue (before (nodes past) m n)
@@ -107,16 +107,16 @@ module _ (paths : BeforeIsPath) (past : Past) where
 
   module _ (joins : BeforeIsTransitive) where
     -- the same node, or before it
-    abbrev Reaches : Node → Node → Type 0
+    abbrev pub Reaches : Node → Node → Type 0
     Reaches m n = (m.number ≡ n.number) ⊎ IsTrue (before (nodes past) m n)
 
-    reaches_join : (l m n : Node) → Contains (nodes past) l → Contains (nodes past) m → Contains (nodes past) n → Reaches l m → Reaches m n → Reaches l n
+    pub reaches_join : (l m n : Node) → Contains (nodes past) l → Contains (nodes past) m → Contains (nodes past) n → Reaches l m → Reaches m n → Reaches l n
     reaches_join l m n cl cm cn p q = ⊎_elim
         (λ e. subst (λ (x : Node). Reaches x n) (unique (nodes past) (numbered past) m l cm cl (sym e)) q)
         (λ b. ⊎_elim (λ e. subst (λ (x : Node). Reaches l x) (unique (nodes past) (numbered past) m n cm cn e) p) (λ d. inr (joins past l m n cl cm cn b d)) q)
         p
 
-    by_number : (m n : Node) → IsTrue (same_node m n) → Reaches m n
+    pub by_number : (m n : Node) → IsTrue (same_node m n) → Reaches m n
     by_number m n h = inl (eqb-true m.number n.number h)
 
     module _ (cached : Byte → Bool) where
@@ -134,7 +134,7 @@ module _ (paths : BeforeIsPath) (past : Past) where
       visible_reaches w a q (Waits s) k b cq ca h = absurd cc
       visible_reaches w a q (Signals s) k b cq ca h = absurd cc
 
-      or_before : (m n : Node) → IsTrue (same_node m n || before (nodes past) m n) → Reaches m n
+      pub or_before : (m n : Node) → IsTrue (same_node m n || before (nodes past) m n) → Reaches m n
       or_before m n h = ⊎_elim (λ e. by_number m n e) (λ b. inr b) (either (same_node m n) (before (nodes past) m n) h)
 
       pub seen_before : (w a : Node) (k : Access) (b : Byte) → Contains (nodes past) w → Contains (nodes past) a → w.number < a.number → IsTrue (seen cached (nodes past) w a k b) → IsTrue (before (nodes past) w a)

@@ -16,12 +16,12 @@ use Rattle.vk_model.specs.Access.{reads, writes, reads_of, writes_of, origins, t
 use Rattle.vk_model.specs.Laws.{GrowthKeeps}
 use Rattle.vk_model.specs.Rules.{first_fault}
 use Rattle.vk_model.specs.Fault.{Comes}
-use Rattle.vk_laws.specs.Trace.{HasNoHazard, NoHazardLaw, SeenIsBefore, HostInOrder, CommandsStay, Meets, accesses}
+use Rattle.vk_laws.specs.Trace.{Sees, HasNoHazard, NoHazardLaw, SeenIsBefore, HostInOrder, CommandsStay, Meets, accesses}
 use Rattle.vk_laws.proofs.NoHazard.{number_below, numbered}
 use Rattle.vk_laws.proofs.Steady.{comes_here}
 use Rattle.vk_laws.proofs.Points.{Stands, stands, deed_of, older_node}
 
-join_again : (newer between past : Past) → newer ++ (between ++ past) ≡ (newer ++ between) ++ past
+pub join_again : (newer between past : Past) → newer ++ (between ++ past) ≡ (newer ++ between) ++ past
 join_again [] between past = refl
 join_again (p ∷ newer) between past = ap (λ (l : Past). p ∷ l) (join_again newer between past)
 
@@ -71,23 +71,37 @@ module _ (stay : CommandsStay) (hazards : NoHazardLaw) (sights : SeenIsBefore) (
   apart : IsTrue (not (is_host x.act && is_host y.act)) → IsTrue (precedes x y)
   apart h = rw (lt-ltb x.number y.number lt, h) refl
 
-  by_hazards : IsTrue (not (is_host x.act && is_host y.act)) → Meets (plain_order t) x y b → IsTrue (before (nodes (plain_order t)) x y)
-  by_hazards h meet =
-      let s = stands (plain_order t) y cy in
-      let cx' = here s in
-      let nh : HasNoHazard t (s.at ∷ s.past) x y =
-      hazards t s.past s.at x y none (subst (λ (l : Past). Comes l s.past s.at) (sym s.whole) (comes_here s.newer s.past s.at)) cx' s.here s.new (apart h) in
-      let xr = same_reads stay t none s.newer s.past s.at s.whole x cx' ax in
-      let xw = same_writes stay t none s.newer s.past s.at s.whole x cx' ax in
-      let yr = same_reads stay t none s.newer s.past s.at s.whole y s.here ay in
-      let yw = same_writes stay t none s.newer s.past s.at s.whole y s.here ay in
-      ⊎_elim
-      (λ m. sights (plain_order t) _ x y Read b cx cy lt (nh.read_after b (subst (λ (l : List Byte). IsTrue (is_in b l)) xw m.0) (subst (λ (l : List Byte). Contains l b) yr m.1)))
-      (λ rest. ⊎_elim
-      (λ m. nh.read_first b (subst (λ (l : List Byte). IsTrue (is_in b l)) yw m.1) (subst (λ (l : List Byte). Contains l b) xr m.0))
-      (λ m. sights (plain_order t) _ x y Write b cx cy lt (nh.written_after b (subst (λ (l : List Byte). IsTrue (is_in b l)) xw m.0) (subst (λ (l : List Byte). Contains l b) yw m.1)))
-      rest)
-      meet
+  -- the point of the later node, and what is judged there
+  module _ (h : IsTrue (not (is_host x.act && is_host y.act))) where
+    abbrev pub judged : Stands (plain_order t) y
+    judged = stands (plain_order t) y cy
+
+    pub judged_has : Contains (nodes (judged.at ∷ judged.past)) x
+    judged_has = here judged
+
+    free : HasNoHazard t (judged.at ∷ judged.past) x y
+    free = hazards t judged.past judged.at x y none (subst (λ (l : Past). Comes l judged.past judged.at) (sym judged.whole) (comes_here judged.newer judged.past judged.at)) judged_has judged.here judged.new (apart h)
+
+    written_then : IsTrue (is_in b (writes (plain_order t) x)) → IsTrue (is_in b (writes (judged.at ∷ judged.past) x))
+    written_then m = subst (λ (l : List Byte). IsTrue (is_in b l)) (same_writes stay t none judged.newer judged.past judged.at judged.whole x judged_has ax) m
+
+    pub read_sees : IsTrue (is_in b (writes (plain_order t) x)) → Contains (reads (plain_order t) y) b → Sees t (judged.at ∷ judged.past) x y Read b
+    read_sees m c = free.read_after b (written_then m) (subst (λ (l : List Byte). Contains l b) (same_reads stay t none judged.newer judged.past judged.at judged.whole y judged.here ay) c)
+
+    pub write_sees : IsTrue (is_in b (writes (plain_order t) x)) → Contains (writes (plain_order t) y) b → Sees t (judged.at ∷ judged.past) x y Write b
+    write_sees m c = free.written_after b (written_then m) (subst (λ (l : List Byte). Contains l b) (same_writes stay t none judged.newer judged.past judged.at judged.whole y judged.here ay) c)
+
+    by_hazards : Meets (plain_order t) x y b → IsTrue (before (nodes (plain_order t)) x y)
+    by_hazards meet =
+        let xr = same_reads stay t none judged.newer judged.past judged.at judged.whole x judged_has ax in
+        let yw = same_writes stay t none judged.newer judged.past judged.at judged.whole y judged.here ay in
+        ⊎_elim
+        (λ m. sights (plain_order t) _ x y Read b cx cy lt (read_sees m.0 m.1))
+        (λ rest. ⊎_elim
+        (λ m. free.read_first b (subst (λ (l : List Byte). IsTrue (is_in b l)) yw m.1) (subst (λ (l : List Byte). Contains l b) xr m.0))
+        (λ m. sights (plain_order t) _ x y Write b cx cy lt (write_sees m.0 m.1))
+        rest)
+        meet
 
   pub in_order : Meets (plain_order t) x y b → IsTrue (before (nodes (plain_order t)) x y)
   in_order meet = go (is_host x.act) (is_host y.act) refl refl

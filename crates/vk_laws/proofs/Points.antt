@@ -1,5 +1,5 @@
 -- Each node stands at a point, and its accesses stay as they were there.
-use Rattle.std.proofs.Common.{◌≡◌, ◌⊎◌, inl, inr, ⊎_elim, ◌<◌, ◌≤◌, List, [], ◌∷◌, ◌++◌, map, length, refl, ap, subst, arith}
+use Rattle.std.proofs.Common.{◌≡◌, ◌⊎◌, inl, inr, ⊎_elim, ◌<◌, ◌≤◌, List, [], ◌∷◌, ◌++◌, map, length, refl, ap, sym, subst, arith}
 use Rattle.std.specs.Prelude.{Contains}
 use Rattle.std.specs.List.{enumerate_from}
 use Rattle.vk_model.specs.declared.command.Cmd.{Cmd}
@@ -19,25 +19,26 @@ pub record Stands (all : Past) (n : Node) : Type 0 where
   pub here : Contains (nodes (at ∷ past)) n
   pub new : length (nodes past) ≤ n.number
   pub acted : Contains (acts at.deed) n.act
+  pub pointed : n.point ≡ at
 
-in_acts : (p : Point) (more : List Act) (ns : List Node) (n : Node) → Contains (with_acts p more ns) n → Contains ns n ⊎ (length ns ≤ n.number) × Contains more n.act
+in_acts : (p : Point) (more : List Act) (ns : List Node) (n : Node) → Contains (with_acts p more ns) n → Contains ns n ⊎ (length ns ≤ n.number) × Contains more n.act × (n.point ≡ p)
 in_acts p [] ns n c = inl c
 in_acts p (a ∷ more) ns n c =
     let one : Node = record { number = length ns; point = p; act = a } in
     ⊎_elim
     (λ c'. ⊎_elim
-    (λ e. let k : length ns ≡ n.number = ap (λ (m : Node). m.number) e in inr (omega arith, subst (λ (b : Act). Contains (a ∷ more) b) (ap (λ (m : Node). m.act) e) (contains-head a more)))
+    (λ e. let k : length ns ≡ n.number = ap (λ (m : Node). m.number) e in inr (omega arith, subst (λ (b : Act). Contains (a ∷ more) b) (ap (λ (m : Node). m.act) e) (contains-head a more), ap (λ (m : Node). m.point) (sym e)))
     (λ older. inl older) (contains-cons one ns n c'))
-    (λ h. let le = h.0 in inr (omega arith, contains-tail a more n.act h.1))
+    (λ h. let le = h.0 in inr (omega arith, contains-tail a more n.act h.1, h.2))
     (in_acts p more (one ∷ ns) n c)
 
 pub stands : (all : Past) (n : Node) → Contains (nodes all) n → Stands all n
 stands [] n c = absurd (let none : c.0 < 0 = c.1 in omega arith)
 stands (p ∷ past) n c = go (stands past n) (in_acts p (acts p.deed) (nodes past) n c)
   where
-    go : (Contains (nodes past) n → Stands past n) → Contains (nodes past) n ⊎ (length (nodes past) ≤ n.number) × Contains (acts p.deed) n.act → Stands (p ∷ past) n
-    go rest (inl older) = let s = rest older in record { newer = p ∷ s.newer; past = s.past; at = s.at; whole = ap (λ (l : Past). p ∷ l) s.whole; here = s.here; new = s.new; acted = s.acted }
-    go rest (inr h) = record { newer = []; past = past; at = p; whole = refl; here = c; new = h.0; acted = h.1 }
+    go : (Contains (nodes past) n → Stands past n) → Contains (nodes past) n ⊎ (length (nodes past) ≤ n.number) × Contains (acts p.deed) n.act × (n.point ≡ p) → Stands (p ∷ past) n
+    go rest (inl older) = let s = rest older in record { newer = p ∷ s.newer; past = s.past; at = s.at; whole = ap (λ (l : Past). p ∷ l) s.whole; here = s.here; new = s.new; acted = s.acted; pointed = s.pointed }
+    go rest (inr h) = record { newer = []; past = past; at = p; whole = refl; here = c; new = h.0; acted = h.1; pointed = h.2 }
 
 -- ---- the deed of a command's node
 

@@ -11,13 +11,14 @@ use Rattle.vk_model.specs.World.{in_buffer}
 use Rattle.vk_model.specs.Point.{Past, Point, Deed, Run, host_of, entries}
 use Rattle.vk_model.specs.Objects.{made_by, made, ended, live, buffer_in, image_in}
 use Rattle.vk_model.specs.Moves.{Value, move, moves, fill_size, clear_moves, copy_in_moves, copy_out_moves, copy_image_moves}
+use Rattle.vk_model.specs.Pieces.{cut, row_bytes, clear_pieces, pieces}
 use Rattle.vk_model.specs.RulesIds.{breaks_new_id, breaks_live_id, is_dead, asked_by, asked_by_command, until}
 use Rattle.vk_model.specs.Fault.{Comes, newest, older}
 
 -- ---- objects
 
 -- a point that makes no id anew leaves each id's object
-made_step : (past : Past) (q : Point) (i : ℕ) (x : Entry) → (IsTrue (breaks_new_id past q) → ⊥) → made past i ≡ Some x → made (q ∷ past) i ≡ Some x
+pub made_step : (past : Past) (q : Point) (i : ℕ) (x : Entry) → (IsTrue (breaks_new_id past q) → ⊥) → made past i ≡ Some x → made (q ∷ past) i ≡ Some x
 made_step past q i x new is = go (host_of q.deed) new
   where
     pick : (e : Entry) (j : ℕ) → (IsTrue (is_some (made past j)) → ⊥) → (b : Bool) → (i == j) ≡ b → cond b (Some e) (made past i) ≡ Some x
@@ -36,11 +37,11 @@ made_step past q i x new is = go (host_of q.deed) new
 abbrev pub IsNew : Past → Type 0
 IsNew all = (b : Past) (q : Point) → Comes all b q → IsTrue (breaks_new_id b q) → ⊥
 
-made_up : (more past : Past) (i : ℕ) (x : Entry) → IsNew (more ++ past) → made past i ≡ Some x → made (more ++ past) i ≡ Some x
+pub made_up : (more past : Past) (i : ℕ) (x : Entry) → IsNew (more ++ past) → made past i ≡ Some x → made (more ++ past) i ≡ Some x
 made_up [] past i x new is = is
 made_up (q ∷ more) past i x new is = made_step (more ++ past) q i x (new (more ++ past) q newest) (made_up more past i x (λ b r c. new b r (older c)) is)
 
-made_until : (e : ℕ) (past : Past) (i : ℕ) (x : Entry) → IsNew past → made (until e past) i ≡ Some x → made past i ≡ Some x
+pub made_until : (e : ℕ) (past : Past) (i : ℕ) (x : Entry) → IsNew past → made (until e past) i ≡ Some x → made past i ≡ Some x
 made_until e [] i x new is = is
 made_until e (q ∷ past) i x new is = made_step past q i x (new past q newest) (go (made_until e past i x (λ b r c. new b r (older c))) (q.entry == e && is_some (host_of q.deed)) is)
   where
@@ -48,7 +49,7 @@ made_until e (q ∷ past) i x new is = made_step past q i x (new past q newest) 
     go rest true is = is
     go rest false is = rest is
 
-live_made : (past : Past) (i : ℕ) (k : Entry → Bool) → IsTrue (holds (live past i) k) → (x : Entry) × (made past i ≡ Some x)
+pub live_made : (past : Past) (i : ℕ) (k : Entry → Bool) → IsTrue (holds (live past i) k) → (x : Entry) × (made past i ≡ Some x)
 live_made past i k h = go (ended past i) (made past i) refl h
   where
     go : (b : Bool) (m : Option Entry) → made past i ≡ m → IsTrue (holds (if b then None else m) k) → (x : Entry) × (made past i ≡ Some x)
@@ -56,39 +57,49 @@ live_made past i k h = go (ended past i) (made past i) refl h
     go false None e h = absurd cc
     go false (Some x) e h = (x, e)
 
-unless : (b : Bool) → (IsTrue (not b) → ⊥) → IsTrue b
+pub unless : (b : Bool) → (IsTrue (not b) → ⊥) → IsTrue b
 unless true h = refl
 unless false h = absurd (h refl)
 
-or_first : (a b : Bool) → IsTrue a → IsTrue (a || b)
+pub or_first : (a b : Bool) → IsTrue a → IsTrue (a || b)
 or_first a b h = rw h refl
 
-or_second : (a b : Bool) → IsTrue b → IsTrue (a || b)
+pub or_second : (a b : Bool) → IsTrue b → IsTrue (a || b)
 or_second true b h = refl
 or_second false b h = h
 
 -- ---- commands
 
-module _ (judged past more : Past) (new : IsNew (more ++ past)) (up : (i : ℕ) (x : Entry) → made judged i ≡ Some x → made past i ≡ Some x) where
-  same_made : (i : ℕ) (k : Entry → Bool) → (IsTrue (is_dead judged (i, k)) → ⊥) → made (more ++ past) i ≡ made past i
-  same_made i k alive =
-      let l = live_made judged i k (unless (holds (live judged i) k) alive) in
-      let here = up i l.0 l.1 in
-      made_up more past i l.0 new here ∙ sym here
-
-  moves_stay : (c : Cmd) → (IsTrue (list_any (is_dead judged) (asked_by_command c)) → ⊥) → moves (more ++ past) c ≡ moves past c
-  moves_stay (cmd.Fill b o n w) alive =
+-- where two pasts have the same objects of the ids that a command names, they have the same moves and pieces of it
+module _ (judged one other : Past) (same : (i : ℕ) (k : Entry → Bool) → (IsTrue (is_dead judged (i, k)) → ⊥) → made one i ≡ made other i) where
+  pub moves_same : (c : Cmd) → (IsTrue (list_any (is_dead judged) (asked_by_command c)) → ⊥) → moves one c ≡ moves other c
+  moves_same (cmd.Fill b o n w) alive =
       ap (λ (m : Option Entry). map (λ k. move (in_buffer b (o + k)) (Value (byte_of w (k % 4)))) (below (fill_size (elim (option_and_then buffer_in m) [ None ↦ 0 | Some x ↦ x.size ]) o n)))
-      (same_made b _ (λ h. alive (or_first _ _ h)))
-  moves_stay (cmd.Update b o bytes) alive = refl
-  moves_stay (cmd.Copy s d gs) alive = refl
-  moves_stay (cmd.Clear i l color rs) alive = ap (λ (m : Option Entry). flat_map (clear_moves i color (option_and_then image_in m)) rs) (same_made i _ (λ h. alive (or_first _ _ h)))
-  moves_stay (cmd.CopyIn b i l gs) alive = ap (λ (m : Option Entry). flat_map (copy_in_moves b i (option_and_then image_in m)) gs) (same_made i _ (λ h. alive (or_second _ _ (or_first _ _ h))))
-  moves_stay (cmd.CopyOut i l b gs) alive = ap (λ (m : Option Entry). flat_map (copy_out_moves i b (option_and_then image_in m)) gs) (same_made i _ (λ h. alive (or_first _ _ h)))
-  moves_stay (cmd.CopyImage s l d m gs) alive = ap (λ (x : Option Entry). flat_map (copy_image_moves s d (option_and_then image_in x)) gs) (same_made d _ (λ h. alive (or_second _ _ (or_first _ _ h))))
-  moves_stay (cmd.Barrier es) alive = refl
-  moves_stay (cmd.Set v ms) alive = refl
-  moves_stay (cmd.Await v ms) alive = refl
+      (same b _ (λ h. alive (or_first _ _ h)))
+  moves_same (cmd.Update b o bytes) alive = refl
+  moves_same (cmd.Copy s d gs) alive = refl
+  moves_same (cmd.Clear i l color rs) alive = ap (λ (m : Option Entry). flat_map (clear_moves i color (option_and_then image_in m)) rs) (same i _ (λ h. alive (or_first _ _ h)))
+  moves_same (cmd.CopyIn b i l gs) alive = ap (λ (m : Option Entry). flat_map (copy_in_moves b i (option_and_then image_in m)) gs) (same i _ (λ h. alive (or_second _ _ (or_first _ _ h))))
+  moves_same (cmd.CopyOut i l b gs) alive = ap (λ (m : Option Entry). flat_map (copy_out_moves i b (option_and_then image_in m)) gs) (same i _ (λ h. alive (or_first _ _ h)))
+  moves_same (cmd.CopyImage s l d m gs) alive = ap (λ (x : Option Entry). flat_map (copy_image_moves s d (option_and_then image_in x)) gs) (same d _ (λ h. alive (or_second _ _ (or_first _ _ h))))
+  moves_same (cmd.Barrier es) alive = refl
+  moves_same (cmd.Set v ms) alive = refl
+  moves_same (cmd.Await v ms) alive = refl
+
+  pub pieces_same : (c : Cmd) → (IsTrue (list_any (is_dead judged) (asked_by_command c)) → ⊥) → pieces one c ≡ pieces other c
+  pieces_same (cmd.Fill b o n w) alive = ap (cut 4096) (moves_same (cmd.Fill b o n w) alive)
+  pieces_same (cmd.Update b o bytes) alive = refl
+  pieces_same (cmd.Copy s d gs) alive = refl
+  pieces_same (cmd.Clear i l color rs) alive = ap (λ (m : Option Entry). flat_map (clear_pieces i color (option_and_then image_in m)) rs) (same i _ (λ h. alive (or_first _ _ h)))
+  pieces_same (cmd.CopyIn b i l gs) alive =
+      ap (λ (m : Option Entry). flat_map (λ g. cut (row_bytes (option_and_then image_in m) g.width) (copy_in_moves b i (option_and_then image_in m) g)) gs) (same i _ (λ h. alive (or_second _ _ (or_first _ _ h))))
+  pieces_same (cmd.CopyOut i l b gs) alive =
+      ap (λ (m : Option Entry). flat_map (λ g. cut (row_bytes (option_and_then image_in m) g.width) (copy_out_moves i b (option_and_then image_in m) g)) gs) (same i _ (λ h. alive (or_first _ _ h)))
+  pieces_same (cmd.CopyImage s l d m gs) alive =
+      ap (λ (x : Option Entry). flat_map (λ g. cut (row_bytes (option_and_then image_in x) g.width) (copy_image_moves s d (option_and_then image_in x) g)) gs) (same d _ (λ h. alive (or_second _ _ (or_first _ _ h))))
+  pieces_same (cmd.Barrier es) alive = refl
+  pieces_same (cmd.Set v ms) alive = refl
+  pieces_same (cmd.Await v ms) alive = refl
 
 -- ---- a sound past
 
@@ -96,9 +107,37 @@ pub comes_here : (more past : Past) (p : Point) → Comes (more ++ p ∷ past) p
 comes_here [] past p = newest
 comes_here (q ∷ more) past p = older (comes_here more past p)
 
-comes_later : (newer all b : Past) (q : Point) → Comes all b q → Comes (newer ++ all) b q
+pub comes_later : (newer all b : Past) (q : Point) → Comes all b q → Comes (newer ++ all) b q
 comes_later [] all b q c = c
 comes_later (r ∷ newer) all b q c = older (comes_later newer all b q c)
+
+-- an id that a point's command names has the same object from then on
+made_stay : (newer past : Past) (p : Point) → IsNew (newer ++ p ∷ past) → (i : ℕ) (k : Entry → Bool) → (IsTrue (is_dead (until p.entry past) (i, k)) → ⊥) → made (newer ++ p ∷ past) i ≡ made past i
+made_stay newer past p new i k alive =
+    let l = live_made (until p.entry past) i k (unless (holds (live (until p.entry past) i) k) alive) in
+    let old = made_until p.entry past i l.0 (λ b q h. new b q (comes_later newer (p ∷ past) b q (older h))) l.1 in
+    let next = made_step past p i l.0 (new past p (comes_here newer past p)) old in
+    made_up newer (p ∷ past) i l.0 new next ∙ sym old
+
+module _ (whole newer past : Past) (p : Point) (c : Cmd) (split : whole ≡ newer ++ p ∷ past) (deed : p.deed ≡ Run c)
+    (new : (b : Past) (q : Point) → Comes whole b q → IsTrue (breaks_new_id b q) → ⊥) (alive : (b : Past) (q : Point) → Comes whole b q → IsTrue (breaks_live_id b q) → ⊥) where
+  come : (b : Past) (q : Point) → Comes (newer ++ p ∷ past) b q → Comes whole b q
+  come b q h = subst (λ (l : Past). Comes l b q) (sym split) h
+
+  pub named_alive : IsTrue (list_any (is_dead (until p.entry past)) (asked_by_command c)) → ⊥
+  named_alive h =
+      let dead : (d : Deed) → Bool = λ d. list_any (is_dead (if is_some (host_of d) then past else until p.entry past)) (asked_by d) in
+      alive past p (come past p (comes_here newer past p)) (or_first _ _ (subst (λ (d : Deed). IsTrue (dead d)) (sym deed) h))
+
+  same_objects : (i : ℕ) (k : Entry → Bool) → (IsTrue (is_dead (until p.entry past) (i, k)) → ⊥) → made whole i ≡ made past i
+  same_objects i k live = ap (λ (l : Past). made l i) split ∙ made_stay newer past p (λ b q h. new b q (come b q h)) i k live
+
+  -- a command's moves and pieces are those of the past before its point
+  pub kept_moves : moves whole c ≡ moves past c
+  kept_moves = moves_same (until p.entry past) whole past same_objects c named_alive
+
+  pub kept_pieces : pieces whole c ≡ pieces past c
+  kept_pieces = pieces_same (until p.entry past) whole past same_objects c named_alive
 
 pub commands_stay : (whole newer between past : Past) (p : Point) (c : Cmd) → whole ≡ newer ++ (between ++ p ∷ past) → p.deed ≡ Run c
     → ((b : Past) (q : Point) → Comes whole b q → IsTrue (breaks_new_id b q) → ⊥) → ((b : Past) (q : Point) → Comes whole b q → IsTrue (breaks_live_id b q) → ⊥)
@@ -106,13 +145,6 @@ pub commands_stay : (whole newer between past : Past) (p : Point) (c : Cmd) → 
 commands_stay whole newer between past p c same deed new alive =
     let middle = between ++ p ∷ past in
     let come : (b : Past) (q : Point) → Comes middle b q → Comes whole b q = λ b q h. subst (λ (l : Past). Comes l b q) (sym same) (comes_later newer middle b q h) in
-    let here : Comes whole past p = come past p (comes_here between past p) in
-    let new_here : IsNew middle = λ b q h. new b q (come b q h) in
-    let dead : (d : Deed) → Bool = λ d. list_any (is_dead (if is_some (host_of d) then past else until p.entry past)) (asked_by d) in
-    moves_stay (until p.entry past) (p ∷ past) between new_here
-    (λ i x h. made_step past p i x (new past p here) (made_until p.entry past i x (λ b q k. new b q (come b q (comes_deeper between past p b q k))) h))
-    c (λ h. alive past p here (or_first _ _ (subst (λ (d : Deed). IsTrue (dead d)) (sym deed) h)))
-  where
-    comes_deeper : (more past : Past) (p : Point) (b : Past) (q : Point) → Comes past b q → Comes (more ++ p ∷ past) b q
-    comes_deeper [] past p b q c = older c
-    comes_deeper (r ∷ more) past p b q c = older (comes_deeper more past p b q c)
+    let low : (b : Past) (q : Point) → Comes (p ∷ past) b q → Comes whole b q = λ b q h. come b q (comes_later between (p ∷ past) b q h) in
+    kept_moves middle between past p c refl deed (λ b q h. new b q (come b q h)) (λ b q h. alive b q (come b q h))
+    ∙ sym (kept_moves (p ∷ past) [] past p c refl deed (λ b q h. new b q (low b q h)) (λ b q h. alive b q (low b q h)))

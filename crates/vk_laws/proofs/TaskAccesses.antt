@@ -45,7 +45,7 @@ left_has {X} (y ∷ xs) ys x c = ⊎_elim
     (λ e. subst (λ (z : X). Contains (y ∷ (xs ++ ys)) z) e (contains-head y (xs ++ ys)))
     (λ later. contains-tail y (xs ++ ys) x (left_has xs ys x later)) (contains-cons y xs x c)
 
-right_has : {X : Type 0} (xs ys : List X) (x : X) → Contains ys x → Contains (xs ++ ys) x
+pub right_has : {X : Type 0} (xs ys : List X) (x : X) → Contains ys x → Contains (xs ++ ys) x
 right_has [] ys x c = c
 right_has (y ∷ xs) ys x c = contains-tail y (xs ++ ys) x (right_has xs ys x c)
 
@@ -111,7 +111,7 @@ byte_itself (in_image i a b x y p) = rw (eq-eqb i i refl, eq-eqb a a refl, eq-eq
 -- ---- what tasks access
 
 module _ (together : PiecesAreMoves) (all : Past) where
-  piece_move : (x : Cmd) (k : ℕ) (m : Move) → Contains (moves_of (slice_get (pieces all x) k)) m → Contains (moves all x) m
+  pub piece_move : (x : Cmd) (k : ℕ) (m : Move) → Contains (moves_of (slice_get (pieces all x) k)) m → Contains (moves all x) m
   piece_move x k m c = go (slice_get (pieces all x) k) refl c
     where
       go : (o : Option (List Move)) → slice_get (pieces all x) k ≡ o → Contains (moves_of o) m → Contains (moves all x) m
@@ -130,7 +130,7 @@ module _ (together : PiecesAreMoves) (all : Past) where
   host_bytes : (b o n j : ℕ) → o ≤ j → j - o < n → Contains (bytes_of b o n) (in_buffer b j)
   host_bytes b o n j le lt = subst (λ (i : ℕ). Contains (bytes_of b o n) (in_buffer b i)) (let e : o + (0 + (j - o)) ≡ j = omega arith in e) (map_has (λ k. in_buffer b (o + k)) (range_with_len 0 n) (0 + (j - o)) (numbers_have 0 n (j - o) lt))
 
-  host_writes_it : (x : Entry) (c : Byte) (v : ℕ) → host_value x c ≡ Some v → Contains (host_writes x) c
+  pub host_writes_it : (x : Entry) (c : Byte) (v : ℕ) → host_value x c ≡ Some v → Contains (host_writes x) c
   host_writes_it (entry.Write b o bytes) (in_buffer d j) v e = go (b == d) (nat_le o j) refl refl e
     where
       go : (f g : Bool) → (b == d) ≡ f → nat_le o j ≡ g → cond (f && g) (slice_get bytes (j - o)) None ≡ Some v → Contains (bytes_of b o (length bytes)) (in_buffer d j)
@@ -152,7 +152,7 @@ module _ (together : PiecesAreMoves) (all : Past) where
   writes_it (Signals s) q k c w e = absurd cc
   writes_it (Depends r s) q k c w e = absurd cc
 
-  is_there : (c : Byte) (bs : List Byte) → IsTrue (is_in c bs) → Contains bs c
+  pub is_there : (c : Byte) (bs : List Byte) → IsTrue (is_in c bs) → Contains bs c
   is_there c bs h = let s = some_of (same_byte c) bs h in subst (λ (b : Byte). Contains bs b) (sym (byte_same c s.0 s.2)) s.1
 
   reads_it : (a : Act) (q k : ℕ) (c : Byte) → IsTrue (part_read all a k c) → IsTrue (accesses a) × Contains (reads_of all q a) c

@@ -7,3 +7,9 @@ pub mod Example
 pub mod Reader
 pub mod Trace
 pub mod Tasks
+pub mod TraceBytes
+pub mod Discards
+pub mod TraceCaches
+pub mod TraceRuns
+pub mod TraceExample
+pub mod DefinedRuns

@@ -14,7 +14,7 @@ use Rattle.vk_model.specs.Before.{before}
 use Rattle.vk_model.specs.Access.{is_in, origins, host_reads}
 use Rattle.vk_model.specs.Pieces.{pieces}
 use Rattle.vk_model.specs.Rules.{first_fault}
-use Rattle.vk_laws.specs.Machine.{Task, Put, Puts, Traffic, IsAllowed, MayRun}
+use Rattle.vk_laws.specs.Machine.{Task, Put, Puts, Traffic, HazardFree, IsAllowed, MayRun}
 use Rattle.vk_laws.specs.EveryOrder.{IsSettled}
 
 -- The node of a number.
@@ -67,3 +67,7 @@ abbrev pub TraceSettledLaw : Type 0
 TraceSettledLaw =
     (t : List Entry) (done : List Task) (next : Task) → first_fault t ≡ None → IsAllowed (traffic_of (plain_order t)) done → MayRun (traffic_of (plain_order t)) done next
     → IsSettled (traffic_of (plain_order t)) done next
+
+-- In a trace without a fault conflicting accesses of different nodes are ordered, the pieces of one command don't meet, and what a piece copies it reads (Vulkan, "Execution and Memory Dependencies" and "Copy Commands", on overlapping regions).
+abbrev pub TraceHazardFreeLaw : Type 0
+TraceHazardFreeLaw = (t : List Entry) → first_fault t ≡ None → HazardFree (traffic_of (plain_order t))

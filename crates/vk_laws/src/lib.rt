@@ -3,12 +3,19 @@
 
 mod machine;
 mod reader;
+mod tasks;
 mod trace;
+mod trace_runs;
 
 pub use machine::{
     every_order, pieces_suffice, premises_can_be_met, runs_carry_over, whole_commands,
 };
 pub use reader::{Cache, Copied, Memory, is_done};
-pub use trace::{
-    accesses_in_order, commands_stay, host_in_order, no_hazard, seen_is_before, trace_is_settled,
+pub use tasks::{
+    cached_trace_is_fresh, discards_keep_premises, host_reads_the_meaning, is_done_before,
+    reads_are_defined, trace_is_cache_free, trace_is_fresh, trace_is_hazard_free,
+    trace_is_modelled, trace_is_settled, trace_premises_can_be_met, trace_runs_carry_over,
+    traces_run,
 };
+pub use trace::{accesses_in_order, commands_stay, host_in_order, no_hazard, seen_is_before};
+pub use trace_runs::{defined_runs_are_allowed, defined_runs_are_fresh};

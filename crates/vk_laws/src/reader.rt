@@ -1,11 +1,18 @@
 //! A small memory with caches, whose reads are the model's by the law of the machine.
-ghost use Rattle.std.specs.Prelude.{◌≡◌, ℕ, ◌<◌, List, length, Option, Some, IsTrue, ◌↔◌};
+ghost use Rattle.std.specs.Prelude.{◌≡◌, ℕ, ◌<◌, List, length, Option, Some, None, IsTrue, ◌↔◌};
 ghost use Rattle.vk_model.specs.World.{Byte, in_buffer};
 ghost use Rattle.vk_laws.specs.Machine.{Conflict, HazardFree, IsIn, IsModel, MayRun, Reads, Task, Traffic};
 ghost use Rattle.vk_laws.specs.Caches.{CacheFree, Caching, Cell, Reached, shown_by};
 ghost use Rattle.vk_laws.specs.Reader.{cells_of, held_as};
+ghost use Rattle.vk_laws.specs.Discards.{with_discards};
+ghost use Rattle.vk_laws.specs.TraceBytes.{value_before};
+ghost use Rattle.vk_laws.specs.TraceCaches.{caching_of};
+ghost use Rattle.vk_model.specs.declared.entry.Entry.{Entry};
+ghost use Rattle.vk_model.specs.Order.{plain_order};
+ghost use Rattle.vk_model.specs.Rules.{first_fault};
 
 use crate::machine::every_order;
+use crate::tasks::cached_trace_is_fresh;
 
 /// What a queue's cache holds of a byte.
 #[derive(Clone, Copy)]
@@ -58,6 +65,20 @@ impl Memory {
     {
         every_order();
         shown(self.second.bytes[at], self.region[at])
+    }
+
+    /// What the host reads at a byte, with the first cache as its own: the model's value, when the host's
+    /// read of the byte may come next in a trace without a fault.
+    pub fn host_read(&self, at: usize) -> u8
+        requires region { at < length self.now.region.items }
+        requires first { at < length self.now.first.bytes.items }
+        requires second { at < length self.now.second.bytes.items }
+        ensures { (t : List Entry) (done : List Task) (next : Task) (v : ℕ) → first_fault t ≡ None
+            → Reached (with_discards (plain_order t)) (caching_of (plain_order t)) done (cells_of self.now) → MayRun (with_discards (plain_order t)) done next → (caching_of (plain_order t)).agent next ≡ 0
+            → Reads (with_discards (plain_order t)) next (in_buffer 0 at) → value_before (plain_order t) next.node (in_buffer 0 at) ≡ Some v → result ≡ v }
+    {
+        cached_trace_is_fresh();
+        shown(self.first.bytes[at], self.region[at])
     }
 }
 

@@ -1,9 +1,10 @@
 //! Laws of traces: what the rules on hazards say of two nodes, each the contract of a function that does nothing.
 ghost use Rattle.vk_laws.specs.Trace.{AccessesInOrder, CommandsStay, HostInOrder, NoHazardLaw, SeenIsBefore};
-ghost use Rattle.vk_laws.specs.Tasks.{TraceSettledLaw};
 
+use crate::machine::every_order;
 use vk_model::{
     before_is_order, before_is_path, growth_keeps, no_fault_is_sound, pieces_are_moves,
+    pieces_write_apart,
 };
 
 /// In a trace without a fault no node of a point has a hazard with an earlier node, commands and host
@@ -48,14 +49,4 @@ pub fn accesses_in_order()
     seen_is_before();
     host_in_order();
     growth_keeps();
-}
-
-/// In every allowed run of the pieces, host entries and events of a trace without a fault: when a piece or
-/// host entry may come next, of those whose accesses meet its own the earlier ones are done and the later
-/// ones aren't.
-pub fn trace_is_settled()
-    ensures { TraceSettledLaw }
-{
-    pieces_are_moves();
-    accesses_in_order();
 }

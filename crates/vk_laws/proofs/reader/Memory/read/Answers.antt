@@ -1,14 +1,11 @@
-use Rattle.std.proofs.Common.{◌≡◌, ℕ, Option, Some, sym, ap, ◌∙◌, subst, slice_get}
+use Rattle.std.proofs.Common.{◌≡◌, ℕ, Some, sym, ap, ◌∙◌, subst, slice_get}
 use Rattle.std.proofs.lemmas.Option.{slice_get-get_or}
 use Rattle.std.proofs.lemmas.Grind.{get_or_default_zero}
 use Rattle.vk_model.specs.World.{in_buffer}
-use Rattle.vk_laws.specs.Caches.{view, shown_by}
-use Rattle.vk_laws.specs.Reader.{cells_of, held_as, held_of}
-use Rattle.vk_laws.specs.declared.reader.Copied.{Copied}
+use Rattle.vk_laws.specs.Caches.{view}
+use Rattle.vk_laws.specs.Reader.{cells_of}
+use Rattle.vk_laws.proofs.CacheView.{same_view}
 use Rattle.vk_laws.proofs.reader.Memory.read.Goals as goal
-
-same_view : (x : Copied) (o : Option Copied) (y z : ℕ) → o ≡ Some x → y ≡ z → shown_by (held_as x) y ≡ shown_by (held_of o) z
-same_view x o y z e f = ap (λ (o : Option Copied). shown_by (held_of o) y) (sym e) ∙ ap (λ (z : ℕ). shown_by (held_of o) z) f
 
 pub returns : goal.returns
 returns c = λ tr ca value done t v free cache model r may agent reads h.

@@ -1,0 +1,510 @@
+-- The allowed runs of the definitions are runs of the machine.
+use Rattle.std.proofs.Common.{◌≡◌, ◌⊎◌, inl, inr, ⊎_elim, ℕ, ◌+◌, ◌<◌, ◌≤◌, List, [], ◌∷◌, length, Bool, true, false, cond, ◌&&◌, ◌||◌, not, IsTrue, Option, Some, None, refl, ap, sym, ◌∙◌, subst, arith, reverse}
+use Rattle.std.specs.Prelude.{Contains, nat_lt, ◌==◌, ◌↔◌, if◌then◌else◌}
+use Rattle.std.specs.List.{filter, list_all}
+use Rattle.std.proofs.lemmas.Bool.{eqb-true, eq-eqb, ltb-true, lt-ltb}
+use Rattle.std.proofs.lemmas.List.Sorted.{Contains-permutation, IsPermutation-reverse, IsPermutation-sym}
+use Rattle.vk_model.specs.declared.command.Cmd.{Cmd}
+use Rattle.vk_model.specs.declared.entry.Entry.{Entry}
+use Rattle.vk_model.specs.declared.entry.Entry.TheVariants as entry
+use Rattle.vk_model.specs.Words.{holds, below}
+use Rattle.vk_model.specs.Point.{Past, Point}
+use Rattle.vk_model.specs.Order.{plain_order}
+use Rattle.vk_model.specs.Moves.{Move}
+use Rattle.vk_model.specs.Pieces.{pieces}
+use Rattle.vk_model.specs.Node.{Node, Act, Hosts, Waits, Signals, Runs, Depends, Barrier, SetOf, AwaitOf, nodes}
+use Rattle.vk_model.specs.Edge.{edge, is_host, is_submit, same_queue, by_host, by_stages, by_signal, by_all_commands, by_semaphore, pairs, signaled_by, waited_by, host_waits, earlier}
+use Rattle.vk_model.specs.Before.{before, Path, direct, longer}
+use Rattle.vk_model.specs.Fault.{IsSound}
+use Rattle.vk_model.specs.Laws.{BeforeIsPath, BeforeIsTransitive, BeforeLeadsOn, GrowthKeeps, OrdersAgree}
+use Rattle.vk_model.specs.Run.{Name, same_name, is_done, node_pieces, is_free, offered, Step, Apply, RunPiece, CopyPart, Stage, start, is_host_wait, past_with, may_go, applied, Applies, Next, Allowed}
+use Rattle.vk_laws.specs.Machine.{IsIn, Task, Traffic, MayRun, IsAllowed}
+use Rattle.vk_laws.specs.Growth.{IsDue, IsEager}
+use Rattle.vk_laws.specs.Trace.{accesses}
+use Rattle.vk_laws.specs.Tasks.{task_count, node_at, by_act, traffic_of}
+use Rattle.vk_laws.specs.DefinedRuns.{is_event, piece_task, entry_task, with_step, done_by, act_happened, has_happened, MayCome, Offers, Enters, Matches}
+use Rattle.vk_laws.proofs.NoHazard.{contains-cons, contains-head, contains-tail, some_of, both, either, number_below, numbered}
+use Rattle.vk_laws.proofs.Steady.{or_first, or_second}
+use Rattle.vk_laws.proofs.Apart.{none_in, mapped_from, flat_from, range_from}
+use Rattle.vk_laws.proofs.TaskAccesses.{map_has, numbers_have}
+use Rattle.vk_laws.proofs.HazardFree.{node_of, same_task}
+use Rattle.vk_laws.proofs.TraceCaches.{one_of, node_at_self}
+use Rattle.vk_laws.proofs.Fresh.{closed}
+use Rattle.vk_laws.proofs.Growth.{may_run}
+use Rattle.vk_laws.proofs.PlainOrder.{Grows}
+use Rattle.vk_laws.proofs.Prefixes.{is_old, old_has, same_before, same_pieces}
+use Rattle.vk_laws.proofs.Eager.{transitive, due_done, is_eager}
+use Rattle.vk_laws.proofs.Stages.{new_ids, live_ids, Placed, start_placed, later, low, next_placed, entry_node, entry_stands, entries_then}
+
+-- ---- lists and names
+
+all_of : {X : Type 0} (f : X → Bool) (xs : List X) (x : X) → IsTrue (list_all f xs) → Contains xs x → IsTrue (f x)
+all_of f [] x h c = absurd (none_in x c)
+all_of {X} f (y ∷ ys) x h c = ⊎_elim (λ e. subst (λ (z : X). IsTrue (f z)) e (both _ _ h).0) (λ later. all_of f ys x (both _ _ h).1 later) (contains-cons y ys x c)
+
+filtered : {X : Type 0} (f : X → Bool) (xs : List X) (x : X) → Contains (filter f xs) x → Contains xs x × IsTrue (f x)
+filtered f [] x c = absurd (none_in x c)
+filtered {X} f (y ∷ ys) x c = go (f y) refl (λ later. let r = filtered f ys x later in (contains-tail y ys x r.0, r.1)) c
+  where
+    go : (b : Bool) → f y ≡ b → (Contains (filter f ys) x → Contains (y ∷ ys) x × IsTrue (f x)) → Contains (cond b (y ∷ filter f ys) (filter f ys)) x → Contains (y ∷ ys) x × IsTrue (f x)
+    go false e rest c = rest c
+    go true e rest c = ⊎_elim
+        (λ same. (subst (λ (z : X). Contains (y ∷ ys) z) same (contains-head y ys), subst (λ (z : X). IsTrue (f z)) same e))
+        rest (contains-cons y (filter f ys) x c)
+
+names_same : (x y : Name) → IsTrue (same_name x y) → x ≡ y
+names_same x y h = join (eqb-true x.0 y.0 (both _ _ h).0) (eqb-true x.1 y.1 (both _ _ h).1)
+  where
+    join : x.0 ≡ y.0 → x.1 ≡ y.1 → x ≡ y
+    join e f = λ i. (e i, f i)
+
+name_itself : (x : Name) → IsTrue (same_name x x)
+name_itself x = rw (eq-eqb x.0 x.0 refl, eq-eqb x.1 x.1 refl) refl
+
+-- ---- what leads to a host entry that is no wait
+
+no_pair : (a : Act) (x : Entry) → IsTrue (pairs a (Hosts x)) → ⊥
+no_pair (Runs c) x h = cc
+no_pair (Hosts y) x h = cc
+no_pair (Waits s) x h = cc
+no_pair (Signals s) x h = cc
+no_pair (Depends Barrier e) x h = cc
+no_pair (Depends (SetOf v k) e) x h = cc
+no_pair (Depends (AwaitOf v k) e) x h = cc
+
+submit_hosts : (a : Act) → IsTrue (is_submit a) → IsTrue (is_host a)
+submit_hosts (Hosts x) h = refl
+submit_hosts (Runs c) h = absurd cc
+submit_hosts (Waits s) h = absurd cc
+submit_hosts (Signals s) h = absurd cc
+submit_hosts (Depends r e) h = absurd cc
+
+waits_none : (x : Entry) → is_host_wait x ≡ false → host_waits x ≡ []
+waits_none (entry.Wait ws) e = absurd cc
+waits_none _ e = refl
+
+edge_to_entry : (ns : List Node) (m n : Node) (x : Entry) → n.act ≡ Hosts x → is_host_wait x ≡ false → IsTrue (edge ns m n) → IsTrue (is_host m.act)
+unfolding edge
+edge_to_entry ns m n x act plain h =
+    one_of (by_host m n) (by_stages m n) (by_signal m n) (by_all_commands m n) (pairs m.act n.act) (by_semaphore (earlier n ns) m n) (both _ _ h).1
+    (λ g. from_host (either _ _ g))
+    (λ g. absurd (no_queue (both _ _ (both _ _ (both _ _ g).0).0).0))
+    (λ g. absurd (no_queue (both _ _ (both _ _ g).0).0))
+    (λ g. absurd (no_queue (both _ _ g).0))
+    (λ g. absurd (no_pair m.act x (subst (λ (a : Act). IsTrue (pairs m.act a)) act g)))
+    (λ g. absurd (no_semaphore g))
+  where
+    from_host : IsTrue (is_host m.act && is_host n.act) ⊎ IsTrue (is_submit m.act && m.point.entry == n.point.entry) → IsTrue (is_host m.act)
+    from_host (inl g) = (both _ _ g).0
+    from_host (inr g) = submit_hosts m.act (both _ _ g).0
+
+    no_queue : IsTrue (same_queue m n) → ⊥
+    no_queue g =
+        let hosts = both (not (is_host m.act) && not (is_host n.act)) (m.point.queue == n.point.queue) g in
+        let off : IsTrue (not (is_host n.act)) = (both (not (is_host m.act)) (not (is_host n.act)) hosts.0).1 in
+        let on : is_host n.act ≡ true = ap is_host act in
+        cc
+
+    no_semaphore : IsTrue (by_semaphore (earlier n ns) m n) → ⊥
+    no_semaphore g =
+        let none : waited_by n.act ≡ [] = ap waited_by act ∙ waits_none x plain in
+        go (signaled_by m.act) (rw none at g)
+      where
+        go : (o : Option (ℕ × ℕ)) → IsTrue (holds o (λ x. false)) → ⊥
+        go None h = cc
+        go (Some x) h = cc
+
+ends : (ns : List Node) (m n : Node) → Path ns m n → Contains ns n
+ends ns m n (direct c d e) = d
+ends ns m n (longer p d e) = d
+
+-- ---- a trace and its tasks
+
+module _ (paths : BeforeIsPath) (joins : BeforeIsTransitive) (leads : BeforeLeadsOn) (keeps : GrowthKeeps) (orders : OrdersAgree) (t : List Entry) (sound : IsSound t) where
+  abbrev all : Past
+  all = plain_order t
+
+  abbrev tr : Traffic
+  tr = traffic_of all
+
+  abbrev Place : Stage → Type 0
+  Place s = Placed orders keeps t sound s
+
+  abbrev Front : Stage → Type 0
+  Front s = Grows (λ q. s.count ≤ q.entry) s.front.past all
+
+  -- a piece or a host entry
+  data Kind (v : Task) : Type 0 where
+    piece : (n : Node) (c : Cmd) → node_at all v.node ≡ Some n → n.act ≡ Runs c → v.part < length (pieces all c) → Kind v
+    hosts : (n : Node) (x : Entry) → node_at all v.node ≡ Some n → n.act ≡ Hosts x → v.part ≡ 0 → Kind v
+
+  kind : (v : Task) → IsTrue (tr.has v) → is_event all v ≡ false → Kind v
+  kind v there plain = go (node_at all v.node) refl there plain
+    where
+      by_kind : (n : Node) → node_at all v.node ≡ Some n → (a : Act) → n.act ≡ a → IsTrue (nat_lt v.part (task_count all a)) → not (accesses a) ≡ false → Kind v
+      by_kind n at (Runs c) e there plain = piece n c at e (ltb-true v.part (length (pieces all c)) there)
+      by_kind n at (Hosts x) e there plain = hosts n x at e (let lt = ltb-true v.part 1 there in omega (arith, lt))
+      by_kind n at (Waits s) e there plain = absurd cc
+      by_kind n at (Signals s) e there plain = absurd cc
+      by_kind n at (Depends r d) e there plain = absurd cc
+
+      go : (o : Option Node) → node_at all v.node ≡ o → IsTrue (by_act false (λ a. nat_lt v.part (task_count all a)) o) → holds o (λ n. not (accesses n.act)) ≡ false → Kind v
+      go None at there plain = absurd cc
+      go (Some n) at there plain = by_kind n at n.act refl there plain
+
+  has_task : (v : Task) (n : Node) → node_at all v.node ≡ Some n → IsTrue (nat_lt v.part (task_count all n.act)) → IsTrue (tr.has v)
+  has_task v n at h = subst (λ (o : Option Node). IsTrue (by_act false (λ a. nat_lt v.part (task_count all a)) o)) (sym at) h
+
+  plain_is : (v : Task) (n : Node) → node_at all v.node ≡ Some n → (a : Act) → n.act ≡ a → not (accesses a) ≡ false → is_event all v ≡ false
+  plain_is v n at a act e = ap (λ (o : Option Node). holds o (λ n. not (accesses n.act))) at ∙ ap (λ (a : Act). not (accesses a)) act ∙ e
+
+  happened_is : (s : Stage) (v : Task) (n : Node) → node_at all v.node ≡ Some n → (a : Act) → n.act ≡ a → has_happened all s v ≡ act_happened s v n a
+  happened_is s v n at a act = ap (λ (o : Option Node). holds o (λ n. act_happened s v n n.act)) at ∙ ap (act_happened s v n) act
+
+  before_is : (u v : Task) (m n : Node) → node_at all u.node ≡ Some m → node_at all v.node ≡ Some n → tr.before u.node v.node ≡ before (nodes all) m n
+  before_is u v m n e f =
+      ap (λ (o : Option Node). holds o (λ m. holds (node_at all v.node) (λ n. before (nodes all) m n))) e
+      ∙ ap (λ (o : Option Node). holds o (λ n. before (nodes all) m n)) f
+
+  turned : {a b : Bool} → a ≡ b → IsTrue a → IsTrue b
+  turned {a = a} {b = b} e h = sym e ∙ h
+
+  old_node : (P : Point → Type 0) (past : Past) → Grows P past all → (n : Node) → Contains (nodes all) n → n.number < length (nodes past) → Contains (nodes past) n
+  old_node P past g n c lt = is_old paths joins leads keeps all g.newer past g.whole (new_ids orders keeps t sound) (live_ids orders keeps t sound) n c lt
+
+  node_in_all : (P : Point → Type 0) (past : Past) → Grows P past all → (n : Node) → Contains (nodes past) n → Contains (nodes all) n
+  node_in_all P past g n c = old_has paths joins leads keeps all g.newer past g.whole (new_ids orders keeps t sound) (live_ids orders keeps t sound) n c
+
+  pieces_same : (P : Point → Type 0) (past : Past) → Grows P past all → (n : Node) (c : Cmd) → Contains (nodes past) n → n.act ≡ Runs c → pieces all c ≡ pieces past c
+  pieces_same P past g n c cn act = same_pieces paths joins leads keeps all g.newer past g.whole (new_ids orders keeps t sound) (live_ids orders keeps t sound) n c cn act
+
+  before_same : (P : Point → Type 0) (past : Past) → Grows P past all → (m n : Node) → Contains (nodes past) n → before (nodes all) m n ≡ before (nodes past) m n
+  before_same P past g m n cn = same_before paths joins leads keeps all g.newer past g.whole (new_ids orders keeps t sound) (live_ids orders keeps t sound) m n cn
+
+  -- where a node is free in a past, the pieces before it have run
+  free_done : (P : Point → Type 0) (past : Past) → Grows P past all → (done : List Name) (n : Node) → Contains (nodes past) n → IsTrue (is_free past done n)
+      → (m : Node) (c : Cmd) (j : ℕ) → Contains (nodes all) m → m.act ≡ Runs c → j < length (pieces all c) → IsTrue (before (nodes all) m n) → IsTrue (is_done done (m.number, j))
+  free_done P past g done n cn free m c j cm act lt b =
+      let less = leads (nodes all) m n b in
+      let size = number_below (nodes past) (numbered past) n cn in
+      let old = old_node P past g m cm (omega (arith, less, size)) in
+      let runs = all_of (λ m. not (before (nodes past) m n) || list_all (is_done done) (node_pieces past m m.act)) (nodes past) m free old in
+      let all_run = implied (before (nodes past) m n) (list_all (is_done done) (node_pieces past m m.act)) (turned (before_same P past g m n cn) b) runs in
+      let runs_each = subst (λ (a : Act). IsTrue (list_all (is_done done) (node_pieces past m a))) act all_run in
+      let count : length (pieces all c) ≡ length (pieces past c) = ap (λ (ps : List (List Move)). length ps) (pieces_same P past g m c old act) in
+      let here : Contains (node_pieces past m (Runs c)) (m.number, 0 + j) = map_has (λ k. (m.number, k)) (below (length (pieces past c))) (0 + j) (numbers_have 0 (length (pieces past c)) j (omega (arith, lt, count))) in
+      subst (λ (k : ℕ). IsTrue (is_done done (m.number, k))) (let same : 0 + j ≡ j = omega arith in same)
+      (all_of (is_done done) (node_pieces past m (Runs c)) (m.number, 0 + j) runs_each here)
+    where
+      implied : (a b : Bool) → IsTrue a → IsTrue (not a || b) → IsTrue b
+      implied true b h g = g
+      implied false b h g = absurd cc
+
+  -- ---- tasks that stand as a stage says
+
+  record Stands (s : Stage) (did : List Task) : Type 0 where
+    placed : Place s
+    tasks : List Task
+    allowed : IsAllowed tr tasks
+    happened : (u : Task) → IsTrue (tr.has u) → is_event all u ≡ false → IsIn u tasks ↔ IsTrue (has_happened all s u)
+    eager : IsEager tr (is_event all) tasks
+    order : filter (λ u. not (is_event all u)) tasks ≡ did
+
+  -- with the events that can happen
+  settle : (s : Stage) (did : List Task) → Place s → (tasks : List Task) → IsAllowed tr tasks → ((u : Task) → IsTrue (tr.has u) → is_event all u ≡ false → IsIn u tasks ↔ IsTrue (has_happened all s u))
+      → filter (λ u. not (is_event all u)) tasks ≡ did → Stands s did
+  settle s did placed tasks ok happened order =
+      let g = due_done paths joins leads all tasks ok in
+      record {
+        placed = placed;
+        tasks = g.tasks;
+        allowed = g.allowed;
+        happened = λ u there plain. (λ h. (happened u there plain).0 (g.added u plain h), λ h. g.kept u ((happened u there plain).1 h));
+        eager = is_eager paths joins leads all tasks g;
+        order = g.same ∙ order;
+      }
+
+  begins : Stands (start t) []
+  begins = settle (start t) [] (start_placed orders keeps t sound) [] tt (λ u there plain. (λ h. absurd h, λ h. absurd (nothing u there plain h))) refl
+    where
+      nothing : (u : Task) → IsTrue (tr.has u) → is_event all u ≡ false → IsTrue (has_happened all (start t) u) → ⊥
+      nothing u there plain h = go (kind u there plain)
+        where
+          go : Kind u → ⊥
+          go (piece n c at act lt) = let no = turned (happened_is (start t) u n at (Runs c) act) h in cc
+          go (hosts n x at act zero) = let lt = ltb-true n.point.entry 0 (turned (happened_is (start t) u n at (Hosts x) act) h) in omega (arith, lt)
+
+  module _ (s : Stage) (did : List Task) (i : Stands s did) where
+    grows : Front s
+    grows = later orders keeps t sound s i.placed
+
+    piece_in : (v : Task) (m : Node) (c : Cmd) → IsTrue (tr.has v) → node_at all v.node ≡ Some m → m.act ≡ Runs c → IsTrue (is_done s.done (v.node, v.part)) → IsIn v i.tasks
+    piece_in v m c there at act h = (i.happened v there (plain_is v m at (Runs c) act refl)).1 (turned (sym (happened_is s v m at (Runs c) act)) h)
+
+    entry_in : (v : Task) (m : Node) (x : Entry) → IsTrue (tr.has v) → node_at all v.node ≡ Some m → m.act ≡ Hosts x → Contains (nodes s.front.past) m → IsIn v i.tasks
+    entry_in v m x there at act c =
+        (i.happened v there (plain_is v m at (Hosts x) act refl)).1 (turned (sym (happened_is s v m at (Hosts x) act)) (lt-ltb m.point.entry s.count (low orders keeps t sound s i.placed m c)))
+
+    -- where the pieces before a next task are done, it is due
+    due : (u : Task) (n : Node) → node_at all u.node ≡ Some n → n.number ≤ length (nodes s.front.past)
+        → ((v : Task) (m : Node) (c : Cmd) → IsTrue (tr.has v) → node_at all v.node ≡ Some m → m.act ≡ Runs c → v.part < length (pieces all c) → IsTrue (before (nodes all) m n) → IsIn v i.tasks)
+        → IsDue tr (is_event all) i.tasks u
+    due u n at_u le each v plain p = go (kind v p.0 plain)
+      where
+        go : Kind v → IsIn v i.tasks
+        go (piece m c at act lt) = each v m c p.0 at act lt (turned (before_is v u m n at at_u) p.1)
+        go (hosts m x at act zero) =
+            let lt = leads (nodes all) m n (turned (before_is v u m n at at_u) p.1) in
+            entry_in v m x p.0 at act (old_node _ s.front.past grows m (node_of all v.node m at).0 (omega (arith, lt, le)))
+
+    -- pieces that have run before a node that is free
+    free_in : (P : Point → Type 0) (past : Past) → Grows P past all → (n : Node) → Contains (nodes past) n → IsTrue (is_free past s.done n)
+        → (v : Task) (m : Node) (c : Cmd) → IsTrue (tr.has v) → node_at all v.node ≡ Some m → m.act ≡ Runs c → v.part < length (pieces all c) → IsTrue (before (nodes all) m n) → IsIn v i.tasks
+    free_in P past g n cn free v m c there at act lt b =
+        let found = node_of all v.node m at in
+        piece_in v m c there at act (subst (λ (k : ℕ). IsTrue (is_done s.done (k, v.part))) found.1 (free_done P past g s.done n cn free m c v.part found.0 act lt b))
+
+    -- ---- a piece that is offered
+
+    record Offered (x : Name) : Type 0 where
+      node : Node
+      command : Cmd
+      stands : Contains (nodes s.front.past) node
+      act : node.act ≡ Runs command
+      number : node.number ≡ x.0
+      part : x.1 < length (pieces s.front.past command)
+      free : IsTrue (is_free s.front.past s.done node)
+      fresh : IsTrue (not (is_done s.done x))
+
+    offered_of : (x : Name) → IsTrue (is_done (offered s.front.past s.done) x) → Offered x
+    offered_of x h =
+        let y = some_of (same_name x) (offered s.front.past s.done) h in
+        let n = flat_from (λ n. if is_free s.front.past s.done n then filter (λ x. not (is_done s.done x)) (node_pieces s.front.past n n.act) else []) (reverse (nodes s.front.past)) y.0 y.1 in
+        by_free n.0 (Contains-permutation (reverse (nodes s.front.past)) (nodes s.front.past) n.0 (IsPermutation-sym (nodes s.front.past) (reverse (nodes s.front.past)) (IsPermutation-reverse (nodes s.front.past))) n.1)
+        y.0 (names_same x y.0 y.2) (is_free s.front.past s.done n.0) refl n.2
+      where
+        by_kind : (n : Node) → Contains (nodes s.front.past) n → (y : Name) → x ≡ y → IsTrue (is_free s.front.past s.done n) → IsTrue (not (is_done s.done y)) → (a : Act) → n.act ≡ a → Contains (node_pieces s.front.past n a) y → Offered x
+        by_kind n cn y same free fresh (Runs c) act h =
+            let k = mapped_from (λ k. (n.number, k)) (below (length (pieces s.front.past c))) y h in
+            let whole : (n.number, k.0) ≡ x = k.2 ∙ sym same in
+            let is_part : k.0 ≡ x.1 = ap (λ (z : Name). z.1) whole in
+            let within = (range_from 0 (length (pieces s.front.past c)) k.0 k.1).1 in
+            record {
+              node = n;
+              command = c;
+              stands = cn;
+              act = act;
+              number = ap (λ (z : Name). z.0) whole;
+              part = omega (arith, is_part, within);
+              free = free;
+              fresh = subst (λ (z : Name). IsTrue (not (is_done s.done z))) (sym same) fresh;
+            }
+        by_kind n cn y same free fresh (Hosts z) act h = absurd (none_in y h)
+        by_kind n cn y same free fresh (Waits z) act h = absurd (none_in y h)
+        by_kind n cn y same free fresh (Signals z) act h = absurd (none_in y h)
+        by_kind n cn y same free fresh (Depends r d) act h = absurd (none_in y h)
+
+        by_free : (n : Node) → Contains (nodes s.front.past) n → (y : Name) → x ≡ y → (b : Bool) → is_free s.front.past s.done n ≡ b
+            → Contains (if b then filter (λ x. not (is_done s.done x)) (node_pieces s.front.past n n.act) else []) y → Offered x
+        by_free n cn y same false e h = absurd (none_in y h)
+        by_free n cn y same true e h = let f = filtered (λ x. not (is_done s.done x)) (node_pieces s.front.past n n.act) y h in by_kind n cn y same e f.1 n.act refl f.0
+
+    offered_at : (x : Name) (o : Offered x) → node_at all x.0 ≡ Some o.node
+    offered_at x o = subst (λ (k : ℕ). node_at all k ≡ Some o.node) o.number (node_at_self paths joins all o.node (node_in_all _ s.front.past grows o.node o.stands))
+
+    piece_may : (x : Name) → Offered x → MayRun tr i.tasks (piece_task x)
+    piece_may x o =
+        let at = offered_at x o in
+        let count : length (pieces all o.command) ≡ length (pieces s.front.past o.command) = ap (λ (ps : List (List Move)). length ps) (pieces_same _ s.front.past grows o.node o.command o.stands o.act) in
+        let within = o.part in
+        let there : IsTrue (tr.has (piece_task x)) = has_task (piece_task x) o.node at
+        (subst (λ (a : Act). IsTrue (nat_lt x.1 (task_count all a))) (sym o.act) (lt-ltb x.1 (length (pieces all o.command)) (omega (arith, count, within)))) in
+        let small = number_below (nodes s.front.past) (numbered s.front.past) o.node o.stands in
+        may_run tr (is_event all) i.tasks (piece_task x) (transitive paths joins leads all) i.eager there
+        (λ h. clash (is_done s.done x) (turned (happened_is s (piece_task x) o.node at (Runs o.command) o.act) ((i.happened (piece_task x) there (plain_is (piece_task x) o.node at (Runs o.command) o.act refl)).0 h)) o.fresh)
+        (due (piece_task x) o.node at (omega (arith, small)) (free_in _ s.front.past grows o.node o.stands o.free))
+      where
+        clash : (b : Bool) → IsTrue b → IsTrue (not b) → ⊥
+        clash true h g = cc
+        clash false h g = cc
+
+    -- ---- the entry that comes next
+
+    module _ (x : Entry) (xs : List Entry) (left : s.left ≡ x ∷ xs) where
+      abbrev here : Node
+      here = entry_node orders keeps t sound s i.placed x xs left
+
+      abbrev after : Place (applied s x xs)
+      after = next_placed orders keeps t sound s i.placed x xs left
+
+      after_grows : Front (applied s x xs)
+      after_grows = later orders keeps t sound (applied s x xs) after
+
+      here_stands : Contains (nodes (past_with s x)) here
+      here_stands = entry_stands orders keeps t sound s i.placed x xs left
+
+      here_in_all : Contains (nodes all) here
+      here_in_all = node_in_all _ (past_with s x) after_grows here here_stands
+
+      here_at : node_at all here.number ≡ Some here
+      here_at = node_at_self paths joins all here here_in_all
+
+      here_there : IsTrue (tr.has (entry_task s))
+      here_there = has_task (entry_task s) here here_at refl
+
+      -- a piece before it by a host entry was done before that one
+      by_path : is_host_wait x ≡ false → (v : Task) (m : Node) (c : Cmd) → IsTrue (tr.has v) → node_at all v.node ≡ Some m → m.act ≡ Runs c → v.part < length (pieces all c) → IsTrue (before (nodes all) m here) → IsIn v i.tasks
+      by_path plain v m c there at act lt b = go m here (node_of all v.node m at).0 at act refl ((paths all m here (node_of all v.node m at).0 here_in_all).0 b)
+        where
+          through : (m k n : Node) → Contains (nodes all) m → node_at all v.node ≡ Some m → n ≡ here → Path (nodes all) m k → Contains (nodes all) n → IsTrue (edge (nodes all) k n) → IsIn v i.tasks
+          through m k n cm at same p cn e =
+              let ck = ends (nodes all) m k p in
+              let host = edge_to_entry (nodes all) k n x (ap (λ (n : Node). n.act) same) plain e in
+              let less = leads (nodes all) k n ((paths all k n ck cn).1 (direct ck cn e)) in
+              let size : n.number ≡ length (nodes s.front.past) = ap (λ (n : Node). n.number) same in
+              let old = old_node _ s.front.past grows k ck (omega (arith, less, size)) in
+              let first = (paths all m k cm ck).1 p in
+              by_host_act k ck old first k.act refl host
+            where
+              by_host_act : (k : Node) → Contains (nodes all) k → Contains (nodes s.front.past) k → IsTrue (before (nodes all) m k) → (a : Act) → k.act ≡ a → IsTrue (is_host a) → IsIn v i.tasks
+              by_host_act k ck old first (Hosts y) act h =
+                  let u : Task = record { node = k.number; part = 0 } in
+                  let at_k = node_at_self paths joins all k ck in
+                  let there_k = has_task u k at_k (subst (λ (a : Act). IsTrue (nat_lt 0 (task_count all a))) (sym act) refl) in
+                  closed tr i.tasks i.allowed u v (entry_in u k y there_k at_k act old) (there, turned (sym (before_is v u m k at at_k)) first)
+              by_host_act k ck old first (Runs z) act h = absurd cc
+              by_host_act k ck old first (Waits z) act h = absurd cc
+              by_host_act k ck old first (Signals z) act h = absurd cc
+              by_host_act k ck old first (Depends r d) act h = absurd cc
+
+          go : (m n : Node) → Contains (nodes all) m → node_at all v.node ≡ Some m → m.act ≡ Runs c → n ≡ here → Path (nodes all) m n → IsIn v i.tasks
+          go m n cm at act same (direct d f e) = let host = subst (λ (a : Act). IsTrue (is_host a)) act (edge_to_entry (nodes all) m n x (ap (λ (n : Node). n.act) same) plain e) in absurd cc
+          go m n cm at act same (longer {k = k} p d e) = through m k n cm at same p d e
+
+      entry_due : IsTrue (may_go s x) → (b : Bool) → is_host_wait x ≡ b → IsDue tr (is_event all) i.tasks (entry_task s)
+      entry_due may false plain = due (entry_task s) here here_at (omega arith) (by_path plain)
+      entry_due may true waits =
+          let all_free = only (is_host_wait x) _ waits may in
+          let free = only (here.point.entry == s.count) (is_free (past_with s x) s.done here) (eq-eqb s.count s.count refl) (all_of (λ n. not (n.point.entry == s.count) || is_free (past_with s x) s.done n) (nodes (past_with s x)) here all_free here_stands) in
+          due (entry_task s) here here_at (omega arith) (free_in _ (past_with s x) after_grows here here_stands free)
+        where
+          only : (a b : Bool) → a ≡ true → IsTrue (not a || b) → IsTrue b
+          only true b e h = h
+          only false b e h = absurd cc
+
+      entry_may : IsTrue (may_go s x) → MayRun tr i.tasks (entry_task s)
+      entry_may may = may_run tr (is_event all) i.tasks (entry_task s) (transitive paths joins leads all) i.eager here_there
+          (λ h. let lt = ltb-true s.count s.count (turned (happened_is s (entry_task s) here here_at (Hosts x) refl) ((i.happened (entry_task s) here_there (plain_is (entry_task s) here here_at (Hosts x) refl refl)).0 h)) in omega (arith, lt))
+          (entry_due may (is_host_wait x) refl)
+
+  -- ---- steps
+
+  apply_step : (s : Stage) (did : List Task) (i : Stands s did) (x : Entry) (xs : List Entry) → s.left ≡ x ∷ xs → IsTrue (may_go s x) → Stands (applied s x xs) (entry_task s ∷ did)
+  apply_step s did i x xs left may = settle (applied s x xs) (entry_task s ∷ did) (next_placed orders keeps t sound s i.placed x xs left) (entry_task s ∷ i.tasks) (entry_may s did i x xs left may, i.allowed)
+      (λ u there plain. (forward u there plain, backward u there plain)) (rw mine (ap (λ (us : List Task). entry_task s ∷ us) i.order))
+    where
+      at : node_at all (entry_task s).node ≡ Some (here s did i x xs left)
+      at = here_at s did i x xs left
+
+      mine : is_event all (entry_task s) ≡ false
+      mine = plain_is (entry_task s) (here s did i x xs left) at (Hosts x) refl refl
+
+      forward : (u : Task) → IsTrue (tr.has u) → is_event all u ≡ false → IsIn u (entry_task s ∷ i.tasks) → IsTrue (has_happened all (applied s x xs) u)
+      forward u there plain (inl e) =
+          subst (λ (v : Task). IsTrue (has_happened all (applied s x xs) v)) (sym e) (turned (sym (happened_is (applied s x xs) (entry_task s) (here s did i x xs left) at (Hosts x) refl)) (lt-ltb s.count (s.count + 1) (omega arith)))
+      forward u there plain (inr h) = go (kind u there plain) ((i.happened u there plain).0 h)
+        where
+          go : Kind u → IsTrue (has_happened all s u) → IsTrue (has_happened all (applied s x xs) u)
+          go (piece n c at act lt) h = turned (sym (happened_is (applied s x xs) u n at (Runs c) act)) (turned (happened_is s u n at (Runs c) act) h)
+          go (hosts n y at act zero) h =
+              let lt = ltb-true n.point.entry s.count (turned (happened_is s u n at (Hosts y) act) h) in
+              turned (sym (happened_is (applied s x xs) u n at (Hosts y) act)) (lt-ltb n.point.entry (s.count + 1) (omega (arith, lt)))
+
+      backward : (u : Task) → IsTrue (tr.has u) → is_event all u ≡ false → IsTrue (has_happened all (applied s x xs) u) → IsIn u (entry_task s ∷ i.tasks)
+      backward u there plain h = go (kind u there plain)
+        where
+          go : Kind u → IsIn u (entry_task s ∷ i.tasks)
+          go (piece n c at act lt) = inr (piece_in s did i u n c there at act (turned (happened_is (applied s x xs) u n at (Runs c) act) h))
+          go (hosts n y at act zero) =
+              let found = node_of all u.node n at in
+              ⊎_elim
+              (λ same. inl (same_task u (entry_task s) (sym found.1 ∙ sym (ap (λ (m : Node). m.number) same)) zero))
+              (λ old. inr (entry_in s did i u n y there at act old))
+              (entries_then orders keeps t sound s i.placed x xs left n y found.0 act (ltb-true n.point.entry (s.count + 1) (turned (happened_is (applied s x xs) u n at (Hosts y) act) h)))
+
+  abbrev ran : Stage → Name → Stage
+  ran s x = record s { done = x ∷ s.done }
+
+  run_step : (s : Stage) (did : List Task) (i : Stands s did) (x : Name) → Offered s did i x → Stands (ran s x) (piece_task x ∷ did)
+  run_step s did i x o = settle (ran s x) (piece_task x ∷ did) (record { gone = i.placed.gone; split = i.placed.split; count = i.placed.count; front = i.placed.front })
+      (piece_task x ∷ i.tasks) (piece_may s did i x o, i.allowed)
+      (λ u there plain. (forward u there plain, backward u there plain)) (rw mine (ap (λ (us : List Task). piece_task x ∷ us) i.order))
+    where
+      at : node_at all (piece_task x).node ≡ Some o.node
+      at = offered_at s did i x o
+
+      mine : is_event all (piece_task x) ≡ false
+      mine = plain_is (piece_task x) o.node at (Runs o.command) o.act refl
+
+      forward : (u : Task) → IsTrue (tr.has u) → is_event all u ≡ false → IsIn u (piece_task x ∷ i.tasks) → IsTrue (has_happened all (ran s x) u)
+      forward u there plain (inl e) =
+          subst (λ (v : Task). IsTrue (has_happened all (ran s x) v)) (sym e) (turned (sym (happened_is (ran s x) (piece_task x) o.node at (Runs o.command) o.act)) (or_first (same_name x x) (is_done s.done x) (name_itself x)))
+      forward u there plain (inr h) = go (kind u there plain) ((i.happened u there plain).0 h)
+        where
+          go : Kind u → IsTrue (has_happened all s u) → IsTrue (has_happened all (ran s x) u)
+          go (piece n c at act lt) h = turned (sym (happened_is (ran s x) u n at (Runs c) act)) (or_second (same_name (u.node, u.part) x) (is_done s.done (u.node, u.part)) (turned (happened_is s u n at (Runs c) act) h))
+          go (hosts n y at act zero) h = turned (sym (happened_is (ran s x) u n at (Hosts y) act)) (turned (happened_is s u n at (Hosts y) act) h)
+
+      backward : (u : Task) → IsTrue (tr.has u) → is_event all u ≡ false → IsTrue (has_happened all (ran s x) u) → IsIn u (piece_task x ∷ i.tasks)
+      backward u there plain h = go (kind u there plain)
+        where
+          go : Kind u → IsIn u (piece_task x ∷ i.tasks)
+          go (piece n c at act lt) =
+              ⊎_elim
+              (λ same. let e = names_same (u.node, u.part) x same in inl (same_task u (piece_task x) (ap (λ (z : Name). z.0) e) (ap (λ (z : Name). z.1) e)))
+              (λ ran. inr (piece_in s did i u n c there at act ran))
+              (either (same_name (u.node, u.part) x) (is_done s.done (u.node, u.part)) (turned (happened_is (ran s x) u n at (Runs c) act) h))
+          go (hosts n y at act zero) = inr ((i.happened u there plain).1 (turned (sym (happened_is s u n at (Hosts y) act)) (turned (happened_is (ran s x) u n at (Hosts y) act) h)))
+
+  copy_step : (s : Stage) (did : List Task) (k : ℕ) → Stands s did → Stands (record s { copied = k ∷ s.copied }) did
+  copy_step s did k i = record {
+    placed = record { gone = i.placed.gone; split = i.placed.split; count = i.placed.count; front = i.placed.front };
+    tasks = i.tasks;
+    allowed = i.allowed;
+    happened = i.happened;
+    eager = i.eager;
+    order = i.order;
+  }
+
+  comes_next : (s : Stage) (did : List Task) (i : Stands s did) (u : Task) → MayCome s u → MayRun tr i.tasks u
+  comes_next s did i _ (Offers x h) = piece_may s did i x (offered_of s did i x h)
+  comes_next s did i _ (Enters x xs left may) = entry_may s did i x xs left may
+
+  module _ (part_count : Past → ℕ) where
+    one_step : (s : Stage) (did : List Task) → Stands s did → (step : Step) (e : Stage) → Next part_count s step e → Stands e (with_step s step did)
+    one_step s did i (Apply atoms) e next = go s.left refl next
+      where
+        go : (left : List Entry) → s.left ≡ left → Applies s atoms left e → Stands e (entry_task s ∷ did)
+        go [] left next = absurd next
+        go (x ∷ xs) left next = subst (λ (m : Stage). Stands m (entry_task s ∷ did)) (sym next.2) (apply_step s did i x xs left next.0)
+    one_step s did i (RunPiece x) e next = subst (λ (m : Stage). Stands m (piece_task x ∷ did)) (sym next.1) (run_step s did i x (offered_of s did i x next.0))
+    one_step s did i (CopyPart k) e next = subst (λ (m : Stage). Stands m did) (sym next.1) (copy_step s did k i)
+
+    all_steps : (steps : List Step) (s : Stage) (did : List Task) → Stands s did → (e : Stage) (run : Allowed part_count s steps e) → Stands e (done_by part_count s steps e run did)
+    all_steps [] s did i e run = subst (λ (m : Stage). Stands m did) (sym run) i
+    all_steps (step ∷ steps) s did i e run = all_steps steps run.0 (with_step s step did) (one_step s did i step run.0 run.1) e run.2
+
+    pub allowed_too : (steps : List Step) (e : Stage) (run : Allowed part_count (start t) steps e)
+        → (done : List Task) × Matches all e done × (filter (λ u. not (is_event all u)) done ≡ done_by part_count (start t) steps e run [])
+    allowed_too steps e run =
+        let did : List Task = done_by part_count (start t) steps e run [] in
+        let i : Stands e did = all_steps steps (start t) [] begins e run in (
+          i.tasks,
+          record {
+            allowed = i.allowed;
+            happened = i.happened;
+            eager = i.eager;
+            next = λ u may. comes_next e did i u may;
+          },
+          i.order,
+        )

@@ -1,0 +1,232 @@
+-- A trace without a fault is free of hazards, as the machine asks it.
+use Rattle.std.proofs.Common.{◌≡◌, ⊎_elim, ℕ, List, Bool, true, false, cond, ◌||◌, ◌&&◌, IsTrue, Option, Some, None, refl, ap, sym, ◌∙◌, subst, slice_get, eq-or-lt_of_le}
+use Rattle.std.specs.Prelude.{Contains, ◌==◌, option_map}
+use Rattle.std.specs.List.{find}
+use Rattle.std.proofs.lemmas.Bool.{eqb-true, cases_lt}
+use Rattle.vk_model.specs.declared.entry.Entry.{Entry}
+use Rattle.vk_model.specs.declared.entry.Entry.TheVariants as entry
+use Rattle.vk_model.specs.declared.command.Cmd.{Cmd}
+use Rattle.vk_model.specs.declared.rule.Rule.TheVariants as rule
+use Rattle.vk_model.specs.Words.{holds, some_pair}
+use Rattle.vk_model.specs.World.{Byte, same_byte}
+use Rattle.vk_model.specs.Point.{Past, Point, Deed, Run, host_of, command_of}
+use Rattle.vk_model.specs.Order.{plain_order}
+use Rattle.vk_model.specs.Moves.{Value, From, Move, moves}
+use Rattle.vk_model.specs.Pieces.{pieces}
+use Rattle.vk_model.specs.Node.{Node, Act, Hosts, Waits, Signals, Runs, Depends, nodes, acts}
+use Rattle.vk_model.specs.Access.{is_in, origin, origins, targets, host_reads}
+use Rattle.vk_model.specs.RulesIds.{breaks_new_id, breaks_live_id}
+use Rattle.vk_model.specs.RulesRanges.{command_overlaps, lists_twice}
+use Rattle.vk_model.specs.Rules.{breaks, first_fault}
+use Rattle.vk_model.specs.Fault.{Comes, IsSound}
+use Rattle.vk_model.specs.Laws.{PiecesAreMoves, PiecesWriteApart, write_common}
+use Rattle.vk_laws.specs.Machine.{Task, Put, Puts, Reads, HazardFree}
+use Rattle.vk_laws.specs.Trace.{AccessesInOrder}
+use Rattle.vk_laws.specs.Tasks.{moves_of, host_value, part_write, part_read, node_at, by_act, traffic_of}
+use Rattle.vk_laws.proofs.NoHazard.{any_of}
+use Rattle.vk_laws.proofs.Steady.{comes_here, kept_moves, kept_pieces}
+use Rattle.vk_laws.proofs.Points.{Stands, stands, deed_of}
+use Rattle.vk_laws.proofs.TaskAccesses.{found, map_has, chosen_from, chosen_has, byte_same, piece_move, is_there, is_in_of, ordered}
+use Rattle.vk_laws.proofs.Apart.{pair_of, no_overlap}
+
+pub refuted : (b : Bool) → (IsTrue b → ⊥) → b ≡ false
+refuted true h = absurd (h refl)
+refuted false h = refl
+
+-- ---- what a part does
+
+module _ (all : Past) where
+  -- the node of a task that writes, and of one that reads
+  pub write_act : (t : Task) (c : Byte) (w : Put) → (traffic_of all).write_of t c ≡ Some w → (n : Node) × (node_at all t.node ≡ Some n) × (part_write all n.act t.part c ≡ Some w)
+  write_act t c w h = go (node_at all t.node) refl h
+    where
+      go : (o : Option Node) → node_at all t.node ≡ o → by_act None (λ a. part_write all a t.part c) o ≡ Some w → (n : Node) × (node_at all t.node ≡ Some n) × (part_write all n.act t.part c ≡ Some w)
+      go None e h = absurd cc
+      go (Some n) e h = (n, e, h)
+
+  pub read_act : (t : Task) (c : Byte) → Reads (traffic_of all) t c → (n : Node) × (node_at all t.node ≡ Some n) × IsTrue (part_read all n.act t.part c)
+  read_act t c h = go (node_at all t.node) refl h
+    where
+      go : (o : Option Node) → node_at all t.node ≡ o → IsTrue (by_act false (λ a. part_read all a t.part c) o) → (n : Node) × (node_at all t.node ≡ Some n) × IsTrue (part_read all n.act t.part c)
+      go None e h = absurd cc
+      go (Some n) e h = (n, e, h)
+
+  pub node_of : (k : ℕ) (n : Node) → node_at all k ≡ Some n → Contains (nodes all) n × (n.number ≡ k)
+  node_of k n e = let f = found (λ m. m.number == k) (nodes all) n e in (f.0, eqb-true n.number k f.1)
+
+  -- a move of a piece
+  pub record Moved (x : Cmd) (k : ℕ) (c : Byte) (w : Put) : Type 0 where
+    pub piece : List Move
+    pub at : slice_get (pieces all x) k ≡ Some piece
+    pub mover : Move
+    pub first : find (λ m. same_byte m.to c) piece ≡ Some mover
+    pub put : Puts mover.source ≡ w
+
+  pub moved : (x : Cmd) (k : ℕ) (c : Byte) (w : Put) → part_write all (Runs x) k c ≡ Some w → Moved x k c w
+  moved x k c w h = go (slice_get (pieces all x) k) refl h
+    where
+      by_move : (ps : List Move) → slice_get (pieces all x) k ≡ Some ps → (o : Option Move) → find (λ m. same_byte m.to c) ps ≡ o → option_map (λ m. Puts m.source) o ≡ Some w → Moved x k c w
+      by_move ps at None f h = absurd cc
+      by_move ps at (Some m) f h = record { piece = ps; at = at; mover = m; first = f; put = let e : Puts m.source ≡ w = cc in e }
+
+      go : (o : Option (List Move)) → slice_get (pieces all x) k ≡ o → option_map (λ m. Puts m.source) (find (λ m. same_byte m.to c) (moves_of o)) ≡ Some w → Moved x k c w
+      go None at h = absurd cc
+      go (Some ps) at h = by_move ps at (find (λ m. same_byte m.to c) ps) refl h
+
+  pub moved_to : (x : Cmd) (k : ℕ) (c : Byte) (w : Put) (m : Moved x k c w) → Contains m.piece m.mover × (m.mover.to ≡ c)
+  moved_to x k c w m = let f = found (λ m. same_byte m.to c) m.piece m.mover m.first in (f.0, byte_same m.mover.to c f.1)
+
+  pub record HostPut (x : Entry) (k : ℕ) (c : Byte) (w : Put) : Type 0 where
+    pub only : k ≡ 0
+    pub value : ℕ
+    pub is : host_value x c ≡ Some value
+    pub put : Puts (Value value) ≡ w
+
+  pub host_put : (x : Entry) (k : ℕ) (c : Byte) (w : Put) → part_write all (Hosts x) k c ≡ Some w → HostPut x k c w
+  host_put x k c w h = go (k == 0) (host_value x c) refl refl h
+    where
+      go : (b : Bool) (o : Option ℕ) → (k == 0) ≡ b → host_value x c ≡ o → cond b (option_map (λ v. Puts (Value v)) o) None ≡ Some w → HostPut x k c w
+      go true None e f h = absurd cc
+      go true (Some v) e f h = record { only = eqb-true k 0 e; value = v; is = f; put = let g : Puts (Value v) ≡ w = cc in g }
+      go false o e f h = absurd cc
+
+-- no host entry reads and writes
+host_apart : (x : Entry) (c : Byte) (v : ℕ) → host_value x c ≡ Some v → IsTrue (is_in c (host_reads x)) → ⊥
+host_apart (entry.Write b o bytes) c v h r = cc
+host_apart _ c v h r = cc
+
+pub second : (a b : Bool) → IsTrue (a && b) → IsTrue b
+second true b h = h
+second false b h = absurd cc
+
+pub same_task : (s t : Task) → s.node ≡ t.node → s.part ≡ t.part → s ≡ t
+same_task s t e f = ap (task s.node) f ∙ ap (λ (n : ℕ). task n t.part) e
+  where
+    task : ℕ → ℕ → Task
+    task n k = record { node = n; part = k }
+
+module _ (together : PiecesAreMoves) (apart : PiecesWriteApart) (t : List Entry) (sound : IsSound t) where
+  abbrev all : Past
+  all = plain_order t
+
+  new_ids : (b : Past) (q : Point) → Comes all b q → IsTrue (breaks_new_id b q) → ⊥
+  unfolding breaks
+  new_ids b q c h = sound b q rule.NewId (c, h)
+
+  live_ids : (b : Past) (q : Point) → Comes all b q → IsTrue (breaks_live_id b q) → ⊥
+  unfolding breaks
+  live_ids b q c h = sound b q rule.LiveId (c, h)
+
+  -- ---- a command of the trace
+
+  module _ (n : Node) (cn : Contains (nodes all) n) (x : Cmd) (act : n.act ≡ Runs x) where
+    abbrev pub place : Stands all n
+    place = stands all n cn
+
+    pub deed : place.at.deed ≡ Run x
+    deed = deed_of place.at.deed x (subst (λ (a : Act). Contains (acts place.at.deed) a) act place.acted)
+
+    pub comes : Comes all place.past place.at
+    comes = subst (λ (l : Past). Comes l place.past place.at) (sym place.whole) (comes_here place.newer place.past place.at)
+
+    pub same_moves : moves all x ≡ moves place.past x
+    same_moves = kept_moves all place.newer place.past place.at x place.whole deed new_ids live_ids
+
+    same_pieces : pieces all x ≡ pieces place.past x
+    same_pieces = kept_pieces all place.newer place.past place.at x place.whole deed new_ids live_ids
+
+    no_overlaps : IsTrue (command_overlaps place.past x) → ⊥
+    unfolding breaks
+    no_overlaps h = sound place.past place.at rule.Overlap (comes, subst (λ (d : Deed). IsTrue (holds (host_of d) lists_twice || holds (command_of d) (command_overlaps place.past))) (sym deed) h)
+
+    pub written_once : some_pair write_common (pieces all x) ≡ false
+    written_once =
+        ap (some_pair write_common) same_pieces
+        ∙ apart place.past place.at x deed (refuted _ (λ h. sound place.past place.at rule.Overlap (comes, h))) (refuted _ (λ h. sound place.past place.at rule.Range (comes, h)))
+
+    run_apart : (k l : ℕ) (c : Byte) (w : Put) → part_write all (Runs x) k c ≡ Some w → IsTrue (part_read all (Runs x) l c) → ⊥
+    run_apart k l c w h r =
+        let m = moved all x k c w h in
+        let to = moved_to all x k c w m in
+        let here = piece_move together all x k m.mover (subst (λ (o : Option (List Move)). Contains (moves_of o) m.mover) (sym m.at) to.0) in
+        let f = chosen_from (λ m. origin m.source) (moves_of (slice_get (pieces all x) l)) c (is_there together all c (origins (moves_of (slice_get (pieces all x) l))) r) in
+        let there = piece_move together all x l f.0 f.1 in
+        no_overlap place.past x c no_overlaps
+        (m.mover, subst (λ (ms : List Move). Contains ms m.mover) same_moves here, to.1)
+        (f.0, subst (λ (ms : List Move). Contains ms f.0) same_moves there, f.2)
+
+    common : (p q : List Move) (c : Byte) → Contains (targets p) c → Contains (targets q) c → IsTrue (write_common p q)
+    common p q c cp cq = any_of (λ b. is_in b (targets q)) (targets p) c cp (is_in_of together all c (targets q) cq)
+
+    pub run_once : (k l : ℕ) (c : Byte) (w u : Put) → part_write all (Runs x) k c ≡ Some w → part_write all (Runs x) l c ≡ Some u → k ≡ l
+    run_once k l c w u h g =
+        let m = moved all x k c w h in
+        let n = moved all x l c u g in
+        let to = moved_to all x k c w m in
+        let to' = moved_to all x l c u n in
+        let at = subst (λ (b : Byte). Contains (targets m.piece) b) to.1 (map_has (λ m. m.to) m.piece m.mover to.0) in
+        let at' = subst (λ (b : Byte). Contains (targets n.piece) b) to'.1 (map_has (λ m. m.to) n.piece n.mover to'.0) in
+        ⊎_elim
+        (λ lt. absurd (clash (pair_of write_common (pieces all x) k l m.piece n.piece m.at n.at lt (common m.piece n.piece c at at'))))
+        (λ le. ⊎_elim (λ e. sym e) (λ lt. absurd (clash (pair_of write_common (pieces all x) l k n.piece m.piece n.at m.at lt (common n.piece m.piece c at' at)))) (eq-or-lt_of_le le))
+        (cases_lt k l)
+      where
+        clash : IsTrue (some_pair write_common (pieces all x)) → ⊥
+        clash e = let f = written_once in cc
+
+  -- ---- the parts of any act
+
+  part_apart : (n : Node) → Contains (nodes all) n → (k l : ℕ) (c : Byte) (w : Put) → part_write all n.act k c ≡ Some w → IsTrue (part_read all n.act l c) → ⊥
+  part_apart n cn k l c w h r = go n.act refl h r
+    where
+      go : (a : Act) → n.act ≡ a → part_write all a k c ≡ Some w → IsTrue (part_read all a l c) → ⊥
+      go (Runs x) e h r = run_apart n cn x e k l c w h r
+      go (Hosts x) e h r = let p = host_put all x k c w h in host_apart x c p.value p.is (second (l == 0) _ r)
+      go (Waits s) e h r = cc
+      go (Signals s) e h r = cc
+      go (Depends q s) e h r = cc
+
+  pub part_once : (n : Node) → Contains (nodes all) n → (k l : ℕ) (c : Byte) (w u : Put) → part_write all n.act k c ≡ Some w → part_write all n.act l c ≡ Some u → k ≡ l
+  part_once n cn k l c w u h g = go n.act refl h g
+    where
+      go : (a : Act) → n.act ≡ a → part_write all a k c ≡ Some w → part_write all a l c ≡ Some u → k ≡ l
+      go (Runs x) e h g = run_once n cn x e k l c w u h g
+      go (Hosts x) e h g = (host_put all x k c w h).only ∙ sym (host_put all x l c u g).only
+      go (Waits s) e h g = absurd cc
+      go (Signals s) e h g = absurd cc
+      go (Depends q s) e h g = absurd cc
+
+  part_source : (a : Act) (k : ℕ) (c d : Byte) → part_write all a k c ≡ Some (Puts (From d)) → IsTrue (part_read all a k d)
+  part_source (Runs x) k c d h =
+      let m = moved all x k c (Puts (From d)) h in
+      let to = moved_to all x k c (Puts (From d)) m in
+      let from : m.mover.source ≡ From d = let e = m.put in cc in
+      subst (λ (o : Option (List Move)). IsTrue (is_in d (origins (moves_of o)))) (sym m.at)
+      (is_in_of together all d (origins m.piece) (chosen_has (λ m. origin m.source) m.piece m.mover d to.0 (ap origin from)))
+  part_source (Hosts x) k c d h = let p = host_put all x k c (Puts (From d)) h in let e = p.put in absurd cc
+  part_source (Waits s) k c d h = absurd cc
+  part_source (Signals s) k c d h = absurd cc
+  part_source (Depends q s) k c d h = absurd cc
+
+  -- ---- the law's first premise
+
+  same_node_act : (k l : ℕ) (m n : Node) → k ≡ l → node_at all k ≡ Some m → node_at all l ≡ Some n → m ≡ n
+  same_node_act k l m n e f g = let h : node_at all k ≡ node_at all l = ap (node_at all) e in cc
+
+  pub hazard_free : AccessesInOrder → first_fault t ≡ None → HazardFree (traffic_of all)
+  hazard_free order none = record {
+    ordered = ordered together order t none;
+    apart = λ s u c same w r.
+        let a = write_act all s c w.0 w.1 in
+        let b = read_act all u c r in
+        let one = same_node_act s.node u.node a.0 b.0 same a.1 b.1 in
+        part_apart a.0 (node_of all s.node a.0 a.1).0 s.part u.part c w.0 a.2 (subst (λ (n : Node). IsTrue (part_read all n.act u.part c)) (sym one) b.2);
+    single = λ s u c same w v.
+        let a = write_act all s c w.0 w.1 in
+        let b = write_act all u c v.0 v.1 in
+        let one = same_node_act s.node u.node a.0 b.0 same a.1 b.1 in
+        same_task s u same (part_once a.0 (node_of all s.node a.0 a.1).0 s.part u.part c w.0 v.0 a.2 (subst (λ (n : Node). part_write all n.act u.part c ≡ Some v.0) (sym one) b.2));
+    source_read = λ s c d h.
+        let a = write_act all s c (Puts (From d)) h in
+        subst (λ (o : Option Node). IsTrue (by_act false (λ a. part_read all a s.part d) o)) (sym a.1) (part_source a.0.act s.part c d a.2);
+  }

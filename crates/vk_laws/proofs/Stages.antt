@@ -1,0 +1,118 @@
+-- Where a stage of a run stands in its trace.
+use Rattle.std.proofs.Common.{◌≡◌, ◌⊎◌, ⊎_elim, ℕ, ◌+◌, ◌<◌, ◌≤◌, List, [], ◌∷◌, ◌++◌, length, Some, None, refl, ap, sym, ◌∙◌, subst, arith, append_assoc, length-append}
+use Rattle.std.specs.Prelude.{Contains}
+use Rattle.vk_model.specs.declared.entry.Entry.{Entry}
+use Rattle.vk_model.specs.declared.rule.Rule.TheVariants as rule
+use Rattle.vk_model.specs.Point.{Past, Host, host_of}
+use Rattle.vk_model.specs.Order.{Front, host, plain_order, after_entry, order_from}
+use Rattle.vk_model.specs.Node.{Node, Act, Hosts, nodes, acts}
+use Rattle.vk_model.specs.Rules.{breaks}
+use Rattle.vk_model.specs.Fault.{Comes, IsSound}
+use Rattle.vk_model.specs.Laws.{GrowthKeeps, NeverAhead, OrdersAgree}
+use Rattle.vk_model.specs.Run.{Stage, start, applied, past_with}
+use Rattle.vk_laws.proofs.NoHazard.{contains-cons, contains-head}
+use Rattle.vk_laws.proofs.Steady.{IsNew, comes_later}
+use Rattle.vk_laws.proofs.CachedStays.{IsLive}
+use Rattle.vk_laws.proofs.Apart.{none_in}
+use Rattle.vk_laws.proofs.HazardFree.{refuted}
+use Rattle.vk_laws.proofs.ModelBytes.{host_deed}
+use Rattle.vk_laws.proofs.PlainOrder.{Each, Grows, grows_too, Within, OfBatch, batches_grow, plain_grows, plain_splits, old_or_newer}
+use Rattle.vk_laws.proofs.Prefixes.{has_more}
+
+order_splits : (e : ℕ) (f : Front) (xs ys : List Entry) → order_from e f (xs ++ ys) ≡ order_from (e + length xs) (order_from e f xs) ys
+order_splits e f [] ys = ap (λ (k : ℕ). order_from k f ys) (let same : e ≡ e + 0 = omega arith in same)
+order_splits e f (x ∷ xs) ys =
+    order_splits (e + 1) (after_entry e x f) xs ys
+    ∙ ap (λ (k : ℕ). order_from k (order_from (e + 1) (after_entry e x f) xs) ys) (let same : (e + 1) + length xs ≡ e + length (x ∷ xs) = omega arith in same)
+
+module _ (orders : OrdersAgree) (keeps : GrowthKeeps) (t : List Entry) (sound : IsSound t) where
+  abbrev all : Past
+  all = plain_order t
+
+  pub new_ids : IsNew all
+  unfolding breaks
+  new_ids b q c h = sound b q rule.NewId (c, h)
+
+  pub live_ids : IsLive all
+  unfolding breaks
+  live_ids b q c h = sound b q rule.LiveId (c, h)
+
+  abbrev empty : Front
+  empty = record { past = []; waiting = [] }
+
+  -- the entries that were applied, and those to come, are the trace
+  pub record Placed (s : Stage) : Type 0 where
+    pub gone : List Entry
+    pub split : t ≡ gone ++ s.left
+    pub count : 0 + length gone ≡ s.count
+    pub front : s.front ≡ order_from 0 empty gone
+
+  pub start_placed : Placed (start t)
+  start_placed = record { gone = []; split = refl; count = refl; front = refl }
+
+  rest_grows : (s : Stage) (p : Placed s) → Grows (Within (0 + length p.gone) (length s.left)) (plain_order p.gone) all
+  rest_grows s p =
+      let g = plain_grows (0 + length p.gone) (plain_order p.gone) s.left in
+      record { newer = g.newer; whole = ap plain_order p.split ∙ plain_splits 0 [] p.gone s.left ∙ g.whole; each = g.each }
+
+  never : (s : Stage) (p : Placed s) → NeverAhead p.gone
+  never s p b q c =
+      let g = rest_grows s p in
+      refuted (breaks rule.WaitBeforeSignal b q) (λ h. sound b q rule.WaitBeforeSignal (subst (λ (l : Past). Comes l b q) (sym g.whole) (comes_later g.newer (plain_order p.gone) b q c), h))
+
+  past_is : (s : Stage) (p : Placed s) → s.front.past ≡ plain_order p.gone
+  past_is s p = ap (λ (f : Front). f.past) p.front ∙ orders p.gone (never s p)
+
+  -- the trace goes on by points of the entries to come
+  pub later : (s : Stage) → Placed s → Grows (λ q. s.count ≤ q.entry) s.front.past all
+  later s p =
+      let g = grows_too (Within (0 + length p.gone) (length s.left)) (λ q. s.count ≤ q.entry) (λ q h. let le = h.0 in let same = p.count in omega (arith, le, same)) (plain_order p.gone) all (rest_grows s p) in
+      record { newer = g.newer; whole = g.whole ∙ ap (λ (l : Past). g.newer ++ l) (sym (past_is s p)); each = g.each }
+
+  -- and a stage's past has points of those that were applied
+  pub low : (s : Stage) → Placed s → (n : Node) → Contains (nodes s.front.past) n → n.point.entry < s.count
+  low s p n c =
+      let g = plain_grows 0 [] p.gone in
+      ⊎_elim (λ none. absurd (none_in n none)) (λ h. let lt = h.0.1 in let same = p.count in omega (arith, lt, same))
+      (old_or_newer (Within 0 (length p.gone)) [] (plain_order p.gone) g n (subst (λ (l : Past). Contains (nodes l) n) (past_is s p) c))
+
+  module _ (s : Stage) (p : Placed s) (x : Entry) (xs : List Entry) (left : s.left ≡ x ∷ xs) where
+    pub next_placed : Placed (applied s x xs)
+    next_placed = record {
+      gone = p.gone ++ x ∷ [];
+      split = p.split ∙ ap (λ (l : List Entry). p.gone ++ l) left ∙ sym (append_assoc p.gone (x ∷ []) xs);
+      count = let same = p.count in let more = length-append p.gone (x ∷ []) in omega (arith, same, more);
+      front = ap (λ (k : ℕ). after_entry k x s.front) (sym p.count) ∙ ap (after_entry (0 + length p.gone) x) p.front ∙ sym (order_splits 0 empty p.gone (x ∷ []));
+    }
+
+    batches : Grows (OfBatch s.count) (host s.count x ∷ s.front.past) (past_with s x)
+    unfolding next_placed
+    batches =
+        let g = batches_grow (plain_order p.gone) (0 + length p.gone) x (host (0 + length p.gone) x ∷ plain_order p.gone) in
+        record {
+          newer = g.newer;
+          whole = past_is (applied s x xs) next_placed ∙ plain_splits 0 [] p.gone (x ∷ []) ∙ g.whole
+              ∙ ap (λ (k : ℕ). g.newer ++ host k x ∷ plain_order p.gone) p.count ∙ ap (λ (l : Past). g.newer ++ host s.count x ∷ l) (sym (past_is s p));
+          each = subst (λ (k : ℕ). Each (OfBatch k) g.newer) p.count g.each;
+        }
+
+    -- the node of the entry
+    abbrev pub entry_node : Node
+    entry_node = record { number = length (nodes s.front.past); point = host s.count x; act = Hosts x }
+
+    pub entry_stands : Contains (nodes (past_with s x)) entry_node
+    entry_stands = subst (λ (l : Past). Contains (nodes l) entry_node) (sym batches.whole) (has_more keeps batches.newer (host s.count x ∷ s.front.past) entry_node (contains-head entry_node (nodes s.front.past)))
+
+    -- a host entry that has been applied then is this one, or was before
+    pub entries_then : (m : Node) (y : Entry) → Contains (nodes all) m → m.act ≡ Hosts y → m.point.entry < s.count + 1 → (entry_node ≡ m) ⊎ Contains (nodes s.front.past) m
+    entries_then m y c act lt =
+        ⊎_elim
+        (λ here. ⊎_elim
+        (λ old. contains-cons entry_node (nodes s.front.past) m old)
+        (λ h. absurd (no_host h.0.1 (host_deed m.point.deed y (subst (λ (a : Act). Contains (acts m.point.deed) a) act h.1))))
+        (old_or_newer (OfBatch s.count) (host s.count x ∷ s.front.past) (past_with s x) batches m here))
+        (λ h. let le : s.count + 1 ≤ m.point.entry = h.0 in absurd (omega (arith, lt, le)))
+        (old_or_newer (λ q. s.count + 1 ≤ q.entry) (past_with s x) all (later (applied s x xs) next_placed) m c)
+      where
+        no_host : host_of m.point.deed ≡ None → m.point.deed ≡ Host y → ⊥
+        no_host none is = let some : host_of m.point.deed ≡ Some y = ap host_of is in cc

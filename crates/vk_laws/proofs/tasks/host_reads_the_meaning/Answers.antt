@@ -1,0 +1,25 @@
+use Rattle.std.proofs.Common.{◌≡◌, ℕ, IsTrue, Option, Some, None, refl, ap, sym, ◌∙◌, subst}
+use Rattle.vk_model.specs.Words.{holds}
+use Rattle.vk_model.specs.Point.{Past}
+use Rattle.vk_model.specs.Node.{Node}
+use Rattle.vk_model.specs.Edge.{is_host}
+use Rattle.vk_model.specs.Order.{plain_order}
+use Rattle.vk_laws.specs.Machine.{Task}
+use Rattle.vk_laws.specs.Caches.{view}
+use Rattle.vk_laws.specs.Tasks.{node_at}
+use Rattle.vk_laws.specs.TraceCaches.{agent_of, caching_of}
+use Rattle.vk_laws.proofs.tasks.host_reads_the_meaning.Goals as goal
+
+host_agent : (all : Past) (next : Task) → IsTrue (holds (node_at all next.node) (λ n. is_host n.act)) → (caching_of all).agent next ≡ 0
+host_agent all next h = go (node_at all next.node) h
+  where
+    go : (o : Option Node) → IsTrue (holds o (λ n. is_host n.act)) → ◌≡◌ {A = ℕ} (elim o [ None ↦ 0 | Some n ↦ agent_of n ]) 0
+    go None h = absurd cc
+    go (Some n) h = rw h refl
+
+pub returns : goal.returns
+returns c = λ t done cells next b none r may reads host.
+    let d = c.reads_are_defined.ensures t next b none reads host in
+    let sees = c.cached_trace_is_fresh.ensures.fresh t done cells next b d.0 none r may reads d.1 in
+    let here : view 0 (cells b) ≡ d.0 = subst (λ (a : ℕ). view a (cells b) ≡ d.0) (host_agent (plain_order t) next host) sees in
+    d.1 ∙ ap Some (sym here)

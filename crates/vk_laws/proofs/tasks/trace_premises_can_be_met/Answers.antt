@@ -1,0 +1,22 @@
+use Rattle.vk_model.specs.World.{in_buffer}
+use Rattle.vk_laws.specs.Example.{task}
+use Rattle.vk_laws.specs.Discards.{with_discards}
+use Rattle.vk_laws.specs.TraceCaches.{caching_of}
+use Rattle.vk_laws.specs.TraceExample.{example, points, run}
+use Rattle.vk_laws.proofs.Runs.{bare, memory_after, reached}
+use Rattle.vk_laws.proofs.TraceExample.{no_fault, forgotten, defined, reads_byte, allowed, next}
+use Rattle.vk_laws.proofs.tasks.trace_premises_can_be_met.Goals as goal
+
+pub returns : goal.returns
+returns c =
+    let leads = c.before_is_order.ensures.forward in
+    record {
+      no_fault = no_fault;
+      forgotten = forgotten;
+      allowed = allowed leads;
+      next = next leads;
+      reads_byte = reads_byte;
+      defined = defined;
+      state = (bare (memory_after (with_discards points) (caching_of points) run), reached (with_discards points) (caching_of points) run (allowed leads));
+      sees = λ cells r. c.cached_trace_is_fresh.ensures.fresh example run cells (task 11) (in_buffer 1 0) 1 no_fault r (next leads) reads_byte defined;
+    }

@@ -1,0 +1,110 @@
+-- The allowed runs of the definitions as runs of the machine.
+use Rattle.std.specs.Prelude.{◌≡◌, ◌↔◌, ℕ, suc, ◌<◌, List, [], ◌∷◌, length, Bool, false, not, nat_lt, Option, Some, None, IsTrue}
+use Rattle.std.specs.List.{filter}
+use Rattle.vk_model.specs.declared.entry.Entry.{Entry}
+use Rattle.vk_model.specs.Words.{holds}
+use Rattle.vk_model.specs.World.{Byte}
+use Rattle.vk_model.specs.Moves.{Value, From}
+use Rattle.vk_model.specs.Point.{Past}
+use Rattle.vk_model.specs.Order.{plain_order}
+use Rattle.vk_model.specs.Node.{Node, Act, Hosts, Runs, nodes}
+use Rattle.vk_model.specs.Rules.{first_fault}
+use Rattle.vk_model.specs.Run.{Name, is_done, offered, Step, Apply, RunPiece, CopyPart, Stage, start, may_go, Allowed}
+use Rattle.vk_laws.specs.Machine.{IsIn, Task, Put, Puts, Anything, Traffic, Reads, Conflict, MayRun, IsAllowed, latest}
+use Rattle.vk_laws.specs.Growth.{IsEager}
+use Rattle.vk_laws.specs.Trace.{accesses}
+use Rattle.vk_laws.specs.Tasks.{node_at, traffic_of}
+use Rattle.vk_laws.specs.TraceBytes.{value_before}
+
+-- Whether a task is an event: neither a command's piece nor a host entry.
+abbrev pub is_event : Past → Task → Bool
+is_event all u = holds (node_at all u.node) (λ n. not (accesses n.act))
+
+-- The task of a piece.
+abbrev pub piece_task : Name → Task
+piece_task x = record { node = x.0; part = x.1 }
+
+-- The task of the entry that comes next at a stage: its node is the next one.
+abbrev pub entry_task : Stage → Task
+entry_task s = record { node = length (nodes s.front.past); part = 0 }
+
+-- The tasks after a step, the newest first: a part of a pass that is copied is none.
+abbrev pub with_step : Stage → Step → List Task → List Task
+with_step s (Apply atoms) done = entry_task s ∷ done
+with_step s (RunPiece x) done = piece_task x ∷ done
+with_step s (CopyPart k) done = done
+
+-- The pieces and host entries that an allowed run has done after others, the newest first.
+abbrev pub done_by : (part_count : Past → ℕ) (s : Stage) (steps : List Step) (e : Stage) → Allowed part_count s steps e → List Task → List Task
+done_by part_count s [] e run done = done
+done_by part_count s (step ∷ steps) e run done = done_by part_count run.0 steps e run.2 (with_step s step done)
+
+-- The value of a byte after a write of this to it, if any, from the values before it; for a write of nobody knows what, 0.
+abbrev pub stored : Option Put → (Byte → ℕ) → Byte → ℕ
+stored None bytes c = bytes c
+stored (Some (Puts (Value v))) bytes c = v
+stored (Some (Puts (From d))) bytes c = bytes d
+stored (Some Anything) bytes c = 0
+
+-- The bytes after tasks, the newest first, on one memory that held these at first.
+abbrev pub bytes_after : Traffic → (Byte → ℕ) → List Task → Byte → ℕ
+bytes_after tr first [] c = first c
+bytes_after tr first (u ∷ done) c = stored (tr.write_of u c) (bytes_after tr first done) c
+
+-- Whether a piece has run, or the entry of a host entry's node has been applied.
+abbrev pub act_happened : Stage → Task → Node → Act → Bool
+act_happened s u n (Runs c) = is_done s.done (u.node, u.part)
+act_happened s u n (Hosts x) = nat_lt n.point.entry s.count
+act_happened s u n _ = false
+
+-- Whether a piece or host entry has happened at a stage.
+abbrev pub has_happened : Past → Stage → Task → Bool
+has_happened all s u = holds (node_at all u.node) (λ n. act_happened s u n n.act)
+
+-- A piece or host entry that may come next at a stage: a piece that is offered, or the next entry if it may be applied.
+pub data MayCome (s : Stage) : Task → Type 0 where
+  Offers : (x : Name) → IsTrue (is_done (offered s.front.past s.done) x) → MayCome s (piece_task x)
+  Enters : (x : Entry) (xs : List Entry) → s.left ≡ x ∷ xs → IsTrue (may_go s x) → MayCome s (entry_task s)
+
+-- Tasks done in an allowed order, as a stage has them: the pieces that have run, the entries that have been applied, and each event that could happen. What may come next at the stage may come next in the machine.
+pub record Matches (all : Past) (s : Stage) (done : List Task) : Type 0 where
+  pub allowed : IsAllowed (traffic_of all) done
+  pub happened : (u : Task) → IsTrue ((traffic_of all).has u) → is_event all u ≡ false → IsIn u done ↔ IsTrue (has_happened all s u)
+  pub eager : IsEager (traffic_of all) (is_event all) done
+  pub next : (u : Task) → MayCome s u → MayRun (traffic_of all) done u
+
+-- A run from a trace's start to a stage that the definitions allow.
+abbrev pub RunOf : (Past → ℕ) → List Entry → List Step → Stage → Type 0
+RunOf part_count t steps e = Allowed part_count (start t) steps e
+
+-- The pieces and host entries of a run, the newest first.
+abbrev pub tasks_of : (part_count : Past → ℕ) (t : List Entry) (steps : List Step) (e : Stage) → RunOf part_count t steps e → List Task
+tasks_of part_count t steps e run = done_by part_count (start t) steps e run []
+
+-- Each allowed run of a trace without a fault is an allowed run of the machine, with events between its steps: without them these are its pieces and entries in their order.
+abbrev pub DefinedRunsAreAllowed : Type 0
+DefinedRunsAreAllowed =
+    (t : List Entry) (part_count : Past → ℕ) (steps : List Step) (e : Stage) (run : RunOf part_count t steps e) → first_fault t ≡ None
+    → (done : List Task) × Matches (plain_order t) e done × (filter (λ u. not (is_event (plain_order t) u)) done ≡ tasks_of part_count t steps e run)
+
+-- ---- what the law of the machine says of them
+
+-- When a piece or host entry may come next, of those whose accesses conflict with its own the earlier ones have happened, and the later ones haven't.
+abbrev pub DefinedRunsAreSettled : Type 0
+DefinedRunsAreSettled =
+    (t : List Entry) (part_count : Past → ℕ) (steps : List Step) (e : Stage) (next other : Task) (c : Byte) → RunOf part_count t steps e → first_fault t ≡ None → MayCome e next
+    → (other.node < next.node → Conflict (traffic_of (plain_order t)) other next c → IsTrue (has_happened (plain_order t) e other))
+    × (next.node < other.node → Conflict (traffic_of (plain_order t)) next other c → has_happened (plain_order t) e other ≡ false)
+
+-- When a piece or host entry may come next, each byte that it reads has the model's value before its node, where the model defines one: the run's pieces and entries took effect one after another on one memory, whatever it held at first.
+abbrev pub DefinedRunsAreFresh : Type 0
+DefinedRunsAreFresh =
+    (t : List Entry) (part_count : Past → ℕ) (steps : List Step) (e : Stage) (run : RunOf part_count t steps e) (first : Byte → ℕ) (next : Task) (c : Byte) (v : ℕ) → first_fault t ≡ None → MayCome e next
+    → Reads (traffic_of (plain_order t)) next c → value_before (plain_order t) next.node c ≡ Some v → bytes_after (traffic_of (plain_order t)) first (tasks_of part_count t steps e run) c ≡ v
+
+-- And at any stage each byte that was written has the model's value after the node of its last write, where the model defines one.
+abbrev pub DefinedRunsAreWritten : Type 0
+DefinedRunsAreWritten =
+    (t : List Entry) (part_count : Past → ℕ) (steps : List Step) (e : Stage) (run : RunOf part_count t steps e) (first : Byte → ℕ) (writer : Task) (c : Byte) (v : ℕ) → first_fault t ≡ None
+    → latest (traffic_of (plain_order t)) c (tasks_of part_count t steps e run) ≡ Some writer → value_before (plain_order t) (suc writer.node) c ≡ Some v
+    → bytes_after (traffic_of (plain_order t)) first (tasks_of part_count t steps e run) c ≡ v

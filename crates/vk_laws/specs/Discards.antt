@@ -1,0 +1,46 @@
+-- Host writes that an invalidation forgets, as writes of the machine.
+use Rattle.std.specs.Prelude.{◌≡◌, ℕ, List, None, Bool, true, false, ◌&&◌, ◌==◌, Option, Some}
+use Rattle.vk_model.specs.declared.entry.Entry.{Entry}
+use Rattle.vk_model.specs.declared.entry.Entry.TheVariants as entry
+use Rattle.vk_model.specs.World.{Byte}
+use Rattle.vk_model.specs.Objects.{is_cached}
+use Rattle.vk_model.specs.Point.{Past}
+use Rattle.vk_model.specs.Order.{plain_order}
+use Rattle.vk_model.specs.Rules.{first_fault}
+use Rattle.vk_model.specs.Node.{Act, Hosts}
+use Rattle.vk_model.specs.Effect.{reaches, world}
+use Rattle.vk_laws.specs.Machine.{Put, Anything, Traffic, HazardFree, IsModel}
+use Rattle.vk_laws.specs.Tasks.{by_act, node_at, traffic_of}
+use Rattle.vk_laws.specs.TraceBytes.{before_node, value_before}
+
+-- Whether an entry forgets what the host wrote to a byte: an invalidation of cached memory, and the byte was written and not flushed since (Vulkan, "Host Access to Device Memory Objects", on `vkInvalidateMappedMemoryRanges`).
+abbrev pub entry_forgets : Past → Entry → Byte → Bool
+entry_forgets past (entry.Invalidate b o n) c = is_cached past b && (reaches b o n c && (world past).marked c)
+entry_forgets past _ c = false
+
+-- Whether the act of node k does.
+abbrev pub forgets : Past → ℕ → Act → Byte → Bool
+forgets all k (Hosts x) c = entry_forgets (before_node all k) x c
+forgets all k _ c = false
+
+-- Nobody knows what a forgotten byte holds then.
+abbrev pub or_anything : Bool → Option Put → Option Put
+or_anything true w = Some Anything
+or_anything false w = w
+
+-- A trace as the machine's traffic, in which an invalidation may leave anything in the bytes that it forgets (Vulkan, "Host Access to Device Memory Objects").
+abbrev pub with_discards : Past → Traffic
+with_discards all = record {
+  has = (traffic_of all).has;
+  write_of = λ t c. or_anything (t.part == 0 && by_act false (λ a. forgets all t.node a c) (node_at all t.node)) ((traffic_of all).write_of t c);
+  reads = (traffic_of all).reads;
+  before = (traffic_of all).before;
+}
+
+-- In a trace without a fault all accesses are in order with the invalidations that forget bytes, too (Vulkan, "Host Access to Device Memory Objects").
+abbrev pub DiscardsHazardFreeLaw : Type 0
+DiscardsHazardFreeLaw = (t : List Entry) → first_fault t ≡ None → HazardFree (with_discards (plain_order t))
+
+-- And the model has no value for what is forgotten (Vulkan, "Host Access to Device Memory Objects").
+abbrev pub DiscardsModelLaw : Type 0
+DiscardsModelLaw = (t : List Entry) → first_fault t ≡ None → IsModel (with_discards (plain_order t)) (value_before (plain_order t))

@@ -1,0 +1,49 @@
+-- The model's bytes before each node of a trace, and what its tasks see of them where queues and the host have no caches.
+use Rattle.std.specs.Prelude.{◌≡◌, ℕ, suc, false, IsTrue, List, [], ◌∷◌, length, nat_le, Option, Some, None, if◌then◌else◌}
+use Rattle.vk_model.specs.declared.entry.Entry.{Entry}
+use Rattle.vk_model.specs.World.{Byte}
+use Rattle.vk_model.specs.Point.{Past}
+use Rattle.vk_model.specs.Order.{plain_order}
+use Rattle.vk_model.specs.Node.{nodes}
+use Rattle.vk_model.specs.Edge.{is_host}
+use Rattle.vk_model.specs.Words.{holds}
+use Rattle.vk_model.specs.Effect.{world}
+use Rattle.vk_model.specs.Rules.{first_fault}
+use Rattle.vk_laws.specs.Machine.{Task, Reads, MayRun, IsModel, latest}
+use Rattle.vk_laws.specs.Caches.{Cell, Caching, Reached, view}
+use Rattle.vk_laws.specs.Tasks.{node_at, traffic_of}
+
+-- What has happened before node k: the points whose nodes all come earlier. A command's elements share what came before it, and take effect after the last of them (profile).
+abbrev pub before_node : Past → ℕ → Past
+before_node [] k = []
+before_node (p ∷ past) k = if nat_le (length (nodes (p ∷ past))) k then p ∷ past else before_node past k
+
+-- The value of a byte before node k, none where it's undefined: whole commands take effect one at a time, in reference order (profile).
+abbrev pub value_before : Past → ℕ → Byte → Option ℕ
+value_before all k c = (world (before_node all k)).value c
+
+-- In a trace without a fault these are a model of its tasks: what the pieces write gives the values after their command, and all else stays or becomes undefined (Vulkan, "Clear Commands", "Copy Commands" and "Resource Sharing Mode").
+abbrev pub TraceModelLaw : Type 0
+TraceModelLaw = (t : List Entry) → first_fault t ≡ None → IsModel (traffic_of (plain_order t)) (value_before (plain_order t))
+
+-- Without caches all queues and the host are one agent, to which everything is available and visible at once (profile).
+abbrev pub uncached : Caching
+uncached = record { agent = λ t. 0; makes_available = λ p w c. false; makes_visible = λ q a c. false }
+
+-- In every allowed run of a trace without a fault, without caches: a piece or host entry that may come next sees, of each byte that it reads, the model's value before its node, where the model defines one.
+abbrev pub TraceFreshLaw : Type 0
+TraceFreshLaw =
+    (t : List Entry) (done : List Task) (cells : Byte → Cell) (next : Task) (c : Byte) (v : ℕ) → first_fault t ≡ None → Reached (traffic_of (plain_order t)) uncached done cells
+    → MayRun (traffic_of (plain_order t)) done next → Reads (traffic_of (plain_order t)) next c → value_before (plain_order t) next.node c ≡ Some v → view 0 (cells c) ≡ v
+
+-- And after any step a byte that was written has the model's value after the node of its last write, where the model defines one.
+abbrev pub TraceWrittenLaw : Type 0
+TraceWrittenLaw =
+    (t : List Entry) (done : List Task) (cells : Byte → Cell) (writer : Task) (c : Byte) (v : ℕ) → first_fault t ≡ None → Reached (traffic_of (plain_order t)) uncached done cells
+    → latest (traffic_of (plain_order t)) c done ≡ Some writer → value_before (plain_order t) (suc writer.node) c ≡ Some v → view 0 (cells c) ≡ v
+
+-- In a trace without a fault the model defines each byte that a host read reads (profile).
+abbrev pub ReadsDefinedLaw : Type 0
+ReadsDefinedLaw =
+    (t : List Entry) (next : Task) (c : Byte) → first_fault t ≡ None → Reads (traffic_of (plain_order t)) next c → IsTrue (holds (node_at (plain_order t) next.node) (λ n. is_host n.act))
+    → (v : ℕ) × (value_before (plain_order t) next.node c ≡ Some v)

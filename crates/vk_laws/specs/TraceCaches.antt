@@ -1,0 +1,97 @@
+-- Caches of a trace: one of the host and one of each queue, and which events make writes available and visible through them.
+use Rattle.std.specs.Prelude.{◌≡◌, ℕ, zero, suc, Bool, false, not, ◌&&◌, ◌||◌, ◌==◌, IsTrue, List, Some, None, if◌then◌else◌}
+use Rattle.std.specs.List.{list_any}
+use Rattle.vk_model.specs.declared.entry.Entry.{Entry}
+use Rattle.vk_model.specs.declared.entry.Entry.TheVariants as entry
+use Rattle.vk_model.specs.Words.{holds}
+use Rattle.vk_model.specs.World.{Byte, resource_at}
+use Rattle.vk_model.specs.Objects.{is_cached}
+use Rattle.vk_model.specs.Point.{Past}
+use Rattle.vk_model.specs.Order.{plain_order}
+use Rattle.vk_model.specs.Node.{Node, Act, Hosts, nodes}
+use Rattle.vk_model.specs.Edge.{is_host}
+use Rattle.vk_model.specs.Before.{before}
+use Rattle.vk_model.specs.Access.{is_in, writes}
+use Rattle.vk_model.specs.Seen.{Read, command_mask, host_mask, available_by, receives, invalidates, is_wait, to_host}
+use Rattle.vk_model.specs.Rules.{first_fault}
+use Rattle.vk_laws.specs.Machine.{Task, Reads, MayRun, latest}
+use Rattle.vk_laws.specs.Caches.{Cell, Caching, CacheFree, Reached, view}
+use Rattle.vk_laws.specs.Trace.{accesses}
+use Rattle.vk_laws.specs.Tasks.{node_at, traffic_of}
+use Rattle.vk_laws.specs.TraceBytes.{before_node, value_before}
+use Rattle.vk_laws.specs.Discards.{with_discards}
+use Rattle.vk_laws.specs.EveryOrder.{IsSettled}
+
+-- The host is agent 0, and queue k agent k + 1 (profile).
+abbrev pub agent_of : Node → ℕ
+agent_of n = if is_host n.act then 0 else suc n.point.queue
+
+-- Whether an act is a submit to queue k (Vulkan, "Queue Submission").
+abbrev pub submits_to : Act → ℕ → Bool
+submits_to (Hosts (entry.Submit q bs)) k = q == k
+submits_to _ k = false
+
+module _ (all : Past) where
+  -- Whether the host reaches a byte through a cache that isn't coherent, when node n comes (Vulkan, "Host Access to Device Memory Objects").
+  abbrev pub cached : ℕ → Byte → Bool
+  cached n c = is_cached (before_node all n) (resource_at c)
+
+  -- Node p makes a command's or host entry's write of a byte available (Vulkan, "Execution and Memory Dependencies", "Semaphore Signaling" and "Host Write Ordering Guarantees").
+  abbrev pub sends_write : Node → Node → Byte → Bool
+  sends_write p w c = accesses w.act && available_by (cached w.number) (nodes all) w w.act c p
+
+  -- Whether a host entry wrote a byte before node q (Vulkan, "Host Write Ordering Guarantees").
+  abbrev pub host_wrote : Node → Byte → Bool
+  host_wrote q c = list_any (λ v. is_host v.act && is_in c (writes all v) && before (nodes all) v q) (nodes all)
+
+  -- Node q makes a byte visible to the reads of queue k: an element or a wait of the queue, or a submit to it after the host wrote the byte (Vulkan, "Execution and Memory Dependencies", "Semaphore Waiting" and "Host Write Ordering Guarantees").
+  abbrev pub shows_queue : Node → ℕ → Byte → Bool
+  shows_queue q k c = not (is_host q.act) && q.point.queue == k && (receives (cached q.number) (nodes all) (command_mask Read) c q q.act || is_wait q.act) || submits_to q.act k && host_wrote q c
+
+  -- Node q makes a byte visible to the host's reads: an invalidation where the memory is cached, and else a dependency to the host (Vulkan, "Host Access to Device Memory Objects" and "Execution and Memory Dependencies").
+  abbrev pub shows_host : Node → Byte → Bool
+  shows_host q c = if cached q.number c then invalidates q.act c else to_host q.act && receives (cached q.number) (nodes all) (host_mask Read) c q q.act
+
+  -- And to an agent.
+  abbrev pub shows : Node → ℕ → Byte → Bool
+  shows q zero c = shows_host q c
+  shows q (suc k) c = shows_queue q k c
+
+  -- Each task accesses memory through the cache of its queue or of the host (Vulkan, "Execution and Memory Dependencies").
+  abbrev pub caching_of : Caching
+  caching_of = record {
+    agent = λ t. elim (node_at all t.node) [ None ↦ 0 | Some n ↦ agent_of n ];
+    makes_available = λ p w c. (traffic_of all).has w && holds (node_at all p.node) (λ m. holds (node_at all w.node) (λ n. sends_write m n c));
+    makes_visible = λ q a c. holds (node_at all q.node) (λ n. shows n a c);
+  }
+
+-- In a trace without a fault what one queue or the host wrote another reads only when it was made visible to it, and overwrites only when it was made available (Vulkan, "Execution and Memory Dependencies", on data hazards).
+abbrev pub TraceCacheFreeLaw : Type 0
+TraceCacheFreeLaw = (t : List Entry) → first_fault t ≡ None → CacheFree (with_discards (plain_order t)) (caching_of (plain_order t))
+
+-- ---- the law, of every allowed run of a trace without a fault, through caches of the host and of each queue, where invalidations may forget
+
+-- When a piece or host entry may come next, of those whose accesses meet its own the earlier ones are done, and the later ones aren't.
+abbrev pub CachedSettledLaw : Type 0
+CachedSettledLaw =
+    (t : List Entry) (done : List Task) (cells : Byte → Cell) (next : Task) → first_fault t ≡ None → Reached (with_discards (plain_order t)) (caching_of (plain_order t)) done cells
+    → MayRun (with_discards (plain_order t)) done next → IsSettled (with_discards (plain_order t)) done next
+
+-- A piece or host entry that may come next sees, of each byte that it reads, the model's value before its node, where the model defines one.
+abbrev pub CachedFreshLaw : Type 0
+CachedFreshLaw =
+    (t : List Entry) (done : List Task) (cells : Byte → Cell) (next : Task) (c : Byte) (v : ℕ) → first_fault t ≡ None → Reached (with_discards (plain_order t)) (caching_of (plain_order t)) done cells
+    → MayRun (with_discards (plain_order t)) done next → Reads (with_discards (plain_order t)) next c → value_before (plain_order t) next.node c ≡ Some v → view ((caching_of (plain_order t)).agent next) (cells c) ≡ v
+
+-- After any step the queue or host that wrote a byte last sees the model's value after that write's node, where the model defines one.
+abbrev pub CachedWrittenLaw : Type 0
+CachedWrittenLaw =
+    (t : List Entry) (done : List Task) (cells : Byte → Cell) (writer : Task) (c : Byte) (v : ℕ) → first_fault t ≡ None → Reached (with_discards (plain_order t)) (caching_of (plain_order t)) done cells
+    → latest (with_discards (plain_order t)) c done ≡ Some writer → value_before (plain_order t) (suc writer.node) c ≡ Some v → view ((caching_of (plain_order t)).agent writer) (cells c) ≡ v
+
+-- So a host read that may come next sees the model's bytes, each of them defined: what the trace means.
+abbrev pub HostReadLaw : Type 0
+HostReadLaw =
+    (t : List Entry) (done : List Task) (cells : Byte → Cell) (next : Task) (c : Byte) → first_fault t ≡ None → Reached (with_discards (plain_order t)) (caching_of (plain_order t)) done cells
+    → MayRun (with_discards (plain_order t)) done next → Reads (with_discards (plain_order t)) next c → IsTrue (holds (node_at (plain_order t) next.node) (λ n. is_host n.act))
+    → value_before (plain_order t) next.node c ≡ Some (view 0 (cells c))

@@ -1,0 +1,36 @@
+//! The allowed runs of the definitions are runs of the machine, so the law speaks of them.
+ghost use Rattle.vk_laws.specs.DefinedRuns.{DefinedRunsAreAllowed, DefinedRunsAreFresh, DefinedRunsAreSettled, DefinedRunsAreWritten};
+
+use crate::tasks::{trace_is_fresh, trace_is_settled};
+use vk_model::{
+    before_is_order, before_is_path, growth_keeps, no_fault_is_sound, orders_agree,
+    pieces_are_moves,
+};
+
+/// Each run of a trace without a fault that the definitions allow is an allowed run of the machine: with
+/// events between its steps, each as soon as it can happen. And after it a piece that is offered may come
+/// next, and so may an entry that may be applied.
+pub fn defined_runs_are_allowed()
+    ensures { DefinedRunsAreAllowed }
+{
+    no_fault_is_sound();
+    growth_keeps();
+    before_is_path();
+    before_is_order();
+    orders_agree();
+}
+
+/// In every run of a trace without a fault that the definitions allow: when a piece is offered or an entry
+/// may be applied, of the accesses that meet its own the earlier ones have happened and the later ones
+/// haven't (`settled`), and what it reads is the model's (`fresh`), where the run's pieces and entries took
+/// effect one after another on one memory; and so is what was written last (`written`).
+pub fn defined_runs_are_fresh()
+    ensures settled { DefinedRunsAreSettled }
+    ensures fresh { DefinedRunsAreFresh }
+    ensures written { DefinedRunsAreWritten }
+{
+    pieces_are_moves();
+    trace_is_settled();
+    trace_is_fresh();
+    defined_runs_are_allowed();
+}
