@@ -8,7 +8,7 @@ use Rattle.vk_model.specs.Point.{Past}
 use Rattle.vk_model.specs.Node.{Node, Act, Hosts, Waits, Signals, Runs, Depends}
 use Rattle.vk_model.specs.Laws.{PiecesAreMoves}
 use Rattle.std.specs.Prelude.{nat_lt}
-use Rattle.vk_laws.specs.Machine.{Task, Put, Puts, Anything, Traffic, Conflict, newest, latest}
+use Rattle.vk_laws.specs.Machine.{Task, Put, Puts, Anything, Traffic, Writes, Reads, Conflict, newest, latest}
 use Rattle.vk_laws.specs.Trace.{accesses}
 use Rattle.vk_laws.specs.Tasks.{part_write, task_count, node_at, by_act, traffic_of}
 use Rattle.vk_laws.specs.DefinedRuns.{is_event, stored, bytes_after}
@@ -70,8 +70,14 @@ module _ (all : Past) where
       ap (λ (o : Option Node). holds o (λ n. not (accesses n.act))) a.at ∙ ap not a.is_access,
     )
 
+    pub writer_real : (u : Task) (c : Byte) → Writes tr u c → Real u
+    writer_real u c w = real_of u (writer together all u c w)
+
+    reader_real : (u : Task) (c : Byte) → Reads tr u c → Real u
+    reader_real u c r = real_of u (reader together all u c r)
+
     pub first_real : (u v : Task) (c : Byte) → Conflict tr u v c → Real u
-    first_real u v c meet = ⊎_elim (λ h. real_of u (writer together all u c h.0)) (λ rest. ⊎_elim (λ h. real_of u (reader together all u c h.0)) (λ h. real_of u (writer together all u c h.0)) rest) meet
+    first_real u v c meet = ⊎_elim (λ h. writer_real u c h.0) (λ rest. ⊎_elim (λ h. reader_real u c h.0) (λ h. writer_real u c h.0) rest) meet
 
     pub second_real : (u v : Task) (c : Byte) → Conflict tr u v c → Real v
-    second_real u v c meet = ⊎_elim (λ h. real_of v (reader together all v c h.1)) (λ rest. ⊎_elim (λ h. real_of v (writer together all v c h.1)) (λ h. real_of v (writer together all v c h.1)) rest) meet
+    second_real u v c meet = ⊎_elim (λ h. reader_real v c h.1) (λ rest. ⊎_elim (λ h. writer_real v c h.1) (λ h. writer_real v c h.1) rest) meet

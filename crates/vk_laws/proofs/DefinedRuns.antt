@@ -1,8 +1,8 @@
 -- The allowed runs of the definitions are runs of the machine.
-use Rattle.std.proofs.Common.{◌≡◌, ◌⊎◌, inl, inr, ⊎_elim, ℕ, ◌+◌, ◌<◌, ◌≤◌, List, [], ◌∷◌, length, Bool, true, false, cond, ◌&&◌, ◌||◌, not, IsTrue, Option, Some, None, refl, ap, sym, ◌∙◌, subst, arith, reverse}
+use Rattle.std.proofs.Common.{◌≡◌, ◌⊎◌, inl, inr, ⊎_elim, ℕ, zero, suc, ◌+◌, ◌<◌, ◌≤◌, List, [], ◌∷◌, length, Bool, true, false, ◌&&◌, ◌||◌, not, IsTrue, Option, Some, None, refl, ap, sym, ◌∙◌, subst, arith, reverse}
 use Rattle.std.specs.Prelude.{Contains, nat_lt, ◌==◌, ◌↔◌, if◌then◌else◌}
 use Rattle.std.specs.List.{filter, list_all}
-use Rattle.std.proofs.lemmas.Bool.{eqb-true, eq-eqb, ltb-true, lt-ltb}
+use Rattle.std.proofs.lemmas.Bool.{eqb-true, eq-eqb, ne_eqb, cases_lt, ltb-true, lt-ltb}
 use Rattle.std.proofs.lemmas.List.Sorted.{Contains-permutation, IsPermutation-reverse, IsPermutation-sym}
 use Rattle.vk_model.specs.declared.command.Cmd.{Cmd}
 use Rattle.vk_model.specs.declared.entry.Entry.{Entry}
@@ -22,35 +22,22 @@ use Rattle.vk_laws.specs.Machine.{IsIn, Task, Traffic, MayRun, IsAllowed}
 use Rattle.vk_laws.specs.Growth.{IsDue, IsEager}
 use Rattle.vk_laws.specs.Trace.{accesses}
 use Rattle.vk_laws.specs.Tasks.{task_count, node_at, by_act, traffic_of}
-use Rattle.vk_laws.specs.DefinedRuns.{is_event, piece_task, entry_task, with_step, done_by, act_happened, has_happened, MayCome, Offers, Enters, Matches}
-use Rattle.vk_laws.proofs.NoHazard.{contains-cons, contains-head, contains-tail, some_of, both, either, number_below, numbered}
+use Rattle.vk_laws.specs.DefinedRuns.{is_event, piece_task, entry_task, with_step, done_by, act_happened, has_happened, MayCome, Offers, Enters, IsOver, Matches}
+use Rattle.vk_laws.proofs.NoHazard.{together, edge_before, host_in_order, unique, contains-cons, contains-tail, any_of, some_of, both, either, number_below, numbered}
+use Rattle.vk_laws.proofs.Members.{all_of, each_of, filtered, filter_has, flat_has}
 use Rattle.vk_laws.proofs.Steady.{or_first, or_second}
 use Rattle.vk_laws.proofs.Apart.{none_in, mapped_from, flat_from, range_from}
 use Rattle.vk_laws.proofs.TaskAccesses.{map_has, numbers_have}
-use Rattle.vk_laws.proofs.HazardFree.{node_of, same_task}
+use Rattle.vk_laws.proofs.HazardFree.{refuted, node_of, same_task}
 use Rattle.vk_laws.proofs.TraceCaches.{one_of, node_at_self}
 use Rattle.vk_laws.proofs.Fresh.{closed}
 use Rattle.vk_laws.proofs.Growth.{may_run}
-use Rattle.vk_laws.proofs.PlainOrder.{Grows}
+use Rattle.vk_laws.proofs.PlainOrder.{Grows, old_or_newer}
 use Rattle.vk_laws.proofs.Prefixes.{is_old, old_has, same_before, same_pieces}
 use Rattle.vk_laws.proofs.Eager.{transitive, due_done, is_eager}
-use Rattle.vk_laws.proofs.Stages.{new_ids, live_ids, Placed, start_placed, later, low, next_placed, entry_node, entry_stands, entries_then}
+use Rattle.vk_laws.proofs.Stages.{new_ids, live_ids, Placed, start_placed, later, low, next_placed, entry_node, entry_stands, entries_then, submitted, whole_past, wait_past}
 
--- ---- lists and names
-
-all_of : {X : Type 0} (f : X → Bool) (xs : List X) (x : X) → IsTrue (list_all f xs) → Contains xs x → IsTrue (f x)
-all_of f [] x h c = absurd (none_in x c)
-all_of {X} f (y ∷ ys) x h c = ⊎_elim (λ e. subst (λ (z : X). IsTrue (f z)) e (both _ _ h).0) (λ later. all_of f ys x (both _ _ h).1 later) (contains-cons y ys x c)
-
-filtered : {X : Type 0} (f : X → Bool) (xs : List X) (x : X) → Contains (filter f xs) x → Contains xs x × IsTrue (f x)
-filtered f [] x c = absurd (none_in x c)
-filtered {X} f (y ∷ ys) x c = go (f y) refl (λ later. let r = filtered f ys x later in (contains-tail y ys x r.0, r.1)) c
-  where
-    go : (b : Bool) → f y ≡ b → (Contains (filter f ys) x → Contains (y ∷ ys) x × IsTrue (f x)) → Contains (cond b (y ∷ filter f ys) (filter f ys)) x → Contains (y ∷ ys) x × IsTrue (f x)
-    go false e rest c = rest c
-    go true e rest c = ⊎_elim
-        (λ same. (subst (λ (z : X). Contains (y ∷ ys) z) same (contains-head y ys), subst (λ (z : X). IsTrue (f z)) same e))
-        rest (contains-cons y (filter f ys) x c)
+-- ---- names
 
 names_same : (x y : Name) → IsTrue (same_name x y) → x ≡ y
 names_same x y h = join (eqb-true x.0 y.0 (both _ _ h).0) (eqb-true x.1 y.1 (both _ _ h).1)
@@ -113,6 +100,10 @@ edge_to_entry ns m n x act plain h =
         go : (o : Option (ℕ × ℕ)) → IsTrue (holds o (λ x. false)) → ⊥
         go None h = cc
         go (Some x) h = cc
+
+first_of : (a b c d e f : Bool) → IsTrue a → IsTrue (a || b || c || d || e || f)
+first_of true b c d e f h = refl
+first_of false b c d e f h = absurd cc
 
 ends : (ns : List Node) (m n : Node) → Path ns m n → Contains ns n
 ends ns m n (direct c d e) = d
@@ -232,7 +223,7 @@ module _ (paths : BeforeIsPath) (joins : BeforeIsTransitive) (leads : BeforeLead
         where
           go : Kind u → ⊥
           go (piece n c at act lt) = let no = turned (happened_is (start t) u n at (Runs c) act) h in cc
-          go (hosts n x at act zero) = let lt = ltb-true n.point.entry 0 (turned (happened_is (start t) u n at (Hosts x) act) h) in omega (arith, lt)
+          go (hosts n x at act first) = let lt = ltb-true n.point.entry 0 (turned (happened_is (start t) u n at (Hosts x) act) h) in omega (arith, lt)
 
   module _ (s : Stage) (did : List Task) (i : Stands s did) where
     grows : Front s
@@ -253,7 +244,7 @@ module _ (paths : BeforeIsPath) (joins : BeforeIsTransitive) (leads : BeforeLead
       where
         go : Kind v → IsIn v i.tasks
         go (piece m c at act lt) = each v m c p.0 at act lt (turned (before_is v u m n at at_u) p.1)
-        go (hosts m x at act zero) =
+        go (hosts m x at act first) =
             let lt = leads (nodes all) m n (turned (before_is v u m n at at_u) p.1) in
             entry_in v m x p.0 at act (old_node _ s.front.past grows m (node_of all v.node m at).0 (omega (arith, lt, le)))
 
@@ -416,7 +407,7 @@ module _ (paths : BeforeIsPath) (joins : BeforeIsTransitive) (leads : BeforeLead
         where
           go : Kind u → IsTrue (has_happened all s u) → IsTrue (has_happened all (applied s x xs) u)
           go (piece n c at act lt) h = turned (sym (happened_is (applied s x xs) u n at (Runs c) act)) (turned (happened_is s u n at (Runs c) act) h)
-          go (hosts n y at act zero) h =
+          go (hosts n y at act first) h =
               let lt = ltb-true n.point.entry s.count (turned (happened_is s u n at (Hosts y) act) h) in
               turned (sym (happened_is (applied s x xs) u n at (Hosts y) act)) (lt-ltb n.point.entry (s.count + 1) (omega (arith, lt)))
 
@@ -425,10 +416,10 @@ module _ (paths : BeforeIsPath) (joins : BeforeIsTransitive) (leads : BeforeLead
         where
           go : Kind u → IsIn u (entry_task s ∷ i.tasks)
           go (piece n c at act lt) = inr (piece_in s did i u n c there at act (turned (happened_is (applied s x xs) u n at (Runs c) act) h))
-          go (hosts n y at act zero) =
+          go (hosts n y at act first) =
               let found = node_of all u.node n at in
               ⊎_elim
-              (λ same. inl (same_task u (entry_task s) (sym found.1 ∙ sym (ap (λ (m : Node). m.number) same)) zero))
+              (λ same. inl (same_task u (entry_task s) (sym found.1 ∙ sym (ap (λ (m : Node). m.number) same)) first))
               (λ old. inr (entry_in s did i u n y there at act old))
               (entries_then orders keeps t sound s i.placed x xs left n y found.0 act (ltb-true n.point.entry (s.count + 1) (turned (happened_is (applied s x xs) u n at (Hosts y) act) h)))
 
@@ -453,7 +444,7 @@ module _ (paths : BeforeIsPath) (joins : BeforeIsTransitive) (leads : BeforeLead
         where
           go : Kind u → IsTrue (has_happened all s u) → IsTrue (has_happened all (ran s x) u)
           go (piece n c at act lt) h = turned (sym (happened_is (ran s x) u n at (Runs c) act)) (or_second (same_name (u.node, u.part) x) (is_done s.done (u.node, u.part)) (turned (happened_is s u n at (Runs c) act) h))
-          go (hosts n y at act zero) h = turned (sym (happened_is (ran s x) u n at (Hosts y) act)) (turned (happened_is s u n at (Hosts y) act) h)
+          go (hosts n y at act first) h = turned (sym (happened_is (ran s x) u n at (Hosts y) act)) (turned (happened_is s u n at (Hosts y) act) h)
 
       backward : (u : Task) → IsTrue (tr.has u) → is_event all u ≡ false → IsTrue (has_happened all (ran s x) u) → IsIn u (piece_task x ∷ i.tasks)
       backward u there plain h = go (kind u there plain)
@@ -464,7 +455,7 @@ module _ (paths : BeforeIsPath) (joins : BeforeIsTransitive) (leads : BeforeLead
               (λ same. let e = names_same (u.node, u.part) x same in inl (same_task u (piece_task x) (ap (λ (z : Name). z.0) e) (ap (λ (z : Name). z.1) e)))
               (λ ran. inr (piece_in s did i u n c there at act ran))
               (either (same_name (u.node, u.part) x) (is_done s.done (u.node, u.part)) (turned (happened_is (ran s x) u n at (Runs c) act) h))
-          go (hosts n y at act zero) = inr ((i.happened u there plain).1 (turned (sym (happened_is s u n at (Hosts y) act)) (turned (happened_is (ran s x) u n at (Hosts y) act) h)))
+          go (hosts n y at act first) = inr ((i.happened u there plain).1 (turned (sym (happened_is s u n at (Hosts y) act)) (turned (happened_is (ran s x) u n at (Hosts y) act) h)))
 
   copy_step : (s : Stage) (did : List Task) (k : ℕ) → Stands s did → Stands (record s { copied = k ∷ s.copied }) did
   copy_step s did k i = record {
@@ -479,6 +470,130 @@ module _ (paths : BeforeIsPath) (joins : BeforeIsTransitive) (leads : BeforeLead
   comes_next : (s : Stage) (did : List Task) (i : Stands s did) (u : Task) → MayCome s u → MayRun tr i.tasks u
   comes_next s did i _ (Offers x h) = piece_may s did i x (offered_of s did i x h)
   comes_next s did i _ (Enters x xs left may) = entry_may s did i x xs left may
+
+  -- ---- what may come next in the machine may come next at the stage
+
+  module _ (s : Stage) (did : List Task) (i : Stands s did) where
+    is_offered : (n : Node) (c : Cmd) (j : ℕ) → Contains (nodes s.front.past) n → n.act ≡ Runs c → j < length (pieces s.front.past c) → IsTrue (is_free s.front.past s.done n) → is_done s.done (n.number, j) ≡ false → IsTrue (is_done (offered s.front.past s.done) (n.number, j))
+    is_offered n c j cn act lt free fresh =
+        let each : Node → List Name = λ n. if is_free s.front.past s.done n then filter (λ x. not (is_done s.done x)) (node_pieces s.front.past n n.act) else [] in
+        let among : Contains (node_pieces s.front.past n (Runs c)) (n.number, 0 + j) = map_has (λ j. (n.number, j)) (below (length (pieces s.front.past c))) (0 + j) (numbers_have 0 (length (pieces s.front.past c)) j lt) in
+        let its : Contains (node_pieces s.front.past n n.act) (n.number, j) =
+        subst (λ (a : Act). Contains (node_pieces s.front.past n a) (n.number, j)) (sym act) (subst (λ (k : ℕ). Contains (node_pieces s.front.past n (Runs c)) (n.number, k)) (let same : 0 + j ≡ j = omega arith in same) among) in
+        let kept = filter_has (λ x. not (is_done s.done x)) (node_pieces s.front.past n n.act) (n.number, j) its (ap not fresh) in
+        let here : Contains (each n) (n.number, j) = subst (λ (b : Bool). Contains (if b then filter (λ x. not (is_done s.done x)) (node_pieces s.front.past n n.act) else []) (n.number, j)) (sym free) kept in
+        any_of (same_name (n.number, j)) (offered s.front.past s.done) (n.number, j)
+        (flat_has each (reverse (nodes s.front.past)) n (n.number, j) (Contains-permutation (nodes s.front.past) (reverse (nodes s.front.past)) n (IsPermutation-reverse (nodes s.front.past)) cn) here)
+        (name_itself (n.number, j))
+
+    -- pieces before a task that may come next have run
+    free_before : (P : Point → Type 0) (past : Past) → Grows P past all → (u : Task) (n : Node) → node_at all u.node ≡ Some n → Contains (nodes past) n → MayRun tr i.tasks u → IsTrue (is_free past s.done n)
+    free_before P past g u n at_u cn may = each_of (λ m. not (before (nodes past) m n) || list_all (is_done s.done) (node_pieces past m m.act)) (nodes past) (λ m cm. go m cm (before (nodes past) m n) refl)
+      where
+        pieces_run : (m : Node) → Contains (nodes past) m → before (nodes past) m n ≡ true → (a : Act) → m.act ≡ a → IsTrue (list_all (is_done s.done) (node_pieces past m a))
+        pieces_run m cm b (Runs c) act = each_of (is_done s.done) (node_pieces past m (Runs c)) (λ y h.
+            let j = mapped_from (λ j. (m.number, j)) (below (length (pieces past c))) y h in
+            let within = (range_from 0 (length (pieces past c)) j.0 j.1).1 in
+            let v : Task = piece_task (m.number, j.0) in
+            let at = node_at_self paths joins all m (node_in_all P past g m cm) in
+            let count : length (pieces all c) ≡ length (pieces past c) = ap (λ (ps : List (List Move)). length ps) (pieces_same P past g m c cm act) in
+            let there : IsTrue (tr.has v) = has_task v m at (subst (λ (a : Act). IsTrue (nat_lt j.0 (task_count all a))) (sym act) (lt-ltb j.0 (length (pieces all c)) (omega (arith, within, count)))) in
+            let stands = may.after v (there, turned (sym (before_is v u m n at at_u)) (turned (sym (before_same P past g m n cn)) b)) in
+            let ran : IsTrue (is_done s.done (m.number, j.0)) = turned (happened_is s v m at (Runs c) act) ((i.happened v there (plain_is v m at (Runs c) act refl)).0 stands) in
+            subst (λ (z : Name). IsTrue (is_done s.done z)) j.2 ran)
+        pieces_run m cm b (Hosts x) act = refl
+        pieces_run m cm b (Waits x) act = refl
+        pieces_run m cm b (Signals x) act = refl
+        pieces_run m cm b (Depends r d) act = refl
+
+        go : (m : Node) → Contains (nodes past) m → (b : Bool) → before (nodes past) m n ≡ b → IsTrue (not b || list_all (is_done s.done) (node_pieces past m m.act))
+        go m cm false e = refl
+        go m cm true e = pieces_run m cm e m.act refl
+
+    -- a node whose entry was applied stands in the past
+    applied_node : (n : Node) → Contains (nodes all) n → n.point.entry < s.count → Contains (nodes s.front.past) n
+    applied_node n c lt = ⊎_elim (λ old. old) (λ new. let le : s.count ≤ n.point.entry = new.0 in absurd (omega (arith, lt, le))) (old_or_newer (λ q. s.count ≤ q.entry) s.front.past all (grows s did i) n c)
+
+    host_was : (u : Task) (n : Node) (x : Entry) → IsTrue (tr.has u) → node_at all u.node ≡ Some n → n.act ≡ Hosts x → IsIn u i.tasks → n.point.entry < s.count
+    host_was u n x there at act h = ltb-true n.point.entry s.count (turned (happened_is s u n at (Hosts x) act) ((i.happened u there (plain_is u n at (Hosts x) act refl)).0 h))
+
+    submit_first : (m n : Node) → Contains (nodes all) m → Contains (nodes all) n → IsTrue (is_submit m.act) → m.point.entry ≡ n.point.entry → m.number < n.number → IsTrue (before (nodes all) m n)
+    unfolding edge
+    submit_first m n cm cn is same lt =
+        edge_before paths all m n cm cn (together (nat_lt m.number n.number) _ (lt-ltb m.number n.number lt)
+        (first_of (by_host m n) (by_stages m n) (by_signal m n) (by_all_commands m n) (pairs m.act n.act) (by_semaphore (earlier n (nodes all)) m n)
+        (or_second (is_host m.act && is_host n.act) (is_submit m.act && m.point.entry == n.point.entry) (together (is_submit m.act) (m.point.entry == n.point.entry) is (eq-eqb m.point.entry n.point.entry same)))))
+
+    piece_comes : (u : Task) (n : Node) (c : Cmd) → node_at all u.node ≡ Some n → n.act ≡ Runs c → u.part < length (pieces all c) → MayRun tr i.tasks u → MayCome s u
+    piece_comes u n c at act lt may =
+        let found = node_of all u.node n at in
+        let sub = submitted orders keeps t sound n (ap is_host act) found.0 in
+        let m = sub.submit in
+        let old = applied_node n found.0 (by_submit m sub.stands sub.is_it (submit_first m n sub.stands found.0 sub.is_it sub.entry sub.earlier) sub.entry m.act refl sub.is_it) in
+        let count : length (pieces all c) ≡ length (pieces s.front.past c) = ap (λ (ps : List (List Move)). length ps) (pieces_same _ s.front.past (grows s did i) n c old act) in
+        let free = free_before _ s.front.past (grows s did i) u n at old may in
+        let itself : u ≡ piece_task (n.number, u.part) = same_task u (piece_task (n.number, u.part)) (sym found.1) refl in
+        subst (λ (v : Task). MayCome s v) (sym itself)
+        (Offers (n.number, u.part) (is_offered n c u.part old act (omega (arith, lt, count)) free (refuted (is_done s.done (n.number, u.part)) (λ h. may.fresh (piece_in s did i u n c may.there at act (subst (λ (k : ℕ). IsTrue (is_done s.done (k, u.part))) found.1 h))))))
+      where
+        by_submit : (m : Node) → Contains (nodes all) m → IsTrue (is_submit m.act) → IsTrue (before (nodes all) m n) → m.point.entry ≡ n.point.entry → (a : Act) → m.act ≡ a → IsTrue (is_submit a) → n.point.entry < s.count
+        by_submit m cm is b same (Hosts x) act is_it =
+            let v : Task = record { node = m.number; part = 0 } in
+            let at_v = node_at_self paths joins all m cm in
+            let there = has_task v m at_v (subst (λ (a : Act). IsTrue (nat_lt 0 (task_count all a))) (sym act) refl) in
+            let was = host_was v m x there at_v act (may.after v (there, turned (sym (before_is v u m n at_v at)) b)) in
+            omega (arith, was, same)
+        by_submit m cm is b same (Runs x) act is_it = absurd cc
+        by_submit m cm is b same (Waits x) act is_it = absurd cc
+        by_submit m cm is b same (Signals x) act is_it = absurd cc
+        by_submit m cm is b same (Depends r d) act is_it = absurd cc
+
+    entry_comes : (u : Task) (n : Node) (x : Entry) → node_at all u.node ≡ Some n → n.act ≡ Hosts x → u.part ≡ 0 → MayRun tr i.tasks u → MayCome s u
+    entry_comes u n x at act part may = go s.left refl
+      where
+        found : Contains (nodes all) n × (n.number ≡ u.node)
+        found = node_of all u.node n at
+
+        not_old : Contains (nodes s.front.past) n → ⊥
+        not_old old = may.fresh (entry_in s did i u n x may.there at act old)
+
+        -- the next entry comes before all later ones
+        its_own : (y : Entry) (ys : List Entry) (left : s.left ≡ y ∷ ys) → n ≡ here s did i y ys left
+        its_own y ys left = ⊎_elim
+            (λ lt. absurd (not_old (old_node _ s.front.past (grows s did i) n found.0 lt)))
+            (λ le. ⊎_elim
+            (λ lt.
+            let v : Task = entry_task s in
+            let there = here_there s did i y ys left in
+            let b = host_in_order paths all (here s did i y ys left) n (here_in_all s did i y ys left) found.0 refl (ap is_host act) lt in
+            let was = host_was v (here s did i y ys left) y there (here_at s did i y ys left) refl (may.after v (there, turned (sym (before_is v u (here s did i y ys left) n (here_at s did i y ys left) at)) b)) in
+            absurd (omega (arith, was)))
+            (λ ge. unique (nodes all) (numbered all) n (here s did i y ys left) found.0 (here_in_all s did i y ys left) (omega (arith, le, ge)))
+            (cases_lt (length (nodes s.front.past)) n.number))
+            (cases_lt n.number (length (nodes s.front.past)))
+
+        goes : (y : Entry) (ys : List Entry) (left : s.left ≡ y ∷ ys) → (b : Bool) → is_host_wait y ≡ b → IsTrue (may_go s y)
+        goes y ys left false e = or_first (not (is_host_wait y)) _ (ap not e)
+        goes y ys left true e = or_second (not (is_host_wait y)) _ (each_of (λ m. not (m.point.entry == s.count) || is_free (past_with s y) s.done m) (nodes (past_with s y)) (λ m cm.
+            ⊎_elim
+            (λ same. or_second (not (m.point.entry == s.count)) _ (subst (λ (k : Node). IsTrue (is_free (past_with s y) s.done k)) same
+            (free_before _ (past_with s y) (after_grows s did i y ys left) u (here s did i y ys left) (subst (λ (k : Node). node_at all u.node ≡ Some k) (its_own y ys left) at) (here_stands s did i y ys left) may)))
+            (λ old. or_first (not (m.point.entry == s.count)) _ (ap not (ne_eqb m.point.entry s.count (λ same. let lt = low orders keeps t sound s i.placed m old in omega (arith, lt, same)))))
+            (contains-cons (here s did i y ys left) (nodes s.front.past) m (subst (λ (l : Past). Contains (nodes l) m) (wait_past orders keeps t sound s i.placed y ys left e) cm))))
+
+        go : (left : List Entry) → s.left ≡ left → MayCome s u
+        go [] e = absurd (not_old (subst (λ (l : Past). Contains (nodes l) n) (sym (whole_past orders keeps t sound s i.placed e)) found.0))
+        go (y ∷ ys) e =
+            let number : n.number ≡ length (nodes s.front.past) = ap (λ (k : Node). k.number) (its_own y ys e) in
+            let itself : u ≡ entry_task s = same_task u (entry_task s) (sym found.1 ∙ number) part in
+            subst (λ (v : Task). MayCome s v) (sym itself) (Enters y ys e (goes y ys e (is_host_wait y) refl))
+
+    only_next : (u : Task) → is_event all u ≡ false → MayRun tr i.tasks u → MayCome s u
+    only_next u plain may = go (kind u may.there plain)
+      where
+        go : Kind u → MayCome s u
+        go (piece n c at act lt) = piece_comes u n c at act lt may
+        go (hosts n x at act first) = entry_comes u n x at act first may
 
   module _ (part_count : Past → ℕ) where
     one_step : (s : Stage) (did : List Task) → Stands s did → (step : Step) (e : Stage) → Next part_count s step e → Stands e (with_step s step did)
@@ -505,6 +620,92 @@ module _ (paths : BeforeIsPath) (joins : BeforeIsTransitive) (leads : BeforeLead
             happened = i.happened;
             eager = i.eager;
             next = λ u may. comes_next e did i u may;
+            only = λ u plain may. only_next e did i u plain may;
           },
           i.order,
         )
+
+  -- ---- where nothing may come next
+
+  module _ (s : Stage) (did : List Task) (i : Stands s did) (over : IsOver s) where
+    abbrev past : Past
+    past = s.front.past
+
+    -- the pieces of the nodes below a number have run
+    abbrev Ran : ℕ → Type 0
+    Ran k = (n : Node) (c : Cmd) (j : ℕ) → Contains (nodes past) n → n.number < k → n.act ≡ Runs c → j < length (pieces past c) → IsTrue (is_done s.done (n.number, j))
+
+    node_ran : (P : Past) (k : ℕ) → Ran k → (m : Node) → Contains (nodes past) m → m.number < k → ((c : Cmd) → m.act ≡ Runs c → length (pieces P c) ≡ length (pieces past c)) → IsTrue (list_all (is_done s.done) (node_pieces P m m.act))
+    node_ran P k ran m cm lt count = go m.act refl
+      where
+        go : (a : Act) → m.act ≡ a → IsTrue (list_all (is_done s.done) (node_pieces P m a))
+        go (Runs c) act = each_of (is_done s.done) (node_pieces P m (Runs c)) (λ y h.
+            let j = mapped_from (λ j. (m.number, j)) (below (length (pieces P c))) y h in
+            let within = (range_from 0 (length (pieces P c)) j.0 j.1).1 in
+            let same = count c act in
+            subst (λ (z : Name). IsTrue (is_done s.done z)) j.2 (ran m c j.0 cm lt act (omega (arith, within, same))))
+        go (Hosts x) act = refl
+        go (Waits x) act = refl
+        go (Signals x) act = refl
+        go (Depends r d) act = refl
+
+    free_next : (k : ℕ) → Ran k → (n : Node) → n.number ≤ k → IsTrue (is_free past s.done n)
+    free_next k ran n le = each_of (λ m. not (before (nodes past) m n) || list_all (is_done s.done) (node_pieces past m m.act)) (nodes past) (λ m cm. go m cm (before (nodes past) m n) refl)
+      where
+        go : (m : Node) → Contains (nodes past) m → (b : Bool) → before (nodes past) m n ≡ b → IsTrue (not b || list_all (is_done s.done) (node_pieces past m m.act))
+        go m cm false e = refl
+        go m cm true e = let lt = leads (nodes past) m n e in node_ran past k ran m cm (omega (arith, lt, le)) (λ c act. refl)
+
+    all_ran : (k : ℕ) → Ran k
+    all_ran zero = λ n c j cn lt act less. absurd (omega (arith, lt))
+    all_ran (suc k) = λ n c j cn lt act less. go (all_ran k) n c j cn lt act less (is_done s.done (n.number, j)) refl
+      where
+        go : Ran k → (n : Node) (c : Cmd) (j : ℕ) → Contains (nodes past) n → n.number < suc k → n.act ≡ Runs c → j < length (pieces past c) → (b : Bool) → is_done s.done (n.number, j) ≡ b → IsTrue (is_done s.done (n.number, j))
+        go ran n c j cn lt act less true e = e
+        go ran n c j cn lt act less false e = absurd (over (piece_task (n.number, j)) (Offers (n.number, j) (is_offered s did i n c j cn act less (free_next k ran n (omega (arith, lt))) e)))
+
+    -- then the next entry may be applied, so there is none
+    entry_goes : (x : Entry) (xs : List Entry) → s.left ≡ x ∷ xs → (b : Bool) → is_host_wait x ≡ b → IsTrue (may_go s x)
+    entry_goes x xs left false e = or_first (not (is_host_wait x)) _ (ap not e)
+    entry_goes x xs left true e = or_second (not (is_host_wait x)) _ (each_of (λ n. not (n.point.entry == s.count) || is_free (past_with s x) s.done n) (nodes (past_with s x)) (λ n cn. or_second (not (n.point.entry == s.count)) _ (free n)))
+      where
+        ran_there : (m : Node) → (here s did i x xs left ≡ m) ⊎ Contains (nodes past) m → IsTrue (list_all (is_done s.done) (node_pieces (past_with s x) m m.act))
+        ran_there m (inl same) = subst (λ (n : Node). IsTrue (list_all (is_done s.done) (node_pieces (past_with s x) n n.act))) same refl
+        ran_there m (inr old) = node_ran (past_with s x) (length (nodes past)) (all_ran (length (nodes past))) m old (number_below (nodes past) (numbered past) m old)
+            (λ c act. ap (λ (ps : List (List Move)). length ps)
+            (sym (pieces_same _ (past_with s x) (after_grows s did i x xs left) m c (subst (λ (l : Past). Contains (nodes l) m) (sym (wait_past orders keeps t sound s i.placed x xs left e)) (contains-tail (here s did i x xs left) (nodes past) m old)) act)
+            ∙ pieces_same _ past (grows s did i) m c old act))
+
+        free : (n : Node) → IsTrue (is_free (past_with s x) s.done n)
+        free n = each_of (λ m. not (before (nodes (past_with s x)) m n) || list_all (is_done s.done) (node_pieces (past_with s x) m m.act)) (nodes (past_with s x)) (λ m cm.
+            or_second (not (before (nodes (past_with s x)) m n)) _ (ran_there m (contains-cons (here s did i x xs left) (nodes past) m (subst (λ (l : Past). Contains (nodes l) m) (wait_past orders keeps t sound s i.placed x xs left e) cm))))
+
+    none_left : s.left ≡ []
+    none_left = go s.left refl
+      where
+        go : (left : List Entry) → s.left ≡ left → left ≡ []
+        go [] e = refl
+        go (x ∷ xs) e = absurd (over (entry_task s) (Enters x xs e (entry_goes x xs e (is_host_wait x) refl)))
+
+    all_happened : (u : Task) → IsTrue (tr.has u) → is_event all u ≡ false → IsTrue (has_happened all s u)
+    all_happened u there plain = go (kind u there plain)
+      where
+        whole : past ≡ all
+        whole = whole_past orders keeps t sound s i.placed none_left
+
+        in_past : (n : Node) → node_at all u.node ≡ Some n → Contains (nodes past) n
+        in_past n at = subst (λ (l : Past). Contains (nodes l) n) (sym whole) (node_of all u.node n at).0
+
+        go : Kind u → IsTrue (has_happened all s u)
+        go (piece n c at act lt) =
+            let cn = in_past n at in
+            let count : length (pieces past c) ≡ length (pieces all c) = ap (λ (l : Past). length (pieces l c)) whole in
+            let ran = all_ran (length (nodes past)) n c u.part cn (number_below (nodes past) (numbered past) n cn) act (omega (arith, lt, count)) in
+            turned (sym (happened_is s u n at (Runs c) act)) (subst (λ (k : ℕ). IsTrue (is_done s.done (k, u.part))) (node_of all u.node n at).1 ran)
+        go (hosts n x at act first) = turned (sym (happened_is s u n at (Hosts x) act)) (lt-ltb n.point.entry s.count (low orders keeps t sound s i.placed n (in_past n at)))
+
+  pub ended : (part_count : Past → ℕ) (steps : List Step) (e : Stage) → Allowed part_count (start t) steps e → IsOver e → (e.left ≡ []) × ((u : Task) → IsTrue (tr.has u) → is_event all u ≡ false → IsTrue (has_happened all e u))
+  ended part_count steps e run over =
+      let did : List Task = done_by part_count (start t) steps e run [] in
+      let i : Stands e did = all_steps part_count steps (start t) [] begins e run in
+      (none_left e did i over, all_happened e did i over)

@@ -1,7 +1,7 @@
 -- Events that are due are done after any tasks, one node after another.
-use Rattle.std.proofs.Common.{◌≡◌, inl, inr, ℕ, zero, suc, ◌<◌, List, [], ◌∷◌, length, Bool, true, false, ◌&&◌, ◌||◌, not, IsTrue, Option, Some, None, refl, subst, arith}
+use Rattle.std.proofs.Common.{◌≡◌, inl, inr, ℕ, zero, suc, ◌<◌, List, ◌∷◌, length, Bool, true, false, ◌&&◌, ◌||◌, not, IsTrue, Option, Some, None, refl, subst, arith}
 use Rattle.std.specs.Prelude.{nat_lt}
-use Rattle.std.specs.List.{filter, list_all}
+use Rattle.std.specs.List.{filter}
 use Rattle.std.proofs.lemmas.Bool.{cases_lt, ltb-true}
 use Rattle.vk_model.specs.Words.{holds}
 use Rattle.vk_model.specs.Point.{Past}
@@ -14,6 +14,7 @@ use Rattle.vk_laws.specs.Trace.{accesses}
 use Rattle.vk_laws.specs.Tasks.{task_count, node_at, by_act, traffic_of}
 use Rattle.vk_laws.specs.DefinedRuns.{is_event}
 use Rattle.vk_laws.proofs.NoHazard.{both, together}
+use Rattle.vk_laws.proofs.Members.{each_of}
 use Rattle.vk_laws.proofs.HazardFree.{node_of, same_task}
 use Rattle.vk_laws.proofs.TraceCaches.{not_both}
 use Rattle.vk_laws.proofs.Prefixes.{there_below, leads_on}
@@ -54,15 +55,11 @@ module _ (paths : BeforeIsPath) (joins : BeforeIsTransitive) (leads : BeforeLead
   abbrev size : ℕ
   size = length (nodes all)
 
-  all_pass : (f : Task → Bool) (xs : List Task) → ((x : Task) → IsTrue (f x)) → IsTrue (list_all f xs)
-  all_pass f [] each = refl
-  all_pass f (x ∷ xs) each = together (f x) (list_all f xs) (each x) (all_pass f xs each)
-
   -- what may come next passes the test
   may_run_test : (done : List Task) (t : Task) → MayRun tr done t → IsTrue (may_run leads all size done t)
   may_run_test done t may =
       together _ _ (together _ _ may.there (absent (is_done leads all t done) refl))
-      (all_pass _ (in_order leads all size) (λ s. implies (tr.has s && tr.before s.node t.node) (is_done leads all s done) (λ h. in_found leads all s done (may.after s (both _ _ h)))))
+      (each_of _ (in_order leads all size) (λ s c. implies (tr.has s && tr.before s.node t.node) (is_done leads all s done) (λ h. in_found leads all s done (may.after s (both _ _ h)))))
     where
       absent : (b : Bool) → is_done leads all t done ≡ b → IsTrue (not b)
       absent true e = absurd (may.fresh (found_in leads all t done e))

@@ -73,22 +73,23 @@ module _ (tr : Traffic) (free : HazardFree tr) where
         (λ s le lt. none s le (omega arith))
         (model.kept (k + b) c v (λ s e. none s (omega arith) (omega arith)) (subst (λ (i : ℕ). value i c ≡ Some v) e' h))
 
-    -- A task reads the model's bytes
-    pub fresh_at : (done : List Task) (t : Task) (m : Byte → ℕ) (c : Byte) (v : ℕ) → IsAllowed tr done → MayRun tr done t → Follows tr value done m → Reads tr t c → value (t.node) c ≡ Some v → m c ≡ v
-    fresh_at done t m c v ok may f r h = go (latest tr c done) refl
+    -- where a byte is settled before a node, it has the model's value there
+    pub settled_at : (done : List Task) (m : Byte → ℕ) (c : Byte) (v n : ℕ) → IsAllowed tr done → Settled tr done c n → Follows tr value done m → value n c ≡ Some v → m c ≡ v
+    settled_at done m c v n ok st f h = go (latest tr c done) refl
       where
-        st : Settled tr done c (t.node)
-        st = settled_for done t c ok may r
-
         go : (l : Option Task) → latest tr c done ≡ l → m c ≡ v
         go None e =
-            let none = back c v 0 (t.node) (t.node) (omega arith) (λ s le lt. none_unless (tr.write_of s c) (λ x w. latest_none tr done c s e (st.earlier s lt (x, w)) (x, w))) h in
+            let none = back c v 0 n n (omega arith) (λ s le lt. none_unless (tr.write_of s c) (λ x w. latest_none tr done c s e (st.earlier s lt (x, w)) (x, w))) h in
             let u = model.undefined c in absurd cc
         go (Some w) e =
             let is = latest_in tr done c w e in
-            let lt : w.node < t.node = ⊎_elim (λ lt. lt) (λ le. absurd (st.later w le is.1 is.0)) (cases_lt (w.node) (t.node)) in
-            f c w v e (back c v (suc (w.node)) (t.node - suc (w.node)) (t.node) (omega arith)
+            let lt : w.node < n = ⊎_elim (λ lt. lt) (λ le. absurd (st.later w le is.1 is.0)) (cases_lt (w.node) n) in
+            f c w v e (back c v (suc (w.node)) (n - suc (w.node)) n (omega arith)
             (λ s le lt. none_unless (tr.write_of s c) (λ x wr. let most = latest_most done c w s ok e (st.earlier s lt (x, wr)) (x, wr) in omega arith)) h)
+
+    -- A task reads the model's bytes
+    pub fresh_at : (done : List Task) (t : Task) (m : Byte → ℕ) (c : Byte) (v : ℕ) → IsAllowed tr done → MayRun tr done t → Follows tr value done m → Reads tr t c → value (t.node) c ≡ Some v → m c ≡ v
+    fresh_at done t m c v ok may f r h = settled_at done m c v (t.node) ok (settled_for done t c ok may r) f h
 
     source_of : (done : List Task) (t : Task) (c : Byte) (m : Byte → ℕ) (new v : ℕ) (s : Put) → IsAllowed tr done → MayRun tr done t → Follows tr value done m → tr.write_of t c ≡ Some s → Stores (Some s) m (m c) new → put_value s (value (t.node)) ≡ Some v → new ≡ v
     source_of done t c m new v (Puts (Value k)) ok may f e st h = cc

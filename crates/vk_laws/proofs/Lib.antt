@@ -27,6 +27,7 @@ pub mod Entries
 pub mod Submits
 pub mod TraceGrowth
 pub mod PlainOrder
+pub mod Members
 pub mod Prefixes
 pub mod Eager
 pub mod Stages

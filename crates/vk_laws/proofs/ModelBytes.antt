@@ -157,7 +157,7 @@ pub more_nodes : (newer past : Past) → length (nodes past) ≤ length (nodes (
 more_nodes [] past = omega arith
 more_nodes (q ∷ newer) past = let le = more_nodes newer past in let e = count_acts q (acts q.deed) (nodes (newer ++ past)) in omega (arith, e)
 
-before_whole : (past : Past) (k : ℕ) → length (nodes past) ≤ k → before_node past k ≡ past
+pub before_whole : (past : Past) (k : ℕ) → length (nodes past) ≤ k → before_node past k ≡ past
 before_whole [] k le = refl
 before_whole (p ∷ past) k le = rw (le-leb (length (nodes (p ∷ past))) k le) refl
 

@@ -1,15 +1,19 @@
 -- Where a stage of a run stands in its trace.
-use Rattle.std.proofs.Common.{◌≡◌, ◌⊎◌, ⊎_elim, ℕ, ◌+◌, ◌<◌, ◌≤◌, List, [], ◌∷◌, ◌++◌, length, Some, None, refl, ap, sym, ◌∙◌, subst, arith, append_assoc, length-append}
+use Rattle.std.proofs.Common.{false, inl, inr, IsTrue, ◌≡◌, ◌⊎◌, ⊎_elim, ℕ, ◌+◌, ◌<◌, ◌≤◌, List, [], ◌∷◌, ◌++◌, length, true, Some, None, refl, ap, sym, ◌∙◌, subst, arith, append_assoc, length-append}
 use Rattle.std.specs.Prelude.{Contains}
+use Rattle.std.specs.List.{fold}
+use Rattle.std.proofs.lemmas.List.{append-nil}
+use Rattle.vk_model.specs.declared.entry.Entry.TheVariants as entry
 use Rattle.vk_model.specs.declared.entry.Entry.{Entry}
 use Rattle.vk_model.specs.declared.rule.Rule.TheVariants as rule
 use Rattle.vk_model.specs.Point.{Past, Host, host_of}
-use Rattle.vk_model.specs.Order.{Front, host, plain_order, after_entry, order_from}
+use Rattle.vk_model.specs.Order.{Front, host, taken, turns_of, plain_from, plain_order, after_entry, order_from}
 use Rattle.vk_model.specs.Node.{Node, Act, Hosts, nodes, acts}
+use Rattle.vk_model.specs.Edge.{is_host, is_submit}
 use Rattle.vk_model.specs.Rules.{breaks}
 use Rattle.vk_model.specs.Fault.{Comes, IsSound}
 use Rattle.vk_model.specs.Laws.{GrowthKeeps, NeverAhead, OrdersAgree}
-use Rattle.vk_model.specs.Run.{Stage, start, applied, past_with}
+use Rattle.vk_model.specs.Run.{Stage, start, is_host_wait, applied, past_with}
 use Rattle.vk_laws.proofs.NoHazard.{contains-cons, contains-head}
 use Rattle.vk_laws.proofs.Steady.{IsNew, comes_later}
 use Rattle.vk_laws.proofs.CachedStays.{IsLive}
@@ -19,11 +23,51 @@ use Rattle.vk_laws.proofs.ModelBytes.{host_deed}
 use Rattle.vk_laws.proofs.PlainOrder.{Each, Grows, grows_too, Within, OfBatch, batches_grow, plain_grows, plain_splits, old_or_newer}
 use Rattle.vk_laws.proofs.Prefixes.{has_more}
 
+abbrev with_entry : ℕ → Past → Entry → Past
+with_entry e past x = fold (λ p t. taken t p) (host e x ∷ past) (turns_of past e x)
+
 order_splits : (e : ℕ) (f : Front) (xs ys : List Entry) → order_from e f (xs ++ ys) ≡ order_from (e + length xs) (order_from e f xs) ys
 order_splits e f [] ys = ap (λ (k : ℕ). order_from k f ys) (let same : e ≡ e + 0 = omega arith in same)
 order_splits e f (x ∷ xs) ys =
     order_splits (e + 1) (after_entry e x f) xs ys
     ∙ ap (λ (k : ℕ). order_from k (order_from (e + 1) (after_entry e x f) xs) ys) (let same : (e + 1) + length xs ≡ e + length (x ∷ xs) = omega arith in same)
+
+-- a node of a batch comes after the node of its submit
+pub record Submitted (all : Past) (n : Node) : Type 0 where
+  pub submit : Node
+  pub stands : Contains (nodes all) submit
+  pub is_it : IsTrue (is_submit submit.act)
+  pub entry : submit.point.entry ≡ n.point.entry
+  pub earlier : submit.number < n.number
+
+submitted_from : GrowthKeeps → (e : ℕ) (past : Past) (xs : List Entry) (n : Node) → is_host n.act ≡ false → Contains (nodes (plain_from e past xs)) n → Contains (nodes past) n ⊎ Submitted (plain_from e past xs) n
+submitted_from keeps e past [] n batch c = inl c
+submitted_from keeps e past (x ∷ xs) n batch c = ⊎_elim (λ here. by_entry x here) (λ later. inr later) (submitted_from keeps (e + 1) (with_entry e past x) xs n batch c)
+  where
+    not_new : (y : Entry) → Contains (nodes (host e y ∷ past)) n → Contains (nodes past) n
+    not_new y h = ⊎_elim
+        (λ same. let host_act : is_host n.act ≡ true = ap (λ (m : Node). is_host m.act) (sym same) in absurd cc)
+        (λ old. old) (contains-cons (record { number = length (nodes past); point = host e y; act = Hosts y }) (nodes past) n h)
+
+    in_all : (y : Entry) (m : Node) → Contains (nodes (host e y ∷ past)) m → Contains (nodes (plain_from (e + 1) (with_entry e past y) xs)) m
+    in_all y m h =
+        let g = batches_grow past e y (host e y ∷ past) in
+        let k = plain_grows (e + 1) (with_entry e past y) xs in
+        subst (λ (l : Past). Contains (nodes l) m) (sym k.whole) (has_more keeps k.newer (with_entry e past y) m (subst (λ (l : Past). Contains (nodes l) m) (sym g.whole) (has_more keeps g.newer (host e y ∷ past) m h)))
+
+    by_entry : (y : Entry) → Contains (nodes (with_entry e past y)) n → Contains (nodes past) n ⊎ Submitted (plain_from (e + 1) (with_entry e past y) xs) n
+    by_entry (entry.Submit q bs) h =
+        let one : Node = record { number = length (nodes past); point = host e (entry.Submit q bs); act = Hosts (entry.Submit q bs) } in
+        ⊎_elim (λ old. inl (not_new (entry.Submit q bs) old))
+        (λ new. let le : length (one ∷ nodes past) ≤ n.number = new.2 in inr (record {
+          submit = one;
+          stands = in_all (entry.Submit q bs) one (contains-head one (nodes past));
+          is_it = refl;
+          entry = sym new.0.0;
+          earlier = omega (arith, le);
+        }))
+        (old_or_newer (OfBatch e) (host e (entry.Submit q bs) ∷ past) (with_entry e past (entry.Submit q bs)) (batches_grow past e (entry.Submit q bs) (host e (entry.Submit q bs) ∷ past)) n h)
+    by_entry _ h = inl (not_new _ h)
 
 module _ (orders : OrdersAgree) (keeps : GrowthKeeps) (t : List Entry) (sound : IsSound t) where
   abbrev all : Past
@@ -76,6 +120,13 @@ module _ (orders : OrdersAgree) (keeps : GrowthKeeps) (t : List Entry) (sound : 
       ⊎_elim (λ none. absurd (none_in n none)) (λ h. let lt = h.0.1 in let same = p.count in omega (arith, lt, same))
       (old_or_newer (Within 0 (length p.gone)) [] (plain_order p.gone) g n (subst (λ (l : Past). Contains (nodes l) n) (past_is s p) c))
 
+  pub submitted : (n : Node) → is_host n.act ≡ false → Contains (nodes all) n → Submitted all n
+  submitted n batch c = ⊎_elim (λ none. absurd (none_in n none)) (λ h. h) (submitted_from keeps 0 [] t n batch c)
+
+  -- where no entry is left, a stage's past is the trace
+  pub whole_past : (s : Stage) → Placed s → s.left ≡ [] → s.front.past ≡ all
+  whole_past s p left = past_is s p ∙ ap plain_order (sym (p.split ∙ ap (λ (l : List Entry). p.gone ++ l) left ∙ append-nil p.gone))
+
   module _ (s : Stage) (p : Placed s) (x : Entry) (xs : List Entry) (left : s.left ≡ x ∷ xs) where
     pub next_placed : Placed (applied s x xs)
     next_placed = record {
@@ -116,3 +167,11 @@ module _ (orders : OrdersAgree) (keeps : GrowthKeeps) (t : List Entry) (sound : 
       where
         no_host : host_of m.point.deed ≡ None → m.point.deed ≡ Host y → ⊥
         no_host none is = let some : host_of m.point.deed ≡ Some y = ap host_of is in cc
+
+  -- a wait of the host submits nothing
+  pub wait_past : (s : Stage) → Placed s → (x : Entry) (xs : List Entry) → s.left ≡ x ∷ xs → is_host_wait x ≡ true → past_with s x ≡ host s.count x ∷ s.front.past
+  unfolding next_placed
+  wait_past s p (entry.Wait ws) xs left waits =
+      past_is (applied s (entry.Wait ws) xs) (next_placed s p (entry.Wait ws) xs left) ∙ plain_splits 0 [] p.gone (entry.Wait ws ∷ [])
+      ∙ ap (λ (k : ℕ). host k (entry.Wait ws) ∷ plain_order p.gone) p.count ∙ ap (λ (l : Past). host s.count (entry.Wait ws) ∷ l) (sym (past_is s p))
+  wait_past s p _ xs left waits = absurd cc

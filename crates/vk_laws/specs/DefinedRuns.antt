@@ -7,6 +7,7 @@ use Rattle.vk_model.specs.World.{Byte}
 use Rattle.vk_model.specs.Moves.{Value, From}
 use Rattle.vk_model.specs.Point.{Past}
 use Rattle.vk_model.specs.Order.{plain_order}
+use Rattle.vk_model.specs.Effect.{world}
 use Rattle.vk_model.specs.Node.{Node, Act, Hosts, Runs, nodes}
 use Rattle.vk_model.specs.Rules.{first_fault}
 use Rattle.vk_model.specs.Run.{Name, is_done, offered, Step, Apply, RunPiece, CopyPart, Stage, start, may_go, Allowed}
@@ -66,12 +67,13 @@ pub data MayCome (s : Stage) : Task → Type 0 where
   Offers : (x : Name) → IsTrue (is_done (offered s.front.past s.done) x) → MayCome s (piece_task x)
   Enters : (x : Entry) (xs : List Entry) → s.left ≡ x ∷ xs → IsTrue (may_go s x) → MayCome s (entry_task s)
 
--- Tasks done in an allowed order, as a stage has them: the pieces that have run, the entries that have been applied, and each event that could happen. What may come next at the stage may come next in the machine.
+-- Tasks done in an allowed order, as a stage has them: the pieces that have run, the entries that have been applied, and each event that could happen. What may come next at the stage may come next in the machine, and besides events nothing else may.
 pub record Matches (all : Past) (s : Stage) (done : List Task) : Type 0 where
   pub allowed : IsAllowed (traffic_of all) done
   pub happened : (u : Task) → IsTrue ((traffic_of all).has u) → is_event all u ≡ false → IsIn u done ↔ IsTrue (has_happened all s u)
   pub eager : IsEager (traffic_of all) (is_event all) done
   pub next : (u : Task) → MayCome s u → MayRun (traffic_of all) done u
+  pub only : (u : Task) → is_event all u ≡ false → MayRun (traffic_of all) done u → MayCome s u
 
 -- A run from a trace's start to a stage that the definitions allow.
 abbrev pub RunOf : (Past → ℕ) → List Entry → List Step → Stage → Type 0
@@ -108,3 +110,21 @@ DefinedRunsAreWritten =
     (t : List Entry) (part_count : Past → ℕ) (steps : List Step) (e : Stage) (run : RunOf part_count t steps e) (first : Byte → ℕ) (writer : Task) (c : Byte) (v : ℕ) → first_fault t ≡ None
     → latest (traffic_of (plain_order t)) c (tasks_of part_count t steps e run) ≡ Some writer → value_before (plain_order t) (suc writer.node) c ≡ Some v
     → bytes_after (traffic_of (plain_order t)) first (tasks_of part_count t steps e run) c ≡ v
+
+-- ---- the end of a run
+
+-- Nothing may come next at a stage.
+abbrev pub IsOver : Stage → Type 0
+IsOver s = (u : Task) → MayCome s u → ⊥
+
+-- A run of a trace without a fault is never stuck: where nothing may come next, no entry is left, and each piece and host entry of the trace has happened.
+abbrev pub DefinedRunsEnd : Type 0
+DefinedRunsEnd =
+    (t : List Entry) (part_count : Past → ℕ) (steps : List Step) (e : Stage) → RunOf part_count t steps e → first_fault t ≡ None → IsOver e
+    → (e.left ≡ []) × ((u : Task) → IsTrue ((traffic_of (plain_order t)).has u) → is_event (plain_order t) u ≡ false → IsTrue (has_happened (plain_order t) e u))
+
+-- And each byte has the value that the trace leaves in it, where the model defines one.
+abbrev pub DefinedRunsMeanTheTrace : Type 0
+DefinedRunsMeanTheTrace =
+    (t : List Entry) (part_count : Past → ℕ) (steps : List Step) (e : Stage) (run : RunOf part_count t steps e) (first : Byte → ℕ) (c : Byte) (v : ℕ) → first_fault t ≡ None → IsOver e
+    → (world (plain_order t)).value c ≡ Some v → bytes_after (traffic_of (plain_order t)) first (tasks_of part_count t steps e run) c ≡ v

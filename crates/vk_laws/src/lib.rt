@@ -18,4 +18,4 @@ pub use tasks::{
     traces_run,
 };
 pub use trace::{accesses_in_order, commands_stay, host_in_order, no_hazard, seen_is_before};
-pub use trace_runs::{defined_runs_are_allowed, defined_runs_are_fresh};
+pub use trace_runs::{defined_runs_are_allowed, defined_runs_are_fresh, defined_runs_end};

@@ -1,15 +1,15 @@
 //! The allowed runs of the definitions are runs of the machine, so the law speaks of them.
-ghost use Rattle.vk_laws.specs.DefinedRuns.{DefinedRunsAreAllowed, DefinedRunsAreFresh, DefinedRunsAreSettled, DefinedRunsAreWritten};
+ghost use Rattle.vk_laws.specs.DefinedRuns.{DefinedRunsAreAllowed, DefinedRunsAreFresh, DefinedRunsAreSettled, DefinedRunsAreWritten, DefinedRunsEnd, DefinedRunsMeanTheTrace};
 
-use crate::tasks::{trace_is_fresh, trace_is_settled};
+use crate::tasks::{trace_is_fresh, trace_is_hazard_free, trace_is_modelled, trace_is_settled};
 use vk_model::{
     before_is_order, before_is_path, growth_keeps, no_fault_is_sound, orders_agree,
     pieces_are_moves,
 };
 
-/// Each run of a trace without a fault that the definitions allow is an allowed run of the machine: with
-/// events between its steps, each as soon as it can happen. And after it a piece that is offered may come
-/// next, and so may an entry that may be applied.
+/// Each run of a trace without a fault that the definitions allow is an allowed run of the machine, with
+/// events between its steps, each as soon as it can happen. And after it just those pieces and entries may
+/// come next that the definitions offer.
 pub fn defined_runs_are_allowed()
     ensures { DefinedRunsAreAllowed }
 {
@@ -31,6 +31,25 @@ pub fn defined_runs_are_fresh()
 {
     pieces_are_moves();
     trace_is_settled();
+    trace_is_fresh();
+    defined_runs_are_allowed();
+}
+
+/// A run of a trace without a fault that the definitions allow is never stuck: where nothing may come next,
+/// every entry has been applied and every piece has run (`whole`). And then each byte has the value that
+/// the trace leaves in it, where the model defines one (`meaning`).
+pub fn defined_runs_end()
+    ensures whole { DefinedRunsEnd }
+    ensures meaning { DefinedRunsMeanTheTrace }
+{
+    no_fault_is_sound();
+    growth_keeps();
+    before_is_path();
+    before_is_order();
+    orders_agree();
+    pieces_are_moves();
+    trace_is_hazard_free();
+    trace_is_modelled();
     trace_is_fresh();
     defined_runs_are_allowed();
 }
