@@ -1,8 +1,8 @@
 -- No part of an act reads or writes what another part of it writes.
-use Rattle.std.proofs.Common.{◌≡◌, ◌⊎◌, inl, inr, ⊎_elim, ℕ, zero, suc, ◌+◌, ◌<◌, ◌≤◌, List, [], ◌∷◌, ◌++◌, map, Bool, true, false, ◌||◌, IsTrue, Option, Some, None, refl, ap, sym, ◌∙◌, subst, arith, slice_get}
+use Rattle.std.proofs.Common.{◌≡◌, ℕ, zero, suc, ◌+◌, ◌<◌, ◌≤◌, List, [], ◌∷◌, Bool, true, IsTrue, Option, Some, None, ap, sym, ◌∙◌, subst, arith, slice_get}
 use Rattle.std.specs.Prelude.{Contains}
-use Rattle.std.specs.List.{flat_map, range_with_len, list_any, enumerate_from}
-use Rattle.std.proofs.lemmas.Bool.{eq-eqb, lt-ltb}
+use Rattle.std.specs.List.{list_any, enumerate_from}
+use Rattle.std.proofs.lemmas.Bool.{eq-eqb, lt-ltb, or_left, or_right, and_from}
 use Rattle.vk_model.specs.declared.command.Cmd.{Cmd}
 use Rattle.vk_model.specs.declared.command.Cmd.TheVariants as cmd
 use Rattle.vk_model.specs.declared.command.BufferCopy.{BufferCopy}
@@ -20,32 +20,9 @@ use Rattle.vk_model.specs.Suballocation.{ranges_meet}
 use Rattle.vk_model.specs.Parts.{Part, Bytes, Texels, parts_meet, source_box, destination_box, parts_read, parts_written}
 use Rattle.vk_model.specs.Access.{origin}
 use Rattle.vk_model.specs.RulesRanges.{command_overlaps}
-use Rattle.vk_laws.proofs.NoHazard.{contains-cons, contains-head, contains-tail, any_of, together}
-use Rattle.vk_laws.proofs.TaskAccesses.{map_has}
+use Rattle.vk_laws.proofs.Members.{member_passes, none_in, mapped_from, flat_from, range_from, place_has, map_has}
 
--- ---- what lists are made of
-
-pub none_in : {X : Type 0} (x : X) → Contains [] x → ⊥
-none_in x c = let none : c.0 < 0 = c.1 in omega arith
-
-pub mapped_from : {X Y : Type 0} (f : X → Y) (xs : List X) (y : Y) → Contains (map f xs) y → (x : X) × Contains xs x × (f x ≡ y)
-mapped_from f [] y c = absurd (none_in y c)
-mapped_from f (x ∷ xs) y c = ⊎_elim (λ e. (x, contains-head x xs, e)) (λ later. let r = mapped_from f xs y later in (r.0, contains-tail x xs r.0 r.1, r.2)) (contains-cons (f x) (map f xs) y c)
-
-either_part : {X : Type 0} (xs ys : List X) (y : X) → Contains (xs ++ ys) y → Contains xs y ⊎ Contains ys y
-either_part [] ys y c = inr c
-either_part {X} (x ∷ xs) ys y c = ⊎_elim
-    (λ e. inl (subst (λ (z : X). Contains (x ∷ xs) z) e (contains-head x xs)))
-    (λ later. ⊎_elim (λ a. inl (contains-tail x xs y a)) (λ b. inr b) (either_part xs ys y later))
-    (contains-cons x (xs ++ ys) y c)
-
-pub flat_from : {X Y : Type 0} (f : X → List Y) (xs : List X) (y : Y) → Contains (flat_map f xs) y → (x : X) × Contains xs x × Contains (f x) y
-flat_from f [] y c = absurd (none_in y c)
-flat_from f (x ∷ xs) y c = ⊎_elim (λ a. (x, contains-head x xs, a)) (λ later. let r = flat_from f xs y later in (r.0, contains-tail x xs r.0 r.1, r.2)) (either_part (f x) (flat_map f xs) y c)
-
-pub range_from : (a n k : ℕ) → Contains (range_with_len a n) k → (a ≤ k) × (k < a + n)
-range_from a zero k c = absurd (none_in k c)
-range_from a (suc n) k c = ⊎_elim (λ e. (omega (arith, e), omega (arith, e))) (λ later. let r = range_from (a + 1) n k later in let low = r.0 in let high = r.1 in (omega arith, omega arith)) (contains-cons a (range_with_len (a + 1) n) k c)
+-- ---- what grids are made of
 
 below_from : (n k : ℕ) → Contains (below n) k → k < n
 below_from n k c = let r = range_from 0 n k c in let high = r.1 in omega arith
@@ -69,35 +46,23 @@ grid_from f a b c d item h =
     let k = mapped_from _ (below d) item x.2 in
     record { z = z.0; y = y.0; x = x.0; k = k.0; low_z = below_from a z.0 z.1; low_y = below_from b y.0 y.1; low_x = below_from c x.0 x.1; is = k.2 }
 
-pub place_has : {X : Type 0} (xs : List X) (k : ℕ) (x : X) → slice_get xs k ≡ Some x → Contains xs x
-place_has [] k x e = absurd cc
-place_has {X} (y ∷ ys) zero x e = let same : y ≡ x = cc in subst (λ (z : X). Contains (y ∷ ys) z) same (contains-head y ys)
-place_has (y ∷ ys) (suc k) x e = contains-tail y ys x (place_has ys k x e)
-
-or_first : (a b : Bool) → IsTrue a → IsTrue (a || b)
-or_first a b h = rw h refl
-
-or_second : (a b : Bool) → IsTrue b → IsTrue (a || b)
-or_second true b h = refl
-or_second false b h = h
-
 pub pair_of : {X : Type 0} (test : X → X → Bool) (xs : List X) (k l : ℕ) (x y : X) → slice_get xs k ≡ Some x → slice_get xs l ≡ Some y → k < l → IsTrue (test x y) → IsTrue (some_pair test xs)
 pair_of test [] k l x y e f lt h = absurd cc
 pair_of {X} test (z ∷ xs) zero zero x y e f lt h = absurd (omega arith)
 pair_of {X} test (z ∷ xs) zero (suc l) x y e f lt h =
-    let same : x ≡ z = cc in or_first _ _ (any_of (test z) xs y (place_has xs l y f) (subst (λ (w : X). IsTrue (test w y)) same h))
+    let same : x ≡ z = cc in or_left _ _ (member_passes (test z) xs y (place_has xs l y f) (subst (λ (w : X). IsTrue (test w y)) same h))
 pair_of test (z ∷ xs) (suc k) zero x y e f lt h = absurd (omega arith)
-pair_of test (z ∷ xs) (suc k) (suc l) x y e f lt h = or_second _ _ (pair_of test xs k l x y e f (omega arith) h)
+pair_of test (z ∷ xs) (suc k) (suc l) x y e f lt h = or_right _ _ (pair_of test xs k l x y e f (omega arith) h)
 
 -- ---- a command that doesn't overlap reads nothing that it writes
 
 common_meets : (a n b m v : ℕ) → a ≤ v → v < a + n → b ≤ v → v < b + m → ranges_meet a n b m ≡ true
 common_meets a n b m v la ha lb hb =
-    together _ _ (together _ _ (together _ _ (lt-ltb 0 n (omega arith)) (lt-ltb 0 m (omega arith))) (lt-ltb a (b + m) (omega arith))) (lt-ltb b (a + n) (omega arith))
+    and_from _ _ (and_from _ _ (and_from _ _ (lt-ltb 0 n (omega arith)) (lt-ltb 0 m (omega arith))) (lt-ltb a (b + m) (omega arith))) (lt-ltb b (a + n) (omega arith))
 
 module _ (past : Past) where
   overlapping : (c : Cmd) (w r : Part) → Contains (parts_written past c) w → Contains (parts_read past c) r → IsTrue (parts_meet w r) → IsTrue (command_overlaps past c)
-  overlapping c w r cw cr h = or_first _ _ (or_second _ _ (any_of (λ w. list_any (parts_meet w) (parts_read past c)) (parts_written past c) w cw (any_of (parts_meet w) (parts_read past c) r cr h)))
+  overlapping c w r cw cr h = or_left _ _ (or_right _ _ (member_passes (λ w. list_any (parts_meet w) (parts_read past c)) (parts_written past c) w cw (member_passes (parts_meet w) (parts_read past c) r cr h)))
 
   abbrev Wrote : Cmd → Byte → Type 0
   Wrote c b = (m : Move) × Contains (moves past c) m × (m.to ≡ b)
@@ -119,7 +84,7 @@ module _ (past : Past) where
       let place : g.0.destination_offset + k.0 ≡ h.0.source_offset + l.0 = cc in
       overlapping (cmd.Copy s d gs) (Bytes d g.0.destination_offset g.0.size) (Bytes s h.0.source_offset h.0.size)
       (map_has (λ g. Bytes d g.destination_offset g.size) gs g.0 g.1) (map_has (λ g. Bytes s g.source_offset g.size) gs h.0 h.1)
-      (together _ _ (eq-eqb d s same) (common_meets g.0.destination_offset g.0.size h.0.source_offset h.0.size (g.0.destination_offset + k.0) (omega arith) (omega arith) (omega arith) (omega arith)))
+      (and_from _ _ (eq-eqb d s same) (common_meets g.0.destination_offset g.0.size h.0.source_offset h.0.size (g.0.destination_offset + k.0) (omega arith) (omega arith) (omega arith) (omega arith)))
 
   -- the regions of an image copy
   image_move : (s d : ℕ) (o : Option ImageInfo) (g : ImageCopy) (m : Move) → Contains (copy_image_moves s d o g) m → (t : ℕ) × InGrid (λ z y x k. move (in_image d g.destination_level (g.destination_first_layer + z) (g.destination_x + x) (g.destination_y + y) k)
@@ -143,19 +108,35 @@ module _ (past : Past) where
       let lz = at.low_z in let ly = at.low_y in let lx = at.low_x in let lz' = from.low_z in let ly' = from.low_y in let lx' = from.low_x in
       overlapping (cmd.CopyImage s l d n gs) (Texels d (destination_box g.0)) (Texels s (source_box h.0))
       (map_has (λ g. Texels d (destination_box g)) gs g.0 g.1) (map_has (λ g. Texels s (source_box g)) gs h.0 h.1)
-      (together _ _ (eq-eqb d s same) (together _ _ (together _ _ (together _ _ (eq-eqb g.0.destination_level h.0.source_level level)
+      (and_from _ _ (eq-eqb d s same) (and_from _ _ (and_from _ _ (and_from _ _ (eq-eqb g.0.destination_level h.0.source_level level)
       (common_meets g.0.destination_first_layer g.0.layers h.0.source_first_layer h.0.layers (g.0.destination_first_layer + at.z) (omega arith) (omega arith) (omega arith) (omega arith)))
       (common_meets g.0.destination_x g.0.width h.0.source_x h.0.width (g.0.destination_x + at.x) (omega arith) (omega arith) (omega arith) (omega arith)))
       (common_meets g.0.destination_y g.0.height h.0.source_y h.0.height (g.0.destination_y + at.y) (omega arith) (omega arith) (omega arith) (omega arith))))
 
   -- copies between buffers and images read the one kind and write the other
-  in_clear : (b i : ℕ) (o : Option ImageInfo) (g : BufferImageCopy) (m : Move) → Contains (copy_in_moves b i o g) m → (z y x k : ℕ) × (t : ℕ) × (move (image_texel i g z y x k) (From (in_buffer b (buffer_texel g t z y x k))) ≡ m)
+  abbrev MovesIn : ℕ → ℕ → BufferImageCopy → Move → Type 0
+  MovesIn b i g m = (z y x k : ℕ) × (t : ℕ) × (move (image_texel i g z y x k) (From (in_buffer b (buffer_texel g t z y x k))) ≡ m)
+
+  in_clear : (b i : ℕ) (o : Option ImageInfo) (g : BufferImageCopy) (m : Move) → Contains (copy_in_moves b i o g) m → MovesIn b i g m
   in_clear b i None g m c = absurd (none_in m c)
   in_clear b i (Some n) g m c = let at = grid_from _ g.layers g.height g.width (texel n.format) m c in (at.z, at.y, at.x, at.k, texel n.format, at.is)
 
-  out_clear : (i b : ℕ) (o : Option ImageInfo) (g : BufferImageCopy) (m : Move) → Contains (copy_out_moves i b o g) m → (z y x k : ℕ) × (t : ℕ) × (move (in_buffer b (buffer_texel g t z y x k)) (From (image_texel i g z y x k)) ≡ m)
+  in_apart : (b i : ℕ) (g h : BufferImageCopy) (m n : Move) (c : Byte) → MovesIn b i g m → MovesIn b i h n → m.to ≡ c → origin n.source ≡ Some c → ⊥
+  in_apart b i g h m n c at of to from =
+      let e = ap (λ (m : Move). m.to) at.5 ∙ to in
+      let f = ap (λ (m : Move). origin m.source) of.5 ∙ from in cc
+
+  abbrev MovesOut : ℕ → ℕ → BufferImageCopy → Move → Type 0
+  MovesOut i b g m = (z y x k : ℕ) × (t : ℕ) × (move (in_buffer b (buffer_texel g t z y x k)) (From (image_texel i g z y x k)) ≡ m)
+
+  out_clear : (i b : ℕ) (o : Option ImageInfo) (g : BufferImageCopy) (m : Move) → Contains (copy_out_moves i b o g) m → MovesOut i b g m
   out_clear i b None g m c = absurd (none_in m c)
   out_clear i b (Some n) g m c = let at = grid_from _ g.layers g.height g.width (texel n.format) m c in (at.z, at.y, at.x, at.k, texel n.format, at.is)
+
+  out_apart : (i b : ℕ) (g h : BufferImageCopy) (m n : Move) (c : Byte) → MovesOut i b g m → MovesOut i b h n → m.to ≡ c → origin n.source ≡ Some c → ⊥
+  out_apart i b g h m n c at of to from =
+      let e = ap (λ (m : Move). m.to) at.5 ∙ to in
+      let f = ap (λ (m : Move). origin m.source) of.5 ∙ from in cc
 
   clear_value : (i : ℕ) (color : List ℕ) (o : Option ImageInfo) (r : SubresourceRange) (m : Move) → Contains (clear_moves i color o r) m → (v : ℕ) × (m.source ≡ Value v)
   clear_value i color None r m c = absurd (none_in m c)
@@ -175,17 +156,11 @@ module _ (past : Past) where
   no_overlap (cmd.CopyIn s i l gs) b free to from =
       let g = flat_from (copy_in_moves s i (image past i)) gs to.0 to.1 in
       let h = flat_from (copy_in_moves s i (image past i)) gs from.0 from.1 in
-      let at = in_clear s i (image past i) g.0 to.0 g.2 in
-      let of = in_clear s i (image past i) h.0 from.0 h.2 in
-      let e = ap (λ (m : Move). m.to) at.5 ∙ to.2 in
-      let f = ap (λ (m : Move). origin m.source) of.5 ∙ from.2 in cc
+      in_apart s i g.0 h.0 to.0 from.0 b (in_clear s i (image past i) g.0 to.0 g.2) (in_clear s i (image past i) h.0 from.0 h.2) to.2 from.2
   no_overlap (cmd.CopyOut i l d gs) b free to from =
       let g = flat_from (copy_out_moves i d (image past i)) gs to.0 to.1 in
       let h = flat_from (copy_out_moves i d (image past i)) gs from.0 from.1 in
-      let at = out_clear i d (image past i) g.0 to.0 g.2 in
-      let of = out_clear i d (image past i) h.0 from.0 h.2 in
-      let e = ap (λ (m : Move). m.to) at.5 ∙ to.2 in
-      let f = ap (λ (m : Move). origin m.source) of.5 ∙ from.2 in cc
+      out_apart i d g.0 h.0 to.0 from.0 b (out_clear i d (image past i) g.0 to.0 g.2) (out_clear i d (image past i) h.0 from.0 h.2) to.2 from.2
   no_overlap (cmd.CopyImage s l d n gs) b free to from = free (image_clear s d l n gs b to from)
   no_overlap (cmd.Barrier es) b free to from = none_in to.0 to.1
   no_overlap (cmd.Set v ms) b free to from = none_in to.0 to.1

@@ -1,8 +1,8 @@
 -- A trace without a fault has no hazard between its caches.
 use Rattle.std.proofs.Common.{◌≡◌, ◌⊎◌, inl, inr, ℕ, ◌<◌, ◌≤◌, length, List, [], ◌∷◌, ◌++◌, Bool, true, false, ◌&&◌, not, IsTrue, Some, None, refl, ap, sym, ◌∙◌, subst, arith}
 use Rattle.std.specs.Prelude.{Contains, nat_lt, if◌then◌else◌}
+use Rattle.std.proofs.lemmas.List.{append_assoc}
 use Rattle.vk_model.specs.declared.entry.Entry.{Entry}
-use Rattle.vk_model.specs.declared.rule.Rule.TheVariants as rule
 use Rattle.vk_model.specs.World.{Byte, resource_at}
 use Rattle.vk_model.specs.Objects.{is_cached}
 use Rattle.vk_model.specs.Point.{Past, Point}
@@ -10,7 +10,7 @@ use Rattle.vk_model.specs.Order.{plain_order}
 use Rattle.vk_model.specs.Node.{Node, nodes}
 use Rattle.vk_model.specs.Edge.{is_host}
 use Rattle.vk_model.specs.Access.{writes}
-use Rattle.vk_model.specs.Rules.{breaks, first_fault}
+use Rattle.vk_model.specs.Rules.{first_fault}
 use Rattle.vk_model.specs.Fault.{Comes, older, IsSound}
 use Rattle.vk_model.specs.Laws.{BeforeIsPath, BeforeIsTransitive, GrowthKeeps, PiecesAreMoves}
 use Rattle.vk_laws.specs.Machine.{Task, Writes, Reads}
@@ -18,25 +18,16 @@ use Rattle.vk_laws.specs.Caches.{CacheFree, Seen, Available}
 use Rattle.vk_laws.specs.Trace.{accesses, NoHazardLaw, SeenIsBefore, HostInOrder, CommandsStay}
 use Rattle.vk_laws.specs.Tasks.{task_count, node_at, traffic_of}
 use Rattle.vk_laws.specs.TraceCaches.{caching_of}
-use Rattle.vk_laws.proofs.Steady.{IsNew, made_step, comes_here, comes_later}
-use Rattle.vk_laws.proofs.Points.{Stands, stands}
-use Rattle.vk_laws.proofs.CachedStays.{IsLive, cached_stays}
+use Rattle.vk_laws.proofs.Steady.{IsNew, made_step, new_ids, live_ids, IsLive, comes_within}
+use Rattle.vk_laws.proofs.Points.{Stands, stands, comes_at, stands_below}
+use Rattle.vk_laws.proofs.CachedStays.{cached_stays}
 use Rattle.vk_laws.specs.TraceBytes.{before_node}
-use Rattle.vk_laws.proofs.NoHazard.{number_below, numbered}
 use Rattle.vk_laws.proofs.ModelBytes.{more_nodes, before_inside}
 use Rattle.vk_laws.proofs.Submits.{submits_there}
 use Rattle.vk_laws.proofs.Named.{written_made}
 use Rattle.vk_laws.proofs.TaskAccesses.{writer, reader, is_in_of}
-use Rattle.vk_laws.proofs.Ordered.{join_again, judged_has, read_sees, write_sees}
+use Rattle.vk_laws.proofs.Ordered.{judged_has, read_sees, write_sees}
 use Rattle.vk_laws.proofs.TraceCaches.{agent_is, seen_task, available_task, available_later}
-
-pub new_ids : (t : List Entry) → IsSound t → IsNew (plain_order t)
-unfolding breaks
-new_ids t sound b q c h = sound b q rule.NewId (c, h)
-
-pub live_ids : (t : List Entry) → IsSound t → IsLive (plain_order t)
-unfolding breaks
-live_ids t sound b q c h = sound b q rule.LiveId (c, h)
 
 -- whether the host caches what a node writes is the same at any later point
 module _ (all newer low : Past) (whole : all ≡ newer ++ low) (new : IsNew all) (alive : IsLive all) (x : Node) (cx : Contains (nodes low) x) (ax : IsTrue (accesses x.act)) (b : Byte) (judged : Past) (h : Contains (writes judged x) b) where
@@ -47,20 +38,20 @@ module _ (all newer low : Past) (whole : all ≡ newer ++ low) (new : IsNew all)
   base = s.at ∷ s.past
 
   come : (c : Past) (q : Point) → Comes low c q → Comes all c q
-  come c q k = subst (λ (l : Past). Comes l c q) (sym whole) (comes_later newer low c q k)
+  come c q k = comes_within _ newer low whole c q k
 
   come_base : (c : Past) (q : Point) → Comes (s.at ∷ s.past) c q → Comes low c q
-  come_base c q k = subst (λ (l : Past). Comes l c q) (sym s.whole) (comes_later s.newer (s.at ∷ s.past) c q k)
+  come_base c q k = comes_within _ s.newer (s.at ∷ s.past) s.whole c q k
 
   split : all ≡ (newer ++ s.newer) ++ s.at ∷ s.past
-  split = whole ∙ ap (λ (l : Past). newer ++ l) s.whole ∙ join_again newer s.newer (s.at ∷ s.past)
+  split = whole ∙ ap (λ (l : Past). newer ++ l) s.whole ∙ sym (append_assoc newer s.newer (s.at ∷ s.past))
 
   pub same_cached : is_cached low (resource_at b) ≡ is_cached all (resource_at b)
   same_cached =
       let new_low : IsNew low = λ c q k. new c q (come c q k) in
       let live_low : IsLive low = λ c q k. alive c q (come c q k) in
       let m = written_made low x s b new_low live_low ax judged x.point.queue h in
-      let here : Comes low s.past s.at = subst (λ (l : Past). Comes l s.past s.at) (sym s.whole) (comes_here s.newer s.past s.at) in
+      let here : Comes low s.past s.at = comes_at _ _ s in
       let next = made_step s.past s.at (resource_at b) m.0 (new_low s.past s.at here) m.1 in
       let new_base : IsNew (s.at ∷ s.past) = λ c q k. new_low c q (come_base c q k) in
       let live_base : IsLive (s.at ∷ s.past) = λ c q k. live_low c q (come_base c q k) in
@@ -71,7 +62,7 @@ module _ (all newer low : Past) (whole : all ≡ newer ++ low) (new : IsNew all)
 -- of two points of a past one comes before the other
 compare : (a b : Past) (p q : Point) (l m : Past) → a ++ p ∷ l ≡ b ++ q ∷ m → ((more : Past) × (l ≡ more ++ m)) ⊎ ((more : Past) × (m ≡ more ++ p ∷ l))
 compare [] [] p q l m e = inl ([], let f : l ≡ m = cc in f)
-compare [] (r ∷ b) p q l m e = inl (b ++ q ∷ [], (let f : l ≡ b ++ q ∷ m = cc in f) ∙ join_again b (q ∷ []) m)
+compare [] (r ∷ b) p q l m e = inl (b ++ q ∷ [], (let f : l ≡ b ++ q ∷ m = cc in f) ∙ sym (append_assoc b (q ∷ []) m))
 compare (r ∷ a) [] p q l m e = inr (a, let f : m ≡ a ++ p ∷ l = cc in f)
 compare (r ∷ a) (s ∷ b) p q l m e = compare a b p q l m (let f : a ++ p ∷ l ≡ b ++ q ∷ m = cc in f)
 
@@ -80,14 +71,14 @@ pub cached_then : (all : Past) → IsNew all → IsLive all → (x : Node) → C
     → is_cached (before_node all n.number) (resource_at b) ≡ is_cached all (resource_at b)
 cached_then all new alive x cx ax b judged h n cn le =
     let low = sn.new in
-    let lt = number_below (nodes (sn.at ∷ sn.past)) (numbered (sn.at ∷ sn.past)) n sn.here in
+    let lt = stands_below _ _ sn in
     let at : before_node all n.number ≡ sn.past = ap (λ (l : Past). before_node l n.number) sn.whole ∙ before_inside sn.newer sn.past sn.at n.number low lt in
     let m = written_made all x sx b new alive ax judged x.point.queue h in
     let more = further (compare sn.newer sx.newer sn.at sx.at sn.past sx.past (sym sn.whole ∙ sx.whole)) in
     let new_n : IsNew (more.0 ++ sx.past) = subst (λ (l : Past). IsNew l) more.1 (λ c q k. new c q (come sn.newer sn.at sn.past sn.whole c q k)) in
     let new_x : IsNew sx.past = λ c q k. new c q (come sx.newer sx.at sx.past sx.whole c q k) in
     let live_x : IsLive sx.past = λ c q k. alive c q (come sx.newer sx.at sx.past sx.whole c q k) in
-    let whole = sx.whole ∙ join_again sx.newer (sx.at ∷ []) sx.past in
+    let whole = sx.whole ∙ sym (append_assoc sx.newer (sx.at ∷ []) sx.past) in
     ap (λ (l : Past). is_cached l (resource_at b)) (at ∙ more.1) ∙ cached_stays more.0 sx.past new_n live_x new_x (resource_at b) m.0 m.1
     ∙ sym (cached_stays (sx.newer ++ sx.at ∷ []) sx.past (subst (λ (l : Past). IsNew l) whole new) live_x new_x (resource_at b) m.0 m.1) ∙ sym (ap (λ (l : Past). is_cached l (resource_at b)) whole)
   where
@@ -98,13 +89,13 @@ cached_then all new alive x cx ax b judged h n cn le =
     sn = stands all n cn
 
     come : (newer : Past) (p : Point) (past : Past) → all ≡ newer ++ p ∷ past → (c : Past) (q : Point) → Comes past c q → Comes all c q
-    come newer p past whole c q k = subst (λ (l : Past). Comes l c q) (sym whole) (comes_later newer (p ∷ past) c q (older k))
+    come newer p past whole c q k = comes_within _ newer (p ∷ past) whole c q (older k)
 
     further : ((more : Past) × (sn.past ≡ more ++ sx.past)) ⊎ ((more : Past) × (sx.past ≡ more ++ sn.at ∷ sn.past)) → (more : Past) × (sn.past ≡ more ++ sx.past)
     further (inl m) = m
     further (inr m) =
         let low = sx.new in
-        let lt = number_below (nodes (sn.at ∷ sn.past)) (numbered (sn.at ∷ sn.past)) n sn.here in
+        let lt = stands_below _ _ sn in
         let size : length (nodes sx.past) ≡ length (nodes (m.0 ++ sn.at ∷ sn.past)) = ap (λ (l : Past). length (nodes l)) m.1 in
         let long = more_nodes m.0 (sn.at ∷ sn.past) in
         absurd (omega (arith, le, low, lt, size, long))

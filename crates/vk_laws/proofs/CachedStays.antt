@@ -2,21 +2,19 @@
 use Rattle.std.proofs.Common.{◌≡◌, ℕ, List, [], ◌∷◌, ◌++◌, Bool, true, false, cond, IsTrue, Option, Some, None, refl, ap, sym, ◌∙◌, subst}
 use Rattle.std.specs.Prelude.{Contains, ◌==◌, is_some, option_and_then, option_map, if◌then◌else◌}
 use Rattle.std.specs.List.{find, cons_option}
+use Rattle.std.proofs.lemmas.Bool.{or_left}
 use Rattle.vk_model.specs.declared.entry.Entry.{Entry}
 use Rattle.vk_model.specs.declared.entry.Entry.TheVariants as entry
 use Rattle.vk_model.specs.declared.resource.Place.{Place}
 use Rattle.vk_model.specs.declared.resource.Place.TheVariants as place
 use Rattle.vk_model.specs.Words.{holds}
-use Rattle.vk_model.specs.Point.{Past, Point, Deed, Host, Wait, Run, Signal, host_of, entries}
+use Rattle.vk_model.specs.Point.{Past, Deed, Host, Wait, Run, Signal, host_of, entries}
 use Rattle.vk_model.specs.Objects.{made_by, made, live, Resource, resource_in, pool_in, memory_in, type_at, is_cached}
-use Rattle.vk_model.specs.RulesIds.{breaks_live_id, is_dead, asked_by, asked_by_entry, asked_by_place, is_pool, is_memory, judged_in}
-use Rattle.vk_model.specs.Fault.{Comes, newest, older}
-use Rattle.vk_laws.proofs.NoHazard.{contains-head, any_of}
-use Rattle.vk_laws.proofs.Steady.{IsNew, made_step, made_up, live_made, unless, or_first}
-
--- each id that a point of a past names is alive
-abbrev pub IsLive : Past → Type 0
-IsLive all = (b : Past) (q : Point) → Comes all b q → IsTrue (breaks_live_id b q) → ⊥
+use Rattle.vk_model.specs.RulesIds.{is_dead, asked_by, asked_by_entry, asked_by_place, is_pool, is_memory, judged_in, until}
+use Rattle.vk_model.specs.Fault.{newest, older}
+use Rattle.vk_laws.proofs.Members.{contains-head, member_passes}
+use Rattle.vk_laws.proofs.Truths.{unless}
+use Rattle.vk_laws.proofs.Steady.{IsNew, made_step, made_up, live_made, IsLive}
 
 -- the pool or memory object of a resource was made
 abbrev PlaceMade : Past → Place → Type 0
@@ -37,9 +35,9 @@ place_made (q ∷ past) i x r new alive is res = go (λ e. place_made past i x r
     here : (y : Entry) → q.deed ≡ Host y → y ≡ x → PlaceMade (q ∷ past) r.place
     here y deed same = up (λ j k c.
         let asked : Contains (asked_by q.deed) (j, k) = subst (λ (d : Deed). Contains (asked_by d) (j, k)) (sym deed) (subst (λ (l : List (ℕ × (Entry → Bool))). Contains l (j, k)) (sym (asked_place y r (ap resource_in same ∙ res))) c) in
-        let judged : judged_in past q ≡ past = ap (λ (d : Deed). if is_some (host_of d) then past else Rattle.vk_model.specs.RulesIds.until q.entry past) deed in
+        let judged : judged_in past q ≡ past = ap (λ (d : Deed). if is_some (host_of d) then past else until q.entry past) deed in
         live_made past j k (unless (holds (live past j) k) (λ dead.
-        alive past q newest (or_first _ _ (any_of (is_dead (judged_in past q)) (asked_by q.deed) (j, k) asked (subst (λ (l : Past). IsTrue (is_dead l (j, k))) (sym judged) dead))))))
+        alive past q newest (or_left _ _ (member_passes (is_dead (judged_in past q)) (asked_by q.deed) (j, k) asked (subst (λ (l : Past). IsTrue (is_dead l (j, k))) (sym judged) dead))))))
 
     by_id : (made past i ≡ Some x → PlaceMade past r.place) → (y : Entry) → q.deed ≡ Host y → (b : Bool) → cond b (Some y) (made past i) ≡ Some x → PlaceMade (q ∷ past) r.place
     by_id rest y deed true e = here y deed (let same : y ≡ x = cc in same)

@@ -60,21 +60,21 @@ module _ (all : Past) where
       go false e rest = ap (newest (tr.write_of u c) u) rest
 
   -- a task that accesses a byte is there, and no event
-  module _ (together : PiecesAreMoves) where
+  module _ (and_from : PiecesAreMoves) where
     abbrev Real : Task → Type 0
     Real u = IsTrue (tr.has u) × (is_event all u ≡ false)
 
-    real_of : {P : Node → Type 0} (u : Task) → Accessor together all u P → Real u
+    real_of : {P : Node → Type 0} (u : Task) → Accessor and_from all u P → Real u
     real_of u a = (
       subst (λ (o : Option Node). IsTrue (by_act false (λ a. nat_lt u.part (task_count all a)) o)) (sym a.at) a.there,
       ap (λ (o : Option Node). holds o (λ n. not (accesses n.act))) a.at ∙ ap not a.is_access,
     )
 
     pub writer_real : (u : Task) (c : Byte) → Writes tr u c → Real u
-    writer_real u c w = real_of u (writer together all u c w)
+    writer_real u c w = real_of u (writer and_from all u c w)
 
     reader_real : (u : Task) (c : Byte) → Reads tr u c → Real u
-    reader_real u c r = real_of u (reader together all u c r)
+    reader_real u c r = real_of u (reader and_from all u c r)
 
     pub first_real : (u v : Task) (c : Byte) → Conflict tr u v c → Real u
     first_real u v c meet = ⊎_elim (λ h. writer_real u c h.0) (λ rest. ⊎_elim (λ h. reader_real u c h.0) (λ h. writer_real u c h.0) rest) meet

@@ -1,8 +1,8 @@
 -- The allowed runs of the definitions are runs of the machine.
-use Rattle.std.proofs.Common.{◌≡◌, ◌⊎◌, inl, inr, ⊎_elim, ℕ, zero, suc, ◌+◌, ◌<◌, ◌≤◌, List, [], ◌∷◌, length, Bool, true, false, ◌&&◌, ◌||◌, not, IsTrue, Option, Some, None, refl, ap, sym, ◌∙◌, subst, arith, reverse}
+use Rattle.std.proofs.Common.{◌≡◌, ◌⊎◌, inl, inr, ⊎_elim, ℕ, ◌+◌, ◌<◌, ◌≤◌, List, [], ◌∷◌, length, Bool, true, false, ◌&&◌, ◌||◌, not, IsTrue, Option, Some, None, refl, ap, sym, ◌∙◌, subst, arith, reverse, suc, zero}
 use Rattle.std.specs.Prelude.{Contains, nat_lt, ◌==◌, ◌↔◌, if◌then◌else◌}
 use Rattle.std.specs.List.{filter, list_all}
-use Rattle.std.proofs.lemmas.Bool.{eqb-true, eq-eqb, ne_eqb, cases_lt, ltb-true, lt-ltb}
+use Rattle.std.proofs.lemmas.Bool.{eqb-true, eq-eqb, ltb-true, lt-ltb, and_parts, or_cases, or_left, or_right, and_from, false_from_ne_true, cases_lt, ne_eqb}
 use Rattle.std.proofs.lemmas.List.Sorted.{Contains-permutation, IsPermutation-reverse, IsPermutation-sym}
 use Rattle.vk_model.specs.declared.command.Cmd.{Cmd}
 use Rattle.vk_model.specs.declared.entry.Entry.{Entry}
@@ -22,25 +22,24 @@ use Rattle.vk_laws.specs.Machine.{IsIn, Task, Traffic, MayRun, IsAllowed}
 use Rattle.vk_laws.specs.Growth.{IsDue, IsEager}
 use Rattle.vk_laws.specs.Trace.{accesses}
 use Rattle.vk_laws.specs.Tasks.{task_count, node_at, by_act, traffic_of}
-use Rattle.vk_laws.specs.DefinedRuns.{is_event, piece_task, entry_task, with_step, done_by, act_happened, has_happened, MayCome, Offers, Enters, IsOver, Matches}
-use Rattle.vk_laws.proofs.NoHazard.{together, edge_before, host_in_order, unique, contains-cons, contains-tail, any_of, some_of, both, either, number_below, numbered}
-use Rattle.vk_laws.proofs.Members.{all_of, each_of, filtered, filter_has, flat_has}
-use Rattle.vk_laws.proofs.Steady.{or_first, or_second}
-use Rattle.vk_laws.proofs.Apart.{none_in, mapped_from, flat_from, range_from}
-use Rattle.vk_laws.proofs.TaskAccesses.{map_has, numbers_have}
-use Rattle.vk_laws.proofs.HazardFree.{refuted, node_of, same_task}
-use Rattle.vk_laws.proofs.TraceCaches.{one_of, node_at_self}
+use Rattle.vk_laws.specs.DefinedRuns.{is_event, piece_task, entry_task, with_step, done_by, act_happened, has_happened, MayCome, Offers, Enters, Matches, IsOver}
+use Rattle.vk_laws.proofs.TaskNodes.{node_of, same_task}
+use Rattle.vk_laws.proofs.Steady.{new_ids, live_ids}
+use Rattle.vk_laws.proofs.Members.{some_member, none_in, mapped_from, flat_from, range_from, map_has, numbers_have, all_passes, filtered, filter_has, each_of, flat_has, member_passes, contains-tail, contains-cons}
+use Rattle.vk_laws.proofs.Truths.{implied, clash, six}
+use Rattle.vk_laws.proofs.NoHazard.{number_below, numbered, edge_before, host_in_order, unique}
+use Rattle.vk_laws.proofs.TraceCaches.{node_at_self, submit_host, never_holds}
 use Rattle.vk_laws.proofs.Fresh.{closed}
 use Rattle.vk_laws.proofs.Growth.{may_run}
 use Rattle.vk_laws.proofs.PlainOrder.{Grows, old_or_newer}
 use Rattle.vk_laws.proofs.Prefixes.{is_old, old_has, same_before, same_pieces}
 use Rattle.vk_laws.proofs.Eager.{transitive, due_done, is_eager}
-use Rattle.vk_laws.proofs.Stages.{new_ids, live_ids, Placed, start_placed, later, low, next_placed, entry_node, entry_stands, entries_then, submitted, whole_past, wait_past}
+use Rattle.vk_laws.proofs.Stages.{Placed, start_placed, later, low, next_placed, entry_node, entry_stands, entries_then, submitted, whole_past, wait_past}
 
 -- ---- names
 
 names_same : (x y : Name) → IsTrue (same_name x y) → x ≡ y
-names_same x y h = join (eqb-true x.0 y.0 (both _ _ h).0) (eqb-true x.1 y.1 (both _ _ h).1)
+names_same x y h = join (eqb-true x.0 y.0 (and_parts _ _ h).0) (eqb-true x.1 y.1 (and_parts _ _ h).1)
   where
     join : x.0 ≡ y.0 → x.1 ≡ y.1 → x ≡ y
     join e f = λ i. (e i, f i)
@@ -50,21 +49,14 @@ name_itself x = rw (eq-eqb x.0 x.0 refl, eq-eqb x.1 x.1 refl) refl
 
 -- ---- what leads to a host entry that is no wait
 
-no_pair : (a : Act) (x : Entry) → IsTrue (pairs a (Hosts x)) → ⊥
-no_pair (Runs c) x h = cc
-no_pair (Hosts y) x h = cc
-no_pair (Waits s) x h = cc
-no_pair (Signals s) x h = cc
-no_pair (Depends Barrier e) x h = cc
-no_pair (Depends (SetOf v k) e) x h = cc
-no_pair (Depends (AwaitOf v k) e) x h = cc
-
-submit_hosts : (a : Act) → IsTrue (is_submit a) → IsTrue (is_host a)
-submit_hosts (Hosts x) h = refl
-submit_hosts (Runs c) h = absurd cc
-submit_hosts (Waits s) h = absurd cc
-submit_hosts (Signals s) h = absurd cc
-submit_hosts (Depends r e) h = absurd cc
+no_pair_host : (a : Act) (x : Entry) → IsTrue (pairs a (Hosts x)) → ⊥
+no_pair_host (Runs c) x h = cc
+no_pair_host (Hosts y) x h = cc
+no_pair_host (Waits s) x h = cc
+no_pair_host (Signals s) x h = cc
+no_pair_host (Depends Barrier e) x h = cc
+no_pair_host (Depends (SetOf v k) e) x h = cc
+no_pair_host (Depends (AwaitOf v k) e) x h = cc
 
 waits_none : (x : Entry) → is_host_wait x ≡ false → host_waits x ≡ []
 waits_none (entry.Wait ws) e = absurd cc
@@ -73,33 +65,29 @@ waits_none _ e = refl
 edge_to_entry : (ns : List Node) (m n : Node) (x : Entry) → n.act ≡ Hosts x → is_host_wait x ≡ false → IsTrue (edge ns m n) → IsTrue (is_host m.act)
 unfolding edge
 edge_to_entry ns m n x act plain h =
-    one_of (by_host m n) (by_stages m n) (by_signal m n) (by_all_commands m n) (pairs m.act n.act) (by_semaphore (earlier n ns) m n) (both _ _ h).1
-    (λ g. from_host (either _ _ g))
-    (λ g. absurd (no_queue (both _ _ (both _ _ (both _ _ g).0).0).0))
-    (λ g. absurd (no_queue (both _ _ (both _ _ g).0).0))
-    (λ g. absurd (no_queue (both _ _ g).0))
-    (λ g. absurd (no_pair m.act x (subst (λ (a : Act). IsTrue (pairs m.act a)) act g)))
+    six (by_host m n) (by_stages m n) (by_signal m n) (by_all_commands m n) (pairs m.act n.act) (by_semaphore (earlier n ns) m n) (and_parts _ _ h).1
+    (λ g. from_host (or_cases _ _ g))
+    (λ g. absurd (no_queue (and_parts _ _ (and_parts _ _ (and_parts _ _ g).0).0).0))
+    (λ g. absurd (no_queue (and_parts _ _ (and_parts _ _ g).0).0))
+    (λ g. absurd (no_queue (and_parts _ _ g).0))
+    (λ g. absurd (no_pair_host m.act x (subst (λ (a : Act). IsTrue (pairs m.act a)) act g)))
     (λ g. absurd (no_semaphore g))
   where
     from_host : IsTrue (is_host m.act && is_host n.act) ⊎ IsTrue (is_submit m.act && m.point.entry == n.point.entry) → IsTrue (is_host m.act)
-    from_host (inl g) = (both _ _ g).0
-    from_host (inr g) = submit_hosts m.act (both _ _ g).0
+    from_host (inl g) = (and_parts _ _ g).0
+    from_host (inr g) = submit_host m.act (and_parts _ _ g).0
 
     no_queue : IsTrue (same_queue m n) → ⊥
     no_queue g =
-        let hosts = both (not (is_host m.act) && not (is_host n.act)) (m.point.queue == n.point.queue) g in
-        let off : IsTrue (not (is_host n.act)) = (both (not (is_host m.act)) (not (is_host n.act)) hosts.0).1 in
+        let hosts = and_parts (not (is_host m.act) && not (is_host n.act)) (m.point.queue == n.point.queue) g in
+        let off : IsTrue (not (is_host n.act)) = (and_parts (not (is_host m.act)) (not (is_host n.act)) hosts.0).1 in
         let on : is_host n.act ≡ true = ap is_host act in
         cc
 
     no_semaphore : IsTrue (by_semaphore (earlier n ns) m n) → ⊥
     no_semaphore g =
         let none : waited_by n.act ≡ [] = ap waited_by act ∙ waits_none x plain in
-        go (signaled_by m.act) (rw none at g)
-      where
-        go : (o : Option (ℕ × ℕ)) → IsTrue (holds o (λ x. false)) → ⊥
-        go None h = cc
-        go (Some x) h = cc
+        never_holds (signaled_by m.act) (rw none at g)
 
 first_of : (a b c d e f : Bool) → IsTrue a → IsTrue (a || b || c || d || e || f)
 first_of true b c d e f h = refl
@@ -161,16 +149,16 @@ module _ (paths : BeforeIsPath) (joins : BeforeIsTransitive) (leads : BeforeLead
   turned {a = a} {b = b} e h = sym e ∙ h
 
   old_node : (P : Point → Type 0) (past : Past) → Grows P past all → (n : Node) → Contains (nodes all) n → n.number < length (nodes past) → Contains (nodes past) n
-  old_node P past g n c lt = is_old paths joins leads keeps all g.newer past g.whole (new_ids orders keeps t sound) (live_ids orders keeps t sound) n c lt
+  old_node P past g n c lt = is_old keeps all g.newer past g.whole n c lt
 
   node_in_all : (P : Point → Type 0) (past : Past) → Grows P past all → (n : Node) → Contains (nodes past) n → Contains (nodes all) n
-  node_in_all P past g n c = old_has paths joins leads keeps all g.newer past g.whole (new_ids orders keeps t sound) (live_ids orders keeps t sound) n c
+  node_in_all P past g n c = old_has keeps all g.newer past g.whole n c
 
   pieces_same : (P : Point → Type 0) (past : Past) → Grows P past all → (n : Node) (c : Cmd) → Contains (nodes past) n → n.act ≡ Runs c → pieces all c ≡ pieces past c
-  pieces_same P past g n c cn act = same_pieces paths joins leads keeps all g.newer past g.whole (new_ids orders keeps t sound) (live_ids orders keeps t sound) n c cn act
+  pieces_same P past g n c cn act = same_pieces all g.newer past g.whole (new_ids t sound) (live_ids t sound) n c cn act
 
   before_same : (P : Point → Type 0) (past : Past) → Grows P past all → (m n : Node) → Contains (nodes past) n → before (nodes all) m n ≡ before (nodes past) m n
-  before_same P past g m n cn = same_before paths joins leads keeps all g.newer past g.whole (new_ids orders keeps t sound) (live_ids orders keeps t sound) m n cn
+  before_same P past g m n cn = same_before keeps all g.newer past g.whole m n cn
 
   -- where a node is free in a past, the pieces before it have run
   free_done : (P : Point → Type 0) (past : Past) → Grows P past all → (done : List Name) (n : Node) → Contains (nodes past) n → IsTrue (is_free past done n)
@@ -179,17 +167,13 @@ module _ (paths : BeforeIsPath) (joins : BeforeIsTransitive) (leads : BeforeLead
       let less = leads (nodes all) m n b in
       let size = number_below (nodes past) (numbered past) n cn in
       let old = old_node P past g m cm (omega (arith, less, size)) in
-      let runs = all_of (λ m. not (before (nodes past) m n) || list_all (is_done done) (node_pieces past m m.act)) (nodes past) m free old in
+      let runs = all_passes (λ m. not (before (nodes past) m n) || list_all (is_done done) (node_pieces past m m.act)) (nodes past) m free old in
       let all_run = implied (before (nodes past) m n) (list_all (is_done done) (node_pieces past m m.act)) (turned (before_same P past g m n cn) b) runs in
       let runs_each = subst (λ (a : Act). IsTrue (list_all (is_done done) (node_pieces past m a))) act all_run in
       let count : length (pieces all c) ≡ length (pieces past c) = ap (λ (ps : List (List Move)). length ps) (pieces_same P past g m c old act) in
       let here : Contains (node_pieces past m (Runs c)) (m.number, 0 + j) = map_has (λ k. (m.number, k)) (below (length (pieces past c))) (0 + j) (numbers_have 0 (length (pieces past c)) j (omega (arith, lt, count))) in
       subst (λ (k : ℕ). IsTrue (is_done done (m.number, k))) (let same : 0 + j ≡ j = omega arith in same)
-      (all_of (is_done done) (node_pieces past m (Runs c)) (m.number, 0 + j) runs_each here)
-    where
-      implied : (a b : Bool) → IsTrue a → IsTrue (not a || b) → IsTrue b
-      implied true b h g = g
-      implied false b h g = absurd cc
+      (all_passes (is_done done) (node_pieces past m (Runs c)) (m.number, 0 + j) runs_each here)
 
   -- ---- tasks that stand as a stage says
 
@@ -269,7 +253,7 @@ module _ (paths : BeforeIsPath) (joins : BeforeIsTransitive) (leads : BeforeLead
 
     offered_of : (x : Name) → IsTrue (is_done (offered s.front.past s.done) x) → Offered x
     offered_of x h =
-        let y = some_of (same_name x) (offered s.front.past s.done) h in
+        let y = some_member (same_name x) (offered s.front.past s.done) h in
         let n = flat_from (λ n. if is_free s.front.past s.done n then filter (λ x. not (is_done s.done x)) (node_pieces s.front.past n n.act) else []) (reverse (nodes s.front.past)) y.0 y.1 in
         by_free n.0 (Contains-permutation (reverse (nodes s.front.past)) (nodes s.front.past) n.0 (IsPermutation-sym (nodes s.front.past) (reverse (nodes s.front.past)) (IsPermutation-reverse (nodes s.front.past))) n.1)
         y.0 (names_same x y.0 y.2) (is_free s.front.past s.done n.0) refl n.2
@@ -314,10 +298,6 @@ module _ (paths : BeforeIsPath) (joins : BeforeIsTransitive) (leads : BeforeLead
         may_run tr (is_event all) i.tasks (piece_task x) (transitive paths joins leads all) i.eager there
         (λ h. clash (is_done s.done x) (turned (happened_is s (piece_task x) o.node at (Runs o.command) o.act) ((i.happened (piece_task x) there (plain_is (piece_task x) o.node at (Runs o.command) o.act refl)).0 h)) o.fresh)
         (due (piece_task x) o.node at (omega (arith, small)) (free_in _ s.front.past grows o.node o.stands o.free))
-      where
-        clash : (b : Bool) → IsTrue b → IsTrue (not b) → ⊥
-        clash true h g = cc
-        clash false h g = cc
 
     -- ---- the entry that comes next
 
@@ -375,13 +355,9 @@ module _ (paths : BeforeIsPath) (joins : BeforeIsTransitive) (leads : BeforeLead
       entry_due : IsTrue (may_go s x) → (b : Bool) → is_host_wait x ≡ b → IsDue tr (is_event all) i.tasks (entry_task s)
       entry_due may false plain = due (entry_task s) here here_at (omega arith) (by_path plain)
       entry_due may true waits =
-          let all_free = only (is_host_wait x) _ waits may in
-          let free = only (here.point.entry == s.count) (is_free (past_with s x) s.done here) (eq-eqb s.count s.count refl) (all_of (λ n. not (n.point.entry == s.count) || is_free (past_with s x) s.done n) (nodes (past_with s x)) here all_free here_stands) in
+          let all_free = implied (is_host_wait x) _ waits may in
+          let free = implied (here.point.entry == s.count) (is_free (past_with s x) s.done here) (eq-eqb s.count s.count refl) (all_passes (λ n. not (n.point.entry == s.count) || is_free (past_with s x) s.done n) (nodes (past_with s x)) here all_free here_stands) in
           due (entry_task s) here here_at (omega arith) (free_in _ (past_with s x) after_grows here here_stands free)
-        where
-          only : (a b : Bool) → a ≡ true → IsTrue (not a || b) → IsTrue b
-          only true b e h = h
-          only false b e h = absurd cc
 
       entry_may : IsTrue (may_go s x) → MayRun tr i.tasks (entry_task s)
       entry_may may = may_run tr (is_event all) i.tasks (entry_task s) (transitive paths joins leads all) i.eager here_there
@@ -439,11 +415,11 @@ module _ (paths : BeforeIsPath) (joins : BeforeIsTransitive) (leads : BeforeLead
 
       forward : (u : Task) → IsTrue (tr.has u) → is_event all u ≡ false → IsIn u (piece_task x ∷ i.tasks) → IsTrue (has_happened all (ran s x) u)
       forward u there plain (inl e) =
-          subst (λ (v : Task). IsTrue (has_happened all (ran s x) v)) (sym e) (turned (sym (happened_is (ran s x) (piece_task x) o.node at (Runs o.command) o.act)) (or_first (same_name x x) (is_done s.done x) (name_itself x)))
+          subst (λ (v : Task). IsTrue (has_happened all (ran s x) v)) (sym e) (turned (sym (happened_is (ran s x) (piece_task x) o.node at (Runs o.command) o.act)) (or_left (same_name x x) (is_done s.done x) (name_itself x)))
       forward u there plain (inr h) = go (kind u there plain) ((i.happened u there plain).0 h)
         where
           go : Kind u → IsTrue (has_happened all s u) → IsTrue (has_happened all (ran s x) u)
-          go (piece n c at act lt) h = turned (sym (happened_is (ran s x) u n at (Runs c) act)) (or_second (same_name (u.node, u.part) x) (is_done s.done (u.node, u.part)) (turned (happened_is s u n at (Runs c) act) h))
+          go (piece n c at act lt) h = turned (sym (happened_is (ran s x) u n at (Runs c) act)) (or_right (same_name (u.node, u.part) x) (is_done s.done (u.node, u.part)) (turned (happened_is s u n at (Runs c) act) h))
           go (hosts n y at act first) h = turned (sym (happened_is (ran s x) u n at (Hosts y) act)) (turned (happened_is s u n at (Hosts y) act) h)
 
       backward : (u : Task) → IsTrue (tr.has u) → is_event all u ≡ false → IsTrue (has_happened all (ran s x) u) → IsIn u (piece_task x ∷ i.tasks)
@@ -454,7 +430,7 @@ module _ (paths : BeforeIsPath) (joins : BeforeIsTransitive) (leads : BeforeLead
               ⊎_elim
               (λ same. let e = names_same (u.node, u.part) x same in inl (same_task u (piece_task x) (ap (λ (z : Name). z.0) e) (ap (λ (z : Name). z.1) e)))
               (λ ran. inr (piece_in s did i u n c there at act ran))
-              (either (same_name (u.node, u.part) x) (is_done s.done (u.node, u.part)) (turned (happened_is (ran s x) u n at (Runs c) act) h))
+              (or_cases (same_name (u.node, u.part) x) (is_done s.done (u.node, u.part)) (turned (happened_is (ran s x) u n at (Runs c) act) h))
           go (hosts n y at act first) = inr ((i.happened u there plain).1 (turned (sym (happened_is s u n at (Hosts y) act)) (turned (happened_is (ran s x) u n at (Hosts y) act) h)))
 
   copy_step : (s : Stage) (did : List Task) (k : ℕ) → Stands s did → Stands (record s { copied = k ∷ s.copied }) did
@@ -482,7 +458,7 @@ module _ (paths : BeforeIsPath) (joins : BeforeIsTransitive) (leads : BeforeLead
         subst (λ (a : Act). Contains (node_pieces s.front.past n a) (n.number, j)) (sym act) (subst (λ (k : ℕ). Contains (node_pieces s.front.past n (Runs c)) (n.number, k)) (let same : 0 + j ≡ j = omega arith in same) among) in
         let kept = filter_has (λ x. not (is_done s.done x)) (node_pieces s.front.past n n.act) (n.number, j) its (ap not fresh) in
         let here : Contains (each n) (n.number, j) = subst (λ (b : Bool). Contains (if b then filter (λ x. not (is_done s.done x)) (node_pieces s.front.past n n.act) else []) (n.number, j)) (sym free) kept in
-        any_of (same_name (n.number, j)) (offered s.front.past s.done) (n.number, j)
+        member_passes (same_name (n.number, j)) (offered s.front.past s.done) (n.number, j)
         (flat_has each (reverse (nodes s.front.past)) n (n.number, j) (Contains-permutation (nodes s.front.past) (reverse (nodes s.front.past)) n (IsPermutation-reverse (nodes s.front.past)) cn) here)
         (name_itself (n.number, j))
 
@@ -520,9 +496,9 @@ module _ (paths : BeforeIsPath) (joins : BeforeIsTransitive) (leads : BeforeLead
     submit_first : (m n : Node) → Contains (nodes all) m → Contains (nodes all) n → IsTrue (is_submit m.act) → m.point.entry ≡ n.point.entry → m.number < n.number → IsTrue (before (nodes all) m n)
     unfolding edge
     submit_first m n cm cn is same lt =
-        edge_before paths all m n cm cn (together (nat_lt m.number n.number) _ (lt-ltb m.number n.number lt)
+        edge_before paths all m n cm cn (and_from (nat_lt m.number n.number) _ (lt-ltb m.number n.number lt)
         (first_of (by_host m n) (by_stages m n) (by_signal m n) (by_all_commands m n) (pairs m.act n.act) (by_semaphore (earlier n (nodes all)) m n)
-        (or_second (is_host m.act && is_host n.act) (is_submit m.act && m.point.entry == n.point.entry) (together (is_submit m.act) (m.point.entry == n.point.entry) is (eq-eqb m.point.entry n.point.entry same)))))
+        (or_right (is_host m.act && is_host n.act) (is_submit m.act && m.point.entry == n.point.entry) (and_from (is_submit m.act) (m.point.entry == n.point.entry) is (eq-eqb m.point.entry n.point.entry same)))))
 
     piece_comes : (u : Task) (n : Node) (c : Cmd) → node_at all u.node ≡ Some n → n.act ≡ Runs c → u.part < length (pieces all c) → MayRun tr i.tasks u → MayCome s u
     piece_comes u n c at act lt may =
@@ -534,7 +510,7 @@ module _ (paths : BeforeIsPath) (joins : BeforeIsTransitive) (leads : BeforeLead
         let free = free_before _ s.front.past (grows s did i) u n at old may in
         let itself : u ≡ piece_task (n.number, u.part) = same_task u (piece_task (n.number, u.part)) (sym found.1) refl in
         subst (λ (v : Task). MayCome s v) (sym itself)
-        (Offers (n.number, u.part) (is_offered n c u.part old act (omega (arith, lt, count)) free (refuted (is_done s.done (n.number, u.part)) (λ h. may.fresh (piece_in s did i u n c may.there at act (subst (λ (k : ℕ). IsTrue (is_done s.done (k, u.part))) found.1 h))))))
+        (Offers (n.number, u.part) (is_offered n c u.part old act (omega (arith, lt, count)) free (false_from_ne_true (is_done s.done (n.number, u.part)) (λ h. may.fresh (piece_in s did i u n c may.there at act (subst (λ (k : ℕ). IsTrue (is_done s.done (k, u.part))) found.1 h))))))
       where
         by_submit : (m : Node) → Contains (nodes all) m → IsTrue (is_submit m.act) → IsTrue (before (nodes all) m n) → m.point.entry ≡ n.point.entry → (a : Act) → m.act ≡ a → IsTrue (is_submit a) → n.point.entry < s.count
         by_submit m cm is b same (Hosts x) act is_it =
@@ -573,12 +549,12 @@ module _ (paths : BeforeIsPath) (joins : BeforeIsTransitive) (leads : BeforeLead
             (cases_lt n.number (length (nodes s.front.past)))
 
         goes : (y : Entry) (ys : List Entry) (left : s.left ≡ y ∷ ys) → (b : Bool) → is_host_wait y ≡ b → IsTrue (may_go s y)
-        goes y ys left false e = or_first (not (is_host_wait y)) _ (ap not e)
-        goes y ys left true e = or_second (not (is_host_wait y)) _ (each_of (λ m. not (m.point.entry == s.count) || is_free (past_with s y) s.done m) (nodes (past_with s y)) (λ m cm.
+        goes y ys left false e = or_left (not (is_host_wait y)) _ (ap not e)
+        goes y ys left true e = or_right (not (is_host_wait y)) _ (each_of (λ m. not (m.point.entry == s.count) || is_free (past_with s y) s.done m) (nodes (past_with s y)) (λ m cm.
             ⊎_elim
-            (λ same. or_second (not (m.point.entry == s.count)) _ (subst (λ (k : Node). IsTrue (is_free (past_with s y) s.done k)) same
+            (λ same. or_right (not (m.point.entry == s.count)) _ (subst (λ (k : Node). IsTrue (is_free (past_with s y) s.done k)) same
             (free_before _ (past_with s y) (after_grows s did i y ys left) u (here s did i y ys left) (subst (λ (k : Node). node_at all u.node ≡ Some k) (its_own y ys left) at) (here_stands s did i y ys left) may)))
-            (λ old. or_first (not (m.point.entry == s.count)) _ (ap not (ne_eqb m.point.entry s.count (λ same. let lt = low orders keeps t sound s i.placed m old in omega (arith, lt, same)))))
+            (λ old. or_left (not (m.point.entry == s.count)) _ (ap not (ne_eqb m.point.entry s.count (λ same. let lt = low orders keeps t sound s i.placed m old in omega (arith, lt, same)))))
             (contains-cons (here s did i y ys left) (nodes s.front.past) m (subst (λ (l : Past). Contains (nodes l) m) (wait_past orders keeps t sound s i.placed y ys left e) cm))))
 
         go : (left : List Entry) → s.left ≡ left → MayCome s u
@@ -666,8 +642,8 @@ module _ (paths : BeforeIsPath) (joins : BeforeIsTransitive) (leads : BeforeLead
 
     -- then the next entry may be applied, so there is none
     entry_goes : (x : Entry) (xs : List Entry) → s.left ≡ x ∷ xs → (b : Bool) → is_host_wait x ≡ b → IsTrue (may_go s x)
-    entry_goes x xs left false e = or_first (not (is_host_wait x)) _ (ap not e)
-    entry_goes x xs left true e = or_second (not (is_host_wait x)) _ (each_of (λ n. not (n.point.entry == s.count) || is_free (past_with s x) s.done n) (nodes (past_with s x)) (λ n cn. or_second (not (n.point.entry == s.count)) _ (free n)))
+    entry_goes x xs left false e = or_left (not (is_host_wait x)) _ (ap not e)
+    entry_goes x xs left true e = or_right (not (is_host_wait x)) _ (each_of (λ n. not (n.point.entry == s.count) || is_free (past_with s x) s.done n) (nodes (past_with s x)) (λ n cn. or_right (not (n.point.entry == s.count)) _ (free n)))
       where
         ran_there : (m : Node) → (here s did i x xs left ≡ m) ⊎ Contains (nodes past) m → IsTrue (list_all (is_done s.done) (node_pieces (past_with s x) m m.act))
         ran_there m (inl same) = subst (λ (n : Node). IsTrue (list_all (is_done s.done) (node_pieces (past_with s x) n n.act))) same refl
@@ -678,7 +654,7 @@ module _ (paths : BeforeIsPath) (joins : BeforeIsTransitive) (leads : BeforeLead
 
         free : (n : Node) → IsTrue (is_free (past_with s x) s.done n)
         free n = each_of (λ m. not (before (nodes (past_with s x)) m n) || list_all (is_done s.done) (node_pieces (past_with s x) m m.act)) (nodes (past_with s x)) (λ m cm.
-            or_second (not (before (nodes (past_with s x)) m n)) _ (ran_there m (contains-cons (here s did i x xs left) (nodes past) m (subst (λ (l : Past). Contains (nodes l) m) (wait_past orders keeps t sound s i.placed x xs left e) cm))))
+            or_right (not (before (nodes (past_with s x)) m n)) _ (ran_there m (contains-cons (here s did i x xs left) (nodes past) m (subst (λ (l : Past). Contains (nodes l) m) (wait_past orders keeps t sound s i.placed x xs left e) cm))))
 
     none_left : s.left ≡ []
     none_left = go s.left refl

@@ -1,7 +1,7 @@
 -- The premises of the law where invalidations forget what was not flushed.
 use Rattle.std.proofs.Common.{◌≡◌, ◌⊎◌, inl, inr, ⊎_elim, ℕ, suc, ◌<◌, ◌≤◌, List, ◌∷◌, Bool, true, false, ◌&&◌, not, IsTrue, Option, Some, None, refl, ap, sym, ◌∙◌, subst, arith}
 use Rattle.std.specs.Prelude.{Contains, ◌==◌, nat_lt}
-use Rattle.std.proofs.lemmas.Bool.{eqb-true}
+use Rattle.std.proofs.lemmas.Bool.{eqb-true, and_parts}
 use Rattle.vk_model.specs.declared.entry.Entry.{Entry}
 use Rattle.vk_model.specs.declared.entry.Entry.TheVariants as entry
 use Rattle.vk_model.specs.declared.command.Cmd.{Cmd}
@@ -24,16 +24,18 @@ use Rattle.vk_laws.specs.Tasks.{part_write, part_read, task_count, node_at, by_a
 use Rattle.vk_laws.specs.TraceBytes.{before_node, value_before}
 use Rattle.vk_laws.specs.TraceCaches.{caching_of}
 use Rattle.vk_laws.specs.Discards.{entry_forgets, forgets, or_anything, with_discards}
-use Rattle.vk_laws.proofs.NoHazard.{both}
+use Rattle.vk_laws.proofs.TaskNodes.{node_of, same_task}
+use Rattle.vk_laws.proofs.Steady.{new_ids, live_ids}
 use Rattle.vk_laws.proofs.Points.{Stands, stands}
 use Rattle.vk_laws.proofs.TaskAccesses.{Accessor, writer, reader, is_in_of}
 use Rattle.vk_laws.proofs.Ordered.{judged_has, write_sees}
-use Rattle.vk_laws.proofs.HazardFree.{read_act, write_act, node_of, host_put, same_task, second, hazard_free}
+use Rattle.vk_laws.proofs.HazardFree.{read_act, write_act, host_put, hazard_free}
 use Rattle.vk_laws.proofs.ModelBytes.{settles, is_model}
 use Rattle.vk_laws.proofs.TraceCaches.{node_at_self, seen_task, available_task, available_later}
-use Rattle.vk_laws.proofs.CacheFree.{same_agent, same_cached, cached_then, new_ids, live_ids, cache_free}
+use Rattle.vk_laws.proofs.CacheFree.{same_agent, same_cached, cached_then, cache_free}
 use Rattle.vk_laws.proofs.Submits.{submits_there}
 use Rattle.vk_laws.proofs.Forgotten.{Given, forget, forgets_of, deed, ends, w, w_all, w_earlier, w_writes, same_one, kept_then, seen_after, before_write, before_it}
+use Rattle.vk_model.specs.declared.command.Length.{Length}
 
 as_command : (a : Act) → IsTrue (accesses a) → IsTrue (is_host a) ⊎ ((c : Cmd) × (a ≡ Runs c))
 as_command (Runs c) h = inr (c, refl)
@@ -55,7 +57,7 @@ module _ (all : Past) where
     pub lost : IsTrue (entry_forgets (before_node all node.number) entry c)
 
   forgot_of : (u : Task) (c : Byte) → IsTrue (u.part == 0 && by_act false (λ a. forgets all u.node a c) (node_at all u.node)) → Forgot u c
-  forgot_of u c h = go (node_at all u.node) refl (eqb-true u.part 0 (both _ _ h).0) (both _ _ h).1
+  forgot_of u c h = go (node_at all u.node) refl (eqb-true u.part 0 (and_parts _ _ h).0) (and_parts _ _ h).1
     where
       by_entry : (n : Node) → node_at all u.node ≡ Some n → u.part ≡ 0 → (a : Act) → n.act ≡ a → IsTrue (forgets all u.node a c) → Forgot u c
       by_entry n e only (Hosts x) f h =
@@ -99,7 +101,7 @@ module _ (all : Past) where
       let act : a.0.act ≡ Hosts f.entry = ap (λ (n : Node). n.act) (sym one) ∙ f.act in
       let l = forgets_of (before_node all f.node.number) f.entry c f.lost in
       let r' : IsTrue (part_read all (Hosts (entry.Invalidate l.buffer l.offset l.size)) u.part c) = subst (λ (b : Act). IsTrue (part_read all b u.part c)) (act ∙ ap Hosts l.is) a.2 in
-      not_false (second (u.part == 0) (is_in c (host_reads (entry.Invalidate l.buffer l.offset l.size))) r')
+      not_false (and_parts (u.part == 0) (is_in c (host_reads (entry.Invalidate l.buffer l.offset l.size))) r').1
     where
       not_false : IsTrue false → ⊥
       not_false h = cc
@@ -214,7 +216,7 @@ module _ (t : List Entry) (given : Given t) where
       gone s.past l.buffer l.offset l.size l.kept_buffer l.reached l.marked
       (subst (λ (x : Entry). (after_host s.past x (world s.past)).value c ≡ Some v) l.is (subst (λ (d : Deed). (after_deed s.past s.at.queue d (world s.past)).value c ≡ Some v) d after))
     where
-      gone : (past : Past) (b o : ℕ) (n : Rattle.vk_model.specs.declared.command.Length.Length) → is_cached past b ≡ true → IsTrue (reaches b o n c) → IsTrue ((world past).marked c) → (after_host past (entry.Invalidate b o n) (world past)).value c ≡ Some v → ⊥
+      gone : (past : Past) (b o : ℕ) (n : Length) → is_cached past b ≡ true → IsTrue (reaches b o n c) → IsTrue ((world past).marked c) → (after_host past (entry.Invalidate b o n) (world past)).value c ≡ Some v → ⊥
       gone past b o n cached r m h = let e : None ≡ Some v = rw (cached, r, m) at h in cc
 
   pub discards_model : IsModel (with_discards all) (value_before all)

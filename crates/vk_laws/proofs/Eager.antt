@@ -1,8 +1,8 @@
 -- Events that are due are done after any tasks, one node after another.
-use Rattle.std.proofs.Common.{◌≡◌, inl, inr, ℕ, zero, suc, ◌<◌, List, ◌∷◌, length, Bool, true, false, ◌&&◌, ◌||◌, not, IsTrue, Option, Some, None, refl, subst, arith}
+use Rattle.std.proofs.Common.{◌≡◌, inl, inr, ℕ, zero, suc, ◌<◌, List, ◌∷◌, length, Bool, true, false, ◌&&◌, not, IsTrue, Option, Some, None, refl, subst, arith}
 use Rattle.std.specs.Prelude.{nat_lt}
 use Rattle.std.specs.List.{filter}
-use Rattle.std.proofs.lemmas.Bool.{cases_lt, ltb-true}
+use Rattle.std.proofs.lemmas.Bool.{cases_lt, ltb-true, and_parts, and_from}
 use Rattle.vk_model.specs.Words.{holds}
 use Rattle.vk_model.specs.Point.{Past}
 use Rattle.vk_model.specs.Node.{Node, Act, Hosts, Waits, Signals, Runs, Depends, nodes}
@@ -13,12 +13,11 @@ use Rattle.vk_laws.specs.Growth.{IsTransitive, IsDue, IsEager}
 use Rattle.vk_laws.specs.Trace.{accesses}
 use Rattle.vk_laws.specs.Tasks.{task_count, node_at, by_act, traffic_of}
 use Rattle.vk_laws.specs.DefinedRuns.{is_event}
-use Rattle.vk_laws.proofs.NoHazard.{both, together}
-use Rattle.vk_laws.proofs.Members.{each_of}
-use Rattle.vk_laws.proofs.HazardFree.{node_of, same_task}
-use Rattle.vk_laws.proofs.TraceCaches.{not_both}
+use Rattle.vk_laws.proofs.TaskNodes.{node_of, same_task}
+use Rattle.vk_laws.proofs.Truths.{implies, not_both}
 use Rattle.vk_laws.proofs.Prefixes.{there_below, leads_on}
 use Rattle.vk_laws.proofs.Runs.{is_done, may_run, may_run_holds, in_order, found_in, in_found}
+use Rattle.vk_laws.proofs.Members.{each_of}
 
 module _ (paths : BeforeIsPath) (joins : BeforeIsTransitive) (leads : BeforeLeadsOn) (all : Past) where
   abbrev tr : Traffic
@@ -58,16 +57,12 @@ module _ (paths : BeforeIsPath) (joins : BeforeIsTransitive) (leads : BeforeLead
   -- what may come next passes the test
   may_run_test : (done : List Task) (t : Task) → MayRun tr done t → IsTrue (may_run leads all size done t)
   may_run_test done t may =
-      together _ _ (together _ _ may.there (absent (is_done leads all t done) refl))
-      (each_of _ (in_order leads all size) (λ s c. implies (tr.has s && tr.before s.node t.node) (is_done leads all s done) (λ h. in_found leads all s done (may.after s (both _ _ h)))))
+      and_from _ _ (and_from _ _ may.there (absent (is_done leads all t done) refl))
+      (each_of _ (in_order leads all size) (λ s c. implies (tr.has s && tr.before s.node t.node) (is_done leads all s done) (λ h. in_found leads all s done (may.after s (and_parts _ _ h)))))
     where
       absent : (b : Bool) → is_done leads all t done ≡ b → IsTrue (not b)
       absent true e = absurd (may.fresh (found_in leads all t done e))
       absent false e = refl
-
-      implies : (a b : Bool) → (IsTrue a → IsTrue b) → IsTrue (not a || b)
-      implies true b f = f refl
-      implies false b f = refl
 
   -- the events below a node that are due have been done too
   pub record Grown (k : ℕ) (done : List Task) : Type 0 where
@@ -84,15 +79,15 @@ module _ (paths : BeforeIsPath) (joins : BeforeIsTransitive) (leads : BeforeLead
     where
       go : (s : Task) → Precedes tr s u → (b : Bool) → is_event all s ≡ b → IsIn s g.tasks
       go s p false e = due s e p
-      go s p true e = g.eager s e p.0 (let lt = leads_on paths joins leads all s.node u.node p.1 in omega (arith, lt, at)) (λ r piece q. due r piece (q.0, transitive r.node s.node u.node q.1 p.1))
+      go s p true e = g.eager s e p.0 (let lt = leads_on all s.node u.node p.1 in omega (arith, lt, at)) (λ r piece q. due r piece (q.0, transitive r.node s.node u.node q.1 p.1))
 
   with_event : (k : ℕ) (done : List Task) (g : Grown k done) (b : Bool) → (is_event all (event k) && may_run leads all size g.tasks (event k)) ≡ b → Grown (suc k) done
   with_event k done g true test = record {
     tasks = event k ∷ g.tasks;
-    allowed = (may_run_holds leads all size g.tasks (event k) (omega arith) (both _ _ test).1, g.allowed);
+    allowed = (may_run_holds leads all size g.tasks (event k) (omega arith) (and_parts _ _ test).1, g.allowed);
     kept = λ u h. inr (g.kept u h);
     added = λ u plain h. g.added u plain (older u plain h);
-    same = let is : is_event all (event k) ≡ true = (both _ _ test).0 in rw is g.same;
+    same = let is : is_event all (event k) ≡ true = (and_parts _ _ test).0 in rw is g.same;
     eager = λ u e there lt due. elim (cases_lt u.node k) [
       | inl less ↦ inr (g.eager u e there less (λ s plain p. older s plain (due s plain p)))
       | inr le ↦ inl (same_task u (event k) (let same : u.node ≡ k = omega (arith, lt, le) in same) (event_part u e there))
@@ -100,7 +95,7 @@ module _ (paths : BeforeIsPath) (joins : BeforeIsTransitive) (leads : BeforeLead
   }
     where
       older : (u : Task) → is_event all u ≡ false → IsIn u (event k ∷ g.tasks) → IsIn u g.tasks
-      older u plain (inl e) = absurd (not_both (is_event all (event k)) (both _ _ test).0 (subst (λ (t : Task). is_event all t ≡ false) e plain))
+      older u plain (inl e) = absurd (not_both (is_event all (event k)) (and_parts _ _ test).0 (subst (λ (t : Task). is_event all t ≡ false) e plain))
       older u plain (inr h) = h
   with_event k done g false test = record {
     tasks = g.tasks;
@@ -119,7 +114,7 @@ module _ (paths : BeforeIsPath) (joins : BeforeIsTransitive) (leads : BeforeLead
       here u e there at due false found =
           let may = due_event k done g u at there due (λ h. not_both (is_done leads all u g.tasks) (in_found leads all u g.tasks h) found) in
           let same : u ≡ event k = same_task u (event k) at (event_part u e there) in
-          let passes = subst (λ (t : Task). IsTrue (is_event all t && may_run leads all size g.tasks t)) same (together _ _ e (may_run_test g.tasks u may)) in
+          let passes = subst (λ (t : Task). IsTrue (is_event all t && may_run leads all size g.tasks t)) same (and_from _ _ e (may_run_test g.tasks u may)) in
           absurd (not_both _ passes test)
 
   grown : (k : ℕ) (done : List Task) → IsAllowed tr done → Grown k done
@@ -137,4 +132,4 @@ module _ (paths : BeforeIsPath) (joins : BeforeIsTransitive) (leads : BeforeLead
   due_done done ok = grown size done ok
 
   pub is_eager : (done : List Task) (g : Grown size done) → IsEager tr (is_event all) g.tasks
-  is_eager done g u e there due = g.eager u e there (there_below paths joins leads all u.node (λ a. nat_lt u.part (task_count all a)) there) due
+  is_eager done g u e there due = g.eager u e there (there_below all u.node (λ a. nat_lt u.part (task_count all a)) there) due

@@ -8,6 +8,7 @@ use Rattle.vk_laws.specs.Machine.{IsIn, Task, Put, Puts, Writes, Reads, HazardFr
 use Rattle.vk_laws.specs.Caches.{Clean, Dirty, Cell, Touched, Dropped, WrittenBack, Loaded, CellRan, CacheFree, Seen, Reached, Start, Touch, Run}
 use Rattle.vk_laws.specs.Commands.{IsCut}
 use Rattle.vk_laws.specs.Example.{task, writes, reads, first_part, traffic, caching, effects, holding, with_original, when_filled, when_copied, MeetsPremises}
+use Rattle.vk_laws.proofs.TaskNodes.{same_task}
 use Rattle.vk_laws.proofs.Commands.{is_model}
 
 -- ---- who writes and reads what
@@ -38,9 +39,6 @@ part_of_write n (suc k) c x e = absurd cc
 part_of_read : (n k : ℕ) (c : Byte) → IsTrue (first_part false (reads n c) k) → (k ≡ 0) × IsTrue (reads n c)
 part_of_read n zero c h = (refl, h)
 part_of_read n (suc k) c h = absurd cc
-
-same_task : (a b k l : ℕ) → a ≡ b → k ≡ l → (let t : Task = record { node = a; part = k } in t) ≡ record { node = b; part = l }
-same_task a b k l e f = λ i. record { node = e i; part = f i }
 
 written_by : (t : Task) (c : Byte) → Writes traffic t c → (t.part ≡ 0) × (t.node ≡ home c)
 written_by t c w = let p = part_of_write t.node t.part c w.0 w.1 in (p.0, writer t.node c w.0 p.1)
@@ -73,7 +71,7 @@ hazard_free = record {
       (λ ww. let v = written_by s c ww.0 in let w = written_by t c ww.1 in let z : s.node ≡ t.node = cc in absurd (omega arith)) h)
       meet;
   apart = λ s t c same w r. let v = written_by s c w in let u = read_by t c r in let z : t.node ≡ 0 = cc in omega arith;
-  single = λ s t c same w w'. same_task s.node t.node s.part t.part same (let v = written_by s c w in let u = written_by t c w' in cc);
+  single = λ s t c same w w'. same_task s t same (let v = written_by s c w in let u = written_by t c w' in cc);
   source_read = copies_what;
 }
 

@@ -1,7 +1,9 @@
 -- What an invalidation forgets was written before it and not flushed in between, so all accesses are in order with it.
-use Rattle.std.proofs.Common.{◌≡◌, inl, inr, ⊎_elim, ℕ, suc, ◌<◌, ◌≤◌, List, [], ◌∷◌, ◌++◌, length, Bool, true, false, ◌&&◌, ◌||◌, not, IsTrue, None, refl, ap, sym, ◌∙◌, subst, arith, eq-or-lt_of_le}
+use Rattle.std.proofs.Common.{◌≡◌, inl, inr, ⊎_elim, ℕ, suc, ◌<◌, ◌≤◌, List, [], ◌∷◌, ◌++◌, length, Bool, true, ◌&&◌, ◌||◌, not, IsTrue, None, refl, ap, sym, ◌∙◌, subst, arith, eq-or-lt_of_le}
 use Rattle.std.specs.Prelude.{Contains, ◌==◌}
-use Rattle.std.proofs.lemmas.Bool.{eqb-true, cases_lt}
+use Rattle.std.proofs.lemmas.Bool.{eqb-true, cases_lt, or_right, and_parts, and_from}
+use Rattle.std.proofs.lemmas.List.{append_assoc}
+use Rattle.std.specs.List.{list_any}
 use Rattle.vk_model.specs.declared.entry.Entry.{Entry}
 use Rattle.vk_model.specs.declared.entry.Entry.TheVariants as entry
 use Rattle.vk_model.specs.declared.command.Cmd.{Cmd}
@@ -13,23 +15,26 @@ use Rattle.vk_model.specs.Order.{plain_order}
 use Rattle.vk_model.specs.Effect.{reaches, in_atoms, world}
 use Rattle.vk_model.specs.Node.{Node, Act, Hosts, Runs, nodes, acts, with_acts, same_node}
 use Rattle.vk_model.specs.Edge.{edge, is_host, is_submit}
-use Rattle.vk_model.specs.Before.{before, IsNumbered}
+use Rattle.vk_model.specs.Before.{before}
 use Rattle.vk_model.specs.Seen.{Access, Read, Write, command_mask, seen, available_by, visible_by, receives, flushes, is_wait}
 use Rattle.vk_model.specs.Access.{reads, writes}
 use Rattle.vk_model.specs.Rules.{first_fault}
 use Rattle.vk_model.specs.Fault.{Comes, newest, older, IsSound}
-use Rattle.vk_model.specs.Laws.{BeforeIsPath, BeforeIsTransitive, BeforeLeadsOn, GrowthKeeps, PiecesAreMoves, PiecesWriteApart}
+use Rattle.vk_model.specs.Laws.{BeforeIsPath, BeforeIsTransitive, GrowthKeeps, PiecesAreMoves, PiecesWriteApart}
 use Rattle.vk_laws.specs.Trace.{accesses, AccessesInOrder, NoHazardLaw, SeenIsBefore, HostInOrder, CommandsStay}
 use Rattle.vk_laws.specs.Discards.{entry_forgets}
 use Rattle.vk_laws.specs.TraceBytes.{before_node}
-use Rattle.vk_laws.proofs.NoHazard.{contains-head, number_below, some_of, any_of, both, together, unique, numbered, edge_before, Reaches, reaches_join, or_before}
-use Rattle.vk_laws.proofs.Steady.{comes_here}
-use Rattle.vk_laws.proofs.Points.{Stands, stands, older_node}
-use Rattle.vk_laws.proofs.TaskAccesses.{host_writes_it, right_has, is_in_of}
-use Rattle.vk_laws.proofs.Ordered.{join_again, judged_has, read_sees, write_sees}
+use Rattle.vk_laws.proofs.TraceCaches.{before_number}
+use Rattle.vk_laws.proofs.Prefixes.{old_has, is_old}
+use Rattle.vk_laws.proofs.Members.{contains-head, member_passes, some_member}
+use Rattle.vk_laws.proofs.Truths.{not_both}
+use Rattle.vk_laws.proofs.NoHazard.{number_below, unique, numbered, edge_before, reaches_join, or_before, before_reaches}
+use Rattle.vk_laws.proofs.Steady.{new_ids, live_ids}
+use Rattle.vk_laws.proofs.Points.{Stands, stands, comes_at}
+use Rattle.vk_laws.proofs.TaskAccesses.{host_writes_it, is_in_of}
+use Rattle.vk_laws.proofs.Ordered.{judged_has, read_sees, write_sees}
 use Rattle.vk_laws.proofs.ModelBytes.{host_deed, more_nodes, alone, at_node}
-use Rattle.vk_laws.proofs.CacheFree.{same_cached, cached_then, new_ids, live_ids}
-use Rattle.vk_laws.proofs.TraceCaches.{not_both}
+use Rattle.vk_laws.proofs.CacheFree.{same_cached, cached_then}
 use Rattle.vk_laws.proofs.Marks.{MarkedBy, marked_by}
 
 -- ---- entries that flush and forget
@@ -39,7 +44,7 @@ flush_of (Hosts (entry.Flush b o n)) c h = (b, o, n, refl, h)
 flush_of _ c h = absurd cc
 
 reached_buffer : (b o : ℕ) (n : Length) (c : Byte) → IsTrue (reaches b o n c) → resource_at c ≡ b
-reached_buffer b o n (in_buffer d k) h = sym (eqb-true b d (both (b == d) (in_atoms o n k) h).0)
+reached_buffer b o n (in_buffer d k) h = sym (eqb-true b d (and_parts (b == d) (in_atoms o n k) h).0)
 reached_buffer b o n (in_image i l m x y p) h = absurd cc
 
 pub record Forgets (past : Past) (x : Entry) (c : Byte) : Type 0 where
@@ -54,8 +59,8 @@ pub record Forgets (past : Past) (x : Entry) (c : Byte) : Type 0 where
 
 pub forgets_of : (past : Past) (x : Entry) (c : Byte) → IsTrue (entry_forgets past x c) → Forgets past x c
 forgets_of past (entry.Invalidate b o n) c h =
-    let g = both _ _ h in
-    let k = both _ _ g.1 in
+    let g = and_parts _ _ h in
+    let k = and_parts _ _ g.1 in
     record { buffer = b; offset = o; size = n; is = refl; kept = ap (is_cached past) (reached_buffer b o n c k.0) ∙ g.0; kept_buffer = g.0; marked = k.1; reached = k.0 }
 forgets_of past _ c h = absurd cc
 
@@ -66,18 +71,6 @@ comes_in [] past p b q newest le lt = absurd (omega (arith, le, lt))
 comes_in [] past p b q (older h) le lt = h
 comes_in (r ∷ newer) past p b q newest le lt = let more = more_nodes (r ∷ newer) (p ∷ past) in absurd (omega (arith, le, lt, more))
 comes_in (r ∷ newer) past p b q (older h) le lt = comes_in newer past p b q h le lt
-
-module _ (keeps : GrowthKeeps) where
-  pub up : (all newer low : Past) (n : Node) → all ≡ newer ++ low → Contains (nodes low) n → Contains (nodes all) n
-  up all newer low n whole c =
-      let k = keeps low newer in
-      subst (λ (l : Past). Contains (nodes l) n) (sym whole) (subst (λ (l : List Node). Contains l n) (sym k.stand.1) (right_has k.stand.0 (nodes low) n c))
-
-  down : (all newer low : Past) (n : Node) → all ≡ newer ++ low → Contains (nodes all) n → n.number < length (nodes low) → Contains (nodes low) n
-  down all newer low n whole c lt =
-      let k = keeps low newer in
-      let moved = subst (λ (l : Past). Contains (nodes l) n) whole c in
-      older_node k.stand.0 (nodes low) n (subst (λ (l : List Node). IsNumbered l) k.stand.1 (numbered (newer ++ low))) (subst (λ (l : List Node). Contains l n) k.stand.1 moved) lt
 
 -- ---- a command that sees a host write sees it by a flush
 
@@ -90,49 +83,41 @@ module _ (paths : BeforeIsPath) (joins : BeforeIsTransitive) (all : Past) (one :
     pub earlier : IsTrue (before (nodes all) flush a)
     pub again : (i : Node) → Contains (nodes all) i → (y : Entry) → i.act ≡ Hosts y → IsTrue (before (nodes all) i flush) → IsTrue (seen one (nodes all) i a k c)
 
-  or_second : (e f : Bool) → IsTrue f → IsTrue (e || f)
-  or_second true f h = refl
-  or_second false f h = h
-
   passed : (f : Bool) → IsTrue (not (one c) || f) → IsTrue f
   passed f h = rw kept at h
 
   pub flushed : IsTrue (seen one (nodes all) w a k c) → Flushed
   unfolding seen
   flushed h =
-      let p = some_of _ (nodes all) h in
-      let first = both _ _ p.2 in
-      let q = some_of _ (nodes all) first.1 in
-      let second = both _ _ q.2 in
-      let third = both _ _ second.0 in
+      let p = some_member _ (nodes all) h in
+      let first = and_parts _ _ p.2 in
+      let q = some_member _ (nodes all) first.1 in
+      let second = and_parts _ _ q.2 in
+      let third = and_parts _ _ second.0 in
       let sent : IsTrue (available_by one (nodes all) w (Hosts x) c p.0) = subst (λ (b : Act). IsTrue (available_by one (nodes all) w b c p.0)) is_w first.0 in
-      let submits = both _ _ sent in
-      let f = some_of (λ f. flushes f.act c && before (nodes all) w f && before (nodes all) f p.0) (nodes all) (passed _ submits.1) in
-      let g = both _ _ f.2 in
-      let l = both _ _ g.0 in
+      let submits = and_parts _ _ sent in
+      let f = some_member (λ f. flushes f.act c && before (nodes all) w f && before (nodes all) f p.0) (nodes all) (passed _ submits.1) in
+      let g = and_parts _ _ f.2 in
+      let l = and_parts _ _ g.0 in
       let shown : IsTrue (visible_by one (nodes all) w a (Runs cmd) k c q.0) = subst (λ (b : Act). IsTrue (visible_by one (nodes all) w a b k c q.0)) is_a third.1 in
-      let last = edge_before paths all q.0 a q.1 ca (both _ _ shown).0 in
+      let last = edge_before paths all q.0 a q.1 ca (and_parts _ _ shown).0 in
       let order = reaches_join paths all joins p.0 q.0 a p.1 q.1 ca (or_before paths all joins one p.0 q.0 third.0) (inr last) in
       record {
         flush = f.0;
         stands = f.1;
         reaches_it = l.0;
         later = l.1;
-        earlier = through f.0 p.0 f.1 p.1 g.1 order;
+        earlier = before_reaches paths all joins f.0 p.0 a f.1 p.1 ca g.1 order;
         again = λ i ci y is_i ib.
-            any_of (λ p. available_by one (nodes all) i i.act c p && Rattle.std.specs.List.list_any (λ q. (same_node p q || before (nodes all) p q) && visible_by one (nodes all) i a a.act k c q && (same_node q a || before (nodes all) q a)) (nodes all)) (nodes all) p.0 p.1
-            (together _ _
+            member_passes (λ p. available_by one (nodes all) i i.act c p && list_any (λ q. (same_node p q || before (nodes all) p q) && visible_by one (nodes all) i a a.act k c q && (same_node q a || before (nodes all) q a)) (nodes all)) (nodes all) p.0 p.1
+            (and_from _ _
             (subst (λ (b : Act). IsTrue (available_by one (nodes all) i b c p.0)) (sym is_i)
-            (together _ _ (together _ _ (both _ _ submits.0).0 (joins all i f.0 p.0 ci f.1 p.1 ib g.1))
-            (or_second (not (one c)) _ (any_of (λ f. flushes f.act c && before (nodes all) i f && before (nodes all) f p.0) (nodes all) f.0 f.1 (together _ _ (together _ _ l.0 ib) g.1)))))
-            (any_of (λ q. (same_node p.0 q || before (nodes all) p.0 q) && visible_by one (nodes all) i a a.act k c q && (same_node q a || before (nodes all) q a)) (nodes all) q.0 q.1
-            (together _ _ (together _ _ third.0 (from_host i y is_i q.0 third.1)) second.1)));
+            (and_from _ _ (and_from _ _ (and_parts _ _ submits.0).0 (joins all i f.0 p.0 ci f.1 p.1 ib g.1))
+            (or_right (not (one c)) _ (member_passes (λ f. flushes f.act c && before (nodes all) i f && before (nodes all) f p.0) (nodes all) f.0 f.1 (and_from _ _ (and_from _ _ l.0 ib) g.1)))))
+            (member_passes (λ q. (same_node p.0 q || before (nodes all) p.0 q) && visible_by one (nodes all) i a a.act k c q && (same_node q a || before (nodes all) q a)) (nodes all) q.0 q.1
+            (and_from _ _ (and_from _ _ third.0 (from_host i y is_i q.0 third.1)) second.1)));
       }
     where
-      through : (f p : Node) → Contains (nodes all) f → Contains (nodes all) p → IsTrue (before (nodes all) f p) → Reaches paths all joins p a → IsTrue (before (nodes all) f a)
-      through f p cf cp b (inl e) = subst (λ (n : Node). IsTrue (before (nodes all) f n)) (unique (nodes all) (numbered all) p a cp ca e) b
-      through f p cf cp b (inr d) = joins all f p a cf cp ca b d
-
       from_host : (i : Node) (y : Entry) → i.act ≡ Hosts y → (q : Node) → IsTrue (visible_by one (nodes all) w a a.act k c q) → IsTrue (visible_by one (nodes all) i a a.act k c q)
       from_host i y is_i q h =
           subst (λ (b : Act). IsTrue (visible_by one (nodes all) i a b k c q)) (sym is_a)
@@ -147,7 +132,6 @@ pub record Given (t : List Entry) : Type 0 where
   pub apart : PiecesWriteApart
   pub paths : BeforeIsPath
   pub joins : BeforeIsTransitive
-  pub leads : BeforeLeadsOn
   pub stay : CommandsStay
   pub hazards : NoHazardLaw
   pub sights : SeenIsBefore
@@ -178,7 +162,7 @@ module _ (t : List Entry) (given : Given t) where
     ends = alone given.pieces_together given.apart t given.sound i s (ap (λ (d : Deed). length (acts d)) deed)
 
     split : (n : Node) (sn : Stands all n) → all ≡ (sn.newer ++ sn.at ∷ []) ++ sn.past
-    split n sn = sn.whole ∙ join_again sn.newer (sn.at ∷ []) sn.past
+    split n sn = sn.whole ∙ sym (append_assoc sn.newer (sn.at ∷ []) sn.past)
 
     abbrev pub write : Entry
     write = entry.Write mark.buffer mark.offset mark.bytes
@@ -187,10 +171,10 @@ module _ (t : List Entry) (given : Given t) where
     w = record { number = length (nodes mark.low); point = mark.at; act = Hosts write }
 
     w_past : Contains (nodes s.past) w
-    w_past = up given.keeps s.past mark.newer (mark.at ∷ mark.low) w mark.whole (subst (λ (d : Deed). Contains (with_acts mark.at (acts d) (nodes mark.low)) w) (sym mark.deed) (contains-head w (nodes mark.low)))
+    w_past = old_has given.keeps s.past mark.newer (mark.at ∷ mark.low) mark.whole w (subst (λ (d : Deed). Contains (with_acts mark.at (acts d) (nodes mark.low)) w) (sym mark.deed) (contains-head w (nodes mark.low)))
 
     pub w_all : Contains (nodes all) w
-    w_all = up given.keeps all (s.newer ++ s.at ∷ []) s.past w (split i s) w_past
+    w_all = old_has given.keeps all (s.newer ++ s.at ∷ []) s.past (split i s) w w_past
 
     pub w_earlier : w.number < i.number
     w_earlier = let lt = number_below (nodes s.past) (numbered s.past) w w_past in let e = ends.0 in omega (arith, lt, e)
@@ -214,12 +198,12 @@ module _ (t : List Entry) (given : Given t) where
         let sg = stands all g cg in
         let d = host_deed sg.at.deed (entry.Flush u.0 u.1 u.2) (subst (λ (a : Act). Contains (acts sg.at.deed) a) u.3 sg.acted) in
         let ends_g = alone given.pieces_together given.apart t given.sound g sg (ap (λ (d : Deed). length (acts d)) d) in
-        let come : Comes all sg.past sg.at = subst (λ (l : Past). Comes l sg.past sg.at) (sym sg.whole) (comes_here sg.newer sg.past sg.at) in
+        let come : Comes all sg.past sg.at = comes_at _ _ sg in
         let e0 = ends.0 in let e1 = ends.1 in let g0 = ends_g.0 in let g1 = ends_g.1 in
         let inside = comes_in s.newer s.past s.at sg.past sg.at (subst (λ (l : Past). Comes l sg.past sg.at) s.whole come) (omega (arith, e0, g1, before_it)) (omega (arith, e0, e1)) in
         let one_more : length (nodes (mark.at ∷ mark.low)) ≡ suc (length (nodes mark.low)) = ap (λ (d : Deed). length (with_acts mark.at (acts d) (nodes mark.low))) mark.deed in
         let no = mark.unflushed sg.past sg.at inside (omega (arith, one_more, g0, after)) u.0 u.1 u.2 d u.4 in
-        let yes = at_any (sg.newer ++ sg.at ∷ []) sg.past (split g sg) (down given.keeps all (sg.newer ++ sg.at ∷ []) sg.past w (split g sg) w_all (omega (arith, g0, after))) ∙ kept in
+        let yes = at_any (sg.newer ++ sg.at ∷ []) sg.past (split g sg) (is_old given.keeps all (sg.newer ++ sg.at ∷ []) sg.past (split g sg) w w_all (omega (arith, g0, after))) ∙ kept in
         not_both (is_cached sg.past (resource_at c)) yes (ap (is_cached sg.past) (reached_buffer u.0 u.1 u.2 c u.4) ∙ no)
 
     -- ---- a command's accesses of the byte
@@ -257,7 +241,7 @@ module _ (t : List Entry) (given : Given t) where
       seen_after k h lt =
           let lt' : w.number < a.number = let e = w_earlier in omega (arith, e, lt) in
           let f = by_flush lt' k h in
-          let later = given.leads (nodes all) w f.flush f.later in
+          let later = before_number (nodes all) w f.flush f.later in
           ⊎_elim
           (λ less. absurd (unflushed f.flush f.stands f.reaches_it later less))
           (λ le. ⊎_elim
@@ -283,8 +267,8 @@ module _ (t : List Entry) (given : Given t) where
           (λ same. absurd (no_command (unique (nodes all) (numbered all) w a w_all ca same)))
           (λ more.
           let f = by_flush more k h in
-          let later = given.leads (nodes all) w f.flush f.later in
-          let earlier = given.leads (nodes all) f.flush a f.earlier in
+          let later = before_number (nodes all) w f.flush f.later in
+          let earlier = before_number (nodes all) f.flush a f.earlier in
           absurd (unflushed f.flush f.stands f.reaches_it later (omega (arith, earlier, lt))))
           (eq-or-lt_of_le le))
           (cases_lt a.number w.number)

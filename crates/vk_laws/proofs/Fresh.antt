@@ -1,12 +1,14 @@
 -- Before a task every access that meets it is settled, so what it reads is the model's.
-use Rattle.std.proofs.Common.{◌≡◌, inl, inr, ⊎_elim, ℕ, zero, suc, ◌+◌, ◌-◌, ◌<◌, ◌≤◌, List, [], ◌∷◌, Option, Some, None, refl, sym, ap, ◌∙◌, subst, arith, eq-or-lt_of_le}
-use Rattle.std.proofs.lemmas.Bool.{cases_lt}
+use Rattle.std.proofs.Common.{◌≡◌, inl, inr, ⊎_elim, ℕ, zero, suc, ◌+◌, ◌-◌, ◌<◌, ◌≤◌, List, [], ◌∷◌, Option, Some, None, refl, sym, ap, ◌∙◌, subst, arith, eq-or-lt_of_le, IsTrue}
+use Rattle.std.proofs.lemmas.Bool.{cases_lt, ltb-true, lt-ltb}
+use Rattle.std.specs.Prelude.{nat_lt, ◌↔◌}
 use Rattle.vk_model.specs.World.{Byte}
 use Rattle.vk_model.specs.Moves.{Value, From}
 use Rattle.vk_laws.specs.Machine.{IsIn, Task, Put, Puts, Anything, Traffic, Writes, Reads, Precedes, Conflict, HazardFree, MayRun, IsAllowed, put_value, IsModel, newest, latest}
 use Rattle.vk_laws.proofs.Coherent.{Stores, Settled, Follows}
+use Rattle.vk_laws.specs.EveryOrder.{IsSettled}
 
-none_unless : {A : Type 0} (o : Option A) → ((x : A) → o ≡ Some x → ⊥) → o ≡ None
+pub none_unless : {A : Type 0} (o : Option A) → ((x : A) → o ≡ Some x → ⊥) → o ≡ None
 none_unless None h = refl
 none_unless (Some x) h = absurd (h x refl)
 
@@ -105,3 +107,11 @@ module _ (tr : Traffic) (free : HazardFree tr) where
         go (Some s) e st is =
             let same : w ≡ t = cc in
             source_of done t c m (m' c) v s ok may f e st (model.written t c s v e (subst (λ (u : Task). value (suc (u.node)) c ≡ Some v) same h))
+
+-- of two tasks of other nodes whose accesses conflict, the earlier is done when the later may come
+pub done_by_number : (tr : Traffic) (done : List Task) (s t : Task) (c : Byte) → IsSettled tr done t → (s.node ≡ t.node → ⊥) → Conflict tr s t c → Conflict tr t s c → IsTrue (nat_lt s.node t.node) ↔ IsIn s done
+done_by_number tr done s t c settled ne meet back = (
+  λ h. let lt = ltb-true s.node t.node h in settled.earlier s c lt meet,
+  λ h. lt-ltb s.node t.node
+      (⊎_elim (λ lt. lt) (λ le. absurd (settled.later s c (⊎_elim (λ lt. lt) (λ le'. absurd (ne (omega arith))) (cases_lt t.node s.node)) back h)) (cases_lt s.node t.node)),
+)

@@ -1,21 +1,20 @@
 -- A trace without a fault is free of hazards, as the machine asks it.
-use Rattle.std.proofs.Common.{◌≡◌, ⊎_elim, ℕ, List, Bool, true, false, cond, ◌||◌, ◌&&◌, IsTrue, Option, Some, None, refl, ap, sym, ◌∙◌, subst, slice_get, eq-or-lt_of_le}
+use Rattle.std.proofs.Common.{◌≡◌, ⊎_elim, ℕ, List, Bool, true, false, cond, ◌||◌, IsTrue, Option, Some, None, refl, ap, sym, ◌∙◌, subst, slice_get, eq-or-lt_of_le}
 use Rattle.std.specs.Prelude.{Contains, ◌==◌, option_map}
 use Rattle.std.specs.List.{find}
-use Rattle.std.proofs.lemmas.Bool.{eqb-true, cases_lt}
+use Rattle.std.proofs.lemmas.Bool.{eqb-true, cases_lt, false_from_ne_true, and_parts}
 use Rattle.vk_model.specs.declared.entry.Entry.{Entry}
 use Rattle.vk_model.specs.declared.entry.Entry.TheVariants as entry
 use Rattle.vk_model.specs.declared.command.Cmd.{Cmd}
 use Rattle.vk_model.specs.declared.rule.Rule.TheVariants as rule
 use Rattle.vk_model.specs.Words.{holds, some_pair}
 use Rattle.vk_model.specs.World.{Byte, same_byte}
-use Rattle.vk_model.specs.Point.{Past, Point, Deed, Run, host_of, command_of}
+use Rattle.vk_model.specs.Point.{Past, Deed, Run, host_of, command_of}
 use Rattle.vk_model.specs.Order.{plain_order}
 use Rattle.vk_model.specs.Moves.{Value, From, Move, moves}
 use Rattle.vk_model.specs.Pieces.{pieces}
 use Rattle.vk_model.specs.Node.{Node, Act, Hosts, Waits, Signals, Runs, Depends, nodes, acts}
 use Rattle.vk_model.specs.Access.{is_in, origin, origins, targets, host_reads}
-use Rattle.vk_model.specs.RulesIds.{breaks_new_id, breaks_live_id}
 use Rattle.vk_model.specs.RulesRanges.{command_overlaps, lists_twice}
 use Rattle.vk_model.specs.Rules.{breaks, first_fault}
 use Rattle.vk_model.specs.Fault.{Comes, IsSound}
@@ -23,15 +22,12 @@ use Rattle.vk_model.specs.Laws.{PiecesAreMoves, PiecesWriteApart, write_common}
 use Rattle.vk_laws.specs.Machine.{Task, Put, Puts, Reads, HazardFree}
 use Rattle.vk_laws.specs.Trace.{AccessesInOrder}
 use Rattle.vk_laws.specs.Tasks.{moves_of, host_value, part_write, part_read, node_at, by_act, traffic_of}
-use Rattle.vk_laws.proofs.NoHazard.{any_of}
-use Rattle.vk_laws.proofs.Steady.{comes_here, kept_moves, kept_pieces}
-use Rattle.vk_laws.proofs.Points.{Stands, stands, deed_of}
-use Rattle.vk_laws.proofs.TaskAccesses.{found, map_has, chosen_from, chosen_has, byte_same, piece_move, is_there, is_in_of, ordered}
+use Rattle.vk_laws.proofs.TaskNodes.{node_of, same_task}
+use Rattle.vk_laws.proofs.Members.{member_passes, found, map_has, chosen_has, chosen_from}
+use Rattle.vk_laws.proofs.Steady.{kept_moves, kept_pieces, new_ids, live_ids}
+use Rattle.vk_laws.proofs.Points.{Stands, stands, deed_of, comes_at}
+use Rattle.vk_laws.proofs.TaskAccesses.{byte_same, piece_move, is_there, is_in_of, ordered}
 use Rattle.vk_laws.proofs.Apart.{pair_of, no_overlap}
-
-pub refuted : (b : Bool) → (IsTrue b → ⊥) → b ≡ false
-refuted true h = absurd (h refl)
-refuted false h = refl
 
 -- ---- what a part does
 
@@ -50,9 +46,6 @@ module _ (all : Past) where
       go : (o : Option Node) → node_at all t.node ≡ o → IsTrue (by_act false (λ a. part_read all a t.part c) o) → (n : Node) × (node_at all t.node ≡ Some n) × IsTrue (part_read all n.act t.part c)
       go None e h = absurd cc
       go (Some n) e h = (n, e, h)
-
-  pub node_of : (k : ℕ) (n : Node) → node_at all k ≡ Some n → Contains (nodes all) n × (n.number ≡ k)
-  node_of k n e = let f = found (λ m. m.number == k) (nodes all) n e in (f.0, eqb-true n.number k f.1)
 
   -- a move of a piece
   pub record Moved (x : Cmd) (k : ℕ) (c : Byte) (w : Put) : Type 0 where
@@ -95,27 +88,9 @@ host_apart : (x : Entry) (c : Byte) (v : ℕ) → host_value x c ≡ Some v → 
 host_apart (entry.Write b o bytes) c v h r = cc
 host_apart _ c v h r = cc
 
-pub second : (a b : Bool) → IsTrue (a && b) → IsTrue b
-second true b h = h
-second false b h = absurd cc
-
-pub same_task : (s t : Task) → s.node ≡ t.node → s.part ≡ t.part → s ≡ t
-same_task s t e f = ap (task s.node) f ∙ ap (λ (n : ℕ). task n t.part) e
-  where
-    task : ℕ → ℕ → Task
-    task n k = record { node = n; part = k }
-
 module _ (together : PiecesAreMoves) (apart : PiecesWriteApart) (t : List Entry) (sound : IsSound t) where
   abbrev all : Past
   all = plain_order t
-
-  new_ids : (b : Past) (q : Point) → Comes all b q → IsTrue (breaks_new_id b q) → ⊥
-  unfolding breaks
-  new_ids b q c h = sound b q rule.NewId (c, h)
-
-  live_ids : (b : Past) (q : Point) → Comes all b q → IsTrue (breaks_live_id b q) → ⊥
-  unfolding breaks
-  live_ids b q c h = sound b q rule.LiveId (c, h)
 
   -- ---- a command of the trace
 
@@ -127,13 +102,13 @@ module _ (together : PiecesAreMoves) (apart : PiecesWriteApart) (t : List Entry)
     deed = deed_of place.at.deed x (subst (λ (a : Act). Contains (acts place.at.deed) a) act place.acted)
 
     pub comes : Comes all place.past place.at
-    comes = subst (λ (l : Past). Comes l place.past place.at) (sym place.whole) (comes_here place.newer place.past place.at)
+    comes = comes_at _ _ place
 
     pub same_moves : moves all x ≡ moves place.past x
-    same_moves = kept_moves all place.newer place.past place.at x place.whole deed new_ids live_ids
+    same_moves = kept_moves all place.newer place.past place.at x place.whole deed (new_ids t sound) (live_ids t sound)
 
     same_pieces : pieces all x ≡ pieces place.past x
-    same_pieces = kept_pieces all place.newer place.past place.at x place.whole deed new_ids live_ids
+    same_pieces = kept_pieces all place.newer place.past place.at x place.whole deed (new_ids t sound) (live_ids t sound)
 
     no_overlaps : IsTrue (command_overlaps place.past x) → ⊥
     unfolding breaks
@@ -142,7 +117,7 @@ module _ (together : PiecesAreMoves) (apart : PiecesWriteApart) (t : List Entry)
     pub written_once : some_pair write_common (pieces all x) ≡ false
     written_once =
         ap (some_pair write_common) same_pieces
-        ∙ apart place.past place.at x deed (refuted _ (λ h. sound place.past place.at rule.Overlap (comes, h))) (refuted _ (λ h. sound place.past place.at rule.Range (comes, h)))
+        ∙ apart place.past place.at x deed (false_from_ne_true _ (λ h. sound place.past place.at rule.Overlap (comes, h))) (false_from_ne_true _ (λ h. sound place.past place.at rule.Range (comes, h)))
 
     run_apart : (k l : ℕ) (c : Byte) (w : Put) → part_write all (Runs x) k c ≡ Some w → IsTrue (part_read all (Runs x) l c) → ⊥
     run_apart k l c w h r =
@@ -156,7 +131,7 @@ module _ (together : PiecesAreMoves) (apart : PiecesWriteApart) (t : List Entry)
         (f.0, subst (λ (ms : List Move). Contains ms f.0) same_moves there, f.2)
 
     common : (p q : List Move) (c : Byte) → Contains (targets p) c → Contains (targets q) c → IsTrue (write_common p q)
-    common p q c cp cq = any_of (λ b. is_in b (targets q)) (targets p) c cp (is_in_of together all c (targets q) cq)
+    common p q c cp cq = member_passes (λ b. is_in b (targets q)) (targets p) c cp (is_in_of together all c (targets q) cq)
 
     pub run_once : (k l : ℕ) (c : Byte) (w u : Put) → part_write all (Runs x) k c ≡ Some w → part_write all (Runs x) l c ≡ Some u → k ≡ l
     run_once k l c w u h g =
@@ -181,7 +156,7 @@ module _ (together : PiecesAreMoves) (apart : PiecesWriteApart) (t : List Entry)
     where
       go : (a : Act) → n.act ≡ a → part_write all a k c ≡ Some w → IsTrue (part_read all a l c) → ⊥
       go (Runs x) e h r = run_apart n cn x e k l c w h r
-      go (Hosts x) e h r = let p = host_put all x k c w h in host_apart x c p.value p.is (second (l == 0) _ r)
+      go (Hosts x) e h r = let p = host_put all x k c w h in host_apart x c p.value p.is (and_parts (l == 0) _ r).1
       go (Waits s) e h r = cc
       go (Signals s) e h r = cc
       go (Depends q s) e h r = cc

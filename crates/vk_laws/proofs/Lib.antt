@@ -1,3 +1,6 @@
+pub mod Truths
+pub mod Members
+pub mod TaskNodes
 pub mod Coherent
 pub mod Fresh
 pub mod Cells
@@ -27,7 +30,6 @@ pub mod Entries
 pub mod Submits
 pub mod TraceGrowth
 pub mod PlainOrder
-pub mod Members
 pub mod Prefixes
 pub mod Eager
 pub mod Stages

@@ -1,9 +1,10 @@
 -- The world's bytes are a model of a trace's tasks.
-use Rattle.std.proofs.Common.{◌≡◌, ◌⊎◌, ⊎_elim, inl, inr, ℕ, zero, suc, ◌+◌, ◌<◌, ◌≤◌, List, [], ◌∷◌, ◌++◌, length, Bool, true, false, cond, IsTrue, Option, Some, None, refl, ap, sym, ◌∙◌, subst, arith, slice_get}
+use Rattle.std.proofs.Common.{◌≡◌, ◌⊎◌, ⊎_elim, inl, inr, ℕ, zero, suc, ◌+◌, ◌<◌, ◌≤◌, List, [], ◌∷◌, ◌++◌, length, Bool, true, false, cond, IsTrue, Option, Some, None, refl, ap, sym, ◌∙◌, subst, arith, slice_get, ◌&&◌}
 use Rattle.std.specs.Prelude.{Contains, ◌==◌, ◌&&◌, nat_le, is_none, option_map, if◌then◌else◌}
 use Rattle.std.specs.List.{find, flat_map, fold, enumerate_from}
 use Rattle.std.specs.Option.{option_or}
-use Rattle.std.proofs.lemmas.Bool.{eq-eqb, leb-true, le-leb, cases_lt}
+use Rattle.std.proofs.lemmas.Bool.{eq-eqb, leb-true, le-leb, cases_lt, and_parts}
+use Rattle.std.proofs.lemmas.List.{append-nil}
 use Rattle.vk_model.specs.declared.entry.Entry.{Entry}
 use Rattle.vk_model.specs.declared.entry.Entry.TheVariants as entry
 use Rattle.vk_model.specs.declared.command.Cmd.{Cmd}
@@ -28,17 +29,18 @@ use Rattle.vk_model.specs.Edge.{is_host}
 use Rattle.vk_model.specs.Access.{bytes_of, host_reads, is_in}
 use Rattle.vk_model.specs.RulesBytes.{reads_undefined}
 use Rattle.vk_model.specs.Rules.{breaks}
-use Rattle.vk_model.specs.Fault.{Comes, IsSound}
+use Rattle.vk_model.specs.Fault.{IsSound}
 use Rattle.vk_model.specs.Laws.{PiecesAreMoves, PiecesWriteApart}
 use Rattle.vk_laws.specs.Machine.{Task, Reads, Put, Puts, put_value, IsModel}
 use Rattle.vk_laws.specs.Tasks.{moves_of, host_value, part_write, part_read, node_at, by_act, traffic_of}
 use Rattle.vk_laws.specs.TraceBytes.{before_node, value_before}
-use Rattle.vk_laws.proofs.NoHazard.{number_below, numbered, contains-cons, any_of}
+use Rattle.vk_laws.proofs.TaskNodes.{node_of}
+use Rattle.vk_laws.proofs.Fresh.{none_unless}
+use Rattle.vk_laws.proofs.Members.{member_passes, mapped_from, only_one}
+use Rattle.vk_laws.proofs.NoHazard.{numbered}
 use Rattle.vk_laws.proofs.TaskAccesses.{is_there}
-use Rattle.vk_laws.proofs.Steady.{comes_here}
-use Rattle.vk_laws.proofs.Points.{Stands, stands}
-use Rattle.vk_laws.proofs.Apart.{mapped_from}
-use Rattle.vk_laws.proofs.HazardFree.{read_act, write_act, node_of, moved, host_put, same_moves, run_once, place, deed}
+use Rattle.vk_laws.proofs.Points.{Stands, stands, comes_at, stands_below}
+use Rattle.vk_laws.proofs.HazardFree.{read_act, write_act, moved, host_put, same_moves, run_once, place, deed}
 
 -- ---- what a byte is after a step it was before, or it's undefined
 
@@ -134,7 +136,7 @@ host_source past (entry.Flush b o n) w c v h = go (is_cached past b) refl h
 host_source past (entry.Invalidate b o n) w c v h = go (is_cached past b) refl h
   where
     go : (a : Bool) → is_cached past b ≡ a → (after_host past (entry.Invalidate b o n) w).value c ≡ Some v → w.value c ≡ Some v
-    go true e h = without_weaker (λ k. Rattle.std.specs.Prelude.◌&&◌ (reaches b o n k) (w.marked k)) w.value c v (rw e at h)
+    go true e h = without_weaker (λ k. reaches b o n k && w.marked k) w.value c v (rw e at h)
     go false e h = rw e at h
 host_source past _ w c v h = h
 
@@ -208,16 +210,8 @@ settles (q ∷ newer) low k c v same h = go (settles newer low k c v same) (nat_
     go rest true e h = let le = leb-true (length (nodes (q ∷ newer ++ low))) k e in idle_points (q ∷ newer) low c v (omega arith) h
     go rest false e h = rest h
 
-append_none : (past : Past) → past ++ [] ≡ past
-append_none [] = refl
-append_none (p ∷ past) = ap (λ (l : Past). p ∷ l) (append_none past)
-
-none_unless : {A : Type 0} (o : Option A) → ((x : A) → o ≡ Some x → ⊥) → o ≡ None
-none_unless None h = refl
-none_unless (Some x) h = absurd (h x refl)
-
 undefined_first : (all : Past) (c : Byte) → value_before all 0 c ≡ None
-undefined_first all c = none_unless (value_before all 0 c) (λ v h. let e = settles all [] 0 c v refl (subst (λ (l : Past). value_before l 0 c ≡ Some v) (sym (append_none all)) h) in cc)
+undefined_first all c = none_unless (value_before all 0 c) (λ v h. let e = settles all [] 0 c v refl (subst (λ (l : Past). value_before l 0 c ≡ Some v) (sym (append-nil all)) h) in cc)
 
 -- ---- the node of a number
 
@@ -230,9 +224,6 @@ node_there (n ∷ ns) k numbers lt = go (node_there ns k numbers.1) (n.number ==
     go rest false e = rest (⊎_elim (λ lt. lt) (λ le. absurd (let size = numbers.0 in let same : n.number ≡ k = omega arith in let f = eq-eqb n.number k same in cc)) (cases_lt k (length ns)))
 
 -- ---- the deeds of nodes
-
-only_one : (a b : Act) → Contains (a ∷ []) b → a ≡ b
-only_one a b c = ⊎_elim (λ e. e) (λ later. absurd (let none : later.0 < 0 = later.1 in omega arith)) (contains-cons a [] b c)
 
 -- a command runs as one node, or its nodes are elements and it moves nothing
 pub runs_or_idle : (x : Cmd) (a : Act) → Contains (command_acts x) a → ((a ≡ Runs x) × (length (command_acts x) ≡ 1)) ⊎ ((r : Role) × (e : Element) × (a ≡ Depends r e) × ((past : Past) → moves past x ≡ []))
@@ -294,12 +285,12 @@ module _ (together : PiecesAreMoves) (apart : PiecesWriteApart) (t : List Entry)
   alone n s one =
       let low = s.new in
       let e = count_acts s.at (acts s.at.deed) (nodes s.past) in
-      let lt = number_below (nodes (s.at ∷ s.past)) (numbered (s.at ∷ s.past)) n s.here in
+      let lt = stands_below _ _ s in
       (omega (arith, e, one), omega (arith, e, one))
 
   pub at_node : (n : Node) (s : Stands all n) → before_node all n.number ≡ s.past
   at_node n s =
-      let lt = number_below (nodes (s.at ∷ s.past)) (numbered (s.at ∷ s.past)) n s.here in
+      let lt = stands_below _ _ s in
       ap (λ (l : Past). before_node l n.number) s.whole ∙ before_inside s.newer s.past s.at n.number s.new lt
 
   -- a value after a point's last node is the point's
@@ -379,7 +370,7 @@ module _ (together : PiecesAreMoves) (apart : PiecesWriteApart) (t : List Entry)
   kept_by n cn c v none h =
       let s = stands all n cn in
       let low = s.new in
-      let lt = number_below (nodes (s.at ∷ s.past)) (numbered (s.at ∷ s.past)) n s.here in
+      let lt = stands_below _ _ s in
       subst (λ (l : Past). (world l).value c ≡ Some v) (sym (at_node n s))
       (⊎_elim
       (λ more. subst (λ (l : Past). (world l).value c ≡ Some v) (ap (λ (l : Past). before_node l (suc n.number)) s.whole ∙ before_inside s.newer s.past s.at (suc n.number) (omega arith) more) h)
@@ -411,7 +402,7 @@ module _ (together : PiecesAreMoves) (apart : PiecesWriteApart) (t : List Entry)
   undefined_read : (past : Past) (b o n : ℕ) (c : Byte) → Contains (bytes_of b o n) c → (world past).value c ≡ None → IsTrue (reads_undefined (world past) (entry.Read b o n))
   undefined_read past b o n c h e =
       let k = mapped_from (λ k. in_buffer b (o + k)) (below n) c h in
-      any_of (λ k. is_none ((world past).value (in_buffer b (o + k)))) (below n) k.0 k.1 (ap (λ (b : Byte). is_none ((world past).value b)) k.2 ∙ ap is_none e)
+      member_passes (λ k. is_none ((world past).value (in_buffer b (o + k)))) (below n) k.0 k.1 (ap (λ (b : Byte). is_none ((world past).value b)) k.2 ∙ ap is_none e)
 
   breaks_read : (s : Past) (p : Point) (x : Entry) → p.deed ≡ Host x → IsTrue (reads_undefined (world s) x) → IsTrue (breaks rule.ReadUndefined s p)
   unfolding breaks
@@ -423,10 +414,6 @@ module _ (together : PiecesAreMoves) (apart : PiecesWriteApart) (t : List Entry)
       let n = node_of all u.node a.0 a.1 in
       subst (λ (k : ℕ). (v : ℕ) × (value_before all k c ≡ Some v)) n.1 (by_node a.0 n.0 (subst (λ (o : Option Node). IsTrue (holds o (λ n. is_host n.act))) a.1 h) a.2)
     where
-      second : (a b : Bool) → IsTrue (a && b) → IsTrue b
-      second true b h = h
-      second false b h = absurd cc
-
       by_entry : (n : Node) (cn : Contains (nodes all) n) (x : Entry) → n.act ≡ Hosts x → IsTrue (is_in c (host_reads x)) → (v : ℕ) × (value_before all n.number c ≡ Some v)
       by_entry n cn (entry.Read b o m) act h = go ((world s.past).value c) refl
         where
@@ -435,7 +422,7 @@ module _ (together : PiecesAreMoves) (apart : PiecesWriteApart) (t : List Entry)
 
           go : (o : Option ℕ) → (world s.past).value c ≡ o → (v : ℕ) × (value_before all n.number c ≡ Some v)
           go None e = absurd (sound s.past s.at rule.ReadUndefined (
-            subst (λ (l : Past). Comes l s.past s.at) (sym s.whole) (comes_here s.newer s.past s.at),
+            comes_at _ _ s,
             breaks_read s.past s.at (entry.Read b o m) (host_deed s.at.deed (entry.Read b o m) (subst (λ (a : Act). Contains (acts s.at.deed) a) act s.acted))
                 (undefined_read s.past b o m c (is_there together all c (bytes_of b o m) h) e),
           ))
@@ -446,7 +433,7 @@ module _ (together : PiecesAreMoves) (apart : PiecesWriteApart) (t : List Entry)
       by_node n cn h r = go n.act refl h r
         where
           go : (a : Act) → n.act ≡ a → IsTrue (is_host a) → IsTrue (part_read all a u.part c) → (v : ℕ) × (value_before all n.number c ≡ Some v)
-          go (Hosts x) act h r = by_entry n cn x act (second (u.part == 0) _ r)
+          go (Hosts x) act h r = by_entry n cn x act (and_parts (u.part == 0) _ r).1
           go (Runs x) act h r = absurd cc
           go (Waits q) act h r = absurd cc
           go (Signals q) act h r = absurd cc

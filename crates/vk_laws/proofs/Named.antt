@@ -1,7 +1,8 @@
 -- What a command or host entry writes is a resource that it names, so whether the host caches it stays.
 use Rattle.std.proofs.Common.{◌≡◌, ℕ, ◌+◌, length, List, [], ◌∷◌, ◌++◌, Bool, true, false, IsTrue, Option, Some, None, refl, ap, sym, ◌∙◌, subst}
 use Rattle.std.specs.Prelude.{Contains, is_some, if◌then◌else◌}
-use Rattle.std.specs.List.{list_any, enumerate_from}
+use Rattle.std.specs.List.{enumerate_from, flat_map}
+use Rattle.std.proofs.lemmas.Bool.{or_left}
 use Rattle.vk_model.specs.declared.entry.Entry.{Entry}
 use Rattle.vk_model.specs.declared.entry.Entry.TheVariants as entry
 use Rattle.vk_model.specs.declared.command.Cmd.{Cmd}
@@ -20,10 +21,10 @@ use Rattle.vk_model.specs.RulesIds.{asked_by, asked_by_command, asked_by_entry, 
 use Rattle.vk_model.specs.Point.{Past, Point, Deed, host_of}
 use Rattle.vk_model.specs.Node.{Node, Act, Hosts, Waits, Signals, Runs, Depends, acts}
 use Rattle.vk_laws.specs.Trace.{accesses}
-use Rattle.vk_laws.proofs.NoHazard.{contains-head, contains-tail, any_of}
-use Rattle.vk_laws.proofs.Steady.{IsNew, live_made, made_until, unless, or_first, comes_here, comes_later}
-use Rattle.vk_laws.proofs.CachedStays.{IsLive}
-use Rattle.vk_laws.proofs.Apart.{none_in, mapped_from, flat_from, grid_from}
+use Rattle.vk_laws.proofs.Members.{contains-head, contains-tail, member_passes, none_in, mapped_from, flat_from}
+use Rattle.vk_laws.proofs.Truths.{unless}
+use Rattle.vk_laws.proofs.Steady.{IsNew, live_made, made_until, comes_here, comes_later, IsLive}
+use Rattle.vk_laws.proofs.Apart.{grid_from}
 use Rattle.vk_laws.proofs.Points.{Stands, deed_of}
 use Rattle.vk_laws.proofs.ModelBytes.{host_deed}
 use Rattle.vk_model.specs.Fault.{Comes, older}
@@ -35,13 +36,15 @@ Names asked c = (k : Entry → Bool) × Contains asked (resource_at c, k)
 abbrev Fills : ℕ → List Move → Type 0
 Fills r ms = (m : Move) → Contains ms m → resource_at m.to ≡ r
 
+level_fills : (i : ℕ) (n : ImageInfo) (r : SubresourceRange) (l : ℕ) (q : Byte × ℕ) → Contains (level_bytes i n r l) q → resource_at q.0 ≡ i
+level_fills i n r l q c = ap (λ (q : Byte × ℕ). resource_at q.0) (sym (grid_from (λ z y x b. (in_image i l (r.first_layer + z) x y b, b)) r.layers (level_height n l) (level_width n l) (texel n.format) q c).is)
+
 clear_fills : (i : ℕ) (color : List ℕ) (o : Option ImageInfo) (r : SubresourceRange) → Fills i (clear_moves i color o r)
 clear_fills i color None r m c = absurd (none_in m c)
 clear_fills i color (Some n) r m c =
     let p = mapped_from (clear_move n color) (subresource_bytes i n r) m c in
     let level = flat_from (λ k. level_bytes i n r (r.first_level + k)) (below r.levels) p.0 p.1 in
-    let at = grid_from (λ z y x b. (in_image i (r.first_level + level.0) (r.first_layer + z) x y b, b)) r.layers (level_height n (r.first_level + level.0)) (level_width n (r.first_level + level.0)) (texel n.format) p.0 level.2 in
-    ap (λ (m : Move). resource_at m.to) (sym p.2) ∙ ap (λ (q : Byte × ℕ). resource_at q.0) (sym at.is)
+    ap (λ (m : Move). resource_at m.to) (sym p.2) ∙ level_fills i n r (r.first_level + level.0) p.0 level.2
 
 in_fills : (b i : ℕ) (o : Option ImageInfo) (g : BufferImageCopy) → Fills i (copy_in_moves b i o g)
 in_fills b i None g m c = absurd (none_in m c)
@@ -55,7 +58,7 @@ image_fills : (s d : ℕ) (o : Option ImageInfo) (g : ImageCopy) → Fills d (co
 image_fills s d None g m c = absurd (none_in m c)
 image_fills s d (Some n) g m c = ap (λ (m : Move). resource_at m.to) (sym (grid_from _ g.layers g.height g.width (texel n.format) m c).is)
 
-all_fill : {G : Type 0} (r : ℕ) (f : G → List Move) (gs : List G) → ((g : G) → Fills r (f g)) → Fills r (Rattle.std.specs.List.flat_map f gs)
+all_fill : {G : Type 0} (r : ℕ) (f : G → List Move) (gs : List G) → ((g : G) → Fills r (f g)) → Fills r (flat_map f gs)
 all_fill r f gs each m c = let g = flat_from f gs m c in each g.0 m g.2
 
 first_named : (r : ℕ) (k : Entry → Bool) (rest : List (ℕ × (Entry → Bool))) (c : Byte) → resource_at c ≡ r → Names ((r, k) ∷ rest) c
@@ -96,7 +99,7 @@ named_made all newer past p c whole new alive names = go (is_some (host_of p.dee
     live_there : (judged : Past) → judged_in past p ≡ judged → (x : Entry) × (made judged (resource_at c) ≡ Some x)
     live_there judged e =
         live_made judged (resource_at c) names.0 (unless (holds (live judged (resource_at c)) names.0) (λ dead.
-        alive past p (come past p (comes_here newer past p)) (or_first _ _ (any_of (is_dead (judged_in past p)) (asked_by p.deed) (resource_at c, names.0) names.1 (subst (λ (l : Past). IsTrue (is_dead l (resource_at c, names.0))) (sym e) dead)))))
+        alive past p (come past p (comes_here newer past p)) (or_left _ _ (member_passes (is_dead (judged_in past p)) (asked_by p.deed) (resource_at c, names.0) names.1 (subst (λ (l : Past). IsTrue (is_dead l (resource_at c, names.0))) (sym e) dead)))))
 
     go : (b : Bool) → is_some (host_of p.deed) ≡ b → (x : Entry) × (made past (resource_at c) ≡ Some x)
     go true e = live_there past (ap (λ (b : Bool). if b then past else until p.entry past) e)

@@ -1,8 +1,8 @@
 -- A trace without a fault has no hazard between two nodes, and what is seen is before.
-use Rattle.std.proofs.Common.{◌≡◌, ◌⊎◌, inl, inr, ⊎_elim, ℕ, zero, suc, ◌<◌, ◌≤◌, List, [], ◌∷◌, ◌++◌, length, Bool, true, false, cond, ◌&&◌, ◌||◌, not, IsTrue, refl, ap, sym, ◌∙◌, subst, arith, reverse}
-use Rattle.std.specs.Prelude.{nat_lt, nat_le, Contains, ◌==◌}
+use Rattle.std.proofs.Common.{◌≡◌, ◌⊎◌, inl, inr, ⊎_elim, ◌<◌, ◌≤◌, List, [], ◌∷◌, ◌++◌, length, Bool, ◌&&◌, ◌||◌, not, IsTrue, refl, ap, sym, ◌∙◌, subst, arith, reverse}
+use Rattle.std.specs.Prelude.{nat_le, Contains}
 use Rattle.std.specs.List.{list_any, filter}
-use Rattle.std.proofs.lemmas.Bool.{lt-ltb, le-leb, eqb-true}
+use Rattle.std.proofs.lemmas.Bool.{lt-ltb, le-leb, eqb-true, and_parts, or_cases, and_from}
 use Rattle.std.proofs.lemmas.List.Sorted.{list_any-IsPermutation, IsPermutation-reverse}
 use Rattle.vk_model.specs.World.{Byte, resource_at}
 use Rattle.vk_model.specs.Objects.{is_cached}
@@ -17,61 +17,13 @@ use Rattle.vk_model.specs.Laws.{BeforeIsPath, BeforeIsTransitive, GrowthKeeps, K
 use Rattle.vk_model.specs.declared.entry.Entry.{Entry}
 use Rattle.vk_model.specs.Order.{plain_order}
 use Rattle.vk_laws.specs.Trace.{HasNoHazard}
-
--- ---- members and tests of lists
-
-pub contains-cons : {X : Type 0} (y : X) (ys : List X) (x : X) → Contains (y ∷ ys) x → (y ≡ x) ⊎ Contains ys x
-contains-cons y ys x c = go c.0 c.1 c.2
-  where
-    go : (k : ℕ) → k < length (y ∷ ys) → Rattle.std.specs.Prelude.slice_index_or (y ∷ ys) k x ≡ x → (y ≡ x) ⊎ Contains ys x
-    go zero lt at = inl at
-    go (suc k) lt at = inr (k, omega arith, at)
-
-pub contains-head : {X : Type 0} (y : X) (ys : List X) → Contains (y ∷ ys) y
-contains-head y ys = (0, omega arith, refl)
-
-pub contains-tail : {X : Type 0} (y : X) (ys : List X) (x : X) → Contains ys x → Contains (y ∷ ys) x
-contains-tail y ys x c = (suc c.0, omega (arith, c.1), c.2)
-
-pub any_of : {X : Type 0} (f : X → Bool) (xs : List X) (x : X) → Contains xs x → IsTrue (f x) → IsTrue (list_any f xs)
-any_of f [] x c h = absurd (let none : c.0 < 0 = c.1 in omega arith)
-any_of f (y ∷ ys) x c h = ⊎_elim (λ e. or_first (f y) (list_any f ys) (ap f e ∙ h)) (λ later. or_last (f y) (list_any f ys) (any_of f ys x later h)) (contains-cons y ys x c)
-  where
-    or_first : (a b : Bool) → a ≡ true → IsTrue (a || b)
-    or_first a b h = rw h refl
-
-    or_last : (a b : Bool) → IsTrue b → IsTrue (a || b)
-    or_last true b h = refl
-    or_last false b h = h
-
-pub some_of : {X : Type 0} (f : X → Bool) (xs : List X) → IsTrue (list_any f xs) → (x : X) × Contains xs x × IsTrue (f x)
-some_of f [] h = absurd cc
-some_of {X} f (x ∷ xs) h = go (f x) refl h (some_of f xs)
-  where
-    go : (b : Bool) → f x ≡ b → IsTrue (b || list_any f xs) → (IsTrue (list_any f xs) → (y : X) × Contains xs y × IsTrue (f y)) → (y : X) × Contains (x ∷ xs) y × IsTrue (f y)
-    go true e h rest = (x, contains-head x xs, e)
-    go false e h rest = let r = rest h in (r.0, contains-tail x xs r.0 r.1, r.2)
-
-pub both : (a b : Bool) → IsTrue (a && b) → IsTrue a × IsTrue b
-both true b h = (refl, h)
-both false b h = absurd cc
-
-pub either : (a b : Bool) → IsTrue (a || b) → IsTrue a ⊎ IsTrue b
-either true b h = inl refl
-either false b h = inr h
-
-pub together : (a b : Bool) → IsTrue a → IsTrue b → IsTrue (a && b)
-together a b h g = rw (h, g) refl
-
--- what isn't refuted holds
-pub unless : (b : Bool) → (IsTrue (not b) → ⊥) → IsTrue b
-unless true h = refl
-unless false h = absurd (h refl)
+use Rattle.vk_laws.proofs.Members.{contains-cons, member_passes, some_member, any_filter, none_in}
+use Rattle.vk_laws.proofs.Truths.{unless}
 
 -- ---- nodes by their numbers
 
 pub number_below : (ns : List Node) → IsNumbered ns → (m : Node) → Contains ns m → m.number < length ns
-number_below [] numbers m c = absurd (let none : c.0 < 0 = c.1 in omega arith)
+number_below [] numbers m c = absurd (none_in m c)
 number_below (n ∷ ns) numbers m c = elim (contains-cons n ns m c) [
   | inl same ↦ let here : m.number ≡ length ns = ap (λ (k : Node). k.number) (sym same) ∙ numbers.0 in omega arith
   | inr later ↦ let lt = number_below ns numbers.1 m later in omega arith
@@ -86,7 +38,7 @@ numbered [] = tt
 numbered (p ∷ past) = numbered_acts p (acts p.deed) (nodes past) (numbered past)
 
 pub unique : (ns : List Node) → IsNumbered ns → (m n : Node) → Contains ns m → Contains ns n → m.number ≡ n.number → m ≡ n
-unique [] numbers m n c d same = absurd (let none : c.0 < 0 = c.1 in omega arith)
+unique [] numbers m n c d same = absurd (none_in m c)
 unique (k ∷ ns) numbers m n c d same = go (contains-cons k ns m c) (contains-cons k ns n d) (unique ns numbers.1 m n)
   where
     go : (k ≡ m) ⊎ Contains ns m → (k ≡ n) ⊎ Contains ns n → (Contains ns m → Contains ns n → m.number ≡ n.number → m ≡ n) → m ≡ n
@@ -110,41 +62,48 @@ module _ (paths : BeforeIsPath) (past : Past) where
     abbrev pub Reaches : Node → Node → Type 0
     Reaches m n = (m.number ≡ n.number) ⊎ IsTrue (before (nodes past) m n)
 
+    pub reaches_before : (l m n : Node) → Contains (nodes past) l → Contains (nodes past) m → Contains (nodes past) n → Reaches l m → IsTrue (before (nodes past) m n) → IsTrue (before (nodes past) l n)
+    reaches_before l m n cl cm cn (inl e) b = subst (λ (x : Node). IsTrue (before (nodes past) x n)) (unique (nodes past) (numbered past) m l cm cl (sym e)) b
+    reaches_before l m n cl cm cn (inr d) b = joins past l m n cl cm cn d b
+
+    pub before_reaches : (l m n : Node) → Contains (nodes past) l → Contains (nodes past) m → Contains (nodes past) n → IsTrue (before (nodes past) l m) → Reaches m n → IsTrue (before (nodes past) l n)
+    before_reaches l m n cl cm cn b (inl e) = subst (λ (x : Node). IsTrue (before (nodes past) l x)) (unique (nodes past) (numbered past) m n cm cn e) b
+    before_reaches l m n cl cm cn b (inr d) = joins past l m n cl cm cn b d
+
     pub reaches_join : (l m n : Node) → Contains (nodes past) l → Contains (nodes past) m → Contains (nodes past) n → Reaches l m → Reaches m n → Reaches l n
     reaches_join l m n cl cm cn p q = ⊎_elim
         (λ e. subst (λ (x : Node). Reaches x n) (unique (nodes past) (numbered past) m l cm cl (sym e)) q)
-        (λ b. ⊎_elim (λ e. subst (λ (x : Node). Reaches l x) (unique (nodes past) (numbered past) m n cm cn e) p) (λ d. inr (joins past l m n cl cm cn b d)) q)
-        p
+        (λ b. inr (before_reaches l m n cl cm cn b q)) p
 
     pub by_number : (m n : Node) → IsTrue (same_node m n) → Reaches m n
     by_number m n h = inl (eqb-true m.number n.number h)
 
     module _ (cached : Byte → Bool) where
       available_reaches : (w p : Node) (act : Act) (b : Byte) → Contains (nodes past) w → Contains (nodes past) p → IsTrue (available_by cached (nodes past) w act b p) → Reaches w p
-      available_reaches w p (Runs c) b cw cp h = inr (edge_before w p cw cp (both _ _ h).0)
+      available_reaches w p (Runs c) b cw cp h = inr (edge_before w p cw cp (and_parts _ _ h).0)
       available_reaches w p (Depends r e) b cw cp h = by_number w p h
-      available_reaches w p (Hosts x) b cw cp h = inr (both _ _ (both _ _ h).0).1
+      available_reaches w p (Hosts x) b cw cp h = inr (and_parts _ _ (and_parts _ _ h).0).1
       available_reaches w p (Waits s) b cw cp h = absurd cc
       available_reaches w p (Signals s) b cw cp h = absurd cc
 
       visible_reaches : (w a q : Node) (act : Act) (k : Access) (b : Byte) → Contains (nodes past) q → Contains (nodes past) a → IsTrue (visible_by cached (nodes past) w a act k b q) → Reaches q a
-      visible_reaches w a q (Runs c) k b cq ca h = inr (edge_before q a cq ca (both _ _ h).0)
+      visible_reaches w a q (Runs c) k b cq ca h = inr (edge_before q a cq ca (and_parts _ _ h).0)
       visible_reaches w a q (Depends r e) k b cq ca h = by_number q a h
-      visible_reaches w a q (Hosts x) k b cq ca h = inr (both _ _ (both _ _ (both _ _ h).0).0).0
+      visible_reaches w a q (Hosts x) k b cq ca h = inr (and_parts _ _ (and_parts _ _ (and_parts _ _ h).0).0).0
       visible_reaches w a q (Waits s) k b cq ca h = absurd cc
       visible_reaches w a q (Signals s) k b cq ca h = absurd cc
 
       pub or_before : (m n : Node) → IsTrue (same_node m n || before (nodes past) m n) → Reaches m n
-      or_before m n h = ⊎_elim (λ e. by_number m n e) (λ b. inr b) (either (same_node m n) (before (nodes past) m n) h)
+      or_before m n h = ⊎_elim (λ e. by_number m n e) (λ b. inr b) (or_cases (same_node m n) (before (nodes past) m n) h)
 
       pub seen_before : (w a : Node) (k : Access) (b : Byte) → Contains (nodes past) w → Contains (nodes past) a → w.number < a.number → IsTrue (seen cached (nodes past) w a k b) → IsTrue (before (nodes past) w a)
       unfolding seen
       seen_before w a k b cw ca lt h =
-          let p = some_of _ (nodes past) h in
-          let first = both _ _ p.2 in
-          let q = some_of _ (nodes past) first.1 in
-          let second = both _ _ q.2 in
-          let third = both _ _ second.0 in
+          let p = some_member _ (nodes past) h in
+          let first = and_parts _ _ p.2 in
+          let q = some_member _ (nodes past) first.1 in
+          let second = and_parts _ _ q.2 in
+          let third = and_parts _ _ second.0 in
           let wp = available_reaches w p.0 w.act b cw p.1 first.0 in
           let pq = or_before p.0 q.0 third.0 in
           let qa = visible_reaches w a q.0 a.act k b q.1 ca third.1 in
@@ -166,23 +125,6 @@ module _ (keeps : GrowthKeeps) (all past : Past) (p : Point) (comes : Comes all 
   pub seen_in_all : (cached : Byte → Bool) (x y : Node) (k : Access) (b : Byte) → Contains (nodes (p ∷ past)) y → IsTrue (seen cached (nodes (p ∷ past)) x y k b) → IsTrue (seen cached (nodes all) x y k b)
   seen_in_all cached x y k b c h = whole.sights cached x y k b c ∙ h
 
--- a test that an item of a list passes is passed in the list's part that has it, in either order
-any_filter : {X : Type 0} (f g : X → Bool) (xs : List X) (x : X) → Contains xs x → IsTrue (g x) → IsTrue (f x) → IsTrue (list_any f (filter g xs))
-any_filter f g [] x c h k = absurd (let none : c.0 < 0 = c.1 in omega arith)
-any_filter {X} f g (y ∷ ys) x c h k = ⊎_elim (λ e. here (g y) (ap g e ∙ h) (ap f e ∙ k)) (λ later. there (g y) (any_filter f g ys x later h k)) (contains-cons y ys x c)
-  where
-    here : (b : Bool) → b ≡ true → f y ≡ true → IsTrue (list_any f (cond b (y ∷ filter g ys) (filter g ys)))
-    here true e k = rw k refl
-    here false e k = absurd cc
-
-    or_last : (a b : Bool) → IsTrue b → IsTrue (a || b)
-    or_last true b h = refl
-    or_last false b h = h
-
-    there : (b : Bool) → IsTrue (list_any f (filter g ys)) → IsTrue (list_any f (cond b (y ∷ filter g ys) (filter g ys)))
-    there true h = or_last (f y) _ h
-    there false h = h
-
 found_new : (f : Node → Bool) (past : Past) (p : Point) (y : Node) → Contains (nodes (p ∷ past)) y → length (nodes past) ≤ y.number → IsTrue (f y) → IsTrue (list_any f (next_nodes past p))
 found_new f past p y c le h =
     let new = filter (λ n. nat_le (length (nodes past)) n.number) (nodes (p ∷ past)) in
@@ -192,7 +134,7 @@ module _ (past : Past) (p : Point) (x y : Node) (cx : Contains (nodes (p ∷ pas
   found_hazard : (kind : Past → Node → Node → Bool) → IsTrue (kind (p ∷ past) x y) → IsTrue (hazard kind past p)
   found_hazard kind h =
       found_new (λ y. list_any (λ x. precedes x y && kind (p ∷ past) x y) (nodes (p ∷ past))) past p y cy new
-      (any_of (λ x. precedes x y && kind (p ∷ past) x y) (nodes (p ∷ past)) x cx (together (precedes x y) (kind (p ∷ past) x y) first h))
+      (member_passes (λ x. precedes x y && kind (p ∷ past) x y) (nodes (p ∷ past)) x cx (and_from (precedes x y) (kind (p ∷ past) x y) first h))
 
 module _ (keeps : GrowthKeeps) (t : List Entry) (past : Past) (p : Point) (comes : Comes (plain_order t) past p) (x y : Node) (cx : Contains (nodes (p ∷ past)) x) (cy : Contains (nodes (p ∷ past)) y) (new : length (nodes past) ≤ y.number) (first : IsTrue (precedes x y)) where
   abbrev now_seen : Access → Byte → Bool
@@ -202,11 +144,11 @@ module _ (keeps : GrowthKeeps) (t : List Entry) (past : Past) (p : Point) (comes
   no_hazard no_war no_raw no_waw = record {
     read_first = λ b hb cb. before_in_all keeps (plain_order t) past p comes x y cy
         (unless (before (nodes (p ∷ past)) x y) (λ n. no_war (found_hazard past p x y cx cy new first war
-        (together (share (reads (p ∷ past) x) (writes (p ∷ past) y)) (not (before (nodes (p ∷ past)) x y)) (any_of (λ d. is_in d (writes (p ∷ past) y)) (reads (p ∷ past) x) b cb hb) n))));
+        (and_from (share (reads (p ∷ past) x) (writes (p ∷ past) y)) (not (before (nodes (p ∷ past)) x y)) (member_passes (λ d. is_in d (writes (p ∷ past) y)) (reads (p ∷ past) x) b cb hb) n))));
     read_after = λ b hb cb. seen_in_all keeps (plain_order t) past p comes (λ c. is_cached (p ∷ past) (resource_at c)) x y Read b cy
         (unless (now_seen Read b) (λ n. no_raw (found_hazard past p x y cx cy new first raw
-        (any_of (λ d. is_in d (writes (p ∷ past) x) && not (now_seen Read d)) (reads (p ∷ past) y) b cb (together _ _ hb n)))));
+        (member_passes (λ d. is_in d (writes (p ∷ past) x) && not (now_seen Read d)) (reads (p ∷ past) y) b cb (and_from _ _ hb n)))));
     written_after = λ b hb cb. seen_in_all keeps (plain_order t) past p comes (λ c. is_cached (p ∷ past) (resource_at c)) x y Write b cy
         (unless (now_seen Write b) (λ n. no_waw (found_hazard past p x y cx cy new first waw
-        (any_of (λ d. is_in d (writes (p ∷ past) x) && not (now_seen Write d)) (writes (p ∷ past) y) b cb (together _ _ hb n)))));
+        (member_passes (λ d. is_in d (writes (p ∷ past) x) && not (now_seen Write d)) (writes (p ∷ past) y) b cb (and_from _ _ hb n)))));
   }

@@ -2,37 +2,32 @@
 use Rattle.std.proofs.Common.{◌≡◌, ⊎_elim, ◌<◌, List, [], ◌∷◌, ◌++◌, Bool, true, false, ◌&&◌, not, IsTrue, None, refl, ap, sym, ◌∙◌, subst, arith}
 use Rattle.std.specs.Prelude.{Contains}
 use Rattle.std.proofs.lemmas.Bool.{lt-ltb}
+use Rattle.std.proofs.lemmas.List.{append_assoc}
 use Rattle.vk_model.specs.declared.entry.Entry.{Entry}
 use Rattle.vk_model.specs.declared.command.Cmd.{Cmd}
 use Rattle.vk_model.specs.Order.{plain_order}
 use Rattle.vk_model.specs.World.{Byte}
 use Rattle.vk_model.specs.Point.{Past, Point}
 use Rattle.vk_model.specs.Moves.{moves}
-use Rattle.vk_model.specs.Node.{Node, Act, Hosts, Waits, Signals, Runs, Depends, nodes}
+use Rattle.vk_model.specs.Node.{Node, Act, Hosts, Waits, Signals, Runs, Depends, nodes, acts}
 use Rattle.vk_model.specs.Edge.{is_host}
 use Rattle.vk_model.specs.Before.{before}
 use Rattle.vk_model.specs.Seen.{Read, Write}
 use Rattle.vk_model.specs.Access.{reads, writes, reads_of, writes_of, origins, targets, is_in, precedes}
 use Rattle.vk_model.specs.Laws.{GrowthKeeps}
 use Rattle.vk_model.specs.Rules.{first_fault}
-use Rattle.vk_model.specs.Fault.{Comes}
 use Rattle.vk_laws.specs.Trace.{Sees, HasNoHazard, NoHazardLaw, SeenIsBefore, HostInOrder, CommandsStay, Meets, accesses}
-use Rattle.vk_laws.proofs.NoHazard.{number_below, numbered}
-use Rattle.vk_laws.proofs.Steady.{comes_here}
-use Rattle.vk_laws.proofs.Points.{Stands, stands, deed_of, older_node}
-
-pub join_again : (newer between past : Past) → newer ++ (between ++ past) ≡ (newer ++ between) ++ past
-join_again [] between past = refl
-join_again (p ∷ newer) between past = ap (λ (l : Past). p ∷ l) (join_again newer between past)
+use Rattle.vk_laws.proofs.Prefixes.{is_old}
+use Rattle.vk_laws.proofs.Points.{Stands, stands, deed_of, comes_at, stands_below}
 
 module _ (stay : CommandsStay) (t : List Entry) (none : first_fault t ≡ None) (newer past : Past) (p : Point) (whole : plain_order t ≡ newer ++ p ∷ past) (x : Node) (cx : Contains (nodes (p ∷ past)) x) where
   -- a command's moves are those of the whole trace
   same_moves : (c : Cmd) → x.act ≡ Runs c → moves (plain_order t) c ≡ moves (p ∷ past) c
   same_moves c e =
       let s = stands (p ∷ past) x cx in
-      let deed = deed_of s.at.deed c (subst (λ (a : Act). Contains (Rattle.vk_model.specs.Node.acts s.at.deed) a) e s.acted) in
+      let deed = deed_of s.at.deed c (subst (λ (a : Act). Contains (acts s.at.deed) a) e s.acted) in
       let all : plain_order t ≡ newer ++ (s.newer ++ s.at ∷ s.past) = whole ∙ ap (λ (l : Past). newer ++ l) s.whole in
-      let far : plain_order t ≡ (newer ++ s.newer) ++ s.at ∷ s.past = all ∙ join_again newer s.newer (s.at ∷ s.past) in
+      let far : plain_order t ≡ (newer ++ s.newer) ++ s.at ∷ s.past = all ∙ sym (append_assoc newer s.newer (s.at ∷ s.past)) in
       let a = stay t newer s.newer s.past s.at c none all deed in
       let b = stay t [] (newer ++ s.newer) s.past s.at c none far deed in
       ap (λ (l : Past). moves l c) far ∙ b ∙ sym a ∙ ap (λ (l : Past). moves l c) (sym s.whole)
@@ -61,12 +56,8 @@ module _ (stay : CommandsStay) (hazards : NoHazardLaw) (sights : SeenIsBefore) (
     (cx : Contains (nodes (plain_order t)) x) (cy : Contains (nodes (plain_order t)) y) (lt : x.number < y.number) (ax : IsTrue (accesses x.act)) (ay : IsTrue (accesses y.act)) (b : Byte) where
   here : (s : Stands (plain_order t) y) → Contains (nodes (s.at ∷ s.past)) x
   here s =
-      let old = nodes (s.at ∷ s.past) in
-      let kept = keeps (s.at ∷ s.past) s.newer in
-      let low = number_below old (numbered (s.at ∷ s.past)) y s.here in
-      let moved = subst (λ (l : Past). Contains (nodes l) x) s.whole cx in
-      older_node kept.stand.0 old x (subst (λ (l : List Node). Rattle.vk_model.specs.Before.IsNumbered l) kept.stand.1 (numbered (s.newer ++ s.at ∷ s.past)))
-      (subst (λ (l : List Node). Contains l x) kept.stand.1 moved) (omega arith)
+      let low = stands_below _ _ s in
+      is_old keeps (plain_order t) s.newer (s.at ∷ s.past) s.whole x cx (omega (arith, low, lt))
 
   apart : IsTrue (not (is_host x.act && is_host y.act)) → IsTrue (precedes x y)
   apart h = rw (lt-ltb x.number y.number lt, h) refl
@@ -80,7 +71,7 @@ module _ (stay : CommandsStay) (hazards : NoHazardLaw) (sights : SeenIsBefore) (
     judged_has = here judged
 
     free : HasNoHazard t (judged.at ∷ judged.past) x y
-    free = hazards t judged.past judged.at x y none (subst (λ (l : Past). Comes l judged.past judged.at) (sym judged.whole) (comes_here judged.newer judged.past judged.at)) judged_has judged.here judged.new (apart h)
+    free = hazards t judged.past judged.at x y none (comes_at _ _ judged) judged_has judged.here judged.new (apart h)
 
     written_then : IsTrue (is_in b (writes (plain_order t) x)) → IsTrue (is_in b (writes (judged.at ∷ judged.past) x))
     written_then m = subst (λ (l : List Byte). IsTrue (is_in b l)) (same_writes stay t none judged.newer judged.past judged.at judged.whole x judged_has ax) m

@@ -2,15 +2,15 @@
 use Rattle.std.proofs.Common.{◌≡◌, ◌⊎◌, inl, inr, ⊎_elim, ℕ, ◌+◌, ◌<◌, ◌≤◌, List, [], ◌∷◌, ◌++◌, length, None, refl, ap, sym, ◌∙◌, subst, arith}
 use Rattle.std.specs.Prelude.{⊤, Contains}
 use Rattle.std.specs.List.{fold}
+use Rattle.std.proofs.lemmas.List.{append_assoc}
 use Rattle.vk_model.specs.declared.entry.Batch.{Batch}
 use Rattle.vk_model.specs.declared.entry.Entry.{Entry}
 use Rattle.vk_model.specs.declared.entry.Entry.TheVariants as entry
 use Rattle.vk_model.specs.Point.{Point, Past, Deed, Wait, Run, Signal, host_of}
 use Rattle.vk_model.specs.Order.{Turn, host, deeds, taken, turn, turns_from, turns_of, plain_from}
-use Rattle.vk_model.specs.Node.{Node, Act, nodes, acts, with_acts}
-use Rattle.vk_laws.proofs.NoHazard.{contains-cons, contains-head, contains-tail}
+use Rattle.vk_model.specs.Node.{Node, nodes, acts}
+use Rattle.vk_laws.proofs.Points.{in_acts}
 use Rattle.vk_laws.proofs.ModelBytes.{more_nodes}
-use Rattle.vk_laws.proofs.Ordered.{join_again}
 
 -- ---- a past that grows by points that pass
 
@@ -31,16 +31,16 @@ pub record Grows (P : Point → Type 0) (past all : Past) : Type 0 where
   pub whole : all ≡ newer ++ past
   pub each : Each P newer
 
-stays : (P : Point → Type 0) (past : Past) → Grows P past past
+pub stays : (P : Point → Type 0) (past : Past) → Grows P past past
 stays P past = record { newer = []; whole = refl; each = tt }
 
-one_more : (P : Point → Type 0) (past : Past) (p : Point) → P p → Grows P past (p ∷ past)
+pub one_more : (P : Point → Type 0) (past : Past) (p : Point) → P p → Grows P past (p ∷ past)
 one_more P past p h = record { newer = p ∷ []; whole = refl; each = (h, tt) }
 
 pub grows_on : (P : Point → Type 0) (past middle all : Past) → Grows P past middle → Grows P middle all → Grows P past all
 grows_on P past middle all g h = record {
   newer = h.newer ++ g.newer;
-  whole = h.whole ∙ ap (λ (l : Past). h.newer ++ l) g.whole ∙ join_again h.newer g.newer past;
+  whole = h.whole ∙ ap (λ (l : Past). h.newer ++ l) g.whole ∙ sym (append_assoc h.newer g.newer past);
   each = each_join P h.newer g.newer h.each g.each;
 }
 
@@ -49,28 +49,33 @@ grows_too P Q f past all g = record { newer = g.newer; whole = g.whole; each = e
 
 -- ---- the points of batches
 
+-- whatever a batch of entry e on queue q does passes
+abbrev pub Allows : (Point → Type 0) → ℕ → ℕ → Type 0
+Allows P e q = (batch place : ℕ) (d : Deed) → host_of d ≡ None → P (record { entry = e; batch = batch; place = place; queue = q; deed = d })
+
+module _ (P : Point → Type 0) where
+  deeds_grow : {A : Type 0} (of : A → Deed) → ((x : A) → host_of (of x) ≡ None) → (t : Turn) → Allows P t.entry t.queue → (k : ℕ) (xs : List A) (past : Past) → Grows P past (deeds of t k xs past)
+  deeds_grow of quiet t may k [] past = stays P past
+  deeds_grow of quiet t may k (x ∷ xs) past =
+      let p : Point = record { entry = t.entry; batch = t.batch; place = k; queue = t.queue; deed = of x } in
+      grows_on P past (p ∷ past) _ (one_more P past p (may t.batch k (of x) (quiet x))) (deeds_grow of quiet t may (k + 1) xs (p ∷ past))
+
+  taken_grows : (t : Turn) → Allows P t.entry t.queue → (past : Past) → Grows P past (taken t past)
+  taken_grows t may past =
+      grows_on P past _ _ (deeds_grow Wait (λ x. refl) t may 0 t.content.waits past)
+      (grows_on P _ _ _ (deeds_grow Run (λ x. refl) t may 0 t.content.commands _) (deeds_grow Signal (λ x. refl) t may 0 t.content.signals _))
+
+  turns_grow : (before : Past) (e q k : ℕ) → Allows P e q → (bs : List Batch) (past : Past) → Grows P past (fold (λ p t. taken t p) past (turns_from before e q k bs))
+  turns_grow before e q k may [] past = stays P past
+  turns_grow before e q k may (b ∷ bs) past = grows_on P past _ _ (taken_grows (turn before e q k b) may past) (turns_grow before e q (k + 1) may bs (taken (turn before e q k b) past))
+
+  pub batches_grow : (before : Past) (e : ℕ) (x : Entry) → ((q : ℕ) (bs : List Batch) → x ≡ entry.Submit q bs → Allows P e q) → (past : Past) → Grows P past (fold (λ p t. taken t p) past (turns_of before e x))
+  batches_grow before e (entry.Submit q bs) may past = turns_grow before e q 0 (may q bs refl) bs past
+  batches_grow before e _ may past = stays P past
+
 -- a point of a batch of entry e
 abbrev pub OfBatch : ℕ → Point → Type 0
 OfBatch e p = (p.entry ≡ e) × (host_of p.deed ≡ None)
-
-deeds_grow : {A : Type 0} (of : A → Deed) → ((x : A) → host_of (of x) ≡ None) → (t : Turn) (k : ℕ) (xs : List A) (past : Past) → Grows (OfBatch t.entry) past (deeds of t k xs past)
-deeds_grow of quiet t k [] past = stays _ past
-deeds_grow of quiet t k (x ∷ xs) past =
-    let p : Point = record { entry = t.entry; batch = t.batch; place = k; queue = t.queue; deed = of x } in
-    grows_on _ past (p ∷ past) _ (one_more _ past p (refl, quiet x)) (deeds_grow of quiet t (k + 1) xs (p ∷ past))
-
-taken_grows : (t : Turn) (past : Past) → Grows (OfBatch t.entry) past (taken t past)
-taken_grows t past =
-    grows_on _ past _ _ (deeds_grow Wait (λ x. refl) t 0 t.content.waits past)
-    (grows_on _ _ _ _ (deeds_grow Run (λ x. refl) t 0 t.content.commands _) (deeds_grow Signal (λ x. refl) t 0 t.content.signals _))
-
-turns_grow : (before : Past) (e q k : ℕ) (bs : List Batch) (past : Past) → Grows (OfBatch e) past (fold (λ p t. taken t p) past (turns_from before e q k bs))
-turns_grow before e q k [] past = stays _ past
-turns_grow before e q k (b ∷ bs) past = grows_on _ past _ _ (taken_grows (turn before e q k b) past) (turns_grow before e q (k + 1) bs (taken (turn before e q k b) past))
-
-pub batches_grow : (before : Past) (e : ℕ) (x : Entry) (past : Past) → Grows (OfBatch e) past (fold (λ p t. taken t p) past (turns_of before e x))
-batches_grow before e (entry.Submit q bs) past = turns_grow before e q 0 bs past
-batches_grow before e _ past = stays _ past
 
 -- ---- the points of entries
 
@@ -85,7 +90,7 @@ plain_grows e past (x ∷ xs) =
     let next : Past = fold (λ p t. taken t p) here (turns_of past e x) in
     grows_on _ past here _ (one_more _ past (host e x) (omega arith, omega arith))
     (grows_on _ here next _
-    (grows_too _ _ (λ p h. let same = h.0 in (omega (arith, same), omega (arith, same))) here next (batches_grow past e x here))
+    (batches_grow (Within e (length (x ∷ xs))) past e x (λ q bs is b k d quiet. (omega arith, omega arith)) here)
     (grows_too _ _ (λ p h. let le = h.0 in let lt = h.1 in (omega (arith, le), omega (arith, lt))) next _ (plain_grows (e + 1) next xs)))
 
 pub plain_splits : (e : ℕ) (past : Past) (xs ys : List Entry) → plain_from e past (xs ++ ys) ≡ plain_from (e + length xs) (plain_from e past xs) ys
@@ -97,18 +102,6 @@ plain_splits e past (x ∷ xs) ys =
 
 -- ---- the nodes of points
 
-in_acts : (p : Point) (more : List Act) (ns : List Node) (n : Node) → Contains (with_acts p more ns) n → Contains ns n ⊎ (n.point ≡ p) × (length ns ≤ n.number) × Contains more n.act
-in_acts p [] ns n c = inl c
-in_acts p (a ∷ more) ns n c =
-    let one : Node = record { number = length ns; point = p; act = a } in
-    ⊎_elim
-    (λ c'. ⊎_elim
-    (λ e. let k : length ns ≡ n.number = ap (λ (m : Node). m.number) e in
-    inr (sym (ap (λ (m : Node). m.point) e), omega (arith, k), subst (λ (b : Act). Contains (a ∷ more) b) (ap (λ (m : Node). m.act) e) (contains-head a more)))
-    (λ older. inl older) (contains-cons one ns n c'))
-    (λ h. let le = h.1 in inr (h.0, omega (arith, le), contains-tail a more n.act h.2))
-    (in_acts p more (one ∷ ns) n c)
-
 -- a node of a past that grew is old, or one of a point that passes
 abbrev pub IsNewer : (Point → Type 0) → Past → Node → Type 0
 IsNewer P past n = P n.point × Contains (acts n.point.deed) n.act × (length (nodes past) ≤ n.number)
@@ -117,8 +110,8 @@ newer_node : (P : Point → Type 0) (newer past : Past) → Each P newer → (n 
 newer_node P [] past each n c = inl c
 newer_node P (p ∷ newer) past each n c =
     ⊎_elim (λ older. newer_node P newer past each.1 n older)
-    (λ h. let le = h.1 in let more = more_nodes newer past in
-    inr (subst P (sym h.0) each.0, subst (λ (q : Point). Contains (acts q.deed) n.act) (sym h.0) h.2, omega (arith, le, more)))
+    (λ h. let le = h.0 in let more = more_nodes newer past in
+    inr (subst P (sym h.2) each.0, subst (λ (q : Point). Contains (acts q.deed) n.act) (sym h.2) h.1, omega (arith, le, more)))
     (in_acts p (acts p.deed) (nodes (newer ++ past)) n c)
 
 pub old_or_newer : (P : Point → Type 0) (past all : Past) → Grows P past all → (n : Node) → Contains (nodes all) n → Contains (nodes past) n ⊎ IsNewer P past n

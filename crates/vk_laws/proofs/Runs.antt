@@ -2,7 +2,7 @@
 use Rattle.std.proofs.Common.{◌∙◌, ◌≡◌, ◌⊎◌, inl, inr, ⊎_elim, ℕ, zero, suc, ◌<◌, ◌≤◌, List, [], ◌∷◌, length, Bool, true, false, ◌&&◌, ◌||◌, not, IsTrue, Option, Some, None, refl, ap, subst, arith}
 use Rattle.std.specs.Prelude.{◌==◌, nat_lt}
 use Rattle.std.specs.List.{list_any, list_all}
-use Rattle.std.proofs.lemmas.Bool.{eqb-true, eq-eqb, ltb-true, lt-ltb, cases_lt}
+use Rattle.std.proofs.lemmas.Bool.{eqb-true, eq-eqb, ltb-true, lt-ltb, cases_lt, or_right, and_parts, or_cases, or_parts}
 use Rattle.vk_model.specs.Words.{holds}
 use Rattle.vk_model.specs.World.{Byte}
 use Rattle.vk_model.specs.Moves.{Value, From}
@@ -15,8 +15,10 @@ use Rattle.vk_laws.specs.Caches.{Cell, Caching, CellRan, Reached, Start, Run}
 use Rattle.vk_laws.specs.Tasks.{task_count, node_at, by_act, traffic_of}
 use Rattle.vk_laws.specs.Discards.{with_discards}
 use Rattle.vk_laws.specs.DefinedRuns.{stored, bytes_after}
-use Rattle.vk_laws.proofs.NoHazard.{both, some_of, either, number_below, numbered}
-use Rattle.vk_laws.proofs.HazardFree.{node_of}
+use Rattle.vk_laws.proofs.TaskNodes.{node_of, same_task}
+use Rattle.vk_laws.proofs.Members.{some_member}
+use Rattle.vk_laws.proofs.Truths.{implied, clash}
+use Rattle.vk_laws.proofs.NoHazard.{number_below, numbered}
 
 -- ---- caches that hold nothing
 
@@ -89,10 +91,7 @@ module _ (leads : BeforeLeadsOn) (all : Past) where
 
   part_in : (k j : ℕ) (rest : List Task) (u : Task) → u.node ≡ k → u.part < j → IsIn u (with_parts k j rest)
   part_in k zero rest u e lt = absurd (omega (arith, lt))
-  part_in k (suc j) rest u e lt = elim (cases_lt u.part j) [ inl less ↦ inr (part_in k j rest u e less) | inr le ↦ inl (same e (omega (arith, lt, le))) ]
-    where
-      same : u.node ≡ k → u.part ≡ j → u ≡ record { node = k; part = j }
-      same e f = λ i. record { node = e i; part = f i }
+  part_in k (suc j) rest u e lt = elim (cases_lt u.part j) [ inl less ↦ inr (part_in k j rest u e less) | inr le ↦ inl (same_task u (record { node = k; part = j }) e (omega (arith, lt, le))) ]
 
   later_in : (k j : ℕ) (rest : List Task) (u : Task) → IsIn u rest → IsIn u (with_parts k j rest)
   later_in k zero rest u h = h
@@ -153,46 +152,31 @@ module _ (leads : BeforeLeadsOn) (all : Past) where
   is_allowed size (t ∷ done) = may_run size done t && is_allowed size done
 
   is_same : (t u : Task) → IsTrue (same t u) → t ≡ u
-  is_same t u h = let g = both _ _ h in join (eqb-true t.node u.node g.0) (eqb-true t.part u.part g.1)
-    where
-      join : t.node ≡ u.node → t.part ≡ u.part → t ≡ u
-      join e f = λ i. record { node = e i; part = f i }
+  is_same t u h = let g = and_parts _ _ h in same_task t u (eqb-true t.node u.node g.0) (eqb-true t.part u.part g.1)
 
   pub found_in : (t : Task) (done : List Task) → IsTrue (is_done t done) → IsIn t done
   found_in t [] h = absurd cc
-  found_in t (u ∷ done) h = ⊎_elim (λ e. inl (is_same t u e)) (λ later. inr (found_in t done later)) (either (same t u) (is_done t done) h)
+  found_in t (u ∷ done) h = ⊎_elim (λ e. inl (is_same t u e)) (λ later. inr (found_in t done later)) (or_cases (same t u) (is_done t done) h)
 
   pub in_found : (t : Task) (done : List Task) → IsIn t done → IsTrue (is_done t done)
   in_found t [] h = absurd h
   in_found t (u ∷ done) (inl e) = rw e (rw (eq-eqb u.node u.node refl, eq-eqb u.part u.part refl) refl)
-  in_found t (u ∷ done) (inr h) = or_second (same t u) (is_done t done) (in_found t done h)
-    where
-      or_second : (a b : Bool) → IsTrue b → IsTrue (a || b)
-      or_second true b h = refl
-      or_second false b h = h
+  in_found t (u ∷ done) (inr h) = or_right (same t u) (is_done t done) (in_found t done h)
 
   each_in : (f : Task → Bool) (xs : List Task) (x : Task) → IsTrue (list_all f xs) → IsIn x xs → IsTrue (f x)
   each_in f [] x h i = absurd i
-  each_in f (y ∷ xs) x h (inl e) = rw e (both (f y) (list_all f xs) h).0
-  each_in f (y ∷ xs) x h (inr i) = each_in f xs x (both (f y) (list_all f xs) h).1 i
+  each_in f (y ∷ xs) x h (inl e) = rw e (and_parts (f y) (list_all f xs) h).0
+  each_in f (y ∷ xs) x h (inr i) = each_in f xs x (and_parts (f y) (list_all f xs) h).1 i
 
   -- size: all nodes are below it
   pub may_run_holds : (size : ℕ) (done : List Task) (t : Task) → length (nodes all) ≤ size → IsTrue (may_run size done t) → MayRun tr done t
   may_run_holds size done t le h = record {
-    there = (both _ _ (both _ _ h).0).0;
-    fresh = λ i. clash (is_done t done) (in_found t done i) (both _ _ (both _ _ h).0).1;
+    there = (and_parts _ _ (and_parts _ _ h).0).0;
+    fresh = λ i. clash (is_done t done) (in_found t done i) (and_parts _ _ (and_parts _ _ h).0).1;
     after = λ s p. found_in s done (implied (tr.has s && tr.before s.node t.node) (is_done s done) (rw (p.0, p.1) refl)
-        (each_in (λ s. not (tr.has s && tr.before s.node t.node) || is_done s done) (in_order size) s (both _ _ h).1 (task_in size s p.0 (below_size s p.0))));
+        (each_in (λ s. not (tr.has s && tr.before s.node t.node) || is_done s done) (in_order size) s (and_parts _ _ h).1 (task_in size s p.0 (below_size s p.0))));
   }
     where
-      clash : (b : Bool) → IsTrue b → IsTrue (not b) → ⊥
-      clash true h g = cc
-      clash false h g = cc
-
-      implied : (a b : Bool) → IsTrue a → IsTrue (not a || b) → IsTrue b
-      implied true b h g = g
-      implied false b h g = absurd cc
-
       below_size : (s : Task) → IsTrue (tr.has s) → s.node < size
       below_size s h = go (node_at all s.node) refl h
         where
@@ -202,7 +186,7 @@ module _ (leads : BeforeLeadsOn) (all : Past) where
 
   pub allowed_holds : (size : ℕ) (done : List Task) → length (nodes all) ≤ size → IsTrue (is_allowed size done) → IsAllowed tr done
   allowed_holds size [] le h = tt
-  allowed_holds size (t ∷ done) le h = (may_run_holds size done t le (both _ _ h).0, allowed_holds size done le (both _ _ h).1)
+  allowed_holds size (t ∷ done) le h = (may_run_holds size done t le (and_parts _ _ h).0, allowed_holds size done le (and_parts _ _ h).1)
 
   -- ---- no run gets stuck
 
@@ -213,16 +197,8 @@ module _ (leads : BeforeLeadsOn) (all : Past) where
 
     none_holds : (u : Task) (xs : List Task) (s : Task) → list_any (holds_up u) xs ≡ false → IsIn s xs → holds_up u s ≡ false
     none_holds u [] s e i = absurd i
-    none_holds u (x ∷ xs) s e (inl same) = ap (holds_up u) same ∙ no_first (holds_up u x) (list_any (holds_up u) xs) e
-      where
-        no_first : (a b : Bool) → (a || b) ≡ false → a ≡ false
-        no_first true b e = e
-        no_first false b e = refl
-    none_holds u (x ∷ xs) s e (inr i) = none_holds u xs s (no_rest (holds_up u x) (list_any (holds_up u) xs) e) i
-      where
-        no_rest : (a b : Bool) → (a || b) ≡ false → b ≡ false
-        no_rest true b e = absurd cc
-        no_rest false b e = e
+    none_holds u (x ∷ xs) s e (inl same) = ap (holds_up u) same ∙ (or_parts (holds_up u x) (list_any (holds_up u) xs) e).0
+    none_holds u (x ∷ xs) s e (inr i) = none_holds u xs s (or_parts (holds_up u x) (list_any (holds_up u) xs) e).1 i
 
     pub some_next : (k : ℕ) (u : Task) → u.node < k → IsTrue (tr.has u) → (IsIn u done → ⊥) → (t : Task) × MayRun tr done t
     unfolding holds_up
@@ -238,15 +214,11 @@ module _ (leads : BeforeLeadsOn) (all : Past) where
 
         go : ((s : Task) → s.node < k → IsTrue (tr.has s) → (IsIn s done → ⊥) → (t : Task) × MayRun tr done t) → (b : Bool) → list_any (holds_up u) (in_order u.node) ≡ b → (t : Task) × MayRun tr done t
         go rest true e =
-            let s = some_of (holds_up u) (in_order u.node) e in
-            let g = both _ _ s.2 in
-            let p = both _ _ g.0 in
+            let s = some_member (holds_up u) (in_order u.node) e in
+            let g = and_parts _ _ s.2 in
+            let p = and_parts _ _ g.0 in
             let earlier_node = earlier s.0 u p in
             rest s.0 (omega (arith, earlier_node, lt)) p.0 (λ i. clash (is_done s.0 done) (in_found s.0 done i) g.1)
-          where
-            clash : (b : Bool) → IsTrue b → IsTrue (not b) → ⊥
-            clash true h g = cc
-            clash false h g = cc
         go rest false e = (u, record { there = h; fresh = n; after = λ s p. found_in s done (free s p (none_holds u (in_order u.node) s e (task_in u.node s p.0 (earlier s u p)))) })
 
 -- ---- and where invalidations forget

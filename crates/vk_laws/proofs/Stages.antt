@@ -1,27 +1,25 @@
 -- Where a stage of a run stands in its trace.
 use Rattle.std.proofs.Common.{false, inl, inr, IsTrue, ◌≡◌, ◌⊎◌, ⊎_elim, ℕ, ◌+◌, ◌<◌, ◌≤◌, List, [], ◌∷◌, ◌++◌, length, true, Some, None, refl, ap, sym, ◌∙◌, subst, arith, append_assoc, length-append}
 use Rattle.std.specs.Prelude.{Contains}
-use Rattle.std.specs.List.{fold}
-use Rattle.std.proofs.lemmas.List.{append-nil}
-use Rattle.vk_model.specs.declared.entry.Entry.TheVariants as entry
+use Rattle.std.proofs.lemmas.Bool.{false_from_ne_true}
 use Rattle.vk_model.specs.declared.entry.Entry.{Entry}
+use Rattle.vk_model.specs.declared.entry.Entry.TheVariants as entry
 use Rattle.vk_model.specs.declared.rule.Rule.TheVariants as rule
 use Rattle.vk_model.specs.Point.{Past, Host, host_of}
 use Rattle.vk_model.specs.Order.{Front, host, taken, turns_of, plain_from, plain_order, after_entry, order_from}
 use Rattle.vk_model.specs.Node.{Node, Act, Hosts, nodes, acts}
 use Rattle.vk_model.specs.Edge.{is_host, is_submit}
 use Rattle.vk_model.specs.Rules.{breaks}
-use Rattle.vk_model.specs.Fault.{Comes, IsSound}
+use Rattle.vk_model.specs.Fault.{IsSound}
 use Rattle.vk_model.specs.Laws.{GrowthKeeps, NeverAhead, OrdersAgree}
-use Rattle.vk_model.specs.Run.{Stage, start, is_host_wait, applied, past_with}
-use Rattle.vk_laws.proofs.NoHazard.{contains-cons, contains-head}
-use Rattle.vk_laws.proofs.Steady.{IsNew, comes_later}
-use Rattle.vk_laws.proofs.CachedStays.{IsLive}
-use Rattle.vk_laws.proofs.Apart.{none_in}
-use Rattle.vk_laws.proofs.HazardFree.{refuted}
+use Rattle.vk_model.specs.Run.{Stage, start, applied, past_with, is_host_wait}
+use Rattle.vk_laws.proofs.Members.{contains-cons, contains-head, none_in}
+use Rattle.vk_laws.proofs.Steady.{comes_within}
 use Rattle.vk_laws.proofs.ModelBytes.{host_deed}
 use Rattle.vk_laws.proofs.PlainOrder.{Each, Grows, grows_too, Within, OfBatch, batches_grow, plain_grows, plain_splits, old_or_newer}
 use Rattle.vk_laws.proofs.Prefixes.{has_more}
+use Rattle.std.specs.List.{fold}
+use Rattle.std.proofs.lemmas.List.{append-nil}
 
 abbrev with_entry : ℕ → Past → Entry → Past
 with_entry e past x = fold (λ p t. taken t p) (host e x ∷ past) (turns_of past e x)
@@ -51,7 +49,7 @@ submitted_from keeps e past (x ∷ xs) n batch c = ⊎_elim (λ here. by_entry x
 
     in_all : (y : Entry) (m : Node) → Contains (nodes (host e y ∷ past)) m → Contains (nodes (plain_from (e + 1) (with_entry e past y) xs)) m
     in_all y m h =
-        let g = batches_grow past e y (host e y ∷ past) in
+        let g = batches_grow (OfBatch e) past e y (λ q bs is b k d quiet. (refl, quiet)) (host e y ∷ past) in
         let k = plain_grows (e + 1) (with_entry e past y) xs in
         subst (λ (l : Past). Contains (nodes l) m) (sym k.whole) (has_more keeps k.newer (with_entry e past y) m (subst (λ (l : Past). Contains (nodes l) m) (sym g.whole) (has_more keeps g.newer (host e y ∷ past) m h)))
 
@@ -66,20 +64,12 @@ submitted_from keeps e past (x ∷ xs) n batch c = ⊎_elim (λ here. by_entry x
           entry = sym new.0.0;
           earlier = omega (arith, le);
         }))
-        (old_or_newer (OfBatch e) (host e (entry.Submit q bs) ∷ past) (with_entry e past (entry.Submit q bs)) (batches_grow past e (entry.Submit q bs) (host e (entry.Submit q bs) ∷ past)) n h)
+        (old_or_newer (OfBatch e) (host e (entry.Submit q bs) ∷ past) (with_entry e past (entry.Submit q bs)) (batches_grow (OfBatch e) past e (entry.Submit q bs) (λ r cs is b k d quiet. (refl, quiet)) (host e (entry.Submit q bs) ∷ past)) n h)
     by_entry _ h = inl (not_new _ h)
 
 module _ (orders : OrdersAgree) (keeps : GrowthKeeps) (t : List Entry) (sound : IsSound t) where
   abbrev all : Past
   all = plain_order t
-
-  pub new_ids : IsNew all
-  unfolding breaks
-  new_ids b q c h = sound b q rule.NewId (c, h)
-
-  pub live_ids : IsLive all
-  unfolding breaks
-  live_ids b q c h = sound b q rule.LiveId (c, h)
 
   abbrev empty : Front
   empty = record { past = []; waiting = [] }
@@ -102,7 +92,7 @@ module _ (orders : OrdersAgree) (keeps : GrowthKeeps) (t : List Entry) (sound : 
   never : (s : Stage) (p : Placed s) → NeverAhead p.gone
   never s p b q c =
       let g = rest_grows s p in
-      refuted (breaks rule.WaitBeforeSignal b q) (λ h. sound b q rule.WaitBeforeSignal (subst (λ (l : Past). Comes l b q) (sym g.whole) (comes_later g.newer (plain_order p.gone) b q c), h))
+      false_from_ne_true (breaks rule.WaitBeforeSignal b q) (λ h. sound b q rule.WaitBeforeSignal (comes_within _ g.newer (plain_order p.gone) g.whole b q c, h))
 
   past_is : (s : Stage) (p : Placed s) → s.front.past ≡ plain_order p.gone
   past_is s p = ap (λ (f : Front). f.past) p.front ∙ orders p.gone (never s p)
@@ -139,7 +129,7 @@ module _ (orders : OrdersAgree) (keeps : GrowthKeeps) (t : List Entry) (sound : 
     batches : Grows (OfBatch s.count) (host s.count x ∷ s.front.past) (past_with s x)
     unfolding next_placed
     batches =
-        let g = batches_grow (plain_order p.gone) (0 + length p.gone) x (host (0 + length p.gone) x ∷ plain_order p.gone) in
+        let g = batches_grow (OfBatch (0 + length p.gone)) (plain_order p.gone) (0 + length p.gone) x (λ q bs is b k d quiet. (refl, quiet)) (host (0 + length p.gone) x ∷ plain_order p.gone) in
         record {
           newer = g.newer;
           whole = past_is (applied s x xs) next_placed ∙ plain_splits 0 [] p.gone (x ∷ []) ∙ g.whole

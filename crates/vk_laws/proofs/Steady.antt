@@ -1,8 +1,8 @@
 -- What a command reads and writes stays as it was when its point came, since ids are never made twice and are alive when they're named.
-use Rattle.std.proofs.Common.{◌≡◌, ℕ, [], ◌∷◌, ◌++◌, map, Bool, true, false, cond, ◌||◌, ◌&&◌, not, IsTrue, Option, Some, None, refl, ap, sym, ◌∙◌, subst}
+use Rattle.std.proofs.Common.{◌≡◌, ℕ, [], ◌∷◌, ◌++◌, map, Bool, true, false, cond, ◌&&◌, IsTrue, Option, Some, None, refl, ap, sym, ◌∙◌, subst, List}
 use Rattle.std.specs.Prelude.{◌==◌, ◌%◌, ◌+◌, is_some, option_and_then, if◌then◌else◌}
 use Rattle.std.specs.List.{list_any, find, cons_option, flat_map}
-use Rattle.std.proofs.lemmas.Bool.{eqb-true}
+use Rattle.std.proofs.lemmas.Bool.{eqb-true, or_left, or_right}
 use Rattle.vk_model.specs.declared.command.Cmd.{Cmd}
 use Rattle.vk_model.specs.declared.command.Cmd.TheVariants as cmd
 use Rattle.vk_model.specs.declared.entry.Entry.{Entry}
@@ -13,7 +13,11 @@ use Rattle.vk_model.specs.Objects.{made_by, made, ended, live, buffer_in, image_
 use Rattle.vk_model.specs.Moves.{Value, move, moves, fill_size, clear_moves, copy_in_moves, copy_out_moves, copy_image_moves}
 use Rattle.vk_model.specs.Pieces.{cut, row_bytes, clear_pieces, pieces}
 use Rattle.vk_model.specs.RulesIds.{breaks_new_id, breaks_live_id, is_dead, asked_by, asked_by_command, until}
-use Rattle.vk_model.specs.Fault.{Comes, newest, older}
+use Rattle.vk_model.specs.Fault.{Comes, newest, older, IsSound}
+use Rattle.vk_laws.proofs.Truths.{unless}
+use Rattle.vk_model.specs.Order.{plain_order}
+use Rattle.vk_model.specs.Rules.{breaks}
+use Rattle.vk_model.specs.declared.rule.Rule.TheVariants as rule
 
 -- ---- objects
 
@@ -37,6 +41,18 @@ made_step past q i x new is = go (host_of q.deed) new
 abbrev pub IsNew : Past → Type 0
 IsNew all = (b : Past) (q : Point) → Comes all b q → IsTrue (breaks_new_id b q) → ⊥
 
+-- each id that a point of a past names is alive
+abbrev pub IsLive : Past → Type 0
+IsLive all = (b : Past) (q : Point) → Comes all b q → IsTrue (breaks_live_id b q) → ⊥
+
+pub new_ids : (t : List Entry) → IsSound t → IsNew (plain_order t)
+unfolding breaks
+new_ids t sound b q c h = sound b q rule.NewId (c, h)
+
+pub live_ids : (t : List Entry) → IsSound t → IsLive (plain_order t)
+unfolding breaks
+live_ids t sound b q c h = sound b q rule.LiveId (c, h)
+
 pub made_up : (more past : Past) (i : ℕ) (x : Entry) → IsNew (more ++ past) → made past i ≡ Some x → made (more ++ past) i ≡ Some x
 made_up [] past i x new is = is
 made_up (q ∷ more) past i x new is = made_step (more ++ past) q i x (new (more ++ past) q newest) (made_up more past i x (λ b r c. new b r (older c)) is)
@@ -57,17 +73,6 @@ live_made past i k h = go (ended past i) (made past i) refl h
     go false None e h = absurd cc
     go false (Some x) e h = (x, e)
 
-pub unless : (b : Bool) → (IsTrue (not b) → ⊥) → IsTrue b
-unless true h = refl
-unless false h = absurd (h refl)
-
-pub or_first : (a b : Bool) → IsTrue a → IsTrue (a || b)
-or_first a b h = rw h refl
-
-pub or_second : (a b : Bool) → IsTrue b → IsTrue (a || b)
-or_second true b h = refl
-or_second false b h = h
-
 -- ---- commands
 
 -- where two pasts have the same objects of the ids that a command names, they have the same moves and pieces of it
@@ -75,13 +80,13 @@ module _ (judged one other : Past) (same : (i : ℕ) (k : Entry → Bool) → (I
   pub moves_same : (c : Cmd) → (IsTrue (list_any (is_dead judged) (asked_by_command c)) → ⊥) → moves one c ≡ moves other c
   moves_same (cmd.Fill b o n w) alive =
       ap (λ (m : Option Entry). map (λ k. move (in_buffer b (o + k)) (Value (byte_of w (k % 4)))) (below (fill_size (elim (option_and_then buffer_in m) [ None ↦ 0 | Some x ↦ x.size ]) o n)))
-      (same b _ (λ h. alive (or_first _ _ h)))
+      (same b _ (λ h. alive (or_left _ _ h)))
   moves_same (cmd.Update b o bytes) alive = refl
   moves_same (cmd.Copy s d gs) alive = refl
-  moves_same (cmd.Clear i l color rs) alive = ap (λ (m : Option Entry). flat_map (clear_moves i color (option_and_then image_in m)) rs) (same i _ (λ h. alive (or_first _ _ h)))
-  moves_same (cmd.CopyIn b i l gs) alive = ap (λ (m : Option Entry). flat_map (copy_in_moves b i (option_and_then image_in m)) gs) (same i _ (λ h. alive (or_second _ _ (or_first _ _ h))))
-  moves_same (cmd.CopyOut i l b gs) alive = ap (λ (m : Option Entry). flat_map (copy_out_moves i b (option_and_then image_in m)) gs) (same i _ (λ h. alive (or_first _ _ h)))
-  moves_same (cmd.CopyImage s l d m gs) alive = ap (λ (x : Option Entry). flat_map (copy_image_moves s d (option_and_then image_in x)) gs) (same d _ (λ h. alive (or_second _ _ (or_first _ _ h))))
+  moves_same (cmd.Clear i l color rs) alive = ap (λ (m : Option Entry). flat_map (clear_moves i color (option_and_then image_in m)) rs) (same i _ (λ h. alive (or_left _ _ h)))
+  moves_same (cmd.CopyIn b i l gs) alive = ap (λ (m : Option Entry). flat_map (copy_in_moves b i (option_and_then image_in m)) gs) (same i _ (λ h. alive (or_right _ _ (or_left _ _ h))))
+  moves_same (cmd.CopyOut i l b gs) alive = ap (λ (m : Option Entry). flat_map (copy_out_moves i b (option_and_then image_in m)) gs) (same i _ (λ h. alive (or_left _ _ h)))
+  moves_same (cmd.CopyImage s l d m gs) alive = ap (λ (x : Option Entry). flat_map (copy_image_moves s d (option_and_then image_in x)) gs) (same d _ (λ h. alive (or_right _ _ (or_left _ _ h))))
   moves_same (cmd.Barrier es) alive = refl
   moves_same (cmd.Set v ms) alive = refl
   moves_same (cmd.Await v ms) alive = refl
@@ -90,13 +95,13 @@ module _ (judged one other : Past) (same : (i : ℕ) (k : Entry → Bool) → (I
   pieces_same (cmd.Fill b o n w) alive = ap (cut 4096) (moves_same (cmd.Fill b o n w) alive)
   pieces_same (cmd.Update b o bytes) alive = refl
   pieces_same (cmd.Copy s d gs) alive = refl
-  pieces_same (cmd.Clear i l color rs) alive = ap (λ (m : Option Entry). flat_map (clear_pieces i color (option_and_then image_in m)) rs) (same i _ (λ h. alive (or_first _ _ h)))
+  pieces_same (cmd.Clear i l color rs) alive = ap (λ (m : Option Entry). flat_map (clear_pieces i color (option_and_then image_in m)) rs) (same i _ (λ h. alive (or_left _ _ h)))
   pieces_same (cmd.CopyIn b i l gs) alive =
-      ap (λ (m : Option Entry). flat_map (λ g. cut (row_bytes (option_and_then image_in m) g.width) (copy_in_moves b i (option_and_then image_in m) g)) gs) (same i _ (λ h. alive (or_second _ _ (or_first _ _ h))))
+      ap (λ (m : Option Entry). flat_map (λ g. cut (row_bytes (option_and_then image_in m) g.width) (copy_in_moves b i (option_and_then image_in m) g)) gs) (same i _ (λ h. alive (or_right _ _ (or_left _ _ h))))
   pieces_same (cmd.CopyOut i l b gs) alive =
-      ap (λ (m : Option Entry). flat_map (λ g. cut (row_bytes (option_and_then image_in m) g.width) (copy_out_moves i b (option_and_then image_in m) g)) gs) (same i _ (λ h. alive (or_first _ _ h)))
+      ap (λ (m : Option Entry). flat_map (λ g. cut (row_bytes (option_and_then image_in m) g.width) (copy_out_moves i b (option_and_then image_in m) g)) gs) (same i _ (λ h. alive (or_left _ _ h)))
   pieces_same (cmd.CopyImage s l d m gs) alive =
-      ap (λ (x : Option Entry). flat_map (λ g. cut (row_bytes (option_and_then image_in x) g.width) (copy_image_moves s d (option_and_then image_in x) g)) gs) (same d _ (λ h. alive (or_second _ _ (or_first _ _ h))))
+      ap (λ (x : Option Entry). flat_map (λ g. cut (row_bytes (option_and_then image_in x) g.width) (copy_image_moves s d (option_and_then image_in x) g)) gs) (same d _ (λ h. alive (or_right _ _ (or_left _ _ h))))
   pieces_same (cmd.Barrier es) alive = refl
   pieces_same (cmd.Set v ms) alive = refl
   pieces_same (cmd.Await v ms) alive = refl
@@ -110,6 +115,9 @@ comes_here (q ∷ more) past p = older (comes_here more past p)
 pub comes_later : (newer all b : Past) (q : Point) → Comes all b q → Comes (newer ++ all) b q
 comes_later [] all b q c = c
 comes_later (r ∷ newer) all b q c = older (comes_later newer all b q c)
+
+pub comes_within : (all newer past : Past) → all ≡ newer ++ past → (b : Past) (q : Point) → Comes past b q → Comes all b q
+comes_within all newer past whole b q c = subst (λ (l : Past). Comes l b q) (sym whole) (comes_later newer past b q c)
 
 -- an id that a point's command names has the same object from then on
 made_stay : (newer past : Past) (p : Point) → IsNew (newer ++ p ∷ past) → (i : ℕ) (k : Entry → Bool) → (IsTrue (is_dead (until p.entry past) (i, k)) → ⊥) → made (newer ++ p ∷ past) i ≡ made past i
@@ -127,7 +135,7 @@ module _ (whole newer past : Past) (p : Point) (c : Cmd) (split : whole ≡ newe
   pub named_alive : IsTrue (list_any (is_dead (until p.entry past)) (asked_by_command c)) → ⊥
   named_alive h =
       let dead : (d : Deed) → Bool = λ d. list_any (is_dead (if is_some (host_of d) then past else until p.entry past)) (asked_by d) in
-      alive past p (come past p (comes_here newer past p)) (or_first _ _ (subst (λ (d : Deed). IsTrue (dead d)) (sym deed) h))
+      alive past p (come past p (comes_here newer past p)) (or_left _ _ (subst (λ (d : Deed). IsTrue (dead d)) (sym deed) h))
 
   same_objects : (i : ℕ) (k : Entry → Bool) → (IsTrue (is_dead (until p.entry past) (i, k)) → ⊥) → made whole i ≡ made past i
   same_objects i k live = ap (λ (l : Past). made l i) split ∙ made_stay newer past p (λ b q h. new b q (come b q h)) i k live
@@ -144,7 +152,7 @@ pub commands_stay : (whole newer between past : Past) (p : Point) (c : Cmd) → 
     → moves (between ++ p ∷ past) c ≡ moves (p ∷ past) c
 commands_stay whole newer between past p c same deed new alive =
     let middle = between ++ p ∷ past in
-    let come : (b : Past) (q : Point) → Comes middle b q → Comes whole b q = λ b q h. subst (λ (l : Past). Comes l b q) (sym same) (comes_later newer middle b q h) in
+    let come : (b : Past) (q : Point) → Comes middle b q → Comes whole b q = λ b q h. comes_within _ newer middle same b q h in
     let low : (b : Past) (q : Point) → Comes (p ∷ past) b q → Comes whole b q = λ b q h. come b q (comes_later between (p ∷ past) b q h) in
     kept_moves middle between past p c refl deed (λ b q h. new b q (come b q h)) (λ b q h. alive b q (come b q h))
     ∙ sym (kept_moves (p ∷ past) [] past p c refl deed (λ b q h. new b q (low b q h)) (λ b q h. alive b q (low b q h)))

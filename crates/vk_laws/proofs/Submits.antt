@@ -11,8 +11,7 @@ use Rattle.vk_model.specs.Order.{plain_order}
 use Rattle.vk_model.specs.Node.{Node, Act, Hosts, Waits, Signals, Runs, Depends, nodes, acts}
 use Rattle.vk_model.specs.Edge.{is_submit}
 use Rattle.vk_laws.specs.TraceCaches.{submits_to}
-use Rattle.vk_laws.proofs.NoHazard.{contains-head}
-use Rattle.vk_laws.proofs.TaskAccesses.{right_has}
+use Rattle.vk_laws.proofs.Members.{contains-head, right_has}
 use Rattle.vk_laws.proofs.Points.{Stands, stands, deed_of}
 use Rattle.vk_laws.proofs.ModelBytes.{host_deed}
 use Rattle.vk_laws.proofs.Entries.{OfDeed, point_of}

@@ -1,8 +1,9 @@
 -- What a trace's tasks access, their nodes access.
-use Rattle.std.proofs.Common.{◌≡◌, inl, inr, ⊎_elim, ℕ, zero, suc, ◌+◌, ◌-◌, ◌<◌, ◌≤◌, List, [], ◌∷◌, ◌++◌, map, length, Bool, true, false, cond, ◌&&◌, IsTrue, Option, Some, None, refl, ap, sym, ◌∙◌, subst, arith, slice_get}
+use Rattle.std.proofs.Common.{◌≡◌, inl, inr, ⊎_elim, ℕ, ◌+◌, ◌-◌, ◌<◌, ◌≤◌, List, length, Bool, true, false, cond, ◌&&◌, IsTrue, Option, Some, None, refl, sym, subst, arith, slice_get}
 use Rattle.std.specs.Prelude.{Contains, nat_lt, nat_le, ◌==◌, option_map}
-use Rattle.std.specs.List.{find, flat_map, filter_map, range_with_len, cons_option}
-use Rattle.std.proofs.lemmas.Bool.{eqb-true, eq-eqb, leb-true, lt-ltb}
+use Rattle.std.specs.List.{find, range_with_len}
+use Rattle.std.proofs.lemmas.Bool.{eqb-true, eq-eqb, leb-true, lt-ltb, and_parts}
+use Rattle.std.proofs.lemmas.Option.{slice_get_within}
 use Rattle.vk_model.specs.World.{Byte, in_buffer, in_image, same_byte}
 use Rattle.vk_model.specs.declared.entry.Entry.{Entry}
 use Rattle.vk_model.specs.declared.entry.Entry.TheVariants as entry
@@ -20,87 +21,24 @@ use Rattle.vk_laws.specs.EveryOrder.{IsSettled}
 use Rattle.vk_laws.specs.Machine.{Task, Put, Puts, Writes, Reads, Precedes, Conflict, MayRun, IsAllowed}
 use Rattle.vk_laws.specs.Trace.{accesses, AccessesInOrder}
 use Rattle.vk_laws.specs.Tasks.{moves_of, host_value, part_write, part_read, task_count, node_at, by_act, traffic_of}
+use Rattle.vk_laws.proofs.TaskNodes.{node_of}
+use Rattle.vk_laws.proofs.Members.{member_passes, some_member, found, map_has, part_has, chosen_has, chosen_from, numbers_have, none_in}
 use Rattle.vk_laws.proofs.Fresh.{closed}
-use Rattle.vk_laws.proofs.NoHazard.{contains-cons, contains-head, contains-tail, some_of, any_of}
-
--- ---- lists
-
-pub found : {X : Type 0} (f : X → Bool) (xs : List X) (x : X) → find f xs ≡ Some x → Contains xs x × IsTrue (f x)
-found f [] x e = absurd cc
-found {X} f (y ∷ ys) x e = go (f y) refl e (found f ys x)
-  where
-    go : (b : Bool) → f y ≡ b → cond b (Some y) (find f ys) ≡ Some x → (find f ys ≡ Some x → Contains ys x × IsTrue (f x)) → Contains (y ∷ ys) x × IsTrue (f x)
-    go true h e rest = let same : y ≡ x = cc in (subst (λ (z : X). Contains (y ∷ ys) z) same (contains-head y ys), subst (λ (z : X). IsTrue (f z)) same h)
-    go false h e rest = let r = rest e in (contains-tail y ys x r.0, r.1)
-
-pub map_has : {X Y : Type 0} (f : X → Y) (xs : List X) (x : X) → Contains xs x → Contains (map f xs) (f x)
-map_has f [] x c = absurd (let none : c.0 < 0 = c.1 in omega arith)
-map_has {X} {Y} f (y ∷ ys) x c = ⊎_elim
-    (λ e. subst (λ (z : X). Contains (f y ∷ map f ys) (f z)) e (contains-head (f y) (map f ys)))
-    (λ later. contains-tail (f y) (map f ys) (f x) (map_has f ys x later)) (contains-cons y ys x c)
-
-left_has : {X : Type 0} (xs ys : List X) (x : X) → Contains xs x → Contains (xs ++ ys) x
-left_has [] ys x c = absurd (let none : c.0 < 0 = c.1 in omega arith)
-left_has {X} (y ∷ xs) ys x c = ⊎_elim
-    (λ e. subst (λ (z : X). Contains (y ∷ (xs ++ ys)) z) e (contains-head y (xs ++ ys)))
-    (λ later. contains-tail y (xs ++ ys) x (left_has xs ys x later)) (contains-cons y xs x c)
-
-pub right_has : {X : Type 0} (xs ys : List X) (x : X) → Contains ys x → Contains (xs ++ ys) x
-right_has [] ys x c = c
-right_has (y ∷ xs) ys x c = contains-tail y (xs ++ ys) x (right_has xs ys x c)
-
-pub part_has : {X : Type 0} (parts : List (List X)) (k : ℕ) (part : List X) (x : X) → slice_get parts k ≡ Some part → Contains part x → Contains (flat_map (λ p. p) parts) x
-part_has [] k part x e c = absurd cc
-part_has {X} (p ∷ parts) zero part x e c = let same : p ≡ part = cc in left_has p (flat_map (λ p. p) parts) x (subst (λ (l : List X). Contains l x) (sym same) c)
-part_has (p ∷ parts) (suc k) part x e c = right_has p (flat_map (λ p. p) parts) x (part_has parts k part x e c)
-
-pub chosen_has : {X Y : Type 0} (f : X → Option Y) (xs : List X) (x : X) (y : Y) → Contains xs x → f x ≡ Some y → Contains (filter_map f xs) y
-chosen_has f [] x y c e = absurd (let none : c.0 < 0 = c.1 in omega arith)
-chosen_has {X} {Y} f (z ∷ xs) x y c e = ⊎_elim (λ same. here (f z) (ap f same ∙ e)) (λ later. there (f z) (chosen_has f xs x y later e)) (contains-cons z xs x c)
-  where
-    here : (o : Option Y) → o ≡ Some y → Contains (cons_option o (filter_map f xs)) y
-    here None h = absurd cc
-    here (Some w) h = let same : w ≡ y = cc in subst (λ (v : Y). Contains (w ∷ filter_map f xs) v) same (contains-head w (filter_map f xs))
-
-    there : (o : Option Y) → Contains (filter_map f xs) y → Contains (cons_option o (filter_map f xs)) y
-    there None h = h
-    there (Some w) h = contains-tail w (filter_map f xs) y h
-
-pub chosen_from : {X Y : Type 0} (f : X → Option Y) (xs : List X) (y : Y) → Contains (filter_map f xs) y → (x : X) × Contains xs x × (f x ≡ Some y)
-chosen_from f [] y c = absurd (let none : c.0 < 0 = c.1 in omega arith)
-chosen_from {X} {Y} f (z ∷ xs) y c = go (f z) refl c (chosen_from f xs y)
-  where
-    go : (o : Option Y) → f z ≡ o → Contains (cons_option o (filter_map f xs)) y → (Contains (filter_map f xs) y → (x : X) × Contains xs x × (f x ≡ Some y)) → (x : X) × Contains (z ∷ xs) x × (f x ≡ Some y)
-    go None e c rest = let r = rest c in (r.0, contains-tail z xs r.0 r.1, r.2)
-    go (Some w) e c rest = ⊎_elim (λ same. (z, contains-head z xs, e ∙ ap Some same)) (λ later. let r = rest later in (r.0, contains-tail z xs r.0 r.1, r.2)) (contains-cons w (filter_map f xs) y c)
-
-pub numbers_have : (a n k : ℕ) → k < n → Contains (range_with_len a n) (a + k)
-numbers_have a zero k lt = absurd (omega arith)
-numbers_have a (suc n) zero lt = subst (λ (z : ℕ). Contains (range_with_len a (suc n)) z) (let e : a ≡ a + 0 = omega arith in e) (contains-head a (range_with_len (a + 1) n))
-numbers_have a (suc n) (suc k) lt = subst (λ (z : ℕ). Contains (range_with_len a (suc n)) z) (let e : (a + 1) + k ≡ a + suc k = omega arith in e) (contains-tail a (range_with_len (a + 1) n) ((a + 1) + k) (numbers_have (a + 1) n k (omega arith)))
-
-pub place_below : {X : Type 0} (xs : List X) (k : ℕ) (x : X) → slice_get xs k ≡ Some x → k < length xs
-place_below [] k x e = absurd cc
-place_below (y ∷ ys) zero x e = omega arith
-place_below (y ∷ ys) (suc k) x e = let lt = place_below ys k x e in omega arith
 
 -- ---- bytes
 
-first : (a b : Bool) → IsTrue (a && b) → IsTrue a
-first true b h = refl
-first false b h = absurd cc
-
-second : (a b : Bool) → IsTrue (a && b) → IsTrue b
-second true b h = h
-second false b h = absurd cc
-
 pub byte_same : (a b : Byte) → IsTrue (same_byte a b) → a ≡ b
 byte_same (in_buffer b k) (in_buffer c l) h =
-    let e = eqb-true b c (first _ _ h) in let f = eqb-true k l (second _ _ h) in cc
+    let g = and_parts (b == c) (k == l) h in
+    let e = eqb-true b c g.0 in let f = eqb-true k l g.1 in cc
 byte_same (in_image i a b x y p) (in_image j c d u v q) h =
-    let h4 = first _ _ h in let h3 = first _ _ h4 in let h2 = first _ _ h3 in let h1 = first _ _ h2 in
-    let e0 = eqb-true i j (first _ _ h1) in let e1 = eqb-true a c (second _ _ h1) in let e2 = eqb-true b d (second _ _ h2) in
-    let e3 = eqb-true x u (second _ _ h3) in let e4 = eqb-true y v (second _ _ h4) in let e5 = eqb-true p q (second _ _ h) in cc
+    let h5 = and_parts (i == j && a == c && b == d && x == u && y == v) (p == q) h in
+    let h4 = and_parts (i == j && a == c && b == d && x == u) (y == v) h5.0 in
+    let h3 = and_parts (i == j && a == c && b == d) (x == u) h4.0 in
+    let h2 = and_parts (i == j && a == c) (b == d) h3.0 in
+    let h1 = and_parts (i == j) (a == c) h2.0 in
+    let e0 = eqb-true i j h1.0 in let e1 = eqb-true a c h1.1 in let e2 = eqb-true b d h2.1 in
+    let e3 = eqb-true x u h3.1 in let e4 = eqb-true y v h4.1 in let e5 = eqb-true p q h5.1 in cc
 byte_same (in_buffer b k) (in_image j c d u v q) h = absurd cc
 byte_same (in_image i a b x y p) (in_buffer c l) h = absurd cc
 
@@ -115,7 +53,7 @@ module _ (together : PiecesAreMoves) (all : Past) where
   piece_move x k m c = go (slice_get (pieces all x) k) refl c
     where
       go : (o : Option (List Move)) → slice_get (pieces all x) k ≡ o → Contains (moves_of o) m → Contains (moves all x) m
-      go None e c = absurd (let none : c.0 < 0 = c.1 in omega arith)
+      go None e c = absurd (none_in m c)
       go (Some ms) e c = subst (λ (l : List Move). Contains l m) (together all x) (part_has (pieces all x) k ms m e c)
 
   run_writes : (x : Cmd) (k : ℕ) (c : Byte) (w : Put) → part_write all (Runs x) k c ≡ Some w → Contains (targets (moves all x)) c
@@ -134,7 +72,7 @@ module _ (together : PiecesAreMoves) (all : Past) where
   host_writes_it (entry.Write b o bytes) (in_buffer d j) v e = go (b == d) (nat_le o j) refl refl e
     where
       go : (f g : Bool) → (b == d) ≡ f → nat_le o j ≡ g → cond (f && g) (slice_get bytes (j - o)) None ≡ Some v → Contains (bytes_of b o (length bytes)) (in_buffer d j)
-      go true true h k e = subst (λ (i : ℕ). Contains (bytes_of b o (length bytes)) (in_buffer i j)) (eqb-true b d h) (host_bytes b o (length bytes) j (leb-true o j k) (place_below bytes (j - o) v e))
+      go true true h k e = subst (λ (i : ℕ). Contains (bytes_of b o (length bytes)) (in_buffer i j)) (eqb-true b d h) (host_bytes b o (length bytes) j (leb-true o j k) (slice_get_within bytes (j - o) v e))
       go true false h k e = absurd cc
       go false g h k e = absurd cc
   host_writes_it (entry.Write b o bytes) (in_image i l m x y p) v e = absurd cc
@@ -153,20 +91,20 @@ module _ (together : PiecesAreMoves) (all : Past) where
   writes_it (Depends r s) q k c w e = absurd cc
 
   pub is_there : (c : Byte) (bs : List Byte) → IsTrue (is_in c bs) → Contains bs c
-  is_there c bs h = let s = some_of (same_byte c) bs h in subst (λ (b : Byte). Contains bs b) (sym (byte_same c s.0 s.2)) s.1
+  is_there c bs h = let s = some_member (same_byte c) bs h in subst (λ (b : Byte). Contains bs b) (sym (byte_same c s.0 s.2)) s.1
 
   reads_it : (a : Act) (q k : ℕ) (c : Byte) → IsTrue (part_read all a k c) → IsTrue (accesses a) × Contains (reads_of all q a) c
   reads_it (Runs x) q k c h =
       let there = is_there c (origins (moves_of (slice_get (pieces all x) k))) h in
       let m = chosen_from (λ m. origin m.source) (moves_of (slice_get (pieces all x) k)) c there in
       (refl, chosen_has (λ m. origin m.source) (moves all x) m.0 c (piece_move x k m.0 m.1) m.2)
-  reads_it (Hosts x) q k c h = (refl, is_there c (host_reads x) (second (k == 0) _ h))
+  reads_it (Hosts x) q k c h = (refl, is_there c (host_reads x) (and_parts (k == 0) _ h).1)
   reads_it (Waits s) q k c h = absurd cc
   reads_it (Signals s) q k c h = absurd cc
   reads_it (Depends r s) q k c h = absurd cc
 
   pub is_in_of : (c : Byte) (bs : List Byte) → Contains bs c → IsTrue (is_in c bs)
-  is_in_of c bs h = any_of (same_byte c) bs c h (byte_itself c)
+  is_in_of c bs h = member_passes (same_byte c) bs c h (byte_itself c)
 
   -- ---- and that there are such tasks
 
@@ -174,8 +112,8 @@ module _ (together : PiecesAreMoves) (all : Past) where
   piece_there x k m c = go (slice_get (pieces all x) k) refl c
     where
       go : (o : Option (List Move)) → slice_get (pieces all x) k ≡ o → Contains (moves_of o) m → IsTrue (nat_lt k (length (pieces all x)))
-      go None e c = absurd (let none : c.0 < 0 = c.1 in omega arith)
-      go (Some ms) e c = lt-ltb k (length (pieces all x)) (place_below (pieces all x) k ms e)
+      go None e c = absurd (none_in m c)
+      go (Some ms) e c = lt-ltb k (length (pieces all x)) (slice_get_within (pieces all x) k ms e)
 
   only_part : (k : ℕ) → (k == 0) ≡ true → IsTrue (nat_lt k 1)
   only_part k h = let e = eqb-true k 0 h in lt-ltb k 1 (omega arith)
@@ -200,7 +138,7 @@ module _ (together : PiecesAreMoves) (all : Past) where
       let there = is_there c (origins (moves_of (slice_get (pieces all x) k))) h in
       let m = chosen_from (λ m. origin m.source) (moves_of (slice_get (pieces all x) k)) c there in
       piece_there x k m.0 m.1
-  reader_there (Hosts x) k c h = only_part k (first (k == 0) _ h)
+  reader_there (Hosts x) k c h = only_part k (and_parts (k == 0) _ h).0
   reader_there (Waits s) k c h = absurd cc
   reader_there (Signals s) k c h = absurd cc
   reader_there (Depends r s) k c h = absurd cc
@@ -223,9 +161,9 @@ module _ (together : PiecesAreMoves) (all : Past) where
       go : (o : Option Node) → node_at all t.node ≡ o → by_act None (λ a. part_write all a t.part c) o ≡ Some w.0 → Accessor t (λ n. Contains (writes all n) c)
       go None e h = absurd cc
       go (Some n) e h =
-          let f = found (λ m. m.number == t.node) (nodes all) n e in
+          let f = node_of all t.node n e in
           let both = writes_it n.act n.point.queue t.part c w.0 h in
-          record { node = n; at = e; stands = f.0; number = eqb-true n.number t.node f.1; there = writer_there n.act t.part c w.0 h; is_access = both.0; accessed = both.1 }
+          record { node = n; at = e; stands = f.0; number = f.1; there = writer_there n.act t.part c w.0 h; is_access = both.0; accessed = both.1 }
 
   pub reader : (t : Task) (c : Byte) → Reads (traffic_of all) t c → Accessor t (λ n. Contains (reads all n) c)
   reader t c r = go (node_at all t.node) refl r
@@ -233,9 +171,9 @@ module _ (together : PiecesAreMoves) (all : Past) where
       go : (o : Option Node) → node_at all t.node ≡ o → IsTrue (by_act false (λ a. part_read all a t.part c) o) → Accessor t (λ n. Contains (reads all n) c)
       go None e h = absurd cc
       go (Some n) e h =
-          let f = found (λ m. m.number == t.node) (nodes all) n e in
+          let f = node_of all t.node n e in
           let both = reads_it n.act n.point.queue t.part c h in
-          record { node = n; at = e; stands = f.0; number = eqb-true n.number t.node f.1; there = reader_there n.act t.part c h; is_access = both.0; accessed = both.1 }
+          record { node = n; at = e; stands = f.0; number = f.1; there = reader_there n.act t.part c h; is_access = both.0; accessed = both.1 }
 
 -- ---- the law
 

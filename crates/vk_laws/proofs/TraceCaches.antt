@@ -2,7 +2,7 @@
 use Rattle.std.proofs.Common.{◌≡◌, ◌⊎◌, inl, inr, ⊎_elim, ℕ, suc, ◌<◌, ◌≤◌, List, [], ◌∷◌, length, Bool, true, false, cond, ◌&&◌, ◌||◌, not, IsTrue, Option, Some, None, refl, ap, sym, ◌∙◌, subst, arith}
 use Rattle.std.specs.Prelude.{Contains, ◌==◌, nat_lt, if◌then◌else◌}
 use Rattle.std.specs.List.{find}
-use Rattle.std.proofs.lemmas.Bool.{eqb-true, eq-eqb, ltb-true}
+use Rattle.std.proofs.lemmas.Bool.{eqb-true, eq-eqb, ltb-true, or_left, or_right, and_parts, or_cases, and_from}
 use Rattle.vk_model.specs.declared.entry.Entry.{Entry}
 use Rattle.vk_model.specs.declared.command.Cmd.{Cmd}
 use Rattle.vk_model.specs.Words.{holds}
@@ -11,7 +11,7 @@ use Rattle.vk_model.specs.Point.{Past}
 use Rattle.vk_model.specs.Node.{Node, Act, Hosts, Waits, Signals, Runs, Depends, Barrier, SetOf, AwaitOf, nodes}
 use Rattle.vk_model.specs.Edge.{edge, is_host, is_submit, is_command, pairs, by_host, by_stages, by_signal, by_all_commands, by_semaphore, earlier, signaled_by, same_queue}
 use Rattle.vk_model.specs.Before.{before, IsNumbered}
-use Rattle.vk_model.specs.Seen.{Access, Read, Write, command_mask, host_mask, seen, sends, receives, available_by, visible_by, invalidates, is_wait, to_host, passes}
+use Rattle.vk_model.specs.Seen.{Read, Write, command_mask, host_mask, seen, sends, receives, available_by, visible_by, invalidates, is_wait, to_host, passes, flushes}
 use Rattle.vk_model.specs.Access.{is_in, writes}
 use Rattle.vk_model.specs.Laws.{BeforeIsPath, BeforeIsTransitive}
 use Rattle.vk_laws.specs.Machine.{Task, Precedes}
@@ -19,8 +19,10 @@ use Rattle.vk_laws.specs.Caches.{Seen, Available}
 use Rattle.vk_laws.specs.Trace.{accesses}
 use Rattle.vk_laws.specs.Tasks.{node_at, task_count, traffic_of}
 use Rattle.vk_laws.specs.TraceCaches.{agent_of, submits_to, host_wrote, cached, sends_write, shows_host, shows, caching_of}
-use Rattle.vk_laws.proofs.NoHazard.{contains-cons, some_of, any_of, both, either, together, numbered, number_below, unique, edge_before, Reaches, reaches_join, or_before}
-use Rattle.vk_laws.proofs.HazardFree.{node_of}
+use Rattle.vk_laws.proofs.TaskNodes.{node_of}
+use Rattle.vk_laws.proofs.Members.{contains-cons, member_passes, some_member, none_in}
+use Rattle.vk_laws.proofs.Truths.{not_both, six}
+use Rattle.vk_laws.proofs.NoHazard.{numbered, number_below, edge_before, Reaches, reaches_join, or_before, reaches_before, before_reaches}
 
 -- ---- kinds of events
 
@@ -31,7 +33,7 @@ submit_event (Waits s) h = refl
 submit_event (Signals s) h = refl
 submit_event (Depends r e) h = refl
 
-submit_host : (a : Act) → IsTrue (is_submit a) → is_host a ≡ true
+pub submit_host : (a : Act) → IsTrue (is_submit a) → is_host a ≡ true
 submit_host (Runs c) h = absurd cc
 submit_host (Hosts x) h = refl
 submit_host (Waits s) h = absurd cc
@@ -88,58 +90,47 @@ module _ (one other : Byte → Bool) (ns : List Node) (b : Byte) where
   receives_same mask q (Signals s) h = absurd cc
   receives_same mask q (Depends r e) h = (h, refl)
 
-pub not_both : (b : Bool) → IsTrue b → b ≡ false → ⊥
-not_both b h e = cc
+pub never_holds : {X : Type 0} (o : Option X) → IsTrue (holds o (λ x. false)) → ⊥
+never_holds None h = cc
+never_holds (Some x) h = cc
 
 -- an edge to a command comes from its submit, or from its queue
-no_pair : (a : Act) (c : Cmd) → IsTrue (pairs a (Runs c)) → ⊥
-no_pair (Runs x) c h = cc
-no_pair (Hosts x) c h = cc
-no_pair (Waits s) c h = cc
-no_pair (Signals s) c h = cc
-no_pair (Depends Barrier e) c h = cc
-no_pair (Depends (SetOf v k) e) c h = cc
-no_pair (Depends (AwaitOf v k) e) c h = cc
+no_pair_run : (a : Act) (c : Cmd) → IsTrue (pairs a (Runs c)) → ⊥
+no_pair_run (Runs x) c h = cc
+no_pair_run (Hosts x) c h = cc
+no_pair_run (Waits s) c h = cc
+no_pair_run (Signals s) c h = cc
+no_pair_run (Depends Barrier e) c h = cc
+no_pair_run (Depends (SetOf v k) e) c h = cc
+no_pair_run (Depends (AwaitOf v k) e) c h = cc
 
 abbrev OnQueue : Node → Node → Type 0
 OnQueue q y = IsTrue (not (is_host q.act)) × (q.point.queue ≡ y.point.queue)
 
 on_queue : (q y : Node) → IsTrue (same_queue q y) → OnQueue q y
-on_queue q y h = let g = both _ _ h in ((both _ _ g.0).0, eqb-true q.point.queue y.point.queue g.1)
-
-pub one_of : {P : Type 0} (a b c d e f : Bool) → IsTrue (a || b || c || d || e || f) → (IsTrue a → P) → (IsTrue b → P) → (IsTrue c → P) → (IsTrue d → P) → (IsTrue e → P) → (IsTrue f → P) → P
-one_of true b c d e f h u v w x y z = u refl
-one_of false true c d e f h u v w x y z = v refl
-one_of false false true d e f h u v w x y z = w refl
-one_of false false false true e f h u v w x y z = x refl
-one_of false false false false true f h u v w x y z = y refl
-one_of false false false false false f h u v w x y z = z h
+on_queue q y h = let g = and_parts _ _ h in ((and_parts _ _ g.0).0, eqb-true q.point.queue y.point.queue g.1)
 
 edge_to_command : (ns : List Node) (q y : Node) (c : Cmd) → y.act ≡ Runs c → IsTrue (edge ns q y) → (IsTrue (is_submit q.act) × (q.point.entry ≡ y.point.entry)) ⊎ OnQueue q y
 unfolding edge
 edge_to_command ns q y c is h =
-    one_of (by_host q y) (by_stages q y) (by_signal q y) (by_all_commands q y) (pairs q.act y.act) (by_semaphore (earlier y ns) q y) (both _ _ h).1
-    (λ g. from_host (either _ _ g))
-    (λ g. inr (on_queue q y (both _ _ (both _ _ (both _ _ g).0).0).0))
-    (λ g. inr (on_queue q y (both _ _ (both _ _ g).0).0))
-    (λ g. inr (on_queue q y (both _ _ g).0))
-    (λ g. absurd (no_pair q.act c (subst (λ (a : Act). IsTrue (pairs q.act a)) is g)))
+    six (by_host q y) (by_stages q y) (by_signal q y) (by_all_commands q y) (pairs q.act y.act) (by_semaphore (earlier y ns) q y) (and_parts _ _ h).1
+    (λ g. from_host (or_cases _ _ g))
+    (λ g. inr (on_queue q y (and_parts _ _ (and_parts _ _ (and_parts _ _ g).0).0).0))
+    (λ g. inr (on_queue q y (and_parts _ _ (and_parts _ _ g).0).0))
+    (λ g. inr (on_queue q y (and_parts _ _ g).0))
+    (λ g. absurd (no_pair_run q.act c (subst (λ (a : Act). IsTrue (pairs q.act a)) is g)))
     (λ g. absurd (no_semaphore g))
   where
     from_host : IsTrue (is_host q.act && is_host y.act) ⊎ IsTrue (is_submit q.act && q.point.entry == y.point.entry) → (IsTrue (is_submit q.act) × (q.point.entry ≡ y.point.entry)) ⊎ OnQueue q y
-    from_host (inl g) = absurd (not_both (is_host y.act) (both _ _ g).1 (ap is_host is))
-    from_host (inr g) = let k = both _ _ g in inl (k.0, eqb-true q.point.entry y.point.entry k.1)
+    from_host (inl g) = absurd (not_both (is_host y.act) (and_parts _ _ g).1 (ap is_host is))
+    from_host (inr g) = let k = and_parts _ _ g in inl (k.0, eqb-true q.point.entry y.point.entry k.1)
 
     no_semaphore : IsTrue (by_semaphore (earlier y ns) q y) → ⊥
-    no_semaphore h = go (signaled_by q.act) (rw is at h)
-      where
-        go : (o : Option (ℕ × ℕ)) → IsTrue (holds o (λ x. false)) → ⊥
-        go None h = cc
-        go (Some x) h = cc
+    no_semaphore h = never_holds (signaled_by q.act) (rw is at h)
 
 pub before_number : (ns : List Node) (x y : Node) → IsTrue (before ns x y) → x.number < y.number
 unfolding before
-before_number ns x y h = ltb-true x.number y.number (both _ _ h).0
+before_number ns x y h = ltb-true x.number y.number (and_parts _ _ h).0
 
 module _ (paths : BeforeIsPath) (joins : BeforeIsTransitive) (all : Past) where
   abbrev numbered_task : ℕ → Task
@@ -159,7 +150,7 @@ module _ (paths : BeforeIsPath) (joins : BeforeIsTransitive) (all : Past) where
       step k ns size (inr h) rest false same = rest h.0
 
       go : (ns : List Node) → IsNumbered ns → Contains ns n → find (λ m. m.number == n.number) ns ≡ Some n
-      go [] numbers c = absurd (let none : c.0 < 0 = c.1 in omega arith)
+      go [] numbers c = absurd (none_in n c)
       go (k ∷ ns) numbers c = step k ns numbers.0 (⊎_elim (λ e. inl e) (λ later. inr (later, number_below ns numbers.1 n later)) (contains-cons k ns n c)) (go ns numbers.1) (k.number == n.number) refl
 
   event_there : (a : Act) → is_command a ≡ false → IsTrue (nat_lt 0 (task_count all a))
@@ -187,13 +178,13 @@ module _ (paths : BeforeIsPath) (joins : BeforeIsTransitive) (all : Past) where
 
       by_act' : (a : Act) → w.act ≡ a → IsTrue (accesses a) → IsTrue (available_by one (nodes all) w a b p) → Sent one w p b
       by_act' (Runs c) e access h =
-          let g = both _ _ h in
+          let g = and_parts _ _ h in
           let s = sends_same one (cached all w.number) (nodes all) b p p.act g.1 in
-          pack (Runs c) e (together _ _ g.0 s.0) s.1 (edge_before paths all w p cw cp g.0)
+          pack (Runs c) e (and_from _ _ g.0 s.0) s.1 (edge_before paths all w p cw cp g.0)
       by_act' (Hosts x) e access h =
-          let g = both _ _ h in
-          let k = both _ _ g.0 in
-          pack (Hosts x) e (together _ _ g.0 (subst (λ (z : Bool). IsTrue (not z || passes (cached all w.number) (nodes all) (λ f. Rattle.vk_model.specs.Seen.flushes f b) w p)) same g.1)) (submit_event p.act k.0) k.1
+          let g = and_parts _ _ h in
+          let k = and_parts _ _ g.0 in
+          pack (Hosts x) e (and_from _ _ g.0 (subst (λ (z : Bool). IsTrue (not z || passes (cached all w.number) (nodes all) (λ f. flushes f b) w p)) same g.1)) (submit_event p.act k.0) k.1
       by_act' (Waits s) e access h = absurd cc
       by_act' (Signals s) e access h = absurd cc
       by_act' (Depends r d) e access h = absurd cc
@@ -218,7 +209,7 @@ module _ (paths : BeforeIsPath) (joins : BeforeIsTransitive) (all : Past) where
 
   shown_to_queue : Submits → (one : Byte → Bool) (x q y : Node) (c : Cmd) (b : Byte) → Contains (nodes all) q → Contains (nodes all) y → y.act ≡ Runs c → (is_host x.act ≡ true → IsTrue (host_wrote all q b)) → IsTrue (visible_by one (nodes all) x y (Runs c) Read b q) → Shown q y b
   shown_to_queue submits one x q y c b cq cy is ready h =
-      let g = both _ _ h in
+      let g = and_parts _ _ h in
       let shown = by_edge (edge_to_command (nodes all) q y c is g.0) g.1 in
       record {
         by = q;
@@ -229,17 +220,10 @@ module _ (paths : BeforeIsPath) (joins : BeforeIsTransitive) (all : Past) where
         earlier = edge_before paths all q y cq cy g.0;
       }
     where
-      or_first : (a b : Bool) → IsTrue a → IsTrue (a || b)
-      or_first a b h = rw h refl
-
-      or_second : (a b : Bool) → IsTrue b → IsTrue (a || b)
-      or_second true b h = refl
-      or_second false b h = h
-
       by_edge : (IsTrue (is_submit q.act) × (q.point.entry ≡ y.point.entry)) ⊎ OnQueue q y → IsTrue (receives one (nodes all) (command_mask Read) b q q.act || is_wait q.act || is_host x.act && is_submit q.act)
           → IsTrue (shows all q (suc y.point.queue) b) × (is_command q.act ≡ false)
       by_edge (inl g) h = (
-        or_second _ _ (together _ _ (submits q y c cq cy g.0 is g.1) (by_host' (either _ _ h))),
+        or_right _ _ (and_from _ _ (submits q y c cq cy g.0 is g.1) (by_host' (or_cases _ _ h))),
         submit_event q.act g.0,
       )
         where
@@ -247,25 +231,25 @@ module _ (paths : BeforeIsPath) (joins : BeforeIsTransitive) (all : Past) where
           by_host' (inl k) = ⊎_elim
               (λ r. absurd (not_both (is_host q.act) (submit_host q.act g.0) (receives_queue one (cached all q.number) (nodes all) b (command_mask Read) q q.act r)))
               (λ w. absurd (not_both (is_host q.act) (submit_host q.act g.0) (wait_queue q.act w)))
-              (either _ _ k)
-          by_host' (inr k) = ready (both _ _ k).0
-      by_edge (inr g) h = by_kind (either _ _ h)
+              (or_cases _ _ k)
+          by_host' (inr k) = ready (and_parts _ _ k).0
+      by_edge (inr g) h = by_kind (or_cases _ _ h)
         where
           at_queue : IsTrue (receives (cached all q.number) (nodes all) (command_mask Read) b q q.act || is_wait q.act) → IsTrue (shows all q (suc y.point.queue) b)
-          at_queue k = or_first _ _ (together _ _ (together _ _ g.0 (eq-eqb q.point.queue y.point.queue g.1)) k)
+          at_queue k = or_left _ _ (and_from _ _ (and_from _ _ g.0 (eq-eqb q.point.queue y.point.queue g.1)) k)
 
           by_kind : IsTrue (receives one (nodes all) (command_mask Read) b q q.act || is_wait q.act) ⊎ IsTrue (is_host x.act && is_submit q.act) → IsTrue (shows all q (suc y.point.queue) b) × (is_command q.act ≡ false)
           by_kind (inl k) = ⊎_elim
-              (λ r. let s = receives_same one (cached all q.number) (nodes all) b (command_mask Read) q q.act r in (at_queue (or_first _ _ s.0), s.1))
-              (λ w. (at_queue (or_second _ _ w), wait_event q.act w))
-              (either _ _ k)
-          by_kind (inr k) = let s = submit_host q.act (both _ _ k).1 in absurd (not_both (not (is_host q.act)) g.0 (ap not s))
+              (λ r. let s = receives_same one (cached all q.number) (nodes all) b (command_mask Read) q q.act r in (at_queue (or_left _ _ s.0), s.1))
+              (λ w. (at_queue (or_right _ _ w), wait_event q.act w))
+              (or_cases _ _ k)
+          by_kind (inr k) = let s = submit_host q.act (and_parts _ _ k).1 in absurd (not_both (not (is_host q.act)) g.0 (ap not s))
 
   shown_to_host : (one : Byte → Bool) (x q y : Node) (e : Entry) (b : Byte) → ((n : Node) → Contains (nodes all) n → x.number ≤ n.number → one b ≡ cached all n.number b) → Contains (nodes all) x → IsTrue (before (nodes all) x q) → Contains (nodes all) q → y.act ≡ Hosts e → IsTrue (visible_by one (nodes all) x y (Hosts e) Read b q) → Shown q y b
   shown_to_host one x q y e b same cx later cq is h =
-      let g = both _ _ h in
-      let k = both _ _ g.0 in
-      let l = both _ _ k.0 in
+      let g = and_parts _ _ h in
+      let k = and_parts _ _ g.0 in
+      let l = and_parts _ _ k.0 in
       go (one b) refl l.0 l.1 k.1 g.1
     where
       to_agent : (f : Node) → IsTrue (shows_host all f b) → IsTrue (shows all f (agent_of y) b)
@@ -279,13 +263,13 @@ module _ (paths : BeforeIsPath) (joins : BeforeIsTransitive) (all : Past) where
 
       go : (z : Bool) → one b ≡ z → IsTrue (before (nodes all) q y) → IsTrue (to_host q.act) → IsTrue (receives one (nodes all) (host_mask Read) b q q.act) → IsTrue (not z || passes one (nodes all) (λ f. invalidates f b) q y) → Shown q y b
       go true c earlier to r p =
-          let f = some_of (λ f. invalidates f.act b && before (nodes all) q f && before (nodes all) f y) (nodes all) p in
-          let k = both _ _ f.2 in
-          let l = both _ _ k.0 in
+          let f = some_member (λ f. invalidates f.act b && before (nodes all) q f && before (nodes all) f y) (nodes all) p in
+          let k = and_parts _ _ f.2 in
+          let l = and_parts _ _ k.0 in
           record { by = f.0; stands = f.1; order = inr l.1; shown = to_agent f.0 (rw (sym (same f.0 f.1 (further f.0 f.1 l.1)) ∙ c) l.0); quiet = invalidate_event f.0.act b l.0; earlier = k.1 }
       go false c earlier to r p =
           let s = receives_same one (cached all q.number) (nodes all) b (host_mask Read) q q.act r in
-          record { by = q; stands = cq; order = inl refl; shown = to_agent q (rw (sym (same q cq (after q later)) ∙ c) (together _ _ to s.0)); quiet = host_event q.act to; earlier = earlier }
+          record { by = q; stands = cq; order = inl refl; shown = to_agent q (rw (sym (same q cq (after q later)) ∙ c) (and_from _ _ to s.0)); quiet = host_event q.act to; earlier = earlier }
 
   -- ---- accesses that see a write
 
@@ -306,15 +290,11 @@ module _ (paths : BeforeIsPath) (joins : BeforeIsTransitive) (all : Past) where
     at_writer = same x cx (let le : x.number ≤ x.number = omega arith in le)
 
     made_available : (p : Node) → Contains (nodes all) p → Sent one x p b → IsTrue ((caching_of all).makes_available (task_of p) w b)
-    made_available p cp s = together _ _ has (rw (node_at_self p cp, at_w) (together _ _ ax s.sent))
+    made_available p cp s = and_from _ _ has (rw (node_at_self p cp, at_w) (and_from _ _ ax s.sent))
 
     -- it comes before what shows the byte
     host_first : HostSource x b → (q : Node) → Contains (nodes all) q → IsTrue (before (nodes all) x q) → IsTrue (host_wrote all q b)
-    host_first v q cq later = any_of (λ v. is_host v.act && is_in b (writes all v) && before (nodes all) v q) (nodes all) v.by v.stands (together _ _ (together _ _ v.host v.wrote) (first v.order))
-      where
-        first : Reaches paths all joins v.by x → IsTrue (before (nodes all) v.by q)
-        first (inl e) = subst (λ (n : Node). IsTrue (before (nodes all) n q)) (unique (nodes all) (numbered all) x v.by cx v.stands (sym e)) later
-        first (inr d) = joins all v.by x q v.stands cx cq d later
+    host_first v q cq later = member_passes (λ v. is_host v.act && is_in b (writes all v) && before (nodes all) v q) (nodes all) v.by v.stands (and_from _ _ (and_from _ _ v.host v.wrote) (reaches_before paths all joins v.by x q v.stands cx cq v.order later))
 
     shown_of : Submits → (q : Node) → Contains (nodes all) q → IsTrue (before (nodes all) x q) → (is_host x.act ≡ true → IsTrue (host_wrote all q b)) → IsTrue (visible_by one (nodes all) x y y.act Read b q) → Shown q y b
     shown_of submits q cq later ready h = go y.act refl ay h
@@ -331,64 +311,59 @@ module _ (paths : BeforeIsPath) (joins : BeforeIsTransitive) (all : Past) where
     before_write q cq h = go y.act ay h
       where
         go : (a : Act) → IsTrue (accesses a) → IsTrue (visible_by one (nodes all) x y a Write b q) → IsTrue (before (nodes all) q y)
-        go (Runs c) access h = edge_before paths all q y cq cy (both _ _ h).0
-        go (Hosts z) access h = (both _ _ (both _ _ (both _ _ h).0).0).0
+        go (Runs c) access h = edge_before paths all q y cq cy (and_parts _ _ h).0
+        go (Hosts z) access h = (and_parts _ _ (and_parts _ _ (and_parts _ _ h).0).0).0
         go (Waits s) access h = absurd cc
         go (Signals s) access h = absurd cc
         go (Depends r d) access h = absurd cc
 
+    seen_by : (p q : Node) → Contains (nodes all) p → Sent one x p b → (shown : Shown q y b) → Reaches paths all joins p shown.by → Seen (traffic_of all) (caching_of all) w t b
+    seen_by p q cp sent shown order = record {
+      p = task_of p;
+      q = task_of shown.by;
+      available = made_available p cp sent;
+      order = ⊎_elim (λ e. inl (ap (λ (k : ℕ). numbered_task k) e)) (λ earlier. inr (precedes p shown.by cp sent.quiet earlier (task_of shown.by) (node_at_self shown.by shown.stands))) order;
+      visible = subst (λ (a : ℕ). IsTrue (holds (node_at all shown.by.number) (λ n. shows all n a b))) (sym (agent_is t y at_t)) (rw (node_at_self shown.by shown.stands) shown.shown);
+      before = precedes shown.by y shown.stands shown.quiet shown.earlier t at_t;
+    }
+
     pub seen_task : Submits → (is_host x.act ≡ true → HostSource x b) → IsTrue (seen one (nodes all) x y Read b) → Seen (traffic_of all) (caching_of all) w t b
     unfolding seen
     seen_task submits source h =
-        let p = some_of _ (nodes all) h in
-        let first = both _ _ p.2 in
-        let q = some_of _ (nodes all) first.1 in
-        let second = both _ _ (both _ _ q.2).0 in
+        let p = some_member _ (nodes all) h in
+        let first = and_parts _ _ p.2 in
+        let q = some_member _ (nodes all) first.1 in
+        let second = and_parts _ _ (and_parts _ _ q.2).0 in
         let sent = sent_of one x p.0 b at_writer cx p.1 ax first.0 in
-        let last = then_shown p.0 q.0 p.1 q.1 sent.later (or_before paths all joins one p.0 q.0 second.0) in
+        let last = before_reaches paths all joins x p.0 q.0 cx p.1 q.1 sent.later (or_before paths all joins one p.0 q.0 second.0) in
         let shown = shown_of submits q.0 q.1 last (λ host. host_first (source host) q.0 q.1 last) second.1 in
         let order = reaches_join paths all joins p.0 q.0 shown.by p.1 q.1 shown.stands (or_before paths all joins one p.0 q.0 second.0) shown.order in
-        record {
-          p = task_of p.0;
-          q = task_of shown.by;
-          available = made_available p.0 p.1 sent;
-          order = ⊎_elim (λ e. inl (ap (λ (k : ℕ). numbered_task k) e)) (λ earlier. inr (precedes p.0 shown.by p.1 sent.quiet earlier (task_of shown.by) (node_at_self shown.by shown.stands))) order;
-          visible = subst (λ (a : ℕ). IsTrue (holds (node_at all shown.by.number) (λ n. shows all n a b))) (sym (agent_is t y at_t)) (rw (node_at_self shown.by shown.stands) shown.shown);
-          before = precedes shown.by y shown.stands shown.quiet shown.earlier t at_t;
-        }
-      where
-        then_shown : (p q : Node) → Contains (nodes all) p → Contains (nodes all) q → IsTrue (before (nodes all) x p) → Reaches paths all joins p q → IsTrue (before (nodes all) x q)
-        then_shown p q cp cq b (inl e) = subst (λ (n : Node). IsTrue (before (nodes all) x n)) (unique (nodes all) (numbered all) p q cp cq e) b
-        then_shown p q cp cq b (inr d) = joins all x p q cx cp cq b d
+        seen_by p.0 q.0 p.1 sent shown order
 
     pub available_task : IsTrue (seen one (nodes all) x y Write b) → Available (traffic_of all) (caching_of all) w t b
     unfolding seen
     available_task h =
-        let p = some_of _ (nodes all) h in
-        let first = both _ _ p.2 in
-        let q = some_of _ (nodes all) first.1 in
-        let second = both _ _ (both _ _ q.2).0 in
+        let p = some_member _ (nodes all) h in
+        let first = and_parts _ _ p.2 in
+        let q = some_member _ (nodes all) first.1 in
+        let second = and_parts _ _ (and_parts _ _ q.2).0 in
         let sent = sent_of one x p.0 b at_writer cx p.1 ax first.0 in
         let last = before_write q.0 q.1 second.1 in
         record {
           p = task_of p.0;
           available = made_available p.0 p.1 sent;
-          before = precedes p.0 y p.1 sent.quiet (through p.0 q.0 (or_before paths all joins one p.0 q.0 second.0) last p.1 q.1) t at_t;
+          before = precedes p.0 y p.1 sent.quiet (reaches_before paths all joins p.0 q.0 y p.1 q.1 cy (or_before paths all joins one p.0 q.0 second.0) last) t at_t;
         }
-      where
-        through : (p q : Node) → Reaches paths all joins p q → IsTrue (before (nodes all) q y) → Contains (nodes all) p → Contains (nodes all) q → IsTrue (before (nodes all) p y)
-        through p q (inl e) last cp cq = subst (λ (k : Node). IsTrue (before (nodes all) k y)) (unique (nodes all) (numbered all) q p cq cp (sym e)) last
-        through p q (inr b) last cp cq = joins all p q y cp cq cy b last
 
   -- nothing is made available before it was written
   pub available_later : (p w : Task) (b : Byte) → IsTrue ((caching_of all).makes_available p w b) → Precedes (traffic_of all) w p
-  available_later p w b h = go (node_at all p.node) (node_at all w.node) refl refl (both _ _ h).0 (both _ _ h).1
+  available_later p w b h = go (node_at all p.node) (node_at all w.node) refl refl (and_parts _ _ h).0 (and_parts _ _ h).1
     where
       go : (o u : Option Node) → node_at all p.node ≡ o → node_at all w.node ≡ u → IsTrue ((traffic_of all).has w) → IsTrue (holds o (λ m. holds u (λ n. sends_write all m n b))) → Precedes (traffic_of all) w p
       go None u e f has h = absurd cc
       go (Some m) None e f has h = absurd cc
       go (Some m) (Some n) e f has h =
-          let g = both _ _ h in
+          let g = and_parts _ _ h in
           let cm = (node_of all p.node m e).0 in
           let cn = (node_of all w.node n f).0 in
           (has, rw (f, e) (sent_of (cached all n.number) n m b refl cn cm g.0 g.1).later)

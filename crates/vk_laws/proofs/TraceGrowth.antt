@@ -1,18 +1,15 @@
 -- A longer trace's tasks extend a shorter one's.
-use Rattle.std.proofs.Common.{◌≡◌, ◌⊎◌, inl, inr, ⊎_elim, ℕ, zero, suc, ◌+◌, ◌<◌, ◌≤◌, List, [], ◌∷◌, ◌++◌, length, Bool, true, false, ◌&&◌, ◌||◌, not, IsTrue, Option, Some, None, refl, ap, sym, ◌∙◌, subst, arith}
+use Rattle.std.proofs.Common.{◌≡◌, ◌⊎◌, inl, inr, ⊎_elim, ℕ, zero, suc, ◌<◌, ◌≤◌, List, [], ◌∷◌, ◌++◌, length, Bool, false, ◌&&◌, ◌||◌, not, Option, Some, None, refl, ap, sym, ◌∙◌, subst, arith}
 use Rattle.std.specs.Prelude.{Contains, ◌==◌, nat_lt, option_map, slice_get, if◌then◌else◌}
-use Rattle.std.specs.List.{list_any, find, fold}
-use Rattle.std.proofs.lemmas.Bool.{cases_lt}
-use Rattle.vk_model.specs.declared.entry.Entry.{Entry}
-use Rattle.vk_model.specs.declared.command.Cmd.{Cmd}
+use Rattle.std.specs.List.{list_any, find}
+use Rattle.std.proofs.lemmas.Bool.{cases_lt, and_parts, false_from_ne_true, and_right}
+use Rattle.std.proofs.lemmas.List.{append_assoc, length-append}
 use Rattle.vk_model.specs.Words.{holds}
 use Rattle.vk_model.specs.World.{Byte, same_byte, resource_at}
 use Rattle.vk_model.specs.Objects.{is_cached}
-use Rattle.vk_model.specs.Point.{Past, Point, Deed, Wait, Run, Signal}
-use Rattle.vk_model.specs.Order.{Turn, host, deeds, taken, turns_of, plain_from}
+use Rattle.vk_model.specs.Point.{Past}
 use Rattle.vk_model.specs.Moves.{Move}
-use Rattle.vk_model.specs.Pieces.{pieces}
-use Rattle.vk_model.specs.Node.{Node, Act, Hosts, Waits, Signals, Runs, Depends, nodes, acts}
+use Rattle.vk_model.specs.Node.{Node, Act, Hosts, Waits, Signals, Runs, Depends, nodes}
 use Rattle.vk_model.specs.Edge.{edge, is_host, is_submit}
 use Rattle.vk_model.specs.Before.{before, IsNumbered}
 use Rattle.vk_model.specs.Access.{is_in, writes}
@@ -25,46 +22,37 @@ use Rattle.vk_laws.specs.Tasks.{moves_of, task_count, part_write, node_at, by_ac
 use Rattle.vk_laws.specs.TraceBytes.{before_node}
 use Rattle.vk_laws.specs.Discards.{entry_forgets, forgets, or_anything, with_discards}
 use Rattle.vk_laws.specs.TraceCaches.{agent_of, submits_to, cached, host_wrote, sends_write, shows, caching_of}
-use Rattle.vk_laws.proofs.NoHazard.{contains-cons, both, number_below, numbered}
-use Rattle.vk_laws.proofs.Steady.{IsNew, kept_pieces, comes_later}
-use Rattle.vk_laws.proofs.CachedStays.{IsLive}
-use Rattle.vk_laws.proofs.Points.{Stands, stands, deed_of}
-use Rattle.vk_laws.proofs.Ordered.{join_again}
-use Rattle.vk_laws.proofs.HazardFree.{node_of, refuted}
+use Rattle.vk_laws.proofs.TaskNodes.{node_of}
+use Rattle.vk_laws.proofs.Prefixes.{old_has, same_pieces, leads_on, there_below}
+use Rattle.vk_laws.proofs.Members.{contains-cons, contains-head, contains-tail, none_in}
+use Rattle.vk_laws.proofs.NoHazard.{number_below, numbered}
+use Rattle.vk_laws.proofs.Steady.{IsNew, IsLive}
+use Rattle.vk_laws.proofs.Points.{Stands, stands, stands_below}
 use Rattle.vk_laws.proofs.ModelBytes.{node_there, before_inside}
 use Rattle.vk_laws.proofs.TraceCaches.{node_at_self, before_number, sent_of}
-use Rattle.vk_laws.proofs.Forgotten.{up}
 
 -- ---- lists of nodes
 
 front_number : (front ns : List Node) (v : Node) → IsNumbered (front ++ ns) → Contains front v → length ns ≤ v.number
-front_number [] ns v numbers c = absurd (let none : c.0 < 0 = c.1 in omega arith)
+front_number [] ns v numbers c = absurd (none_in v c)
 front_number (n ∷ front) ns v numbers c = ⊎_elim
-    (λ e. let at : n.number ≡ v.number = ap (λ (k : Node). k.number) e in let size = numbers.0 in let long = longer front ns in omega (arith, at, size, long))
+    (λ e. let at : n.number ≡ v.number = ap (λ (k : Node). k.number) e in let size = numbers.0 in let long = length-append front ns in omega (arith, at, size, long))
     (λ later. front_number front ns v numbers.1 later) (contains-cons n front v c)
-  where
-    longer : (front ns : List Node) → length ns ≤ length (front ++ ns)
-    longer [] ns = omega arith
-    longer (m ∷ front) ns = let le = longer front ns in omega (arith, le)
 
 grown : (f g : Node → Bool) (front ns : List Node) → ((v : Node) → Contains front v → f v ≡ false) → ((v : Node) → Contains ns v → f v ≡ g v) → list_any f (front ++ ns) ≡ list_any g ns
 grown f g [] ns never same = go ns same
   where
     go : (ns : List Node) → ((v : Node) → Contains ns v → f v ≡ g v) → list_any f ns ≡ list_any g ns
     go [] same = refl
-    go (n ∷ ns) same = two (f n) (g n) (list_any f ns) (list_any g ns) (same n (Rattle.vk_laws.proofs.NoHazard.contains-head n ns)) (go ns (λ v c. same v (Rattle.vk_laws.proofs.NoHazard.contains-tail n ns v c)))
+    go (n ∷ ns) same = two (f n) (g n) (list_any f ns) (list_any g ns) (same n (contains-head n ns)) (go ns (λ v c. same v (contains-tail n ns v c)))
       where
         two : (a b c d : Bool) → a ≡ b → c ≡ d → (a || c) ≡ (b || d)
         two a b c d e f = rw (e, f) refl
 grown f g (n ∷ front) ns never same =
-    first (f n) (list_any f (front ++ ns)) (never n (Rattle.vk_laws.proofs.NoHazard.contains-head n front)) ∙ grown f g front ns (λ v c. never v (Rattle.vk_laws.proofs.NoHazard.contains-tail n front v c)) same
+    first (f n) (list_any f (front ++ ns)) (never n (contains-head n front)) ∙ grown f g front ns (λ v c. never v (contains-tail n front v c)) same
   where
     first : (a b : Bool) → a ≡ false → (a || b) ≡ b
     first a b e = rw e refl
-
-and_false : (a b : Bool) → b ≡ false → (a && b) ≡ false
-and_false true b e = e
-and_false false b e = refl
 
 receives_eq : (one other : Byte → Bool) (ns ms : List Node) (mask : ℕ) (b : Byte) (q : Node) (a : Act) → receives one ns mask b q a ≡ receives other ms mask b q a
 receives_eq one other ns ms mask b q (Runs c) = refl
@@ -88,7 +76,7 @@ module _ (paths : BeforeIsPath) (joins : BeforeIsTransitive) (keeps : GrowthKeep
   kept = subst (λ (l : Past). Keeps (nodes old) (nodes l)) (sym split) (keeps old newer)
 
   raise : (n : Node) → Contains (nodes old) n → Contains (nodes whole) n
-  raise n c = up keeps whole newer old n split c
+  raise n c = old_has keeps whole newer old split n c
 
   -- the node of a number below the size
   record At (k : ℕ) : Type 0 where
@@ -117,19 +105,11 @@ module _ (paths : BeforeIsPath) (joins : BeforeIsTransitive) (keeps : GrowthKeep
     s = stands old n cn
 
     far : whole ≡ (newer ++ s.newer) ++ s.at ∷ s.past
-    far = split ∙ ap (λ (l : Past). newer ++ l) s.whole ∙ join_again newer s.newer (s.at ∷ s.past)
-
-    come : (b : Past) (q : Point) → Rattle.vk_model.specs.Fault.Comes old b q → Rattle.vk_model.specs.Fault.Comes whole b q
-    come b q h = subst (λ (l : Past). Rattle.vk_model.specs.Fault.Comes l b q) (sym split) (comes_later newer old b q h)
-
-    same_pieces : (c : Cmd) → n.act ≡ Runs c → pieces whole c ≡ pieces old c
-    same_pieces c e =
-        let d = deed_of s.at.deed c (subst (λ (a : Act). Contains (acts s.at.deed) a) e s.acted) in
-        kept_pieces whole (newer ++ s.newer) s.past s.at c far d new alive ∙ sym (kept_pieces old s.newer s.past s.at c s.whole d (λ b q h. new b q (come b q h)) (λ b q h. alive b q (come b q h)))
+    far = split ∙ ap (λ (l : Past). newer ++ l) s.whole ∙ sym (append_assoc newer s.newer (s.at ∷ s.past))
 
     same_before : before_node whole n.number ≡ before_node old n.number
     same_before =
-        let lt = number_below (nodes (s.at ∷ s.past)) (numbered (s.at ∷ s.past)) n s.here in
+        let lt = stands_below _ _ s in
         (ap (λ (l : Past). before_node l n.number) far ∙ before_inside (newer ++ s.newer) s.past s.at n.number s.new lt)
         ∙ sym (ap (λ (l : Past). before_node l n.number) s.whole ∙ before_inside s.newer s.past s.at n.number s.new lt)
 
@@ -137,7 +117,7 @@ module _ (paths : BeforeIsPath) (joins : BeforeIsTransitive) (keeps : GrowthKeep
     same_count = go n.act refl
       where
         go : (a : Act) → n.act ≡ a → task_count whole a ≡ task_count old a
-        go (Runs c) e = ap length (same_pieces c e)
+        go (Runs c) e = ap length (same_pieces whole newer old split new alive n c cn e)
         go (Hosts x) e = refl
         go (Waits w) e = refl
         go (Signals w) e = refl
@@ -147,7 +127,7 @@ module _ (paths : BeforeIsPath) (joins : BeforeIsTransitive) (keeps : GrowthKeep
     same_part k c = go n.act refl
       where
         go : (a : Act) → n.act ≡ a → part_write whole a k c ≡ part_write old a k c
-        go (Runs x) e = ap (λ (ps : List (List Move)). option_map (λ m. Rattle.vk_laws.specs.Machine.Puts m.source) (find (λ m. same_byte m.to c) (moves_of (slice_get ps k)))) (same_pieces x e)
+        go (Runs x) e = ap (λ (ps : List (List Move)). option_map (λ m. Rattle.vk_laws.specs.Machine.Puts m.source) (find (λ m. same_byte m.to c) (moves_of (slice_get ps k)))) (same_pieces whole newer old split new alive n x cn e)
         go (Hosts x) e = refl
         go (Waits w) e = refl
         go (Signals w) e = refl
@@ -168,13 +148,13 @@ module _ (paths : BeforeIsPath) (joins : BeforeIsTransitive) (keeps : GrowthKeep
     not_new v c =
         let high = front_number kept.stand.0 (nodes old) v (subst (λ (l : List Node). IsNumbered l) kept.stand.1 (numbered whole)) c in
         let low = number_below (nodes old) (numbered old) n cn in
-        refuted (before (nodes whole) v n) (λ h. let lt = before_number (nodes whole) v n h in omega (arith, high, low, lt))
+        false_from_ne_true (before (nodes whole) v n) (λ h. let lt = before_number (nodes whole) v n h in omega (arith, high, low, lt))
 
     over_nodes : (f g : Node → Bool) → ((v : Node) → Contains kept.stand.0 v → f v ≡ false) → ((v : Node) → Contains (nodes old) v → f v ≡ g v) → list_any f (nodes whole) ≡ list_any g (nodes old)
     over_nodes f g never same = ap (list_any f) kept.stand.1 ∙ grown f g kept.stand.0 (nodes old) never same
 
     same_wrote : (c : Byte) → host_wrote whole n c ≡ host_wrote old n c
-    same_wrote c = over_nodes _ _ (λ v cv. and_false (is_host v.act && is_in c (writes whole v)) (before (nodes whole) v n) (not_new v cv)) (λ v cv. by_act' v v.act refl ∙ ap (λ (b : Bool). is_host v.act && is_in c (writes old v) && b) (kept.orders v n cn))
+    same_wrote c = over_nodes _ _ (λ v cv. and_right (is_host v.act && is_in c (writes whole v)) (before (nodes whole) v n) (not_new v cv)) (λ v cv. by_act' v v.act refl ∙ ap (λ (b : Bool). is_host v.act && is_in c (writes old v) && b) (kept.orders v n cn))
       where
         by_act' : (v : Node) (a : Act) → v.act ≡ a → (is_host v.act && is_in c (writes whole v) && before (nodes whole) v n) ≡ (is_host v.act && is_in c (writes old v) && before (nodes whole) v n)
         by_act' v (Runs x) e = rw e refl
@@ -184,7 +164,7 @@ module _ (paths : BeforeIsPath) (joins : BeforeIsTransitive) (keeps : GrowthKeep
         by_act' v (Depends r d) e = rw e refl
 
     same_passes : (test : Act → Bool) (one other : Byte → Bool) (m : Node) → passes one (nodes whole) test m n ≡ passes other (nodes old) test m n
-    same_passes test one other m = over_nodes _ _ (λ v cv. and_false (test v.act && before (nodes whole) m v) (before (nodes whole) v n) (not_new v cv))
+    same_passes test one other m = over_nodes _ _ (λ v cv. and_right (test v.act && before (nodes whole) m v) (before (nodes whole) v n) (not_new v cv))
         (λ v cv. ap (λ (b : Bool). test v.act && b && before (nodes whole) v n) (kept.orders m v cv) ∙ ap (λ (b : Bool). test v.act && before (nodes old) m v && b) (kept.orders v n cn))
 
     same_shows : (a : ℕ) (c : Byte) → shows whole n a c ≡ shows old n a c
@@ -211,8 +191,8 @@ module _ (paths : BeforeIsPath) (joins : BeforeIsTransitive) (keeps : GrowthKeep
 
     -- and of a newer node's: nothing
     none_sent : (w : Node) → Contains (nodes whole) w → size ≤ w.number → (c : Byte) → sends_write whole n w c ≡ false
-    none_sent w cw le c = refuted (sends_write whole n w c) (λ h.
-        let g = both _ _ h in
+    none_sent w cw le c = false_from_ne_true (sends_write whole n w c) (λ h.
+        let g = and_parts _ _ h in
         let lt = before_number (nodes whole) w n (sent_of paths joins whole (cached whole w.number) w n c refl cw (raise n cn) g.0 g.1).later in
         let low = number_below (nodes old) (numbered old) n cn in
         omega (arith, le, lt, low))
@@ -243,7 +223,7 @@ module _ (paths : BeforeIsPath) (joins : BeforeIsTransitive) (keeps : GrowthKeep
     where
       never : (n : At b) → size ≤ a → (o : Option Node) → node_at whole a ≡ o → holds o (λ m. before (nodes whole) m n.node) ≡ false
       never n le None e = refl
-      never n le (Some m) e = refuted (before (nodes whole) m n.node) (λ h.
+      never n le (Some m) e = false_from_ne_true (before (nodes whole) m n.node) (λ h.
           let less = before_number (nodes whole) m n.node h in
           let f = (node_of whole a m e).1 in
           let g = n.number in
@@ -274,68 +254,22 @@ module _ (paths : BeforeIsPath) (joins : BeforeIsTransitive) (keeps : GrowthKeep
           ∙ ap (λ (b : Bool). (traffic_of old).has w && b) (same_sent n.node n.stands m.node m.stands (same_cached m.node m.stands) c)
           ∙ sym (ap (λ (o : Option Node). (traffic_of old).has w && holds o (λ m. sends_write old n.node m c)) m.in_old)
       by_writer n (inr le) =
-          and_false ((traffic_of whole).has w) _ (never n le (node_at whole w.node) refl)
-          ∙ sym (and_false ((traffic_of old).has w) _ (ap (λ (o : Option Node). holds o (λ m. sends_write old n.node m c)) (none_old w.node le)))
+          and_right ((traffic_of whole).has w) _ (never n le (node_at whole w.node) refl)
+          ∙ sym (and_right ((traffic_of old).has w) _ (ap (λ (o : Option Node). holds o (λ m. sends_write old n.node m c)) (none_old w.node le)))
 
   visible_same : (q : Task) (a : ℕ) (c : Byte) → q.node < size → (caching_of whole).makes_visible q a c ≡ (caching_of old).makes_visible q a c
   visible_same q a c lt =
       let n = at q.node lt in
       ap (λ (o : Option Node). holds o (λ n. shows whole n a c)) n.in_whole ∙ same_shows n.node n.stands a c ∙ sym (ap (λ (o : Option Node). holds o (λ n. shows old n a c)) n.in_old)
 
-  old_tasks : (t : Task) → IsTrue ((with_discards old).has t) → t.node < size
-  old_tasks t h = ⊎_elim (λ lt. lt) (λ le. absurd (none (node_at old t.node) (none_old t.node le) h)) (cases_lt t.node size)
-    where
-      none : (o : Option Node) → o ≡ None → IsTrue (by_act false (λ a. nat_lt t.part (task_count old a)) o) → ⊥
-      none None e h = cc
-      none (Some n) e h = cc
-
-  forward : (a b : ℕ) → IsTrue ((with_discards whole).before a b) → a < b
-  forward a b h = go (node_at whole a) (node_at whole b) refl refl h
-    where
-      go : (o u : Option Node) → node_at whole a ≡ o → node_at whole b ≡ u → IsTrue (holds o (λ m. holds u (λ n. before (nodes whole) m n))) → a < b
-      go None u e f h = absurd cc
-      go (Some m) None e f h = absurd cc
-      go (Some m) (Some n) e f h = let lt = before_number (nodes whole) m n h in let g = (node_of whole a m e).1 in let k = (node_of whole b n f).1 in omega (arith, lt, g, k)
-
   pub extends : Extends size (with_discards old) (caching_of old) (with_discards whole) (caching_of whole)
   extends = record {
-    old = old_tasks;
+    old = λ t h. there_below old t.node (λ a. nat_lt t.part (task_count old a)) h;
     has = has_same;
     write_of = write_same;
     before = before_same;
-    forward = forward;
+    forward = leads_on whole;
     agent = λ t lt. let n = at t.node lt in ap (λ (o : Option Node). elim o [ None ↦ 0 | Some n ↦ agent_of n ]) n.in_whole ∙ sym (ap (λ (o : Option Node). elim o [ None ↦ 0 | Some n ↦ agent_of n ]) n.in_old);
     makes_available = available_same;
     makes_visible = visible_same;
   }
-
--- ---- a longer trace's points
-
-deeds_more : {A : Type 0} (of : A → Deed) (u : Turn) (k : ℕ) (xs : List A) (past : Past) → (more : Past) × (deeds of u k xs past ≡ more ++ past)
-deeds_more of u k [] past = ([], refl)
-deeds_more of u k (x ∷ xs) past = let p : Point = record { entry = u.entry; batch = u.batch; place = k; queue = u.queue; deed = of x } in let r = deeds_more of u (k + 1) xs (p ∷ past) in (r.0 ++ p ∷ [], r.1 ∙ join_again r.0 (p ∷ []) past)
-
-on_top : (past a b c : Past) (more more' : Past) → a ≡ more ++ b → b ≡ more' ++ past → a ≡ (more ++ more') ++ past
-on_top past a b c more more' e f = e ∙ ap (λ (l : Past). more ++ l) f ∙ join_again more more' past
-
-taken_more : (u : Turn) (past : Past) → (more : Past) × (taken u past ≡ more ++ past)
-taken_more u past =
-    let w = deeds_more Wait u 0 u.content.waits past in
-    let r = deeds_more Run u 0 u.content.commands (deeds Wait u 0 u.content.waits past) in
-    let s = deeds_more Signal u 0 u.content.signals (deeds Run u 0 u.content.commands (deeds Wait u 0 u.content.waits past)) in
-    ((s.0 ++ r.0) ++ w.0, on_top past _ _ [] (s.0 ++ r.0) w.0 (on_top _ _ _ [] s.0 r.0 s.1 r.1) w.1)
-
-turns_more : (us : List Turn) (past : Past) → (more : Past) × (fold (λ p u. taken u p) past us ≡ more ++ past)
-turns_more [] past = ([], refl)
-turns_more (u ∷ us) past = let t = taken_more u past in let r = turns_more us (taken u past) in (r.0 ++ t.0, on_top past _ _ [] r.0 t.0 r.1 t.1)
-
-plain_more : (e : ℕ) (past : Past) (xs : List Entry) → (more : Past) × (plain_from e past xs ≡ more ++ past)
-plain_more e past [] = ([], refl)
-plain_more e past (x ∷ xs) =
-    let t = turns_more (turns_of past e x) (host e x ∷ past) in
-    let r = plain_more (e + 1) (fold (λ p u. taken u p) (host e x ∷ past) (turns_of past e x)) xs in
-    ((r.0 ++ t.0) ++ host e x ∷ [], on_top (host e x ∷ past) _ _ [] r.0 t.0 r.1 t.1 ∙ join_again (r.0 ++ t.0) (host e x ∷ []) past)
-
-pub plain_split : (e : ℕ) (past : Past) (xs ys : List Entry) → (more : Past) × (plain_from e past (xs ++ ys) ≡ more ++ plain_from e past xs)
-plain_split e past [] ys = plain_more e past ys
-plain_split e past (x ∷ xs) ys = plain_split (e + 1) (fold (λ p u. taken u p) (host e x ∷ past) (turns_of past e x)) xs ys

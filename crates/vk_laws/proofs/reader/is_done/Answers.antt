@@ -1,11 +1,7 @@
-use Rattle.std.proofs.Common.{⊎_elim, arith}
-use Rattle.std.proofs.lemmas.Bool.{cases_lt, lt-ltb, ltb-true}
+use Rattle.std.proofs.Common.{sym, ◌∙◌}
+use Rattle.vk_laws.proofs.Fresh.{done_by_number}
 use Rattle.vk_laws.proofs.reader.is_done.Goals as goal
 
 pub returns : goal.returns
 returns c = λ tr ca done cells s t b free r may es et ne meet back.
-    let settled = c.every_order.ensures.settled tr ca done cells t free r may in (
-      λ h. let lt = ltb-true c.args.other c.args.next h in settled.earlier s b (omega arith) meet,
-      λ h. lt-ltb c.args.other c.args.next
-          (⊎_elim (λ lt. lt) (λ le. absurd (settled.later s b (⊎_elim (λ lt. omega arith) (λ le'. absurd (ne (omega arith))) (cases_lt c.args.next c.args.other)) back h)) (cases_lt c.args.other c.args.next)),
-    )
+    rw (sym es, sym et) (done_by_number tr done s t b (c.every_order.ensures.settled tr ca done cells t free r may) (λ e. ne (sym es ∙ e ∙ et)) meet back)

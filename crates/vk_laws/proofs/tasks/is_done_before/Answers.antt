@@ -1,11 +1,9 @@
-use Rattle.std.proofs.Common.{⊎_elim, arith}
-use Rattle.std.proofs.lemmas.Bool.{cases_lt, lt-ltb, ltb-true}
+use Rattle.std.proofs.Common.{sym, ◌∙◌}
+use Rattle.vk_laws.proofs.Fresh.{done_by_number}
 use Rattle.vk_laws.proofs.tasks.is_done_before.Goals as goal
+use Rattle.vk_model.specs.Order.{plain_order}
+use Rattle.vk_laws.specs.Tasks.{traffic_of}
 
 pub returns : goal.returns
 returns c = λ t done s n b none ok may es en ne meet back.
-    let settled = c.trace_is_settled.ensures t done n none ok may in (
-      λ h. let lt = ltb-true c.args.other c.args.next h in settled.earlier s b (omega arith) meet,
-      λ h. lt-ltb c.args.other c.args.next
-          (⊎_elim (λ lt. lt) (λ le. absurd (settled.later s b (⊎_elim (λ lt. omega arith) (λ le'. absurd (ne (omega arith))) (cases_lt c.args.next c.args.other)) back h)) (cases_lt c.args.other c.args.next)),
-    )
+    rw (sym es, sym en) (done_by_number (traffic_of (plain_order t)) done s n b (c.trace_is_settled.ensures t done n none ok may) (λ e. ne (sym es ∙ e ∙ en)) meet back)

@@ -7,7 +7,6 @@ returns c = λ t none. discards_cache_free t (record {
   apart = c.pieces_write_apart.ensures;
   paths = c.before_is_path.ensures;
   joins = c.before_is_order.ensures.transitive;
-  leads = c.before_is_order.ensures.forward;
   stay = c.commands_stay.ensures;
   hazards = c.no_hazard.ensures;
   sights = c.seen_is_before.ensures;

@@ -1,10 +1,10 @@
 use Rattle.std.proofs.Common.{List, sym, ◌∙◌, ap}
+use Rattle.std.proofs.lemmas.Bool.{false_from_ne_true}
 use Rattle.vk_model.specs.Order.{plain_order}
 use Rattle.vk_laws.specs.Machine.{Task, latest}
 use Rattle.vk_laws.specs.Tasks.{traffic_of}
 use Rattle.vk_laws.specs.TraceBytes.{uncached}
 use Rattle.vk_laws.specs.DefinedRuns.{has_happened, bytes_after}
-use Rattle.vk_laws.proofs.HazardFree.{refuted}
 use Rattle.vk_laws.proofs.Runs.{bare, reached_from}
 use Rattle.vk_laws.proofs.DefinedBytes.{bytes_same, latest_same, first_real, second_real}
 use Rattle.vk_laws.proofs.trace_runs.defined_runs_are_fresh.Goals as goal
@@ -16,7 +16,7 @@ returns c = record {
       let d = c.defined_runs_are_allowed.ensures t part_count steps e run none in
       let settled = c.trace_is_settled.ensures t d.0 next none d.1.allowed (d.1.next next may) in (
         λ lt meet. let real = first_real all c.pieces_are_moves.ensures other next b meet in (d.1.happened other real.0 real.1).0 (settled.earlier other b lt meet),
-        λ lt meet. let real = second_real all c.pieces_are_moves.ensures next other b meet in refuted (has_happened all e other) (λ h. settled.later other b lt meet ((d.1.happened other real.0 real.1).1 h)),
+        λ lt meet. let real = second_real all c.pieces_are_moves.ensures next other b meet in false_from_ne_true (has_happened all e other) (λ h. settled.later other b lt meet ((d.1.happened other real.0 real.1).1 h)),
       );
   fresh = λ t part_count steps e run first next b v none may reads is.
       let all = plain_order t in
