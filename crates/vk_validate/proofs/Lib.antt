@@ -25,7 +25,9 @@ pub mod Clocked
 pub mod Advances
 pub mod BatchNodes
 pub mod Stands
+pub mod StandsOn
 pub mod Sights
+pub mod FillWriters
 pub mod Unseen
 pub mod Named
 pub mod NextNodes

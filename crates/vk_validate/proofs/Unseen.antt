@@ -1,265 +1,51 @@
 -- HAZARD_RAW and HAZARD_WAW: of the writers of a byte the last one tells of all.
-use Rattle.std.proofs.Common.{◌≡◌, ◌<◌, ◌≤◌, ◌+◌, ◌-◌, ◌^◌, ℕ, List, [], ◌∷◌, length, map, Bool, true, false, not, ◌&&◌, ◌||◌, ◌==◌, refl, ap, sym, ◌∙◌, subst, arith, inl, inr, Option, Some, None, cond}
-use Rattle.std.specs.Prelude.{Contains, ◌↔◌, nat_lt, nat_le}
+use Rattle.std.proofs.Common.{◌≡◌, ◌<◌, ◌≤◌, ◌+◌, ℕ, List, [], ◌∷◌, length, Bool, true, false, not, ◌&&◌, ◌||◌, refl, ap, sym, ◌∙◌, arith, inl, inr, Option, Some, None}
+use Rattle.std.specs.Prelude.{Contains, ◌↔◌, nat_le}
 use Rattle.std.specs.List.{list_any, list_all}
-use Rattle.std.proofs.lemmas.Bool.{eqb-true, eq-eqb, ltb-true, lt-ltb, leb-true, le-leb, le-ltb, cases_lt, and_parts, or_cases, not-true, false_from_ne_true, or_left}
+use Rattle.std.proofs.lemmas.Bool.{lt-ltb, leb-true, le-leb, le-ltb, cases_lt, and_parts, or_cases, not-true, false_from_ne_true, or_left}
 use Rattle.std.proofs.Math.Bool.{and-false}
 use Rattle.vk_model.specs.declared.command.Cmd.{Cmd}
 use Rattle.vk_model.specs.declared.command.Cmd.TheVariants as cmd
-use Rattle.vk_model.specs.declared.command.Element.{Element}
 use Rattle.vk_model.specs.declared.command.Length.{Length}
 use Rattle.vk_model.specs.declared.entry.Entry.{Entry}
 use Rattle.vk_model.specs.declared.entry.Entry.TheVariants as entry
-use Rattle.vk_model.specs.Words.{holds, below, within}
-use Rattle.vk_model.specs.World.{Byte, in_buffer, same_byte, resource_at}
+use Rattle.vk_model.specs.Words.{holds, below}
+use Rattle.vk_model.specs.World.{Byte, in_buffer, resource_at}
 use Rattle.vk_model.specs.Moves.{buffer_size, fill_size}
-use Rattle.vk_model.specs.Point.{Past, Point, Deed, Host, Wait, Run, Signal, host_of}
+use Rattle.vk_model.specs.Point.{Past, Point, Deed, Host, Run, Signal, host_of}
 use Rattle.vk_model.specs.Objects.{is_cached}
-use Rattle.vk_model.specs.Fault.{Comes, newest, older}
-use Rattle.vk_model.specs.Node.{Node, Act, Hosts, Waits, Signals, Runs, Depends, Barrier, acts, nodes}
+use Rattle.vk_model.specs.Node.{Node, Hosts, Runs, acts, nodes}
 use Rattle.vk_model.specs.Edge.{edge, is_host, is_command, transfer_stage, second_scope}
 use Rattle.vk_model.specs.Ownership.{dependency_of}
 use Rattle.vk_model.specs.Seen.{Read, Write}
-use Rattle.vk_model.specs.Access.{raw, waw, reads, writes, sees, precedes, is_in, bytes_of, writes_of, host_reads}
+use Rattle.vk_model.specs.Access.{raw, waw, reads, writes, sees, precedes, is_in, host_reads}
 use Rattle.vk_model.specs.RulesBytes.{breaks_hazard_raw, breaks_hazard_waw}
 use Rattle.vk_validate.specs.Cleared.{IsCleared}
 use Rattle.vk_validate.specs.Served.{is_served, is_served_deed}
 use Rattle.vk_validate.specs.Standing.{standing}
-use Rattle.vk_validate.specs.Tabled.{writes_byte, last_writer}
+use Rattle.vk_validate.specs.Tabled.{last_writer}
 use Rattle.vk_validate.specs.Tests.{reads_unseen, overwrites_unseen}
 use Rattle.vk_validate.proofs.Members.{none_in, contains-cons, contains-head, contains-tail, all_passes, some_member, member_passes, any_map}
 use Rattle.vk_validate.proofs.Truths.{no, clash, bool_same}
 use Rattle.vk_validate.proofs.Forms.{entry_cases, command_cases, deed_cases}
-use Rattle.vk_validate.proofs.Pasts.{served-cons, served-next}
+use Rattle.vk_validate.proofs.Pasts.{served-next}
 use Rattle.vk_validate.proofs.Plain.{IsPlain, Placed, LastSubmit}
 use Rattle.vk_validate.proofs.Growth.{number_below, numbered}
 use Rattle.vk_validate.proofs.NextNodes.{next_nodes-lined}
-use Rattle.vk_validate.proofs.Acts.{with_member, on_queue_0, last_queue, served_acts, served_node, is_served_act, batch_acts}
+use Rattle.vk_validate.proofs.Acts.{on_queue_0, last_queue, served_acts, served_node, is_served_act, batch_acts}
 use Rattle.vk_validate.proofs.Ordered.{host_edge, hosts_follow}
 use Rattle.vk_validate.proofs.Hazards.{hazard_none, lined_act, reads_none, writes_none, fill-targets, idle_elements}
 use Rattle.vk_validate.proofs.Spans.{one_of, some_of}
 use Rattle.vk_validate.proofs.Places.{IsApart}
-use Rattle.vk_validate.proofs.Reach.{served_of, fills_low, kept_size}
+use Rattle.vk_validate.proofs.Reach.{served_of}
 use Rattle.vk_validate.proofs.Freed.{Shown, Via, ShownVia, leads_to_transfers, leads_to_writes, shown_stands}
 use Rattle.vk_validate.proofs.Causes.{meet_transfers}
 use Rattle.vk_validate.proofs.Clocked.{Means, stage_edge, shown_by}
 use Rattle.vk_validate.proofs.BatchNodes.{queue_stages, barrier_of, leads_element, element_hosts}
-use Rattle.vk_validate.proofs.Stands.{IsStanding, IsCommandAt, command_stands, stands, after_host, after_fill}
+use Rattle.vk_validate.proofs.Stands.{IsStanding, IsCommandAt, command_stands}
+use Rattle.vk_validate.proofs.StandsOn.{stands, after_host, after_fill}
 use Rattle.vk_validate.proofs.Sights.{uncached, seen_by_read, seen_by_write}
-
--- ---- bytes of a range
-
-byte_within : (b k c o s : ℕ) → is_in (in_buffer b k) (bytes_of c o s) ≡ true → (b ≡ c) × (o ≤ k) × (k < o + s)
-byte_within b k c o s e =
-    let at = some_of (λ j. b == c && k == o + j) 0 s (sym (any_map (same_byte (in_buffer b k)) (λ j. in_buffer c (o + j)) (below s)) ∙ e) in
-    let parts = and_parts (b == c) (k == o + at.0) at.3 in
-    let is : k ≡ o + at.0 = eqb-true k (o + at.0) parts.1 in
-    let high = at.2 in (eqb-true b c parts.0, omega (arith, is), omega (arith, is, high))
-
-within_byte : (b k c o s : ℕ) → b ≡ c → o ≤ k → k < o + s → is_in (in_buffer b k) (bytes_of c o s) ≡ true
-within_byte b k c o s same low high =
-    any_map (same_byte (in_buffer b k)) (λ j. in_buffer c (o + j)) (below s)
-    ∙ one_of (λ j. b == c && k == o + j) 0 s (k - o) (omega arith) (omega arith) (rw (eq-eqb b c same, eq-eqb k (o + (k - o)) (let e : k ≡ o + (k - o) = omega arith in e)) refl)
-
--- ---- last writers
-
-comes_shorter : (past before : Past) (q : Point) → Comes past before q → length before < length past
-comes_shorter past before q newest = omega arith
-comes_shorter past before q (older {past = rest} c) = let lt = comes_shorter rest before q c in omega (arith, lt)
-
--- the last writer of a byte isn't before another
-last_from : (past before : Past) (q : Point) (b k : ℕ) → Comes past before q → writes_byte before q.deed b k ≡ true → (m : ℕ) × (last_writer past b k ≡ Some m) × (length before ≤ m)
-last_from past before q b k newest writes_it = (length before, rw writes_it refl, omega arith)
-last_from past before q b k (older {past = rest} {q = p} c) writes_it = go (writes_byte rest p.deed b k) refl (last_from rest before q b k c writes_it) where
-  go : (t : Bool) → writes_byte rest p.deed b k ≡ t → ((m : ℕ) × (last_writer rest b k ≡ Some m) × (length before ≤ m)) → (m : ℕ) × (last_writer (p ∷ rest) b k ≡ Some m) × (length before ≤ m)
-  go true e found = (length rest, rw e refl, (let lt = comes_shorter rest before q c in omega (arith, lt)))
-  go false e found = (found.0, rw e found.1, found.2)
-
--- and is a point that writes it
-last_is : (past : Past) (b k m : ℕ) → last_writer past b k ≡ Some m → (before : Past) × (q : Point) × Comes past before q × (m ≡ length before) × (writes_byte before q.deed b k ≡ true)
-last_is [] b k m e = absurd cc
-last_is (p ∷ past) b k m e = go (writes_byte past p.deed b k) refl e (last_is past b k m) where
-  go : (t : Bool) → writes_byte past p.deed b k ≡ t → cond t (Some (length past)) (last_writer past b k) ≡ Some m → (last_writer past b k ≡ Some m → (before : Past) × (q : Point) × Comes past before q × (m ≡ length before) × (writes_byte before q.deed b k ≡ true))
-      → (before : Past) × (q : Point) × Comes (p ∷ past) before q × (m ≡ length before) × (writes_byte before q.deed b k ≡ true)
-  go true w e rest = (past, p, newest, (let same : length past ≡ m = cc in sym same), w)
-  go false w e rest = let found = rest e in (found.0, found.1, older found.2, found.3, found.4)
-
--- a fill that writes a byte
-pub record IsFillOfByte (d : Deed) (before : Past) (b k : ℕ) : Type 0 where
-  pub offset : ℕ
-  pub size : Length
-  pub word : ℕ
-  pub is : d ≡ Run (cmd.Fill b offset size word)
-  pub inside : within offset (fill_size (buffer_size before b) offset size) k ≡ true
-
-fill_of : (d : Deed) (before : Past) (b k : ℕ) → writes_byte before d b k ≡ true → IsFillOfByte d before b k
-fill_of (Run (cmd.Fill c o n w)) before b k e =
-    let outer = and_parts (c == b && within o (fill_size (buffer_size before c) o n) k) (nat_lt k (2 ^ 64)) e in
-    let inner = and_parts (c == b) (within o (fill_size (buffer_size before c) o n) k) outer.0 in
-    let same : c ≡ b = eqb-true c b inner.0 in
-    record { offset = o; size = n; word = w; is = ap (λ (x : ℕ). Run (cmd.Fill x o n w)) same; inside = subst (λ (x : ℕ). within o (fill_size (buffer_size before x) o n) k ≡ true) same inner.1 }
-fill_of (Run (cmd.Update b o bytes)) before c k e = no e
-fill_of (Run (cmd.Copy a b gs)) before c k e = no e
-fill_of (Run (cmd.Clear i l color rs)) before c k e = no e
-fill_of (Run (cmd.CopyIn b i l gs)) before c k e = no e
-fill_of (Run (cmd.CopyOut i l b gs)) before c k e = no e
-fill_of (Run (cmd.CopyImage a l b m gs)) before c k e = no e
-fill_of (Run (cmd.Barrier es)) before c k e = no e
-fill_of (Run (cmd.Set v ms)) before c k e = no e
-fill_of (Run (cmd.Await v ms)) before c k e = no e
-fill_of (Host x) before c k e = no e
-fill_of (Wait s) before c k e = no e
-fill_of (Signal s) before c k e = no e
-
-fills_it : (before : Past) (d : Deed) (b c o : ℕ) (n : Length) (w k : ℕ) → d ≡ Run (cmd.Fill c o n w) → (c == b) ≡ true → within o (fill_size (buffer_size before c) o n) k ≡ true → k < 2 ^ 64 → writes_byte before d b k ≡ true
-fills_it before d b c o n w k is same inside fits = rw (is, same, inside, lt-ltb k (2 ^ 64) fits) refl
-
--- ---- nodes of fills
-
-abbrev fill_node : Past → Point → Cmd → Node
-fill_node before q c = record { number = length (nodes before); point = q; act = Runs c }
-
--- the fill of a point has a node
-fill_stands : (past before : Past) (q : Point) (b o : ℕ) (n : Length) (w : ℕ) → Comes past before q → q.deed ≡ Run (cmd.Fill b o n w) → IsCommandAt past (fill_node before q (cmd.Fill b o n w)) (length before)
-fill_stands past before q b o n w newest is = inl (record { command = cmd.Fill b o n w; runs = is; alone = refl; node_is = refl; count = refl })
-fill_stands past before q b o n w (older {past = rest} c) is = inr (fill_stands rest before q b o n w c is)
-
--- and each node of a fill is of a point
-pub record IsFillNode (past : Past) (x : Node) (c : Cmd) : Type 0 where
-  pub before : Past
-  pub comes : Comes past before x.point
-  pub runs_it : x.point.deed ≡ Run c
-  pub at : IsCommandAt past x (length before)
-
-fill_point : (past : Past) → is_served past ≡ true → (x : Node) (c : Cmd) → Contains (nodes past) x → x.act ≡ Runs c → IsFillNode past x c
-fill_point [] served x c at is = absurd (none_in x at)
-fill_point (p ∷ past) served x c at is = let s = served-cons p past served in by_deed p.deed s.0 at (λ old. fill_point past s.1 x c old is) where
-  later : (d : Deed) → IsFillNode past x c → IsFillNode (record p { deed = d } ∷ past) x c
-  later d old = record { before = old.before; comes = older old.comes; runs_it = old.runs_it; at = inr old.at }
-
-  other : {A : Type 0} (a : Act) → a ≡ x.act → ((d : Cmd) → a ≡ Runs d → ⊥) → A
-  other a same none = absurd (none c (same ∙ is))
-
-  elements : (es : List Element) → Contains (map (Depends Barrier) es) x.act → ⊥
-  elements [] h = none_in x.act h
-  elements (e ∷ es) h = elim (contains-cons (Depends Barrier e) (map (Depends Barrier) es) x.act h) [ inl same ↦ (let bad : Depends Barrier e ≡ Runs c = same ∙ is in cc) | inr more ↦ elements es more ]
-
-  by_deed : (d : Deed) → is_served_deed d ≡ true → Contains (nodes (record p { deed = d } ∷ past)) x → (Contains (nodes past) x → IsFillNode past x c) → IsFillNode (record p { deed = d } ∷ past) x c
-  by_deed = let P : Deed → Type 0 = λ d. Contains (nodes (record p { deed = d } ∷ past)) x → (Contains (nodes past) x → IsFillNode past x c) → IsFillNode (record p { deed = d } ∷ past) x c in
-      deed_cases P
-      (λ y h at rest. elim (contains-cons (record { number = length (nodes past); point = record p { deed = Host y }; act = Hosts y }) (nodes past) x at) [
-        | inl same ↦ other (Hosts y) (ap (λ (n : Node). n.act) same) (λ d e. cc)
-        | inr old ↦ later (Host y) (rest old)
-      ])
-      (command_cases (λ c. P (Run c))
-      (λ b o n w at rest. elim (contains-cons (fill_node past (record p { deed = Run (cmd.Fill b o n w) }) (cmd.Fill b o n w)) (nodes past) x at) [
-        | inl same ↦ here b o n w same
-        | inr old ↦ later (Run (cmd.Fill b o n w)) (rest old)
-      ])
-      (λ es all at rest. elim (with_member (record p { deed = Run (cmd.Barrier es) }) (map (Depends Barrier) es) (nodes past) x at) [
-        | inl old ↦ later (Run (cmd.Barrier es)) (rest old)
-        | inr new ↦ absurd (elements es new.1)
-      ]))
-      (λ s at rest. elim (contains-cons (record { number = length (nodes past); point = record p { deed = Signal s }; act = Signals s }) (nodes past) x at) [
-        | inl same ↦ other (Signals s) (ap (λ (n : Node). n.act) same) (λ d e. cc)
-        | inr old ↦ later (Signal s) (rest old)
-      ])
-    where
-      here : (b o : ℕ) (n : Length) (w : ℕ) → fill_node past (record p { deed = Run (cmd.Fill b o n w) }) (cmd.Fill b o n w) ≡ x → IsFillNode (record p { deed = Run (cmd.Fill b o n w) } ∷ past) x c
-      here b o n w same =
-          let pt : Point = record p { deed = Run (cmd.Fill b o n w) } in
-          let point_is : pt ≡ x.point = ap (λ (m : Node). m.point) same in
-          let act_is : Runs (cmd.Fill b o n w) ≡ Runs c = ap (λ (m : Node). m.act) same ∙ is in
-          let command_is : cmd.Fill b o n w ≡ c = cc in
-          record {
-            before = past;
-            comes = subst (λ (q : Point). Comes (pt ∷ past) past q) point_is newest;
-            runs_it = subst (λ (q : Point). q.deed ≡ Run c) point_is (ap Run command_is);
-            at = inl (record { command = cmd.Fill b o n w; runs = refl; alone = refl; node_is = sym same; count = refl });
-          }
-
--- ---- writers of a byte, before a point that makes nothing
-
-is_run : (a : Act) → is_command a ≡ true → is_served_act a ≡ true → (b o : ℕ) × (n : Length) × (w : ℕ) × (a ≡ Runs (cmd.Fill b o n w))
-is_run (Runs (cmd.Fill b o n w)) r h = (b, o, n, w, refl)
-is_run (Runs (cmd.Update b o bytes)) r h = no h
-is_run (Runs (cmd.Copy a b gs)) r h = no h
-is_run (Runs (cmd.Clear i l color rs)) r h = no h
-is_run (Runs (cmd.CopyIn b i l gs)) r h = no h
-is_run (Runs (cmd.CopyOut i l b gs)) r h = no h
-is_run (Runs (cmd.CopyImage a l b m gs)) r h = no h
-is_run (Runs (cmd.Barrier es)) r h = no h
-is_run (Runs (cmd.Set v ms)) r h = no h
-is_run (Runs (cmd.Await v ms)) r h = no h
-is_run (Hosts x) r h = no r
-is_run (Waits s) r h = no r
-is_run (Signals s) r h = no r
-is_run (Depends r e) r' h = no r'
-
-module _ (past : Past) (cleared : IsCleared past) (pt : Point) (same_size : (c : ℕ) → buffer_size (pt ∷ past) c ≡ buffer_size past c) where
-  -- a node that writes a byte, and the last writer
-  pub record IsWriter (x : Node) (b k : ℕ) : Type 0 where
-    pub command : Cmd
-    pub runs_it : x.act ≡ Runs command
-    pub number : ℕ
-    pub at : IsCommandAt past x number
-    pub last : ℕ
-    pub last_is_it : last_writer past b k ≡ Some last
-    pub not_after : number ≤ last
-
-  writes_fill : (x : Node) (c o : ℕ) (n : Length) (w : ℕ) → x.act ≡ Runs (cmd.Fill c o n w) → writes (pt ∷ past) x ≡ bytes_of c o (fill_size (buffer_size past c) o n)
-  writes_fill x c o n w is = ap (λ (a : Act). writes_of (pt ∷ past) x.point.queue a) is ∙ fill-targets (pt ∷ past) c o n w ∙ ap (λ (s : ℕ). bytes_of c o (fill_size s o n)) (same_size c)
-
-  writer_of : (x : Node) → Contains (nodes past) x → (b k : ℕ) → is_in (in_buffer b k) (writes (pt ∷ past) x) ≡ true → IsWriter x b k
-  writer_of x cx b k e = by_act (is_command x.act) refl where
-    served : is_served past ≡ true
-    served = served_of past cleared
-
-    by_fill : (c o : ℕ) (n : Length) (w : ℕ) → x.act ≡ Runs (cmd.Fill c o n w) → IsWriter x b k
-    by_fill c o n w is =
-        let at = fill_point past served x (cmd.Fill c o n w) cx is in
-        let in_range = byte_within b k c o (fill_size (buffer_size past c) o n) (sym (ap (λ (bs : List Byte). is_in (in_buffer b k) bs) (writes_fill x c o n w is)) ∙ e) in
-        let size_is : buffer_size past c ≡ buffer_size at.before c = kept_size past at.before x.point c o n w cleared at.comes at.runs_it in
-        let low = in_range.1 in
-        let high : k < o + fill_size (buffer_size at.before c) o n = subst (λ (s : ℕ). k < o + fill_size s o n) size_is in_range.2 in
-        let inside : within o (fill_size (buffer_size at.before c) o n) k ≡ true = rw (le-leb o k low, lt-ltb k (o + fill_size (buffer_size at.before c) o n) high) refl in
-        let fits : k < 2 ^ 64 = fills_low past at.before x.point c o n w k cleared at.comes at.runs_it inside in
-        let writes_it : writes_byte at.before x.point.deed b k ≡ true = fills_it at.before x.point.deed b c o n w k at.runs_it (eq-eqb c b (sym in_range.0)) inside fits in
-        let last = last_from past at.before x.point b k at.comes writes_it in
-        record { command = cmd.Fill c o n w; runs_it = is; number = length at.before; at = at.at; last = last.0; last_is_it = last.1; not_after = last.2 }
-
-    by_act : (t : Bool) → is_command x.act ≡ t → IsWriter x b k
-    by_act true r = let f = is_run x.act r (served_node past served x cx) in by_fill f.0 f.1 f.2 f.3 f.4
-    by_act false r = no (sym (ap (λ (bs : List Byte). is_in (in_buffer b k) bs) (writes_none (pt ∷ past) x.point.queue x.act (served_node past served x cx) r)) ∙ e)
-
-  -- the node of the last writer
-  pub record IsLastNode (b k m : ℕ) : Type 0 where
-    pub node : Node
-    pub stands_in : Contains (nodes past) node
-    pub command : Cmd
-    pub runs_it : node.act ≡ Runs command
-    pub at : IsCommandAt past node m
-    pub writes_it : is_in (in_buffer b k) (writes (pt ∷ past) node) ≡ true
-
-  last_node : (b k m : ℕ) → last_writer past b k ≡ Some m → IsLastNode b k m
-  last_node b k m e =
-      let from = last_is past b k m e in
-      let fill = fill_of from.1.deed from.0 b k from.4 in
-      let c : Cmd = cmd.Fill b fill.offset fill.size fill.word in
-      let x : Node = fill_node from.0 from.1 c in
-      let at : IsCommandAt past x (length from.0) = fill_stands past from.0 from.1 b fill.offset fill.size fill.word from.2 fill.is in
-      let size_is : buffer_size past b ≡ buffer_size from.0 b = kept_size past from.0 from.1 b fill.offset fill.size fill.word cleared from.2 fill.is in
-      let parts = and_parts (nat_le fill.offset k) (nat_lt k (fill.offset + fill_size (buffer_size from.0 b) fill.offset fill.size)) fill.inside in
-      let high : k < fill.offset + fill_size (buffer_size from.0 b) fill.offset fill.size = ltb-true k (fill.offset + fill_size (buffer_size from.0 b) fill.offset fill.size) parts.1 in
-      record {
-        node = x;
-        stands_in = (command_stands past x (length from.0) at).0;
-        command = c;
-        runs_it = refl;
-        at = subst (λ (j : ℕ). IsCommandAt past x j) (sym from.3) at;
-        writes_it = ap (λ (bs : List Byte). is_in (in_buffer b k) bs) (writes_fill x b fill.offset fill.size fill.word refl)
-            ∙ within_byte b k b fill.offset (fill_size (buffer_size past b) fill.offset fill.size) refl (leb-true fill.offset k parts.0) (subst (λ (s : ℕ). k < fill.offset + fill_size s fill.offset fill.size) (sym size_is) high);
-      }
+use Rattle.vk_validate.proofs.FillWriters.{writer_of, last_node}
 
 -- ---- HAZARD_RAW
 
