@@ -2,11 +2,11 @@
 use Rattle.std.proofs.Common.{◌≡◌, ◌≢◌, ℕ, zero, suc, ◌+◌, ◌-◌, ◌*◌, ◌/◌, ◌%◌, ◌<◌, ◌≤◌, List, [], ◌∷◌, Bool, true, false, not, ◌&&◌, ◌||◌, ◌==◌, nat_lt, nat_le, refl, ap, subst, arith, inl, inr, Option, Some, None}
 use Rattle.std.specs.Prelude.{IsSome, is_some, is_none}
 use Rattle.std.specs.List.{fold, list_any, list_all, range_with_len}
-use Rattle.vk_model.specs.Order.{Turn, deeds, taken, turns_of, plain_from, host}
+use Rattle.vk_model.specs.Order.{Turn, actions, taken, turns_of, plain_from, host}
 use Rattle.std.proofs.lemmas.Bool.{ltb-false, leb-false, eqb-false, eqb-true}
 use Rattle.vk_model.specs.declared.rule.Rule.{Rule}
 use Rattle.vk_model.specs.declared.rule.Rule.TheVariants as rule
-use Rattle.vk_model.specs.Point.{Past, Point, Deed, Host, Wait, Run, Signal}
+use Rattle.vk_model.specs.Point.{Past, Point, Action, Host, Wait, Run, Signal}
 use Rattle.vk_model.specs.Rules.{breaks}
 use Rattle.vk_model.specs.Fault.{newest, older}
 use Rattle.vk_model.specs.RulesIds.{breaks_new_id}
@@ -25,9 +25,9 @@ use Rattle.vk_model.specs.declared.entry.Entry.TheVariants as entry
 use Rattle.vk_model.specs.declared.resource.BufferInfo.{BufferInfo}
 use Rattle.vk_model.specs.declared.resource.Place.{Place}
 use Rattle.vk_model.specs.declared.resource.Place.TheVariants as place
-use Rattle.vk_validate.specs.Served.{is_served, is_served_deed, is_served_place, is_memory}
+use Rattle.vk_validate.specs.Served.{is_served, is_served_action, is_served_place, is_memory}
 use Rattle.vk_device.specs.Clean.{IsClean}
-use Rattle.vk_device.specs.Fits.{FitsFill, FitsCommand, FitsRead, FitsEntry, FitsDeed, AllFit, AllMemory, IsOwn}
+use Rattle.vk_device.specs.Fits.{FitsFill, FitsCommand, FitsRead, FitsEntry, FitsAction, AllFit, AllMemory, IsOwn}
 use Rattle.std.proofs.Math.Nat.{eq-or-lt_of_le, div-add-mod, div-mul-le_self, mul-div_cancel, mod-lt}
 use Rattle.vk_model.specs.declared.command.Cmd.{Cmd}
 use Rattle.vk_model.specs.Objects.{made, made_by, buffer}
@@ -78,49 +78,49 @@ ends_at size o (length_of.Bytes n) = false
 ends_at size o length_of.Whole = nat_le size o
 
 module _ (past : Past) (p : Point) (none : BreaksNone past p) where
-  new_made : (x : Entry) (i : ℕ) → p.deed ≡ Host x → made_by x ≡ Some i → made past i ≡ None
+  new_made : (x : Entry) (i : ℕ) → p.action ≡ Host x → made_by x ≡ Some i → made past i ≡ None
   unfolding breaks
   new_made x i is makes =
       let unbroken : breaks_new_id past p ≡ false = none rule.NewId in
       not_some (made past i) (rw (is, makes) at unbroken)
 
-  entry_size : (x : Entry) → p.deed ≡ Host x → bad_entry_size x ≡ false
+  entry_size : (x : Entry) → p.action ≡ Host x → bad_entry_size x ≡ false
   unfolding breaks
   entry_size x is =
       let unbroken : breaks_size past p ≡ false = none rule.Size in
       or-left (bad_entry_size x) false (rw is at unbroken)
 
-  command_size : (c : Cmd) → p.deed ≡ Run c → bad_command_size past c ≡ false
+  command_size : (c : Cmd) → p.action ≡ Run c → bad_command_size past c ≡ false
   unfolding breaks
   command_size c is =
       let unbroken : breaks_size past p ≡ false = none rule.Size in
       rw is at unbroken
 
-  memory_size : (x : Entry) → p.deed ≡ Host x → bad_memory_size x ≡ false
+  memory_size : (x : Entry) → p.action ≡ Host x → bad_memory_size x ≡ false
   unfolding breaks
   memory_size x is =
       let unbroken : breaks_memory_size past p ≡ false = none rule.MemorySize in
       rw is at unbroken
 
-  entry_range : (x : Entry) → p.deed ≡ Host x → host_past past x ≡ false
+  entry_range : (x : Entry) → p.action ≡ Host x → host_past past x ≡ false
   unfolding breaks
   entry_range x is =
       let unbroken : breaks_range past p ≡ false = none rule.Range in
       or-left (host_past past x) false (rw is at unbroken)
 
-  command_range : (c : Cmd) → p.deed ≡ Run c → command_past past c ≡ false
+  command_range : (c : Cmd) → p.action ≡ Run c → command_past past c ≡ false
   unfolding breaks
   command_range c is =
       let unbroken : breaks_range past p ≡ false = none rule.Range in
       rw is at unbroken
 
-  command_align : (c : Cmd) → p.deed ≡ Run c → misaligned past p.queue c ≡ false
+  command_align : (c : Cmd) → p.action ≡ Run c → misaligned past p.queue c ≡ false
   unfolding breaks
   command_align c is =
       let unbroken : breaks_align past p ≡ false = none rule.Align in
       rw is at unbroken
 
-  entry_defined : (x : Entry) → p.deed ≡ Host x → reads_undefined (world past) x ≡ false
+  entry_defined : (x : Entry) → p.action ≡ Host x → reads_undefined (world past) x ≡ false
   unfolding breaks
   entry_defined x is =
       let unbroken : breaks_read_undefined past p ≡ false = none rule.ReadUndefined in
@@ -149,7 +149,7 @@ read_fits past b o n some range = go (buffer past b) refl
     go None is = let le : o + n ≤ 0 = rw (buffer_size, is) at range in absurd (omega arith)
     go (Some i) is = rw (buffer_size, is) at range
 
-read_point : (past : Past) (p : Point) (b o n : ℕ) → p.deed ≡ Host (entry.Read b o n) → BreaksNone past p → FitsEntry past (entry.Read b o n)
+read_point : (past : Past) (p : Point) (b o n : ℕ) → p.action ≡ Host (entry.Read b o n) → BreaksNone past p → FitsEntry past (entry.Read b o n)
 read_point past p b o n is none = (
   read_fits past b o n (not_zero n (entry_size past p none (entry.Read b o n) is)) (not_above (buffer_size past b) (o + n) (entry_range past p none (entry.Read b o n) is)),
   λ k lt. some_of ((world past).value (in_buffer b (o + k))) (none_of (λ k. is_none ((world past).value (in_buffer b (o + k)))) 0 n k (entry_defined past p none (entry.Read b o n) is) (omega arith) (omega arith)),
@@ -178,7 +178,7 @@ fill_fits size o length_of.Whole some inside here whole =
 abbrev outside : Past → ℕ → ℕ → Length → Bool
 outside past b o n = nat_lt (buffer_size past b) (o + fill_size (buffer_size past b) o n)
 
-fill_point : (past : Past) (p : Point) (b o : ℕ) (n : Length) (w : ℕ) → p.deed ≡ Run (cmd.Fill b o n w) → BreaksNone past p → FitsFill (buffer past b) o n
+fill_point : (past : Past) (p : Point) (b o : ℕ) (n : Length) (w : ℕ) → p.action ≡ Run (cmd.Fill b o n w) → BreaksNone past p → FitsFill (buffer past b) o n
 fill_point past p b o n w is none =
     go (buffer past b) refl (fill_fits (buffer_size past b) o n (command_size past p none (cmd.Fill b o n w) is) inside (from_end n ranged) (or-right _ _ (command_align past p none (cmd.Fill b o n w) is)))
   where
@@ -214,7 +214,7 @@ own_place (place.Memory m o) e = absurd cc
 rounded_bound : (size : ℕ) → (size + 15) / 16 * 16 ≤ 67108864 → size ≤ 67108864
 rounded_bound size le = let parts = div-add-mod (size + 15) 16 in let rest : (size + 15) % 16 < 16 = mod-lt (size + 15) (omega arith) in omega arith
 
-buffer_point : (past : Past) (p : Point) (i : ℕ) (b : BufferInfo) → p.deed ≡ Host (entry.Buffer i b) → is_served_place b.place ≡ true → BreaksNone past p → FitsEntry past (entry.Buffer i b)
+buffer_point : (past : Past) (p : Point) (i : ℕ) (b : BufferInfo) → p.action ≡ Host (entry.Buffer i b) → is_served_place b.place ≡ true → BreaksNone past p → FitsEntry past (entry.Buffer i b)
 buffer_point past p i b is served none = (
   new_made past p none (entry.Buffer i b) i is refl,
   not_zero b.size (entry_size past p none (entry.Buffer i b) is),
@@ -222,7 +222,7 @@ buffer_point past p i b is served none = (
   own_place b.place served,
 )
 
-fits_entry : (past : Past) (p : Point) (x : Entry) → p.deed ≡ Host x → is_served_deed (Host x) ≡ true → BreaksNone past p → FitsEntry past x
+fits_entry : (past : Past) (p : Point) (x : Entry) → p.action ≡ Host x → is_served_action (Host x) ≡ true → BreaksNone past p → FitsEntry past x
 fits_entry past p (entry.Buffer i b) is served none = buffer_point past p i b is served none
 fits_entry past p (entry.Map b) is served none = tt
 fits_entry past p (entry.Read b o n) is served none = read_point past p b o n is none
@@ -246,7 +246,7 @@ fits_entry past p (entry.Pass d) is served none = absurd cc
 fits_entry past p (entry.EndPass d kept lost) is served none = absurd cc
 fits_entry past p (entry.EndDefrag d) is served none = absurd cc
 
-fits_command : (past : Past) (p : Point) (c : Cmd) → p.deed ≡ Run c → is_served_deed (Run c) ≡ true → BreaksNone past p → FitsCommand past c
+fits_command : (past : Past) (p : Point) (c : Cmd) → p.action ≡ Run c → is_served_action (Run c) ≡ true → BreaksNone past p → FitsCommand past c
 fits_command past p (cmd.Fill b o n w) is served none = fill_point past p b o n w is none
 fits_command past p (cmd.Barrier es) is served none = all_memory es served
 fits_command past p (cmd.Update b o bytes) is served none = absurd cc
@@ -258,11 +258,11 @@ fits_command past p (cmd.CopyImage a l b m gs) is served none = absurd cc
 fits_command past p (cmd.Set v ms) is served none = absurd cc
 fits_command past p (cmd.Await v ms) is served none = absurd cc
 
-fits_deed : (past : Past) (p : Point) (d : Deed) → p.deed ≡ d → is_served_deed d ≡ true → BreaksNone past p → FitsDeed past d
-fits_deed past p (Host x) is served none = fits_entry past p x is served none
-fits_deed past p (Run c) is served none = fits_command past p c is served none
-fits_deed past p (Wait s) is served none = tt
-fits_deed past p (Signal s) is served none = tt
+fits_action : (past : Past) (p : Point) (d : Action) → p.action ≡ d → is_served_action d ≡ true → BreaksNone past p → FitsAction past d
+fits_action past p (Host x) is served none = fits_entry past p x is served none
+fits_action past p (Run c) is served none = fits_command past p c is served none
+fits_action past p (Wait s) is served none = tt
+fits_action past p (Signal s) is served none = tt
 
 -- ---- what is older is clean too
 
@@ -270,7 +270,7 @@ clean_older : (past : Past) (p : Point) → IsClean (p ∷ past) → IsClean pas
 unfolding is_served
 clean_older past p clean = record {
   sound = λ before q r comes. clean.sound before q r (older comes);
-  served = (and-true (is_served_deed p.deed) (list_all (λ q. is_served_deed q.deed) past) clean.served).1;
+  served = (and-true (is_served_action p.action) (list_all (λ q. is_served_action q.action) past) clean.served).1;
 }
 
 -- every point of a clean past fits
@@ -278,14 +278,14 @@ pub fits_clean : (past : Past) → IsClean past → AllFit past
 unfolding is_served
 fits_clean [] clean = tt
 fits_clean (p ∷ past) clean =
-    (fits_deed past p p.deed refl (and-true (is_served_deed p.deed) (list_all (λ q. is_served_deed q.deed) past) clean.served).0 (breaks_none past p clean), fits_clean past (clean_older past p clean))
+    (fits_action past p p.action refl (and-true (is_served_action p.action) (list_all (λ q. is_served_action q.action) past) clean.served).0 (breaks_none past p clean), fits_clean past (clean_older past p clean))
 
-clean_deeds : {A : Type 0} (of : A → Deed) (t : Turn) (k : ℕ) (xs : List A) (past : Past) → IsClean (deeds of t k xs past) → IsClean past
-clean_deeds of t k [] past clean = clean
-clean_deeds of t k (x ∷ xs) past clean = clean_older past _ (clean_deeds of t (k + 1) xs _ clean)
+clean_actions : {A : Type 0} (of : A → Action) (t : Turn) (k : ℕ) (xs : List A) (past : Past) → IsClean (actions of t k xs past) → IsClean past
+clean_actions of t k [] past clean = clean
+clean_actions of t k (x ∷ xs) past clean = clean_older past _ (clean_actions of t (k + 1) xs _ clean)
 
 clean_taken : (t : Turn) (past : Past) → IsClean (taken t past) → IsClean past
-clean_taken t past clean = clean_deeds Wait t 0 t.content.waits past (clean_deeds Run t 0 t.content.commands _ (clean_deeds Signal t 0 t.content.signals _ clean))
+clean_taken t past clean = clean_actions Wait t 0 t.content.waits past (clean_actions Run t 0 t.content.commands _ (clean_actions Signal t 0 t.content.signals _ clean))
 
 clean_turns : (ts : List Turn) (past : Past) → IsClean (fold (λ p t. taken t p) past ts) → IsClean past
 clean_turns [] past clean = clean

@@ -5,12 +5,12 @@ use Rattle.std.proofs.Math.Seq.{drop-cons}
 use Rattle.vk_model.specs.declared.command.Cmd.{Cmd}
 use Rattle.vk_model.specs.declared.entry.Batch.{Batch}
 use Rattle.vk_model.specs.Point.{Past, Run}
-use Rattle.vk_model.specs.Order.{Turn, deeds, taken, turns_from, turn}
+use Rattle.vk_model.specs.Order.{Turn, actions, taken, turns_from, turn}
 use Rattle.vk_device.specs.Allotted.{allotted}
 use Rattle.vk_device.specs.Held.{Held}
 use Rattle.vk_device.specs.Fits.{FitsCommand, AllFit}
 use Rattle.vk_device.specs.Stands.{Stands, run_point, CommandReady, CommandsReady, BatchReady, BatchesReady, batches_past}
-use Rattle.vk_device.proofs.Steps.{fit_deeds, fit_turns, waits_stand, signals_stand}
+use Rattle.vk_device.proofs.Steps.{fit_actions, fit_turns, waits_stand, signals_stand}
 
 rest : {X : Type 0} (xs : List X) (i : ℕ) (x : X) → x ≡ get_or xs i x → i < length xs → drop i xs ≡ x ∷ drop (i + 1) xs
 rest xs i x is lt = rw add-one (drop-cons xs i x lt ∙ ap (λ y. y ∷ drop (suc i) xs) (sym is))
@@ -18,17 +18,17 @@ rest xs i x is lt = rw add-one (drop-cons xs i x lt ∙ ap (λ y. y ∷ drop (su
 -- ---- commands
 
 pub record CommandsDone (old : Held) (cs : List Cmd) (i : ℕ) (s : Held) : Type 0 where
-  pub so_far : (t : Turn) (past : Past) → Stands past old → AllFit (deeds Run t 0 cs past) → (p : Past) × Stands p s × (deeds Run t i (drop i cs) p ≡ deeds Run t 0 cs past)
+  pub so_far : (t : Turn) (past : Past) → Stands past old → AllFit (actions Run t 0 cs past) → (p : Past) × Stands p s × (actions Run t i (drop i cs) p ≡ actions Run t 0 cs past)
   pub allotted : allotted s.memory ≡ allotted old.memory
   pub failed : s.failed ≡ old.failed
 
 pub commands_start : (old : Held) (cs : List Cmd) → CommandsDone old cs 0 old
 commands_start old cs = record { so_far = λ t past st fit. (past, st, refl); allotted = refl; failed = refl }
 
-command_fits : (t : Turn) (i : ℕ) (cs : List Cmd) (x : Cmd) (p past : Past) → drop i cs ≡ x ∷ drop (i + 1) cs → deeds Run t i (drop i cs) p ≡ deeds Run t 0 cs past → AllFit (deeds Run t 0 cs past) → FitsCommand p x
+command_fits : (t : Turn) (i : ℕ) (cs : List Cmd) (x : Cmd) (p past : Past) → drop i cs ≡ x ∷ drop (i + 1) cs → actions Run t i (drop i cs) p ≡ actions Run t 0 cs past → AllFit (actions Run t 0 cs past) → FitsCommand p x
 command_fits t i cs x p past e same fit =
-    let here : AllFit (deeds Run t i (x ∷ drop (i + 1) cs) p) = subst (λ (l : List Cmd). AllFit (deeds Run t i l p)) e (subst AllFit (sym same) fit) in
-    (fit_deeds Run t (i + 1) (drop (i + 1) cs) (run_point t.entry t.batch i t.queue x ∷ p) here).0
+    let here : AllFit (actions Run t i (x ∷ drop (i + 1) cs) p) = subst (λ (l : List Cmd). AllFit (actions Run t i l p)) e (subst AllFit (sym same) fit) in
+    (fit_actions Run t (i + 1) (drop (i + 1) cs) (run_point t.entry t.batch i t.queue x ∷ p) here).0
 
 pub command_ready : (old : Held) (cs : List Cmd) (i : ℕ) (s : Held) (x : Cmd) → CommandsReady old cs → CommandsDone old cs i s → x ≡ get_or cs i x → i < length cs → CommandReady s x
 command_ready old cs i s x ready done is lt =
@@ -45,16 +45,16 @@ command_more old cs i s s' x ready done is lt ran = record {
   so_far = λ t past st fit.
       let now = done.so_far t past st fit in
       let e = rest cs i x is lt in
-      let step : deeds Run t i (drop i cs) now.0 ≡ deeds Run t (i + 1) (drop (i + 1) cs) (run_point t.entry t.batch i t.queue x ∷ now.0) = ap (λ (l : List Cmd). deeds Run t i l now.0) e in
+      let step : actions Run t i (drop i cs) now.0 ≡ actions Run t (i + 1) (drop (i + 1) cs) (run_point t.entry t.batch i t.queue x ∷ now.0) = ap (λ (l : List Cmd). actions Run t i l now.0) e in
       (run_point t.entry t.batch i t.queue x ∷ now.0, ran.stands t.entry t.batch i t.queue now.0 now.1 (command_fits t i cs x now.0 past e now.2 fit), sym step ∙ now.2);
   allotted = ran.allotted ∙ done.allotted;
   failed = ran.failed ∙ done.failed;
 }
 
-pub commands_end : (old : Held) (cs : List Cmd) (i : ℕ) (s : Held) → CommandsDone old cs i s → length cs ≤ i → (t : Turn) (past : Past) → Stands past old → AllFit (deeds Run t 0 cs past) → Stands (deeds Run t 0 cs past) s
+pub commands_end : (old : Held) (cs : List Cmd) (i : ℕ) (s : Held) → CommandsDone old cs i s → length cs ≤ i → (t : Turn) (past : Past) → Stands past old → AllFit (actions Run t 0 cs past) → Stands (actions Run t 0 cs past) s
 commands_end old cs i s done le t past st fit =
     let now = done.so_far t past st fit in
-    let same : now.0 ≡ deeds Run t 0 cs past = sym (ap (λ (l : List Cmd). deeds Run t i l now.0) (drop_all i cs le)) ∙ now.2 in
+    let same : now.0 ≡ actions Run t 0 cs past = sym (ap (λ (l : List Cmd). actions Run t i l now.0) (drop_all i cs le)) ∙ now.2 in
     subst (λ (p : Past). Stands p s) same now.1
 
 -- ---- batches
@@ -103,16 +103,16 @@ batches_end old bs i s done le at e q past st fit =
 pub of_batch : (s : Held) (x : Batch) → BatchReady s x → CommandsReady s x.commands
 of_batch s x ready =
     let t = ready.0 in
-    let fit : AllFit (deeds Run t 0 t.content.commands (deeds Rattle.vk_model.specs.Point.Wait t 0 t.content.waits ready.1)) = fit_deeds Rattle.vk_model.specs.Point.Signal t 0 t.content.signals _ ready.4 in (
+    let fit : AllFit (actions Run t 0 t.content.commands (actions Rattle.vk_model.specs.Point.Wait t 0 t.content.waits ready.1)) = fit_actions Rattle.vk_model.specs.Point.Signal t 0 t.content.signals _ ready.4 in (
       t,
-      deeds Rattle.vk_model.specs.Point.Wait t 0 t.content.waits ready.1,
+      actions Rattle.vk_model.specs.Point.Wait t 0 t.content.waits ready.1,
       waits_stand t 0 t.content.waits ready.1 s ready.2,
-      subst (λ (b : Batch). AllFit (deeds Run t 0 b.commands (deeds Rattle.vk_model.specs.Point.Wait t 0 t.content.waits ready.1))) ready.3 fit,
+      subst (λ (b : Batch). AllFit (actions Run t 0 b.commands (actions Rattle.vk_model.specs.Point.Wait t 0 t.content.waits ready.1))) ready.3 fit,
     )
 
-pub batch_runs : (s s' : Held) (x : Batch) → ((t : Turn) (past : Past) → Stands past s → AllFit (deeds Run t 0 x.commands past) → Stands (deeds Run t 0 x.commands past) s') → (t : Turn) (past : Past) → t.content ≡ x → Stands past s → AllFit (taken t past) → Stands (taken t past) s'
+pub batch_runs : (s s' : Held) (x : Batch) → ((t : Turn) (past : Past) → Stands past s → AllFit (actions Run t 0 x.commands past) → Stands (actions Run t 0 x.commands past) s') → (t : Turn) (past : Past) → t.content ≡ x → Stands past s → AllFit (taken t past) → Stands (taken t past) s'
 batch_runs s s' x ran t past is st fit =
-    let waited : Past = deeds Rattle.vk_model.specs.Point.Wait t 0 t.content.waits past in
-    let fit' : AllFit (deeds Run t 0 t.content.commands waited) = fit_deeds Rattle.vk_model.specs.Point.Signal t 0 t.content.signals _ fit in
-    let ran' : Stands (deeds Run t 0 t.content.commands waited) s' = subst (λ (b : Batch). Stands (deeds Run t 0 b.commands waited) s') (sym is) (ran t waited (waits_stand t 0 t.content.waits past s st) (subst (λ (b : Batch). AllFit (deeds Run t 0 b.commands waited)) is fit')) in
+    let waited : Past = actions Rattle.vk_model.specs.Point.Wait t 0 t.content.waits past in
+    let fit' : AllFit (actions Run t 0 t.content.commands waited) = fit_actions Rattle.vk_model.specs.Point.Signal t 0 t.content.signals _ fit in
+    let ran' : Stands (actions Run t 0 t.content.commands waited) s' = subst (λ (b : Batch). Stands (actions Run t 0 b.commands waited) s') (sym is) (ran t waited (waits_stand t 0 t.content.waits past s st) (subst (λ (b : Batch). AllFit (actions Run t 0 b.commands waited)) is fit')) in
     signals_stand t 0 t.content.signals _ s' ran'

@@ -14,9 +14,9 @@ use Rattle.vk_model.specs.declared.entry.Entry.{Entry}
 use Rattle.vk_model.specs.declared.entry.SemaphoreSubmit.{SemaphoreSubmit}
 use Rattle.vk_model.specs.declared.resource.BufferInfo.{BufferInfo}
 use Rattle.vk_model.specs.Words.{below}
-use Rattle.vk_model.specs.Point.{Past, Deed, Wait, Run, Signal}
+use Rattle.vk_model.specs.Point.{Past, Action, Wait, Run, Signal}
 use Rattle.vk_model.specs.Objects.{made, buffer, is_exclusive}
-use Rattle.vk_model.specs.Order.{Turn, deeds, taken, turns_of, plain_from, host}
+use Rattle.vk_model.specs.Order.{Turn, actions, taken, turns_of, plain_from, host}
 use Rattle.vk_model.specs.World.{Byte, in_buffer, in_image, resource_at, World}
 use Rattle.vk_model.specs.Moves.{Move, moves, buffer_size, fill_size}
 use Rattle.vk_model.specs.Effect.{used, without, is_other, after_element, after_moves, world}
@@ -120,21 +120,21 @@ fill_stands e b k q i o n w past s p apart here st fits =
 -- ---- batches
 
 -- waits and signals change no byte
-pub waits_stand : (t : Turn) (k : ℕ) (xs : List SemaphoreSubmit) (past : Past) (s : Held) → Stands past s → Stands (deeds Wait t k xs past) s
+pub waits_stand : (t : Turn) (k : ℕ) (xs : List SemaphoreSubmit) (past : Past) (s : Held) → Stands past s → Stands (actions Wait t k xs past) s
 waits_stand t k [] past s st = st
 waits_stand t k (x ∷ xs) past s st = waits_stand t (k + 1) xs _ s (record { sizes = st.sizes; shown = st.shown })
 
-pub signals_stand : (t : Turn) (k : ℕ) (xs : List SemaphoreSubmit) (past : Past) (s : Held) → Stands past s → Stands (deeds Signal t k xs past) s
+pub signals_stand : (t : Turn) (k : ℕ) (xs : List SemaphoreSubmit) (past : Past) (s : Held) → Stands past s → Stands (actions Signal t k xs past) s
 signals_stand t k [] past s st = st
 signals_stand t k (x ∷ xs) past s st = signals_stand t (k + 1) xs _ s (record { sizes = st.sizes; shown = st.shown })
 
 -- what is older fits too
-pub fit_deeds : {A : Type 0} (of : A → Deed) (t : Turn) (k : ℕ) (xs : List A) (past : Past) → AllFit (deeds of t k xs past) → AllFit past
-fit_deeds of t k [] past f = f
-fit_deeds of t k (x ∷ xs) past f = (fit_deeds of t (k + 1) xs _ f).1
+pub fit_actions : {A : Type 0} (of : A → Action) (t : Turn) (k : ℕ) (xs : List A) (past : Past) → AllFit (actions of t k xs past) → AllFit past
+fit_actions of t k [] past f = f
+fit_actions of t k (x ∷ xs) past f = (fit_actions of t (k + 1) xs _ f).1
 
 pub fit_taken : (t : Turn) (past : Past) → AllFit (taken t past) → AllFit past
-fit_taken t past f = fit_deeds Wait t 0 t.content.waits past (fit_deeds Run t 0 t.content.commands _ (fit_deeds Signal t 0 t.content.signals _ f))
+fit_taken t past f = fit_actions Wait t 0 t.content.waits past (fit_actions Run t 0 t.content.commands _ (fit_actions Signal t 0 t.content.signals _ f))
 
 pub fit_turns : (ts : List Turn) (past : Past) → AllFit (fold (λ p t. taken t p) past ts) → AllFit past
 fit_turns [] past f = f
@@ -145,12 +145,12 @@ fit_plain e [] past f = f
 fit_plain e (x ∷ xs) past f = (fit_turns (turns_of past e x) (host e x ∷ past) (fit_plain (e + 1) xs _ f)).1
 
 -- only host entries read
-reads_deeds : {A : Type 0} (of : A → Deed) (mute : (w : World) (e : ℕ) (x : A) → read_by w e (of x) ≡ []) (t : Turn) (k : ℕ) (xs : List A) (past : Past) → reads (deeds of t k xs past) ≡ reads past
-reads_deeds of mute t k [] past = refl
-reads_deeds of mute t k (x ∷ xs) past = reads_deeds of mute t (k + 1) xs _ ∙ ap (λ r. reads past ++ r) (mute (world past) t.entry x) ∙ append-nil (reads past)
+reads_actions : {A : Type 0} (of : A → Action) (mute : (w : World) (e : ℕ) (x : A) → read_by w e (of x) ≡ []) (t : Turn) (k : ℕ) (xs : List A) (past : Past) → reads (actions of t k xs past) ≡ reads past
+reads_actions of mute t k [] past = refl
+reads_actions of mute t k (x ∷ xs) past = reads_actions of mute t (k + 1) xs _ ∙ ap (λ r. reads past ++ r) (mute (world past) t.entry x) ∙ append-nil (reads past)
 
 pub reads_taken : (t : Turn) (past : Past) → reads (taken t past) ≡ reads past
-reads_taken t past = reads_deeds Signal (λ w e x. refl) t 0 t.content.signals _ ∙ reads_deeds Run (λ w e x. refl) t 0 t.content.commands _ ∙ reads_deeds Wait (λ w e x. refl) t 0 t.content.waits past
+reads_taken t past = reads_actions Signal (λ w e x. refl) t 0 t.content.signals _ ∙ reads_actions Run (λ w e x. refl) t 0 t.content.commands _ ∙ reads_actions Wait (λ w e x. refl) t 0 t.content.waits past
 
 pub reads_turns : (ts : List Turn) (past : Past) → reads (fold (λ p t. taken t p) past ts) ≡ reads past
 reads_turns [] past = refl

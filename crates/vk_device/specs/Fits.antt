@@ -10,7 +10,7 @@ use Rattle.vk_model.specs.declared.entry.Entry.TheVariants as entry
 use Rattle.vk_model.specs.declared.resource.BufferInfo.{BufferInfo}
 use Rattle.vk_model.specs.declared.resource.Place.{Place}
 use Rattle.vk_model.specs.declared.resource.Place.TheVariants as place
-use Rattle.vk_model.specs.Point.{Past, Deed, Host, Wait, Run, Signal}
+use Rattle.vk_model.specs.Point.{Past, Action, Host, Wait, Run, Signal}
 use Rattle.vk_model.specs.Objects.{made, buffer}
 use Rattle.vk_model.specs.World.{in_buffer}
 use Rattle.vk_model.specs.Moves.{fill_size}
@@ -55,13 +55,13 @@ FitsEntry past (entry.Submit q bs) = ⊤
 FitsEntry past _ = ⊥
 
 -- Waits and signals of batches ask nothing.
-abbrev pub FitsDeed : Past → Deed → Type 0
-FitsDeed past (Host x) = FitsEntry past x
-FitsDeed past (Run c) = FitsCommand past c
-FitsDeed past (Wait w) = ⊤
-FitsDeed past (Signal w) = ⊤
+abbrev pub FitsAction : Past → Action → Type 0
+FitsAction past (Host x) = FitsEntry past x
+FitsAction past (Run c) = FitsCommand past c
+FitsAction past (Wait w) = ⊤
+FitsAction past (Signal w) = ⊤
 
 -- Every point of a past fits.
 abbrev pub AllFit : Past → Type 0
 AllFit [] = ⊤
-AllFit (p ∷ past) = FitsDeed past p.deed × AllFit past
+AllFit (p ∷ past) = FitsAction past p.action × AllFit past

@@ -9,7 +9,7 @@ use Rattle.vk_model.specs.declared.entry.Entry.{Entry}
 use Rattle.vk_model.specs.Point.{Past, Point, Run}
 use Rattle.vk_model.specs.Objects.{buffer}
 use Rattle.vk_model.specs.Words.{round_up}
-use Rattle.vk_model.specs.Order.{Turn, deeds, taken, turns_of, turns_from, host}
+use Rattle.vk_model.specs.Order.{Turn, actions, taken, turns_of, turns_from, host}
 use Rattle.vk_model.specs.World.{Byte, in_buffer, in_image}
 use Rattle.vk_model.specs.Moves.{fill_size}
 use Rattle.vk_model.specs.Effect.{world}
@@ -44,7 +44,7 @@ next_past e x past = fold (λ p t. taken t p) (host e x ∷ past) (turns_of past
 
 -- The point of command k of batch b of entry e, on queue q.
 abbrev pub run_point : ℕ → ℕ → ℕ → ℕ → Cmd → Point
-run_point e b k q c = record { entry = e; batch = b; place = k; queue = q; deed = Run c }
+run_point e b k q c = record { entry = e; batch = b; place = k; queue = q; action = Run c }
 
 -- A device stands to some past in which the command that comes next fits.
 abbrev pub CommandReady : Held → Cmd → Type 0
@@ -52,7 +52,7 @@ CommandReady s c = (past : Past) × Stands past s × FitsCommand past c
 
 -- The same for the commands of a batch.
 abbrev pub CommandsReady : Held → List Cmd → Type 0
-CommandsReady s cs = (t : Turn) × (past : Past) × Stands past s × AllFit (deeds Run t 0 cs past)
+CommandsReady s cs = (t : Turn) × (past : Past) × Stands past s × AllFit (actions Run t 0 cs past)
 
 -- The same for a batch.
 abbrev pub BatchReady : Held → Batch → Type 0

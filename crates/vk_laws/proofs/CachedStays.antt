@@ -8,7 +8,7 @@ use Rattle.vk_model.specs.declared.entry.Entry.TheVariants as entry
 use Rattle.vk_model.specs.declared.resource.Place.{Place}
 use Rattle.vk_model.specs.declared.resource.Place.TheVariants as place
 use Rattle.vk_model.specs.Words.{holds}
-use Rattle.vk_model.specs.Point.{Past, Deed, Host, Wait, Run, Signal, host_of, entries}
+use Rattle.vk_model.specs.Point.{Past, Action, Host, Wait, Run, Signal, host_of, entries}
 use Rattle.vk_model.specs.Objects.{made_by, made, live, Resource, resource_in, pool_in, memory_in, type_at, is_cached}
 use Rattle.vk_model.specs.RulesIds.{is_dead, asked_by, asked_by_entry, asked_by_place, is_pool, is_memory, judged_in, until}
 use Rattle.vk_model.specs.Fault.{newest, older}
@@ -27,27 +27,27 @@ asked_place _ r e = absurd cc
 
 place_made : (past : Past) (i : ℕ) (x : Entry) (r : Resource) → IsNew past → IsLive past → made past i ≡ Some x → resource_in x ≡ Some r → PlaceMade past r.place
 place_made [] i x r new alive is res = absurd cc
-place_made (q ∷ past) i x r new alive is res = go (λ e. place_made past i x r (λ b s c. new b s (older c)) (λ b s c. alive b s (older c)) e res) q.deed refl is
+place_made (q ∷ past) i x r new alive is res = go (λ e. place_made past i x r (λ b s c. new b s (older c)) (λ b s c. alive b s (older c)) e res) q.action refl is
   where
     up : PlaceMade past r.place → PlaceMade (q ∷ past) r.place
     up rest j k c = let m = rest j k c in (m.0, made_step past q j m.0 (new past q newest) m.1)
 
-    here : (y : Entry) → q.deed ≡ Host y → y ≡ x → PlaceMade (q ∷ past) r.place
-    here y deed same = up (λ j k c.
-        let asked : Contains (asked_by q.deed) (j, k) = subst (λ (d : Deed). Contains (asked_by d) (j, k)) (sym deed) (subst (λ (l : List (ℕ × (Entry → Bool))). Contains l (j, k)) (sym (asked_place y r (ap resource_in same ∙ res))) c) in
-        let judged : judged_in past q ≡ past = ap (λ (d : Deed). if is_some (host_of d) then past else until q.entry past) deed in
+    here : (y : Entry) → q.action ≡ Host y → y ≡ x → PlaceMade (q ∷ past) r.place
+    here y action same = up (λ j k c.
+        let asked : Contains (asked_by q.action) (j, k) = subst (λ (d : Action). Contains (asked_by d) (j, k)) (sym action) (subst (λ (l : List (ℕ × (Entry → Bool))). Contains l (j, k)) (sym (asked_place y r (ap resource_in same ∙ res))) c) in
+        let judged : judged_in past q ≡ past = ap (λ (d : Action). if is_some (host_of d) then past else until q.entry past) action in
         live_made past j k (unless (holds (live past j) k) (λ dead.
-        alive past q newest (or_left _ _ (member_passes (is_dead (judged_in past q)) (asked_by q.deed) (j, k) asked (subst (λ (l : Past). IsTrue (is_dead l (j, k))) (sym judged) dead))))))
+        alive past q newest (or_left _ _ (member_passes (is_dead (judged_in past q)) (asked_by q.action) (j, k) asked (subst (λ (l : Past). IsTrue (is_dead l (j, k))) (sym judged) dead))))))
 
-    by_id : (made past i ≡ Some x → PlaceMade past r.place) → (y : Entry) → q.deed ≡ Host y → (b : Bool) → cond b (Some y) (made past i) ≡ Some x → PlaceMade (q ∷ past) r.place
-    by_id rest y deed true e = here y deed (let same : y ≡ x = cc in same)
-    by_id rest y deed false e = up (rest e)
+    by_id : (made past i ≡ Some x → PlaceMade past r.place) → (y : Entry) → q.action ≡ Host y → (b : Bool) → cond b (Some y) (made past i) ≡ Some x → PlaceMade (q ∷ past) r.place
+    by_id rest y action true e = here y action (let same : y ≡ x = cc in same)
+    by_id rest y action false e = up (rest e)
 
-    go : (made past i ≡ Some x → PlaceMade past r.place) → (d : Deed) → q.deed ≡ d → find (λ x. holds (made_by x) (λ j. i == j)) (cons_option (host_of d) (entries past)) ≡ Some x → PlaceMade (q ∷ past) r.place
-    go rest (Host y) deed e = by_id rest y deed (holds (made_by y) (λ j. i == j)) e
-    go rest (Wait s) deed e = up (rest e)
-    go rest (Run c) deed e = up (rest e)
-    go rest (Signal s) deed e = up (rest e)
+    go : (made past i ≡ Some x → PlaceMade past r.place) → (d : Action) → q.action ≡ d → find (λ x. holds (made_by x) (λ j. i == j)) (cons_option (host_of d) (entries past)) ≡ Some x → PlaceMade (q ∷ past) r.place
+    go rest (Host y) action e = by_id rest y action (holds (made_by y) (λ j. i == j)) e
+    go rest (Wait s) action e = up (rest e)
+    go rest (Run c) action e = up (rest e)
+    go rest (Signal s) action e = up (rest e)
 
 module _ (more past : Past) (new : IsNew (more ++ past)) (alive : IsLive past) (new_past : IsNew past) where
   same_made : (i : ℕ) (x : Entry) → made past i ≡ Some x → made (more ++ past) i ≡ made past i

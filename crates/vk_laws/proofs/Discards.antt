@@ -8,9 +8,9 @@ use Rattle.vk_model.specs.declared.command.Cmd.{Cmd}
 use Rattle.vk_model.specs.Words.{holds}
 use Rattle.vk_model.specs.World.{Byte, resource_at}
 use Rattle.vk_model.specs.Objects.{is_cached}
-use Rattle.vk_model.specs.Point.{Past, Deed}
+use Rattle.vk_model.specs.Point.{Past, Action}
 use Rattle.vk_model.specs.Order.{plain_order}
-use Rattle.vk_model.specs.Effect.{after_deed, after_host, reaches, world}
+use Rattle.vk_model.specs.Effect.{after_action, after_host, reaches, world}
 use Rattle.vk_model.specs.Node.{Node, Act, Hosts, Waits, Signals, Runs, Depends, nodes}
 use Rattle.vk_model.specs.Edge.{is_host}
 use Rattle.vk_model.specs.Before.{before}
@@ -34,7 +34,7 @@ use Rattle.vk_laws.proofs.ModelBytes.{settles, is_model}
 use Rattle.vk_laws.proofs.TraceCaches.{node_at_self, seen_task, available_task, available_later}
 use Rattle.vk_laws.proofs.CacheFree.{same_agent, same_cached, cached_then, cache_free}
 use Rattle.vk_laws.proofs.Submits.{submits_there}
-use Rattle.vk_laws.proofs.Forgotten.{Given, forget, forgets_of, deed, ends, w, w_all, w_earlier, w_writes, same_one, kept_then, seen_after, before_write, before_it}
+use Rattle.vk_laws.proofs.Forgotten.{Given, forget, forgets_of, action, ends, w, w_all, w_earlier, w_writes, same_one, kept_then, seen_after, before_write, before_it}
 use Rattle.vk_model.specs.declared.command.Length.{Length}
 
 as_command : (a : Act) → IsTrue (accesses a) → IsTrue (is_host a) ⊎ ((c : Cmd) × (a ≡ Runs c))
@@ -210,11 +210,11 @@ module _ (t : List Entry) (given : Given t) where
       let s : Stands all f.node = stands all f.node f.stands in
       let l = forget t given f.node f.stands f.entry f.act c f.lost in
       let e = ends t given f.node f.stands f.entry f.act c f.lost in
-      let d = deed t given f.node f.stands f.entry f.act c f.lost in
+      let d = action t given f.node f.stands f.entry f.act c f.lost in
       let here = subst (λ (k : ℕ). value_before all (suc k) c ≡ Some v) (sym f.number) h in
       let after = settles s.newer (s.at ∷ s.past) (suc f.node.number) c v e.1 (subst (λ (l : Past). value_before l (suc f.node.number) c ≡ Some v) s.whole here) in
       gone s.past l.buffer l.offset l.size l.kept_buffer l.reached l.marked
-      (subst (λ (x : Entry). (after_host s.past x (world s.past)).value c ≡ Some v) l.is (subst (λ (d : Deed). (after_deed s.past s.at.queue d (world s.past)).value c ≡ Some v) d after))
+      (subst (λ (x : Entry). (after_host s.past x (world s.past)).value c ≡ Some v) l.is (subst (λ (d : Action). (after_action s.past s.at.queue d (world s.past)).value c ≡ Some v) d after))
     where
       gone : (past : Past) (b o : ℕ) (n : Length) → is_cached past b ≡ true → IsTrue (reaches b o n c) → IsTrue ((world past).marked c) → (after_host past (entry.Invalidate b o n) (world past)).value c ≡ Some v → ⊥
       gone past b o n cached r m h = let e : None ≡ Some v = rw (cached, r, m) at h in cc

@@ -6,20 +6,20 @@ use Rattle.std.proofs.lemmas.List.{append_assoc, length-append, append-nil}
 use Rattle.vk_model.specs.declared.entry.Batch.{Batch}
 use Rattle.vk_model.specs.declared.entry.Entry.{Entry}
 use Rattle.vk_model.specs.declared.entry.Entry.TheVariants as entry
-use Rattle.vk_model.specs.Point.{Past, Point, Deed, Host, Wait, Run, Signal}
+use Rattle.vk_model.specs.Point.{Past, Point, Action, Host, Wait, Run, Signal}
 use Rattle.vk_model.specs.Order.{host, taken, turns_of, plain_from, plain_order}
 use Rattle.vk_laws.proofs.PlainOrder.{Each, Grows, Allows, stays, one_more, grows_on, batches_grow}
 use Rattle.vk_laws.proofs.Members.{contains-cons, none_in}
 
 -- a host entry is its entry; what a batch does belongs to a submit to its queue
-abbrev pub OfDeed : List Entry → Point → Deed → Type 0
-OfDeed t p (Host x) = slice_get t p.entry ≡ Some x
-OfDeed t p (Wait s) = (bs : List Batch) × (slice_get t p.entry ≡ Some (entry.Submit p.queue bs))
-OfDeed t p (Run c) = (bs : List Batch) × (slice_get t p.entry ≡ Some (entry.Submit p.queue bs))
-OfDeed t p (Signal s) = (bs : List Batch) × (slice_get t p.entry ≡ Some (entry.Submit p.queue bs))
+abbrev pub OfAction : List Entry → Point → Action → Type 0
+OfAction t p (Host x) = slice_get t p.entry ≡ Some x
+OfAction t p (Wait s) = (bs : List Batch) × (slice_get t p.entry ≡ Some (entry.Submit p.queue bs))
+OfAction t p (Run c) = (bs : List Batch) × (slice_get t p.entry ≡ Some (entry.Submit p.queue bs))
+OfAction t p (Signal s) = (bs : List Batch) × (slice_get t p.entry ≡ Some (entry.Submit p.queue bs))
 
 abbrev pub OfEntry : List Entry → Point → Type 0
-OfEntry t p = OfDeed t p p.deed
+OfEntry t p = OfAction t p p.action
 
 each_of : (P : Point → Type 0) (past : Past) (p : Point) → Each P past → Contains past p → P p
 each_of P [] p e c = absurd (none_in p c)

@@ -10,7 +10,7 @@ use Rattle.vk_model.specs.declared.command.Cmd.{Cmd}
 use Rattle.vk_model.specs.declared.command.Length.{Length}
 use Rattle.vk_model.specs.World.{Byte, in_buffer, in_image, resource_at}
 use Rattle.vk_model.specs.Objects.{is_cached}
-use Rattle.vk_model.specs.Point.{Past, Point, Deed, Host}
+use Rattle.vk_model.specs.Point.{Past, Point, Action, Host}
 use Rattle.vk_model.specs.Order.{plain_order}
 use Rattle.vk_model.specs.Effect.{reaches, in_atoms, world}
 use Rattle.vk_model.specs.Node.{Node, Act, Hosts, Runs, nodes, acts, with_acts, same_node}
@@ -33,7 +33,7 @@ use Rattle.vk_laws.proofs.Steady.{new_ids, live_ids}
 use Rattle.vk_laws.proofs.Points.{Stands, stands, comes_at}
 use Rattle.vk_laws.proofs.TaskAccesses.{host_writes_it, is_in_of}
 use Rattle.vk_laws.proofs.Ordered.{judged_has, read_sees, write_sees}
-use Rattle.vk_laws.proofs.ModelBytes.{host_deed, more_nodes, alone, at_node}
+use Rattle.vk_laws.proofs.ModelBytes.{host_action, more_nodes, alone, at_node}
 use Rattle.vk_laws.proofs.CacheFree.{same_cached, cached_then}
 use Rattle.vk_laws.proofs.Marks.{MarkedBy, marked_by}
 
@@ -155,11 +155,11 @@ module _ (t : List Entry) (given : Given t) where
     pub mark : MarkedBy s.past c
     mark = marked_by s.past c forget.marked
 
-    pub deed : s.at.deed ≡ Host y
-    deed = host_deed s.at.deed y (subst (λ (a : Act). Contains (acts s.at.deed) a) is_i s.acted)
+    pub action : s.at.action ≡ Host y
+    action = host_action s.at.action y (subst (λ (a : Act). Contains (acts s.at.action) a) is_i s.acted)
 
     pub ends : (length (nodes s.past) ≡ i.number) × (length (nodes (s.at ∷ s.past)) ≡ suc i.number)
-    ends = alone given.pieces_together given.apart t given.sound i s (ap (λ (d : Deed). length (acts d)) deed)
+    ends = alone given.pieces_together given.apart t given.sound i s (ap (λ (d : Action). length (acts d)) action)
 
     split : (n : Node) (sn : Stands all n) → all ≡ (sn.newer ++ sn.at ∷ []) ++ sn.past
     split n sn = sn.whole ∙ sym (append_assoc sn.newer (sn.at ∷ []) sn.past)
@@ -171,7 +171,7 @@ module _ (t : List Entry) (given : Given t) where
     w = record { number = length (nodes mark.low); point = mark.at; act = Hosts write }
 
     w_past : Contains (nodes s.past) w
-    w_past = old_has given.keeps s.past mark.newer (mark.at ∷ mark.low) mark.whole w (subst (λ (d : Deed). Contains (with_acts mark.at (acts d) (nodes mark.low)) w) (sym mark.deed) (contains-head w (nodes mark.low)))
+    w_past = old_has given.keeps s.past mark.newer (mark.at ∷ mark.low) mark.whole w (subst (λ (d : Action). Contains (with_acts mark.at (acts d) (nodes mark.low)) w) (sym mark.action) (contains-head w (nodes mark.low)))
 
     pub w_all : Contains (nodes all) w
     w_all = old_has given.keeps all (s.newer ++ s.at ∷ []) s.past (split i s) w w_past
@@ -196,12 +196,12 @@ module _ (t : List Entry) (given : Given t) where
     unflushed g cg h after before_it =
         let u = flush_of g.act c h in
         let sg = stands all g cg in
-        let d = host_deed sg.at.deed (entry.Flush u.0 u.1 u.2) (subst (λ (a : Act). Contains (acts sg.at.deed) a) u.3 sg.acted) in
-        let ends_g = alone given.pieces_together given.apart t given.sound g sg (ap (λ (d : Deed). length (acts d)) d) in
+        let d = host_action sg.at.action (entry.Flush u.0 u.1 u.2) (subst (λ (a : Act). Contains (acts sg.at.action) a) u.3 sg.acted) in
+        let ends_g = alone given.pieces_together given.apart t given.sound g sg (ap (λ (d : Action). length (acts d)) d) in
         let come : Comes all sg.past sg.at = comes_at _ _ sg in
         let e0 = ends.0 in let e1 = ends.1 in let g0 = ends_g.0 in let g1 = ends_g.1 in
         let inside = comes_in s.newer s.past s.at sg.past sg.at (subst (λ (l : Past). Comes l sg.past sg.at) s.whole come) (omega (arith, e0, g1, before_it)) (omega (arith, e0, e1)) in
-        let one_more : length (nodes (mark.at ∷ mark.low)) ≡ suc (length (nodes mark.low)) = ap (λ (d : Deed). length (with_acts mark.at (acts d) (nodes mark.low))) mark.deed in
+        let one_more : length (nodes (mark.at ∷ mark.low)) ≡ suc (length (nodes mark.low)) = ap (λ (d : Action). length (with_acts mark.at (acts d) (nodes mark.low))) mark.action in
         let no = mark.unflushed sg.past sg.at inside (omega (arith, one_more, g0, after)) u.0 u.1 u.2 d u.4 in
         let yes = at_any (sg.newer ++ sg.at ∷ []) sg.past (split g sg) (is_old given.keeps all (sg.newer ++ sg.at ∷ []) sg.past (split g sg) w w_all (omega (arith, g0, after))) ∙ kept in
         not_both (is_cached sg.past (resource_at c)) yes (ap (is_cached sg.past) (reached_buffer u.0 u.1 u.2 c u.4) ∙ no)

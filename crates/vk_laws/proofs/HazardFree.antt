@@ -9,7 +9,7 @@ use Rattle.vk_model.specs.declared.command.Cmd.{Cmd}
 use Rattle.vk_model.specs.declared.rule.Rule.TheVariants as rule
 use Rattle.vk_model.specs.Words.{holds, some_pair}
 use Rattle.vk_model.specs.World.{Byte, same_byte}
-use Rattle.vk_model.specs.Point.{Past, Deed, Run, host_of, command_of}
+use Rattle.vk_model.specs.Point.{Past, Action, Run, host_of, command_of}
 use Rattle.vk_model.specs.Order.{plain_order}
 use Rattle.vk_model.specs.Moves.{Value, From, Move, moves}
 use Rattle.vk_model.specs.Pieces.{pieces}
@@ -25,7 +25,7 @@ use Rattle.vk_laws.specs.Tasks.{moves_of, host_value, part_write, part_read, nod
 use Rattle.vk_laws.proofs.TaskNodes.{node_of, same_task}
 use Rattle.vk_laws.proofs.Members.{member_passes, found, map_has, chosen_has, chosen_from}
 use Rattle.vk_laws.proofs.Steady.{kept_moves, kept_pieces, new_ids, live_ids}
-use Rattle.vk_laws.proofs.Points.{Stands, stands, deed_of, comes_at}
+use Rattle.vk_laws.proofs.Points.{Stands, stands, action_of, comes_at}
 use Rattle.vk_laws.proofs.TaskAccesses.{byte_same, piece_move, is_there, is_in_of, ordered}
 use Rattle.vk_laws.proofs.Apart.{pair_of, no_overlap}
 
@@ -98,26 +98,26 @@ module _ (together : PiecesAreMoves) (apart : PiecesWriteApart) (t : List Entry)
     abbrev pub place : Stands all n
     place = stands all n cn
 
-    pub deed : place.at.deed ≡ Run x
-    deed = deed_of place.at.deed x (subst (λ (a : Act). Contains (acts place.at.deed) a) act place.acted)
+    pub action : place.at.action ≡ Run x
+    action = action_of place.at.action x (subst (λ (a : Act). Contains (acts place.at.action) a) act place.acted)
 
     pub comes : Comes all place.past place.at
     comes = comes_at _ _ place
 
     pub same_moves : moves all x ≡ moves place.past x
-    same_moves = kept_moves all place.newer place.past place.at x place.whole deed (new_ids t sound) (live_ids t sound)
+    same_moves = kept_moves all place.newer place.past place.at x place.whole action (new_ids t sound) (live_ids t sound)
 
     same_pieces : pieces all x ≡ pieces place.past x
-    same_pieces = kept_pieces all place.newer place.past place.at x place.whole deed (new_ids t sound) (live_ids t sound)
+    same_pieces = kept_pieces all place.newer place.past place.at x place.whole action (new_ids t sound) (live_ids t sound)
 
     no_overlaps : IsTrue (command_overlaps place.past x) → ⊥
     unfolding breaks
-    no_overlaps h = sound place.past place.at rule.Overlap (comes, subst (λ (d : Deed). IsTrue (holds (host_of d) lists_twice || holds (command_of d) (command_overlaps place.past))) (sym deed) h)
+    no_overlaps h = sound place.past place.at rule.Overlap (comes, subst (λ (d : Action). IsTrue (holds (host_of d) lists_twice || holds (command_of d) (command_overlaps place.past))) (sym action) h)
 
     pub written_once : some_pair write_common (pieces all x) ≡ false
     written_once =
         ap (some_pair write_common) same_pieces
-        ∙ apart place.past place.at x deed (false_from_ne_true _ (λ h. sound place.past place.at rule.Overlap (comes, h))) (false_from_ne_true _ (λ h. sound place.past place.at rule.Range (comes, h)))
+        ∙ apart place.past place.at x action (false_from_ne_true _ (λ h. sound place.past place.at rule.Overlap (comes, h))) (false_from_ne_true _ (λ h. sound place.past place.at rule.Range (comes, h)))
 
     run_apart : (k l : ℕ) (c : Byte) (w : Put) → part_write all (Runs x) k c ≡ Some w → IsTrue (part_read all (Runs x) l c) → ⊥
     run_apart k l c w h r =

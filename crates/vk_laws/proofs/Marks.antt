@@ -12,10 +12,10 @@ use Rattle.vk_model.specs.declared.command.BufferElement.{BufferElement}
 use Rattle.vk_model.specs.declared.command.ImageElement.{ImageElement}
 use Rattle.vk_model.specs.World.{Byte, World}
 use Rattle.vk_model.specs.Objects.{is_exclusive, is_cached}
-use Rattle.vk_model.specs.Point.{Past, Point, Deed, Host, Wait, Run, Signal}
+use Rattle.vk_model.specs.Point.{Past, Point, Action, Host, Wait, Run, Signal}
 use Rattle.vk_model.specs.Ownership.{family_of, uses, elements_of, transfer, Transfer, Stays, Release, Acquire, Neither, is_transition}
 use Rattle.vk_model.specs.Moves.{moves}
-use Rattle.vk_model.specs.Effect.{after_moves, used, transitioned, after_buffer_element, after_image_element, after_element, after_command, after_host, after_deed, written, reaches, world}
+use Rattle.vk_model.specs.Effect.{after_moves, used, transitioned, after_buffer_element, after_image_element, after_element, after_command, after_host, after_action, written, reaches, world}
 use Rattle.vk_model.specs.Node.{nodes}
 use Rattle.vk_model.specs.Fault.{Comes, newest, older}
 use Rattle.vk_laws.proofs.ModelBytes.{more_nodes}
@@ -78,15 +78,15 @@ pub record MarkedBy (past : Past) (c : Byte) : Type 0 where
   pub offset : ℕ
   pub bytes : List ℕ
   pub value : ℕ
-  pub deed : at.deed ≡ Host (entry.Write buffer offset bytes)
+  pub action : at.action ≡ Host (entry.Write buffer offset bytes)
   pub is : written buffer offset bytes c ≡ Some value
   pub cached : is_cached low buffer ≡ true
-  pub unflushed : (before : Past) (q : Point) → Comes past before q → length (nodes (at ∷ low)) ≤ length (nodes before) → (b o : ℕ) (n : Length) → q.deed ≡ Host (entry.Flush b o n) → IsTrue (reaches b o n c) → is_cached before b ≡ false
+  pub unflushed : (before : Past) (q : Point) → Comes past before q → length (nodes (at ∷ low)) ≤ length (nodes before) → (b o : ℕ) (n : Length) → q.action ≡ Host (entry.Flush b o n) → IsTrue (reaches b o n c) → is_cached before b ≡ false
 
 -- one more point that doesn't flush the byte
 module _ (c : Byte) (p : Point) (past : Past) where
   abbrev Quiet : Type 0
-  Quiet = (b o : ℕ) (n : Length) → p.deed ≡ Host (entry.Flush b o n) → IsTrue (reaches b o n c) → is_cached past b ≡ false
+  Quiet = (b o : ℕ) (n : Length) → p.action ≡ Host (entry.Flush b o n) → IsTrue (reaches b o n c) → is_cached past b ≡ false
 
   also : Quiet → MarkedBy past c → MarkedBy (p ∷ past) c
   also quiet m = record {
@@ -98,18 +98,18 @@ module _ (c : Byte) (p : Point) (past : Past) where
     offset = m.offset;
     bytes = m.bytes;
     value = m.value;
-    deed = m.deed;
+    action = m.action;
     is = m.is;
     cached = m.cached;
     unflushed = λ before q comes le b o n d r. by_place before q comes le b o n d r;
   }
     where
-      by_place : (before : Past) (q : Point) → Comes (p ∷ past) before q → length (nodes (m.at ∷ m.low)) ≤ length (nodes before) → (b o : ℕ) (n : Length) → q.deed ≡ Host (entry.Flush b o n) → IsTrue (reaches b o n c) → is_cached before b ≡ false
+      by_place : (before : Past) (q : Point) → Comes (p ∷ past) before q → length (nodes (m.at ∷ m.low)) ≤ length (nodes before) → (b o : ℕ) (n : Length) → q.action ≡ Host (entry.Flush b o n) → IsTrue (reaches b o n c) → is_cached before b ≡ false
       by_place before q newest le b o n d r = quiet b o n d r
       by_place before q (older h) le b o n d r = m.unflushed before q h le b o n d r
 
-  here : (b o : ℕ) (bytes : List ℕ) (v : ℕ) → p.deed ≡ Host (entry.Write b o bytes) → written b o bytes c ≡ Some v → is_cached past b ≡ true → MarkedBy (p ∷ past) c
-  here b o bytes v deed is cached = record {
+  here : (b o : ℕ) (bytes : List ℕ) (v : ℕ) → p.action ≡ Host (entry.Write b o bytes) → written b o bytes c ≡ Some v → is_cached past b ≡ true → MarkedBy (p ∷ past) c
+  here b o bytes v action is cached = record {
     newer = [];
     at = p;
     low = past;
@@ -118,7 +118,7 @@ module _ (c : Byte) (p : Point) (past : Past) where
     offset = o;
     bytes = bytes;
     value = v;
-    deed = deed;
+    action = action;
     is = is;
     cached = cached;
     unflushed = λ before q comes le. absurd (too_long before q comes le);
@@ -132,13 +132,13 @@ module _ (c : Byte) (p : Point) (past : Past) where
       too_long before q h le = wrong before q h le
         where
           one_more : length (nodes (p ∷ past)) ≡ suc (length (nodes past))
-          one_more = rw deed refl
+          one_more = rw action refl
 
           wrong : (before : Past) (q : Point) → Comes (p ∷ past) before q → length (nodes (p ∷ past)) ≤ length (nodes before) → ⊥
           wrong before q newest le = omega (arith, one_more, le)
           wrong before q (older h) le = let l = low past before q h in omega (arith, one_more, le, l)
 
-  host_marked : (x : Entry) → p.deed ≡ Host x → (IsTrue ((world past).marked c) → MarkedBy past c) → IsTrue ((after_host past x (world past)).marked c) → MarkedBy (p ∷ past) c
+  host_marked : (x : Entry) → p.action ≡ Host x → (IsTrue ((world past).marked c) → MarkedBy past c) → IsTrue ((after_host past x (world past)).marked c) → MarkedBy (p ∷ past) c
   host_marked (entry.Write b o bytes) d rest h = go (written b o bytes c) refl h
     where
       go : (w : Option ℕ) → written b o bytes c ≡ w → IsTrue (elim w [ None ↦ (world past).marked c | Some n ↦ is_cached past b ]) → MarkedBy (p ∷ past) c
@@ -146,7 +146,7 @@ module _ (c : Byte) (p : Point) (past : Past) where
       go (Some v) e h = here b o bytes v d e h
   host_marked (entry.Flush b o n) d rest h = go (is_cached past b) (reaches b o n c) refl refl h
     where
-      same : (b' o' : ℕ) (n' : Length) → p.deed ≡ Host (entry.Flush b' o' n') → (b ≡ b') × (o ≡ o') × (n ≡ n')
+      same : (b' o' : ℕ) (n' : Length) → p.action ≡ Host (entry.Flush b' o' n') → (b ≡ b') × (o ≡ o') × (n ≡ n')
       same b' o' n' f = let g : Host (entry.Flush b o n) ≡ Host (entry.Flush b' o' n') = sym d ∙ f in (cc, cc, cc)
 
       go : (a r : Bool) → is_cached past b ≡ a → reaches b o n c ≡ r → IsTrue ((after_host past (entry.Flush b o n) (world past)).marked c) → MarkedBy (p ∷ past) c
@@ -163,9 +163,9 @@ module _ (c : Byte) (p : Point) (past : Past) where
 
 pub marked_by : (past : Past) (c : Byte) → IsTrue ((world past).marked c) → MarkedBy past c
 marked_by [] c h = absurd cc
-marked_by (p ∷ past) c h = go p.deed refl (marked_by past c) h
+marked_by (p ∷ past) c h = go p.action refl (marked_by past c) h
   where
-    go : (d : Deed) → p.deed ≡ d → (IsTrue ((world past).marked c) → MarkedBy past c) → IsTrue ((after_deed past p.queue d (world past)).marked c) → MarkedBy (p ∷ past) c
+    go : (d : Action) → p.action ≡ d → (IsTrue ((world past).marked c) → MarkedBy past c) → IsTrue ((after_action past p.queue d (world past)).marked c) → MarkedBy (p ∷ past) c
     go (Host x) e rest h = host_marked c p past x e rest h
     go (Run x) e rest h = also c p past (λ b o n f r. let g = sym e ∙ f in absurd cc) (rest (subst (λ (m : Byte → Bool). IsTrue (m c)) (command_marks past (family_of p.queue) x (world past)) h))
     go (Wait s) e rest h = also c p past (λ b o n f r. let g = sym e ∙ f in absurd cc) (rest h)

@@ -15,12 +15,12 @@ use Rattle.vk_model.specs.declared.command.BufferElement.{BufferElement}
 use Rattle.vk_model.specs.declared.command.ImageElement.{ImageElement}
 use Rattle.vk_model.specs.World.{Byte, in_buffer, World, resource_at, same_byte}
 use Rattle.vk_model.specs.Objects.{is_exclusive, is_cached}
-use Rattle.vk_model.specs.Point.{Past, Point, Deed, Host, Wait, Run, Signal}
+use Rattle.vk_model.specs.Point.{Past, Point, Action, Host, Wait, Run, Signal}
 use Rattle.vk_model.specs.Order.{plain_order}
 use Rattle.vk_model.specs.Ownership.{family_of, uses, elements_of, transfer, Transfer, Stays, Release, Acquire, Neither, is_transition}
 use Rattle.vk_model.specs.Moves.{Source, Value, From, Move, moves}
 use Rattle.vk_model.specs.Pieces.{pieces}
-use Rattle.vk_model.specs.Effect.{source_value, moved as moved_to_byte, after_moves, without, is_other, used, in_range, transitioned, after_buffer_element, after_image_element, after_element, after_command, after_host, after_deed, written, reaches, world}
+use Rattle.vk_model.specs.Effect.{source_value, moved as moved_to_byte, after_moves, without, is_other, used, in_range, transitioned, after_buffer_element, after_image_element, after_element, after_command, after_host, after_action, written, reaches, world}
 use Rattle.vk_model.specs.Node.{Node, Act, Hosts, Waits, Signals, Runs, Depends, nodes, acts, command_acts, with_acts, Role, Barrier, SetOf, AwaitOf}
 use Rattle.vk_model.specs.Before.{IsNumbered}
 use Rattle.vk_model.specs.declared.rule.Rule.TheVariants as rule
@@ -40,7 +40,7 @@ use Rattle.vk_laws.proofs.Members.{member_passes, mapped_from, only_one}
 use Rattle.vk_laws.proofs.NoHazard.{numbered}
 use Rattle.vk_laws.proofs.TaskAccesses.{is_there}
 use Rattle.vk_laws.proofs.Points.{Stands, stands, comes_at, stands_below}
-use Rattle.vk_laws.proofs.HazardFree.{read_act, write_act, moved, host_put, same_moves, run_once, place, deed}
+use Rattle.vk_laws.proofs.HazardFree.{read_act, write_act, moved, host_put, same_moves, run_once, place, action}
 
 -- ---- what a byte is after a step it was before, or it's undefined
 
@@ -97,7 +97,7 @@ fold_weaker f step (x ∷ xs) w c v h = step w x c v (fold_weaker f step xs (f w
 
 -- ---- what a point writes to a byte
 
-abbrev source_at : Past → Deed → Byte → Option Source
+abbrev source_at : Past → Action → Byte → Option Source
 source_at past (Host x) c = option_map Value (host_value x c)
 source_at past (Run x) c = option_map (λ m. m.source) (find (λ m. same_byte m.to c) (moves past x))
 source_at past (Wait s) c = None
@@ -140,10 +140,10 @@ host_source past (entry.Invalidate b o n) w c v h = go (is_cached past b) refl h
     go false e h = rw e at h
 host_source past _ w c v h = h
 
-point_source : (past : Past) (p : Point) (c : Byte) (v : ℕ) → (world (p ∷ past)).value c ≡ Some v → from_source (source_at past p.deed c) (world past).value c ≡ Some v
-point_source past p c v h = go p.deed h
+point_source : (past : Past) (p : Point) (c : Byte) (v : ℕ) → (world (p ∷ past)).value c ≡ Some v → from_source (source_at past p.action c) (world past).value c ≡ Some v
+point_source past p c v h = go p.action h
   where
-    go : (d : Deed) → (after_deed past p.queue d (world past)).value c ≡ Some v → from_source (source_at past d c) (world past).value c ≡ Some v
+    go : (d : Action) → (after_action past p.queue d (world past)).value c ≡ Some v → from_source (source_at past d c) (world past).value c ≡ Some v
     go (Host x) h = host_source past x (world past) c v h
     go (Run x) h = command_source past (family_of p.queue) x (world past) c v h
     go (Wait s) h = h
@@ -157,7 +157,7 @@ count_acts p (a ∷ more) ns = let e = count_acts p more (record { number = leng
 
 pub more_nodes : (newer past : Past) → length (nodes past) ≤ length (nodes (newer ++ past))
 more_nodes [] past = omega arith
-more_nodes (q ∷ newer) past = let le = more_nodes newer past in let e = count_acts q (acts q.deed) (nodes (newer ++ past)) in omega (arith, e)
+more_nodes (q ∷ newer) past = let le = more_nodes newer past in let e = count_acts q (acts q.action) (nodes (newer ++ past)) in omega (arith, e)
 
 pub before_whole : (past : Past) (k : ℕ) → length (nodes past) ≤ k → before_node past k ≡ past
 before_whole [] k le = refl
@@ -175,7 +175,7 @@ before_inside [] past p k le lt = before_skips p past k lt ∙ before_whole past
 before_inside (q ∷ newer) past p k le lt = let more = more_nodes (q ∷ newer) (p ∷ past) in before_skips q (newer ++ p ∷ past) k (omega arith) ∙ before_inside newer past p k le lt
 
 -- a point without nodes writes nothing
-idle_source : (past : Past) (d : Deed) (c : Byte) → length (acts d) ≡ 0 → source_at past d c ≡ None
+idle_source : (past : Past) (d : Action) (c : Byte) → length (acts d) ≡ 0 → source_at past d c ≡ None
 idle_source past (Host x) c e = absurd (omega (arith, e))
 idle_source past (Wait s) c e = refl
 idle_source past (Signal s) c e = refl
@@ -190,15 +190,15 @@ idle_source past (Run (cmd.CopyIn b i l gs)) c e = absurd (omega (arith, e))
 idle_source past (Run (cmd.CopyOut i l b gs)) c e = absurd (omega (arith, e))
 idle_source past (Run (cmd.CopyImage s l d m gs)) c e = absurd (omega (arith, e))
 
-kept_by_point : (past : Past) (p : Point) (c : Byte) (v : ℕ) → source_at past p.deed c ≡ None → (world (p ∷ past)).value c ≡ Some v → (world past).value c ≡ Some v
+kept_by_point : (past : Past) (p : Point) (c : Byte) (v : ℕ) → source_at past p.action c ≡ None → (world (p ∷ past)).value c ≡ Some v → (world past).value c ≡ Some v
 kept_by_point past p c v none h = subst (λ (o : Option Source). from_source o (world past).value c ≡ Some v) none (point_source past p c v h)
 
 idle_points : (newer low : Past) (c : Byte) (v : ℕ) → length (nodes (newer ++ low)) ≤ length (nodes low) → (world (newer ++ low)).value c ≡ Some v → (world low).value c ≡ Some v
 idle_points [] low c v le h = h
 idle_points (q ∷ newer) low c v le h =
-    let e = count_acts q (acts q.deed) (nodes (newer ++ low)) in
+    let e = count_acts q (acts q.action) (nodes (newer ++ low)) in
     let more = more_nodes newer low in
-    idle_points newer low c v (omega (arith, e)) (kept_by_point (newer ++ low) q c v (idle_source (newer ++ low) q.deed c (omega (arith, e))) h)
+    idle_points newer low c v (omega (arith, e)) (kept_by_point (newer ++ low) q c v (idle_source (newer ++ low) q.action c (omega (arith, e))) h)
 
 -- right after the nodes of a past its bytes are those of the past
 pub settles : (newer low : Past) (k : ℕ) (c : Byte) (v : ℕ) → length (nodes low) ≡ k → value_before (newer ++ low) k c ≡ Some v → (world low).value c ≡ Some v
@@ -223,7 +223,7 @@ node_there (n ∷ ns) k numbers lt = go (node_there ns k numbers.1) (n.number ==
     go rest true e = (n, refl)
     go rest false e = rest (⊎_elim (λ lt. lt) (λ le. absurd (let size = numbers.0 in let same : n.number ≡ k = omega arith in let f = eq-eqb n.number k same in cc)) (cases_lt k (length ns)))
 
--- ---- the deeds of nodes
+-- ---- the actions of nodes
 
 -- a command runs as one node, or its nodes are elements and it moves nothing
 pub runs_or_idle : (x : Cmd) (a : Act) → Contains (command_acts x) a → ((a ≡ Runs x) × (length (command_acts x) ≡ 1)) ⊎ ((r : Role) × (e : Element) × (a ≡ Depends r e) × ((past : Past) → moves past x ≡ []))
@@ -238,11 +238,11 @@ runs_or_idle (cmd.CopyIn b i l gs) a c = inl (sym (only_one _ a c), refl)
 runs_or_idle (cmd.CopyOut i l b gs) a c = inl (sym (only_one _ a c), refl)
 runs_or_idle (cmd.CopyImage s l d m gs) a c = inl (sym (only_one _ a c), refl)
 
-pub host_deed : (d : Deed) (x : Entry) → Contains (acts d) (Hosts x) → d ≡ Host x
-host_deed (Host y) x c = let e = only_one (Hosts y) (Hosts x) c in let same : y ≡ x = cc in ap Host same
-host_deed (Wait s) x c = let e = only_one (Waits s) (Hosts x) c in absurd cc
-host_deed (Signal s) x c = let e = only_one (Signals s) (Hosts x) c in absurd cc
-host_deed (Run y) x c = ⊎_elim (λ r. let e = r.0 in absurd cc) (λ i. let e = i.2 in absurd cc) (runs_or_idle y (Hosts x) c)
+pub host_action : (d : Action) (x : Entry) → Contains (acts d) (Hosts x) → d ≡ Host x
+host_action (Host y) x c = let e = only_one (Hosts y) (Hosts x) c in let same : y ≡ x = cc in ap Host same
+host_action (Wait s) x c = let e = only_one (Waits s) (Hosts x) c in absurd cc
+host_action (Signal s) x c = let e = only_one (Signals s) (Hosts x) c in absurd cc
+host_action (Run y) x c = ⊎_elim (λ r. let e = r.0 in absurd cc) (λ i. let e = i.2 in absurd cc) (runs_or_idle y (Hosts x) c)
 
 -- ---- a move among those of the pieces
 
@@ -281,10 +281,10 @@ module _ (together : PiecesAreMoves) (apart : PiecesWriteApart) (t : List Entry)
   all = plain_order t
 
   -- a node's act is all that its point does, where it isn't an element
-  pub alone : (n : Node) (s : Stands all n) → length (acts s.at.deed) ≡ 1 → (length (nodes s.past) ≡ n.number) × (length (nodes (s.at ∷ s.past)) ≡ suc n.number)
+  pub alone : (n : Node) (s : Stands all n) → length (acts s.at.action) ≡ 1 → (length (nodes s.past) ≡ n.number) × (length (nodes (s.at ∷ s.past)) ≡ suc n.number)
   alone n s one =
       let low = s.new in
-      let e = count_acts s.at (acts s.at.deed) (nodes s.past) in
+      let e = count_acts s.at (acts s.at.action) (nodes s.past) in
       let lt = stands_below _ _ s in
       (omega (arith, e, one), omega (arith, e, one))
 
@@ -294,7 +294,7 @@ module _ (together : PiecesAreMoves) (apart : PiecesWriteApart) (t : List Entry)
       ap (λ (l : Past). before_node l n.number) s.whole ∙ before_inside s.newer s.past s.at n.number s.new lt
 
   -- a value after a point's last node is the point's
-  after_point : (n : Node) (s : Stands all n) (c : Byte) (v : ℕ) → length (nodes (s.at ∷ s.past)) ≡ suc n.number → value_before all (suc n.number) c ≡ Some v → from_source (source_at s.past s.at.deed c) (world s.past).value c ≡ Some v
+  after_point : (n : Node) (s : Stands all n) (c : Byte) (v : ℕ) → length (nodes (s.at ∷ s.past)) ≡ suc n.number → value_before all (suc n.number) c ≡ Some v → from_source (source_at s.past s.at.action c) (world s.past).value c ≡ Some v
   after_point n s c v end h =
       point_source s.past s.at c v (settles s.newer (s.at ∷ s.past) (suc n.number) c v end (subst (λ (l : Past). value_before l (suc n.number) c ≡ Some v) s.whole h))
 
@@ -310,7 +310,7 @@ module _ (together : PiecesAreMoves) (apart : PiecesWriteApart) (t : List Entry)
       part_puts : (l : ℕ) (q : List Move) (y : Move) → slice_get (pieces all x) l ≡ Some q → find (λ m. same_byte m.to c) q ≡ Some y → part_write all (Runs x) l c ≡ Some (Puts y.source)
       part_puts l q y at e = rw at (rw e refl)
 
-  put_here : (n : Node) (s : Stands all n) (c : Byte) (v : ℕ) (w : Put) (source : Source) → w ≡ Puts source → source_at s.past s.at.deed c ≡ Some source → length (acts s.at.deed) ≡ 1 → value_before all (suc n.number) c ≡ Some v
+  put_here : (n : Node) (s : Stands all n) (c : Byte) (v : ℕ) (w : Put) (source : Source) → w ≡ Puts source → source_at s.past s.at.action c ≡ Some source → length (acts s.at.action) ≡ 1 → value_before all (suc n.number) c ≡ Some v
       → put_value w (value_before all n.number) ≡ Some v
   put_here n s c v w source put is one h =
       let after = subst (λ (o : Option Source). from_source o (world s.past).value c ≡ Some v) is (after_point n s c v (alone n s one).1 h) in
@@ -324,28 +324,28 @@ module _ (together : PiecesAreMoves) (apart : PiecesWriteApart) (t : List Entry)
 
       go : (a : Act) → n.act ≡ a → part_write all a k c ≡ Some w → put_value w (value_before all n.number) ≡ Some v
       go (Runs x) act h =
-          let d : s.at.deed ≡ Run x = deed together apart t sound n cn x act in
+          let d : s.at.action ≡ Run x = action together apart t sound n cn x act in
           let r = run_source n cn x act k c w h in
-          let here : Contains (command_acts x) (Runs x) = subst (λ (d : Deed). Contains (acts d) (Runs x)) d (subst (λ (a : Act). Contains (acts s.at.deed) a) act s.acted) in
+          let here : Contains (command_acts x) (Runs x) = subst (λ (d : Action). Contains (acts d) (Runs x)) d (subst (λ (a : Act). Contains (acts s.at.action) a) act s.acted) in
           let one : length (command_acts x) ≡ 1 = ⊎_elim (λ o. o.1) (λ i. let e = i.2 in absurd cc) (runs_or_idle x (Runs x) here) in
-          put_here n s c v w r.0 r.1 (ap (λ (d : Deed). source_at s.past d c) d ∙ r.2) (ap (λ (d : Deed). length (acts d)) d ∙ one) e
+          put_here n s c v w r.0 r.1 (ap (λ (d : Action). source_at s.past d c) d ∙ r.2) (ap (λ (d : Action). length (acts d)) d ∙ one) e
       go (Hosts x) act h =
-          let d = host_deed s.at.deed x (subst (λ (a : Act). Contains (acts s.at.deed) a) act s.acted) in
+          let d = host_action s.at.action x (subst (λ (a : Act). Contains (acts s.at.action) a) act s.acted) in
           let p = host_put all x k c w h in
-          put_here n s c v w (Value p.value) (sym p.put) (ap (λ (d : Deed). source_at s.past d c) d ∙ ap (option_map Value) p.is) (ap (λ (d : Deed). length (acts d)) d) e
+          put_here n s c v w (Value p.value) (sym p.put) (ap (λ (d : Action). source_at s.past d c) d ∙ ap (option_map Value) p.is) (ap (λ (d : Action). length (acts d)) d) e
       go (Waits q) act h = absurd cc
       go (Signals q) act h = absurd cc
       go (Depends q r) act h = absurd cc
 
   -- where no part of a node writes a byte its point doesn't
-  no_source : (n : Node) (cn : Contains (nodes all) n) (c : Byte) → ((k : ℕ) → part_write all n.act k c ≡ None) → source_at (stands all n cn).past (stands all n cn).at.deed c ≡ None
-  no_source n cn c none = go s.at.deed refl
+  no_source : (n : Node) (cn : Contains (nodes all) n) (c : Byte) → ((k : ℕ) → part_write all n.act k c ≡ None) → source_at (stands all n cn).past (stands all n cn).at.action c ≡ None
+  no_source n cn c none = go s.at.action refl
     where
       s : Stands all n
       s = stands all n cn
 
-      acted : (d : Deed) → s.at.deed ≡ d → Contains (acts d) n.act
-      acted d e = subst (λ (d : Deed). Contains (acts d) n.act) e s.acted
+      acted : (d : Action) → s.at.action ≡ d → Contains (acts d) n.act
+      acted d e = subst (λ (d : Action). Contains (acts d) n.act) e s.acted
 
       unmapped : {A B : Type 0} (f : A → B) (o : Option A) → option_map f o ≡ None → o ≡ None
       unmapped f None h = refl
@@ -358,7 +358,7 @@ module _ (together : PiecesAreMoves) (apart : PiecesWriteApart) (t : List Entry)
           (ap (λ (o : Option (List Move)). option_map (λ (m : Move). Puts m.source) (find f (moves_of o))) (sym at) ∙ subst (λ (a : Act). part_write all a l c ≡ None) act (none l))) in
           ap (option_map (λ (m : Move). m.source)) (ap (find f) (sym (same_moves together apart t sound n cn x act)) ∙ ap (find f) (sym (together all x)) ∙ nowhere)
 
-      go : (d : Deed) → s.at.deed ≡ d → source_at s.past d c ≡ None
+      go : (d : Action) → s.at.action ≡ d → source_at s.past d c ≡ None
       go (Host x) e =
           let act = only_one (Hosts x) n.act (acted (Host x) e) in
           ap (option_map Value) (unmapped (λ v. Puts (Value v)) (host_value x c) (subst (λ (a : Act). part_write all a 0 c ≡ None) (sym act) (none 0)))
@@ -404,7 +404,7 @@ module _ (together : PiecesAreMoves) (apart : PiecesWriteApart) (t : List Entry)
       let k = mapped_from (λ k. in_buffer b (o + k)) (below n) c h in
       member_passes (λ k. is_none ((world past).value (in_buffer b (o + k)))) (below n) k.0 k.1 (ap (λ (b : Byte). is_none ((world past).value b)) k.2 ∙ ap is_none e)
 
-  breaks_read : (s : Past) (p : Point) (x : Entry) → p.deed ≡ Host x → IsTrue (reads_undefined (world s) x) → IsTrue (breaks rule.ReadUndefined s p)
+  breaks_read : (s : Past) (p : Point) (x : Entry) → p.action ≡ Host x → IsTrue (reads_undefined (world s) x) → IsTrue (breaks rule.ReadUndefined s p)
   unfolding breaks
   breaks_read s p x e h = rw e h
 
@@ -423,7 +423,7 @@ module _ (together : PiecesAreMoves) (apart : PiecesWriteApart) (t : List Entry)
           go : (o : Option ℕ) → (world s.past).value c ≡ o → (v : ℕ) × (value_before all n.number c ≡ Some v)
           go None e = absurd (sound s.past s.at rule.ReadUndefined (
             comes_at _ _ s,
-            breaks_read s.past s.at (entry.Read b o m) (host_deed s.at.deed (entry.Read b o m) (subst (λ (a : Act). Contains (acts s.at.deed) a) act s.acted))
+            breaks_read s.past s.at (entry.Read b o m) (host_action s.at.action (entry.Read b o m) (subst (λ (a : Act). Contains (acts s.at.action) a) act s.acted))
                 (undefined_read s.past b o m c (is_there together all c (bytes_of b o m) h) e),
           ))
           go (Some v) e = (v, subst (λ (l : Past). (world l).value c ≡ Some v) (sym (at_node n s)) e)

@@ -18,15 +18,15 @@ use Rattle.vk_model.specs.Objects.{made, live, image}
 use Rattle.vk_model.specs.Moves.{Move, moves, copy_moves, copy_in_moves, copy_out_moves, copy_image_moves, clear_moves, clear_move, level_bytes, subresource_bytes}
 use Rattle.vk_model.specs.Access.{host_writes, writes_of}
 use Rattle.vk_model.specs.RulesIds.{asked_by, asked_by_command, asked_by_entry, is_buffer, is_image, is_dead, judged_in, until}
-use Rattle.vk_model.specs.Point.{Past, Point, Deed, host_of}
+use Rattle.vk_model.specs.Point.{Past, Point, Action, host_of}
 use Rattle.vk_model.specs.Node.{Node, Act, Hosts, Waits, Signals, Runs, Depends, acts}
 use Rattle.vk_laws.specs.Trace.{accesses}
 use Rattle.vk_laws.proofs.Members.{contains-head, contains-tail, member_passes, none_in, mapped_from, flat_from}
 use Rattle.vk_laws.proofs.Truths.{unless}
 use Rattle.vk_laws.proofs.Steady.{IsNew, live_made, made_until, comes_here, comes_later, IsLive}
 use Rattle.vk_laws.proofs.Apart.{grid_from}
-use Rattle.vk_laws.proofs.Points.{Stands, deed_of}
-use Rattle.vk_laws.proofs.ModelBytes.{host_deed}
+use Rattle.vk_laws.proofs.Points.{Stands, action_of}
+use Rattle.vk_laws.proofs.ModelBytes.{host_action}
 use Rattle.vk_model.specs.Fault.{Comes, older}
 
 abbrev Names : List (ℕ × (Entry → Bool)) → Byte → Type 0
@@ -87,8 +87,8 @@ host_names (entry.Write b o bytes) c h = let k = mapped_from (λ k. in_buffer b 
 host_names _ c h = absurd (none_in c h)
 
 -- what a point names was made before it
-named_made : (all newer past : Past) (p : Point) (c : Byte) → all ≡ newer ++ p ∷ past → IsNew all → IsLive all → Names (asked_by p.deed) c → (x : Entry) × (made past (resource_at c) ≡ Some x)
-named_made all newer past p c whole new alive names = go (is_some (host_of p.deed)) refl
+named_made : (all newer past : Past) (p : Point) (c : Byte) → all ≡ newer ++ p ∷ past → IsNew all → IsLive all → Names (asked_by p.action) c → (x : Entry) × (made past (resource_at c) ≡ Some x)
+named_made all newer past p c whole new alive names = go (is_some (host_of p.action)) refl
   where
     come : (b : Past) (q : Point) → Comes (newer ++ p ∷ past) b q → Comes all b q
     come b q h = subst (λ (l : Past). Comes l b q) (sym whole) h
@@ -99,9 +99,9 @@ named_made all newer past p c whole new alive names = go (is_some (host_of p.dee
     live_there : (judged : Past) → judged_in past p ≡ judged → (x : Entry) × (made judged (resource_at c) ≡ Some x)
     live_there judged e =
         live_made judged (resource_at c) names.0 (unless (holds (live judged (resource_at c)) names.0) (λ dead.
-        alive past p (come past p (comes_here newer past p)) (or_left _ _ (member_passes (is_dead (judged_in past p)) (asked_by p.deed) (resource_at c, names.0) names.1 (subst (λ (l : Past). IsTrue (is_dead l (resource_at c, names.0))) (sym e) dead)))))
+        alive past p (come past p (comes_here newer past p)) (or_left _ _ (member_passes (is_dead (judged_in past p)) (asked_by p.action) (resource_at c, names.0) names.1 (subst (λ (l : Past). IsTrue (is_dead l (resource_at c, names.0))) (sym e) dead)))))
 
-    go : (b : Bool) → is_some (host_of p.deed) ≡ b → (x : Entry) × (made past (resource_at c) ≡ Some x)
+    go : (b : Bool) → is_some (host_of p.action) ≡ b → (x : Entry) × (made past (resource_at c) ≡ Some x)
     go true e = live_there past (ap (λ (b : Bool). if b then past else until p.entry past) e)
     go false e =
         let l = live_there (until p.entry past) (ap (λ (b : Bool). if b then past else until p.entry past) e) in
@@ -111,15 +111,15 @@ named_made all newer past p c whole new alive names = go (is_some (host_of p.dee
 pub written_made : (all : Past) (n : Node) (s : Stands all n) (c : Byte) → IsNew all → IsLive all → IsTrue (accesses n.act) → (judged : Past) (q : ℕ) → Contains (writes_of judged q n.act) c → (x : Entry) × (made s.past (resource_at c) ≡ Some x)
 written_made all n s c new alive access judged q h = named_made all s.newer s.past s.at c s.whole new alive (go n.act refl access h)
   where
-    acted : (a : Act) → n.act ≡ a → Contains (acts s.at.deed) a
-    acted a e = subst (λ (a : Act). Contains (acts s.at.deed) a) e s.acted
+    acted : (a : Act) → n.act ≡ a → Contains (acts s.at.action) a
+    acted a e = subst (λ (a : Act). Contains (acts s.at.action) a) e s.acted
 
-    go : (a : Act) → n.act ≡ a → IsTrue (accesses a) → Contains (writes_of judged q a) c → Names (asked_by s.at.deed) c
+    go : (a : Act) → n.act ≡ a → IsTrue (accesses a) → Contains (writes_of judged q a) c → Names (asked_by s.at.action) c
     go (Runs x) e access h =
         let m = mapped_from (λ m. m.to) (moves judged x) c h in
         let names = subst (λ (b : Byte). Names (asked_by_command x) b) m.2 (command_names judged x m.0 m.1) in
-        subst (λ (d : Deed). Names (asked_by d) c) (sym (deed_of s.at.deed x (acted (Runs x) e))) names
-    go (Hosts x) e access h = subst (λ (d : Deed). Names (asked_by d) c) (sym (host_deed s.at.deed x (acted (Hosts x) e))) (host_names x c h)
+        subst (λ (d : Action). Names (asked_by d) c) (sym (action_of s.at.action x (acted (Runs x) e))) names
+    go (Hosts x) e access h = subst (λ (d : Action). Names (asked_by d) c) (sym (host_action s.at.action x (acted (Hosts x) e))) (host_names x c h)
     go (Waits w) e access h = absurd cc
     go (Signals w) e access h = absurd cc
     go (Depends r d) e access h = absurd cc

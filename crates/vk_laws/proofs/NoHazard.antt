@@ -35,7 +35,7 @@ numbered_acts p (a ∷ more) ns numbers = numbered_acts p more (record { number 
 
 pub numbered : (past : Past) → IsNumbered (nodes past)
 numbered [] = tt
-numbered (p ∷ past) = numbered_acts p (acts p.deed) (nodes past) (numbered past)
+numbered (p ∷ past) = numbered_acts p (acts p.action) (nodes past) (numbered past)
 
 pub unique : (ns : List Node) → IsNumbered ns → (m n : Node) → Contains ns m → Contains ns n → m.number ≡ n.number → m ≡ n
 unique [] numbers m n c d same = absurd (none_in m c)

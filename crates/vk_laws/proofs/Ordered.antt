@@ -18,18 +18,18 @@ use Rattle.vk_model.specs.Laws.{GrowthKeeps}
 use Rattle.vk_model.specs.Rules.{first_fault}
 use Rattle.vk_laws.specs.Trace.{Sees, HasNoHazard, NoHazardLaw, SeenIsBefore, HostInOrder, CommandsStay, Meets, accesses}
 use Rattle.vk_laws.proofs.Prefixes.{is_old}
-use Rattle.vk_laws.proofs.Points.{Stands, stands, deed_of, comes_at, stands_below}
+use Rattle.vk_laws.proofs.Points.{Stands, stands, action_of, comes_at, stands_below}
 
 module _ (stay : CommandsStay) (t : List Entry) (none : first_fault t ≡ None) (newer past : Past) (p : Point) (whole : plain_order t ≡ newer ++ p ∷ past) (x : Node) (cx : Contains (nodes (p ∷ past)) x) where
   -- a command's moves are those of the whole trace
   same_moves : (c : Cmd) → x.act ≡ Runs c → moves (plain_order t) c ≡ moves (p ∷ past) c
   same_moves c e =
       let s = stands (p ∷ past) x cx in
-      let deed = deed_of s.at.deed c (subst (λ (a : Act). Contains (acts s.at.deed) a) e s.acted) in
+      let action = action_of s.at.action c (subst (λ (a : Act). Contains (acts s.at.action) a) e s.acted) in
       let all : plain_order t ≡ newer ++ (s.newer ++ s.at ∷ s.past) = whole ∙ ap (λ (l : Past). newer ++ l) s.whole in
       let far : plain_order t ≡ (newer ++ s.newer) ++ s.at ∷ s.past = all ∙ sym (append_assoc newer s.newer (s.at ∷ s.past)) in
-      let a = stay t newer s.newer s.past s.at c none all deed in
-      let b = stay t [] (newer ++ s.newer) s.past s.at c none far deed in
+      let a = stay t newer s.newer s.past s.at c none all action in
+      let b = stay t [] (newer ++ s.newer) s.past s.at c none far action in
       ap (λ (l : Past). moves l c) far ∙ b ∙ sym a ∙ ap (λ (l : Past). moves l c) (sym s.whole)
 
   same_reads : IsTrue (accesses x.act) → reads (plain_order t) x ≡ reads (p ∷ past) x

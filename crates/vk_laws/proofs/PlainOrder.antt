@@ -6,8 +6,8 @@ use Rattle.std.proofs.lemmas.List.{append_assoc}
 use Rattle.vk_model.specs.declared.entry.Batch.{Batch}
 use Rattle.vk_model.specs.declared.entry.Entry.{Entry}
 use Rattle.vk_model.specs.declared.entry.Entry.TheVariants as entry
-use Rattle.vk_model.specs.Point.{Point, Past, Deed, Wait, Run, Signal, host_of}
-use Rattle.vk_model.specs.Order.{Turn, host, deeds, taken, turn, turns_from, turns_of, plain_from}
+use Rattle.vk_model.specs.Point.{Point, Past, Action, Wait, Run, Signal, host_of}
+use Rattle.vk_model.specs.Order.{Turn, host, actions, taken, turn, turns_from, turns_of, plain_from}
 use Rattle.vk_model.specs.Node.{Node, nodes, acts}
 use Rattle.vk_laws.proofs.Points.{in_acts}
 use Rattle.vk_laws.proofs.ModelBytes.{more_nodes}
@@ -51,19 +51,19 @@ grows_too P Q f past all g = record { newer = g.newer; whole = g.whole; each = e
 
 -- whatever a batch of entry e on queue q does passes
 abbrev pub Allows : (Point → Type 0) → ℕ → ℕ → Type 0
-Allows P e q = (batch place : ℕ) (d : Deed) → host_of d ≡ None → P (record { entry = e; batch = batch; place = place; queue = q; deed = d })
+Allows P e q = (batch place : ℕ) (d : Action) → host_of d ≡ None → P (record { entry = e; batch = batch; place = place; queue = q; action = d })
 
 module _ (P : Point → Type 0) where
-  deeds_grow : {A : Type 0} (of : A → Deed) → ((x : A) → host_of (of x) ≡ None) → (t : Turn) → Allows P t.entry t.queue → (k : ℕ) (xs : List A) (past : Past) → Grows P past (deeds of t k xs past)
-  deeds_grow of quiet t may k [] past = stays P past
-  deeds_grow of quiet t may k (x ∷ xs) past =
-      let p : Point = record { entry = t.entry; batch = t.batch; place = k; queue = t.queue; deed = of x } in
-      grows_on P past (p ∷ past) _ (one_more P past p (may t.batch k (of x) (quiet x))) (deeds_grow of quiet t may (k + 1) xs (p ∷ past))
+  actions_grow : {A : Type 0} (of : A → Action) → ((x : A) → host_of (of x) ≡ None) → (t : Turn) → Allows P t.entry t.queue → (k : ℕ) (xs : List A) (past : Past) → Grows P past (actions of t k xs past)
+  actions_grow of quiet t may k [] past = stays P past
+  actions_grow of quiet t may k (x ∷ xs) past =
+      let p : Point = record { entry = t.entry; batch = t.batch; place = k; queue = t.queue; action = of x } in
+      grows_on P past (p ∷ past) _ (one_more P past p (may t.batch k (of x) (quiet x))) (actions_grow of quiet t may (k + 1) xs (p ∷ past))
 
   taken_grows : (t : Turn) → Allows P t.entry t.queue → (past : Past) → Grows P past (taken t past)
   taken_grows t may past =
-      grows_on P past _ _ (deeds_grow Wait (λ x. refl) t may 0 t.content.waits past)
-      (grows_on P _ _ _ (deeds_grow Run (λ x. refl) t may 0 t.content.commands _) (deeds_grow Signal (λ x. refl) t may 0 t.content.signals _))
+      grows_on P past _ _ (actions_grow Wait (λ x. refl) t may 0 t.content.waits past)
+      (grows_on P _ _ _ (actions_grow Run (λ x. refl) t may 0 t.content.commands _) (actions_grow Signal (λ x. refl) t may 0 t.content.signals _))
 
   turns_grow : (before : Past) (e q k : ℕ) → Allows P e q → (bs : List Batch) (past : Past) → Grows P past (fold (λ p t. taken t p) past (turns_from before e q k bs))
   turns_grow before e q k may [] past = stays P past
@@ -75,7 +75,7 @@ module _ (P : Point → Type 0) where
 
 -- a point of a batch of entry e
 abbrev pub OfBatch : ℕ → Point → Type 0
-OfBatch e p = (p.entry ≡ e) × (host_of p.deed ≡ None)
+OfBatch e p = (p.entry ≡ e) × (host_of p.action ≡ None)
 
 -- ---- the points of entries
 
@@ -104,15 +104,15 @@ plain_splits e past (x ∷ xs) ys =
 
 -- a node of a past that grew is old, or one of a point that passes
 abbrev pub IsNewer : (Point → Type 0) → Past → Node → Type 0
-IsNewer P past n = P n.point × Contains (acts n.point.deed) n.act × (length (nodes past) ≤ n.number)
+IsNewer P past n = P n.point × Contains (acts n.point.action) n.act × (length (nodes past) ≤ n.number)
 
 newer_node : (P : Point → Type 0) (newer past : Past) → Each P newer → (n : Node) → Contains (nodes (newer ++ past)) n → Contains (nodes past) n ⊎ IsNewer P past n
 newer_node P [] past each n c = inl c
 newer_node P (p ∷ newer) past each n c =
     ⊎_elim (λ older. newer_node P newer past each.1 n older)
     (λ h. let le = h.0 in let more = more_nodes newer past in
-    inr (subst P (sym h.2) each.0, subst (λ (q : Point). Contains (acts q.deed) n.act) (sym h.2) h.1, omega (arith, le, more)))
-    (in_acts p (acts p.deed) (nodes (newer ++ past)) n c)
+    inr (subst P (sym h.2) each.0, subst (λ (q : Point). Contains (acts q.action) n.act) (sym h.2) h.1, omega (arith, le, more)))
+    (in_acts p (acts p.action) (nodes (newer ++ past)) n c)
 
 pub old_or_newer : (P : Point → Type 0) (past all : Past) → Grows P past all → (n : Node) → Contains (nodes all) n → Contains (nodes past) n ⊎ IsNewer P past n
 old_or_newer P past all g n c = newer_node P g.newer past g.each n (subst (λ (l : Past). Contains (nodes l) n) g.whole c)

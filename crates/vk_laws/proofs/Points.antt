@@ -5,7 +5,7 @@ use Rattle.std.specs.List.{enumerate_from}
 use Rattle.std.proofs.lemmas.List.{length-append}
 use Rattle.vk_model.specs.declared.command.Cmd.{Cmd}
 use Rattle.vk_model.specs.declared.command.Cmd.TheVariants as cmd
-use Rattle.vk_model.specs.Point.{Past, Point, Deed, Host, Wait, Run, Signal}
+use Rattle.vk_model.specs.Point.{Past, Point, Action, Host, Wait, Run, Signal}
 use Rattle.vk_model.specs.Node.{Node, Act, Hosts, Waits, Signals, Runs, Depends, nodes, acts, with_acts, Barrier}
 use Rattle.vk_model.specs.Before.{IsNumbered}
 use Rattle.vk_laws.proofs.NoHazard.{number_below, numbered}
@@ -22,7 +22,7 @@ pub record Stands (all : Past) (n : Node) : Type 0 where
   pub whole : all ≡ newer ++ at ∷ past
   pub here : Contains (nodes (at ∷ past)) n
   pub new : length (nodes past) ≤ n.number
-  pub acted : Contains (acts at.deed) n.act
+  pub acted : Contains (acts at.action) n.act
   pub pointed : n.point ≡ at
 
 pub in_acts : (p : Point) (more : List Act) (ns : List Node) (n : Node) → Contains (with_acts p more ns) n → Contains ns n ⊎ (length ns ≤ n.number) × Contains more n.act × (n.point ≡ p)
@@ -38,9 +38,9 @@ in_acts p (a ∷ more) ns n c =
 
 pub stands : (all : Past) (n : Node) → Contains (nodes all) n → Stands all n
 stands [] n c = absurd (none_in n c)
-stands (p ∷ past) n c = go (stands past n) (in_acts p (acts p.deed) (nodes past) n c)
+stands (p ∷ past) n c = go (stands past n) (in_acts p (acts p.action) (nodes past) n c)
   where
-    go : (Contains (nodes past) n → Stands past n) → Contains (nodes past) n ⊎ (length (nodes past) ≤ n.number) × Contains (acts p.deed) n.act × (n.point ≡ p) → Stands (p ∷ past) n
+    go : (Contains (nodes past) n → Stands past n) → Contains (nodes past) n ⊎ (length (nodes past) ≤ n.number) × Contains (acts p.action) n.act × (n.point ≡ p) → Stands (p ∷ past) n
     go rest (inl older) = let s = rest older in record { newer = p ∷ s.newer; past = s.past; at = s.at; whole = ap (λ (l : Past). p ∷ l) s.whole; here = s.here; new = s.new; acted = s.acted; pointed = s.pointed }
     go rest (inr h) = record { newer = []; past = past; at = p; whole = refl; here = c; new = h.0; acted = h.1; pointed = h.2 }
 
@@ -50,7 +50,7 @@ comes_at all n s = subst (λ (l : Past). Comes l s.past s.at) (sym s.whole) (com
 pub stands_below : (all : Past) (n : Node) (s : Stands all n) → n.number < length (nodes (s.at ∷ s.past))
 stands_below all n s = number_below (nodes (s.at ∷ s.past)) (numbered (s.at ∷ s.past)) n s.here
 
--- ---- the deed of a command's node
+-- ---- the action of a command's node
 
 not_mapped : {X : Type 0} (f : X → Act) (c : Cmd) → ((x : X) → f x ≡ Runs c → ⊥) → (xs : List X) → Contains (map f xs) (Runs c) → ⊥
 not_mapped f c never [] h = none_in (Runs c) h
@@ -59,20 +59,20 @@ not_mapped f c never (x ∷ xs) h = ⊎_elim (λ e. never x e) (λ later. not_ma
 run_of : (x c : Cmd) → Runs x ≡ Runs c → Run x ≡ Run c
 run_of x c e = let same : x ≡ c = cc in ap Run same
 
-pub deed_of : (d : Deed) (c : Cmd) → Contains (acts d) (Runs c) → d ≡ Run c
-deed_of (Host x) c h = let e = only_one (Hosts x) (Runs c) h in absurd cc
-deed_of (Wait s) c h = let e = only_one (Waits s) (Runs c) h in absurd cc
-deed_of (Signal s) c h = let e = only_one (Signals s) (Runs c) h in absurd cc
-deed_of (Run (cmd.Barrier es)) c h = absurd (not_mapped (Depends Barrier) c (λ x e. cc) es h)
-deed_of (Run (cmd.Set v ms)) c h = absurd (not_mapped _ c (λ x e. cc) (enumerate_from 0 ms) h)
-deed_of (Run (cmd.Await v ms)) c h = absurd (not_mapped _ c (λ x e. cc) (enumerate_from 0 ms) h)
-deed_of (Run (cmd.Fill b o n w)) c h = run_of _ c (only_one _ (Runs c) h)
-deed_of (Run (cmd.Update b o bytes)) c h = run_of _ c (only_one _ (Runs c) h)
-deed_of (Run (cmd.Copy s d gs)) c h = run_of _ c (only_one _ (Runs c) h)
-deed_of (Run (cmd.Clear i l color rs)) c h = run_of _ c (only_one _ (Runs c) h)
-deed_of (Run (cmd.CopyIn b i l gs)) c h = run_of _ c (only_one _ (Runs c) h)
-deed_of (Run (cmd.CopyOut i l b gs)) c h = run_of _ c (only_one _ (Runs c) h)
-deed_of (Run (cmd.CopyImage s l d m gs)) c h = run_of _ c (only_one _ (Runs c) h)
+pub action_of : (d : Action) (c : Cmd) → Contains (acts d) (Runs c) → d ≡ Run c
+action_of (Host x) c h = let e = only_one (Hosts x) (Runs c) h in absurd cc
+action_of (Wait s) c h = let e = only_one (Waits s) (Runs c) h in absurd cc
+action_of (Signal s) c h = let e = only_one (Signals s) (Runs c) h in absurd cc
+action_of (Run (cmd.Barrier es)) c h = absurd (not_mapped (Depends Barrier) c (λ x e. cc) es h)
+action_of (Run (cmd.Set v ms)) c h = absurd (not_mapped _ c (λ x e. cc) (enumerate_from 0 ms) h)
+action_of (Run (cmd.Await v ms)) c h = absurd (not_mapped _ c (λ x e. cc) (enumerate_from 0 ms) h)
+action_of (Run (cmd.Fill b o n w)) c h = run_of _ c (only_one _ (Runs c) h)
+action_of (Run (cmd.Update b o bytes)) c h = run_of _ c (only_one _ (Runs c) h)
+action_of (Run (cmd.Copy s d gs)) c h = run_of _ c (only_one _ (Runs c) h)
+action_of (Run (cmd.Clear i l color rs)) c h = run_of _ c (only_one _ (Runs c) h)
+action_of (Run (cmd.CopyIn b i l gs)) c h = run_of _ c (only_one _ (Runs c) h)
+action_of (Run (cmd.CopyOut i l b gs)) c h = run_of _ c (only_one _ (Runs c) h)
+action_of (Run (cmd.CopyImage s l d m gs)) c h = run_of _ c (only_one _ (Runs c) h)
 
 -- ---- older nodes
 

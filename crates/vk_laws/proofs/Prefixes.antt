@@ -15,7 +15,7 @@ use Rattle.vk_laws.proofs.TaskNodes.{node_of}
 use Rattle.vk_laws.proofs.Members.{right_has}
 use Rattle.vk_laws.proofs.NoHazard.{number_below, numbered}
 use Rattle.vk_laws.proofs.Steady.{IsNew, kept_pieces, IsLive, comes_within}
-use Rattle.vk_laws.proofs.Points.{Stands, stands, deed_of, older_node}
+use Rattle.vk_laws.proofs.Points.{Stands, stands, action_of, older_node}
 use Rattle.vk_laws.proofs.TraceCaches.{before_number}
 
 pub has_more : GrowthKeeps → (newer past : Past) (n : Node) → Contains (nodes past) n → Contains (nodes (newer ++ past)) n
@@ -60,8 +60,8 @@ module _ (all newer old : Past) (whole : all ≡ newer ++ old) (new : IsNew all)
   pub same_pieces : (n : Node) (c : Cmd) → Contains (nodes old) n → n.act ≡ Runs c → pieces all c ≡ pieces old c
   same_pieces n c cn act =
       let place : Stands old n = stands old n cn in
-      let deed : place.at.deed ≡ Run c = deed_of place.at.deed c (subst (λ (a : Act). Contains (acts place.at.deed) a) act place.acted) in
+      let action : place.at.action ≡ Run c = action_of place.at.action c (subst (λ (a : Act). Contains (acts place.at.action) a) act place.acted) in
       let come : (b : Past) (q : Point) → Comes old b q → Comes all b q = λ b q h. comes_within _ newer old whole b q h in
       let split : all ≡ (newer ++ place.newer) ++ place.at ∷ place.past = whole ∙ ap (λ (l : Past). newer ++ l) place.whole ∙ sym (append_assoc newer place.newer (place.at ∷ place.past)) in
-      kept_pieces all (newer ++ place.newer) place.past place.at c split deed new alive
-      ∙ sym (kept_pieces old place.newer place.past place.at c place.whole deed (λ b q h. new b q (come b q h)) (λ b q h. alive b q (come b q h)))
+      kept_pieces all (newer ++ place.newer) place.past place.at c split action new alive
+      ∙ sym (kept_pieces old place.newer place.past place.at c place.whole action (λ b q h. new b q (come b q h)) (λ b q h. alive b q (come b q h)))

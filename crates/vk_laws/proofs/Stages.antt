@@ -15,7 +15,7 @@ use Rattle.vk_model.specs.Laws.{GrowthKeeps, NeverAhead, OrdersAgree}
 use Rattle.vk_model.specs.Run.{Stage, start, applied, past_with, is_host_wait}
 use Rattle.vk_laws.proofs.Members.{contains-cons, contains-head, none_in}
 use Rattle.vk_laws.proofs.Steady.{comes_within}
-use Rattle.vk_laws.proofs.ModelBytes.{host_deed}
+use Rattle.vk_laws.proofs.ModelBytes.{host_action}
 use Rattle.vk_laws.proofs.PlainOrder.{Each, Grows, grows_too, Within, OfBatch, batches_grow, plain_grows, plain_splits, old_or_newer}
 use Rattle.vk_laws.proofs.Prefixes.{has_more}
 use Rattle.std.specs.List.{fold}
@@ -150,13 +150,13 @@ module _ (orders : OrdersAgree) (keeps : GrowthKeeps) (t : List Entry) (sound : 
         ⊎_elim
         (λ here. ⊎_elim
         (λ old. contains-cons entry_node (nodes s.front.past) m old)
-        (λ h. absurd (no_host h.0.1 (host_deed m.point.deed y (subst (λ (a : Act). Contains (acts m.point.deed) a) act h.1))))
+        (λ h. absurd (no_host h.0.1 (host_action m.point.action y (subst (λ (a : Act). Contains (acts m.point.action) a) act h.1))))
         (old_or_newer (OfBatch s.count) (host s.count x ∷ s.front.past) (past_with s x) batches m here))
         (λ h. let le : s.count + 1 ≤ m.point.entry = h.0 in absurd (omega (arith, lt, le)))
         (old_or_newer (λ q. s.count + 1 ≤ q.entry) (past_with s x) all (later (applied s x xs) next_placed) m c)
       where
-        no_host : host_of m.point.deed ≡ None → m.point.deed ≡ Host y → ⊥
-        no_host none is = let some : host_of m.point.deed ≡ Some y = ap host_of is in cc
+        no_host : host_of m.point.action ≡ None → m.point.action ≡ Host y → ⊥
+        no_host none is = let some : host_of m.point.action ≡ Some y = ap host_of is in cc
 
   -- a wait of the host submits nothing
   pub wait_past : (s : Stage) → Placed s → (x : Entry) (xs : List Entry) → s.left ≡ x ∷ xs → is_host_wait x ≡ true → past_with s x ≡ host s.count x ∷ s.front.past

@@ -8,7 +8,7 @@ use Rattle.vk_model.specs.declared.command.Cmd.TheVariants as cmd
 use Rattle.vk_model.specs.declared.entry.Entry.{Entry}
 use Rattle.vk_model.specs.Words.{holds, below, byte_of}
 use Rattle.vk_model.specs.World.{in_buffer}
-use Rattle.vk_model.specs.Point.{Past, Point, Deed, Run, host_of, entries}
+use Rattle.vk_model.specs.Point.{Past, Point, Action, Run, host_of, entries}
 use Rattle.vk_model.specs.Objects.{made_by, made, ended, live, buffer_in, image_in}
 use Rattle.vk_model.specs.Moves.{Value, move, moves, fill_size, clear_moves, copy_in_moves, copy_out_moves, copy_image_moves}
 use Rattle.vk_model.specs.Pieces.{cut, row_bytes, clear_pieces, pieces}
@@ -23,7 +23,7 @@ use Rattle.vk_model.specs.declared.rule.Rule.TheVariants as rule
 
 -- a point that makes no id anew leaves each id's object
 pub made_step : (past : Past) (q : Point) (i : ℕ) (x : Entry) → (IsTrue (breaks_new_id past q) → ⊥) → made past i ≡ Some x → made (q ∷ past) i ≡ Some x
-made_step past q i x new is = go (host_of q.deed) new
+made_step past q i x new is = go (host_of q.action) new
   where
     pick : (e : Entry) (j : ℕ) → (IsTrue (is_some (made past j)) → ⊥) → (b : Bool) → (i == j) ≡ b → cond b (Some e) (made past i) ≡ Some x
     pick e j n false same = is
@@ -59,7 +59,7 @@ made_up (q ∷ more) past i x new is = made_step (more ++ past) q i x (new (more
 
 pub made_until : (e : ℕ) (past : Past) (i : ℕ) (x : Entry) → IsNew past → made (until e past) i ≡ Some x → made past i ≡ Some x
 made_until e [] i x new is = is
-made_until e (q ∷ past) i x new is = made_step past q i x (new past q newest) (go (made_until e past i x (λ b r c. new b r (older c))) (q.entry == e && is_some (host_of q.deed)) is)
+made_until e (q ∷ past) i x new is = made_step past q i x (new past q newest) (go (made_until e past i x (λ b r c. new b r (older c))) (q.entry == e && is_some (host_of q.action)) is)
   where
     go : (made (until e past) i ≡ Some x → made past i ≡ Some x) → (b : Bool) → made (if b then past else until e past) i ≡ Some x → made past i ≡ Some x
     go rest true is = is
@@ -127,15 +127,15 @@ made_stay newer past p new i k alive =
     let next = made_step past p i l.0 (new past p (comes_here newer past p)) old in
     made_up newer (p ∷ past) i l.0 new next ∙ sym old
 
-module _ (whole newer past : Past) (p : Point) (c : Cmd) (split : whole ≡ newer ++ p ∷ past) (deed : p.deed ≡ Run c)
+module _ (whole newer past : Past) (p : Point) (c : Cmd) (split : whole ≡ newer ++ p ∷ past) (action : p.action ≡ Run c)
     (new : (b : Past) (q : Point) → Comes whole b q → IsTrue (breaks_new_id b q) → ⊥) (alive : (b : Past) (q : Point) → Comes whole b q → IsTrue (breaks_live_id b q) → ⊥) where
   come : (b : Past) (q : Point) → Comes (newer ++ p ∷ past) b q → Comes whole b q
   come b q h = subst (λ (l : Past). Comes l b q) (sym split) h
 
   pub named_alive : IsTrue (list_any (is_dead (until p.entry past)) (asked_by_command c)) → ⊥
   named_alive h =
-      let dead : (d : Deed) → Bool = λ d. list_any (is_dead (if is_some (host_of d) then past else until p.entry past)) (asked_by d) in
-      alive past p (come past p (comes_here newer past p)) (or_left _ _ (subst (λ (d : Deed). IsTrue (dead d)) (sym deed) h))
+      let dead : (d : Action) → Bool = λ d. list_any (is_dead (if is_some (host_of d) then past else until p.entry past)) (asked_by d) in
+      alive past p (come past p (comes_here newer past p)) (or_left _ _ (subst (λ (d : Action). IsTrue (dead d)) (sym action) h))
 
   same_objects : (i : ℕ) (k : Entry → Bool) → (IsTrue (is_dead (until p.entry past) (i, k)) → ⊥) → made whole i ≡ made past i
   same_objects i k live = ap (λ (l : Past). made l i) split ∙ made_stay newer past p (λ b q h. new b q (come b q h)) i k live
@@ -147,12 +147,12 @@ module _ (whole newer past : Past) (p : Point) (c : Cmd) (split : whole ≡ newe
   pub kept_pieces : pieces whole c ≡ pieces past c
   kept_pieces = pieces_same (until p.entry past) whole past same_objects c named_alive
 
-pub commands_stay : (whole newer between past : Past) (p : Point) (c : Cmd) → whole ≡ newer ++ (between ++ p ∷ past) → p.deed ≡ Run c
+pub commands_stay : (whole newer between past : Past) (p : Point) (c : Cmd) → whole ≡ newer ++ (between ++ p ∷ past) → p.action ≡ Run c
     → ((b : Past) (q : Point) → Comes whole b q → IsTrue (breaks_new_id b q) → ⊥) → ((b : Past) (q : Point) → Comes whole b q → IsTrue (breaks_live_id b q) → ⊥)
     → moves (between ++ p ∷ past) c ≡ moves (p ∷ past) c
-commands_stay whole newer between past p c same deed new alive =
+commands_stay whole newer between past p c same action new alive =
     let middle = between ++ p ∷ past in
     let come : (b : Past) (q : Point) → Comes middle b q → Comes whole b q = λ b q h. comes_within _ newer middle same b q h in
     let low : (b : Past) (q : Point) → Comes (p ∷ past) b q → Comes whole b q = λ b q h. come b q (comes_later between (p ∷ past) b q h) in
-    kept_moves middle between past p c refl deed (λ b q h. new b q (come b q h)) (λ b q h. alive b q (come b q h))
-    ∙ sym (kept_moves (p ∷ past) [] past p c refl deed (λ b q h. new b q (low b q h)) (λ b q h. alive b q (low b q h)))
+    kept_moves middle between past p c refl action (λ b q h. new b q (come b q h)) (λ b q h. alive b q (come b q h))
+    ∙ sym (kept_moves (p ∷ past) [] past p c refl action (λ b q h. new b q (low b q h)) (λ b q h. alive b q (low b q h)))

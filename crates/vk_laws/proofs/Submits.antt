@@ -6,15 +6,15 @@ use Rattle.vk_model.specs.declared.entry.Batch.{Batch}
 use Rattle.vk_model.specs.declared.entry.Entry.{Entry}
 use Rattle.vk_model.specs.declared.entry.Entry.TheVariants as entry
 use Rattle.vk_model.specs.declared.command.Cmd.{Cmd}
-use Rattle.vk_model.specs.Point.{Past, Point, Deed}
+use Rattle.vk_model.specs.Point.{Past, Point, Action}
 use Rattle.vk_model.specs.Order.{plain_order}
 use Rattle.vk_model.specs.Node.{Node, Act, Hosts, Waits, Signals, Runs, Depends, nodes, acts}
 use Rattle.vk_model.specs.Edge.{is_submit}
 use Rattle.vk_laws.specs.TraceCaches.{submits_to}
 use Rattle.vk_laws.proofs.Members.{contains-head, right_has}
-use Rattle.vk_laws.proofs.Points.{Stands, stands, deed_of}
-use Rattle.vk_laws.proofs.ModelBytes.{host_deed}
-use Rattle.vk_laws.proofs.Entries.{OfDeed, point_of}
+use Rattle.vk_laws.proofs.Points.{Stands, stands, action_of}
+use Rattle.vk_laws.proofs.ModelBytes.{host_action}
+use Rattle.vk_laws.proofs.Entries.{OfAction, point_of}
 
 in_past : (all : Past) (n : Node) (s : Stands all n) → Contains all s.at
 in_past all n s = subst (λ (l : Past). Contains l s.at) (sym s.whole) (right_has s.newer (s.at ∷ s.past) s.at (contains-head s.at s.past))
@@ -30,10 +30,10 @@ submits_there t q y c cq cy submit is_y same = go q.act refl submit
 
     by_entry : (x : Entry) → q.act ≡ Hosts x → IsTrue (is_submit (Hosts x)) → IsTrue (submits_to (Hosts x) y.point.queue)
     by_entry (entry.Submit k bs) act h =
-        let dq = host_deed sq.at.deed (entry.Submit k bs) (subst (λ (a : Act). Contains (acts sq.at.deed) a) act sq.acted) in
-        let dy = deed_of sy.at.deed c (subst (λ (a : Act). Contains (acts sy.at.deed) a) is_y sy.acted) in
-        let of_q : slice_get t sq.at.entry ≡ Some (entry.Submit k bs) = subst (λ (d : Deed). OfDeed t sq.at d) dq (point_of t sq.at (in_past (plain_order t) q sq)) in
-        let of_y : (cs : List Batch) × (slice_get t sy.at.entry ≡ Some (entry.Submit sy.at.queue cs)) = subst (λ (d : Deed). OfDeed t sy.at d) dy (point_of t sy.at (in_past (plain_order t) y sy)) in
+        let dq = host_action sq.at.action (entry.Submit k bs) (subst (λ (a : Act). Contains (acts sq.at.action) a) act sq.acted) in
+        let dy = action_of sy.at.action c (subst (λ (a : Act). Contains (acts sy.at.action) a) is_y sy.acted) in
+        let of_q : slice_get t sq.at.entry ≡ Some (entry.Submit k bs) = subst (λ (d : Action). OfAction t sq.at d) dq (point_of t sq.at (in_past (plain_order t) q sq)) in
+        let of_y : (cs : List Batch) × (slice_get t sy.at.entry ≡ Some (entry.Submit sy.at.queue cs)) = subst (λ (d : Action). OfAction t sy.at d) dy (point_of t sy.at (in_past (plain_order t) y sy)) in
         let places = ap (λ (p : Point). p.entry) (sym sq.pointed) ∙ same ∙ ap (λ (p : Point). p.entry) sy.pointed in
         let one : Some (entry.Submit k bs) ≡ Some (entry.Submit sy.at.queue of_y.0) = sym of_q ∙ ap (λ (e : ℕ). slice_get t e) places ∙ of_y.1 in
         let queues : k ≡ sy.at.queue = cc in

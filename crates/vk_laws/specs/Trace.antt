@@ -46,7 +46,7 @@ HostInOrder =
 -- What a command reads and writes stays as it was at its own point, however the trace goes on: the buffers and images that it names stay what they are (profile: ids aren't made twice).
 abbrev pub CommandsStay : Type 0
 CommandsStay =
-    (t : List Entry) (newer between past : Past) (p : Point) (c : Cmd) → first_fault t ≡ None → plain_order t ≡ newer ++ (between ++ p ∷ past) → p.deed ≡ Run c
+    (t : List Entry) (newer between past : Past) (p : Point) (c : Cmd) → first_fault t ≡ None → plain_order t ≡ newer ++ (between ++ p ∷ past) → p.action ≡ Run c
     → moves (between ++ p ∷ past) c ≡ moves (p ∷ past) c
 
 -- Whether an act accesses memory itself: a clear or copy command, or a host entry. What a transition accesses is judged by the same rules, and isn't spoken of here.

@@ -382,18 +382,18 @@ pieces_pairs : (ps : List (List Move)) → Pairs Apart (together ps) → Pairs (
 pieces_pairs [] e = tt
 pieces_pairs (p ∷ ps) e = let rest = append_pairs Apart p (together ps) e in (one_by_one p ps rest.1, pieces_pairs ps rest.0)
 
-overlap_false : (past : Past) (p : Point) (c : Cmd) → p.deed ≡ Run c → breaks rule.Overlap past p ≡ false → some_pair parts_meet (parts_written past c) ≡ false
+overlap_false : (past : Past) (p : Point) (c : Cmd) → p.action ≡ Run c → breaks rule.Overlap past p ≡ false → some_pair parts_meet (parts_written past c) ≡ false
 unfolding breaks
 overlap_false past p c is e =
     let whole : command_overlaps past c ≡ false = rw is at e in
     or_left _ (list_any (λ w. list_any (parts_meet w) (parts_read past c)) (parts_written past c)) (or_left _ (some_pair transitions_meet (elements_of c)) whole)
 
-range_false : (past : Past) (p : Point) (c : Cmd) → p.deed ≡ Run c → breaks rule.Range past p ≡ false → list_any is_short (regions_of c) ≡ false
+range_false : (past : Past) (p : Point) (c : Cmd) → p.action ≡ Run c → breaks rule.Range past p ≡ false → list_any is_short (regions_of c) ≡ false
 unfolding breaks
 range_false past p c is e =
     let whole : command_past past c ≡ false = rw is at e in or_right _ (list_any is_short (regions_of c)) whole
 
-pub write_apart : (past : Past) (p : Point) (c : Cmd) → p.deed ≡ Run c → breaks rule.Overlap past p ≡ false → breaks rule.Range past p ≡ false → some_pair write_common (pieces past c) ≡ false
+pub write_apart : (past : Past) (p : Point) (c : Cmd) → p.action ≡ Run c → breaks rule.Overlap past p ≡ false → breaks rule.Range past p ≡ false → some_pair write_common (pieces past c) ≡ false
 write_apart past p c is overlap range =
     let apart : Pairs Apart (moves past c) = moves_apart past c (overlap_false past p c is overlap) (range_false past p c is range) in
     once_of_pairs write_common (pieces past c) (pieces_pairs (pieces past c) (subst (λ (ms : List Move). Pairs Apart ms) (sym (pieces_together past c)) apart))

@@ -55,7 +55,7 @@ numbered_acts p (a ∷ more) ns numbered = numbered_acts p more (record { number
 
 pub numbered : (past : Past) → IsNumbered (nodes past)
 numbered [] = tt
-numbered (p ∷ past) = numbered_acts p (acts p.deed) (nodes past) (numbered past)
+numbered (p ∷ past) = numbered_acts p (acts p.action) (nodes past) (numbered past)
 
 -- ---- one node more
 
@@ -160,7 +160,7 @@ kept_points : (past more : Past) → Keeps (nodes past) (nodes (more ++ past)) �
 kept_points past [] = (record { stand = ([], refl); edges = λ m n c. refl; orders = λ m n c. refl; sights = λ cached w a k b c. refl }, omega arith)
 kept_points past (p ∷ more) =
     let kept = kept_points past more in
-    kept_acts (nodes past) p (acts p.deed) (nodes (more ++ past)) (numbered past) (numbered (more ++ past)) kept.0 kept.1
+    kept_acts (nodes past) p (acts p.action) (nodes (more ++ past)) (numbered past) (numbered (more ++ past)) kept.0 kept.1
 
 pub growth : (past more : Past) → Keeps (nodes past) (nodes (more ++ past))
 growth past more = (kept_points past more).0

@@ -9,9 +9,9 @@ use Rattle.vk_model.specs.declared.entry.Entry.TheVariants as entry
 use Rattle.vk_model.specs.declared.entry.SemaphoreSubmit.{SemaphoreSubmit}
 use Rattle.vk_model.specs.declared.rule.Rule.TheVariants as rule
 use Rattle.vk_model.specs.Words.{holds}
-use Rattle.vk_model.specs.Point.{Point, Past, Deed, Host, Wait, Run, Signal}
+use Rattle.vk_model.specs.Point.{Point, Past, Action, Host, Wait, Run, Signal}
 use Rattle.vk_model.specs.Objects.{live, made, ended, initial, semaphore_in}
-use Rattle.vk_model.specs.Order.{Turn, Front, host, deeds, taken, turn, turns_from, turns_of, plain_from, plain_order, counter, is_met, same_turn, next_turn, take_turn, settled, after_entry, order_from, order}
+use Rattle.vk_model.specs.Order.{Turn, Front, host, actions, taken, turn, turns_from, turns_of, plain_from, plain_order, counter, is_met, same_turn, next_turn, take_turn, settled, after_entry, order_from, order}
 use Rattle.vk_model.specs.Rules.{breaks}
 use Rattle.vk_model.specs.RulesSync.{waits_early}
 use Rattle.vk_model.specs.Fault.{Comes, newest, older}
@@ -21,24 +21,24 @@ use Rattle.vk_model.specs.Laws.{NeverAhead}
 
 AllMet : Past → Type 0
 AllMet [] = ⊤
-AllMet (p ∷ past) = (waits_early past p.deed ≡ false) × AllMet past
+AllMet (p ∷ past) = (waits_early past p.action ≡ false) × AllMet past
 
 all_met : (past : Past) → ((before : Past) (p : Point) → Comes past before p → breaks rule.WaitBeforeSignal before p ≡ false) → AllMet past
 unfolding AllMet breaks
 all_met [] never = tt
 all_met (p ∷ past) never = (never past p newest, all_met past (λ before q c. never before q (older c)))
 
-older_deeds : {A : Type 0} (of : A → Deed) (t : Turn) (k : ℕ) (xs : List A) (past : Past) → AllMet (deeds of t k xs past) → AllMet past
+older_actions : {A : Type 0} (of : A → Action) (t : Turn) (k : ℕ) (xs : List A) (past : Past) → AllMet (actions of t k xs past) → AllMet past
 unfolding AllMet
-older_deeds of t k [] past met = met
-older_deeds of t k (x ∷ xs) past met = (older_deeds of t (k + 1) xs _ met).1
+older_actions of t k [] past met = met
+older_actions of t k (x ∷ xs) past met = (older_actions of t (k + 1) xs _ met).1
 
-older_taken : (t : Turn) (past : Past) → AllMet (taken t past) → AllMet (deeds Wait t 0 t.content.waits past)
-older_taken t past met = older_deeds Run t 0 t.content.commands _ (older_deeds Signal t 0 t.content.signals _ met)
+older_taken : (t : Turn) (past : Past) → AllMet (taken t past) → AllMet (actions Wait t 0 t.content.waits past)
+older_taken t past met = older_actions Run t 0 t.content.commands _ (older_actions Signal t 0 t.content.signals _ met)
 
 older_turns : (ts : List Turn) (past : Past) → AllMet (fold (λ p t. taken t p) past ts) → AllMet past
 older_turns [] past met = met
-older_turns (t ∷ ts) past met = older_deeds Wait t 0 t.content.waits past (older_taken t past (older_turns ts (taken t past) met))
+older_turns (t ∷ ts) past met = older_actions Wait t 0 t.content.waits past (older_taken t past (older_turns ts (taken t past) met))
 
 older_plain : (e : ℕ) (xs : List Entry) (past : Past) → AllMet (plain_from e past xs) → AllMet past
 unfolding AllMet
@@ -73,12 +73,12 @@ abbrev is_kept : Past → SemaphoreSubmit → Bool
 is_kept past w = is_some (option_and_then semaphore_in (live past w.semaphore))
 
 waits_met : (past now : Past) (same : (s : ℕ) → initial now s ≡ initial past s) (t : Turn) (k : ℕ) (ws : List SemaphoreSubmit) (here : Past)
-    → ((w : SemaphoreSubmit) → waits_early here (Wait w) ≡ waits_early now (Wait w)) → AllMet (deeds Wait t k ws here) → list_all (is_met now) (filter (is_kept past) ws) ≡ true
+    → ((w : SemaphoreSubmit) → waits_early here (Wait w) ≡ waits_early now (Wait w)) → AllMet (actions Wait t k ws here) → list_all (is_met now) (filter (is_kept past) ws) ≡ true
 unfolding AllMet
 waits_met past now same t k [] here counts met = refl
 waits_met past now same t k (w ∷ ws) here counts met =
-    let point : Point = record { entry = t.entry; batch = t.batch; place = k; queue = t.queue; deed = Wait w } in
-    let first : waits_early here (Wait w) ≡ false = (older_deeds Wait t (k + 1) ws (point ∷ here) met).0 in
+    let point : Point = record { entry = t.entry; batch = t.batch; place = k; queue = t.queue; action = Wait w } in
+    let first : waits_early here (Wait w) ≡ false = (older_actions Wait t (k + 1) ws (point ∷ here) met).0 in
     go (is_kept past w) refl (sym (counts w) ∙ first) (waits_met past now same t (k + 1) ws (point ∷ here) counts met)
   where
     go : (b : Bool) → is_kept past w ≡ b → waits_early now (Wait w) ≡ false → list_all (is_met now) (filter (is_kept past) ws) ≡ true → list_all (is_met now) (if b then w ∷ filter (is_kept past) ws else filter (is_kept past) ws) ≡ true
@@ -87,9 +87,9 @@ waits_met past now same t k (w ∷ ws) here counts met =
 
 -- ---- a batch changes no object
 
-kept_entries : {A : Type 0} (of : A → Deed) → ((x : A) → Rattle.vk_model.specs.Point.host_of (of x) ≡ None) → (t : Turn) (k : ℕ) (xs : List A) (past : Past) → Rattle.vk_model.specs.Point.entries (deeds of t k xs past) ≡ Rattle.vk_model.specs.Point.entries past
+kept_entries : {A : Type 0} (of : A → Action) → ((x : A) → Rattle.vk_model.specs.Point.host_of (of x) ≡ None) → (t : Turn) (k : ℕ) (xs : List A) (past : Past) → Rattle.vk_model.specs.Point.entries (actions of t k xs past) ≡ Rattle.vk_model.specs.Point.entries past
 kept_entries of mute t k [] past = refl
-kept_entries of mute t k (x ∷ xs) past = kept_entries of mute t (k + 1) xs (record { entry = t.entry; batch = t.batch; place = k; queue = t.queue; deed = of x } ∷ past) ∙ rw (mute x) refl
+kept_entries of mute t k (x ∷ xs) past = kept_entries of mute t (k + 1) xs (record { entry = t.entry; batch = t.batch; place = k; queue = t.queue; action = of x } ∷ past) ∙ rw (mute x) refl
 
 taken_entries : (t : Turn) (past : Past) → Rattle.vk_model.specs.Point.entries (taken t past) ≡ Rattle.vk_model.specs.Point.entries past
 taken_entries t past =
@@ -116,7 +116,7 @@ settled_turns past e q k [] now same met = refl
 settled_turns past e q k (b ∷ bs) now same met =
     let t : Turn = turn past e q k b in
     let ts : List Turn = turns_from past e q (k + 1) bs in
-    let its_waits : AllMet (deeds Wait t 0 b.waits now) = older_taken t now (older_turns ts (taken t now) met) in
+    let its_waits : AllMet (actions Wait t 0 b.waits now) = older_taken t now (older_turns ts (taken t now) met) in
     let ready : list_all (is_met now) (filter (is_kept past) b.waits) ≡ true = waits_met past now same t 0 b.waits now (λ w. refl) its_waits in
     let found : next_turn now [] (t ∷ ts) ≡ Some t = rw ready refl in
     let left : take_turn (Some t) (record { past = now; waiting = t ∷ ts }) ≡ record { past = taken t now; waiting = ts } =

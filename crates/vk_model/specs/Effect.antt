@@ -13,7 +13,7 @@ use Rattle.vk_model.specs.declared.command.SubresourceRange.{SubresourceRange}
 use Rattle.vk_model.specs.declared.entry.Entry.{Entry}
 use Rattle.vk_model.specs.declared.entry.Entry.TheVariants as entry
 use Rattle.vk_model.specs.Words.{within}
-use Rattle.vk_model.specs.Point.{Past, Deed, Host, Run}
+use Rattle.vk_model.specs.Point.{Past, Action, Host, Run}
 use Rattle.vk_model.specs.Objects.{is_exclusive, is_cached}
 use Rattle.vk_model.specs.World.{Byte, in_buffer, in_image, same_byte, resource_at, Owner, Nobody, Family, Released, World, new_world}
 use Rattle.vk_model.specs.Moves.{Source, Value, From, Move, moves}
@@ -143,13 +143,13 @@ after_host past (entry.Flush b o n) w = if is_cached past b then flushed (reache
 after_host past (entry.Invalidate b o n) w = if is_cached past b then invalidated (reaches b o n) w else w
 after_host past _ w = w
 
--- What a deed on a queue does to the world: waits and signals order, and change nothing.
-abbrev pub after_deed : Past → ℕ → Deed → World → World
-after_deed past q (Host x) w = after_host past x w
-after_deed past q (Run c) w = after_command past (family_of q) c w
-after_deed past q _ w = w
+-- What an action on a queue does to the world: waits and signals order, and change nothing.
+abbrev pub after_action : Past → ℕ → Action → World → World
+after_action past q (Host x) w = after_host past x w
+after_action past q (Run c) w = after_command past (family_of q) c w
+after_action past q _ w = w
 
 -- The world after what has happened, one point at a time (profile).
 abbrev pub world : Past → World
 world [] = new_world
-world (p ∷ past) = after_deed past p.queue p.deed (world past)
+world (p ∷ past) = after_action past p.queue p.action (world past)

@@ -85,7 +85,7 @@ write_common p q = share (targets p) (targets q)
 
 -- No two pieces of a command write one byte where it breaks neither OVERLAP nor RANGE; no other rule is needed.
 abbrev pub PiecesWriteApart : Type 0
-PiecesWriteApart = (past : Past) (p : Point) (c : Cmd) → p.deed ≡ Run c → breaks rule.Overlap past p ≡ false → breaks rule.Range past p ≡ false
+PiecesWriteApart = (past : Past) (p : Point) (c : Cmd) → p.action ≡ Run c → breaks rule.Overlap past p ≡ false → breaks rule.Range past p ≡ false
     → some_pair write_common (pieces past c) ≡ false
 
 -- Rules that are printed alike are the same rule.

@@ -3,7 +3,7 @@ use Rattle.std.specs.Prelude.{ℕ, ◌+◌, List, [], ◌∷◌, ◌++◌, map, 
 use Rattle.vk_model.specs.declared.entry.Entry.{Entry}
 use Rattle.vk_model.specs.declared.entry.Entry.TheVariants as entry
 use Rattle.vk_model.specs.Words.{below}
-use Rattle.vk_model.specs.Point.{Past, Deed, Host}
+use Rattle.vk_model.specs.Point.{Past, Action, Host}
 use Rattle.vk_model.specs.World.{World, in_buffer}
 use Rattle.vk_model.specs.Effect.{world}
 use Rattle.vk_model.specs.Order.{plain_order}
@@ -21,15 +21,15 @@ abbrev pub read_in : World → ℕ → Entry → Reads
 read_in w e (entry.Read b o n) = (e, bytes_at w b o n) ∷ []
 read_in w e _ = []
 
--- What a deed reads for the host: commands give it nothing.
-abbrev pub read_by : World → ℕ → Deed → Reads
+-- What an action reads for the host: commands give it nothing.
+abbrev pub read_by : World → ℕ → Action → Reads
 read_by w e (Host x) = read_in w e x
 read_by w e _ = []
 
 -- The reads of a past, each in the world before it (profile).
 abbrev pub reads : Past → Reads
 reads [] = []
-reads (p ∷ past) = reads past ++ read_by (world past) p.entry p.deed
+reads (p ∷ past) = reads past ++ read_by (world past) p.entry p.action
 
 -- The reads among the first n entries of a trace: each resource has bytes of its own, and commands take effect one at a time in the order of submission (profile).
 unfoldable pub meaning : List Entry → ℕ → Reads

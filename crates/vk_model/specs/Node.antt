@@ -8,7 +8,7 @@ use Rattle.vk_model.specs.declared.command.Element.{Element}
 use Rattle.vk_model.specs.declared.command.Element.TheVariants as element
 use Rattle.vk_model.specs.declared.entry.Entry.{Entry}
 use Rattle.vk_model.specs.declared.entry.SemaphoreSubmit.{SemaphoreSubmit}
-use Rattle.vk_model.specs.Point.{Past, Point, Deed, Host, Wait, Run, Signal}
+use Rattle.vk_model.specs.Point.{Past, Point, Action, Host, Wait, Run, Signal}
 
 -- An element of a barrier, or the k-th one of an event's set or await (Vulkan, "Pipeline Barriers" and "Events").
 pub data Role : Type 0 where
@@ -41,8 +41,8 @@ command_acts (cmd.Set v ms) = event_acts (SetOf v) ms
 command_acts (cmd.Await v ms) = event_acts (AwaitOf v) ms
 command_acts c = Runs c ∷ []
 
--- The acts of a deed.
-abbrev pub acts : Deed → List Act
+-- The acts of an action.
+abbrev pub acts : Action → List Act
 acts (Host x) = Hosts x ∷ []
 acts (Wait s) = Waits s ∷ []
 acts (Run c) = command_acts c
@@ -56,7 +56,7 @@ with_acts p (a ∷ more) ns = with_acts p more (record { number = length ns; poi
 -- The nodes of a past, the newest first.
 abbrev pub nodes : Past → List Node
 nodes [] = []
-nodes (p ∷ past) = with_acts p (acts p.deed) (nodes past)
+nodes (p ∷ past) = with_acts p (acts p.action) (nodes past)
 
 -- The nodes of a point that comes next, in their order.
 abbrev pub next_nodes : Past → Point → List Node
@@ -66,6 +66,6 @@ next_nodes past p = reverse (filter (λ n. nat_le (length (nodes past)) n.number
 abbrev pub same_node : Node → Node → Bool
 same_node m n = m.number == n.number
 
--- Whether two points of batches are in the same batch and place; what tells commands from waits and signals is their deed.
+-- Whether two points of batches are in the same batch and place; what tells commands from waits and signals is their action.
 abbrev pub same_place : Point → Point → Bool
 same_place p q = p.entry == q.entry && p.batch == q.batch && p.place == q.place

@@ -6,7 +6,7 @@ use Rattle.vk_model.specs.declared.entry.Entry.{Entry}
 use Rattle.vk_model.specs.declared.entry.Entry.TheVariants as entry
 use Rattle.vk_model.specs.declared.entry.SemaphoreSubmit.{SemaphoreSubmit}
 use Rattle.vk_model.specs.Words.{holds, among}
-use Rattle.vk_model.specs.Point.{Point, Past, Deed, Host, Wait, Run, Signal}
+use Rattle.vk_model.specs.Point.{Point, Past, Action, Host, Wait, Run, Signal}
 use Rattle.vk_model.specs.Objects.{live, initial, semaphore_in}
 
 -- A submitted batch: its entry, its number in it, its queue, and those of its waits whose id was a semaphore when the submit came (Vulkan, "Queue Submission").
@@ -21,16 +21,16 @@ pub record Turn : Type 0 where
 
 -- The point of a host entry.
 abbrev pub host : ℕ → Entry → Point
-host e x = record { entry = e; batch = 0; place = 0; queue = 0; deed = Host x }
+host e x = record { entry = e; batch = 0; place = 0; queue = 0; action = Host x }
 
--- The past after one list of a batch, from place k on, each item a deed.
-abbrev pub deeds : {A : Type 0} → (A → Deed) → Turn → ℕ → List A → Past → Past
-deeds of t k [] past = past
-deeds of t k (x ∷ xs) past = deeds of t (k + 1) xs (record { entry = t.entry; batch = t.batch; place = k; queue = t.queue; deed = of x } ∷ past)
+-- The past after one list of a batch, from place k on, each item an action.
+abbrev pub actions : {A : Type 0} → (A → Action) → Turn → ℕ → List A → Past → Past
+actions of t k [] past = past
+actions of t k (x ∷ xs) past = actions of t (k + 1) xs (record { entry = t.entry; batch = t.batch; place = k; queue = t.queue; action = of x } ∷ past)
 
 -- The past after a batch: its waits, its commands, its signals (Vulkan, "Queue Submission").
 abbrev pub taken : Turn → Past → Past
-taken t past = deeds Signal t 0 t.content.signals (deeds Run t 0 t.content.commands (deeds Wait t 0 t.content.waits past))
+taken t past = actions Signal t 0 t.content.signals (actions Run t 0 t.content.commands (actions Wait t 0 t.content.waits past))
 
 -- Batch k of a submit. A wait for what is no semaphore holds nothing back: its rule refuses it (profile).
 abbrev pub turn : Past → ℕ → ℕ → ℕ → Batch → Turn
@@ -64,8 +64,8 @@ abbrev pub signal_in : Entry → Option (ℕ × ℕ)
 signal_in (entry.Signal s v) = Some (s, v)
 signal_in _ = None
 
--- The semaphore and the value that a deed signals (Vulkan, "Semaphore Signaling").
-abbrev pub signal_of : Deed → Option (ℕ × ℕ)
+-- The semaphore and the value that an action signals (Vulkan, "Semaphore Signaling").
+abbrev pub signal_of : Action → Option (ℕ × ℕ)
 signal_of (Host x) = signal_in x
 signal_of (Signal s) = Some (s.semaphore, s.value)
 signal_of _ = None
@@ -76,7 +76,7 @@ value_for s x = if x.0 == s then Some x.1 else None
 
 -- The values signaled to a semaphore so far, the newest first (Vulkan, "Semaphore Signaling").
 abbrev pub signaled : Past → ℕ → List ℕ
-signaled past s = filter_map (λ p. option_and_then (value_for s) (signal_of p.deed)) past
+signaled past s = filter_map (λ p. option_and_then (value_for s) (signal_of p.action)) past
 
 -- A timeline semaphore's counter: the greatest of its initial value and all signals; none for what is no semaphore (Vulkan, "Semaphores").
 abbrev pub counter : Past → ℕ → Option ℕ

@@ -10,7 +10,7 @@ use Rattle.vk_model.specs.declared.entry.Entry.TheVariants as entry
 use Rattle.vk_model.specs.declared.resource.Place.{Place}
 use Rattle.vk_model.specs.declared.resource.Place.TheVariants as place
 use Rattle.vk_model.specs.Words.{holds, option_list}
-use Rattle.vk_model.specs.Point.{Past, Point, Deed, Host, Wait, Run, Signal, host_of, on_host, on_command}
+use Rattle.vk_model.specs.Point.{Past, Point, Action, Host, Wait, Run, Signal, host_of, on_host, on_command}
 use Rattle.vk_model.specs.Objects.{made_by, made, live, buffer_in, image_in, pool_in, memory_in, semaphore_in, event_in, defrag_in, resource_in, pool_of}
 
 -- ---- NEW_ID
@@ -108,8 +108,8 @@ asked_by_command (cmd.Barrier es) = flat_map asked_by_element es
 asked_by_command (cmd.Set v ms) = (v, is_event) ∷ []
 asked_by_command (cmd.Await v ms) = (v, is_event) ∷ []
 
--- What a deed names.
-abbrev pub asked_by : Deed → Asked
+-- What an action names.
+abbrev pub asked_by : Action → Asked
 asked_by (Host x) = asked_by_entry x
 asked_by (Wait s) = (s.semaphore, is_semaphore) ∷ []
 asked_by (Run c) = asked_by_command c
@@ -118,11 +118,11 @@ asked_by (Signal s) = (s.semaphore, is_semaphore) ∷ []
 -- The past of host entry e.
 abbrev pub until : ℕ → Past → Past
 until e [] = []
-until e (p ∷ past) = if p.entry == e && is_some (host_of p.deed) then past else until e past
+until e (p ∷ past) = if p.entry == e && is_some (host_of p.action) then past else until e past
 
 -- The past in which a point's ids are judged: its own, and for a point of a batch that of its submit (profile).
 abbrev pub judged_in : Past → Point → Past
-judged_in past p = if is_some (host_of p.deed) then past else until p.entry past
+judged_in past p = if is_some (host_of p.action) then past else until p.entry past
 
 -- Whether an id isn't a live object of the kind asked (Vulkan, "Object Lifetime").
 abbrev pub is_dead : Past → ℕ × (Entry → Bool) → Bool
@@ -139,7 +139,7 @@ lists_stray past _ = false
 
 -- LIVE_ID: an id named isn't a live object of the kind asked, or an end of a pass lists a resource that isn't in the pool (Vulkan, "Object Lifetime"; VMA, "Defragmentation").
 abbrev pub breaks_live_id : Past → Point → Bool
-breaks_live_id past p = list_any (is_dead (judged_in past p)) (asked_by p.deed) || on_host (lists_stray past) p
+breaks_live_id past p = list_any (is_dead (judged_in past p)) (asked_by p.action) || on_host (lists_stray past) p
 
 -- ---- QUEUE and QUEUE_KIND
 

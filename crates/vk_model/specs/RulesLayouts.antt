@@ -9,7 +9,7 @@ use Rattle.vk_model.specs.declared.command.Element.TheVariants as element
 use Rattle.vk_model.specs.declared.command.SubresourceRange.{SubresourceRange}
 use Rattle.vk_model.specs.declared.entry.SemaphoreSubmit.{SemaphoreSubmit}
 use Rattle.vk_model.specs.Words.{among, below, has_bits, has_some}
-use Rattle.vk_model.specs.Point.{Past, Point, Deed, Host, Wait, Run, Signal, on_command}
+use Rattle.vk_model.specs.Point.{Past, Point, Action, Host, Wait, Run, Signal, on_command}
 use Rattle.vk_model.specs.World.{World}
 use Rattle.vk_model.specs.Effect.{world}
 use Rattle.vk_model.specs.Ownership.{elements_of, dependency_of, is_transition, is_acquire}
@@ -50,16 +50,16 @@ bad_stages _ = false
 abbrev pub bad_submit_stages : SemaphoreSubmit → Bool
 bad_submit_stages s = not (has_bits known_stages s.stages.0) || has_some s.stages.0 host_stage
 
--- Whether a deed has bad stages.
-abbrev pub deed_stages : Deed → Bool
-deed_stages (Host x) = false
-deed_stages (Wait s) = bad_submit_stages s
-deed_stages (Run c) = bad_stages c
-deed_stages (Signal s) = bad_submit_stages s
+-- Whether an action has bad stages.
+abbrev pub action_stages : Action → Bool
+action_stages (Host x) = false
+action_stages (Wait s) = bad_submit_stages s
+action_stages (Run c) = bad_stages c
+action_stages (Signal s) = bad_submit_stages s
 
 -- STAGE: a stage or access that isn't known or doesn't fit (Vulkan, "Pipeline Stages" and "Access Types").
 abbrev pub breaks_stage : Past → Point → Bool
-breaks_stage past p = deed_stages p.deed
+breaks_stage past p = action_stages p.action
 
 -- ---- LAYOUT
 

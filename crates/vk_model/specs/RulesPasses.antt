@@ -125,4 +125,4 @@ breaks_pass_busy past p = on_host (passes_busy past p) p
 
 -- PASS_WRITE: the host, a command or a transition writes a resource of a pool inside a pass (VMA, "Defragmentation").
 abbrev pub breaks_pass_write : Past → Point → Bool
-breaks_pass_write past p = list_any (λ a. list_any (λ b. moves_now past (resource_at b)) (writes_of past p.queue a)) (acts p.deed)
+breaks_pass_write past p = list_any (λ a. list_any (λ b. moves_now past (resource_at b)) (writes_of past p.queue a)) (acts p.action)

@@ -7,7 +7,7 @@ use Rattle.vk_model.specs.declared.command.Dependency.{Dependency}
 use Rattle.vk_model.specs.declared.entry.Entry.{Entry}
 use Rattle.vk_model.specs.declared.entry.Entry.TheVariants as entry
 use Rattle.vk_model.specs.Words.{holds}
-use Rattle.vk_model.specs.Point.{Past, Point, Deed, Wait, command_of, on_host, on_command}
+use Rattle.vk_model.specs.Point.{Past, Point, Action, Wait, command_of, on_host, on_command}
 use Rattle.vk_model.specs.Order.{counter, signal_of}
 use Rattle.vk_model.specs.Node.{Node, nodes, next_nodes}
 use Rattle.vk_model.specs.Edge.{signaled_by}
@@ -22,7 +22,7 @@ set_by v _ = None
 
 -- The lists of elements that an event was set with, one for each set (Vulkan, "Events").
 abbrev pub sets : Past → ℕ → List (List Dependency)
-sets past v = filter_map (λ p. option_and_then (set_by v) (command_of p.deed)) past
+sets past v = filter_map (λ p. option_and_then (set_by v) (command_of p.action)) past
 
 -- The points on a queue.
 abbrev pub on_queue : ℕ → Past → Past
@@ -61,7 +61,7 @@ breaks_event_dependency past p = on_command (awaits_others past) p
 
 -- SIGNAL_VALUE: the value isn't above the initial one and all earlier signals (Vulkan, "Semaphore Signaling", on `VkTimelineSemaphoreSubmitInfo`).
 abbrev pub breaks_signal_value : Past → Point → Bool
-breaks_signal_value past p = holds (signal_of p.deed) (λ x. holds (counter past x.0) (nat_le x.1))
+breaks_signal_value past p = holds (signal_of p.action) (λ x. holds (counter past x.0) (nat_le x.1))
 
 -- Whether two nodes signal the same semaphore.
 abbrev pub same_semaphore : Node → Node → Bool
@@ -74,13 +74,13 @@ breaks_signal_order past p = list_any (λ n. list_any (λ m. same_semaphore m n 
 -- ---- WAIT_BEFORE_SIGNAL and WAIT_NEVER
 
 -- Whether a batch waits for a value above the counter.
-abbrev pub waits_early : Past → Deed → Bool
+abbrev pub waits_early : Past → Action → Bool
 waits_early past (Wait s) = holds (counter past s.semaphore) (λ c. nat_lt c s.value)
 waits_early past _ = false
 
 -- WAIT_BEFORE_SIGNAL: a batch waits for a value above the counter (profile, while no wait may come before its signal; where batches are taken once their waits are met, no point breaks it).
 abbrev pub breaks_wait_before_signal : Past → Point → Bool
-breaks_wait_before_signal past p = waits_early past p.deed
+breaks_wait_before_signal past p = waits_early past p.action
 
 -- Whether the host waits for a value above a counter.
 abbrev pub waits_for_more : Past → Entry → Bool

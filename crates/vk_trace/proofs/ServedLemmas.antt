@@ -14,9 +14,9 @@ use Rattle.vk_model.specs.declared.entry.Entry.TheVariants as entry
 use Rattle.vk_model.specs.declared.entry.SemaphoreSubmit.{SemaphoreSubmit}
 use Rattle.vk_model.specs.declared.resource.Place.{Place}
 use Rattle.vk_model.specs.declared.resource.Place.TheVariants as place
-use Rattle.vk_model.specs.Point.{Past, Point, Deed, Wait, Run, Signal}
-use Rattle.vk_model.specs.Order.{Turn, host, deeds, taken, turns_from, turns_of, plain_from, plain_order}
-use Rattle.vk_validate.specs.Served.{is_served, is_served_deed, is_served_entry, is_served_command, is_served_place, is_memory}
+use Rattle.vk_model.specs.Point.{Past, Point, Action, Wait, Run, Signal}
+use Rattle.vk_model.specs.Order.{Turn, host, actions, taken, turns_from, turns_of, plain_from, plain_order}
+use Rattle.vk_validate.specs.Served.{is_served, is_served_action, is_served_entry, is_served_command, is_served_place, is_memory}
 use Rattle.vk_trace.specs.Members.{Reader, Row, ◌>>=◌, array_members, first_member, no_member, from, ◌<*>◌, only, members, at_word, after_word, word_and_members, tagged, each_member, list_of, empty_list, u32_value, u64_value}
 use Rattle.vk_trace.specs.Trace.{memory_element, dependency_value, command_rows, command_value, semaphore_submit, batch_value, semaphore_value, queue_value, memory_type_value, place_rows, place_value, sharing_value, length_or_whole, buffer, entry_rows, entry_value, IsTrace}
 
@@ -204,22 +204,22 @@ entry_makes = tagged_makes IsServedEntry entry_rows (
 
 -- ---- every point of a trace
 
-point_served : (p : Point) (past : Past) → is_served_deed p.deed ≡ true → is_served past ≡ true → is_served (p ∷ past) ≡ true
+point_served : (p : Point) (past : Past) → is_served_action p.action ≡ true → is_served past ≡ true → is_served (p ∷ past) ≡ true
 unfolding is_served
 point_served p past here before = rw (here, before) refl
 
-deeds_served : {A : Type 0} (of : A → Deed) (t : Turn) (k : ℕ) (xs : List A) (past : Past) → Each (λ x. is_served_deed (of x) ≡ true) xs → is_served past ≡ true → is_served (deeds of t k xs past) ≡ true
-deeds_served of t k [] past each before = before
-deeds_served of t k (x ∷ xs) past each before = deeds_served of t (k + 1) xs _ each.1 (point_served (record { entry = t.entry; batch = t.batch; place = k; queue = t.queue; deed = of x }) past each.0 before)
+actions_served : {A : Type 0} (of : A → Action) (t : Turn) (k : ℕ) (xs : List A) (past : Past) → Each (λ x. is_served_action (of x) ≡ true) xs → is_served past ≡ true → is_served (actions of t k xs past) ≡ true
+actions_served of t k [] past each before = before
+actions_served of t k (x ∷ xs) past each before = actions_served of t (k + 1) xs _ each.1 (point_served (record { entry = t.entry; batch = t.batch; place = k; queue = t.queue; action = of x }) past each.0 before)
 
-signals : (xs : List SemaphoreSubmit) → Each (λ x. is_served_deed (Signal x) ≡ true) xs
+signals : (xs : List SemaphoreSubmit) → Each (λ x. is_served_action (Signal x) ≡ true) xs
 signals [] = tt
 signals (x ∷ xs) = (refl, signals xs)
 
 taken_served : (t : Turn) (past : Past) → IsServedBatch t.content → is_served past ≡ true → is_served (taken t past) ≡ true
 taken_served t past batch before =
-    let waited : is_served (deeds Wait t 0 t.content.waits past) ≡ true = subst (λ (ws : List SemaphoreSubmit). is_served (deeds Wait t 0 ws past) ≡ true) (sym batch.waits) before in
-    deeds_served Signal t 0 t.content.signals _ (signals t.content.signals) (deeds_served Run t 0 t.content.commands _ batch.commands waited)
+    let waited : is_served (actions Wait t 0 t.content.waits past) ≡ true = subst (λ (ws : List SemaphoreSubmit). is_served (actions Wait t 0 ws past) ≡ true) (sym batch.waits) before in
+    actions_served Signal t 0 t.content.signals _ (signals t.content.signals) (actions_served Run t 0 t.content.commands _ batch.commands waited)
 
 turns_served : (ts : List Turn) (past : Past) → Each (λ (t : Turn). IsServedBatch t.content) ts → is_served past ≡ true → is_served (fold (λ p t. taken t p) past ts) ≡ true
 turns_served [] past each before = before

@@ -11,15 +11,15 @@ use Rattle.vk_model.specs.declared.entry.Entry.{Entry}
 use Rattle.vk_model.specs.Words.{holds}
 use Rattle.vk_model.specs.World.{World}
 use Rattle.vk_model.specs.Effect.{world}
-use Rattle.vk_model.specs.Point.{Past, Point, Deed, Host, Wait, Run, Signal, host_of}
+use Rattle.vk_model.specs.Point.{Past, Point, Action, Host, Wait, Run, Signal, host_of}
 use Rattle.vk_model.specs.Order.{signal_in}
 use Rattle.vk_model.specs.Node.{Node, Act, Hosts, Waits, Signals, Runs, Depends, Barrier, acts, nodes, with_acts, SetOf, AwaitOf}
 use Rattle.vk_model.specs.Edge.{signaled_by, is_host, is_signal}
 use Rattle.vk_model.specs.RulesOwners.{some_bad_pair, bad_pair, element_in, after_some, breaks_owner_pair}
-use Rattle.vk_validate.specs.Served.{is_served, is_served_deed, is_served_entry, is_memory}
+use Rattle.vk_validate.specs.Served.{is_served, is_served_action, is_served_entry, is_memory}
 use Rattle.vk_validate.proofs.Truths.{clash}
 use Rattle.vk_validate.proofs.Members.{none_in, contains-cons, contains-head, contains-tail, all_passes}
-use Rattle.vk_validate.proofs.Forms.{entry_cases, command_cases, deed_cases}
+use Rattle.vk_validate.proofs.Forms.{entry_cases, command_cases, action_cases}
 use Rattle.vk_validate.proofs.Pasts.{served-cons}
 use Rattle.vk_validate.proofs.Plain.{IsPlain, Placed, LastSubmit, LastBy, IsSubmitOn}
 use Rattle.vk_validate.proofs.NextNodes.{lined, next_nodes-lined}
@@ -40,9 +40,9 @@ is_served_act (Depends (SetOf v k) e) = false
 is_served_act (Depends (AwaitOf v k) e) = false
 
 -- the acts of a point of a served form are served
-pub served_acts : (d : Deed) → is_served_deed d ≡ true → list_all is_served_act (acts d) ≡ true
-served_acts = let P : Deed → Type 0 = λ d. list_all is_served_act (acts d) ≡ true in
-    deed_cases P (λ x h. rw h refl) (command_cases (λ c. P (Run c)) (λ b o n w. refl) (λ es all. elements es all)) (λ s. refl)
+pub served_acts : (d : Action) → is_served_action d ≡ true → list_all is_served_act (acts d) ≡ true
+served_acts = let P : Action → Type 0 = λ d. list_all is_served_act (acts d) ≡ true in
+    action_cases P (λ x h. rw h refl) (command_cases (λ c. P (Run c)) (λ b o n w. refl) (λ es all. elements es all)) (λ s. refl)
   where
     elements : (es : List Element) → list_all is_memory es ≡ true → list_all is_served_act (map (Depends Barrier) es) ≡ true
     elements [] all = refl
@@ -64,8 +64,8 @@ unpaired past ns p (a ∷ more) k w all = let h = and_parts (is_served_act a) (l
   one (Depends (SetOf v l) e) h = absurd cc
   one (Depends (AwaitOf v l) e) h = absurd cc
 
-pub no_owner_pair : (past : Past) (p : Point) → is_served_deed p.deed ≡ true → breaks_owner_pair past p ≡ false
-no_owner_pair past p now = rw (next_nodes-lined past p) (unpaired past (nodes (p ∷ past)) p (acts p.deed) (length (nodes past)) (world past) (served_acts p.deed now))
+pub no_owner_pair : (past : Past) (p : Point) → is_served_action p.action ≡ true → breaks_owner_pair past p ≡ false
+no_owner_pair past p now = rw (next_nodes-lined past p) (unpaired past (nodes (p ∷ past)) p (acts p.action) (length (nodes past)) (world past) (served_acts p.action now))
 
 -- ---- where nodes come from
 
@@ -88,22 +88,22 @@ with_keeps p (a ∷ more) ns n c = with_keeps p more (record { number = length n
 -- nodes of a past of served forms are of served acts
 pub served_node : (past : Past) → is_served past ≡ true → (n : Node) → Contains (nodes past) n → is_served_act n.act ≡ true
 served_node [] served n c = absurd (none_in n c)
-served_node (p ∷ past) served n c = let s = served-cons p past served in elim (with_member p (acts p.deed) (nodes past) n c) [
+served_node (p ∷ past) served n c = let s = served-cons p past served in elim (with_member p (acts p.action) (nodes past) n c) [
   | inl older ↦ served_node past s.1 n older
-  | inr new ↦ all_passes is_served_act (acts p.deed) n.act (served_acts p.deed s.0) new.1
+  | inr new ↦ all_passes is_served_act (acts p.action) n.act (served_acts p.action s.0) new.1
 ]
 
 -- the act of a host entry is of the host, and no other is
-pub host_acts : (d : Deed) (x : Entry) (a : Act) → host_of d ≡ Some x → Contains (acts d) a → a ≡ Hosts x
+pub host_acts : (d : Action) (x : Entry) (a : Act) → host_of d ≡ Some x → Contains (acts d) a → a ≡ Hosts x
 host_acts (Host y) x a is c = elim (contains-cons (Hosts y) [] a c) [ inl same ↦ (let e : y ≡ x = cc in sym same ∙ ap Hosts e) | inr later ↦ absurd (none_in a later) ]
 host_acts (Wait s) x a is c = absurd cc
 host_acts (Run y) x a is c = absurd cc
 host_acts (Signal s) x a is c = absurd cc
 
 -- a point of a batch has no act of the host
-pub batch_acts : (d : Deed) → is_served_deed d ≡ true → host_of d ≡ None → list_all (λ a. not (is_host a)) (acts d) ≡ true
-batch_acts = let P : Deed → Type 0 = λ d. host_of d ≡ None → list_all (λ a. not (is_host a)) (acts d) ≡ true in
-    deed_cases P (λ x h is. absurd cc) (command_cases (λ c. P (Run c)) (λ b o n w is. refl) (λ es all is. elements es)) (λ s is. refl)
+pub batch_acts : (d : Action) → is_served_action d ≡ true → host_of d ≡ None → list_all (λ a. not (is_host a)) (acts d) ≡ true
+batch_acts = let P : Action → Type 0 = λ d. host_of d ≡ None → list_all (λ a. not (is_host a)) (acts d) ≡ true in
+    action_cases P (λ x h is. absurd cc) (command_cases (λ c. P (Run c)) (λ b o n w is. refl) (λ es all is. elements es)) (λ s is. refl)
   where
     elements : (es : List Element) → list_all (λ a. not (is_host a)) (map (Depends Barrier) es) ≡ true
     elements [] = refl
@@ -112,11 +112,11 @@ batch_acts = let P : Deed → Type 0 = λ d. host_of d ≡ None → list_all (λ
 -- the queue of the submit that is last is 0
 pub last_queue : (e q : ℕ) (past : Past) → is_served past ≡ true → LastSubmit e q past → q ≡ 0
 last_queue e q [] served last = absurd last
-last_queue e q (p ∷ past) served last = let s = served-cons p past served in go p.deed s.0 last (last_queue e q past s.1) where
+last_queue e q (p ∷ past) served last = let s = served-cons p past served in go p.action s.0 last (last_queue e q past s.1) where
   on : (x : Entry) → is_served_entry x ≡ true → IsSubmitOn q x → q ≡ 0
   on = let P : Entry → Type 0 = λ x. IsSubmitOn q x → q ≡ 0 in entry_cases P (λ i b t is other h. absurd h) (λ b h. absurd h) (λ b o n h. absurd h) (λ i v h. absurd h) (λ ws h. absurd h) (λ bs h. h)
 
-  go : (d : Deed) → is_served_deed d ≡ true → LastBy (host_of d) e q p (LastSubmit e q past) → (LastSubmit e q past → q ≡ 0) → q ≡ 0
+  go : (d : Action) → is_served_action d ≡ true → LastBy (host_of d) e q p (LastSubmit e q past) → (LastSubmit e q past → q ≡ 0) → q ≡ 0
   go (Host x) h last rest = on x h last.1
   go (Wait s) h last rest = rest last
   go (Run c) h last rest = rest last
@@ -125,13 +125,13 @@ last_queue e q (p ∷ past) served last = let s = served-cons p past served in g
 -- nodes of batches are on queue 0
 pub on_queue_0 : (past : Past) → is_served past ≡ true → IsPlain past → (n : Node) → Contains (nodes past) n → is_host n.act ≡ false → n.point.queue ≡ 0
 on_queue_0 [] served plain n c is = absurd (none_in n c)
-on_queue_0 (p ∷ past) served plain n c is = let s = served-cons p past served in elim (with_member p (acts p.deed) (nodes past) n c) [
+on_queue_0 (p ∷ past) served plain n c is = let s = served-cons p past served in elim (with_member p (acts p.action) (nodes past) n c) [
   | inl older ↦ on_queue_0 past s.1 plain.1 n older is
-  | inr new ↦ ap (λ (q : Point). q.queue) new.0 ∙ by_host_of (host_of p.deed) refl plain.0 new.1
+  | inr new ↦ ap (λ (q : Point). q.queue) new.0 ∙ by_host_of (host_of p.action) refl plain.0 new.1
 ] where
-  by_host_of : (o : Option Entry) → host_of p.deed ≡ o → Placed o p past → Contains (acts p.deed) n.act → p.queue ≡ 0
+  by_host_of : (o : Option Entry) → host_of p.action ≡ o → Placed o p past → Contains (acts p.action) n.act → p.queue ≡ 0
   by_host_of None e placed at = last_queue p.entry p.queue past (served-cons p past served).1 placed
-  by_host_of (Some x) e placed at = clash (ap is_host (host_acts p.deed x n.act e at)) is
+  by_host_of (Some x) e placed at = clash (ap is_host (host_acts p.action x n.act e at)) is
 
 -- served host entries signal nothing
 pub signals_none : (x : Entry) → is_served_entry x ≡ true → signal_in x ≡ None
@@ -140,18 +140,18 @@ signals_none = let P : Entry → Type 0 = λ x. signal_in x ≡ None in entry_ca
 -- what an act signals is by a batch's signal
 pub signals_by : (past : Past) → is_served past ≡ true → (n : Node) → Contains (nodes past) n → (x : ℕ × ℕ) → signaled_by n.act ≡ Some x → is_signal n.act ≡ true
 signals_by [] served n c x is = absurd (none_in n c)
-signals_by (p ∷ past) served n c x is = let s = served-cons p past served in elim (with_member p (acts p.deed) (nodes past) n c) [
+signals_by (p ∷ past) served n c x is = let s = served-cons p past served in elim (with_member p (acts p.action) (nodes past) n c) [
   | inl older ↦ signals_by past s.1 n older x is
-  | inr new ↦ by_act p.deed s.0 new.1 n.act refl
+  | inr new ↦ by_act p.action s.0 new.1 n.act refl
 ] where
-  by_act : (d : Deed) → is_served_deed d ≡ true → Contains (acts d) n.act → (a : Act) → n.act ≡ a → is_signal a ≡ true
+  by_act : (d : Action) → is_served_action d ≡ true → Contains (acts d) n.act → (a : Act) → n.act ≡ a → is_signal a ≡ true
   by_act d h at (Signals s) e = refl
   by_act d h at (Waits s) e = absurd (let bad : None ≡ Some x = sym (ap signaled_by e) ∙ is in cc)
   by_act d h at (Runs c) e = absurd (let bad : None ≡ Some x = sym (ap signaled_by e) ∙ is in cc)
   by_act d h at (Depends r f) e = absurd (let bad : None ≡ Some x = sym (ap signaled_by e) ∙ is in cc)
-  by_act d h at (Hosts y) e = absurd (let bad : signal_in y ≡ Some x = sym (ap signaled_by e) ∙ is in by_deed d h (subst (λ (a : Act). Contains (acts d) a) e at) bad) where
-    by_deed : (d : Deed) → is_served_deed d ≡ true → Contains (acts d) (Hosts y) → signal_in y ≡ Some x → ⊥
-    by_deed (Host z) h at bad = let same : Hosts y ≡ Hosts z = host_acts (Host z) z (Hosts y) refl at in let e : z ≡ y = cc in let none : signal_in z ≡ None = signals_none z h in let also : signal_in z ≡ Some x = ap signal_in e ∙ bad in cc
-    by_deed (Wait s) h at bad = cc
-    by_deed (Run c) h at bad = let b = all_passes (λ a. not (is_host a)) (acts (Run c)) (Hosts y) (batch_acts (Run c) h refl) at in cc
-    by_deed (Signal s) h at bad = let b = all_passes (λ a. not (is_host a)) (acts (Signal s)) (Hosts y) (batch_acts (Signal s) refl refl) at in cc
+  by_act d h at (Hosts y) e = absurd (let bad : signal_in y ≡ Some x = sym (ap signaled_by e) ∙ is in by_action d h (subst (λ (a : Act). Contains (acts d) a) e at) bad) where
+    by_action : (d : Action) → is_served_action d ≡ true → Contains (acts d) (Hosts y) → signal_in y ≡ Some x → ⊥
+    by_action (Host z) h at bad = let same : Hosts y ≡ Hosts z = host_acts (Host z) z (Hosts y) refl at in let e : z ≡ y = cc in let none : signal_in z ≡ None = signals_none z h in let also : signal_in z ≡ Some x = ap signal_in e ∙ bad in cc
+    by_action (Wait s) h at bad = cc
+    by_action (Run c) h at bad = let b = all_passes (λ a. not (is_host a)) (acts (Run c)) (Hosts y) (batch_acts (Run c) h refl) at in cc
+    by_action (Signal s) h at bad = let b = all_passes (λ a. not (is_host a)) (acts (Signal s)) (Hosts y) (batch_acts (Signal s) refl refl) at in cc

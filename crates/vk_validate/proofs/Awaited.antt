@@ -6,13 +6,13 @@ use Rattle.std.proofs.lemmas.Bool.{eqb-true, eq-eqb, or_cases, or_right}
 use Rattle.vk_model.specs.declared.entry.Entry.{Entry}
 use Rattle.vk_model.specs.declared.entry.Entry.TheVariants as entry
 use Rattle.vk_model.specs.Words.{holds}
-use Rattle.vk_model.specs.Point.{Past, Deed, Host, Wait, Run, Signal, host_of, entries}
+use Rattle.vk_model.specs.Point.{Past, Action, Host, Wait, Run, Signal, host_of, entries}
 use Rattle.vk_model.specs.Objects.{made, made_by, initial, semaphore_in}
 use Rattle.vk_model.specs.Order.{value_for}
 use Rattle.vk_model.specs.Node.{Node, Act, Hosts, Waits, Signals, Runs, Depends, acts, nodes, with_acts}
 use Rattle.vk_model.specs.Edge.{signaled_by, values_to, initial_by, is_enough, is_host}
 use Rattle.vk_validate.specs.Cleared.{IsCleared}
-use Rattle.vk_validate.specs.Served.{is_served_deed}
+use Rattle.vk_validate.specs.Served.{is_served_action}
 use Rattle.vk_validate.proofs.Members.{none_in, contains-cons, contains-head, contains-tail, all_passes, some_member, member_passes}
 use Rattle.vk_validate.proofs.Acts.{with_member, with_keeps, host_acts, batch_acts}
 use Rattle.vk_validate.proofs.Reach.{kept_made}
@@ -59,9 +59,9 @@ value_signaled f (n ∷ ns) s e = go (value_signaled f ns s) (signaled_by n.act)
 -- a node that gives a semaphore its initial value is of the entry that made it
 initial_node : (past : Past) → IsCleared past → (n : Node) (s u : ℕ) → Contains (nodes past) n → initial_by s n.act ≡ Some u → initial past s ≡ Some u
 initial_node [] cleared n s u c is = absurd (none_in n c)
-initial_node (p ∷ past) cleared n s u c is = elim (with_member p (acts p.deed) (nodes past) n c) [
+initial_node (p ∷ past) cleared n s u c is = elim (with_member p (acts p.action) (nodes past) n c) [
   | inl older ↦ stays (initial_node past cleared.1 n s u older is)
-  | inr new ↦ by_deed p.deed refl new.1
+  | inr new ↦ by_action p.action refl new.1
 ]
   where
     stays : initial past s ≡ Some u → option_and_then semaphore_in (made (p ∷ past) s) ≡ Some u
@@ -84,44 +84,44 @@ initial_node (p ∷ past) cleared n s u c is = elim (with_member p (acts p.deed)
     hosts_only (Runs t) e = absurd cc
     hosts_only (Depends t f) e = absurd cc
 
-    by_deed : (d : Deed) → p.deed ≡ d → Contains (acts d) n.act → option_and_then semaphore_in (find (λ x. holds (made_by x) (λ j. s == j)) (cons_option (host_of d) (entries past))) ≡ Some u
-    by_deed (Host x) at c = by_entry x (ap (λ (a : Act). initial_by s a) (sym (host_acts (Host x) x n.act refl c)) ∙ is)
-    by_deed (Wait t) at c = absurd (let h = hosts_only n.act is in let b = all_passes (λ a. not (is_host a)) (acts (Wait t)) n.act refl c in let bad : not (is_host (Hosts h.0)) ≡ true = ap (λ (a : Act). not (is_host a)) (sym h.1) ∙ b in cc)
-    by_deed (Run t) at c = absurd (let h = hosts_only n.act is in let b = all_passes (λ a. not (is_host a)) (acts (Run t)) n.act (batch_acts (Run t) (subst (λ (d : Deed). is_served_deed d ≡ true) at cleared.0.served) refl) c in let bad : not (is_host (Hosts h.0)) ≡ true = ap (λ (a : Act). not (is_host a)) (sym h.1) ∙ b in cc)
-    by_deed (Signal t) at c = absurd (let h = hosts_only n.act is in let b = all_passes (λ a. not (is_host a)) (acts (Signal t)) n.act refl c in let bad : not (is_host (Hosts h.0)) ≡ true = ap (λ (a : Act). not (is_host a)) (sym h.1) ∙ b in cc)
+    by_action : (d : Action) → p.action ≡ d → Contains (acts d) n.act → option_and_then semaphore_in (find (λ x. holds (made_by x) (λ j. s == j)) (cons_option (host_of d) (entries past))) ≡ Some u
+    by_action (Host x) at c = by_entry x (ap (λ (a : Act). initial_by s a) (sym (host_acts (Host x) x n.act refl c)) ∙ is)
+    by_action (Wait t) at c = absurd (let h = hosts_only n.act is in let b = all_passes (λ a. not (is_host a)) (acts (Wait t)) n.act refl c in let bad : not (is_host (Hosts h.0)) ≡ true = ap (λ (a : Act). not (is_host a)) (sym h.1) ∙ b in cc)
+    by_action (Run t) at c = absurd (let h = hosts_only n.act is in let b = all_passes (λ a. not (is_host a)) (acts (Run t)) n.act (batch_acts (Run t) (subst (λ (d : Action). is_served_action d ≡ true) at cleared.0.served) refl) c in let bad : not (is_host (Hosts h.0)) ≡ true = ap (λ (a : Act). not (is_host a)) (sym h.1) ∙ b in cc)
+    by_action (Signal t) at c = absurd (let h = hosts_only n.act is in let b = all_passes (λ a. not (is_host a)) (acts (Signal t)) n.act refl c in let bad : not (is_host (Hosts h.0)) ≡ true = ap (λ (a : Act). not (is_host a)) (sym h.1) ∙ b in cc)
 
 -- and the entry that made a semaphore has a node
 initial_stands : (past : Past) (s u : ℕ) → initial past s ≡ Some u → (n : Node) × Contains (nodes past) n × (initial_by s n.act ≡ Some u)
 initial_stands [] s u is = absurd cc
-initial_stands (p ∷ past) s u is = by_deed (λ e. later (initial_stands past s u e)) p.deed refl is where
+initial_stands (p ∷ past) s u is = by_action (λ e. later (initial_stands past s u e)) p.action refl is where
   later : ((n : Node) × Contains (nodes past) n × (initial_by s n.act ≡ Some u)) → (n : Node) × Contains (nodes (p ∷ past)) n × (initial_by s n.act ≡ Some u)
-  later found = (found.0, with_keeps p (acts p.deed) (nodes past) found.0 found.1, found.2)
+  later found = (found.0, with_keeps p (acts p.action) (nodes past) found.0 found.1, found.2)
 
-  here : (x : Entry) → p.deed ≡ Host x → initial_by s (Hosts x) ≡ Some u → (n : Node) × Contains (nodes (p ∷ past)) n × (initial_by s n.act ≡ Some u)
+  here : (x : Entry) → p.action ≡ Host x → initial_by s (Hosts x) ≡ Some u → (n : Node) × Contains (nodes (p ∷ past)) n × (initial_by s n.act ≡ Some u)
   here x at e =
       let n : Node = record { number = length (nodes past); point = p; act = Hosts x } in
-      (n, subst (λ (d : Deed). Contains (with_acts p (acts d) (nodes past)) n) (sym at) (contains-head n (nodes past)), e)
+      (n, subst (λ (d : Action). Contains (with_acts p (acts d) (nodes past)) n) (sym at) (contains-head n (nodes past)), e)
 
   of_semaphore : (x : Entry) → semaphore_in x ≡ Some u → made_by x ≡ Some s → initial_by s (Hosts x) ≡ Some u
   of_semaphore (entry.Semaphore i v) e f = let same : i ≡ s = cc in rw (eq-eqb i s same) e
   of_semaphore _ e f = absurd cc
 
   by_test : (initial past s ≡ Some u → (n : Node) × Contains (nodes (p ∷ past)) n × (initial_by s n.act ≡ Some u))
-      → (x : Entry) → p.deed ≡ Host x → (j : ℕ) → made_by x ≡ Some j → (t : Bool) → (s == j) ≡ t → option_and_then semaphore_in (cond t (Some x) (made past s)) ≡ Some u → (n : Node) × Contains (nodes (p ∷ past)) n × (initial_by s n.act ≡ Some u)
+      → (x : Entry) → p.action ≡ Host x → (j : ℕ) → made_by x ≡ Some j → (t : Bool) → (s == j) ≡ t → option_and_then semaphore_in (cond t (Some x) (made past s)) ≡ Some u → (n : Node) × Contains (nodes (p ∷ past)) n × (initial_by s n.act ≡ Some u)
   by_test next x at j m false t e = next e
   by_test next x at j m true t e = here x at (of_semaphore x e (m ∙ ap (λ (k : ℕ). Some k) (sym (eqb-true s j t))))
 
   by_made : (initial past s ≡ Some u → (n : Node) × Contains (nodes (p ∷ past)) n × (initial_by s n.act ≡ Some u))
-      → (x : Entry) → p.deed ≡ Host x → (o : Option ℕ) → made_by x ≡ o → option_and_then semaphore_in (cond (holds o (λ j. s == j)) (Some x) (made past s)) ≡ Some u → (n : Node) × Contains (nodes (p ∷ past)) n × (initial_by s n.act ≡ Some u)
+      → (x : Entry) → p.action ≡ Host x → (o : Option ℕ) → made_by x ≡ o → option_and_then semaphore_in (cond (holds o (λ j. s == j)) (Some x) (made past s)) ≡ Some u → (n : Node) × Contains (nodes (p ∷ past)) n × (initial_by s n.act ≡ Some u)
   by_made next x at None m e = next e
   by_made next x at (Some j) m e = by_test next x at j m (s == j) refl e
 
-  by_deed : (initial past s ≡ Some u → (n : Node) × Contains (nodes (p ∷ past)) n × (initial_by s n.act ≡ Some u))
-      → (d : Deed) → p.deed ≡ d → option_and_then semaphore_in (find (λ x. holds (made_by x) (λ j. s == j)) (cons_option (host_of d) (entries past))) ≡ Some u → (n : Node) × Contains (nodes (p ∷ past)) n × (initial_by s n.act ≡ Some u)
-  by_deed next (Host x) at e = by_made next x at (made_by x) refl e
-  by_deed next (Wait t) at e = next e
-  by_deed next (Run t) at e = next e
-  by_deed next (Signal t) at e = next e
+  by_action : (initial past s ≡ Some u → (n : Node) × Contains (nodes (p ∷ past)) n × (initial_by s n.act ≡ Some u))
+      → (d : Action) → p.action ≡ d → option_and_then semaphore_in (find (λ x. holds (made_by x) (λ j. s == j)) (cons_option (host_of d) (entries past))) ≡ Some u → (n : Node) × Contains (nodes (p ∷ past)) n × (initial_by s n.act ≡ Some u)
+  by_action next (Host x) at e = by_made next x at (made_by x) refl e
+  by_action next (Wait t) at e = next e
+  by_action next (Run t) at e = next e
+  by_action next (Signal t) at e = next e
 
 -- a wait needs no signal just where the initial value is enough
 pub enough_is : (past : Past) → IsCleared past → (s v : ℕ) → is_enough (nodes past) s v ≡ holds (initial past s) (nat_le v)

@@ -6,8 +6,8 @@ use Rattle.std.proofs.lemmas.List.Sums.{fold-append}
 use Rattle.vk_model.specs.declared.entry.Batch.{Batch}
 use Rattle.vk_model.specs.declared.entry.Entry.{Entry}
 use Rattle.vk_model.specs.declared.entry.Entry.TheVariants as entry
-use Rattle.vk_model.specs.Point.{Past, Deed, Wait, Run, Signal}
-use Rattle.vk_model.specs.Order.{Turn, deeds, taken, turn, turns_from, turns_of, plain_from, plain_order, host}
+use Rattle.vk_model.specs.Point.{Past, Action, Wait, Run, Signal}
+use Rattle.vk_model.specs.Order.{Turn, actions, taken, turn, turns_from, turns_of, plain_from, plain_order, host}
 use Rattle.vk_validate.specs.declared.steps.Step.{Step}
 use Rattle.vk_validate.specs.Told.{past_of, point_of, add}
 use Rattle.vk_validate.specs.Laid.{turn_at, laid_batch, laid_batches, laid_submit, laid_entries}
@@ -15,14 +15,14 @@ use Rattle.vk_validate.specs.Laid.{turn_at, laid_batch, laid_batches, laid_submi
 pub past_of-push : (ps : List Step) (p : Step) → past_of (ps ++ p ∷ []) ≡ point_of p ∷ past_of ps
 past_of-push ps p = fold-append add [] ps (p ∷ [])
 
-pub deeds-drop : {A : Type 0} (of : A → Deed) (t : Turn) (xs : List A) (k : ℕ) (d : A) (past : Past) → k < length xs → deeds of t k (drop k xs) past ≡ deeds of t (k + 1) (drop (k + 1) xs) (record { entry = t.entry; batch = t.batch; place = k; queue = t.queue; deed = of (get_or xs k d) } ∷ past)
-deeds-drop of t xs k d past lt = let e : drop k xs ≡ get_or xs k d ∷ drop (k + 1) xs = rw (add-one, drop-cons xs k d) refl in rw e refl
+pub actions-drop : {A : Type 0} (of : A → Action) (t : Turn) (xs : List A) (k : ℕ) (d : A) (past : Past) → k < length xs → actions of t k (drop k xs) past ≡ actions of t (k + 1) (drop (k + 1) xs) (record { entry = t.entry; batch = t.batch; place = k; queue = t.queue; action = of (get_or xs k d) } ∷ past)
+actions-drop of t xs k d past lt = let e : drop k xs ≡ get_or xs k d ∷ drop (k + 1) xs = rw (add-one, drop-cons xs k d) refl in rw e refl
 
-pub deeds-all : {A : Type 0} (of : A → Deed) (t : Turn) (xs : List A) (k : ℕ) (past : Past) → length xs ≤ k → deeds of t k (drop k xs) past ≡ past
-deeds-all of t xs k past le = rw (drop_all k xs le) refl
+pub actions-all : {A : Type 0} (of : A → Action) (t : Turn) (xs : List A) (k : ℕ) (past : Past) → length xs ≤ k → actions of t k (drop k xs) past ≡ past
+actions-all of t xs k past le = rw (drop_all k xs le) refl
 
 -- what the loops over the waits, commands and signals of a batch go by
-pub ruleset pushes = (deeds-drop, deeds-all, past_of-push)
+pub ruleset pushes = (actions-drop, actions-all, past_of-push)
 
 pub laid_batches-drop : (e q : ℕ) (bs : List Batch) (k : ℕ) (d : Batch) (past : Past) → k < length bs → laid_batches e q k (drop k bs) past ≡ laid_batches e q (k + 1) (drop (k + 1) bs) (laid_batch e k q (get_or bs k d) past)
 laid_batches-drop e q bs k d past lt = let is : drop k bs ≡ get_or bs k d ∷ drop (k + 1) bs = rw (add-one, drop-cons bs k d) refl in rw is refl
@@ -37,16 +37,16 @@ pub laid_entries-drop : (xs : List Entry) (k : ℕ) (d : Entry) (past : Past) �
 laid_entries-drop xs k d past lt = let is : drop k xs ≡ get_or xs k d ∷ drop (k + 1) xs = rw (add-one, drop-cons xs k d) refl in rw is refl
 
 -- what points keep of a batch is all that they read of it
-deeds-same : {A : Type 0} (of : A → Deed) (t u : Turn) → t.entry ≡ u.entry → t.batch ≡ u.batch → t.queue ≡ u.queue → (k : ℕ) (xs : List A) (past : Past) → deeds of t k xs past ≡ deeds of u k xs past
-deeds-same of t u e b q k [] past = refl
-deeds-same of t u e b q k (x ∷ xs) past = rw (e, b, q) (deeds-same of t u e b q (k + 1) xs _)
+actions-same : {A : Type 0} (of : A → Action) (t u : Turn) → t.entry ≡ u.entry → t.batch ≡ u.batch → t.queue ≡ u.queue → (k : ℕ) (xs : List A) (past : Past) → actions of t k xs past ≡ actions of u k xs past
+actions-same of t u e b q k [] past = refl
+actions-same of t u e b q k (x ∷ xs) past = rw (e, b, q) (actions-same of t u e b q (k + 1) xs _)
 
 laid-taken : (p : Past) (e q k : ℕ) (b : Batch) (past : Past) → laid_batch e k q b past ≡ taken (turn p e q k b) past
 unfolding laid_batch
 laid-taken p e q k b past =
     let t : Turn = turn_at e k q in let u : Turn = turn p e q k b in
-    deeds-same Signal t u refl refl refl 0 b.signals _
-    ∙ ap (deeds Signal u 0 b.signals) (deeds-same Run t u refl refl refl 0 b.commands _ ∙ ap (deeds Run u 0 b.commands) (deeds-same Wait t u refl refl refl 0 b.waits past))
+    actions-same Signal t u refl refl refl 0 b.signals _
+    ∙ ap (actions Signal u 0 b.signals) (actions-same Run t u refl refl refl 0 b.commands _ ∙ ap (actions Run u 0 b.commands) (actions-same Wait t u refl refl refl 0 b.waits past))
 
 laid-turns : (p : Past) (e q k : ℕ) (bs : List Batch) (past : Past) → laid_batches e q k bs past ≡ fold (λ p t. taken t p) past (turns_from p e q k bs)
 laid-turns p e q k [] past = refl

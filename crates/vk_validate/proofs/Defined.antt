@@ -13,15 +13,15 @@ use Rattle.vk_model.specs.World.{Byte, in_buffer, same_byte, World, Family, reso
 use Rattle.vk_model.specs.Moves.{Value, move, fill_size, buffer_size}
 use Rattle.vk_model.specs.Ownership.{family_of}
 use Rattle.vk_model.specs.Objects.{is_exclusive}
-use Rattle.vk_model.specs.Effect.{world, after_deed, after_command, after_element, moved, used, is_other, set_owner, without}
-use Rattle.vk_model.specs.Point.{Past, Point, Deed, Host, Run, host_of}
+use Rattle.vk_model.specs.Effect.{world, after_action, after_command, after_element, moved, used, is_other, set_owner, without}
+use Rattle.vk_model.specs.Point.{Past, Point, Action, Host, Run, host_of}
 use Rattle.vk_model.specs.RulesBytes.{breaks_read_undefined}
 use Rattle.vk_model.specs.Fault.{newest}
-use Rattle.vk_validate.specs.Served.{is_served_deed, is_memory}
+use Rattle.vk_validate.specs.Served.{is_served_action, is_memory}
 use Rattle.vk_validate.specs.Tests.{reads_unwritten}
 use Rattle.vk_validate.specs.Tabled.{writes_byte, last_writer}
 use Rattle.vk_validate.specs.Cleared.{IsCleared}
-use Rattle.vk_validate.proofs.Forms.{entry_cases, command_cases, deed_cases}
+use Rattle.vk_validate.proofs.Forms.{entry_cases, command_cases, action_cases}
 use Rattle.vk_validate.proofs.Plain.{IsPlain, Placed}
 use Rattle.vk_validate.proofs.Reach.{fills_low, served_of}
 use Rattle.vk_validate.proofs.Acts.{last_queue}
@@ -75,15 +75,15 @@ pub record IsKnown (past : Past) : Type 0 where
   pub owned : OwnedBy0 (world past)
   pub defined : (b k : ℕ) → is_none ((world past).value (in_buffer b k)) ≡ is_none (last_writer past b k)
 
-abbrev Becomes : Past → World → Deed → Type 0
+abbrev Becomes : Past → World → Action → Type 0
 Becomes past w d = OwnedBy0 w × ((b k : ℕ) → is_none (w.value (in_buffer b k)) ≡ is_none (if writes_byte past d b k then Some (length past) else last_writer past b k))
 
 known_next : (past : Past) (p : Point) → IsCleared (p ∷ past) → IsPlain (p ∷ past) → IsKnown past → IsKnown (p ∷ past)
-known_next past p cleared plain known = let h = by_deed p.deed cleared.0.served refl plain.0 in record { owned = h.0; defined = h.1 } where
+known_next past p cleared plain known = let h = by_action p.action cleared.0.served refl plain.0 in record { owned = h.0; defined = h.1 } where
   same : OwnedBy0 (world past) × ((b k : ℕ) → is_none ((world past).value (in_buffer b k)) ≡ is_none (last_writer past b k))
   same = (known.owned, known.defined)
 
-  fill : (b o : ℕ) (n : Length) (w : ℕ) → p.deed ≡ Run (cmd.Fill b o n w) → Becomes past (after_command past 0 (cmd.Fill b o n w) (world past)) (Run (cmd.Fill b o n w))
+  fill : (b o : ℕ) (n : Length) (w : ℕ) → p.action ≡ Run (cmd.Fill b o n w) → Becomes past (after_command past 0 (cmd.Fill b o n w) (world past)) (Run (cmd.Fill b o n w))
   fill b o n w is = (kept_owners.0, λ c k. by_test c k (b == c && within o size k && nat_lt k (2 ^ 64)) refl) where
     size : ℕ
     size = fill_size (buffer_size past b) o n
@@ -119,9 +119,9 @@ known_next past p cleared plain known = let h = by_deed p.deed cleared.0.served 
   on_0 : (c : Cmd) → Placed None p past → Becomes past (after_command past 0 c (world past)) (Run c) → Becomes past (after_command past (family_of p.queue) c (world past)) (Run c)
   on_0 c placed h = subst (λ (q : ℕ). Becomes past (after_command past (family_of q) c (world past)) (Run c)) (sym (last_queue p.entry p.queue past (served_of past cleared.1) placed)) h
 
-  by_deed : (d : Deed) → is_served_deed d ≡ true → p.deed ≡ d → Placed (host_of d) p past → Becomes past (after_deed past p.queue d (world past)) d
-  by_deed = let P : Deed → Type 0 = λ d. p.deed ≡ d → Placed (host_of d) p past → Becomes past (after_deed past p.queue d (world past)) d in
-      deed_cases P
+  by_action : (d : Action) → is_served_action d ≡ true → p.action ≡ d → Placed (host_of d) p past → Becomes past (after_action past p.queue d (world past)) d
+  by_action = let P : Action → Type 0 = λ d. p.action ≡ d → Placed (host_of d) p past → Becomes past (after_action past p.queue d (world past)) d in
+      action_cases P
       (entry_cases (λ x. P (Host x)) (λ i b t at other is placed. same) (λ b is placed. same) (λ b o n is placed. same) (λ i v is placed. same) (λ ws is placed. same) (λ bs is placed. same))
       (command_cases (λ c. P (Run c)) (λ b o n w is placed. on_0 (cmd.Fill b o n w) placed (fill b o n w is)) (λ es all is placed. on_0 (cmd.Barrier es) placed (barrier es all)))
       (λ s is placed. same)
@@ -137,10 +137,10 @@ undefined_bytes past known b o [] = refl
 undefined_bytes past known b o (k ∷ ks) = rw (known.defined b (o + k), undefined_bytes past known b o ks) refl
 
 -- READ_UNDEFINED finds what the test finds
-pub read_undefined_is : (past : Past) (p : Point) → IsCleared past → is_served_deed p.deed ≡ true → IsPlain past → breaks_read_undefined past p ≡ reads_unwritten past p.deed
+pub read_undefined_is : (past : Past) (p : Point) → IsCleared past → is_served_action p.action ≡ true → IsPlain past → breaks_read_undefined past p ≡ reads_unwritten past p.action
 read_undefined_is past p cleared now plain =
-    let P : Deed → Type 0 = λ d. breaks_read_undefined past (record p { deed = d }) ≡ reads_unwritten past d in
-    deed_cases P
+    let P : Action → Type 0 = λ d. breaks_read_undefined past (record p { action = d }) ≡ reads_unwritten past d in
+    action_cases P
     (entry_cases (λ x. P (Host x)) (λ i b t is other. refl) (λ b. refl) (λ b o n. undefined_bytes past (known past cleared plain) b o (below n)) (λ i v. refl) (λ ws. refl) (λ bs. refl))
     (command_cases (λ c. P (Run c)) (λ b o n w. refl) (λ es all. refl))
-    (λ s. refl) p.deed now
+    (λ s. refl) p.action now

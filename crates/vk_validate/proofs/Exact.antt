@@ -6,7 +6,7 @@ use Rattle.vk_model.specs.declared.rule.Rule.TheVariants as rule
 use Rattle.vk_model.specs.Words.{first_that}
 use Rattle.vk_model.specs.Point.{Past, Point}
 use Rattle.vk_model.specs.Rules.{breaks, rules, first_rule}
-use Rattle.vk_validate.specs.Served.{is_served, is_served_deed}
+use Rattle.vk_validate.specs.Served.{is_served, is_served_action}
 use Rattle.vk_validate.specs.Cleared.{tests, first_test, IsCleared}
 use Rattle.vk_validate.proofs.Plain.{IsPlain}
 use Rattle.vk_validate.proofs.Unbroken as unbroken
@@ -28,7 +28,7 @@ find_is {A} f g same (x ∷ xs) = rw (same x) (go (g x) (find_is f g same xs)) w
   go true e = refl
   go false e = e
 
-module _ (past : Past) (p : Point) (cleared : IsCleared past) (now : is_served_deed p.deed ≡ true) (plain : IsPlain (p ∷ past)) (apart : IsApart past) where
+module _ (past : Past) (p : Point) (cleared : IsCleared past) (now : is_served_action p.action ≡ true) (plain : IsPlain (p ∷ past)) (apart : IsApart past) where
   served : is_served past ≡ true
   served = served_of past cleared
 

@@ -12,8 +12,8 @@ use Rattle.vk_model.specs.Point.{Past, Point, at_of}
 use Rattle.vk_model.specs.Order.{plain_order}
 use Rattle.vk_model.specs.Rules.{first_rule, fault, first_fault}
 use Rattle.vk_validate.specs.declared.steps.Step.{Step}
-use Rattle.vk_validate.specs.Served.{is_served, is_served_deed}
-use Rattle.vk_validate.specs.Told.{past, past_of, point_of, deed_of, add, Walk}
+use Rattle.vk_validate.specs.Served.{is_served, is_served_action}
+use Rattle.vk_validate.specs.Told.{past, past_of, point_of, action_of, add, Walk}
 use Rattle.vk_validate.specs.Cleared.{first_test, IsClear, IsCleared}
 use Rattle.vk_validate.specs.Faults.{fault_by, told_rule, told_fault, tested_rule, tested_fault}
 use Rattle.vk_validate.specs.Acceptable.{IsAcceptable}
@@ -38,8 +38,8 @@ none_before None p (Some r) none = absurd cc
 -- a past in which no test tells a rule is cleared, and the other way round
 cleared_of : (past : Past) → fault_by tested_rule past ≡ None → IsCleared past
 cleared_of [] none = tt
-cleared_of (p ∷ past) none = let h = none_before (fault_by tested_rule past) p (tested_rule past p) none in (here (is_served_deed p.deed) refl h.1, cleared_of past h.0) where
-  here : (b : Bool) → is_served_deed p.deed ≡ b → (if b then first_test past p else Some rule.LiveId) ≡ None → IsClear past p
+cleared_of (p ∷ past) none = let h = none_before (fault_by tested_rule past) p (tested_rule past p) none in (here (is_served_action p.action) refl h.1, cleared_of past h.0) where
+  here : (b : Bool) → is_served_action p.action ≡ b → (if b then first_test past p else Some rule.LiveId) ≡ None → IsClear past p
   here true e none = record { served = e; clear = none }
   here false e none = absurd cc
 
@@ -50,8 +50,8 @@ none_tested (p ∷ past) cleared = rw (none_tested past cleared.1, cleared.0.ser
 -- ---- the tests tell what is to be told
 
 tested_rule_is : (past : Past) (p : Point) → IsCleared past → IsPlain (p ∷ past) → IsApart past → tested_rule past p ≡ told_rule past p
-tested_rule_is past p cleared plain apart = go (is_served_deed p.deed) refl where
-  go : (b : Bool) → is_served_deed p.deed ≡ b → (if b then first_test past p else Some rule.LiveId) ≡ (if b then first_rule past p else Some rule.LiveId)
+tested_rule_is past p cleared plain apart = go (is_served_action p.action) refl where
+  go : (b : Bool) → is_served_action p.action ≡ b → (if b then first_test past p else Some rule.LiveId) ≡ (if b then first_rule past p else Some rule.LiveId)
   go true e = first_test_is past p cleared e plain apart
   go false e = refl
 
@@ -107,7 +107,7 @@ fault_here : (past : Past) (p : Point) (r : Rule) → IsCleared past → tested_
 fault_here past p r cleared some = ap (λ (o : Option (At × Rule)). or_here o p (tested_rule past p)) (none_tested past cleared) ∙ ap (λ (o : Option Rule). or_here None p o) some
 
 module _ (h : Walk) (points : List Step) (k : ℕ) (here : h ≡ record { points = points; count = k }) (cleared : IsCleared (past h)) where
-  pub next : (n : Walk) (x : Step) → n ≡ record h { count = h.count + 1 } → slice_get points k ≡ Some x → is_served_deed (deed_of x.deed) ≡ true → first_test (past h) (point_of x) ≡ None → IsCleared (past n)
+  pub next : (n : Walk) (x : Step) → n ≡ record h { count = h.count + 1 } → slice_get points k ≡ Some x → is_served_action (action_of x.action) ≡ true → first_test (past h) (point_of x) ≡ None → IsCleared (past n)
   next n x new at served none =
       let w : Walk = record { points = points; count = k } in
       let is : past n ≡ point_of x ∷ past h = ap past (new ∙ ap (λ (v : Walk). record v { count = v.count + 1 }) here) ∙ past-next points k x at ∙ ap (λ (v : Walk). point_of x ∷ past v) (sym here) in

@@ -9,17 +9,17 @@ use Rattle.vk_model.specs.declared.command.Length.{Length}
 use Rattle.vk_model.specs.Words.{below, within}
 use Rattle.vk_model.specs.World.{Byte, in_buffer, same_byte}
 use Rattle.vk_model.specs.Moves.{buffer_size, fill_size}
-use Rattle.vk_model.specs.Point.{Past, Point, Deed, Host, Wait, Run, Signal}
+use Rattle.vk_model.specs.Point.{Past, Point, Action, Host, Wait, Run, Signal}
 use Rattle.vk_model.specs.Fault.{Comes, newest, older}
 use Rattle.vk_model.specs.Node.{Node, Act, Hosts, Waits, Signals, Runs, Depends, Barrier, nodes}
 use Rattle.vk_model.specs.Edge.{is_command}
 use Rattle.vk_model.specs.Access.{writes, is_in, bytes_of, writes_of}
 use Rattle.vk_validate.specs.Cleared.{IsCleared}
-use Rattle.vk_validate.specs.Served.{is_served, is_served_deed}
+use Rattle.vk_validate.specs.Served.{is_served, is_served_action}
 use Rattle.vk_validate.specs.Tabled.{writes_byte, last_writer}
 use Rattle.vk_validate.proofs.Members.{none_in, contains-cons, any_map}
 use Rattle.vk_validate.proofs.Truths.{no}
-use Rattle.vk_validate.proofs.Forms.{command_cases, deed_cases}
+use Rattle.vk_validate.proofs.Forms.{command_cases, action_cases}
 use Rattle.vk_validate.proofs.Pasts.{served-cons}
 use Rattle.vk_validate.proofs.Acts.{with_member, served_node, is_served_act}
 use Rattle.vk_validate.proofs.Hazards.{writes_none, fill-targets}
@@ -48,31 +48,31 @@ comes_shorter past before q newest = omega arith
 comes_shorter past before q (older {past = rest} c) = let lt = comes_shorter rest before q c in omega (arith, lt)
 
 -- the last writer of a byte isn't before another
-pub last_from : (past before : Past) (q : Point) (b k : ℕ) → Comes past before q → writes_byte before q.deed b k ≡ true → (m : ℕ) × (last_writer past b k ≡ Some m) × (length before ≤ m)
+pub last_from : (past before : Past) (q : Point) (b k : ℕ) → Comes past before q → writes_byte before q.action b k ≡ true → (m : ℕ) × (last_writer past b k ≡ Some m) × (length before ≤ m)
 last_from past before q b k newest writes_it = (length before, rw writes_it refl, omega arith)
-last_from past before q b k (older {past = rest} {q = p} c) writes_it = go (writes_byte rest p.deed b k) refl (last_from rest before q b k c writes_it) where
-  go : (t : Bool) → writes_byte rest p.deed b k ≡ t → ((m : ℕ) × (last_writer rest b k ≡ Some m) × (length before ≤ m)) → (m : ℕ) × (last_writer (p ∷ rest) b k ≡ Some m) × (length before ≤ m)
+last_from past before q b k (older {past = rest} {q = p} c) writes_it = go (writes_byte rest p.action b k) refl (last_from rest before q b k c writes_it) where
+  go : (t : Bool) → writes_byte rest p.action b k ≡ t → ((m : ℕ) × (last_writer rest b k ≡ Some m) × (length before ≤ m)) → (m : ℕ) × (last_writer (p ∷ rest) b k ≡ Some m) × (length before ≤ m)
   go true e found = (length rest, rw e refl, (let lt = comes_shorter rest before q c in omega (arith, lt)))
   go false e found = (found.0, rw e found.1, found.2)
 
 -- and is a point that writes it
-pub last_is : (past : Past) (b k m : ℕ) → last_writer past b k ≡ Some m → (before : Past) × (q : Point) × Comes past before q × (m ≡ length before) × (writes_byte before q.deed b k ≡ true)
+pub last_is : (past : Past) (b k m : ℕ) → last_writer past b k ≡ Some m → (before : Past) × (q : Point) × Comes past before q × (m ≡ length before) × (writes_byte before q.action b k ≡ true)
 last_is [] b k m e = absurd cc
-last_is (p ∷ past) b k m e = go (writes_byte past p.deed b k) refl e (last_is past b k m) where
-  go : (t : Bool) → writes_byte past p.deed b k ≡ t → cond t (Some (length past)) (last_writer past b k) ≡ Some m → (last_writer past b k ≡ Some m → (before : Past) × (q : Point) × Comes past before q × (m ≡ length before) × (writes_byte before q.deed b k ≡ true))
-      → (before : Past) × (q : Point) × Comes (p ∷ past) before q × (m ≡ length before) × (writes_byte before q.deed b k ≡ true)
+last_is (p ∷ past) b k m e = go (writes_byte past p.action b k) refl e (last_is past b k m) where
+  go : (t : Bool) → writes_byte past p.action b k ≡ t → cond t (Some (length past)) (last_writer past b k) ≡ Some m → (last_writer past b k ≡ Some m → (before : Past) × (q : Point) × Comes past before q × (m ≡ length before) × (writes_byte before q.action b k ≡ true))
+      → (before : Past) × (q : Point) × Comes (p ∷ past) before q × (m ≡ length before) × (writes_byte before q.action b k ≡ true)
   go true w e rest = (past, p, newest, (let same : length past ≡ m = cc in sym same), w)
   go false w e rest = let found = rest e in (found.0, found.1, older found.2, found.3, found.4)
 
 -- a fill that writes a byte
-pub record IsFillOfByte (d : Deed) (before : Past) (b k : ℕ) : Type 0 where
+pub record IsFillOfByte (d : Action) (before : Past) (b k : ℕ) : Type 0 where
   pub offset : ℕ
   pub size : Length
   pub word : ℕ
   pub is : d ≡ Run (cmd.Fill b offset size word)
   pub inside : within offset (fill_size (buffer_size before b) offset size) k ≡ true
 
-pub fill_of : (d : Deed) (before : Past) (b k : ℕ) → writes_byte before d b k ≡ true → IsFillOfByte d before b k
+pub fill_of : (d : Action) (before : Past) (b k : ℕ) → writes_byte before d b k ≡ true → IsFillOfByte d before b k
 fill_of (Run (cmd.Fill c o n w)) before b k e =
     let outer = and_parts (c == b && within o (fill_size (buffer_size before c) o n) k) (nat_lt k (2 ^ 64)) e in
     let inner = and_parts (c == b) (within o (fill_size (buffer_size before c) o n) k) outer.0 in
@@ -91,7 +91,7 @@ fill_of (Host x) before c k e = no e
 fill_of (Wait s) before c k e = no e
 fill_of (Signal s) before c k e = no e
 
-pub fills_it : (before : Past) (d : Deed) (b c o : ℕ) (n : Length) (w k : ℕ) → d ≡ Run (cmd.Fill c o n w) → (c == b) ≡ true → within o (fill_size (buffer_size before c) o n) k ≡ true → k < 2 ^ 64 → writes_byte before d b k ≡ true
+pub fills_it : (before : Past) (d : Action) (b c o : ℕ) (n : Length) (w k : ℕ) → d ≡ Run (cmd.Fill c o n w) → (c == b) ≡ true → within o (fill_size (buffer_size before c) o n) k ≡ true → k < 2 ^ 64 → writes_byte before d b k ≡ true
 fills_it before d b c o n w k is same inside fits = rw (is, same, inside, lt-ltb k (2 ^ 64) fits) refl
 
 -- ---- nodes of fills
@@ -100,7 +100,7 @@ abbrev pub fill_node : Past → Point → Cmd → Node
 fill_node before q c = record { number = length (nodes before); point = q; act = Runs c }
 
 -- the fill of a point has a node
-pub fill_stands : (past before : Past) (q : Point) (b o : ℕ) (n : Length) (w : ℕ) → Comes past before q → q.deed ≡ Run (cmd.Fill b o n w) → IsCommandAt past (fill_node before q (cmd.Fill b o n w)) (length before)
+pub fill_stands : (past before : Past) (q : Point) (b o : ℕ) (n : Length) (w : ℕ) → Comes past before q → q.action ≡ Run (cmd.Fill b o n w) → IsCommandAt past (fill_node before q (cmd.Fill b o n w)) (length before)
 fill_stands past before q b o n w newest is = inl (record { command = cmd.Fill b o n w; runs = is; alone = refl; node_is = refl; count = refl })
 fill_stands past before q b o n w (older {past = rest} c) is = inr (fill_stands rest before q b o n w c is)
 
@@ -108,13 +108,13 @@ fill_stands past before q b o n w (older {past = rest} c) is = inr (fill_stands 
 pub record IsFillNode (past : Past) (x : Node) (c : Cmd) : Type 0 where
   pub before : Past
   pub comes : Comes past before x.point
-  pub runs_it : x.point.deed ≡ Run c
+  pub runs_it : x.point.action ≡ Run c
   pub at : IsCommandAt past x (length before)
 
 pub fill_point : (past : Past) → is_served past ≡ true → (x : Node) (c : Cmd) → Contains (nodes past) x → x.act ≡ Runs c → IsFillNode past x c
 fill_point [] served x c at is = absurd (none_in x at)
-fill_point (p ∷ past) served x c at is = let s = served-cons p past served in by_deed p.deed s.0 at (λ old. fill_point past s.1 x c old is) where
-  later : (d : Deed) → IsFillNode past x c → IsFillNode (record p { deed = d } ∷ past) x c
+fill_point (p ∷ past) served x c at is = let s = served-cons p past served in by_action p.action s.0 at (λ old. fill_point past s.1 x c old is) where
+  later : (d : Action) → IsFillNode past x c → IsFillNode (record p { action = d } ∷ past) x c
   later d old = record { before = old.before; comes = older old.comes; runs_it = old.runs_it; at = inr old.at }
 
   other : {A : Type 0} (a : Act) → a ≡ x.act → ((d : Cmd) → a ≡ Runs d → ⊥) → A
@@ -124,37 +124,37 @@ fill_point (p ∷ past) served x c at is = let s = served-cons p past served in 
   elements [] h = none_in x.act h
   elements (e ∷ es) h = elim (contains-cons (Depends Barrier e) (map (Depends Barrier) es) x.act h) [ inl same ↦ (let bad : Depends Barrier e ≡ Runs c = same ∙ is in cc) | inr more ↦ elements es more ]
 
-  by_deed : (d : Deed) → is_served_deed d ≡ true → Contains (nodes (record p { deed = d } ∷ past)) x → (Contains (nodes past) x → IsFillNode past x c) → IsFillNode (record p { deed = d } ∷ past) x c
-  by_deed = let P : Deed → Type 0 = λ d. Contains (nodes (record p { deed = d } ∷ past)) x → (Contains (nodes past) x → IsFillNode past x c) → IsFillNode (record p { deed = d } ∷ past) x c in
-      deed_cases P
-      (λ y h at rest. elim (contains-cons (record { number = length (nodes past); point = record p { deed = Host y }; act = Hosts y }) (nodes past) x at) [
+  by_action : (d : Action) → is_served_action d ≡ true → Contains (nodes (record p { action = d } ∷ past)) x → (Contains (nodes past) x → IsFillNode past x c) → IsFillNode (record p { action = d } ∷ past) x c
+  by_action = let P : Action → Type 0 = λ d. Contains (nodes (record p { action = d } ∷ past)) x → (Contains (nodes past) x → IsFillNode past x c) → IsFillNode (record p { action = d } ∷ past) x c in
+      action_cases P
+      (λ y h at rest. elim (contains-cons (record { number = length (nodes past); point = record p { action = Host y }; act = Hosts y }) (nodes past) x at) [
         | inl same ↦ other (Hosts y) (ap (λ (n : Node). n.act) same) (λ d e. cc)
         | inr old ↦ later (Host y) (rest old)
       ])
       (command_cases (λ c. P (Run c))
-      (λ b o n w at rest. elim (contains-cons (fill_node past (record p { deed = Run (cmd.Fill b o n w) }) (cmd.Fill b o n w)) (nodes past) x at) [
+      (λ b o n w at rest. elim (contains-cons (fill_node past (record p { action = Run (cmd.Fill b o n w) }) (cmd.Fill b o n w)) (nodes past) x at) [
         | inl same ↦ here b o n w same
         | inr old ↦ later (Run (cmd.Fill b o n w)) (rest old)
       ])
-      (λ es all at rest. elim (with_member (record p { deed = Run (cmd.Barrier es) }) (map (Depends Barrier) es) (nodes past) x at) [
+      (λ es all at rest. elim (with_member (record p { action = Run (cmd.Barrier es) }) (map (Depends Barrier) es) (nodes past) x at) [
         | inl old ↦ later (Run (cmd.Barrier es)) (rest old)
         | inr new ↦ absurd (elements es new.1)
       ]))
-      (λ s at rest. elim (contains-cons (record { number = length (nodes past); point = record p { deed = Signal s }; act = Signals s }) (nodes past) x at) [
+      (λ s at rest. elim (contains-cons (record { number = length (nodes past); point = record p { action = Signal s }; act = Signals s }) (nodes past) x at) [
         | inl same ↦ other (Signals s) (ap (λ (n : Node). n.act) same) (λ d e. cc)
         | inr old ↦ later (Signal s) (rest old)
       ])
     where
-      here : (b o : ℕ) (n : Length) (w : ℕ) → fill_node past (record p { deed = Run (cmd.Fill b o n w) }) (cmd.Fill b o n w) ≡ x → IsFillNode (record p { deed = Run (cmd.Fill b o n w) } ∷ past) x c
+      here : (b o : ℕ) (n : Length) (w : ℕ) → fill_node past (record p { action = Run (cmd.Fill b o n w) }) (cmd.Fill b o n w) ≡ x → IsFillNode (record p { action = Run (cmd.Fill b o n w) } ∷ past) x c
       here b o n w same =
-          let pt : Point = record p { deed = Run (cmd.Fill b o n w) } in
+          let pt : Point = record p { action = Run (cmd.Fill b o n w) } in
           let point_is : pt ≡ x.point = ap (λ (m : Node). m.point) same in
           let act_is : Runs (cmd.Fill b o n w) ≡ Runs c = ap (λ (m : Node). m.act) same ∙ is in
           let command_is : cmd.Fill b o n w ≡ c = cc in
           record {
             before = past;
             comes = subst (λ (q : Point). Comes (pt ∷ past) past q) point_is newest;
-            runs_it = subst (λ (q : Point). q.deed ≡ Run c) point_is (ap Run command_is);
+            runs_it = subst (λ (q : Point). q.action ≡ Run c) point_is (ap Run command_is);
             at = inl (record { command = cmd.Fill b o n w; runs = refl; alone = refl; node_is = sym same; count = refl });
           }
 
@@ -204,7 +204,7 @@ module _ (past : Past) (cleared : IsCleared past) (pt : Point) (same_size : (c :
         let high : k < o + fill_size (buffer_size at.before c) o n = subst (λ (s : ℕ). k < o + fill_size s o n) size_is in_range.2 in
         let inside : within o (fill_size (buffer_size at.before c) o n) k ≡ true = rw (le-leb o k low, lt-ltb k (o + fill_size (buffer_size at.before c) o n) high) refl in
         let fits : k < 2 ^ 64 = fills_low past at.before x.point c o n w k cleared at.comes at.runs_it inside in
-        let writes_it : writes_byte at.before x.point.deed b k ≡ true = fills_it at.before x.point.deed b c o n w k at.runs_it (eq-eqb c b (sym in_range.0)) inside fits in
+        let writes_it : writes_byte at.before x.point.action b k ≡ true = fills_it at.before x.point.action b c o n w k at.runs_it (eq-eqb c b (sym in_range.0)) inside fits in
         let last = last_from past at.before x.point b k at.comes writes_it in
         record { command = cmd.Fill c o n w; runs_it = is; number = length at.before; at = at.at; last = last.0; last_is_it = last.1; not_after = last.2 }
 
@@ -224,7 +224,7 @@ module _ (past : Past) (cleared : IsCleared past) (pt : Point) (same_size : (c :
   pub last_node : (b k m : ℕ) → last_writer past b k ≡ Some m → IsLastNode b k m
   last_node b k m e =
       let from = last_is past b k m e in
-      let fill = fill_of from.1.deed from.0 b k from.4 in
+      let fill = fill_of from.1.action from.0 b k from.4 in
       let c : Cmd = cmd.Fill b fill.offset fill.size fill.word in
       let x : Node = fill_node from.0 from.1 c in
       let at : IsCommandAt past x (length from.0) = fill_stands past from.0 from.1 b fill.offset fill.size fill.word from.2 fill.is in

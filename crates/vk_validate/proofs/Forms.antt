@@ -14,8 +14,8 @@ use Rattle.vk_model.specs.declared.entry.SemaphoreValue.{SemaphoreValue}
 use Rattle.vk_model.specs.declared.resource.BufferInfo.{BufferInfo}
 use Rattle.vk_model.specs.declared.resource.Place.{Place}
 use Rattle.vk_model.specs.declared.resource.Place.TheVariants as place
-use Rattle.vk_model.specs.Point.{Deed, Host, Wait, Run, Signal}
-use Rattle.vk_validate.specs.Served.{is_served_deed, is_served_entry, is_served_place, is_served_command, is_memory}
+use Rattle.vk_model.specs.Point.{Action, Host, Wait, Run, Signal}
+use Rattle.vk_validate.specs.Served.{is_served_action, is_served_entry, is_served_place, is_served_command, is_memory}
 
 module _ (P : Entry → Type 0)
     (buffer : (i : ℕ) (b : BufferInfo) (t : ℕ) → b.place ≡ place.Dedicated t → (t == 2) ≡ false → P (entry.Buffer i b))
@@ -71,13 +71,13 @@ module _ (P : Cmd → Type 0)
   command_cases (cmd.Set v ms) e = absurd cc
   command_cases (cmd.Await v ms) e = absurd cc
 
-module _ (P : Deed → Type 0)
+module _ (P : Action → Type 0)
     (host : (x : Entry) → is_served_entry x ≡ true → P (Host x))
     (run : (c : Cmd) → is_served_command c ≡ true → P (Run c))
     (signal : (s : SemaphoreSubmit) → P (Signal s)) where
-  -- and of deeds
-  pub deed_cases : (d : Deed) → is_served_deed d ≡ true → P d
-  deed_cases (Host x) e = host x e
-  deed_cases (Wait s) e = absurd cc
-  deed_cases (Run c) e = run c e
-  deed_cases (Signal s) e = signal s
+  -- and of actions
+  pub action_cases : (d : Action) → is_served_action d ≡ true → P d
+  action_cases (Host x) e = host x e
+  action_cases (Wait s) e = absurd cc
+  action_cases (Run c) e = run c e
+  action_cases (Signal s) e = signal s

@@ -25,7 +25,7 @@ numbered_acts p (a ∷ more) ns numbered = numbered_acts p more (record { number
 -- the nodes of a past are numbered one after another
 pub numbered : (past : Past) → IsNumbered (nodes past)
 numbered [] = tt
-numbered (p ∷ past) = numbered_acts p (acts p.deed) (nodes past) (numbered past)
+numbered (p ∷ past) = numbered_acts p (acts p.action) (nodes past) (numbered past)
 
 -- ---- one node more
 

@@ -12,15 +12,15 @@ use Rattle.vk_model.specs.declared.entry.Entry.{Entry}
 use Rattle.vk_model.specs.World.{Byte, in_buffer}
 use Rattle.vk_model.specs.Words.{below, byte_of}
 use Rattle.vk_model.specs.Moves.{Move, moves, Value, move, fill_size, buffer_size}
-use Rattle.vk_model.specs.Point.{Past, Point, Deed, Host, Run, Signal, host_of}
+use Rattle.vk_model.specs.Point.{Past, Point, Action, Host, Run, Signal, host_of}
 use Rattle.vk_model.specs.Node.{Node, Act, Hosts, Waits, Signals, Runs, Depends, Barrier, acts, nodes, with_acts, SetOf, AwaitOf}
 use Rattle.vk_model.specs.Edge.{is_host, is_command}
 use Rattle.vk_model.specs.Before.{before}
 use Rattle.vk_model.specs.Access.{hazard, war, share, reads, writes, precedes, host_writes, writes_of, reads_of, origins, targets, bytes_of}
 use Rattle.vk_model.specs.RulesBytes.{breaks_hazard_war}
-use Rattle.vk_validate.specs.Served.{is_served, is_served_deed, is_served_entry}
+use Rattle.vk_validate.specs.Served.{is_served, is_served_action, is_served_entry}
 use Rattle.vk_validate.proofs.Members.{none_in, contains-cons, contains-head, contains-tail, all_passes, none_passes_any}
-use Rattle.vk_validate.proofs.Forms.{entry_cases, command_cases, deed_cases}
+use Rattle.vk_validate.proofs.Forms.{entry_cases, command_cases, action_cases}
 use Rattle.vk_validate.proofs.Plain.{IsPlain, Placed, LastSubmit}
 use Rattle.vk_validate.proofs.NextNodes.{lined, next_nodes-lined}
 use Rattle.vk_validate.proofs.Acts.{is_served_act, served_acts, served_node}
@@ -82,8 +82,8 @@ share_none bs = none_passes_any _ bs (λ b c. refl)
 -- ---- hazards
 
 -- no hazard, where no pair of a new node and another is one
-pub hazard_none : (kind : Past → Node → Node → Bool) (past : Past) (p : Point) → ((y : Node) → Contains (lined p (length (nodes past)) (acts p.deed)) y → (x : Node) → Contains (nodes (p ∷ past)) x → (precedes x y && kind (p ∷ past) x y) ≡ false) → hazard kind past p ≡ false
-hazard_none kind past p none = rw (next_nodes-lined past p) (none_passes_any _ (lined p (length (nodes past)) (acts p.deed)) (λ y cy. none_passes_any _ (nodes (p ∷ past)) (λ x cx. none y cy x cx)))
+pub hazard_none : (kind : Past → Node → Node → Bool) (past : Past) (p : Point) → ((y : Node) → Contains (lined p (length (nodes past)) (acts p.action)) y → (x : Node) → Contains (nodes (p ∷ past)) x → (precedes x y && kind (p ∷ past) x y) ≡ false) → hazard kind past p ≡ false
+hazard_none kind past p none = rw (next_nodes-lined past p) (none_passes_any _ (lined p (length (nodes past)) (acts p.action)) (λ y cy. none_passes_any _ (nodes (p ∷ past)) (λ x cx. none y cy x cx)))
 
 -- a node of a point that comes next has one of its acts, and a new number
 pub lined_act : (p : Point) (k : ℕ) (more : List Act) (y : Node) → Contains (lined p k more) y → Contains more y.act × (y.point ≡ p) × (k ≤ y.number)
@@ -99,8 +99,8 @@ idle_elements [] = refl
 idle_elements (e ∷ es) = idle_elements es
 
 -- no point of a served form breaks HAZARD_WAR
-pub no_hazard_war : (past : Past) (p : Point) → is_served past ≡ true → is_served_deed p.deed ≡ true → IsPlain (p ∷ past) → breaks_hazard_war past p ≡ false
-no_hazard_war past p served now plain = hazard_none war past p (by_deed p.deed now refl plain.0) where
+pub no_hazard_war : (past : Past) (p : Point) → is_served past ≡ true → is_served_action p.action ≡ true → IsPlain (p ∷ past) → breaks_hazard_war past p ≡ false
+no_hazard_war past p served now plain = hazard_none war past p (by_action p.action now refl plain.0) where
   unwritten : (y x : Node) → writes (p ∷ past) y ≡ [] → (precedes x y && war (p ∷ past) x y) ≡ false
   unwritten y x e = rw (e, share_none (reads (p ∷ past) x)) (and-false (precedes x y))
 
@@ -113,8 +113,8 @@ no_hazard_war past p served now plain = hazard_none war past p (by_deed p.deed n
   by_writer : (y : Node) → is_served_act y.act ≡ true → is_command y.act ≡ false → (x : Node) → (precedes x y && war (p ∷ past) x y) ≡ false
   by_writer y h is x = unwritten y x (writes_none (p ∷ past) y.point.queue y.act h is)
 
-  fill : (b o : ℕ) (n : Length) (w : ℕ) → p.deed ≡ Run (cmd.Fill b o n w) → LastSubmit p.entry p.queue past → (x : Node) → Contains (nodes (p ∷ past)) x → (precedes x (record { number = length (nodes past); point = p; act = Runs (cmd.Fill b o n w) }) && war (p ∷ past) x (record { number = length (nodes past); point = p; act = Runs (cmd.Fill b o n w) })) ≡ false
-  fill b o n w is last x cx = elim (contains-cons y (nodes past) x (subst (λ (d : Deed). Contains (with_acts p (acts d) (nodes past)) x) is cx)) [
+  fill : (b o : ℕ) (n : Length) (w : ℕ) → p.action ≡ Run (cmd.Fill b o n w) → LastSubmit p.entry p.queue past → (x : Node) → Contains (nodes (p ∷ past)) x → (precedes x (record { number = length (nodes past); point = p; act = Runs (cmd.Fill b o n w) }) && war (p ∷ past) x (record { number = length (nodes past); point = p; act = Runs (cmd.Fill b o n w) })) ≡ false
+  fill b o n w is last x cx = elim (contains-cons y (nodes past) x (subst (λ (d : Action). Contains (with_acts p (acts d) (nodes past)) x) is cx)) [
     | inl same ↦ subst (λ (z : Node). (precedes z y && war (p ∷ past) z y) ≡ false) same (rw (le-ltb (length (nodes past)) (length (nodes past)) (omega arith)) refl)
     | inr older ↦ by_host (is_host x.act) refl older
   ] where
@@ -122,17 +122,17 @@ no_hazard_war past p served now plain = hazard_none war past p (by_deed p.deed n
     y = record { number = length (nodes past); point = p; act = Runs (cmd.Fill b o n w) }
 
     by_host : (t : Bool) → is_host x.act ≡ t → Contains (nodes past) x → (precedes x y && war (p ∷ past) x y) ≡ false
-    by_host true host older = after y x (host_before past p y served last refl refl (subst (λ (d : Deed). Contains (with_acts p (acts d) (nodes past)) y) (sym is) (contains-head y (nodes past))) x older host)
+    by_host true host older = after y x (host_before past p y served last refl refl (subst (λ (d : Action). Contains (with_acts p (acts d) (nodes past)) y) (sym is) (contains-head y (nodes past))) x older host)
     by_host false host older = unread y x (reads_none (p ∷ past) x.point.queue x.act (served_node past served x older) host)
 
-  quiet : (d : Deed) → is_served_deed d ≡ true → list_all (λ a. not (is_command a)) (acts d) ≡ true → (y : Node) → Contains (lined p (length (nodes past)) (acts d)) y → (x : Node) → (precedes x y && war (p ∷ past) x y) ≡ false
+  quiet : (d : Action) → is_served_action d ≡ true → list_all (λ a. not (is_command a)) (acts d) ≡ true → (y : Node) → Contains (lined p (length (nodes past)) (acts d)) y → (x : Node) → (precedes x y && war (p ∷ past) x y) ≡ false
   quiet d h none y cy x =
       let m = lined_act p (length (nodes past)) (acts d) y cy in
       by_writer y (all_passes is_served_act (acts d) y.act (served_acts d h) m.0) (not-true (is_command y.act) (all_passes (λ a. not (is_command a)) (acts d) y.act none m.0)) x
 
-  by_deed : (d : Deed) → is_served_deed d ≡ true → p.deed ≡ d → Placed (host_of d) p past → (y : Node) → Contains (lined p (length (nodes past)) (acts d)) y → (x : Node) → Contains (nodes (p ∷ past)) x → (precedes x y && war (p ∷ past) x y) ≡ false
-  by_deed = let P : Deed → Type 0 = λ d. p.deed ≡ d → Placed (host_of d) p past → (y : Node) → Contains (lined p (length (nodes past)) (acts d)) y → (x : Node) → Contains (nodes (p ∷ past)) x → (precedes x y && war (p ∷ past) x y) ≡ false in
-      deed_cases P
+  by_action : (d : Action) → is_served_action d ≡ true → p.action ≡ d → Placed (host_of d) p past → (y : Node) → Contains (lined p (length (nodes past)) (acts d)) y → (x : Node) → Contains (nodes (p ∷ past)) x → (precedes x y && war (p ∷ past) x y) ≡ false
+  by_action = let P : Action → Type 0 = λ d. p.action ≡ d → Placed (host_of d) p past → (y : Node) → Contains (lined p (length (nodes past)) (acts d)) y → (x : Node) → Contains (nodes (p ∷ past)) x → (precedes x y && war (p ∷ past) x y) ≡ false in
+      action_cases P
       (λ x h is placed y cy z cz. quiet (Host x) h refl y cy z)
       (command_cases (λ c. P (Run c))
       (λ b o n w is placed y cy x cx. elim (contains-cons (record { number = length (nodes past); point = p; act = Runs (cmd.Fill b o n w) }) [] y cy) [

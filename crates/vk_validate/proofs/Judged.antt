@@ -11,18 +11,18 @@ use Rattle.vk_model.specs.Words.{holds, has_bits}
 use Rattle.vk_model.specs.World.{resource_at}
 use Rattle.vk_model.specs.Node.{acts}
 use Rattle.vk_model.specs.Access.{writes_of}
-use Rattle.vk_model.specs.Point.{Past, Point, Deed, Host, Run, entries}
+use Rattle.vk_model.specs.Point.{Past, Point, Action, Host, Run, entries}
 use Rattle.vk_model.specs.Objects.{made, made_by, live, buffer, buffer_in, resource_in, type_at, is_of_type, defrag_in}
 use Rattle.vk_model.specs.RulesSizes.{lacks, layout_lacks, breaks_usage}
 use Rattle.vk_model.specs.RulesMapping.{mapping, maps, unmaps, count_for, is_mapped, breaks_map_state, breaks_host_visible}
 use Rattle.vk_model.specs.RulesPasses.{some_pass, in_pass, breaks_pass_state, breaks_pass_write}
-use Rattle.vk_validate.specs.Served.{is_served, is_served_deed, is_served_entry}
+use Rattle.vk_validate.specs.Served.{is_served, is_served_action, is_served_entry}
 use Rattle.vk_validate.specs.Tests.{is_on_type_0, lacks_usage, reads_unmapped, maps_local}
 use Rattle.vk_validate.specs.Tabled.{was_mapped}
 use Rattle.vk_validate.proofs.Members.{none_passes_any}
 use Rattle.vk_validate.proofs.Truths.{or-false-false}
 use Rattle.vk_validate.proofs.Barriers.{memory_any}
-use Rattle.vk_validate.proofs.Forms.{entry_cases, command_cases, deed_cases}
+use Rattle.vk_validate.proofs.Forms.{entry_cases, command_cases, action_cases}
 use Rattle.vk_validate.proofs.Pasts.{served_entries, made_served, live_made, none_bound, none_moves, maps_itself}
 
 filter_none : {A : Type 0} (f : A → Bool) → ((x : A) → f x ≡ false) → (xs : List A) → filter f xs ≡ []
@@ -80,30 +80,30 @@ module _ (past : Past) (served : is_served past ≡ true) where
     go None e = refl
     go (Some x) e = by_form x (made_served past served b x e)
 
-  module _ (p : Point) (now : is_served_deed p.deed ≡ true) where
-    pub usage_is : breaks_usage past p ≡ lacks_usage past p.deed
+  module _ (p : Point) (now : is_served_action p.action ≡ true) where
+    pub usage_is : breaks_usage past p ≡ lacks_usage past p.action
     usage_is =
-        let P : Deed → Type 0 = λ d. breaks_usage past (record p { deed = d }) ≡ lacks_usage past d in
-        deed_cases P (entry_cases (λ x. P (Host x)) (λ i b t is other. or-false _) (λ b. refl) (λ b o n. refl) (λ i v. refl) (λ ws. refl) (λ bs. refl))
-        (command_cases (λ c. P (Run c)) (λ b o n w. rw (lacks_destination b) (or-false-false _)) (λ es all. memory_any (layout_lacks past) (λ d. refl) es all)) (λ s. refl) p.deed now
+        let P : Action → Type 0 = λ d. breaks_usage past (record p { action = d }) ≡ lacks_usage past d in
+        action_cases P (entry_cases (λ x. P (Host x)) (λ i b t is other. or-false _) (λ b. refl) (λ b o n. refl) (λ i v. refl) (λ ws. refl) (λ bs. refl))
+        (command_cases (λ c. P (Run c)) (λ b o n w. rw (lacks_destination b) (or-false-false _)) (λ es all. memory_any (layout_lacks past) (λ d. refl) es all)) (λ s. refl) p.action now
 
-    pub map_state_is : breaks_map_state past p ≡ reads_unmapped past p.deed
+    pub map_state_is : breaks_map_state past p ≡ reads_unmapped past p.action
     map_state_is =
-        let P : Deed → Type 0 = λ d. breaks_map_state past (record p { deed = d }) ≡ reads_unmapped past d in
-        deed_cases P (entry_cases (λ x. P (Host x)) (λ i b t is other. refl) (λ b. rw (none_bound past served b) refl) (λ b o n. ap not (mapped_once b)) (λ i v. refl) (λ ws. refl) (λ bs. refl))
-        (command_cases (λ c. P (Run c)) (λ b o n w. refl) (λ es all. refl)) (λ s. refl) p.deed now
+        let P : Action → Type 0 = λ d. breaks_map_state past (record p { action = d }) ≡ reads_unmapped past d in
+        action_cases P (entry_cases (λ x. P (Host x)) (λ i b t is other. refl) (λ b. rw (none_bound past served b) refl) (λ b o n. ap not (mapped_once b)) (λ i v. refl) (λ ws. refl) (λ bs. refl))
+        (command_cases (λ c. P (Run c)) (λ b o n w. refl) (λ es all. refl)) (λ s. refl) p.action now
 
-    pub host_visible_is : breaks_host_visible past p ≡ maps_local past p.deed
+    pub host_visible_is : breaks_host_visible past p ≡ maps_local past p.action
     host_visible_is =
-        let P : Deed → Type 0 = λ d. breaks_host_visible past (record p { deed = d }) ≡ maps_local past d in
-        deed_cases P (entry_cases (λ x. P (Host x)) (λ i b t is other. refl) (λ b. on_type_0 b) (λ b o n. refl) (λ i v. refl) (λ ws. refl) (λ bs. refl))
-        (command_cases (λ c. P (Run c)) (λ b o n w. refl) (λ es all. refl)) (λ s. refl) p.deed now
+        let P : Action → Type 0 = λ d. breaks_host_visible past (record p { action = d }) ≡ maps_local past d in
+        action_cases P (entry_cases (λ x. P (Host x)) (λ i b t is other. refl) (λ b. on_type_0 b) (λ b o n. refl) (λ i v. refl) (λ ws. refl) (λ bs. refl))
+        (command_cases (λ c. P (Run c)) (λ b o n w. refl) (λ es all. refl)) (λ s. refl) p.action now
 
     pub no_pass_state : breaks_pass_state past p ≡ false
     no_pass_state =
-        let P : Deed → Type 0 = λ d. breaks_pass_state past (record p { deed = d }) ≡ false in
-        deed_cases P (entry_cases (λ x. P (Host x)) (λ i b t is other. rw no_pass_open refl) (λ b. rw no_pass_open refl) (λ b o n. rw no_pass_open refl) (λ i v. rw no_pass_open refl) (λ ws. rw no_pass_open refl) (λ bs. rw no_pass_open refl))
-        (command_cases (λ c. P (Run c)) (λ b o n w. refl) (λ es all. refl)) (λ s. refl) p.deed now
+        let P : Action → Type 0 = λ d. breaks_pass_state past (record p { action = d }) ≡ false in
+        action_cases P (entry_cases (λ x. P (Host x)) (λ i b t is other. rw no_pass_open refl) (λ b. rw no_pass_open refl) (λ b o n. rw no_pass_open refl) (λ i v. rw no_pass_open refl) (λ ws. rw no_pass_open refl) (λ bs. rw no_pass_open refl))
+        (command_cases (λ c. P (Run c)) (λ b o n w. refl) (λ es all. refl)) (λ s. refl) p.action now
 
     pub no_pass_write : breaks_pass_write past p ≡ false
-    no_pass_write = none_passes_any _ (acts p.deed) (λ a c. none_passes_any _ (writes_of past p.queue a) (λ b d. none_moves past served (resource_at b)))
+    no_pass_write = none_passes_any _ (acts p.action) (λ a c. none_passes_any _ (writes_of past p.queue a) (λ b d. none_moves past served (resource_at b)))

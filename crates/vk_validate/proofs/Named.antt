@@ -8,19 +8,19 @@ use Rattle.vk_model.specs.declared.command.Element.TheVariants as element
 use Rattle.vk_model.specs.declared.entry.Entry.{Entry}
 use Rattle.vk_model.specs.declared.entry.SemaphoreValue.{SemaphoreValue}
 use Rattle.vk_model.specs.Words.{holds}
-use Rattle.vk_model.specs.Point.{Past, Point, Deed, Host, Run, host_of}
+use Rattle.vk_model.specs.Point.{Past, Point, Action, Host, Run, host_of}
 use Rattle.vk_model.specs.Objects.{made, live, buffer_in, semaphore_in, initial}
 use Rattle.vk_model.specs.RulesIds.{asked_by_element, is_semaphore, is_dead, breaks_live_id, until}
-use Rattle.vk_validate.specs.Served.{is_served, is_served_deed, is_memory}
+use Rattle.vk_validate.specs.Served.{is_served, is_served_action, is_memory}
 use Rattle.vk_validate.specs.Tests.{names_dead}
 use Rattle.vk_validate.proofs.Truths.{or-false-false}
-use Rattle.vk_validate.proofs.Forms.{entry_cases, command_cases, deed_cases}
+use Rattle.vk_validate.proofs.Forms.{entry_cases, command_cases, action_cases}
 use Rattle.vk_validate.proofs.Pasts.{served-cons, live_made}
 use Rattle.vk_validate.proofs.Plain.{LastSubmit, Placed, made_until}
 
 served_until : (e : ℕ) (past : Past) → is_served past ≡ true → is_served (until e past) ≡ true
 served_until e [] h = h
-served_until e (p ∷ past) h = go (p.entry == e && is_some (host_of p.deed)) (served-cons p past h).1 (served_until e past (served-cons p past h).1) where
+served_until e (p ∷ past) h = go (p.entry == e && is_some (host_of p.action)) (served-cons p past h).1 (served_until e past (served-cons p past h).1) where
   go : (b : Bool) → is_served past ≡ true → is_served (until e past) ≡ true → is_served (if b then past else until e past) ≡ true
   go true a b = a
   go false a b = b
@@ -47,11 +47,11 @@ module _ (past : Past) (served : is_served past ≡ true) where
   dead_until f e q i last =
       ap not (ap (λ o. holds o (λ x. is_some (f x))) (live_made (until e past) (served_until e past served) i ∙ made_until e q i past last) ∙ holds_then f (made past i))
 
-  pub live_id_is : (p : Point) → is_served_deed p.deed ≡ true → Placed (host_of p.deed) p past → breaks_live_id past p ≡ names_dead past p.deed
+  pub live_id_is : (p : Point) → is_served_action p.action ≡ true → Placed (host_of p.action) p past → breaks_live_id past p ≡ names_dead past p.action
   live_id_is p now placed =
-      let P : Deed → Type 0 = λ d. Placed (host_of d) p past → breaks_live_id past (record p { deed = d }) ≡ names_dead past d in
-      deed_cases P
+      let P : Action → Type 0 = λ d. Placed (host_of d) p past → breaks_live_id past (record p { action = d }) ≡ names_dead past d in
+      action_cases P
       (entry_cases (λ x. P (Host x)) (λ i b t is other last. rw is refl) (λ b last. or-false-false _ ∙ dead_is buffer_in b) (λ b o n last. or-false-false _ ∙ dead_is buffer_in b) (λ i v last. refl) (λ ws last. or-false _ ∙ dead_waits ws) (λ bs last. refl))
       (command_cases (λ c. P (Run c)) (λ b o n w last. or-false-false _ ∙ dead_until buffer_in p.entry p.queue b last) (λ es all last. rw (memory_asks es all) refl))
       (λ s last. or-false-false _ ∙ dead_until semaphore_in p.entry p.queue s.semaphore last)
-      p.deed now placed
+      p.action now placed

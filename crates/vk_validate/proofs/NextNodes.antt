@@ -48,11 +48,11 @@ onto_none [] = refl
 onto_none (x ∷ xs) = ap (λ (l : List Node). x ∷ l) (onto_none xs)
 
 -- the nodes of the next point are those of its acts
-pub next_nodes-lined : (past : Past) (p : Point) → next_nodes past p ≡ lined p (length (nodes past)) (acts p.deed)
+pub next_nodes-lined : (past : Past) (p : Point) → next_nodes past p ≡ lined p (length (nodes past)) (acts p.action)
 next_nodes-lined past p =
     let k : ℕ = length (nodes past) in
     let f : Node → Bool = λ n. nat_le k n.number in
-    let m : List Node = lined p k (acts p.deed) in
-    ap (λ (l : List Node). reverse (filter f l)) (with_acts-lined p (acts p.deed) (nodes past))
-    ∙ ap reverse (filter-append f (reverse m) (nodes past) ∙ ap (λ (l : List Node). l ++ filter f (nodes past)) (high_numbers p k k (acts p.deed) (omega arith)) ∙ ap (λ (l : List Node). reverse m ++ l) (low_numbers k (nodes past) (numbered past) (omega arith)) ∙ onto_none (reverse m))
+    let m : List Node = lined p k (acts p.action) in
+    ap (λ (l : List Node). reverse (filter f l)) (with_acts-lined p (acts p.action) (nodes past))
+    ∙ ap reverse (filter-append f (reverse m) (nodes past) ∙ ap (λ (l : List Node). l ++ filter f (nodes past)) (high_numbers p k k (acts p.action) (omega arith)) ∙ ap (λ (l : List Node). reverse m ++ l) (low_numbers k (nodes past) (numbered past) (omega arith)) ∙ onto_none (reverse m))
     ∙ reverse-reverse m

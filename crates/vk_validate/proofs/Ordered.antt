@@ -9,15 +9,15 @@ use Rattle.vk_model.specs.declared.command.Element.{Element}
 use Rattle.vk_model.specs.declared.entry.Entry.{Entry}
 use Rattle.vk_model.specs.declared.entry.Entry.TheVariants as entry
 use Rattle.vk_model.specs.Words.{holds}
-use Rattle.vk_model.specs.Point.{Past, Point, Deed, Host, Wait, Run, Signal, host_of}
+use Rattle.vk_model.specs.Point.{Past, Point, Action, Host, Wait, Run, Signal, host_of}
 use Rattle.vk_model.specs.Node.{Node, Act, Hosts, Waits, Signals, Runs, Depends, Barrier, acts, nodes, with_acts}
 use Rattle.vk_model.specs.Edge.{edge, signaled_by, is_host, is_signal, is_submit, by_host, by_stages, by_signal, by_all_commands, pairs, by_semaphore, earlier}
 use Rattle.vk_model.specs.Before.{before, Path, direct}
 use Rattle.vk_model.specs.RulesSync.{same_semaphore, breaks_signal_order}
-use Rattle.vk_validate.specs.Served.{is_served, is_served_deed}
+use Rattle.vk_validate.specs.Served.{is_served, is_served_action}
 use Rattle.vk_validate.proofs.Members.{contains-cons, contains-head, all_passes, none_passes_any}
 use Rattle.vk_validate.proofs.Truths.{first_of_six, third_of_six}
-use Rattle.vk_validate.proofs.Forms.{command_cases, deed_cases}
+use Rattle.vk_validate.proofs.Forms.{command_cases, action_cases}
 use Rattle.vk_validate.proofs.Pasts.{served-cons, served-next}
 use Rattle.vk_validate.proofs.Plain.{IsPlain, LastSubmit, LastBy, IsSubmitOn}
 use Rattle.vk_validate.proofs.Growth.{numbered, number_below}
@@ -39,7 +39,7 @@ signal_edge : (ns : List Node) (m n : Node) → m.number < n.number → is_signa
 unfolding edge
 signal_edge ns m n lt sm sn q = rw (lt-ltb m.number n.number lt) (third_of_six (by_host m n) (by_stages m n) (by_signal m n) (by_all_commands m n) (pairs m.act n.act) (by_semaphore (earlier n ns) m n) (rw (signal_hosts m.act sm, signal_hosts n.act sn, eq-eqb m.point.queue n.point.queue q, sm, sn) refl))
 
-module _ (past : Past) (p : Point) (served : is_served past ≡ true) (now : is_served_deed p.deed ≡ true) (plain : IsPlain (p ∷ past)) where
+module _ (past : Past) (p : Point) (served : is_served past ≡ true) (now : is_served_action p.action ≡ true) (plain : IsPlain (p ∷ past)) where
   served_all : is_served (p ∷ past) ≡ true
   served_all = served-next p past now served
 
@@ -50,7 +50,7 @@ module _ (past : Past) (p : Point) (served : is_served past ≡ true) (now : is_
     go None e = refl
     go (Some x) e =
         let sm : is_signal m.act ≡ true = signals_by past served m cm x e in
-        let all : Contains (nodes (p ∷ past)) m = with_keeps p (acts p.deed) (nodes past) m cm in
+        let all : Contains (nodes (p ∷ past)) m = with_keeps p (acts p.action) (nodes past) m cm in
         let qm : m.point.queue ≡ 0 = on_queue_0 (p ∷ past) served_all plain m all (signal_hosts m.act sm) in
         let qn : n.point.queue ≡ 0 = on_queue_0 (p ∷ past) served_all plain n cn (signal_hosts n.act sn) in
         let low : m.number < length (nodes past) = number_below (nodes past) (numbered past) m cm in
@@ -63,8 +63,8 @@ no_values m b = go (signaled_by m.act) where
   go None = refl
   go (Some x) = refl
 
-pub no_signal_order : (past : Past) (p : Point) → is_served past ≡ true → is_served_deed p.deed ≡ true → IsPlain (p ∷ past) → breaks_signal_order past p ≡ false
-no_signal_order past p served now plain = rw (next_nodes-lined past p) (by_deed p.deed now refl) where
+pub no_signal_order : (past : Past) (p : Point) → is_served past ≡ true → is_served_action p.action ≡ true → IsPlain (p ∷ past) → breaks_signal_order past p ≡ false
+no_signal_order past p served now plain = rw (next_nodes-lined past p) (by_action p.action now refl) where
   none_of : (n : Node) → signaled_by n.act ≡ None → list_any (λ m. same_semaphore m n && not (before (nodes (p ∷ past)) m n)) (nodes past) ≡ false
   none_of n is = none_passes_any _ (nodes past) (λ m c. rw is (no_values m _))
 
@@ -72,12 +72,12 @@ no_signal_order past p served now plain = rw (next_nodes-lined past p) (by_deed 
   elements [] k = refl
   elements (e ∷ es) k = rw (none_of (record { number = k; point = p; act = Depends Barrier e }) refl) (elements es (k + 1))
 
-  head_is : (d : Deed) (a : Act) → p.deed ≡ d → acts d ≡ a ∷ [] → Contains (nodes (p ∷ past)) (record { number = length (nodes past); point = p; act = a })
+  head_is : (d : Action) (a : Act) → p.action ≡ d → acts d ≡ a ∷ [] → Contains (nodes (p ∷ past)) (record { number = length (nodes past); point = p; act = a })
   head_is d a e f = rw (e, f) (contains-head _ _)
 
-  by_deed : (d : Deed) → is_served_deed d ≡ true → p.deed ≡ d → list_any (λ n. list_any (λ m. same_semaphore m n && not (before (nodes (p ∷ past)) m n)) (nodes past)) (lined p (length (nodes past)) (acts d)) ≡ false
-  by_deed = let P : Deed → Type 0 = λ d. p.deed ≡ d → list_any (λ n. list_any (λ m. same_semaphore m n && not (before (nodes (p ∷ past)) m n)) (nodes past)) (lined p (length (nodes past)) (acts d)) ≡ false in
-      deed_cases P
+  by_action : (d : Action) → is_served_action d ≡ true → p.action ≡ d → list_any (λ n. list_any (λ m. same_semaphore m n && not (before (nodes (p ∷ past)) m n)) (nodes past)) (lined p (length (nodes past)) (acts d)) ≡ false
+  by_action = let P : Action → Type 0 = λ d. p.action ≡ d → list_any (λ n. list_any (λ m. same_semaphore m n && not (before (nodes (p ∷ past)) m n)) (nodes past)) (lined p (length (nodes past)) (acts d)) ≡ false in
+      action_cases P
       (λ x h is. or_from _ false (none_of (record { number = length (nodes past); point = p; act = Hosts x }) (signals_none x h)) refl)
       (command_cases (λ c. P (Run c)) (λ b o n w is. or_from _ false (none_of (record { number = length (nodes past); point = p; act = Runs (cmd.Fill b o n w) }) refl) refl) (λ es all is. elements es (length (nodes past))))
       (λ s is. or_from _ false (none_passes_any _ (nodes past) (λ m c. ordered_signals past p served now plain (record { number = length (nodes past); point = p; act = Signals s }) refl (head_is (Signal s) (Signals s) is refl) refl m c)) refl)
@@ -99,8 +99,8 @@ submit_is q _ h = absurd h
 -- before the points of a batch stands their submit
 pub submitted : (e q : ℕ) (past : Past) → is_served past ≡ true → LastSubmit e q past → Submitted e (nodes past)
 submitted e q [] served last = absurd last
-submitted e q (p ∷ past) served last = let s = served-cons p past served in go p.deed s.0 last (submitted e q past s.1) where
-  later : (d : Deed) → is_served_deed d ≡ true → host_of d ≡ None → Submitted e (nodes past) → Submitted e (with_acts p (acts d) (nodes past))
+submitted e q (p ∷ past) served last = let s = served-cons p past served in go p.action s.0 last (submitted e q past s.1) where
+  later : (d : Action) → is_served_action d ≡ true → host_of d ≡ None → Submitted e (nodes past) → Submitted e (with_acts p (acts d) (nodes past))
   later d h is found = record {
     node = found.node;
     stands = with_keeps p (acts d) (nodes past) found.node found.stands;
@@ -112,7 +112,7 @@ submitted e q (p ∷ past) served last = let s = served-cons p past served in go
     ];
   }
 
-  go : (d : Deed) → is_served_deed d ≡ true → LastBy (host_of d) e q p (LastSubmit e q past) → (LastSubmit e q past → Submitted e (nodes past)) → Submitted e (with_acts p (acts d) (nodes past))
+  go : (d : Action) → is_served_action d ≡ true → LastBy (host_of d) e q p (LastSubmit e q past) → (LastSubmit e q past → Submitted e (nodes past)) → Submitted e (with_acts p (acts d) (nodes past))
   go (Host x) h last rest = record {
     node = record { number = length (nodes past); point = p; act = Hosts x };
     stands = contains-head _ _;
@@ -152,7 +152,7 @@ pub host_before : (past : Past) (p : Point) (y : Node) → is_served past ≡ tr
 host_before past p y served last at here cy x cx host =
     let s = submitted p.entry p.queue past served last in
     let ns : List Node = nodes (p ∷ past) in
-    let kept : (n : Node) → Contains (nodes past) n → Contains ns n = with_keeps p (acts p.deed) (nodes past) in
+    let kept : (n : Node) → Contains (nodes past) n → Contains ns n = with_keeps p (acts p.action) (nodes past) in
     let low : s.node.number < length (nodes past) = number_below (nodes past) (numbered past) s.node s.stands in
     let on : Path ns s.node y = direct (kept s.node s.stands) cy (host_edge ns s.node y (omega arith) (submit_leads s.node y s.submits (s.entry_is ∙ ap (λ (q : Point). q.entry) (sym at)))) in
     before_of_path ns (numbered (p ∷ past)) x y (kept x cx) cy (elim (s.newest x cx host) [

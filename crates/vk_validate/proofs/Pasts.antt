@@ -7,27 +7,27 @@ use Rattle.vk_model.specs.declared.entry.Entry.{Entry}
 use Rattle.vk_model.specs.declared.resource.BufferInfo.{BufferInfo}
 use Rattle.vk_model.specs.declared.resource.Place.TheVariants as place
 use Rattle.vk_model.specs.Words.{holds, among}
-use Rattle.vk_model.specs.Point.{Past, Point, Deed, Host, Wait, Run, Signal, entries, host_of}
+use Rattle.vk_model.specs.Point.{Past, Point, Action, Host, Wait, Run, Signal, entries, host_of}
 use Rattle.vk_model.specs.Objects.{made, made_by, ended, ended_by, live, buffer, buffer_in, resource, resource_in, Resource, of_buffer, memory_of, pool_of, bound_at, pool_at}
 use Rattle.vk_model.specs.RulesMapping.{mapping}
 use Rattle.vk_model.specs.RulesPasses.{moves_now}
-use Rattle.vk_validate.specs.Served.{is_served, is_served_deed, is_served_entry}
+use Rattle.vk_validate.specs.Served.{is_served, is_served_action, is_served_entry}
 use Rattle.vk_validate.proofs.Forms.{entry_cases}
 
 -- a past is served where its newest point and the older ones are
-pub served-cons : (p : Point) (past : Past) → is_served (p ∷ past) ≡ true → (is_served_deed p.deed ≡ true) × (is_served past ≡ true)
+pub served-cons : (p : Point) (past : Past) → is_served (p ∷ past) ≡ true → (is_served_action p.action ≡ true) × (is_served past ≡ true)
 unfolding is_served
-served-cons p past e = and_parts (is_served_deed p.deed) _ e
+served-cons p past e = and_parts (is_served_action p.action) _ e
 
-pub served-next : (p : Point) (past : Past) → is_served_deed p.deed ≡ true → is_served past ≡ true → is_served (p ∷ past) ≡ true
+pub served-next : (p : Point) (past : Past) → is_served_action p.action ≡ true → is_served past ≡ true → is_served (p ∷ past) ≡ true
 unfolding is_served
 served-next p past now served = rw (now, served) refl
 
 -- the host entries of a served past are served
 pub served_entries : (past : Past) → is_served past ≡ true → list_all is_served_entry (entries past) ≡ true
 served_entries [] e = refl
-served_entries (p ∷ past) e = let s = served-cons p past e in go p.deed s.0 (served_entries past s.1) where
-  go : (d : Deed) → is_served_deed d ≡ true → list_all is_served_entry (entries past) ≡ true → list_all is_served_entry (cons_option (host_of d) (entries past)) ≡ true
+served_entries (p ∷ past) e = let s = served-cons p past e in go p.action s.0 (served_entries past s.1) where
+  go : (d : Action) → is_served_action d ≡ true → list_all is_served_entry (entries past) ≡ true → list_all is_served_entry (cons_option (host_of d) (entries past)) ≡ true
   go (Host x) h rest = rw (h, rest) refl
   go (Wait s) h rest = rest
   go (Run c) h rest = rest

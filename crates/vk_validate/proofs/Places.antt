@@ -8,9 +8,9 @@ use Rattle.vk_model.specs.declared.command.Cmd.{Cmd}
 use Rattle.vk_model.specs.declared.entry.Batch.{Batch}
 use Rattle.vk_model.specs.declared.entry.Entry.{Entry}
 use Rattle.vk_model.specs.declared.entry.Entry.TheVariants as entry
-use Rattle.vk_model.specs.Point.{Past, Point, Deed, Host, Wait, Run, Signal}
+use Rattle.vk_model.specs.Point.{Past, Point, Action, Host, Wait, Run, Signal}
 use Rattle.vk_model.specs.Fault.{Comes, newest, older}
-use Rattle.vk_model.specs.Order.{Turn, deeds, taken, turn, turns_from, turns_of, plain_from, plain_order, host}
+use Rattle.vk_model.specs.Order.{Turn, actions, taken, turn, turns_from, turns_of, plain_from, plain_order, host}
 use Rattle.vk_model.specs.Node.{Node, Act, acts, nodes, same_place}
 use Rattle.vk_model.specs.Edge.{is_element}
 use Rattle.vk_validate.proofs.Members.{none_in, contains-cons}
@@ -18,7 +18,7 @@ use Rattle.vk_validate.proofs.Acts.{with_member}
 
 -- a command of an older point is at another place
 abbrev pub IsElsewhere : Point → Past → Type 0
-IsElsewhere p past = (c : Cmd) → p.deed ≡ Run c → (before : Past) (q : Point) (d : Cmd) → Comes past before q → q.deed ≡ Run d → same_place q p ≡ false
+IsElsewhere p past = (c : Cmd) → p.action ≡ Run c → (before : Past) (q : Point) (d : Cmd) → Comes past before q → q.action ≡ Run d → same_place q p ≡ false
 
 abbrev pub IsApart : Past → Type 0
 IsApart [] = ⊤
@@ -29,7 +29,7 @@ abbrev Lower : Point → ℕ → ℕ → ℕ → Type 0
 Lower q e b k = (q.entry < e) ⊎ (((q.entry ≡ e) × (q.batch < b)) ⊎ ((q.entry ≡ e) × (q.batch ≡ b) × (q.place < k)))
 
 abbrev AllLower : Past → ℕ → ℕ → ℕ → Type 0
-AllLower past e b k = (before : Past) (q : Point) (d : Cmd) → Comes past before q → q.deed ≡ Run d → Lower q e b k
+AllLower past e b k = (before : Past) (q : Point) (d : Cmd) → Comes past before q → q.action ≡ Run d → Lower q e b k
 
 other_place : (q p : Point) → Lower q p.entry p.batch p.place → same_place q p ≡ false
 other_place q p (inl less) = rw (ne_eqb q.entry p.entry (λ e. omega (arith, less, e))) refl
@@ -37,7 +37,7 @@ other_place q p (inr (inl less)) = rw (ne_eqb q.batch p.batch (λ e. let lt = le
 other_place q p (inr (inr less)) = rw (ne_eqb q.place p.place (λ e. let lt = less.2 in omega (arith, lt, e))) (and-false (q.entry == p.entry && q.batch == p.batch))
 
 -- one point more that is no command
-quiet_lower : (p : Point) (past : Past) (e b k : ℕ) → ((c : Cmd) → p.deed ≡ Run c → ⊥) → AllLower past e b k → AllLower (p ∷ past) e b k
+quiet_lower : (p : Point) (past : Past) (e b k : ℕ) → ((c : Cmd) → p.action ≡ Run c → ⊥) → AllLower past e b k → AllLower (p ∷ past) e b k
 quiet_lower p past e b k none all before q d newest is = absurd (none d is)
 quiet_lower p past e b k none all before q d (older c) is = all before q d c is
 
@@ -48,18 +48,18 @@ next_lower p past e b k pe pb pk all before q d (older c) is = elim (all before 
   | inr rest ↦ elim rest [ inl less ↦ inr (inl less) | inr less ↦ inr (inr (less.0, less.1, let lt = less.2 in omega (arith, lt))) ]
 ]
 
-module _ {A : Type 0} (of : A → Deed) (none : (x : A) (c : Cmd) → of x ≡ Run c → ⊥) (t : Turn) (b n : ℕ) where
-  quiet_deeds : (k : ℕ) (xs : List A) (past : Past) → AllLower past t.entry b n → IsApart past → AllLower (deeds of t k xs past) t.entry b n × IsApart (deeds of t k xs past)
-  quiet_deeds k [] past low apart = (low, apart)
-  quiet_deeds k (x ∷ xs) past low apart =
-      let p : Point = record { entry = t.entry; batch = t.batch; place = k; queue = t.queue; deed = of x } in
-      quiet_deeds (k + 1) xs (p ∷ past) (quiet_lower p past t.entry b n (none x) low) (λ c is. absurd (none x c is), apart)
+module _ {A : Type 0} (of : A → Action) (none : (x : A) (c : Cmd) → of x ≡ Run c → ⊥) (t : Turn) (b n : ℕ) where
+  quiet_actions : (k : ℕ) (xs : List A) (past : Past) → AllLower past t.entry b n → IsApart past → AllLower (actions of t k xs past) t.entry b n × IsApart (actions of t k xs past)
+  quiet_actions k [] past low apart = (low, apart)
+  quiet_actions k (x ∷ xs) past low apart =
+      let p : Point = record { entry = t.entry; batch = t.batch; place = k; queue = t.queue; action = of x } in
+      quiet_actions (k + 1) xs (p ∷ past) (quiet_lower p past t.entry b n (none x) low) (λ c is. absurd (none x c is), apart)
 
-run_deeds : (t : Turn) (k : ℕ) (cs : List Cmd) (past : Past) → AllLower past t.entry t.batch k → IsApart past → (n : ℕ) × AllLower (deeds Run t k cs past) t.entry t.batch n × IsApart (deeds Run t k cs past)
-run_deeds t k [] past low apart = (k, low, apart)
-run_deeds t k (c ∷ cs) past low apart =
-    let p : Point = record { entry = t.entry; batch = t.batch; place = k; queue = t.queue; deed = Run c } in
-    run_deeds t (k + 1) cs (p ∷ past) (next_lower p past t.entry t.batch k refl refl refl low) (λ c is before q d at e. other_place q p (low before q d at e), apart)
+run_actions : (t : Turn) (k : ℕ) (cs : List Cmd) (past : Past) → AllLower past t.entry t.batch k → IsApart past → (n : ℕ) × AllLower (actions Run t k cs past) t.entry t.batch n × IsApart (actions Run t k cs past)
+run_actions t k [] past low apart = (k, low, apart)
+run_actions t k (c ∷ cs) past low apart =
+    let p : Point = record { entry = t.entry; batch = t.batch; place = k; queue = t.queue; action = Run c } in
+    run_actions t (k + 1) cs (p ∷ past) (next_lower p past t.entry t.batch k refl refl refl low) (λ c is before q d at e. other_place q p (low before q d at e), apart)
 
 next_batch : (past : Past) (e b k : ℕ) → AllLower past e b k → AllLower past e (b + 1) 0
 next_batch past e b k all before q d c is = elim (all before q d c is) [
@@ -75,9 +75,9 @@ next_entry past e b k all before q d c is = elim (all before q d c is) [
 
 taken_apart : (t : Turn) (past : Past) → AllLower past t.entry t.batch 0 → IsApart past → (n : ℕ) × AllLower (taken t past) t.entry t.batch n × IsApart (taken t past)
 taken_apart t past low apart =
-    let a = quiet_deeds Wait (λ x c e. cc) t t.batch 0 0 t.content.waits past low apart in
-    let b = run_deeds t 0 t.content.commands (deeds Wait t 0 t.content.waits past) a.0 a.1 in
-    let c = quiet_deeds Signal (λ x c e. cc) t t.batch b.0 0 t.content.signals (deeds Run t 0 t.content.commands (deeds Wait t 0 t.content.waits past)) b.1 b.2 in
+    let a = quiet_actions Wait (λ x c e. cc) t t.batch 0 0 t.content.waits past low apart in
+    let b = run_actions t 0 t.content.commands (actions Wait t 0 t.content.waits past) a.0 a.1 in
+    let c = quiet_actions Signal (λ x c e. cc) t t.batch b.0 0 t.content.signals (actions Run t 0 t.content.commands (actions Wait t 0 t.content.waits past)) b.1 b.2 in
     (b.0, c.0, c.1)
 
 turns_apart : (before : Past) (e q k : ℕ) (bs : List Batch) (past : Past) → AllLower past e k 0 → IsApart past → (n : ℕ) × AllLower (fold (λ p t. taken t p) past (turns_from before e q k bs)) e n 0 × IsApart (fold (λ p t. taken t p) past (turns_from before e q k bs))
@@ -114,23 +114,23 @@ plain_order_apart xs = entries_apart 0 xs [] (λ before q d c is. absurd (none_c
 -- ---- nodes
 
 -- a node's point stands in the past
-member_point : (past : Past) (m : Node) → Contains (nodes past) m → (before : Past) × Comes past before m.point × Contains (acts m.point.deed) m.act
+member_point : (past : Past) (m : Node) → Contains (nodes past) m → (before : Past) × Comes past before m.point × Contains (acts m.point.action) m.act
 member_point [] m c = absurd (none_in m c)
-member_point (p ∷ past) m c = elim (with_member p (acts p.deed) (nodes past) m c) [
+member_point (p ∷ past) m c = elim (with_member p (acts p.action) (nodes past) m c) [
   | inl old ↦ (let found = member_point past m old in (found.0, older found.1, found.2))
-  | inr new ↦ (past, subst (λ (q : Point). Comes (p ∷ past) past q) (sym new.0) newest, subst (λ (q : Point). Contains (acts q.deed) m.act) (sym new.0) new.1)
+  | inr new ↦ (past, subst (λ (q : Point). Comes (p ∷ past) past q) (sym new.0) newest, subst (λ (q : Point). Contains (acts q.action) m.act) (sym new.0) new.1)
 ]
 
 -- elements are of commands
-element_of : (d : Deed) (a : Act) → Contains (acts d) a → is_element a ≡ true → (c : Cmd) × (d ≡ Run c)
+element_of : (d : Action) (a : Act) → Contains (acts d) a → is_element a ≡ true → (c : Cmd) × (d ≡ Run c)
 element_of (Run c) a at is = (c, refl)
 element_of (Host x) a at is = elim (contains-cons _ [] a at) [ inl same ↦ absurd (let bad : is_element a ≡ false = ap is_element (sym same) in cc) | inr later ↦ absurd (none_in a later) ]
 element_of (Wait s) a at is = elim (contains-cons _ [] a at) [ inl same ↦ absurd (let bad : is_element a ≡ false = ap is_element (sym same) in cc) | inr later ↦ absurd (none_in a later) ]
 element_of (Signal s) a at is = elim (contains-cons _ [] a at) [ inl same ↦ absurd (let bad : is_element a ≡ false = ap is_element (sym same) in cc) | inr later ↦ absurd (none_in a later) ]
 
 -- an element of an older point is at another place than a command
-pub elsewhere : (past : Past) (p : Point) (c : Cmd) → p.deed ≡ Run c → IsElsewhere p past → (m : Node) → Contains (nodes past) m → is_element m.act ≡ true → same_place m.point p ≡ false
+pub elsewhere : (past : Past) (p : Point) (c : Cmd) → p.action ≡ Run c → IsElsewhere p past → (m : Node) → Contains (nodes past) m → is_element m.act ≡ true → same_place m.point p ≡ false
 elsewhere past p c is away m at element =
     let found = member_point past m at in
-    let of = element_of m.point.deed m.act found.2 element in
+    let of = element_of m.point.action m.act found.2 element in
     away c is found.0 m.point of.0 found.1 of.1

@@ -7,9 +7,9 @@ use Rattle.vk_model.specs.declared.entry.Batch.{Batch}
 use Rattle.vk_model.specs.declared.entry.Entry.{Entry}
 use Rattle.vk_model.specs.declared.entry.Entry.TheVariants as entry
 use Rattle.vk_model.specs.Words.{holds}
-use Rattle.vk_model.specs.Point.{Past, Point, Deed, Wait, Run, Signal, host_of, entries}
+use Rattle.vk_model.specs.Point.{Past, Point, Action, Wait, Run, Signal, host_of, entries}
 use Rattle.vk_model.specs.Objects.{made, made_by}
-use Rattle.vk_model.specs.Order.{Turn, deeds, taken, turn, turns_from, turns_of, plain_from, plain_order, host}
+use Rattle.vk_model.specs.Order.{Turn, actions, taken, turn, turns_from, turns_of, plain_from, plain_order, host}
 use Rattle.vk_model.specs.RulesIds.{until}
 
 -- an entry is a submit on a queue
@@ -24,7 +24,7 @@ LastBy None e q p older = older
 
 abbrev pub LastSubmit : ℕ → ℕ → Past → Type 0
 LastSubmit e q [] = ⊥
-LastSubmit e q (p ∷ past) = LastBy (host_of p.deed) e q p (LastSubmit e q past)
+LastSubmit e q (p ∷ past) = LastBy (host_of p.action) e q p (LastSubmit e q past)
 
 abbrev pub Placed : Option Entry → Point → Past → Type 0
 Placed (Some x) p past = ⊤
@@ -33,20 +33,20 @@ Placed None p past = LastSubmit p.entry p.queue past
 -- each point of a batch comes so after its submit
 abbrev pub IsPlain : Past → Type 0
 IsPlain [] = ⊤
-IsPlain (p ∷ past) = Placed (host_of p.deed) p past × IsPlain past
+IsPlain (p ∷ past) = Placed (host_of p.action) p past × IsPlain past
 
-module _ {A : Type 0} (of : A → Deed) (on_queue : (x : A) → host_of (of x) ≡ None) (t : Turn) where
-  plain_deeds : (k : ℕ) (xs : List A) (past : Past) → LastSubmit t.entry t.queue past → IsPlain past → LastSubmit t.entry t.queue (deeds of t k xs past) × IsPlain (deeds of t k xs past)
-  plain_deeds k [] past last plain = (last, plain)
-  plain_deeds k (x ∷ xs) past last plain =
-      let p : Point = record { entry = t.entry; batch = t.batch; place = k; queue = t.queue; deed = of x } in
-      plain_deeds (k + 1) xs (p ∷ past) (subst (λ (o : Option Entry). LastBy o t.entry t.queue p (LastSubmit t.entry t.queue past)) (sym (on_queue x)) last) (subst (λ (o : Option Entry). Placed o p past) (sym (on_queue x)) last, plain)
+module _ {A : Type 0} (of : A → Action) (on_queue : (x : A) → host_of (of x) ≡ None) (t : Turn) where
+  plain_actions : (k : ℕ) (xs : List A) (past : Past) → LastSubmit t.entry t.queue past → IsPlain past → LastSubmit t.entry t.queue (actions of t k xs past) × IsPlain (actions of t k xs past)
+  plain_actions k [] past last plain = (last, plain)
+  plain_actions k (x ∷ xs) past last plain =
+      let p : Point = record { entry = t.entry; batch = t.batch; place = k; queue = t.queue; action = of x } in
+      plain_actions (k + 1) xs (p ∷ past) (subst (λ (o : Option Entry). LastBy o t.entry t.queue p (LastSubmit t.entry t.queue past)) (sym (on_queue x)) last) (subst (λ (o : Option Entry). Placed o p past) (sym (on_queue x)) last, plain)
 
 plain_taken : (t : Turn) (past : Past) → LastSubmit t.entry t.queue past → IsPlain past → LastSubmit t.entry t.queue (taken t past) × IsPlain (taken t past)
 plain_taken t past last plain =
-    let a = plain_deeds Wait (λ x. refl) t 0 t.content.waits past last plain in
-    let b = plain_deeds Run (λ x. refl) t 0 t.content.commands _ a.0 a.1 in
-    plain_deeds Signal (λ x. refl) t 0 t.content.signals _ b.0 b.1
+    let a = plain_actions Wait (λ x. refl) t 0 t.content.waits past last plain in
+    let b = plain_actions Run (λ x. refl) t 0 t.content.commands _ a.0 a.1 in
+    plain_actions Signal (λ x. refl) t 0 t.content.signals _ b.0 b.1
 
 plain_turns : (before : Past) (e q k : ℕ) (bs : List Batch) (past : Past) → LastSubmit e q past → IsPlain past → IsPlain (fold (λ p t. taken t p) past (turns_from before e q k bs))
 plain_turns before e q k [] past last plain = plain
@@ -75,7 +75,7 @@ submit_makes q _ h = absurd h
 -- the past in which the ids of a batch's points are judged has made what their own has
 pub made_until : (e q i : ℕ) (past : Past) → LastSubmit e q past → made (until e past) i ≡ made past i
 made_until e q i [] last = absurd last
-made_until e q i (p ∷ past) last = go (host_of p.deed) last (made_until e q i past) where
+made_until e q i (p ∷ past) last = go (host_of p.action) last (made_until e q i past) where
   go : (o : Option Entry) → LastBy o e q p (LastSubmit e q past) → (LastSubmit e q past → made (until e past) i ≡ made past i)
       → made (if p.entry == e && is_some o then past else until e past) i ≡ find (λ x. holds (made_by x) (λ j. i == j)) (cons_option o (entries past))
   go None last rest = rw (and-false (p.entry == e)) (rest last)

@@ -13,7 +13,7 @@ use Rattle.vk_model.specs.declared.entry.Entry.TheVariants as entry
 use Rattle.vk_model.specs.declared.rule.Rule.{Rule}
 use Rattle.vk_model.specs.declared.rule.Rule.TheVariants as rule
 use Rattle.vk_model.specs.Words.{holds, within, round_up}
-use Rattle.vk_model.specs.Point.{Past, Point, Deed, Run, host_of, command_of, entries}
+use Rattle.vk_model.specs.Point.{Past, Point, Action, Run, host_of, command_of, entries}
 use Rattle.vk_model.specs.Objects.{made, made_by, buffer, buffer_in}
 use Rattle.vk_model.specs.Moves.{buffer_size, fill_size}
 use Rattle.vk_model.specs.Rules.{rules}
@@ -48,7 +48,7 @@ module _ (past : Past) (p : Point) (clear : IsClear past p) where
   unfolding tests
   new_id = untested rule.NewId 0 refl
 
-  live_id : names_dead past p.deed ≡ false
+  live_id : names_dead past p.action ≡ false
   unfolding tests
   live_id = untested rule.LiveId 1 refl
 
@@ -86,7 +86,7 @@ small_entry _ e = let none : 0 ≤ 67108864 = omega arith in none
 
 small_buffer : (past : Past) → IsCleared past → (b : ℕ) → buffer_size past b ≤ 67108864
 small_buffer [] cleared b = omega arith
-small_buffer (p ∷ past) cleared b = go (host_of p.deed) (small past p cleared.0) (small_buffer past cleared.1 b) where
+small_buffer (p ∷ past) cleared b = go (host_of p.action) (small past p cleared.0) (small_buffer past cleared.1 b) where
   by_test : (x : Entry) (t : Bool) → bad_memory_size x ≡ false → buffer_size past b ≤ 67108864 → size_in (cond t (Some x) (made past b)) ≤ 67108864
   by_test x true e rest = small_entry x e
   by_test x false e rest = rest
@@ -97,9 +97,9 @@ small_buffer (p ∷ past) cleared b = go (host_of p.deed) (small past p cleared.
 
 -- ---- what a fill reaches
 
-inside : (past : Past) (q : Point) (b o : ℕ) (n : Length) (w : ℕ) → IsClear past q → q.deed ≡ Run (cmd.Fill b o n w) → ends_past (buffer_size past b) o n ≡ false
+inside : (past : Past) (q : Point) (b o : ℕ) (n : Length) (w : ℕ) → IsClear past q → q.action ≡ Run (cmd.Fill b o n w) → ends_past (buffer_size past b) o n ≡ false
 inside past q b o n w clear is =
-    let unbroken : (holds (host_of (Run (cmd.Fill b o n w))) (host_past past) || holds (command_of (Run (cmd.Fill b o n w))) (command_past past)) ≡ false = subst (λ (d : Deed). (holds (host_of d) (host_past past) || holds (command_of d) (command_past past)) ≡ false) is (within_range past q clear) in
+    let unbroken : (holds (host_of (Run (cmd.Fill b o n w))) (host_past past) || holds (command_of (Run (cmd.Fill b o n w))) (command_past past)) ≡ false = subst (λ (d : Action). (holds (host_of d) (host_past past) || holds (command_of d) (command_past past)) ≡ false) is (within_range past q clear) in
     sym (fill_range past b o n w) ∙ unbroken
 
 ends_inside : (size o : ℕ) (n : Length) (k : ℕ) → ends_past size o n ≡ false → within o (fill_size size o n) k ≡ true → k < size
@@ -107,7 +107,7 @@ ends_inside size o (length_of.Bytes n) k e h = grind (arith, nat_tests)
 ends_inside size o length_of.Whole k e h = let le : (size - o) / 4 * 4 ≤ size - o = div-mul-le_self (size - o) 4 in grind (arith, nat_tests)
 
 -- a byte that a fill writes is below 2^64
-pub fills_low : (past before : Past) (q : Point) (b o : ℕ) (n : Length) (w k : ℕ) → IsCleared past → Comes past before q → q.deed ≡ Run (cmd.Fill b o n w)
+pub fills_low : (past before : Past) (q : Point) (b o : ℕ) (n : Length) (w k : ℕ) → IsCleared past → Comes past before q → q.action ≡ Run (cmd.Fill b o n w)
     → within o (fill_size (buffer_size before b) o n) k ≡ true → k < 2 ^ 64
 fills_low past before q b o n w k cleared comes is h =
     let at = clear_at past before q cleared comes in
@@ -119,7 +119,7 @@ fills_low past before q b o n w k cleared comes is h =
 
 -- what was made stays as it was made
 pub kept_made : (past : Past) (p : Point) (i : ℕ) → IsClear past p → is_some (made past i) ≡ true → made (p ∷ past) i ≡ made past i
-kept_made past p i clear stands = go (host_of p.deed) (new_id past p clear) where
+kept_made past p i clear stands = go (host_of p.action) (new_id past p clear) where
   other : (j : ℕ) → is_some (made past j) ≡ false → (t : Bool) → (i == j) ≡ t → t ≡ false
   other j fresh true e = let same : i ≡ j = eqb-true i j e in absurd (let stood : is_some (made past j) ≡ true = subst (λ (k : ℕ). is_some (made past k) ≡ true) same stands in cc)
   other j fresh false e = refl
@@ -139,9 +139,9 @@ kept_since i past before q cleared (older {past = rest} {q = p} comes) stands =
     kept_made rest p i cleared.0 (rw same stands) ∙ same
 
 -- a buffer that a fill names keeps its size from then on
-pub kept_size : (past before : Past) (q : Point) (b o : ℕ) (n : Length) (w : ℕ) → IsCleared past → Comes past before q → q.deed ≡ Run (cmd.Fill b o n w) → buffer_size past b ≡ buffer_size before b
+pub kept_size : (past before : Past) (q : Point) (b o : ℕ) (n : Length) (w : ℕ) → IsCleared past → Comes past before q → q.action ≡ Run (cmd.Fill b o n w) → buffer_size past b ≡ buffer_size before b
 kept_size past before q b o n w cleared comes is =
-    let alive : not (is_some (buffer before b)) ≡ false = subst (λ (d : Deed). names_dead before d ≡ false) is (live_id before q (clear_at past before q cleared comes).0) in
+    let alive : not (is_some (buffer before b)) ≡ false = subst (λ (d : Action). names_dead before d ≡ false) is (live_id before q (clear_at past before q cleared comes).0) in
     ap size_in (kept_since b past before q cleared comes (made_where (made before b) alive))
   where
     made_where : (o : Option Entry) → not (is_some (option_and_then buffer_in o)) ≡ false → is_some o ≡ true

@@ -64,10 +64,10 @@ fills_none_above : (past : spec.Past) (c : Cmd) (b k : ℕ) → 2 ^ 64 ≤ k →
 fills_none_above past (cmd.Fill c o n w) b k le = rw (le-ltb k (2 ^ 64) le) (and-false _)
 fills_none_above past _ b k le = refl
 
-writes_none_above : (past : spec.Past) (d : spec.Deed) (b k : ℕ) → 2 ^ 64 ≤ k → writes_byte past d b k ≡ false
+writes_none_above : (past : spec.Past) (d : spec.Action) (b k : ℕ) → 2 ^ 64 ≤ k → writes_byte past d b k ≡ false
 writes_none_above past (spec.Run c) b k le = fills_none_above past c b k le
 writes_none_above past _ b k le = refl
 
 pub no_writer : (past : spec.Past) (b k : ℕ) → 2 ^ 64 ≤ k → last_writer past b k ≡ None
 no_writer [] b k le = refl
-no_writer (p ∷ past) b k le = unwritten-next p past b k (writes_none_above past p.deed b k le) ∙ no_writer past b k le
+no_writer (p ∷ past) b k le = unwritten-next p past b k (writes_none_above past p.action b k le) ∙ no_writer past b k le

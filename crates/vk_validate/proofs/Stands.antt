@@ -52,7 +52,7 @@ module _ (p : Point) (w : Node) where
 -- w is the node of the command of the point that comes next
 pub record IsRunAt (past : Past) (p : Point) (w : Node) (j : ℕ) : Type 0 where
   pub command : Cmd
-  pub runs : p.deed ≡ Run command
+  pub runs : p.action ≡ Run command
   pub alone : acts (Run command) ≡ Runs command ∷ []
   pub node_is : w ≡ record { number = length (nodes past); point = p; act = Runs command }
   pub count : j ≡ length past
@@ -65,10 +65,10 @@ IsCommandAt (p ∷ past) w j = IsRunAt past p w j ⊎ IsCommandAt past w j
 -- a command at a point stands among the nodes
 pub command_stands : (past : Past) (w : Node) (j : ℕ) → IsCommandAt past w j → Contains (nodes past) w × (is_command w.act ≡ true) × (j < length past)
 command_stands [] w j at = absurd at
-command_stands (p ∷ past) w j (inr old) = let h = command_stands past w j old in (with_keeps p (acts p.deed) (nodes past) w h.0, h.1, let lt = h.2 in omega (arith, lt))
+command_stands (p ∷ past) w j (inr old) = let h = command_stands past w j old in (with_keeps p (acts p.action) (nodes past) w h.0, h.1, let lt = h.2 in omega (arith, lt))
 command_stands (p ∷ past) w j (inl new) =
     let n : Node = record { number = length (nodes past); point = p; act = Runs new.command } in
-    let acts_are : acts p.deed ≡ Runs new.command ∷ [] = ap acts new.runs ∙ new.alone in
+    let acts_are : acts p.action ≡ Runs new.command ∷ [] = ap acts new.runs ∙ new.alone in
     let here : Contains (with_acts p (Runs new.command ∷ []) (nodes past)) n = contains-head n (nodes past) in
     let count = new.count in (
       subst (λ (m : Node). Contains (nodes (p ∷ past)) m) (sym new.node_is) (subst (λ (l : List Act). Contains (with_acts p l (nodes past)) n) (sym acts_are) here),

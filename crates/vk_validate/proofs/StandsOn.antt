@@ -11,17 +11,17 @@ use Rattle.vk_model.specs.declared.entry.Entry.{Entry}
 use Rattle.vk_model.specs.declared.entry.Entry.TheVariants as entry
 use Rattle.vk_model.specs.declared.entry.SemaphoreSubmit.{SemaphoreSubmit}
 use Rattle.vk_model.specs.declared.entry.SemaphoreValue.{SemaphoreValue}
-use Rattle.vk_model.specs.Point.{Past, Point, Deed, Host, Run, Signal, host_of}
+use Rattle.vk_model.specs.Point.{Past, Point, Action, Host, Run, Signal, host_of}
 use Rattle.vk_model.specs.Node.{Node, Act, Hosts, Signals, Runs, Depends, Barrier, acts, nodes}
 use Rattle.vk_model.specs.Edge.{is_host, signaled_by, host_waits}
 use Rattle.vk_model.specs.Before.{IsNumbered}
 use Rattle.vk_validate.specs.Cleared.{IsCleared}
-use Rattle.vk_validate.specs.Served.{is_served_deed, is_memory}
-use Rattle.vk_validate.specs.Standing.{Standing, standing, after_deed, on_transfers, available_at, with_dependency, after_elements, signal_at, joined, Signaled, after_waits, awaited, after_wait, after_signal}
+use Rattle.vk_validate.specs.Served.{is_served_action, is_memory}
+use Rattle.vk_validate.specs.Standing.{Standing, standing, after_action, on_transfers, available_at, with_dependency, after_elements, signal_at, joined, Signaled, after_waits, awaited, after_wait, after_signal}
 use Rattle.vk_validate.specs.declared.clocks.Clock.{Clock}
 use Rattle.vk_validate.specs.declared.clocks.Order.{Order}
 use Rattle.vk_validate.proofs.Members.{none_in, contains-cons, contains-head, contains-tail}
-use Rattle.vk_validate.proofs.Forms.{entry_cases, command_cases, deed_cases}
+use Rattle.vk_validate.proofs.Forms.{entry_cases, command_cases, action_cases}
 use Rattle.vk_validate.proofs.Plain.{IsPlain, Placed, LastSubmit}
 use Rattle.vk_validate.proofs.Growth.{number_below, numbered}
 use Rattle.vk_validate.proofs.Acts.{with_member, with_keeps, on_queue_0, last_queue, is_served_act, served_node}
@@ -70,8 +70,8 @@ clocked_stays : (p : Point) (past : Past) (c : Clock) (m : Node) → Contains (n
 clocked_stays p past c m stands a r is w j (inr old) =
     let h = is w j old in
     let ns : List Node = nodes past in (
-      (λ f. h.0.0 (freed_ungrown p w (acts p.deed) ns (numbered past) m stands f), λ lt. freed_grows p w (acts p.deed) ns (numbered past) m (h.0.1 lt)),
-      (λ f. h.1.0 (shown_ungrown p w (acts p.deed) ns (numbered past) m stands f), λ lt. shown_grows p w (acts p.deed) ns (numbered past) m (h.1.1 lt)),
+      (λ f. h.0.0 (freed_ungrown p w (acts p.action) ns (numbered past) m stands f), λ lt. freed_grows p w (acts p.action) ns (numbered past) m (h.0.1 lt)),
+      (λ f. h.1.0 (shown_ungrown p w (acts p.action) ns (numbered past) m stands f), λ lt. shown_grows p w (acts p.action) ns (numbered past) m (h.1.1 lt)),
     )
 clocked_stays p past c m stands a r is w j (inl new) = (never j c.available (omega (arith, a, count)) unfreed, never j c.readable (omega (arith, r, count)) unshown) where
   count : j ≡ length past
@@ -97,14 +97,14 @@ module _ (past : Past) (cleared : IsCleared past) (plain : IsPlain past) (s : St
 
   -- the signals stay where no point signals
   kept_forward : (p : Point) (x : Signaled) → Contains s.signals x → (m : Node) × Contains (nodes (p ∷ past)) m × (signaled_by m.act ≡ Some (x.semaphore, x.value)) × IsClocked (p ∷ past) x.clock m
-  kept_forward p x c = let f = stands.forward x c in let b = low x c in (f.0, with_keeps p (acts p.deed) (nodes past) f.0 f.1, f.2, clocked_stays p past x.clock f.0 f.1 b.0 b.1 f.3)
+  kept_forward p x c = let f = stands.forward x c in let b = low x c in (f.0, with_keeps p (acts p.action) (nodes past) f.0 f.1, f.2, clocked_stays p past x.clock f.0 f.1 b.0 b.1 f.3)
 
   kept_old : (p : Point) (m : Node) → Contains (nodes past) m → (t v : ℕ) → signaled_by m.act ≡ Some (t, v) → (x : Signaled) × Contains s.signals x × (x.semaphore ≡ t) × (x.value ≡ v) × IsClocked (p ∷ past) x.clock m
   kept_old p m c t v e = let f = stands.backward m c t v e in let b = low f.0 f.1 in (f.0, f.1, f.2, f.3, clocked_stays p past f.0.clock m c b.0 b.1 f.4)
 
-  kept_backward : (p : Point) → ((a : Act) → Contains (acts p.deed) a → signaled_by a ≡ None) → (m : Node) → Contains (nodes (p ∷ past)) m → (t v : ℕ) → signaled_by m.act ≡ Some (t, v)
+  kept_backward : (p : Point) → ((a : Act) → Contains (acts p.action) a → signaled_by a ≡ None) → (m : Node) → Contains (nodes (p ∷ past)) m → (t v : ℕ) → signaled_by m.act ≡ Some (t, v)
       → (x : Signaled) × Contains s.signals x × (x.semaphore ≡ t) × (x.value ≡ v) × IsClocked (p ∷ past) x.clock m
-  kept_backward p none m c t v e = elim (with_member p (acts p.deed) (nodes past) m c) [
+  kept_backward p none m c t v e = elim (with_member p (acts p.action) (nodes past) m c) [
     | inl old ↦ kept_old p m old t v e
     | inr new ↦ absurd (let bad : None ≡ Some (t, v) = sym (none m.act new.1) ∙ e in cc)
   ]
@@ -117,17 +117,17 @@ module _ (past : Past) (cleared : IsCleared past) (plain : IsPlain past) (s : St
 
   -- ---- a host entry
   pub after_host : (p : Point) (x : Entry) → signaled_by (Hosts x) ≡ None → (ws : List SemaphoreValue) → host_waits x ≡ map (λ (w : SemaphoreValue). (w.semaphore, w.value)) ws
-      → IsStanding (record { order = after_waits past s.signals ws s.order; signals = s.signals }) (record p { deed = Host x } ∷ past)
+      → IsStanding (record { order = after_waits past s.signals ws s.order; signals = s.signals }) (record p { action = Host x } ∷ past)
   after_host p x quiet ws waits = record {
     bounded = more_points (after_waits past s.signals ws s.order) (length past) (bounded_waits past s.signals stands.rising (length past) low ws s.order stands.bounded);
     rising = stands.rising;
     under = λ y c. subst (λ (k : Clock). Under y.clock k) (sym (waits_signals ws s.order)) (stands.under y c);
     means = λ w j at. elim at [
       | inl new ↦ absurd (let bad : Host x ≡ Run new.command = new.runs in cc)
-      | inr old ↦ host_means past cleared simple w j s.signals stands.rising (λ y c. let f = stands.forward y c in let h = f.3 w j old in (f.0, f.1, f.2, h.0, h.1)) (λ m c t v e. let f = stands.backward m c t v e in let h = f.4 w j old in (f.0, f.1, f.2, f.3, h.0, h.1)) (record p { deed = Host x }) x ws waits s.order (stands.means w j old)
+      | inr old ↦ host_means past cleared simple w j s.signals stands.rising (λ y c. let f = stands.forward y c in let h = f.3 w j old in (f.0, f.1, f.2, h.0, h.1)) (λ m c t v e. let f = stands.backward m c t v e in let h = f.4 w j old in (f.0, f.1, f.2, f.3, h.0, h.1)) (record p { action = Host x }) x ws waits s.order (stands.means w j old)
     ];
-    forward = kept_forward (record p { deed = Host x });
-    backward = kept_backward (record p { deed = Host x }) (λ a c. elim (contains-cons (Hosts x) [] a c) [ inl same ↦ ap signaled_by (sym same) ∙ quiet | inr later ↦ absurd (none_in a later) ]);
+    forward = kept_forward (record p { action = Host x });
+    backward = kept_backward (record p { action = Host x }) (λ a c. elim (contains-cons (Hosts x) [] a c) [ inl same ↦ ap signaled_by (sym same) ∙ quiet | inr later ↦ absurd (none_in a later) ]);
   } where
     waits_signals : (ws : List SemaphoreValue) (o : Order) → (after_waits past s.signals ws o).signals ≡ o.signals
     waits_signals [] o = refl
@@ -138,10 +138,10 @@ module _ (past : Past) (cleared : IsCleared past) (plain : IsPlain past) (s : St
 
   -- ---- a fill
   abbrev filling : Point → Cmd → Node
-  filling p c = record { number = length (nodes past); point = record p { deed = Run c }; act = Runs c }
+  filling p c = record { number = length (nodes past); point = record p { action = Run c }; act = Runs c }
 
   -- the order still stands after a fill
-  pub after_fill : (p : Point) (b o : ℕ) (n : Length) (word : ℕ) → IsStanding s (record p { deed = Run (cmd.Fill b o n word) } ∷ past)
+  pub after_fill : (p : Point) (b o : ℕ) (n : Length) (word : ℕ) → IsStanding s (record p { action = Run (cmd.Fill b o n word) } ∷ past)
   after_fill p b o n word = record {
     bounded = more_points s.order (length past) stands.bounded;
     rising = stands.rising;
@@ -149,12 +149,12 @@ module _ (past : Past) (cleared : IsCleared past) (plain : IsPlain past) (s : St
     means = λ w j at. elim at [
       | inl new ↦ (let same : cmd.Fill b o n word ≡ new.command = command_is new.command new.runs in
           let count = new.count in
-          subst (λ (k : ℕ). Means s.order (filling p (cmd.Fill b o n word) ∷ nodes past) w k) (sym count) (subst (λ (v : Node). Means s.order (filling p (cmd.Fill b o n word) ∷ nodes past) v (length past)) (sym (new.node_is ∙ ap (λ (c : Cmd). record { number = length (nodes past); point = record p { deed = Run (cmd.Fill b o n word) }; act = Runs c }) (sym same)))
+          subst (λ (k : ℕ). Means s.order (filling p (cmd.Fill b o n word) ∷ nodes past) w k) (sym count) (subst (λ (v : Node). Means s.order (filling p (cmd.Fill b o n word) ∷ nodes past) v (length past)) (sym (new.node_is ∙ ap (λ (c : Cmd). record { number = length (nodes past); point = record p { action = Run (cmd.Fill b o n word) }; act = Runs c }) (sym same)))
           (newest_means s.order (filling p (cmd.Fill b o n word)) (nodes past) refl (numbered past) (length past) stands.bounded)))
-      | inr old ↦ run_means (nodes past) (numbered past) simple (record p { deed = Run (cmd.Fill b o n word) }) (cmd.Fill b o n word) s.order w j (stands.means w j old)
+      | inr old ↦ run_means (nodes past) (numbered past) simple (record p { action = Run (cmd.Fill b o n word) }) (cmd.Fill b o n word) s.order w j (stands.means w j old)
     ];
-    forward = kept_forward (record p { deed = Run (cmd.Fill b o n word) });
-    backward = kept_backward (record p { deed = Run (cmd.Fill b o n word) }) (λ a c. elim (contains-cons (Runs (cmd.Fill b o n word)) [] a c) [ inl same ↦ ap signaled_by (sym same) | inr later ↦ absurd (none_in a later) ]);
+    forward = kept_forward (record p { action = Run (cmd.Fill b o n word) });
+    backward = kept_backward (record p { action = Run (cmd.Fill b o n word) }) (λ a c. elim (contains-cons (Runs (cmd.Fill b o n word)) [] a c) [ inl same ↦ ap signaled_by (sym same) | inr later ↦ absurd (none_in a later) ]);
   } where
     command_is : (c : Cmd) → Run (cmd.Fill b o n word) ≡ Run c → cmd.Fill b o n word ≡ c
     command_is c e = cc
@@ -169,11 +169,11 @@ module _ (past : Past) (cleared : IsCleared past) (plain : IsPlain past) (s : St
     after = submitted p.entry p.queue past (served_of past cleared) last
 
     abbrev at_run : Cmd → Point
-    at_run c = record p { deed = Run c }
+    at_run c = record p { action = Run c }
 
     -- and after a barrier
-    pub after_barrier : (es : List Element) → list_all is_memory es ≡ true → IsElsewhere (record p { deed = Run (cmd.Barrier es) }) past
-        → IsStanding (record { order = after_elements s.order (length past) es s.order; signals = s.signals }) (record p { deed = Run (cmd.Barrier es) } ∷ past)
+    pub after_barrier : (es : List Element) → list_all is_memory es ≡ true → IsElsewhere (record p { action = Run (cmd.Barrier es) }) past
+        → IsStanding (record { order = after_elements s.order (length past) es s.order; signals = s.signals }) (record p { action = Run (cmd.Barrier es) } ∷ past)
     after_barrier es all away = record {
       bounded = more_points (after_elements s.order (length past) es s.order) (length past) (bounded_elements s.order s.order (length past) es stands.bounded stands.bounded);
       rising = stands.rising;
@@ -203,10 +203,10 @@ module _ (past : Past) (cleared : IsCleared past) (plain : IsPlain past) (s : St
       elements_signals (element.Image e ∷ es) o = elements_signals es o
 
     abbrev at_signal : SemaphoreSubmit → Point
-    at_signal x = record p { deed = Signal x }
+    at_signal x = record p { action = Signal x }
 
     abbrev signaling : SemaphoreSubmit → Node
-    signaling x = record { number = length (nodes past); point = record p { deed = Signal x }; act = Signals x }
+    signaling x = record { number = length (nodes past); point = record p { action = Signal x }; act = Signals x }
 
     abbrev new_clock : SemaphoreSubmit → Clock
     new_clock x = signal_at s.order x.stages.0 (length past)
@@ -215,7 +215,7 @@ module _ (past : Past) (cleared : IsCleared past) (plain : IsPlain past) (s : St
     new_signal x = record { semaphore = x.semaphore; value = x.value; clock = signal_at s.order x.stages.0 (length past) }
 
     -- and after a signal
-    pub after_signal_point : (x : SemaphoreSubmit) → IsStanding (after_signal x (signal_at s.order x.stages.0 (length past)) s) (record p { deed = Signal x } ∷ past)
+    pub after_signal_point : (x : SemaphoreSubmit) → IsStanding (after_signal x (signal_at s.order x.stages.0 (length past)) s) (record p { action = Signal x } ∷ past)
     after_signal_point x = record {
       bounded = more_points (record s.order { signals = joined s.order.signals (new_clock x) }) (length past) (record {
         transfers = b.transfers;
@@ -286,10 +286,10 @@ stands [] cleared plain apart = record {
 } where
   zero_low : 0 ≤ 0
   zero_low = omega arith
-stands (p ∷ past) cleared plain apart = next p.deed cleared.0.served plain.0 apart.0 (stands past cleared.1 plain.1 apart.1) where
-  next : (d : Deed) → is_served_deed d ≡ true → Placed (host_of d) p past → IsElsewhere (record p { deed = d }) past → IsStanding (standing past) past → IsStanding (after_deed past d (standing past)) (record p { deed = d } ∷ past)
-  next = let P : Deed → Type 0 = λ d. Placed (host_of d) p past → IsElsewhere (record p { deed = d }) past → IsStanding (standing past) past → IsStanding (after_deed past d (standing past)) (record p { deed = d } ∷ past) in
-      deed_cases P
+stands (p ∷ past) cleared plain apart = next p.action cleared.0.served plain.0 apart.0 (stands past cleared.1 plain.1 apart.1) where
+  next : (d : Action) → is_served_action d ≡ true → Placed (host_of d) p past → IsElsewhere (record p { action = d }) past → IsStanding (standing past) past → IsStanding (after_action past d (standing past)) (record p { action = d } ∷ past)
+  next = let P : Action → Type 0 = λ d. Placed (host_of d) p past → IsElsewhere (record p { action = d }) past → IsStanding (standing past) past → IsStanding (after_action past d (standing past)) (record p { action = d } ∷ past) in
+      action_cases P
       (entry_cases (λ x. P (Host x))
       (λ i b t is other placed away old. after_host past cleared.1 plain.1 (standing past) old p (entry.Buffer i b) refl [] refl)
       (λ b placed away old. after_host past cleared.1 plain.1 (standing past) old p (entry.Map b) refl [] refl)

@@ -44,15 +44,15 @@ past-next points count x is = ap past_of (take_next points count x is) ∙ past_
 pub ruleset steps = (past-next)
 
 -- what a signal adds to the values of its semaphore
-pub signaled-some : (p : spec.Point) (past : spec.Past) (x y : ℕ) → signal_of p.deed ≡ Some (x, y) → (s : ℕ) → fold max 0 (signaled (p ∷ past) s) ≡ cond (x == s) (max y (fold max 0 (signaled past s))) (fold max 0 (signaled past s))
+pub signaled-some : (p : spec.Point) (past : spec.Past) (x y : ℕ) → signal_of p.action ≡ Some (x, y) → (s : ℕ) → fold max 0 (signaled (p ∷ past) s) ≡ cond (x == s) (max y (fold max 0 (signaled past s))) (fold max 0 (signaled past s))
 signaled-some p past x y e s = rw e (elim (x == s) as (λ b. fold max 0 (cons_option (cond b (Some y) None) (signaled past s)) ≡ cond b (max y (fold max 0 (signaled past s))) (fold max 0 (signaled past s))) [ true ↦ (let f = fold-max (signaled past s) (max 0 y) in omega arith) | false ↦ refl ])
 
 -- what writes nothing leaves each byte its last writer
-pub unwritten-next : (p : spec.Point) (past : spec.Past) (b k : ℕ) → writes_byte past p.deed b k ≡ false → last_writer (p ∷ past) b k ≡ last_writer past b k
+pub unwritten-next : (p : spec.Point) (past : spec.Past) (b k : ℕ) → writes_byte past p.action b k ≡ false → last_writer (p ∷ past) b k ≡ last_writer past b k
 unwritten-next p past b k e = rw e refl
 
 -- a point that writes nothing leaves the last writers
-pub writers_stay : (writers : ℕ → Option LastWriters) (p : spec.Point) (past : spec.Past) → ((b k : ℕ) → writes_byte past p.deed b k ≡ false) → WritersAre writers past → WritersAre writers (p ∷ past)
+pub writers_stay : (writers : ℕ → Option LastWriters) (p : spec.Point) (past : spec.Past) → ((b k : ℕ) → writes_byte past p.action b k ≡ false) → WritersAre writers past → WritersAre writers (p ∷ past)
 writers_stay writers p past none are b k lt = subst (λ (w : Option ℕ). WasLast (writers b) k w) (sym (unwritten-next p past b k (none b k))) (are b k lt)
 
 within_not_low : (o n k : ℕ) → k < o → within o n k ≡ false
@@ -65,7 +65,7 @@ within_yes : (o n k : ℕ) → o ≤ k → k < o + n → within o n k ≡ true
 within_yes o n k low high = rw (le-leb o k low, lt-ltb k (o + n) high) refl
 
 -- a fill makes itself the last writer of its bytes
-pub writers_next : (old new : ℕ → Option LastWriters) (p : spec.Point) (past : spec.Past) (b first last n : ℕ) → WritersAre old past → IsFillOf past p.deed b first last → n ≡ length past
+pub writers_next : (old new : ℕ → Option LastWriters) (p : spec.Point) (past : spec.Past) (b first last n : ℕ) → WritersAre old past → IsFillOf past p.action b first last → n ≡ length past
     → IsSome (new b) → IfSome (new b) (λ w. IsAssigned (old b) w first last n) → ((other : ℕ) → other ≢ b → new other ≡ old other) → WritersAre new (p ∷ past)
 writers_next old new p past b first last n are fill here stands assigned others = λ c k lt. by_buffer c k lt (b == c) refl where
   size : ℕ

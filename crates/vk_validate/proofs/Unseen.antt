@@ -12,7 +12,7 @@ use Rattle.vk_model.specs.declared.entry.Entry.TheVariants as entry
 use Rattle.vk_model.specs.Words.{holds, below}
 use Rattle.vk_model.specs.World.{Byte, in_buffer, resource_at}
 use Rattle.vk_model.specs.Moves.{buffer_size, fill_size}
-use Rattle.vk_model.specs.Point.{Past, Point, Deed, Host, Run, Signal, host_of}
+use Rattle.vk_model.specs.Point.{Past, Point, Action, Host, Run, Signal, host_of}
 use Rattle.vk_model.specs.Objects.{is_cached}
 use Rattle.vk_model.specs.Node.{Node, Hosts, Runs, acts, nodes}
 use Rattle.vk_model.specs.Edge.{edge, is_host, is_command, transfer_stage, second_scope}
@@ -21,13 +21,13 @@ use Rattle.vk_model.specs.Seen.{Read, Write}
 use Rattle.vk_model.specs.Access.{raw, waw, reads, writes, sees, precedes, is_in, host_reads}
 use Rattle.vk_model.specs.RulesBytes.{breaks_hazard_raw, breaks_hazard_waw}
 use Rattle.vk_validate.specs.Cleared.{IsCleared}
-use Rattle.vk_validate.specs.Served.{is_served, is_served_deed}
+use Rattle.vk_validate.specs.Served.{is_served, is_served_action}
 use Rattle.vk_validate.specs.Standing.{standing}
 use Rattle.vk_validate.specs.Tabled.{last_writer}
 use Rattle.vk_validate.specs.Tests.{reads_unseen, overwrites_unseen}
 use Rattle.vk_validate.proofs.Members.{none_in, contains-cons, contains-head, contains-tail, all_passes, some_member, member_passes, any_map}
 use Rattle.vk_validate.proofs.Truths.{no, clash, bool_same}
-use Rattle.vk_validate.proofs.Forms.{entry_cases, command_cases, deed_cases}
+use Rattle.vk_validate.proofs.Forms.{entry_cases, command_cases, action_cases}
 use Rattle.vk_validate.proofs.Pasts.{served-next}
 use Rattle.vk_validate.proofs.Plain.{IsPlain, Placed, LastSubmit}
 use Rattle.vk_validate.proofs.Growth.{number_below, numbered}
@@ -51,10 +51,10 @@ use Rattle.vk_validate.proofs.FillWriters.{writer_of, last_node}
 
 module _ (past : Past) (cleared : IsCleared past) (plain : IsPlain past) (apart : IsApart past) (p : Point) (b o n : ℕ) where
   abbrev reading : Point
-  reading = record p { deed = Host (entry.Read b o n) }
+  reading = record p { action = Host (entry.Read b o n) }
 
   abbrev reader : Node
-  reader = record { number = length (nodes past); point = record p { deed = Host (entry.Read b o n) }; act = Hosts (entry.Read b o n) }
+  reader = record { number = length (nodes past); point = record p { action = Host (entry.Read b o n) }; act = Hosts (entry.Read b o n) }
 
   abbrev readable : ℕ
   readable = (standing past).order.host.readable
@@ -123,10 +123,10 @@ module _ (past : Past) (cleared : IsCleared past) (plain : IsPlain past) (apart 
 
 module _ (past : Past) (cleared : IsCleared past) (plain : IsPlain past) (apart : IsApart past) (p : Point) (last : LastSubmit p.entry p.queue past) (b o : ℕ) (n : Length) (word : ℕ) where
   abbrev writing : Point
-  writing = record p { deed = Run (cmd.Fill b o n word) }
+  writing = record p { action = Run (cmd.Fill b o n word) }
 
   abbrev writer : Node
-  writer = record { number = length (nodes past); point = record p { deed = Run (cmd.Fill b o n word) }; act = Runs (cmd.Fill b o n word) }
+  writer = record { number = length (nodes past); point = record p { action = Run (cmd.Fill b o n word) }; act = Runs (cmd.Fill b o n word) }
 
   abbrev to_writes : ℕ
   to_writes = (standing past).order.to_writes
@@ -203,7 +203,7 @@ module _ (past : Past) (cleared : IsCleared past) (plain : IsPlain past) (apart 
 
 -- ---- all forms
 
-module _ (past : Past) (p : Point) (cleared : IsCleared past) (now : is_served_deed p.deed ≡ true) (plain : IsPlain (p ∷ past)) (apart : IsApart past) where
+module _ (past : Past) (p : Point) (cleared : IsCleared past) (now : is_served_action p.action ≡ true) (plain : IsPlain (p ∷ past)) (apart : IsApart past) where
   -- nodes that read nothing, and such as write nothing, have no hazard of these
   unread : (pt : Point) (y x : Node) → reads (pt ∷ past) y ≡ [] → (precedes x y && raw (pt ∷ past) x y) ≡ false
   unread pt y x e = rw e (and-false (precedes x y))
@@ -211,34 +211,34 @@ module _ (past : Past) (p : Point) (cleared : IsCleared past) (now : is_served_d
   unwritten : (pt : Point) (y x : Node) → writes (pt ∷ past) y ≡ [] → (precedes x y && waw (pt ∷ past) x y) ≡ false
   unwritten pt y x e = rw e (and-false (precedes x y))
 
-  quiet_raw : (d : Deed) → is_served_deed d ≡ true → list_all (λ a. not (is_host a)) (acts d) ≡ true → breaks_hazard_raw past (record p { deed = d }) ≡ false
-  quiet_raw d h none = hazard_none raw past (record p { deed = d }) (λ y cy x cx.
-      let m = lined_act (record p { deed = d }) (length (nodes past)) (acts d) y cy in
-      unread (record p { deed = d }) y x (reads_none (record p { deed = d } ∷ past) y.point.queue y.act (all_passes is_served_act (acts d) y.act (served_acts d h) m.0) (not-true (is_host y.act) (all_passes (λ a. not (is_host a)) (acts d) y.act none m.0))))
+  quiet_raw : (d : Action) → is_served_action d ≡ true → list_all (λ a. not (is_host a)) (acts d) ≡ true → breaks_hazard_raw past (record p { action = d }) ≡ false
+  quiet_raw d h none = hazard_none raw past (record p { action = d }) (λ y cy x cx.
+      let m = lined_act (record p { action = d }) (length (nodes past)) (acts d) y cy in
+      unread (record p { action = d }) y x (reads_none (record p { action = d } ∷ past) y.point.queue y.act (all_passes is_served_act (acts d) y.act (served_acts d h) m.0) (not-true (is_host y.act) (all_passes (λ a. not (is_host a)) (acts d) y.act none m.0))))
 
-  quiet_waw : (d : Deed) → is_served_deed d ≡ true → list_all (λ a. not (is_command a)) (acts d) ≡ true → breaks_hazard_waw past (record p { deed = d }) ≡ false
-  quiet_waw d h none = hazard_none waw past (record p { deed = d }) (λ y cy x cx.
-      let m = lined_act (record p { deed = d }) (length (nodes past)) (acts d) y cy in
-      unwritten (record p { deed = d }) y x (writes_none (record p { deed = d } ∷ past) y.point.queue y.act (all_passes is_served_act (acts d) y.act (served_acts d h) m.0) (not-true (is_command y.act) (all_passes (λ a. not (is_command a)) (acts d) y.act none m.0))))
+  quiet_waw : (d : Action) → is_served_action d ≡ true → list_all (λ a. not (is_command a)) (acts d) ≡ true → breaks_hazard_waw past (record p { action = d }) ≡ false
+  quiet_waw d h none = hazard_none waw past (record p { action = d }) (λ y cy x cx.
+      let m = lined_act (record p { action = d }) (length (nodes past)) (acts d) y cy in
+      unwritten (record p { action = d }) y x (writes_none (record p { action = d } ∷ past) y.point.queue y.act (all_passes is_served_act (acts d) y.act (served_acts d h) m.0) (not-true (is_command y.act) (all_passes (λ a. not (is_command a)) (acts d) y.act none m.0))))
 
-  host_raw : (x : Entry) → host_reads x ≡ [] → breaks_hazard_raw past (record p { deed = Host x }) ≡ false
-  host_raw x none = hazard_none raw past (record p { deed = Host x }) (λ y cy z cz. elim (contains-cons (record { number = length (nodes past); point = record p { deed = Host x }; act = Hosts x }) [] y cy) [
-    | inl same ↦ unread (record p { deed = Host x }) y z (ap (λ (m : Node). reads (record p { deed = Host x } ∷ past) m) (sym same) ∙ none)
+  host_raw : (x : Entry) → host_reads x ≡ [] → breaks_hazard_raw past (record p { action = Host x }) ≡ false
+  host_raw x none = hazard_none raw past (record p { action = Host x }) (λ y cy z cz. elim (contains-cons (record { number = length (nodes past); point = record p { action = Host x }; act = Hosts x }) [] y cy) [
+    | inl same ↦ unread (record p { action = Host x }) y z (ap (λ (m : Node). reads (record p { action = Host x } ∷ past) m) (sym same) ∙ none)
     | inr later ↦ absurd (none_in y later)
   ])
 
-  pub hazard_raw_is : breaks_hazard_raw past p ≡ reads_unseen past p.deed
+  pub hazard_raw_is : breaks_hazard_raw past p ≡ reads_unseen past p.action
   hazard_raw_is =
-      let P : Deed → Type 0 = λ d. breaks_hazard_raw past (record p { deed = d }) ≡ reads_unseen past d in
-      deed_cases P
+      let P : Action → Type 0 = λ d. breaks_hazard_raw past (record p { action = d }) ≡ reads_unseen past d in
+      action_cases P
       (entry_cases (λ x. P (Host x)) (λ i b t is other. host_raw (entry.Buffer i b) refl) (λ b. host_raw (entry.Map b) refl) (λ b o n. raw_is past cleared plain.1 apart p b o n) (λ i v. host_raw (entry.Semaphore i v) refl) (λ ws. host_raw (entry.Wait ws) refl) (λ bs. host_raw (entry.Submit 0 bs) refl))
       (command_cases (λ c. P (Run c)) (λ b o n w. quiet_raw (Run (cmd.Fill b o n w)) refl refl) (λ es all. quiet_raw (Run (cmd.Barrier es)) all (batch_acts (Run (cmd.Barrier es)) all refl)))
-      (λ s. quiet_raw (Signal s) refl refl) p.deed now
+      (λ s. quiet_raw (Signal s) refl refl) p.action now
 
-  pub hazard_waw_is : breaks_hazard_waw past p ≡ overwrites_unseen past p.deed
+  pub hazard_waw_is : breaks_hazard_waw past p ≡ overwrites_unseen past p.action
   hazard_waw_is =
-      let P : Deed → Type 0 = λ d. Placed (host_of d) p past → breaks_hazard_waw past (record p { deed = d }) ≡ overwrites_unseen past d in
-      deed_cases P
+      let P : Action → Type 0 = λ d. Placed (host_of d) p past → breaks_hazard_waw past (record p { action = d }) ≡ overwrites_unseen past d in
+      action_cases P
       (λ x h placed. quiet_waw (Host x) h refl)
       (command_cases (λ c. P (Run c)) (λ b o n w placed. waw_is past cleared plain.1 apart p placed b o n w) (λ es all placed. quiet_waw (Run (cmd.Barrier es)) all (idle_elements es)))
-      (λ s placed. quiet_waw (Signal s) refl refl) p.deed now plain.0
+      (λ s placed. quiet_waw (Signal s) refl refl) p.action now plain.0

@@ -11,15 +11,15 @@ use Rattle.vk_model.specs.RulesRanges.{breaks_range, breaks_align}
 use Rattle.vk_model.specs.RulesLayouts.{breaks_stage}
 use Rattle.vk_model.specs.RulesSync.{breaks_signal_value, breaks_wait_never}
 use Rattle.vk_model.specs.RulesBytes.{breaks_limit}
-use Rattle.vk_validate.specs.Served.{is_served_deed}
+use Rattle.vk_validate.specs.Served.{is_served_action}
 use Rattle.vk_validate.specs.Tests.{names_dead, lacks_usage, reads_unmapped, maps_local, reads_unseen, overwrites_unseen, reads_unwritten}
 
 -- The test of a rule, of a point of a form that is served. Such a point can't break the rules that have none.
 unfoldable pub tests : Rule → Past → Point → Bool
 tests rule.NewId past p = breaks_new_id past p
-tests rule.LiveId past p = names_dead past p.deed
+tests rule.LiveId past p = names_dead past p.action
 tests rule.Size past p = breaks_size past p
-tests rule.Usage past p = lacks_usage past p.deed
+tests rule.Usage past p = lacks_usage past p.action
 tests rule.MemoryType past p = breaks_memory_type past p
 tests rule.MemorySize past p = breaks_memory_size past p
 tests rule.Range past p = breaks_range past p
@@ -27,11 +27,11 @@ tests rule.Align past p = breaks_align past p
 tests rule.Stage past p = breaks_stage past p
 tests rule.SignalValue past p = breaks_signal_value past p
 tests rule.WaitNever past p = breaks_wait_never past p
-tests rule.MapState past p = reads_unmapped past p.deed
-tests rule.HostVisible past p = maps_local past p.deed
-tests rule.HazardRaw past p = reads_unseen past p.deed
-tests rule.HazardWaw past p = overwrites_unseen past p.deed
-tests rule.ReadUndefined past p = reads_unwritten past p.deed
+tests rule.MapState past p = reads_unmapped past p.action
+tests rule.HostVisible past p = maps_local past p.action
+tests rule.HazardRaw past p = reads_unseen past p.action
+tests rule.HazardWaw past p = overwrites_unseen past p.action
+tests rule.ReadUndefined past p = reads_unwritten past p.action
 tests rule.Limit past p = breaks_limit past p
 tests _ past p = false
 
@@ -41,7 +41,7 @@ first_test past p = find (λ r. tests r past p) rules
 
 -- No test finds a point, and all are of forms that are served.
 pub record IsClear (past : Past) (p : Point) : Type 0 where
-  pub served : is_served_deed p.deed ≡ true
+  pub served : is_served_action p.action ≡ true
   pub clear : first_test past p ≡ None
 
 -- The same of all points of a past.

@@ -4,29 +4,29 @@ use Rattle.vk_model.specs.declared.command.Cmd.TheVariants as cmd
 use Rattle.vk_model.specs.declared.command.Length.{Length}
 use Rattle.vk_model.specs.declared.entry.Entry.{Entry}
 use Rattle.vk_model.specs.Moves.{buffer_size, fill_size}
-use Rattle.vk_model.specs.Point.{Past, Deed, Host, Run, Signal}
+use Rattle.vk_model.specs.Point.{Past, Action, Host, Run, Signal}
 use Rattle.vk_model.specs.Objects.{made_by}
 use Rattle.vk_model.specs.Order.{signal_of}
 use Rattle.vk_model.specs.RulesMapping.{maps}
 use Rattle.vk_validate.specs.declared.tables.Change.{Change}
 use Rattle.vk_validate.specs.declared.tables.Change.TheVariants as change
 use Rattle.vk_validate.specs.Tabled.{writes_byte}
-use Rattle.vk_validate.specs.Standing.{Standing, standing, after_deed, signal_at}
+use Rattle.vk_validate.specs.Standing.{Standing, standing, after_action, signal_at}
 use Rattle.vk_validate.specs.declared.clocks.Clock.{Clock}
 use Rattle.vk_model.specs.declared.entry.SemaphoreSubmit.{SemaphoreSubmit}
 
--- A deed that makes, maps and signals nothing.
-pub record IsQuiet (d : Deed) : Type 0 where
+-- An action that makes, maps and signals nothing.
+pub record IsQuiet (d : Action) : Type 0 where
   pub makes_none : (x : Entry) → d ≡ Host x → made_by x ≡ None
   pub maps_none : (x : Entry) → d ≡ Host x → maps x ≡ None
   pub signals_none : signal_of d ≡ None
 
--- A deed that writes nothing.
-abbrev pub WritesNone : Past → Deed → Type 0
+-- An action that writes nothing.
+abbrev pub WritesNone : Past → Action → Type 0
 WritesNone past d = (b k : ℕ) → writes_byte past d b k ≡ false
 
 -- A fill that writes just the bytes from `first` to `last` of a buffer.
-pub record IsFillOf (past : Past) (d : Deed) (b first last : ℕ) : Type 0 where
+pub record IsFillOf (past : Past) (d : Action) (b first last : ℕ) : Type 0 where
   pub offset : ℕ
   pub size : Length
   pub word : ℕ
@@ -35,23 +35,23 @@ pub record IsFillOf (past : Past) (d : Deed) (b first last : ℕ) : Type 0 where
   pub first_is : first ≡ offset
   pub last_is : last ≡ min (offset + (fill_size (buffer_size past b) offset size - 1)) (2 ^ 64 - 1)
 
--- A deed that orders nothing.
-abbrev pub OrdersNone : Past → Deed → Type 0
-OrdersNone past d = (old : Standing) → after_deed past d old ≡ old
+-- An action that orders nothing.
+abbrev pub OrdersNone : Past → Action → Type 0
+OrdersNone past d = (old : Standing) → after_action past d old ≡ old
 
 -- A signal of a semaphore with a value, of this clock.
-pub record IsSignalOf (past : Past) (d : Deed) (s v : ℕ) (clock : Clock) : Type 0 where
+pub record IsSignalOf (past : Past) (d : Action) (s v : ℕ) (clock : Clock) : Type 0 where
   pub submit : SemaphoreSubmit
   pub is : d ≡ Signal submit
   pub semaphore_is : submit.semaphore ≡ s
   pub value_is : submit.value ≡ v
   pub clock_is : clock ≡ signal_at (standing past).order submit.stages.0 (length past)
 
--- A change of the tables is what a deed does.
-abbrev pub Fits : Change → Past → Deed → Type 0
+-- A change of the tables is what an action does.
+abbrev pub Fits : Change → Past → Action → Type 0
 Fits change.Nothing past d = IsQuiet d × WritesNone past d × OrdersNone past d
 Fits (change.Made i x) past d = (d ≡ Host x.now) × (made_by x.now ≡ Some i) × (maps x.now ≡ None) × (signal_of d ≡ None) × OrdersNone past d
 Fits (change.Mapped b) past d = (x : Entry) × (d ≡ Host x) × (made_by x ≡ None) × (maps x ≡ Some b) × (signal_of d ≡ None) × OrdersNone past d
 Fits (change.Written b s n) past d = IsQuiet d × IsFillOf past d b s.first s.last × (n ≡ length past)
 Fits (change.Signaled s v clock) past d = IsSignalOf past d s v clock
-Fits (change.Ordered o) past d = IsQuiet d × WritesNone past d × (after_deed past d (standing past) ≡ record (standing past) { order = o })
+Fits (change.Ordered o) past d = IsQuiet d × WritesNone past d × (after_action past d (standing past) ≡ record (standing past) { order = o })

@@ -9,7 +9,7 @@ use Rattle.vk_model.specs.declared.entry.Entry.{Entry}
 use Rattle.vk_model.specs.declared.entry.Entry.TheVariants as entry
 use Rattle.vk_model.specs.declared.resource.Place.{Place}
 use Rattle.vk_model.specs.declared.resource.Place.TheVariants as place
-use Rattle.vk_model.specs.Point.{Past, Deed, Host, Wait, Run, Signal}
+use Rattle.vk_model.specs.Point.{Past, Action, Host, Wait, Run, Signal}
 
 -- Memory of a buffer's own, of a type other than 2, whose host accesses go through a cache.
 abbrev pub is_served_place : Place → Bool
@@ -38,12 +38,12 @@ is_served_entry (entry.Submit q bs) = q == 0
 is_served_entry _ = false
 
 -- Whether what happens at a point is of a form that is served; a batch's wait is not (profile).
-abbrev pub is_served_deed : Deed → Bool
-is_served_deed (Host x) = is_served_entry x
-is_served_deed (Wait s) = false
-is_served_deed (Run c) = is_served_command c
-is_served_deed (Signal s) = true
+abbrev pub is_served_action : Action → Bool
+is_served_action (Host x) = is_served_entry x
+is_served_action (Wait s) = false
+is_served_action (Run c) = is_served_command c
+is_served_action (Signal s) = true
 
 -- Whether every point of a past is of a form that is served.
 unfoldable pub is_served : Past → Bool
-is_served past = list_all (λ p. is_served_deed p.deed) past
+is_served past = list_all (λ p. is_served_action p.action) past

@@ -10,7 +10,7 @@ use Rattle.vk_model.specs.declared.entry.Entry.TheVariants as entry
 use Rattle.vk_model.specs.declared.entry.SemaphoreSubmit.{SemaphoreSubmit}
 use Rattle.vk_model.specs.declared.entry.SemaphoreValue.{SemaphoreValue}
 use Rattle.vk_model.specs.Words.{holds, has_some}
-use Rattle.vk_model.specs.Point.{Past, Deed, Host, Run, Signal}
+use Rattle.vk_model.specs.Point.{Past, Action, Host, Run, Signal}
 use Rattle.vk_model.specs.Objects.{initial}
 use Rattle.vk_model.specs.Edge.{transfer_stage, host_stage, all_commands}
 use Rattle.vk_model.specs.Seen.{Read, Write, command_mask, host_mask}
@@ -106,12 +106,12 @@ abbrev pub after_command : Past → Cmd → Standing → Standing
 after_command past (cmd.Barrier es) old = record old { order = after_elements old.order (length past) es old.order }
 after_command past _ old = old
 
--- When a deed has happened.
-abbrev pub after_deed : Past → Deed → Standing → Standing
-after_deed past (Host x) old = after_entry past x old
-after_deed past (Run c) old = after_command past c old
-after_deed past (Signal s) old = after_signal s (signal_at old.order s.stages.0 (length past)) old
-after_deed past _ old = old
+-- When an action has happened.
+abbrev pub after_action : Past → Action → Standing → Standing
+after_action past (Host x) old = after_entry past x old
+after_action past (Run c) old = after_command past c old
+after_action past (Signal s) old = after_signal s (signal_at old.order s.stages.0 (length past)) old
+after_action past _ old = old
 
 -- Before the first point.
 abbrev pub start : Standing
@@ -123,4 +123,4 @@ start = record {
 -- The order after a past.
 abbrev pub standing : Past → Standing
 standing [] = start
-standing (p ∷ past) = after_deed past p.deed (standing past)
+standing (p ∷ past) = after_action past p.action (standing past)

@@ -6,7 +6,7 @@ use Rattle.std.specs.Ordering.{nat_cmp}
 use Rattle.std.specs.BTreeMap.{get}
 use Rattle.vk_model.specs.declared.entry.Entry.{Entry}
 use Rattle.vk_model.specs.Words.{holds, within}
-use Rattle.vk_model.specs.Point.{Past, Deed, Run, entries}
+use Rattle.vk_model.specs.Point.{Past, Action, Run, entries}
 use Rattle.vk_model.specs.Objects.{made}
 use Rattle.vk_model.specs.Order.{signaled}
 use Rattle.vk_model.specs.RulesMapping.{maps}
@@ -42,14 +42,14 @@ fills_byte past (cmd.Fill c o n w) b k = c == b && within o (fill_size (buffer_s
 fills_byte past _ b k = false
 
 -- Whether a point writes byte k of a buffer.
-abbrev pub writes_byte : Past → Deed → ℕ → ℕ → Bool
+abbrev pub writes_byte : Past → Action → ℕ → ℕ → Bool
 writes_byte past (Run c) b k = fills_byte past c b k
 writes_byte past _ b k = false
 
 -- The number of the point whose command wrote byte k of a buffer last.
 abbrev pub last_writer : Past → ℕ → ℕ → Option ℕ
 last_writer [] b k = None
-last_writer (p ∷ past) b k = if writes_byte past p.deed b k then Some (length past) else last_writer past b k
+last_writer (p ∷ past) b k = if writes_byte past p.action b k then Some (length past) else last_writer past b k
 
 -- The last writer of each byte of each buffer.
 abbrev pub WritersAre : (ℕ → Option LastWriters) → Past → Type 0

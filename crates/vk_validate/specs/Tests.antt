@@ -8,7 +8,7 @@ use Rattle.vk_model.specs.declared.entry.Entry.TheVariants as entry
 use Rattle.vk_model.specs.declared.resource.Place.{Place}
 use Rattle.vk_model.specs.declared.resource.Place.TheVariants as place
 use Rattle.vk_model.specs.Words.{holds, has_bits, below}
-use Rattle.vk_model.specs.Point.{Past, Deed, Host, Wait, Run, Signal}
+use Rattle.vk_model.specs.Point.{Past, Action, Host, Wait, Run, Signal}
 use Rattle.vk_model.specs.Objects.{buffer, initial}
 use Rattle.vk_model.specs.RulesSizes.{is_outside}
 use Rattle.vk_model.specs.Moves.{buffer_size, fill_size}
@@ -28,7 +28,7 @@ command_names_dead past (cmd.Fill b o n w) = not (is_some (buffer past b))
 command_names_dead past _ = false
 
 -- LIVE_ID: no object ends, and a submit makes none.
-abbrev pub names_dead : Past → Deed → Bool
+abbrev pub names_dead : Past → Action → Bool
 names_dead past (Host x) = entry_names_dead past x
 names_dead past (Wait s) = not (is_some (initial past s.semaphore))
 names_dead past (Run c) = command_names_dead past c
@@ -45,7 +45,7 @@ command_lacks_usage past (cmd.Fill b o n w) = not (holds (buffer past b) (λ i. 
 command_lacks_usage past _ = false
 
 -- USAGE, of what happens at a point.
-abbrev pub lacks_usage : Past → Deed → Bool
+abbrev pub lacks_usage : Past → Action → Bool
 lacks_usage past (Host x) = entry_lacks_usage x
 lacks_usage past (Run c) = command_lacks_usage past c
 lacks_usage past _ = false
@@ -56,7 +56,7 @@ reads_unmapped_entry past (entry.Read b o n) = not (was_mapped past b)
 reads_unmapped_entry past _ = false
 
 -- The same of what happens at a point.
-abbrev pub reads_unmapped : Past → Deed → Bool
+abbrev pub reads_unmapped : Past → Action → Bool
 reads_unmapped past (Host x) = reads_unmapped_entry past x
 reads_unmapped past _ = false
 
@@ -71,7 +71,7 @@ maps_local_entry past (entry.Map b) = holds (buffer past b) (λ i. is_on_type_0 
 maps_local_entry past _ = false
 
 -- The same of what happens at a point.
-abbrev pub maps_local : Past → Deed → Bool
+abbrev pub maps_local : Past → Action → Bool
 maps_local past (Host x) = maps_local_entry past x
 maps_local past _ = false
 
@@ -81,7 +81,7 @@ entry_reads_unseen past (entry.Read b o n) = list_any (λ k. holds (last_writer 
 entry_reads_unseen past _ = false
 
 -- The same of what happens at a point.
-abbrev pub reads_unseen : Past → Deed → Bool
+abbrev pub reads_unseen : Past → Action → Bool
 reads_unseen past (Host x) = entry_reads_unseen past x
 reads_unseen past _ = false
 
@@ -91,7 +91,7 @@ command_overwrites_unseen past (cmd.Fill b o n w) = list_any (λ k. holds (last_
 command_overwrites_unseen past _ = false
 
 -- The same of what happens at a point.
-abbrev pub overwrites_unseen : Past → Deed → Bool
+abbrev pub overwrites_unseen : Past → Action → Bool
 overwrites_unseen past (Run c) = command_overwrites_unseen past c
 overwrites_unseen past _ = false
 
@@ -101,6 +101,6 @@ entry_reads_unwritten past (entry.Read b o n) = list_any (λ k. is_none (last_wr
 entry_reads_unwritten past _ = false
 
 -- The same of what happens at a point.
-abbrev pub reads_unwritten : Past → Deed → Bool
+abbrev pub reads_unwritten : Past → Action → Bool
 reads_unwritten past (Host x) = entry_reads_unwritten past x
 reads_unwritten past _ = false

@@ -2,20 +2,20 @@
 use Rattle.std.specs.Prelude.{ℕ, List, [], ◌∷◌, take}
 use Rattle.std.specs.List.{fold}
 use Rattle.vk_model.specs.Point as spec
-use Rattle.vk_validate.specs.declared.steps.Deed.{Deed}
-use Rattle.vk_validate.specs.declared.steps.Deed.TheVariants as deed
+use Rattle.vk_validate.specs.declared.steps.Action.{Action}
+use Rattle.vk_validate.specs.declared.steps.Action.TheVariants as action
 use Rattle.vk_validate.specs.declared.steps.Step.{Step}
 
 -- What happens at a step.
-abbrev pub deed_of : Deed → spec.Deed
-deed_of (deed.Host x) = spec.Host x.now
-deed_of (deed.Wait s) = spec.Wait s.now
-deed_of (deed.Run c) = spec.Run c.now
-deed_of (deed.Signal s) = spec.Signal s.now
+abbrev pub action_of : Action → spec.Action
+action_of (action.Host x) = spec.Host x.now
+action_of (action.Wait s) = spec.Wait s.now
+action_of (action.Run c) = spec.Run c.now
+action_of (action.Signal s) = spec.Signal s.now
 
 -- The point that a step stands for.
 abbrev pub point_of : Step → spec.Point
-point_of p = record { entry = p.entry; batch = p.batch; place = p.place; queue = p.queue; deed = deed_of p.deed }
+point_of p = record { entry = p.entry; batch = p.batch; place = p.place; queue = p.queue; action = action_of p.action }
 
 -- A past with one step more.
 abbrev pub add : spec.Past → Step → spec.Past

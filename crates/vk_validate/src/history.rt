@@ -7,8 +7,8 @@ ghost use Rattle.vk_model.specs.Point.{Past, Host, Run};
 ghost use Rattle.vk_model.specs.Objects.{made, buffer, initial};
 ghost use Rattle.vk_model.specs.Order.{counter, signaled};
 ghost use Rattle.vk_model.specs.Moves.{buffer_size, fill_size};
-ghost use Rattle.vk_validate.specs.Served.{is_served_deed, is_served_entry, is_served_command};
-ghost use Rattle.vk_validate.specs.Told.{deed_of, point_of, past};
+ghost use Rattle.vk_validate.specs.Served.{is_served_action, is_served_entry, is_served_command};
+ghost use Rattle.vk_validate.specs.Told.{action_of, point_of, past};
 ghost use Rattle.vk_validate.specs.Tabled.{was_mapped, last_writer};
 ghost use Rattle.vk_validate.specs.Fits.{Fits};
 ghost use Rattle.vk_validate.specs.Seeks.{Tells};
@@ -16,7 +16,7 @@ ghost use Rattle.vk_validate.specs.Standing.{standing, after_waits, awaited};
 ghost use Rattle.vk_model.specs.Words.{holds};
 
 use crate::clocks::{Clock, Order};
-use crate::steps::{Deed, Step};
+use crate::steps::{Action, Step};
 use crate::tables::{Change, Tables, note};
 use crate::writers::{Sought, Span};
 use std::alloc::{AllocError, Global};
@@ -180,7 +180,7 @@ impl<'a> History<'a> {
     /// Takes the next point, which is of a form that is served. After an error the history begins anew.
     pub fn advance(&mut self, step: &Step<'a>) -> Result<(), AllocError>
         requires here { slice_get self.old.points self.old.count ≡ Some step.now }
-        requires served { IsTrue (is_served_deed (deed_of step.now.deed)) }
+        requires served { IsTrue (is_served_action (action_of step.now.action)) }
         ensures { OnOk result (self.new ≡ record self.old { count = self.old.count + 1 }) }
     {
         let points = self.points;
@@ -199,14 +199,14 @@ impl<'a> History<'a> {
 
     /// What the next point changes.
     fn change(&self, step: &Step<'a>) -> Change<'a>
-        requires { IsTrue (is_served_deed (deed_of step.now.deed)) }
-        ensures { Fits result (past self.now) (deed_of step.now.deed) }
+        requires { IsTrue (is_served_action (action_of step.now.action)) }
+        ensures { Fits result (past self.now) (action_of step.now.action) }
     {
-        match step.deed {
-            Deed::Host(entry) => self.change_by_entry(entry),
-            Deed::Wait(_) => Change::Nothing,
-            Deed::Run(command) => self.change_by_command(command),
-            Deed::Signal(signal) => {
+        match step.action {
+            Action::Host(entry) => self.change_by_entry(entry),
+            Action::Wait(_) => Change::Nothing,
+            Action::Run(command) => self.change_by_command(command),
+            Action::Signal(signal) => {
                 let clock = self.tables.order.signal_at(signal.stages, self.count);
                 Change::Signaled(signal.semaphore, signal.value, clock)
             }

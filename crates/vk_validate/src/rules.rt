@@ -2,8 +2,8 @@ ghost use Rattle.std.specs.Prelude.{◌≡◌, IsTrue};
 ghost use Rattle.std.specs.List.{find};
 ghost use Rattle.vk_model.specs.Point.{Point};
 ghost use Rattle.vk_model.specs.RulesBytes.{breaks_limit};
-ghost use Rattle.vk_validate.specs.Served.{is_served_deed};
-ghost use Rattle.vk_validate.specs.Told.{deed_of, point_of, past};
+ghost use Rattle.vk_validate.specs.Served.{is_served_action};
+ghost use Rattle.vk_validate.specs.Told.{action_of, point_of, past};
 ghost use Rattle.vk_validate.specs.Cleared.{tests, first_test};
 
 mod commands;
@@ -65,7 +65,7 @@ const RULES: [Rule; 40] = [
 /// The first rule of the table that a point breaks.
 #[tactic(auto, unfolding(crate::specs::Cleared::first_test))]
 pub fn first_rule(history: &History<'_>, step: &Step<'_>) -> Option<Rule>
-    requires { IsTrue (is_served_deed (deed_of step.now.deed)) }
+    requires { IsTrue (is_served_action (action_of step.now.action)) }
     ensures { result ≡ first_test (past history.now) (point_of step.now) }
 {
     first_of(&RULES, history, step)
@@ -73,7 +73,7 @@ pub fn first_rule(history: &History<'_>, step: &Step<'_>) -> Option<Rule>
 
 #[tactic(auto, using(crate::proofs::Clears::finds))]
 fn first_of(rules: &[Rule], history: &History<'_>, step: &Step<'_>) -> Option<Rule>
-    requires { IsTrue (is_served_deed (deed_of step.now.deed)) }
+    requires { IsTrue (is_served_action (action_of step.now.action)) }
     ensures { result ≡ find (λ r. tests r (past history.now) (point_of step.now)) rules.now }
 {
     for rule in rules {
@@ -89,7 +89,7 @@ fn first_of(rules: &[Rule], history: &History<'_>, step: &Step<'_>) -> Option<Ru
 // or destroyed; and the signals of one queue, or a read of the host and a later batch, are always in order.
 #[tactic(auto, unfolding(crate::specs::Cleared::tests))]
 fn breaks(rule: Rule, history: &History<'_>, step: &Step<'_>) -> bool
-    requires { IsTrue (is_served_deed (deed_of step.now.deed)) }
+    requires { IsTrue (is_served_action (action_of step.now.action)) }
     ensures { result ≡ tests rule (past history.now) (point_of step.now) }
 {
     match rule {

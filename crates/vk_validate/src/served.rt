@@ -1,21 +1,21 @@
 ghost use Rattle.std.specs.Prelude.{◌≡◌};
 ghost use Rattle.std.specs.List.{list_all};
 ghost use Rattle.vk_validate.specs.Served as served;
-ghost use Rattle.vk_validate.specs.Told.{deed_of};
+ghost use Rattle.vk_validate.specs.Told.{action_of};
 
-use crate::steps::{Deed, Step};
+use crate::steps::{Action, Step};
 use vk_model::{Cmd, Element, Entry, Place};
 
 /// Whether the rules of this crate cover the point's form. The others have rules that are not written
 /// yet.
 pub fn is_served(step: &Step<'_>) -> bool
-    ensures { result ≡ served.is_served_deed (deed_of step.now.deed) }
+    ensures { result ≡ served.is_served_action (action_of step.now.action) }
 {
-    match step.deed {
-        Deed::Host(entry) => is_served_entry(entry),
-        Deed::Wait(_) => false,
-        Deed::Run(command) => is_served_command(command),
-        Deed::Signal(_) => true,
+    match step.action {
+        Action::Host(entry) => is_served_entry(entry),
+        Action::Wait(_) => false,
+        Action::Run(command) => is_served_command(command),
+        Action::Signal(_) => true,
     }
 }
 

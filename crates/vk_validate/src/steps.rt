@@ -1,6 +1,6 @@
 ghost use Rattle.std.specs.Prelude.{◌≡◌, [], OnOk, IfOk};
 ghost use Rattle.vk_model.specs.Point.{at_of, Run, Signal, Wait};
-ghost use Rattle.vk_model.specs.Order.{deeds, plain_order};
+ghost use Rattle.vk_model.specs.Order.{actions, plain_order};
 ghost use Rattle.vk_validate.specs.Told.{past_of, point_of};
 ghost use Rattle.vk_validate.specs.Laid.{laid_batch, laid_batches, laid_submit, turn_at};
 
@@ -9,7 +9,7 @@ use vk_model::{At, Batch, Cmd, Entry, SemaphoreSubmit};
 
 /// What happens at a point of a trace.
 #[derive(Clone, Copy)]
-pub enum Deed<'a> {
+pub enum Action<'a> {
     /// An entry of the host, a submit too.
     Host(&'a Entry),
     /// A wait of a batch.
@@ -28,7 +28,7 @@ pub struct Step<'a> {
     pub batch: usize,
     pub place: usize,
     pub queue: u32,
-    pub deed: Deed<'a>,
+    pub action: Action<'a>,
 }
 
 impl<'a> Step<'a> {
@@ -36,11 +36,11 @@ impl<'a> Step<'a> {
     pub fn at(&self) -> At
         ensures { result ≡ at_of (point_of self.now) }
     {
-        match self.deed {
-            Deed::Host(_) => At::Entry(self.entry),
-            Deed::Wait(_) => At::Wait(self.entry, self.batch, self.place),
-            Deed::Run(_) => At::Command(self.entry, self.batch, self.place),
-            Deed::Signal(_) => At::Signal(self.entry, self.batch, self.place),
+        match self.action {
+            Action::Host(_) => At::Entry(self.entry),
+            Action::Wait(_) => At::Wait(self.entry, self.batch, self.place),
+            Action::Run(_) => At::Command(self.entry, self.batch, self.place),
+            Action::Signal(_) => At::Signal(self.entry, self.batch, self.place),
         }
     }
 }
@@ -58,7 +58,7 @@ pub fn reference_order<'a>(alloc: Global, entries: &'a [Entry]) -> Result<Vec<St
             batch: 0,
             place: 0,
             queue: 0,
-            deed: Deed::Host(entry),
+            action: Action::Host(entry),
         })?;
         push_submit(&mut points, number, entry)?;
     }
@@ -118,7 +118,7 @@ fn push_waits<'a>(
     queue: u32,
     waits: &'a [SemaphoreSubmit],
 ) -> Result<(), AllocError>
-    ensures { OnOk result (past_of points.new.items ≡ deeds Wait (turn_at entry batch queue) 0 waits.now (past_of points.old.items)) }
+    ensures { OnOk result (past_of points.new.items ≡ actions Wait (turn_at entry batch queue) 0 waits.now (past_of points.old.items)) }
 {
     for (place, wait) in waits.iter().enumerate() {
         points.push(Step {
@@ -126,7 +126,7 @@ fn push_waits<'a>(
             batch,
             place,
             queue,
-            deed: Deed::Wait(wait),
+            action: Action::Wait(wait),
         })?;
     }
     Ok(())
@@ -140,7 +140,7 @@ fn push_commands<'a>(
     queue: u32,
     commands: &'a [Cmd],
 ) -> Result<(), AllocError>
-    ensures { OnOk result (past_of points.new.items ≡ deeds Run (turn_at entry batch queue) 0 commands.now (past_of points.old.items)) }
+    ensures { OnOk result (past_of points.new.items ≡ actions Run (turn_at entry batch queue) 0 commands.now (past_of points.old.items)) }
 {
     for (place, command) in commands.iter().enumerate() {
         points.push(Step {
@@ -148,7 +148,7 @@ fn push_commands<'a>(
             batch,
             place,
             queue,
-            deed: Deed::Run(command),
+            action: Action::Run(command),
         })?;
     }
     Ok(())
@@ -162,7 +162,7 @@ fn push_signals<'a>(
     queue: u32,
     signals: &'a [SemaphoreSubmit],
 ) -> Result<(), AllocError>
-    ensures { OnOk result (past_of points.new.items ≡ deeds Signal (turn_at entry batch queue) 0 signals.now (past_of points.old.items)) }
+    ensures { OnOk result (past_of points.new.items ≡ actions Signal (turn_at entry batch queue) 0 signals.now (past_of points.old.items)) }
 {
     for (place, signal) in signals.iter().enumerate() {
         points.push(Step {
@@ -170,7 +170,7 @@ fn push_signals<'a>(
             batch,
             place,
             queue,
-            deed: Deed::Signal(signal),
+            action: Action::Signal(signal),
         })?;
     }
     Ok(())

@@ -75,7 +75,7 @@ pub fn note<'a>(
     tables: &mut Tables<'a>,
     change: Change<'a>,
 ) -> Result<(), AllocError>
-    ensures { OnOk result ((past : Past) (p : Point) → Fits change.entry past p.deed → IsTabled tables.old past → IsTabled tables.new (p ∷ past)) }
+    ensures { OnOk result ((past : Past) (p : Point) → Fits change.entry past p.action → IsTabled tables.old past → IsTabled tables.new (p ∷ past)) }
 {
     match change {
         Change::Nothing => Ok(()),

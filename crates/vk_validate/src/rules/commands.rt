@@ -1,27 +1,27 @@
 ghost use Rattle.std.specs.Prelude.{◌≡◌, ◌%◌, ◌==◌, not, IsTrue, ◌||◌, nat_lt, nat_le, ◌+◌};
 ghost use Rattle.vk_model.specs.Point.{Past};
 ghost use Rattle.vk_model.specs.RulesRanges as ranges;
-ghost use Rattle.vk_validate.specs.Served.{is_served_deed, is_served_command};
-ghost use Rattle.vk_validate.specs.Told.{deed_of, point_of, past};
+ghost use Rattle.vk_validate.specs.Served.{is_served_action, is_served_command};
+ghost use Rattle.vk_validate.specs.Told.{action_of, point_of, past};
 
 use crate::history::History;
-use crate::steps::{Deed, Step};
+use crate::steps::{Action, Step};
 use vk_model::{Cmd, Entry, Length};
 
 /// RANGE: bytes outside the buffer, or to the end from the end or past it.
 pub fn breaks_range(history: &History<'_>, step: &Step<'_>) -> bool
-    requires { IsTrue (is_served_deed (deed_of step.now.deed)) }
+    requires { IsTrue (is_served_action (action_of step.now.action)) }
     ensures { result ≡ ranges.breaks_range (past history.now) (point_of step.now) }
 {
-    match step.deed {
-        Deed::Host(
+    match step.action {
+        Action::Host(
             Entry::Read {
                 buffer,
                 offset,
                 size,
             },
         ) => ends_past(history.size(*buffer), *offset, Length::Bytes(*size)),
-        Deed::Run(command) => ends_past_buffer(history, command),
+        Action::Run(command) => ends_past_buffer(history, command),
         _ => false,
     }
 }
@@ -54,11 +54,11 @@ fn ends_past(buffer_size: u64, offset: u64, size: Length) -> bool
 
 /// ALIGN: a fill whose offset or size isn't a multiple of 4.
 pub fn breaks_align(step: &Step<'_>) -> bool
-    requires { IsTrue (is_served_deed (deed_of step.now.deed)) }
+    requires { IsTrue (is_served_action (action_of step.now.action)) }
     ensures { (past : Past) → result ≡ ranges.breaks_align past (point_of step.now) }
 {
-    match step.deed {
-        Deed::Run(Cmd::Fill { offset, size, .. }) => is_off_4(*offset) || has_rest(*size),
+    match step.action {
+        Action::Run(Cmd::Fill { offset, size, .. }) => is_off_4(*offset) || has_rest(*size),
         _ => false,
     }
 }

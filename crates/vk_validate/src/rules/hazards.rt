@@ -1,18 +1,18 @@
 ghost use Rattle.std.specs.Prelude.{◌≡◌};
-ghost use Rattle.vk_validate.specs.Told.{deed_of, past};
+ghost use Rattle.vk_validate.specs.Told.{action_of, past};
 ghost use Rattle.vk_validate.specs.Tests.{reads_unseen, overwrites_unseen, reads_unwritten};
 
 use crate::history::History;
-use crate::steps::{Deed, Step};
+use crate::steps::{Action, Step};
 use crate::writers::Span;
 use vk_model::{Cmd, Entry};
 
 /// HAZARD_RAW: a read of the host without a memory dependency on an earlier write of the byte.
 pub fn breaks_hazard_raw(history: &History<'_>, step: &Step<'_>) -> bool
-    ensures { result ≡ reads_unseen (past history.now) (deed_of step.now.deed) }
+    ensures { result ≡ reads_unseen (past history.now) (action_of step.now.action) }
 {
-    match step.deed {
-        Deed::Host(
+    match step.action {
+        Action::Host(
             Entry::Read {
                 buffer,
                 offset,
@@ -28,10 +28,10 @@ pub fn breaks_hazard_raw(history: &History<'_>, step: &Step<'_>) -> bool
 
 /// HAZARD_WAW: a write without a memory dependency on an earlier write of the byte.
 pub fn breaks_hazard_waw(history: &History<'_>, step: &Step<'_>) -> bool
-    ensures { result ≡ overwrites_unseen (past history.now) (deed_of step.now.deed) }
+    ensures { result ≡ overwrites_unseen (past history.now) (action_of step.now.action) }
 {
-    match step.deed {
-        Deed::Run(
+    match step.action {
+        Action::Run(
             Cmd::Fill {
                 buffer,
                 offset,
@@ -48,10 +48,10 @@ pub fn breaks_hazard_waw(history: &History<'_>, step: &Step<'_>) -> bool
 
 /// READ_UNDEFINED: a read of a byte that was never written.
 pub fn breaks_read_undefined(history: &History<'_>, step: &Step<'_>) -> bool
-    ensures { result ≡ reads_unwritten (past history.now) (deed_of step.now.deed) }
+    ensures { result ≡ reads_unwritten (past history.now) (action_of step.now.action) }
 {
-    match step.deed {
-        Deed::Host(
+    match step.action {
+        Action::Host(
             Entry::Read {
                 buffer,
                 offset,

@@ -6,12 +6,12 @@ ghost use Rattle.vk_model.specs.Objects.{initial, buffer};
 ghost use Rattle.vk_model.specs.RulesIds as ids;
 ghost use Rattle.vk_model.specs.RulesSizes as sizes;
 ghost use Rattle.vk_model.specs.RulesMapping as mapping;
-ghost use Rattle.vk_validate.specs.Served.{is_served_deed, is_served_entry, is_served_command};
-ghost use Rattle.vk_validate.specs.Told.{deed_of, point_of, past};
+ghost use Rattle.vk_validate.specs.Served.{is_served_action, is_served_entry, is_served_command};
+ghost use Rattle.vk_validate.specs.Told.{action_of, point_of, past};
 ghost use Rattle.vk_validate.specs.Tests.{names_dead, lacks_usage, reads_unmapped, is_on_type_0, maps_local};
 
 use crate::history::History;
-use crate::steps::{Deed, Step};
+use crate::steps::{Action, Step};
 use bitflags::Flags;
 use vk_model::{Cmd, Entry, Length, Place, SemaphoreValue, Usage};
 
@@ -26,11 +26,11 @@ const KNOWN_USAGES: u32 = 3;
 
 /// NEW_ID: the id made was made before.
 pub fn breaks_new_id(history: &History<'_>, step: &Step<'_>) -> bool
-    requires { IsTrue (is_served_deed (deed_of step.now.deed)) }
+    requires { IsTrue (is_served_action (action_of step.now.action)) }
     ensures { result ≡ ids.breaks_new_id (past history.now) (point_of step.now) }
 {
-    match step.deed {
-        Deed::Host(Entry::Buffer { id, .. } | Entry::Semaphore { id, .. }) => {
+    match step.action {
+        Action::Host(Entry::Buffer { id, .. } | Entry::Semaphore { id, .. }) => {
             history.made(*id).is_some()
         }
         _ => false,
@@ -39,14 +39,14 @@ pub fn breaks_new_id(history: &History<'_>, step: &Step<'_>) -> bool
 
 /// LIVE_ID: an id named isn't an object of the kind asked.
 pub fn breaks_live_id(history: &History<'_>, step: &Step<'_>) -> bool
-    requires { IsTrue (is_served_deed (deed_of step.now.deed)) }
-    ensures { result ≡ names_dead (past history.now) (deed_of step.now.deed) }
+    requires { IsTrue (is_served_action (action_of step.now.action)) }
+    ensures { result ≡ names_dead (past history.now) (action_of step.now.action) }
 {
-    match step.deed {
-        Deed::Host(entry) => names_dead(history, entry),
-        Deed::Wait(submit) => is_no_semaphore(history, submit.semaphore),
-        Deed::Run(command) => runs_on_dead(history, command),
-        Deed::Signal(submit) => is_no_semaphore(history, submit.semaphore),
+    match step.action {
+        Action::Host(entry) => names_dead(history, entry),
+        Action::Wait(submit) => is_no_semaphore(history, submit.semaphore),
+        Action::Run(command) => runs_on_dead(history, command),
+        Action::Signal(submit) => is_no_semaphore(history, submit.semaphore),
     }
 }
 
@@ -94,14 +94,14 @@ fn runs_on_dead(history: &History<'_>, command: &Cmd) -> bool
 
 /// SIZE: a buffer, a read or a fill of no bytes, or a wait for nothing.
 pub fn breaks_size(history: &History<'_>, step: &Step<'_>) -> bool
-    requires { IsTrue (is_served_deed (deed_of step.now.deed)) }
+    requires { IsTrue (is_served_action (action_of step.now.action)) }
     ensures { result ≡ sizes.breaks_size (past history.now) (point_of step.now) }
 {
-    match step.deed {
-        Deed::Host(Entry::Buffer { info, .. }) => info.size == 0,
-        Deed::Host(Entry::Read { size, .. }) => *size == 0,
-        Deed::Host(Entry::Wait { waits }) => waits.is_empty(),
-        Deed::Run(command) => is_empty_command(history, command),
+    match step.action {
+        Action::Host(Entry::Buffer { info, .. }) => info.size == 0,
+        Action::Host(Entry::Read { size, .. }) => *size == 0,
+        Action::Host(Entry::Wait { waits }) => waits.is_empty(),
+        Action::Run(command) => is_empty_command(history, command),
         _ => false,
     }
 }
@@ -135,12 +135,12 @@ fn fills_none(buffer_size: u64, offset: u64, size: Length) -> bool
 
 /// USAGE: a buffer for nothing or for what isn't known, or a fill of one that isn't a destination.
 pub fn breaks_usage(history: &History<'_>, step: &Step<'_>) -> bool
-    requires { IsTrue (is_served_deed (deed_of step.now.deed)) }
-    ensures { result ≡ lacks_usage (past history.now) (deed_of step.now.deed) }
+    requires { IsTrue (is_served_action (action_of step.now.action)) }
+    ensures { result ≡ lacks_usage (past history.now) (action_of step.now.action) }
 {
-    match step.deed {
-        Deed::Host(Entry::Buffer { info, .. }) => is_bad_usage(info.usage),
-        Deed::Run(Cmd::Fill { buffer, .. }) => is_no_destination(history, *buffer),
+    match step.action {
+        Action::Host(Entry::Buffer { info, .. }) => is_bad_usage(info.usage),
+        Action::Run(Cmd::Fill { buffer, .. }) => is_no_destination(history, *buffer),
         _ => false,
     }
 }
@@ -162,11 +162,11 @@ fn is_no_destination(history: &History<'_>, id: u32) -> bool
 
 /// MEMORY_TYPE: a type that there isn't. A buffer is allowed on each.
 pub fn breaks_memory_type(step: &Step<'_>) -> bool
-    requires { IsTrue (is_served_deed (deed_of step.now.deed)) }
+    requires { IsTrue (is_served_action (action_of step.now.action)) }
     ensures { (past : Past) → result ≡ sizes.breaks_memory_type past (point_of step.now) }
 {
-    match step.deed {
-        Deed::Host(Entry::Buffer { info, .. }) => match info.place {
+    match step.action {
+        Action::Host(Entry::Buffer { info, .. }) => match info.place {
             Place::Dedicated { memory_type } => memory_type > GREATEST_TYPE,
             _ => false,
         },
@@ -177,33 +177,33 @@ pub fn breaks_memory_type(step: &Step<'_>) -> bool
 /// MEMORY_SIZE: a buffer that asks for more than a memory object can have. It asks for its size rounded
 /// up to 16, which passes the limit just where the size does.
 pub fn breaks_memory_size(step: &Step<'_>) -> bool
-    requires { IsTrue (is_served_deed (deed_of step.now.deed)) }
+    requires { IsTrue (is_served_action (action_of step.now.action)) }
     ensures { (past : Past) → result ≡ sizes.breaks_memory_size past (point_of step.now) }
 {
-    match step.deed {
-        Deed::Host(Entry::Buffer { info, .. }) => info.size > GREATEST_MEMORY,
+    match step.action {
+        Action::Host(Entry::Buffer { info, .. }) => info.size > GREATEST_MEMORY,
         _ => false,
     }
 }
 
 /// MAP_STATE: a read of a buffer that isn't mapped. A dedicated buffer may be mapped again.
 pub fn breaks_map_state(history: &History<'_>, step: &Step<'_>) -> bool
-    requires { IsTrue (is_served_deed (deed_of step.now.deed)) }
-    ensures { result ≡ reads_unmapped (past history.now) (deed_of step.now.deed) }
+    requires { IsTrue (is_served_action (action_of step.now.action)) }
+    ensures { result ≡ reads_unmapped (past history.now) (action_of step.now.action) }
 {
-    match step.deed {
-        Deed::Host(Entry::Read { buffer, .. }) => !history.is_mapped(*buffer),
+    match step.action {
+        Action::Host(Entry::Read { buffer, .. }) => !history.is_mapped(*buffer),
         _ => false,
     }
 }
 
 /// HOST_VISIBLE: a map of a buffer on type 0, which is local to the device.
 pub fn breaks_host_visible(history: &History<'_>, step: &Step<'_>) -> bool
-    requires { IsTrue (is_served_deed (deed_of step.now.deed)) }
-    ensures { result ≡ maps_local (past history.now) (deed_of step.now.deed) }
+    requires { IsTrue (is_served_action (action_of step.now.action)) }
+    ensures { result ≡ maps_local (past history.now) (action_of step.now.action) }
 {
-    match step.deed {
-        Deed::Host(Entry::Map { buffer }) => is_device_local(history, *buffer),
+    match step.action {
+        Action::Host(Entry::Map { buffer }) => is_device_local(history, *buffer),
         _ => false,
     }
 }

@@ -7,27 +7,27 @@ ghost use Rattle.vk_model.specs.RulesLayouts.{known_stages};
 ghost use Rattle.vk_model.specs.Ownership.{dependency_of};
 ghost use Rattle.vk_model.specs.RulesSync as sync;
 ghost use Rattle.vk_model.specs.RulesLayouts as layouts;
-ghost use Rattle.vk_validate.specs.Served.{is_served_deed, is_served_command};
-ghost use Rattle.vk_validate.specs.Told.{deed_of, point_of, past};
+ghost use Rattle.vk_validate.specs.Served.{is_served_action, is_served_command};
+ghost use Rattle.vk_validate.specs.Told.{action_of, point_of, past};
 
 use crate::history::History;
 use crate::scopes::{BY_HOST, BY_TRANSFERS, KNOWN_ACCESSES, KNOWN_STAGES, TRANSFERS};
-use crate::steps::{Deed, Step};
+use crate::steps::{Action, Step};
 use bitflags::Flags;
 use vk_model::{Accesses, Cmd, Dependency, Element, Entry, SemaphoreValue, Stages};
 
 /// STAGE: a stage or an access that isn't known, an access that none of the stages makes, or the host
 /// in a wait or signal of a batch.
 pub fn breaks_stage(step: &Step<'_>) -> bool
-    requires { IsTrue (is_served_deed (deed_of step.now.deed)) }
-    ensures { result ≡ layouts.deed_stages (deed_of step.now.deed) }
+    requires { IsTrue (is_served_action (action_of step.now.action)) }
+    ensures { result ≡ layouts.action_stages (action_of step.now.action) }
 {
-    match step.deed {
-        Deed::Host(_) => false,
-        Deed::Wait(submit) => is_bad_submit(submit.stages),
-        Deed::Run(Cmd::Barrier { elements }) => has_bad_element(elements.as_slice()),
-        Deed::Run(_) => false,
-        Deed::Signal(submit) => is_bad_submit(submit.stages),
+    match step.action {
+        Action::Host(_) => false,
+        Action::Wait(submit) => is_bad_submit(submit.stages),
+        Action::Run(Cmd::Barrier { elements }) => has_bad_element(elements.as_slice()),
+        Action::Run(_) => false,
+        Action::Signal(submit) => is_bad_submit(submit.stages),
     }
 }
 
@@ -74,11 +74,11 @@ fn is_bad_scope(stages: Stages, accesses: Accesses) -> bool
 
 /// SIGNAL_VALUE: the value isn't above the initial one and all earlier signals.
 pub fn breaks_signal_value(history: &History<'_>, step: &Step<'_>) -> bool
-    requires { IsTrue (is_served_deed (deed_of step.now.deed)) }
+    requires { IsTrue (is_served_action (action_of step.now.action)) }
     ensures { result ≡ sync.breaks_signal_value (past history.now) (point_of step.now) }
 {
-    match step.deed {
-        Deed::Signal(submit) => is_reached(history, submit.semaphore, submit.value),
+    match step.action {
+        Action::Signal(submit) => is_reached(history, submit.semaphore, submit.value),
         _ => false,
     }
 }
@@ -95,11 +95,11 @@ fn is_reached(history: &History<'_>, semaphore: u32, value: u64) -> bool
 
 /// WAIT_NEVER: the host waits for a value above the counter.
 pub fn breaks_wait_never(history: &History<'_>, step: &Step<'_>) -> bool
-    requires { IsTrue (is_served_deed (deed_of step.now.deed)) }
+    requires { IsTrue (is_served_action (action_of step.now.action)) }
     ensures { result ≡ sync.breaks_wait_never (past history.now) (point_of step.now) }
 {
-    match step.deed {
-        Deed::Host(Entry::Wait { waits }) => waits_for_more(history, waits.as_slice()),
+    match step.action {
+        Action::Host(Entry::Wait { waits }) => waits_for_more(history, waits.as_slice()),
         _ => false,
     }
 }

@@ -6,6 +6,6 @@ use Rattle.vk_laws.proofs.trace.commands_stay.Goals as goal
 
 pub returns : goal.returns
 unfolding breaks
-returns c = λ t newer between past p command none same deed.
+returns c = λ t newer between past p command none same action.
     let sound = (c.no_fault_is_sound.ensures t).0 none in
-    commands_stay (plain_order t) newer between past p command same deed (λ b q comes h. sound b q rule.NewId (comes, h)) (λ b q comes h. sound b q rule.LiveId (comes, h))
+    commands_stay (plain_order t) newer between past p command same action (λ b q comes h. sound b q rule.NewId (comes, h)) (λ b q comes h. sound b q rule.LiveId (comes, h))

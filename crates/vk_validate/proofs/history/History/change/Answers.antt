@@ -1,5 +1,5 @@
 use Rattle.std.proofs.Common.{◌≡◌, length, refl, sym, ap}
-use Rattle.vk_validate.specs.Told.{past, deed_of}
+use Rattle.vk_validate.specs.Told.{past, action_of}
 use Rattle.vk_validate.specs.Standing.{standing}
 use Rattle.vk_validate.proofs.Clears.{length-past}
 use Rattle.vk_validate.proofs.history.History.change.Goals as goal
@@ -10,7 +10,7 @@ returns-in-Signal c =
     let order : c.self.inside.tables.order ≡ (standing (past c.args.self.now)).order = rw c.self.view_is at c.self.invariant.1.order_is in
     record {
       submit = c.in-Signal.signal.now;
-      is = ap deed_of c.in-Signal.is;
+      is = ap action_of c.in-Signal.is;
       semaphore_is = refl;
       value_is = refl;
       clock_is = let signal = c.signal_at-clock.ensures in cc;
