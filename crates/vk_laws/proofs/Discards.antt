@@ -213,10 +213,10 @@ module _ (t : List Entry) (given : Given t) where
       let d = action t given f.node f.stands f.entry f.act c f.lost in
       let here = subst (λ (k : ℕ). value_before all (suc k) c ≡ Some v) (sym f.number) h in
       let after = settles s.newer (s.at ∷ s.past) (suc f.node.number) c v e.1 (subst (λ (l : Past). value_before l (suc f.node.number) c ≡ Some v) s.whole here) in
-      gone s.past l.buffer l.offset l.size l.kept_buffer l.reached l.marked
+      gone s.past l.buffer l.offset l.size l.kept_buffer l.reached l.dirty
       (subst (λ (x : Entry). (after_host s.past x (world s.past)).value c ≡ Some v) l.is (subst (λ (d : Action). (after_action s.past s.at.queue d (world s.past)).value c ≡ Some v) d after))
     where
-      gone : (past : Past) (b o : ℕ) (n : Length) → is_cached past b ≡ true → IsTrue (reaches b o n c) → IsTrue ((world past).marked c) → (after_host past (entry.Invalidate b o n) (world past)).value c ≡ Some v → ⊥
+      gone : (past : Past) (b o : ℕ) (n : Length) → is_cached past b ≡ true → IsTrue (reaches b o n c) → IsTrue ((world past).dirty c) → (after_host past (entry.Invalidate b o n) (world past)).value c ≡ Some v → ⊥
       gone past b o n cached r m h = let e : None ≡ Some v = rw (cached, r, m) at h in cc
 
   pub discards_model : IsModel (with_discards all) (value_before all)

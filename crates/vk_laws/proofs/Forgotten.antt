@@ -35,7 +35,7 @@ use Rattle.vk_laws.proofs.TaskAccesses.{host_writes_it, is_in_of}
 use Rattle.vk_laws.proofs.Ordered.{judged_has, read_sees, write_sees}
 use Rattle.vk_laws.proofs.ModelBytes.{host_action, more_nodes, alone, at_node}
 use Rattle.vk_laws.proofs.CacheFree.{same_cached, cached_then}
-use Rattle.vk_laws.proofs.Marks.{MarkedBy, marked_by}
+use Rattle.vk_laws.proofs.Dirty.{DirtiedBy, dirtied_by}
 
 -- ---- entries that flush and forget
 
@@ -54,14 +54,14 @@ pub record Forgets (past : Past) (x : Entry) (c : Byte) : Type 0 where
   pub is : x ≡ entry.Invalidate buffer offset size
   pub kept : is_cached past (resource_at c) ≡ true
   pub kept_buffer : is_cached past buffer ≡ true
-  pub marked : IsTrue ((world past).marked c)
+  pub dirty : IsTrue ((world past).dirty c)
   pub reached : IsTrue (reaches buffer offset size c)
 
 pub forgets_of : (past : Past) (x : Entry) (c : Byte) → IsTrue (entry_forgets past x c) → Forgets past x c
 forgets_of past (entry.Invalidate b o n) c h =
     let g = and_parts _ _ h in
     let k = and_parts _ _ g.1 in
-    record { buffer = b; offset = o; size = n; is = refl; kept = ap (is_cached past) (reached_buffer b o n c k.0) ∙ g.0; kept_buffer = g.0; marked = k.1; reached = k.0 }
+    record { buffer = b; offset = o; size = n; is = refl; kept = ap (is_cached past) (reached_buffer b o n c k.0) ∙ g.0; kept_buffer = g.0; dirty = k.1; reached = k.0 }
 forgets_of past _ c h = absurd cc
 
 -- ---- points within a past
@@ -152,8 +152,8 @@ module _ (t : List Entry) (given : Given t) where
     pub forget : Forgets s.past y c
     forget = forgets_of s.past y c (subst (λ (l : Past). IsTrue (entry_forgets l y c)) (at_node given.pieces_together given.apart t given.sound i s) lost)
 
-    pub mark : MarkedBy s.past c
-    mark = marked_by s.past c forget.marked
+    pub dirtied : DirtiedBy s.past c
+    dirtied = dirtied_by s.past c forget.dirty
 
     pub action : s.at.action ≡ Host y
     action = host_action s.at.action y (subst (λ (a : Act). Contains (acts s.at.action) a) is_i s.acted)
@@ -165,13 +165,13 @@ module _ (t : List Entry) (given : Given t) where
     split n sn = sn.whole ∙ sym (append_assoc sn.newer (sn.at ∷ []) sn.past)
 
     abbrev pub write : Entry
-    write = entry.Write mark.buffer mark.offset mark.bytes
+    write = entry.Write dirtied.buffer dirtied.offset dirtied.bytes
 
     abbrev pub w : Node
-    w = record { number = length (nodes mark.low); point = mark.at; act = Hosts write }
+    w = record { number = length (nodes dirtied.low); point = dirtied.at; act = Hosts write }
 
     w_past : Contains (nodes s.past) w
-    w_past = old_has given.keeps s.past mark.newer (mark.at ∷ mark.low) mark.whole w (subst (λ (d : Action). Contains (with_acts mark.at (acts d) (nodes mark.low)) w) (sym mark.action) (contains-head w (nodes mark.low)))
+    w_past = old_has given.keeps s.past dirtied.newer (dirtied.at ∷ dirtied.low) dirtied.whole w (subst (λ (d : Action). Contains (with_acts dirtied.at (acts d) (nodes dirtied.low)) w) (sym dirtied.action) (contains-head w (nodes dirtied.low)))
 
     pub w_all : Contains (nodes all) w
     w_all = old_has given.keeps all (s.newer ++ s.at ∷ []) s.past (split i s) w w_past
@@ -180,7 +180,7 @@ module _ (t : List Entry) (given : Given t) where
     w_earlier = let lt = number_below (nodes s.past) (numbered s.past) w w_past in let e = ends.0 in omega (arith, lt, e)
 
     pub w_writes : Contains (writes all w) c
-    w_writes = host_writes_it given.pieces_together all write c mark.value mark.is
+    w_writes = host_writes_it given.pieces_together all write c dirtied.value dirtied.is
 
     at_any : (newer low : Past) → all ≡ newer ++ low → Contains (nodes low) w → is_cached low (resource_at c) ≡ is_cached all (resource_at c)
     at_any newer low whole cw = same_cached all newer low whole (new_ids t given.sound) (live_ids t given.sound) w cw refl c all w_writes
@@ -201,8 +201,8 @@ module _ (t : List Entry) (given : Given t) where
         let come : Comes all sg.past sg.at = comes_at _ _ sg in
         let e0 = ends.0 in let e1 = ends.1 in let g0 = ends_g.0 in let g1 = ends_g.1 in
         let inside = comes_in s.newer s.past s.at sg.past sg.at (subst (λ (l : Past). Comes l sg.past sg.at) s.whole come) (omega (arith, e0, g1, before_it)) (omega (arith, e0, e1)) in
-        let one_more : length (nodes (mark.at ∷ mark.low)) ≡ suc (length (nodes mark.low)) = ap (λ (d : Action). length (with_acts mark.at (acts d) (nodes mark.low))) mark.action in
-        let no = mark.unflushed sg.past sg.at inside (omega (arith, one_more, g0, after)) u.0 u.1 u.2 d u.4 in
+        let one_more : length (nodes (dirtied.at ∷ dirtied.low)) ≡ suc (length (nodes dirtied.low)) = ap (λ (d : Action). length (with_acts dirtied.at (acts d) (nodes dirtied.low))) dirtied.action in
+        let no = dirtied.unflushed sg.past sg.at inside (omega (arith, one_more, g0, after)) u.0 u.1 u.2 d u.4 in
         let yes = at_any (sg.newer ++ sg.at ∷ []) sg.past (split g sg) (is_old given.keeps all (sg.newer ++ sg.at ∷ []) sg.past (split g sg) w w_all (omega (arith, g0, after))) ∙ kept in
         not_both (is_cached sg.past (resource_at c)) yes (ap (is_cached sg.past) (reached_buffer u.0 u.1 u.2 c u.4) ∙ no)
 

@@ -23,7 +23,7 @@ pub mod CacheFree
 pub mod Runs
 pub mod TraceExample
 pub mod CacheView
-pub mod Marks
+pub mod Dirty
 pub mod Forgotten
 pub mod Discards
 pub mod Entries

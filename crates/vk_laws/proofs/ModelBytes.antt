@@ -136,7 +136,7 @@ host_source past (entry.Flush b o n) w c v h = go (is_cached past b) refl h
 host_source past (entry.Invalidate b o n) w c v h = go (is_cached past b) refl h
   where
     go : (a : Bool) → is_cached past b ≡ a → (after_host past (entry.Invalidate b o n) w).value c ≡ Some v → w.value c ≡ Some v
-    go true e h = without_weaker (λ k. reaches b o n k && w.marked k) w.value c v (rw e at h)
+    go true e h = without_weaker (λ k. reaches b o n k && w.dirty k) w.value c v (rw e at h)
     go false e h = rw e at h
 host_source past _ w c v h = h
 

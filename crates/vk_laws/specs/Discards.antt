@@ -15,7 +15,7 @@ use Rattle.vk_laws.specs.TraceBytes.{before_node, value_before}
 
 -- Whether an entry forgets what the host wrote to a byte: an invalidation of cached memory, and the byte was written and not flushed since (Vulkan, "Host Access to Device Memory Objects", on `vkInvalidateMappedMemoryRanges`).
 abbrev pub entry_forgets : Past → Entry → Byte → Bool
-entry_forgets past (entry.Invalidate b o n) c = is_cached past b && (reaches b o n c && (world past).marked c)
+entry_forgets past (entry.Invalidate b o n) c = is_cached past b && (reaches b o n c && (world past).dirty c)
 entry_forgets past _ c = false
 
 -- Whether the act of node k does.

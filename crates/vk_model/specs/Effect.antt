@@ -121,20 +121,20 @@ abbrev pub reaches : ℕ → ℕ → Length → Byte → Bool
 reaches b o n (in_buffer c k) = b == c && in_atoms o n k
 reaches b o n (in_image i l m x y p) = false
 
--- A host write sets its bytes, and marks them where the memory is cached (Vulkan, "Host Access to Device Memory Objects").
+-- A host write sets its bytes, and makes them dirty where the memory is cached (Vulkan, "Host Access to Device Memory Objects").
 abbrev pub after_write : Bool → ℕ → ℕ → List ℕ → World → World
 after_write cached b o bytes w = record w {
   value = λ k. option_or (written b o bytes k) (w.value k);
-  marked = λ k. elim (written b o bytes k) [ None ↦ w.marked k | Some n ↦ cached ];
+  dirty = λ k. elim (written b o bytes k) [ None ↦ w.dirty k | Some n ↦ cached ];
 }
 
--- A flush clears the marks of the bytes that it reaches (Vulkan, "Host Access to Device Memory Objects", on `vkFlushMappedMemoryRanges`).
+-- A flush makes the bytes clean that it reaches (Vulkan, "Host Access to Device Memory Objects", on `vkFlushMappedMemoryRanges`).
 abbrev pub flushed : (Byte → Bool) → World → World
-flushed reached w = record w { marked = λ k. if reached k then false else w.marked k }
+flushed reached w = record w { dirty = λ k. if reached k then false else w.dirty k }
 
--- Marked bytes that an invalidation reaches become undefined, and no byte that it reaches stays marked (Vulkan, "Host Access to Device Memory Objects", on `vkInvalidateMappedMemoryRanges`).
+-- Dirty bytes that an invalidation reaches become undefined, and no byte that it reaches stays dirty (Vulkan, "Host Access to Device Memory Objects", on `vkInvalidateMappedMemoryRanges`).
 abbrev pub invalidated : (Byte → Bool) → World → World
-invalidated reached w = flushed reached (record w { value = without (λ k. reached k && w.marked k) w.value })
+invalidated reached w = flushed reached (record w { value = without (λ k. reached k && w.dirty k) w.value })
 
 -- What a host entry does to the world; on memory that isn't cached, flush and invalidation do nothing, and no other entry changes a byte (Vulkan, "Host Access to Device Memory Objects").
 abbrev pub after_host : Past → Entry → World → World

@@ -27,10 +27,10 @@ pub data Owner : Type 0 where
 -- The value of each byte, none where it's undefined; which bytes the host wrote and hasn't flushed (Vulkan, "Host Access to Device Memory Objects"); the layout of each image, level and layer (Vulkan, "Image Layouts"); the owner of each resource.
 pub record World : Type 0 where
   pub value : Byte → Option ℕ
-  pub marked : Byte → Bool
+  pub dirty : Byte → Bool
   pub layout : ℕ → ℕ → ℕ → ℕ
   pub owner : ℕ → Owner
 
 -- At first every byte is undefined, every layout UNDEFINED, and nobody owns anything (Vulkan, "Image Layouts"; undefined contents of reused memory: profile).
 abbrev pub new_world : World
-new_world = record { value = λ b. None; marked = λ b. false; layout = λ i k l. 0; owner = λ r. Nobody }
+new_world = record { value = λ b. None; dirty = λ b. false; layout = λ i k l. 0; owner = λ r. Nobody }

@@ -1,4 +1,4 @@
--- A byte that is marked was written by the host, and no flush reached it since.
+-- A byte that is dirty was written by the host, and no flush reached it since.
 use Rattle.std.proofs.Common.{◌≡◌, ℕ, suc, ◌≤◌, List, [], ◌∷◌, ◌++◌, length, Bool, true, false, IsTrue, Option, Some, None, refl, ap, sym, ◌∙◌, subst, arith}
 use Rattle.std.specs.Prelude.{if◌then◌else◌}
 use Rattle.std.specs.List.{fold}
@@ -20,56 +20,56 @@ use Rattle.vk_model.specs.Node.{nodes}
 use Rattle.vk_model.specs.Fault.{Comes, newest, older}
 use Rattle.vk_laws.proofs.ModelBytes.{more_nodes}
 
--- ---- commands mark nothing
+-- ---- commands make nothing dirty
 
-used_marks : (past : Past) (f r : ℕ) (w : World) → (used past f r w).marked ≡ w.marked
-used_marks past f r w = go (is_exclusive past r) refl
+used_dirty : (past : Past) (f r : ℕ) (w : World) → (used past f r w).dirty ≡ w.dirty
+used_dirty past f r w = go (is_exclusive past r) refl
   where
-    go : (a : Bool) → is_exclusive past r ≡ a → (used past f r w).marked ≡ w.marked
+    go : (a : Bool) → is_exclusive past r ≡ a → (used past f r w).dirty ≡ w.dirty
     go true e = rw e refl
     go false e = rw e refl
 
-transitioned_marks : (e : ImageElement) (w : World) → (transitioned e w).marked ≡ w.marked
-transitioned_marks e w = go (is_transition e) refl
+transitioned_dirty : (e : ImageElement) (w : World) → (transitioned e w).dirty ≡ w.dirty
+transitioned_dirty e w = go (is_transition e) refl
   where
-    go : (a : Bool) → is_transition e ≡ a → (transitioned e w).marked ≡ w.marked
+    go : (a : Bool) → is_transition e ≡ a → (transitioned e w).dirty ≡ w.dirty
     go true i = rw i refl
     go false i = rw i refl
 
-buffer_marks : (past : Past) (f : ℕ) (e : BufferElement) (t : Transfer) (w : World) → (after_buffer_element past f e t w).marked ≡ w.marked
-buffer_marks past f e Release w = used_marks past f e.buffer w
-buffer_marks past f e Acquire w = refl
-buffer_marks past f e Stays w = refl
-buffer_marks past f e Neither w = refl
+buffer_dirty : (past : Past) (f : ℕ) (e : BufferElement) (t : Transfer) (w : World) → (after_buffer_element past f e t w).dirty ≡ w.dirty
+buffer_dirty past f e Release w = used_dirty past f e.buffer w
+buffer_dirty past f e Acquire w = refl
+buffer_dirty past f e Stays w = refl
+buffer_dirty past f e Neither w = refl
 
-image_marks : (past : Past) (f : ℕ) (e : ImageElement) (t : Transfer) (w : World) → (after_image_element past f e t w).marked ≡ w.marked
-image_marks past f e Stays w = go (is_transition e)
+image_dirty : (past : Past) (f : ℕ) (e : ImageElement) (t : Transfer) (w : World) → (after_image_element past f e t w).dirty ≡ w.dirty
+image_dirty past f e Stays w = go (is_transition e)
   where
-    go : (a : Bool) → (if a then transitioned e (used past f e.image w) else w).marked ≡ w.marked
-    go true = transitioned_marks e (used past f e.image w) ∙ used_marks past f e.image w
+    go : (a : Bool) → (if a then transitioned e (used past f e.image w) else w).dirty ≡ w.dirty
+    go true = transitioned_dirty e (used past f e.image w) ∙ used_dirty past f e.image w
     go false = refl
-image_marks past f e Release w = used_marks past f e.image w
-image_marks past f e Acquire w = transitioned_marks e w
-image_marks past f e Neither w = refl
+image_dirty past f e Release w = used_dirty past f e.image w
+image_dirty past f e Acquire w = transitioned_dirty e w
+image_dirty past f e Neither w = refl
 
-element_marks : (past : Past) (f : ℕ) (w : World) (e : Element) → (after_element past f w e).marked ≡ w.marked
-element_marks past f w (element.Memory d) = refl
-element_marks past f w (element.Buffer e) = buffer_marks past f e (transfer f e.families) w
-element_marks past f w (element.Image e) = image_marks past f e (transfer f e.families) w
+element_dirty : (past : Past) (f : ℕ) (w : World) (e : Element) → (after_element past f w e).dirty ≡ w.dirty
+element_dirty past f w (element.Memory d) = refl
+element_dirty past f w (element.Buffer e) = buffer_dirty past f e (transfer f e.families) w
+element_dirty past f w (element.Image e) = image_dirty past f e (transfer f e.families) w
 
-fold_marks : {X : Type 0} (f : World → X → World) → ((w : World) (x : X) → (f w x).marked ≡ w.marked) → (xs : List X) (w : World) → (fold f w xs).marked ≡ w.marked
-fold_marks f step [] w = refl
-fold_marks f step (x ∷ xs) w = fold_marks f step xs (f w x) ∙ step w x
+fold_dirty : {X : Type 0} (f : World → X → World) → ((w : World) (x : X) → (f w x).dirty ≡ w.dirty) → (xs : List X) (w : World) → (fold f w xs).dirty ≡ w.dirty
+fold_dirty f step [] w = refl
+fold_dirty f step (x ∷ xs) w = fold_dirty f step xs (f w x) ∙ step w x
 
-command_marks : (past : Past) (f : ℕ) (x : Cmd) (w : World) → (after_command past f x w).marked ≡ w.marked
-command_marks past f x w =
+command_dirty : (past : Past) (f : ℕ) (x : Cmd) (w : World) → (after_command past f x w).dirty ≡ w.dirty
+command_dirty past f x w =
     let ready : World = fold (λ v r. used past f r v) w (uses x) in
-    fold_marks (after_element past f) (element_marks past f) (elements_of x) (record ready { value = after_moves (moves past x) ready.value })
-    ∙ fold_marks (λ v r. used past f r v) (λ v r. used_marks past f r v) (uses x) w
+    fold_dirty (after_element past f) (element_dirty past f) (elements_of x) (record ready { value = after_moves (moves past x) ready.value })
+    ∙ fold_dirty (λ v r. used past f r v) (λ v r. used_dirty past f r v) (uses x) w
 
--- ---- the write that marked a byte
+-- ---- the write that dirty a byte
 
-pub record MarkedBy (past : Past) (c : Byte) : Type 0 where
+pub record DirtiedBy (past : Past) (c : Byte) : Type 0 where
   pub newer : Past
   pub at : Point
   pub low : Past
@@ -88,7 +88,7 @@ module _ (c : Byte) (p : Point) (past : Past) where
   abbrev Quiet : Type 0
   Quiet = (b o : ℕ) (n : Length) → p.action ≡ Host (entry.Flush b o n) → IsTrue (reaches b o n c) → is_cached past b ≡ false
 
-  also : Quiet → MarkedBy past c → MarkedBy (p ∷ past) c
+  also : Quiet → DirtiedBy past c → DirtiedBy (p ∷ past) c
   also quiet m = record {
     newer = p ∷ m.newer;
     at = m.at;
@@ -108,7 +108,7 @@ module _ (c : Byte) (p : Point) (past : Past) where
       by_place before q newest le b o n d r = quiet b o n d r
       by_place before q (older h) le b o n d r = m.unflushed before q h le b o n d r
 
-  here : (b o : ℕ) (bytes : List ℕ) (v : ℕ) → p.action ≡ Host (entry.Write b o bytes) → written b o bytes c ≡ Some v → is_cached past b ≡ true → MarkedBy (p ∷ past) c
+  here : (b o : ℕ) (bytes : List ℕ) (v : ℕ) → p.action ≡ Host (entry.Write b o bytes) → written b o bytes c ≡ Some v → is_cached past b ≡ true → DirtiedBy (p ∷ past) c
   here b o bytes v action is cached = record {
     newer = [];
     at = p;
@@ -138,35 +138,35 @@ module _ (c : Byte) (p : Point) (past : Past) where
           wrong before q newest le = omega (arith, one_more, le)
           wrong before q (older h) le = let l = low past before q h in omega (arith, one_more, le, l)
 
-  host_marked : (x : Entry) → p.action ≡ Host x → (IsTrue ((world past).marked c) → MarkedBy past c) → IsTrue ((after_host past x (world past)).marked c) → MarkedBy (p ∷ past) c
-  host_marked (entry.Write b o bytes) d rest h = go (written b o bytes c) refl h
+  host_dirty : (x : Entry) → p.action ≡ Host x → (IsTrue ((world past).dirty c) → DirtiedBy past c) → IsTrue ((after_host past x (world past)).dirty c) → DirtiedBy (p ∷ past) c
+  host_dirty (entry.Write b o bytes) d rest h = go (written b o bytes c) refl h
     where
-      go : (w : Option ℕ) → written b o bytes c ≡ w → IsTrue (elim w [ None ↦ (world past).marked c | Some n ↦ is_cached past b ]) → MarkedBy (p ∷ past) c
+      go : (w : Option ℕ) → written b o bytes c ≡ w → IsTrue (elim w [ None ↦ (world past).dirty c | Some n ↦ is_cached past b ]) → DirtiedBy (p ∷ past) c
       go None e h = also (λ b o n f r. let g = sym d ∙ f in absurd cc) (rest h)
       go (Some v) e h = here b o bytes v d e h
-  host_marked (entry.Flush b o n) d rest h = go (is_cached past b) (reaches b o n c) refl refl h
+  host_dirty (entry.Flush b o n) d rest h = go (is_cached past b) (reaches b o n c) refl refl h
     where
       same : (b' o' : ℕ) (n' : Length) → p.action ≡ Host (entry.Flush b' o' n') → (b ≡ b') × (o ≡ o') × (n ≡ n')
       same b' o' n' f = let g : Host (entry.Flush b o n) ≡ Host (entry.Flush b' o' n') = sym d ∙ f in (cc, cc, cc)
 
-      go : (a r : Bool) → is_cached past b ≡ a → reaches b o n c ≡ r → IsTrue ((after_host past (entry.Flush b o n) (world past)).marked c) → MarkedBy (p ∷ past) c
+      go : (a r : Bool) → is_cached past b ≡ a → reaches b o n c ≡ r → IsTrue ((after_host past (entry.Flush b o n) (world past)).dirty c) → DirtiedBy (p ∷ past) c
       go true true e f h = absurd (let g : false ≡ true = rw (e, f) at h in cc)
       go true false e f h = also (λ b' o' n' g r. let s = same b' o' n' g in let r' : reaches b o n c ≡ true = rw (s.0, s.1, s.2) r in absurd cc) (rest (rw (e, f) at h))
       go false r e f h = also (λ b' o' n' g r. let s = same b' o' n' g in rw (← s.0) e) (rest (rw e at h))
-  host_marked (entry.Invalidate b o n) d rest h = go (is_cached past b) (reaches b o n c) refl refl h
+  host_dirty (entry.Invalidate b o n) d rest h = go (is_cached past b) (reaches b o n c) refl refl h
     where
-      go : (a r : Bool) → is_cached past b ≡ a → reaches b o n c ≡ r → IsTrue ((after_host past (entry.Invalidate b o n) (world past)).marked c) → MarkedBy (p ∷ past) c
+      go : (a r : Bool) → is_cached past b ≡ a → reaches b o n c ≡ r → IsTrue ((after_host past (entry.Invalidate b o n) (world past)).dirty c) → DirtiedBy (p ∷ past) c
       go true true e f h = absurd (let g : false ≡ true = rw (e, f) at h in cc)
       go true false e f h = also (λ b o n g r. let k = sym d ∙ g in absurd cc) (rest (rw (e, f) at h))
       go false r e f h = also (λ b o n g r. let k = sym d ∙ g in absurd cc) (rest (rw e at h))
-  host_marked _ d rest h = also (λ b o n f r. let g = sym d ∙ f in absurd cc) (rest h)
+  host_dirty _ d rest h = also (λ b o n f r. let g = sym d ∙ f in absurd cc) (rest h)
 
-pub marked_by : (past : Past) (c : Byte) → IsTrue ((world past).marked c) → MarkedBy past c
-marked_by [] c h = absurd cc
-marked_by (p ∷ past) c h = go p.action refl (marked_by past c) h
+pub dirtied_by : (past : Past) (c : Byte) → IsTrue ((world past).dirty c) → DirtiedBy past c
+dirtied_by [] c h = absurd cc
+dirtied_by (p ∷ past) c h = go p.action refl (dirtied_by past c) h
   where
-    go : (d : Action) → p.action ≡ d → (IsTrue ((world past).marked c) → MarkedBy past c) → IsTrue ((after_action past p.queue d (world past)).marked c) → MarkedBy (p ∷ past) c
-    go (Host x) e rest h = host_marked c p past x e rest h
-    go (Run x) e rest h = also c p past (λ b o n f r. let g = sym e ∙ f in absurd cc) (rest (subst (λ (m : Byte → Bool). IsTrue (m c)) (command_marks past (family_of p.queue) x (world past)) h))
+    go : (d : Action) → p.action ≡ d → (IsTrue ((world past).dirty c) → DirtiedBy past c) → IsTrue ((after_action past p.queue d (world past)).dirty c) → DirtiedBy (p ∷ past) c
+    go (Host x) e rest h = host_dirty c p past x e rest h
+    go (Run x) e rest h = also c p past (λ b o n f r. let g = sym e ∙ f in absurd cc) (rest (subst (λ (m : Byte → Bool). IsTrue (m c)) (command_dirty past (family_of p.queue) x (world past)) h))
     go (Wait s) e rest h = also c p past (λ b o n f r. let g = sym e ∙ f in absurd cc) (rest h)
     go (Signal s) e rest h = also c p past (λ b o n f r. let g = sym e ∙ f in absurd cc) (rest h)
