@@ -3,12 +3,12 @@ use Rattle.std.proofs.Common.{◌≡◌, ◌⊎◌, inl, inr, false, Result, Ok,
 use Rattle.std.specs.Prelude.{IfOk, IsTrue}
 use Rattle.vk_model.specs.declared.entry.Entry.{Entry}
 use Rattle.vk_device.specs.declared.applied.Applied.{Applied}
-use Rattle.vk_device.specs.declared.applied.ApplyFault.{ApplyFault}
+use Rattle.vk_device.specs.declared.applied.ApplyError.{ApplyError}
 use Rattle.vk_device.specs.Held.{Held}
 use Rattle.vk_device.specs.Stands.{IsNext, Ready}
 use Rattle.vk_device.proofs.Clean.{fits_clean}
 
-pub if_ok : (r : Result Applied ApplyFault) (P Q : Applied → Type 0) → ((a : Applied) → P a → Q a) → IfOk r P → IfOk r Q
+pub if_ok : (r : Result Applied ApplyError) (P Q : Applied → Type 0) → ((a : Applied) → P a → Q a) → IfOk r P → IfOk r Q
 if_ok (Ok a) P Q f p = f a p
 if_ok (Err e) P Q f p = p
 

@@ -15,7 +15,7 @@ pub enum Applied {
 
 /// Why an entry was not applied.
 #[derive(Clone, Copy, Debug, Drop, PartialEq, Eq, Error)]
-pub enum ApplyFault {
+pub enum ApplyError {
     /// The program's own memory could not grow. The device answers `Failed` from now on.
     #[error("no memory")]
     NoMemory,
@@ -24,24 +24,24 @@ pub enum ApplyFault {
     Failed,
 }
 
-impl From<AllocError> for ApplyFault {
-    ghost use Rattle.vk_device.specs.declared.applied.ApplyFault.TheVariants.{NoMemory};
+impl From<AllocError> for ApplyError {
+    ghost use Rattle.vk_device.specs.declared.applied.ApplyError.TheVariants.{NoMemory};
     ghost use Rattle.std.specs.Prelude.{◌≡◌};
 
     ghost from_gives = { λ _ e. e ≡ NoMemory };
 
-    fn from(_refused: AllocError) -> ApplyFault {
-        ApplyFault::NoMemory
+    fn from(_refused: AllocError) -> ApplyError {
+        ApplyError::NoMemory
     }
 }
 
-impl<T: Drop> From<AllocFailed<T>> for ApplyFault {
-    ghost use Rattle.vk_device.specs.declared.applied.ApplyFault.TheVariants.{NoMemory};
+impl<T: Drop> From<AllocFailed<T>> for ApplyError {
+    ghost use Rattle.vk_device.specs.declared.applied.ApplyError.TheVariants.{NoMemory};
     ghost use Rattle.std.specs.Prelude.{◌≡◌};
 
     ghost from_gives = { λ _ e. e ≡ NoMemory };
 
-    fn from(_refused: AllocFailed<T>) -> ApplyFault {
-        ApplyFault::NoMemory
+    fn from(_refused: AllocFailed<T>) -> ApplyError {
+        ApplyError::NoMemory
     }
 }

@@ -4,11 +4,11 @@ ghost use Rattle.vk_heap.specs.Region.{splice, piece, repeated};
 ghost use Rattle.vk_memory.specs.Standing.{region_of, with_region};
 ghost use Rattle.vk_model.specs.Moves.{fill_size};
 
-use crate::applied::{Applied, ApplyFault};
+use crate::applied::{Applied, ApplyError};
 use std::alloc::Global;
 use std::collections::BTreeMap;
 use std::marker::Model;
-use vk_memory::{Memories, MemoryFault};
+use vk_memory::{Memories, MemoryError};
 use vk_model::{Batch, Cmd, Config, Entry, Length, Place, Scheduler, Sequence};
 
 /// Where a buffer lies: at the start of a memory object of its own.
@@ -62,7 +62,7 @@ impl Device {
     ghost use Rattle.vk_device.specs.Clean.{IsClean};
     ghost use Rattle.vk_device.specs.Fits.{AllFit, FitsCommand};
     ghost use Rattle.vk_device.specs.Stands.{Stands, run_point, batches_past, next_past, CommandReady, CommandsReady, BatchReady, BatchesReady, Ready, IsNext, MayFill, MayRead, MadeOr, Told, Rooms, Allots};
-    ghost use Rattle.vk_device.specs.declared.applied.ApplyFault.TheVariants.{NoMemory, Failed};
+    ghost use Rattle.vk_device.specs.declared.applied.ApplyError.TheVariants.{NoMemory, Failed};
 
     /// A device with heaps of these sizes, without resources. It takes no memory.
     pub fn new(alloc: Global, config: Config) -> Device
@@ -145,20 +145,20 @@ impl Device {
     }
 
     /// Makes a buffer in a memory object of its own.
-    fn make_buffer(&mut self, id: u32, memory_type: u32, size: u64) -> Result<Applied, ApplyFault>
+    fn make_buffer(&mut self, id: u32, memory_type: u32, size: u64) -> Result<Applied, ApplyError>
         requires absent { placed self.old id ≡ None }
         requires some { 0 < size }
         requires bounded { size ≤ 67108864 }
         ensures made { IfOk result (λ a. MadeOr a self.old self.new id memory_type size) }
         ensures failed { self.new.failed ≡ self.old.failed }
-        ensures fault { IfErr result (λ f. f ≡ NoMemory) }
+        ensures error { IfErr result (λ f. f ≡ NoMemory) }
         ensures apart { IsApart self.old.memory self.old.buffers }
     {
         let bytes = (size + (BUFFER_UNIT - 1)) / BUFFER_UNIT * BUFFER_UNIT;
         let object = match self.memories.allocate(memory_type, bytes) {
             Ok(number) => number,
-            Err(MemoryFault::NoRoom) => return Ok(Applied::NoRoom),
-            Err(MemoryFault::NoMemory) => return Err(ApplyFault::NoMemory),
+            Err(MemoryError::NoRoom) => return Ok(Applied::NoRoom),
+            Err(MemoryError::NoMemory) => return Err(ApplyError::NoMemory),
         };
         self.buffers.insert(id, Placed { size, object })?;
         Ok(Applied::Done)
@@ -176,10 +176,10 @@ impl Device {
     }
 
     /// Reads bytes of a buffer that is there.
-    fn read(&self, id: u32, offset: u64, size: u64) -> Result<Sequence<u8>, ApplyFault>
+    fn read(&self, id: u32, offset: u64, size: u64) -> Result<Sequence<u8>, ApplyError>
         requires { MayRead (placed self.now id) offset size }
         ensures bytes { (b : Placed) → placed self.now id ≡ Some b → IfOk result (λ bytes. bytes ≡ piece (region_of self.now.memory b.object) offset size) }
-        ensures fault { IfErr result (λ f. f ≡ NoMemory) }
+        ensures error { IfErr result (λ f. f ≡ NoMemory) }
         ensures apart { IsApart self.now.memory self.now.buffers }
     {
         let mut bytes = vec![in self.alloc; 0u8; size as usize]?;
@@ -190,13 +190,13 @@ impl Device {
     }
 
     /// Applies an entry, and leaves it to the caller to keep that it failed.
-    fn apply_entry(&mut self, entry: &Entry) -> Result<Applied, ApplyFault>
+    fn apply_entry(&mut self, entry: &Entry) -> Result<Applied, ApplyError>
         requires { Ready self.old entry.now }
         ensures told { IfOk result (λ a. (e : ℕ) (past : Past) → Stands past self.old → AllFit (next_past e entry.now past) → Told a e entry.now past self.old self.new) }
         ensures rooms { IfOk result (λ a. Rooms a self.old entry.now) }
         ensures allots { IfOk result (λ a. Allots a entry.now self.old self.new) }
         ensures failed { self.new.failed ≡ self.old.failed }
-        ensures fault { IfErr result (λ f. f ≡ NoMemory) }
+        ensures error { IfErr result (λ f. f ≡ NoMemory) }
     {
         match entry {
             Entry::Buffer { id, info } => match info.place {
@@ -230,19 +230,19 @@ impl Device {
         &mut self,
         entry: &Entry,
         sched: &mut S,
-    ) -> Result<Applied, ApplyFault>
+    ) -> Result<Applied, ApplyError>
         requires { IsTrue self.old.failed ⊎ IsNext self.old entry.now }
         ensures told { IfOk result (λ a. (e : ℕ) (past : Past) → Stands past self.old → IsClean (next_past e entry.now past) → Told a e entry.now past self.old self.new) }
         ensures rooms { IfOk result (λ a. Rooms a self.old entry.now) }
         ensures allots { IfOk result (λ a. Allots a entry.now self.old self.new) }
         ensures works { IfOk result (λ a. (self.old.failed ≡ false) × (self.new.failed ≡ false)) }
-        ensures fault { IfErr result (λ f. f ≡ (if self.old.failed then Failed else NoMemory)) }
+        ensures error { IfErr result (λ f. f ≡ (if self.old.failed then Failed else NoMemory)) }
         ensures failed { OnErr result (self.new.failed ≡ true) }
         ensures unasked { S.held sched.new ≡ S.held sched.old }
     {
         let _unasked: &S = sched;
         if self.failed {
-            return Err(ApplyFault::Failed);
+            return Err(ApplyError::Failed);
         }
         let applied = self.apply_entry(entry);
         if applied.is_err() {

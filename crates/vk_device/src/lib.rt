@@ -5,6 +5,6 @@ mod applied;
 mod device;
 mod replaying;
 
-pub use applied::{Applied, ApplyFault};
+pub use applied::{Applied, ApplyError};
 pub use device::Device;
 pub use replaying::{Replayed, replay};

@@ -6,9 +6,9 @@ ghost use Rattle.vk_device.specs.Clean.{IsClean};
 ghost use Rattle.vk_device.specs.Stands.{Stands};
 ghost use Rattle.vk_device.specs.Allotted.{first_stop};
 ghost use Rattle.vk_device.specs.Replays.{StopsAt};
-ghost use Rattle.vk_device.specs.declared.applied.ApplyFault.TheVariants.{NoMemory};
+ghost use Rattle.vk_device.specs.declared.applied.ApplyError.TheVariants.{NoMemory};
 
-use crate::applied::{Applied, ApplyFault};
+use crate::applied::{Applied, ApplyError};
 use crate::device::Device;
 use std::alloc::Global;
 use vk_model::{Config, Entry, Scheduler, Sequence, no_fault_is_sound};
@@ -32,7 +32,7 @@ pub fn replay<S: Scheduler>(
     accepted: &Accepted<'_>,
     config: Config,
     sched: &mut S,
-) -> Result<Replayed, ApplyFault>
+) -> Result<Replayed, ApplyError>
     ensures sound { IfOk result (λ _. first_fault accepted.now ≡ None) }
     // The reads are what the trace means, up to the stop where there is one.
     ensures meaning { IfOk result (λ r. MatchOption r.stop
@@ -42,7 +42,7 @@ pub fn replay<S: Scheduler>(
     // The device stands to the entries that were applied.
     ensures stop { IfOk result (λ r. MatchOption r.stop
         (Stands (plain_order accepted.now) r.device) (λ n. StopsAt accepted.now n r.device)) }
-    ensures fault { IfErr result (λ f. f ≡ NoMemory) }
+    ensures error { IfErr result (λ f. f ≡ NoMemory) }
     ensures unasked { S.held sched.new ≡ S.held sched.old }
 {
     no_fault_is_sound();
@@ -55,14 +55,14 @@ fn replay_entries<S: Scheduler>(
     entries: &[Entry],
     config: Config,
     sched: &mut S,
-) -> Result<Replayed, ApplyFault>
+) -> Result<Replayed, ApplyError>
     requires { IsClean (plain_order entries.now) }
     ensures meaning { IfOk result (λ r. MatchOption r.stop
         (r.reads ≡ meaning entries.now (length entries.now)) (λ n. r.reads ≡ meaning entries.now n)) }
     ensures first { IfOk result (λ r. r.stop ≡ first_stop config entries.now) }
     ensures stop { IfOk result (λ r. MatchOption r.stop
         (Stands (plain_order entries.now) r.device) (λ n. StopsAt entries.now n r.device)) }
-    ensures fault { IfErr result (λ f. f ≡ NoMemory) }
+    ensures error { IfErr result (λ f. f ≡ NoMemory) }
     ensures unasked { S.held sched.new ≡ S.held sched.old }
 {
     let mut device = Device::new(alloc, config);

@@ -3,7 +3,7 @@
 
 mod memories;
 
-pub use memories::{MapState, Memories, MemoryFault};
+pub use memories::{MapState, Memories, MemoryError};
 
 #[cfg(test)]
 mod tests;

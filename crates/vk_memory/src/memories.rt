@@ -11,7 +11,7 @@ const MOST_OBJECTS: usize = 4096;
 
 /// Why a memory object could not be made. Nothing is changed then.
 #[derive(Clone, Copy, Debug, Drop, PartialEq, Eq, Error)]
-pub enum MemoryFault {
+pub enum MemoryError {
     /// The heap would be passed, or the most objects stand (`VK_ERROR_OUT_OF_DEVICE_MEMORY`,
     /// `VK_ERROR_TOO_MANY_OBJECTS`).
     #[error("no room in the heap")]
@@ -21,36 +21,36 @@ pub enum MemoryFault {
     NoMemory,
 }
 
-impl From<AllocError> for MemoryFault {
-    ghost use Rattle.vk_memory.specs.declared.memories.MemoryFault.TheVariants.{NoMemory};
+impl From<AllocError> for MemoryError {
+    ghost use Rattle.vk_memory.specs.declared.memories.MemoryError.TheVariants.{NoMemory};
     ghost use Rattle.std.specs.Prelude.{◌≡◌};
 
     ghost from_gives = { λ _ e. e ≡ NoMemory };
 
-    fn from(_refused: AllocError) -> MemoryFault {
-        MemoryFault::NoMemory
+    fn from(_refused: AllocError) -> MemoryError {
+        MemoryError::NoMemory
     }
 }
 
-impl<T: Drop> From<AllocFailed<T>> for MemoryFault {
-    ghost use Rattle.vk_memory.specs.declared.memories.MemoryFault.TheVariants.{NoMemory};
+impl<T: Drop> From<AllocFailed<T>> for MemoryError {
+    ghost use Rattle.vk_memory.specs.declared.memories.MemoryError.TheVariants.{NoMemory};
     ghost use Rattle.std.specs.Prelude.{◌≡◌};
 
     ghost from_gives = { λ _ e. e ≡ NoMemory };
 
-    fn from(_refused: AllocFailed<T>) -> MemoryFault {
-        MemoryFault::NoMemory
+    fn from(_refused: AllocFailed<T>) -> MemoryError {
+        MemoryError::NoMemory
     }
 }
 
-impl From<HeapFull> for MemoryFault {
-    ghost use Rattle.vk_memory.specs.declared.memories.MemoryFault.TheVariants.{NoRoom};
+impl From<HeapFull> for MemoryError {
+    ghost use Rattle.vk_memory.specs.declared.memories.MemoryError.TheVariants.{NoRoom};
     ghost use Rattle.std.specs.Prelude.{◌≡◌};
 
     ghost from_gives = { λ _ e. e ≡ NoRoom };
 
-    fn from(_full: HeapFull) -> MemoryFault {
-        MemoryFault::NoRoom
+    fn from(_full: HeapFull) -> MemoryError {
+        MemoryError::NoRoom
     }
 }
 
@@ -112,17 +112,17 @@ impl Memories {
 
     /// Makes an object of `size` bytes, and answers its number: they count from 0, and rise.
     #[tactic(auto, using(crate::proofs::StandingLemmas::adding))]
-    pub fn allocate(&mut self, memory_type: u32, size: u64) -> Result<u32, MemoryFault>
+    pub fn allocate(&mut self, memory_type: u32, size: u64) -> Result<u32, MemoryError>
         requires { 0 < size }
         ensures ok { IfOk result (λ number. (number ≡ length self.old.objects)
             × (self.new ≡ record self.old { objects = self.old.objects ++ fresh memory_type size ∷ [] })) }
         ensures room { IsOk result → ¬ IsFull self.old memory_type size }
-        ensures full { IsErrOf result MemoryFault.NoRoom → IsFull self.old memory_type size }
+        ensures full { IsErrOf result MemoryError.NoRoom → IsFull self.old memory_type size }
         ensures err { OnErr result (self.new ≡ self.old) }
     {
         let number = self.objects.len();
         if number >= MOST_OBJECTS {
-            return Err(MemoryFault::NoRoom);
+            return Err(MemoryError::NoRoom);
         }
         let mut heap = self.heap(memory_type);
         heap.take(size)?;

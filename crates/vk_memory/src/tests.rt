@@ -1,4 +1,4 @@
-use crate::{Memories, MemoryFault};
+use crate::{Memories, MemoryError};
 use std::test::Fail;
 use vk_heap::{Budget, Region};
 use vk_model::Config;
@@ -23,7 +23,7 @@ fn memory_within_its_heap(rt: HostRuntime) -> Result<(), Fail> {
     let config = Config::new(4_194_304, 65_536).ok_or("no such heaps")?;
     let mut memories = Memories::new(rt.alloc(), config);
     assert_eq!(rt; memories.allocate(1, 65_536), Ok(0));
-    assert_eq!(rt; memories.allocate(1, 1), Err(MemoryFault::NoRoom));
+    assert_eq!(rt; memories.allocate(1, 1), Err(MemoryError::NoRoom));
     assert_eq!(rt; memories.used(1), 65_536);
     assert_eq!(rt; memories.used(0), 0);
     assert!(rt; memories.map(0).is_ok());

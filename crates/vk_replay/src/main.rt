@@ -5,20 +5,20 @@ mod exit;
 mod options;
 
 use exit::exit_status;
-use options::{Options, OptionsFault};
+use options::{Options, OptionsError};
 use std::io;
 use std::process::ExitCode;
 use std::rt::Env;
 use vk_model::First;
-use vk_trace::{RunFault, Watched, run};
+use vk_trace::{RunError, Watched, run};
 
 /// Where the words of the command line can't be had, or aren't understood.
 const COMMAND_LINE_REFUSED: u8 = 6;
 
 /// Prints a line to standard error. That it can't be printed changes no status.
-fn complain(rt: &impl Eprint, fault: RunFault) -> u8 {
-    let _unprinted = eprintln!(rt; "{fault}").is_err();
-    exit_status(Err(fault))
+fn complain(rt: &impl Eprint, error: RunError) -> u8 {
+    let _unprinted = eprintln!(rt; "{error}").is_err();
+    exit_status(Err(error))
 }
 
 /// What the words of the command line ask for, or the exit status where they don't.
@@ -27,12 +27,12 @@ fn chosen<R: Env + Eprint + AllocGlobal>(rt: &R) -> Result<Options, u8> {
         return Err(COMMAND_LINE_REFUSED);
     };
     let Ok(words) = words.collect::<Vec<String>>(rt.alloc()) else {
-        return Err(complain(rt, RunFault::NoMemory));
+        return Err(complain(rt, RunError::NoMemory));
     };
     match options::read(rt.alloc(), words.as_slice()) {
         Ok(options) => Ok(options),
-        Err(OptionsFault::NoMemory) => Err(complain(rt, RunFault::NoMemory)),
-        Err(OptionsFault::Refused(text)) => {
+        Err(OptionsError::NoMemory) => Err(complain(rt, RunError::NoMemory)),
+        Err(OptionsError::Refused(text)) => {
             let _unprinted = rt.eprint(&text).is_err();
             Err(COMMAND_LINE_REFUSED)
         }
@@ -55,7 +55,7 @@ fn perform<R: Env + Input + Print + Eprint + AllocGlobal>(rt: &R) -> u8 {
         &mut First,
     ) {
         Ok(status) => exit_status(Ok(status)),
-        Err(fault) => complain(rt, fault),
+        Err(error) => complain(rt, error),
     }
 }
 

@@ -11,24 +11,24 @@ pub struct Options {
 
 /// Why the command line asks for nothing.
 #[derive(Drop)]
-pub enum OptionsFault {
+pub enum OptionsError {
     NoMemory,
     /// The words are refused, or ask for help; with the text to show.
     Refused(Error),
 }
 
-impl From<AllocError> for OptionsFault {
-    fn from(_refused: AllocError) -> OptionsFault {
-        OptionsFault::NoMemory
+impl From<AllocError> for OptionsError {
+    fn from(_refused: AllocError) -> OptionsError {
+        OptionsError::NoMemory
     }
 }
 
-impl From<Error> for OptionsFault {
-    fn from(error: Error) -> OptionsFault {
+impl From<Error> for OptionsError {
+    fn from(error: Error) -> OptionsError {
         if error.kind() == ErrorKind::OutOfMemory {
-            OptionsFault::NoMemory
+            OptionsError::NoMemory
         } else {
-            OptionsFault::Refused(error)
+            OptionsError::Refused(error)
         }
     }
 }
@@ -66,12 +66,12 @@ fn command<'a>(alloc: Global) -> Result<Command<'a>, AllocError> {
 }
 
 /// What the words ask for; the first word is the program's own name.
-pub fn read(alloc: Global, words: &[String]) -> Result<Options, OptionsFault> {
+pub fn read(alloc: Global, words: &[String]) -> Result<Options, OptionsError> {
     let matches = command(alloc)?.try_get_matches_from(words)?;
     let heap0 = matches.get_one::<u64>("heap0").unwrap_or(HEAP_BYTES);
     let heap1 = matches.get_one::<u64>("heap1").unwrap_or(HEAP_BYTES);
     match Config::new(heap0, heap1) {
         Some(config) => Ok(Options { config }),
-        None => Err(OptionsFault::NoMemory),
+        None => Err(OptionsError::NoMemory),
     }
 }

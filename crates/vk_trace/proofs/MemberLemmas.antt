@@ -4,8 +4,8 @@ use Rattle.serde_json.specs.Data.{Data}
 use Rattle.serde_json.specs.Find.{as_array}
 use Rattle.serde_json.specs.View.{view, items_of, items_view}
 use Rattle.serde_json.specs.declared.value.Value.{Value}
-use Rattle.vk_trace.specs.declared.faults.ReadTraceFault.{ReadTraceFault}
-use Rattle.vk_trace.specs.declared.faults.ReadTraceFault.TheVariants.{NotTrace, NoMemory}
+use Rattle.vk_trace.specs.declared.errors.ReadTraceError.{ReadTraceError}
+use Rattle.vk_trace.specs.declared.errors.ReadTraceError.TheVariants.{NotTrace, NoMemory}
 use Rattle.vk_trace.specs.Members.{◌>>=◌, items_list, array_members, each_member}
 use Rattle.vk_trace.specs.Gives.{Fails}
 
@@ -36,7 +36,7 @@ goes_on means front d ds x total h so_far =
     sym one ∙ so_far
 
 -- a member that could not be read ends the list
-pub ends : {X : Type 0} (e : ReadTraceFault) (means : Data → Option X) (front : List X) (d : Data) (ds : List Data) (total : Option (List X)) → Fails e (means d)
+pub ends : {X : Type 0} (e : ReadTraceError) (means : Data → Option X) (front : List X) (d : Data) (ds : List Data) (total : Option (List X)) → Fails e (means d)
     → with_front front (each_member means (d ∷ ds)) ≡ total → Fails e total
 unfolding each_member
 ends NoMemory means front d ds total h so_far = tt

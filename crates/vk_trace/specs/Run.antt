@@ -9,8 +9,8 @@ use Rattle.vk_trace.specs.declared.printing.Outcome.{Outcome}
 use Rattle.vk_trace.specs.declared.printing.Outcome.TheVariants.{Reads, Refused}
 use Rattle.vk_trace.specs.declared.running.Status.{Status}
 use Rattle.vk_trace.specs.declared.running.Status.TheVariants as status
-use Rattle.vk_trace.specs.declared.faults.RunFault.{RunFault}
-use Rattle.vk_trace.specs.declared.faults.RunFault.TheVariants.{NotTrace, NoMemory, TooLong, ReadFault, WriteFault}
+use Rattle.vk_trace.specs.declared.errors.RunError.{RunError}
+use Rattle.vk_trace.specs.declared.errors.RunError.TheVariants.{NotTrace, NoMemory, TooLong, ReadFault, WriteFault}
 use Rattle.vk_trace.specs.Trace.{IsTrace}
 use Rattle.vk_trace.specs.Text.{lines_of}
 
@@ -34,7 +34,7 @@ pub record Tells (config : Config) (input text : List ℕ) (outcome : Outcome) :
   pub told : text ≡ lines_of outcome
 
 -- A fault that comes before anything is written.
-abbrev pub IsBeforeWriting : RunFault → Type 0
+abbrev pub IsBeforeWriting : RunError → Type 0
 IsBeforeWriting NotTrace = Unit {0}
 IsBeforeWriting NoMemory = Unit {0}
 IsBeforeWriting TooLong = Unit {0}
@@ -42,7 +42,7 @@ IsBeforeWriting ReadFault = Unit {0}
 IsBeforeWriting (WriteFault n) = ⊥
 
 -- A fault of reading the input.
-abbrev pub IsOfReading : RunFault → Type 0
+abbrev pub IsOfReading : RunError → Type 0
 IsOfReading NotTrace = ⊥
 IsOfReading NoMemory = Unit {0}
 IsOfReading TooLong = Unit {0}
@@ -50,7 +50,7 @@ IsOfReading ReadFault = Unit {0}
 IsOfReading (WriteFault n) = ⊥
 
 -- A fault between reading and writing.
-abbrev pub IsOfAnswering : RunFault → Type 0
+abbrev pub IsOfAnswering : RunError → Type 0
 IsOfAnswering NotTrace = Unit {0}
 IsOfAnswering NoMemory = Unit {0}
 IsOfAnswering TooLong = ⊥

@@ -4,7 +4,7 @@ ghost use Rattle.vk_trace.specs.Members.{after_word};
 ghost use Rattle.vk_trace.specs.Trace.{length_or_whole, dependency_value, memory_element, command_rows, command_value};
 ghost use Rattle.vk_trace.specs.Gives.{Gives};
 
-use crate::faults::ReadTraceFault;
+use crate::errors::ReadTraceError;
 use crate::members::{Member, Reading, end, first, list_members, word_first};
 use bitflags::Flags;
 use serde_json::Value;
@@ -18,7 +18,7 @@ impl Member for Length {
     fn member(alloc: Global, value: &Value) -> Reading<Length> {
         match value.as_str() {
             Some("whole") => Ok(Length::Whole),
-            Some(_) => Err(ReadTraceFault::NotTrace),
+            Some(_) => Err(ReadTraceError::NotTrace),
             None => Ok(Length::Bytes(u64::member(alloc, value)?)),
         }
     }
@@ -63,7 +63,7 @@ impl Member for Cmd {
         match word {
             "fill" => fill_of(alloc, rest),
             "barrier" => barrier_of(alloc, rest),
-            _ => Err(ReadTraceFault::NotTrace),
+            _ => Err(ReadTraceError::NotTrace),
         }
     }
 }

@@ -4,7 +4,7 @@ ghost use Rattle.vk_trace.specs.Members.{after_word};
 ghost use Rattle.vk_trace.specs.Trace.{sharing_value, memory_type_value, place_rows, place_value, semaphore_value, semaphore_submit, batch_value, queue_value, entry_rows, entry_value};
 ghost use Rattle.vk_trace.specs.Gives.{Gives};
 
-use crate::faults::ReadTraceFault;
+use crate::errors::ReadTraceError;
 use crate::members::{Member, Reading, end, first, list_members, text_of, word_first};
 use bitflags::Flags;
 use serde_json::Value;
@@ -22,7 +22,7 @@ impl Member for Sharing {
         match text_of(value)? {
             "exclusive" => Ok(Sharing::Exclusive),
             "concurrent" => Ok(Sharing::Concurrent),
-            _ => Err(ReadTraceFault::NotTrace),
+            _ => Err(ReadTraceError::NotTrace),
         }
     }
 }
@@ -35,7 +35,7 @@ impl Member for Place {
         let (word, rest) = word_first(value)?;
         match word {
             "dedicated" => dedicated_of(alloc, rest),
-            _ => Err(ReadTraceFault::NotTrace),
+            _ => Err(ReadTraceError::NotTrace),
         }
     }
 }
@@ -45,7 +45,7 @@ fn dedicated_of(alloc: Global, rest: &[Value]) -> Reading<Place>
     ensures { Gives (λ x. x) result (after_word place_rows (codes "dedicated") (map view rest.now)) }
 {
     match rest {
-        [] => Err(ReadTraceFault::NotTrace),
+        [] => Err(ReadTraceError::NotTrace),
         [memory_type, rest @ ..] => {
             let memory_type = memory_type_of(alloc, memory_type)?;
             end(rest)?;
@@ -59,7 +59,7 @@ fn memory_type_of(alloc: Global, value: &Value) -> Reading<u32>
     ensures { Gives (λ x. x) result (memory_type_value (view value.now)) }
 {
     match u32::member(alloc, value)? {
-        2 => Err(ReadTraceFault::NotTrace),
+        2 => Err(ReadTraceError::NotTrace),
         memory_type => Ok(memory_type),
     }
 }
@@ -126,7 +126,7 @@ impl Member for Entry {
             "wait" => wait_of(alloc, rest),
             "map" => map_of(alloc, rest),
             "read" => read_of(alloc, rest),
-            _ => Err(ReadTraceFault::NotTrace),
+            _ => Err(ReadTraceError::NotTrace),
         }
     }
 }
@@ -165,7 +165,7 @@ fn submit_of(alloc: Global, rest: &[Value]) -> Reading<Entry>
     ensures { Gives (λ x. x) result (after_word entry_rows (codes "submit") (map view rest.now)) }
 {
     match rest {
-        [] => Err(ReadTraceFault::NotTrace),
+        [] => Err(ReadTraceError::NotTrace),
         [queue, rest @ ..] => {
             let queue = queue_of(alloc, queue)?;
             let (batches, rest) = first(alloc, rest)?;
@@ -181,7 +181,7 @@ fn queue_of(alloc: Global, value: &Value) -> Reading<u32>
 {
     match u32::member(alloc, value)? {
         0 => Ok(0),
-        _ => Err(ReadTraceFault::NotTrace),
+        _ => Err(ReadTraceError::NotTrace),
     }
 }
 

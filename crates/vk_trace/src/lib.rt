@@ -3,7 +3,7 @@
 
 mod commands;
 mod entries;
-mod faults;
+mod errors;
 pub mod forms;
 mod members;
 mod printing;
@@ -11,7 +11,7 @@ mod reading;
 mod running;
 mod watched;
 
-pub use faults::{ReadTraceFault, RunFault};
+pub use errors::{ReadTraceError, RunError};
 pub use printing::{Outcome, text};
 pub use reading::read_trace;
 pub use running::{Status, run};

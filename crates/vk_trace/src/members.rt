@@ -5,13 +5,13 @@ ghost use Rattle.serde_json.specs.View.{view};
 ghost use Rattle.vk_trace.specs.Members.{array_members, first_member, no_member, word_and_members, each_member, list_of, empty_list, u64_value, u32_value};
 ghost use Rattle.vk_trace.specs.Gives.{Gives};
 
-use crate::faults::ReadTraceFault;
+use crate::errors::ReadTraceError;
 use serde_json::Value;
 use std::alloc::Global;
 use vk_model::Sequence;
 
 /// What a reader answers. It has no fault but those of `read_trace`.
-pub type Reading<T> = Result<T, ReadTraceFault>;
+pub type Reading<T> = Result<T, ReadTraceError>;
 
 /// A type whose values stand in a trace as a value of JSON.
 pub trait Member: Drop {
@@ -28,7 +28,7 @@ pub fn list_members(value: &Value) -> Reading<&[Value]>
 {
     match value.as_array() {
         Some(values) => Ok(values.as_slice()),
-        None => Err(ReadTraceFault::NotTrace),
+        None => Err(ReadTraceError::NotTrace),
     }
 }
 
@@ -37,7 +37,7 @@ pub fn first<T: Member>(alloc: Global, values: &[Value]) -> Reading<(T, &[Value]
     ensures { Gives (λ x. (x.0, map view x.1.now)) result (first_member T.means (map view values.now)) }
 {
     match values {
-        [] => Err(ReadTraceFault::NotTrace),
+        [] => Err(ReadTraceError::NotTrace),
         [value, rest @ ..] => Ok((T::member(alloc, value)?, rest)),
     }
 }
@@ -49,7 +49,7 @@ pub fn end(values: &[Value]) -> Reading<()>
     if values.is_empty() {
         Ok(())
     } else {
-        Err(ReadTraceFault::NotTrace)
+        Err(ReadTraceError::NotTrace)
     }
 }
 
@@ -57,7 +57,7 @@ pub fn end(values: &[Value]) -> Reading<()>
 pub fn text_of(value: &Value) -> Reading<&str>
     ensures { Gives (λ s. s.now) result (as_str (view value.now)) }
 {
-    value.as_str().ok_or(ReadTraceFault::NotTrace)
+    value.as_str().ok_or(ReadTraceError::NotTrace)
 }
 
 /// The word at the front of an array, and the members after it.
@@ -66,7 +66,7 @@ pub fn word_first(value: &Value) -> Reading<(&str, &[Value])>
     ensures { Gives (λ x. (x.0.now, map view x.1.now)) result (word_and_members (view value.now)) }
 {
     match list_members(value)? {
-        [] => Err(ReadTraceFault::NotTrace),
+        [] => Err(ReadTraceError::NotTrace),
         [word, rest @ ..] => Ok((text_of(word)?, rest)),
     }
 }
@@ -106,7 +106,7 @@ impl Member for u64 {
     ghost means = { u64_value };
 
     fn member(_alloc: Global, value: &Value) -> Reading<u64> {
-        value.as_u64().ok_or(ReadTraceFault::NotTrace)
+        value.as_u64().ok_or(ReadTraceError::NotTrace)
     }
 }
 
@@ -117,7 +117,7 @@ impl Member for u32 {
     fn member(alloc: Global, value: &Value) -> Reading<u32> {
         let n = u64::member(alloc, value)?;
         if n > u32::MAX as u64 {
-            return Err(ReadTraceFault::NotTrace);
+            return Err(ReadTraceError::NotTrace);
         }
         Ok(n as u32)
     }

@@ -5,19 +5,19 @@ ghost use Rattle.vk_model.specs.declared.entry.Entry.{Entry};
 ghost use Rattle.vk_trace.specs.Gives.{Gives};
 ghost use Rattle.vk_trace.specs.Trace.{IsTrace};
 
-use crate::faults::ReadTraceFault;
+use crate::errors::ReadTraceError;
 use crate::members::{Member, Reading};
 use serde_json::Value;
 use std::alloc::Global;
 use vk_model::{Entry, Sequence};
 
 /// The entries that the bytes of a trace stand for. `NotTrace` comes only where they stand for none.
-pub fn read_trace(alloc: Global, bytes: &[u8]) -> Result<Vec<Entry>, ReadTraceFault>
+pub fn read_trace(alloc: Global, bytes: &[u8]) -> Result<Vec<Entry>, ReadTraceError>
     ensures ok { IfOk result (λ v. IsTrace bytes.now v.items) }
-    ensures none { result ≡ Err ReadTraceFault.NotTrace → (t : List Entry) → IsTrace bytes.now t → ⊥ }
+    ensures none { result ≡ Err ReadTraceError.NotTrace → (t : List Entry) → IsTrace bytes.now t → ⊥ }
 {
     let Ok(text) = str::from_utf8(bytes) else {
-        return Err(ReadTraceFault::NotTrace);
+        return Err(ReadTraceError::NotTrace);
     };
     let value = value_of(alloc, text)?;
     let entries: Sequence<Entry> = Sequence::member(alloc, &value)?;
@@ -30,7 +30,7 @@ fn value_of(alloc: Global, text: &str) -> Reading<Value>
 {
     match Value::from_str(alloc, text) {
         Ok(value) => Ok(value),
-        Err(e) if e.is_memory() => Err(ReadTraceFault::NoMemory),
-        Err(_) => Err(ReadTraceFault::NotTrace),
+        Err(e) if e.is_memory() => Err(ReadTraceError::NoMemory),
+        Err(_) => Err(ReadTraceError::NotTrace),
     }
 }

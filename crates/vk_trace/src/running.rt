@@ -7,7 +7,7 @@ ghost use Rattle.vk_trace.specs.declared.printing.Outcome.{Outcome};
 ghost use Rattle.vk_trace.specs.Trace.{IsTrace};
 ghost use Rattle.vk_trace.specs.Run.{Tells, IsAnswer, status_of, IsBeforeWriting, IsOfReading, IsOfAnswering};
 
-use crate::faults::{ReadTraceFault, RunFault};
+use crate::errors::{ReadTraceError, RunError};
 use crate::printing::{Outcome, text};
 use crate::reading::read_trace;
 use crate::watched::Watched;
@@ -44,7 +44,7 @@ pub fn run<R: Read, W: Write, S: Scheduler>(
     writer: &mut Watched<W>,
     config: Config,
     sched: &mut S,
-) -> Result<Status, RunFault>
+) -> Result<Status, RunError>
     requires reads { reader.old.failed ≡ false }
     requires writes { writer.old.failed ≡ false }
     // The bytes that were read are a trace, the answer to it is written, and nothing else is.
@@ -52,23 +52,23 @@ pub fn run<R: Read, W: Write, S: Scheduler>(
         (text : List ℕ) × (outcome : Outcome) × Tells config input text outcome × (status ≡ status_of outcome)
         × Appends (W.contents writer.old.inner) (W.contents writer.new.inner) text)) }
     // There is no trace only where the bytes are none.
-    ensures no_trace { result ≡ Err RunFault.NotTrace
+    ensures no_trace { result ≡ Err RunError.NotTrace
         → IfSome (R.remaining reader.old.inner) (λ input. (t : List Entry) → IsTrace input t → ⊥) }
     // Every fault but that of a write has written nothing.
     ensures silent { IfErr result (λ e. IsBeforeWriting e
         → Keeps (W.contents writer.old.inner) (W.contents writer.new.inner)) }
     // A failed write has written the front of the answer.
-    ensures sent { (n : ℕ) → result ≡ Err (RunFault.WriteFault n)
+    ensures sent { (n : ℕ) → result ≡ Err (RunError.WriteFault n)
         → IfSome (R.remaining reader.old.inner) (λ input. (text : List ℕ) × (outcome : Outcome)
         × Tells config input text outcome × (n ≤ length text)
         × Appends (W.contents writer.old.inner) (W.contents writer.new.inner) (take n text)) }
-    ensures read_fault { (result ≡ Err RunFault.ReadFault) ↔ IsTrue reader.new.failed }
-    ensures write_fault { (n : ℕ) → result ≡ Err (RunFault.WriteFault n) → IsTrue writer.new.failed }
-    ensures write_failed { IsTrue writer.new.failed → (n : ℕ) × (result ≡ Err (RunFault.WriteFault n)) }
+    ensures read_fault { (result ≡ Err RunError.ReadFault) ↔ IsTrue reader.new.failed }
+    ensures write_fault { (n : ℕ) → result ≡ Err (RunError.WriteFault n) → IsTrue writer.new.failed }
+    ensures write_failed { IsTrue writer.new.failed → (n : ℕ) × (result ≡ Err (RunError.WriteFault n)) }
     ensures within { IfOk result (λ _. IfSome (R.remaining reader.old.inner)
         (λ input. length input ≤ 16777216)) }
     // Either there are more bytes than that, or each of the reads gave one.
-    ensures too_long { result ≡ Err RunFault.TooLong
+    ensures too_long { result ≡ Err RunError.TooLong
         → IfSome (R.remaining reader.old.inner) (λ input. 1048576 ≤ length input) }
     ensures view { S.held sched.new ≡ S.held sched.old }
 {
@@ -86,30 +86,30 @@ fn zeroes(alloc: Global, size: usize) -> Result<Vec<u8>, AllocError>
 }
 
 /// Reads to the end.
-fn read_all<R: Read>(alloc: Global, reader: &mut Watched<R>) -> Result<Vec<u8>, RunFault>
+fn read_all<R: Read>(alloc: Global, reader: &mut Watched<R>) -> Result<Vec<u8>, RunError>
     requires { reader.old.failed ≡ false }
     ensures ok { IfOk result (λ v. IfSome (R.remaining reader.old.inner) (λ input. input ≡ v.items)) }
     ensures kinds { IfErr result IsOfReading }
-    ensures failed { (result ≡ Err RunFault.ReadFault) ↔ IsTrue reader.new.failed }
+    ensures failed { (result ≡ Err RunError.ReadFault) ↔ IsTrue reader.new.failed }
     ensures within { IfOk result (λ v. length v.items ≤ 16777216) }
-    ensures too_long { result ≡ Err RunFault.TooLong
+    ensures too_long { result ≡ Err RunError.TooLong
         → IfSome (R.remaining reader.old.inner) (λ input. 1048576 ≤ length input) }
 {
     let mut input = Vec::new(alloc);
     let mut chunk = zeroes(alloc, CHUNK)?;
     for _ in 0..MOST_READS {
         match reader.read(&mut chunk) {
-            Err(_) => return Err(RunFault::ReadFault),
+            Err(_) => return Err(RunError::ReadFault),
             Ok(0) => return Ok(input),
             Ok(n) => {
                 if input.len() + n > MOST_BYTES {
-                    return Err(RunFault::TooLong);
+                    return Err(RunError::TooLong);
                 }
                 input.extend_from_slice(&chunk[..n])?;
             }
         }
     }
-    Err(RunFault::TooLong)
+    Err(RunError::TooLong)
 }
 
 /// What to write for the bytes of a trace.
@@ -118,16 +118,16 @@ fn answer<S: Scheduler>(
     input: &[u8],
     config: Config,
     sched: &mut S,
-) -> Result<(Status, String), RunFault>
+) -> Result<(Status, String), RunError>
     ensures ok { IfOk result (λ r. (outcome : Outcome) × Tells config input.now (string_bytes r.1) outcome × (r.0 ≡ status_of outcome)) }
     ensures kinds { IfErr result IsOfAnswering }
-    ensures no_trace { result ≡ Err RunFault.NotTrace → (t : List Entry) → IsTrace input.now t → ⊥ }
+    ensures no_trace { result ≡ Err RunError.NotTrace → (t : List Entry) → IsTrace input.now t → ⊥ }
     ensures view { S.held sched.new ≡ S.held sched.old }
 {
     let entries = match read_trace(alloc, input) {
         Ok(entries) => entries,
-        Err(ReadTraceFault::NotTrace) => return Err(RunFault::NotTrace),
-        Err(ReadTraceFault::NoMemory) => return Err(RunFault::NoMemory),
+        Err(ReadTraceError::NotTrace) => return Err(RunError::NotTrace),
+        Err(ReadTraceError::NoMemory) => return Err(RunError::NoMemory),
     };
     let outcome = outcome_of(alloc, &entries, config, sched)?;
     let status = told_status(&outcome);
@@ -172,11 +172,11 @@ fn outcome_of<S: Scheduler>(
 }
 
 /// Writes all the bytes.
-fn write_all<W: Write>(writer: &mut Watched<W>, bytes: &[u8]) -> Result<(), RunFault>
+fn write_all<W: Write>(writer: &mut Watched<W>, bytes: &[u8]) -> Result<(), RunError>
     requires { writer.old.failed ≡ false }
     ensures ok { OnOk result (Appends (W.contents writer.old.inner) (W.contents writer.new.inner) bytes.now) }
     ensures unharmed { OnOk result (writer.new.failed ≡ false) }
-    ensures err { IfErr result (λ e. (n : ℕ) × (e ≡ RunFault.WriteFault n) × (n ≤ length bytes.now)
+    ensures err { IfErr result (λ e. (n : ℕ) × (e ≡ RunError.WriteFault n) × (n ≤ length bytes.now)
         × Appends (W.contents writer.old.inner) (W.contents writer.new.inner) (take n bytes.now)
         × IsTrue writer.new.failed) }
 {
@@ -186,8 +186,8 @@ fn write_all<W: Write>(writer: &mut Watched<W>, bytes: &[u8]) -> Result<(), RunF
             break;
         }
         match writer.write(&bytes[sent..]) {
-            Err(_) => return Err(RunFault::WriteFault(sent as u64)),
-            Ok(0) => return Err(RunFault::WriteFault(sent as u64)),
+            Err(_) => return Err(RunError::WriteFault(sent as u64)),
+            Ok(0) => return Err(RunError::WriteFault(sent as u64)),
             Ok(n) => sent += n,
         }
     }

@@ -1,4 +1,4 @@
-use crate::{Outcome, RunFault, Status, Watched, run, text};
+use crate::{Outcome, RunError, Status, Watched, run, text};
 use itoa::Buffer;
 use std::alloc::Global;
 use std::io;
@@ -26,7 +26,7 @@ fn run_bytes(alloc: Global, input: &[u8]) -> (Ending, Vec<u8>) {
 
 /// Whether an allocation failed: one of the run, or that of the vector which is written to.
 fn ran_out(ending: Ending) -> bool {
-    ending == NO_MEMORY || ending == Err(RunFault::WriteFault(0))
+    ending == NO_MEMORY || ending == Err(RunError::WriteFault(0))
 }
 
 /// Expects that a run ends so and writes this. Where it ran out of memory it has written nothing, and
@@ -156,7 +156,7 @@ fn expect_read_fault(rt: &impl Abort, alloc: Global, reads: usize) {
     // The text comes in 14 reads, and one more finds the end.
     let fails = reads < 15;
     let wanted = if fails {
-        Err(RunFault::ReadFault)
+        Err(RunError::ReadFault)
     } else {
         REPLAYED
     };
@@ -188,7 +188,7 @@ fn expect_write_fault(rt: &impl Abort, alloc: Global, room: usize, fails: bool) 
     }
     let held = room.min(output.len());
     let wanted = if room < output.len() {
-        Err(RunFault::WriteFault(room as u64))
+        Err(RunError::WriteFault(room as u64))
     } else {
         REPLAYED
     };
@@ -237,11 +237,11 @@ fn faults_and_limits(rt: HostRuntime) -> Result<(), Fail> {
     let longest = blanks(alloc, "[]", 16_777_216)?;
     assert_eq!(rt; run_bytes(alloc, &longest).0, REPLAYED);
     let longer = blanks(alloc, "[]", 16_777_217)?;
-    assert_eq!(rt; run_bytes(alloc, &longer).0, Err(RunFault::TooLong));
+    assert_eq!(rt; run_bytes(alloc, &longer).0, Err(RunError::TooLong));
     let longer_and_none = blanks(alloc, "]", 16_777_217)?;
     assert_eq!(rt;
         run_bytes(alloc, &longer_and_none).0,
-        Err(RunFault::TooLong)
+        Err(RunError::TooLong)
     );
     Ok(())
 }

@@ -1,7 +1,7 @@
-use crate::{RunFault, Status};
+use crate::{RunError, Status};
 
 /// How a run ends.
-pub type Ending = Result<Status, RunFault>;
+pub type Ending = Result<Status, RunError>;
 
 pub const REPLAYED: Ending = Ok(Status::Replayed);
 
@@ -9,9 +9,9 @@ pub const REFUSED: Ending = Ok(Status::Refused);
 
 pub const STOPPED: Ending = Ok(Status::Stopped);
 
-pub const NO_TRACE: Ending = Err(RunFault::NotTrace);
+pub const NO_TRACE: Ending = Err(RunError::NotTrace);
 
-pub const NO_MEMORY: Ending = Err(RunFault::NoMemory);
+pub const NO_MEMORY: Ending = Err(RunError::NoMemory);
 
 /// A buffer is filled, and read by the host after a barrier and a wait.
 pub const FILL_AND_READ: &str =

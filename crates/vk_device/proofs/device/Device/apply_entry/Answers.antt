@@ -3,13 +3,13 @@ use Rattle.std.specs.Prelude.{IfOk}
 use Rattle.vk_model.specs.declared.entry.Entry.{Entry}
 use Rattle.vk_device.proofs.Entries.{map_told, buffer_told, read_told, submit_told}
 use Rattle.vk_device.specs.declared.applied.Applied.{Applied}
-use Rattle.vk_device.specs.declared.applied.ApplyFault.{ApplyFault}
+use Rattle.vk_device.specs.declared.applied.ApplyError.{ApplyError}
 use Rattle.vk_device.specs.Allotted.{asked_by}
 use Rattle.vk_device.specs.Held.{placed}
 use Rattle.vk_device.proofs.Allotting.{buffer_rooms, map_allots, nothing_allots}
 use Rattle.vk_device.proofs.device.Device.apply_entry.Goals as goal
 
-if_ok : (r : Result Applied ApplyFault) (P Q : Applied → Type 0) → ((a : Applied) → P a → Q a) → IfOk r P → IfOk r Q
+if_ok : (r : Result Applied ApplyError) (P Q : Applied → Type 0) → ((a : Applied) → P a → Q a) → IfOk r P → IfOk r Q
 if_ok (Ok a) P Q f p = f a p
 if_ok (Err e) P Q f p = p
 

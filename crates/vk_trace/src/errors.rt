@@ -3,7 +3,7 @@ use thiserror::Error;
 
 /// Why no entries were read.
 #[derive(Clone, Copy, Debug, Drop, PartialEq, Eq, Error)]
-pub enum ReadTraceFault {
+pub enum ReadTraceError {
     /// The bytes are no trace.
     #[error("no trace")]
     NotTrace,
@@ -12,31 +12,31 @@ pub enum ReadTraceFault {
     NoMemory,
 }
 
-impl From<AllocError> for ReadTraceFault {
-    ghost use Rattle.vk_trace.specs.declared.faults.ReadTraceFault.TheVariants.{NoMemory};
+impl From<AllocError> for ReadTraceError {
+    ghost use Rattle.vk_trace.specs.declared.errors.ReadTraceError.TheVariants.{NoMemory};
     ghost use Rattle.std.specs.Prelude.{◌≡◌};
 
     ghost from_gives = { λ _ e. e ≡ NoMemory };
 
-    fn from(_refused: AllocError) -> ReadTraceFault {
-        ReadTraceFault::NoMemory
+    fn from(_refused: AllocError) -> ReadTraceError {
+        ReadTraceError::NoMemory
     }
 }
 
-impl<T: Drop> From<AllocFailed<T>> for ReadTraceFault {
-    ghost use Rattle.vk_trace.specs.declared.faults.ReadTraceFault.TheVariants.{NoMemory};
+impl<T: Drop> From<AllocFailed<T>> for ReadTraceError {
+    ghost use Rattle.vk_trace.specs.declared.errors.ReadTraceError.TheVariants.{NoMemory};
     ghost use Rattle.std.specs.Prelude.{◌≡◌};
 
     ghost from_gives = { λ _ e. e ≡ NoMemory };
 
-    fn from(_refused: AllocFailed<T>) -> ReadTraceFault {
-        ReadTraceFault::NoMemory
+    fn from(_refused: AllocFailed<T>) -> ReadTraceError {
+        ReadTraceError::NoMemory
     }
 }
 
 /// Why a run gave no answer, or not all of it.
 #[derive(Clone, Copy, Debug, Drop, PartialEq, Eq, Error)]
-pub enum RunFault {
+pub enum RunError {
     /// The bytes that were read are no trace.
     #[error("no trace")]
     NotTrace,
@@ -54,24 +54,24 @@ pub enum RunFault {
     WriteFault(u64),
 }
 
-impl From<AllocError> for RunFault {
-    ghost use Rattle.vk_trace.specs.declared.faults.RunFault.TheVariants.{NoMemory};
+impl From<AllocError> for RunError {
+    ghost use Rattle.vk_trace.specs.declared.errors.RunError.TheVariants.{NoMemory};
     ghost use Rattle.std.specs.Prelude.{◌≡◌};
 
     ghost from_gives = { λ _ e. e ≡ NoMemory };
 
-    fn from(_refused: AllocError) -> RunFault {
-        RunFault::NoMemory
+    fn from(_refused: AllocError) -> RunError {
+        RunError::NoMemory
     }
 }
 
-impl<T: Drop> From<AllocFailed<T>> for RunFault {
-    ghost use Rattle.vk_trace.specs.declared.faults.RunFault.TheVariants.{NoMemory};
+impl<T: Drop> From<AllocFailed<T>> for RunError {
+    ghost use Rattle.vk_trace.specs.declared.errors.RunError.TheVariants.{NoMemory};
     ghost use Rattle.std.specs.Prelude.{◌≡◌};
 
     ghost from_gives = { λ _ e. e ≡ NoMemory };
 
-    fn from(_refused: AllocFailed<T>) -> RunFault {
-        RunFault::NoMemory
+    fn from(_refused: AllocFailed<T>) -> RunError {
+        RunError::NoMemory
     }
 }
