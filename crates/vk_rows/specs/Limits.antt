@@ -7,4 +7,4 @@ use Rattle.vk_model.specs.Rules.{breaks}
 -- The point after 131,072 others breaks the rule, the one after 131,071 doesn't.
 pub record Limits : Type 0 where
   pub limit : (past : Past) (p : Point) → length past ≡ 131072 → breaks rule.Limit past p ≡ true
-  pub limit_mended : (past : Past) (p : Point) → length past ≡ 131071 → breaks rule.Limit past p ≡ false
+  pub limit_corrected : (past : Past) (p : Point) → length past ≡ 131071 → breaks rule.Limit past p ≡ false

@@ -1,4 +1,4 @@
--- A broken trace and its mended twin for each rule from MAP_STATE to READ_UNDEFINED.
+-- A broken trace and its corrected trace for each rule from MAP_STATE to READ_UNDEFINED.
 use Rattle.std.specs.Prelude.{[], ◌∷◌}
 use Rattle.vk_model.specs.declared.rule.Rule.TheVariants as rule
 use Rattle.vk_model.specs.declared.rule.At.TheVariants as at
@@ -11,7 +11,7 @@ use Rattle.vk_model.specs.declared.command.Cmd.TheVariants as cmd
 use Rattle.vk_rows.specs.Writing.{bytes, dependency, buffer_region, submit_info, semaphore_value, batch, buffer_entry, pool_entry, transfer, host, all_commands, transfer_write, host_read, both}
 use Rattle.vk_rows.specs.Claims.{BreaksOnly, BreaksOnlyLater, BreaksNothing, BreaksNothingLater}
 
--- A broken trace and its mended twin for each rule from MAP_STATE to READ_UNDEFINED: the one breaks just that rule at one point, the other breaks nothing.
+-- A broken trace and its corrected trace for each rule from MAP_STATE to READ_UNDEFINED: the one breaks just that rule at one point, the other breaks nothing.
 pub record RulesOfAccess : Type 0 where
   -- An unmap of what isn't mapped.
   pub map_state : BreaksOnly
@@ -19,7 +19,7 @@ pub record RulesOfAccess : Type 0 where
       ∷ entry.Unmap 1
       ∷ []) (at.Entry 1) rule.MapState
   -- Of what is.
-  pub map_state_mended : BreaksNothing
+  pub map_state_corrected : BreaksNothing
       (buffer_entry 1 16 both sharing.Exclusive (place.Dedicated 1)
       ∷ entry.Map 1
       ∷ entry.Unmap 1
@@ -30,7 +30,7 @@ pub record RulesOfAccess : Type 0 where
       ∷ entry.Map 1
       ∷ []) (at.Entry 1) rule.HostVisible
   -- Of memory that it sees.
-  pub host_visible_mended : BreaksNothing
+  pub host_visible_corrected : BreaksNothing
       (buffer_entry 1 16 both sharing.Exclusive (place.Dedicated 1)
       ∷ entry.Map 1
       ∷ [])
@@ -40,7 +40,7 @@ pub record RulesOfAccess : Type 0 where
       ∷ buffer_entry 2 16 both sharing.Exclusive (place.PoolUpper 1)
       ∷ []) (at.Entry 1) rule.PoolKind
   -- Of one.
-  pub pool_kind_mended : BreaksNothing
+  pub pool_kind_corrected : BreaksNothing
       (pool_entry 1 algorithm.Linear 1 4096 1
       ∷ buffer_entry 2 16 both sharing.Exclusive (place.PoolUpper 1)
       ∷ [])
@@ -51,7 +51,7 @@ pub record RulesOfAccess : Type 0 where
       ∷ entry.EndPass 2 [] []
       ∷ []) (at.Entry 2) rule.PassState
   -- That has.
-  pub pass_state_mended : BreaksNothing
+  pub pass_state_corrected : BreaksNothing
       (pool_entry 1 algorithm.Tlsf 1 4096 2
       ∷ entry.Defrag 2 1 0 0
       ∷ entry.Pass 2
@@ -67,7 +67,7 @@ pub record RulesOfAccess : Type 0 where
       ∷ entry.Pass 4
       ∷ []) (at.Entry 5) rule.PassBusy
   -- After a wait.
-  pub pass_busy_mended : BreaksNothing
+  pub pass_busy_corrected : BreaksNothing
       (pool_entry 1 algorithm.Tlsf 1 4096 2
       ∷ buffer_entry 2 16 both sharing.Exclusive (place.Pool 1)
       ∷ entry.Semaphore 3 0
@@ -86,7 +86,7 @@ pub record RulesOfAccess : Type 0 where
       ∷ entry.Write 2 0 (7 ∷ [])
       ∷ []) (at.Entry 5) rule.PassWrite
   -- After the pass.
-  pub pass_write_mended : BreaksNothingLater
+  pub pass_write_corrected : BreaksNothingLater
       (pool_entry 1 algorithm.Tlsf 1 4096 2
       ∷ buffer_entry 2 16 both sharing.Exclusive (place.Pool 1)
       ∷ entry.Defrag 3 1 0 0
@@ -102,7 +102,7 @@ pub record RulesOfAccess : Type 0 where
       ∷ entry.Submit 0 (batch [] (cmd.Copy 1 2 ((buffer_region 0 0 4) ∷ []) ∷ cmd.Fill 1 0 (bytes 4) 7 ∷ []) [] ∷ [])
       ∷ []) (at.Command 2 0 1) rule.HazardWar
   -- After a barrier without any access.
-  pub hazard_war_mended : BreaksNothing
+  pub hazard_war_corrected : BreaksNothing
       (buffer_entry 1 16 both sharing.Exclusive (place.Dedicated 1)
       ∷ buffer_entry 2 16 both sharing.Exclusive (place.Dedicated 1)
       ∷ entry.Submit 0 (batch []
@@ -121,7 +121,7 @@ pub record RulesOfAccess : Type 0 where
       ∷ entry.Read 1 0 4
       ∷ []) (at.Entry 5) rule.HazardRaw
   -- After a barrier to the host too.
-  pub hazard_raw_mended : BreaksNothing
+  pub hazard_raw_corrected : BreaksNothing
       (buffer_entry 1 16 both sharing.Exclusive (place.Dedicated 1)
       ∷ entry.Semaphore 2 0
       ∷ entry.Map 1
@@ -138,7 +138,7 @@ pub record RulesOfAccess : Type 0 where
       ∷ entry.Submit 0 (batch [] (cmd.Fill 1 0 (bytes 4) 7 ∷ cmd.Fill 1 0 (bytes 4) 8 ∷ []) [] ∷ [])
       ∷ []) (at.Command 1 0 1) rule.HazardWaw
   -- With one from writes to writes.
-  pub hazard_waw_mended : BreaksNothing
+  pub hazard_waw_corrected : BreaksNothing
       (buffer_entry 1 16 both sharing.Exclusive (place.Dedicated 1)
       ∷ entry.Submit 0 (batch []
       (cmd.Fill 1 0 (bytes 4) 7
@@ -154,7 +154,7 @@ pub record RulesOfAccess : Type 0 where
       ∷ entry.Destroy 1
       ∷ []) (at.Entry 3) rule.InUse
   -- After a wait.
-  pub in_use_mended : BreaksNothing
+  pub in_use_corrected : BreaksNothing
       (buffer_entry 1 16 both sharing.Exclusive (place.Dedicated 1)
       ∷ entry.Semaphore 2 0
       ∷ entry.Submit 0 (batch [] (cmd.Fill 1 0 (bytes 16) 1 ∷ []) (submit_info 2 1 all_commands ∷ []) ∷ [])
@@ -168,7 +168,7 @@ pub record RulesOfAccess : Type 0 where
       ∷ entry.Read 1 0 1
       ∷ []) (at.Entry 2) rule.ReadUndefined
   -- What it wrote.
-  pub read_undefined_mended : BreaksNothing
+  pub read_undefined_corrected : BreaksNothing
       (buffer_entry 1 16 both sharing.Exclusive (place.Dedicated 1)
       ∷ entry.Map 1
       ∷ entry.Write 1 0 (7 ∷ [])

@@ -1,4 +1,4 @@
--- A broken trace and its mended twin for each rule from RANGE to OWNER_PAIR.
+-- A broken trace and its corrected trace for each rule from RANGE to OWNER_PAIR.
 use Rattle.std.specs.Prelude.{◌+◌, [], ◌∷◌}
 use Rattle.vk_model.specs.declared.rule.Rule.TheVariants as rule
 use Rattle.vk_model.specs.declared.rule.At.TheVariants as at
@@ -12,7 +12,7 @@ use Rattle.vk_model.specs.declared.command.Cmd.TheVariants as cmd
 use Rattle.vk_rows.specs.Writing.{bytes, to_end, dependency, levels, buffer_element, image_element, buffer_region, image_region, submit_info, batch, buffer_entry, image_entry, transfer, all_commands, transfer_read, transfer_write, both, undefined, general, destination_optimal, ignored}
 use Rattle.vk_rows.specs.Claims.{BreaksOnly, BreaksNothing}
 
--- A broken trace and its mended twin for each rule from RANGE to OWNER_PAIR: the one breaks just that rule at one point, the other breaks nothing.
+-- A broken trace and its corrected trace for each rule from RANGE to OWNER_PAIR: the one breaks just that rule at one point, the other breaks nothing.
 pub record RulesOfCommands : Type 0 where
   -- A flush of 17 bytes of 16.
   pub range : BreaksOnly
@@ -21,7 +21,7 @@ pub record RulesOfCommands : Type 0 where
       ∷ entry.Flush 1 0 (bytes 17)
       ∷ []) (at.Entry 2) rule.Range
   -- Of 16.
-  pub range_mended : BreaksNothing
+  pub range_corrected : BreaksNothing
       (buffer_entry 1 16 both sharing.Exclusive (place.Dedicated 1)
       ∷ entry.Map 1
       ∷ entry.Flush 1 0 (bytes 16)
@@ -32,7 +32,7 @@ pub record RulesOfCommands : Type 0 where
       ∷ entry.Submit 0 (batch [] (cmd.Fill 1 2 (bytes 4) 7 ∷ []) [] ∷ [])
       ∷ []) (at.Command 1 0 0) rule.Align
   -- At byte 4.
-  pub align_mended : BreaksNothing
+  pub align_corrected : BreaksNothing
       (buffer_entry 1 16 both sharing.Exclusive (place.Dedicated 1)
       ∷ entry.Submit 0 (batch [] (cmd.Fill 1 4 (bytes 4) 7 ∷ []) [] ∷ [])
       ∷ [])
@@ -42,7 +42,7 @@ pub record RulesOfCommands : Type 0 where
       ∷ entry.Submit 0 (batch [] (cmd.Copy 1 1 ((buffer_region 0 4 8) ∷ []) ∷ []) [] ∷ [])
       ∷ []) (at.Command 1 0 0) rule.Overlap
   -- By 8.
-  pub overlap_mended : BreaksNothing
+  pub overlap_corrected : BreaksNothing
       (buffer_entry 1 16 both sharing.Exclusive (place.Dedicated 1)
       ∷ entry.Submit 0 (batch [] (cmd.Copy 1 1 ((buffer_region 0 8 8) ∷ []) ∷ []) [] ∷ [])
       ∷ [])
@@ -56,7 +56,7 @@ pub record RulesOfCommands : Type 0 where
       [] ∷ [])
       ∷ []) (at.Command 2 0 1) rule.Format
   -- To texels of one.
-  pub format_mended : BreaksNothing
+  pub format_corrected : BreaksNothing
       (image_entry 1 texel_format.R8Uint 8 8 1 1 kind.Optimal both sharing.Exclusive (place.Dedicated 0)
       ∷ image_entry 2 texel_format.R8Uint 8 8 1 1 kind.Optimal both sharing.Exclusive (place.Dedicated 0)
       ∷ entry.Submit 0 (batch []
@@ -72,7 +72,7 @@ pub record RulesOfCommands : Type 0 where
       [] ∷ [])
       ∷ []) (at.Command 1 0 0) rule.Subresource
   -- On level 0.
-  pub subresource_mended : BreaksNothing
+  pub subresource_corrected : BreaksNothing
       (image_entry 1 texel_format.R8Uint 8 8 1 1 kind.Optimal both sharing.Exclusive (place.Dedicated 0)
       ∷ entry.Submit 0 (batch []
       (cmd.Barrier (image_element (dependency transfer transfer_write transfer (transfer_read + transfer_write)) ignored ignored 1 undefined undefined (levels 0 1 0 1) ∷ []) ∷ [])
@@ -83,7 +83,7 @@ pub record RulesOfCommands : Type 0 where
       (entry.Submit 0 (batch [] (cmd.Barrier (element.Memory (dependency 1 0 0 0) ∷ []) ∷ []) [] ∷ [])
       ∷ []) (at.Command 0 0 0) rule.Stage
   -- With TRANSFER.
-  pub stage_mended : BreaksNothing
+  pub stage_corrected : BreaksNothing
       (entry.Submit 0 (batch [] (cmd.Barrier (element.Memory (dependency transfer 0 0 0) ∷ []) ∷ []) [] ∷ [])
       ∷ [])
   -- A clear of an image in UNDEFINED.
@@ -92,7 +92,7 @@ pub record RulesOfCommands : Type 0 where
       ∷ entry.Submit 0 (batch [] (cmd.Clear 1 destination_optimal (0 ∷ 0 ∷ 0 ∷ 0 ∷ []) ((levels 0 1 0 1) ∷ []) ∷ []) [] ∷ [])
       ∷ []) (at.Command 1 0 0) rule.Layout
   -- After a transition.
-  pub layout_mended : BreaksNothing
+  pub layout_corrected : BreaksNothing
       (image_entry 1 texel_format.R8Uint 8 8 1 1 kind.Optimal both sharing.Exclusive (place.Dedicated 0)
       ∷ entry.Submit 0 (batch []
       (cmd.Barrier (image_element (dependency transfer transfer_write transfer (transfer_read + transfer_write)) ignored ignored 1 undefined destination_optimal (levels 0 1 0 1) ∷ [])
@@ -107,7 +107,7 @@ pub record RulesOfCommands : Type 0 where
       [] ∷ [])
       ∷ []) (at.Command 1 0 0) rule.OldLayout
   -- From UNDEFINED.
-  pub old_layout_mended : BreaksNothing
+  pub old_layout_corrected : BreaksNothing
       (image_entry 1 texel_format.R8Uint 8 8 1 1 kind.Optimal both sharing.Exclusive (place.Dedicated 0)
       ∷ entry.Submit 0 (batch []
       (cmd.Barrier (image_element (dependency transfer transfer_write transfer (transfer_read + transfer_write)) ignored ignored 1 undefined destination_optimal (levels 0 1 0 1) ∷ []) ∷ [])
@@ -119,7 +119,7 @@ pub record RulesOfCommands : Type 0 where
       ∷ entry.Submit 0 (batch [] (cmd.Barrier (buffer_element (dependency transfer transfer_write 0 0) 0 1 1 0 (bytes 8) ∷ []) ∷ []) [] ∷ [])
       ∷ []) (at.Command 1 0 0) rule.OwnerWhole
   -- Of all of it.
-  pub owner_whole_mended : BreaksNothing
+  pub owner_whole_corrected : BreaksNothing
       (buffer_entry 1 16 both sharing.Exclusive (place.Dedicated 1)
       ∷ entry.Submit 0 (batch [] (cmd.Barrier (buffer_element (dependency transfer transfer_write 0 0) 0 1 1 0 to_end ∷ []) ∷ []) [] ∷ [])
       ∷ [])
@@ -132,7 +132,7 @@ pub record RulesOfCommands : Type 0 where
       [] ∷ [])
       ∷ []) (at.Command 2 0 0) rule.OwnerPair
   -- After a release.
-  pub owner_pair_mended : BreaksNothing
+  pub owner_pair_corrected : BreaksNothing
       (buffer_entry 1 16 both sharing.Exclusive (place.Dedicated 1)
       ∷ entry.Semaphore 2 0
       ∷ entry.Submit 0 (batch []

@@ -1,4 +1,4 @@
--- A broken trace and its mended twin for each rule from NEW_ID to ALIASED.
+-- A broken trace and its corrected trace for each rule from NEW_ID to ALIASED.
 use Rattle.std.specs.Prelude.{[], ◌∷◌}
 use Rattle.vk_model.specs.declared.rule.Rule.TheVariants as rule
 use Rattle.vk_model.specs.declared.rule.At.TheVariants as at
@@ -12,7 +12,7 @@ use Rattle.vk_model.specs.declared.command.Cmd.TheVariants as cmd
 use Rattle.vk_rows.specs.Writing.{semaphore_value, batch, buffer_entry, image_entry, pool_entry, memory_entry, source, both}
 use Rattle.vk_rows.specs.Claims.{BreaksOnly, BreaksNothing}
 
--- A broken trace and its mended twin for each rule from NEW_ID to ALIASED: the one breaks just that rule at one point, the other breaks nothing.
+-- A broken trace and its corrected trace for each rule from NEW_ID to ALIASED: the one breaks just that rule at one point, the other breaks nothing.
 pub record RulesOfObjects : Type 0 where
   -- An id is made twice.
   pub new_id : BreaksOnly
@@ -20,7 +20,7 @@ pub record RulesOfObjects : Type 0 where
       ∷ entry.Event 1
       ∷ []) (at.Entry 1) rule.NewId
   -- Two ids.
-  pub new_id_mended : BreaksNothing
+  pub new_id_corrected : BreaksNothing
       (entry.Semaphore 1 0
       ∷ entry.Event 2
       ∷ [])
@@ -29,7 +29,7 @@ pub record RulesOfObjects : Type 0 where
       (entry.Wait (semaphore_value 1 1 ∷ [])
       ∷ []) (at.Entry 0) rule.LiveId
   -- A semaphore that begins at the value.
-  pub live_id_mended : BreaksNothing
+  pub live_id_corrected : BreaksNothing
       (entry.Semaphore 1 1
       ∷ entry.Wait (semaphore_value 1 1 ∷ [])
       ∷ [])
@@ -38,7 +38,7 @@ pub record RulesOfObjects : Type 0 where
       (entry.Submit 4 []
       ∷ []) (at.Entry 0) rule.Queue
   -- Queue 3.
-  pub queue_mended : BreaksNothing
+  pub queue_corrected : BreaksNothing
       (entry.Submit 3 []
       ∷ [])
   -- An event is set on a queue of transfer alone.
@@ -47,7 +47,7 @@ pub record RulesOfObjects : Type 0 where
       ∷ entry.Submit 2 (batch [] (cmd.Set 1 [] ∷ []) [] ∷ [])
       ∷ []) (at.Command 1 0 0) rule.QueueKind
   -- On queue 1.
-  pub queue_kind_mended : BreaksNothing
+  pub queue_kind_corrected : BreaksNothing
       (entry.Event 1
       ∷ entry.Submit 1 (batch [] (cmd.Set 1 [] ∷ []) [] ∷ [])
       ∷ [])
@@ -56,7 +56,7 @@ pub record RulesOfObjects : Type 0 where
       (buffer_entry 1 0 both sharing.Exclusive (place.Dedicated 1)
       ∷ []) (at.Entry 0) rule.Size
   -- One of a byte.
-  pub size_mended : BreaksNothing
+  pub size_corrected : BreaksNothing
       (buffer_entry 1 1 both sharing.Exclusive (place.Dedicated 1)
       ∷ [])
   -- A buffer for nothing.
@@ -64,7 +64,7 @@ pub record RulesOfObjects : Type 0 where
       (buffer_entry 1 16 0 sharing.Exclusive (place.Dedicated 1)
       ∷ []) (at.Entry 0) rule.Usage
   -- One to copy from.
-  pub usage_mended : BreaksNothing
+  pub usage_corrected : BreaksNothing
       (buffer_entry 1 16 source sharing.Exclusive (place.Dedicated 1)
       ∷ [])
   -- An optimal image in memory that the host sees.
@@ -72,7 +72,7 @@ pub record RulesOfObjects : Type 0 where
       (image_entry 1 texel_format.R8Uint 8 8 1 1 kind.Optimal both sharing.Exclusive (place.Dedicated 1)
       ∷ []) (at.Entry 0) rule.MemoryType
   -- In memory of the device.
-  pub memory_type_mended : BreaksNothing
+  pub memory_type_corrected : BreaksNothing
       (image_entry 1 texel_format.R8Uint 8 8 1 1 kind.Optimal both sharing.Exclusive (place.Dedicated 0)
       ∷ [])
   -- A memory object of no bytes.
@@ -80,7 +80,7 @@ pub record RulesOfObjects : Type 0 where
       (memory_entry 1 0 0
       ∷ []) (at.Entry 0) rule.MemorySize
   -- Of a byte.
-  pub memory_size_mended : BreaksNothing
+  pub memory_size_corrected : BreaksNothing
       (memory_entry 1 0 1
       ∷ [])
   -- A buffer of 2,064 bytes in blocks of 4,096.
@@ -89,7 +89,7 @@ pub record RulesOfObjects : Type 0 where
       ∷ buffer_entry 2 2064 both sharing.Exclusive (place.Pool 1)
       ∷ []) (at.Entry 1) rule.PoolSize
   -- Of 2,048.
-  pub pool_size_mended : BreaksNothing
+  pub pool_size_corrected : BreaksNothing
       (pool_entry 1 algorithm.Tlsf 1 4096 2
       ∷ buffer_entry 2 2048 both sharing.Exclusive (place.Pool 1)
       ∷ [])
@@ -99,7 +99,7 @@ pub record RulesOfObjects : Type 0 where
       ∷ buffer_entry 2 16 both sharing.Exclusive (place.Memory 1 64)
       ∷ []) (at.Entry 1) rule.BindRange
   -- At 48.
-  pub bind_range_mended : BreaksNothing
+  pub bind_range_corrected : BreaksNothing
       (memory_entry 1 1 64
       ∷ buffer_entry 2 16 both sharing.Exclusive (place.Memory 1 48)
       ∷ [])
@@ -109,7 +109,7 @@ pub record RulesOfObjects : Type 0 where
       ∷ buffer_entry 2 16 both sharing.Exclusive (place.Memory 1 8)
       ∷ []) (at.Entry 1) rule.BindAlign
   -- At 16.
-  pub bind_align_mended : BreaksNothing
+  pub bind_align_corrected : BreaksNothing
       (memory_entry 1 1 64
       ∷ buffer_entry 2 16 both sharing.Exclusive (place.Memory 1 16)
       ∷ [])
@@ -120,7 +120,7 @@ pub record RulesOfObjects : Type 0 where
       ∷ buffer_entry 3 16 both sharing.Exclusive (place.Memory 1 0)
       ∷ []) (at.Entry 2) rule.Aliased
   -- One after the other.
-  pub aliased_mended : BreaksNothing
+  pub aliased_corrected : BreaksNothing
       (memory_entry 1 1 64
       ∷ buffer_entry 2 16 both sharing.Exclusive (place.Memory 1 0)
       ∷ buffer_entry 3 16 both sharing.Exclusive (place.Memory 1 16)

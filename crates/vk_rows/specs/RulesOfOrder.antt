@@ -1,4 +1,4 @@
--- A broken trace and its mended twin for each rule from EVENT_STATE to WAIT_NEVER.
+-- A broken trace and its corrected trace for each rule from EVENT_STATE to WAIT_NEVER.
 use Rattle.std.specs.Prelude.{◌+◌, [], ◌∷◌}
 use Rattle.vk_model.specs.declared.rule.Rule.TheVariants as rule
 use Rattle.vk_model.specs.declared.rule.At.TheVariants as at
@@ -7,7 +7,7 @@ use Rattle.vk_model.specs.declared.command.Cmd.TheVariants as cmd
 use Rattle.vk_rows.specs.Writing.{dependency, submit_info, semaphore_value, batch, transfer, all_commands, transfer_read, transfer_write}
 use Rattle.vk_rows.specs.Claims.{BreaksOnly, BreaksNothing}
 
--- A broken trace and its mended twin for each rule from EVENT_STATE to WAIT_NEVER: the one breaks just that rule at one point, the other breaks nothing.
+-- A broken trace and its corrected trace for each rule from EVENT_STATE to WAIT_NEVER: the one breaks just that rule at one point, the other breaks nothing.
 pub record RulesOfOrder : Type 0 where
   -- An event is set twice.
   pub event_state : BreaksOnly
@@ -15,7 +15,7 @@ pub record RulesOfOrder : Type 0 where
       ∷ entry.Submit 0 (batch [] (cmd.Set 1 [] ∷ cmd.Set 1 [] ∷ []) [] ∷ [])
       ∷ []) (at.Command 1 0 1) rule.EventState
   -- It is set and awaited.
-  pub event_state_mended : BreaksNothing
+  pub event_state_corrected : BreaksNothing
       (entry.Event 1
       ∷ entry.Submit 0 (batch [] (cmd.Set 1 [] ∷ cmd.Await 1 [] ∷ []) [] ∷ [])
       ∷ [])
@@ -28,7 +28,7 @@ pub record RulesOfOrder : Type 0 where
       [] ∷ [])
       ∷ []) (at.Command 1 0 1) rule.EventDependency
   -- That it has.
-  pub event_dependency_mended : BreaksNothing
+  pub event_dependency_corrected : BreaksNothing
       (entry.Event 1
       ∷ entry.Submit 0 (batch []
       (cmd.Set 1 ((dependency transfer transfer_write transfer (transfer_read + transfer_write)) ∷ [])
@@ -41,7 +41,7 @@ pub record RulesOfOrder : Type 0 where
       ∷ entry.Signal 1 5
       ∷ []) (at.Entry 1) rule.SignalValue
   -- Of a greater one.
-  pub signal_value_mended : BreaksNothing
+  pub signal_value_corrected : BreaksNothing
       (entry.Semaphore 1 5
       ∷ entry.Signal 1 6
       ∷ [])
@@ -52,7 +52,7 @@ pub record RulesOfOrder : Type 0 where
       ∷ entry.Signal 1 2
       ∷ []) (at.Entry 2) rule.SignalOrder
   -- It has.
-  pub signal_order_mended : BreaksNothing
+  pub signal_order_corrected : BreaksNothing
       (entry.Semaphore 1 0
       ∷ entry.Submit 0 (batch [] [] (submit_info 1 1 all_commands ∷ []) ∷ [])
       ∷ entry.Wait (semaphore_value 1 1 ∷ [])
@@ -64,7 +64,7 @@ pub record RulesOfOrder : Type 0 where
       ∷ entry.Submit 0 (batch (submit_info 1 1 all_commands ∷ []) [] [] ∷ [])
       ∷ []) (at.Wait 1 0 0) rule.WaitBeforeSignal
   -- That the host has.
-  pub wait_before_signal_mended : BreaksNothing
+  pub wait_before_signal_corrected : BreaksNothing
       (entry.Semaphore 1 0
       ∷ entry.Signal 1 1
       ∷ entry.Submit 0 (batch (submit_info 1 1 all_commands ∷ []) [] [] ∷ [])
@@ -75,7 +75,7 @@ pub record RulesOfOrder : Type 0 where
       ∷ entry.Wait (semaphore_value 1 1 ∷ [])
       ∷ []) (at.Entry 1) rule.WaitNever
   -- That the host has.
-  pub wait_never_mended : BreaksNothing
+  pub wait_never_corrected : BreaksNothing
       (entry.Semaphore 1 0
       ∷ entry.Signal 1 1
       ∷ entry.Wait (semaphore_value 1 1 ∷ [])

@@ -1,5 +1,5 @@
 //! Worked examples of the definitions: traces with what they read or the first rule that they break,
-//! a broken and a mended trace for each rule, and places, pieces and orders of small cases. All are
+//! a broken and a corrected trace for each rule, and places, pieces and orders of small cases. All are
 //! closed by computation, so a definition that changes its meaning fails here.
 #![tactic(auto)]
 

@@ -39,22 +39,22 @@ pub fn ahead()
     ensures { Ahead }
 {}
 
-/// Each rule on objects, broken alone and mended.
+/// Each rule on objects, broken alone and corrected.
 pub fn rules_of_objects()
     ensures { RulesOfObjects }
 {}
 
-/// Each rule on commands, broken alone and mended.
+/// Each rule on commands, broken alone and corrected.
 pub fn rules_of_commands()
     ensures { RulesOfCommands }
 {}
 
-/// Each rule on events and semaphores, broken alone and mended.
+/// Each rule on events and semaphores, broken alone and corrected.
 pub fn rules_of_order()
     ensures { RulesOfOrder }
 {}
 
-/// Each rule on mappings, passes, hazards and ends, broken alone and mended.
+/// Each rule on mappings, passes, hazards and ends, broken alone and corrected.
 pub fn rules_of_access()
     ensures { RulesOfAccess }
 {}

@@ -5,4 +5,4 @@ use Rattle.vk_rows.proofs.facts.limits.Goals as goal
 
 pub returns : goal.returns
 unfolding on_rows
-returns c = record { limit = λ past p e. ap (nat_le 131072) e; limit_mended = λ past p e. ap (nat_le 131072) e }
+returns c = record { limit = λ past p e. ap (nat_le 131072) e; limit_corrected = λ past p e. ap (nat_le 131072) e }

@@ -6,23 +6,23 @@ pub returns : goal.returns
 unfolding on_rows
 returns c = record {
   range = refl;
-  range_mended = refl;
+  range_corrected = refl;
   align = refl;
-  align_mended = refl;
+  align_corrected = refl;
   overlap = refl;
-  overlap_mended = refl;
+  overlap_corrected = refl;
   format = refl;
-  format_mended = refl;
+  format_corrected = refl;
   subresource = refl;
-  subresource_mended = refl;
+  subresource_corrected = refl;
   stage = refl;
-  stage_mended = refl;
+  stage_corrected = refl;
   layout = refl;
-  layout_mended = refl;
+  layout_corrected = refl;
   old_layout = refl;
-  old_layout_mended = refl;
+  old_layout_corrected = refl;
   owner_whole = refl;
-  owner_whole_mended = refl;
+  owner_whole_corrected = refl;
   owner_pair = refl;
-  owner_pair_mended = refl;
+  owner_pair_corrected = refl;
 }

@@ -6,15 +6,15 @@ pub returns : goal.returns
 unfolding on_rows
 returns c = record {
   event_state = refl;
-  event_state_mended = refl;
+  event_state_corrected = refl;
   event_dependency = refl;
-  event_dependency_mended = refl;
+  event_dependency_corrected = refl;
   signal_value = refl;
-  signal_value_mended = refl;
+  signal_value_corrected = refl;
   signal_order = refl;
-  signal_order_mended = refl;
+  signal_order_corrected = refl;
   wait_before_signal = refl;
-  wait_before_signal_mended = refl;
+  wait_before_signal_corrected = refl;
   wait_never = refl;
-  wait_never_mended = refl;
+  wait_never_corrected = refl;
 }
