@@ -21,8 +21,8 @@ use Rattle.vk_validate.specs.declared.tables.Tables.{Tables}
 use denote.Ref.{Bor}
 
 -- The entry that made each id.
-abbrev pub Makers : (ℕ → Option (Bor Entry)) → Past → Type 0
-Makers makers past = (i : ℕ) → option_map (λ x. x.now) (makers i) ≡ made past i
+abbrev pub CreatingEntries : (ℕ → Option (Bor Entry)) → Past → Type 0
+CreatingEntries creating_entries past = (i : ℕ) → option_map (λ x. x.now) (creating_entries i) ≡ made past i
 
 -- Whether an entry has mapped a buffer.
 abbrev pub was_mapped : Past → ℕ → Bool
@@ -33,8 +33,8 @@ abbrev pub Maps : (ℕ → Option ℕ) → Past → Type 0
 Maps counts past = (b : ℕ) → nat_lt 0 (unwrap_or (counts b) 0) ≡ was_mapped past b
 
 -- The greatest value signaled to each semaphore.
-abbrev pub Peaks : (ℕ → Option ℕ) → Past → Type 0
-Peaks peaks past = (s : ℕ) → unwrap_or (peaks s) 0 ≡ fold max 0 (signaled past s)
+abbrev pub HighestValues : (ℕ → Option ℕ) → Past → Type 0
+HighestValues highest_values past = (s : ℕ) → unwrap_or (highest_values s) 0 ≡ fold max 0 (signaled past s)
 
 -- Whether a fill writes byte k of a buffer. No buffer has a byte from 2^64 on.
 abbrev pub fills_byte : Past → Cmd → ℕ → ℕ → Bool
@@ -67,9 +67,9 @@ TimelinesAre timelines signals = (s v : ℕ) → IsLeast (timelines s) v (least_
 
 -- All tables say what the past does.
 pub record IsTabled (tables : Tables) (past : Past) : Type 0 where
-  pub makers_are : Makers (get nat_cmp tables.makers) past
+  pub creating_entries_match : CreatingEntries (get nat_cmp tables.creating_entries) past
   pub maps_are : Maps (get nat_cmp tables.maps) past
-  pub peaks_are : Peaks (get nat_cmp tables.peaks) past
+  pub highest_values_match : HighestValues (get nat_cmp tables.highest_values) past
   pub writers_are : WritersAre (get nat_cmp tables.writers) past
   pub timelines_are : TimelinesAre (get nat_cmp tables.timelines) (standing past).signals
   pub order_is : tables.order ≡ (standing past).order

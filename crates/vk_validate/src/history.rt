@@ -69,7 +69,7 @@ impl<'a> History<'a> {
     pub fn made(&self, id: u32) -> Option<&'a Entry>
         ensures { option_map (λ x. x.now) result ≡ made (past self.now) id }
     {
-        self.tables.makers.get(&id).copied()
+        self.tables.creating_entries.get(&id).copied()
     }
 
     /// What a buffer was made with.
@@ -98,16 +98,16 @@ impl<'a> History<'a> {
         ensures { result ≡ counter (past self.now) semaphore }
     {
         match self.initial(semaphore) {
-            Some(initial) => Some(initial.max(self.peak(semaphore))),
+            Some(initial) => Some(initial.max(self.highest_value(semaphore))),
             None => None,
         }
     }
 
     /// The greatest value signaled to a semaphore.
-    fn peak(&self, semaphore: u32) -> u64
+    fn highest_value(&self, semaphore: u32) -> u64
         ensures { result ≡ fold max 0 (signaled (past self.now) semaphore) }
     {
-        self.tables.peaks.get(&semaphore).copied().unwrap_or(0)
+        self.tables.highest_values.get(&semaphore).copied().unwrap_or(0)
     }
 
     /// Whether a buffer was mapped.

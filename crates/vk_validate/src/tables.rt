@@ -20,11 +20,11 @@ use vk_model::Entry;
 #[derive(Drop)]
 pub struct Tables<'a> {
     /// The entry that made each object.
-    pub makers: BTreeMap<u32, &'a Entry>,
+    pub creating_entries: BTreeMap<u32, &'a Entry>,
     /// How often each buffer was mapped.
     pub maps: BTreeMap<u32, u64>,
     /// The greatest value signaled to each semaphore.
-    pub peaks: BTreeMap<u32, u64>,
+    pub highest_values: BTreeMap<u32, u64>,
     /// The signals of each semaphore that was signaled.
     pub timelines: BTreeMap<u32, Timeline>,
     /// The last writers of each buffer that was written.
@@ -51,17 +51,17 @@ pub enum Change<'a> {
 impl<'a> Tables<'a> {
     /// Nothing has happened.
     pub fn new(alloc: Global) -> Tables<'a>
-        ensures makers { IsEmpty result.makers }
+        ensures creating_entries { IsEmpty result.creating_entries }
         ensures maps { IsEmpty result.maps }
-        ensures peaks { IsEmpty result.peaks }
+        ensures highest_values { IsEmpty result.highest_values }
         ensures timelines { IsEmpty result.timelines }
         ensures writers { IsEmpty result.writers }
         ensures order { result.order ≡ start.order }
     {
         Tables {
-            makers: BTreeMap::new(alloc),
+            creating_entries: BTreeMap::new(alloc),
             maps: BTreeMap::new(alloc),
-            peaks: BTreeMap::new(alloc),
+            highest_values: BTreeMap::new(alloc),
             timelines: BTreeMap::new(alloc),
             writers: BTreeMap::new(alloc),
             order: Order::START,
@@ -79,14 +79,14 @@ pub fn note<'a>(
 {
     match change {
         Change::Nothing => Ok(()),
-        Change::Made(id, entry) => note_maker(&mut tables.makers, id, entry),
+        Change::Made(id, entry) => note_creation(&mut tables.creating_entries, id, entry),
         Change::Mapped(buffer) => note_map(&mut tables.maps, buffer),
         Change::Written(buffer, span, point) => {
             note_write(alloc, &mut tables.writers, buffer, span, point)?;
             Ok(())
         }
         Change::Signaled(semaphore, value, clock) => {
-            note_peak(&mut tables.peaks, semaphore, value)?;
+            note_highest_value(&mut tables.highest_values, semaphore, value)?;
             note_signal(alloc, &mut tables.timelines, semaphore, value, clock)?;
             tables.order = tables.order.after_signal(clock);
             Ok(())
@@ -98,15 +98,15 @@ pub fn note<'a>(
     }
 }
 
-fn note_maker<'a>(
-    makers: &mut BTreeMap<u32, &'a Entry>,
+fn note_creation<'a>(
+    creating_entries: &mut BTreeMap<u32, &'a Entry>,
     id: u32,
     entry: &'a Entry,
 ) -> Result<(), AllocError>
-    ensures { OnOk result ((other : ℕ) → option_map (λ x. x.now) (get nat_cmp makers.new other)
-        ≡ (if other == id then Some entry.now else option_map (λ x. x.now) (get nat_cmp makers.old other))) }
+    ensures { OnOk result ((other : ℕ) → option_map (λ x. x.now) (get nat_cmp creating_entries.new other)
+        ≡ (if other == id then Some entry.now else option_map (λ x. x.now) (get nat_cmp creating_entries.old other))) }
 {
-    makers.insert(id, entry)?;
+    creating_entries.insert(id, entry)?;
     Ok(())
 }
 
@@ -119,12 +119,12 @@ fn note_map(maps: &mut BTreeMap<u32, u64>, buffer: u32) -> Result<(), AllocError
     Ok(())
 }
 
-fn note_peak(peaks: &mut BTreeMap<u32, u64>, semaphore: u32, value: u64) -> Result<(), AllocError>
-    ensures { OnOk result ((other : ℕ) → unwrap_or (get nat_cmp peaks.new other) 0
-        ≡ (if semaphore == other then max value (unwrap_or (get nat_cmp peaks.old other) 0) else unwrap_or (get nat_cmp peaks.old other) 0)) }
+fn note_highest_value(highest_values: &mut BTreeMap<u32, u64>, semaphore: u32, value: u64) -> Result<(), AllocError>
+    ensures { OnOk result ((other : ℕ) → unwrap_or (get nat_cmp highest_values.new other) 0
+        ≡ (if semaphore == other then max value (unwrap_or (get nat_cmp highest_values.old other) 0) else unwrap_or (get nat_cmp highest_values.old other) 0)) }
 {
-    let peak = peaks.get(&semaphore).copied().unwrap_or(0);
-    peaks.insert(semaphore, peak.max(value))?;
+    let highest_value = highest_values.get(&semaphore).copied().unwrap_or(0);
+    highest_values.insert(semaphore, highest_value.max(value))?;
     Ok(())
 }
 

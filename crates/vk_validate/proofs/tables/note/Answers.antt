@@ -11,9 +11,9 @@ returns-in_ok-note_signal-in-Signaled c = λ past p fits tabled.
     let signal = c.in_ok-note_signal-in-Signaled.ensures in
     let x : Signaled = record { semaphore = c.in-Signaled.semaphore; value = c.in-Signaled.value; clock = c.in-Signaled.clock } in
     record {
-      makers_are = λ i. rw is.is (tabled.makers_are i);
+      creating_entries_match = λ i. rw is.is (tabled.creating_entries_match i);
       maps_are = λ i. rw is.is (tabled.maps_are i);
-      peaks_are = λ i. let e = signaled-some p past c.in-Signaled.semaphore c.in-Signaled.value (rw (is.is, is.semaphore_is, is.value_is) refl) i in let f = c.in_ok-note_peak-in-Signaled.ensures i in let g = tabled.peaks_are i in cc;
+      highest_values_match = λ i. let e = signaled-some p past c.in-Signaled.semaphore c.in-Signaled.value (rw (is.is, is.semaphore_is, is.value_is) refl) i in let f = c.in_ok-note_highest_value-in-Signaled.ensures i in let g = tabled.highest_values_match i in cc;
       writers_are = writers_stay _ p past (λ b k. rw is.is refl) tabled.writers_are;
       timelines_are = rw (is.is, is.semaphore_is, is.value_is, ← is.clock_is) (timelines_next _ _ _ x tabled.timelines_are signal.stands signal.here signal.others);
       order_is =
@@ -26,9 +26,9 @@ returns-in_ok-note_write-in-Written c = λ past p fits tabled.
     let is = rw c.in-Written.is at fits in
     let fill = is.1 in
     record {
-      makers_are = λ i. rw fill.is (tabled.makers_are i);
+      creating_entries_match = λ i. rw fill.is (tabled.creating_entries_match i);
       maps_are = λ i. rw fill.is (tabled.maps_are i);
-      peaks_are = λ i. rw fill.is (tabled.peaks_are i);
+      highest_values_match = λ i. rw fill.is (tabled.highest_values_match i);
       writers_are = writers_next _ _ p past c.in-Written.buffer c.in-Written.span.first c.in-Written.span.last c.in-Written.point tabled.writers_are fill is.2 c.in_ok-note_write-in-Written.ensures.stands c.in_ok-note_write-in-Written.ensures.here c.in_ok-note_write-in-Written.ensures.others;
       timelines_are = rw fill.is tabled.timelines_are;
       order_is = rw fill.is tabled.order_is;

@@ -7,10 +7,10 @@ unfolding past
 invariant_of-result c = (
   omega arith,
   record {
-    makers_are = λ i. rw c.new.ensures.makers refl;
+    creating_entries_match = λ i. rw c.new.ensures.creating_entries refl;
     maps_are = λ i. rw c.new.ensures.maps refl;
     writers_are = λ b k lt. rw c.new.ensures.writers refl;
-    peaks_are = λ i. rw c.new.ensures.peaks refl;
+    highest_values_match = λ i. rw c.new.ensures.highest_values refl;
     timelines_are = λ s v. rw c.new.ensures.timelines refl;
     order_is = c.new.ensures.order;
   },
