@@ -25,7 +25,7 @@ use Rattle.vk_model.specs.declared.entry.Entry.TheVariants as entry
 use Rattle.vk_model.specs.declared.resource.BufferInfo.{BufferInfo}
 use Rattle.vk_model.specs.declared.resource.Place.{Place}
 use Rattle.vk_model.specs.declared.resource.Place.TheVariants as place
-use Rattle.vk_validate.specs.Served.{is_served, is_served_action, is_served_place, is_memory}
+use Rattle.vk_validate.specs.Supported.{is_supported, is_supported_action, is_supported_place, is_memory}
 use Rattle.vk_device.specs.Clean.{IsClean}
 use Rattle.vk_device.specs.Fits.{FitsFill, FitsCommand, FitsRead, FitsEntry, FitsAction, AllFit, AllMemory, IsOwn}
 use Rattle.std.proofs.Math.Nat.{eq-or-lt_of_le, div-add-mod, div-mul-le_self, mul-div_cancel, mod-lt}
@@ -43,7 +43,7 @@ breaks_none past p clean r = go (breaks r past p) (clean.sound past p r newest) 
   go true refuted = absurd (refuted refl)
   go false refuted = refl
 
--- ---- what the forms that are served get of it
+-- ---- what the supported forms get of it
 
 not_some : {A : Type 0} (o : Option A) → is_some o ≡ false → o ≡ None
 not_some None e = refl
@@ -205,7 +205,7 @@ all_memory (element.Memory d ∷ es) e = all_memory es e
 all_memory (element.Buffer b ∷ es) e = absurd cc
 all_memory (element.Image b ∷ es) e = absurd cc
 
-own_place : (q : Place) → is_served_place q ≡ true → IsOwn q
+own_place : (q : Place) → is_supported_place q ≡ true → IsOwn q
 own_place (place.Dedicated t) e = tt
 own_place (place.Pool q) e = absurd cc
 own_place (place.PoolUpper q) e = absurd cc
@@ -214,71 +214,71 @@ own_place (place.Memory m o) e = absurd cc
 rounded_bound : (size : ℕ) → (size + 15) / 16 * 16 ≤ 67108864 → size ≤ 67108864
 rounded_bound size le = let parts = div-add-mod (size + 15) 16 in let rest : (size + 15) % 16 < 16 = mod-lt (size + 15) (omega arith) in omega arith
 
-buffer_point : (past : Past) (p : Point) (i : ℕ) (b : BufferInfo) → p.action ≡ Host (entry.Buffer i b) → is_served_place b.place ≡ true → BreaksNone past p → FitsEntry past (entry.Buffer i b)
-buffer_point past p i b is served none = (
+buffer_point : (past : Past) (p : Point) (i : ℕ) (b : BufferInfo) → p.action ≡ Host (entry.Buffer i b) → is_supported_place b.place ≡ true → BreaksNone past p → FitsEntry past (entry.Buffer i b)
+buffer_point past p i b is supported none = (
   new_made past p none (entry.Buffer i b) i is refl,
   not_zero b.size (entry_size past p none (entry.Buffer i b) is),
   rounded_bound b.size (not_above 67108864 ((b.size + 15) / 16 * 16) (memory_size past p none (entry.Buffer i b) is)),
-  own_place b.place served,
+  own_place b.place supported,
 )
 
-fits_entry : (past : Past) (p : Point) (x : Entry) → p.action ≡ Host x → is_served_action (Host x) ≡ true → BreaksNone past p → FitsEntry past x
-fits_entry past p (entry.Buffer i b) is served none = buffer_point past p i b is served none
-fits_entry past p (entry.Map b) is served none = tt
-fits_entry past p (entry.Read b o n) is served none = read_point past p b o n is none
-fits_entry past p (entry.Semaphore i v) is served none = new_made past p none (entry.Semaphore i v) i is refl
-fits_entry past p (entry.Wait ws) is served none = tt
-fits_entry past p (entry.Submit q bs) is served none = tt
-fits_entry past p (entry.Pool i x) is served none = absurd cc
-fits_entry past p (entry.Image i x) is served none = absurd cc
-fits_entry past p (entry.Memory i x) is served none = absurd cc
-fits_entry past p (entry.Free m) is served none = absurd cc
-fits_entry past p (entry.Destroy r) is served none = absurd cc
-fits_entry past p (entry.DropPool q) is served none = absurd cc
-fits_entry past p (entry.Unmap b) is served none = absurd cc
-fits_entry past p (entry.Write b o bytes) is served none = absurd cc
-fits_entry past p (entry.Flush b o n) is served none = absurd cc
-fits_entry past p (entry.Invalidate b o n) is served none = absurd cc
-fits_entry past p (entry.Event i) is served none = absurd cc
-fits_entry past p (entry.Signal s v) is served none = absurd cc
-fits_entry past p (entry.Defrag i q n m) is served none = absurd cc
-fits_entry past p (entry.Pass d) is served none = absurd cc
-fits_entry past p (entry.EndPass d kept lost) is served none = absurd cc
-fits_entry past p (entry.EndDefrag d) is served none = absurd cc
+fits_entry : (past : Past) (p : Point) (x : Entry) → p.action ≡ Host x → is_supported_action (Host x) ≡ true → BreaksNone past p → FitsEntry past x
+fits_entry past p (entry.Buffer i b) is supported none = buffer_point past p i b is supported none
+fits_entry past p (entry.Map b) is supported none = tt
+fits_entry past p (entry.Read b o n) is supported none = read_point past p b o n is none
+fits_entry past p (entry.Semaphore i v) is supported none = new_made past p none (entry.Semaphore i v) i is refl
+fits_entry past p (entry.Wait ws) is supported none = tt
+fits_entry past p (entry.Submit q bs) is supported none = tt
+fits_entry past p (entry.Pool i x) is supported none = absurd cc
+fits_entry past p (entry.Image i x) is supported none = absurd cc
+fits_entry past p (entry.Memory i x) is supported none = absurd cc
+fits_entry past p (entry.Free m) is supported none = absurd cc
+fits_entry past p (entry.Destroy r) is supported none = absurd cc
+fits_entry past p (entry.DropPool q) is supported none = absurd cc
+fits_entry past p (entry.Unmap b) is supported none = absurd cc
+fits_entry past p (entry.Write b o bytes) is supported none = absurd cc
+fits_entry past p (entry.Flush b o n) is supported none = absurd cc
+fits_entry past p (entry.Invalidate b o n) is supported none = absurd cc
+fits_entry past p (entry.Event i) is supported none = absurd cc
+fits_entry past p (entry.Signal s v) is supported none = absurd cc
+fits_entry past p (entry.Defrag i q n m) is supported none = absurd cc
+fits_entry past p (entry.Pass d) is supported none = absurd cc
+fits_entry past p (entry.EndPass d kept lost) is supported none = absurd cc
+fits_entry past p (entry.EndDefrag d) is supported none = absurd cc
 
-fits_command : (past : Past) (p : Point) (c : Cmd) → p.action ≡ Run c → is_served_action (Run c) ≡ true → BreaksNone past p → FitsCommand past c
-fits_command past p (cmd.Fill b o n w) is served none = fill_point past p b o n w is none
-fits_command past p (cmd.Barrier es) is served none = all_memory es served
-fits_command past p (cmd.Update b o bytes) is served none = absurd cc
-fits_command past p (cmd.Copy a b gs) is served none = absurd cc
-fits_command past p (cmd.Clear i l color rs) is served none = absurd cc
-fits_command past p (cmd.CopyIn b i l gs) is served none = absurd cc
-fits_command past p (cmd.CopyOut i l b gs) is served none = absurd cc
-fits_command past p (cmd.CopyImage a l b m gs) is served none = absurd cc
-fits_command past p (cmd.Set v ms) is served none = absurd cc
-fits_command past p (cmd.Await v ms) is served none = absurd cc
+fits_command : (past : Past) (p : Point) (c : Cmd) → p.action ≡ Run c → is_supported_action (Run c) ≡ true → BreaksNone past p → FitsCommand past c
+fits_command past p (cmd.Fill b o n w) is supported none = fill_point past p b o n w is none
+fits_command past p (cmd.Barrier es) is supported none = all_memory es supported
+fits_command past p (cmd.Update b o bytes) is supported none = absurd cc
+fits_command past p (cmd.Copy a b gs) is supported none = absurd cc
+fits_command past p (cmd.Clear i l color rs) is supported none = absurd cc
+fits_command past p (cmd.CopyIn b i l gs) is supported none = absurd cc
+fits_command past p (cmd.CopyOut i l b gs) is supported none = absurd cc
+fits_command past p (cmd.CopyImage a l b m gs) is supported none = absurd cc
+fits_command past p (cmd.Set v ms) is supported none = absurd cc
+fits_command past p (cmd.Await v ms) is supported none = absurd cc
 
-fits_action : (past : Past) (p : Point) (d : Action) → p.action ≡ d → is_served_action d ≡ true → BreaksNone past p → FitsAction past d
-fits_action past p (Host x) is served none = fits_entry past p x is served none
-fits_action past p (Run c) is served none = fits_command past p c is served none
-fits_action past p (Wait s) is served none = tt
-fits_action past p (Signal s) is served none = tt
+fits_action : (past : Past) (p : Point) (d : Action) → p.action ≡ d → is_supported_action d ≡ true → BreaksNone past p → FitsAction past d
+fits_action past p (Host x) is supported none = fits_entry past p x is supported none
+fits_action past p (Run c) is supported none = fits_command past p c is supported none
+fits_action past p (Wait s) is supported none = tt
+fits_action past p (Signal s) is supported none = tt
 
 -- ---- what is older is clean too
 
 clean_older : (past : Past) (p : Point) → IsClean (p ∷ past) → IsClean past
-unfolding is_served
+unfolding is_supported
 clean_older past p clean = record {
   sound = λ before q r comes. clean.sound before q r (older comes);
-  served = (and-true (is_served_action p.action) (list_all (λ q. is_served_action q.action) past) clean.served).1;
+  supported = (and-true (is_supported_action p.action) (list_all (λ q. is_supported_action q.action) past) clean.supported).1;
 }
 
 -- every point of a clean past fits
 pub fits_clean : (past : Past) → IsClean past → AllFit past
-unfolding is_served
+unfolding is_supported
 fits_clean [] clean = tt
 fits_clean (p ∷ past) clean =
-    (fits_action past p p.action refl (and-true (is_served_action p.action) (list_all (λ q. is_served_action q.action) past) clean.served).0 (breaks_none past p clean), fits_clean past (clean_older past p clean))
+    (fits_action past p p.action refl (and-true (is_supported_action p.action) (list_all (λ q. is_supported_action q.action) past) clean.supported).0 (breaks_none past p clean), fits_clean past (clean_older past p clean))
 
 clean_actions : {A : Type 0} (of : A → Action) (t : Turn) (k : ℕ) (xs : List A) (past : Past) → IsClean (actions of t k xs past) → IsClean past
 clean_actions of t k [] past clean = clean

@@ -4,9 +4,9 @@ use Rattle.vk_model.specs.declared.rule.Rule.{Rule}
 use Rattle.vk_model.specs.Point.{Past, Point}
 use Rattle.vk_model.specs.Rules.{breaks}
 use Rattle.vk_model.specs.Fault.{Comes}
-use Rattle.vk_validate.specs.Served.{is_served}
+use Rattle.vk_validate.specs.Supported.{is_supported}
 
--- No point of a past breaks a rule, and each is of a form that is served so far.
+-- No point of a past breaks a rule, and each is of a supported form so far.
 pub record IsClean (past : Past) : Type 0 where
   pub sound : (before : Past) (p : Point) (r : Rule) → Comes past before p → IsTrue (breaks r before p) → ⊥
-  pub served : IsTrue (is_served past)
+  pub supported : IsTrue (is_supported past)

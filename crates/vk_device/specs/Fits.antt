@@ -1,4 +1,4 @@
--- What a device takes for granted of the points that it runs. Points that break no rule and are of a served form have it.
+-- What a device takes for granted of the points that it runs. Points that break no rule and are of a supported form have it.
 use Rattle.std.specs.Prelude.{◌≡◌, ℕ, ◌+◌, ◌*◌, ◌/◌, ◌<◌, ◌≤◌, List, [], ◌∷◌, Option, Some, None, IsSome, ⊤}
 use Rattle.vk_model.specs.declared.command.Cmd.{Cmd}
 use Rattle.vk_model.specs.declared.command.Cmd.TheVariants as cmd

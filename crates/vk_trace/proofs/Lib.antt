@@ -1,3 +1,3 @@
 pub mod MemberLemmas
 pub mod ByteLemmas
-pub mod ServedLemmas
+pub mod SupportedLemmas

@@ -73,9 +73,9 @@ pub record NoTraces : Type 0 where
   -- words
   pub unknown_entry : meant_by (codes "[[\"Map\",1]]") ≡ None
   pub unknown_length : meant_by (codes "[[\"submit\",0,[[[],[[\"fill\",1,0,\"Whole\",0]],[]]]]]") ≡ None
-  -- bytes in hex with half a byte; no entry with such bytes is served yet
+  -- bytes in hex with half a byte; no entry with such bytes is supported yet
   pub odd_hex : meant_by (codes "[[\"write\",1,0,\"abc\"]]") ≡ None
-  -- forms that are not served yet
+  -- forms that are not supported yet
   pub other_queue : meant_by (codes "[[\"submit\",1,[]]]") ≡ None
   pub cached_memory : meant_by (codes "[[\"buffer\",1,16,3,\"exclusive\",[\"dedicated\",2]]]") ≡ None
 

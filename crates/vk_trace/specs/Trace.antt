@@ -41,7 +41,7 @@ dependency_value = members (from dependency <*> u32_value <*> u32_value <*> u32_
 unfoldable pub memory_element : Reader Element
 memory_element d = option_map Memory (dependency_value d)
 
--- The words of commands and the members after each; elements of buffers and of images are not served yet (profile).
+-- The words of commands and the members after each; elements of buffers and of images are not supported yet (profile).
 unfoldable pub command_rows : List (List ℕ × Row Cmd)
 command_rows
     -- buffer, offset, size, word
@@ -61,7 +61,7 @@ semaphore_submit = members (from submit <*> u32_value <*> u64_value <*> u32_valu
     submit : ℕ → ℕ → ℕ → SemaphoreSubmit
     submit semaphore value stages = record { semaphore = semaphore; value = value; stages = record { 0 = stages } }
 
--- Waits, commands, signals, as in `VkSubmitInfo2`; waits are not served yet (profile).
+-- Waits, commands, signals, as in `VkSubmitInfo2`; waits are not supported yet (profile).
 unfoldable pub batch_value : Reader Batch
 batch_value = members (from (λ _ commands signals. record { waits = []; commands = commands; signals = signals })
     <*> empty_list <*> list_of command_value <*> list_of semaphore_submit)
@@ -70,11 +70,11 @@ batch_value = members (from (λ _ commands signals. record { waits = []; command
 unfoldable pub semaphore_value : Reader SemaphoreValue
 semaphore_value = members (from (λ semaphore value. record { semaphore = semaphore; value = value }) <*> u32_value <*> u64_value)
 
--- The number of a queue; only 0 is served yet (profile).
+-- The number of a queue; only 0 is supported yet (profile).
 unfoldable pub queue_value : Reader ℕ
 queue_value d = u32_value d >>= λ n. if n == 0 then Some n else None
 
--- The number of a memory type; 2 is not served yet (profile).
+-- The number of a memory type; 2 is not supported yet (profile).
 unfoldable pub memory_type_value : Reader ℕ
 memory_type_value d = u32_value d >>= λ n. if n == 2 then None else Some n
 

@@ -2,7 +2,7 @@ ghost use Rattle.std.specs.Prelude.{◌≡◌, ◌↔◌, ◌≤◌, ℕ, List, 
 ghost use Rattle.std.specs.Io.KnownBytes.{Appends, Keeps};
 ghost use Rattle.vk_model.specs.declared.entry.Entry.{Entry};
 ghost use Rattle.vk_model.specs.Order.{plain_order};
-ghost use Rattle.vk_validate.specs.Served.{is_served};
+ghost use Rattle.vk_validate.specs.Supported.{is_supported};
 ghost use Rattle.vk_trace.specs.declared.printing.Outcome.{Outcome};
 ghost use Rattle.vk_trace.specs.Trace.{IsTrace};
 ghost use Rattle.vk_trace.specs.Run.{Tells, IsAnswer, status_of, IsBeforeWriting, IsOfReading, IsOfAnswering};
@@ -152,7 +152,7 @@ fn outcome_of<S: Scheduler>(
     config: Config,
     sched: &mut S,
 ) -> Result<Outcome, AllocError>
-    requires { IsTrue (is_served (plain_order entries.now)) }
+    requires { IsTrue (is_supported (plain_order entries.now)) }
     ensures answer { IfOk result (IsAnswer config entries.now) }
     ensures view { S.held sched.new ≡ S.held sched.old }
 {

@@ -1,4 +1,4 @@
--- One node more, of each form that is served: the thresholds go on saying what they say.
+-- One node more, of each supported form: the thresholds go on saying what they say.
 use Rattle.std.proofs.Common.{◌≡◌, ◌<◌, ℕ, List, [], ◌∷◌, length, map, true, refl, sym, ◌∙◌, subst, arith, inl, inr, ◌⊎◌, Option, Some, None}
 use Rattle.std.specs.Prelude.{Contains, ◌↔◌}
 use Rattle.vk_model.specs.declared.command.Cmd.{Cmd}
@@ -12,7 +12,7 @@ use Rattle.vk_validate.specs.Cleared.{IsCleared}
 use Rattle.vk_validate.specs.Standing.{joined, Signaled, after_waits, awaited, after_wait}
 use Rattle.vk_validate.specs.declared.clocks.Clock.{Clock}
 use Rattle.vk_validate.specs.declared.clocks.Order.{Order}
-use Rattle.vk_validate.proofs.Acts.{is_served_act}
+use Rattle.vk_validate.proofs.Acts.{is_supported_act}
 use Rattle.vk_validate.proofs.Truths.{no, clash}
 use Rattle.vk_validate.proofs.Growth.{number_below, numbered}
 use Rattle.vk_validate.proofs.Freed.{Freed, Shown, Via, ShownVia, leads_to_transfers, leads_to_writes, leads_to_host, leads_to_reads, freed_stands, shown_stands, via_splits, via_stays, via_new, shown_splits, shown_via_stays}
@@ -30,7 +30,7 @@ waits_host past signals (w ∷ ws) o = go (awaited past signals w) (waits_host p
 
 -- ---- a host entry
 
-module _ (past : Past) (cleared : IsCleared past) (simple : (m : Node) → Contains (nodes past) m → is_served_act m.act ≡ true) (w : Node) (j : ℕ) (signals : List Signaled) (rising : IsRising signals)
+module _ (past : Past) (cleared : IsCleared past) (simple : (m : Node) → Contains (nodes past) m → is_supported_act m.act ≡ true) (w : Node) (j : ℕ) (signals : List Signaled) (rising : IsRising signals)
     (forward : (x : Signaled) → Contains signals x → (m : Node) × Contains (nodes past) m × (signaled_by m.act ≡ Some (x.semaphore, x.value)) × (Freed (nodes past) w m ↔ (j < x.clock.available)) × (Shown (nodes past) w m ↔ (j < x.clock.readable)))
     (backward : (m : Node) → Contains (nodes past) m → (s v : ℕ) → signaled_by m.act ≡ Some (s, v) → (x : Signaled) × Contains signals x × (x.semaphore ≡ s) × (x.value ≡ v) × (Freed (nodes past) w m ↔ (j < x.clock.available)) × (Shown (nodes past) w m ↔ (j < x.clock.readable)))
     (p : Point) (x : Entry) (ws : List SemaphoreValue) (waits : host_waits x ≡ map (λ (w : SemaphoreValue). (w.semaphore, w.value)) ws) (o : Order) (means : Means o (nodes past) w j) where
@@ -126,7 +126,7 @@ module _ (past : Past) (cleared : IsCleared past) (simple : (m : Node) → Conta
 
 -- ---- a command
 
-module _ (ns : List Node) (numbers : IsNumbered ns) (simple : (m : Node) → Contains ns m → is_served_act m.act ≡ true) (p : Point) (c : Cmd) (o : Order) where
+module _ (ns : List Node) (numbers : IsNumbered ns) (simple : (m : Node) → Contains ns m → is_supported_act m.act ≡ true) (p : Point) (c : Cmd) (o : Order) where
   -- what earlier commands' writes have come to stays
   pub run_means : (w : Node) (j : ℕ) → Means o ns w j → Means o (record { number = length ns; point = p; act = Runs c } ∷ ns) w j
   run_means w j means =

@@ -12,7 +12,7 @@ use Rattle.vk_model.specs.Order.{value_for}
 use Rattle.vk_model.specs.Node.{Node, Act, Hosts, Waits, Signals, Runs, Depends, acts, nodes, with_acts}
 use Rattle.vk_model.specs.Edge.{signaled_by, values_to, initial_by, is_enough, is_host}
 use Rattle.vk_validate.specs.Cleared.{IsCleared}
-use Rattle.vk_validate.specs.Served.{is_served_action}
+use Rattle.vk_validate.specs.Supported.{is_supported_action}
 use Rattle.vk_validate.proofs.Members.{none_in, contains-cons, contains-head, contains-tail, all_passes, some_member, member_passes}
 use Rattle.vk_validate.proofs.Acts.{with_member, with_keeps, host_acts, batch_acts}
 use Rattle.vk_validate.proofs.Reach.{kept_made}
@@ -87,7 +87,7 @@ initial_node (p ∷ past) cleared n s u c is = elim (with_member p (acts p.actio
     by_action : (d : Action) → p.action ≡ d → Contains (acts d) n.act → option_and_then semaphore_in (find (λ x. holds (made_by x) (λ j. s == j)) (cons_option (host_of d) (entries past))) ≡ Some u
     by_action (Host x) at c = by_entry x (ap (λ (a : Act). initial_by s a) (sym (host_acts (Host x) x n.act refl c)) ∙ is)
     by_action (Wait t) at c = absurd (let h = hosts_only n.act is in let b = all_passes (λ a. not (is_host a)) (acts (Wait t)) n.act refl c in let bad : not (is_host (Hosts h.0)) ≡ true = ap (λ (a : Act). not (is_host a)) (sym h.1) ∙ b in cc)
-    by_action (Run t) at c = absurd (let h = hosts_only n.act is in let b = all_passes (λ a. not (is_host a)) (acts (Run t)) n.act (batch_acts (Run t) (subst (λ (d : Action). is_served_action d ≡ true) at cleared.0.served) refl) c in let bad : not (is_host (Hosts h.0)) ≡ true = ap (λ (a : Act). not (is_host a)) (sym h.1) ∙ b in cc)
+    by_action (Run t) at c = absurd (let h = hosts_only n.act is in let b = all_passes (λ a. not (is_host a)) (acts (Run t)) n.act (batch_acts (Run t) (subst (λ (d : Action). is_supported_action d ≡ true) at cleared.0.supported) refl) c in let bad : not (is_host (Hosts h.0)) ≡ true = ap (λ (a : Act). not (is_host a)) (sym h.1) ∙ b in cc)
     by_action (Signal t) at c = absurd (let h = hosts_only n.act is in let b = all_passes (λ a. not (is_host a)) (acts (Signal t)) n.act refl c in let bad : not (is_host (Hosts h.0)) ≡ true = ap (λ (a : Act). not (is_host a)) (sym h.1) ∙ b in cc)
 
 -- and the entry that made a semaphore has a node

@@ -15,11 +15,11 @@ use Rattle.vk_model.specs.Node.{Node, Act, Hosts, Waits, Signals, Runs, Depends,
 use Rattle.vk_model.specs.Edge.{edge, meet, is_host, is_signal, is_command, is_element, by_stages, by_signal, transfer_stage, host_stage, siblings, first_scope, second_scope}
 use Rattle.vk_model.specs.Before.{IsNumbered}
 use Rattle.vk_model.specs.Seen.{Write, command_mask}
-use Rattle.vk_validate.specs.Served.{is_memory}
+use Rattle.vk_validate.specs.Supported.{is_memory}
 use Rattle.vk_validate.specs.Standing.{on_transfers, on_host, counted, available_at, with_dependency, after_elements, signal_at, joined}
 use Rattle.vk_validate.specs.declared.clocks.Clock.{Clock}
 use Rattle.vk_validate.specs.declared.clocks.Order.{Order}
-use Rattle.vk_validate.proofs.Acts.{is_served_act}
+use Rattle.vk_validate.proofs.Acts.{is_supported_act}
 use Rattle.vk_validate.proofs.Members.{contains-cons, contains-tail}
 use Rattle.vk_validate.proofs.Truths.{no, clash}
 use Rattle.vk_validate.proofs.Growth.{number_below}
@@ -40,7 +40,7 @@ queue_signal : (m n : Node) → is_host m.act ≡ false → is_host n.act ≡ fa
 queue_signal m n mh nh q sn is = rw (mh, nh, eq-eqb m.point.queue n.point.queue q, sn, is) refl
 
 -- an element is of a barrier
-pub barrier_of : (a : Act) → is_served_act a ≡ true → is_element a ≡ true → (e : Element) × (a ≡ Depends Barrier e)
+pub barrier_of : (a : Act) → is_supported_act a ≡ true → is_element a ≡ true → (e : Element) × (a ≡ Depends Barrier e)
 barrier_of (Depends Barrier e) h is = (e, refl)
 barrier_of (Depends (SetOf v k) e) h is = no h
 barrier_of (Depends (AwaitOf v k) e) h is = no h
@@ -77,7 +77,7 @@ same_itself p = rw (eq-eqb p.entry p.entry refl, eq-eqb p.batch p.batch refl, eq
 
 -- ---- a batch's node, after what it is submitted with
 
-module _ (base : List Node) (numbers : IsNumbered base) (simple : (m : Node) → Contains base m → is_served_act m.act ≡ true) (on_0 : (m : Node) → Contains base m → is_host m.act ≡ false → m.point.queue ≡ 0)
+module _ (base : List Node) (numbers : IsNumbered base) (simple : (m : Node) → Contains base m → is_supported_act m.act ≡ true) (on_0 : (m : Node) → Contains base m → is_host m.act ≡ false → m.point.queue ≡ 0)
     (p : Point) (queue : p.queue ≡ 0) (submitted : Submitted p.entry base) (w : Node) (j point : ℕ) (stands : Contains base w) (command : is_command w.act ≡ true) (lt : j < point) (o : Order) (means : Means o base w j) where
   -- what has come to some host entry has come to the submit
   fed : Via base w is_host → Freed base w submitted.node
@@ -92,7 +92,7 @@ module _ (base : List Node) (numbers : IsNumbered base) (simple : (m : Node) →
   pub record Amid (ns : List Node) : Type 0 where
     pub numbering : IsNumbered ns
     pub split : (m : Node) → Contains ns m → ((m.point ≡ p) × (is_element m.act ≡ true)) ⊎ Contains base m
-    pub forms : (m : Node) → Contains ns m → is_served_act m.act ≡ true
+    pub forms : (m : Node) → Contains ns m → is_supported_act m.act ≡ true
     pub grows : (m : Node) → Contains base m → Contains ns m
     pub up : (m : Node) → Freed base w m → Freed ns w m
     pub down : (m : Node) → Contains base m → Freed ns w m → Freed base w m
@@ -106,7 +106,7 @@ module _ (base : List Node) (numbers : IsNumbered base) (simple : (m : Node) →
       record {
         numbering = (refl, amid.numbering);
         split = λ m c. elim (contains-cons n ns m c) [ inl same ↦ inl (ap (λ (k : Node). k.point) (sym same), sym (ap (λ (k : Node). is_element k.act) same)) | inr older ↦ amid.split m older ];
-        forms = λ m c. elim (contains-cons n ns m c) [ inl same ↦ sym (ap (λ (k : Node). is_served_act k.act) same) ∙ memory | inr older ↦ amid.forms m older ];
+        forms = λ m c. elim (contains-cons n ns m c) [ inl same ↦ sym (ap (λ (k : Node). is_supported_act k.act) same) ∙ memory | inr older ↦ amid.forms m older ];
         grows = λ m c. contains-tail n ns m (amid.grows m c);
         up = λ m f. freed_stays n ns refl amid.numbering w m (amid.up m f);
         down = λ m c f. amid.down m c (freed_was n ns refl amid.numbering w m f (number_below ns amid.numbering m (amid.grows m c)));

@@ -1,4 +1,4 @@
--- Which edges lead into a node of each form that is served.
+-- Which edges lead into a node of each supported form.
 use Rattle.std.proofs.Common.{◌≡◌, ◌<◌, ◌+◌, ℕ, zero, suc, List, true, false, not, ◌&&◌, ◌||◌, refl, ap, sym, ◌∙◌, arith, inl, inr, ◌⊎◌, min}
 use Rattle.std.specs.Prelude.{nat_lt, bit_and}
 use Rattle.std.specs.Int.{bit_at}
@@ -14,7 +14,7 @@ use Rattle.vk_model.specs.Ownership.{dependency_of}
 use Rattle.vk_model.specs.Node.{Node, Act, Hosts, Waits, Signals, Runs, Depends, Barrier, SetOf, AwaitOf, same_place}
 use Rattle.vk_model.specs.Edge.{edge, meet, is_host, is_signal, is_command, is_element, signals_all, waits_for_all, same_queue, siblings, scopes_meet, first_scope, second_scope, by_host, by_stages, by_signal, by_all_commands, pairs, by_semaphore, earlier, transfer_stage, host_stage, all_commands}
 use Rattle.vk_validate.specs.Standing.{on_transfers, on_host}
-use Rattle.vk_validate.proofs.Acts.{is_served_act}
+use Rattle.vk_validate.proofs.Acts.{is_supported_act}
 use Rattle.vk_validate.proofs.Truths.{no, clash, second, six}
 use Rattle.vk_validate.proofs.Freed.{leads_to_transfers, leads_to_host}
 
@@ -77,13 +77,13 @@ all_parts : (m n : Node) → by_all_commands m n ≡ true → (is_element m.act 
 all_parts m n e = second (same_queue m n) (is_element m.act && signals_all n.act || waits_for_all m.act && is_element n.act) e
 
 -- into a host entry: from the host's earlier ones, and from a signal that it waits for
-pub into_host : (ns : List Node) (m : Node) (k : ℕ) (p : Point) (x : Entry) → is_served_act m.act ≡ true → edge ns m (record { number = k; point = p; act = Hosts x }) ≡ true
+pub into_host : (ns : List Node) (m : Node) (k : ℕ) (p : Point) (x : Entry) → is_supported_act m.act ≡ true → edge ns m (record { number = k; point = p; act = Hosts x }) ≡ true
     → (is_host m.act ≡ true) ⊎ (by_semaphore (earlier (record { number = k; point = p; act = Hosts x }) ns) m (record { number = k; point = p; act = Hosts x }) ≡ true)
 into_host ns m k p x = by_form m.act where
   n : Node
   n = record { number = k; point = p; act = Hosts x }
 
-  by_form : (a : Act) → is_served_act a ≡ true → edge ns (record m { act = a }) (record { number = k; point = p; act = Hosts x }) ≡ true
+  by_form : (a : Act) → is_supported_act a ≡ true → edge ns (record m { act = a }) (record { number = k; point = p; act = Hosts x }) ≡ true
       → (is_host a ≡ true) ⊎ (by_semaphore (earlier (record { number = k; point = p; act = Hosts x }) ns) (record m { act = a }) (record { number = k; point = p; act = Hosts x }) ≡ true)
   by_form (Hosts y) h e = inl refl
   by_form (Waits s) h e = absurd cc
@@ -94,9 +94,9 @@ into_host ns m k p x = by_form m.act where
   by_form (Depends (AwaitOf v l) f) h e = absurd cc
 
 -- into a command: from its submit, and from elements before the transfers
-pub into_command : (ns : List Node) (m : Node) (k : ℕ) (p : Point) (c : Cmd) → is_served_act m.act ≡ true → edge ns m (record { number = k; point = p; act = Runs c }) ≡ true → (is_host m.act ≡ true) ⊎ (leads_to_transfers m.act ≡ true)
+pub into_command : (ns : List Node) (m : Node) (k : ℕ) (p : Point) (c : Cmd) → is_supported_act m.act ≡ true → edge ns m (record { number = k; point = p; act = Runs c }) ≡ true → (is_host m.act ≡ true) ⊎ (leads_to_transfers m.act ≡ true)
 into_command ns m k p c = by_form m.act where
-  by_form : (a : Act) → is_served_act a ≡ true → edge ns (record m { act = a }) (record { number = k; point = p; act = Runs c }) ≡ true → (is_host a ≡ true) ⊎ (leads_to_transfers a ≡ true)
+  by_form : (a : Act) → is_supported_act a ≡ true → edge ns (record m { act = a }) (record { number = k; point = p; act = Runs c }) ≡ true → (is_host a ≡ true) ⊎ (leads_to_transfers a ≡ true)
   by_form (Hosts y) h e = inl refl
   by_form (Waits s) h e = absurd cc
   by_form (Signals s) h e = by_cause ns _ _ e no (λ f. no (stages_parts (record m { act = Signals s }) (record { number = k; point = p; act = Runs c }) f).2) (λ f. no (signal_parts (record m { act = Signals s }) (record { number = k; point = p; act = Runs c }) f).0) (λ f. no (all_parts (record m { act = Signals s }) (record { number = k; point = p; act = Runs c }) f)) no no
@@ -113,9 +113,9 @@ pub data IntoElement (m : Node) (p : Point) (source : ℕ) : Type 0 where
   FromElement : leads_to_host m.act ≡ true → on_host source ≡ true → same_place m.point p ≡ false → IntoElement m p source
 
 -- into an element of a barrier: by the stages of its source
-pub into_element : (ns : List Node) (m : Node) (k : ℕ) (p : Point) (e : Element) → is_served_act m.act ≡ true → edge ns m (record { number = k; point = p; act = Depends Barrier e }) ≡ true → IntoElement m p (dependency_of e).source_stages.0
+pub into_element : (ns : List Node) (m : Node) (k : ℕ) (p : Point) (e : Element) → is_supported_act m.act ≡ true → edge ns m (record { number = k; point = p; act = Depends Barrier e }) ≡ true → IntoElement m p (dependency_of e).source_stages.0
 into_element ns m k p x = by_form m.act where
-  by_form : (a : Act) → is_served_act a ≡ true → edge ns (record m { act = a }) (record { number = k; point = p; act = Depends Barrier x }) ≡ true → IntoElement (record m { act = a }) p (dependency_of x).source_stages.0
+  by_form : (a : Act) → is_supported_act a ≡ true → edge ns (record m { act = a }) (record { number = k; point = p; act = Depends Barrier x }) ≡ true → IntoElement (record m { act = a }) p (dependency_of x).source_stages.0
   by_form (Hosts y) h e = FromHost refl
   by_form (Waits s) h e = absurd cc
   by_form (Signals s) h e = by_cause ns _ _ e no (λ f. no (stages_parts (record m { act = Signals s }) (record { number = k; point = p; act = Depends Barrier x }) f).2) (λ f. no (signal_parts (record m { act = Signals s }) (record { number = k; point = p; act = Depends Barrier x }) f).0) (λ f. no (all_parts (record m { act = Signals s }) (record { number = k; point = p; act = Depends Barrier x }) f)) no no
@@ -133,9 +133,9 @@ pub data IntoSignal (m : Node) : Type 0 where
   FromToHost : leads_to_host m.act ≡ true → IntoSignal m
 
 -- into a signal without the transfers
-pub into_signal : (ns : List Node) (m : Node) (k : ℕ) (p : Point) (s : SemaphoreSubmit) → is_served_act m.act ≡ true → on_transfers s.stages.0 ≡ false → edge ns m (record { number = k; point = p; act = Signals s }) ≡ true → IntoSignal m
+pub into_signal : (ns : List Node) (m : Node) (k : ℕ) (p : Point) (s : SemaphoreSubmit) → is_supported_act m.act ≡ true → on_transfers s.stages.0 ≡ false → edge ns m (record { number = k; point = p; act = Signals s }) ≡ true → IntoSignal m
 into_signal ns m k p s = by_form m.act where
-  by_form : (a : Act) → is_served_act a ≡ true → on_transfers s.stages.0 ≡ false → edge ns (record m { act = a }) (record { number = k; point = p; act = Signals s }) ≡ true → IntoSignal (record m { act = a })
+  by_form : (a : Act) → is_supported_act a ≡ true → on_transfers s.stages.0 ≡ false → edge ns (record m { act = a }) (record { number = k; point = p; act = Signals s }) ≡ true → IntoSignal (record m { act = a })
   by_form (Hosts y) h none e = FromHosts refl
   by_form (Waits t) h none e = absurd cc
   by_form (Signals t) h none e = FromSignal refl

@@ -17,13 +17,13 @@ use Rattle.vk_model.specs.Effect.{world, after_action, after_command, after_elem
 use Rattle.vk_model.specs.Point.{Past, Point, Action, Host, Run, host_of}
 use Rattle.vk_model.specs.RulesBytes.{breaks_read_undefined}
 use Rattle.vk_model.specs.Fault.{newest}
-use Rattle.vk_validate.specs.Served.{is_served_action, is_memory}
+use Rattle.vk_validate.specs.Supported.{is_supported_action, is_memory}
 use Rattle.vk_validate.specs.Tests.{reads_unwritten}
 use Rattle.vk_validate.specs.Tabled.{writes_byte, last_writer}
 use Rattle.vk_validate.specs.Cleared.{IsCleared}
 use Rattle.vk_validate.proofs.Forms.{entry_cases, command_cases, action_cases}
 use Rattle.vk_validate.proofs.Plain.{IsPlain, Placed}
-use Rattle.vk_validate.proofs.Reach.{fills_low, served_of}
+use Rattle.vk_validate.proofs.Reach.{fills_low, supported_of}
 use Rattle.vk_validate.proofs.Acts.{last_queue}
 
 -- ---- what a fill's moves leave
@@ -79,7 +79,7 @@ abbrev Becomes : Past → World → Action → Type 0
 Becomes past w d = OwnedBy0 w × ((b k : ℕ) → is_none (w.value (in_buffer b k)) ≡ is_none (if writes_byte past d b k then Some (length past) else last_writer past b k))
 
 known_next : (past : Past) (p : Point) → IsCleared (p ∷ past) → IsPlain (p ∷ past) → IsKnown past → IsKnown (p ∷ past)
-known_next past p cleared plain known = let h = by_action p.action cleared.0.served refl plain.0 in record { owned = h.0; defined = h.1 } where
+known_next past p cleared plain known = let h = by_action p.action cleared.0.supported refl plain.0 in record { owned = h.0; defined = h.1 } where
   same : OwnedBy0 (world past) × ((b k : ℕ) → is_none ((world past).value (in_buffer b k)) ≡ is_none (last_writer past b k))
   same = (known.owned, known.defined)
 
@@ -117,9 +117,9 @@ known_next past p cleared plain known = let h = by_action p.action cleared.0.ser
   barrier es all = subst (λ (w : World). OwnedBy0 w × ((b k : ℕ) → is_none (w.value (in_buffer b k)) ≡ is_none (last_writer past b k))) (sym (memory_does_nothing past es all (world past))) same
 
   on_0 : (c : Cmd) → Placed None p past → Becomes past (after_command past 0 c (world past)) (Run c) → Becomes past (after_command past (family_of p.queue) c (world past)) (Run c)
-  on_0 c placed h = subst (λ (q : ℕ). Becomes past (after_command past (family_of q) c (world past)) (Run c)) (sym (last_queue p.entry p.queue past (served_of past cleared.1) placed)) h
+  on_0 c placed h = subst (λ (q : ℕ). Becomes past (after_command past (family_of q) c (world past)) (Run c)) (sym (last_queue p.entry p.queue past (supported_of past cleared.1) placed)) h
 
-  by_action : (d : Action) → is_served_action d ≡ true → p.action ≡ d → Placed (host_of d) p past → Becomes past (after_action past p.queue d (world past)) d
+  by_action : (d : Action) → is_supported_action d ≡ true → p.action ≡ d → Placed (host_of d) p past → Becomes past (after_action past p.queue d (world past)) d
   by_action = let P : Action → Type 0 = λ d. p.action ≡ d → Placed (host_of d) p past → Becomes past (after_action past p.queue d (world past)) d in
       action_cases P
       (entry_cases (λ x. P (Host x)) (λ i b t at other is placed. same) (λ b is placed. same) (λ b o n is placed. same) (λ i v is placed. same) (λ ws is placed. same) (λ bs is placed. same))
@@ -137,7 +137,7 @@ undefined_bytes past known b o [] = refl
 undefined_bytes past known b o (k ∷ ks) = rw (known.defined b (o + k), undefined_bytes past known b o ks) refl
 
 -- READ_UNDEFINED finds what the test finds
-pub read_undefined_is : (past : Past) (p : Point) → IsCleared past → is_served_action p.action ≡ true → IsPlain past → breaks_read_undefined past p ≡ reads_unwritten past p.action
+pub read_undefined_is : (past : Past) (p : Point) → IsCleared past → is_supported_action p.action ≡ true → IsPlain past → breaks_read_undefined past p ≡ reads_unwritten past p.action
 read_undefined_is past p cleared now plain =
     let P : Action → Type 0 = λ d. breaks_read_undefined past (record p { action = d }) ≡ reads_unwritten past d in
     action_cases P

@@ -1,4 +1,4 @@
--- On forms that are served in plain order the tests find just what the rules say, while no earlier point breaks a rule.
+-- On supported forms in plain order the tests find just what the rules say, while no earlier point breaks a rule.
 use Rattle.std.proofs.Common.{◌≡◌, List, [], ◌∷◌, Bool, true, false, cond, refl, sym, Option, Some}
 use Rattle.std.specs.List.{find}
 use Rattle.vk_model.specs.declared.rule.Rule.{Rule}
@@ -6,7 +6,7 @@ use Rattle.vk_model.specs.declared.rule.Rule.TheVariants as rule
 use Rattle.vk_model.specs.Words.{first_that}
 use Rattle.vk_model.specs.Point.{Past, Point}
 use Rattle.vk_model.specs.Rules.{breaks, rules, first_rule}
-use Rattle.vk_validate.specs.Served.{is_served, is_served_action}
+use Rattle.vk_validate.specs.Supported.{is_supported, is_supported_action}
 use Rattle.vk_validate.specs.Cleared.{tests, first_test, IsCleared}
 use Rattle.vk_validate.proofs.Plain.{IsPlain}
 use Rattle.vk_validate.proofs.Unbroken as unbroken
@@ -14,7 +14,7 @@ use Rattle.vk_validate.proofs.Judged.{usage_is, map_state_is, host_visible_is, n
 use Rattle.vk_validate.proofs.Named.{live_id_is}
 use Rattle.vk_validate.proofs.Acts.{no_owner_pair}
 use Rattle.vk_validate.proofs.Ordered.{no_signal_order}
-use Rattle.vk_validate.proofs.Reach.{served_of}
+use Rattle.vk_validate.proofs.Reach.{supported_of}
 use Rattle.vk_validate.proofs.Defined.{read_undefined_is}
 use Rattle.vk_validate.proofs.Hazards.{no_hazard_war}
 use Rattle.vk_validate.proofs.Places.{IsApart}
@@ -28,19 +28,19 @@ find_is {A} f g same (x ∷ xs) = rw (same x) (go (g x) (find_is f g same xs)) w
   go true e = refl
   go false e = e
 
-module _ (past : Past) (p : Point) (cleared : IsCleared past) (now : is_served_action p.action ≡ true) (plain : IsPlain (p ∷ past)) (apart : IsApart past) where
-  served : is_served past ≡ true
-  served = served_of past cleared
+module _ (past : Past) (p : Point) (cleared : IsCleared past) (now : is_supported_action p.action ≡ true) (plain : IsPlain (p ∷ past)) (apart : IsApart past) where
+  supported : is_supported past ≡ true
+  supported = supported_of past cleared
 
   -- the test of a rule finds just the points that break it
   exact_is : (r : Rule) → breaks r past p ≡ tests r past p
   unfolding breaks tests
   exact_is rule.NewId = refl
-  exact_is rule.LiveId = live_id_is past served p now plain.0
+  exact_is rule.LiveId = live_id_is past supported p now plain.0
   exact_is rule.Queue = unbroken.no_queue past p now
   exact_is rule.QueueKind = unbroken.no_queue_kind past p now
   exact_is rule.Size = refl
-  exact_is rule.Usage = usage_is past served p now
+  exact_is rule.Usage = usage_is past supported p now
   exact_is rule.MemoryType = refl
   exact_is rule.MemorySize = refl
   exact_is rule.PoolSize = unbroken.no_pool_size past p now
@@ -60,16 +60,16 @@ module _ (past : Past) (p : Point) (cleared : IsCleared past) (now : is_served_a
   exact_is rule.EventState = unbroken.no_event_state past p now
   exact_is rule.EventDependency = unbroken.no_event_dependency past p now
   exact_is rule.SignalValue = refl
-  exact_is rule.SignalOrder = no_signal_order past p served now plain
+  exact_is rule.SignalOrder = no_signal_order past p supported now plain
   exact_is rule.WaitBeforeSignal = unbroken.no_wait_before_signal past p now
   exact_is rule.WaitNever = refl
-  exact_is rule.MapState = map_state_is past served p now
-  exact_is rule.HostVisible = host_visible_is past served p now
+  exact_is rule.MapState = map_state_is past supported p now
+  exact_is rule.HostVisible = host_visible_is past supported p now
   exact_is rule.PoolKind = unbroken.no_pool_kind past p now
-  exact_is rule.PassState = no_pass_state past served p now
+  exact_is rule.PassState = no_pass_state past supported p now
   exact_is rule.PassBusy = unbroken.no_pass_busy past p now
-  exact_is rule.PassWrite = no_pass_write past served p now
-  exact_is rule.HazardWar = no_hazard_war past p served now plain
+  exact_is rule.PassWrite = no_pass_write past supported p now
+  exact_is rule.HazardWar = no_hazard_war past p supported now plain
   exact_is rule.HazardRaw = hazard_raw_is past p cleared now plain apart
   exact_is rule.HazardWaw = hazard_waw_is past p cleared now plain apart
   exact_is rule.InUse = unbroken.no_in_use past p now

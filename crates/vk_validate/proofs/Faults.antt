@@ -12,16 +12,16 @@ use Rattle.vk_model.specs.Point.{Past, Point, at_of}
 use Rattle.vk_model.specs.Order.{plain_order}
 use Rattle.vk_model.specs.Rules.{first_rule, fault, first_fault}
 use Rattle.vk_validate.specs.declared.steps.Step.{Step}
-use Rattle.vk_validate.specs.Served.{is_served, is_served_action}
+use Rattle.vk_validate.specs.Supported.{is_supported, is_supported_action}
 use Rattle.vk_validate.specs.Told.{past, past_of, point_of, action_of, add, Walk}
 use Rattle.vk_validate.specs.Cleared.{first_test, IsClear, IsCleared}
 use Rattle.vk_validate.specs.Faults.{fault_by, told_rule, told_fault, tested_rule, tested_fault}
 use Rattle.vk_validate.specs.Acceptable.{IsAcceptable}
 use Rattle.vk_validate.proofs.Exact.{first_test_is}
-use Rattle.vk_validate.proofs.Pasts.{served-cons}
+use Rattle.vk_validate.proofs.Pasts.{supported-cons}
 use Rattle.vk_validate.proofs.Plain.{IsPlain, plain_order_plain}
 use Rattle.vk_validate.proofs.Places.{IsApart, plain_order_apart}
-use Rattle.vk_validate.proofs.Reach.{served_of}
+use Rattle.vk_validate.proofs.Reach.{supported_of}
 use Rattle.vk_validate.proofs.TableLemmas.{past-next}
 
 -- ---- the first of the points of which a rule is told
@@ -38,20 +38,20 @@ none_before None p (Some r) none = absurd cc
 -- a past in which no test tells a rule is cleared, and the other way round
 cleared_of : (past : Past) → fault_by tested_rule past ≡ None → IsCleared past
 cleared_of [] none = tt
-cleared_of (p ∷ past) none = let h = none_before (fault_by tested_rule past) p (tested_rule past p) none in (here (is_served_action p.action) refl h.1, cleared_of past h.0) where
-  here : (b : Bool) → is_served_action p.action ≡ b → (if b then first_test past p else Some rule.LiveId) ≡ None → IsClear past p
-  here true e none = record { served = e; clear = none }
+cleared_of (p ∷ past) none = let h = none_before (fault_by tested_rule past) p (tested_rule past p) none in (here (is_supported_action p.action) refl h.1, cleared_of past h.0) where
+  here : (b : Bool) → is_supported_action p.action ≡ b → (if b then first_test past p else Some rule.LiveId) ≡ None → IsClear past p
+  here true e none = record { supported = e; clear = none }
   here false e none = absurd cc
 
 none_tested : (past : Past) → IsCleared past → fault_by tested_rule past ≡ None
 none_tested [] cleared = refl
-none_tested (p ∷ past) cleared = rw (none_tested past cleared.1, cleared.0.served, cleared.0.clear) refl
+none_tested (p ∷ past) cleared = rw (none_tested past cleared.1, cleared.0.supported, cleared.0.clear) refl
 
 -- ---- the tests tell what is to be told
 
 tested_rule_is : (past : Past) (p : Point) → IsCleared past → IsPlain (p ∷ past) → IsApart past → tested_rule past p ≡ told_rule past p
-tested_rule_is past p cleared plain apart = go (is_served_action p.action) refl where
-  go : (b : Bool) → is_served_action p.action ≡ b → (if b then first_test past p else Some rule.LiveId) ≡ (if b then first_rule past p else Some rule.LiveId)
+tested_rule_is past p cleared plain apart = go (is_supported_action p.action) refl where
+  go : (b : Bool) → is_supported_action p.action ≡ b → (if b then first_test past p else Some rule.LiveId) ≡ (if b then first_rule past p else Some rule.LiveId)
   go true e = first_test_is past p cleared e plain apart
   go false e = refl
 
@@ -66,33 +66,33 @@ tested_plain : (xs : List Entry) → tested_fault (plain_order xs) ≡ told_faul
 unfolding tested_fault told_fault
 tested_plain xs = tested_is (plain_order xs) (plain_order_plain xs) (plain_order_apart xs)
 
--- ---- of forms that are served the first fault is told
+-- ---- of supported forms the first fault is told
 
-served_is : (past : Past) → is_served past ≡ true → fault_by told_rule past ≡ fault past
+supported_is : (past : Past) → is_supported past ≡ true → fault_by told_rule past ≡ fault past
 unfolding fault
-served_is [] served = refl
-served_is (p ∷ past) served =
-    let h = served-cons p past served in
-    ap (λ (o : Option (At × Rule)). or_here o p (told_rule past p)) (served_is past h.1) ∙ ap (λ (b : Bool). or_here (fault past) p (if b then first_rule past p else Some rule.LiveId)) h.0
+supported_is [] supported = refl
+supported_is (p ∷ past) supported =
+    let h = supported-cons p past supported in
+    ap (λ (o : Option (At × Rule)). or_here o p (told_rule past p)) (supported_is past h.1) ∙ ap (λ (b : Bool). or_here (fault past) p (if b then first_rule past p else Some rule.LiveId)) h.0
 
-told_served : (xs : List Entry) → is_served (plain_order xs) ≡ true → told_fault (plain_order xs) ≡ first_fault xs
+told_supported : (xs : List Entry) → is_supported (plain_order xs) ≡ true → told_fault (plain_order xs) ≡ first_fault xs
 unfolding told_fault first_fault
-told_served xs served = served_is (plain_order xs) served
+told_supported xs supported = supported_is (plain_order xs) supported
 
 -- what no test finds is accepted
 acceptable : (xs : List Entry) → tested_fault (plain_order xs) ≡ None → IsAcceptable xs
 unfolding tested_fault
 acceptable xs none =
-    let served : is_served (plain_order xs) ≡ true = served_of (plain_order xs) (cleared_of (plain_order xs) none) in
-    record { served = served; faultless = sym (told_served xs served) ∙ sym (tested_plain xs) ∙ none }
+    let supported : is_supported (plain_order xs) ≡ true = supported_of (plain_order xs) (cleared_of (plain_order xs) none) in
+    record { supported = supported; faultless = sym (told_supported xs supported) ∙ sym (tested_plain xs) ∙ none }
 
 -- what the tests tell of the points of a trace
 module _ (xs : List Entry) (points : Past) (laid : points ≡ plain_order xs) (f : Option (At × Rule)) (found : f ≡ tested_fault points) where
   pub tells : f ≡ told_fault (plain_order xs)
   tells = found ∙ ap tested_fault laid ∙ tested_plain xs
 
-  pub tells_first : is_served (plain_order xs) ≡ true → f ≡ first_fault xs
-  tells_first served = tells ∙ told_served xs served
+  pub tells_first : is_supported (plain_order xs) ≡ true → f ≡ first_fault xs
+  tells_first supported = tells ∙ told_supported xs supported
 
   pub accepts : f ≡ None → IsAcceptable xs
   accepts none = acceptable xs (ap tested_fault (sym laid) ∙ sym found ∙ none)
@@ -107,11 +107,11 @@ fault_here : (past : Past) (p : Point) (r : Rule) → IsCleared past → tested_
 fault_here past p r cleared some = ap (λ (o : Option (At × Rule)). or_here o p (tested_rule past p)) (none_tested past cleared) ∙ ap (λ (o : Option Rule). or_here None p o) some
 
 module _ (h : Walk) (points : List Step) (k : ℕ) (here : h ≡ record { points = points; count = k }) (cleared : IsCleared (past h)) where
-  pub next : (n : Walk) (x : Step) → n ≡ record h { count = h.count + 1 } → slice_get points k ≡ Some x → is_served_action (action_of x.action) ≡ true → first_test (past h) (point_of x) ≡ None → IsCleared (past n)
-  next n x new at served none =
+  pub next : (n : Walk) (x : Step) → n ≡ record h { count = h.count + 1 } → slice_get points k ≡ Some x → is_supported_action (action_of x.action) ≡ true → first_test (past h) (point_of x) ≡ None → IsCleared (past n)
+  next n x new at supported none =
       let w : Walk = record { points = points; count = k } in
       let is : past n ≡ point_of x ∷ past h = ap past (new ∙ ap (λ (v : Walk). record v { count = v.count + 1 }) here) ∙ past-next points k x at ∙ ap (λ (v : Walk). point_of x ∷ past v) (sym here) in
-      subst IsCleared (sym is) (record { served = served; clear = none }, cleared)
+      subst IsCleared (sym is) (record { supported = supported; clear = none }, cleared)
 
   pub done : length points ≤ k → None ≡ tested_fault (past_of points)
   unfolding past tested_fault

@@ -15,16 +15,16 @@ use Rattle.vk_model.specs.Node.{Node, Act, Hosts, Waits, Signals, Runs, Depends,
 use Rattle.vk_model.specs.Edge.{is_command}
 use Rattle.vk_model.specs.Access.{writes, is_in, bytes_of, writes_of}
 use Rattle.vk_validate.specs.Cleared.{IsCleared}
-use Rattle.vk_validate.specs.Served.{is_served, is_served_action}
+use Rattle.vk_validate.specs.Supported.{is_supported, is_supported_action}
 use Rattle.vk_validate.specs.Tabled.{writes_byte, last_writer}
 use Rattle.vk_validate.proofs.Members.{none_in, contains-cons, any_map}
 use Rattle.vk_validate.proofs.Truths.{no}
 use Rattle.vk_validate.proofs.Forms.{command_cases, action_cases}
-use Rattle.vk_validate.proofs.Pasts.{served-cons}
-use Rattle.vk_validate.proofs.Acts.{with_member, served_node, is_served_act}
+use Rattle.vk_validate.proofs.Pasts.{supported-cons}
+use Rattle.vk_validate.proofs.Acts.{with_member, supported_node, is_supported_act}
 use Rattle.vk_validate.proofs.Hazards.{writes_none, fill-targets}
 use Rattle.vk_validate.proofs.Spans.{one_of, some_of}
-use Rattle.vk_validate.proofs.Reach.{served_of, fills_low, kept_size}
+use Rattle.vk_validate.proofs.Reach.{supported_of, fills_low, kept_size}
 use Rattle.vk_validate.proofs.Stands.{IsCommandAt, command_stands}
 
 -- ---- bytes of a range
@@ -111,9 +111,9 @@ pub record IsFillNode (past : Past) (x : Node) (c : Cmd) : Type 0 where
   pub runs_it : x.point.action ≡ Run c
   pub at : IsCommandAt past x (length before)
 
-pub fill_point : (past : Past) → is_served past ≡ true → (x : Node) (c : Cmd) → Contains (nodes past) x → x.act ≡ Runs c → IsFillNode past x c
-fill_point [] served x c at is = absurd (none_in x at)
-fill_point (p ∷ past) served x c at is = let s = served-cons p past served in by_action p.action s.0 at (λ old. fill_point past s.1 x c old is) where
+pub fill_point : (past : Past) → is_supported past ≡ true → (x : Node) (c : Cmd) → Contains (nodes past) x → x.act ≡ Runs c → IsFillNode past x c
+fill_point [] supported x c at is = absurd (none_in x at)
+fill_point (p ∷ past) supported x c at is = let s = supported-cons p past supported in by_action p.action s.0 at (λ old. fill_point past s.1 x c old is) where
   later : (d : Action) → IsFillNode past x c → IsFillNode (record p { action = d } ∷ past) x c
   later d old = record { before = old.before; comes = older old.comes; runs_it = old.runs_it; at = inr old.at }
 
@@ -124,7 +124,7 @@ fill_point (p ∷ past) served x c at is = let s = served-cons p past served in 
   elements [] h = none_in x.act h
   elements (e ∷ es) h = elim (contains-cons (Depends Barrier e) (map (Depends Barrier) es) x.act h) [ inl same ↦ (let bad : Depends Barrier e ≡ Runs c = same ∙ is in cc) | inr more ↦ elements es more ]
 
-  by_action : (d : Action) → is_served_action d ≡ true → Contains (nodes (record p { action = d } ∷ past)) x → (Contains (nodes past) x → IsFillNode past x c) → IsFillNode (record p { action = d } ∷ past) x c
+  by_action : (d : Action) → is_supported_action d ≡ true → Contains (nodes (record p { action = d } ∷ past)) x → (Contains (nodes past) x → IsFillNode past x c) → IsFillNode (record p { action = d } ∷ past) x c
   by_action = let P : Action → Type 0 = λ d. Contains (nodes (record p { action = d } ∷ past)) x → (Contains (nodes past) x → IsFillNode past x c) → IsFillNode (record p { action = d } ∷ past) x c in
       action_cases P
       (λ y h at rest. elim (contains-cons (record { number = length (nodes past); point = record p { action = Host y }; act = Hosts y }) (nodes past) x at) [
@@ -160,7 +160,7 @@ fill_point (p ∷ past) served x c at is = let s = served-cons p past served in 
 
 -- ---- writers of a byte, before a point that makes nothing
 
-pub is_run : (a : Act) → is_command a ≡ true → is_served_act a ≡ true → (b o : ℕ) × (n : Length) × (w : ℕ) × (a ≡ Runs (cmd.Fill b o n w))
+pub is_run : (a : Act) → is_command a ≡ true → is_supported_act a ≡ true → (b o : ℕ) × (n : Length) × (w : ℕ) × (a ≡ Runs (cmd.Fill b o n w))
 is_run (Runs (cmd.Fill b o n w)) r h = (b, o, n, w, refl)
 is_run (Runs (cmd.Update b o bytes)) r h = no h
 is_run (Runs (cmd.Copy a b gs)) r h = no h
@@ -192,12 +192,12 @@ module _ (past : Past) (cleared : IsCleared past) (pt : Point) (same_size : (c :
 
   pub writer_of : (x : Node) → Contains (nodes past) x → (b k : ℕ) → is_in (in_buffer b k) (writes (pt ∷ past) x) ≡ true → IsWriter x b k
   writer_of x cx b k e = by_act (is_command x.act) refl where
-    served : is_served past ≡ true
-    served = served_of past cleared
+    supported : is_supported past ≡ true
+    supported = supported_of past cleared
 
     by_fill : (c o : ℕ) (n : Length) (w : ℕ) → x.act ≡ Runs (cmd.Fill c o n w) → IsWriter x b k
     by_fill c o n w is =
-        let at = fill_point past served x (cmd.Fill c o n w) cx is in
+        let at = fill_point past supported x (cmd.Fill c o n w) cx is in
         let in_range = byte_within b k c o (fill_size (buffer_size past c) o n) (sym (ap (λ (bs : List Byte). is_in (in_buffer b k) bs) (writes_fill x c o n w is)) ∙ e) in
         let size_is : buffer_size past c ≡ buffer_size at.before c = kept_size past at.before x.point c o n w cleared at.comes at.runs_it in
         let low = in_range.1 in
@@ -209,8 +209,8 @@ module _ (past : Past) (cleared : IsCleared past) (pt : Point) (same_size : (c :
         record { command = cmd.Fill c o n w; runs_it = is; number = length at.before; at = at.at; last = last.0; last_is_it = last.1; not_after = last.2 }
 
     by_act : (t : Bool) → is_command x.act ≡ t → IsWriter x b k
-    by_act true r = let f = is_run x.act r (served_node past served x cx) in by_fill f.0 f.1 f.2 f.3 f.4
-    by_act false r = no (sym (ap (λ (bs : List Byte). is_in (in_buffer b k) bs) (writes_none (pt ∷ past) x.point.queue x.act (served_node past served x cx) r)) ∙ e)
+    by_act true r = let f = is_run x.act r (supported_node past supported x cx) in by_fill f.0 f.1 f.2 f.3 f.4
+    by_act false r = no (sym (ap (λ (bs : List Byte). is_in (in_buffer b k) bs) (writes_none (pt ∷ past) x.point.queue x.act (supported_node past supported x cx) r)) ∙ e)
 
   -- the node of the last writer
   pub record IsLastNode (b k m : ℕ) : Type 0 where

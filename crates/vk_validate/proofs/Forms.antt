@@ -1,4 +1,4 @@
--- The forms of points that are served, one by one.
+-- The forms of points that are supported, one by one.
 use Rattle.std.proofs.Common.{◌≡◌, ℕ, List, true, false, ◌==◌, refl, sym, subst}
 use Rattle.std.specs.List.{list_all}
 use Rattle.std.proofs.lemmas.Bool.{eqb-true, not-true}
@@ -15,7 +15,7 @@ use Rattle.vk_model.specs.declared.resource.BufferInfo.{BufferInfo}
 use Rattle.vk_model.specs.declared.resource.Place.{Place}
 use Rattle.vk_model.specs.declared.resource.Place.TheVariants as place
 use Rattle.vk_model.specs.Point.{Action, Host, Wait, Run, Signal}
-use Rattle.vk_validate.specs.Served.{is_served_action, is_served_entry, is_served_place, is_served_command, is_memory}
+use Rattle.vk_validate.specs.Supported.{is_supported_action, is_supported_entry, is_supported_place, is_supported_command, is_memory}
 
 module _ (P : Entry → Type 0)
     (buffer : (i : ℕ) (b : BufferInfo) (t : ℕ) → b.place ≡ place.Dedicated t → (t == 2) ≡ false → P (entry.Buffer i b))
@@ -24,14 +24,14 @@ module _ (P : Entry → Type 0)
     (semaphore : (i v : ℕ) → P (entry.Semaphore i v))
     (wait : (ws : List SemaphoreValue) → P (entry.Wait ws))
     (submit : (bs : List Batch) → P (entry.Submit 0 bs)) where
-  placed : (i : ℕ) (b : BufferInfo) (q : Place) → b.place ≡ q → is_served_place q ≡ true → P (entry.Buffer i b)
+  placed : (i : ℕ) (b : BufferInfo) (q : Place) → b.place ≡ q → is_supported_place q ≡ true → P (entry.Buffer i b)
   placed i b (place.Dedicated t) is e = buffer i b t is (not-true (t == 2) e)
   placed i b (place.Pool q) is e = absurd cc
   placed i b (place.PoolUpper q) is e = absurd cc
   placed i b (place.Memory m o) is e = absurd cc
 
-  -- what holds of each form of entry that is served holds of all
-  pub entry_cases : (x : Entry) → is_served_entry x ≡ true → P x
+  -- what holds of each form of entry that is supported holds of all
+  pub entry_cases : (x : Entry) → is_supported_entry x ≡ true → P x
   entry_cases (entry.Buffer i b) e = placed i b b.place refl e
   entry_cases (entry.Map b) e = map b
   entry_cases (entry.Read b o n) e = read b o n
@@ -59,7 +59,7 @@ module _ (P : Cmd → Type 0)
     (fill : (b o : ℕ) (n : Length) (w : ℕ) → P (cmd.Fill b o n w))
     (barrier : (es : List Element) → list_all is_memory es ≡ true → P (cmd.Barrier es)) where
   -- and so of commands
-  pub command_cases : (c : Cmd) → is_served_command c ≡ true → P c
+  pub command_cases : (c : Cmd) → is_supported_command c ≡ true → P c
   command_cases (cmd.Fill b o n w) e = fill b o n w
   command_cases (cmd.Barrier es) e = barrier es e
   command_cases (cmd.Update b o bytes) e = absurd cc
@@ -72,11 +72,11 @@ module _ (P : Cmd → Type 0)
   command_cases (cmd.Await v ms) e = absurd cc
 
 module _ (P : Action → Type 0)
-    (host : (x : Entry) → is_served_entry x ≡ true → P (Host x))
-    (run : (c : Cmd) → is_served_command c ≡ true → P (Run c))
+    (host : (x : Entry) → is_supported_entry x ≡ true → P (Host x))
+    (run : (c : Cmd) → is_supported_command c ≡ true → P (Run c))
     (signal : (s : SemaphoreSubmit) → P (Signal s)) where
   -- and of actions
-  pub action_cases : (d : Action) → is_served_action d ≡ true → P d
+  pub action_cases : (d : Action) → is_supported_action d ≡ true → P d
   action_cases (Host x) e = host x e
   action_cases (Wait s) e = absurd cc
   action_cases (Run c) e = run c e

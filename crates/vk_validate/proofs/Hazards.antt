@@ -1,4 +1,4 @@
--- What acts of served forms read and write, and that none of them breaks HAZARD_WAR.
+-- What acts of supported forms read and write, and that none of them breaks HAZARD_WAR.
 use Rattle.std.proofs.Common.{◌≡◌, ◌≤◌, ◌+◌, ℕ, List, [], ◌∷◌, map, length, Bool, true, false, not, ◌&&◌, refl, ap, sym, subst, arith, inl, inr}
 use Rattle.std.specs.Prelude.{Contains, ◌%◌}
 use Rattle.std.specs.List.{list_all}
@@ -18,22 +18,22 @@ use Rattle.vk_model.specs.Edge.{is_host, is_command}
 use Rattle.vk_model.specs.Before.{before}
 use Rattle.vk_model.specs.Access.{hazard, war, share, reads, writes, precedes, host_writes, writes_of, reads_of, origins, targets, bytes_of}
 use Rattle.vk_model.specs.RulesBytes.{breaks_hazard_war}
-use Rattle.vk_validate.specs.Served.{is_served, is_served_action, is_served_entry}
+use Rattle.vk_validate.specs.Supported.{is_supported, is_supported_action, is_supported_entry}
 use Rattle.vk_validate.proofs.Members.{none_in, contains-cons, contains-head, contains-tail, all_passes, none_passes_any}
 use Rattle.vk_validate.proofs.Forms.{entry_cases, command_cases, action_cases}
 use Rattle.vk_validate.proofs.Plain.{IsPlain, Placed, LastSubmit}
 use Rattle.vk_validate.proofs.NextNodes.{lined, next_nodes-lined}
-use Rattle.vk_validate.proofs.Acts.{is_served_act, served_acts, served_node}
+use Rattle.vk_validate.proofs.Acts.{is_supported_act, supported_acts, supported_node}
 use Rattle.vk_validate.proofs.Ordered.{host_before}
 
--- ---- what acts of served forms read and write
+-- ---- what acts of supported forms read and write
 
 values_only : (b o : ℕ) (f : ℕ → ℕ) (ks : List ℕ) → origins (map (λ k. move (in_buffer b (o + k)) (Value (f k))) ks) ≡ []
 values_only b o f [] = refl
 values_only b o f (k ∷ ks) = values_only b o f ks
 
 -- no act but of the host reads
-pub reads_none : (past : Past) (q : ℕ) (a : Act) → is_served_act a ≡ true → is_host a ≡ false → reads_of past q a ≡ []
+pub reads_none : (past : Past) (q : ℕ) (a : Act) → is_supported_act a ≡ true → is_host a ≡ false → reads_of past q a ≡ []
 reads_none past q (Hosts x) h host = absurd cc
 reads_none past q (Waits s) h host = refl
 reads_none past q (Signals s) h host = refl
@@ -61,11 +61,11 @@ to-map f (x ∷ xs) = ap (λ (bs : List Byte). (f x).to ∷ bs) (to-map f xs)
 pub fill-targets : (past : Past) (b o : ℕ) (n : Length) (w : ℕ) → targets (moves past (cmd.Fill b o n w)) ≡ bytes_of b o (fill_size (buffer_size past b) o n)
 fill-targets past b o n w = to-map _ (below (fill_size (buffer_size past b) o n))
 
-host_writes_none : (x : Entry) → is_served_entry x ≡ true → host_writes x ≡ []
+host_writes_none : (x : Entry) → is_supported_entry x ≡ true → host_writes x ≡ []
 host_writes_none = let P : Entry → Type 0 = λ x. host_writes x ≡ [] in entry_cases P (λ i b t is other. refl) (λ b. refl) (λ b o n. refl) (λ i v. refl) (λ ws. refl) (λ bs. refl)
 
 -- and no act but a command writes
-pub writes_none : (past : Past) (q : ℕ) (a : Act) → is_served_act a ≡ true → is_command a ≡ false → writes_of past q a ≡ []
+pub writes_none : (past : Past) (q : ℕ) (a : Act) → is_supported_act a ≡ true → is_command a ≡ false → writes_of past q a ≡ []
 writes_none past q (Hosts x) h is = host_writes_none x h
 writes_none past q (Waits s) h is = refl
 writes_none past q (Signals s) h is = refl
@@ -98,9 +98,9 @@ pub idle_elements : (es : List Element) → list_all (λ a. not (is_command a)) 
 idle_elements [] = refl
 idle_elements (e ∷ es) = idle_elements es
 
--- no point of a served form breaks HAZARD_WAR
-pub no_hazard_war : (past : Past) (p : Point) → is_served past ≡ true → is_served_action p.action ≡ true → IsPlain (p ∷ past) → breaks_hazard_war past p ≡ false
-no_hazard_war past p served now plain = hazard_none war past p (by_action p.action now refl plain.0) where
+-- no point of a supported form breaks HAZARD_WAR
+pub no_hazard_war : (past : Past) (p : Point) → is_supported past ≡ true → is_supported_action p.action ≡ true → IsPlain (p ∷ past) → breaks_hazard_war past p ≡ false
+no_hazard_war past p supported now plain = hazard_none war past p (by_action p.action now refl plain.0) where
   unwritten : (y x : Node) → writes (p ∷ past) y ≡ [] → (precedes x y && war (p ∷ past) x y) ≡ false
   unwritten y x e = rw (e, share_none (reads (p ∷ past) x)) (and-false (precedes x y))
 
@@ -110,7 +110,7 @@ no_hazard_war past p served now plain = hazard_none war past p (by_action p.acti
   after : (y x : Node) → before (nodes (p ∷ past)) x y ≡ true → (precedes x y && war (p ∷ past) x y) ≡ false
   after y x e = rw (e, and-false (share (reads (p ∷ past) x) (writes (p ∷ past) y))) (and-false (precedes x y))
 
-  by_writer : (y : Node) → is_served_act y.act ≡ true → is_command y.act ≡ false → (x : Node) → (precedes x y && war (p ∷ past) x y) ≡ false
+  by_writer : (y : Node) → is_supported_act y.act ≡ true → is_command y.act ≡ false → (x : Node) → (precedes x y && war (p ∷ past) x y) ≡ false
   by_writer y h is x = unwritten y x (writes_none (p ∷ past) y.point.queue y.act h is)
 
   fill : (b o : ℕ) (n : Length) (w : ℕ) → p.action ≡ Run (cmd.Fill b o n w) → LastSubmit p.entry p.queue past → (x : Node) → Contains (nodes (p ∷ past)) x → (precedes x (record { number = length (nodes past); point = p; act = Runs (cmd.Fill b o n w) }) && war (p ∷ past) x (record { number = length (nodes past); point = p; act = Runs (cmd.Fill b o n w) })) ≡ false
@@ -122,15 +122,15 @@ no_hazard_war past p served now plain = hazard_none war past p (by_action p.acti
     y = record { number = length (nodes past); point = p; act = Runs (cmd.Fill b o n w) }
 
     by_host : (t : Bool) → is_host x.act ≡ t → Contains (nodes past) x → (precedes x y && war (p ∷ past) x y) ≡ false
-    by_host true host older = after y x (host_before past p y served last refl refl (subst (λ (d : Action). Contains (with_acts p (acts d) (nodes past)) y) (sym is) (contains-head y (nodes past))) x older host)
-    by_host false host older = unread y x (reads_none (p ∷ past) x.point.queue x.act (served_node past served x older) host)
+    by_host true host older = after y x (host_before past p y supported last refl refl (subst (λ (d : Action). Contains (with_acts p (acts d) (nodes past)) y) (sym is) (contains-head y (nodes past))) x older host)
+    by_host false host older = unread y x (reads_none (p ∷ past) x.point.queue x.act (supported_node past supported x older) host)
 
-  quiet : (d : Action) → is_served_action d ≡ true → list_all (λ a. not (is_command a)) (acts d) ≡ true → (y : Node) → Contains (lined p (length (nodes past)) (acts d)) y → (x : Node) → (precedes x y && war (p ∷ past) x y) ≡ false
+  quiet : (d : Action) → is_supported_action d ≡ true → list_all (λ a. not (is_command a)) (acts d) ≡ true → (y : Node) → Contains (lined p (length (nodes past)) (acts d)) y → (x : Node) → (precedes x y && war (p ∷ past) x y) ≡ false
   quiet d h none y cy x =
       let m = lined_act p (length (nodes past)) (acts d) y cy in
-      by_writer y (all_passes is_served_act (acts d) y.act (served_acts d h) m.0) (not-true (is_command y.act) (all_passes (λ a. not (is_command a)) (acts d) y.act none m.0)) x
+      by_writer y (all_passes is_supported_act (acts d) y.act (supported_acts d h) m.0) (not-true (is_command y.act) (all_passes (λ a. not (is_command a)) (acts d) y.act none m.0)) x
 
-  by_action : (d : Action) → is_served_action d ≡ true → p.action ≡ d → Placed (host_of d) p past → (y : Node) → Contains (lined p (length (nodes past)) (acts d)) y → (x : Node) → Contains (nodes (p ∷ past)) x → (precedes x y && war (p ∷ past) x y) ≡ false
+  by_action : (d : Action) → is_supported_action d ≡ true → p.action ≡ d → Placed (host_of d) p past → (y : Node) → Contains (lined p (length (nodes past)) (acts d)) y → (x : Node) → Contains (nodes (p ∷ past)) x → (precedes x y && war (p ∷ past) x y) ≡ false
   by_action = let P : Action → Type 0 = λ d. p.action ≡ d → Placed (host_of d) p past → (y : Node) → Contains (lined p (length (nodes past)) (acts d)) y → (x : Node) → Contains (nodes (p ∷ past)) x → (precedes x y && war (p ∷ past) x y) ≡ false in
       action_cases P
       (λ x h is placed y cy z cz. quiet (Host x) h refl y cy z)

@@ -1,4 +1,4 @@
--- LIVE_ID on a past of served forms in plain order.
+-- LIVE_ID on a past of supported forms in plain order.
 use Rattle.std.proofs.Common.{◌≡◌, ℕ, List, [], ◌∷◌, map, Bool, true, false, not, ◌&&◌, ◌==◌, refl, ap, ◌∙◌, Option, Some, None}
 use Rattle.std.specs.Prelude.{is_some, option_and_then, if◌then◌else◌}
 use Rattle.std.specs.List.{list_any, list_all, flat_map}
@@ -11,17 +11,17 @@ use Rattle.vk_model.specs.Words.{holds}
 use Rattle.vk_model.specs.Point.{Past, Point, Action, Host, Run, host_of}
 use Rattle.vk_model.specs.Objects.{made, live, buffer_in, semaphore_in, initial}
 use Rattle.vk_model.specs.RulesIds.{asked_by_element, is_semaphore, is_dead, breaks_live_id, until}
-use Rattle.vk_validate.specs.Served.{is_served, is_served_action, is_memory}
+use Rattle.vk_validate.specs.Supported.{is_supported, is_supported_action, is_memory}
 use Rattle.vk_validate.specs.Tests.{names_dead}
 use Rattle.vk_validate.proofs.Truths.{or-false-false}
 use Rattle.vk_validate.proofs.Forms.{entry_cases, command_cases, action_cases}
-use Rattle.vk_validate.proofs.Pasts.{served-cons, live_made}
+use Rattle.vk_validate.proofs.Pasts.{supported-cons, live_made}
 use Rattle.vk_validate.proofs.Plain.{LastSubmit, Placed, made_until}
 
-served_until : (e : ℕ) (past : Past) → is_served past ≡ true → is_served (until e past) ≡ true
-served_until e [] h = h
-served_until e (p ∷ past) h = go (p.entry == e && is_some (host_of p.action)) (served-cons p past h).1 (served_until e past (served-cons p past h).1) where
-  go : (b : Bool) → is_served past ≡ true → is_served (until e past) ≡ true → is_served (if b then past else until e past) ≡ true
+supported_until : (e : ℕ) (past : Past) → is_supported past ≡ true → is_supported (until e past) ≡ true
+supported_until e [] h = h
+supported_until e (p ∷ past) h = go (p.entry == e && is_some (host_of p.action)) (supported-cons p past h).1 (supported_until e past (supported-cons p past h).1) where
+  go : (b : Bool) → is_supported past ≡ true → is_supported (until e past) ≡ true → is_supported (if b then past else until e past) ≡ true
   go true a b = a
   go false a b = b
 
@@ -35,9 +35,9 @@ memory_asks (element.Memory d ∷ es) all = memory_asks es all
 memory_asks (element.Buffer e ∷ es) all = absurd cc
 memory_asks (element.Image e ∷ es) all = absurd cc
 
-module _ (past : Past) (served : is_served past ≡ true) where
+module _ (past : Past) (supported : is_supported past ≡ true) where
   dead_is : {A : Type 0} (f : Entry → Option A) (i : ℕ) → not (holds (live past i) (λ x. is_some (f x))) ≡ not (is_some (option_and_then f (made past i)))
-  dead_is f i = ap not (ap (λ o. holds o (λ x. is_some (f x))) (live_made past served i) ∙ holds_then f (made past i))
+  dead_is f i = ap not (ap (λ o. holds o (λ x. is_some (f x))) (live_made past supported i) ∙ holds_then f (made past i))
 
   dead_waits : (ws : List SemaphoreValue) → list_any (is_dead past) (map (λ w. (w.semaphore, is_semaphore)) ws) ≡ list_any (λ w. not (is_some (initial past w.semaphore))) ws
   dead_waits [] = refl
@@ -45,9 +45,9 @@ module _ (past : Past) (served : is_served past ≡ true) where
 
   dead_until : {A : Type 0} (f : Entry → Option A) (e q i : ℕ) → LastSubmit e q past → not (holds (live (until e past) i) (λ x. is_some (f x))) ≡ not (is_some (option_and_then f (made past i)))
   dead_until f e q i last =
-      ap not (ap (λ o. holds o (λ x. is_some (f x))) (live_made (until e past) (served_until e past served) i ∙ made_until e q i past last) ∙ holds_then f (made past i))
+      ap not (ap (λ o. holds o (λ x. is_some (f x))) (live_made (until e past) (supported_until e past supported) i ∙ made_until e q i past last) ∙ holds_then f (made past i))
 
-  pub live_id_is : (p : Point) → is_served_action p.action ≡ true → Placed (host_of p.action) p past → breaks_live_id past p ≡ names_dead past p.action
+  pub live_id_is : (p : Point) → is_supported_action p.action ≡ true → Placed (host_of p.action) p past → breaks_live_id past p ≡ names_dead past p.action
   live_id_is p now placed =
       let P : Action → Type 0 = λ d. Placed (host_of d) p past → breaks_live_id past (record p { action = d }) ≡ names_dead past d in
       action_cases P

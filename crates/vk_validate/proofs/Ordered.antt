@@ -14,11 +14,11 @@ use Rattle.vk_model.specs.Node.{Node, Act, Hosts, Waits, Signals, Runs, Depends,
 use Rattle.vk_model.specs.Edge.{edge, signaled_by, is_host, is_signal, is_submit, by_host, by_stages, by_signal, by_all_commands, pairs, by_semaphore, earlier}
 use Rattle.vk_model.specs.Before.{before, Path, direct}
 use Rattle.vk_model.specs.RulesSync.{same_semaphore, breaks_signal_order}
-use Rattle.vk_validate.specs.Served.{is_served, is_served_action}
+use Rattle.vk_validate.specs.Supported.{is_supported, is_supported_action}
 use Rattle.vk_validate.proofs.Members.{contains-cons, contains-head, all_passes, none_passes_any}
 use Rattle.vk_validate.proofs.Truths.{first_of_six, third_of_six}
 use Rattle.vk_validate.proofs.Forms.{command_cases, action_cases}
-use Rattle.vk_validate.proofs.Pasts.{served-cons, served-next}
+use Rattle.vk_validate.proofs.Pasts.{supported-cons, supported-next}
 use Rattle.vk_validate.proofs.Plain.{IsPlain, LastSubmit, LastBy, IsSubmitOn}
 use Rattle.vk_validate.proofs.Growth.{numbered, number_below}
 use Rattle.vk_validate.proofs.Paths.{before_of_path, path_joined}
@@ -39,9 +39,9 @@ signal_edge : (ns : List Node) (m n : Node) → m.number < n.number → is_signa
 unfolding edge
 signal_edge ns m n lt sm sn q = rw (lt-ltb m.number n.number lt) (third_of_six (by_host m n) (by_stages m n) (by_signal m n) (by_all_commands m n) (pairs m.act n.act) (by_semaphore (earlier n ns) m n) (rw (signal_hosts m.act sm, signal_hosts n.act sn, eq-eqb m.point.queue n.point.queue q, sm, sn) refl))
 
-module _ (past : Past) (p : Point) (served : is_served past ≡ true) (now : is_served_action p.action ≡ true) (plain : IsPlain (p ∷ past)) where
-  served_all : is_served (p ∷ past) ≡ true
-  served_all = served-next p past now served
+module _ (past : Past) (p : Point) (supported : is_supported past ≡ true) (now : is_supported_action p.action ≡ true) (plain : IsPlain (p ∷ past)) where
+  supported_all : is_supported (p ∷ past) ≡ true
+  supported_all = supported-next p past now supported
 
   -- a signal of an earlier point comes before a signal of this one
   ordered_signals : (n : Node) → n.number ≡ length (nodes past) → Contains (nodes (p ∷ past)) n → is_signal n.act ≡ true → (m : Node) → Contains (nodes past) m → (same_semaphore m n && not (before (nodes (p ∷ past)) m n)) ≡ false
@@ -49,10 +49,10 @@ module _ (past : Past) (p : Point) (served : is_served past ≡ true) (now : is_
     go : (o : Option (ℕ × ℕ)) → signaled_by m.act ≡ o → (holds o (λ x. holds (signaled_by n.act) (λ y. x.0 == y.0)) && not (before (nodes (p ∷ past)) m n)) ≡ false
     go None e = refl
     go (Some x) e =
-        let sm : is_signal m.act ≡ true = signals_by past served m cm x e in
+        let sm : is_signal m.act ≡ true = signals_by past supported m cm x e in
         let all : Contains (nodes (p ∷ past)) m = with_keeps p (acts p.action) (nodes past) m cm in
-        let qm : m.point.queue ≡ 0 = on_queue_0 (p ∷ past) served_all plain m all (signal_hosts m.act sm) in
-        let qn : n.point.queue ≡ 0 = on_queue_0 (p ∷ past) served_all plain n cn (signal_hosts n.act sn) in
+        let qm : m.point.queue ≡ 0 = on_queue_0 (p ∷ past) supported_all plain m all (signal_hosts m.act sm) in
+        let qn : n.point.queue ≡ 0 = on_queue_0 (p ∷ past) supported_all plain n cn (signal_hosts n.act sn) in
         let low : m.number < length (nodes past) = number_below (nodes past) (numbered past) m cm in
         let is : before (nodes (p ∷ past)) m n ≡ true = before_of_path (nodes (p ∷ past)) (numbered (p ∷ past)) m n all cn (direct all cn (signal_edge (nodes (p ∷ past)) m n (omega arith) sm sn (qm ∙ sym qn))) in
         rw is (and-false _)
@@ -63,8 +63,8 @@ no_values m b = go (signaled_by m.act) where
   go None = refl
   go (Some x) = refl
 
-pub no_signal_order : (past : Past) (p : Point) → is_served past ≡ true → is_served_action p.action ≡ true → IsPlain (p ∷ past) → breaks_signal_order past p ≡ false
-no_signal_order past p served now plain = rw (next_nodes-lined past p) (by_action p.action now refl) where
+pub no_signal_order : (past : Past) (p : Point) → is_supported past ≡ true → is_supported_action p.action ≡ true → IsPlain (p ∷ past) → breaks_signal_order past p ≡ false
+no_signal_order past p supported now plain = rw (next_nodes-lined past p) (by_action p.action now refl) where
   none_of : (n : Node) → signaled_by n.act ≡ None → list_any (λ m. same_semaphore m n && not (before (nodes (p ∷ past)) m n)) (nodes past) ≡ false
   none_of n is = none_passes_any _ (nodes past) (λ m c. rw is (no_values m _))
 
@@ -75,12 +75,12 @@ no_signal_order past p served now plain = rw (next_nodes-lined past p) (by_actio
   head_is : (d : Action) (a : Act) → p.action ≡ d → acts d ≡ a ∷ [] → Contains (nodes (p ∷ past)) (record { number = length (nodes past); point = p; act = a })
   head_is d a e f = rw (e, f) (contains-head _ _)
 
-  by_action : (d : Action) → is_served_action d ≡ true → p.action ≡ d → list_any (λ n. list_any (λ m. same_semaphore m n && not (before (nodes (p ∷ past)) m n)) (nodes past)) (lined p (length (nodes past)) (acts d)) ≡ false
+  by_action : (d : Action) → is_supported_action d ≡ true → p.action ≡ d → list_any (λ n. list_any (λ m. same_semaphore m n && not (before (nodes (p ∷ past)) m n)) (nodes past)) (lined p (length (nodes past)) (acts d)) ≡ false
   by_action = let P : Action → Type 0 = λ d. p.action ≡ d → list_any (λ n. list_any (λ m. same_semaphore m n && not (before (nodes (p ∷ past)) m n)) (nodes past)) (lined p (length (nodes past)) (acts d)) ≡ false in
       action_cases P
       (λ x h is. or_from _ false (none_of (record { number = length (nodes past); point = p; act = Hosts x }) (signals_none x h)) refl)
       (command_cases (λ c. P (Run c)) (λ b o n w is. or_from _ false (none_of (record { number = length (nodes past); point = p; act = Runs (cmd.Fill b o n w) }) refl) refl) (λ es all is. elements es (length (nodes past))))
-      (λ s is. or_from _ false (none_passes_any _ (nodes past) (λ m c. ordered_signals past p served now plain (record { number = length (nodes past); point = p; act = Signals s }) refl (head_is (Signal s) (Signals s) is refl) refl m c)) refl)
+      (λ s is. or_from _ false (none_passes_any _ (nodes past) (λ m c. ordered_signals past p supported now plain (record { number = length (nodes past); point = p; act = Signals s }) refl (head_is (Signal s) (Signals s) is refl) refl m c)) refl)
 
 -- ---- HAZARD_WAR
 
@@ -97,10 +97,10 @@ submit_is q (entry.Submit r bs) h = refl
 submit_is q _ h = absurd h
 
 -- before the points of a batch stands their submit
-pub submitted : (e q : ℕ) (past : Past) → is_served past ≡ true → LastSubmit e q past → Submitted e (nodes past)
-submitted e q [] served last = absurd last
-submitted e q (p ∷ past) served last = let s = served-cons p past served in go p.action s.0 last (submitted e q past s.1) where
-  later : (d : Action) → is_served_action d ≡ true → host_of d ≡ None → Submitted e (nodes past) → Submitted e (with_acts p (acts d) (nodes past))
+pub submitted : (e q : ℕ) (past : Past) → is_supported past ≡ true → LastSubmit e q past → Submitted e (nodes past)
+submitted e q [] supported last = absurd last
+submitted e q (p ∷ past) supported last = let s = supported-cons p past supported in go p.action s.0 last (submitted e q past s.1) where
+  later : (d : Action) → is_supported_action d ≡ true → host_of d ≡ None → Submitted e (nodes past) → Submitted e (with_acts p (acts d) (nodes past))
   later d h is found = record {
     node = found.node;
     stands = with_keeps p (acts d) (nodes past) found.node found.stands;
@@ -112,7 +112,7 @@ submitted e q (p ∷ past) served last = let s = served-cons p past served in go
     ];
   }
 
-  go : (d : Action) → is_served_action d ≡ true → LastBy (host_of d) e q p (LastSubmit e q past) → (LastSubmit e q past → Submitted e (nodes past)) → Submitted e (with_acts p (acts d) (nodes past))
+  go : (d : Action) → is_supported_action d ≡ true → LastBy (host_of d) e q p (LastSubmit e q past) → (LastSubmit e q past → Submitted e (nodes past)) → Submitted e (with_acts p (acts d) (nodes past))
   go (Host x) h last rest = record {
     node = record { number = length (nodes past); point = p; act = Hosts x };
     stands = contains-head _ _;
@@ -148,9 +148,9 @@ pub submit_leads : (m n : Node) → is_submit m.act ≡ true → m.point.entry �
 submit_leads m n a e = or_right (is_host m.act && is_host n.act) (is_submit m.act && m.point.entry == n.point.entry) (rw (a, eq-eqb m.point.entry n.point.entry e) refl)
 
 -- a host entry comes before the later batches
-pub host_before : (past : Past) (p : Point) (y : Node) → is_served past ≡ true → LastSubmit p.entry p.queue past → y.point ≡ p → y.number ≡ length (nodes past) → Contains (nodes (p ∷ past)) y → (x : Node) → Contains (nodes past) x → is_host x.act ≡ true → before (nodes (p ∷ past)) x y ≡ true
-host_before past p y served last at here cy x cx host =
-    let s = submitted p.entry p.queue past served last in
+pub host_before : (past : Past) (p : Point) (y : Node) → is_supported past ≡ true → LastSubmit p.entry p.queue past → y.point ≡ p → y.number ≡ length (nodes past) → Contains (nodes (p ∷ past)) y → (x : Node) → Contains (nodes past) x → is_host x.act ≡ true → before (nodes (p ∷ past)) x y ≡ true
+host_before past p y supported last at here cy x cx host =
+    let s = submitted p.entry p.queue past supported last in
     let ns : List Node = nodes (p ∷ past) in
     let kept : (n : Node) → Contains (nodes past) n → Contains ns n = with_keeps p (acts p.action) (nodes past) in
     let low : s.node.number < length (nodes past) = number_below (nodes past) (numbered past) s.node s.stands in

@@ -22,7 +22,7 @@ use Rattle.vk_model.specs.RulesRanges.{breaks_range, host_past, command_past, en
 use Rattle.vk_model.specs.RulesSizes.{bad_memory_size, breaks_memory_size}
 use Rattle.vk_model.specs.Fault.{Comes, newest, older}
 use Rattle.vk_validate.specs.Cleared.{tests, first_test, IsClear, IsCleared}
-use Rattle.vk_validate.specs.Served.{is_served}
+use Rattle.vk_validate.specs.Supported.{is_supported}
 use Rattle.vk_validate.specs.Tests.{names_dead}
 use Rattle.vk_validate.proofs.Fills.{fill_range}
 
@@ -60,11 +60,11 @@ module _ (past : Past) (p : Point) (clear : IsClear past p) where
   unfolding tests
   small = untested rule.MemorySize 7 refl
 
--- a cleared past is of forms that are served
-pub served_of : (past : Past) → IsCleared past → is_served past ≡ true
-unfolding is_served
-served_of [] cleared = refl
-served_of (p ∷ past) cleared = rw (cleared.0.served, served_of past cleared.1) refl
+-- a cleared past is of supported forms
+pub supported_of : (past : Past) → IsCleared past → is_supported past ≡ true
+unfolding is_supported
+supported_of [] cleared = refl
+supported_of (p ∷ past) cleared = rw (cleared.0.supported, supported_of past cleared.1) refl
 
 -- a point of a cleared past is clear, and so is the past before it
 clear_at : (past before : Past) (q : Point) → IsCleared past → Comes past before q → IsClear before q × IsCleared before

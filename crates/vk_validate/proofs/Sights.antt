@@ -17,34 +17,34 @@ use Rattle.vk_model.specs.Node.{Node, Act, Hosts, Waits, Signals, Runs, Depends,
 use Rattle.vk_model.specs.Edge.{edge, is_host, is_command, is_submit}
 use Rattle.vk_model.specs.Before.{before, Path, direct, longer, IsNumbered}
 use Rattle.vk_model.specs.Seen.{Access, Read, Write, seen, sends, receives, available_by, visible_by, passes, invalidates, command_mask, host_mask, is_wait, to_host}
-use Rattle.vk_validate.specs.Served.{is_served, is_memory, is_served_entry}
-use Rattle.vk_validate.proofs.Acts.{is_served_act}
+use Rattle.vk_validate.specs.Supported.{is_supported, is_memory, is_supported_entry}
+use Rattle.vk_validate.proofs.Acts.{is_supported_act}
 use Rattle.vk_validate.proofs.Members.{some_member, member_passes}
 use Rattle.vk_validate.proofs.Truths.{no, clash}
 use Rattle.vk_validate.proofs.Forms.{entry_cases}
-use Rattle.vk_validate.proofs.Pasts.{made_served}
+use Rattle.vk_validate.proofs.Pasts.{made_supported}
 use Rattle.vk_validate.proofs.Growth.{numbered}
 use Rattle.vk_validate.proofs.Paths.{path_of_before, before_of_path, target, unique}
 use Rattle.vk_validate.proofs.Freed.{Freed, Sent, Passed, Shown, Begun, Carried, Via, frees, leads_to_transfers, leads_to_writes, leads_to_reads, freed_stands}
 use Rattle.vk_validate.proofs.Causes.{into_command}
 use Rattle.vk_validate.proofs.Clocked.{command_hosts}
 
--- ---- memory of served forms is not cached
+-- ---- memory of supported forms is not cached
 
-pub uncached : (past : Past) → is_served past ≡ true → (i : ℕ) → is_cached past i ≡ false
-uncached past served i = go (made past i) refl where
-  by_form : (x : Entry) → is_served_entry x ≡ true → holds (option_and_then (λ r. type_at past r.place) (resource_in x)) (λ u. u == 2) ≡ false
+pub uncached : (past : Past) → is_supported past ≡ true → (i : ℕ) → is_cached past i ≡ false
+uncached past supported i = go (made past i) refl where
+  by_form : (x : Entry) → is_supported_entry x ≡ true → holds (option_and_then (λ r. type_at past r.place) (resource_in x)) (λ u. u == 2) ≡ false
   by_form = let P : Entry → Type 0 = λ x. holds (option_and_then (λ r. type_at past r.place) (resource_in x)) (λ u. u == 2) ≡ false in entry_cases P (λ i b t is other. rw is other) (λ b. refl) (λ b o n. refl) (λ i v. refl) (λ ws. refl) (λ bs. refl)
 
   go : (o : Option Entry) → made past i ≡ o → holds (option_and_then (λ r. type_at past r.place) (option_and_then resource_in o)) (λ u. u == 2) ≡ false
   go None e = refl
-  go (Some x) e = by_form x (made_served past served i x e)
+  go (Some x) e = by_form x (made_supported past supported i x e)
 
 -- ---- what makes available and visible, on memory of all
 
-served_sends : (cached : Byte → Bool) (ns : List Node) (p : Node) (b : Byte) → is_served_act p.act ≡ true → sends cached ns p b p.act ≡ frees p.act
-served_sends cached ns p b = go p.act where
-  go : (a : Act) → is_served_act a ≡ true → sends cached ns p b a ≡ frees a
+supported_sends : (cached : Byte → Bool) (ns : List Node) (p : Node) (b : Byte) → is_supported_act p.act ≡ true → sends cached ns p b p.act ≡ frees p.act
+supported_sends cached ns p b = go p.act where
+  go : (a : Act) → is_supported_act a ≡ true → sends cached ns p b a ≡ frees a
   go (Hosts x) h = refl
   go (Waits s) h = no h
   go (Signals s) h = refl
@@ -55,9 +55,9 @@ served_sends cached ns p b = go p.act where
   go (Depends (SetOf v k) e) h = no h
   go (Depends (AwaitOf v k) e) h = no h
 
-served_receives : (cached : Byte → Bool) (ns : List Node) (mask : ℕ) (b : Byte) (q : Node) → is_served_act q.act ≡ true → receives cached ns mask b q q.act ≡ true → (e : Element) × (q.act ≡ Depends Barrier e) × (has_some (dependency_of e).destination_accesses.0 mask ≡ true)
-served_receives cached ns mask b q = go q.act where
-  go : (a : Act) → is_served_act a ≡ true → receives cached ns mask b q a ≡ true → (e : Element) × (a ≡ Depends Barrier e) × (has_some (dependency_of e).destination_accesses.0 mask ≡ true)
+supported_receives : (cached : Byte → Bool) (ns : List Node) (mask : ℕ) (b : Byte) (q : Node) → is_supported_act q.act ≡ true → receives cached ns mask b q q.act ≡ true → (e : Element) × (q.act ≡ Depends Barrier e) × (has_some (dependency_of e).destination_accesses.0 mask ≡ true)
+supported_receives cached ns mask b q = go q.act where
+  go : (a : Act) → is_supported_act a ≡ true → receives cached ns mask b q a ≡ true → (e : Element) × (a ≡ Depends Barrier e) × (has_some (dependency_of e).destination_accesses.0 mask ≡ true)
   go (Hosts x) h r = no r
   go (Waits s) h r = no r
   go (Signals s) h r = no r
@@ -77,7 +77,7 @@ makes_visible cached ns mask b q (element.Image e) m at has = no m
 -- ---- sights
 
 -- an element to the host's reads
-reads_parts : (a : Act) → is_served_act a ≡ true → leads_to_reads a ≡ true → (e : Element) × (a ≡ Depends Barrier e) × (is_memory e ≡ true) × (to_host a ≡ true) × (has_some (dependency_of e).destination_accesses.0 (host_mask Read) ≡ true)
+reads_parts : (a : Act) → is_supported_act a ≡ true → leads_to_reads a ≡ true → (e : Element) × (a ≡ Depends Barrier e) × (is_memory e ≡ true) × (to_host a ≡ true) × (has_some (dependency_of e).destination_accesses.0 (host_mask Read) ≡ true)
 reads_parts (Depends Barrier e) h l = let parts = and_parts _ _ l in (e, refl, h, parts.0, parts.1)
 reads_parts (Depends (SetOf v k) e) h l = no h
 reads_parts (Depends (AwaitOf v k) e) h l = no h
@@ -87,7 +87,7 @@ reads_parts (Signals s) h l = no l
 reads_parts (Runs c) h l = no l
 
 -- an element to later writes
-writes_parts : (a : Act) → is_served_act a ≡ true → leads_to_writes a ≡ true → (e : Element) × (a ≡ Depends Barrier e) × (is_memory e ≡ true) × (leads_to_transfers a ≡ true) × (has_some (dependency_of e).destination_accesses.0 (command_mask Write) ≡ true)
+writes_parts : (a : Act) → is_supported_act a ≡ true → leads_to_writes a ≡ true → (e : Element) × (a ≡ Depends Barrier e) × (is_memory e ≡ true) × (leads_to_transfers a ≡ true) × (has_some (dependency_of e).destination_accesses.0 (command_mask Write) ≡ true)
 writes_parts (Depends Barrier e) h l = let parts = and_parts _ _ l in (e, refl, h, parts.0, parts.1)
 writes_parts (Depends (SetOf v k) e) h l = no h
 writes_parts (Depends (AwaitOf v k) e) h l = no h
@@ -96,12 +96,12 @@ writes_parts (Waits s) h l = no l
 writes_parts (Signals s) h l = no l
 writes_parts (Runs c) h l = no l
 
-served_waits : (a : Act) → is_served_act a ≡ true → is_wait a ≡ false
-served_waits (Hosts x) h = refl
-served_waits (Waits s) h = no h
-served_waits (Signals s) h = refl
-served_waits (Runs c) h = refl
-served_waits (Depends r e) h = refl
+supported_waits : (a : Act) → is_supported_act a ≡ true → is_wait a ≡ false
+supported_waits (Hosts x) h = refl
+supported_waits (Waits s) h = no h
+supported_waits (Signals s) h = refl
+supported_waits (Runs c) h = refl
+supported_waits (Depends r e) h = refl
 
 -- a sight, by the acts
 abbrev sight : (Byte → Bool) → List Node → Node → Node → Act → Act → Access → Byte → Bool
@@ -111,7 +111,7 @@ seen_is : (cached : Byte → Bool) (ns : List Node) (w a : Node) (k : Access) (b
 unfolding seen
 seen_is cached ns w a k b = refl
 
-module _ (past : Past) (p : Point) (w : Node) (cached : Byte → Bool) (b : Byte) (command : is_command w.act ≡ true) (stands_w : Contains (nodes (p ∷ past)) w) (simple : (m : Node) → Contains (nodes (p ∷ past)) m → is_served_act m.act ≡ true) where
+module _ (past : Past) (p : Point) (w : Node) (cached : Byte → Bool) (b : Byte) (command : is_command w.act ≡ true) (stands_w : Contains (nodes (p ∷ past)) w) (simple : (m : Node) → Contains (nodes (p ∷ past)) m → is_supported_act m.act ≡ true) where
   abbrev ns : List Node
   ns = nodes (p ∷ past)
 
@@ -135,7 +135,7 @@ module _ (past : Past) (p : Point) (w : Node) (cached : Byte → Bool) (b : Byte
   ]
 
   available_is : (q : Node) → Contains ns q → (edge ns w q && sends cached ns q b q.act) ≡ true → Freed ns w q
-  available_is q c e = let h = and_parts (edge ns w q) (sends cached ns q b q.act) e in Sent c h.0 (sym (served_sends cached ns q b (simple q c)) ∙ h.1)
+  available_is q c e = let h = and_parts (edge ns w q) (sends cached ns q b q.act) e in Sent c h.0 (sym (supported_sends cached ns q b (simple q c)) ∙ h.1)
 
   freed_at : (m n : Node) → Freed ns w m → (m ≡ n) ⊎ Path ns m n → Freed ns w n
   freed_at m n f (inl same) = subst (λ (k : Node). Freed ns w k) same f
@@ -155,7 +155,7 @@ module _ (past : Past) (p : Point) (w : Node) (cached : Byte → Bool) (b : Byte
   is_reached m n c (inr q) = or_right (same_node m n) (before ns m n) (before_of_path ns numbers m n c (target ns m n q) q)
 
   freed_by_some : (n : Node) → Freed ns w n → (m : Node) × Contains ns m × ((edge ns w m && sends cached ns m b m.act) ≡ true) × ((same_node m n || before ns m n) ≡ true)
-  freed_by_some n f = let o = origin n f in (o.0, o.1, rw (o.2, served_sends cached ns o.0 b (simple o.0 o.1), o.3) refl, is_reached o.0 n o.1 o.4)
+  freed_by_some n f = let o = origin n f in (o.0, o.1, rw (o.2, supported_sends cached ns o.0 b (simple o.0 o.1), o.3) refl, is_reached o.0 n o.1 o.4)
 
   -- where the write is shown: by an element to the host's reads, and a path from it
   pub shown_begin : (n : Node) → Shown ns w n → (q : Node) × Freed ns w q × (leads_to_reads q.act ≡ true) × Path ns q n
@@ -172,7 +172,7 @@ module _ (past : Past) (p : Point) (w : Node) (cached : Byte → Bool) (b : Byte
         let v1 = and_parts (before ns q a && to_host q.act && receives cached ns (host_mask Read) b q q.act) _ visible in
         let v2 = and_parts (before ns q a && to_host q.act) (receives cached ns (host_mask Read) b q q.act) v1.0 in
         let v3 = and_parts (before ns q a) (to_host q.act) v2.0 in
-        let e = served_receives cached ns (host_mask Read) b q (simple q cq) v2.1 in
+        let e = supported_receives cached ns (host_mask Read) b q (simple q cq) v2.1 in
         shown_along q a f (leads q.act e.0 e.1 v3.1 e.2) (path_of_before ns numbers q a cq stands_a v3.0)
       where
         leads : (act : Act) (e : Element) → act ≡ Depends Barrier e → to_host act ≡ true → has_some (dependency_of e).destination_accesses.0 (host_mask Read) ≡ true → leads_to_reads act ≡ true
@@ -218,12 +218,12 @@ module _ (past : Past) (p : Point) (w : Node) (cached : Byte → Bool) (b : Byte
         let f : Freed ns w q = freed_at m q (available_is m cm sent) (reaches m q cm cq reached) in
         let v = and_parts (edge ns q a) (receives cached ns (command_mask Write) b q q.act || is_wait q.act || is_host w.act && is_submit q.act) visible in
         let r : receives cached ns (command_mask Write) b q q.act ≡ true = received v.1 in
-        let e = served_receives cached ns (command_mask Write) b q (simple q cq) r in
+        let e = supported_receives cached ns (command_mask Write) b q (simple q cq) r in
         record { node = q; passes = leads q.act e.0 e.1 (into_command ns q n on d (simple q cq) v.0) e.2; freed = f }
       where
         received : (receives cached ns (command_mask Write) b q q.act || is_wait q.act || is_host w.act && is_submit q.act) ≡ true → receives cached ns (command_mask Write) b q q.act ≡ true
         received e = elim (or_cases (receives cached ns (command_mask Write) b q q.act || is_wait q.act) (is_host w.act && is_submit q.act) e) [
-          | inl some ↦ elim (or_cases (receives cached ns (command_mask Write) b q q.act) (is_wait q.act) some) [ inl r ↦ r | inr waits ↦ clash waits (served_waits q.act (simple q cq)) ]
+          | inl some ↦ elim (or_cases (receives cached ns (command_mask Write) b q q.act) (is_wait q.act) some) [ inl r ↦ r | inr waits ↦ clash waits (supported_waits q.act (simple q cq)) ]
           | inr host ↦ clash (and_parts (is_host w.act) (is_submit q.act) host).0 (command_hosts w.act command)
         ]
 

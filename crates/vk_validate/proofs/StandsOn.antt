@@ -16,7 +16,7 @@ use Rattle.vk_model.specs.Node.{Node, Act, Hosts, Signals, Runs, Depends, Barrie
 use Rattle.vk_model.specs.Edge.{is_host, signaled_by, host_waits}
 use Rattle.vk_model.specs.Before.{IsNumbered}
 use Rattle.vk_validate.specs.Cleared.{IsCleared}
-use Rattle.vk_validate.specs.Served.{is_served_action, is_memory}
+use Rattle.vk_validate.specs.Supported.{is_supported_action, is_memory}
 use Rattle.vk_validate.specs.Standing.{Standing, standing, after_action, on_transfers, available_at, with_dependency, after_elements, signal_at, joined, Signaled, after_waits, awaited, after_wait, after_signal}
 use Rattle.vk_validate.specs.declared.clocks.Clock.{Clock}
 use Rattle.vk_validate.specs.declared.clocks.Order.{Order}
@@ -24,10 +24,10 @@ use Rattle.vk_validate.proofs.Members.{none_in, contains-cons, contains-head, co
 use Rattle.vk_validate.proofs.Forms.{entry_cases, command_cases, action_cases}
 use Rattle.vk_validate.proofs.Plain.{IsPlain, Placed, LastSubmit}
 use Rattle.vk_validate.proofs.Growth.{number_below, numbered}
-use Rattle.vk_validate.proofs.Acts.{with_member, with_keeps, on_queue_0, last_queue, is_served_act, served_node}
+use Rattle.vk_validate.proofs.Acts.{with_member, with_keeps, on_queue_0, last_queue, is_supported_act, supported_node}
 use Rattle.vk_validate.proofs.Ordered.{Submitted, submitted}
 use Rattle.vk_validate.proofs.Places.{IsApart, IsElsewhere, elsewhere}
-use Rattle.vk_validate.proofs.Reach.{served_of}
+use Rattle.vk_validate.proofs.Reach.{supported_of}
 use Rattle.vk_validate.proofs.Freed.{Freed, Shown, Via, ShownVia, freed_stands, freed_later, shown_via, shown_freed}
 use Rattle.vk_validate.proofs.Waits.{Under}
 use Rattle.vk_validate.proofs.Clocked.{Means}
@@ -109,11 +109,11 @@ module _ (past : Past) (cleared : IsCleared past) (plain : IsPlain past) (s : St
     | inr new ↦ absurd (let bad : None ≡ Some (t, v) = sym (none m.act new.1) ∙ e in cc)
   ]
 
-  simple : (m : Node) → Contains (nodes past) m → is_served_act m.act ≡ true
-  simple = served_node past (served_of past cleared)
+  simple : (m : Node) → Contains (nodes past) m → is_supported_act m.act ≡ true
+  simple = supported_node past (supported_of past cleared)
 
   on_0 : (m : Node) → Contains (nodes past) m → is_host m.act ≡ false → m.point.queue ≡ 0
-  on_0 = on_queue_0 past (served_of past cleared) plain
+  on_0 = on_queue_0 past (supported_of past cleared) plain
 
   -- ---- a host entry
   pub after_host : (p : Point) (x : Entry) → signaled_by (Hosts x) ≡ None → (ws : List SemaphoreValue) → host_waits x ≡ map (λ (w : SemaphoreValue). (w.semaphore, w.value)) ws
@@ -163,10 +163,10 @@ module _ (past : Past) (cleared : IsCleared past) (plain : IsPlain past) (s : St
 
   module _ (p : Point) (last : LastSubmit p.entry p.queue past) where
     queue : p.queue ≡ 0
-    queue = last_queue p.entry p.queue past (served_of past cleared) last
+    queue = last_queue p.entry p.queue past (supported_of past cleared) last
 
     after : Submitted p.entry (nodes past)
-    after = submitted p.entry p.queue past (served_of past cleared) last
+    after = submitted p.entry p.queue past (supported_of past cleared) last
 
     abbrev at_run : Cmd → Point
     at_run c = record p { action = Run c }
@@ -286,8 +286,8 @@ stands [] cleared plain apart = record {
 } where
   zero_low : 0 ≤ 0
   zero_low = omega arith
-stands (p ∷ past) cleared plain apart = next p.action cleared.0.served plain.0 apart.0 (stands past cleared.1 plain.1 apart.1) where
-  next : (d : Action) → is_served_action d ≡ true → Placed (host_of d) p past → IsElsewhere (record p { action = d }) past → IsStanding (standing past) past → IsStanding (after_action past d (standing past)) (record p { action = d } ∷ past)
+stands (p ∷ past) cleared plain apart = next p.action cleared.0.supported plain.0 apart.0 (stands past cleared.1 plain.1 apart.1) where
+  next : (d : Action) → is_supported_action d ≡ true → Placed (host_of d) p past → IsElsewhere (record p { action = d }) past → IsStanding (standing past) past → IsStanding (after_action past d (standing past)) (record p { action = d } ∷ past)
   next = let P : Action → Type 0 = λ d. Placed (host_of d) p past → IsElsewhere (record p { action = d }) past → IsStanding (standing past) past → IsStanding (after_action past d (standing past)) (record p { action = d } ∷ past) in
       action_cases P
       (entry_cases (λ x. P (Host x))

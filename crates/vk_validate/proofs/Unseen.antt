@@ -21,23 +21,23 @@ use Rattle.vk_model.specs.Seen.{Read, Write}
 use Rattle.vk_model.specs.Access.{raw, waw, reads, writes, sees, precedes, is_in, host_reads}
 use Rattle.vk_model.specs.RulesBytes.{breaks_hazard_raw, breaks_hazard_waw}
 use Rattle.vk_validate.specs.Cleared.{IsCleared}
-use Rattle.vk_validate.specs.Served.{is_served, is_served_action}
+use Rattle.vk_validate.specs.Supported.{is_supported, is_supported_action}
 use Rattle.vk_validate.specs.Standing.{standing}
 use Rattle.vk_validate.specs.Tabled.{last_writer}
 use Rattle.vk_validate.specs.Tests.{reads_unseen, overwrites_unseen}
 use Rattle.vk_validate.proofs.Members.{none_in, contains-cons, contains-head, contains-tail, all_passes, some_member, member_passes, any_map}
 use Rattle.vk_validate.proofs.Truths.{no, clash, bool_same}
 use Rattle.vk_validate.proofs.Forms.{entry_cases, command_cases, action_cases}
-use Rattle.vk_validate.proofs.Pasts.{served-next}
+use Rattle.vk_validate.proofs.Pasts.{supported-next}
 use Rattle.vk_validate.proofs.Plain.{IsPlain, Placed, LastSubmit}
 use Rattle.vk_validate.proofs.Growth.{number_below, numbered}
 use Rattle.vk_validate.proofs.NextNodes.{next_nodes-lined}
-use Rattle.vk_validate.proofs.Acts.{on_queue_0, last_queue, served_acts, served_node, is_served_act, batch_acts}
+use Rattle.vk_validate.proofs.Acts.{on_queue_0, last_queue, supported_acts, supported_node, is_supported_act, batch_acts}
 use Rattle.vk_validate.proofs.Ordered.{host_edge, hosts_follow}
 use Rattle.vk_validate.proofs.Hazards.{hazard_none, lined_act, reads_none, writes_none, fill-targets, idle_elements}
 use Rattle.vk_validate.proofs.Spans.{one_of, some_of}
 use Rattle.vk_validate.proofs.Places.{IsApart}
-use Rattle.vk_validate.proofs.Reach.{served_of}
+use Rattle.vk_validate.proofs.Reach.{supported_of}
 use Rattle.vk_validate.proofs.Freed.{Shown, Via, ShownVia, leads_to_transfers, leads_to_writes, shown_stands}
 use Rattle.vk_validate.proofs.Causes.{meet_transfers}
 use Rattle.vk_validate.proofs.Clocked.{Means, stage_edge, shown_by}
@@ -59,8 +59,8 @@ module _ (past : Past) (cleared : IsCleared past) (plain : IsPlain past) (apart 
   abbrev readable : ℕ
   readable = (standing past).order.host.readable
 
-  served_now : is_served (reading ∷ past) ≡ true
-  served_now = served-next reading past refl (served_of past cleared)
+  supported_now : is_supported (reading ∷ past) ≡ true
+  supported_now = supported-next reading past refl (supported_of past cleared)
 
   -- a read sees a write where it comes after the number of its point
   read_sees : (x : Node) (j : ℕ) (c : Cmd) (byte : Byte) → IsCommandAt past x j → x.act ≡ Runs c → (sees (reading ∷ past) x reader Read byte ≡ true) ↔ (j < readable)
@@ -78,7 +78,7 @@ module _ (past : Past) (cleared : IsCleared past) (plain : IsPlain past) (apart 
     h = command_stands past x j at
 
     seen_it : (sees (reading ∷ past) x reader Read byte ≡ true) ↔ Shown (reader ∷ nodes past) x reader
-    seen_it = seen_by_read past reading x (λ c. is_cached (reading ∷ past) (resource_at c)) byte h.1 (contains-tail reader (nodes past) x h.0) (served_node (reading ∷ past) served_now) reader (entry.Read b o n) refl (contains-head reader (nodes past)) (uncached (reading ∷ past) served_now (resource_at byte)) c is
+    seen_it = seen_by_read past reading x (λ c. is_cached (reading ∷ past) (resource_at c)) byte h.1 (contains-tail reader (nodes past) x h.0) (supported_node (reading ∷ past) supported_now) reader (entry.Read b o n) refl (contains-head reader (nodes past)) (uncached (reading ∷ past) supported_now (resource_at byte)) c is
 
     comes : ShownVia (nodes past) x is_host → Shown (reader ∷ nodes past) x reader
     comes v = shown_by reader (nodes past) refl (numbered past) x j v.node v.shown (host_edge (nodes past) v.node reader (number_below (nodes past) (numbered past) v.node (shown_stands (nodes past) x v.node v.shown)) (hosts_follow v.node reader v.passes refl))
@@ -134,8 +134,8 @@ module _ (past : Past) (cleared : IsCleared past) (plain : IsPlain past) (apart 
   abbrev size : ℕ
   size = fill_size (buffer_size past b) o n
 
-  served_then : is_served (writing ∷ past) ≡ true
-  served_then = served-next writing past refl (served_of past cleared)
+  supported_then : is_supported (writing ∷ past) ≡ true
+  supported_then = supported-next writing past refl (supported_of past cleared)
 
   -- elements before the transfers come before the command
   edge_to : (q : Node) → Contains (writer ∷ nodes past) q → leads_to_transfers q.act ≡ true → edge (writer ∷ nodes past) q writer ≡ true
@@ -144,8 +144,8 @@ module _ (past : Past) (cleared : IsCleared past) (plain : IsPlain past) (apart 
     | inr old ↦ (
         let is = leads_element q.act (inl leads) in
         let hosts = element_hosts q.act is in
-        let e = barrier_of q.act (served_node past (served_of past cleared) q old) is in
-        let on : q.point.queue ≡ p.queue = on_queue_0 past (served_of past cleared) plain q old hosts.0 ∙ sym (last_queue p.entry p.queue past (served_of past cleared) last) in
+        let e = barrier_of q.act (supported_node past (supported_of past cleared) q old) is in
+        let on : q.point.queue ≡ p.queue = on_queue_0 past (supported_of past cleared) plain q old hosts.0 ∙ sym (last_queue p.entry p.queue past (supported_of past cleared) last) in
         stage_edge (writer ∷ nodes past) q writer (number_below (nodes past) (numbered past) q old) (queue_stages q writer (dependency_of e.0).destination_stages.0 transfer_stage hosts.0 refl on (rw is refl) (rw hosts.1 refl) (ap second_scope e.1) refl (meet_transfers (dependency_of e.0).destination_stages.0 transfer_stage (sym (ap leads_to_transfers e.1) ∙ leads) refl)))
   ]
 
@@ -159,7 +159,7 @@ module _ (past : Past) (cleared : IsCleared past) (plain : IsPlain past) (apart 
     h = command_stands past x j at
 
     seen_it : (sees (writing ∷ past) x writer Write byte ≡ true) ↔ Via (writer ∷ nodes past) x leads_to_writes
-    seen_it = seen_by_write past writing x (λ c. is_cached (writing ∷ past) (resource_at c)) byte h.1 (contains-tail writer (nodes past) x h.0) (served_node (writing ∷ past) served_then) (length (nodes past)) writing (cmd.Fill b o n word) (contains-head writer (nodes past)) edge_to c is
+    seen_it = seen_by_write past writing x (λ c. is_cached (writing ∷ past) (resource_at c)) byte h.1 (contains-tail writer (nodes past) x h.0) (supported_node (writing ∷ past) supported_then) (length (nodes past)) writing (cmd.Fill b o n word) (contains-head writer (nodes past)) edge_to c is
 
   abbrev overwrites : Node → Byte → Bool
   overwrites x c = is_in c (writes (writing ∷ past) x) && not (sees (writing ∷ past) x writer Write c)
@@ -203,7 +203,7 @@ module _ (past : Past) (cleared : IsCleared past) (plain : IsPlain past) (apart 
 
 -- ---- all forms
 
-module _ (past : Past) (p : Point) (cleared : IsCleared past) (now : is_served_action p.action ≡ true) (plain : IsPlain (p ∷ past)) (apart : IsApart past) where
+module _ (past : Past) (p : Point) (cleared : IsCleared past) (now : is_supported_action p.action ≡ true) (plain : IsPlain (p ∷ past)) (apart : IsApart past) where
   -- nodes that read nothing, and such as write nothing, have no hazard of these
   unread : (pt : Point) (y x : Node) → reads (pt ∷ past) y ≡ [] → (precedes x y && raw (pt ∷ past) x y) ≡ false
   unread pt y x e = rw e (and-false (precedes x y))
@@ -211,15 +211,15 @@ module _ (past : Past) (p : Point) (cleared : IsCleared past) (now : is_served_a
   unwritten : (pt : Point) (y x : Node) → writes (pt ∷ past) y ≡ [] → (precedes x y && waw (pt ∷ past) x y) ≡ false
   unwritten pt y x e = rw e (and-false (precedes x y))
 
-  quiet_raw : (d : Action) → is_served_action d ≡ true → list_all (λ a. not (is_host a)) (acts d) ≡ true → breaks_hazard_raw past (record p { action = d }) ≡ false
+  quiet_raw : (d : Action) → is_supported_action d ≡ true → list_all (λ a. not (is_host a)) (acts d) ≡ true → breaks_hazard_raw past (record p { action = d }) ≡ false
   quiet_raw d h none = hazard_none raw past (record p { action = d }) (λ y cy x cx.
       let m = lined_act (record p { action = d }) (length (nodes past)) (acts d) y cy in
-      unread (record p { action = d }) y x (reads_none (record p { action = d } ∷ past) y.point.queue y.act (all_passes is_served_act (acts d) y.act (served_acts d h) m.0) (not-true (is_host y.act) (all_passes (λ a. not (is_host a)) (acts d) y.act none m.0))))
+      unread (record p { action = d }) y x (reads_none (record p { action = d } ∷ past) y.point.queue y.act (all_passes is_supported_act (acts d) y.act (supported_acts d h) m.0) (not-true (is_host y.act) (all_passes (λ a. not (is_host a)) (acts d) y.act none m.0))))
 
-  quiet_waw : (d : Action) → is_served_action d ≡ true → list_all (λ a. not (is_command a)) (acts d) ≡ true → breaks_hazard_waw past (record p { action = d }) ≡ false
+  quiet_waw : (d : Action) → is_supported_action d ≡ true → list_all (λ a. not (is_command a)) (acts d) ≡ true → breaks_hazard_waw past (record p { action = d }) ≡ false
   quiet_waw d h none = hazard_none waw past (record p { action = d }) (λ y cy x cx.
       let m = lined_act (record p { action = d }) (length (nodes past)) (acts d) y cy in
-      unwritten (record p { action = d }) y x (writes_none (record p { action = d } ∷ past) y.point.queue y.act (all_passes is_served_act (acts d) y.act (served_acts d h) m.0) (not-true (is_command y.act) (all_passes (λ a. not (is_command a)) (acts d) y.act none m.0))))
+      unwritten (record p { action = d }) y x (writes_none (record p { action = d } ∷ past) y.point.queue y.act (all_passes is_supported_act (acts d) y.act (supported_acts d h) m.0) (not-true (is_command y.act) (all_passes (λ a. not (is_command a)) (acts d) y.act none m.0))))
 
   host_raw : (x : Entry) → host_reads x ≡ [] → breaks_hazard_raw past (record p { action = Host x }) ≡ false
   host_raw x none = hazard_none raw past (record p { action = Host x }) (λ y cy z cz. elim (contains-cons (record { number = length (nodes past); point = record p { action = Host x }; act = Hosts x }) [] y cy) [

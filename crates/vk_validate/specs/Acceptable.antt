@@ -3,9 +3,9 @@ use Rattle.std.specs.Prelude.{◌≡◌, List, true, None}
 use Rattle.vk_model.specs.declared.entry.Entry.{Entry}
 use Rattle.vk_model.specs.Order.{plain_order}
 use Rattle.vk_model.specs.Rules.{first_fault}
-use Rattle.vk_validate.specs.Served.{is_served}
+use Rattle.vk_validate.specs.Supported.{is_supported}
 
--- A trace of forms that are served, of which no point breaks a rule.
+-- A trace of supported forms, of which no point breaks a rule.
 pub record IsAcceptable (entries : List Entry) : Type 0 where
-  pub served : is_served (plain_order entries) ≡ true
+  pub supported : is_supported (plain_order entries) ≡ true
   pub faultless : first_fault entries ≡ None

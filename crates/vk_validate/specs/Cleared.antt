@@ -11,10 +11,10 @@ use Rattle.vk_model.specs.RulesRanges.{breaks_range, breaks_align}
 use Rattle.vk_model.specs.RulesLayouts.{breaks_stage}
 use Rattle.vk_model.specs.RulesSync.{breaks_signal_value, breaks_wait_never}
 use Rattle.vk_model.specs.RulesBytes.{breaks_limit}
-use Rattle.vk_validate.specs.Served.{is_served_action}
+use Rattle.vk_validate.specs.Supported.{is_supported_action}
 use Rattle.vk_validate.specs.Tests.{names_dead, lacks_usage, reads_unmapped, maps_local, reads_unseen, overwrites_unseen, reads_unwritten}
 
--- The test of a rule, of a point of a form that is served. Such a point can't break the rules that have none.
+-- The test of a rule, of a point of a supported form. Such a point can't break the rules that have none.
 unfoldable pub tests : Rule → Past → Point → Bool
 tests rule.NewId past p = breaks_new_id past p
 tests rule.LiveId past p = names_dead past p.action
@@ -39,9 +39,9 @@ tests _ past p = false
 unfoldable pub first_test : Past → Point → Option Rule
 first_test past p = find (λ r. tests r past p) rules
 
--- No test finds a point, and all are of forms that are served.
+-- No test finds a point, and all are of supported forms.
 pub record IsClear (past : Past) (p : Point) : Type 0 where
-  pub served : is_served_action p.action ≡ true
+  pub supported : is_supported_action p.action ≡ true
   pub clear : first_test past p ≡ None
 
 -- The same of all points of a past.

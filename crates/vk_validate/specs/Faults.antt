@@ -1,11 +1,11 @@
--- The first fault that is told of a trace, which may have points of forms that aren't served.
+-- The first fault that is told of a trace, which may have points of forms that aren't supported.
 use Rattle.std.specs.Prelude.{[], ◌∷◌, Option, Some, None, option_map, if◌then◌else◌}
 use Rattle.vk_model.specs.declared.rule.At.{At}
 use Rattle.vk_model.specs.declared.rule.Rule.{Rule}
 use Rattle.vk_model.specs.declared.rule.Rule.TheVariants as rule
 use Rattle.vk_model.specs.Point.{Past, Point, at_of}
 use Rattle.vk_model.specs.Rules.{first_rule}
-use Rattle.vk_validate.specs.Served.{is_served_action}
+use Rattle.vk_validate.specs.Supported.{is_supported_action}
 use Rattle.vk_validate.specs.Cleared.{first_test}
 
 -- The first point of a past of which a rule is told, with that rule.
@@ -13,9 +13,9 @@ abbrev pub fault_by : (Past → Point → Option Rule) → Past → Option (At �
 fault_by rule_of [] = None
 fault_by rule_of (p ∷ past) = elim (fault_by rule_of past) [ Some f ↦ Some f | None ↦ option_map (λ r. (at_of p, r)) (rule_of past p) ]
 
--- The rule that is told of a point: the first that it breaks, or LIVE_ID where its form isn't served.
+-- The rule that is told of a point: the first that it breaks, or LIVE_ID where its form isn't supported.
 abbrev pub told_rule : Past → Point → Option Rule
-told_rule past p = if is_served_action p.action then first_rule past p else Some rule.LiveId
+told_rule past p = if is_supported_action p.action then first_rule past p else Some rule.LiveId
 
 -- What is told of a past.
 unfoldable pub told_fault : Past → Option (At × Rule)
@@ -23,7 +23,7 @@ told_fault past = fault_by told_rule past
 
 -- The same by the first test that finds a point.
 abbrev pub tested_rule : Past → Point → Option Rule
-tested_rule past p = if is_served_action p.action then first_test past p else Some rule.LiveId
+tested_rule past p = if is_supported_action p.action then first_test past p else Some rule.LiveId
 
 -- What is told of a past by the tests.
 unfoldable pub tested_fault : Past → Option (At × Rule)

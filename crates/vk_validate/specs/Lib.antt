@@ -1,4 +1,4 @@
-pub mod Served
+pub mod Supported
 pub mod Told
 pub mod Laid
 pub mod Standing

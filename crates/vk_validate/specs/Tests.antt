@@ -1,4 +1,4 @@
--- What is tested of a point, where the forms that are served need less than the rule says.
+-- What is tested of a point, where the supported forms need less than the rule says.
 use Rattle.std.specs.Prelude.{◌+◌, Bool, false, not, ◌==◌, is_some, is_none, nat_le}
 use Rattle.std.specs.List.{list_any}
 use Rattle.vk_model.specs.declared.command.Cmd.{Cmd}

@@ -7,7 +7,7 @@ ghost use Rattle.vk_model.specs.Point.{Past, Host, Run};
 ghost use Rattle.vk_model.specs.Objects.{made, buffer, initial};
 ghost use Rattle.vk_model.specs.Order.{counter, signaled};
 ghost use Rattle.vk_model.specs.Moves.{buffer_size, fill_size};
-ghost use Rattle.vk_validate.specs.Served.{is_served_action, is_served_entry, is_served_command};
+ghost use Rattle.vk_validate.specs.Supported.{is_supported_action, is_supported_entry, is_supported_command};
 ghost use Rattle.vk_validate.specs.Told.{action_of, point_of, past};
 ghost use Rattle.vk_validate.specs.Tabled.{was_mapped, last_writer};
 ghost use Rattle.vk_validate.specs.Fits.{Fits};
@@ -177,10 +177,10 @@ impl<'a> History<'a> {
         }
     }
 
-    /// Takes the next point, which is of a form that is served. After an error the history begins anew.
+    /// Takes the next point, which is of a supported form. After an error the history begins anew.
     pub fn advance(&mut self, step: &Step<'a>) -> Result<(), AllocError>
         requires here { slice_get self.old.points self.old.count ≡ Some step.now }
-        requires served { IsTrue (is_served_action (action_of step.now.action)) }
+        requires supported { IsTrue (is_supported_action (action_of step.now.action)) }
         ensures { OnOk result (self.new ≡ record self.old { count = self.old.count + 1 }) }
     {
         let points = self.points;
@@ -199,7 +199,7 @@ impl<'a> History<'a> {
 
     /// What the next point changes.
     fn change(&self, step: &Step<'a>) -> Change<'a>
-        requires { IsTrue (is_served_action (action_of step.now.action)) }
+        requires { IsTrue (is_supported_action (action_of step.now.action)) }
         ensures { Fits result (past self.now) (action_of step.now.action) }
     {
         match step.action {
@@ -214,7 +214,7 @@ impl<'a> History<'a> {
     }
 
     fn change_by_entry(&self, entry: &'a Entry) -> Change<'a>
-        requires { IsTrue (is_served_entry entry.now) }
+        requires { IsTrue (is_supported_entry entry.now) }
         ensures { Fits result (past self.now) (Host entry.now) }
     {
         match entry {
@@ -226,7 +226,7 @@ impl<'a> History<'a> {
     }
 
     fn change_by_command(&self, command: &Cmd) -> Change<'a>
-        requires { IsTrue (is_served_command command.now) }
+        requires { IsTrue (is_supported_command command.now) }
         ensures { Fits result (past self.now) (Run command.now) }
     {
         match command {

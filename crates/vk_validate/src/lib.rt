@@ -9,7 +9,7 @@ mod clocks;
 mod history;
 mod rules;
 mod scopes;
-mod served;
+mod supported;
 mod steps;
 mod tables;
 mod timelines;

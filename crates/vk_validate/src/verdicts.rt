@@ -1,14 +1,14 @@
 ghost use Rattle.std.specs.Prelude.{◌≡◌, IfOk, IsTrue, None};
 ghost use Rattle.vk_model.specs.Order.{plain_order};
 ghost use Rattle.vk_model.specs.Rules.{first_fault};
-ghost use Rattle.vk_validate.specs.Served.{is_served};
+ghost use Rattle.vk_validate.specs.Supported.{is_supported};
 ghost use Rattle.vk_validate.specs.Faults.{told_fault, tested_fault};
 ghost use Rattle.vk_validate.specs.Verdicts.{told, IsAbout};
 ghost use Rattle.vk_validate.specs.Told.{past_of};
 
 use crate::history::History;
 use crate::rules::first_rule;
-use crate::served::is_served;
+use crate::supported::is_supported;
 use crate::steps::{Step, reference_order};
 use std::alloc::{AllocError, Global};
 use std::marker::Model;
@@ -37,7 +37,7 @@ impl<'a> Accepted<'a> {
     /// The entries.
     pub fn entries(&self) -> &'a [Entry]
         ensures same { result.now ≡ self.now }
-        ensures served { IsTrue (is_served (plain_order self.now)) }
+        ensures supported { IsTrue (is_supported (plain_order self.now)) }
         ensures faultless { first_fault self.now ≡ None }
     {
         self.entries
@@ -56,12 +56,12 @@ pub enum Verdict<'a> {
 /// Tells whether a trace breaks a rule, and which it breaks first. It fails only for want of memory.
 ///
 /// The points of a trace are its entries, in order, and after a submit the waits, the commands and the
-/// signals of its batches. The forms that are served so far: dedicated buffers on memory types other
+/// signals of its batches. The forms that are supported so far: dedicated buffers on memory types other
 /// than 2, semaphores, submits on queue 0, maps, reads and waits of the host; fills and barriers with
 /// memory elements alone; signals of batches. A point of any other form is refused by `Rule::LiveId`.
 pub fn validate<'a>(alloc: Global, entries: &'a [Entry]) -> Result<Verdict<'a>, AllocError>
     ensures told { IfOk result (λ v. told v ≡ told_fault (plain_order entries.now)) }
-    ensures exact { IfOk result (λ v. IsTrue (is_served (plain_order entries.now)) → told v ≡ first_fault entries.now) }
+    ensures exact { IfOk result (λ v. IsTrue (is_supported (plain_order entries.now)) → told v ≡ first_fault entries.now) }
     ensures same { IfOk result (IsAbout entries.now) }
 {
     let points = reference_order(alloc, entries)?;
@@ -77,7 +77,7 @@ fn first_fault<'a>(alloc: Global, points: &'a [Step<'a>]) -> Result<Option<(At, 
 {
     let mut history = History::new(alloc, points);
     for step in points {
-        if !is_served(step) {
+        if !is_supported(step) {
             return Ok(Some((step.at(), Rule::LiveId)));
         }
         if let Some(rule) = first_rule(&history, step) {

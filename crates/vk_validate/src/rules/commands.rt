@@ -1,7 +1,7 @@
 ghost use Rattle.std.specs.Prelude.{◌≡◌, ◌%◌, ◌==◌, not, IsTrue, ◌||◌, nat_lt, nat_le, ◌+◌};
 ghost use Rattle.vk_model.specs.Point.{Past};
 ghost use Rattle.vk_model.specs.RulesRanges as ranges;
-ghost use Rattle.vk_validate.specs.Served.{is_served_action, is_served_command};
+ghost use Rattle.vk_validate.specs.Supported.{is_supported_action, is_supported_command};
 ghost use Rattle.vk_validate.specs.Told.{action_of, point_of, past};
 
 use crate::history::History;
@@ -10,7 +10,7 @@ use vk_model::{Cmd, Entry, Length};
 
 /// RANGE: bytes outside the buffer, or to the end from the end or past it.
 pub fn breaks_range(history: &History<'_>, step: &Step<'_>) -> bool
-    requires { IsTrue (is_served_action (action_of step.now.action)) }
+    requires { IsTrue (is_supported_action (action_of step.now.action)) }
     ensures { result ≡ ranges.breaks_range (past history.now) (point_of step.now) }
 {
     match step.action {
@@ -28,7 +28,7 @@ pub fn breaks_range(history: &History<'_>, step: &Step<'_>) -> bool
 
 #[tactic(auto, using(crate::proofs::Fills::fill_range))]
 fn ends_past_buffer(history: &History<'_>, command: &Cmd) -> bool
-    requires { IsTrue (is_served_command command.now) }
+    requires { IsTrue (is_supported_command command.now) }
     ensures { result ≡ ranges.command_past (past history.now) command.now }
 {
     match command {
@@ -54,7 +54,7 @@ fn ends_past(buffer_size: u64, offset: u64, size: Length) -> bool
 
 /// ALIGN: a fill whose offset or size isn't a multiple of 4.
 pub fn breaks_align(step: &Step<'_>) -> bool
-    requires { IsTrue (is_served_action (action_of step.now.action)) }
+    requires { IsTrue (is_supported_action (action_of step.now.action)) }
     ensures { (past : Past) → result ≡ ranges.breaks_align past (point_of step.now) }
 {
     match step.action {

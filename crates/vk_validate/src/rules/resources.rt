@@ -6,7 +6,7 @@ ghost use Rattle.vk_model.specs.Objects.{initial, buffer};
 ghost use Rattle.vk_model.specs.RulesIds as ids;
 ghost use Rattle.vk_model.specs.RulesSizes as sizes;
 ghost use Rattle.vk_model.specs.RulesMapping as mapping;
-ghost use Rattle.vk_validate.specs.Served.{is_served_action, is_served_entry, is_served_command};
+ghost use Rattle.vk_validate.specs.Supported.{is_supported_action, is_supported_entry, is_supported_command};
 ghost use Rattle.vk_validate.specs.Told.{action_of, point_of, past};
 ghost use Rattle.vk_validate.specs.Tests.{names_dead, lacks_usage, reads_unmapped, is_on_type_0, maps_local};
 
@@ -26,7 +26,7 @@ const KNOWN_USAGES: u32 = 3;
 
 /// NEW_ID: the id made was made before.
 pub fn breaks_new_id(history: &History<'_>, step: &Step<'_>) -> bool
-    requires { IsTrue (is_served_action (action_of step.now.action)) }
+    requires { IsTrue (is_supported_action (action_of step.now.action)) }
     ensures { result ≡ ids.breaks_new_id (past history.now) (point_of step.now) }
 {
     match step.action {
@@ -39,7 +39,7 @@ pub fn breaks_new_id(history: &History<'_>, step: &Step<'_>) -> bool
 
 /// LIVE_ID: an id named isn't an object of the kind asked.
 pub fn breaks_live_id(history: &History<'_>, step: &Step<'_>) -> bool
-    requires { IsTrue (is_served_action (action_of step.now.action)) }
+    requires { IsTrue (is_supported_action (action_of step.now.action)) }
     ensures { result ≡ names_dead (past history.now) (action_of step.now.action) }
 {
     match step.action {
@@ -51,7 +51,7 @@ pub fn breaks_live_id(history: &History<'_>, step: &Step<'_>) -> bool
 }
 
 fn names_dead(history: &History<'_>, entry: &Entry) -> bool
-    requires { IsTrue (is_served_entry entry.now) }
+    requires { IsTrue (is_supported_entry entry.now) }
     ensures { result ≡ names_dead (past history.now) (Host entry.now) }
 {
     match entry {
@@ -83,7 +83,7 @@ fn is_no_buffer(history: &History<'_>, id: u32) -> bool
 }
 
 fn runs_on_dead(history: &History<'_>, command: &Cmd) -> bool
-    requires { IsTrue (is_served_command command.now) }
+    requires { IsTrue (is_supported_command command.now) }
     ensures { result ≡ names_dead (past history.now) (Run command.now) }
 {
     match command {
@@ -94,7 +94,7 @@ fn runs_on_dead(history: &History<'_>, command: &Cmd) -> bool
 
 /// SIZE: a buffer, a read or a fill of no bytes, or a wait for nothing.
 pub fn breaks_size(history: &History<'_>, step: &Step<'_>) -> bool
-    requires { IsTrue (is_served_action (action_of step.now.action)) }
+    requires { IsTrue (is_supported_action (action_of step.now.action)) }
     ensures { result ≡ sizes.breaks_size (past history.now) (point_of step.now) }
 {
     match step.action {
@@ -107,7 +107,7 @@ pub fn breaks_size(history: &History<'_>, step: &Step<'_>) -> bool
 }
 
 fn is_empty_command(history: &History<'_>, command: &Cmd) -> bool
-    requires { IsTrue (is_served_command command.now) }
+    requires { IsTrue (is_supported_command command.now) }
     ensures { result ≡ sizes.bad_command_size (past history.now) command.now }
 {
     match command {
@@ -135,7 +135,7 @@ fn fills_none(buffer_size: u64, offset: u64, size: Length) -> bool
 
 /// USAGE: a buffer for nothing or for what isn't known, or a fill of one that isn't a destination.
 pub fn breaks_usage(history: &History<'_>, step: &Step<'_>) -> bool
-    requires { IsTrue (is_served_action (action_of step.now.action)) }
+    requires { IsTrue (is_supported_action (action_of step.now.action)) }
     ensures { result ≡ lacks_usage (past history.now) (action_of step.now.action) }
 {
     match step.action {
@@ -162,7 +162,7 @@ fn is_no_destination(history: &History<'_>, id: u32) -> bool
 
 /// MEMORY_TYPE: a type that there isn't. A buffer is allowed on each.
 pub fn breaks_memory_type(step: &Step<'_>) -> bool
-    requires { IsTrue (is_served_action (action_of step.now.action)) }
+    requires { IsTrue (is_supported_action (action_of step.now.action)) }
     ensures { (past : Past) → result ≡ sizes.breaks_memory_type past (point_of step.now) }
 {
     match step.action {
@@ -177,7 +177,7 @@ pub fn breaks_memory_type(step: &Step<'_>) -> bool
 /// MEMORY_SIZE: a buffer that asks for more than a memory object can have. It asks for its size rounded
 /// up to 16, which passes the limit just where the size does.
 pub fn breaks_memory_size(step: &Step<'_>) -> bool
-    requires { IsTrue (is_served_action (action_of step.now.action)) }
+    requires { IsTrue (is_supported_action (action_of step.now.action)) }
     ensures { (past : Past) → result ≡ sizes.breaks_memory_size past (point_of step.now) }
 {
     match step.action {
@@ -188,7 +188,7 @@ pub fn breaks_memory_size(step: &Step<'_>) -> bool
 
 /// MAP_STATE: a read of a buffer that isn't mapped. A dedicated buffer may be mapped again.
 pub fn breaks_map_state(history: &History<'_>, step: &Step<'_>) -> bool
-    requires { IsTrue (is_served_action (action_of step.now.action)) }
+    requires { IsTrue (is_supported_action (action_of step.now.action)) }
     ensures { result ≡ reads_unmapped (past history.now) (action_of step.now.action) }
 {
     match step.action {
@@ -199,7 +199,7 @@ pub fn breaks_map_state(history: &History<'_>, step: &Step<'_>) -> bool
 
 /// HOST_VISIBLE: a map of a buffer on type 0, which is local to the device.
 pub fn breaks_host_visible(history: &History<'_>, step: &Step<'_>) -> bool
-    requires { IsTrue (is_served_action (action_of step.now.action)) }
+    requires { IsTrue (is_supported_action (action_of step.now.action)) }
     ensures { result ≡ maps_local (past history.now) (action_of step.now.action) }
 {
     match step.action {

@@ -7,7 +7,7 @@ ghost use Rattle.vk_model.specs.RulesLayouts.{known_stages};
 ghost use Rattle.vk_model.specs.Ownership.{dependency_of};
 ghost use Rattle.vk_model.specs.RulesSync as sync;
 ghost use Rattle.vk_model.specs.RulesLayouts as layouts;
-ghost use Rattle.vk_validate.specs.Served.{is_served_action, is_served_command};
+ghost use Rattle.vk_validate.specs.Supported.{is_supported_action, is_supported_command};
 ghost use Rattle.vk_validate.specs.Told.{action_of, point_of, past};
 
 use crate::history::History;
@@ -19,7 +19,7 @@ use vk_model::{Accesses, Cmd, Dependency, Element, Entry, SemaphoreValue, Stages
 /// STAGE: a stage or an access that isn't known, an access that none of the stages makes, or the host
 /// in a wait or signal of a batch.
 pub fn breaks_stage(step: &Step<'_>) -> bool
-    requires { IsTrue (is_served_action (action_of step.now.action)) }
+    requires { IsTrue (is_supported_action (action_of step.now.action)) }
     ensures { result ≡ layouts.action_stages (action_of step.now.action) }
 {
     match step.action {
@@ -74,7 +74,7 @@ fn is_bad_scope(stages: Stages, accesses: Accesses) -> bool
 
 /// SIGNAL_VALUE: the value isn't above the initial one and all earlier signals.
 pub fn breaks_signal_value(history: &History<'_>, step: &Step<'_>) -> bool
-    requires { IsTrue (is_served_action (action_of step.now.action)) }
+    requires { IsTrue (is_supported_action (action_of step.now.action)) }
     ensures { result ≡ sync.breaks_signal_value (past history.now) (point_of step.now) }
 {
     match step.action {
@@ -95,7 +95,7 @@ fn is_reached(history: &History<'_>, semaphore: u32, value: u64) -> bool
 
 /// WAIT_NEVER: the host waits for a value above the counter.
 pub fn breaks_wait_never(history: &History<'_>, step: &Step<'_>) -> bool
-    requires { IsTrue (is_served_action (action_of step.now.action)) }
+    requires { IsTrue (is_supported_action (action_of step.now.action)) }
     ensures { result ≡ sync.breaks_wait_never (past history.now) (point_of step.now) }
 {
     match step.action {

@@ -3,5 +3,5 @@ use Rattle.vk_device.proofs.replaying.replay.Goals as goal
 pub replay_entries-requires : goal.replay_entries-requires
 replay_entries-requires g c = rw c.entries.ensures.same (record {
   sound = λ before p r comes broken. (c.no_fault_is_sound.ensures c.args.accepted.now).0 c.entries.ensures.faultless before p r (comes, broken);
-  served = c.entries.ensures.served;
+  supported = c.entries.ensures.supported;
 })

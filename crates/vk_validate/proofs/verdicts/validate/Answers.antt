@@ -7,7 +7,7 @@ pub returns-in-Some-clause-told : goal.returns-in-Some-clause-told
 returns-in-Some-clause-told c = sym c.in-Some.is ∙ tells c.args.entries.now _ (ap past_of c.as_slice.ensures.value ∙ c.in_ok-points.ensures) _ c.in_ok-at.ensures
 
 pub returns-in-Some-clause-exact : goal.returns-in-Some-clause-exact
-returns-in-Some-clause-exact c = λ served. sym c.in-Some.is ∙ tells_first c.args.entries.now _ (ap past_of c.as_slice.ensures.value ∙ c.in_ok-points.ensures) _ c.in_ok-at.ensures served
+returns-in-Some-clause-exact c = λ supported. sym c.in-Some.is ∙ tells_first c.args.entries.now _ (ap past_of c.as_slice.ensures.value ∙ c.in_ok-points.ensures) _ c.in_ok-at.ensures supported
 
 pub invariant_of-result : goal.invariant_of-result
 invariant_of-result c = accepts c.args.entries.now _ (ap past_of c.as_slice.ensures.value ∙ c.in_ok-points.ensures) _ c.in_ok-at.ensures c.in-None.is
@@ -16,4 +16,4 @@ pub returns-clause-told : goal.returns-clause-told
 returns-clause-told c = sym c.in-None.is ∙ tells c.args.entries.now _ (ap past_of c.as_slice.ensures.value ∙ c.in_ok-points.ensures) _ c.in_ok-at.ensures
 
 pub returns-clause-exact : goal.returns-clause-exact
-returns-clause-exact c = λ served. sym c.in-None.is ∙ tells_first c.args.entries.now _ (ap past_of c.as_slice.ensures.value ∙ c.in_ok-points.ensures) _ c.in_ok-at.ensures served
+returns-clause-exact c = λ supported. sym c.in-None.is ∙ tells_first c.args.entries.now _ (ap past_of c.as_slice.ensures.value ∙ c.in_ok-points.ensures) _ c.in_ok-at.ensures supported

@@ -1,6 +1,6 @@
 ghost use Rattle.std.specs.Prelude.{◌≡◌};
 ghost use Rattle.std.specs.List.{list_all};
-ghost use Rattle.vk_validate.specs.Served as served;
+ghost use Rattle.vk_validate.specs.Supported as supported;
 ghost use Rattle.vk_validate.specs.Told.{action_of};
 
 use crate::steps::{Action, Step};
@@ -8,22 +8,22 @@ use vk_model::{Cmd, Element, Entry, Place};
 
 /// Whether the rules of this crate cover the point's form. The others have rules that are not written
 /// yet.
-pub fn is_served(step: &Step<'_>) -> bool
-    ensures { result ≡ served.is_served_action (action_of step.now.action) }
+pub fn is_supported(step: &Step<'_>) -> bool
+    ensures { result ≡ supported.is_supported_action (action_of step.now.action) }
 {
     match step.action {
-        Action::Host(entry) => is_served_entry(entry),
+        Action::Host(entry) => is_supported_entry(entry),
         Action::Wait(_) => false,
-        Action::Run(command) => is_served_command(command),
+        Action::Run(command) => is_supported_command(command),
         Action::Signal(_) => true,
     }
 }
 
-fn is_served_entry(entry: &Entry) -> bool
-    ensures { result ≡ served.is_served_entry entry.now }
+fn is_supported_entry(entry: &Entry) -> bool
+    ensures { result ≡ supported.is_supported_entry entry.now }
 {
     match entry {
-        Entry::Buffer { info, .. } => is_served_place(info.place),
+        Entry::Buffer { info, .. } => is_supported_place(info.place),
         Entry::Map { .. } | Entry::Read { .. } | Entry::Semaphore { .. } | Entry::Wait { .. } => {
             true
         }
@@ -33,8 +33,8 @@ fn is_served_entry(entry: &Entry) -> bool
 }
 
 // Memory type 2 keeps the host's accesses in a cache.
-fn is_served_place(place: Place) -> bool
-    ensures { result ≡ served.is_served_place place }
+fn is_supported_place(place: Place) -> bool
+    ensures { result ≡ supported.is_supported_place place }
 {
     match place {
         Place::Dedicated { memory_type } => memory_type != 2,
@@ -42,8 +42,8 @@ fn is_served_place(place: Place) -> bool
     }
 }
 
-fn is_served_command(command: &Cmd) -> bool
-    ensures { result ≡ served.is_served_command command.now }
+fn is_supported_command(command: &Cmd) -> bool
+    ensures { result ≡ supported.is_supported_command command.now }
 {
     match command {
         Cmd::Fill { .. } => true,
@@ -53,13 +53,13 @@ fn is_served_command(command: &Cmd) -> bool
 }
 
 fn are_memory(elements: &[Element]) -> bool
-    ensures { result ≡ list_all served.is_memory elements.now }
+    ensures { result ≡ list_all supported.is_memory elements.now }
 {
     elements.iter().all(|element| is_memory(element))
 }
 
 fn is_memory(element: &Element) -> bool
-    ensures { result ≡ served.is_memory element.now }
+    ensures { result ≡ supported.is_memory element.now }
 {
     match element {
         Element::Memory(_) => true,

@@ -1,4 +1,4 @@
--- Whatever is a trace has only forms that are served.
+-- Whatever is a trace has only supported forms.
 use Rattle.std.proofs.Common.{◌≡◌, ℕ, ◌+◌, List, [], ◌∷◌, Bool, true, false, not, ◌==◌, refl, ap, sym, subst, Option, Some, None, IsTrue}
 use Rattle.std.specs.Prelude.{⊤, bytes_eq, if◌then◌else◌, unwrap_or, option_map}
 use Rattle.std.specs.List.{fold, list_all}
@@ -16,7 +16,7 @@ use Rattle.vk_model.specs.declared.resource.Place.{Place}
 use Rattle.vk_model.specs.declared.resource.Place.TheVariants as place
 use Rattle.vk_model.specs.Point.{Past, Point, Action, Wait, Run, Signal}
 use Rattle.vk_model.specs.Order.{Turn, host, actions, taken, turns_from, turns_of, plain_from, plain_order}
-use Rattle.vk_validate.specs.Served.{is_served, is_served_action, is_served_entry, is_served_command, is_served_place, is_memory}
+use Rattle.vk_validate.specs.Supported.{is_supported, is_supported_action, is_supported_entry, is_supported_command, is_supported_place, is_memory}
 use Rattle.vk_trace.specs.Members.{Reader, Row, ◌>>=◌, array_members, first_member, no_member, from, ◌<*>◌, only, members, at_word, after_word, word_and_members, tagged, each_member, list_of, empty_list, u32_value, u64_value}
 use Rattle.vk_trace.specs.Trace.{memory_element, dependency_value, command_rows, command_value, semaphore_submit, batch_value, semaphore_value, queue_value, memory_type_value, place_rows, place_value, sharing_value, length_or_whole, buffer, entry_rows, entry_value, IsTrace}
 
@@ -120,32 +120,32 @@ memory_makes d x h = go (dependency_value d) h
     go None e = absurd cc
     go (Some v) e = let same : element.Memory v ≡ x = cc in subst (λ (y : Element). is_memory y ≡ true) same refl
 
-abbrev IsServedCommand : Cmd → Type 0
-IsServedCommand c = is_served_command c ≡ true
+abbrev IsSupportedCommand : Cmd → Type 0
+IsSupportedCommand c = is_supported_command c ≡ true
 
-command_makes : Makes IsServedCommand command_value
+command_makes : Makes IsSupportedCommand command_value
 unfolding command_value command_rows
-command_makes = tagged_makes IsServedCommand command_rows (
-  any_makes IsServedCommand _ u32_value (any_makes _ _ length_or_whole (any_makes _ _ u64_value (any_makes _ _ u32_value (from_makes _ cmd.Fill (λ b o n w. refl))))),
+command_makes = tagged_makes IsSupportedCommand command_rows (
+  any_makes IsSupportedCommand _ u32_value (any_makes _ _ length_or_whole (any_makes _ _ u64_value (any_makes _ _ u32_value (from_makes _ cmd.Fill (λ b o n w. refl))))),
   (
-    any_makes IsServedCommand _ empty_list (any_makes _ _ empty_list (more_makes _ (Each (λ (e : Element). is_memory e ≡ true)) _ (list_of memory_element) (from_makes _ _ (λ es each _ _. all_pass is_memory es each)) (list_makes _ memory_element memory_makes))),
+    any_makes IsSupportedCommand _ empty_list (any_makes _ _ empty_list (more_makes _ (Each (λ (e : Element). is_memory e ≡ true)) _ (list_of memory_element) (from_makes _ _ (λ es each _ _. all_pass is_memory es each)) (list_makes _ memory_element memory_makes))),
     tt,
   ),
 )
 
--- a batch without waits, of commands that are served
-pub record IsServedBatch (b : Batch) : Type 0 where
+-- a batch without waits, of commands that are supported
+pub record IsSupportedBatch (b : Batch) : Type 0 where
   pub waits : b.waits ≡ []
-  pub commands : Each IsServedCommand b.commands
+  pub commands : Each IsSupportedCommand b.commands
 
-batch_makes : Makes IsServedBatch batch_value
+batch_makes : Makes IsSupportedBatch batch_value
 unfolding batch_value
-batch_makes = members_make IsServedBatch _ (
-    any_makes IsServedBatch _ (list_of semaphore_submit) (more_makes _ (Each IsServedCommand) _ (list_of command_value) (any_makes _ _ empty_list (from_makes _ _ (λ _ cs each ss. record { waits = refl; commands = each }))) (list_makes _ command_value command_makes))
+batch_makes = members_make IsSupportedBatch _ (
+    any_makes IsSupportedBatch _ (list_of semaphore_submit) (more_makes _ (Each IsSupportedCommand) _ (list_of command_value) (any_makes _ _ empty_list (from_makes _ _ (λ _ cs each ss. record { waits = refl; commands = each }))) (list_makes _ command_value command_makes))
     )
 
-abbrev IsServedPlace : Place → Type 0
-IsServedPlace p = is_served_place p ≡ true
+abbrev IsSupportedPlace : Place → Type 0
+IsSupportedPlace p = is_supported_place p ≡ true
 
 type_makes : Makes (λ (t : ℕ). not (t == 2) ≡ true) memory_type_value
 unfolding memory_type_value
@@ -157,9 +157,9 @@ type_makes d x h =
     go n true is e = absurd cc
     go n false is e = let same : n ≡ x = cc in subst (λ (m : ℕ). not (m == 2) ≡ true) same (rw is refl)
 
-place_makes : Makes IsServedPlace place_value
+place_makes : Makes IsSupportedPlace place_value
 unfolding place_value place_rows
-place_makes = tagged_makes IsServedPlace place_rows (more_makes IsServedPlace (λ (t : ℕ). not (t == 2) ≡ true) _ memory_type_value (from_makes _ place.Dedicated (λ t other. other)) type_makes, tt)
+place_makes = tagged_makes IsSupportedPlace place_rows (more_makes IsSupportedPlace (λ (t : ℕ). not (t == 2) ≡ true) _ memory_type_value (from_makes _ place.Dedicated (λ t other. other)) type_makes, tt)
 
 queue_makes : Makes (λ (q : ℕ). (q == 0) ≡ true) queue_value
 unfolding queue_value
@@ -172,28 +172,28 @@ queue_makes d x h =
     go n true is e = let same : n ≡ x = cc in subst (λ (m : ℕ). (m == 0) ≡ true) same is
 
 -- an entry, and the batches that it submits
-pub record IsServedEntry (x : Entry) : Type 0 where
-  pub host : is_served_entry x ≡ true
-  pub turns : (past : Past) (e : ℕ) → Each (λ (t : Turn). IsServedBatch t.content) (turns_of past e x)
+pub record IsSupportedEntry (x : Entry) : Type 0 where
+  pub host : is_supported_entry x ≡ true
+  pub turns : (past : Past) (e : ℕ) → Each (λ (t : Turn). IsSupportedBatch t.content) (turns_of past e x)
 
-of_batches : (past : Past) (e q k : ℕ) (bs : List Batch) → Each IsServedBatch bs → Each (λ (t : Turn). IsServedBatch t.content) (turns_from past e q k bs)
+of_batches : (past : Past) (e q k : ℕ) (bs : List Batch) → Each IsSupportedBatch bs → Each (λ (t : Turn). IsSupportedBatch t.content) (turns_from past e q k bs)
 of_batches past e q k [] each = tt
 of_batches past e q k (b ∷ bs) each = (each.0, of_batches past e q (k + 1) bs each.1)
 
-entry_makes : Makes IsServedEntry entry_value
+entry_makes : Makes IsSupportedEntry entry_value
 unfolding entry_value entry_rows
-entry_makes = tagged_makes IsServedEntry entry_rows (
-  more_makes IsServedEntry IsServedPlace _ place_value (any_makes _ _ sharing_value (any_makes _ _ u32_value (any_makes _ _ u64_value (any_makes _ _ u32_value (from_makes _ buffer (λ i n u s p own. record { host = own; turns = λ past e. tt })))))) place_makes,
+entry_makes = tagged_makes IsSupportedEntry entry_rows (
+  more_makes IsSupportedEntry IsSupportedPlace _ place_value (any_makes _ _ sharing_value (any_makes _ _ u32_value (any_makes _ _ u64_value (any_makes _ _ u32_value (from_makes _ buffer (λ i n u s p own. record { host = own; turns = λ past e. tt })))))) place_makes,
   (
-    any_makes IsServedEntry _ u32_value (from_makes _ entry.Map (λ b. record { host = refl; turns = λ past e. tt })),
+    any_makes IsSupportedEntry _ u32_value (from_makes _ entry.Map (λ b. record { host = refl; turns = λ past e. tt })),
     (
-      any_makes IsServedEntry _ u64_value (any_makes _ _ u64_value (any_makes _ _ u32_value (from_makes _ entry.Read (λ b o n. record { host = refl; turns = λ past e. tt })))),
+      any_makes IsSupportedEntry _ u64_value (any_makes _ _ u64_value (any_makes _ _ u32_value (from_makes _ entry.Read (λ b o n. record { host = refl; turns = λ past e. tt })))),
       (
-        any_makes IsServedEntry _ u64_value (any_makes _ _ u32_value (from_makes _ entry.Semaphore (λ i v. record { host = refl; turns = λ past e. tt }))),
+        any_makes IsSupportedEntry _ u64_value (any_makes _ _ u32_value (from_makes _ entry.Semaphore (λ i v. record { host = refl; turns = λ past e. tt }))),
         (
-          any_makes IsServedEntry _ (list_of semaphore_value) (from_makes _ entry.Wait (λ ws. record { host = refl; turns = λ past e. tt })),
+          any_makes IsSupportedEntry _ (list_of semaphore_value) (from_makes _ entry.Wait (λ ws. record { host = refl; turns = λ past e. tt })),
           (
-            more_makes IsServedEntry (Each IsServedBatch) _ (list_of batch_value) (more_makes _ (λ (q : ℕ). (q == 0) ≡ true) _ queue_value (from_makes _ entry.Submit (λ q first bs each. record { host = first; turns = λ past e. of_batches past e q 0 bs each })) queue_makes) (list_makes _ batch_value batch_makes),
+            more_makes IsSupportedEntry (Each IsSupportedBatch) _ (list_of batch_value) (more_makes _ (λ (q : ℕ). (q == 0) ≡ true) _ queue_value (from_makes _ entry.Submit (λ q first bs each. record { host = first; turns = λ past e. of_batches past e q 0 bs each })) queue_makes) (list_makes _ batch_value batch_makes),
             tt,
           ),
         ),
@@ -204,35 +204,35 @@ entry_makes = tagged_makes IsServedEntry entry_rows (
 
 -- ---- every point of a trace
 
-point_served : (p : Point) (past : Past) → is_served_action p.action ≡ true → is_served past ≡ true → is_served (p ∷ past) ≡ true
-unfolding is_served
-point_served p past here before = rw (here, before) refl
+point_supported : (p : Point) (past : Past) → is_supported_action p.action ≡ true → is_supported past ≡ true → is_supported (p ∷ past) ≡ true
+unfolding is_supported
+point_supported p past here before = rw (here, before) refl
 
-actions_served : {A : Type 0} (of : A → Action) (t : Turn) (k : ℕ) (xs : List A) (past : Past) → Each (λ x. is_served_action (of x) ≡ true) xs → is_served past ≡ true → is_served (actions of t k xs past) ≡ true
-actions_served of t k [] past each before = before
-actions_served of t k (x ∷ xs) past each before = actions_served of t (k + 1) xs _ each.1 (point_served (record { entry = t.entry; batch = t.batch; place = k; queue = t.queue; action = of x }) past each.0 before)
+actions_supported : {A : Type 0} (of : A → Action) (t : Turn) (k : ℕ) (xs : List A) (past : Past) → Each (λ x. is_supported_action (of x) ≡ true) xs → is_supported past ≡ true → is_supported (actions of t k xs past) ≡ true
+actions_supported of t k [] past each before = before
+actions_supported of t k (x ∷ xs) past each before = actions_supported of t (k + 1) xs _ each.1 (point_supported (record { entry = t.entry; batch = t.batch; place = k; queue = t.queue; action = of x }) past each.0 before)
 
-signals : (xs : List SemaphoreSubmit) → Each (λ x. is_served_action (Signal x) ≡ true) xs
+signals : (xs : List SemaphoreSubmit) → Each (λ x. is_supported_action (Signal x) ≡ true) xs
 signals [] = tt
 signals (x ∷ xs) = (refl, signals xs)
 
-taken_served : (t : Turn) (past : Past) → IsServedBatch t.content → is_served past ≡ true → is_served (taken t past) ≡ true
-taken_served t past batch before =
-    let waited : is_served (actions Wait t 0 t.content.waits past) ≡ true = subst (λ (ws : List SemaphoreSubmit). is_served (actions Wait t 0 ws past) ≡ true) (sym batch.waits) before in
-    actions_served Signal t 0 t.content.signals _ (signals t.content.signals) (actions_served Run t 0 t.content.commands _ batch.commands waited)
+taken_supported : (t : Turn) (past : Past) → IsSupportedBatch t.content → is_supported past ≡ true → is_supported (taken t past) ≡ true
+taken_supported t past batch before =
+    let waited : is_supported (actions Wait t 0 t.content.waits past) ≡ true = subst (λ (ws : List SemaphoreSubmit). is_supported (actions Wait t 0 ws past) ≡ true) (sym batch.waits) before in
+    actions_supported Signal t 0 t.content.signals _ (signals t.content.signals) (actions_supported Run t 0 t.content.commands _ batch.commands waited)
 
-turns_served : (ts : List Turn) (past : Past) → Each (λ (t : Turn). IsServedBatch t.content) ts → is_served past ≡ true → is_served (fold (λ p t. taken t p) past ts) ≡ true
-turns_served [] past each before = before
-turns_served (t ∷ ts) past each before = turns_served ts (taken t past) each.1 (taken_served t past each.0 before)
+turns_supported : (ts : List Turn) (past : Past) → Each (λ (t : Turn). IsSupportedBatch t.content) ts → is_supported past ≡ true → is_supported (fold (λ p t. taken t p) past ts) ≡ true
+turns_supported [] past each before = before
+turns_supported (t ∷ ts) past each before = turns_supported ts (taken t past) each.1 (taken_supported t past each.0 before)
 
-plain_served : (e : ℕ) (past : Past) (xs : List Entry) → Each IsServedEntry xs → is_served past ≡ true → is_served (plain_from e past xs) ≡ true
-plain_served e past [] each before = before
-plain_served e past (x ∷ xs) each before =
-    plain_served (e + 1) _ xs each.1 (turns_served (turns_of past e x) (host e x ∷ past) (each.0.turns past e) (point_served (host e x) past each.0.host before))
+plain_supported : (e : ℕ) (past : Past) (xs : List Entry) → Each IsSupportedEntry xs → is_supported past ≡ true → is_supported (plain_from e past xs) ≡ true
+plain_supported e past [] each before = before
+plain_supported e past (x ∷ xs) each before =
+    plain_supported (e + 1) _ xs each.1 (turns_supported (turns_of past e x) (host e x ∷ past) (each.0.turns past e) (point_supported (host e x) past each.0.host before))
 
-nothing_served : is_served [] ≡ true
-unfolding is_served
-nothing_served = refl
+nothing_supported : is_supported [] ≡ true
+unfolding is_supported
+nothing_supported = refl
 
-pub trace_served : (bytes : List ℕ) (t : List Entry) → IsTrace bytes t → IsTrue (is_served (plain_order t))
-trace_served bytes t is = plain_served 0 [] t (list_makes IsServedEntry entry_value entry_makes is.value t is.means) nothing_served
+pub trace_supported : (bytes : List ℕ) (t : List Entry) → IsTrace bytes t → IsTrue (is_supported (plain_order t))
+trace_supported bytes t is = plain_supported 0 [] t (list_makes IsSupportedEntry entry_value entry_makes is.value t is.means) nothing_supported

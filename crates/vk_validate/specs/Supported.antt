@@ -1,0 +1,49 @@
+-- The forms that are supported so far: buffers in memory of their own, fills, memory barriers, signals and host waits on queue 0.
+use Rattle.std.specs.Prelude.{Bool, true, false, not, ◌==◌}
+use Rattle.std.specs.List.{list_all}
+use Rattle.vk_model.specs.declared.command.Cmd.{Cmd}
+use Rattle.vk_model.specs.declared.command.Cmd.TheVariants as cmd
+use Rattle.vk_model.specs.declared.command.Element.{Element}
+use Rattle.vk_model.specs.declared.command.Element.TheVariants as element
+use Rattle.vk_model.specs.declared.entry.Entry.{Entry}
+use Rattle.vk_model.specs.declared.entry.Entry.TheVariants as entry
+use Rattle.vk_model.specs.declared.resource.Place.{Place}
+use Rattle.vk_model.specs.declared.resource.Place.TheVariants as place
+use Rattle.vk_model.specs.Point.{Past, Action, Host, Wait, Run, Signal}
+
+-- Memory of a buffer's own, of a type other than 2, whose host accesses go through a cache.
+abbrev pub is_supported_place : Place → Bool
+is_supported_place (place.Dedicated t) = not (t == 2)
+is_supported_place _ = false
+
+-- Whether an element is on all memory.
+abbrev pub is_memory : Element → Bool
+is_memory (element.Memory d) = true
+is_memory _ = false
+
+-- Whether a command is of a supported form: a fill, or a barrier on all memory (profile).
+abbrev pub is_supported_command : Cmd → Bool
+is_supported_command (cmd.Fill b o n w) = true
+is_supported_command (cmd.Barrier es) = list_all is_memory es
+is_supported_command _ = false
+
+-- Whether an entry is of a supported form; what a submit carries is judged point by point.
+abbrev pub is_supported_entry : Entry → Bool
+is_supported_entry (entry.Buffer i b) = is_supported_place b.place
+is_supported_entry (entry.Map b) = true
+is_supported_entry (entry.Read b o n) = true
+is_supported_entry (entry.Semaphore i v) = true
+is_supported_entry (entry.Wait ws) = true
+is_supported_entry (entry.Submit q bs) = q == 0
+is_supported_entry _ = false
+
+-- Whether what happens at a point is of a supported form; a batch's wait is not (profile).
+abbrev pub is_supported_action : Action → Bool
+is_supported_action (Host x) = is_supported_entry x
+is_supported_action (Wait s) = false
+is_supported_action (Run c) = is_supported_command c
+is_supported_action (Signal s) = true
+
+-- Whether every point of a past is of a supported form.
+unfoldable pub is_supported : Past → Bool
+is_supported past = list_all (λ p. is_supported_action p.action) past
