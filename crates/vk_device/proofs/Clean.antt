@@ -2,7 +2,7 @@
 use Rattle.std.proofs.Common.{◌≡◌, ◌≢◌, ℕ, zero, suc, ◌+◌, ◌-◌, ◌*◌, ◌/◌, ◌%◌, ◌<◌, ◌≤◌, List, [], ◌∷◌, Bool, true, false, not, ◌&&◌, ◌||◌, ◌==◌, nat_lt, nat_le, refl, ap, subst, arith, inl, inr, Option, Some, None}
 use Rattle.std.specs.Prelude.{IsSome, is_some, is_none}
 use Rattle.std.specs.List.{fold, list_any, list_all, range_with_len}
-use Rattle.vk_model.specs.Order.{Turn, actions, taken, turns_of, plain_from, host}
+use Rattle.vk_model.specs.Order.{SubmittedBatch, actions, started, batches_of, plain_from, host}
 use Rattle.std.proofs.lemmas.Bool.{ltb-false, leb-false, eqb-false, eqb-true}
 use Rattle.vk_model.specs.declared.rule.Rule.{Rule}
 use Rattle.vk_model.specs.declared.rule.Rule.TheVariants as rule
@@ -280,17 +280,17 @@ fits_clean [] clean = tt
 fits_clean (p ∷ past) clean =
     (fits_action past p p.action refl (and-true (is_supported_action p.action) (list_all (λ q. is_supported_action q.action) past) clean.supported).0 (breaks_none past p clean), fits_clean past (clean_older past p clean))
 
-clean_actions : {A : Type 0} (of : A → Action) (t : Turn) (k : ℕ) (xs : List A) (past : Past) → IsClean (actions of t k xs past) → IsClean past
+clean_actions : {A : Type 0} (of : A → Action) (t : SubmittedBatch) (k : ℕ) (xs : List A) (past : Past) → IsClean (actions of t k xs past) → IsClean past
 clean_actions of t k [] past clean = clean
 clean_actions of t k (x ∷ xs) past clean = clean_older past _ (clean_actions of t (k + 1) xs _ clean)
 
-clean_taken : (t : Turn) (past : Past) → IsClean (taken t past) → IsClean past
-clean_taken t past clean = clean_actions Wait t 0 t.content.waits past (clean_actions Run t 0 t.content.commands _ (clean_actions Signal t 0 t.content.signals _ clean))
+clean_started : (t : SubmittedBatch) (past : Past) → IsClean (started t past) → IsClean past
+clean_started t past clean = clean_actions Wait t 0 t.content.waits past (clean_actions Run t 0 t.content.commands _ (clean_actions Signal t 0 t.content.signals _ clean))
 
-clean_turns : (ts : List Turn) (past : Past) → IsClean (fold (λ p t. taken t p) past ts) → IsClean past
-clean_turns [] past clean = clean
-clean_turns (t ∷ ts) past clean = clean_taken t past (clean_turns ts (taken t past) clean)
+clean_batches : (ts : List SubmittedBatch) (past : Past) → IsClean (fold (λ p t. started t p) past ts) → IsClean past
+clean_batches [] past clean = clean
+clean_batches (t ∷ ts) past clean = clean_started t past (clean_batches ts (started t past) clean)
 
 pub clean_plain : (e : ℕ) (xs : List Entry) (past : Past) → IsClean (plain_from e past xs) → IsClean past
 clean_plain e [] past clean = clean
-clean_plain e (x ∷ xs) past clean = clean_older past (host e x) (clean_turns (turns_of past e x) (host e x ∷ past) (clean_plain (e + 1) xs _ clean))
+clean_plain e (x ∷ xs) past clean = clean_older past (host e x) (clean_batches (batches_of past e x) (host e x ∷ past) (clean_plain (e + 1) xs _ clean))

@@ -5,12 +5,12 @@ use Rattle.std.proofs.Math.Seq.{drop-cons}
 use Rattle.vk_model.specs.declared.command.Cmd.{Cmd}
 use Rattle.vk_model.specs.declared.entry.Batch.{Batch}
 use Rattle.vk_model.specs.Point.{Past, Run}
-use Rattle.vk_model.specs.Order.{Turn, actions, taken, turns_from, turn}
+use Rattle.vk_model.specs.Order.{SubmittedBatch, actions, started, batches_from, submitted_batch}
 use Rattle.vk_device.specs.Allotted.{allotted}
 use Rattle.vk_device.specs.Held.{Held}
 use Rattle.vk_device.specs.Fits.{FitsCommand, AllFit}
 use Rattle.vk_device.specs.Stands.{Stands, run_point, CommandReady, CommandsReady, BatchReady, BatchesReady, batches_past}
-use Rattle.vk_device.proofs.Steps.{fit_actions, fit_turns, waits_stand, signals_stand}
+use Rattle.vk_device.proofs.Steps.{fit_actions, fit_batches, waits_stand, signals_stand}
 
 rest : {X : Type 0} (xs : List X) (i : ℕ) (x : X) → x ≡ get_or xs i x → i < length xs → drop i xs ≡ x ∷ drop (i + 1) xs
 rest xs i x is lt = rw add-one (drop-cons xs i x lt ∙ ap (λ y. y ∷ drop (suc i) xs) (sym is))
@@ -18,14 +18,14 @@ rest xs i x is lt = rw add-one (drop-cons xs i x lt ∙ ap (λ y. y ∷ drop (su
 -- ---- commands
 
 pub record CommandsDone (old : Held) (cs : List Cmd) (i : ℕ) (s : Held) : Type 0 where
-  pub so_far : (t : Turn) (past : Past) → Stands past old → AllFit (actions Run t 0 cs past) → (p : Past) × Stands p s × (actions Run t i (drop i cs) p ≡ actions Run t 0 cs past)
+  pub so_far : (t : SubmittedBatch) (past : Past) → Stands past old → AllFit (actions Run t 0 cs past) → (p : Past) × Stands p s × (actions Run t i (drop i cs) p ≡ actions Run t 0 cs past)
   pub allotted : allotted s.memory ≡ allotted old.memory
   pub failed : s.failed ≡ old.failed
 
 pub commands_start : (old : Held) (cs : List Cmd) → CommandsDone old cs 0 old
 commands_start old cs = record { so_far = λ t past st fit. (past, st, refl); allotted = refl; failed = refl }
 
-command_fits : (t : Turn) (i : ℕ) (cs : List Cmd) (x : Cmd) (p past : Past) → drop i cs ≡ x ∷ drop (i + 1) cs → actions Run t i (drop i cs) p ≡ actions Run t 0 cs past → AllFit (actions Run t 0 cs past) → FitsCommand p x
+command_fits : (t : SubmittedBatch) (i : ℕ) (cs : List Cmd) (x : Cmd) (p past : Past) → drop i cs ≡ x ∷ drop (i + 1) cs → actions Run t i (drop i cs) p ≡ actions Run t 0 cs past → AllFit (actions Run t 0 cs past) → FitsCommand p x
 command_fits t i cs x p past e same fit =
     let here : AllFit (actions Run t i (x ∷ drop (i + 1) cs) p) = subst (λ (l : List Cmd). AllFit (actions Run t i l p)) e (subst AllFit (sym same) fit) in
     (fit_actions Run t (i + 1) (drop (i + 1) cs) (run_point t.entry t.batch i t.queue x ∷ p) here).0
@@ -51,7 +51,7 @@ command_more old cs i s s' x ready done is lt ran = record {
   failed = ran.failed ∙ done.failed;
 }
 
-pub commands_end : (old : Held) (cs : List Cmd) (i : ℕ) (s : Held) → CommandsDone old cs i s → length cs ≤ i → (t : Turn) (past : Past) → Stands past old → AllFit (actions Run t 0 cs past) → Stands (actions Run t 0 cs past) s
+pub commands_end : (old : Held) (cs : List Cmd) (i : ℕ) (s : Held) → CommandsDone old cs i s → length cs ≤ i → (t : SubmittedBatch) (past : Past) → Stands past old → AllFit (actions Run t 0 cs past) → Stands (actions Run t 0 cs past) s
 commands_end old cs i s done le t past st fit =
     let now = done.so_far t past st fit in
     let same : now.0 ≡ actions Run t 0 cs past = sym (ap (λ (l : List Cmd). actions Run t i l now.0) (drop_all i cs le)) ∙ now.2 in
@@ -65,30 +65,30 @@ pub record BatchesDone (old : Held) (bs : List Batch) (i : ℕ) (s : Held) : Typ
   pub failed : s.failed ≡ old.failed
 
 pub record RunsBatch (s s' : Held) (x : Batch) : Type 0 where
-  pub stands : (t : Turn) (past : Past) → t.content ≡ x → Stands past s → AllFit (taken t past) → Stands (taken t past) s'
+  pub stands : (t : SubmittedBatch) (past : Past) → t.content ≡ x → Stands past s → AllFit (started t past) → Stands (started t past) s'
   pub allotted : allotted s'.memory ≡ allotted s.memory
   pub failed : s'.failed ≡ s.failed
 
 pub batches_start : (old : Held) (bs : List Batch) → BatchesDone old bs 0 old
 batches_start old bs = record { so_far = λ at e q past st fit. (past, st, refl); allotted = refl; failed = refl }
 
-batch_fits : (at : Past) (e q i : ℕ) (bs : List Batch) (x : Batch) (p past : Past) → drop i bs ≡ x ∷ drop (i + 1) bs → batches_past at e q i (drop i bs) p ≡ batches_past at e q 0 bs past → AllFit (batches_past at e q 0 bs past) → AllFit (taken (turn at e q i x) p)
+batch_fits : (at : Past) (e q i : ℕ) (bs : List Batch) (x : Batch) (p past : Past) → drop i bs ≡ x ∷ drop (i + 1) bs → batches_past at e q i (drop i bs) p ≡ batches_past at e q 0 bs past → AllFit (batches_past at e q 0 bs past) → AllFit (started (submitted_batch at e q i x) p)
 batch_fits at e q i bs x p past is same fit =
     let here : AllFit (batches_past at e q i (x ∷ drop (i + 1) bs) p) = subst (λ (l : List Batch). AllFit (batches_past at e q i l p)) is (subst AllFit (sym same) fit) in
-    fit_turns (turns_from at e q (i + 1) (drop (i + 1) bs)) (taken (turn at e q i x) p) here
+    fit_batches (batches_from at e q (i + 1) (drop (i + 1) bs)) (started (submitted_batch at e q i x) p) here
 
 pub batch_ready : (old : Held) (bs : List Batch) (i : ℕ) (s : Held) (x : Batch) → BatchesReady old bs → BatchesDone old bs i s → x ≡ get_or bs i x → i < length bs → BatchReady s x
 batch_ready old bs i s x ready done is lt =
     let now = done.so_far ready.0 ready.1 ready.2 ready.3 ready.4 ready.5 in
-    (turn ready.0 ready.1 ready.2 i x, now.0, now.1, refl, batch_fits ready.0 ready.1 ready.2 i bs x now.0 ready.3 (rest bs i x is lt) now.2 ready.5)
+    (submitted_batch ready.0 ready.1 ready.2 i x, now.0, now.1, refl, batch_fits ready.0 ready.1 ready.2 i bs x now.0 ready.3 (rest bs i x is lt) now.2 ready.5)
 
 pub batch_more : (old : Held) (bs : List Batch) (i : ℕ) (s s' : Held) (x : Batch) → BatchesDone old bs i s → x ≡ get_or bs i x → i < length bs → RunsBatch s s' x → BatchesDone old bs (i + 1) s'
 batch_more old bs i s s' x done is lt ran = record {
   so_far = λ at e q past st fit.
       let now = done.so_far at e q past st fit in
       let here = rest bs i x is lt in
-      let step : batches_past at e q i (drop i bs) now.0 ≡ batches_past at e q (i + 1) (drop (i + 1) bs) (taken (turn at e q i x) now.0) = ap (λ (l : List Batch). batches_past at e q i l now.0) here in
-      (taken (turn at e q i x) now.0, ran.stands (turn at e q i x) now.0 refl now.1 (batch_fits at e q i bs x now.0 past here now.2 fit), sym step ∙ now.2);
+      let step : batches_past at e q i (drop i bs) now.0 ≡ batches_past at e q (i + 1) (drop (i + 1) bs) (started (submitted_batch at e q i x) now.0) = ap (λ (l : List Batch). batches_past at e q i l now.0) here in
+      (started (submitted_batch at e q i x) now.0, ran.stands (submitted_batch at e q i x) now.0 refl now.1 (batch_fits at e q i bs x now.0 past here now.2 fit), sym step ∙ now.2);
   allotted = ran.allotted ∙ done.allotted;
   failed = ran.failed ∙ done.failed;
 }
@@ -110,7 +110,7 @@ of_batch s x ready =
       subst (λ (b : Batch). AllFit (actions Run t 0 b.commands (actions Rattle.vk_model.specs.Point.Wait t 0 t.content.waits ready.1))) ready.3 fit,
     )
 
-pub batch_runs : (s s' : Held) (x : Batch) → ((t : Turn) (past : Past) → Stands past s → AllFit (actions Run t 0 x.commands past) → Stands (actions Run t 0 x.commands past) s') → (t : Turn) (past : Past) → t.content ≡ x → Stands past s → AllFit (taken t past) → Stands (taken t past) s'
+pub batch_runs : (s s' : Held) (x : Batch) → ((t : SubmittedBatch) (past : Past) → Stands past s → AllFit (actions Run t 0 x.commands past) → Stands (actions Run t 0 x.commands past) s') → (t : SubmittedBatch) (past : Past) → t.content ≡ x → Stands past s → AllFit (started t past) → Stands (started t past) s'
 batch_runs s s' x ran t past is st fit =
     let waited : Past = actions Rattle.vk_model.specs.Point.Wait t 0 t.content.waits past in
     let fit' : AllFit (actions Run t 0 t.content.commands waited) = fit_actions Rattle.vk_model.specs.Point.Signal t 0 t.content.signals _ fit in

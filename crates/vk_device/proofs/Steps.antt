@@ -16,7 +16,7 @@ use Rattle.vk_model.specs.declared.resource.BufferInfo.{BufferInfo}
 use Rattle.vk_model.specs.Words.{below}
 use Rattle.vk_model.specs.Point.{Past, Action, Wait, Run, Signal}
 use Rattle.vk_model.specs.Objects.{made, buffer, is_exclusive}
-use Rattle.vk_model.specs.Order.{Turn, actions, taken, turns_of, plain_from, host}
+use Rattle.vk_model.specs.Order.{SubmittedBatch, actions, started, batches_of, plain_from, host}
 use Rattle.vk_model.specs.World.{Byte, in_buffer, in_image, resource_at, World}
 use Rattle.vk_model.specs.Moves.{Move, moves, buffer_size, fill_size}
 use Rattle.vk_model.specs.Effect.{used, without, is_other, after_element, after_moves, world}
@@ -120,45 +120,45 @@ fill_stands e b k q i o n w past s p apart here st fits =
 -- ---- batches
 
 -- waits and signals change no byte
-pub waits_stand : (t : Turn) (k : ℕ) (xs : List SemaphoreSubmit) (past : Past) (s : Held) → Stands past s → Stands (actions Wait t k xs past) s
+pub waits_stand : (t : SubmittedBatch) (k : ℕ) (xs : List SemaphoreSubmit) (past : Past) (s : Held) → Stands past s → Stands (actions Wait t k xs past) s
 waits_stand t k [] past s st = st
 waits_stand t k (x ∷ xs) past s st = waits_stand t (k + 1) xs _ s (record { sizes = st.sizes; shown = st.shown })
 
-pub signals_stand : (t : Turn) (k : ℕ) (xs : List SemaphoreSubmit) (past : Past) (s : Held) → Stands past s → Stands (actions Signal t k xs past) s
+pub signals_stand : (t : SubmittedBatch) (k : ℕ) (xs : List SemaphoreSubmit) (past : Past) (s : Held) → Stands past s → Stands (actions Signal t k xs past) s
 signals_stand t k [] past s st = st
 signals_stand t k (x ∷ xs) past s st = signals_stand t (k + 1) xs _ s (record { sizes = st.sizes; shown = st.shown })
 
 -- what is older fits too
-pub fit_actions : {A : Type 0} (of : A → Action) (t : Turn) (k : ℕ) (xs : List A) (past : Past) → AllFit (actions of t k xs past) → AllFit past
+pub fit_actions : {A : Type 0} (of : A → Action) (t : SubmittedBatch) (k : ℕ) (xs : List A) (past : Past) → AllFit (actions of t k xs past) → AllFit past
 fit_actions of t k [] past f = f
 fit_actions of t k (x ∷ xs) past f = (fit_actions of t (k + 1) xs _ f).1
 
-pub fit_taken : (t : Turn) (past : Past) → AllFit (taken t past) → AllFit past
-fit_taken t past f = fit_actions Wait t 0 t.content.waits past (fit_actions Run t 0 t.content.commands _ (fit_actions Signal t 0 t.content.signals _ f))
+pub fit_started : (t : SubmittedBatch) (past : Past) → AllFit (started t past) → AllFit past
+fit_started t past f = fit_actions Wait t 0 t.content.waits past (fit_actions Run t 0 t.content.commands _ (fit_actions Signal t 0 t.content.signals _ f))
 
-pub fit_turns : (ts : List Turn) (past : Past) → AllFit (fold (λ p t. taken t p) past ts) → AllFit past
-fit_turns [] past f = f
-fit_turns (t ∷ ts) past f = fit_taken t past (fit_turns ts (taken t past) f)
+pub fit_batches : (ts : List SubmittedBatch) (past : Past) → AllFit (fold (λ p t. started t p) past ts) → AllFit past
+fit_batches [] past f = f
+fit_batches (t ∷ ts) past f = fit_started t past (fit_batches ts (started t past) f)
 
 pub fit_plain : (e : ℕ) (xs : List Entry) (past : Past) → AllFit (plain_from e past xs) → AllFit past
 fit_plain e [] past f = f
-fit_plain e (x ∷ xs) past f = (fit_turns (turns_of past e x) (host e x ∷ past) (fit_plain (e + 1) xs _ f)).1
+fit_plain e (x ∷ xs) past f = (fit_batches (batches_of past e x) (host e x ∷ past) (fit_plain (e + 1) xs _ f)).1
 
 -- only host entries read
-reads_actions : {A : Type 0} (of : A → Action) (mute : (w : World) (e : ℕ) (x : A) → read_by w e (of x) ≡ []) (t : Turn) (k : ℕ) (xs : List A) (past : Past) → reads (actions of t k xs past) ≡ reads past
+reads_actions : {A : Type 0} (of : A → Action) (mute : (w : World) (e : ℕ) (x : A) → read_by w e (of x) ≡ []) (t : SubmittedBatch) (k : ℕ) (xs : List A) (past : Past) → reads (actions of t k xs past) ≡ reads past
 reads_actions of mute t k [] past = refl
 reads_actions of mute t k (x ∷ xs) past = reads_actions of mute t (k + 1) xs _ ∙ ap (λ r. reads past ++ r) (mute (world past) t.entry x) ∙ append-nil (reads past)
 
-pub reads_taken : (t : Turn) (past : Past) → reads (taken t past) ≡ reads past
-reads_taken t past = reads_actions Signal (λ w e x. refl) t 0 t.content.signals _ ∙ reads_actions Run (λ w e x. refl) t 0 t.content.commands _ ∙ reads_actions Wait (λ w e x. refl) t 0 t.content.waits past
+pub reads_started : (t : SubmittedBatch) (past : Past) → reads (started t past) ≡ reads past
+reads_started t past = reads_actions Signal (λ w e x. refl) t 0 t.content.signals _ ∙ reads_actions Run (λ w e x. refl) t 0 t.content.commands _ ∙ reads_actions Wait (λ w e x. refl) t 0 t.content.waits past
 
-pub reads_turns : (ts : List Turn) (past : Past) → reads (fold (λ p t. taken t p) past ts) ≡ reads past
-reads_turns [] past = refl
-reads_turns (t ∷ ts) past = reads_turns ts (taken t past) ∙ reads_taken t past
+pub reads_batches : (ts : List SubmittedBatch) (past : Past) → reads (fold (λ p t. started t p) past ts) ≡ reads past
+reads_batches [] past = refl
+reads_batches (t ∷ ts) past = reads_batches ts (started t past) ∙ reads_started t past
 
 -- the reads after one entry more
 pub reads_next : (e : ℕ) (x : Entry) (past : Past) → reads (next_past e x past) ≡ reads past ++ read_in (world past) e x
-reads_next e x past = reads_turns (turns_of past e x) (host e x ∷ past)
+reads_next e x past = reads_batches (batches_of past e x) (host e x ∷ past)
 
 -- one entry more
 pub plain_more : (e : ℕ) (past : Past) (xs : List Entry) (y : Entry) → plain_from e past (xs ++ y ∷ []) ≡ next_past (e + length xs) y (plain_from e past xs)

@@ -9,7 +9,7 @@ use Rattle.vk_model.specs.declared.entry.Entry.{Entry}
 use Rattle.vk_model.specs.Point.{Past, Point, Run}
 use Rattle.vk_model.specs.Objects.{buffer}
 use Rattle.vk_model.specs.Words.{round_up}
-use Rattle.vk_model.specs.Order.{Turn, actions, taken, turns_of, turns_from, host}
+use Rattle.vk_model.specs.Order.{SubmittedBatch, actions, started, batches_of, batches_from, host}
 use Rattle.vk_model.specs.World.{Byte, in_buffer, in_image}
 use Rattle.vk_model.specs.Moves.{fill_size}
 use Rattle.vk_model.specs.Effect.{world}
@@ -36,11 +36,11 @@ pub record Stands (past : Past) (s : Held) : Type 0 where
 
 -- The past after batches that run at once, from batch k of entry e on.
 abbrev pub batches_past : Past → ℕ → ℕ → ℕ → List Batch → Past → Past
-batches_past at e q k bs past = fold (λ p t. taken t p) past (turns_from at e q k bs)
+batches_past at e q k bs past = fold (λ p t. started t p) past (batches_from at e q k bs)
 
 -- The past after an entry with its batches, as in plain order.
 abbrev pub next_past : ℕ → Entry → Past → Past
-next_past e x past = fold (λ p t. taken t p) (host e x ∷ past) (turns_of past e x)
+next_past e x past = fold (λ p t. started t p) (host e x ∷ past) (batches_of past e x)
 
 -- The point of command k of batch b of entry e, on queue q.
 abbrev pub run_point : ℕ → ℕ → ℕ → ℕ → Cmd → Point
@@ -52,11 +52,11 @@ CommandReady s c = (past : Past) × Stands past s × FitsCommand past c
 
 -- The same for the commands of a batch.
 abbrev pub CommandsReady : Held → List Cmd → Type 0
-CommandsReady s cs = (t : Turn) × (past : Past) × Stands past s × AllFit (actions Run t 0 cs past)
+CommandsReady s cs = (t : SubmittedBatch) × (past : Past) × Stands past s × AllFit (actions Run t 0 cs past)
 
 -- The same for a batch.
 abbrev pub BatchReady : Held → Batch → Type 0
-BatchReady s b = (t : Turn) × (past : Past) × Stands past s × (t.content ≡ b) × AllFit (taken t past)
+BatchReady s b = (t : SubmittedBatch) × (past : Past) × Stands past s × (t.content ≡ b) × AllFit (started t past)
 
 -- The same for the batches of a submit.
 abbrev pub BatchesReady : Held → List Batch → Type 0

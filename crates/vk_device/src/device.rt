@@ -55,7 +55,7 @@ fn fill_size(size: u64, offset: u64, length: Length) -> u64
 }
 
 impl Device {
-    ghost use Rattle.vk_model.specs.Order.{Turn, actions, taken};
+    ghost use Rattle.vk_model.specs.Order.{SubmittedBatch, actions, started};
     ghost use Rattle.vk_model.specs.Point.{Past, Run};
     ghost use Rattle.vk_device.specs.Held.{placed, IsApart, MapsAt};
     ghost use Rattle.vk_device.specs.Allotted.{allotted};
@@ -115,7 +115,7 @@ impl Device {
 
     fn run_commands(&mut self, commands: &[Cmd])
         requires { CommandsReady self.old commands.now }
-        ensures stands { (t : Turn) (past : Past) → Stands past self.old → AllFit (actions Run t 0 commands.now past) → Stands (actions Run t 0 commands.now past) self.new }
+        ensures stands { (t : SubmittedBatch) (past : Past) → Stands past self.old → AllFit (actions Run t 0 commands.now past) → Stands (actions Run t 0 commands.now past) self.new }
         ensures allotted { allotted self.new.memory ≡ allotted self.old.memory }
         ensures failed { self.new.failed ≡ self.old.failed }
     {
@@ -126,7 +126,7 @@ impl Device {
 
     fn run_batch(&mut self, batch: &Batch)
         requires { BatchReady self.old batch.now }
-        ensures stands { (t : Turn) (past : Past) → t.content ≡ batch.now → Stands past self.old → AllFit (taken t past) → Stands (taken t past) self.new }
+        ensures stands { (t : SubmittedBatch) (past : Past) → t.content ≡ batch.now → Stands past self.old → AllFit (started t past) → Stands (started t past) self.new }
         ensures allotted { allotted self.new.memory ≡ allotted self.old.memory }
         ensures failed { self.new.failed ≡ self.old.failed }
     {

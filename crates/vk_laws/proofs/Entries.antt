@@ -7,7 +7,7 @@ use Rattle.vk_model.specs.declared.entry.Batch.{Batch}
 use Rattle.vk_model.specs.declared.entry.Entry.{Entry}
 use Rattle.vk_model.specs.declared.entry.Entry.TheVariants as entry
 use Rattle.vk_model.specs.Point.{Past, Point, Action, Host, Wait, Run, Signal}
-use Rattle.vk_model.specs.Order.{host, taken, turns_of, plain_from, plain_order}
+use Rattle.vk_model.specs.Order.{host, started, batches_of, plain_from, plain_order}
 use Rattle.vk_laws.proofs.PlainOrder.{Each, Grows, Allows, stays, one_more, grows_on, batches_grow}
 use Rattle.vk_laws.proofs.Members.{contains-cons, none_in}
 
@@ -37,7 +37,7 @@ module _ (t : List Entry) where
   plain_of e past front (x ∷ xs) whole size =
       let at : slice_get t e ≡ Some x = ap (λ (l : List Entry). slice_get l e) whole ∙ at_front front x xs e size in
       let here : Past = host e x ∷ past in
-      let next : Past = fold (λ p u. taken u p) here (turns_of past e x) in
+      let next : Past = fold (λ p u. started u p) here (batches_of past e x) in
       let long = length-append front (x ∷ []) in
       grows_on _ past here _ (one_more _ past (host e x) at)
       (grows_on _ here next _ (batches_grow (OfEntry t) past e x (λ q bs is. submitted e q bs (at ∙ ap Some is)) here)

@@ -7,7 +7,7 @@ use Rattle.vk_model.specs.declared.entry.Batch.{Batch}
 use Rattle.vk_model.specs.declared.entry.Entry.{Entry}
 use Rattle.vk_model.specs.declared.entry.Entry.TheVariants as entry
 use Rattle.vk_model.specs.Point.{Point, Past, Action, Wait, Run, Signal, host_of}
-use Rattle.vk_model.specs.Order.{Turn, host, actions, taken, turn, turns_from, turns_of, plain_from}
+use Rattle.vk_model.specs.Order.{SubmittedBatch, host, actions, started, submitted_batch, batches_from, batches_of, plain_from}
 use Rattle.vk_model.specs.Node.{Node, nodes, acts}
 use Rattle.vk_laws.proofs.Points.{in_acts}
 use Rattle.vk_laws.proofs.ModelBytes.{more_nodes}
@@ -54,23 +54,23 @@ abbrev pub Allows : (Point → Type 0) → ℕ → ℕ → Type 0
 Allows P e q = (batch place : ℕ) (d : Action) → host_of d ≡ None → P (record { entry = e; batch = batch; place = place; queue = q; action = d })
 
 module _ (P : Point → Type 0) where
-  actions_grow : {A : Type 0} (of : A → Action) → ((x : A) → host_of (of x) ≡ None) → (t : Turn) → Allows P t.entry t.queue → (k : ℕ) (xs : List A) (past : Past) → Grows P past (actions of t k xs past)
+  actions_grow : {A : Type 0} (of : A → Action) → ((x : A) → host_of (of x) ≡ None) → (t : SubmittedBatch) → Allows P t.entry t.queue → (k : ℕ) (xs : List A) (past : Past) → Grows P past (actions of t k xs past)
   actions_grow of quiet t may k [] past = stays P past
   actions_grow of quiet t may k (x ∷ xs) past =
       let p : Point = record { entry = t.entry; batch = t.batch; place = k; queue = t.queue; action = of x } in
       grows_on P past (p ∷ past) _ (one_more P past p (may t.batch k (of x) (quiet x))) (actions_grow of quiet t may (k + 1) xs (p ∷ past))
 
-  taken_grows : (t : Turn) → Allows P t.entry t.queue → (past : Past) → Grows P past (taken t past)
-  taken_grows t may past =
+  started_grows : (t : SubmittedBatch) → Allows P t.entry t.queue → (past : Past) → Grows P past (started t past)
+  started_grows t may past =
       grows_on P past _ _ (actions_grow Wait (λ x. refl) t may 0 t.content.waits past)
       (grows_on P _ _ _ (actions_grow Run (λ x. refl) t may 0 t.content.commands _) (actions_grow Signal (λ x. refl) t may 0 t.content.signals _))
 
-  turns_grow : (before : Past) (e q k : ℕ) → Allows P e q → (bs : List Batch) (past : Past) → Grows P past (fold (λ p t. taken t p) past (turns_from before e q k bs))
-  turns_grow before e q k may [] past = stays P past
-  turns_grow before e q k may (b ∷ bs) past = grows_on P past _ _ (taken_grows (turn before e q k b) may past) (turns_grow before e q (k + 1) may bs (taken (turn before e q k b) past))
+  batches_grow : (before : Past) (e q k : ℕ) → Allows P e q → (bs : List Batch) (past : Past) → Grows P past (fold (λ p t. started t p) past (batches_from before e q k bs))
+  batches_grow before e q k may [] past = stays P past
+  batches_grow before e q k may (b ∷ bs) past = grows_on P past _ _ (started_grows (submitted_batch before e q k b) may past) (batches_grow before e q (k + 1) may bs (started (submitted_batch before e q k b) past))
 
-  pub batches_grow : (before : Past) (e : ℕ) (x : Entry) → ((q : ℕ) (bs : List Batch) → x ≡ entry.Submit q bs → Allows P e q) → (past : Past) → Grows P past (fold (λ p t. taken t p) past (turns_of before e x))
-  batches_grow before e (entry.Submit q bs) may past = turns_grow before e q 0 (may q bs refl) bs past
+  pub batches_grow : (before : Past) (e : ℕ) (x : Entry) → ((q : ℕ) (bs : List Batch) → x ≡ entry.Submit q bs → Allows P e q) → (past : Past) → Grows P past (fold (λ p t. started t p) past (batches_of before e x))
+  batches_grow before e (entry.Submit q bs) may past = batches_grow before e q 0 (may q bs refl) bs past
   batches_grow before e _ may past = stays P past
 
 -- a point of a batch of entry e
@@ -87,7 +87,7 @@ pub plain_grows : (e : ℕ) (past : Past) (xs : List Entry) → Grows (Within e 
 plain_grows e past [] = stays _ past
 plain_grows e past (x ∷ xs) =
     let here : Past = host e x ∷ past in
-    let next : Past = fold (λ p t. taken t p) here (turns_of past e x) in
+    let next : Past = fold (λ p t. started t p) here (batches_of past e x) in
     grows_on _ past here _ (one_more _ past (host e x) (omega arith, omega arith))
     (grows_on _ here next _
     (batches_grow (Within e (length (x ∷ xs))) past e x (λ q bs is b k d quiet. (omega arith, omega arith)) here)
@@ -96,7 +96,7 @@ plain_grows e past (x ∷ xs) =
 pub plain_splits : (e : ℕ) (past : Past) (xs ys : List Entry) → plain_from e past (xs ++ ys) ≡ plain_from (e + length xs) (plain_from e past xs) ys
 plain_splits e past [] ys = ap (λ (k : ℕ). plain_from k past ys) (let same : e ≡ e + 0 = omega arith in same)
 plain_splits e past (x ∷ xs) ys =
-    let next : Past = fold (λ p t. taken t p) (host e x ∷ past) (turns_of past e x) in
+    let next : Past = fold (λ p t. started t p) (host e x ∷ past) (batches_of past e x) in
     plain_splits (e + 1) next xs ys
     ∙ ap (λ (k : ℕ). plain_from k (plain_from (e + 1) next xs) ys) (let same : (e + 1) + length xs ≡ e + length (x ∷ xs) = omega arith in same)
 

@@ -6,7 +6,7 @@ use Rattle.vk_model.specs.declared.entry.Entry.{Entry}
 use Rattle.vk_model.specs.declared.entry.Entry.TheVariants as entry
 use Rattle.vk_model.specs.declared.rule.Rule.TheVariants as rule
 use Rattle.vk_model.specs.Point.{Past, Host, host_of}
-use Rattle.vk_model.specs.Order.{Front, host, taken, turns_of, plain_from, plain_order, after_entry, order_from}
+use Rattle.vk_model.specs.Order.{Front, host, started, batches_of, plain_from, plain_order, after_entry, order_from}
 use Rattle.vk_model.specs.Node.{Node, Act, Hosts, nodes, acts}
 use Rattle.vk_model.specs.Edge.{is_host, is_submit}
 use Rattle.vk_model.specs.Rules.{breaks}
@@ -22,7 +22,7 @@ use Rattle.std.specs.List.{fold}
 use Rattle.std.proofs.lemmas.List.{append-nil}
 
 abbrev with_entry : ℕ → Past → Entry → Past
-with_entry e past x = fold (λ p t. taken t p) (host e x ∷ past) (turns_of past e x)
+with_entry e past x = fold (λ p t. started t p) (host e x ∷ past) (batches_of past e x)
 
 order_splits : (e : ℕ) (f : Front) (xs ys : List Entry) → order_from e f (xs ++ ys) ≡ order_from (e + length xs) (order_from e f xs) ys
 order_splits e f [] ys = ap (λ (k : ℕ). order_from k f ys) (let same : e ≡ e + 0 = omega arith in same)

@@ -1,4 +1,4 @@
--- The plain order, and the order in which batches are taken once their waits are met, where no wait is ahead of its signal.
+-- The plain order, and the order in which batches are started once their waits are met, where no wait is ahead of its signal.
 use Rattle.std.proofs.Common.{◌≡◌, ℕ, ◌+◌, ◌<◌, List, [], ◌∷◌, length, Bool, true, false, not, ◌==◌, refl, ap, sym, ◌∙◌, arith, Option, Some, None}
 use Rattle.std.specs.Prelude.{⊤, nat_lt, nat_le, is_some, option_map, option_and_then, if◌then◌else◌}
 use Rattle.std.specs.List.{list_all, filter, fold}
@@ -11,7 +11,7 @@ use Rattle.vk_model.specs.declared.rule.Rule.TheVariants as rule
 use Rattle.vk_model.specs.Words.{holds}
 use Rattle.vk_model.specs.Point.{Point, Past, Action, Host, Wait, Run, Signal}
 use Rattle.vk_model.specs.Objects.{live, made, ended, initial, semaphore_in}
-use Rattle.vk_model.specs.Order.{Turn, Front, host, actions, taken, turn, turns_from, turns_of, plain_from, plain_order, counter, is_met, same_turn, next_turn, take_turn, settled, after_entry, order_from, order}
+use Rattle.vk_model.specs.Order.{SubmittedBatch, Front, host, actions, started, submitted_batch, batches_from, batches_of, plain_from, plain_order, counter, is_met, same_batch, next_batch, start_batch, settled, after_entry, order_from, order}
 use Rattle.vk_model.specs.Rules.{breaks}
 use Rattle.vk_model.specs.RulesSync.{waits_early}
 use Rattle.vk_model.specs.Fault.{Comes, newest, older}
@@ -28,22 +28,22 @@ unfolding AllMet breaks
 all_met [] never = tt
 all_met (p ∷ past) never = (never past p newest, all_met past (λ before q c. never before q (older c)))
 
-older_actions : {A : Type 0} (of : A → Action) (t : Turn) (k : ℕ) (xs : List A) (past : Past) → AllMet (actions of t k xs past) → AllMet past
+older_actions : {A : Type 0} (of : A → Action) (t : SubmittedBatch) (k : ℕ) (xs : List A) (past : Past) → AllMet (actions of t k xs past) → AllMet past
 unfolding AllMet
 older_actions of t k [] past met = met
 older_actions of t k (x ∷ xs) past met = (older_actions of t (k + 1) xs _ met).1
 
-older_taken : (t : Turn) (past : Past) → AllMet (taken t past) → AllMet (actions Wait t 0 t.content.waits past)
-older_taken t past met = older_actions Run t 0 t.content.commands _ (older_actions Signal t 0 t.content.signals _ met)
+older_started : (t : SubmittedBatch) (past : Past) → AllMet (started t past) → AllMet (actions Wait t 0 t.content.waits past)
+older_started t past met = older_actions Run t 0 t.content.commands _ (older_actions Signal t 0 t.content.signals _ met)
 
-older_turns : (ts : List Turn) (past : Past) → AllMet (fold (λ p t. taken t p) past ts) → AllMet past
-older_turns [] past met = met
-older_turns (t ∷ ts) past met = older_actions Wait t 0 t.content.waits past (older_taken t past (older_turns ts (taken t past) met))
+older_batches : (ts : List SubmittedBatch) (past : Past) → AllMet (fold (λ p t. started t p) past ts) → AllMet past
+older_batches [] past met = met
+older_batches (t ∷ ts) past met = older_actions Wait t 0 t.content.waits past (older_started t past (older_batches ts (started t past) met))
 
 older_plain : (e : ℕ) (xs : List Entry) (past : Past) → AllMet (plain_from e past xs) → AllMet past
 unfolding AllMet
 older_plain e [] past met = met
-older_plain e (x ∷ xs) past met = (older_turns (turns_of past e x) (host e x ∷ past) (older_plain (e + 1) xs _ met)).1
+older_plain e (x ∷ xs) past met = (older_batches (batches_of past e x) (host e x ∷ past) (older_plain (e + 1) xs _ met)).1
 
 -- ---- the waits of a batch are met
 
@@ -72,7 +72,7 @@ live_known past s is_live = go (ended past s) is_live
 abbrev is_kept : Past → SemaphoreSubmit → Bool
 is_kept past w = is_some (option_and_then semaphore_in (live past w.semaphore))
 
-waits_met : (past now : Past) (same : (s : ℕ) → initial now s ≡ initial past s) (t : Turn) (k : ℕ) (ws : List SemaphoreSubmit) (here : Past)
+waits_met : (past now : Past) (same : (s : ℕ) → initial now s ≡ initial past s) (t : SubmittedBatch) (k : ℕ) (ws : List SemaphoreSubmit) (here : Past)
     → ((w : SemaphoreSubmit) → waits_early here (Wait w) ≡ waits_early now (Wait w)) → AllMet (actions Wait t k ws here) → list_all (is_met now) (filter (is_kept past) ws) ≡ true
 unfolding AllMet
 waits_met past now same t k [] here counts met = refl
@@ -87,47 +87,47 @@ waits_met past now same t k (w ∷ ws) here counts met =
 
 -- ---- a batch changes no object
 
-kept_entries : {A : Type 0} (of : A → Action) → ((x : A) → Rattle.vk_model.specs.Point.host_of (of x) ≡ None) → (t : Turn) (k : ℕ) (xs : List A) (past : Past) → Rattle.vk_model.specs.Point.entries (actions of t k xs past) ≡ Rattle.vk_model.specs.Point.entries past
+kept_entries : {A : Type 0} (of : A → Action) → ((x : A) → Rattle.vk_model.specs.Point.host_of (of x) ≡ None) → (t : SubmittedBatch) (k : ℕ) (xs : List A) (past : Past) → Rattle.vk_model.specs.Point.entries (actions of t k xs past) ≡ Rattle.vk_model.specs.Point.entries past
 kept_entries of mute t k [] past = refl
 kept_entries of mute t k (x ∷ xs) past = kept_entries of mute t (k + 1) xs (record { entry = t.entry; batch = t.batch; place = k; queue = t.queue; action = of x } ∷ past) ∙ rw (mute x) refl
 
-taken_entries : (t : Turn) (past : Past) → Rattle.vk_model.specs.Point.entries (taken t past) ≡ Rattle.vk_model.specs.Point.entries past
-taken_entries t past =
+started_entries : (t : SubmittedBatch) (past : Past) → Rattle.vk_model.specs.Point.entries (started t past) ≡ Rattle.vk_model.specs.Point.entries past
+started_entries t past =
     kept_entries Signal (λ x. refl) t 0 t.content.signals _ ∙ kept_entries Run (λ x. refl) t 0 t.content.commands _ ∙ kept_entries Wait (λ x. refl) t 0 t.content.waits past
 
-taken_initial : (t : Turn) (past : Past) (s : ℕ) → initial (taken t past) s ≡ initial past s
-taken_initial t past s = ap (λ (xs : List Entry). option_and_then semaphore_in (Rattle.std.specs.List.find (λ x. holds (Rattle.vk_model.specs.Objects.made_by x) (λ j. s == j)) xs)) (taken_entries t past)
+started_initial : (t : SubmittedBatch) (past : Past) (s : ℕ) → initial (started t past) s ≡ initial past s
+started_initial t past s = ap (λ (xs : List Entry). option_and_then semaphore_in (Rattle.std.specs.List.find (λ x. holds (Rattle.vk_model.specs.Objects.made_by x) (λ j. s == j)) xs)) (started_entries t past)
 
--- ---- batches that can all be taken
+-- ---- batches that can all be started
 
--- the batch at hand is the one that is taken
-its_own : (t : Turn) → same_turn t t ≡ true
+-- the batch at hand is the one that is started
+its_own : (t : SubmittedBatch) → same_batch t t ≡ true
 its_own t = rw (eq-eqb t.entry t.entry refl, eq-eqb t.batch t.batch refl) refl
 
-others_wait : (past : Past) (e q k j : ℕ) (b : Batch) (bs : List Batch) → k < j → filter (λ u. not (same_turn (turn past e q k b) u)) (turns_from past e q j bs) ≡ turns_from past e q j bs
+others_wait : (past : Past) (e q k j : ℕ) (b : Batch) (bs : List Batch) → k < j → filter (λ u. not (same_batch (submitted_batch past e q k b) u)) (batches_from past e q j bs) ≡ batches_from past e q j bs
 others_wait past e q k j b [] lt = refl
 others_wait past e q k j b (c ∷ bs) lt =
     let other : (k == j) ≡ false = ne_eqb k j (λ same. let bad : k ≡ j = same in omega arith) in
-    rw (eq-eqb e e refl, other) (ap (λ ts. turn past e q j c ∷ ts) (others_wait past e q k (j + 1) b bs (omega arith)))
+    rw (eq-eqb e e refl, other) (ap (λ ts. submitted_batch past e q j c ∷ ts) (others_wait past e q k (j + 1) b bs (omega arith)))
 
-settled_turns : (past : Past) (e q k : ℕ) (bs : List Batch) (now : Past) → ((s : ℕ) → initial now s ≡ initial past s) → AllMet (fold (λ p t. taken t p) now (turns_from past e q k bs))
-    → settled (length (turns_from past e q k bs)) (record { past = now; waiting = turns_from past e q k bs }) ≡ record { past = fold (λ p t. taken t p) now (turns_from past e q k bs); waiting = [] }
-settled_turns past e q k [] now same met = refl
-settled_turns past e q k (b ∷ bs) now same met =
-    let t : Turn = turn past e q k b in
-    let ts : List Turn = turns_from past e q (k + 1) bs in
-    let its_waits : AllMet (actions Wait t 0 b.waits now) = older_taken t now (older_turns ts (taken t now) met) in
+settled_batches : (past : Past) (e q k : ℕ) (bs : List Batch) (now : Past) → ((s : ℕ) → initial now s ≡ initial past s) → AllMet (fold (λ p t. started t p) now (batches_from past e q k bs))
+    → settled (length (batches_from past e q k bs)) (record { past = now; waiting = batches_from past e q k bs }) ≡ record { past = fold (λ p t. started t p) now (batches_from past e q k bs); waiting = [] }
+settled_batches past e q k [] now same met = refl
+settled_batches past e q k (b ∷ bs) now same met =
+    let t : SubmittedBatch = submitted_batch past e q k b in
+    let ts : List SubmittedBatch = batches_from past e q (k + 1) bs in
+    let its_waits : AllMet (actions Wait t 0 b.waits now) = older_started t now (older_batches ts (started t now) met) in
     let ready : list_all (is_met now) (filter (is_kept past) b.waits) ≡ true = waits_met past now same t 0 b.waits now (λ w. refl) its_waits in
-    let found : next_turn now [] (t ∷ ts) ≡ Some t = rw ready refl in
-    let left : take_turn (Some t) (record { past = now; waiting = t ∷ ts }) ≡ record { past = taken t now; waiting = ts } =
-    rw (its_own t) (ap (λ (w : List Turn). let f : Front = record { past = taken t now; waiting = w } in f) (others_wait past e q k (k + 1) b bs (omega arith))) in
-    ap (λ (o : Option Turn). settled (length ts) (take_turn o (record { past = now; waiting = t ∷ ts }))) found
+    let found : next_batch now [] (t ∷ ts) ≡ Some t = rw ready refl in
+    let left : start_batch (Some t) (record { past = now; waiting = t ∷ ts }) ≡ record { past = started t now; waiting = ts } =
+    rw (its_own t) (ap (λ (w : List SubmittedBatch). let f : Front = record { past = started t now; waiting = w } in f) (others_wait past e q k (k + 1) b bs (omega arith))) in
+    ap (λ (o : Option SubmittedBatch). settled (length ts) (start_batch o (record { past = now; waiting = t ∷ ts }))) found
     ∙ ap (settled (length ts)) left
-    ∙ settled_turns past e q (k + 1) bs (taken t now) (λ s. taken_initial t now s ∙ same s) met
+    ∙ settled_batches past e q (k + 1) bs (started t now) (λ s. started_initial t now s ∙ same s) met
 
-after_one : (e : ℕ) (past : Past) (x : Entry) → AllMet (fold (λ p t. taken t p) (host e x ∷ past) (turns_of past e x))
-    → after_entry e x (record { past = past; waiting = [] }) ≡ record { past = fold (λ p t. taken t p) (host e x ∷ past) (turns_of past e x); waiting = [] }
-after_one e past (entry.Submit q bs) met = settled_turns past e q 0 bs (host e (entry.Submit q bs) ∷ past) (λ s. refl) met
+after_one : (e : ℕ) (past : Past) (x : Entry) → AllMet (fold (λ p t. started t p) (host e x ∷ past) (batches_of past e x))
+    → after_entry e x (record { past = past; waiting = [] }) ≡ record { past = fold (λ p t. started t p) (host e x ∷ past) (batches_of past e x); waiting = [] }
+after_one e past (entry.Submit q bs) met = settled_batches past e q 0 bs (host e (entry.Submit q bs) ∷ past) (λ s. refl) met
 after_one e past (entry.Pool i x) met = refl
 after_one e past (entry.Buffer i x) met = refl
 after_one e past (entry.Image i x) met = refl
@@ -153,8 +153,8 @@ after_one e past (entry.EndDefrag d) met = refl
 order_steps : (e : ℕ) (xs : List Entry) (past : Past) → AllMet (plain_from e past xs) → order_from e (record { past = past; waiting = [] }) xs ≡ record { past = plain_from e past xs; waiting = [] }
 order_steps e [] past met = refl
 order_steps e (x ∷ xs) past met =
-    ap (λ (f : Front). order_from (e + 1) f xs) (after_one e past x (older_plain (e + 1) xs (fold (λ p t. taken t p) (host e x ∷ past) (turns_of past e x)) met))
-    ∙ order_steps (e + 1) xs (fold (λ p t. taken t p) (host e x ∷ past) (turns_of past e x)) met
+    ap (λ (f : Front). order_from (e + 1) f xs) (after_one e past x (older_plain (e + 1) xs (fold (λ p t. started t p) (host e x ∷ past) (batches_of past e x)) met))
+    ∙ order_steps (e + 1) xs (fold (λ p t. started t p) (host e x ∷ past) (batches_of past e x)) met
 
 pub orders_agree : (t : List Entry) → NeverAhead t → order t ≡ plain_order t
 orders_agree t never = ap (λ (f : Front). f.past) (order_steps 0 t [] (all_met (plain_order t) never))

@@ -5,7 +5,7 @@ use Rattle.vk_model.specs.declared.entry.Entry.{Entry}
 use Rattle.vk_model.specs.Words.{among, option_list}
 use Rattle.vk_model.specs.Point.{Past, Point, Action, Run, host_of}
 use Rattle.vk_model.specs.Objects.{live_resources}
-use Rattle.vk_model.specs.Order.{turns_of, actions}
+use Rattle.vk_model.specs.Order.{batches_of, actions}
 use Rattle.vk_model.specs.Ownership.{uses, named_by}
 use Rattle.vk_model.specs.Node.{Node, Act, Depends, Runs, nodes, next_nodes, acts, same_place}
 use Rattle.vk_model.specs.Before.{before}
@@ -13,7 +13,7 @@ use Rattle.vk_model.specs.Before.{before}
 -- The points of the commands that entry e submits, if it does (Vulkan, "Queue Submission").
 abbrev pub commands_of : Past → ℕ → Option Entry → List Point
 commands_of past e None = []
-commands_of past e (Some x) = flat_map (λ t. actions Run t 0 t.content.commands []) (turns_of past e x)
+commands_of past e (Some x) = flat_map (λ t. actions Run t 0 t.content.commands []) (batches_of past e x)
 
 -- The points of all submitted commands, those of batches that still wait too (Vulkan, "Queue Submission").
 abbrev pub submitted : Past → List Point
@@ -34,7 +34,7 @@ names r d = list_any (λ a. among r (named_by_act a)) (acts d)
 abbrev pub nodes_for : List Node → Point → ℕ → List Node
 nodes_for ns p r = filter (λ m. same_place m.point p && among r (named_by_act m.act)) ns
 
--- Whether the command at point p is known complete, for resource r, at node n: it was taken, and all its nodes that name the resource come before n (profile, after Vulkan, "Execution and Memory Dependencies").
+-- Whether the command at point p is known complete, for resource r, at node n: it was started, and all its nodes that name the resource come before n (profile, after Vulkan, "Execution and Memory Dependencies").
 abbrev pub is_complete : List Node → Node → Point → ℕ → Bool
 is_complete ns n p r = nat_lt 0 (length (nodes_for ns p r)) && list_all (λ m. before ns m n) (nodes_for ns p r)
 

@@ -67,7 +67,7 @@ BeforeLeadsOn = (ns : List Node) (x y : Node) → IsTrue (before ns x y) → x.n
 abbrev pub NeverAhead : List Entry → Type 0
 NeverAhead t = (before : Past) (p : Point) → Comes (plain_order t) before p → breaks rule.WaitBeforeSignal before p ≡ false
 
--- Then every batch is taken right after its submit, and the two orders are one.
+-- Then every batch is started right after its submit, and the two orders are one.
 abbrev pub OrdersAgree : Type 0
 OrdersAgree = (t : List Entry) → NeverAhead t → order t ≡ plain_order t
 

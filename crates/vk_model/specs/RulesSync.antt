@@ -78,7 +78,7 @@ abbrev pub waits_early : Past → Action → Bool
 waits_early past (Wait s) = holds (counter past s.semaphore) (λ c. nat_lt c s.value)
 waits_early past _ = false
 
--- WAIT_BEFORE_SIGNAL: a batch waits for a value above the counter (profile, while no wait may come before its signal; where batches are taken once their waits are met, no point breaks it).
+-- WAIT_BEFORE_SIGNAL: a batch waits for a value above the counter (profile, while no wait may come before its signal; where batches are started once their waits are met, no point breaks it).
 abbrev pub breaks_wait_before_signal : Past → Point → Bool
 breaks_wait_before_signal past p = waits_early past p.action
 
@@ -87,6 +87,6 @@ abbrev pub waits_for_more : Past → Entry → Bool
 waits_for_more past (entry.Wait ws) = list_any (λ w. holds (counter past w.semaphore) (λ c. nat_lt c w.value)) ws
 waits_for_more past _ = false
 
--- WAIT_NEVER: the host waits for a value above the counter, when all batches that can be taken are (Vulkan, "Semaphores", on `vkWaitSemaphores`; here such a wait has no end: profile).
+-- WAIT_NEVER: the host waits for a value above the counter, when all batches that can be started are (Vulkan, "Semaphores", on `vkWaitSemaphores`; here such a wait has no end: profile).
 abbrev pub breaks_wait_never : Past → Point → Bool
 breaks_wait_never past p = on_host (waits_for_more past) p

@@ -44,7 +44,7 @@ pub data Step : Type 0 where
   RunPiece : Name → Step
   CopyPart : ℕ → Step
 
--- Where a run stands: the batches taken and those that wait, the pieces that have run, the parts of the open pass that are copied, the entries to come, and how many have been applied.
+-- Where a run stands: the batches started and those that wait, the pieces that have run, the parts of the open pass that are copied, the entries to come, and how many have been applied.
 pub record Stage : Type 0 where
   pub front : Front
   pub done : List Name

@@ -43,7 +43,7 @@ pub fn pieces_are_moves()
     ensures { PiecesAreMoves }
 {}
 
-/// Where no batch waits for a value above the counter, each is taken right after its submit: the order
+/// Where no batch waits for a value above the counter, each is started right after its submit: the order
 /// with waiting batches is the plain order.
 pub fn orders_agree()
     ensures { OrdersAgree }

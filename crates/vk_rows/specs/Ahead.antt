@@ -136,7 +136,7 @@ pub record Ahead : Type 0 where
       ∷ entry.Read 3 0 4
       ∷ entry.Read 2 8188 4
       ∷ []) (at.Entry 12) rule.PassState
-  -- A batch that was submitted before the one it waits for is taken after it.
+  -- A batch that was submitted before the one it waits for is started after it.
   pub wait_ahead : AcceptsLater
       (buffer_entry 1 16 both sharing.Concurrent (place.Dedicated 1)
       ∷ buffer_entry 3 16 destination sharing.Concurrent (place.Dedicated 1)
@@ -150,7 +150,7 @@ pub record Ahead : Type 0 where
       ∷ entry.Map 3
       ∷ entry.Read 3 0 4
       ∷ []) ((7, 1 ∷ 2 ∷ 3 ∷ 4 ∷ []) ∷ [])
-  -- A batch behind a waiting one of its queue isn't taken, so its signal never comes.
+  -- A batch behind a waiting one of its queue isn't started, so its signal never comes.
   pub queue_held_back : RefusesLater
       (entry.Semaphore 1 0
       ∷ entry.Semaphore 2 0
@@ -172,14 +172,14 @@ pub record Ahead : Type 0 where
       ∷ entry.Submit 0 (batch (submit_info 2 1 all_commands ∷ []) (cmd.Fill 1 0 (bytes 16) 1 ∷ []) [] ∷ [])
       ∷ entry.Destroy 1
       ∷ []) (at.Entry 3) rule.InUse
-  -- A batch that is never taken isn't judged.
-  pub never_taken : AcceptsLater
+  -- A batch that is never started isn't judged.
+  pub never_started : AcceptsLater
       (buffer_entry 1 16 both sharing.Exclusive (place.Dedicated 1)
       ∷ entry.Semaphore 2 0
       ∷ entry.Submit 0 (batch (submit_info 2 1 all_commands ∷ []) (cmd.Fill 1 0 (bytes 16) 1 ∷ []) [] ∷ [])
       ∷ []) []
-  -- A waiting batch is judged when it's taken.
-  pub judged_when_taken : RefusesLater
+  -- A waiting batch is judged when it's started.
+  pub judged_when_started : RefusesLater
       (buffer_entry 1 16 both sharing.Exclusive (place.Dedicated 1)
       ∷ entry.Semaphore 2 0
       ∷ entry.Submit 0 (batch (submit_info 2 1 all_commands ∷ []) (cmd.Fill 1 0 (bytes 15) 1 ∷ []) [] ∷ [])

@@ -15,7 +15,7 @@ use Rattle.vk_model.specs.declared.entry.SemaphoreSubmit.{SemaphoreSubmit}
 use Rattle.vk_model.specs.declared.resource.Place.{Place}
 use Rattle.vk_model.specs.declared.resource.Place.TheVariants as place
 use Rattle.vk_model.specs.Point.{Past, Point, Action, Wait, Run, Signal}
-use Rattle.vk_model.specs.Order.{Turn, host, actions, taken, turns_from, turns_of, plain_from, plain_order}
+use Rattle.vk_model.specs.Order.{SubmittedBatch, host, actions, taken, batches_from, batches_of, plain_from, plain_order}
 use Rattle.vk_validate.specs.Supported.{is_supported, is_supported_action, is_supported_entry, is_supported_command, is_supported_place, is_memory}
 use Rattle.vk_trace.specs.Members.{Reader, Row, ◌>>=◌, array_members, first_member, no_member, from, ◌<*>◌, only, members, at_word, after_word, word_and_members, tagged, each_member, list_of, empty_list, u32_value, u64_value}
 use Rattle.vk_trace.specs.Trace.{memory_element, dependency_value, command_rows, command_value, semaphore_submit, batch_value, semaphore_value, queue_value, memory_type_value, place_rows, place_value, sharing_value, length_or_whole, buffer, entry_rows, entry_value, IsTrace}
@@ -174,26 +174,26 @@ queue_makes d x h =
 -- an entry, and the batches that it submits
 pub record IsSupportedEntry (x : Entry) : Type 0 where
   pub host : is_supported_entry x ≡ true
-  pub turns : (past : Past) (e : ℕ) → Each (λ (t : Turn). IsSupportedBatch t.content) (turns_of past e x)
+  pub batches : (past : Past) (e : ℕ) → Each (λ (t : SubmittedBatch). IsSupportedBatch t.content) (batches_of past e x)
 
-of_batches : (past : Past) (e q k : ℕ) (bs : List Batch) → Each IsSupportedBatch bs → Each (λ (t : Turn). IsSupportedBatch t.content) (turns_from past e q k bs)
+of_batches : (past : Past) (e q k : ℕ) (bs : List Batch) → Each IsSupportedBatch bs → Each (λ (t : SubmittedBatch). IsSupportedBatch t.content) (batches_from past e q k bs)
 of_batches past e q k [] each = tt
 of_batches past e q k (b ∷ bs) each = (each.0, of_batches past e q (k + 1) bs each.1)
 
 entry_makes : Makes IsSupportedEntry entry_value
 unfolding entry_value entry_rows
 entry_makes = tagged_makes IsSupportedEntry entry_rows (
-  more_makes IsSupportedEntry IsSupportedPlace _ place_value (any_makes _ _ sharing_value (any_makes _ _ u32_value (any_makes _ _ u64_value (any_makes _ _ u32_value (from_makes _ buffer (λ i n u s p own. record { host = own; turns = λ past e. tt })))))) place_makes,
+  more_makes IsSupportedEntry IsSupportedPlace _ place_value (any_makes _ _ sharing_value (any_makes _ _ u32_value (any_makes _ _ u64_value (any_makes _ _ u32_value (from_makes _ buffer (λ i n u s p own. record { host = own; batches = λ past e. tt })))))) place_makes,
   (
-    any_makes IsSupportedEntry _ u32_value (from_makes _ entry.Map (λ b. record { host = refl; turns = λ past e. tt })),
+    any_makes IsSupportedEntry _ u32_value (from_makes _ entry.Map (λ b. record { host = refl; batches = λ past e. tt })),
     (
-      any_makes IsSupportedEntry _ u64_value (any_makes _ _ u64_value (any_makes _ _ u32_value (from_makes _ entry.Read (λ b o n. record { host = refl; turns = λ past e. tt })))),
+      any_makes IsSupportedEntry _ u64_value (any_makes _ _ u64_value (any_makes _ _ u32_value (from_makes _ entry.Read (λ b o n. record { host = refl; batches = λ past e. tt })))),
       (
-        any_makes IsSupportedEntry _ u64_value (any_makes _ _ u32_value (from_makes _ entry.Semaphore (λ i v. record { host = refl; turns = λ past e. tt }))),
+        any_makes IsSupportedEntry _ u64_value (any_makes _ _ u32_value (from_makes _ entry.Semaphore (λ i v. record { host = refl; batches = λ past e. tt }))),
         (
-          any_makes IsSupportedEntry _ (list_of semaphore_value) (from_makes _ entry.Wait (λ ws. record { host = refl; turns = λ past e. tt })),
+          any_makes IsSupportedEntry _ (list_of semaphore_value) (from_makes _ entry.Wait (λ ws. record { host = refl; batches = λ past e. tt })),
           (
-            more_makes IsSupportedEntry (Each IsSupportedBatch) _ (list_of batch_value) (more_makes _ (λ (q : ℕ). (q == 0) ≡ true) _ queue_value (from_makes _ entry.Submit (λ q first bs each. record { host = first; turns = λ past e. of_batches past e q 0 bs each })) queue_makes) (list_makes _ batch_value batch_makes),
+            more_makes IsSupportedEntry (Each IsSupportedBatch) _ (list_of batch_value) (more_makes _ (λ (q : ℕ). (q == 0) ≡ true) _ queue_value (from_makes _ entry.Submit (λ q first bs each. record { host = first; batches = λ past e. of_batches past e q 0 bs each })) queue_makes) (list_makes _ batch_value batch_makes),
             tt,
           ),
         ),
@@ -208,7 +208,7 @@ point_supported : (p : Point) (past : Past) → is_supported_action p.action ≡
 unfolding is_supported
 point_supported p past here before = rw (here, before) refl
 
-actions_supported : {A : Type 0} (of : A → Action) (t : Turn) (k : ℕ) (xs : List A) (past : Past) → Each (λ x. is_supported_action (of x) ≡ true) xs → is_supported past ≡ true → is_supported (actions of t k xs past) ≡ true
+actions_supported : {A : Type 0} (of : A → Action) (t : SubmittedBatch) (k : ℕ) (xs : List A) (past : Past) → Each (λ x. is_supported_action (of x) ≡ true) xs → is_supported past ≡ true → is_supported (actions of t k xs past) ≡ true
 actions_supported of t k [] past each before = before
 actions_supported of t k (x ∷ xs) past each before = actions_supported of t (k + 1) xs _ each.1 (point_supported (record { entry = t.entry; batch = t.batch; place = k; queue = t.queue; action = of x }) past each.0 before)
 
@@ -216,19 +216,19 @@ signals : (xs : List SemaphoreSubmit) → Each (λ x. is_supported_action (Signa
 signals [] = tt
 signals (x ∷ xs) = (refl, signals xs)
 
-taken_supported : (t : Turn) (past : Past) → IsSupportedBatch t.content → is_supported past ≡ true → is_supported (taken t past) ≡ true
-taken_supported t past batch before =
+started_supported : (t : SubmittedBatch) (past : Past) → IsSupportedBatch t.content → is_supported past ≡ true → is_supported (taken t past) ≡ true
+started_supported t past batch before =
     let waited : is_supported (actions Wait t 0 t.content.waits past) ≡ true = subst (λ (ws : List SemaphoreSubmit). is_supported (actions Wait t 0 ws past) ≡ true) (sym batch.waits) before in
     actions_supported Signal t 0 t.content.signals _ (signals t.content.signals) (actions_supported Run t 0 t.content.commands _ batch.commands waited)
 
-turns_supported : (ts : List Turn) (past : Past) → Each (λ (t : Turn). IsSupportedBatch t.content) ts → is_supported past ≡ true → is_supported (fold (λ p t. taken t p) past ts) ≡ true
-turns_supported [] past each before = before
-turns_supported (t ∷ ts) past each before = turns_supported ts (taken t past) each.1 (taken_supported t past each.0 before)
+batches_supported : (ts : List SubmittedBatch) (past : Past) → Each (λ (t : SubmittedBatch). IsSupportedBatch t.content) ts → is_supported past ≡ true → is_supported (fold (λ p t. taken t p) past ts) ≡ true
+batches_supported [] past each before = before
+batches_supported (t ∷ ts) past each before = batches_supported ts (taken t past) each.1 (started_supported t past each.0 before)
 
 plain_supported : (e : ℕ) (past : Past) (xs : List Entry) → Each IsSupportedEntry xs → is_supported past ≡ true → is_supported (plain_from e past xs) ≡ true
 plain_supported e past [] each before = before
 plain_supported e past (x ∷ xs) each before =
-    plain_supported (e + 1) _ xs each.1 (turns_supported (turns_of past e x) (host e x ∷ past) (each.0.turns past e) (point_supported (host e x) past each.0.host before))
+    plain_supported (e + 1) _ xs each.1 (batches_supported (batches_of past e x) (host e x ∷ past) (each.0.batches past e) (point_supported (host e x) past each.0.host before))
 
 nothing_supported : is_supported [] ≡ true
 unfolding is_supported

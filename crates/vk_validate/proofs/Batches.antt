@@ -7,18 +7,18 @@ use Rattle.vk_model.specs.declared.entry.Batch.{Batch}
 use Rattle.vk_model.specs.declared.entry.Entry.{Entry}
 use Rattle.vk_model.specs.declared.entry.Entry.TheVariants as entry
 use Rattle.vk_model.specs.Point.{Past, Action, Wait, Run, Signal}
-use Rattle.vk_model.specs.Order.{Turn, actions, taken, turn, turns_from, turns_of, plain_from, plain_order, host}
+use Rattle.vk_model.specs.Order.{SubmittedBatch, actions, started, submitted_batch, batches_from, batches_of, plain_from, plain_order, host}
 use Rattle.vk_validate.specs.declared.steps.Step.{Step}
 use Rattle.vk_validate.specs.Told.{past_of, point_of, add}
-use Rattle.vk_validate.specs.Laid.{turn_at, laid_batch, laid_batches, laid_submit, laid_entries}
+use Rattle.vk_validate.specs.Laid.{batch_at, laid_batch, laid_batches, laid_submit, laid_entries}
 
 pub past_of-push : (ps : List Step) (p : Step) → past_of (ps ++ p ∷ []) ≡ point_of p ∷ past_of ps
 past_of-push ps p = fold-append add [] ps (p ∷ [])
 
-pub actions-drop : {A : Type 0} (of : A → Action) (t : Turn) (xs : List A) (k : ℕ) (d : A) (past : Past) → k < length xs → actions of t k (drop k xs) past ≡ actions of t (k + 1) (drop (k + 1) xs) (record { entry = t.entry; batch = t.batch; place = k; queue = t.queue; action = of (get_or xs k d) } ∷ past)
+pub actions-drop : {A : Type 0} (of : A → Action) (t : SubmittedBatch) (xs : List A) (k : ℕ) (d : A) (past : Past) → k < length xs → actions of t k (drop k xs) past ≡ actions of t (k + 1) (drop (k + 1) xs) (record { entry = t.entry; batch = t.batch; place = k; queue = t.queue; action = of (get_or xs k d) } ∷ past)
 actions-drop of t xs k d past lt = let e : drop k xs ≡ get_or xs k d ∷ drop (k + 1) xs = rw (add-one, drop-cons xs k d) refl in rw e refl
 
-pub actions-all : {A : Type 0} (of : A → Action) (t : Turn) (xs : List A) (k : ℕ) (past : Past) → length xs ≤ k → actions of t k (drop k xs) past ≡ past
+pub actions-all : {A : Type 0} (of : A → Action) (t : SubmittedBatch) (xs : List A) (k : ℕ) (past : Past) → length xs ≤ k → actions of t k (drop k xs) past ≡ past
 actions-all of t xs k past le = rw (drop_all k xs le) refl
 
 -- what the loops over the waits, commands and signals of a batch go by
@@ -37,23 +37,23 @@ pub laid_entries-drop : (xs : List Entry) (k : ℕ) (d : Entry) (past : Past) �
 laid_entries-drop xs k d past lt = let is : drop k xs ≡ get_or xs k d ∷ drop (k + 1) xs = rw (add-one, drop-cons xs k d) refl in rw is refl
 
 -- what points keep of a batch is all that they read of it
-actions-same : {A : Type 0} (of : A → Action) (t u : Turn) → t.entry ≡ u.entry → t.batch ≡ u.batch → t.queue ≡ u.queue → (k : ℕ) (xs : List A) (past : Past) → actions of t k xs past ≡ actions of u k xs past
+actions-same : {A : Type 0} (of : A → Action) (t u : SubmittedBatch) → t.entry ≡ u.entry → t.batch ≡ u.batch → t.queue ≡ u.queue → (k : ℕ) (xs : List A) (past : Past) → actions of t k xs past ≡ actions of u k xs past
 actions-same of t u e b q k [] past = refl
 actions-same of t u e b q k (x ∷ xs) past = rw (e, b, q) (actions-same of t u e b q (k + 1) xs _)
 
-laid-taken : (p : Past) (e q k : ℕ) (b : Batch) (past : Past) → laid_batch e k q b past ≡ taken (turn p e q k b) past
+laid-started : (p : Past) (e q k : ℕ) (b : Batch) (past : Past) → laid_batch e k q b past ≡ started (submitted_batch p e q k b) past
 unfolding laid_batch
-laid-taken p e q k b past =
-    let t : Turn = turn_at e k q in let u : Turn = turn p e q k b in
+laid-started p e q k b past =
+    let t : SubmittedBatch = batch_at e k q in let u : SubmittedBatch = submitted_batch p e q k b in
     actions-same Signal t u refl refl refl 0 b.signals _
     ∙ ap (actions Signal u 0 b.signals) (actions-same Run t u refl refl refl 0 b.commands _ ∙ ap (actions Run u 0 b.commands) (actions-same Wait t u refl refl refl 0 b.waits past))
 
-laid-turns : (p : Past) (e q k : ℕ) (bs : List Batch) (past : Past) → laid_batches e q k bs past ≡ fold (λ p t. taken t p) past (turns_from p e q k bs)
-laid-turns p e q k [] past = refl
-laid-turns p e q k (b ∷ bs) past = ap (laid_batches e q (k + 1) bs) (laid-taken p e q k b past) ∙ laid-turns p e q (k + 1) bs _
+laid-batches : (p : Past) (e q k : ℕ) (bs : List Batch) (past : Past) → laid_batches e q k bs past ≡ fold (λ p t. started t p) past (batches_from p e q k bs)
+laid-batches p e q k [] past = refl
+laid-batches p e q k (b ∷ bs) past = ap (laid_batches e q (k + 1) bs) (laid-started p e q k b past) ∙ laid-batches p e q (k + 1) bs _
 
-laid-of : (p : Past) (e : ℕ) (x : Entry) (past : Past) → laid_submit e x past ≡ fold (λ p t. taken t p) past (turns_of p e x)
-laid-of p e (entry.Submit q bs) past = laid-turns p e q 0 bs past
+laid-of : (p : Past) (e : ℕ) (x : Entry) (past : Past) → laid_submit e x past ≡ fold (λ p t. started t p) past (batches_of p e x)
+laid-of p e (entry.Submit q bs) past = laid-batches p e q 0 bs past
 laid-of p e _ past = refl
 
 pub laid-plain : (e : ℕ) (xs : List Entry) (past : Past) → laid_entries e xs past ≡ plain_from e past xs

@@ -10,7 +10,7 @@ use Rattle.vk_model.specs.declared.entry.Entry.{Entry}
 use Rattle.vk_model.specs.declared.entry.Entry.TheVariants as entry
 use Rattle.vk_model.specs.Point.{Past, Point, Action, Host, Wait, Run, Signal}
 use Rattle.vk_model.specs.Fault.{Comes, newest, older}
-use Rattle.vk_model.specs.Order.{Turn, actions, taken, turn, turns_from, turns_of, plain_from, plain_order, host}
+use Rattle.vk_model.specs.Order.{SubmittedBatch, actions, started, submitted_batch, batches_from, batches_of, plain_from, plain_order, host}
 use Rattle.vk_model.specs.Node.{Node, Act, acts, nodes, same_place}
 use Rattle.vk_model.specs.Edge.{is_element}
 use Rattle.vk_validate.proofs.Members.{none_in, contains-cons}
@@ -48,14 +48,14 @@ next_lower p past e b k pe pb pk all before q d (older c) is = elim (all before 
   | inr rest ↦ elim rest [ inl less ↦ inr (inl less) | inr less ↦ inr (inr (less.0, less.1, let lt = less.2 in omega (arith, lt))) ]
 ]
 
-module _ {A : Type 0} (of : A → Action) (none : (x : A) (c : Cmd) → of x ≡ Run c → ⊥) (t : Turn) (b n : ℕ) where
+module _ {A : Type 0} (of : A → Action) (none : (x : A) (c : Cmd) → of x ≡ Run c → ⊥) (t : SubmittedBatch) (b n : ℕ) where
   quiet_actions : (k : ℕ) (xs : List A) (past : Past) → AllLower past t.entry b n → IsApart past → AllLower (actions of t k xs past) t.entry b n × IsApart (actions of t k xs past)
   quiet_actions k [] past low apart = (low, apart)
   quiet_actions k (x ∷ xs) past low apart =
       let p : Point = record { entry = t.entry; batch = t.batch; place = k; queue = t.queue; action = of x } in
       quiet_actions (k + 1) xs (p ∷ past) (quiet_lower p past t.entry b n (none x) low) (λ c is. absurd (none x c is), apart)
 
-run_actions : (t : Turn) (k : ℕ) (cs : List Cmd) (past : Past) → AllLower past t.entry t.batch k → IsApart past → (n : ℕ) × AllLower (actions Run t k cs past) t.entry t.batch n × IsApart (actions Run t k cs past)
+run_actions : (t : SubmittedBatch) (k : ℕ) (cs : List Cmd) (past : Past) → AllLower past t.entry t.batch k → IsApart past → (n : ℕ) × AllLower (actions Run t k cs past) t.entry t.batch n × IsApart (actions Run t k cs past)
 run_actions t k [] past low apart = (k, low, apart)
 run_actions t k (c ∷ cs) past low apart =
     let p : Point = record { entry = t.entry; batch = t.batch; place = k; queue = t.queue; action = Run c } in
@@ -73,20 +73,20 @@ next_entry past e b k all before q d c is = elim (all before q d c is) [
   | inr rest ↦ elim rest [ inl less ↦ (let eq = less.0 in inl (omega (arith, eq))) | inr less ↦ (let eq = less.0 in inl (omega (arith, eq))) ]
 ]
 
-taken_apart : (t : Turn) (past : Past) → AllLower past t.entry t.batch 0 → IsApart past → (n : ℕ) × AllLower (taken t past) t.entry t.batch n × IsApart (taken t past)
-taken_apart t past low apart =
+started_apart : (t : SubmittedBatch) (past : Past) → AllLower past t.entry t.batch 0 → IsApart past → (n : ℕ) × AllLower (started t past) t.entry t.batch n × IsApart (started t past)
+started_apart t past low apart =
     let a = quiet_actions Wait (λ x c e. cc) t t.batch 0 0 t.content.waits past low apart in
     let b = run_actions t 0 t.content.commands (actions Wait t 0 t.content.waits past) a.0 a.1 in
     let c = quiet_actions Signal (λ x c e. cc) t t.batch b.0 0 t.content.signals (actions Run t 0 t.content.commands (actions Wait t 0 t.content.waits past)) b.1 b.2 in
     (b.0, c.0, c.1)
 
-turns_apart : (before : Past) (e q k : ℕ) (bs : List Batch) (past : Past) → AllLower past e k 0 → IsApart past → (n : ℕ) × AllLower (fold (λ p t. taken t p) past (turns_from before e q k bs)) e n 0 × IsApart (fold (λ p t. taken t p) past (turns_from before e q k bs))
-turns_apart before e q k [] past low apart = (k, low, apart)
-turns_apart before e q k (b ∷ bs) past low apart =
-    let a = taken_apart (turn before e q k b) past low apart in
-    turns_apart before e q (k + 1) bs (taken (turn before e q k b) past) (next_batch _ e k a.0 a.1) a.2
+batches_apart : (before : Past) (e q k : ℕ) (bs : List Batch) (past : Past) → AllLower past e k 0 → IsApart past → (n : ℕ) × AllLower (fold (λ p t. started t p) past (batches_from before e q k bs)) e n 0 × IsApart (fold (λ p t. started t p) past (batches_from before e q k bs))
+batches_apart before e q k [] past low apart = (k, low, apart)
+batches_apart before e q k (b ∷ bs) past low apart =
+    let a = started_apart (submitted_batch before e q k b) past low apart in
+    batches_apart before e q (k + 1) bs (started (submitted_batch before e q k b) past) (next_batch _ e k a.0 a.1) a.2
 
-entry_apart : (before : Past) (e : ℕ) (x : Entry) (past : Past) → AllLower past e 0 0 → IsApart past → AllLower (fold (λ p t. taken t p) (host e x ∷ past) (turns_of before e x)) (e + 1) 0 0 × IsApart (fold (λ p t. taken t p) (host e x ∷ past) (turns_of before e x))
+entry_apart : (before : Past) (e : ℕ) (x : Entry) (past : Past) → AllLower past e 0 0 → IsApart past → AllLower (fold (λ p t. started t p) (host e x ∷ past) (batches_of before e x)) (e + 1) 0 0 × IsApart (fold (λ p t. started t p) (host e x ∷ past) (batches_of before e x))
 entry_apart before e x past low apart = go x where
   at : (x : Entry) → AllLower (host e x ∷ past) e 0 0
   at x = quiet_lower (host e x) past e 0 0 (λ c is. cc) low
@@ -94,9 +94,9 @@ entry_apart before e x past low apart = go x where
   alone : (x : Entry) → AllLower (host e x ∷ past) (e + 1) 0 0 × IsApart (host e x ∷ past)
   alone x = (next_entry (host e x ∷ past) e 0 0 (at x), ((λ c is. absurd cc), apart))
 
-  go : (x : Entry) → AllLower (fold (λ p t. taken t p) (host e x ∷ past) (turns_of before e x)) (e + 1) 0 0 × IsApart (fold (λ p t. taken t p) (host e x ∷ past) (turns_of before e x))
+  go : (x : Entry) → AllLower (fold (λ p t. started t p) (host e x ∷ past) (batches_of before e x)) (e + 1) 0 0 × IsApart (fold (λ p t. started t p) (host e x ∷ past) (batches_of before e x))
   go (entry.Submit q bs) =
-      let a = turns_apart before e q 0 bs (host e (entry.Submit q bs) ∷ past) (at (entry.Submit q bs)) ((λ c is. absurd cc), apart) in
+      let a = batches_apart before e q 0 bs (host e (entry.Submit q bs) ∷ past) (at (entry.Submit q bs)) ((λ c is. absurd cc), apart) in
       (next_entry _ e a.0 0 a.1, a.2)
   go x = alone x
 

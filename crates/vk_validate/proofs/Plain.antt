@@ -9,7 +9,7 @@ use Rattle.vk_model.specs.declared.entry.Entry.TheVariants as entry
 use Rattle.vk_model.specs.Words.{holds}
 use Rattle.vk_model.specs.Point.{Past, Point, Action, Wait, Run, Signal, host_of, entries}
 use Rattle.vk_model.specs.Objects.{made, made_by}
-use Rattle.vk_model.specs.Order.{Turn, actions, taken, turn, turns_from, turns_of, plain_from, plain_order, host}
+use Rattle.vk_model.specs.Order.{SubmittedBatch, actions, started, submitted_batch, batches_from, batches_of, plain_from, plain_order, host}
 use Rattle.vk_model.specs.RulesIds.{until}
 
 -- an entry is a submit on a queue
@@ -35,27 +35,27 @@ abbrev pub IsPlain : Past → Type 0
 IsPlain [] = ⊤
 IsPlain (p ∷ past) = Placed (host_of p.action) p past × IsPlain past
 
-module _ {A : Type 0} (of : A → Action) (on_queue : (x : A) → host_of (of x) ≡ None) (t : Turn) where
+module _ {A : Type 0} (of : A → Action) (on_queue : (x : A) → host_of (of x) ≡ None) (t : SubmittedBatch) where
   plain_actions : (k : ℕ) (xs : List A) (past : Past) → LastSubmit t.entry t.queue past → IsPlain past → LastSubmit t.entry t.queue (actions of t k xs past) × IsPlain (actions of t k xs past)
   plain_actions k [] past last plain = (last, plain)
   plain_actions k (x ∷ xs) past last plain =
       let p : Point = record { entry = t.entry; batch = t.batch; place = k; queue = t.queue; action = of x } in
       plain_actions (k + 1) xs (p ∷ past) (subst (λ (o : Option Entry). LastBy o t.entry t.queue p (LastSubmit t.entry t.queue past)) (sym (on_queue x)) last) (subst (λ (o : Option Entry). Placed o p past) (sym (on_queue x)) last, plain)
 
-plain_taken : (t : Turn) (past : Past) → LastSubmit t.entry t.queue past → IsPlain past → LastSubmit t.entry t.queue (taken t past) × IsPlain (taken t past)
-plain_taken t past last plain =
+plain_started : (t : SubmittedBatch) (past : Past) → LastSubmit t.entry t.queue past → IsPlain past → LastSubmit t.entry t.queue (started t past) × IsPlain (started t past)
+plain_started t past last plain =
     let a = plain_actions Wait (λ x. refl) t 0 t.content.waits past last plain in
     let b = plain_actions Run (λ x. refl) t 0 t.content.commands _ a.0 a.1 in
     plain_actions Signal (λ x. refl) t 0 t.content.signals _ b.0 b.1
 
-plain_turns : (before : Past) (e q k : ℕ) (bs : List Batch) (past : Past) → LastSubmit e q past → IsPlain past → IsPlain (fold (λ p t. taken t p) past (turns_from before e q k bs))
-plain_turns before e q k [] past last plain = plain
-plain_turns before e q k (b ∷ bs) past last plain =
-    let a = plain_taken (turn before e q k b) past last plain in
-    plain_turns before e q (k + 1) bs (taken (turn before e q k b) past) a.0 a.1
+plain_batches : (before : Past) (e q k : ℕ) (bs : List Batch) (past : Past) → LastSubmit e q past → IsPlain past → IsPlain (fold (λ p t. started t p) past (batches_from before e q k bs))
+plain_batches before e q k [] past last plain = plain
+plain_batches before e q k (b ∷ bs) past last plain =
+    let a = plain_started (submitted_batch before e q k b) past last plain in
+    plain_batches before e q (k + 1) bs (started (submitted_batch before e q k b) past) a.0 a.1
 
-plain_entry : (before : Past) (e : ℕ) (x : Entry) (past : Past) → IsPlain past → IsPlain (fold (λ p t. taken t p) (host e x ∷ past) (turns_of before e x))
-plain_entry before e (entry.Submit q bs) past plain = plain_turns before e q 0 bs (host e (entry.Submit q bs) ∷ past) (refl, refl) (tt, plain)
+plain_entry : (before : Past) (e : ℕ) (x : Entry) (past : Past) → IsPlain past → IsPlain (fold (λ p t. started t p) (host e x ∷ past) (batches_of before e x))
+plain_entry before e (entry.Submit q bs) past plain = plain_batches before e q 0 bs (host e (entry.Submit q bs) ∷ past) (refl, refl) (tt, plain)
 plain_entry before e _ past plain = (tt, plain)
 
 plain_entries : (e : ℕ) (xs : List Entry) (past : Past) → IsPlain past → IsPlain (plain_from e past xs)

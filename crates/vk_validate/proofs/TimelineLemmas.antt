@@ -34,10 +34,10 @@ module _ (old new : ℕ → Option Clock) (x : Signaled) (here : new x.value ≡
   passed (Some y) low is = let from : v ≤ y.value = is.0 in (from, others y.value (omega arith) ∙ is.1, λ key le lt. others key (omega arith) ∙ is.2 key le lt)
 
   -- a signal of a value that isn't below the one asked for
-  taken : (found : Option Signaled) → v ≤ x.value → IsLeastOf old v found → IsLeastOf new v (if not (holds found (λ y. nat_lt y.value x.value)) then Some x else found)
+  started : (found : Option Signaled) → v ≤ x.value → IsLeastOf old v found → IsLeastOf new v (if not (holds found (λ y. nat_lt y.value x.value)) then Some x else found)
   unfolding IsLeastOf
-  taken None high is = (high, here, λ key le lt. others key (omega arith) ∙ is key le)
-  taken (Some y) high is = by_side (cases_lt y.value x.value) where
+  started None high is = (high, here, λ key le lt. others key (omega arith) ∙ is key le)
+  started (Some y) high is = by_side (cases_lt y.value x.value) where
     from : v ≤ y.value
     from = is.0
 
@@ -49,7 +49,7 @@ module _ (old new : ℕ → Option Clock) (x : Signaled) (here : new x.value ≡
   next_least found is = by_side (cases_lt x.value v) where
     by_side : (x.value < v) ⊎ (v ≤ x.value) → IsLeastOf new v (if nat_le v x.value && not (holds found (λ y. nat_lt y.value x.value)) then Some x else found)
     by_side (inl lt) = rw (lt-leb v x.value lt) (passed found lt is)
-    by_side (inr le) = rw (le-leb v x.value le) (taken found le is)
+    by_side (inr le) = rw (le-leb v x.value le) (started found le is)
 
 -- the newest signal is put into the timeline of its semaphore
 pub timelines_next : (old new : ℕ → Option Timeline) (signals : List Signaled) (x : Signaled) → TimelinesAre old signals

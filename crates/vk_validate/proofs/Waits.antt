@@ -46,8 +46,8 @@ passed_over x o s v e sem from = go (holds o (λ y. nat_lt y.value x.value)) ref
   go true h = refl
   go false h = let here : is_next x o s v ≡ true = rw (eq-eqb x.semaphore s sem, le-leb v x.value from, h) refl in clash here e
 
-taken : (x : Signaled) (o : Option Signaled) (s v : ℕ) → is_next x o s v ≡ true → (x.semaphore ≡ s) × (v ≤ x.value) × (holds o (λ y. nat_lt y.value x.value) ≡ false)
-taken x o s v e =
+started : (x : Signaled) (o : Option Signaled) (s v : ℕ) → is_next x o s v ≡ true → (x.semaphore ≡ s) × (v ≤ x.value) × (holds o (λ y. nat_lt y.value x.value) ≡ false)
+started x o s v e =
     let a = and_parts (x.semaphore == s && nat_le v x.value) (not (holds o (λ y. nat_lt y.value x.value))) e in
     let b = and_parts (x.semaphore == s) (nat_le v x.value) a.0 in
     (eqb-true x.semaphore s b.0, leb-true v x.value b.1, not-true (holds o (λ y. nat_lt y.value x.value)) a.1)
@@ -111,7 +111,7 @@ least_some (x ∷ xs) rising s v z is = go (is_next x (least_signal xs s v) s v)
     less sem from = ltb-true z.value x.value (ap (λ (o : Option Signaled). holds o (λ y. nat_lt y.value x.value)) (sym at) ∙ passed_over x (least_signal xs s v) s v e sem from)
 
   go : (t : Bool) → is_next x (least_signal xs s v) s v ≡ t → cond t (Some x) (least_signal xs s v) ≡ Some z → ((u : Signaled) → least_signal xs s v ≡ Some u → Least xs s v u) → Least (x ∷ xs) s v z
-  go true e at next = let same : x ≡ z = cc in subst (λ (k : Signaled). Least (x ∷ xs) s v k) same (newest_is next (least_signal xs s v) refl (taken x (least_signal xs s v) s v e))
+  go true e at next = let same : x ≡ z = cc in subst (λ (k : Signaled). Least (x ∷ xs) s v k) same (newest_is next (least_signal xs s v) refl (started x (least_signal xs s v) s v e))
   go false e at next = older_is (next z at) at e
 
 -- ---- numbers that count together

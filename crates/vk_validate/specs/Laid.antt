@@ -4,15 +4,15 @@ use Rattle.vk_model.specs.declared.entry.Batch.{Batch}
 use Rattle.vk_model.specs.declared.entry.Entry.{Entry}
 use Rattle.vk_model.specs.declared.entry.Entry.TheVariants as entry
 use Rattle.vk_model.specs.Point.{Past, Run, Signal, Wait}
-use Rattle.vk_model.specs.Order.{Turn, actions, host}
+use Rattle.vk_model.specs.Order.{SubmittedBatch, actions, host}
 
 -- Of a batch, what its points keep.
-abbrev pub turn_at : ℕ → ℕ → ℕ → Turn
-turn_at e k q = record { entry = e; batch = k; queue = q; content = record { waits = []; commands = []; signals = [] }; waits = [] }
+abbrev pub batch_at : ℕ → ℕ → ℕ → SubmittedBatch
+batch_at e k q = record { entry = e; batch = k; queue = q; content = record { waits = []; commands = []; signals = [] }; waits = [] }
 
 -- A batch: its waits, its commands, its signals.
 unfoldable pub laid_batch : ℕ → ℕ → ℕ → Batch → Past → Past
-laid_batch e k q b past = actions Signal (turn_at e k q) 0 b.signals (actions Run (turn_at e k q) 0 b.commands (actions Wait (turn_at e k q) 0 b.waits past))
+laid_batch e k q b past = actions Signal (batch_at e k q) 0 b.signals (actions Run (batch_at e k q) 0 b.commands (actions Wait (batch_at e k q) 0 b.waits past))
 
 -- Batches from number k on.
 abbrev pub laid_batches : ℕ → ℕ → ℕ → List Batch → Past → Past

@@ -2,7 +2,7 @@ ghost use Rattle.std.specs.Prelude.{◌≡◌, [], OnOk, IfOk};
 ghost use Rattle.vk_model.specs.Point.{at_of, Run, Signal, Wait};
 ghost use Rattle.vk_model.specs.Order.{actions, plain_order};
 ghost use Rattle.vk_validate.specs.Told.{past_of, point_of};
-ghost use Rattle.vk_validate.specs.Laid.{laid_batch, laid_batches, laid_submit, turn_at};
+ghost use Rattle.vk_validate.specs.Laid.{laid_batch, laid_batches, laid_submit, batch_at};
 
 use std::alloc::{AllocError, Global};
 use vk_model::{At, Batch, Cmd, Entry, SemaphoreSubmit};
@@ -118,7 +118,7 @@ fn push_waits<'a>(
     queue: u32,
     waits: &'a [SemaphoreSubmit],
 ) -> Result<(), AllocError>
-    ensures { OnOk result (past_of points.new.items ≡ actions Wait (turn_at entry batch queue) 0 waits.now (past_of points.old.items)) }
+    ensures { OnOk result (past_of points.new.items ≡ actions Wait (batch_at entry batch queue) 0 waits.now (past_of points.old.items)) }
 {
     for (place, wait) in waits.iter().enumerate() {
         points.push(Step {
@@ -140,7 +140,7 @@ fn push_commands<'a>(
     queue: u32,
     commands: &'a [Cmd],
 ) -> Result<(), AllocError>
-    ensures { OnOk result (past_of points.new.items ≡ actions Run (turn_at entry batch queue) 0 commands.now (past_of points.old.items)) }
+    ensures { OnOk result (past_of points.new.items ≡ actions Run (batch_at entry batch queue) 0 commands.now (past_of points.old.items)) }
 {
     for (place, command) in commands.iter().enumerate() {
         points.push(Step {
@@ -162,7 +162,7 @@ fn push_signals<'a>(
     queue: u32,
     signals: &'a [SemaphoreSubmit],
 ) -> Result<(), AllocError>
-    ensures { OnOk result (past_of points.new.items ≡ actions Signal (turn_at entry batch queue) 0 signals.now (past_of points.old.items)) }
+    ensures { OnOk result (past_of points.new.items ≡ actions Signal (batch_at entry batch queue) 0 signals.now (past_of points.old.items)) }
 {
     for (place, signal) in signals.iter().enumerate() {
         points.push(Step {

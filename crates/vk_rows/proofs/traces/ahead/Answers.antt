@@ -15,7 +15,7 @@ returns c = record {
   queue_held_back = refl;
   queue_released = (refl, refl);
   waiting_command = refl;
-  never_taken = (refl, refl);
-  judged_when_taken = refl;
+  never_started = (refl, refl);
+  judged_when_started = refl;
   not_judged = (refl, refl);
 }

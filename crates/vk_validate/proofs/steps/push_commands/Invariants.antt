@@ -2,8 +2,8 @@ use Rattle.std.proofs.Common.{◌≡◌, drop}
 use Rattle.vk_model.specs.Point.{Run}
 use Rattle.vk_model.specs.Order.{actions}
 use Rattle.vk_validate.specs.Told.{past_of}
-use Rattle.vk_validate.specs.Laid.{turn_at}
+use Rattle.vk_validate.specs.Laid.{batch_at}
 use Rattle.vk_validate.proofs.steps.push_commands.Given as goal
 
 abbrev pub invariant-loop-place : goal.invariant-loop-place
-invariant-loop-place l = actions Run (turn_at l.entry l.batch l.queue) l.place (drop l.place l.commands) (past_of l.points.items) ≡ actions Run (turn_at l.entry l.batch l.queue) 0 l.commands (past_of l.fn.points.items)
+invariant-loop-place l = actions Run (batch_at l.entry l.batch l.queue) l.place (drop l.place l.commands) (past_of l.points.items) ≡ actions Run (batch_at l.entry l.batch l.queue) 0 l.commands (past_of l.fn.points.items)
