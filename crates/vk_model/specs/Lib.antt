@@ -32,6 +32,6 @@ pub mod Fault
 pub mod Pieces
 pub mod Run
 pub mod Room
-pub mod LowerPlaces
+pub mod MoveTargets
 pub mod Picks
 pub mod Laws

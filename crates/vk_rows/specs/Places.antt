@@ -3,7 +3,7 @@ use Rattle.std.specs.Prelude.{◌≡◌, ℕ, List, [], ◌∷◌, true, Option,
 use Rattle.vk_model.specs.declared.resource.Kind.TheVariants as kind
 use Rattle.vk_model.specs.Suballocation.{Taken, Request}
 use Rattle.vk_model.specs.Room.{Linear, lowest, lower_place, upper_place}
-use Rattle.vk_model.specs.LowerPlaces.{Numbered, Resident, Moved, pass_moves}
+use Rattle.vk_model.specs.MoveTargets.{Numbered, Resident, Moved, pass_moves}
 use Rattle.vk_rows.specs.NoRoom.{buffer_at, buffer_of}
 
 -- An image that asks for 256 bytes at a multiple of 256.

@@ -34,10 +34,10 @@ place_in a b = option_map (λ s. record { block = b.number; start = s })
     else if b.number == a.from.block then lowest b.taken a.request 0 a.from.start
     else None)
 
--- The lower place of a resource, if there is one: in the first earlier block that holds it, else in its own (VMA, "Defragmentation"; which place: profile).
-abbrev pub lower_start : List Numbered → Resident → Option BlockStart
-lower_start [] a = None
-lower_start (b ∷ bs) a = option_or (place_in a b) (lower_start bs a)
+-- The move target of a resource, if there is one: in the first earlier block that holds it, else in its own (VMA, "Defragmentation"; which place: profile).
+abbrev pub move_target : List Numbered → Resident → Option BlockStart
+move_target [] a = None
+move_target (b ∷ bs) a = option_or (place_in a b) (move_target bs a)
 
 -- The blocks when the place of a moved resource is taken too; its old range stays taken until the pass ends (VMA, "Defragmentation").
 abbrev pub reserved : BlockStart → Request → List Numbered → List Numbered
@@ -51,10 +51,10 @@ over_limit max_bytes max_moves bytes count size = nat_lt 0 max_bytes && nat_lt m
 -- ---- the moves of a pass with these limits
 
 module _ (max_bytes max_moves : ℕ) where
-  -- The moves of resources, one after another, when some bytes and moves have been chosen: one without a lower place is passed over, and the first that would pass a limit ends the list (VMA, "Defragmentation"; the order: profile).
+  -- The moves of resources, one after another, when some bytes and moves have been chosen: one without a move target is passed over, and the first that would pass a limit ends the list (VMA, "Defragmentation"; the order: profile).
   abbrev pub moves_from : ℕ → ℕ → List Numbered → List Resident → List Moved
   moves_from bytes count blocks [] = []
-  moves_from bytes count blocks (a ∷ rest) = elim (lower_start blocks a) [
+  moves_from bytes count blocks (a ∷ rest) = elim (move_target blocks a) [
     | None ↦ moves_from bytes count blocks rest
     | Some s ↦ elim (over_limit max_bytes max_moves bytes count a.request.size) [
       | true ↦ []
