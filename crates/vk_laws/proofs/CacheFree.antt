@@ -16,7 +16,7 @@ use Rattle.vk_model.specs.Laws.{BeforeIsPath, BeforeIsTransitive, GrowthKeeps, P
 use Rattle.vk_laws.specs.Machine.{Task, Writes, Reads}
 use Rattle.vk_laws.specs.Caches.{CacheFree, Seen, Available}
 use Rattle.vk_laws.specs.Trace.{accesses, NoHazardLaw, SeenIsBefore, HostInOrder, CommandsStay}
-use Rattle.vk_laws.specs.Tasks.{task_count, node_at, traffic_of}
+use Rattle.vk_laws.specs.Tasks.{task_count, node_at, accesses_of}
 use Rattle.vk_laws.specs.TraceCaches.{caching_of}
 use Rattle.vk_laws.proofs.Steady.{IsNew, made_step, new_ids, live_ids, IsLive, comes_within}
 use Rattle.vk_laws.proofs.Points.{Stands, stands, comes_at, stands_below}
@@ -104,7 +104,7 @@ module _ (together : PiecesAreMoves) (paths : BeforeIsPath) (joins : BeforeIsTra
   abbrev all : Past
   all = plain_order t
 
-  has_task : (u : Task) (n : Node) → node_at all u.node ≡ Some n → IsTrue (nat_lt u.part (task_count all n.act)) → IsTrue ((traffic_of all).has u)
+  has_task : (u : Task) (n : Node) → node_at all u.node ≡ Some n → IsTrue (nat_lt u.part (task_count all n.act)) → IsTrue ((accesses_of all).has u)
   has_task u n e h = rw e h
 
   -- two tasks of the host have one agent
@@ -117,7 +117,7 @@ module _ (together : PiecesAreMoves) (paths : BeforeIsPath) (joins : BeforeIsTra
   by_agents true false f g = g refl
   by_agents false b f g = g refl
 
-  read_after : (w u : Task) (c : Byte) → w.node < u.node → Writes (traffic_of all) w c → Reads (traffic_of all) u c → ((caching_of all).agent w ≡ (caching_of all).agent u) ⊎ Seen (traffic_of all) (caching_of all) w u c
+  read_after : (w u : Task) (c : Byte) → w.node < u.node → Writes (accesses_of all) w c → Reads (accesses_of all) u c → ((caching_of all).agent w ≡ (caching_of all).agent u) ⊎ Seen (accesses_of all) (caching_of all) w u c
   read_after w u c lt wr r =
       let x = writer together all w c wr in
       let y = reader together all u c r in
@@ -135,7 +135,7 @@ module _ (together : PiecesAreMoves) (paths : BeforeIsPath) (joins : BeforeIsTra
       (submits_there t)
       (λ host. record { by = x.node; stands = x.stands; host = host; wrote = is_in_of together all c _ x.accessed; order = inl refl }) sees))
 
-  written_after : (w u : Task) (c : Byte) → w.node < u.node → Writes (traffic_of all) w c → Writes (traffic_of all) u c → ((caching_of all).agent w ≡ (caching_of all).agent u) ⊎ Available (traffic_of all) (caching_of all) w u c
+  written_after : (w u : Task) (c : Byte) → w.node < u.node → Writes (accesses_of all) w c → Writes (accesses_of all) u c → ((caching_of all).agent w ≡ (caching_of all).agent u) ⊎ Available (accesses_of all) (caching_of all) w u c
   written_after w u c lt wr r =
       let x = writer together all w c wr in
       let y = writer together all u c r in
@@ -151,7 +151,7 @@ module _ (together : PiecesAreMoves) (paths : BeforeIsPath) (joins : BeforeIsTra
       same_cached all s.newer (s.at ∷ s.past) s.whole (new_ids t sound) (live_ids t sound) x.node has_x x.is_access c all x.accessed
       ∙ sym (cached_then all (new_ids t sound) (live_ids t sound) x.node x.stands x.is_access c all x.accessed n cn le)) sees))
 
-  pub cache_free : CacheFree (traffic_of all) (caching_of all)
+  pub cache_free : CacheFree (accesses_of all) (caching_of all)
   cache_free = record {
     seen_read = read_after;
     seen_write = written_after;

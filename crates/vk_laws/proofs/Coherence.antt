@@ -3,7 +3,7 @@ use Rattle.std.proofs.Common.{◌≡◌, ◌⊎◌, inl, inr, ⊎_elim, ℕ, suc
 use Rattle.std.proofs.lemmas.Bool.{cases_lt}
 use Rattle.vk_model.specs.World.{Byte}
 use Rattle.vk_model.specs.Moves.{Value, From}
-use Rattle.vk_laws.specs.Machine.{IsIn, Task, Put, Puts, Anything, Traffic, Writes, Reads, Precedes, HazardFree, MayRun, IsAllowed, IsModel, newest, latest}
+use Rattle.vk_laws.specs.Machine.{IsIn, Task, Put, Puts, Anything, TraceAccesses, Writes, Reads, Precedes, HazardFree, MayRun, IsAllowed, IsModel, newest, latest}
 use Rattle.vk_laws.specs.Caches.{Dirty, Cell, view, Wrote, CellRan, Caching, CacheFree, Guard, Reached, Start, Touch, Run}
 use Rattle.vk_laws.proofs.Coherent.{Stores, Follows, CellOk, owner_of, Freed, Shown, Coherent}
 use Rattle.vk_laws.proofs.Fresh.{closed, later_not_done, latest_in, fresh_at, follows_step}
@@ -23,13 +23,13 @@ next_stores (Some (Puts (Value k))) a cells old new r m was = refl
 next_stores (Some (Puts (From d))) a cells old new r m was = refl
 next_stores (Some Anything) a cells old new r m was = tt
 
-module _ (tr : Traffic) (ca : Caching) where
+module _ (tr : TraceAccesses) (ca : Caching) where
   pub allowed : (done : List Task) (cells : Byte → Cell) → Reached tr ca done cells → IsAllowed tr done
   allowed done cells (Start _ none) = tt
   allowed done cells (Touch _ old _ r touch) = allowed done old r
   allowed done cells (Run d t old _ r may guard ran) = (may, allowed d old r)
 
-module _ (tr : Traffic) (ca : Caching) (free : HazardFree tr) (cache : CacheFree tr ca) where
+module _ (tr : TraceAccesses) (ca : Caching) (free : HazardFree tr) (cache : CacheFree tr ca) where
   -- the last write is earlier than a task that may come next and accesses the byte
   is_earlier : (done : List Task) (t w : Task) (c : Byte) → IsAllowed tr done → MayRun tr done t → latest tr c done ≡ Some w → Reads tr t c ⊎ Writes tr t c → (w.node < t.node) × Writes tr w c
   is_earlier done t w c ok may e access =

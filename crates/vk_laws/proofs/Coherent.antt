@@ -3,7 +3,7 @@ use Rattle.std.proofs.Common.{◌≡◌, ◌⊎◌, ℕ, suc, ◌<◌, ◌≤◌
 use Rattle.std.specs.Prelude.{⊤}
 use Rattle.vk_model.specs.World.{Byte}
 use Rattle.vk_model.specs.Moves.{Value, From}
-use Rattle.vk_laws.specs.Machine.{IsIn, Task, Put, Puts, Anything, Traffic, Writes, Precedes, latest}
+use Rattle.vk_laws.specs.Machine.{IsIn, Task, Put, Puts, Anything, TraceAccesses, Writes, Precedes, latest}
 use Rattle.vk_laws.specs.Caches.{Clean, Dirty, Cell, Caching}
 
 -- A byte before and after a task that writes this to it, by the bytes before.
@@ -14,12 +14,12 @@ Stores (Some (Puts (From byte))) memory old new = new ≡ memory byte
 Stores (Some Anything) memory old new = ⊤
 
 -- The writes of the byte before node n are done, and none of the later ones is.
-pub record Settled (tr : Traffic) (done : List Task) (c : Byte) (n : ℕ) : Type 0 where
+pub record Settled (tr : TraceAccesses) (done : List Task) (c : Byte) (n : ℕ) : Type 0 where
   pub earlier : (t : Task) → t.node < n → Writes tr t c → IsIn t done
   pub later : (t : Task) → n ≤ t.node → Writes tr t c → IsIn t done → ⊥
 
 -- Each byte has the model's value after the command that wrote it last.
-abbrev pub Follows : Traffic → (ℕ → Byte → Option ℕ) → List Task → (Byte → ℕ) → Type 0
+abbrev pub Follows : TraceAccesses → (ℕ → Byte → Option ℕ) → List Task → (Byte → ℕ) → Type 0
 Follows tr value done memory = (c : Byte) (w : Task) (v : ℕ) → latest tr c done ≡ Some w → value (suc w.node) c ≡ Some v → memory c ≡ v
 
 -- x is the byte that was written last, and owner the agent that may hold it dirty; whether it has been made available, and visible to an agent.
@@ -29,7 +29,7 @@ pub record CellOk (x : ℕ) (cell : Cell) (owner : Option ℕ) (freed : Type 0) 
   pub clean : (a u : ℕ) → shown a → cell.held a ≡ Some (Clean u) → u ≡ x
   pub is_shown : (a : ℕ) → shown a → (owner ≡ Some a) ⊎ freed
 
-module _ (tr : Traffic) (ca : Caching) where
+module _ (tr : TraceAccesses) (ca : Caching) where
   abbrev pub owner_of : Option Task → Option ℕ
   owner_of None = None
   owner_of (Some w) = Some (ca.agent w)

@@ -8,15 +8,15 @@ use Rattle.vk_model.specs.Point.{Past}
 use Rattle.vk_model.specs.Node.{Node, Act, Hosts, Waits, Signals, Runs, Depends}
 use Rattle.vk_model.specs.Laws.{PiecesAreMoves}
 use Rattle.std.specs.Prelude.{nat_lt}
-use Rattle.vk_laws.specs.Machine.{Task, Put, Puts, Anything, Traffic, Writes, Reads, Conflict, newest, latest}
+use Rattle.vk_laws.specs.Machine.{Task, Put, Puts, Anything, TraceAccesses, Writes, Reads, Conflict, newest, latest}
 use Rattle.vk_laws.specs.Trace.{accesses}
-use Rattle.vk_laws.specs.Tasks.{part_write, task_count, node_at, by_act, traffic_of}
+use Rattle.vk_laws.specs.Tasks.{part_write, task_count, node_at, by_act, accesses_of}
 use Rattle.vk_laws.specs.DefinedRuns.{is_event, stored, bytes_after}
 use Rattle.vk_laws.proofs.TaskAccesses.{Accessor, writer, reader}
 
 module _ (all : Past) where
-  abbrev tr : Traffic
-  tr = traffic_of all
+  abbrev tr : TraceAccesses
+  tr = accesses_of all
 
   abbrev without_events : List Task → List Task
   without_events done = filter (λ u. not (is_event all u)) done

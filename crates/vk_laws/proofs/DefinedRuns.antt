@@ -18,10 +18,10 @@ use Rattle.vk_model.specs.Before.{before, Path, direct, longer}
 use Rattle.vk_model.specs.Fault.{IsSound}
 use Rattle.vk_model.specs.Laws.{BeforeIsPath, BeforeIsTransitive, BeforeLeadsOn, GrowthKeeps, OrdersAgree}
 use Rattle.vk_model.specs.Run.{Name, same_name, is_done, node_pieces, is_free, offered, Step, Apply, RunPiece, CopyPart, Stage, start, is_host_wait, past_with, may_go, applied, Applies, Next, Allowed}
-use Rattle.vk_laws.specs.Machine.{IsIn, Task, Traffic, MayRun, IsAllowed}
+use Rattle.vk_laws.specs.Machine.{IsIn, Task, TraceAccesses, MayRun, IsAllowed}
 use Rattle.vk_laws.specs.Growth.{IsDue, IsEager}
 use Rattle.vk_laws.specs.Trace.{accesses}
-use Rattle.vk_laws.specs.Tasks.{task_count, node_at, by_act, traffic_of}
+use Rattle.vk_laws.specs.Tasks.{task_count, node_at, by_act, accesses_of}
 use Rattle.vk_laws.specs.DefinedRuns.{is_event, piece_task, entry_task, with_step, done_by, act_happened, has_happened, MayCome, Offers, Enters, Matches, IsOver}
 use Rattle.vk_laws.proofs.TaskNodes.{node_of, same_task}
 use Rattle.vk_laws.proofs.Steady.{new_ids, live_ids}
@@ -103,8 +103,8 @@ module _ (paths : BeforeIsPath) (joins : BeforeIsTransitive) (leads : BeforeLead
   abbrev all : Past
   all = plain_order t
 
-  abbrev tr : Traffic
-  tr = traffic_of all
+  abbrev tr : TraceAccesses
+  tr = accesses_of all
 
   abbrev Place : Stage → Type 0
   Place s = Placed orders keeps t sound s

@@ -20,7 +20,7 @@ use Rattle.vk_model.specs.Moves.{From}
 use Rattle.vk_laws.specs.Machine.{Task, Put, Puts, Anything, Writes, Reads, Precedes, Conflict, HazardFree, IsModel}
 use Rattle.vk_laws.specs.Caches.{CacheFree, Seen, Available}
 use Rattle.vk_laws.specs.Trace.{accesses}
-use Rattle.vk_laws.specs.Tasks.{part_write, part_read, task_count, node_at, by_act, traffic_of}
+use Rattle.vk_laws.specs.Tasks.{part_write, part_read, task_count, node_at, by_act, accesses_of}
 use Rattle.vk_laws.specs.TraceBytes.{before_node, value_before}
 use Rattle.vk_laws.specs.TraceCaches.{caching_of}
 use Rattle.vk_laws.specs.Discards.{entry_forgets, forgets, or_anything, with_discards}
@@ -69,32 +69,32 @@ module _ (all : Past) where
       go None e only h = absurd cc
       go (Some n) e only h = by_entry n e only n.act refl h
 
-  -- a write of the traffic with discards is one of these, or one of the trace's
-  how : (u : Task) (c : Byte) (x : Put) → (with_discards all).write_of u c ≡ Some x → ((x ≡ Anything) × Forgot u c) ⊎ ((traffic_of all).write_of u c ≡ Some x)
+  -- a write of the accesses with discards is one of these, or one of the trace's
+  how : (u : Task) (c : Byte) (x : Put) → (with_discards all).write_of u c ≡ Some x → ((x ≡ Anything) × Forgot u c) ⊎ ((accesses_of all).write_of u c ≡ Some x)
   how u c x h = go (u.part == 0 && by_act false (λ a. forgets all u.node a c) (node_at all u.node)) refl h
     where
-      go : (b : Bool) → (u.part == 0 && by_act false (λ a. forgets all u.node a c) (node_at all u.node)) ≡ b → or_anything b ((traffic_of all).write_of u c) ≡ Some x → ((x ≡ Anything) × Forgot u c) ⊎ ((traffic_of all).write_of u c ≡ Some x)
+      go : (b : Bool) → (u.part == 0 && by_act false (λ a. forgets all u.node a c) (node_at all u.node)) ≡ b → or_anything b ((accesses_of all).write_of u c) ≡ Some x → ((x ≡ Anything) × Forgot u c) ⊎ ((accesses_of all).write_of u c ≡ Some x)
       go true e h = inl (let same : Anything ≡ x = cc in sym same, forgot_of u c e)
       go false e h = inr h
 
-  write_kind : (u : Task) (c : Byte) → Writes (with_discards all) u c → Forgot u c ⊎ Writes (traffic_of all) u c
+  write_kind : (u : Task) (c : Byte) → Writes (with_discards all) u c → Forgot u c ⊎ Writes (accesses_of all) u c
   write_kind u c w = ⊎_elim (λ f. inl f.1) (λ b. inr (w.0, b)) (how u c w.0 w.1)
 
-  quiet_base : (u : Task) (c : Byte) → (with_discards all).write_of u c ≡ None → (traffic_of all).write_of u c ≡ None
+  quiet_base : (u : Task) (c : Byte) → (with_discards all).write_of u c ≡ None → (accesses_of all).write_of u c ≡ None
   quiet_base u c h = go (u.part == 0 && by_act false (λ a. forgets all u.node a c) (node_at all u.node)) h
     where
-      go : (b : Bool) → or_anything b ((traffic_of all).write_of u c) ≡ None → (traffic_of all).write_of u c ≡ None
+      go : (b : Bool) → or_anything b ((accesses_of all).write_of u c) ≡ None → (accesses_of all).write_of u c ≡ None
       go true h = absurd cc
       go false h = h
 
-  forgot_has : (u : Task) (c : Byte) (f : Forgot u c) → IsTrue ((traffic_of all).has u)
+  forgot_has : (u : Task) (c : Byte) (f : Forgot u c) → IsTrue ((accesses_of all).has u)
   forgot_has u c f = rw f.at (rw f.act (rw f.only refl))
 
-  by_nodes : (s u : Task) (m n : Node) → node_at all s.node ≡ Some m → node_at all u.node ≡ Some n → IsTrue ((traffic_of all).has s) → IsTrue (before (nodes all) m n) → Precedes (traffic_of all) s u
+  by_nodes : (s u : Task) (m n : Node) → node_at all s.node ≡ Some m → node_at all u.node ≡ Some n → IsTrue ((accesses_of all).has s) → IsTrue (before (nodes all) m n) → Precedes (accesses_of all) s u
   by_nodes s u m n e f has b = (has, rw (e, f) b)
 
   -- an invalidation reads nothing, and writes nothing else
-  forgot_reads : (s u : Task) (c : Byte) → Forgot s c → s.node ≡ u.node → Reads (traffic_of all) u c → ⊥
+  forgot_reads : (s u : Task) (c : Byte) → Forgot s c → s.node ≡ u.node → Reads (accesses_of all) u c → ⊥
   forgot_reads s u c f same r =
       let a = read_act all u c r in
       let one : f.node ≡ a.0 = let e : Some f.node ≡ Some a.0 = sym f.at ∙ ap (node_at all) same ∙ a.1 in cc in
@@ -106,7 +106,7 @@ module _ (all : Past) where
       not_false : IsTrue false → ⊥
       not_false h = cc
 
-  forgot_writes : (s u : Task) (c : Byte) → Forgot s c → s.node ≡ u.node → Writes (traffic_of all) u c → ⊥
+  forgot_writes : (s u : Task) (c : Byte) → Forgot s c → s.node ≡ u.node → Writes (accesses_of all) u c → ⊥
   forgot_writes s u c f same w =
       let a = write_act all u c w.0 w.1 in
       let one : f.node ≡ a.0 = let e : Some f.node ≡ Some a.0 = sym f.at ∙ ap (node_at all) same ∙ a.1 in cc in
@@ -116,23 +116,23 @@ module _ (all : Past) where
       let e : None ≡ Some p.value = p.is in cc
 
   -- the two traffics have the same order
-  seen_too : (w t : Task) (c : Byte) → Seen (traffic_of all) (caching_of all) w t c → Seen (with_discards all) (caching_of all) w t c
+  seen_too : (w t : Task) (c : Byte) → Seen (accesses_of all) (caching_of all) w t c → Seen (with_discards all) (caching_of all) w t c
   seen_too w t c s = record { p = s.p; q = s.q; available = s.available; order = s.order; visible = s.visible; before = s.before }
 
-  available_too : (w t : Task) (c : Byte) → Available (traffic_of all) (caching_of all) w t c → Available (with_discards all) (caching_of all) w t c
+  available_too : (w t : Task) (c : Byte) → Available (accesses_of all) (caching_of all) w t c → Available (with_discards all) (caching_of all) w t c
   available_too w t c s = record { p = s.p; available = s.available; before = s.before }
 
 module _ (t : List Entry) (given : Given t) where
   abbrev all : Past
   all = plain_order t
 
-  base_free : HazardFree (traffic_of all)
+  base_free : HazardFree (accesses_of all)
   base_free = hazard_free given.pieces_together given.apart t given.sound given.order given.none
 
-  base_model : IsModel (traffic_of all) (value_before all)
+  base_model : IsModel (accesses_of all) (value_before all)
   base_model = is_model given.pieces_together given.apart t given.sound
 
-  base_caches : CacheFree (traffic_of all) (caching_of all)
+  base_caches : CacheFree (accesses_of all) (caching_of all)
   base_caches = cache_free given.pieces_together given.paths given.joins given.stay given.hazards given.sights given.hosts given.keeps t given.sound given.none
 
   -- what a node has of a byte
@@ -147,7 +147,7 @@ module _ (t : List Entry) (given : Given t) where
   lower s u m n e f lt = omega (arith, e, f, lt)
 
   -- an access after an invalidation, and one before it
-  forgot_first : (s u : Task) (c : Byte) (f : Forgot all s c) (n : Node) → node_at all u.node ≡ Some n → Contains (nodes all) n → n.number ≡ u.node → IsTrue (accesses n.act) → (k : Access) → Has k n c → s.node < u.node → Precedes (traffic_of all) s u
+  forgot_first : (s u : Task) (c : Byte) (f : Forgot all s c) (n : Node) → node_at all u.node ≡ Some n → Contains (nodes all) n → n.number ≡ u.node → IsTrue (accesses n.act) → (k : Access) → Has k n c → s.node < u.node → Precedes (accesses_of all) s u
   forgot_first s u c f n at cn num ac k h lt =
       by_nodes all s u f.node n f.at at (forgot_has all s c f)
       (⊎_elim
@@ -160,7 +160,7 @@ module _ (t : List Entry) (given : Given t) where
       seen_it Write cmd is_n h = seen_after t given f.node f.stands f.entry f.act c f.lost n cn cmd is_n Write h (lower s u f.node n f.number num lt)
 
   forgot_last : (s u : Task) (c : Byte) (f : Forgot all u c) (m : Node) → node_at all s.node ≡ Some m → Contains (nodes all) m → m.number ≡ s.node → IsTrue (nat_lt s.part (task_count all m.act)) → IsTrue (accesses m.act) → (k : Access) → Has k m c → s.node < u.node
-      → Precedes (traffic_of all) s u
+      → Precedes (accesses_of all) s u
   forgot_last s u c f m at cm num there ac k h lt =
       by_nodes all s u m f.node at f.at (rw at there)
       (⊎_elim
@@ -187,7 +187,7 @@ module _ (t : List Entry) (given : Given t) where
       rest)
       meet
     where
-      two_writes : Forgot all s c ⊎ Writes (traffic_of all) s c → Forgot all u c ⊎ Writes (traffic_of all) u c → Precedes (traffic_of all) s u
+      two_writes : Forgot all s c ⊎ Writes (accesses_of all) s c → Forgot all u c ⊎ Writes (accesses_of all) u c → Precedes (accesses_of all) s u
       two_writes (inl f) (inl g) = by_nodes all s u f.node g.node f.at g.at (forgot_has all s c f) (given.hosts all f.node g.node f.stands g.stands (forgot_host s c f) (forgot_host u c g) (lower s u f.node g.node f.number g.number lt))
       two_writes (inl f) (inr b) = let y = writer given.pieces_together all u c b in forgot_first s u c f y.node y.at y.stands y.number y.is_access Write y.accessed lt
       two_writes (inr a) (inl g) = let x = writer given.pieces_together all s c a in forgot_last s u c g x.node x.at x.stands x.number x.there x.is_access Write x.accessed lt
@@ -228,14 +228,14 @@ module _ (t : List Entry) (given : Given t) where
 
   -- ---- the caches
 
-  there : (u : Task) (n : Node) → node_at all u.node ≡ Some n → IsTrue (nat_lt u.part (task_count all n.act)) → IsTrue ((traffic_of all).has u)
+  there : (u : Task) (n : Node) → node_at all u.node ≡ Some n → IsTrue (nat_lt u.part (task_count all n.act)) → IsTrue ((accesses_of all).has u)
   there u n e h = rw e h
 
   agents : (s u : Task) (m n : Node) → node_at all s.node ≡ Some m → node_at all u.node ≡ Some n → IsTrue (is_host m.act) → IsTrue (is_host n.act) → (caching_of all).agent s ≡ (caching_of all).agent u
   agents s u m n e f h g = same_agent given.pieces_together given.paths given.joins given.stay given.hazards given.sights given.hosts given.keeps t given.sound given.none s u m n e f h g
 
   -- a read and a write after an invalidation
-  forgot_read : (s u : Task) (c : Byte) (f : Forgot all s c) (y : Accessor given.pieces_together all u (λ n. Contains (reads all n) c)) → s.node < u.node → ((caching_of all).agent s ≡ (caching_of all).agent u) ⊎ Seen (traffic_of all) (caching_of all) s u c
+  forgot_read : (s u : Task) (c : Byte) (f : Forgot all s c) (y : Accessor given.pieces_together all u (λ n. Contains (reads all n) c)) → s.node < u.node → ((caching_of all).agent s ≡ (caching_of all).agent u) ⊎ Seen (accesses_of all) (caching_of all) s u c
   forgot_read s u c f y lt = ⊎_elim
       (λ host. inl (agents s u f.node y.node f.at y.at (forgot_host s c f) host))
       (λ cmd.
@@ -254,7 +254,7 @@ module _ (t : List Entry) (given : Given t) where
       (seen_after t given f.node f.stands f.entry f.act c f.lost y.node y.stands cmd.0 cmd.1 Read y.accessed low)))
       (as_command y.node.act y.is_access)
 
-  forgot_write : (s u : Task) (c : Byte) (f : Forgot all s c) (y : Accessor given.pieces_together all u (λ n. Contains (writes all n) c)) → s.node < u.node → ((caching_of all).agent s ≡ (caching_of all).agent u) ⊎ Available (traffic_of all) (caching_of all) s u c
+  forgot_write : (s u : Task) (c : Byte) (f : Forgot all s c) (y : Accessor given.pieces_together all u (λ n. Contains (writes all n) c)) → s.node < u.node → ((caching_of all).agent s ≡ (caching_of all).agent u) ⊎ Available (accesses_of all) (caching_of all) s u c
   forgot_write s u c f y lt = ⊎_elim
       (λ host. inl (agents s u f.node y.node f.at y.at (forgot_host s c f) host))
       (λ cmd.
@@ -266,7 +266,7 @@ module _ (t : List Entry) (given : Given t) where
       (as_command y.node.act y.is_access)
 
   -- what comes before a node comes before what that is before
-  precedes_on : (p u v : Task) (m n : Node) → node_at all u.node ≡ Some m → node_at all v.node ≡ Some n → Contains (nodes all) m → Contains (nodes all) n → IsTrue (before (nodes all) m n) → Precedes (traffic_of all) p u → Precedes (traffic_of all) p v
+  precedes_on : (p u v : Task) (m n : Node) → node_at all u.node ≡ Some m → node_at all v.node ≡ Some n → Contains (nodes all) m → Contains (nodes all) n → IsTrue (before (nodes all) m n) → Precedes (accesses_of all) p u → Precedes (accesses_of all) p v
   precedes_on p u v m n e f cm cn b h = (h.0, go (node_at all p.node) refl h.1)
     where
       go : (o : Option Node) → node_at all p.node ≡ o → IsTrue (holds o (λ k. holds (node_at all u.node) (λ m. before (nodes all) k m))) → IsTrue (holds o (λ k. holds (node_at all v.node) (λ n. before (nodes all) k n)))
@@ -274,13 +274,13 @@ module _ (t : List Entry) (given : Given t) where
       go (Some k) g h = rw f (given.joins all k m n (node_of all p.node k g).0 cm cn (rw e at h) b)
 
   -- a command's write before an invalidation is available to the write that it forgets
-  write_forgot : (s u : Task) (c : Byte) (f : Forgot all u c) (x : Accessor given.pieces_together all s (λ n. Contains (writes all n) c)) → s.node < u.node → ((caching_of all).agent s ≡ (caching_of all).agent u) ⊎ Available (traffic_of all) (caching_of all) s u c
+  write_forgot : (s u : Task) (c : Byte) (f : Forgot all u c) (x : Accessor given.pieces_together all s (λ n. Contains (writes all n) c)) → s.node < u.node → ((caching_of all).agent s ≡ (caching_of all).agent u) ⊎ Available (accesses_of all) (caching_of all) s u c
   write_forgot s u c f x lt = ⊎_elim
       (λ host. inl (agents s u x.node f.node x.at f.at host (forgot_host u c f)))
       (λ cmd. inr (by_write cmd.0 cmd.1))
       (as_command x.node.act x.is_access)
     where
-      by_write : (cmd : Cmd) → x.node.act ≡ Runs cmd → Available (traffic_of all) (caching_of all) s u c
+      by_write : (cmd : Cmd) → x.node.act ≡ Runs cmd → Available (accesses_of all) (caching_of all) s u c
       by_write cmd is_x =
           let k : Node = w t given f.node f.stands f.entry f.act c f.lost in
           let ck = w_all t given f.node f.stands f.entry f.act c f.lost in
@@ -311,7 +311,7 @@ module _ (t : List Entry) (given : Given t) where
     available_later = λ p u c h. available_later given.paths given.joins all p u c h;
   }
     where
-      two_writes : (s u : Task) (c : Byte) → s.node < u.node → Forgot all s c ⊎ Writes (traffic_of all) s c → Forgot all u c ⊎ Writes (traffic_of all) u c → ((caching_of all).agent s ≡ (caching_of all).agent u) ⊎ Available (traffic_of all) (caching_of all) s u c
+      two_writes : (s u : Task) (c : Byte) → s.node < u.node → Forgot all s c ⊎ Writes (accesses_of all) s c → Forgot all u c ⊎ Writes (accesses_of all) u c → ((caching_of all).agent s ≡ (caching_of all).agent u) ⊎ Available (accesses_of all) (caching_of all) s u c
       two_writes s u c lt (inl f) (inl g) = inl (agents s u f.node g.node f.at g.at (forgot_host s c f) (forgot_host u c g))
       two_writes s u c lt (inl f) (inr b) = forgot_write s u c f (writer given.pieces_together all u c b) lt
       two_writes s u c lt (inr a) (inl g) = write_forgot s u c g (writer given.pieces_together all s c a) lt

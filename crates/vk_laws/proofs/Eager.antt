@@ -8,10 +8,10 @@ use Rattle.vk_model.specs.Point.{Past}
 use Rattle.vk_model.specs.Node.{Node, Act, Hosts, Waits, Signals, Runs, Depends, nodes}
 use Rattle.vk_model.specs.Before.{before}
 use Rattle.vk_model.specs.Laws.{BeforeIsPath, BeforeIsTransitive, BeforeLeadsOn}
-use Rattle.vk_laws.specs.Machine.{IsIn, Task, Traffic, Precedes, MayRun, IsAllowed}
+use Rattle.vk_laws.specs.Machine.{IsIn, Task, TraceAccesses, Precedes, MayRun, IsAllowed}
 use Rattle.vk_laws.specs.Growth.{IsTransitive, IsDue, IsEager}
 use Rattle.vk_laws.specs.Trace.{accesses}
-use Rattle.vk_laws.specs.Tasks.{task_count, node_at, by_act, traffic_of}
+use Rattle.vk_laws.specs.Tasks.{task_count, node_at, by_act, accesses_of}
 use Rattle.vk_laws.specs.DefinedRuns.{is_event}
 use Rattle.vk_laws.proofs.TaskNodes.{node_of, same_task}
 use Rattle.vk_laws.proofs.Truths.{implies, not_both}
@@ -20,8 +20,8 @@ use Rattle.vk_laws.proofs.Runs.{is_done, may_run, may_run_holds, in_order, found
 use Rattle.vk_laws.proofs.Members.{each_of}
 
 module _ (paths : BeforeIsPath) (joins : BeforeIsTransitive) (leads : BeforeLeadsOn) (all : Past) where
-  abbrev tr : Traffic
-  tr = traffic_of all
+  abbrev tr : TraceAccesses
+  tr = accesses_of all
 
   pub transitive : IsTransitive tr
   transitive a b c h k = go (node_at all a) (node_at all b) (node_at all c) refl refl refl h k

@@ -7,7 +7,7 @@ use Rattle.vk_model.specs.Moves.{From}
 use Rattle.vk_laws.specs.Machine.{IsIn, Task, Put, Puts, Writes, Reads, HazardFree, MayRun}
 use Rattle.vk_laws.specs.Caches.{Clean, Dirty, Cell, Touched, Dropped, WrittenBack, Loaded, CellRan, CacheFree, Seen, Reached, Start, Touch, Run}
 use Rattle.vk_laws.specs.Commands.{IsCut}
-use Rattle.vk_laws.specs.Example.{task, writes, reads, first_part, traffic, caching, effects, holding, with_original, when_filled, when_copied, MeetsPremises}
+use Rattle.vk_laws.specs.Example.{task, writes, reads, first_part, accesses, caching, effects, holding, with_original, when_filled, when_copied, MeetsPremises}
 use Rattle.vk_laws.proofs.TaskNodes.{same_task}
 use Rattle.vk_laws.proofs.Commands.{is_model}
 
@@ -40,10 +40,10 @@ part_of_read : (n k : ℕ) (c : Byte) → IsTrue (first_part false (reads n c) k
 part_of_read n zero c h = (refl, h)
 part_of_read n (suc k) c h = absurd cc
 
-written_by : (t : Task) (c : Byte) → Writes traffic t c → (t.part ≡ 0) × (t.node ≡ home c)
+written_by : (t : Task) (c : Byte) → Writes accesses t c → (t.part ≡ 0) × (t.node ≡ home c)
 written_by t c w = let p = part_of_write t.node t.part c w.0 w.1 in (p.0, writer t.node c w.0 p.1)
 
-read_by : (t : Task) (c : Byte) → Reads traffic t c → (t.part ≡ 0) × (t.node ≡ 3) × (home c ≡ 0)
+read_by : (t : Task) (c : Byte) → Reads accesses t c → (t.part ≡ 0) × (t.node ≡ 3) × (home c ≡ 0)
 read_by t c r = let p = part_of_read t.node t.part c r in let q = reader t.node c p.1 in (p.0, q.0, q.1)
 
 -- ---- the premises
@@ -57,12 +57,12 @@ copy_writer (suc (suc (suc zero))) (in_buffer (suc zero) zero) d e = let same : 
 copy_writer (suc (suc (suc (suc zero)))) (in_buffer (suc zero) (suc zero)) d e = absurd cc
 copy_writer _ _ d e = absurd cc
 
-copies_what : (t : Task) (c d : Byte) → traffic.write_of t c ≡ Some (Puts (From d)) → Reads traffic t d
+copies_what : (t : Task) (c d : Byte) → accesses.write_of t c ≡ Some (Puts (From d)) → Reads accesses t d
 copies_what t c d e =
     let p = part_of_write t.node t.part c (Puts (From d)) e in
     subst (λ (k : ℕ). IsTrue (first_part false (reads t.node d) k)) (sym p.0) (copy_writer t.node c d p.1)
 
-hazard_free : HazardFree traffic
+hazard_free : HazardFree accesses
 hazard_free = record {
   ordered = λ s t c lt meet. ⊎_elim
       (λ wr. let w = written_by s c wr.0 in let r = read_by t c wr.1 in let h = r.2 in let z : s.node ≡ 0 = cc in goes_before s.node s.part t.node z w.0 r.1)
@@ -75,13 +75,13 @@ hazard_free = record {
   source_read = copies_what;
 }
 
-cut : IsCut effects traffic
+cut : IsCut effects accesses
 cut = record {
   within = λ t c x e. (part_of_write t.node t.part c x e).1;
   covered = λ n c x e. (task n, refl, e);
 }
 
-seen_by_copy : (w t : Task) (c : Byte) → w.part ≡ 0 → w.node ≡ 0 → t.node ≡ 3 → Seen traffic caching w t c
+seen_by_copy : (w t : Task) (c : Byte) → w.part ≡ 0 → w.node ≡ 0 → t.node ≡ 3 → Seen accesses caching w t c
 seen_by_copy w t c wp wn tn = record {
   p = task 1;
   q = task 2;
@@ -91,7 +91,7 @@ seen_by_copy w t c wp wn tn = record {
   before = (refl, rw tn refl);
 }
 
-cache_free : CacheFree traffic caching
+cache_free : CacheFree accesses caching
 cache_free = record {
   seen_read = λ w t c lt wr r. let v = written_by w c wr in let u = read_by t c r in let h = u.2 in let z : w.node ≡ 0 = cc in inr (seen_by_copy w t c v.0 z u.1);
   seen_write = λ w t c lt wr wr'. let v = written_by w c wr in let u = written_by t c wr' in let z : w.node ≡ t.node = cc in absurd (omega arith);
@@ -176,13 +176,13 @@ no_copy : (c : Byte) (u : ℕ) → (with_original dropped_there c).held 2 ≡ So
 no_copy (in_buffer zero zero) u e = cc
 no_copy _ u e = cc
 
-first_may : MayRun traffic [] (task 0)
+first_may : MayRun accesses [] (task 0)
 first_may = record { there = refl; fresh = λ h. h; after = λ s p. absurd (none s.node p.1) }
   where
     none : (n : ℕ) → IsTrue (nat_lt n 0 && nat_lt 0 4) → ⊥
     none n h = grind arith
 
-second_may : MayRun traffic (task 0 ∷ []) (task 1)
+second_may : MayRun accesses (task 0 ∷ []) (task 1)
 second_may = record { there = refl; fresh = λ h. ⊎_elim (λ e. let f = ap (λ (t : Task). t.node) e in omega arith) (λ n. n) h; after = λ s p. go s.node s.part p.0 p.1 }
   where
     go : (n k : ℕ) → IsTrue (nat_lt n 5 && k == 0) → IsTrue (nat_lt n 1 && nat_lt 1 4) → IsIn (record { node = n; part = k }) (task 0 ∷ [])
@@ -190,7 +190,7 @@ second_may = record { there = refl; fresh = λ h. ⊎_elim (λ e. let f = ap (λ
     go (suc n) zero h b = absurd (grind arith)
     go n (suc k) h b = absurd (grind arith)
 
-third_may : MayRun traffic (task 1 ∷ task 0 ∷ []) (task 2)
+third_may : MayRun accesses (task 1 ∷ task 0 ∷ []) (task 2)
 third_may = record { there = refl; fresh = fresh; after = λ s p. go s.node s.part p.0 p.1 }
   where
     fresh : IsIn (task 2) (task 1 ∷ task 0 ∷ []) → ⊥
@@ -202,7 +202,7 @@ third_may = record { there = refl; fresh = fresh; after = λ s p. go s.node s.pa
     go (suc (suc n)) zero h b = absurd (grind arith)
     go n (suc k) h b = absurd (grind arith)
 
-copy_may : MayRun traffic (task 2 ∷ task 1 ∷ task 0 ∷ []) (task 3)
+copy_may : MayRun accesses (task 2 ∷ task 1 ∷ task 0 ∷ []) (task 3)
 copy_may = record { there = refl; fresh = fresh; after = λ s p. go s.node s.part p.0 p.1 }
   where
     fresh : IsIn (task 3) (task 2 ∷ task 1 ∷ task 0 ∷ []) → ⊥
@@ -216,13 +216,13 @@ copy_may = record { there = refl; fresh = fresh; after = λ s p. go s.node s.par
     go (suc (suc (suc n))) zero h b = absurd (grind arith)
     go n (suc k) h b = absurd (grind arith)
 
-other_may : MayRun traffic [] (task 4)
+other_may : MayRun accesses [] (task 4)
 other_may = record { there = refl; fresh = λ h. h; after = λ s p. absurd (none s.node p.1) }
   where
     none : (n : ℕ) → IsTrue (nat_lt n 4 && nat_lt 4 4) → ⊥
     none n h = grind arith
 
-stale : Reached traffic caching (task 0 ∷ []) when_filled
+stale : Reached accesses caching (task 0 ∷ []) when_filled
 stale =
     Run [] (task 0) (with_original loaded) (with_original filled)
     (Touch [] (with_original blank) (with_original loaded) (Start (with_original blank) empty) (touched_one blank loaded loads))
@@ -232,13 +232,13 @@ stale =
     empty (in_buffer zero zero) a = refl
     empty _ a = refl
 
-signaled : Reached traffic caching (task 1 ∷ task 0 ∷ []) (with_original home_again)
+signaled : Reached accesses caching (task 1 ∷ task 0 ∷ []) (with_original home_again)
 signaled =
     Run (task 0 ∷ []) (task 1) (with_original home_again) (with_original home_again)
     (Touch (task 0 ∷ []) when_filled (with_original home_again) stale (touched_one filled home_again writes_back))
     second_may (record { written_back = λ c w u e f h. no_dirty c (caching.agent w) u h; dropped = λ c a u d h. absurd cc }) (λ c. (refl, λ b. refl))
 
-ready : Reached traffic caching (task 2 ∷ task 1 ∷ task 0 ∷ []) when_copied
+ready : Reached accesses caching (task 2 ∷ task 1 ∷ task 0 ∷ []) when_copied
 ready =
     Run (task 1 ∷ task 0 ∷ []) (task 2) (with_original dropped_there) (with_original dropped_there)
     (Touch (task 1 ∷ task 0 ∷ []) (with_original home_again) (with_original dropped_there) signaled (touched_one home_again dropped_there drops))
@@ -253,7 +253,7 @@ pub meets_premises : MeetsPremises
 meets_premises = record {
   hazard_free = hazard_free;
   cache_free = cache_free;
-  is_model = is_model effects traffic cut;
+  is_model = is_model effects accesses cut;
   stale = (stale, refl);
   ready = ready;
   next = copy_may;

@@ -4,7 +4,7 @@ use Rattle.std.proofs.lemmas.Bool.{cases_lt, ltb-true, lt-ltb}
 use Rattle.std.specs.Prelude.{nat_lt, ◌↔◌}
 use Rattle.vk_model.specs.World.{Byte}
 use Rattle.vk_model.specs.Moves.{Value, From}
-use Rattle.vk_laws.specs.Machine.{IsIn, Task, Put, Puts, Anything, Traffic, Writes, Reads, Precedes, Conflict, HazardFree, MayRun, IsAllowed, put_value, IsModel, newest, latest}
+use Rattle.vk_laws.specs.Machine.{IsIn, Task, Put, Puts, Anything, TraceAccesses, Writes, Reads, Precedes, Conflict, HazardFree, MayRun, IsAllowed, put_value, IsModel, newest, latest}
 use Rattle.vk_laws.proofs.Coherent.{Stores, Settled, Follows}
 use Rattle.vk_laws.specs.EveryOrder.{IsSettled}
 
@@ -12,7 +12,7 @@ pub none_unless : {A : Type 0} (o : Option A) → ((x : A) → o ≡ Some x → 
 none_unless None h = refl
 none_unless (Some x) h = absurd (h x refl)
 
-module _ (tr : Traffic) where
+module _ (tr : TraceAccesses) where
   pub latest_in : (done : List Task) (c : Byte) (w : Task) → latest tr c done ≡ Some w → IsIn w done × Writes tr w c
   latest_in [] c w e = absurd cc
   latest_in (t ∷ done) c w e = go (latest_in done c w) (tr.write_of t c) refl e
@@ -35,7 +35,7 @@ module _ (tr : Traffic) where
   closed (t ∷ done) ok s r (inl e) p = inr (ok.0.after r (subst (λ (x : Task). Precedes tr r x) e p))
   closed (t ∷ done) ok s r (inr h) p = inr (closed done ok.1 s r h p)
 
-module _ (tr : Traffic) (free : HazardFree tr) where
+module _ (tr : TraceAccesses) (free : HazardFree tr) where
   -- Of the accesses that meet a task's own, the earlier ones are done, and the later ones aren't
   pub earlier_done : (done : List Task) (t s : Task) (c : Byte) → MayRun tr done t → s.node < t.node → Conflict tr s t c → IsIn s done
   earlier_done done t s c may lt meet = may.after s (free.ordered s t c lt meet)
@@ -109,7 +109,7 @@ module _ (tr : Traffic) (free : HazardFree tr) where
             source_of done t c m (m' c) v s ok may f e st (model.written t c s v e (subst (λ (u : Task). value (suc (u.node)) c ≡ Some v) same h))
 
 -- of two tasks of other nodes whose accesses conflict, the earlier is done when the later may come
-pub done_by_number : (tr : Traffic) (done : List Task) (s t : Task) (c : Byte) → IsSettled tr done t → (s.node ≡ t.node → ⊥) → Conflict tr s t c → Conflict tr t s c → IsTrue (nat_lt s.node t.node) ↔ IsIn s done
+pub done_by_number : (tr : TraceAccesses) (done : List Task) (s t : Task) (c : Byte) → IsSettled tr done t → (s.node ≡ t.node → ⊥) → Conflict tr s t c → Conflict tr t s c → IsTrue (nat_lt s.node t.node) ↔ IsIn s done
 done_by_number tr done s t c settled ne meet back = (
   λ h. let lt = ltb-true s.node t.node h in settled.earlier s c lt meet,
   λ h. lt-ltb s.node t.node

@@ -1,11 +1,11 @@
 -- What a run has reached it has reached in the longer trace too.
 use Rattle.std.proofs.Common.{◌≡◌, inl, inr, ℕ, ◌<◌, IsTrue, Bool, List, [], ◌∷◌, Option, Some, None, refl, sym, ◌∙◌, subst, true, false, arith}
 use Rattle.vk_model.specs.World.{Byte}
-use Rattle.vk_laws.specs.Machine.{IsIn, Task, Put, Traffic, Precedes, MayRun, newest, latest}
+use Rattle.vk_laws.specs.Machine.{IsIn, Task, Put, TraceAccesses, Precedes, MayRun, newest, latest}
 use Rattle.vk_laws.specs.Caches.{Dirty, Cell, CellRan, Caching, Guard, Reached, Start, Touch, Run}
 use Rattle.vk_laws.specs.Growth.{Extends, IsTransitive, IsDue, IsEager}
 
-module _ (size : ℕ) (tr : Traffic) (ca : Caching) (tr' : Traffic) (ca' : Caching) (ext : Extends size tr ca tr' ca') where
+module _ (size : ℕ) (tr : TraceAccesses) (ca : Caching) (tr' : TraceAccesses) (ca' : Caching) (ext : Extends size tr ca tr' ca') where
   abbrev AllOld : List Task → Type 0
   AllOld done = (s : Task) → IsIn s done → s.node < size
 
@@ -57,7 +57,7 @@ module _ (size : ℕ) (tr : Traffic) (ca : Caching) (tr' : Traffic) (ca' : Cachi
       (λ c. subst (λ (a : ℕ). CellRan (tr'.write_of t c) a before (before c) (cells c)) (sym (ext.agent t lt)) (subst (λ (o : Option Put). CellRan o (ca.agent t) before (before c) (cells c)) (sym (ext.write_of t c lt)) (ran c)))
 
 -- Where events happen as soon as they can, a task waits for pieces and host entries alone.
-pub may_run : (tr : Traffic) (is_event : Task → Bool) (done : List Task) (t : Task) → IsTransitive tr → IsEager tr is_event done
+pub may_run : (tr : TraceAccesses) (is_event : Task → Bool) (done : List Task) (t : Task) → IsTransitive tr → IsEager tr is_event done
     → IsTrue (tr.has t) → (IsIn t done → ⊥) → IsDue tr is_event done t → MayRun tr done t
 may_run tr is_event done t transitive eager there fresh due = record { there = there; fresh = fresh; after = λ s p. go s p (is_event s) refl }
   where

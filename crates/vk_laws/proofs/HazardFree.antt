@@ -21,7 +21,7 @@ use Rattle.vk_model.specs.Fault.{Comes, IsSound}
 use Rattle.vk_model.specs.Laws.{PiecesAreMoves, PiecesWriteApart, write_common}
 use Rattle.vk_laws.specs.Machine.{Task, Put, Puts, Reads, HazardFree}
 use Rattle.vk_laws.specs.Trace.{AccessesInOrder}
-use Rattle.vk_laws.specs.Tasks.{moves_of, host_value, part_write, part_read, node_at, by_act, traffic_of}
+use Rattle.vk_laws.specs.Tasks.{moves_of, host_value, part_write, part_read, node_at, by_act, accesses_of}
 use Rattle.vk_laws.proofs.TaskNodes.{node_of, same_task}
 use Rattle.vk_laws.proofs.Members.{member_passes, found, map_has, chosen_has, chosen_from}
 use Rattle.vk_laws.proofs.Steady.{kept_moves, kept_pieces, new_ids, live_ids}
@@ -33,14 +33,14 @@ use Rattle.vk_laws.proofs.Apart.{pair_of, no_overlap}
 
 module _ (all : Past) where
   -- the node of a task that writes, and of one that reads
-  pub write_act : (t : Task) (c : Byte) (w : Put) → (traffic_of all).write_of t c ≡ Some w → (n : Node) × (node_at all t.node ≡ Some n) × (part_write all n.act t.part c ≡ Some w)
+  pub write_act : (t : Task) (c : Byte) (w : Put) → (accesses_of all).write_of t c ≡ Some w → (n : Node) × (node_at all t.node ≡ Some n) × (part_write all n.act t.part c ≡ Some w)
   write_act t c w h = go (node_at all t.node) refl h
     where
       go : (o : Option Node) → node_at all t.node ≡ o → by_act None (λ a. part_write all a t.part c) o ≡ Some w → (n : Node) × (node_at all t.node ≡ Some n) × (part_write all n.act t.part c ≡ Some w)
       go None e h = absurd cc
       go (Some n) e h = (n, e, h)
 
-  pub read_act : (t : Task) (c : Byte) → Reads (traffic_of all) t c → (n : Node) × (node_at all t.node ≡ Some n) × IsTrue (part_read all n.act t.part c)
+  pub read_act : (t : Task) (c : Byte) → Reads (accesses_of all) t c → (n : Node) × (node_at all t.node ≡ Some n) × IsTrue (part_read all n.act t.part c)
   read_act t c h = go (node_at all t.node) refl h
     where
       go : (o : Option Node) → node_at all t.node ≡ o → IsTrue (by_act false (λ a. part_read all a t.part c) o) → (n : Node) × (node_at all t.node ≡ Some n) × IsTrue (part_read all n.act t.part c)
@@ -188,7 +188,7 @@ module _ (together : PiecesAreMoves) (apart : PiecesWriteApart) (t : List Entry)
   same_node_act : (k l : ℕ) (m n : Node) → k ≡ l → node_at all k ≡ Some m → node_at all l ≡ Some n → m ≡ n
   same_node_act k l m n e f g = let h : node_at all k ≡ node_at all l = ap (node_at all) e in cc
 
-  pub hazard_free : AccessesInOrder → first_fault t ≡ None → HazardFree (traffic_of all)
+  pub hazard_free : AccessesInOrder → first_fault t ≡ None → HazardFree (accesses_of all)
   hazard_free order none = record {
     ordered = ordered together order t none;
     apart = λ s u c same w r.

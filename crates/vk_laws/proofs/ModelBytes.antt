@@ -32,7 +32,7 @@ use Rattle.vk_model.specs.Rules.{breaks}
 use Rattle.vk_model.specs.Fault.{IsSound}
 use Rattle.vk_model.specs.Laws.{PiecesAreMoves, PiecesWriteApart}
 use Rattle.vk_laws.specs.Machine.{Task, Reads, Put, Puts, put_value, IsModel}
-use Rattle.vk_laws.specs.Tasks.{moves_of, host_value, part_write, part_read, node_at, by_act, traffic_of}
+use Rattle.vk_laws.specs.Tasks.{moves_of, host_value, part_write, part_read, node_at, by_act, accesses_of}
 use Rattle.vk_laws.specs.TraceBytes.{before_node, value_before}
 use Rattle.vk_laws.proofs.TaskNodes.{node_of}
 use Rattle.vk_laws.proofs.Fresh.{none_unless}
@@ -377,7 +377,7 @@ module _ (together : PiecesAreMoves) (apart : PiecesWriteApart) (t : List Entry)
       (λ end. subst (λ (o : Option Source). from_source o (world s.past).value c ≡ Some v) (no_source n cn c none) (after_point n s c v (omega arith) h))
       (cases_lt (suc n.number) (length (nodes (s.at ∷ s.past)))))
 
-  pub is_model : IsModel (traffic_of all) (value_before all)
+  pub is_model : IsModel (accesses_of all) (value_before all)
   is_model = record {
     undefined = λ c. undefined_first all c;
     written = λ u c w v h e.
@@ -408,7 +408,7 @@ module _ (together : PiecesAreMoves) (apart : PiecesWriteApart) (t : List Entry)
   unfolding breaks
   breaks_read s p x e h = rw e h
 
-  pub read_defined : (u : Task) (c : Byte) → Reads (traffic_of all) u c → IsTrue (holds (node_at all u.node) (λ n. is_host n.act)) → (v : ℕ) × (value_before all u.node c ≡ Some v)
+  pub read_defined : (u : Task) (c : Byte) → Reads (accesses_of all) u c → IsTrue (holds (node_at all u.node) (λ n. is_host n.act)) → (v : ℕ) × (value_before all u.node c ≡ Some v)
   read_defined u c r h =
       let a = read_act all u c r in
       let n = node_of all u.node a.0 a.1 in

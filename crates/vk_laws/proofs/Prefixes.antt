@@ -10,7 +10,7 @@ use Rattle.vk_model.specs.Node.{Node, Act, Runs, nodes, acts}
 use Rattle.vk_model.specs.Before.{before, IsNumbered}
 use Rattle.vk_model.specs.Fault.{Comes}
 use Rattle.vk_model.specs.Laws.{GrowthKeeps}
-use Rattle.vk_laws.specs.Tasks.{node_at, by_act, traffic_of}
+use Rattle.vk_laws.specs.Tasks.{node_at, by_act, accesses_of}
 use Rattle.vk_laws.proofs.TaskNodes.{node_of}
 use Rattle.vk_laws.proofs.Members.{right_has}
 use Rattle.vk_laws.proofs.NoHazard.{number_below, numbered}
@@ -32,7 +32,7 @@ module _ (all : Past) where
       go None e h = absurd cc
       go (Some n) e h = let at = node_of all k n e in let lt = number_below (nodes all) (numbered all) n at.0 in let same = at.1 in omega (arith, lt, same)
 
-  pub leads_on : (a b : ℕ) → IsTrue ((traffic_of all).before a b) → a < b
+  pub leads_on : (a b : ℕ) → IsTrue ((accesses_of all).before a b) → a < b
   leads_on a b h = go (node_at all a) (node_at all b) refl refl h
     where
       go : (o u : Option Node) → node_at all a ≡ o → node_at all b ≡ u → IsTrue (holds o (λ m. holds u (λ n. before (nodes all) m n))) → a < b

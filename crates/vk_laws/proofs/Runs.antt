@@ -10,9 +10,9 @@ use Rattle.vk_model.specs.Point.{Past}
 use Rattle.vk_model.specs.Node.{Node, nodes}
 use Rattle.vk_model.specs.Before.{before}
 use Rattle.vk_model.specs.Laws.{BeforeLeadsOn}
-use Rattle.vk_laws.specs.Machine.{IsIn, Task, Put, Puts, Anything, Traffic, Precedes, MayRun, IsAllowed}
+use Rattle.vk_laws.specs.Machine.{IsIn, Task, Put, Puts, Anything, TraceAccesses, Precedes, MayRun, IsAllowed}
 use Rattle.vk_laws.specs.Caches.{Cell, Caching, CellRan, Reached, Start, Run}
-use Rattle.vk_laws.specs.Tasks.{task_count, node_at, by_act, traffic_of}
+use Rattle.vk_laws.specs.Tasks.{task_count, node_at, by_act, accesses_of}
 use Rattle.vk_laws.specs.Discards.{with_discards}
 use Rattle.vk_laws.specs.DefinedRuns.{stored, bytes_after}
 use Rattle.vk_laws.proofs.TaskNodes.{node_of, same_task}
@@ -31,7 +31,7 @@ ran (Some (Puts (Value v))) a memory c = record { others = λ b n. refl; mine = 
 ran (Some (Puts (From d))) a memory c = record { others = λ b n. refl; mine = inr (refl, inl refl) }
 ran (Some Anything) a memory c = (0, record { others = λ b n. refl; mine = inr (refl, inl refl) })
 
-module _ (tr : Traffic) (ca : Caching) where
+module _ (tr : TraceAccesses) (ca : Caching) where
   pub reached_from : (first : Byte → ℕ) (done : List Task) → IsAllowed tr done → Reached tr ca done (bare (bytes_after tr first done))
   reached_from first [] ok = Start _ (λ c a. refl)
   reached_from first (t ∷ done) ok =
@@ -48,8 +48,8 @@ module _ (tr : Traffic) (ca : Caching) where
 -- ---- the run in reference order
 
 module _ (leads : BeforeLeadsOn) (all : Past) where
-  abbrev tr : Traffic
-  tr = traffic_of all
+  abbrev tr : TraceAccesses
+  tr = accesses_of all
 
   abbrev count : ℕ → ℕ
   count k = elim (node_at all k) [ None ↦ 0 | Some n ↦ task_count all n.act ]
@@ -224,9 +224,9 @@ module _ (leads : BeforeLeadsOn) (all : Past) where
 -- ---- and where invalidations forget
 
 module _ (all : Past) where
-  pub may_too : (done : List Task) (t : Task) → MayRun (traffic_of all) done t → MayRun (with_discards all) done t
+  pub may_too : (done : List Task) (t : Task) → MayRun (accesses_of all) done t → MayRun (with_discards all) done t
   may_too done t m = record { there = m.there; fresh = m.fresh; after = m.after }
 
-  pub allowed_too : (done : List Task) → IsAllowed (traffic_of all) done → IsAllowed (with_discards all) done
+  pub allowed_too : (done : List Task) → IsAllowed (accesses_of all) done → IsAllowed (with_discards all) done
   allowed_too [] ok = tt
   allowed_too (t ∷ done) ok = (may_too done t ok.0, allowed_too done ok.1)

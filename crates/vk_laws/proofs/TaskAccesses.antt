@@ -20,7 +20,7 @@ use Rattle.vk_model.specs.Before.{before}
 use Rattle.vk_laws.specs.EveryOrder.{IsSettled}
 use Rattle.vk_laws.specs.Machine.{Task, Put, Puts, Writes, Reads, Precedes, Conflict, MayRun, IsAllowed}
 use Rattle.vk_laws.specs.Trace.{accesses, AccessesInOrder}
-use Rattle.vk_laws.specs.Tasks.{moves_of, host_value, part_write, part_read, task_count, node_at, by_act, traffic_of}
+use Rattle.vk_laws.specs.Tasks.{moves_of, host_value, part_write, part_read, task_count, node_at, by_act, accesses_of}
 use Rattle.vk_laws.proofs.TaskNodes.{node_of}
 use Rattle.vk_laws.proofs.Members.{member_passes, some_member, found, map_has, part_has, chosen_has, chosen_from, numbers_have, none_in}
 use Rattle.vk_laws.proofs.Fresh.{closed}
@@ -155,7 +155,7 @@ module _ (together : PiecesAreMoves) (all : Past) where
     pub is_access : IsTrue (accesses node.act)
     pub accessed : access node
 
-  pub writer : (t : Task) (c : Byte) → Writes (traffic_of all) t c → Accessor t (λ n. Contains (writes all n) c)
+  pub writer : (t : Task) (c : Byte) → Writes (accesses_of all) t c → Accessor t (λ n. Contains (writes all n) c)
   writer t c w = go (node_at all t.node) refl w.1
     where
       go : (o : Option Node) → node_at all t.node ≡ o → by_act None (λ a. part_write all a t.part c) o ≡ Some w.0 → Accessor t (λ n. Contains (writes all n) c)
@@ -165,7 +165,7 @@ module _ (together : PiecesAreMoves) (all : Past) where
           let both = writes_it n.act n.point.queue t.part c w.0 h in
           record { node = n; at = e; stands = f.0; number = f.1; there = writer_there n.act t.part c w.0 h; is_access = both.0; accessed = both.1 }
 
-  pub reader : (t : Task) (c : Byte) → Reads (traffic_of all) t c → Accessor t (λ n. Contains (reads all n) c)
+  pub reader : (t : Task) (c : Byte) → Reads (accesses_of all) t c → Accessor t (λ n. Contains (reads all n) c)
   reader t c r = go (node_at all t.node) refl r
     where
       go : (o : Option Node) → node_at all t.node ≡ o → IsTrue (by_act false (λ a. part_read all a t.part c) o) → Accessor t (λ n. Contains (reads all n) c)
@@ -181,10 +181,10 @@ module _ (together : PiecesAreMoves) (order : AccessesInOrder) (t : List Entry) 
   abbrev all : Past
   all = plain_order t
 
-  by_nodes : (s u : Task) (m n : Node) → node_at all s.node ≡ Some m → node_at all u.node ≡ Some n → IsTrue (nat_lt s.part (task_count all m.act)) → IsTrue (before (nodes all) m n) → Precedes (traffic_of all) s u
+  by_nodes : (s u : Task) (m n : Node) → node_at all s.node ≡ Some m → node_at all u.node ≡ Some n → IsTrue (nat_lt s.part (task_count all m.act)) → IsTrue (before (nodes all) m n) → Precedes (accesses_of all) s u
   by_nodes s u m n e f there b = (rw e there, rw (e, f) b)
 
-  pub ordered : (s u : Task) (c : Byte) → s.node < u.node → Conflict (traffic_of all) s u c → Precedes (traffic_of all) s u
+  pub ordered : (s u : Task) (c : Byte) → s.node < u.node → Conflict (accesses_of all) s u c → Precedes (accesses_of all) s u
   ordered s u c lt meet = ⊎_elim
       (λ wr. let x = writer together all s c wr.0 in let y = reader together all u c wr.1 in
       by_nodes s u x.node y.node x.at y.at x.there (order t x.node y.node c none x.stands y.stands (let e = x.number in let f = y.number in omega arith) x.is_access y.is_access (inl (is_in_of together all c _ x.accessed, y.accessed))))
@@ -196,8 +196,8 @@ module _ (together : PiecesAreMoves) (order : AccessesInOrder) (t : List Entry) 
       rest)
       meet
 
-  pub settled : (done : List Task) (next : Task) → IsAllowed (traffic_of all) done → MayRun (traffic_of all) done next → IsSettled (traffic_of all) done next
+  pub settled : (done : List Task) (next : Task) → IsAllowed (accesses_of all) done → MayRun (accesses_of all) done next → IsSettled (accesses_of all) done next
   settled done next ok may = record {
     earlier = λ s c lt meet. may.after s (ordered s next c lt meet);
-    later = λ s c lt meet h. may.fresh (closed (traffic_of all) done ok s next h (ordered next s c lt meet));
+    later = λ s c lt meet h. may.fresh (closed (accesses_of all) done ok s next h (ordered next s c lt meet));
   }

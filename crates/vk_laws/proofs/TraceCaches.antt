@@ -17,7 +17,7 @@ use Rattle.vk_model.specs.Laws.{BeforeIsPath, BeforeIsTransitive}
 use Rattle.vk_laws.specs.Machine.{Task, Precedes}
 use Rattle.vk_laws.specs.Caches.{Seen, Available}
 use Rattle.vk_laws.specs.Trace.{accesses}
-use Rattle.vk_laws.specs.Tasks.{node_at, task_count, traffic_of}
+use Rattle.vk_laws.specs.Tasks.{node_at, task_count, accesses_of}
 use Rattle.vk_laws.specs.TraceCaches.{agent_of, submits_to, host_wrote, cached, sends_write, shows_host, shows, caching_of}
 use Rattle.vk_laws.proofs.TaskNodes.{node_of}
 use Rattle.vk_laws.proofs.Members.{contains-cons, member_passes, some_member, none_in}
@@ -160,7 +160,7 @@ module _ (paths : BeforeIsPath) (joins : BeforeIsTransitive) (all : Past) where
   event_there (Signals s) e = refl
   event_there (Depends r d) e = refl
 
-  pub precedes : (m n : Node) → Contains (nodes all) m → is_command m.act ≡ false → IsTrue (before (nodes all) m n) → (u : Task) → node_at all u.node ≡ Some n → Precedes (traffic_of all) (task_of m) u
+  pub precedes : (m n : Node) → Contains (nodes all) m → is_command m.act ≡ false → IsTrue (before (nodes all) m n) → (u : Task) → node_at all u.node ≡ Some n → Precedes (accesses_of all) (task_of m) u
   precedes m n cm quiet b u e = (rw (node_at_self m cm) (event_there m.act quiet), rw (node_at_self m cm, e) b)
 
   -- ---- what makes available
@@ -284,7 +284,7 @@ module _ (paths : BeforeIsPath) (joins : BeforeIsTransitive) (all : Past) where
   pub agent_is : (t : Task) (y : Node) → node_at all t.node ≡ Some y → (caching_of all).agent t ≡ agent_of y
   agent_is t y e = ap (λ (o : Option Node). elim o [ None ↦ 0 | Some n ↦ agent_of n ]) e
 
-  module _ (w t : Task) (x y : Node) (at_w : node_at all w.node ≡ Some x) (at_t : node_at all t.node ≡ Some y) (has : IsTrue ((traffic_of all).has w)) (cx : Contains (nodes all) x) (cy : Contains (nodes all) y)
+  module _ (w t : Task) (x y : Node) (at_w : node_at all w.node ≡ Some x) (at_t : node_at all t.node ≡ Some y) (has : IsTrue ((accesses_of all).has w)) (cx : Contains (nodes all) x) (cy : Contains (nodes all) y)
       (ax : IsTrue (accesses x.act)) (ay : IsTrue (accesses y.act)) (one : Byte → Bool) (b : Byte) (same : (n : Node) → Contains (nodes all) n → x.number ≤ n.number → one b ≡ cached all n.number b) where
     at_writer : one b ≡ cached all x.number b
     at_writer = same x cx (let le : x.number ≤ x.number = omega arith in le)
@@ -317,7 +317,7 @@ module _ (paths : BeforeIsPath) (joins : BeforeIsTransitive) (all : Past) where
         go (Signals s) access h = absurd cc
         go (Depends r d) access h = absurd cc
 
-    seen_by : (p q : Node) → Contains (nodes all) p → Sent one x p b → (shown : Shown q y b) → Reaches paths all joins p shown.by → Seen (traffic_of all) (caching_of all) w t b
+    seen_by : (p q : Node) → Contains (nodes all) p → Sent one x p b → (shown : Shown q y b) → Reaches paths all joins p shown.by → Seen (accesses_of all) (caching_of all) w t b
     seen_by p q cp sent shown order = record {
       p = task_of p;
       q = task_of shown.by;
@@ -327,7 +327,7 @@ module _ (paths : BeforeIsPath) (joins : BeforeIsTransitive) (all : Past) where
       before = precedes shown.by y shown.stands shown.quiet shown.earlier t at_t;
     }
 
-    pub seen_task : Submits → (is_host x.act ≡ true → HostSource x b) → IsTrue (seen one (nodes all) x y Read b) → Seen (traffic_of all) (caching_of all) w t b
+    pub seen_task : Submits → (is_host x.act ≡ true → HostSource x b) → IsTrue (seen one (nodes all) x y Read b) → Seen (accesses_of all) (caching_of all) w t b
     unfolding seen
     seen_task submits source h =
         let p = some_member _ (nodes all) h in
@@ -340,7 +340,7 @@ module _ (paths : BeforeIsPath) (joins : BeforeIsTransitive) (all : Past) where
         let order = reaches_join paths all joins p.0 q.0 shown.by p.1 q.1 shown.stands (or_before paths all joins one p.0 q.0 second.0) shown.order in
         seen_by p.0 q.0 p.1 sent shown order
 
-    pub available_task : IsTrue (seen one (nodes all) x y Write b) → Available (traffic_of all) (caching_of all) w t b
+    pub available_task : IsTrue (seen one (nodes all) x y Write b) → Available (accesses_of all) (caching_of all) w t b
     unfolding seen
     available_task h =
         let p = some_member _ (nodes all) h in
@@ -356,10 +356,10 @@ module _ (paths : BeforeIsPath) (joins : BeforeIsTransitive) (all : Past) where
         }
 
   -- nothing is made available before it was written
-  pub available_later : (p w : Task) (b : Byte) → IsTrue ((caching_of all).makes_available p w b) → Precedes (traffic_of all) w p
+  pub available_later : (p w : Task) (b : Byte) → IsTrue ((caching_of all).makes_available p w b) → Precedes (accesses_of all) w p
   available_later p w b h = go (node_at all p.node) (node_at all w.node) refl refl (and_parts _ _ h).0 (and_parts _ _ h).1
     where
-      go : (o u : Option Node) → node_at all p.node ≡ o → node_at all w.node ≡ u → IsTrue ((traffic_of all).has w) → IsTrue (holds o (λ m. holds u (λ n. sends_write all m n b))) → Precedes (traffic_of all) w p
+      go : (o u : Option Node) → node_at all p.node ≡ o → node_at all w.node ≡ u → IsTrue ((accesses_of all).has w) → IsTrue (holds o (λ m. holds u (λ n. sends_write all m n b))) → Precedes (accesses_of all) w p
       go None u e f has h = absurd cc
       go (Some m) None e f has h = absurd cc
       go (Some m) (Some n) e f has h =

@@ -18,7 +18,7 @@ use Rattle.vk_model.specs.Laws.{BeforeIsPath, BeforeIsTransitive, GrowthKeeps, K
 use Rattle.vk_laws.specs.Machine.{Task, Put}
 use Rattle.vk_laws.specs.Growth.{Extends}
 use Rattle.vk_laws.specs.Trace.{accesses}
-use Rattle.vk_laws.specs.Tasks.{moves_of, task_count, part_write, node_at, by_act, traffic_of}
+use Rattle.vk_laws.specs.Tasks.{moves_of, task_count, part_write, node_at, by_act, accesses_of}
 use Rattle.vk_laws.specs.TraceBytes.{before_node}
 use Rattle.vk_laws.specs.Discards.{entry_forgets, forgets, or_anything, with_discards}
 use Rattle.vk_laws.specs.TraceCaches.{agent_of, submits_to, cached, host_wrote, sends_write, shows, caching_of}
@@ -197,7 +197,7 @@ module _ (paths : BeforeIsPath) (joins : BeforeIsTransitive) (keeps : GrowthKeep
         let low = number_below (nodes old) (numbered old) n cn in
         omega (arith, le, lt, low))
 
-  -- ---- the traffic and its caches
+  -- ---- the accesses and its caches
 
   has_same : (t : Task) → t.node < size → (with_discards whole).has t ≡ (with_discards old).has t
   has_same t lt =
@@ -238,24 +238,24 @@ module _ (paths : BeforeIsPath) (joins : BeforeIsTransitive) (keeps : GrowthKeep
   available_same : (p w : Task) (c : Byte) → p.node < size → (caching_of whole).makes_available p w c ≡ (caching_of old).makes_available p w c
   available_same p w c lt =
       let n = at p.node lt in
-      ap (λ (o : Option Node). (traffic_of whole).has w && holds o (λ m. holds (node_at whole w.node) (λ n. sends_write whole m n c))) n.in_whole
+      ap (λ (o : Option Node). (accesses_of whole).has w && holds o (λ m. holds (node_at whole w.node) (λ n. sends_write whole m n c))) n.in_whole
       ∙ by_writer n (cases_lt w.node size)
-      ∙ sym (ap (λ (o : Option Node). (traffic_of old).has w && holds o (λ m. holds (node_at old w.node) (λ n. sends_write old m n c))) n.in_old)
+      ∙ sym (ap (λ (o : Option Node). (accesses_of old).has w && holds o (λ m. holds (node_at old w.node) (λ n. sends_write old m n c))) n.in_old)
     where
       never : (n : At p.node) → size ≤ w.node → (o : Option Node) → node_at whole w.node ≡ o → holds o (λ m. sends_write whole n.node m c) ≡ false
       never n le None e = refl
       never n le (Some m) e = let f = node_of whole w.node m e in none_sent n.node n.stands m f.0 (let g = f.1 in omega (arith, le, g)) c
 
-      by_writer : (n : At p.node) → (w.node < size) ⊎ (size ≤ w.node) → ((traffic_of whole).has w && holds (node_at whole w.node) (λ m. sends_write whole n.node m c)) ≡ ((traffic_of old).has w && holds (node_at old w.node) (λ m. sends_write old n.node m c))
+      by_writer : (n : At p.node) → (w.node < size) ⊎ (size ≤ w.node) → ((accesses_of whole).has w && holds (node_at whole w.node) (λ m. sends_write whole n.node m c)) ≡ ((accesses_of old).has w && holds (node_at old w.node) (λ m. sends_write old n.node m c))
       by_writer n (inl low) =
           let m = at w.node low in
           ap (λ (b : Bool). b && holds (node_at whole w.node) (λ m. sends_write whole n.node m c)) (has_same w low)
-          ∙ ap (λ (o : Option Node). (traffic_of old).has w && holds o (λ m. sends_write whole n.node m c)) m.in_whole
-          ∙ ap (λ (b : Bool). (traffic_of old).has w && b) (same_sent n.node n.stands m.node m.stands (same_cached m.node m.stands) c)
-          ∙ sym (ap (λ (o : Option Node). (traffic_of old).has w && holds o (λ m. sends_write old n.node m c)) m.in_old)
+          ∙ ap (λ (o : Option Node). (accesses_of old).has w && holds o (λ m. sends_write whole n.node m c)) m.in_whole
+          ∙ ap (λ (b : Bool). (accesses_of old).has w && b) (same_sent n.node n.stands m.node m.stands (same_cached m.node m.stands) c)
+          ∙ sym (ap (λ (o : Option Node). (accesses_of old).has w && holds o (λ m. sends_write old n.node m c)) m.in_old)
       by_writer n (inr le) =
-          and_right ((traffic_of whole).has w) _ (never n le (node_at whole w.node) refl)
-          ∙ sym (and_right ((traffic_of old).has w) _ (ap (λ (o : Option Node). holds o (λ m. sends_write old n.node m c)) (none_old w.node le)))
+          and_right ((accesses_of whole).has w) _ (never n le (node_at whole w.node) refl)
+          ∙ sym (and_right ((accesses_of old).has w) _ (ap (λ (o : Option Node). holds o (λ m. sends_write old n.node m c)) (none_old w.node le)))
 
   visible_same : (q : Task) (a : ℕ) (c : Byte) → q.node < size → (caching_of whole).makes_visible q a c ≡ (caching_of old).makes_visible q a c
   visible_same q a c lt =

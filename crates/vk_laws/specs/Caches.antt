@@ -2,7 +2,7 @@
 use Rattle.std.specs.Prelude.{◌≡◌, ◌⊎◌, ℕ, ◌<◌, Bool, IsTrue, List, [], ◌∷◌, Option, Some, None}
 use Rattle.vk_model.specs.World.{Byte}
 use Rattle.vk_model.specs.Moves.{Value, From}
-use Rattle.vk_laws.specs.Machine.{Task, Put, Puts, Anything, Traffic, Writes, Reads, Precedes, MayRun, latest}
+use Rattle.vk_laws.specs.Machine.{Task, Put, Puts, Anything, TraceAccesses, Writes, Reads, Precedes, MayRun, latest}
 
 -- What a cache holds of a byte: a copy, or a write that hasn't reached the region (Vulkan, "Execution and Memory Dependencies", on availability and visibility).
 pub data Held : Type 0 where
@@ -57,13 +57,13 @@ pub record Caching : Type 0 where
   pub makes_visible : Task → ℕ → Byte → Bool
 
 -- The write of a byte by w is made available by p, before t (Vulkan, "Execution and Memory Dependencies", on memory dependencies).
-pub record Available (tr : Traffic) (ca : Caching) (w t : Task) (c : Byte) : Type 0 where
+pub record Available (tr : TraceAccesses) (ca : Caching) (w t : Task) (c : Byte) : Type 0 where
   pub p : Task
   pub available : IsTrue (ca.makes_available p w c)
   pub before : Precedes tr p t
 
 -- It is made available by p, and then visible to the agent of t by q, which is p or comes later, and before t (Vulkan, "Execution and Memory Dependencies", on memory dependencies).
-pub record Seen (tr : Traffic) (ca : Caching) (w t : Task) (c : Byte) : Type 0 where
+pub record Seen (tr : TraceAccesses) (ca : Caching) (w t : Task) (c : Byte) : Type 0 where
   pub p : Task
   pub q : Task
   pub available : IsTrue (ca.makes_available p w c)
@@ -72,7 +72,7 @@ pub record Seen (tr : Traffic) (ca : Caching) (w t : Task) (c : Byte) : Type 0 w
   pub before : Precedes tr q t
 
 -- What one agent wrote another reads only when it has been made visible to it, and overwrites only when it has been made available; and a write is made available only after it (Vulkan, "Execution and Memory Dependencies", on data hazards).
-pub record CacheFree (tr : Traffic) (ca : Caching) : Type 0 where
+pub record CacheFree (tr : TraceAccesses) (ca : Caching) : Type 0 where
   pub seen_read : (w t : Task) (c : Byte) → w.node < t.node → Writes tr w c → Reads tr t c → (ca.agent w ≡ ca.agent t) ⊎ Seen tr ca w t c
   pub seen_write : (w t : Task) (c : Byte) → w.node < t.node → Writes tr w c → Writes tr t c → (ca.agent w ≡ ca.agent t) ⊎ Available tr ca w t c
   pub available_later : (p w : Task) (c : Byte) → IsTrue (ca.makes_available p w c) → Precedes tr w p
@@ -80,12 +80,12 @@ pub record CacheFree (tr : Traffic) (ca : Caching) : Type 0 where
 -- ---- the states of runs
 
 -- An event counts as done only when the caches have done what it asks: no byte is held dirty whose last write it makes available, and no agent keeps a copy of a byte that it makes visible to the agent (Vulkan, "Execution and Memory Dependencies", on availability and visibility operations).
-pub record Guard (tr : Traffic) (ca : Caching) (done : List Task) (cells : Byte → Cell) (t : Task) : Type 0 where
+pub record Guard (tr : TraceAccesses) (ca : Caching) (done : List Task) (cells : Byte → Cell) (t : Task) : Type 0 where
   pub written_back : (c : Byte) (w : Task) (u : ℕ) → latest tr c done ≡ Some w → IsTrue (ca.makes_available t w c) → (cells c).held (ca.agent w) ≡ Some (Dirty u) → ⊥
   pub dropped : (c : Byte) (a u : ℕ) → IsTrue (ca.makes_visible t a c) → (cells c).held a ≡ Some (Clean u) → ⊥
 
 -- The tasks done so far, the newest first, and the bytes that an allowed run of them may have led to: it starts with empty caches, the caches are touched at any time, and a task that may come next runs on each byte at once (Vulkan, "Execution and Memory Dependencies").
-pub data Reached (tr : Traffic) (ca : Caching) : List Task → (Byte → Cell) → Type 0 where
+pub data Reached (tr : TraceAccesses) (ca : Caching) : List Task → (Byte → Cell) → Type 0 where
   Start : (cells : Byte → Cell) → ((c : Byte) (a : ℕ) → (cells c).held a ≡ None) → Reached tr ca [] cells
   Touch : (done : List Task) (old new : Byte → Cell) → Reached tr ca done old → ((c : Byte) → Touched (old c) (new c)) → Reached tr ca done new
   Run : (done : List Task) (t : Task) (old new : Byte → Cell) → Reached tr ca done old → MayRun tr done t → Guard tr ca done old t → ((c : Byte) → CellRan (tr.write_of t c) (ca.agent t) old (old c) (new c)) → Reached tr ca (t ∷ done) new

@@ -1,7 +1,7 @@
 -- Whole commands one at a time, and the tasks that they are cut into.
 use Rattle.std.specs.Prelude.{◌≡◌, ℕ, zero, suc, Bool, Option, Some, None, if◌then◌else◌}
 use Rattle.vk_model.specs.World.{Byte}
-use Rattle.vk_laws.specs.Machine.{Task, Put, Traffic, put_value}
+use Rattle.vk_laws.specs.Machine.{Task, Put, TraceAccesses, put_value}
 
 -- What a node does to bytes: it makes some undefined, and then writes (Vulkan, "Clear Commands", "Copy Commands" and "Resource Sharing Mode").
 pub record Effects : Type 0 where
@@ -23,6 +23,6 @@ meaning fx zero c = None
 meaning fx (suc n) c = set_by (fx.writes n c) (left_by fx n (meaning fx n)) c
 
 -- The tasks of a node write what the node writes, all of it and nothing else.
-pub record IsCut (fx : Effects) (tr : Traffic) : Type 0 where
+pub record IsCut (fx : Effects) (tr : TraceAccesses) : Type 0 where
   pub within : (t : Task) (c : Byte) (x : Put) → tr.write_of t c ≡ Some x → fx.writes t.node c ≡ Some x
   pub covered : (n : ℕ) (c : Byte) (x : Put) → fx.writes n c ≡ Some x → (t : Task) × (t.node ≡ n) × (tr.write_of t c ≡ Some x)

@@ -11,10 +11,10 @@ use Rattle.vk_model.specs.Effect.{world}
 use Rattle.vk_model.specs.Node.{Node, Act, Hosts, Runs, nodes}
 use Rattle.vk_model.specs.Rules.{first_fault}
 use Rattle.vk_model.specs.Run.{Name, is_done, offered, Step, Apply, RunPiece, CopyPart, Stage, start, may_go, Allowed}
-use Rattle.vk_laws.specs.Machine.{IsIn, Task, Put, Puts, Anything, Traffic, Reads, Conflict, MayRun, IsAllowed, latest}
+use Rattle.vk_laws.specs.Machine.{IsIn, Task, Put, Puts, Anything, TraceAccesses, Reads, Conflict, MayRun, IsAllowed, latest}
 use Rattle.vk_laws.specs.Growth.{IsEager}
 use Rattle.vk_laws.specs.Trace.{accesses}
-use Rattle.vk_laws.specs.Tasks.{node_at, traffic_of}
+use Rattle.vk_laws.specs.Tasks.{node_at, accesses_of}
 use Rattle.vk_laws.specs.TraceBytes.{value_before}
 
 -- Whether a task is an event: neither a command's piece nor a host entry.
@@ -48,7 +48,7 @@ stored (Some (Puts (From d))) bytes c = bytes d
 stored (Some Anything) bytes c = 0
 
 -- The bytes after tasks, the newest first, on one memory that held these at first.
-abbrev pub bytes_after : Traffic → (Byte → ℕ) → List Task → Byte → ℕ
+abbrev pub bytes_after : TraceAccesses → (Byte → ℕ) → List Task → Byte → ℕ
 bytes_after tr first [] c = first c
 bytes_after tr first (u ∷ done) c = stored (tr.write_of u c) (bytes_after tr first done) c
 
@@ -69,11 +69,11 @@ pub data MayCome (s : Stage) : Task → Type 0 where
 
 -- Tasks done in an allowed order, as a stage has them: the pieces that have run, the entries that have been applied, and each event that could happen. What may come next at the stage may come next in the machine, and besides events nothing else may.
 pub record Matches (all : Past) (s : Stage) (done : List Task) : Type 0 where
-  pub allowed : IsAllowed (traffic_of all) done
-  pub happened : (u : Task) → IsTrue ((traffic_of all).has u) → is_event all u ≡ false → IsIn u done ↔ IsTrue (has_happened all s u)
-  pub eager : IsEager (traffic_of all) (is_event all) done
-  pub next : (u : Task) → MayCome s u → MayRun (traffic_of all) done u
-  pub only : (u : Task) → is_event all u ≡ false → MayRun (traffic_of all) done u → MayCome s u
+  pub allowed : IsAllowed (accesses_of all) done
+  pub happened : (u : Task) → IsTrue ((accesses_of all).has u) → is_event all u ≡ false → IsIn u done ↔ IsTrue (has_happened all s u)
+  pub eager : IsEager (accesses_of all) (is_event all) done
+  pub next : (u : Task) → MayCome s u → MayRun (accesses_of all) done u
+  pub only : (u : Task) → is_event all u ≡ false → MayRun (accesses_of all) done u → MayCome s u
 
 -- A run from a trace's start to a stage that the definitions allow.
 abbrev pub RunOf : (Past → ℕ) → List Entry → List Step → Stage → Type 0
@@ -95,21 +95,21 @@ DefinedRunsAreAllowed =
 abbrev pub DefinedRunsAreSettled : Type 0
 DefinedRunsAreSettled =
     (t : List Entry) (part_count : Past → ℕ) (steps : List Step) (e : Stage) (next other : Task) (c : Byte) → RunOf part_count t steps e → first_fault t ≡ None → MayCome e next
-    → (other.node < next.node → Conflict (traffic_of (plain_order t)) other next c → IsTrue (has_happened (plain_order t) e other))
-    × (next.node < other.node → Conflict (traffic_of (plain_order t)) next other c → has_happened (plain_order t) e other ≡ false)
+    → (other.node < next.node → Conflict (accesses_of (plain_order t)) other next c → IsTrue (has_happened (plain_order t) e other))
+    × (next.node < other.node → Conflict (accesses_of (plain_order t)) next other c → has_happened (plain_order t) e other ≡ false)
 
 -- When a piece or host entry may come next, each byte that it reads has the model's value before its node, where the model defines one: the run's pieces and entries took effect one after another on one memory, whatever it held at first.
 abbrev pub DefinedRunsAreFresh : Type 0
 DefinedRunsAreFresh =
     (t : List Entry) (part_count : Past → ℕ) (steps : List Step) (e : Stage) (run : RunOf part_count t steps e) (first : Byte → ℕ) (next : Task) (c : Byte) (v : ℕ) → first_fault t ≡ None → MayCome e next
-    → Reads (traffic_of (plain_order t)) next c → value_before (plain_order t) next.node c ≡ Some v → bytes_after (traffic_of (plain_order t)) first (tasks_of part_count t steps e run) c ≡ v
+    → Reads (accesses_of (plain_order t)) next c → value_before (plain_order t) next.node c ≡ Some v → bytes_after (accesses_of (plain_order t)) first (tasks_of part_count t steps e run) c ≡ v
 
 -- And at any stage each byte that was written has the model's value after the node of its last write, where the model defines one.
 abbrev pub DefinedRunsAreWritten : Type 0
 DefinedRunsAreWritten =
     (t : List Entry) (part_count : Past → ℕ) (steps : List Step) (e : Stage) (run : RunOf part_count t steps e) (first : Byte → ℕ) (writer : Task) (c : Byte) (v : ℕ) → first_fault t ≡ None
-    → latest (traffic_of (plain_order t)) c (tasks_of part_count t steps e run) ≡ Some writer → value_before (plain_order t) (suc writer.node) c ≡ Some v
-    → bytes_after (traffic_of (plain_order t)) first (tasks_of part_count t steps e run) c ≡ v
+    → latest (accesses_of (plain_order t)) c (tasks_of part_count t steps e run) ≡ Some writer → value_before (plain_order t) (suc writer.node) c ≡ Some v
+    → bytes_after (accesses_of (plain_order t)) first (tasks_of part_count t steps e run) c ≡ v
 
 -- ---- the end of a run
 
@@ -121,10 +121,10 @@ IsOver s = (u : Task) → MayCome s u → ⊥
 abbrev pub DefinedRunsEnd : Type 0
 DefinedRunsEnd =
     (t : List Entry) (part_count : Past → ℕ) (steps : List Step) (e : Stage) → RunOf part_count t steps e → first_fault t ≡ None → IsOver e
-    → (e.left ≡ []) × ((u : Task) → IsTrue ((traffic_of (plain_order t)).has u) → is_event (plain_order t) u ≡ false → IsTrue (has_happened (plain_order t) e u))
+    → (e.left ≡ []) × ((u : Task) → IsTrue ((accesses_of (plain_order t)).has u) → is_event (plain_order t) u ≡ false → IsTrue (has_happened (plain_order t) e u))
 
 -- And each byte has the value that the trace leaves in it, where the model defines one.
 abbrev pub DefinedRunsMeanTheTrace : Type 0
 DefinedRunsMeanTheTrace =
     (t : List Entry) (part_count : Past → ℕ) (steps : List Step) (e : Stage) (run : RunOf part_count t steps e) (first : Byte → ℕ) (c : Byte) (v : ℕ) → first_fault t ≡ None → IsOver e
-    → (world (plain_order t)).value c ≡ Some v → bytes_after (traffic_of (plain_order t)) first (tasks_of part_count t steps e run) c ≡ v
+    → (world (plain_order t)).value c ≡ Some v → bytes_after (accesses_of (plain_order t)) first (tasks_of part_count t steps e run) c ≡ v

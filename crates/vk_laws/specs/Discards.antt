@@ -9,8 +9,8 @@ use Rattle.vk_model.specs.Order.{plain_order}
 use Rattle.vk_model.specs.Rules.{first_fault}
 use Rattle.vk_model.specs.Node.{Act, Hosts}
 use Rattle.vk_model.specs.Effect.{reaches, world}
-use Rattle.vk_laws.specs.Machine.{Put, Anything, Traffic, HazardFree, IsModel}
-use Rattle.vk_laws.specs.Tasks.{by_act, node_at, traffic_of}
+use Rattle.vk_laws.specs.Machine.{Put, Anything, TraceAccesses, HazardFree, IsModel}
+use Rattle.vk_laws.specs.Tasks.{by_act, node_at, accesses_of}
 use Rattle.vk_laws.specs.TraceBytes.{before_node, value_before}
 
 -- Whether an entry forgets what the host wrote to a byte: an invalidation of cached memory, and the byte was written and not flushed since (Vulkan, "Host Access to Device Memory Objects", on `vkInvalidateMappedMemoryRanges`).
@@ -28,13 +28,13 @@ abbrev pub or_anything : Bool → Option Put → Option Put
 or_anything true w = Some Anything
 or_anything false w = w
 
--- A trace as the machine's traffic, in which an invalidation may leave anything in the bytes that it forgets (Vulkan, "Host Access to Device Memory Objects").
-abbrev pub with_discards : Past → Traffic
+-- A trace as the machine's accesses, in which an invalidation may leave anything in the bytes that it forgets (Vulkan, "Host Access to Device Memory Objects").
+abbrev pub with_discards : Past → TraceAccesses
 with_discards all = record {
-  has = (traffic_of all).has;
-  write_of = λ t c. or_anything (t.part == 0 && by_act false (λ a. forgets all t.node a c) (node_at all t.node)) ((traffic_of all).write_of t c);
-  reads = (traffic_of all).reads;
-  before = (traffic_of all).before;
+  has = (accesses_of all).has;
+  write_of = λ t c. or_anything (t.part == 0 && by_act false (λ a. forgets all t.node a c) (node_at all t.node)) ((accesses_of all).write_of t c);
+  reads = (accesses_of all).reads;
+  before = (accesses_of all).before;
 }
 
 -- In a trace without a fault all accesses are in order with the invalidations that forget bytes, too (Vulkan, "Host Access to Device Memory Objects").

@@ -2,7 +2,7 @@
 use Rattle.std.specs.Prelude.{◌≡◌, ℕ, zero, suc, Bool, true, false, ◌&&◌, ◌==◌, nat_lt, [], ◌∷◌, Option, Some, None}
 use Rattle.vk_model.specs.World.{Byte, in_buffer}
 use Rattle.vk_model.specs.Moves.{Value, From}
-use Rattle.vk_laws.specs.Machine.{Task, Put, Puts, Traffic, Reads, HazardFree, MayRun, IsModel}
+use Rattle.vk_laws.specs.Machine.{Task, Put, Puts, TraceAccesses, Reads, HazardFree, MayRun, IsModel}
 use Rattle.vk_laws.specs.Caches.{Held, Clean, Dirty, Cell, Caching, CacheFree, Reached, view}
 use Rattle.vk_laws.specs.Commands.{Effects, meaning}
 
@@ -32,8 +32,8 @@ first_part nothing x zero = x
 first_part nothing x (suc k) = nothing
 
 -- The trace: fill, signal, wait and copy come one after another.
-abbrev pub traffic : Traffic
-traffic = record {
+abbrev pub accesses : TraceAccesses
+accesses = record {
   has = λ t. nat_lt t.node 5 && t.part == 0;
   write_of = λ t c. first_part None (writes t.node c) t.part;
   reads = λ t c. first_part false (reads t.node c) t.part;
@@ -79,12 +79,12 @@ when_copied = with_original (record { region = 7; held = holding (Some (Clean 7)
 
 -- The premises hold of the trace; a run reaches a state in which queue 2 sees the old byte; and then one in which the copy may come next, which reads a byte that the model defines. The other fill may come first.
 pub record MeetsPremises : Type 0 where
-  pub hazard_free : HazardFree traffic
-  pub cache_free : CacheFree traffic caching
-  pub is_model : IsModel traffic (meaning effects)
-  pub stale : Reached traffic caching (task 0 ∷ []) when_filled × (view 2 (when_filled original) ≡ 0)
-  pub ready : Reached traffic caching (task 2 ∷ task 1 ∷ task 0 ∷ []) when_copied
-  pub next : MayRun traffic (task 2 ∷ task 1 ∷ task 0 ∷ []) (task 3)
-  pub reads_original : Reads traffic (task 3) original
+  pub hazard_free : HazardFree accesses
+  pub cache_free : CacheFree accesses caching
+  pub is_model : IsModel accesses (meaning effects)
+  pub stale : Reached accesses caching (task 0 ∷ []) when_filled × (view 2 (when_filled original) ≡ 0)
+  pub ready : Reached accesses caching (task 2 ∷ task 1 ∷ task 0 ∷ []) when_copied
+  pub next : MayRun accesses (task 2 ∷ task 1 ∷ task 0 ∷ []) (task 3)
+  pub reads_original : Reads accesses (task 3) original
   pub defined : meaning effects 3 original ≡ Some 7
-  pub other_first : MayRun traffic [] (task 4)
+  pub other_first : MayRun accesses [] (task 4)

@@ -1,4 +1,4 @@
--- The tasks of a trace: its commands' pieces, its host entries and its events, as the machine's traffic.
+-- The tasks of a trace: its commands' pieces, its host entries and its events, as the machine's accesses.
 use Rattle.std.specs.Prelude.{◌≡◌, ℕ, List, [], length, Bool, false, ◌&&◌, ◌==◌, nat_lt, Option, Some, None, option_map, slice_get, if◌then◌else◌}
 use Rattle.std.specs.List.{find}
 use Rattle.vk_model.specs.declared.entry.Entry.{Entry}
@@ -14,7 +14,7 @@ use Rattle.vk_model.specs.Before.{before}
 use Rattle.vk_model.specs.Access.{is_in, origins, host_reads}
 use Rattle.vk_model.specs.Pieces.{pieces}
 use Rattle.vk_model.specs.Rules.{first_fault}
-use Rattle.vk_laws.specs.Machine.{Task, Put, Puts, Traffic, HazardFree, IsAllowed, MayRun}
+use Rattle.vk_laws.specs.Machine.{Task, Put, Puts, TraceAccesses, HazardFree, IsAllowed, MayRun}
 use Rattle.vk_laws.specs.EveryOrder.{IsSettled}
 
 -- The node of a number.
@@ -53,9 +53,9 @@ abbrev pub by_act : {A : Type 0} → A → (Act → A) → Option Node → A
 by_act nothing f None = nothing
 by_act nothing f (Some n) = f n.act
 
--- A trace as the machine's traffic, with the order of its nodes (Vulkan, "Execution and Memory Dependencies").
-abbrev pub traffic_of : Past → Traffic
-traffic_of all = record {
+-- A trace as the machine's accesses, with the order of its nodes (Vulkan, "Execution and Memory Dependencies").
+abbrev pub accesses_of : Past → TraceAccesses
+accesses_of all = record {
   has = λ t. by_act false (λ a. nat_lt t.part (task_count all a)) (node_at all t.node);
   write_of = λ t c. by_act None (λ a. part_write all a t.part c) (node_at all t.node);
   reads = λ t c. by_act false (λ a. part_read all a t.part c) (node_at all t.node);
@@ -65,9 +65,9 @@ traffic_of all = record {
 -- In every allowed run of the pieces, host entries and events of a trace without a fault: when a piece or host entry may come next, of those whose accesses meet its own the earlier ones are done, and the later ones aren't.
 abbrev pub TraceSettledLaw : Type 0
 TraceSettledLaw =
-    (t : List Entry) (done : List Task) (next : Task) → first_fault t ≡ None → IsAllowed (traffic_of (plain_order t)) done → MayRun (traffic_of (plain_order t)) done next
-    → IsSettled (traffic_of (plain_order t)) done next
+    (t : List Entry) (done : List Task) (next : Task) → first_fault t ≡ None → IsAllowed (accesses_of (plain_order t)) done → MayRun (accesses_of (plain_order t)) done next
+    → IsSettled (accesses_of (plain_order t)) done next
 
 -- In a trace without a fault conflicting accesses of different nodes are ordered, the pieces of one command don't meet, and what a piece copies it reads (Vulkan, "Execution and Memory Dependencies" and "Copy Commands", on overlapping regions).
 abbrev pub TraceHazardFreeLaw : Type 0
-TraceHazardFreeLaw = (t : List Entry) → first_fault t ≡ None → HazardFree (traffic_of (plain_order t))
+TraceHazardFreeLaw = (t : List Entry) → first_fault t ≡ None → HazardFree (accesses_of (plain_order t))

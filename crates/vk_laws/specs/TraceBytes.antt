@@ -11,7 +11,7 @@ use Rattle.vk_model.specs.Effect.{world}
 use Rattle.vk_model.specs.Rules.{first_fault}
 use Rattle.vk_laws.specs.Machine.{Task, Reads, MayRun, IsModel, latest}
 use Rattle.vk_laws.specs.Caches.{Cell, Caching, Reached, view}
-use Rattle.vk_laws.specs.Tasks.{node_at, traffic_of}
+use Rattle.vk_laws.specs.Tasks.{node_at, accesses_of}
 
 -- What has happened before node k: the points whose nodes all come earlier. A command's elements share what came before it, and take effect after the last of them (profile).
 abbrev pub before_node : Past → ℕ → Past
@@ -24,7 +24,7 @@ value_before all k c = (world (before_node all k)).value c
 
 -- In a trace without a fault these are a model of its tasks: what the pieces write gives the values after their command, and all else stays or becomes undefined (Vulkan, "Clear Commands", "Copy Commands" and "Resource Sharing Mode").
 abbrev pub TraceModelLaw : Type 0
-TraceModelLaw = (t : List Entry) → first_fault t ≡ None → IsModel (traffic_of (plain_order t)) (value_before (plain_order t))
+TraceModelLaw = (t : List Entry) → first_fault t ≡ None → IsModel (accesses_of (plain_order t)) (value_before (plain_order t))
 
 -- Without caches all queues and the host are one agent, to which everything is available and visible at once (profile).
 abbrev pub uncached : Caching
@@ -33,17 +33,17 @@ uncached = record { agent = λ t. 0; makes_available = λ p w c. false; makes_vi
 -- In every allowed run of a trace without a fault, without caches: a piece or host entry that may come next sees, of each byte that it reads, the model's value before its node, where the model defines one.
 abbrev pub TraceFreshLaw : Type 0
 TraceFreshLaw =
-    (t : List Entry) (done : List Task) (cells : Byte → Cell) (next : Task) (c : Byte) (v : ℕ) → first_fault t ≡ None → Reached (traffic_of (plain_order t)) uncached done cells
-    → MayRun (traffic_of (plain_order t)) done next → Reads (traffic_of (plain_order t)) next c → value_before (plain_order t) next.node c ≡ Some v → view 0 (cells c) ≡ v
+    (t : List Entry) (done : List Task) (cells : Byte → Cell) (next : Task) (c : Byte) (v : ℕ) → first_fault t ≡ None → Reached (accesses_of (plain_order t)) uncached done cells
+    → MayRun (accesses_of (plain_order t)) done next → Reads (accesses_of (plain_order t)) next c → value_before (plain_order t) next.node c ≡ Some v → view 0 (cells c) ≡ v
 
 -- And after any step a byte that was written has the model's value after the node of its last write, where the model defines one.
 abbrev pub TraceWrittenLaw : Type 0
 TraceWrittenLaw =
-    (t : List Entry) (done : List Task) (cells : Byte → Cell) (writer : Task) (c : Byte) (v : ℕ) → first_fault t ≡ None → Reached (traffic_of (plain_order t)) uncached done cells
-    → latest (traffic_of (plain_order t)) c done ≡ Some writer → value_before (plain_order t) (suc writer.node) c ≡ Some v → view 0 (cells c) ≡ v
+    (t : List Entry) (done : List Task) (cells : Byte → Cell) (writer : Task) (c : Byte) (v : ℕ) → first_fault t ≡ None → Reached (accesses_of (plain_order t)) uncached done cells
+    → latest (accesses_of (plain_order t)) c done ≡ Some writer → value_before (plain_order t) (suc writer.node) c ≡ Some v → view 0 (cells c) ≡ v
 
 -- In a trace without a fault the model defines each byte that a host read reads (profile).
 abbrev pub ReadsDefinedLaw : Type 0
 ReadsDefinedLaw =
-    (t : List Entry) (next : Task) (c : Byte) → first_fault t ≡ None → Reads (traffic_of (plain_order t)) next c → IsTrue (holds (node_at (plain_order t) next.node) (λ n. is_host n.act))
+    (t : List Entry) (next : Task) (c : Byte) → first_fault t ≡ None → Reads (accesses_of (plain_order t)) next c → IsTrue (holds (node_at (plain_order t) next.node) (λ n. is_host n.act))
     → (v : ℕ) × (value_before (plain_order t) next.node c ≡ Some v)

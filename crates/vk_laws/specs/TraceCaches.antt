@@ -17,7 +17,7 @@ use Rattle.vk_model.specs.Rules.{first_fault}
 use Rattle.vk_laws.specs.Machine.{Task, Reads, MayRun, latest}
 use Rattle.vk_laws.specs.Caches.{Cell, Caching, CacheFree, Reached, view}
 use Rattle.vk_laws.specs.Trace.{accesses}
-use Rattle.vk_laws.specs.Tasks.{node_at, traffic_of}
+use Rattle.vk_laws.specs.Tasks.{node_at, accesses_of}
 use Rattle.vk_laws.specs.TraceBytes.{before_node, value_before}
 use Rattle.vk_laws.specs.Discards.{with_discards}
 use Rattle.vk_laws.specs.EveryOrder.{IsSettled}
@@ -61,7 +61,7 @@ module _ (all : Past) where
   abbrev pub caching_of : Caching
   caching_of = record {
     agent = λ t. elim (node_at all t.node) [ None ↦ 0 | Some n ↦ agent_of n ];
-    makes_available = λ p w c. (traffic_of all).has w && holds (node_at all p.node) (λ m. holds (node_at all w.node) (λ n. sends_write m n c));
+    makes_available = λ p w c. (accesses_of all).has w && holds (node_at all p.node) (λ m. holds (node_at all w.node) (λ n. sends_write m n c));
     makes_visible = λ q a c. holds (node_at all q.node) (λ n. shows n a c);
   }
 

@@ -1,18 +1,18 @@
--- That there are runs: of any traffic, and of each trace.
+-- That there are runs: of any accesses, and of each trace.
 use Rattle.std.specs.Prelude.{◌≡◌, List, ◌++◌, None, IsTrue}
 use Rattle.vk_model.specs.declared.entry.Entry.{Entry}
 use Rattle.vk_model.specs.Order.{plain_order}
 use Rattle.vk_model.specs.Rules.{first_fault}
 use Rattle.vk_model.specs.World.{Byte}
 use Rattle.vk_model.specs.Point.{Past}
-use Rattle.vk_laws.specs.Machine.{IsIn, Task, Traffic, IsAllowed, MayRun}
+use Rattle.vk_laws.specs.Machine.{IsIn, Task, TraceAccesses, IsAllowed, MayRun}
 use Rattle.vk_laws.specs.Caches.{Cell, Caching, Reached}
 use Rattle.vk_laws.specs.Discards.{with_discards}
 use Rattle.vk_laws.specs.TraceCaches.{caching_of}
 
 -- Each allowed order leads to a reached state, whatever the caches may ask: one where caches hold nothing.
 abbrev pub AllowedIsReached : Type 0
-AllowedIsReached = (tr : Traffic) (ca : Caching) (done : List Task) → IsAllowed tr done → (cells : Byte → Cell) × Reached tr ca done cells
+AllowedIsReached = (tr : TraceAccesses) (ca : Caching) (done : List Task) → IsAllowed tr done → (cells : Byte → Cell) × Reached tr ca done cells
 
 -- Of each trace every task has an allowed run after which it may come next: that in reference order.
 abbrev pub EachTaskRuns : Type 0

@@ -1,7 +1,7 @@
 //! A small memory with caches, whose reads are the model's by the law of the machine.
 ghost use Rattle.std.specs.Prelude.{◌≡◌, ℕ, ◌<◌, List, length, Option, Some, None, IsTrue, ◌↔◌};
 ghost use Rattle.vk_model.specs.World.{Byte, in_buffer};
-ghost use Rattle.vk_laws.specs.Machine.{Conflict, HazardFree, IsIn, IsModel, MayRun, Reads, Task, Traffic};
+ghost use Rattle.vk_laws.specs.Machine.{Conflict, HazardFree, IsIn, IsModel, MayRun, Reads, Task, TraceAccesses};
 ghost use Rattle.vk_laws.specs.Caches.{CacheFree, Caching, Cell, Reached, shown_by};
 ghost use Rattle.vk_laws.specs.Reader.{cells_of, held_as};
 ghost use Rattle.vk_laws.specs.Discards.{with_discards};
@@ -60,7 +60,7 @@ impl Memory {
         requires region { at < length self.now.region.items }
         requires first { at < length self.now.first.bytes.items }
         requires second { at < length self.now.second.bytes.items }
-        ensures { (tr : Traffic) (ca : Caching) (value : ℕ → Byte → Option ℕ) (done : List Task) (t : Task) (v : ℕ) → HazardFree tr → CacheFree tr ca → IsModel tr value
+        ensures { (tr : TraceAccesses) (ca : Caching) (value : ℕ → Byte → Option ℕ) (done : List Task) (t : Task) (v : ℕ) → HazardFree tr → CacheFree tr ca → IsModel tr value
             → Reached tr ca done (cells_of self.now) → MayRun tr done t → ca.agent t ≡ 1 → Reads tr t (in_buffer 0 at) → value t.node (in_buffer 0 at) ≡ Some v → result ≡ v }
     {
         every_order();
@@ -85,7 +85,7 @@ impl Memory {
 /// Whether a task of another node, whose access conflicts with that of a task that may come next, is done:
 /// by the numbers of their nodes.
 pub fn is_done(other: usize, next: usize) -> bool
-    ensures { (tr : Traffic) (ca : Caching) (done : List Task) (cells : Byte → Cell) (s t : Task) (c : Byte) → HazardFree tr → Reached tr ca done cells → MayRun tr done t
+    ensures { (tr : TraceAccesses) (ca : Caching) (done : List Task) (cells : Byte → Cell) (s t : Task) (c : Byte) → HazardFree tr → Reached tr ca done cells → MayRun tr done t
         → s.node ≡ other → t.node ≡ next → (other ≡ next → ⊥) → Conflict tr s t c → Conflict tr t s c → IsTrue result ↔ IsIn s done }
 {
     every_order();

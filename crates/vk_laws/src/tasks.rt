@@ -1,5 +1,5 @@
 //! The law for traces: their pieces, host entries and events are tasks of the machine that meet its premises.
-ghost use Rattle.vk_laws.specs.Tasks.{TraceHazardFreeLaw, TraceSettledLaw, traffic_of};
+ghost use Rattle.vk_laws.specs.Tasks.{TraceHazardFreeLaw, TraceSettledLaw, accesses_of};
 ghost use Rattle.vk_laws.specs.TraceBytes.{ReadsDefinedLaw, TraceFreshLaw, TraceModelLaw, TraceWrittenLaw};
 ghost use Rattle.vk_laws.specs.Discards.{DiscardsHazardFreeLaw, DiscardsModelLaw};
 ghost use Rattle.vk_laws.specs.TraceCaches.{CachedFreshLaw, CachedSettledLaw, CachedWrittenLaw, HostReadLaw, TraceCacheFreeLaw};
@@ -164,8 +164,8 @@ pub fn trace_premises_can_be_met()
 /// Whether a piece or host entry of another node of a trace without a fault, whose access conflicts with
 /// that of one that may come next, is done: by the numbers of their nodes.
 pub fn is_done_before(other: usize, next: usize) -> bool
-    ensures { (t : List Entry) (done : List Task) (s n : Task) (c : Byte) → first_fault t ≡ None → IsAllowed (traffic_of (plain_order t)) done → MayRun (traffic_of (plain_order t)) done n
-        → s.node ≡ other → n.node ≡ next → (other ≡ next → ⊥) → Conflict (traffic_of (plain_order t)) s n c → Conflict (traffic_of (plain_order t)) n s c → IsTrue result ↔ IsIn s done }
+    ensures { (t : List Entry) (done : List Task) (s n : Task) (c : Byte) → first_fault t ≡ None → IsAllowed (accesses_of (plain_order t)) done → MayRun (accesses_of (plain_order t)) done n
+        → s.node ≡ other → n.node ≡ next → (other ≡ next → ⊥) → Conflict (accesses_of (plain_order t)) s n c → Conflict (accesses_of (plain_order t)) n s c → IsTrue result ↔ IsIn s done }
 {
     trace_is_settled();
     other < next

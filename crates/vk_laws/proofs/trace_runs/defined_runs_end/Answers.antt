@@ -5,7 +5,7 @@ use Rattle.vk_model.specs.Order.{plain_order}
 use Rattle.vk_model.specs.Effect.{world}
 use Rattle.vk_model.specs.Node.{nodes}
 use Rattle.vk_laws.specs.Machine.{Task}
-use Rattle.vk_laws.specs.Tasks.{task_count, traffic_of}
+use Rattle.vk_laws.specs.Tasks.{task_count, accesses_of}
 use Rattle.vk_laws.specs.TraceBytes.{uncached, value_before}
 use Rattle.vk_laws.specs.DefinedRuns.{bytes_after}
 use Rattle.vk_laws.proofs.Coherent.{Settled, Follows}
@@ -25,16 +25,16 @@ returns c = record {
       let all = plain_order t in
       let d = c.defined_runs_are_allowed.ensures t part_count steps e run none in
       let ends = ended c.before_is_path.ensures c.before_is_order.ensures.transitive c.before_is_order.ensures.forward c.growth_keeps.ensures c.orders_agree.ensures t ((c.no_fault_is_sound.ensures t).0 none) part_count steps e run over in
-      let settled : Settled (traffic_of all) d.0 b (length (nodes all)) = record {
+      let settled : Settled (accesses_of all) d.0 b (length (nodes all)) = record {
         earlier = λ u lt w. let real = writer_real all c.pieces_are_moves.ensures u b w in (d.1.happened u real.0 real.1).1 (ends.1 u real.0 real.1);
         later = λ u le w h.
             let real = writer_real all c.pieces_are_moves.ensures u b w in
             let lt = there_below all u.node (λ a. nat_lt u.part (task_count all a)) real.0 in
             omega (arith, lt, le);
       } in
-      let follows : Follows (traffic_of all) (value_before all) d.0 (bytes_after (traffic_of all) first d.0) = λ a w u last its.
-      c.trace_is_fresh.ensures.written t d.0 (bare (bytes_after (traffic_of all) first d.0)) w a u none (reached_from (traffic_of all) uncached first d.0 d.1.allowed) last its in
+      let follows : Follows (accesses_of all) (value_before all) d.0 (bytes_after (accesses_of all) first d.0) = λ a w u last its.
+      c.trace_is_fresh.ensures.written t d.0 (bare (bytes_after (accesses_of all) first d.0)) w a u none (reached_from (accesses_of all) uncached first d.0 d.1.allowed) last its in
       let last : value_before all (length (nodes all)) b ≡ Some v = ap (λ (l : Past). (world l).value b) (before_whole all (length (nodes all)) (omega arith)) ∙ is in
-      ap (λ (done : List Task). bytes_after (traffic_of all) first done b) (sym d.2) ∙ sym (bytes_same all first d.0 b)
-      ∙ settled_at (traffic_of all) (c.trace_is_hazard_free.ensures t none) (value_before all) (c.trace_is_modelled.ensures t none) d.0 (bytes_after (traffic_of all) first d.0) b v (length (nodes all)) d.1.allowed settled follows last;
+      ap (λ (done : List Task). bytes_after (accesses_of all) first done b) (sym d.2) ∙ sym (bytes_same all first d.0 b)
+      ∙ settled_at (accesses_of all) (c.trace_is_hazard_free.ensures t none) (value_before all) (c.trace_is_modelled.ensures t none) d.0 (bytes_after (accesses_of all) first d.0) b v (length (nodes all)) d.1.allowed settled follows last;
 }
