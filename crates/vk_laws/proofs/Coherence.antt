@@ -3,7 +3,7 @@ use Rattle.std.proofs.Common.{◌≡◌, ◌⊎◌, inl, inr, ⊎_elim, ℕ, suc
 use Rattle.std.proofs.lemmas.Bool.{cases_lt}
 use Rattle.vk_model.specs.World.{Byte}
 use Rattle.vk_model.specs.Moves.{Value, From}
-use Rattle.vk_laws.specs.Machine.{IsIn, Task, Put, Puts, Anything, TraceAccesses, Writes, Reads, Precedes, HazardFree, MayRun, IsAllowed, IsModel, newest, latest}
+use Rattle.vk_laws.specs.Machine.{IsIn, Task, Put, Puts, Unknown, TraceAccesses, Writes, Reads, Precedes, HazardFree, MayRun, IsAllowed, IsModel, newest, latest}
 use Rattle.vk_laws.specs.Caches.{Dirty, Cell, view, Wrote, CellRan, Caching, CacheFree, Guard, Reached, Start, Touch, Run}
 use Rattle.vk_laws.proofs.Coherent.{Stores, Follows, CellOk, owner_of, Freed, Shown, Coherent}
 use Rattle.vk_laws.proofs.Fresh.{closed, later_not_done, latest_in, fresh_at, follows_step}
@@ -14,14 +14,14 @@ next : (o : Option (Put)) (a : ℕ) (cells : Byte → Cell) (old new : Cell) →
 next None a cells old new r m was = was
 next (Some (Puts (Value k))) a cells old new r m was = k
 next (Some (Puts (From d))) a cells old new r m was = m d
-next (Some Anything) a cells old new r m was = r.0
+next (Some Unknown) a cells old new r m was = r.0
 
 next_stores : (o : Option (Put)) (a : ℕ) (cells : Byte → Cell) (old new : Cell) (r : CellRan o a cells old new) (m : Byte → ℕ) (was : ℕ) → Stores o m was (next o a cells old new r m was)
 unfolding next
 next_stores None a cells old new r m was = refl
 next_stores (Some (Puts (Value k))) a cells old new r m was = refl
 next_stores (Some (Puts (From d))) a cells old new r m was = refl
-next_stores (Some Anything) a cells old new r m was = tt
+next_stores (Some Unknown) a cells old new r m was = tt
 
 module _ (tr : TraceAccesses) (ca : Caching) where
   pub allowed : (done : List Task) (cells : Byte → Cell) → Reached tr ca done cells → IsAllowed tr done
@@ -107,7 +107,7 @@ module _ (tr : TraceAccesses) (ca : Caching) (free : HazardFree tr) (cache : Cac
       go (Some (Puts (From d))) e r =
           let is = view_ok (m d) (cells d) (owner_of tr ca (latest tr d done)) (Freed tr ca done d (latest tr d done)) (Shown tr ca done d (latest tr d done)) (all d) (ca.agent t) (shown_for done t d ok may (free.source_read t c d e)) in
           write (m d) (Puts (From d), e) (subst (λ (y : ℕ). Wrote (ca.agent t) y (cells c) (new c)) is r)
-      go (Some Anything) e r = write r.0 (Anything, e) r.1
+      go (Some Unknown) e r = write r.0 (Unknown, e) r.1
 
   module _ (value : ℕ → Byte → Option ℕ) (model : IsModel tr value) where
     -- some bytes that follow the model, and that the caches agree with

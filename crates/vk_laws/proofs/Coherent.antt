@@ -3,7 +3,7 @@ use Rattle.std.proofs.Common.{◌≡◌, ◌⊎◌, ℕ, suc, ◌<◌, ◌≤◌
 use Rattle.std.specs.Prelude.{⊤}
 use Rattle.vk_model.specs.World.{Byte}
 use Rattle.vk_model.specs.Moves.{Value, From}
-use Rattle.vk_laws.specs.Machine.{IsIn, Task, Put, Puts, Anything, TraceAccesses, Writes, Precedes, latest}
+use Rattle.vk_laws.specs.Machine.{IsIn, Task, Put, Puts, Unknown, TraceAccesses, Writes, Precedes, latest}
 use Rattle.vk_laws.specs.Caches.{Clean, Dirty, Cell, Caching}
 
 -- A byte before and after a task that writes this to it, by the bytes before.
@@ -11,7 +11,7 @@ abbrev pub Stores : Option Put → (Byte → ℕ) → ℕ → ℕ → Type 0
 Stores None memory old new = new ≡ old
 Stores (Some (Puts (Value value))) memory old new = new ≡ value
 Stores (Some (Puts (From byte))) memory old new = new ≡ memory byte
-Stores (Some Anything) memory old new = ⊤
+Stores (Some Unknown) memory old new = ⊤
 
 -- The writes of the byte before node n are done, and none of the later ones is.
 pub record Settled (tr : TraceAccesses) (done : List Task) (c : Byte) (n : ℕ) : Type 0 where

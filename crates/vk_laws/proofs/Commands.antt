@@ -2,7 +2,7 @@
 use Rattle.std.proofs.Common.{◌≡◌, ℕ, Bool, true, false, cond, Option, Some, None, refl, subst}
 use Rattle.vk_model.specs.World.{Byte}
 use Rattle.vk_model.specs.Moves.{Value, From}
-use Rattle.vk_laws.specs.Machine.{Task, Put, Puts, Anything, TraceAccesses, put_value, IsModel}
+use Rattle.vk_laws.specs.Machine.{Task, Put, Puts, Unknown, TraceAccesses, put_value, IsModel}
 use Rattle.vk_laws.specs.Commands.{Effects, left_by, set_by, meaning, IsCut}
 
 not_lost : (b : Bool) (o : Option ℕ) (v : ℕ) → cond b None o ≡ Some v → o ≡ Some v
@@ -13,7 +13,7 @@ module _ (fx : Effects) (tr : TraceAccesses) (cut : IsCut fx tr) where
   source_left : (n : ℕ) (model : Byte → Option ℕ) (s : Put) (v : ℕ) → put_value s (left_by fx n model) ≡ Some v → put_value s model ≡ Some v
   source_left n model (Puts (Value k)) v h = h
   source_left n model (Puts (From d)) v h = not_lost (fx.loses n d) (model d) v h
-  source_left n model Anything v h = h
+  source_left n model Unknown v h = h
 
   pub is_model : IsModel tr (meaning fx)
   is_model = record {

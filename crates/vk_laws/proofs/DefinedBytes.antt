@@ -8,7 +8,7 @@ use Rattle.vk_model.specs.Point.{Past}
 use Rattle.vk_model.specs.Node.{Node, Act, Hosts, Waits, Signals, Runs, Depends}
 use Rattle.vk_model.specs.Laws.{PiecesAreMoves}
 use Rattle.std.specs.Prelude.{nat_lt}
-use Rattle.vk_laws.specs.Machine.{Task, Put, Puts, Anything, TraceAccesses, Writes, Reads, Conflict, newest, latest}
+use Rattle.vk_laws.specs.Machine.{Task, Put, Puts, Unknown, TraceAccesses, Writes, Reads, Conflict, newest, latest}
 use Rattle.vk_laws.specs.Trace.{accesses}
 use Rattle.vk_laws.specs.Tasks.{part_write, task_count, node_at, by_act, accesses_of}
 use Rattle.vk_laws.specs.DefinedRuns.{is_event, stored, bytes_after}
@@ -40,7 +40,7 @@ module _ (all : Past) where
   stored_same None one other same c = same c
   stored_same (Some (Puts (Value v))) one other same c = refl
   stored_same (Some (Puts (From d))) one other same c = same d
-  stored_same (Some Anything) one other same c = refl
+  stored_same (Some Unknown) one other same c = refl
 
   pub bytes_same : (first : Byte → ℕ) (done : List Task) (c : Byte) → bytes_after tr first done c ≡ bytes_after tr first (without_events done) c
   bytes_same first [] c = refl

@@ -17,13 +17,13 @@ use Rattle.vk_model.specs.Before.{before}
 use Rattle.vk_model.specs.Seen.{Access, Read, Write, seen}
 use Rattle.vk_model.specs.Access.{is_in, host_reads, reads, writes}
 use Rattle.vk_model.specs.Moves.{From}
-use Rattle.vk_laws.specs.Machine.{Task, Put, Puts, Anything, Writes, Reads, Precedes, Conflict, HazardFree, IsModel}
+use Rattle.vk_laws.specs.Machine.{Task, Put, Puts, Unknown, Writes, Reads, Precedes, Conflict, HazardFree, IsModel}
 use Rattle.vk_laws.specs.Caches.{CacheFree, Seen, Available}
 use Rattle.vk_laws.specs.Trace.{accesses}
 use Rattle.vk_laws.specs.Tasks.{part_write, part_read, task_count, node_at, by_act, accesses_of}
 use Rattle.vk_laws.specs.TraceBytes.{before_node, value_before}
 use Rattle.vk_laws.specs.TraceCaches.{caching_of}
-use Rattle.vk_laws.specs.Discards.{entry_forgets, forgets, or_anything, with_discards}
+use Rattle.vk_laws.specs.Discards.{entry_forgets, forgets, or_unknown, with_discards}
 use Rattle.vk_laws.proofs.TaskNodes.{node_of, same_task}
 use Rattle.vk_laws.proofs.Steady.{new_ids, live_ids}
 use Rattle.vk_laws.proofs.Points.{Stands, stands}
@@ -70,11 +70,11 @@ module _ (all : Past) where
       go (Some n) e only h = by_entry n e only n.act refl h
 
   -- a write of the accesses with discards is one of these, or one of the trace's
-  how : (u : Task) (c : Byte) (x : Put) → (with_discards all).write_of u c ≡ Some x → ((x ≡ Anything) × Forgot u c) ⊎ ((accesses_of all).write_of u c ≡ Some x)
+  how : (u : Task) (c : Byte) (x : Put) → (with_discards all).write_of u c ≡ Some x → ((x ≡ Unknown) × Forgot u c) ⊎ ((accesses_of all).write_of u c ≡ Some x)
   how u c x h = go (u.part == 0 && by_act false (λ a. forgets all u.node a c) (node_at all u.node)) refl h
     where
-      go : (b : Bool) → (u.part == 0 && by_act false (λ a. forgets all u.node a c) (node_at all u.node)) ≡ b → or_anything b ((accesses_of all).write_of u c) ≡ Some x → ((x ≡ Anything) × Forgot u c) ⊎ ((accesses_of all).write_of u c ≡ Some x)
-      go true e h = inl (let same : Anything ≡ x = cc in sym same, forgot_of u c e)
+      go : (b : Bool) → (u.part == 0 && by_act false (λ a. forgets all u.node a c) (node_at all u.node)) ≡ b → or_unknown b ((accesses_of all).write_of u c) ≡ Some x → ((x ≡ Unknown) × Forgot u c) ⊎ ((accesses_of all).write_of u c ≡ Some x)
+      go true e h = inl (let same : Unknown ≡ x = cc in sym same, forgot_of u c e)
       go false e h = inr h
 
   write_kind : (u : Task) (c : Byte) → Writes (with_discards all) u c → Forgot u c ⊎ Writes (accesses_of all) u c
@@ -83,7 +83,7 @@ module _ (all : Past) where
   quiet_base : (u : Task) (c : Byte) → (with_discards all).write_of u c ≡ None → (accesses_of all).write_of u c ≡ None
   quiet_base u c h = go (u.part == 0 && by_act false (λ a. forgets all u.node a c) (node_at all u.node)) h
     where
-      go : (b : Bool) → or_anything b ((accesses_of all).write_of u c) ≡ None → (accesses_of all).write_of u c ≡ None
+      go : (b : Bool) → or_unknown b ((accesses_of all).write_of u c) ≡ None → (accesses_of all).write_of u c ≡ None
       go true h = absurd cc
       go false h = h
 

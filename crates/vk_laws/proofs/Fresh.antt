@@ -4,7 +4,7 @@ use Rattle.std.proofs.lemmas.Bool.{cases_lt, ltb-true, lt-ltb}
 use Rattle.std.specs.Prelude.{nat_lt, ◌↔◌}
 use Rattle.vk_model.specs.World.{Byte}
 use Rattle.vk_model.specs.Moves.{Value, From}
-use Rattle.vk_laws.specs.Machine.{IsIn, Task, Put, Puts, Anything, TraceAccesses, Writes, Reads, Precedes, Conflict, HazardFree, MayRun, IsAllowed, put_value, IsModel, newest, latest}
+use Rattle.vk_laws.specs.Machine.{IsIn, Task, Put, Puts, Unknown, TraceAccesses, Writes, Reads, Precedes, Conflict, HazardFree, MayRun, IsAllowed, put_value, IsModel, newest, latest}
 use Rattle.vk_laws.proofs.Coherent.{Stores, Settled, Follows}
 use Rattle.vk_laws.specs.EveryOrder.{IsSettled}
 
@@ -96,7 +96,7 @@ module _ (tr : TraceAccesses) (free : HazardFree tr) where
     source_of : (done : List Task) (t : Task) (c : Byte) (m : Byte → ℕ) (new v : ℕ) (s : Put) → IsAllowed tr done → MayRun tr done t → Follows tr value done m → tr.write_of t c ≡ Some s → Stores (Some s) m (m c) new → put_value s (value (t.node)) ≡ Some v → new ≡ v
     source_of done t c m new v (Puts (Value k)) ok may f e st h = cc
     source_of done t c m new v (Puts (From d)) ok may f e st h = st ∙ fresh_at done t m d v ok may f (free.source_read t c d e) h
-    source_of done t c m new v Anything ok may f e st h = absurd cc
+    source_of done t c m new v Unknown ok may f e st h = absurd cc
 
     -- each step keeps it
     pub follows_step : (done : List Task) (t : Task) (m m' : Byte → ℕ) → IsAllowed tr done → MayRun tr done t → Follows tr value done m → ((c : Byte) → Stores (tr.write_of t c) m (m c) (m' c)) → Follows tr value (t ∷ done) m'

@@ -10,7 +10,7 @@ use Rattle.vk_model.specs.Point.{Past}
 use Rattle.vk_model.specs.Node.{Node, nodes}
 use Rattle.vk_model.specs.Before.{before}
 use Rattle.vk_model.specs.Laws.{BeforeLeadsOn}
-use Rattle.vk_laws.specs.Machine.{IsIn, Task, Put, Puts, Anything, TraceAccesses, Precedes, MayRun, IsAllowed}
+use Rattle.vk_laws.specs.Machine.{IsIn, Task, Put, Puts, Unknown, TraceAccesses, Precedes, MayRun, IsAllowed}
 use Rattle.vk_laws.specs.Caches.{Cell, Caching, CellRan, Reached, Start, Run}
 use Rattle.vk_laws.specs.Tasks.{task_count, node_at, by_act, accesses_of}
 use Rattle.vk_laws.specs.Discards.{with_discards}
@@ -29,7 +29,7 @@ ran : (o : Option Put) (a : ℕ) (memory : Byte → ℕ) (c : Byte) → CellRan 
 ran None a memory c = (refl, λ b. refl)
 ran (Some (Puts (Value v))) a memory c = record { others = λ b n. refl; mine = inr (refl, inl refl) }
 ran (Some (Puts (From d))) a memory c = record { others = λ b n. refl; mine = inr (refl, inl refl) }
-ran (Some Anything) a memory c = (0, record { others = λ b n. refl; mine = inr (refl, inl refl) })
+ran (Some Unknown) a memory c = (0, record { others = λ b n. refl; mine = inr (refl, inl refl) })
 
 module _ (tr : TraceAccesses) (ca : Caching) where
   pub reached_from : (first : Byte → ℕ) (done : List Task) → IsAllowed tr done → Reached tr ca done (bare (bytes_after tr first done))

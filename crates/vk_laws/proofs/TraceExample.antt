@@ -7,7 +7,7 @@ use Rattle.vk_model.specs.Before.{before}
 use Rattle.vk_model.specs.Seen.{seen}
 use Rattle.vk_model.specs.Rules.{breaks, first_rule, fault, first_fault}
 use Rattle.vk_model.specs.Laws.{BeforeLeadsOn}
-use Rattle.vk_laws.specs.Machine.{Anything, Reads, IsAllowed, MayRun}
+use Rattle.vk_laws.specs.Machine.{Unknown, Reads, IsAllowed, MayRun}
 use Rattle.vk_laws.specs.Example.{task}
 use Rattle.vk_laws.specs.Discards.{with_discards}
 use Rattle.vk_laws.specs.TraceBytes.{value_before}
@@ -21,7 +21,7 @@ no_fault = refl
 pub defined : value_before points 11 (in_buffer 1 0) ≡ Some 1
 defined = refl
 
-pub forgotten : (with_discards points).write_of (task 10) (in_buffer 1 8) ≡ Some Anything
+pub forgotten : (with_discards points).write_of (task 10) (in_buffer 1 8) ≡ Some Unknown
 forgotten = refl
 
 pub reads_byte : Reads (with_discards points) (task 11) (in_buffer 1 0)

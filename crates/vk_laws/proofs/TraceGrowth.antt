@@ -20,7 +20,7 @@ use Rattle.vk_laws.specs.Growth.{Extends}
 use Rattle.vk_laws.specs.Trace.{accesses}
 use Rattle.vk_laws.specs.Tasks.{moves_of, task_count, part_write, node_at, by_act, accesses_of}
 use Rattle.vk_laws.specs.TraceBytes.{before_node}
-use Rattle.vk_laws.specs.Discards.{entry_forgets, forgets, or_anything, with_discards}
+use Rattle.vk_laws.specs.Discards.{entry_forgets, forgets, or_unknown, with_discards}
 use Rattle.vk_laws.specs.TraceCaches.{agent_of, submits_to, cached, host_wrote, sends_write, shows, caching_of}
 use Rattle.vk_laws.proofs.TaskNodes.{node_of}
 use Rattle.vk_laws.proofs.Prefixes.{old_has, same_pieces, leads_on, there_below}
@@ -207,11 +207,11 @@ module _ (paths : BeforeIsPath) (joins : BeforeIsTransitive) (keeps : GrowthKeep
   write_same : (t : Task) (c : Byte) → t.node < size → (with_discards whole).write_of t c ≡ (with_discards old).write_of t c
   write_same t c lt =
       let n = at t.node lt in
-      let f : (o : Option Node) → (u : Past) → Option Put = λ o u. or_anything (t.part == 0 && by_act false (λ a. forgets u t.node a c) o) (by_act None (λ a. part_write u a t.part c) o) in
+      let f : (o : Option Node) → (u : Past) → Option Put = λ o u. or_unknown (t.part == 0 && by_act false (λ a. forgets u t.node a c) o) (by_act None (λ a. part_write u a t.part c) o) in
       let lost : forgets whole t.node n.node.act c ≡ forgets old t.node n.node.act c = subst (λ (k : ℕ). forgets whole k n.node.act c ≡ forgets old k n.node.act c) n.number (same_forgets n.node n.stands n.node.act c) in
       ap (λ (o : Option Node). f o whole) n.in_whole
-      ∙ ap (λ (b : Bool). or_anything (t.part == 0 && b) (part_write whole n.node.act t.part c)) lost
-      ∙ ap (λ (w : Option Put). or_anything (t.part == 0 && forgets old t.node n.node.act c) w) (same_part n.node n.stands t.part c)
+      ∙ ap (λ (b : Bool). or_unknown (t.part == 0 && b) (part_write whole n.node.act t.part c)) lost
+      ∙ ap (λ (w : Option Put). or_unknown (t.part == 0 && forgets old t.node n.node.act c) w) (same_part n.node n.stands t.part c)
       ∙ sym (ap (λ (o : Option Node). f o old) n.in_old)
 
   before_same : (a b : ℕ) → b < size → (with_discards whole).before a b ≡ (with_discards old).before a b

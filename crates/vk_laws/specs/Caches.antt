@@ -2,7 +2,7 @@
 use Rattle.std.specs.Prelude.{◌≡◌, ◌⊎◌, ℕ, ◌<◌, Bool, IsTrue, List, [], ◌∷◌, Option, Some, None}
 use Rattle.vk_model.specs.World.{Byte}
 use Rattle.vk_model.specs.Moves.{Value, From}
-use Rattle.vk_laws.specs.Machine.{Task, Put, Puts, Anything, TraceAccesses, Writes, Reads, Precedes, MayRun, latest}
+use Rattle.vk_laws.specs.Machine.{Task, Put, Puts, Unknown, TraceAccesses, Writes, Reads, Precedes, MayRun, latest}
 
 -- What a cache holds of a byte: a copy, or a write that hasn't reached the region (Vulkan, "Execution and Memory Dependencies", on availability and visibility).
 pub data Held : Type 0 where
@@ -46,7 +46,7 @@ abbrev pub CellRan : Option Put → ℕ → (Byte → Cell) → Cell → Cell �
 CellRan None a cells old new = (new.region ≡ old.region) × ((b : ℕ) → new.held b ≡ old.held b)
 CellRan (Some (Puts (Value v))) a cells old new = Wrote a v old new
 CellRan (Some (Puts (From d))) a cells old new = Wrote a (view a (cells d)) old new
-CellRan (Some Anything) a cells old new = (y : ℕ) × Wrote a y old new
+CellRan (Some Unknown) a cells old new = (y : ℕ) × Wrote a y old new
 
 -- ---- availability and visibility
 

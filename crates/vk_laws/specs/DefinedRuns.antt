@@ -11,7 +11,7 @@ use Rattle.vk_model.specs.Effect.{world}
 use Rattle.vk_model.specs.Node.{Node, Act, Hosts, Runs, nodes}
 use Rattle.vk_model.specs.Rules.{first_fault}
 use Rattle.vk_model.specs.Run.{Name, is_done, offered, Step, Apply, RunPiece, CopyPart, Stage, start, may_go, Allowed}
-use Rattle.vk_laws.specs.Machine.{IsIn, Task, Put, Puts, Anything, TraceAccesses, Reads, Conflict, MayRun, IsAllowed, latest}
+use Rattle.vk_laws.specs.Machine.{IsIn, Task, Put, Puts, Unknown, TraceAccesses, Reads, Conflict, MayRun, IsAllowed, latest}
 use Rattle.vk_laws.specs.Growth.{IsEager}
 use Rattle.vk_laws.specs.Trace.{accesses}
 use Rattle.vk_laws.specs.Tasks.{node_at, accesses_of}
@@ -40,12 +40,12 @@ abbrev pub done_by : (part_count : Past → ℕ) (s : Stage) (steps : List Step)
 done_by part_count s [] e run done = done
 done_by part_count s (step ∷ steps) e run done = done_by part_count run.0 steps e run.2 (with_step s step done)
 
--- The value of a byte after a write of this to it, if any, from the values before it; for a write of nobody knows what, 0.
+-- The value of a byte after a write of this to it, if any, from the values before it; for a write of an unknown value, 0.
 abbrev pub stored : Option Put → (Byte → ℕ) → Byte → ℕ
 stored None bytes c = bytes c
 stored (Some (Puts (Value v))) bytes c = v
 stored (Some (Puts (From d))) bytes c = bytes d
-stored (Some Anything) bytes c = 0
+stored (Some Unknown) bytes c = 0
 
 -- The bytes after tasks, the newest first, on one memory that held these at first.
 abbrev pub bytes_after : TraceAccesses → (Byte → ℕ) → List Task → Byte → ℕ

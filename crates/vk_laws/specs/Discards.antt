@@ -9,7 +9,7 @@ use Rattle.vk_model.specs.Order.{plain_order}
 use Rattle.vk_model.specs.Rules.{first_fault}
 use Rattle.vk_model.specs.Node.{Act, Hosts}
 use Rattle.vk_model.specs.Effect.{reaches, world}
-use Rattle.vk_laws.specs.Machine.{Put, Anything, TraceAccesses, HazardFree, IsModel}
+use Rattle.vk_laws.specs.Machine.{Put, Unknown, TraceAccesses, HazardFree, IsModel}
 use Rattle.vk_laws.specs.Tasks.{by_act, node_at, accesses_of}
 use Rattle.vk_laws.specs.TraceBytes.{before_node, value_before}
 
@@ -23,16 +23,16 @@ abbrev pub forgets : Past → ℕ → Act → Byte → Bool
 forgets all k (Hosts x) c = entry_forgets (before_node all k) x c
 forgets all k _ c = false
 
--- Nobody knows what a forgotten byte holds then.
-abbrev pub or_anything : Bool → Option Put → Option Put
-or_anything true w = Some Anything
-or_anything false w = w
+-- an unknown value a forgotten byte holds then.
+abbrev pub or_unknown : Bool → Option Put → Option Put
+or_unknown true w = Some Unknown
+or_unknown false w = w
 
 -- A trace as the machine's accesses, in which an invalidation may leave anything in the bytes that it forgets (Vulkan, "Host Access to Device Memory Objects").
 abbrev pub with_discards : Past → TraceAccesses
 with_discards all = record {
   has = (accesses_of all).has;
-  write_of = λ t c. or_anything (t.part == 0 && by_act false (λ a. forgets all t.node a c) (node_at all t.node)) ((accesses_of all).write_of t c);
+  write_of = λ t c. or_unknown (t.part == 0 && by_act false (λ a. forgets all t.node a c) (node_at all t.node)) ((accesses_of all).write_of t c);
   reads = (accesses_of all).reads;
   before = (accesses_of all).before;
 }

@@ -15,10 +15,10 @@ pub record Task : Type 0 where
   pub node : ℕ
   pub part : ℕ
 
--- What a task writes to a byte: a value, what another byte holds just then, or nobody knows what (Vulkan, "Clear Commands" and "Copy Commands"; the last for a host write that an invalidation discards: "Host Access to Device Memory Objects").
+-- What a task writes to a byte: a value, what another byte holds just then, or an unknown value (Vulkan, "Clear Commands" and "Copy Commands"; the last for a host write that an invalidation discards: "Host Access to Device Memory Objects").
 pub data Put : Type 0 where
   Puts : (source : Source) → Put
-  Anything : Put
+  Unknown : Put
 
 -- All that the machine knows of a trace: which tasks there are, what each writes to and reads of each byte, and which nodes come before which in every allowed order (Vulkan, "Execution and Memory Dependencies").
 pub record TraceAccesses : Type 0 where
@@ -80,7 +80,7 @@ latest tr c (t ∷ done) = newest (tr.write_of t c) t (latest tr c done)
 -- The value that a write gives to a byte, from the values before it; none where it isn't defined.
 abbrev pub put_value : Put → (Byte → Option ℕ) → Option ℕ
 put_value (Puts x) values = source_value values x
-put_value Anything values = None
+put_value Unknown values = None
 
 -- `value n` has the bytes that the model defines before node n: none at first; then those that node n writes, from the values before it, and those that it leaves alone. A node may also make bytes undefined, by a loss of ownership, a transition from UNDEFINED or a discarded host write (Vulkan, "Resource Sharing Mode", "Image Layout Transitions" and "Host Access to Device Memory Objects").
 pub record IsModel (tr : TraceAccesses) (value : ℕ → Byte → Option ℕ) : Type 0 where

@@ -11,7 +11,7 @@ use Rattle.vk_model.specs.World.{Byte, in_buffer}
 use Rattle.vk_model.specs.Point.{Past}
 use Rattle.vk_model.specs.Order.{plain_order}
 use Rattle.vk_model.specs.Rules.{first_fault}
-use Rattle.vk_laws.specs.Machine.{Task, Anything, Reads, IsAllowed, MayRun}
+use Rattle.vk_laws.specs.Machine.{Task, Unknown, Reads, IsAllowed, MayRun}
 use Rattle.vk_laws.specs.Caches.{Cell, Reached, view}
 use Rattle.vk_laws.specs.Discards.{with_discards}
 use Rattle.vk_laws.specs.TraceBytes.{value_before}
@@ -49,7 +49,7 @@ run = task 10 ∷ task 9 ∷ task 8 ∷ task 7 ∷ task 6 ∷ task 5 ∷ task 3 
 -- The trace breaks no rule; the invalidation forgets the host's write; the run is allowed, and after it the read may come next; some state is reached by it; and in every such state the host sees the byte that the first fill wrote.
 pub record TraceMeetsPremises : Type 0 where
   pub no_fault : first_fault example ≡ None
-  pub forgotten : (with_discards points).write_of (task 10) (in_buffer 1 8) ≡ Some Anything
+  pub forgotten : (with_discards points).write_of (task 10) (in_buffer 1 8) ≡ Some Unknown
   pub allowed : IsAllowed (with_discards points) run
   pub next : MayRun (with_discards points) run (task 11)
   pub reads_byte : Reads (with_discards points) (task 11) (in_buffer 1 0)
