@@ -13,7 +13,7 @@ use Rattle.vk_model.specs.declared.entry.Entry.{Entry}
 use Rattle.vk_model.specs.declared.entry.Entry.TheVariants as entry
 use Rattle.vk_model.specs.declared.resource.BufferInfo.{BufferInfo}
 use Rattle.vk_model.specs.Point.{Past}
-use Rattle.vk_model.specs.Words.{round_up}
+use Rattle.vk_model.specs.Basics.{round_up}
 use Rattle.vk_model.specs.Objects.{made, buffer, buffer_in}
 use Rattle.vk_model.specs.Order.{host}
 use Rattle.vk_model.specs.World.{Byte, in_buffer, in_image}

@@ -9,7 +9,7 @@ use Rattle.std.specs.Int.{to_le_bytes, w32}
 use Rattle.vk_heap.specs.Region.{splice, repeated}
 use Rattle.vk_heap.proofs.RegionLemmas.{length-repeated}
 use Rattle.vk_memory.specs.Standing.{Standing, region_of, with_region, object_at, nothing}
-use Rattle.vk_model.specs.Words.{below, byte_of}
+use Rattle.vk_model.specs.Basics.{below, byte_of}
 use Rattle.vk_model.specs.World.{in_buffer, in_image, same_byte}
 use Rattle.vk_model.specs.Moves.{Value, Move, move}
 use Rattle.vk_device.specs.declared.device.Placed.{Placed}

@@ -13,7 +13,7 @@ use Rattle.vk_model.specs.declared.command.Element.TheVariants as element
 use Rattle.vk_model.specs.declared.entry.Entry.{Entry}
 use Rattle.vk_model.specs.declared.entry.SemaphoreSubmit.{SemaphoreSubmit}
 use Rattle.vk_model.specs.declared.resource.BufferInfo.{BufferInfo}
-use Rattle.vk_model.specs.Words.{below}
+use Rattle.vk_model.specs.Basics.{below}
 use Rattle.vk_model.specs.Point.{Past, Action, Wait, Run, Signal}
 use Rattle.vk_model.specs.Objects.{made, buffer, is_exclusive}
 use Rattle.vk_model.specs.Order.{SubmittedBatch, actions, started, batches_of, plain_from, host}

@@ -8,7 +8,7 @@ use Rattle.vk_model.specs.declared.entry.Batch.{Batch}
 use Rattle.vk_model.specs.declared.entry.Entry.{Entry}
 use Rattle.vk_model.specs.Point.{Past, Point, Run}
 use Rattle.vk_model.specs.Objects.{buffer}
-use Rattle.vk_model.specs.Words.{round_up}
+use Rattle.vk_model.specs.Basics.{round_up}
 use Rattle.vk_model.specs.Order.{SubmittedBatch, actions, started, batches_of, batches_from, host}
 use Rattle.vk_model.specs.World.{Byte, in_buffer, in_image}
 use Rattle.vk_model.specs.Moves.{fill_size}

@@ -10,7 +10,7 @@ use Rattle.vk_model.specs.declared.command.BufferImageCopy.{BufferImageCopy}
 use Rattle.vk_model.specs.declared.command.ImageCopy.{ImageCopy}
 use Rattle.vk_model.specs.declared.command.SubresourceRange.{SubresourceRange}
 use Rattle.vk_model.specs.declared.resource.ImageInfo.{ImageInfo}
-use Rattle.vk_model.specs.Words.{some_pair, below, grid}
+use Rattle.vk_model.specs.Basics.{some_pair, below, grid}
 use Rattle.vk_model.specs.World.{Byte, in_buffer, in_image}
 use Rattle.vk_model.specs.Point.{Past}
 use Rattle.vk_model.specs.Objects.{image}

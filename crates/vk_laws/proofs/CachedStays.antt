@@ -7,7 +7,7 @@ use Rattle.vk_model.specs.declared.entry.Entry.{Entry}
 use Rattle.vk_model.specs.declared.entry.Entry.TheVariants as entry
 use Rattle.vk_model.specs.declared.resource.Place.{Place}
 use Rattle.vk_model.specs.declared.resource.Place.TheVariants as place
-use Rattle.vk_model.specs.Words.{holds}
+use Rattle.vk_model.specs.Basics.{holds}
 use Rattle.vk_model.specs.Point.{Past, Action, Host, Wait, Run, Signal, host_of, entries}
 use Rattle.vk_model.specs.Objects.{made_by, made, live, Resource, resource_in, pool_in, memory_in, type_at, is_cached}
 use Rattle.vk_model.specs.RulesIds.{is_dead, asked_by, asked_by_entry, asked_by_place, is_pool, is_memory, judged_in, until}

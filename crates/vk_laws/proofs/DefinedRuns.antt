@@ -7,7 +7,7 @@ use Rattle.std.proofs.lemmas.List.Sorted.{Contains-permutation, IsPermutation-re
 use Rattle.vk_model.specs.declared.command.Cmd.{Cmd}
 use Rattle.vk_model.specs.declared.entry.Entry.{Entry}
 use Rattle.vk_model.specs.declared.entry.Entry.TheVariants as entry
-use Rattle.vk_model.specs.Words.{holds, below}
+use Rattle.vk_model.specs.Basics.{holds, below}
 use Rattle.vk_model.specs.Point.{Past, Point}
 use Rattle.vk_model.specs.Order.{plain_order}
 use Rattle.vk_model.specs.Moves.{Move}

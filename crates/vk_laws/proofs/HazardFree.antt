@@ -7,7 +7,7 @@ use Rattle.vk_model.specs.declared.entry.Entry.{Entry}
 use Rattle.vk_model.specs.declared.entry.Entry.TheVariants as entry
 use Rattle.vk_model.specs.declared.command.Cmd.{Cmd}
 use Rattle.vk_model.specs.declared.rule.Rule.TheVariants as rule
-use Rattle.vk_model.specs.Words.{holds, some_pair}
+use Rattle.vk_model.specs.Basics.{holds, some_pair}
 use Rattle.vk_model.specs.World.{Byte, same_byte}
 use Rattle.vk_model.specs.Point.{Past, Action, Run, host_of, command_of}
 use Rattle.vk_model.specs.Order.{plain_order}

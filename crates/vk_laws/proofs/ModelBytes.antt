@@ -24,7 +24,7 @@ use Rattle.vk_model.specs.Effect.{source_value, moved as moved_to_byte, after_mo
 use Rattle.vk_model.specs.Node.{Node, Act, Hosts, Waits, Signals, Runs, Depends, nodes, acts, command_acts, with_acts, Role, Barrier, SetOf, AwaitOf}
 use Rattle.vk_model.specs.Before.{IsNumbered}
 use Rattle.vk_model.specs.declared.rule.Rule.TheVariants as rule
-use Rattle.vk_model.specs.Words.{holds, below}
+use Rattle.vk_model.specs.Basics.{holds, below}
 use Rattle.vk_model.specs.Edge.{is_host}
 use Rattle.vk_model.specs.Access.{bytes_of, host_reads, is_in}
 use Rattle.vk_model.specs.RulesBytes.{reads_undefined}

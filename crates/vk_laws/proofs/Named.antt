@@ -11,7 +11,7 @@ use Rattle.vk_model.specs.declared.resource.ImageInfo.{ImageInfo}
 use Rattle.vk_model.specs.declared.command.BufferImageCopy.{BufferImageCopy}
 use Rattle.vk_model.specs.declared.command.ImageCopy.{ImageCopy}
 use Rattle.vk_model.specs.declared.command.SubresourceRange.{SubresourceRange}
-use Rattle.vk_model.specs.Words.{holds, below}
+use Rattle.vk_model.specs.Basics.{holds, below}
 use Rattle.vk_model.specs.World.{Byte, in_buffer, in_image, resource_at}
 use Rattle.vk_model.specs.Image.{texel, level_width, level_height}
 use Rattle.vk_model.specs.Objects.{made, live, image}

@@ -6,7 +6,7 @@ use Rattle.std.proofs.lemmas.Bool.{eqb-true, or_left, or_right}
 use Rattle.vk_model.specs.declared.command.Cmd.{Cmd}
 use Rattle.vk_model.specs.declared.command.Cmd.TheVariants as cmd
 use Rattle.vk_model.specs.declared.entry.Entry.{Entry}
-use Rattle.vk_model.specs.Words.{holds, below, byte_of}
+use Rattle.vk_model.specs.Basics.{holds, below, byte_of}
 use Rattle.vk_model.specs.World.{in_buffer}
 use Rattle.vk_model.specs.Point.{Past, Point, Action, Run, host_of, entries}
 use Rattle.vk_model.specs.Objects.{made_by, made, ended, live, buffer_in, image_in}

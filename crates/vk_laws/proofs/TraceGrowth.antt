@@ -4,7 +4,7 @@ use Rattle.std.specs.Prelude.{Contains, ◌==◌, nat_lt, option_map, slice_get,
 use Rattle.std.specs.List.{list_any, find}
 use Rattle.std.proofs.lemmas.Bool.{cases_lt, and_parts, false_from_ne_true, and_right}
 use Rattle.std.proofs.lemmas.List.{append_assoc, length-append}
-use Rattle.vk_model.specs.Words.{holds}
+use Rattle.vk_model.specs.Basics.{holds}
 use Rattle.vk_model.specs.World.{Byte, same_byte, resource_at}
 use Rattle.vk_model.specs.Objects.{is_cached}
 use Rattle.vk_model.specs.Point.{Past}

@@ -3,7 +3,7 @@ use Rattle.std.specs.Prelude.{◌≡◌, ℕ, List, [], length, Bool, false, ◌
 use Rattle.std.specs.List.{find}
 use Rattle.vk_model.specs.declared.entry.Entry.{Entry}
 use Rattle.vk_model.specs.declared.entry.Entry.TheVariants as entry
-use Rattle.vk_model.specs.Words.{holds}
+use Rattle.vk_model.specs.Basics.{holds}
 use Rattle.vk_model.specs.World.{Byte, same_byte}
 use Rattle.vk_model.specs.Point.{Past}
 use Rattle.vk_model.specs.Order.{plain_order}

@@ -6,7 +6,7 @@ use Rattle.vk_model.specs.Point.{Past}
 use Rattle.vk_model.specs.Order.{plain_order}
 use Rattle.vk_model.specs.Node.{nodes}
 use Rattle.vk_model.specs.Edge.{is_host}
-use Rattle.vk_model.specs.Words.{holds}
+use Rattle.vk_model.specs.Basics.{holds}
 use Rattle.vk_model.specs.Effect.{world}
 use Rattle.vk_model.specs.Rules.{first_fault}
 use Rattle.vk_laws.specs.Machine.{Task, Reads, MayRun, IsModel, latest}

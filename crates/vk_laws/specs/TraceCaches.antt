@@ -3,7 +3,7 @@ use Rattle.std.specs.Prelude.{◌≡◌, ℕ, zero, suc, Bool, false, not, ◌&&
 use Rattle.std.specs.List.{list_any}
 use Rattle.vk_model.specs.declared.entry.Entry.{Entry}
 use Rattle.vk_model.specs.declared.entry.Entry.TheVariants as entry
-use Rattle.vk_model.specs.Words.{holds}
+use Rattle.vk_model.specs.Basics.{holds}
 use Rattle.vk_model.specs.World.{Byte, resource_at}
 use Rattle.vk_model.specs.Objects.{is_cached}
 use Rattle.vk_model.specs.Point.{Past}

@@ -18,12 +18,12 @@ use Rattle.vk_model.specs.Laws.{together, write_common}
 use Rattle.vk_model.proofs.PieceLaws.{pieces_together}
 use Rattle.vk_model.specs.RulesRanges.{is_short, regions_of, command_past, command_overlaps, transitions_meet}
 use Rattle.std.proofs.lemmas.Bool.{eqb-true, eq-eqb, ltb-false}
-use Rattle.vk_model.specs.Words.{some_pair, below, grid}
+use Rattle.vk_model.specs.Basics.{some_pair, below, grid}
 use Rattle.vk_model.specs.Suballocation.{ranges_meet}
 use Rattle.vk_model.specs.World.{Byte, in_buffer, in_image, same_byte}
 use Rattle.std.specs.List.{enumerate_from}
 use Rattle.vk_model.specs.declared.command.BufferCopy.{BufferCopy}
-use Rattle.vk_model.specs.Words.{byte_of}
+use Rattle.vk_model.specs.Basics.{byte_of}
 use Rattle.vk_model.specs.Moves.{Move, move, moves, fill_size, buffer_size, Source, Value, From, copy_moves, copy_in_moves, copy_image_moves, copy_out_moves, clear_moves, clear_move, level_bytes, subresource_bytes, buffer_texel, row_texels, layer_rows}
 use Rattle.vk_model.specs.declared.command.BufferImageCopy.{BufferImageCopy}
 use Rattle.vk_model.specs.declared.command.ImageCopy.{ImageCopy}

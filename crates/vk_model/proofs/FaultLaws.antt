@@ -3,7 +3,7 @@ use Rattle.std.proofs.Common.{◌≡◌, ℕ, zero, suc, ◌<◌, List, [], ◌�
 use Rattle.std.specs.Prelude.{option_map, slice_get}
 use Rattle.vk_model.specs.declared.rule.At.{At}
 use Rattle.vk_model.specs.declared.rule.Rule.{Rule}
-use Rattle.vk_model.specs.Words.{first_that}
+use Rattle.vk_model.specs.Basics.{first_that}
 use Rattle.vk_model.specs.Point.{Past, Point, at_of}
 use Rattle.vk_model.specs.Rules.{breaks, rules, first_rule, fault}
 use Rattle.vk_model.specs.Fault.{Comes, newest, older, IsSound}

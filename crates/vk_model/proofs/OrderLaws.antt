@@ -8,7 +8,7 @@ use Rattle.vk_model.specs.declared.entry.Entry.{Entry}
 use Rattle.vk_model.specs.declared.entry.Entry.TheVariants as entry
 use Rattle.vk_model.specs.declared.entry.SemaphoreSubmit.{SemaphoreSubmit}
 use Rattle.vk_model.specs.declared.rule.Rule.TheVariants as rule
-use Rattle.vk_model.specs.Words.{holds}
+use Rattle.vk_model.specs.Basics.{holds}
 use Rattle.vk_model.specs.Point.{Point, Past, Action, Host, Wait, Run, Signal}
 use Rattle.vk_model.specs.Objects.{live, made, ended, initial, semaphore_in}
 use Rattle.vk_model.specs.Order.{SubmittedBatch, Front, host, actions, started, submitted_batch, batches_from, batches_of, plain_from, plain_order, counter, is_met, same_batch, next_batch, start_batch, settled, after_entry, order_from, order}

@@ -11,7 +11,7 @@ use Rattle.vk_model.specs.declared.command.SubresourceRange.{SubresourceRange}
 use Rattle.vk_model.specs.declared.resource.ImageInfo.{ImageInfo}
 use Rattle.vk_model.specs.declared.layout.Format.{Format}
 use Rattle.vk_model.specs.declared.layout.Format.TheVariants as format
-use Rattle.vk_model.specs.Words.{below, grid}
+use Rattle.vk_model.specs.Basics.{below, grid}
 use Rattle.vk_model.specs.Image.{texel, level_width}
 use Rattle.vk_model.specs.Point.{Past}
 use Rattle.vk_model.specs.Objects.{image}

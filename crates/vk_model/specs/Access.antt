@@ -7,7 +7,7 @@ use Rattle.vk_model.specs.declared.command.Element.{Element}
 use Rattle.vk_model.specs.declared.command.Element.TheVariants as element
 use Rattle.vk_model.specs.declared.command.ImageElement.{ImageElement}
 use Rattle.vk_model.specs.declared.resource.ImageInfo.{ImageInfo}
-use Rattle.vk_model.specs.Words.{below}
+use Rattle.vk_model.specs.Basics.{below}
 use Rattle.vk_model.specs.Point.{Past, Point}
 use Rattle.vk_model.specs.Objects.{image, is_cached}
 use Rattle.vk_model.specs.World.{Byte, in_buffer, same_byte, resource_at}

@@ -2,7 +2,7 @@
 use Rattle.std.specs.Prelude.{ℕ, List, [], ◌∷◌, ◌++◌, length, Bool, not, ◌&&◌, nat_lt, Option, Some, None}
 use Rattle.std.specs.List.{list_any, list_all, flat_map, filter}
 use Rattle.vk_model.specs.declared.entry.Entry.{Entry}
-use Rattle.vk_model.specs.Words.{among, option_list}
+use Rattle.vk_model.specs.Basics.{among, option_list}
 use Rattle.vk_model.specs.Point.{Past, Point, Action, Run, host_of}
 use Rattle.vk_model.specs.Objects.{live_resources}
 use Rattle.vk_model.specs.Order.{batches_of, actions}

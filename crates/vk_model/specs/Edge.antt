@@ -3,7 +3,7 @@ use Rattle.std.specs.Prelude.{ℕ, ◌+◌, List, [], ◌∷◌, map, Bool, true
 use Rattle.std.specs.List.{list_any, filter, filter_map}
 use Rattle.vk_model.specs.declared.entry.Entry.{Entry}
 use Rattle.vk_model.specs.declared.entry.Entry.TheVariants as entry
-use Rattle.vk_model.specs.Words.{has_some, has_bits, holds}
+use Rattle.vk_model.specs.Basics.{has_some, has_bits, holds}
 use Rattle.vk_model.specs.Order.{signal_in, value_for}
 use Rattle.vk_model.specs.Ownership.{dependency_of}
 use Rattle.vk_model.specs.Node.{Node, Act, Hosts, Waits, Signals, Runs, Depends, Barrier, SetOf, AwaitOf, same_place}

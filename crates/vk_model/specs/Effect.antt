@@ -12,7 +12,7 @@ use Rattle.vk_model.specs.declared.command.BufferElement.{BufferElement}
 use Rattle.vk_model.specs.declared.command.SubresourceRange.{SubresourceRange}
 use Rattle.vk_model.specs.declared.entry.Entry.{Entry}
 use Rattle.vk_model.specs.declared.entry.Entry.TheVariants as entry
-use Rattle.vk_model.specs.Words.{within}
+use Rattle.vk_model.specs.Basics.{within}
 use Rattle.vk_model.specs.Point.{Past, Action, Host, Run}
 use Rattle.vk_model.specs.Objects.{is_exclusive, is_cached}
 use Rattle.vk_model.specs.World.{Byte, in_buffer, in_image, same_byte, resource_at, Owner, Nobody, Family, Released, World, new_world}

@@ -6,7 +6,7 @@ use Rattle.vk_model.specs.declared.layout.Format.{Format}
 use Rattle.vk_model.specs.declared.layout.Format.TheVariants as format
 use Rattle.vk_model.specs.declared.resource.Kind.{Kind}
 use Rattle.vk_model.specs.declared.resource.Kind.TheVariants as kind
-use Rattle.vk_model.specs.Words.{below, round_up}
+use Rattle.vk_model.specs.Basics.{below, round_up}
 
 -- The bytes of one component (Vulkan, "Format Definition").
 abbrev pub component : Format → ℕ

@@ -13,7 +13,7 @@ use Rattle.vk_model.specs.Before.{before, Path}
 use Rattle.vk_model.specs.Seen.{Access, seen}
 use Rattle.vk_model.specs.Moves.{Move, moves}
 use Rattle.vk_model.specs.Access.{targets, share}
-use Rattle.vk_model.specs.Words.{some_pair}
+use Rattle.vk_model.specs.Basics.{some_pair}
 use Rattle.vk_model.specs.Pieces.{pieces}
 use Rattle.vk_model.specs.declared.command.Cmd.{Cmd}
 use Rattle.std.specs.List.{flat_map}

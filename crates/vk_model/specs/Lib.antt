@@ -1,6 +1,6 @@
 pub mod RuleNames
 pub mod Suballocation
-pub mod Words
+pub mod Basics
 pub mod Point
 pub mod Image
 pub mod Objects

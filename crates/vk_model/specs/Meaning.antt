@@ -2,7 +2,7 @@
 use Rattle.std.specs.Prelude.{ℕ, ◌+◌, List, [], ◌∷◌, ◌++◌, map, take, unwrap_or}
 use Rattle.vk_model.specs.declared.entry.Entry.{Entry}
 use Rattle.vk_model.specs.declared.entry.Entry.TheVariants as entry
-use Rattle.vk_model.specs.Words.{below}
+use Rattle.vk_model.specs.Basics.{below}
 use Rattle.vk_model.specs.Point.{Past, Action, Host}
 use Rattle.vk_model.specs.World.{World, in_buffer}
 use Rattle.vk_model.specs.Effect.{world}

@@ -10,7 +10,7 @@ use Rattle.vk_model.specs.declared.command.BufferImageCopy.{BufferImageCopy}
 use Rattle.vk_model.specs.declared.command.ImageCopy.{ImageCopy}
 use Rattle.vk_model.specs.declared.command.SubresourceRange.{SubresourceRange}
 use Rattle.vk_model.specs.declared.resource.ImageInfo.{ImageInfo}
-use Rattle.vk_model.specs.Words.{below, grid, byte_of}
+use Rattle.vk_model.specs.Basics.{below, grid, byte_of}
 use Rattle.vk_model.specs.Image.{texel, component, level_width, level_height}
 use Rattle.vk_model.specs.Point.{Past}
 use Rattle.vk_model.specs.Objects.{buffer, image}

@@ -13,7 +13,7 @@ use Rattle.vk_model.specs.declared.resource.Kind.{Kind}
 use Rattle.vk_model.specs.declared.resource.Kind.TheVariants as kind
 use Rattle.vk_model.specs.declared.resource.Sharing.{Sharing}
 use Rattle.vk_model.specs.declared.resource.Sharing.TheVariants as sharing
-use Rattle.vk_model.specs.Words.{holds, among, round_up}
+use Rattle.vk_model.specs.Basics.{holds, among, round_up}
 use Rattle.vk_model.specs.Image.{image_size, image_align}
 use Rattle.vk_model.specs.Point.{Past, entries}
 

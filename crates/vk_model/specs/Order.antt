@@ -5,7 +5,7 @@ use Rattle.vk_model.specs.declared.entry.Batch.{Batch}
 use Rattle.vk_model.specs.declared.entry.Entry.{Entry}
 use Rattle.vk_model.specs.declared.entry.Entry.TheVariants as entry
 use Rattle.vk_model.specs.declared.entry.SemaphoreSubmit.{SemaphoreSubmit}
-use Rattle.vk_model.specs.Words.{holds, among}
+use Rattle.vk_model.specs.Basics.{holds, among}
 use Rattle.vk_model.specs.Point.{Point, Past, Action, Host, Wait, Run, Signal}
 use Rattle.vk_model.specs.Objects.{live, initial, semaphore_in}
 

@@ -7,7 +7,7 @@ use Rattle.vk_model.specs.declared.command.BufferImageCopy.{BufferImageCopy}
 use Rattle.vk_model.specs.declared.command.ImageCopy.{ImageCopy}
 use Rattle.vk_model.specs.declared.command.SubresourceRange.{SubresourceRange}
 use Rattle.vk_model.specs.Suballocation.{ranges_meet}
-use Rattle.vk_model.specs.Words.{below}
+use Rattle.vk_model.specs.Basics.{below}
 use Rattle.vk_model.specs.Image.{texel}
 use Rattle.vk_model.specs.Point.{Past}
 use Rattle.vk_model.specs.Objects.{image}

@@ -6,7 +6,7 @@ use Rattle.vk_model.specs.declared.entry.Entry.{Entry}
 use Rattle.vk_model.specs.declared.entry.SemaphoreSubmit.{SemaphoreSubmit}
 use Rattle.vk_model.specs.declared.rule.At.{At}
 use Rattle.vk_model.specs.declared.rule.At.TheVariants as at
-use Rattle.vk_model.specs.Words.{holds}
+use Rattle.vk_model.specs.Basics.{holds}
 
 -- What happens at a point: an entry of the host, or a batch's wait, command or signal (Vulkan, "Queue Submission").
 pub data Action : Type 0 where

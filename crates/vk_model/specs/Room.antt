@@ -5,7 +5,7 @@ use Rattle.std.specs.Option.{option_or}
 use Rattle.vk_model.specs.declared.resource.PoolInfo.{PoolInfo}
 use Rattle.vk_model.specs.Suballocation.{Taken, Request, conflict}
 use Rattle.vk_model.specs.Objects.{Resource}
-use Rattle.vk_model.specs.Words.{below}
+use Rattle.vk_model.specs.Basics.{below}
 
 -- ---- places in a block
 

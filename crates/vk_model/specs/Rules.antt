@@ -4,7 +4,7 @@ use Rattle.vk_model.specs.declared.entry.Entry.{Entry}
 use Rattle.vk_model.specs.declared.rule.At.{At}
 use Rattle.vk_model.specs.declared.rule.Rule.{Rule}
 use Rattle.vk_model.specs.declared.rule.Rule.TheVariants as rule
-use Rattle.vk_model.specs.Words.{first_that}
+use Rattle.vk_model.specs.Basics.{first_that}
 use Rattle.vk_model.specs.Point.{Past, Point, at_of}
 use Rattle.vk_model.specs.Order.{plain_order}
 use Rattle.vk_model.specs.RulesIds.{breaks_new_id, breaks_live_id, breaks_queue, breaks_queue_kind}

@@ -3,7 +3,7 @@ use Rattle.std.specs.Prelude.{◌+◌, length, Bool, false, ◌==◌, nat_le, is
 use Rattle.std.specs.List.{list_any}
 use Rattle.vk_model.specs.declared.entry.Entry.{Entry}
 use Rattle.vk_model.specs.declared.entry.Entry.TheVariants as entry
-use Rattle.vk_model.specs.Words.{below, holds}
+use Rattle.vk_model.specs.Basics.{below, holds}
 use Rattle.vk_model.specs.Point.{Past, Point, on_host}
 use Rattle.vk_model.specs.Objects.{live_resources, memory_of, pool_of}
 use Rattle.vk_model.specs.World.{World, in_buffer}

@@ -9,7 +9,7 @@ use Rattle.vk_model.specs.declared.entry.Entry.{Entry}
 use Rattle.vk_model.specs.declared.entry.Entry.TheVariants as entry
 use Rattle.vk_model.specs.declared.resource.Place.{Place}
 use Rattle.vk_model.specs.declared.resource.Place.TheVariants as place
-use Rattle.vk_model.specs.Words.{holds, option_list}
+use Rattle.vk_model.specs.Basics.{holds, option_list}
 use Rattle.vk_model.specs.Point.{Past, Point, Action, Host, Wait, Run, Signal, host_of, on_host, on_command}
 use Rattle.vk_model.specs.Objects.{made_by, made, live, buffer_in, image_in, pool_in, memory_in, semaphore_in, event_in, defrag_in, resource_in, pool_of}
 

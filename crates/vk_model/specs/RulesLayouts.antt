@@ -8,7 +8,7 @@ use Rattle.vk_model.specs.declared.command.Element.{Element}
 use Rattle.vk_model.specs.declared.command.Element.TheVariants as element
 use Rattle.vk_model.specs.declared.command.SubresourceRange.{SubresourceRange}
 use Rattle.vk_model.specs.declared.entry.SemaphoreSubmit.{SemaphoreSubmit}
-use Rattle.vk_model.specs.Words.{among, below, has_bits, has_some}
+use Rattle.vk_model.specs.Basics.{among, below, has_bits, has_some}
 use Rattle.vk_model.specs.Point.{Past, Point, Action, Host, Wait, Run, Signal, on_command}
 use Rattle.vk_model.specs.World.{World}
 use Rattle.vk_model.specs.Effect.{world}

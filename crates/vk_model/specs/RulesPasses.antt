@@ -8,7 +8,7 @@ use Rattle.vk_model.specs.declared.resource.PoolKind.{PoolKind}
 use Rattle.vk_model.specs.declared.resource.PoolKind.TheVariants as pool_kind
 use Rattle.vk_model.specs.declared.resource.Place.{Place}
 use Rattle.vk_model.specs.declared.resource.Place.TheVariants as place
-use Rattle.vk_model.specs.Words.{holds}
+use Rattle.vk_model.specs.Basics.{holds}
 use Rattle.vk_model.specs.Point.{Past, Point, entries, on_host}
 use Rattle.vk_model.specs.Objects.{pool, live, standing, resource_in, defrag_in, pool_of}
 use Rattle.vk_model.specs.World.{resource_at}

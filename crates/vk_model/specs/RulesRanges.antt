@@ -12,7 +12,7 @@ use Rattle.vk_model.specs.declared.command.Length.TheVariants as length_of
 use Rattle.vk_model.specs.declared.entry.Entry.{Entry}
 use Rattle.vk_model.specs.declared.entry.Entry.TheVariants as entry
 use Rattle.vk_model.specs.declared.resource.ImageInfo.{ImageInfo}
-use Rattle.vk_model.specs.Words.{holds, some_pair}
+use Rattle.vk_model.specs.Basics.{holds, some_pair}
 use Rattle.vk_model.specs.Image.{texel, level_width, level_height}
 use Rattle.vk_model.specs.Point.{Past, Point, on_host, on_command}
 use Rattle.vk_model.specs.Objects.{image}

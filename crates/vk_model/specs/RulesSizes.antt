@@ -13,7 +13,7 @@ use Rattle.vk_model.specs.declared.resource.PoolInfo.{PoolInfo}
 use Rattle.vk_model.specs.declared.resource.ImageInfo.{ImageInfo}
 use Rattle.vk_model.specs.declared.resource.Kind.{Kind}
 use Rattle.vk_model.specs.declared.resource.Kind.TheVariants as kind
-use Rattle.vk_model.specs.Words.{holds, has_bits}
+use Rattle.vk_model.specs.Basics.{holds, has_bits}
 use Rattle.vk_model.specs.Image.{most_levels}
 use Rattle.vk_model.specs.Point.{Past, Point, on_host, on_command}
 use Rattle.vk_model.specs.Objects.{resource_in, resource, pool, pool_at, type_at}

@@ -6,7 +6,7 @@ use Rattle.vk_model.specs.declared.command.Cmd.TheVariants as cmd
 use Rattle.vk_model.specs.declared.command.Dependency.{Dependency}
 use Rattle.vk_model.specs.declared.entry.Entry.{Entry}
 use Rattle.vk_model.specs.declared.entry.Entry.TheVariants as entry
-use Rattle.vk_model.specs.Words.{holds}
+use Rattle.vk_model.specs.Basics.{holds}
 use Rattle.vk_model.specs.Point.{Past, Point, Action, Wait, command_of, on_host, on_command}
 use Rattle.vk_model.specs.Order.{counter, signal_of}
 use Rattle.vk_model.specs.Node.{Node, nodes, next_nodes}

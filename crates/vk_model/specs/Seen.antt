@@ -6,7 +6,7 @@ use Rattle.vk_model.specs.declared.command.Length.TheVariants as length_of
 use Rattle.vk_model.specs.declared.command.Element.{Element}
 use Rattle.vk_model.specs.declared.command.Element.TheVariants as element
 use Rattle.vk_model.specs.declared.entry.Entry.TheVariants as entry
-use Rattle.vk_model.specs.Words.{has_some, within}
+use Rattle.vk_model.specs.Basics.{has_some, within}
 use Rattle.vk_model.specs.World.{Byte, in_buffer, in_image}
 use Rattle.vk_model.specs.Ownership.{dependency_of, is_acquire, is_release}
 use Rattle.vk_model.specs.Effect.{in_range, reaches}

@@ -23,13 +23,13 @@ fn complain(rt: &impl Eprint, error: RunError) -> u8 {
 
 /// What the words of the command line ask for, or the exit status where they don't.
 fn chosen<R: Env + Eprint + AllocGlobal>(rt: &R) -> Result<Options, u8> {
-    let Ok(words) = std::env::args(rt) else {
+    let Ok(arguments) = std::env::args(rt) else {
         return Err(COMMAND_LINE_REFUSED);
     };
-    let Ok(words) = words.collect::<Vec<String>>(rt.alloc()) else {
+    let Ok(arguments) = arguments.collect::<Vec<String>>(rt.alloc()) else {
         return Err(complain(rt, RunError::NoMemory));
     };
-    match options::read(rt.alloc(), words.as_slice()) {
+    match options::read(rt.alloc(), arguments.as_slice()) {
         Ok(options) => Ok(options),
         Err(OptionsError::NoMemory) => Err(complain(rt, RunError::NoMemory)),
         Err(OptionsError::Refused(text)) => {

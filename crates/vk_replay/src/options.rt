@@ -66,8 +66,8 @@ fn command<'a>(alloc: Global) -> Result<Command<'a>, AllocError> {
 }
 
 /// What the words ask for; the first word is the program's own name.
-pub fn read(alloc: Global, words: &[String]) -> Result<Options, OptionsError> {
-    let matches = command(alloc)?.try_get_matches_from(words)?;
+pub fn read(alloc: Global, arguments: &[String]) -> Result<Options, OptionsError> {
+    let matches = command(alloc)?.try_get_matches_from(arguments)?;
     let heap0 = matches.get_one::<u64>("heap0").unwrap_or(HEAP_BYTES);
     let heap1 = matches.get_one::<u64>("heap1").unwrap_or(HEAP_BYTES);
     match Config::new(heap0, heap1) {

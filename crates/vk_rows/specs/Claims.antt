@@ -5,7 +5,7 @@ use Rattle.vk_model.specs.declared.entry.Entry.{Entry}
 use Rattle.vk_model.specs.declared.rule.At.{At}
 use Rattle.vk_model.specs.declared.rule.Rule.{Rule}
 use Rattle.vk_model.specs.declared.rule.Rule.TheVariants as rule
-use Rattle.vk_model.specs.Words.{first_that}
+use Rattle.vk_model.specs.Basics.{first_that}
 use Rattle.vk_model.specs.Point.{Past, Point, at_of, on_host}
 use Rattle.vk_model.specs.Order.{plain_order, order}
 use Rattle.vk_model.specs.Meaning.{Reads, reads, meaning}

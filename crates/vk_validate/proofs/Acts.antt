@@ -8,7 +8,7 @@ use Rattle.vk_model.specs.declared.command.Cmd.TheVariants as cmd
 use Rattle.vk_model.specs.declared.command.Element.{Element}
 use Rattle.vk_model.specs.declared.command.Element.TheVariants as element
 use Rattle.vk_model.specs.declared.entry.Entry.{Entry}
-use Rattle.vk_model.specs.Words.{holds}
+use Rattle.vk_model.specs.Basics.{holds}
 use Rattle.vk_model.specs.World.{World}
 use Rattle.vk_model.specs.Effect.{world}
 use Rattle.vk_model.specs.Point.{Past, Point, Action, Host, Wait, Run, Signal, host_of}

@@ -5,7 +5,7 @@ use Rattle.std.specs.List.{list_any, find, cons_option}
 use Rattle.std.proofs.lemmas.Bool.{eqb-true, eq-eqb, or_cases, or_right}
 use Rattle.vk_model.specs.declared.entry.Entry.{Entry}
 use Rattle.vk_model.specs.declared.entry.Entry.TheVariants as entry
-use Rattle.vk_model.specs.Words.{holds}
+use Rattle.vk_model.specs.Basics.{holds}
 use Rattle.vk_model.specs.Point.{Past, Action, Host, Wait, Run, Signal, host_of, entries}
 use Rattle.vk_model.specs.Objects.{made, made_by, initial, semaphore_in}
 use Rattle.vk_model.specs.Order.{value_for}

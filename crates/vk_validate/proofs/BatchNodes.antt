@@ -8,7 +8,7 @@ use Rattle.vk_model.specs.declared.command.Dependency.{Dependency}
 use Rattle.vk_model.specs.declared.command.Element.{Element}
 use Rattle.vk_model.specs.declared.command.Element.TheVariants as element
 use Rattle.vk_model.specs.declared.entry.SemaphoreSubmit.{SemaphoreSubmit}
-use Rattle.vk_model.specs.Words.{holds, has_some}
+use Rattle.vk_model.specs.Basics.{holds, has_some}
 use Rattle.vk_model.specs.Point.{Point}
 use Rattle.vk_model.specs.Ownership.{dependency_of}
 use Rattle.vk_model.specs.Node.{Node, Act, Hosts, Waits, Signals, Runs, Depends, Barrier, SetOf, AwaitOf, with_acts, same_place}

@@ -8,7 +8,7 @@ use Rattle.vk_model.specs.declared.command.Cmd.TheVariants as cmd
 use Rattle.vk_model.specs.declared.command.Length.{Length}
 use Rattle.vk_model.specs.declared.command.Element.{Element}
 use Rattle.vk_model.specs.declared.command.Element.TheVariants as element
-use Rattle.vk_model.specs.Words.{below, within, byte_of}
+use Rattle.vk_model.specs.Basics.{below, within, byte_of}
 use Rattle.vk_model.specs.World.{Byte, in_buffer, same_byte, World, Family, resource_at}
 use Rattle.vk_model.specs.Moves.{Value, move, fill_size, buffer_size}
 use Rattle.vk_model.specs.Ownership.{family_of}

@@ -3,7 +3,7 @@ use Rattle.std.proofs.Common.{◌≡◌, List, [], ◌∷◌, Bool, true, false,
 use Rattle.std.specs.List.{find}
 use Rattle.vk_model.specs.declared.rule.Rule.{Rule}
 use Rattle.vk_model.specs.declared.rule.Rule.TheVariants as rule
-use Rattle.vk_model.specs.Words.{first_that}
+use Rattle.vk_model.specs.Basics.{first_that}
 use Rattle.vk_model.specs.Point.{Past, Point}
 use Rattle.vk_model.specs.Rules.{breaks, rules, first_rule}
 use Rattle.vk_validate.specs.Supported.{is_supported, is_supported_action}

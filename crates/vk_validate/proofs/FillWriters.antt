@@ -6,7 +6,7 @@ use Rattle.vk_model.specs.declared.command.Cmd.{Cmd}
 use Rattle.vk_model.specs.declared.command.Cmd.TheVariants as cmd
 use Rattle.vk_model.specs.declared.command.Element.{Element}
 use Rattle.vk_model.specs.declared.command.Length.{Length}
-use Rattle.vk_model.specs.Words.{below, within}
+use Rattle.vk_model.specs.Basics.{below, within}
 use Rattle.vk_model.specs.World.{Byte, in_buffer, same_byte}
 use Rattle.vk_model.specs.Moves.{buffer_size, fill_size}
 use Rattle.vk_model.specs.Point.{Past, Point, Action, Host, Wait, Run, Signal}

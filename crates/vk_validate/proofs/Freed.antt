@@ -1,7 +1,7 @@
 -- When a command's write is available, and when it is shown to the host.
 use Rattle.std.proofs.Common.{◌≡◌, ◌<◌, List, ◌∷◌, length, Bool, true, false, ◌&&◌, ap, sym, ◌∙◌, subst, arith, inl, inr, ◌⊎◌}
 use Rattle.std.specs.Prelude.{Contains}
-use Rattle.vk_model.specs.Words.{has_some}
+use Rattle.vk_model.specs.Basics.{has_some}
 use Rattle.vk_model.specs.Ownership.{dependency_of}
 use Rattle.vk_model.specs.Node.{Node, Act, Signals, Depends}
 use Rattle.vk_model.specs.Edge.{edge}

@@ -10,7 +10,7 @@ use Rattle.vk_model.specs.declared.command.Element.{Element}
 use Rattle.vk_model.specs.declared.command.Element.TheVariants as element
 use Rattle.vk_model.specs.declared.entry.Entry.{Entry}
 use Rattle.vk_model.specs.World.{Byte, in_buffer}
-use Rattle.vk_model.specs.Words.{below, byte_of}
+use Rattle.vk_model.specs.Basics.{below, byte_of}
 use Rattle.vk_model.specs.Moves.{Move, moves, Value, move, fill_size, buffer_size}
 use Rattle.vk_model.specs.Point.{Past, Point, Action, Host, Run, Signal, host_of}
 use Rattle.vk_model.specs.Node.{Node, Act, Hosts, Waits, Signals, Runs, Depends, Barrier, acts, nodes, with_acts, SetOf, AwaitOf}

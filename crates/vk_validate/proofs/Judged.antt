@@ -7,7 +7,7 @@ use Rattle.std.proofs.lemmas.List.Sums.{sum_by-cons}
 use Rattle.std.proofs.lemmas.Bool.{and_parts}
 use Rattle.std.proofs.Math.Bool.{or-false}
 use Rattle.vk_model.specs.declared.entry.Entry.{Entry}
-use Rattle.vk_model.specs.Words.{holds, has_bits}
+use Rattle.vk_model.specs.Basics.{holds, has_bits}
 use Rattle.vk_model.specs.World.{resource_at}
 use Rattle.vk_model.specs.Node.{acts}
 use Rattle.vk_model.specs.Access.{writes_of}

@@ -7,7 +7,7 @@ use Rattle.vk_model.specs.declared.command.Element.{Element}
 use Rattle.vk_model.specs.declared.command.Element.TheVariants as element
 use Rattle.vk_model.specs.declared.entry.Entry.{Entry}
 use Rattle.vk_model.specs.declared.entry.SemaphoreValue.{SemaphoreValue}
-use Rattle.vk_model.specs.Words.{holds}
+use Rattle.vk_model.specs.Basics.{holds}
 use Rattle.vk_model.specs.Point.{Past, Point, Action, Host, Run, host_of}
 use Rattle.vk_model.specs.Objects.{made, live, buffer_in, semaphore_in, initial}
 use Rattle.vk_model.specs.RulesIds.{asked_by_element, is_semaphore, is_dead, breaks_live_id, until}

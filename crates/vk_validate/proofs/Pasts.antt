@@ -6,7 +6,7 @@ use Rattle.std.proofs.lemmas.Bool.{and_parts}
 use Rattle.vk_model.specs.declared.entry.Entry.{Entry}
 use Rattle.vk_model.specs.declared.resource.BufferInfo.{BufferInfo}
 use Rattle.vk_model.specs.declared.resource.Place.TheVariants as place
-use Rattle.vk_model.specs.Words.{holds, among}
+use Rattle.vk_model.specs.Basics.{holds, among}
 use Rattle.vk_model.specs.Point.{Past, Point, Action, Host, Wait, Run, Signal, entries, host_of}
 use Rattle.vk_model.specs.Objects.{made, made_by, ended, ended_by, live, buffer, buffer_in, resource, resource_in, Resource, of_buffer, memory_of, pool_of, bound_at, pool_at}
 use Rattle.vk_model.specs.RulesMapping.{mapping}

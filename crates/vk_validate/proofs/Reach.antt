@@ -12,7 +12,7 @@ use Rattle.vk_model.specs.declared.entry.Entry.{Entry}
 use Rattle.vk_model.specs.declared.entry.Entry.TheVariants as entry
 use Rattle.vk_model.specs.declared.rule.Rule.{Rule}
 use Rattle.vk_model.specs.declared.rule.Rule.TheVariants as rule
-use Rattle.vk_model.specs.Words.{holds, within, round_up}
+use Rattle.vk_model.specs.Basics.{holds, within, round_up}
 use Rattle.vk_model.specs.Point.{Past, Point, Action, Run, host_of, command_of, entries}
 use Rattle.vk_model.specs.Objects.{made, made_by, buffer, buffer_in}
 use Rattle.vk_model.specs.Moves.{buffer_size, fill_size}

@@ -8,7 +8,7 @@ use Rattle.vk_model.specs.declared.command.Cmd.{Cmd}
 use Rattle.vk_model.specs.declared.command.Element.{Element}
 use Rattle.vk_model.specs.declared.command.Element.TheVariants as element
 use Rattle.vk_model.specs.declared.entry.Entry.{Entry}
-use Rattle.vk_model.specs.Words.{holds, has_some}
+use Rattle.vk_model.specs.Basics.{holds, has_some}
 use Rattle.vk_model.specs.World.{Byte}
 use Rattle.vk_model.specs.Point.{Past, Point}
 use Rattle.vk_model.specs.Objects.{made, is_cached, resource_in, type_at}

@@ -6,7 +6,7 @@ use Rattle.vk_model.specs.declared.command.Dependency.{Dependency}
 use Rattle.vk_model.specs.declared.command.Element.{Element}
 use Rattle.vk_model.specs.declared.command.Element.TheVariants as element
 use Rattle.vk_model.specs.declared.entry.SemaphoreValue.{SemaphoreValue}
-use Rattle.vk_model.specs.Words.{holds, has_some}
+use Rattle.vk_model.specs.Basics.{holds, has_some}
 use Rattle.vk_model.specs.Objects.{initial}
 use Rattle.vk_model.specs.Point.{Past, Point, Run}
 use Rattle.vk_model.specs.Node.{Node, Act, Runs, acts, nodes, with_acts}

@@ -2,7 +2,7 @@
 use Rattle.std.proofs.Common.{◌⊎◌, inl, inr, ◌≡◌, ◌≢◌, ◌≤◌, ◌<◌, ℕ, List, ◌∷◌, refl, sym, ◌∙◌, subst, Option, Some, None, Bool, true, false, arith}
 use Rattle.std.specs.Prelude.{IsSome, IfSome, ◌==◌, ◌&&◌, not, nat_le, nat_lt, if◌then◌else◌}
 use Rattle.std.proofs.lemmas.Bool.{le-leb, lt-leb, lt-ltb, le-ltb, eqb-true, eqb-false, cases_lt}
-use Rattle.vk_model.specs.Words.{holds}
+use Rattle.vk_model.specs.Basics.{holds}
 use Rattle.vk_validate.specs.declared.clocks.Clock.{Clock}
 use Rattle.vk_validate.specs.declared.timelines.Timeline.{Timeline}
 use Rattle.vk_validate.specs.Standing.{Signaled, least_signal}

@@ -3,7 +3,7 @@ use Rattle.std.proofs.Common.{◌≡◌, List, [], ◌∷◌, true, false, refl}
 use Rattle.std.specs.List.{list_all}
 use Rattle.vk_model.specs.declared.command.Element.{Element}
 use Rattle.vk_model.specs.declared.command.Element.TheVariants as element
-use Rattle.vk_model.specs.Words.{some_pair}
+use Rattle.vk_model.specs.Basics.{some_pair}
 use Rattle.vk_model.specs.Point.{Past, Point, Action, Host, Run}
 use Rattle.vk_model.specs.Effect.{world}
 use Rattle.vk_model.specs.RulesIds.{breaks_queue, breaks_queue_kind}

@@ -9,7 +9,7 @@ use Rattle.vk_model.specs.declared.entry.Entry.{Entry}
 use Rattle.vk_model.specs.declared.entry.Entry.TheVariants as entry
 use Rattle.vk_model.specs.declared.entry.SemaphoreSubmit.{SemaphoreSubmit}
 use Rattle.vk_model.specs.declared.entry.SemaphoreValue.{SemaphoreValue}
-use Rattle.vk_model.specs.Words.{holds, has_some}
+use Rattle.vk_model.specs.Basics.{holds, has_some}
 use Rattle.vk_model.specs.Point.{Past, Action, Host, Run, Signal}
 use Rattle.vk_model.specs.Objects.{initial}
 use Rattle.vk_model.specs.Edge.{transfer_stage, host_stage, all_commands}

@@ -5,7 +5,7 @@ use Rattle.std.specs.List.{fold, list_any}
 use Rattle.std.specs.Ordering.{nat_cmp}
 use Rattle.std.specs.BTreeMap.{get}
 use Rattle.vk_model.specs.declared.entry.Entry.{Entry}
-use Rattle.vk_model.specs.Words.{holds, within}
+use Rattle.vk_model.specs.Basics.{holds, within}
 use Rattle.vk_model.specs.Point.{Past, Action, Run, entries}
 use Rattle.vk_model.specs.Objects.{made}
 use Rattle.vk_model.specs.Order.{signaled}

@@ -7,7 +7,7 @@ use Rattle.vk_model.specs.declared.entry.Entry.{Entry}
 use Rattle.vk_model.specs.declared.entry.Entry.TheVariants as entry
 use Rattle.vk_model.specs.declared.resource.Place.{Place}
 use Rattle.vk_model.specs.declared.resource.Place.TheVariants as place
-use Rattle.vk_model.specs.Words.{holds, has_bits, below}
+use Rattle.vk_model.specs.Basics.{holds, has_bits, below}
 use Rattle.vk_model.specs.Point.{Past, Action, Host, Wait, Run, Signal}
 use Rattle.vk_model.specs.Objects.{buffer, initial}
 use Rattle.vk_model.specs.RulesSizes.{is_outside}

@@ -13,7 +13,7 @@ ghost use Rattle.vk_validate.specs.Tabled.{was_mapped, last_writer};
 ghost use Rattle.vk_validate.specs.Fits.{Fits};
 ghost use Rattle.vk_validate.specs.Seeks.{Tells};
 ghost use Rattle.vk_validate.specs.Standing.{standing, after_waits, awaited};
-ghost use Rattle.vk_model.specs.Words.{holds};
+ghost use Rattle.vk_model.specs.Basics.{holds};
 
 use crate::clocks::{Clock, Order};
 use crate::steps::{Action, Step};

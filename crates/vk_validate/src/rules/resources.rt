@@ -1,7 +1,7 @@
 ghost use Rattle.std.specs.Prelude.{◌≡◌, ◌==◌, ◌&&◌, not, IsTrue, ◌||◌, nat_lt, nat_le, ◌+◌, is_some, is_none};
 ghost use Rattle.std.specs.List.{list_any};
 ghost use Rattle.vk_model.specs.Point.{Past, Host, Run};
-ghost use Rattle.vk_model.specs.Words.{holds, has_bits};
+ghost use Rattle.vk_model.specs.Basics.{holds, has_bits};
 ghost use Rattle.vk_model.specs.Objects.{initial, buffer};
 ghost use Rattle.vk_model.specs.RulesIds as ids;
 ghost use Rattle.vk_model.specs.RulesSizes as sizes;

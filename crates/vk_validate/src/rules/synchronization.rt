@@ -1,6 +1,6 @@
 ghost use Rattle.std.specs.Prelude.{◌≡◌, ◌||◌, nat_le, nat_lt, not, IsTrue, bit_and};
 ghost use Rattle.std.specs.List.{list_any};
-ghost use Rattle.vk_model.specs.Words.{holds, has_bits, has_some};
+ghost use Rattle.vk_model.specs.Basics.{holds, has_bits, has_some};
 ghost use Rattle.vk_model.specs.Order.{counter};
 ghost use Rattle.vk_model.specs.Edge.{host_stage};
 ghost use Rattle.vk_model.specs.RulesLayouts.{known_stages};

@@ -1,5 +1,5 @@
 use Rattle.std.proofs.Common.{◌≡◌, ℕ, IsTrue, Option, Some, None, refl, ap, sym, ◌∙◌, subst}
-use Rattle.vk_model.specs.Words.{holds}
+use Rattle.vk_model.specs.Basics.{holds}
 use Rattle.vk_model.specs.Point.{Past}
 use Rattle.vk_model.specs.Node.{Node}
 use Rattle.vk_model.specs.Edge.{is_host}
