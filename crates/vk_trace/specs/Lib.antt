@@ -4,4 +4,4 @@ pub mod Gives
 pub mod Text
 pub mod Run
 pub mod Watching
-pub mod Forms
+pub mod TextExamples

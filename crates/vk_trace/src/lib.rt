@@ -4,7 +4,7 @@
 mod commands;
 mod entries;
 mod errors;
-pub mod forms;
+pub mod text_examples;
 mod members;
 mod printing;
 mod reading;

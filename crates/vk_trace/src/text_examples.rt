@@ -1,5 +1,5 @@
 //! Worked texts, each the contract of a function that does nothing.
-ghost use Rattle.vk_trace.specs.Forms.{Traces, NoTraces, Texts};
+ghost use Rattle.vk_trace.specs.TextExamples.{Traces, NoTraces, Texts};
 
 /// Texts that are traces, with the entries that they mean.
 pub fn traces()

@@ -1,7 +1,7 @@
 use Rattle.std.proofs.Common.{refl}
 use Rattle.std.specs.Fmt.{digits}
 use Rattle.hex.proofs.OnLiterals.{hex_on_literals}
-use Rattle.vk_trace.proofs.forms.answers.Goals as goal
+use Rattle.vk_trace.proofs.text_examples.answers.Goals as goal
 
 pub returns : goal.returns
 unfolding hex_on_literals digits
