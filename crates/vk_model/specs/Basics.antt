@@ -1,4 +1,4 @@
--- Words on numbers and lists that several definitions use.
+-- Basic notions on numbers and lists that several definitions use.
 -- In all these files a comment names the chapter or section of the Vulkan 1.3 specification, or the page of the Vulkan Memory Allocator's documentation (VMA), that a definition comes from, and says `profile` where it is our own choice. One that names neither is a word for the definitions beside it.
 use Rattle.std.specs.Prelude.{ℕ, ◌+◌, ◌-◌, ◌*◌, ◌/◌, ◌%◌, ◌^◌, List, [], ◌∷◌, map, Bool, true, false, ◌&&◌, ◌||◌, ◌==◌, nat_lt, nat_le, Option, Some, None, bit_and}
 use Rattle.std.specs.List.{range_with_len, list_any, flat_map}

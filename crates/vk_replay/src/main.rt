@@ -12,7 +12,7 @@ use std::rt::Env;
 use vk_model::First;
 use vk_trace::{RunError, Watched, run};
 
-/// Where the words of the command line can't be had, or aren't understood.
+/// Where the arguments of the command line can't be had, or aren't understood.
 const COMMAND_LINE_REFUSED: u8 = 6;
 
 /// Prints a line to standard error. That it can't be printed changes no status.
@@ -21,7 +21,7 @@ fn complain(rt: &impl Eprint, error: RunError) -> u8 {
     exit_status(Err(error))
 }
 
-/// What the words of the command line ask for, or the exit status where they don't.
+/// What the arguments of the command line ask for, or the exit status where they don't.
 fn chosen<R: Env + Eprint + AllocGlobal>(rt: &R) -> Result<Options, u8> {
     let Ok(arguments) = std::env::args(rt) else {
         return Err(COMMAND_LINE_REFUSED);

@@ -13,7 +13,7 @@ pub struct Options {
 #[derive(Drop)]
 pub enum OptionsError {
     NoMemory,
-    /// The words are refused, or ask for help; with the text to show.
+    /// The arguments are refused, or ask for help; with the text to show.
     Refused(Error),
 }
 
@@ -65,7 +65,7 @@ fn command<'a>(alloc: Global) -> Result<Command<'a>, AllocError> {
         .arg(heap1)
 }
 
-/// What the words ask for; the first word is the program's own name.
+/// What the arguments ask for; the first one is the program's own name.
 pub fn read(alloc: Global, arguments: &[String]) -> Result<Options, OptionsError> {
     let matches = command(alloc)?.try_get_matches_from(arguments)?;
     let heap0 = matches.get_one::<u64>("heap0").unwrap_or(HEAP_BYTES);
