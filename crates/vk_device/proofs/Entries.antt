@@ -63,7 +63,7 @@ module _ (old new : Held) (apart : IsApart old.memory old.buffers) (i t : ℕ) (
   pub buffer_stands : (e : ℕ) → Stands (host e (entry.Buffer i info) ∷ past) new
   buffer_stands e = record {
     sizes = λ b. new_sizes e b (b == i) refl;
-    shown = λ c v h. go c v (st.shown c v h);
+    values = λ c v h. go c v (st.values c v h);
   }
     where
       go : (c : Byte) (v : ℕ) → IsThere old c × (byte_at old c ≡ v) → IsThere new c × (byte_at new c ≡ v)
@@ -95,7 +95,7 @@ module _ (past : Past) (s : Held) (st : Stands past s) (b o n : ℕ) (p : Placed
     where
       go : (x : Option ℕ) → (world past).value (in_buffer b (o + i)) ≡ x → IsSome x → unwrap_or x 0 ≡ get_or (region_of s.memory p.object) (o + i) 0
       go None e some = absurd cc
-      go (Some v) e some = sym (rw here at (st.shown (in_buffer b (o + i)) v e).1)
+      go (Some v) e some = sym (rw here at (st.values (in_buffer b (o + i)) v e).1)
 
   pub bytes_read : bytes_at (world past) b o n ≡ piece (region_of s.memory p.object) o n
   bytes_read =
@@ -118,7 +118,7 @@ read_told s y b o n bytes is apart got e past st fit =
         let inside = subst (λ (q : Option Placed). IfSome q (λ b. (b.object < length s.memory.objects) × (b.size ≤ length (region_of s.memory b.object)))) here (apart.inside b) in
         let range : o + n ≤ info.size = subst (λ (x : Option BufferInfo). FitsRead x o n) e' f.0 in
         let room : o + n ≤ length (region_of s.memory p.object) = omega (arith, range, at.2, inside.1) in
-        (record { sizes = st.sizes; shown = st.shown }, ap (λ (l : List ℕ). (e, l) ∷ []) (bytes_read past s st b o n p here room f.1 ∙ sym (got p here)))
+        (record { sizes = st.sizes; values = st.values }, ap (λ (l : List ℕ). (e, l) ∷ []) (bytes_read past s st b o n p here room f.1 ∙ sym (got p here)))
 
 -- ---- a map
 
@@ -135,7 +135,7 @@ region_of-mapped m o p lt = go (eqb p o) refl
 mapped_stands : (past : Past) (s : Held) (o : ℕ) → o < length s.memory.objects → Stands past s → Stands past (record s { memory = with_mapped s.memory o true })
 mapped_stands past s o lt st = record {
   sizes = st.sizes;
-  shown = λ c v h. go c v (st.shown c v h);
+  values = λ c v h. go c v (st.values c v h);
 }
   where
     byte : (q : Option Placed) (k : ℕ) → byte_in (with_mapped s.memory o true) q k ≡ byte_in s.memory q k
@@ -151,7 +151,7 @@ map_told s s' y b o is maps e past st =
     subst (λ (x : Entry). Stands (next_past e x past) s' × (read_in (world past) e x ≡ [])) (sym is) (mapped o maps, refl)
   where
     here : Stands (next_past e (entry.Map b) past) s
-    here = record { sizes = st.sizes; shown = st.shown }
+    here = record { sizes = st.sizes; values = st.values }
 
     mapped : (o : Option Placed) → MapsAt s s' o → Stands (next_past e (entry.Map b) past) s'
     mapped None same = subst (λ (r : Held). Stands (next_past e (entry.Map b) past) r) (sym same) here
@@ -164,4 +164,4 @@ pub submit_told : (s s' : Held) (y : Entry) (q : ℕ) (bs : List Batch) → y �
     → (e : ℕ) (past : Past) → Stands past s → AllFit (next_past e y past) → Told applied.Done e y past s s'
 submit_told s s' y q bs is ran e past st fit =
     subst (λ (x : Entry). Told applied.Done e x past s s') (sym is)
-    (ran past e q (host e (entry.Submit q bs) ∷ past) (record { sizes = st.sizes; shown = st.shown }) (subst (λ (x : Entry). AllFit (next_past e x past)) is fit), refl)
+    (ran past e q (host e (entry.Submit q bs) ∷ past) (record { sizes = st.sizes; values = st.values }) (subst (λ (x : Entry). AllFit (next_past e x past)) is fit), refl)

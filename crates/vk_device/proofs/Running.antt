@@ -26,15 +26,15 @@ HaveRun ms old new = (c : Byte) → new c ≡ stored (move_to ms c) old c
 
 -- one byte: what the definition gives to it is what was stored
 kept : (o : Option Move) (value : Byte → Option ℕ) (old : Byte → ℕ) (c : Byte) (v : ℕ) → ((d : Byte) (u : ℕ) → value d ≡ Some u → old d ≡ u) → moved value o c ≡ Some v → stored o old c ≡ v
-kept None value old c v shown h = shown c v h
-kept (Some m) value old c v shown h = go m.source h
+kept None value old c v values h = values c v h
+kept (Some m) value old c v values h = go m.source h
   where
     go : (s : Source) → source_value value s ≡ Some v → given s old ≡ v
     go (Value n) e = cc
-    go (From d) e = shown d v e
+    go (From d) e = values d v e
 
-pub run_shows : (ms : List Move) (value : Byte → Option ℕ) (old new : Byte → ℕ) → HaveRun ms old new → ((c : Byte) (v : ℕ) → value c ≡ Some v → old c ≡ v) → (c : Byte) (v : ℕ) → after_moves ms value c ≡ Some v → new c ≡ v
-run_shows ms value old new ran shown c v h = ran c ∙ kept (move_to ms c) value old c v shown h
+pub run_keeps_values : (ms : List Move) (value : Byte → Option ℕ) (old new : Byte → ℕ) → HaveRun ms old new → ((c : Byte) (v : ℕ) → value c ≡ Some v → old c ≡ v) → (c : Byte) (v : ℕ) → after_moves ms value c ≡ Some v → new c ≡ v
+run_keeps_values ms value old new ran values c v h = ran c ∙ kept (move_to ms c) value old c v values h
 
 -- a byte that is defined after the moves was written by one or defined before
 pub run_there : (There : Byte → Type 0) (ms : List Move) (value : Byte → Option ℕ) → ((c : Byte) (v : ℕ) → value c ≡ Some v → There c) → ((c : Byte) → IsSome (move_to ms c) → There c) → (c : Byte) (v : ℕ) → after_moves ms value c ≡ Some v → There c

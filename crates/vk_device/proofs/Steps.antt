@@ -26,7 +26,7 @@ use Rattle.vk_device.specs.declared.device.Placed.{Placed}
 use Rattle.vk_device.specs.Held.{Held, IsApart, placed, byte_at}
 use Rattle.vk_device.specs.Fits.{FitsFill, AllMemory, FitsCommand, AllFit}
 use Rattle.vk_device.specs.Stands.{IsThere, Stands, next_past, run_point}
-use Rattle.vk_device.proofs.Running.{move_to, run_shows, run_there}
+use Rattle.vk_device.proofs.Running.{move_to, run_keeps_values, run_there}
 use Rattle.vk_device.proofs.Filling.{fill_move, fill_moves, image_missed, fill_ran, fill_there}
 
 -- a use only takes values away
@@ -55,7 +55,7 @@ memory_only past f (element.Image e ∷ es) w m = absurd m
 barrier_stands : (e b k q : ℕ) (es : List Element) (past : Past) (s : Held) → AllMemory es → Stands past s → Stands (run_point e b k q (cmd.Barrier es) ∷ past) s
 barrier_stands e b k q es past s m old = record {
   sizes = old.sizes;
-  shown = λ c v h. old.shown c v (subst (λ (w : World). w.value c ≡ Some v) (memory_only past (family_of q) es (record (world past) { value = after_moves [] (world past).value }) m) h);
+  values = λ c v h. old.values c v (subst (λ (w : World). w.value c ≡ Some v) (memory_only past (family_of q) es (record (world past) { value = after_moves [] (world past).value }) m) h);
 }
 
 -- ---- a fill
@@ -99,13 +99,13 @@ fill_stands e b k q i o n w past s p apart here st fits =
     let same : moves past (cmd.Fill i o n w) ≡ fill_moves i o words w = ap (λ (z : ℕ). map (fill_move i o words w) (below z)) (ap (λ (z : ℕ). fill_size z o n) (known_size past s i p st here) ∙ asked.2) in
     let ran = fill_ran s apart i o words w p here room in
     let value : Byte → Option ℕ = (used past (family_of q) i (world past)).value in
-    let was : (c : Byte) (v : ℕ) → value c ≡ Some v → IsThere s c × (byte_at s c ≡ v) = λ c v h. st.shown c v (used_less past (family_of q) i (world past) c v h) in
+    let was : (c : Byte) (v : ℕ) → value c ≡ Some v → IsThere s c × (byte_at s c ≡ v) = λ c v h. st.values c v (used_less past (family_of q) i (world past) c v h) in
     record {
       sizes = st.sizes;
-      shown = λ c v h.
+      values = λ c v h.
           let h' : after_moves (fill_moves i o words w) value c ≡ Some v = subst (λ (ms : List Move). after_moves ms value c ≡ Some v) same h in (
             there c v (run_there (IsThere s) (fill_moves i o words w) value (λ d u g. (was d u g).0) (landed words room) c v h'),
-            run_shows (fill_moves i o words w) value (byte_at s) _ ran (λ d u g. (was d u g).1) c v h',
+            run_keeps_values (fill_moves i o words w) value (byte_at s) _ ran (λ d u g. (was d u g).1) c v h',
           );
     }
   where
@@ -122,11 +122,11 @@ fill_stands e b k q i o n w past s p apart here st fits =
 -- waits and signals change no byte
 pub waits_stand : (t : SubmittedBatch) (k : ℕ) (xs : List SemaphoreSubmit) (past : Past) (s : Held) → Stands past s → Stands (actions Wait t k xs past) s
 waits_stand t k [] past s st = st
-waits_stand t k (x ∷ xs) past s st = waits_stand t (k + 1) xs _ s (record { sizes = st.sizes; shown = st.shown })
+waits_stand t k (x ∷ xs) past s st = waits_stand t (k + 1) xs _ s (record { sizes = st.sizes; values = st.values })
 
 pub signals_stand : (t : SubmittedBatch) (k : ℕ) (xs : List SemaphoreSubmit) (past : Past) (s : Held) → Stands past s → Stands (actions Signal t k xs past) s
 signals_stand t k [] past s st = st
-signals_stand t k (x ∷ xs) past s st = signals_stand t (k + 1) xs _ s (record { sizes = st.sizes; shown = st.shown })
+signals_stand t k (x ∷ xs) past s st = signals_stand t (k + 1) xs _ s (record { sizes = st.sizes; values = st.values })
 
 -- what is older fits too
 pub fit_actions : {A : Type 0} (of : A → Action) (t : SubmittedBatch) (k : ℕ) (xs : List A) (past : Past) → AllFit (actions of t k xs past) → AllFit past

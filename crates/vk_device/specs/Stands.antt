@@ -32,7 +32,7 @@ pub record Stands (past : Past) (s : Held) : Type 0 where
   -- the buffers are those that were made
   pub sizes : (b : ℕ) → option_map (λ p. p.size) (placed s b) ≡ option_map (λ i. i.size) (buffer past b)
   -- a byte that is defined is there, with its value
-  pub shown : (c : Byte) (v : ℕ) → (world past).value c ≡ Some v → IsThere s c × (byte_at s c ≡ v)
+  pub values : (c : Byte) (v : ℕ) → (world past).value c ≡ Some v → IsThere s c × (byte_at s c ≡ v)
 
 -- The past after batches that run at once, from batch k of entry e on.
 abbrev pub batches_past : Past → ℕ → ℕ → ℕ → List Batch → Past → Past

@@ -26,7 +26,7 @@ use Rattle.vk_laws.proofs.ModelBytes.{more_nodes, before_inside}
 use Rattle.vk_laws.proofs.Submits.{submits_there}
 use Rattle.vk_laws.proofs.Named.{written_made}
 use Rattle.vk_laws.proofs.TaskAccesses.{writer, reader, is_in_of}
-use Rattle.vk_laws.proofs.Ordered.{judged_has, read_sees, write_sees}
+use Rattle.vk_laws.proofs.Ordered.{judged_has, read_is_seen, write_is_seen}
 use Rattle.vk_laws.proofs.TraceCaches.{agent_is, seen_task, available_task, available_later}
 
 -- whether the host caches what a node writes is the same at any later point
@@ -100,7 +100,7 @@ cached_then all new alive x cx ax b judged h n cn le =
         let long = more_nodes m.0 (sn.at ∷ sn.past) in
         absurd (omega (arith, le, low, lt, size, long))
 
-module _ (together : PiecesAreMoves) (paths : BeforeIsPath) (joins : BeforeIsTransitive) (stay : CommandsStay) (hazards : NoHazardLaw) (sights : SeenIsBefore) (hosts : HostInOrder) (keeps : GrowthKeeps) (t : List Entry) (sound : IsSound t) (none : first_fault t ≡ None) where
+module _ (together : PiecesAreMoves) (paths : BeforeIsPath) (joins : BeforeIsTransitive) (stay : CommandsStay) (hazards : NoHazardLaw) (visibilities : SeenIsBefore) (hosts : HostInOrder) (keeps : GrowthKeeps) (t : List Entry) (sound : IsSound t) (none : first_fault t ≡ None) where
   abbrev all : Past
   all = plain_order t
 
@@ -126,14 +126,14 @@ module _ (together : PiecesAreMoves) (paths : BeforeIsPath) (joins : BeforeIsTra
       (λ h k. inl (same_agent w u x.node y.node x.at y.at h k))
       (λ h.
       let s : Stands all y.node = stands all y.node y.stands in
-      let sees = read_sees stay hazards sights hosts keeps t none x.node y.node x.stands y.stands later x.is_access y.is_access c h (is_in_of together all c _ x.accessed) y.accessed in
-      let has_x = judged_has stay hazards sights hosts keeps t none x.node y.node x.stands y.stands later x.is_access y.is_access c h in
+      let is_seen = read_is_seen stay hazards visibilities hosts keeps t none x.node y.node x.stands y.stands later x.is_access y.is_access c h (is_in_of together all c _ x.accessed) y.accessed in
+      let has_x = judged_has stay hazards visibilities hosts keeps t none x.node y.node x.stands y.stands later x.is_access y.is_access c h in
       inr (seen_task paths joins all w u x.node y.node x.at y.at (has_task w x.node x.at x.there) x.stands y.stands x.is_access y.is_access (λ b. is_cached (s.at ∷ s.past) (resource_at b)) c
       (λ n cn le.
       same_cached all s.newer (s.at ∷ s.past) s.whole (new_ids t sound) (live_ids t sound) x.node has_x x.is_access c all x.accessed
       ∙ sym (cached_then all (new_ids t sound) (live_ids t sound) x.node x.stands x.is_access c all x.accessed n cn le))
       (submits_there t)
-      (λ host. record { by = x.node; stands = x.stands; host = host; wrote = is_in_of together all c _ x.accessed; order = inl refl }) sees))
+      (λ host. record { by = x.node; stands = x.stands; host = host; wrote = is_in_of together all c _ x.accessed; order = inl refl }) is_seen))
 
   written_after : (w u : Task) (c : Byte) → w.node < u.node → Writes (accesses_of all) w c → Writes (accesses_of all) u c → ((caching_of all).agent w ≡ (caching_of all).agent u) ⊎ Available (accesses_of all) (caching_of all) w u c
   written_after w u c lt wr r =
@@ -144,12 +144,12 @@ module _ (together : PiecesAreMoves) (paths : BeforeIsPath) (joins : BeforeIsTra
       (λ h k. inl (same_agent w u x.node y.node x.at y.at h k))
       (λ h.
       let s : Stands all y.node = stands all y.node y.stands in
-      let sees = write_sees stay hazards sights hosts keeps t none x.node y.node x.stands y.stands later x.is_access y.is_access c h (is_in_of together all c _ x.accessed) y.accessed in
-      let has_x = judged_has stay hazards sights hosts keeps t none x.node y.node x.stands y.stands later x.is_access y.is_access c h in
+      let is_seen = write_is_seen stay hazards visibilities hosts keeps t none x.node y.node x.stands y.stands later x.is_access y.is_access c h (is_in_of together all c _ x.accessed) y.accessed in
+      let has_x = judged_has stay hazards visibilities hosts keeps t none x.node y.node x.stands y.stands later x.is_access y.is_access c h in
       inr (available_task paths joins all w u x.node y.node x.at y.at (has_task w x.node x.at x.there) x.stands y.stands x.is_access y.is_access (λ b. is_cached (s.at ∷ s.past) (resource_at b)) c
       (λ n cn le.
       same_cached all s.newer (s.at ∷ s.past) s.whole (new_ids t sound) (live_ids t sound) x.node has_x x.is_access c all x.accessed
-      ∙ sym (cached_then all (new_ids t sound) (live_ids t sound) x.node x.stands x.is_access c all x.accessed n cn le)) sees))
+      ∙ sym (cached_then all (new_ids t sound) (live_ids t sound) x.node x.stands x.is_access c all x.accessed n cn le)) is_seen))
 
   pub cache_free : CacheFree (accesses_of all) (caching_of all)
   cache_free = record {

@@ -1,8 +1,8 @@
 -- What a cache shows.
 use Rattle.std.proofs.Common.{◌≡◌, ℕ, Option, Some, sym, ap, ◌∙◌}
-use Rattle.vk_laws.specs.Caches.{shown_by}
+use Rattle.vk_laws.specs.Caches.{value_through}
 use Rattle.vk_laws.specs.Reader.{held_as, held_of}
 use Rattle.vk_laws.specs.declared.reader.Copied.{Copied}
 
-pub same_view : (x : Copied) (o : Option Copied) (y z : ℕ) → o ≡ Some x → y ≡ z → shown_by (held_as x) y ≡ shown_by (held_of o) z
-same_view x o y z e f = ap (λ (o : Option Copied). shown_by (held_of o) y) (sym e) ∙ ap (λ (z : ℕ). shown_by (held_of o) z) f
+pub same_view : (x : Copied) (o : Option Copied) (y z : ℕ) → o ≡ Some x → y ≡ z → value_through (held_as x) y ≡ value_through (held_of o) z
+same_view x o y z e f = ap (λ (o : Option Copied). value_through (held_of o) y) (sym e) ∙ ap (λ (z : ℕ). value_through (held_of o) z) f

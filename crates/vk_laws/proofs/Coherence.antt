@@ -5,7 +5,7 @@ use Rattle.vk_model.specs.World.{Byte}
 use Rattle.vk_model.specs.Moves.{Value, From}
 use Rattle.vk_laws.specs.Machine.{IsIn, Task, Put, Puts, Unknown, TraceAccesses, Writes, Reads, Precedes, HazardFree, MayRun, IsAllowed, IsModel, newest, latest}
 use Rattle.vk_laws.specs.Caches.{Dirty, Cell, view, Wrote, CellRan, Caching, CacheFree, Guard, Reached, Start, Touch, Run}
-use Rattle.vk_laws.proofs.Coherent.{Stores, Follows, CellOk, owner_of, Freed, Shown, Coherent}
+use Rattle.vk_laws.proofs.Coherent.{Stores, Follows, CellOk, owner_of, MadeAvailable, MadeVisible, Coherent}
 use Rattle.vk_laws.proofs.Fresh.{closed, later_not_done, latest_in, fresh_at, follows_step}
 use Rattle.vk_laws.proofs.Cells.{view_ok, touched_ok, left_ok, written_ok, event_ok, first_ok}
 
@@ -44,10 +44,10 @@ module _ (tr : TraceAccesses) (ca : Caching) (free : HazardFree tr) (cache : Cac
   first_done : (done : List Task) (p q : Task) → IsAllowed tr done → (p ≡ q) ⊎ Precedes tr p q → IsIn q done → IsIn p done
   first_done done p q ok order h = ⊎_elim (λ same. subst (λ (u : Task). IsIn u done) (sym same) h) (λ before. closed tr done ok q p h before) order
 
-  shown_for : (done : List Task) (t : Task) (c : Byte) → IsAllowed tr done → MayRun tr done t → Reads tr t c → Shown tr ca done c (latest tr c done) (ca.agent t)
-  shown_for done t c ok may reads = go (latest tr c done) refl
+  visible_for : (done : List Task) (t : Task) (c : Byte) → IsAllowed tr done → MayRun tr done t → Reads tr t c → MadeVisible tr ca done c (latest tr c done) (ca.agent t)
+  visible_for done t c ok may reads = go (latest tr c done) refl
     where
-      go : (l : Option Task) → latest tr c done ≡ l → Shown tr ca done c l (ca.agent t)
+      go : (l : Option Task) → latest tr c done ≡ l → MadeVisible tr ca done c l (ca.agent t)
       go None e = tt
       go (Some w) e =
           let i = is_earlier done t w c ok may e (inl reads) in
@@ -55,29 +55,29 @@ module _ (tr : TraceAccesses) (ca : Caching) (free : HazardFree tr) (cache : Cac
           (λ s. let q_done = may.after s.q s.before in inr (s.p, s.q, first_done done s.p s.q ok s.order q_done, q_done, s.available, s.order, s.visible))
           (cache.seen_read w t c i.0 i.1 reads)
 
-  freed_for : (done : List Task) (t : Task) (c : Byte) → IsAllowed tr done → MayRun tr done t → Writes tr t c → (owner_of tr ca (latest tr c done) ≡ Some (ca.agent t)) ⊎ Freed tr ca done c (latest tr c done)
-  freed_for done t c ok may writes = go (latest tr c done) refl
+  available_for : (done : List Task) (t : Task) (c : Byte) → IsAllowed tr done → MayRun tr done t → Writes tr t c → (owner_of tr ca (latest tr c done) ≡ Some (ca.agent t)) ⊎ MadeAvailable tr ca done c (latest tr c done)
+  available_for done t c ok may writes = go (latest tr c done) refl
     where
-      go : (l : Option Task) → latest tr c done ≡ l → (owner_of tr ca l ≡ Some (ca.agent t)) ⊎ Freed tr ca done c l
+      go : (l : Option Task) → latest tr c done ≡ l → (owner_of tr ca l ≡ Some (ca.agent t)) ⊎ MadeAvailable tr ca done c l
       go None e = inr tt
       go (Some w) e =
           let i = is_earlier done t w c ok may e (inr writes) in
           ⊎_elim (λ self. inl (ap Some self)) (λ s. inr (s.p, may.after s.p s.before, s.available)) (cache.seen_write w t c i.0 i.1 writes)
 
   -- no task done so far makes available what is written now
-  not_freed : (done : List Task) (t : Task) (c : Byte) → IsAllowed tr done → MayRun tr done t → Freed tr ca (t ∷ done) c (Some t) → ⊥
+  not_freed : (done : List Task) (t : Task) (c : Byte) → IsAllowed tr done → MayRun tr done t → MadeAvailable tr ca (t ∷ done) c (Some t) → ⊥
   not_freed done t c ok may f =
       let later = cache.available_later f.0 t c f.2 in
       may.fresh (⊎_elim (λ same. may.after t (subst (λ (u : Task). Precedes tr t u) same later)) (λ h. closed tr done ok f.0 t h later) f.1)
 
-  to_self : (done : List Task) (t : Task) (c : Byte) → IsAllowed tr done → MayRun tr done t → (b : ℕ) → Shown tr ca (t ∷ done) c (Some t) b → ca.agent t ≡ b
+  to_self : (done : List Task) (t : Task) (c : Byte) → IsAllowed tr done → MayRun tr done t → (b : ℕ) → MadeVisible tr ca (t ∷ done) c (Some t) b → ca.agent t ≡ b
   to_self done t c ok may b s = ⊎_elim (λ self. self) (λ h. absurd (not_freed done t c ok may (h.0, h.2, h.4))) s
 
   event_at : (done : List Task) (t : Task) (cells : Byte → Cell) (c : Byte) (x : ℕ) → IsAllowed tr done → MayRun tr done t → Guard tr ca done cells t → (l : Option Task) → latest tr c done ≡ l
-      → CellOk x (cells c) (owner_of tr ca l) (Freed tr ca done c l) (Shown tr ca done c l) → CellOk x (cells c) (owner_of tr ca l) (Freed tr ca (t ∷ done) c l) (Shown tr ca (t ∷ done) c l)
+      → CellOk x (cells c) (owner_of tr ca l) (MadeAvailable tr ca done c l) (MadeVisible tr ca done c l) → CellOk x (cells c) (owner_of tr ca l) (MadeAvailable tr ca (t ∷ done) c l) (MadeVisible tr ca (t ∷ done) c l)
   event_at done t cells c x ok may guard None e old = old
   event_at done t cells c x ok may guard (Some w) e old =
-      event_ok x (cells c) (Some (ca.agent w)) (Freed tr ca done c (Some w)) (Shown tr ca done c (Some w)) old (Freed tr ca (t ∷ done) c (Some w)) (Shown tr ca (t ∷ done) c (Some w))
+      event_ok x (cells c) (Some (ca.agent w)) (MadeAvailable tr ca done c (Some w)) (MadeVisible tr ca done c (Some w)) old (MadeAvailable tr ca (t ∷ done) c (Some w)) (MadeVisible tr ca (t ∷ done) c (Some w))
       (λ f. ⊎_elim
       (λ same. inr (λ a u own held. let self : ca.agent w ≡ a = cc in guard.written_back c w u e (subst (λ (p : Task). IsTrue (ca.makes_available p w c)) same f.2) (subst (λ (b : ℕ). (cells c).held b ≡ Some (Dirty u)) (sym self) held)))
       (λ h. inl (f.0, h, f.2)) f.1)
@@ -93,19 +93,19 @@ module _ (tr : TraceAccesses) (ca : Caching) (free : HazardFree tr) (cache : Cac
   unfolding next
   coherent_do done t cells new m ok may guard all ran c = go (tr.write_of t c) refl (ran c)
     where
-      write : (y : ℕ) → Writes tr t c → Wrote (ca.agent t) y (cells c) (new c) → CellOk y (new c) (Some (ca.agent t)) (Freed tr ca (t ∷ done) c (Some t)) (Shown tr ca (t ∷ done) c (Some t))
+      write : (y : ℕ) → Writes tr t c → Wrote (ca.agent t) y (cells c) (new c) → CellOk y (new c) (Some (ca.agent t)) (MadeAvailable tr ca (t ∷ done) c (Some t)) (MadeVisible tr ca (t ∷ done) c (Some t))
       write y w wrote =
-          written_ok (m c) (cells c) (owner_of tr ca (latest tr c done)) (Freed tr ca done c (latest tr c done)) (Shown tr ca done c (latest tr c done)) (all c)
-          (ca.agent t) y (new c) (Freed tr ca (t ∷ done) c (Some t)) (Shown tr ca (t ∷ done) c (Some t)) (freed_for done t c ok may w) (not_freed done t c ok may) (to_self done t c ok may) wrote
+          written_ok (m c) (cells c) (owner_of tr ca (latest tr c done)) (MadeAvailable tr ca done c (latest tr c done)) (MadeVisible tr ca done c (latest tr c done)) (all c)
+          (ca.agent t) y (new c) (MadeAvailable tr ca (t ∷ done) c (Some t)) (MadeVisible tr ca (t ∷ done) c (Some t)) (available_for done t c ok may w) (not_freed done t c ok may) (to_self done t c ok may) wrote
 
       go : (o : Option (Put)) → tr.write_of t c ≡ o → (r : CellRan o (ca.agent t) cells (cells c) (new c))
-          → CellOk (next o (ca.agent t) cells (cells c) (new c) r m (m c)) (new c) (owner_of tr ca (newest o t (latest tr c done))) (Freed tr ca (t ∷ done) c (newest o t (latest tr c done))) (Shown tr ca (t ∷ done) c (newest o t (latest tr c done)))
+          → CellOk (next o (ca.agent t) cells (cells c) (new c) r m (m c)) (new c) (owner_of tr ca (newest o t (latest tr c done))) (MadeAvailable tr ca (t ∷ done) c (newest o t (latest tr c done))) (MadeVisible tr ca (t ∷ done) c (newest o t (latest tr c done)))
       go None e r =
-          left_ok (m c) (cells c) (owner_of tr ca (latest tr c done)) (Freed tr ca (t ∷ done) c (latest tr c done)) (Shown tr ca (t ∷ done) c (latest tr c done))
+          left_ok (m c) (cells c) (owner_of tr ca (latest tr c done)) (MadeAvailable tr ca (t ∷ done) c (latest tr c done)) (MadeVisible tr ca (t ∷ done) c (latest tr c done))
           (event_at done t cells c (m c) ok may guard (latest tr c done) refl (all c)) (new c) r.0 r.1
       go (Some (Puts (Value k))) e r = write k (Puts (Value k), e) r
       go (Some (Puts (From d))) e r =
-          let is = view_ok (m d) (cells d) (owner_of tr ca (latest tr d done)) (Freed tr ca done d (latest tr d done)) (Shown tr ca done d (latest tr d done)) (all d) (ca.agent t) (shown_for done t d ok may (free.source_read t c d e)) in
+          let is = view_ok (m d) (cells d) (owner_of tr ca (latest tr d done)) (MadeAvailable tr ca done d (latest tr d done)) (MadeVisible tr ca done d (latest tr d done)) (all d) (ca.agent t) (visible_for done t d ok may (free.source_read t c d e)) in
           write (m d) (Puts (From d), e) (subst (λ (y : ℕ). Wrote (ca.agent t) y (cells c) (new c)) is r)
       go (Some Unknown) e r = write r.0 (Unknown, e) r.1
 
@@ -124,7 +124,7 @@ module _ (tr : TraceAccesses) (ca : Caching) (free : HazardFree tr) (cache : Cac
         after g = record {
           memory = g.memory;
           follows = g.follows;
-          coherent = λ c. touched_ok (g.memory c) (old c) (owner_of tr ca (latest tr c done)) (Freed tr ca done c (latest tr c done)) (Shown tr ca done c (latest tr c done)) (g.coherent c) (cells c) (touch c);
+          coherent = λ c. touched_ok (g.memory c) (old c) (owner_of tr ca (latest tr c done)) (MadeAvailable tr ca done c (latest tr c done)) (MadeVisible tr ca done c (latest tr c done)) (g.coherent c) (cells c) (touch c);
         }
     good done cells (Run d t old _ r may guard ran) = after (good d old r) (allowed tr ca d old r)
       where
@@ -137,18 +137,18 @@ module _ (tr : TraceAccesses) (ca : Caching) (free : HazardFree tr) (cache : Cac
               coherent = coherent_do d t old cells g.memory ok may guard g.coherent ran;
             }
 
-    view_at : (done : List Task) (cells : Byte → Cell) (g : Good done cells) (a : ℕ) (c : Byte) → Shown tr ca done c (latest tr c done) a → view a (cells c) ≡ g.memory c
-    view_at done cells g a c s = view_ok (g.memory c) (cells c) (owner_of tr ca (latest tr c done)) (Freed tr ca done c (latest tr c done)) (Shown tr ca done c (latest tr c done)) (g.coherent c) a s
+    view_at : (done : List Task) (cells : Byte → Cell) (g : Good done cells) (a : ℕ) (c : Byte) → MadeVisible tr ca done c (latest tr c done) a → view a (cells c) ≡ g.memory c
+    view_at done cells g a c s = view_ok (g.memory c) (cells c) (owner_of tr ca (latest tr c done)) (MadeAvailable tr ca done c (latest tr c done)) (MadeVisible tr ca done c (latest tr c done)) (g.coherent c) a s
 
     -- What a task reads is the model's.
     pub fresh : (done : List Task) (cells : Byte → Cell) (t : Task) (c : Byte) (v : ℕ) → Reached tr ca done cells → MayRun tr done t → Reads tr t c → value (t.node) c ≡ Some v → view (ca.agent t) (cells c) ≡ v
     fresh done cells t c v r may reads h =
         let g = good done cells r in
         let ok = allowed tr ca done cells r in
-        view_at done cells g (ca.agent t) c (shown_for done t c ok may reads) ∙ fresh_at tr free value model done t g.memory c v ok may g.follows reads h
+        view_at done cells g (ca.agent t) c (visible_for done t c ok may reads) ∙ fresh_at tr free value model done t g.memory c v ok may g.follows reads h
 
     -- what was written last
     pub wrote : (done : List Task) (cells : Byte → Cell) (w : Task) (c : Byte) (v : ℕ) → Reached tr ca done cells → latest tr c done ≡ Some w → value (suc (w.node)) c ≡ Some v → view (ca.agent w) (cells c) ≡ v
     wrote done cells w c v r is h =
         let g = good done cells r in
-        view_at done cells g (ca.agent w) c (subst (λ (l : Option Task). Shown tr ca done c l (ca.agent w)) (sym is) (inl refl)) ∙ g.follows c w v is h
+        view_at done cells g (ca.agent w) c (subst (λ (l : Option Task). MadeVisible tr ca done c l (ca.agent w)) (sym is) (inl refl)) ∙ g.follows c w v is h

@@ -23,24 +23,24 @@ abbrev pub Follows : TraceAccesses → (ℕ → Byte → Option ℕ) → List Ta
 Follows tr value done memory = (c : Byte) (w : Task) (v : ℕ) → latest tr c done ≡ Some w → value (suc w.node) c ≡ Some v → memory c ≡ v
 
 -- x is the byte that was written last, and owner the agent that may hold it dirty; whether it has been made available, and visible to an agent.
-pub record CellOk (x : ℕ) (cell : Cell) (owner : Option ℕ) (freed : Type 0) (shown : ℕ → Type 0) : Type 0 where
-  pub dirty : (a u : ℕ) → cell.held a ≡ Some (Dirty u) → (u ≡ x) × (owner ≡ Some a) × (freed → ⊥)
+pub record CellOk (x : ℕ) (cell : Cell) (owner : Option ℕ) (made_available : Type 0) (made_visible : ℕ → Type 0) : Type 0 where
+  pub dirty : (a u : ℕ) → cell.held a ≡ Some (Dirty u) → (u ≡ x) × (owner ≡ Some a) × (made_available → ⊥)
   pub home : (cell.region ≡ x) ⊎ (a : ℕ) × (owner ≡ Some a) × (cell.held a ≡ Some (Dirty x))
-  pub clean : (a u : ℕ) → shown a → cell.held a ≡ Some (Clean u) → u ≡ x
-  pub is_shown : (a : ℕ) → shown a → (owner ≡ Some a) ⊎ freed
+  pub clean : (a u : ℕ) → made_visible a → cell.held a ≡ Some (Clean u) → u ≡ x
+  pub is_visible : (a : ℕ) → made_visible a → (owner ≡ Some a) ⊎ made_available
 
 module _ (tr : TraceAccesses) (ca : Caching) where
   abbrev pub owner_of : Option Task → Option ℕ
   owner_of None = None
   owner_of (Some w) = Some (ca.agent w)
 
-  abbrev pub Freed : List Task → Byte → Option Task → Type 0
-  Freed done c None = ⊤
-  Freed done c (Some w) = (p : Task) × IsIn p done × IsTrue (ca.makes_available p w c)
+  abbrev pub MadeAvailable : List Task → Byte → Option Task → Type 0
+  MadeAvailable done c None = ⊤
+  MadeAvailable done c (Some w) = (p : Task) × IsIn p done × IsTrue (ca.makes_available p w c)
 
-  abbrev pub Shown : List Task → Byte → Option Task → ℕ → Type 0
-  Shown done c None a = ⊤
-  Shown done c (Some w) a = (ca.agent w ≡ a) ⊎ (p : Task) × (q : Task) × IsIn p done × IsIn q done × IsTrue (ca.makes_available p w c) × ((p ≡ q) ⊎ Precedes tr p q) × IsTrue (ca.makes_visible q a c)
+  abbrev pub MadeVisible : List Task → Byte → Option Task → ℕ → Type 0
+  MadeVisible done c None a = ⊤
+  MadeVisible done c (Some w) a = (ca.agent w ≡ a) ⊎ (p : Task) × (q : Task) × IsIn p done × IsIn q done × IsTrue (ca.makes_available p w c) × ((p ≡ q) ⊎ Precedes tr p q) × IsTrue (ca.makes_visible q a c)
 
   abbrev pub Coherent : List Task → (Byte → Cell) → (Byte → ℕ) → Type 0
-  Coherent done cells memory = (c : Byte) → CellOk (memory c) (cells c) (owner_of (latest tr c done)) (Freed done c (latest tr c done)) (Shown done c (latest tr c done))
+  Coherent done cells memory = (c : Byte) → CellOk (memory c) (cells c) (owner_of (latest tr c done)) (MadeAvailable done c (latest tr c done)) (MadeVisible done c (latest tr c done))

@@ -28,7 +28,7 @@ use Rattle.vk_laws.proofs.TaskNodes.{node_of, same_task}
 use Rattle.vk_laws.proofs.Steady.{new_ids, live_ids}
 use Rattle.vk_laws.proofs.Points.{Stands, stands}
 use Rattle.vk_laws.proofs.TaskAccesses.{Accessor, writer, reader, is_in_of}
-use Rattle.vk_laws.proofs.Ordered.{judged_has, write_sees}
+use Rattle.vk_laws.proofs.Ordered.{judged_has, write_is_seen}
 use Rattle.vk_laws.proofs.HazardFree.{read_act, write_act, host_put, hazard_free}
 use Rattle.vk_laws.proofs.ModelBytes.{settles, is_model}
 use Rattle.vk_laws.proofs.TraceCaches.{node_at_self, seen_task, available_task, available_later}
@@ -133,7 +133,7 @@ module _ (t : List Entry) (given : Given t) where
   base_model = is_model given.pieces_together given.apart t given.sound
 
   base_caches : CacheFree (accesses_of all) (caching_of all)
-  base_caches = cache_free given.pieces_together given.paths given.joins given.stay given.hazards given.sights given.hosts given.keeps t given.sound given.none
+  base_caches = cache_free given.pieces_together given.paths given.joins given.stay given.hazards given.visibilities given.hosts given.keeps t given.sound given.none
 
   -- what a node has of a byte
   abbrev Has : Access → Node → Byte → Type 0
@@ -152,7 +152,7 @@ module _ (t : List Entry) (given : Given t) where
       by_nodes all s u f.node n f.at at (forgot_has all s c f)
       (⊎_elim
       (λ host. given.hosts all f.node n f.stands cn (forgot_host s c f) host (lower s u f.node n f.number num lt))
-      (λ cmd. given.sights all _ f.node n k c f.stands cn (lower s u f.node n f.number num lt) (seen_it k cmd.0 cmd.1 h))
+      (λ cmd. given.visibilities all _ f.node n k c f.stands cn (lower s u f.node n f.number num lt) (seen_it k cmd.0 cmd.1 h))
       (as_command n.act ac))
     where
       seen_it : (k : Access) (cmd : Cmd) (is_n : n.act ≡ Runs cmd) → Has k n c → IsTrue (seen (λ b. is_cached ((stands all n cn).at ∷ (stands all n cn).past) (resource_at b)) (nodes all) f.node n k c)
@@ -232,7 +232,7 @@ module _ (t : List Entry) (given : Given t) where
   there u n e h = rw e h
 
   agents : (s u : Task) (m n : Node) → node_at all s.node ≡ Some m → node_at all u.node ≡ Some n → IsTrue (is_host m.act) → IsTrue (is_host n.act) → (caching_of all).agent s ≡ (caching_of all).agent u
-  agents s u m n e f h g = same_agent given.pieces_together given.paths given.joins given.stay given.hazards given.sights given.hosts given.keeps t given.sound given.none s u m n e f h g
+  agents s u m n e f h g = same_agent given.pieces_together given.paths given.joins given.stay given.hazards given.visibilities given.hosts given.keeps t given.sound given.none s u m n e f h g
 
   -- a read and a write after an invalidation
   forgot_read : (s u : Task) (c : Byte) (f : Forgot all s c) (y : Accessor given.pieces_together all u (λ n. Contains (reads all n) c)) → s.node < u.node → ((caching_of all).agent s ≡ (caching_of all).agent u) ⊎ Seen (accesses_of all) (caching_of all) s u c
@@ -289,12 +289,12 @@ module _ (t : List Entry) (given : Given t) where
           let first = before_write t given f.node f.stands f.entry f.act c f.lost x.node x.stands cmd is_x Write x.accessed (lower s u x.node f.node x.number f.number lt) in
           let sk : Stands all k = stands all k ck in
           let apart_hosts : IsTrue (not (is_host x.node.act && is_host k.act)) = rw is_x refl in
-          let sees = write_sees given.stay given.hazards given.sights given.hosts given.keeps t given.none x.node k x.stands ck first.0 x.is_access refl c apart_hosts (is_in_of given.pieces_together all c (writes all x.node) x.accessed) wk in
-          let has_x = judged_has given.stay given.hazards given.sights given.hosts given.keeps t given.none x.node k x.stands ck first.0 x.is_access refl c apart_hosts in
+          let is_seen = write_is_seen given.stay given.hazards given.visibilities given.hosts given.keeps t given.none x.node k x.stands ck first.0 x.is_access refl c apart_hosts (is_in_of given.pieces_together all c (writes all x.node) x.accessed) wk in
+          let has_x = judged_has given.stay given.hazards given.visibilities given.hosts given.keeps t given.none x.node k x.stands ck first.0 x.is_access refl c apart_hosts in
           let same = same_cached all sk.newer (sk.at ∷ sk.past) sk.whole (new_ids t given.sound) (live_ids t given.sound) x.node has_x x.is_access c all x.accessed in
           let then_same = λ (n : Node) (cn : Contains (nodes all) n) (le : x.node.number ≤ n.number). same ∙ sym (cached_then all (new_ids t given.sound) (live_ids t given.sound) x.node x.stands x.is_access c all x.accessed n cn le) in
           let at_k = node_at_self given.paths given.joins all k ck in
-          let av = available_task given.paths given.joins all s (record { node = k.number; part = 0 }) x.node k x.at at_k (there s x.node x.at x.there) x.stands ck x.is_access refl (λ b. is_cached (sk.at ∷ sk.past) (resource_at b)) c then_same sees in
+          let av = available_task given.paths given.joins all s (record { node = k.number; part = 0 }) x.node k x.at at_k (there s x.node x.at x.there) x.stands ck x.is_access refl (λ b. is_cached (sk.at ∷ sk.past) (resource_at b)) c then_same is_seen in
           record {
             p = av.p;
             available = av.available;

@@ -16,7 +16,7 @@ use Rattle.vk_model.specs.Effect.{reaches, in_atoms, world}
 use Rattle.vk_model.specs.Node.{Node, Act, Hosts, Runs, nodes, acts, with_acts, same_node}
 use Rattle.vk_model.specs.Edge.{edge, is_host, is_submit}
 use Rattle.vk_model.specs.Before.{before}
-use Rattle.vk_model.specs.Seen.{Access, Read, Write, command_mask, seen, available_by, visible_by, receives, flushes, is_wait}
+use Rattle.vk_model.specs.Seen.{Access, Read, Write, command_mask, seen, available_by, visible_by, makes_writes_visible, flushes, is_wait}
 use Rattle.vk_model.specs.Access.{reads, writes}
 use Rattle.vk_model.specs.Rules.{first_fault}
 use Rattle.vk_model.specs.Fault.{Comes, newest, older, IsSound}
@@ -32,7 +32,7 @@ use Rattle.vk_laws.proofs.NoHazard.{number_below, unique, numbered, edge_before,
 use Rattle.vk_laws.proofs.Steady.{new_ids, live_ids}
 use Rattle.vk_laws.proofs.Points.{Stands, stands, comes_at}
 use Rattle.vk_laws.proofs.TaskAccesses.{host_writes_it, is_in_of}
-use Rattle.vk_laws.proofs.Ordered.{judged_has, read_sees, write_sees}
+use Rattle.vk_laws.proofs.Ordered.{judged_has, read_is_seen, write_is_seen}
 use Rattle.vk_laws.proofs.ModelBytes.{host_action, more_nodes, alone, at_node}
 use Rattle.vk_laws.proofs.CacheFree.{same_cached, cached_then}
 use Rattle.vk_laws.proofs.Dirty.{DirtiedBy, dirtied_by}
@@ -94,13 +94,13 @@ module _ (paths : BeforeIsPath) (joins : BeforeIsTransitive) (all : Past) (one :
       let q = some_member _ (nodes all) first.1 in
       let second = and_parts _ _ q.2 in
       let third = and_parts _ _ second.0 in
-      let sent : IsTrue (available_by one (nodes all) w (Hosts x) c p.0) = subst (λ (b : Act). IsTrue (available_by one (nodes all) w b c p.0)) is_w first.0 in
-      let submits = and_parts _ _ sent in
+      let is_made : IsTrue (available_by one (nodes all) w (Hosts x) c p.0) = subst (λ (b : Act). IsTrue (available_by one (nodes all) w b c p.0)) is_w first.0 in
+      let submits = and_parts _ _ is_made in
       let f = some_member (λ f. flushes f.act c && before (nodes all) w f && before (nodes all) f p.0) (nodes all) (passed _ submits.1) in
       let g = and_parts _ _ f.2 in
       let l = and_parts _ _ g.0 in
-      let shown : IsTrue (visible_by one (nodes all) w a (Runs cmd) k c q.0) = subst (λ (b : Act). IsTrue (visible_by one (nodes all) w a b k c q.0)) is_a third.1 in
-      let last = edge_before paths all q.0 a q.1 ca (and_parts _ _ shown).0 in
+      let made_visible : IsTrue (visible_by one (nodes all) w a (Runs cmd) k c q.0) = subst (λ (b : Act). IsTrue (visible_by one (nodes all) w a b k c q.0)) is_a third.1 in
+      let last = edge_before paths all q.0 a q.1 ca (and_parts _ _ made_visible).0 in
       let order = reaches_join paths all joins p.0 q.0 a p.1 q.1 ca (or_before paths all joins one p.0 q.0 third.0) (inr last) in
       record {
         flush = f.0;
@@ -121,7 +121,7 @@ module _ (paths : BeforeIsPath) (joins : BeforeIsTransitive) (all : Past) (one :
       from_host : (i : Node) (y : Entry) → i.act ≡ Hosts y → (q : Node) → IsTrue (visible_by one (nodes all) w a a.act k c q) → IsTrue (visible_by one (nodes all) i a a.act k c q)
       from_host i y is_i q h =
           subst (λ (b : Act). IsTrue (visible_by one (nodes all) i a b k c q)) (sym is_a)
-          (subst (λ (z : Bool). IsTrue (edge (nodes all) q a && (receives one (nodes all) (command_mask k) c q q.act || is_wait q.act || z && is_submit q.act))) (ap is_host is_w ∙ sym (ap is_host is_i))
+          (subst (λ (z : Bool). IsTrue (edge (nodes all) q a && (makes_writes_visible one (nodes all) (command_mask k) c q q.act || is_wait q.act || z && is_submit q.act))) (ap is_host is_w ∙ sym (ap is_host is_i))
           (subst (λ (b : Act). IsTrue (visible_by one (nodes all) w a b k c q)) is_a h))
 
 -- ---- the write that an invalidation forgets
@@ -134,7 +134,7 @@ pub record Given (t : List Entry) : Type 0 where
   pub joins : BeforeIsTransitive
   pub stay : CommandsStay
   pub hazards : NoHazardLaw
-  pub sights : SeenIsBefore
+  pub visibilities : SeenIsBefore
   pub hosts : HostInOrder
   pub keeps : GrowthKeeps
   pub order : AccessesInOrder
@@ -227,14 +227,14 @@ module _ (t : List Entry) (given : Given t) where
 
       module _ (lt : w.number < a.number) where
         pub same_one : one c ≡ is_cached all (resource_at c)
-        same_one = at_any point.newer (point.at ∷ point.past) point.whole (judged_has given.stay given.hazards given.sights given.hosts given.keeps t given.none w a w_all ca lt refl accesses_it c not_hosts)
+        same_one = at_any point.newer (point.at ∷ point.past) point.whole (judged_has given.stay given.hazards given.visibilities given.hosts given.keeps t given.none w a w_all ca lt refl accesses_it c not_hosts)
 
-        sees : (k : Access) → Touches k → IsTrue (seen one (nodes all) w a k c)
-        sees Read h = read_sees given.stay given.hazards given.sights given.hosts given.keeps t given.none w a w_all ca lt refl accesses_it c not_hosts (is_in_of given.pieces_together all c (writes all w) w_writes) h
-        sees Write h = write_sees given.stay given.hazards given.sights given.hosts given.keeps t given.none w a w_all ca lt refl accesses_it c not_hosts (is_in_of given.pieces_together all c (writes all w) w_writes) h
+        is_seen : (k : Access) → Touches k → IsTrue (seen one (nodes all) w a k c)
+        is_seen Read h = read_is_seen given.stay given.hazards given.visibilities given.hosts given.keeps t given.none w a w_all ca lt refl accesses_it c not_hosts (is_in_of given.pieces_together all c (writes all w) w_writes) h
+        is_seen Write h = write_is_seen given.stay given.hazards given.visibilities given.hosts given.keeps t given.none w a w_all ca lt refl accesses_it c not_hosts (is_in_of given.pieces_together all c (writes all w) w_writes) h
 
         by_flush : (k : Access) → Touches k → Flushed given.paths given.joins all one w a w_all ca cmd is_a write refl c (same_one ∙ kept) k
-        by_flush k h = flushed given.paths given.joins all one w a w_all ca cmd is_a write refl c (same_one ∙ kept) k (sees k h)
+        by_flush k h = flushed given.paths given.joins all one w a w_all ca cmd is_a write refl c (same_one ∙ kept) k (is_seen k h)
 
       -- a later one sees the invalidation as it sees the write
       pub seen_after : (k : Access) → Touches k → (i.number < a.number) → IsTrue (seen one (nodes all) i a k c)

@@ -123,7 +123,7 @@ module _ (keeps : GrowthKeeps) (all past : Past) (p : Point) (comes : Comes all 
   before_in_all x y c h = whole.orders x y c ∙ h
 
   pub seen_in_all : (cached : Byte → Bool) (x y : Node) (k : Access) (b : Byte) → Contains (nodes (p ∷ past)) y → IsTrue (seen cached (nodes (p ∷ past)) x y k b) → IsTrue (seen cached (nodes all) x y k b)
-  seen_in_all cached x y k b c h = whole.sights cached x y k b c ∙ h
+  seen_in_all cached x y k b c h = whole.visibilities cached x y k b c ∙ h
 
 found_new : (f : Node → Bool) (past : Past) (p : Point) (y : Node) → Contains (nodes (p ∷ past)) y → length (nodes past) ≤ y.number → IsTrue (f y) → IsTrue (list_any f (next_nodes past p))
 found_new f past p y c le h =

@@ -16,7 +16,7 @@ use Rattle.vk_model.specs.Seen.{Read, Write}
 use Rattle.vk_model.specs.Access.{reads, writes, reads_of, writes_of, origins, targets, is_in, precedes}
 use Rattle.vk_model.specs.Laws.{GrowthKeeps}
 use Rattle.vk_model.specs.Rules.{first_fault}
-use Rattle.vk_laws.specs.Trace.{Sees, HasNoHazard, NoHazardLaw, SeenIsBefore, HostInOrder, CommandsStay, Meets, accesses}
+use Rattle.vk_laws.specs.Trace.{IsSeen, HasNoHazard, NoHazardLaw, SeenIsBefore, HostInOrder, CommandsStay, Meets, accesses}
 use Rattle.vk_laws.proofs.Prefixes.{is_old}
 use Rattle.vk_laws.proofs.Points.{Stands, stands, action_of, comes_at, stands_below}
 
@@ -52,7 +52,7 @@ module _ (stay : CommandsStay) (t : List Entry) (none : first_fault t ≡ None) 
       go (Signals s) e h = absurd cc
       go (Depends r s) e h = absurd cc
 
-module _ (stay : CommandsStay) (hazards : NoHazardLaw) (sights : SeenIsBefore) (hosts : HostInOrder) (keeps : GrowthKeeps) (t : List Entry) (none : first_fault t ≡ None) (x y : Node)
+module _ (stay : CommandsStay) (hazards : NoHazardLaw) (visibilities : SeenIsBefore) (hosts : HostInOrder) (keeps : GrowthKeeps) (t : List Entry) (none : first_fault t ≡ None) (x y : Node)
     (cx : Contains (nodes (plain_order t)) x) (cy : Contains (nodes (plain_order t)) y) (lt : x.number < y.number) (ax : IsTrue (accesses x.act)) (ay : IsTrue (accesses y.act)) (b : Byte) where
   here : (s : Stands (plain_order t) y) → Contains (nodes (s.at ∷ s.past)) x
   here s =
@@ -76,21 +76,21 @@ module _ (stay : CommandsStay) (hazards : NoHazardLaw) (sights : SeenIsBefore) (
     written_then : IsTrue (is_in b (writes (plain_order t) x)) → IsTrue (is_in b (writes (judged.at ∷ judged.past) x))
     written_then m = subst (λ (l : List Byte). IsTrue (is_in b l)) (same_writes stay t none judged.newer judged.past judged.at judged.whole x judged_has ax) m
 
-    pub read_sees : IsTrue (is_in b (writes (plain_order t) x)) → Contains (reads (plain_order t) y) b → Sees t (judged.at ∷ judged.past) x y Read b
-    read_sees m c = free.read_after b (written_then m) (subst (λ (l : List Byte). Contains l b) (same_reads stay t none judged.newer judged.past judged.at judged.whole y judged.here ay) c)
+    pub read_is_seen : IsTrue (is_in b (writes (plain_order t) x)) → Contains (reads (plain_order t) y) b → IsSeen t (judged.at ∷ judged.past) x y Read b
+    read_is_seen m c = free.read_after b (written_then m) (subst (λ (l : List Byte). Contains l b) (same_reads stay t none judged.newer judged.past judged.at judged.whole y judged.here ay) c)
 
-    pub write_sees : IsTrue (is_in b (writes (plain_order t) x)) → Contains (writes (plain_order t) y) b → Sees t (judged.at ∷ judged.past) x y Write b
-    write_sees m c = free.written_after b (written_then m) (subst (λ (l : List Byte). Contains l b) (same_writes stay t none judged.newer judged.past judged.at judged.whole y judged.here ay) c)
+    pub write_is_seen : IsTrue (is_in b (writes (plain_order t) x)) → Contains (writes (plain_order t) y) b → IsSeen t (judged.at ∷ judged.past) x y Write b
+    write_is_seen m c = free.written_after b (written_then m) (subst (λ (l : List Byte). Contains l b) (same_writes stay t none judged.newer judged.past judged.at judged.whole y judged.here ay) c)
 
     by_hazards : Meets (plain_order t) x y b → IsTrue (before (nodes (plain_order t)) x y)
     by_hazards meet =
         let xr = same_reads stay t none judged.newer judged.past judged.at judged.whole x judged_has ax in
         let yw = same_writes stay t none judged.newer judged.past judged.at judged.whole y judged.here ay in
         ⊎_elim
-        (λ m. sights (plain_order t) _ x y Read b cx cy lt (read_sees m.0 m.1))
+        (λ m. visibilities (plain_order t) _ x y Read b cx cy lt (read_is_seen m.0 m.1))
         (λ rest. ⊎_elim
         (λ m. free.read_first b (subst (λ (l : List Byte). IsTrue (is_in b l)) yw m.1) (subst (λ (l : List Byte). Contains l b) xr m.0))
-        (λ m. sights (plain_order t) _ x y Write b cx cy lt (write_sees m.0 m.1))
+        (λ m. visibilities (plain_order t) _ x y Write b cx cy lt (write_is_seen m.0 m.1))
         rest)
         meet
 

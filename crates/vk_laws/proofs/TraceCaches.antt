@@ -11,14 +11,14 @@ use Rattle.vk_model.specs.Point.{Past}
 use Rattle.vk_model.specs.Node.{Node, Act, Hosts, Waits, Signals, Runs, Depends, Barrier, SetOf, AwaitOf, nodes}
 use Rattle.vk_model.specs.Edge.{edge, is_host, is_submit, is_command, pairs, by_host, by_stages, by_signal, by_all_commands, by_semaphore, earlier, signaled_by, same_queue}
 use Rattle.vk_model.specs.Before.{before, IsNumbered}
-use Rattle.vk_model.specs.Seen.{Read, Write, command_mask, host_mask, seen, sends, receives, available_by, visible_by, invalidates, is_wait, to_host, passes, flushes}
+use Rattle.vk_model.specs.Seen.{Read, Write, command_mask, host_mask, seen, makes_writes_available, makes_writes_visible, available_by, visible_by, invalidates, is_wait, to_host, passes, flushes}
 use Rattle.vk_model.specs.Access.{is_in, writes}
 use Rattle.vk_model.specs.Laws.{BeforeIsPath, BeforeIsTransitive}
 use Rattle.vk_laws.specs.Machine.{Task, Precedes}
 use Rattle.vk_laws.specs.Caches.{Seen, Available}
 use Rattle.vk_laws.specs.Trace.{accesses}
 use Rattle.vk_laws.specs.Tasks.{node_at, task_count, accesses_of}
-use Rattle.vk_laws.specs.TraceCaches.{agent_of, submits_to, host_wrote, cached, sends_write, shows_host, shows, caching_of}
+use Rattle.vk_laws.specs.TraceCaches.{agent_of, submits_to, host_wrote, cached, sends_write, makes_visible_to_host, makes_visible_to, caching_of}
 use Rattle.vk_laws.proofs.TaskNodes.{node_of}
 use Rattle.vk_laws.proofs.Members.{contains-cons, member_passes, some_member, none_in}
 use Rattle.vk_laws.proofs.Truths.{not_both, six}
@@ -69,26 +69,26 @@ invalidate_event (Signals s) b h = refl
 invalidate_event (Depends r e) b h = refl
 
 module _ (one other : Byte → Bool) (ns : List Node) (b : Byte) where
-  sends_same : (p : Node) (a : Act) → IsTrue (sends one ns p b a) → IsTrue (sends other ns p b a) × (is_command a ≡ false)
-  sends_same p (Runs c) h = absurd cc
-  sends_same p (Hosts x) h = absurd cc
-  sends_same p (Waits s) h = absurd cc
-  sends_same p (Signals s) h = (refl, refl)
-  sends_same p (Depends r e) h = (h, refl)
+  available_same : (p : Node) (a : Act) → IsTrue (makes_writes_available one ns p b a) → IsTrue (makes_writes_available other ns p b a) × (is_command a ≡ false)
+  available_same p (Runs c) h = absurd cc
+  available_same p (Hosts x) h = absurd cc
+  available_same p (Waits s) h = absurd cc
+  available_same p (Signals s) h = (refl, refl)
+  available_same p (Depends r e) h = (h, refl)
 
-  receives_queue : (mask : ℕ) (q : Node) (a : Act) → IsTrue (receives one ns mask b q a) → is_host a ≡ false
-  receives_queue mask q (Runs c) h = absurd cc
-  receives_queue mask q (Hosts x) h = absurd cc
-  receives_queue mask q (Waits s) h = absurd cc
-  receives_queue mask q (Signals s) h = absurd cc
-  receives_queue mask q (Depends r e) h = refl
+  visible_queue : (mask : ℕ) (q : Node) (a : Act) → IsTrue (makes_writes_visible one ns mask b q a) → is_host a ≡ false
+  visible_queue mask q (Runs c) h = absurd cc
+  visible_queue mask q (Hosts x) h = absurd cc
+  visible_queue mask q (Waits s) h = absurd cc
+  visible_queue mask q (Signals s) h = absurd cc
+  visible_queue mask q (Depends r e) h = refl
 
-  receives_same : (mask : ℕ) (q : Node) (a : Act) → IsTrue (receives one ns mask b q a) → IsTrue (receives other ns mask b q a) × (is_command a ≡ false)
-  receives_same mask q (Runs c) h = absurd cc
-  receives_same mask q (Hosts x) h = absurd cc
-  receives_same mask q (Waits s) h = absurd cc
-  receives_same mask q (Signals s) h = absurd cc
-  receives_same mask q (Depends r e) h = (h, refl)
+  visible_same : (mask : ℕ) (q : Node) (a : Act) → IsTrue (makes_writes_visible one ns mask b q a) → IsTrue (makes_writes_visible other ns mask b q a) × (is_command a ≡ false)
+  visible_same mask q (Runs c) h = absurd cc
+  visible_same mask q (Hosts x) h = absurd cc
+  visible_same mask q (Waits s) h = absurd cc
+  visible_same mask q (Signals s) h = absurd cc
+  visible_same mask q (Depends r e) h = (h, refl)
 
 pub never_holds : {X : Type 0} (o : Option X) → IsTrue (holds o (λ x. false)) → ⊥
 never_holds None h = cc
@@ -165,21 +165,21 @@ module _ (paths : BeforeIsPath) (joins : BeforeIsTransitive) (all : Past) where
 
   -- ---- what makes available
 
-  pub record Sent (one : Byte → Bool) (w p : Node) (b : Byte) : Type 0 where
-    pub sent : IsTrue (available_by (cached all w.number) (nodes all) w w.act b p)
+  pub record Made (one : Byte → Bool) (w p : Node) (b : Byte) : Type 0 where
+    pub is_made : IsTrue (available_by (cached all w.number) (nodes all) w w.act b p)
     pub quiet : is_command p.act ≡ false
     pub later : IsTrue (before (nodes all) w p)
 
-  pub sent_of : (one : Byte → Bool) (w p : Node) (b : Byte) → one b ≡ cached all w.number b → Contains (nodes all) w → Contains (nodes all) p → IsTrue (accesses w.act) → IsTrue (available_by one (nodes all) w w.act b p) → Sent one w p b
-  sent_of one w p b same cw cp access h = go w.act access h
+  pub made_of : (one : Byte → Bool) (w p : Node) (b : Byte) → one b ≡ cached all w.number b → Contains (nodes all) w → Contains (nodes all) p → IsTrue (accesses w.act) → IsTrue (available_by one (nodes all) w w.act b p) → Made one w p b
+  made_of one w p b same cw cp access h = go w.act access h
     where
-      pack : (a : Act) → w.act ≡ a → IsTrue (available_by (cached all w.number) (nodes all) w a b p) → is_command p.act ≡ false → IsTrue (before (nodes all) w p) → Sent one w p b
-      pack a e h quiet later = record { sent = subst (λ (a : Act). IsTrue (available_by (cached all w.number) (nodes all) w a b p)) (sym e) h; quiet = quiet; later = later }
+      pack : (a : Act) → w.act ≡ a → IsTrue (available_by (cached all w.number) (nodes all) w a b p) → is_command p.act ≡ false → IsTrue (before (nodes all) w p) → Made one w p b
+      pack a e h quiet later = record { is_made = subst (λ (a : Act). IsTrue (available_by (cached all w.number) (nodes all) w a b p)) (sym e) h; quiet = quiet; later = later }
 
-      by_act' : (a : Act) → w.act ≡ a → IsTrue (accesses a) → IsTrue (available_by one (nodes all) w a b p) → Sent one w p b
+      by_act' : (a : Act) → w.act ≡ a → IsTrue (accesses a) → IsTrue (available_by one (nodes all) w a b p) → Made one w p b
       by_act' (Runs c) e access h =
           let g = and_parts _ _ h in
-          let s = sends_same one (cached all w.number) (nodes all) b p p.act g.1 in
+          let s = available_same one (cached all w.number) (nodes all) b p p.act g.1 in
           pack (Runs c) e (and_from _ _ g.0 s.0) s.1 (edge_before paths all w p cw cp g.0)
       by_act' (Hosts x) e access h =
           let g = and_parts _ _ h in
@@ -189,17 +189,17 @@ module _ (paths : BeforeIsPath) (joins : BeforeIsTransitive) (all : Past) where
       by_act' (Signals s) e access h = absurd cc
       by_act' (Depends r d) e access h = absurd cc
 
-      go : (a : Act) → IsTrue (accesses w.act) → IsTrue (available_by one (nodes all) w w.act b p) → Sent one w p b
+      go : (a : Act) → IsTrue (accesses w.act) → IsTrue (available_by one (nodes all) w w.act b p) → Made one w p b
       go a access h = by_act' w.act refl access h
 
   -- ---- what makes visible
 
   -- a node that shows a byte to the agent of y, at or after node q
-  pub record Shown (q y : Node) (b : Byte) : Type 0 where
+  pub record MadeVisible (q y : Node) (b : Byte) : Type 0 where
     pub by : Node
     pub stands : Contains (nodes all) by
     pub order : Reaches paths all joins q by
-    pub shown : IsTrue (shows all by (agent_of y) b)
+    pub made_visible : IsTrue (makes_visible_to all by (agent_of y) b)
     pub quiet : is_command by.act ≡ false
     pub earlier : IsTrue (before (nodes all) by y)
 
@@ -207,53 +207,53 @@ module _ (paths : BeforeIsPath) (joins : BeforeIsTransitive) (all : Past) where
   abbrev pub Submits : Type 0
   Submits = (q y : Node) (c : Cmd) → Contains (nodes all) q → Contains (nodes all) y → IsTrue (is_submit q.act) → y.act ≡ Runs c → q.point.entry ≡ y.point.entry → IsTrue (submits_to q.act y.point.queue)
 
-  shown_to_queue : Submits → (one : Byte → Bool) (x q y : Node) (c : Cmd) (b : Byte) → Contains (nodes all) q → Contains (nodes all) y → y.act ≡ Runs c → (is_host x.act ≡ true → IsTrue (host_wrote all q b)) → IsTrue (visible_by one (nodes all) x y (Runs c) Read b q) → Shown q y b
-  shown_to_queue submits one x q y c b cq cy is ready h =
+  visible_to_queue : Submits → (one : Byte → Bool) (x q y : Node) (c : Cmd) (b : Byte) → Contains (nodes all) q → Contains (nodes all) y → y.act ≡ Runs c → (is_host x.act ≡ true → IsTrue (host_wrote all q b)) → IsTrue (visible_by one (nodes all) x y (Runs c) Read b q) → MadeVisible q y b
+  visible_to_queue submits one x q y c b cq cy is ready h =
       let g = and_parts _ _ h in
-      let shown = by_edge (edge_to_command (nodes all) q y c is g.0) g.1 in
+      let made_visible = by_edge (edge_to_command (nodes all) q y c is g.0) g.1 in
       record {
         by = q;
         stands = cq;
         order = inl refl;
-        shown = subst (λ (k : ℕ). IsTrue (shows all q k b)) (sym (ap (λ (a : Act). if is_host a then 0 else suc y.point.queue) is)) shown.0;
-        quiet = shown.1;
+        made_visible = subst (λ (k : ℕ). IsTrue (makes_visible_to all q k b)) (sym (ap (λ (a : Act). if is_host a then 0 else suc y.point.queue) is)) made_visible.0;
+        quiet = made_visible.1;
         earlier = edge_before paths all q y cq cy g.0;
       }
     where
-      by_edge : (IsTrue (is_submit q.act) × (q.point.entry ≡ y.point.entry)) ⊎ OnQueue q y → IsTrue (receives one (nodes all) (command_mask Read) b q q.act || is_wait q.act || is_host x.act && is_submit q.act)
-          → IsTrue (shows all q (suc y.point.queue) b) × (is_command q.act ≡ false)
+      by_edge : (IsTrue (is_submit q.act) × (q.point.entry ≡ y.point.entry)) ⊎ OnQueue q y → IsTrue (makes_writes_visible one (nodes all) (command_mask Read) b q q.act || is_wait q.act || is_host x.act && is_submit q.act)
+          → IsTrue (makes_visible_to all q (suc y.point.queue) b) × (is_command q.act ≡ false)
       by_edge (inl g) h = (
         or_right _ _ (and_from _ _ (submits q y c cq cy g.0 is g.1) (by_host' (or_cases _ _ h))),
         submit_event q.act g.0,
       )
         where
-          by_host' : IsTrue (receives one (nodes all) (command_mask Read) b q q.act || is_wait q.act) ⊎ IsTrue (is_host x.act && is_submit q.act) → IsTrue (host_wrote all q b)
+          by_host' : IsTrue (makes_writes_visible one (nodes all) (command_mask Read) b q q.act || is_wait q.act) ⊎ IsTrue (is_host x.act && is_submit q.act) → IsTrue (host_wrote all q b)
           by_host' (inl k) = ⊎_elim
-              (λ r. absurd (not_both (is_host q.act) (submit_host q.act g.0) (receives_queue one (cached all q.number) (nodes all) b (command_mask Read) q q.act r)))
+              (λ r. absurd (not_both (is_host q.act) (submit_host q.act g.0) (visible_queue one (cached all q.number) (nodes all) b (command_mask Read) q q.act r)))
               (λ w. absurd (not_both (is_host q.act) (submit_host q.act g.0) (wait_queue q.act w)))
               (or_cases _ _ k)
           by_host' (inr k) = ready (and_parts _ _ k).0
       by_edge (inr g) h = by_kind (or_cases _ _ h)
         where
-          at_queue : IsTrue (receives (cached all q.number) (nodes all) (command_mask Read) b q q.act || is_wait q.act) → IsTrue (shows all q (suc y.point.queue) b)
+          at_queue : IsTrue (makes_writes_visible (cached all q.number) (nodes all) (command_mask Read) b q q.act || is_wait q.act) → IsTrue (makes_visible_to all q (suc y.point.queue) b)
           at_queue k = or_left _ _ (and_from _ _ (and_from _ _ g.0 (eq-eqb q.point.queue y.point.queue g.1)) k)
 
-          by_kind : IsTrue (receives one (nodes all) (command_mask Read) b q q.act || is_wait q.act) ⊎ IsTrue (is_host x.act && is_submit q.act) → IsTrue (shows all q (suc y.point.queue) b) × (is_command q.act ≡ false)
+          by_kind : IsTrue (makes_writes_visible one (nodes all) (command_mask Read) b q q.act || is_wait q.act) ⊎ IsTrue (is_host x.act && is_submit q.act) → IsTrue (makes_visible_to all q (suc y.point.queue) b) × (is_command q.act ≡ false)
           by_kind (inl k) = ⊎_elim
-              (λ r. let s = receives_same one (cached all q.number) (nodes all) b (command_mask Read) q q.act r in (at_queue (or_left _ _ s.0), s.1))
+              (λ r. let s = visible_same one (cached all q.number) (nodes all) b (command_mask Read) q q.act r in (at_queue (or_left _ _ s.0), s.1))
               (λ w. (at_queue (or_right _ _ w), wait_event q.act w))
               (or_cases _ _ k)
           by_kind (inr k) = let s = submit_host q.act (and_parts _ _ k).1 in absurd (not_both (not (is_host q.act)) g.0 (ap not s))
 
-  shown_to_host : (one : Byte → Bool) (x q y : Node) (e : Entry) (b : Byte) → ((n : Node) → Contains (nodes all) n → x.number ≤ n.number → one b ≡ cached all n.number b) → Contains (nodes all) x → IsTrue (before (nodes all) x q) → Contains (nodes all) q → y.act ≡ Hosts e → IsTrue (visible_by one (nodes all) x y (Hosts e) Read b q) → Shown q y b
-  shown_to_host one x q y e b same cx later cq is h =
+  visible_to_host : (one : Byte → Bool) (x q y : Node) (e : Entry) (b : Byte) → ((n : Node) → Contains (nodes all) n → x.number ≤ n.number → one b ≡ cached all n.number b) → Contains (nodes all) x → IsTrue (before (nodes all) x q) → Contains (nodes all) q → y.act ≡ Hosts e → IsTrue (visible_by one (nodes all) x y (Hosts e) Read b q) → MadeVisible q y b
+  visible_to_host one x q y e b same cx later cq is h =
       let g = and_parts _ _ h in
       let k = and_parts _ _ g.0 in
       let l = and_parts _ _ k.0 in
       go (one b) refl l.0 l.1 k.1 g.1
     where
-      to_agent : (f : Node) → IsTrue (shows_host all f b) → IsTrue (shows all f (agent_of y) b)
-      to_agent f h = subst (λ (k : ℕ). IsTrue (shows all f k b)) (sym (ap (λ (a : Act). if is_host a then 0 else suc y.point.queue) is)) h
+      to_agent : (f : Node) → IsTrue (makes_visible_to_host all f b) → IsTrue (makes_visible_to all f (agent_of y) b)
+      to_agent f h = subst (λ (k : ℕ). IsTrue (makes_visible_to all f k b)) (sym (ap (λ (a : Act). if is_host a then 0 else suc y.point.queue) is)) h
 
       after : (n : Node) → IsTrue (before (nodes all) x n) → x.number ≤ n.number
       after n b = let lt = before_number (nodes all) x n b in omega (arith, lt)
@@ -261,15 +261,15 @@ module _ (paths : BeforeIsPath) (joins : BeforeIsTransitive) (all : Past) where
       further : (n : Node) → Contains (nodes all) n → IsTrue (before (nodes all) q n) → x.number ≤ n.number
       further n cn b = after n (joins all x q n cx cq cn later b)
 
-      go : (z : Bool) → one b ≡ z → IsTrue (before (nodes all) q y) → IsTrue (to_host q.act) → IsTrue (receives one (nodes all) (host_mask Read) b q q.act) → IsTrue (not z || passes one (nodes all) (λ f. invalidates f b) q y) → Shown q y b
+      go : (z : Bool) → one b ≡ z → IsTrue (before (nodes all) q y) → IsTrue (to_host q.act) → IsTrue (makes_writes_visible one (nodes all) (host_mask Read) b q q.act) → IsTrue (not z || passes one (nodes all) (λ f. invalidates f b) q y) → MadeVisible q y b
       go true c earlier to r p =
           let f = some_member (λ f. invalidates f.act b && before (nodes all) q f && before (nodes all) f y) (nodes all) p in
           let k = and_parts _ _ f.2 in
           let l = and_parts _ _ k.0 in
-          record { by = f.0; stands = f.1; order = inr l.1; shown = to_agent f.0 (rw (sym (same f.0 f.1 (further f.0 f.1 l.1)) ∙ c) l.0); quiet = invalidate_event f.0.act b l.0; earlier = k.1 }
+          record { by = f.0; stands = f.1; order = inr l.1; made_visible = to_agent f.0 (rw (sym (same f.0 f.1 (further f.0 f.1 l.1)) ∙ c) l.0); quiet = invalidate_event f.0.act b l.0; earlier = k.1 }
       go false c earlier to r p =
-          let s = receives_same one (cached all q.number) (nodes all) b (host_mask Read) q q.act r in
-          record { by = q; stands = cq; order = inl refl; shown = to_agent q (rw (sym (same q cq (after q later)) ∙ c) (and_from _ _ to s.0)); quiet = host_event q.act to; earlier = earlier }
+          let s = visible_same one (cached all q.number) (nodes all) b (host_mask Read) q q.act r in
+          record { by = q; stands = cq; order = inl refl; made_visible = to_agent q (rw (sym (same q cq (after q later)) ∙ c) (and_from _ _ to s.0)); quiet = host_event q.act to; earlier = earlier }
 
   -- ---- accesses that see a write
 
@@ -289,19 +289,19 @@ module _ (paths : BeforeIsPath) (joins : BeforeIsTransitive) (all : Past) where
     at_writer : one b ≡ cached all x.number b
     at_writer = same x cx (let le : x.number ≤ x.number = omega arith in le)
 
-    made_available : (p : Node) → Contains (nodes all) p → Sent one x p b → IsTrue ((caching_of all).makes_available (task_of p) w b)
-    made_available p cp s = and_from _ _ has (rw (node_at_self p cp, at_w) (and_from _ _ ax s.sent))
+    made_available : (p : Node) → Contains (nodes all) p → Made one x p b → IsTrue ((caching_of all).makes_available (task_of p) w b)
+    made_available p cp s = and_from _ _ has (rw (node_at_self p cp, at_w) (and_from _ _ ax s.is_made))
 
     -- it comes before what shows the byte
     host_first : HostSource x b → (q : Node) → Contains (nodes all) q → IsTrue (before (nodes all) x q) → IsTrue (host_wrote all q b)
     host_first v q cq later = member_passes (λ v. is_host v.act && is_in b (writes all v) && before (nodes all) v q) (nodes all) v.by v.stands (and_from _ _ (and_from _ _ v.host v.wrote) (reaches_before paths all joins v.by x q v.stands cx cq v.order later))
 
-    shown_of : Submits → (q : Node) → Contains (nodes all) q → IsTrue (before (nodes all) x q) → (is_host x.act ≡ true → IsTrue (host_wrote all q b)) → IsTrue (visible_by one (nodes all) x y y.act Read b q) → Shown q y b
-    shown_of submits q cq later ready h = go y.act refl ay h
+    visible_of : Submits → (q : Node) → Contains (nodes all) q → IsTrue (before (nodes all) x q) → (is_host x.act ≡ true → IsTrue (host_wrote all q b)) → IsTrue (visible_by one (nodes all) x y y.act Read b q) → MadeVisible q y b
+    visible_of submits q cq later ready h = go y.act refl ay h
       where
-        go : (a : Act) → y.act ≡ a → IsTrue (accesses a) → IsTrue (visible_by one (nodes all) x y a Read b q) → Shown q y b
-        go (Runs c) e access h = shown_to_queue submits one x q y c b cq cy e ready h
-        go (Hosts z) e access h = shown_to_host one x q y z b same cx later cq e h
+        go : (a : Act) → y.act ≡ a → IsTrue (accesses a) → IsTrue (visible_by one (nodes all) x y a Read b q) → MadeVisible q y b
+        go (Runs c) e access h = visible_to_queue submits one x q y c b cq cy e ready h
+        go (Hosts z) e access h = visible_to_host one x q y z b same cx later cq e h
         go (Waits s) e access h = absurd cc
         go (Signals s) e access h = absurd cc
         go (Depends r d) e access h = absurd cc
@@ -317,14 +317,14 @@ module _ (paths : BeforeIsPath) (joins : BeforeIsTransitive) (all : Past) where
         go (Signals s) access h = absurd cc
         go (Depends r d) access h = absurd cc
 
-    seen_by : (p q : Node) → Contains (nodes all) p → Sent one x p b → (shown : Shown q y b) → Reaches paths all joins p shown.by → Seen (accesses_of all) (caching_of all) w t b
-    seen_by p q cp sent shown order = record {
+    seen_by : (p q : Node) → Contains (nodes all) p → Made one x p b → (made_visible : MadeVisible q y b) → Reaches paths all joins p made_visible.by → Seen (accesses_of all) (caching_of all) w t b
+    seen_by p q cp is_made made_visible order = record {
       p = task_of p;
-      q = task_of shown.by;
-      available = made_available p cp sent;
-      order = ⊎_elim (λ e. inl (ap (λ (k : ℕ). numbered_task k) e)) (λ earlier. inr (precedes p shown.by cp sent.quiet earlier (task_of shown.by) (node_at_self shown.by shown.stands))) order;
-      visible = subst (λ (a : ℕ). IsTrue (holds (node_at all shown.by.number) (λ n. shows all n a b))) (sym (agent_is t y at_t)) (rw (node_at_self shown.by shown.stands) shown.shown);
-      before = precedes shown.by y shown.stands shown.quiet shown.earlier t at_t;
+      q = task_of made_visible.by;
+      available = made_available p cp is_made;
+      order = ⊎_elim (λ e. inl (ap (λ (k : ℕ). numbered_task k) e)) (λ earlier. inr (precedes p made_visible.by cp is_made.quiet earlier (task_of made_visible.by) (node_at_self made_visible.by made_visible.stands))) order;
+      visible = subst (λ (a : ℕ). IsTrue (holds (node_at all made_visible.by.number) (λ n. makes_visible_to all n a b))) (sym (agent_is t y at_t)) (rw (node_at_self made_visible.by made_visible.stands) made_visible.made_visible);
+      before = precedes made_visible.by y made_visible.stands made_visible.quiet made_visible.earlier t at_t;
     }
 
     pub seen_task : Submits → (is_host x.act ≡ true → HostSource x b) → IsTrue (seen one (nodes all) x y Read b) → Seen (accesses_of all) (caching_of all) w t b
@@ -334,11 +334,11 @@ module _ (paths : BeforeIsPath) (joins : BeforeIsTransitive) (all : Past) where
         let first = and_parts _ _ p.2 in
         let q = some_member _ (nodes all) first.1 in
         let second = and_parts _ _ (and_parts _ _ q.2).0 in
-        let sent = sent_of one x p.0 b at_writer cx p.1 ax first.0 in
-        let last = before_reaches paths all joins x p.0 q.0 cx p.1 q.1 sent.later (or_before paths all joins one p.0 q.0 second.0) in
-        let shown = shown_of submits q.0 q.1 last (λ host. host_first (source host) q.0 q.1 last) second.1 in
-        let order = reaches_join paths all joins p.0 q.0 shown.by p.1 q.1 shown.stands (or_before paths all joins one p.0 q.0 second.0) shown.order in
-        seen_by p.0 q.0 p.1 sent shown order
+        let is_made = made_of one x p.0 b at_writer cx p.1 ax first.0 in
+        let last = before_reaches paths all joins x p.0 q.0 cx p.1 q.1 is_made.later (or_before paths all joins one p.0 q.0 second.0) in
+        let made_visible = visible_of submits q.0 q.1 last (λ host. host_first (source host) q.0 q.1 last) second.1 in
+        let order = reaches_join paths all joins p.0 q.0 made_visible.by p.1 q.1 made_visible.stands (or_before paths all joins one p.0 q.0 second.0) made_visible.order in
+        seen_by p.0 q.0 p.1 is_made made_visible order
 
     pub available_task : IsTrue (seen one (nodes all) x y Write b) → Available (accesses_of all) (caching_of all) w t b
     unfolding seen
@@ -347,12 +347,12 @@ module _ (paths : BeforeIsPath) (joins : BeforeIsTransitive) (all : Past) where
         let first = and_parts _ _ p.2 in
         let q = some_member _ (nodes all) first.1 in
         let second = and_parts _ _ (and_parts _ _ q.2).0 in
-        let sent = sent_of one x p.0 b at_writer cx p.1 ax first.0 in
+        let is_made = made_of one x p.0 b at_writer cx p.1 ax first.0 in
         let last = before_write q.0 q.1 second.1 in
         record {
           p = task_of p.0;
-          available = made_available p.0 p.1 sent;
-          before = precedes p.0 y p.1 sent.quiet (reaches_before paths all joins p.0 q.0 y p.1 q.1 cy (or_before paths all joins one p.0 q.0 second.0) last) t at_t;
+          available = made_available p.0 p.1 is_made;
+          before = precedes p.0 y p.1 is_made.quiet (reaches_before paths all joins p.0 q.0 y p.1 q.1 cy (or_before paths all joins one p.0 q.0 second.0) last) t at_t;
         }
 
   -- nothing is made available before it was written
@@ -366,4 +366,4 @@ module _ (paths : BeforeIsPath) (joins : BeforeIsTransitive) (all : Past) where
           let g = and_parts _ _ h in
           let cm = (node_of all p.node m e).0 in
           let cn = (node_of all w.node n f).0 in
-          (has, rw (f, e) (sent_of (cached all n.number) n m b refl cn cm g.0 g.1).later)
+          (has, rw (f, e) (made_of (cached all n.number) n m b refl cn cm g.0 g.1).later)

@@ -13,7 +13,7 @@ use Rattle.vk_model.specs.Node.{Node, Act, Hosts, Waits, Signals, Runs, Depends,
 use Rattle.vk_model.specs.Edge.{edge, is_host, is_submit}
 use Rattle.vk_model.specs.Before.{before, IsNumbered}
 use Rattle.vk_model.specs.Access.{is_in, writes}
-use Rattle.vk_model.specs.Seen.{Read, command_mask, host_mask, sends, receives, available_by, flushes, invalidates, is_wait, to_host, passes}
+use Rattle.vk_model.specs.Seen.{Read, command_mask, host_mask, makes_writes_available, makes_writes_visible, available_by, flushes, invalidates, is_wait, to_host, passes}
 use Rattle.vk_model.specs.Laws.{BeforeIsPath, BeforeIsTransitive, GrowthKeeps, Keeps}
 use Rattle.vk_laws.specs.Machine.{Task, Put}
 use Rattle.vk_laws.specs.Growth.{Extends}
@@ -21,7 +21,7 @@ use Rattle.vk_laws.specs.Trace.{accesses}
 use Rattle.vk_laws.specs.Tasks.{moves_of, task_count, part_write, node_at, by_act, accesses_of}
 use Rattle.vk_laws.specs.TraceBytes.{before_node}
 use Rattle.vk_laws.specs.Discards.{entry_forgets, forgets, or_unknown, with_discards}
-use Rattle.vk_laws.specs.TraceCaches.{agent_of, submits_to, cached, host_wrote, sends_write, shows, caching_of}
+use Rattle.vk_laws.specs.TraceCaches.{agent_of, submits_to, cached, host_wrote, sends_write, makes_visible_to, caching_of}
 use Rattle.vk_laws.proofs.TaskNodes.{node_of}
 use Rattle.vk_laws.proofs.Prefixes.{old_has, same_pieces, leads_on, there_below}
 use Rattle.vk_laws.proofs.Members.{contains-cons, contains-head, contains-tail, none_in}
@@ -29,7 +29,7 @@ use Rattle.vk_laws.proofs.NoHazard.{number_below, numbered}
 use Rattle.vk_laws.proofs.Steady.{IsNew, IsLive}
 use Rattle.vk_laws.proofs.Points.{Stands, stands, stands_below}
 use Rattle.vk_laws.proofs.ModelBytes.{node_there, before_inside}
-use Rattle.vk_laws.proofs.TraceCaches.{node_at_self, before_number, sent_of}
+use Rattle.vk_laws.proofs.TraceCaches.{node_at_self, before_number, made_of}
 
 -- ---- lists of nodes
 
@@ -54,19 +54,19 @@ grown f g (n ∷ front) ns never same =
     first : (a b : Bool) → a ≡ false → (a || b) ≡ b
     first a b e = rw e refl
 
-receives_eq : (one other : Byte → Bool) (ns ms : List Node) (mask : ℕ) (b : Byte) (q : Node) (a : Act) → receives one ns mask b q a ≡ receives other ms mask b q a
-receives_eq one other ns ms mask b q (Runs c) = refl
-receives_eq one other ns ms mask b q (Hosts x) = refl
-receives_eq one other ns ms mask b q (Waits s) = refl
-receives_eq one other ns ms mask b q (Signals s) = refl
-receives_eq one other ns ms mask b q (Depends r e) = refl
+visible_eq : (one other : Byte → Bool) (ns ms : List Node) (mask : ℕ) (b : Byte) (q : Node) (a : Act) → makes_writes_visible one ns mask b q a ≡ makes_writes_visible other ms mask b q a
+visible_eq one other ns ms mask b q (Runs c) = refl
+visible_eq one other ns ms mask b q (Hosts x) = refl
+visible_eq one other ns ms mask b q (Waits s) = refl
+visible_eq one other ns ms mask b q (Signals s) = refl
+visible_eq one other ns ms mask b q (Depends r e) = refl
 
-sends_eq : (one other : Byte → Bool) (ns ms : List Node) (p : Node) (b : Byte) (a : Act) → sends one ns p b a ≡ sends other ms p b a
-sends_eq one other ns ms p b (Runs c) = refl
-sends_eq one other ns ms p b (Hosts x) = refl
-sends_eq one other ns ms p b (Waits s) = refl
-sends_eq one other ns ms p b (Signals s) = refl
-sends_eq one other ns ms p b (Depends r e) = refl
+available_eq : (one other : Byte → Bool) (ns ms : List Node) (p : Node) (b : Byte) (a : Act) → makes_writes_available one ns p b a ≡ makes_writes_available other ms p b a
+available_eq one other ns ms p b (Runs c) = refl
+available_eq one other ns ms p b (Hosts x) = refl
+available_eq one other ns ms p b (Waits s) = refl
+available_eq one other ns ms p b (Signals s) = refl
+available_eq one other ns ms p b (Depends r e) = refl
 
 module _ (paths : BeforeIsPath) (joins : BeforeIsTransitive) (keeps : GrowthKeeps) (whole newer old : Past) (split : whole ≡ newer ++ old) (new : IsNew whole) (alive : IsLive whole) where
   abbrev size : ℕ
@@ -167,20 +167,20 @@ module _ (paths : BeforeIsPath) (joins : BeforeIsTransitive) (keeps : GrowthKeep
     same_passes test one other m = over_nodes _ _ (λ v cv. and_right (test v.act && before (nodes whole) m v) (before (nodes whole) v n) (not_new v cv))
         (λ v cv. ap (λ (b : Bool). test v.act && b && before (nodes whole) v n) (kept.orders m v cv) ∙ ap (λ (b : Bool). test v.act && before (nodes old) m v && b) (kept.orders v n cn))
 
-    same_shows : (a : ℕ) (c : Byte) → shows whole n a c ≡ shows old n a c
-    same_shows zero c =
-        ap (λ (z : Bool). if z then invalidates n.act c else to_host n.act && receives (cached whole n.number) (nodes whole) (host_mask Read) c n n.act) (same_cached c)
-        ∙ ap (λ (r : Bool). if cached old n.number c then invalidates n.act c else to_host n.act && r) (receives_eq (cached whole n.number) (cached old n.number) (nodes whole) (nodes old) (host_mask Read) c n n.act)
-    same_shows (suc k) c =
-        ap (λ (r : Bool). not (is_host n.act) && n.point.queue == k && (r || is_wait n.act) || submits_to n.act k && host_wrote whole n c) (receives_eq (cached whole n.number) (cached old n.number) (nodes whole) (nodes old) (command_mask Read) c n n.act)
-        ∙ ap (λ (r : Bool). not (is_host n.act) && n.point.queue == k && (receives (cached old n.number) (nodes old) (command_mask Read) c n n.act || is_wait n.act) || submits_to n.act k && r) (same_wrote c)
+    same_visible : (a : ℕ) (c : Byte) → makes_visible_to whole n a c ≡ makes_visible_to old n a c
+    same_visible zero c =
+        ap (λ (z : Bool). if z then invalidates n.act c else to_host n.act && makes_writes_visible (cached whole n.number) (nodes whole) (host_mask Read) c n n.act) (same_cached c)
+        ∙ ap (λ (r : Bool). if cached old n.number c then invalidates n.act c else to_host n.act && r) (visible_eq (cached whole n.number) (cached old n.number) (nodes whole) (nodes old) (host_mask Read) c n n.act)
+    same_visible (suc k) c =
+        ap (λ (r : Bool). not (is_host n.act) && n.point.queue == k && (r || is_wait n.act) || submits_to n.act k && host_wrote whole n c) (visible_eq (cached whole n.number) (cached old n.number) (nodes whole) (nodes old) (command_mask Read) c n n.act)
+        ∙ ap (λ (r : Bool). not (is_host n.act) && n.point.queue == k && (makes_writes_visible (cached old n.number) (nodes old) (command_mask Read) c n n.act || is_wait n.act) || submits_to n.act k && r) (same_wrote c)
 
     -- what it makes available of a node's writes
-    same_sent : (w : Node) → Contains (nodes old) w → (w_cached : (c : Byte) → cached whole w.number c ≡ cached old w.number c) → (c : Byte) → sends_write whole n w c ≡ sends_write old n w c
-    same_sent w cw w_cached c = ap (λ (r : Bool). accesses w.act && r) (go w.act)
+    same_made : (w : Node) → Contains (nodes old) w → (w_cached : (c : Byte) → cached whole w.number c ≡ cached old w.number c) → (c : Byte) → sends_write whole n w c ≡ sends_write old n w c
+    same_made w cw w_cached c = ap (λ (r : Bool). accesses w.act && r) (go w.act)
       where
         go : (a : Act) → available_by (cached whole w.number) (nodes whole) w a c n ≡ available_by (cached old w.number) (nodes old) w a c n
-        go (Runs x) = ap (λ (r : Bool). r && sends (cached whole w.number) (nodes whole) n c n.act) (kept.edges w n cn) ∙ ap (λ (r : Bool). edge (nodes old) w n && r) (sends_eq (cached whole w.number) (cached old w.number) (nodes whole) (nodes old) n c n.act)
+        go (Runs x) = ap (λ (r : Bool). r && makes_writes_available (cached whole w.number) (nodes whole) n c n.act) (kept.edges w n cn) ∙ ap (λ (r : Bool). edge (nodes old) w n && r) (available_eq (cached whole w.number) (cached old w.number) (nodes whole) (nodes old) n c n.act)
         go (Hosts x) =
             ap (λ (r : Bool). is_submit n.act && r && (not (cached whole w.number c) || passes (cached whole w.number) (nodes whole) (λ f. flushes f c) w n)) (kept.orders w n cn)
             ∙ ap (λ (r : Bool). is_submit n.act && before (nodes old) w n && (not r || passes (cached whole w.number) (nodes whole) (λ f. flushes f c) w n)) (w_cached c)
@@ -190,10 +190,10 @@ module _ (paths : BeforeIsPath) (joins : BeforeIsTransitive) (keeps : GrowthKeep
         go (Depends r d) = refl
 
     -- and of a newer node's: nothing
-    none_sent : (w : Node) → Contains (nodes whole) w → size ≤ w.number → (c : Byte) → sends_write whole n w c ≡ false
-    none_sent w cw le c = false_from_ne_true (sends_write whole n w c) (λ h.
+    none_made : (w : Node) → Contains (nodes whole) w → size ≤ w.number → (c : Byte) → sends_write whole n w c ≡ false
+    none_made w cw le c = false_from_ne_true (sends_write whole n w c) (λ h.
         let g = and_parts _ _ h in
-        let lt = before_number (nodes whole) w n (sent_of paths joins whole (cached whole w.number) w n c refl cw (raise n cn) g.0 g.1).later in
+        let lt = before_number (nodes whole) w n (made_of paths joins whole (cached whole w.number) w n c refl cw (raise n cn) g.0 g.1).later in
         let low = number_below (nodes old) (numbered old) n cn in
         omega (arith, le, lt, low))
 
@@ -244,14 +244,14 @@ module _ (paths : BeforeIsPath) (joins : BeforeIsTransitive) (keeps : GrowthKeep
     where
       never : (n : At p.node) → size ≤ w.node → (o : Option Node) → node_at whole w.node ≡ o → holds o (λ m. sends_write whole n.node m c) ≡ false
       never n le None e = refl
-      never n le (Some m) e = let f = node_of whole w.node m e in none_sent n.node n.stands m f.0 (let g = f.1 in omega (arith, le, g)) c
+      never n le (Some m) e = let f = node_of whole w.node m e in none_made n.node n.stands m f.0 (let g = f.1 in omega (arith, le, g)) c
 
       by_writer : (n : At p.node) → (w.node < size) ⊎ (size ≤ w.node) → ((accesses_of whole).has w && holds (node_at whole w.node) (λ m. sends_write whole n.node m c)) ≡ ((accesses_of old).has w && holds (node_at old w.node) (λ m. sends_write old n.node m c))
       by_writer n (inl low) =
           let m = at w.node low in
           ap (λ (b : Bool). b && holds (node_at whole w.node) (λ m. sends_write whole n.node m c)) (has_same w low)
           ∙ ap (λ (o : Option Node). (accesses_of old).has w && holds o (λ m. sends_write whole n.node m c)) m.in_whole
-          ∙ ap (λ (b : Bool). (accesses_of old).has w && b) (same_sent n.node n.stands m.node m.stands (same_cached m.node m.stands) c)
+          ∙ ap (λ (b : Bool). (accesses_of old).has w && b) (same_made n.node n.stands m.node m.stands (same_cached m.node m.stands) c)
           ∙ sym (ap (λ (o : Option Node). (accesses_of old).has w && holds o (λ m. sends_write old n.node m c)) m.in_old)
       by_writer n (inr le) =
           and_right ((accesses_of whole).has w) _ (never n le (node_at whole w.node) refl)
@@ -260,7 +260,7 @@ module _ (paths : BeforeIsPath) (joins : BeforeIsTransitive) (keeps : GrowthKeep
   visible_same : (q : Task) (a : ℕ) (c : Byte) → q.node < size → (caching_of whole).makes_visible q a c ≡ (caching_of old).makes_visible q a c
   visible_same q a c lt =
       let n = at q.node lt in
-      ap (λ (o : Option Node). holds o (λ n. shows whole n a c)) n.in_whole ∙ same_shows n.node n.stands a c ∙ sym (ap (λ (o : Option Node). holds o (λ n. shows old n a c)) n.in_old)
+      ap (λ (o : Option Node). holds o (λ n. makes_visible_to whole n a c)) n.in_whole ∙ same_visible n.node n.stands a c ∙ sym (ap (λ (o : Option Node). holds o (λ n. makes_visible_to old n a c)) n.in_old)
 
   pub extends : Extends size (with_discards old) (caching_of old) (with_discards whole) (caching_of whole)
   extends = record {

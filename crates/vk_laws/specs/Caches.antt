@@ -15,14 +15,14 @@ pub record Cell : Type 0 where
   pub held : ℕ → Option Held
 
 -- What an agent sees that holds this of a byte.
-abbrev pub shown_by : Option Held → ℕ → ℕ
-shown_by None region = region
-shown_by (Some (Clean value)) region = value
-shown_by (Some (Dirty value)) region = value
+abbrev pub value_through : Option Held → ℕ → ℕ
+value_through None region = region
+value_through (Some (Clean value)) region = value
+value_through (Some (Dirty value)) region = value
 
 -- The byte as an agent sees it.
 abbrev pub view : ℕ → Cell → ℕ
-view a cell = shown_by (cell.held a) cell.region
+view a cell = value_through (cell.held a) cell.region
 
 -- ---- what happens to a byte
 

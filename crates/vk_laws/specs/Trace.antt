@@ -16,14 +16,14 @@ use Rattle.vk_model.specs.Rules.{first_fault}
 use Rattle.vk_model.specs.Fault.{Comes}
 
 -- Whether a node's access of a byte sees another node's write, among the nodes of the whole trace (Vulkan, "Execution and Memory Dependencies", on memory dependencies).
-abbrev pub Sees : List Entry → Past → Node → Node → Access → Byte → Type 0
-Sees t past w a k b = IsTrue (seen (λ c. is_cached past (resource_at c)) (nodes (plain_order t)) w a k b)
+abbrev pub IsSeen : List Entry → Past → Node → Node → Access → Byte → Type 0
+IsSeen t past w a k b = IsTrue (seen (λ c. is_cached past (resource_at c)) (nodes (plain_order t)) w a k b)
 
 -- Node y, of the newest point of a past of the trace, has no hazard with an earlier node x: what x reads and y writes is ordered, and what x writes and y reads or writes is seen. The accesses are as the past has them; orders and sights are those of the whole trace (Vulkan, "Execution and Memory Dependencies", on data hazards).
 pub record HasNoHazard (t : List Entry) (past : Past) (x y : Node) : Type 0 where
   pub read_first : (b : Byte) → IsTrue (is_in b (writes past y)) → Contains (reads past x) b → IsTrue (before (nodes (plain_order t)) x y)
-  pub read_after : (b : Byte) → IsTrue (is_in b (writes past x)) → Contains (reads past y) b → Sees t past x y Read b
-  pub written_after : (b : Byte) → IsTrue (is_in b (writes past x)) → Contains (writes past y) b → Sees t past x y Write b
+  pub read_after : (b : Byte) → IsTrue (is_in b (writes past x)) → Contains (reads past y) b → IsSeen t past x y Read b
+  pub written_after : (b : Byte) → IsTrue (is_in b (writes past x)) → Contains (writes past y) b → IsSeen t past x y Write b
 
 -- In a trace without a fault no node of a point has a hazard with an earlier node, commands and host accesses alike, where not both are of the host.
 abbrev pub NoHazardLaw : Type 0

@@ -12,7 +12,7 @@ use Rattle.vk_model.specs.Node.{Node, Act, Hosts, nodes}
 use Rattle.vk_model.specs.Edge.{is_host}
 use Rattle.vk_model.specs.Before.{before}
 use Rattle.vk_model.specs.Access.{is_in, writes}
-use Rattle.vk_model.specs.Seen.{Read, command_mask, host_mask, available_by, receives, invalidates, is_wait, to_host}
+use Rattle.vk_model.specs.Seen.{Read, command_mask, host_mask, available_by, makes_writes_visible, invalidates, is_wait, to_host}
 use Rattle.vk_model.specs.Rules.{first_fault}
 use Rattle.vk_laws.specs.Machine.{Task, Reads, MayRun, latest}
 use Rattle.vk_laws.specs.Caches.{Cell, Caching, CacheFree, Reached, view}
@@ -45,24 +45,24 @@ module _ (all : Past) where
   host_wrote q c = list_any (λ v. is_host v.act && is_in c (writes all v) && before (nodes all) v q) (nodes all)
 
   -- Node q makes a byte visible to the reads of queue k: an element or a wait of the queue, or a submit to it after the host wrote the byte (Vulkan, "Execution and Memory Dependencies", "Semaphore Waiting" and "Host Write Ordering Guarantees").
-  abbrev pub shows_queue : Node → ℕ → Byte → Bool
-  shows_queue q k c = not (is_host q.act) && q.point.queue == k && (receives (cached q.number) (nodes all) (command_mask Read) c q q.act || is_wait q.act) || submits_to q.act k && host_wrote q c
+  abbrev pub makes_visible_to_queue : Node → ℕ → Byte → Bool
+  makes_visible_to_queue q k c = not (is_host q.act) && q.point.queue == k && (makes_writes_visible (cached q.number) (nodes all) (command_mask Read) c q q.act || is_wait q.act) || submits_to q.act k && host_wrote q c
 
   -- Node q makes a byte visible to the host's reads: an invalidation where the memory is cached, and else a dependency to the host (Vulkan, "Host Access to Device Memory Objects" and "Execution and Memory Dependencies").
-  abbrev pub shows_host : Node → Byte → Bool
-  shows_host q c = if cached q.number c then invalidates q.act c else to_host q.act && receives (cached q.number) (nodes all) (host_mask Read) c q q.act
+  abbrev pub makes_visible_to_host : Node → Byte → Bool
+  makes_visible_to_host q c = if cached q.number c then invalidates q.act c else to_host q.act && makes_writes_visible (cached q.number) (nodes all) (host_mask Read) c q q.act
 
   -- And to an agent.
-  abbrev pub shows : Node → ℕ → Byte → Bool
-  shows q zero c = shows_host q c
-  shows q (suc k) c = shows_queue q k c
+  abbrev pub makes_visible_to : Node → ℕ → Byte → Bool
+  makes_visible_to q zero c = makes_visible_to_host q c
+  makes_visible_to q (suc k) c = makes_visible_to_queue q k c
 
   -- Each task accesses memory through the cache of its queue or of the host (Vulkan, "Execution and Memory Dependencies").
   abbrev pub caching_of : Caching
   caching_of = record {
     agent = λ t. elim (node_at all t.node) [ None ↦ 0 | Some n ↦ agent_of n ];
     makes_available = λ p w c. (accesses_of all).has w && holds (node_at all p.node) (λ m. holds (node_at all w.node) (λ n. sends_write m n c));
-    makes_visible = λ q a c. holds (node_at all q.node) (λ n. shows n a c);
+    makes_visible = λ q a c. holds (node_at all q.node) (λ n. makes_visible_to n a c);
   }
 
 -- In a trace without a fault what one queue or the host wrote another reads only when it was made visible to it, and overwrites only when it was made available (Vulkan, "Execution and Memory Dependencies", on data hazards).

@@ -55,4 +55,4 @@ pub record TraceMeetsPremises : Type 0 where
   pub reads_byte : Reads (with_discards points) (task 11) (in_buffer 1 0)
   pub defined : value_before points 11 (in_buffer 1 0) ≡ Some 1
   pub state : (cells : Byte → Cell) × Reached (with_discards points) (caching_of points) run cells
-  pub sees : (cells : Byte → Cell) → Reached (with_discards points) (caching_of points) run cells → view 0 (cells (in_buffer 1 0)) ≡ 1
+  pub is_seen : (cells : Byte → Cell) → Reached (with_discards points) (caching_of points) run cells → view 0 (cells (in_buffer 1 0)) ≡ 1

@@ -2,7 +2,7 @@
 ghost use Rattle.std.specs.Prelude.{◌≡◌, ℕ, ◌<◌, List, length, Option, Some, None, IsTrue, ◌↔◌};
 ghost use Rattle.vk_model.specs.World.{Byte, in_buffer};
 ghost use Rattle.vk_laws.specs.Machine.{Conflict, HazardFree, IsIn, IsModel, MayRun, Reads, Task, TraceAccesses};
-ghost use Rattle.vk_laws.specs.Caches.{CacheFree, Caching, Cell, Reached, shown_by};
+ghost use Rattle.vk_laws.specs.Caches.{CacheFree, Caching, Cell, Reached, value_through};
 ghost use Rattle.vk_laws.specs.Reader.{cells_of, held_as};
 ghost use Rattle.vk_laws.specs.Discards.{with_discards};
 ghost use Rattle.vk_laws.specs.TraceBytes.{value_before};
@@ -44,8 +44,8 @@ pub struct Memory {
 }
 
 /// What a cache and the region show of a byte.
-fn shown(copied: Copied, region: u8) -> u8
-    ensures { result ≡ shown_by (held_as copied) region }
+fn value_through(copied: Copied, region: u8) -> u8
+    ensures { result ≡ value_through (held_as copied) region }
 {
     match copied {
         Copied::Nothing => region,
@@ -64,7 +64,7 @@ impl Memory {
             → Reached tr ca done (cells_of self.now) → MayRun tr done t → ca.agent t ≡ 1 → Reads tr t (in_buffer 0 at) → value t.node (in_buffer 0 at) ≡ Some v → result ≡ v }
     {
         every_order();
-        shown(self.second.bytes[at], self.region[at])
+        value_through(self.second.bytes[at], self.region[at])
     }
 
     /// What the host reads at a byte, with the first cache as its own: the model's value, when the host's
@@ -78,7 +78,7 @@ impl Memory {
             → Reads (with_discards (plain_order t)) next (in_buffer 0 at) → value_before (plain_order t) next.node (in_buffer 0 at) ≡ Some v → result ≡ v }
     {
         cached_trace_is_fresh();
-        shown(self.first.bytes[at], self.region[at])
+        value_through(self.first.bytes[at], self.region[at])
     }
 }
 

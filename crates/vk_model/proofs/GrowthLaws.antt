@@ -1,4 +1,4 @@
--- A node that comes changes no edge, no order and no sight among those that were there.
+-- A node that comes changes no edge, no order and no visibility among those that were there.
 use Rattle.std.proofs.Common.{◌≡◌, ℕ, zero, suc, ◌<◌, ◌≤◌, List, [], ◌∷◌, ◌++◌, length, Bool, true, false, ◌&&◌, ◌||◌, refl, ap, sym, ◌∙◌, arith, inl, inr, ◌⊎◌}
 use Rattle.std.specs.Prelude.{nat_lt, nat_le, Contains, if◌then◌else◌}
 use Rattle.std.specs.List.{list_any, filter}
@@ -108,34 +108,34 @@ module _ (n : Node) (ns : List Node) (new : n.number ≡ length ns) where
     visible-older w a q (Signals s) k b lt = refl
 
     -- what makes a write by w available, as p, and visible to a, as q
-    abbrev shows : List Node → Node → Node → Access → Byte → Node → Node → Bool
-    shows all w a k b p q = (same_node p q || before all p q) && visible_by cached all w a a.act k b q && (same_node q a || before all q a)
+    abbrev reaches_by : List Node → Node → Node → Access → Byte → Node → Node → Bool
+    reaches_by all w a k b p q = (same_node p q || before all p q) && visible_by cached all w a a.act k b q && (same_node q a || before all q a)
 
-    shows-new : (w a p : Node) (k : Access) (b : Byte) → a.number < length ns → shows (n ∷ ns) w a k b p n ≡ false
-    shows-new w a p k b lt = rw (same_not a lt, before-new a lt) (and-false ((same_node p n || before (n ∷ ns) p n) && visible_by cached (n ∷ ns) w a a.act k b n))
+    reaches_by-new : (w a p : Node) (k : Access) (b : Byte) → a.number < length ns → reaches_by (n ∷ ns) w a k b p n ≡ false
+    reaches_by-new w a p k b lt = rw (same_not a lt, before-new a lt) (and-false ((same_node p n || before (n ∷ ns) p n) && visible_by cached (n ∷ ns) w a a.act k b n))
 
-    shows-older : (w a p q : Node) (k : Access) (b : Byte) → a.number < length ns → q.number < length ns → shows (n ∷ ns) w a k b p q ≡ shows ns w a k b p q
-    shows-older w a p q k b lt low = rw (before-older p q low, visible-older w a q a.act k b lt, before-older q a lt) refl
+    reaches_by-older : (w a p q : Node) (k : Access) (b : Byte) → a.number < length ns → q.number < length ns → reaches_by (n ∷ ns) w a k b p q ≡ reaches_by ns w a k b p q
+    reaches_by-older w a p q k b lt low = rw (before-older p q low, visible-older w a q a.act k b lt, before-older q a lt) refl
 
     -- nothing is shown by the new node as p
-    from-new : (w a q : Node) (k : Access) (b : Byte) → q.number < length ns → shows (n ∷ ns) w a k b n q ≡ false
+    from-new : (w a q : Node) (k : Access) (b : Byte) → q.number < length ns → reaches_by (n ∷ ns) w a k b n q ≡ false
     from-new w a q k b low = rw (same_not q low, before-new q low) refl
 
-    shown-older : (w a p : Node) (k : Access) (b : Byte) → a.number < length ns → list_any (shows (n ∷ ns) w a k b p) (n ∷ ns) ≡ list_any (shows ns w a k b p) ns
-    shown-older w a p k b lt =
-        rw (shows-new w a p k b lt)
-        (any_same (shows (n ∷ ns) w a k b p) (shows ns w a k b p) ns (λ q c. shows-older w a p q k b lt (number_below ns numbers q c)))
+    reached_by-older : (w a p : Node) (k : Access) (b : Byte) → a.number < length ns → list_any (reaches_by (n ∷ ns) w a k b p) (n ∷ ns) ≡ list_any (reaches_by ns w a k b p) ns
+    reached_by-older w a p k b lt =
+        rw (reaches_by-new w a p k b lt)
+        (any_same (reaches_by (n ∷ ns) w a k b p) (reaches_by ns w a k b p) ns (λ q c. reaches_by-older w a p q k b lt (number_below ns numbers q c)))
 
-    shown-from-new : (w a : Node) (k : Access) (b : Byte) → a.number < length ns → list_any (shows (n ∷ ns) w a k b n) (n ∷ ns) ≡ false
-    shown-from-new w a k b lt =
-        rw (shows-new w a n k b lt)
-        (none_passes_any (shows (n ∷ ns) w a k b n) ns (λ q c. from-new w a q k b (number_below ns numbers q c)))
+    reached_by-from-new : (w a : Node) (k : Access) (b : Byte) → a.number < length ns → list_any (reaches_by (n ∷ ns) w a k b n) (n ∷ ns) ≡ false
+    reached_by-from-new w a k b lt =
+        rw (reaches_by-new w a n k b lt)
+        (none_passes_any (reaches_by (n ∷ ns) w a k b n) ns (λ q c. from-new w a q k b (number_below ns numbers q c)))
 
     pub seen-older : (w a : Node) (k : Access) (b : Byte) → a.number < length ns → seen cached (n ∷ ns) w a k b ≡ seen cached ns w a k b
     unfolding seen
     seen-older w a k b lt =
-        rw (shown-from-new w a k b lt, and-false (available_by cached (n ∷ ns) w w.act b n))
-        (any_same _ _ ns (λ p c. rw (available-older w p w.act b (number_below ns numbers p c), shown-older w a p k b lt) refl))
+        rw (reached_by-from-new w a k b lt, and-false (available_by cached (n ∷ ns) w w.act b n))
+        (any_same _ _ ns (λ p c. rw (available-older w p w.act b (number_below ns numbers p c), reached_by-older w a p k b lt) refl))
 
 -- ---- many nodes more
 
@@ -144,7 +144,7 @@ kept_one old n ns old_numbers numbers new kept le = record {
   stand = (n ∷ kept.stand.0, ap (λ (l : List Node). n ∷ l) kept.stand.1);
   edges = λ m k c. edge-older n ns new m k (low k c) ∙ kept.edges m k c;
   orders = λ m k c. before-older n ns new m k (low k c) ∙ kept.orders m k c;
-  sights = λ cached w a k b c. seen-older n ns new numbers cached w a k b (low a c) ∙ kept.sights cached w a k b c;
+  visibilities = λ cached w a k b c. seen-older n ns new numbers cached w a k b (low a c) ∙ kept.visibilities cached w a k b c;
 }
   where
     low : (k : Node) → Contains old k → k.number < length ns
@@ -157,7 +157,7 @@ kept_acts old p (a ∷ more) ns old_numbers numbers kept le =
     (kept_one old (record { number = length ns; point = p; act = a }) ns old_numbers numbers refl kept le) (omega arith)
 
 kept_points : (past more : Past) → Keeps (nodes past) (nodes (more ++ past)) × (length (nodes past) ≤ length (nodes (more ++ past)))
-kept_points past [] = (record { stand = ([], refl); edges = λ m n c. refl; orders = λ m n c. refl; sights = λ cached w a k b c. refl }, omega arith)
+kept_points past [] = (record { stand = ([], refl); edges = λ m n c. refl; orders = λ m n c. refl; visibilities = λ cached w a k b c. refl }, omega arith)
 kept_points past (p ∷ more) =
     let kept = kept_points past more in
     kept_acts (nodes past) p (acts p.action) (nodes (more ++ past)) (numbered past) (numbered (more ++ past)) kept.0 kept.1

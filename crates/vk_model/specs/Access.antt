@@ -92,21 +92,21 @@ module _ (past : Past) where
   abbrev pub writes : Node → List Byte
   writes n = writes_of past n.point.queue n.act
 
-  -- Whether node a's access of a byte sees node w's write.
-  abbrev pub sees : Node → Node → Access → Byte → Bool
-  sees w a k b = seen (λ c. is_cached past (resource_at c)) (nodes past) w a k b
+  -- Whether node w's write of a byte is seen by node a's access.
+  abbrev pub is_seen : Node → Node → Access → Byte → Bool
+  is_seen w a k b = seen (λ c. is_cached past (resource_at c)) (nodes past) w a k b
 
   -- Write after read: y writes a byte that x reads, without an execution dependency (Vulkan, "Execution and Memory Dependencies").
   abbrev pub war : Node → Node → Bool
   war x y = share (reads x) (writes y) && not (before (nodes past) x y)
 
-  -- Read after write: y reads a byte that x writes, and doesn't see it (Vulkan, "Execution and Memory Dependencies"). Writes that were overwritten count too (profile).
+  -- Read after write: y reads a byte that x writes, and the write isn't seen by it (Vulkan, "Execution and Memory Dependencies"). Writes that were overwritten count too (profile).
   abbrev pub raw : Node → Node → Bool
-  raw x y = list_any (λ b. is_in b (writes x) && not (sees x y Read b)) (reads y)
+  raw x y = list_any (λ b. is_in b (writes x) && not (is_seen x y Read b)) (reads y)
 
   -- Write after write: y writes a byte that x writes, without a memory dependency (Vulkan, "Execution and Memory Dependencies"). Writes that were overwritten count too (profile).
   abbrev pub waw : Node → Node → Bool
-  waw x y = list_any (λ b. is_in b (writes x) && not (sees x y Write b)) (writes y)
+  waw x y = list_any (λ b. is_in b (writes x) && not (is_seen x y Write b)) (writes y)
 
 -- Whether a node of a point that comes next has a hazard of this kind with an earlier node.
 abbrev pub hazard : (Past → Node → Node → Bool) → Past → Point → Bool

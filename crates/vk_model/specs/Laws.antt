@@ -39,14 +39,14 @@ pub record IsFirst (t : List Entry) (told : At) (r : Rule) : Type 0 where
 abbrev pub FaultIsFirst : Type 0
 FaultIsFirst = (t : List Entry) (told : At) (r : Rule) → first_fault t ≡ Some (told, r) → IsFirst t told r
 
--- Among the old nodes every edge, order and sight is as it was when these were all.
+-- Among the old nodes every edge, order and visibility is as it was when these were all.
 pub record Keeps (old new : List Node) : Type 0 where
   pub stand : (front : List Node) × (new ≡ front ++ old)
   pub edges : (m n : Node) → Contains old n → edge new m n ≡ edge old m n
   pub orders : (m n : Node) → Contains old n → before new m n ≡ before old m n
-  pub sights : (cached : Byte → Bool) (w a : Node) (k : Access) (b : Byte) → Contains old a → seen cached new w a k b ≡ seen cached old w a k b
+  pub visibilities : (cached : Byte → Bool) (w a : Node) (k : Access) (b : Byte) → Contains old a → seen cached new w a k b ≡ seen cached old w a k b
 
--- Points that come change no edge, no order and no sight among the nodes that were there.
+-- Points that come change no edge, no order and no visibility among the nodes that were there.
 abbrev pub GrowthKeeps : Type 0
 GrowthKeeps = (past more : Past) → Keeps (nodes past) (nodes (more ++ past))
 

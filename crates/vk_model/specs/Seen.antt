@@ -83,22 +83,22 @@ module _ (cached : Byte → Bool) (ns : List Node) where
   passes test m n = list_any (λ f. test f.act && before ns m f && before ns f n) ns
 
   -- Whether a node makes commands' writes of a byte available: a barrier's or set's element that has the write in its source accesses and is no acquire, or a signal (Vulkan, "Execution and Memory Dependencies" and "Semaphore Signaling"; an acquire's is ignored: "Queue Family Ownership Transfer").
-  abbrev pub sends : Node → Byte → Act → Bool
-  sends p b (Depends r e) = not (is_await r) && not (is_acquire p.point.queue e) && has_some (dependency_of e).source_accesses.0 (command_mask Write) && covers e b
-  sends p b (Signals s) = true
-  sends p b _ = false
+  abbrev pub makes_writes_available : Node → Byte → Act → Bool
+  makes_writes_available p b (Depends r e) = not (is_await r) && not (is_acquire p.point.queue e) && has_some (dependency_of e).source_accesses.0 (command_mask Write) && covers e b
+  makes_writes_available p b (Signals s) = true
+  makes_writes_available p b _ = false
 
   -- Node p makes the write of a byte by node w, whose act is given, available: a command's by a node with an edge from it; a transition's by itself; a host's by a later submit, after a flush where the memory is cached (Vulkan, "Execution and Memory Dependencies", "Image Layout Transitions" and "Host Write Ordering Guarantees").
   abbrev pub available_by : Node → Act → Byte → Node → Bool
-  available_by w (Runs c) b p = edge ns w p && sends p b p.act
+  available_by w (Runs c) b p = edge ns w p && makes_writes_available p b p.act
   available_by w (Depends r e) b p = same_node w p
   available_by w (Hosts x) b p = is_submit p.act && before ns w p && (not (cached b) || passes (λ f. flushes f b) w p)
   available_by w _ b p = false
 
   -- Whether an element makes available writes of a byte visible to accesses under a mask: a barrier's or await's that has one of them in its destination accesses and is no release (Vulkan, "Execution and Memory Dependencies"; a release's is ignored: "Queue Family Ownership Transfer").
-  abbrev pub receives : ℕ → Byte → Node → Act → Bool
-  receives mask b q (Depends r e) = not (is_set r) && not (is_release q.point.queue e) && has_some (dependency_of e).destination_accesses.0 mask && covers e b
-  receives mask b q _ = false
+  abbrev pub makes_writes_visible : ℕ → Byte → Node → Act → Bool
+  makes_writes_visible mask b q (Depends r e) = not (is_set r) && not (is_release q.point.queue e) && has_some (dependency_of e).destination_accesses.0 mask && covers e b
+  makes_writes_visible mask b q _ = false
 
   -- Whether a host access needs an invalidation: a read of cached memory (Vulkan, "Host Access to Device Memory Objects").
   abbrev pub needs_invalidation : Access → Byte → Bool
@@ -107,9 +107,9 @@ module _ (cached : Byte → Bool) (ns : List Node) where
 
   -- Node q makes the write of a byte by w visible to an access by node a, whose act is given: a command's by a node with an edge to it; a transition's by itself; a host's by a dependency to the host, with an invalidation after it where one is needed (Vulkan, "Execution and Memory Dependencies", "Semaphore Waiting", "Host Write Ordering Guarantees" and "Host Access to Device Memory Objects").
   abbrev pub visible_by : Node → Node → Act → Access → Byte → Node → Bool
-  visible_by w a (Runs c) k b q = edge ns q a && (receives (command_mask k) b q q.act || is_wait q.act || is_host w.act && is_submit q.act)
+  visible_by w a (Runs c) k b q = edge ns q a && (makes_writes_visible (command_mask k) b q q.act || is_wait q.act || is_host w.act && is_submit q.act)
   visible_by w a (Depends r e) k b q = same_node q a
-  visible_by w a (Hosts x) k b q = before ns q a && to_host q.act && receives (host_mask k) b q q.act
+  visible_by w a (Hosts x) k b q = before ns q a && to_host q.act && makes_writes_visible (host_mask k) b q q.act
       && (not (needs_invalidation k b) || passes (λ f. invalidates f b) q a)
   visible_by w a _ k b q = false
 

@@ -22,7 +22,7 @@ pub fn table_is_whole()
     ensures { TableIsWhole }
 {}
 
-/// Points that come change no edge, no order and no sight among the nodes that were there.
+/// Points that come change no edge, no order and no visibility among the nodes that were there.
 pub fn growth_keeps()
     ensures { GrowthKeeps }
 {}

@@ -72,8 +72,8 @@ related test t m n =
     holds (slice_get (reverse ns) m) (λ x. holds (slice_get (reverse ns) n) (test ns x))
 
 -- Whether the read of byte 0 of buffer 1 by one node sees the write by another.
-abbrev pub sees_byte : List Node → Node → Node → Bool
-sees_byte ns w a = seen (λ b. false) ns w a Read (in_buffer 1 0)
+abbrev pub seen_byte : List Node → Node → Node → Bool
+seen_byte ns w a = seen (λ b. false) ns w a Read (in_buffer 1 0)
 
 -- ---- what may run next
 
@@ -145,10 +145,10 @@ pub record Work : Type 0 where
   pub linear_pitch : row_pitch (nine_by_five kind.Linear) ≡ 64
   -- The fill comes before the host's read, which sees it.
   pub fill_before_read : related before (upload to_host) 3 8 ≡ true
-  pub read_sees_fill : related sees_byte (upload to_host) 3 8 ≡ true
+  pub read_seen_fill : related seen_byte (upload to_host) 3 8 ≡ true
   -- Without the barrier it comes before the read all the same, which doesn't see it.
   pub still_before : related before (upload []) 3 7 ≡ true
-  pub not_seen : related sees_byte (upload []) 3 7 ≡ false
+  pub not_seen : related seen_byte (upload []) 3 7 ≡ false
   -- The fill is ordered directly before the signal.
   pub fill_to_signal : related edge (upload to_host) 3 5 ≡ true
   -- The fill after the barrier waits for the first one; that on the other queue doesn't.

@@ -37,9 +37,9 @@ fn expect_run(rt: &impl Abort, alloc: Global, input: &[u8], output: &str, ending
         assert!(rt; written.is_empty());
         (got, written) = run_bytes(alloc, input);
     }
-    let shown = str::from_utf8(input).unwrap_or("bytes that are no text");
-    assert_eq!(rt; got, ending, "at {shown}");
-    assert_eq!(rt; written.as_slice(), output.as_bytes(), "at {shown}");
+    let input_text = str::from_utf8(input).unwrap_or("bytes that are no text");
+    assert_eq!(rt; got, ending, "at {input_text}");
+    assert_eq!(rt; written.as_slice(), output.as_bytes(), "at {input_text}");
 }
 
 /// Expects that no front of a trace is a trace.

@@ -15,10 +15,10 @@ use Rattle.vk_validate.specs.declared.clocks.Order.{Order}
 use Rattle.vk_validate.proofs.Acts.{is_supported_act}
 use Rattle.vk_validate.proofs.Truths.{no, clash}
 use Rattle.vk_validate.proofs.Growth.{number_below, numbered}
-use Rattle.vk_validate.proofs.Freed.{Freed, Shown, Via, ShownVia, leads_to_transfers, leads_to_writes, leads_to_host, leads_to_reads, freed_stands, shown_stands, via_splits, via_stays, via_new, shown_splits, shown_via_stays}
+use Rattle.vk_validate.proofs.Available.{Available, Visible, Via, VisibleVia, leads_to_transfers, leads_to_writes, leads_to_host, leads_to_reads, available_stands, visible_stands, via_splits, via_stays, via_new, visible_splits, visible_via_stays}
 use Rattle.vk_validate.proofs.Causes.{into_host, into_command}
 use Rattle.vk_validate.proofs.Waits.{IsRising, AnyLinked, waits_join, linked_by, edge_of}
-use Rattle.vk_validate.proofs.Clocked.{Means, reads_signal, semaphore_edge, all_below, freed_from, freed_by, shown_from, shown_by, keeps, keeps_shown, keeps_commands}
+use Rattle.vk_validate.proofs.Clocked.{Means, reads_signal, semaphore_edge, all_below, available_from, available_by, visible_from, visible_through, keeps, keeps_visible, keeps_commands}
 
 -- waits change the host's clock alone
 waits_host : (past : Past) (signals : List Signaled) (ws : List SemaphoreValue) (o : Order) → after_waits past signals ws o ≡ record o { host = (after_waits past signals ws o).host }
@@ -31,29 +31,29 @@ waits_host past signals (w ∷ ws) o = go (awaited past signals w) (waits_host p
 -- ---- a host entry
 
 module _ (past : Past) (cleared : IsCleared past) (simple : (m : Node) → Contains (nodes past) m → is_supported_act m.act ≡ true) (w : Node) (j : ℕ) (signals : List Signaled) (rising : IsRising signals)
-    (forward : (x : Signaled) → Contains signals x → (m : Node) × Contains (nodes past) m × (signaled_by m.act ≡ Some (x.semaphore, x.value)) × (Freed (nodes past) w m ↔ (j < x.clock.available)) × (Shown (nodes past) w m ↔ (j < x.clock.readable)))
-    (backward : (m : Node) → Contains (nodes past) m → (s v : ℕ) → signaled_by m.act ≡ Some (s, v) → (x : Signaled) × Contains signals x × (x.semaphore ≡ s) × (x.value ≡ v) × (Freed (nodes past) w m ↔ (j < x.clock.available)) × (Shown (nodes past) w m ↔ (j < x.clock.readable)))
+    (forward : (x : Signaled) → Contains signals x → (m : Node) × Contains (nodes past) m × (signaled_by m.act ≡ Some (x.semaphore, x.value)) × (Available (nodes past) w m ↔ (j < x.clock.available)) × (Visible (nodes past) w m ↔ (j < x.clock.readable)))
+    (backward : (m : Node) → Contains (nodes past) m → (s v : ℕ) → signaled_by m.act ≡ Some (s, v) → (x : Signaled) × Contains signals x × (x.semaphore ≡ s) × (x.value ≡ v) × (Available (nodes past) w m ↔ (j < x.clock.available)) × (Visible (nodes past) w m ↔ (j < x.clock.readable)))
     (p : Point) (x : Entry) (ws : List SemaphoreValue) (waits : host_waits x ≡ map (λ (w : SemaphoreValue). (w.semaphore, w.value)) ws) (o : Order) (means : Means o (nodes past) w j) where
   abbrev n : Node
   n = record { number = length (nodes past); point = p; act = Hosts x }
 
-  forward_freed : (x : Signaled) → Contains signals x → (m : Node) × Contains (nodes past) m × (signaled_by m.act ≡ Some (x.semaphore, x.value)) × (Freed (nodes past) w m ↔ (j < x.clock.available))
-  forward_freed x c = let f = forward x c in (f.0, f.1, f.2, f.3)
+  forward_available : (x : Signaled) → Contains signals x → (m : Node) × Contains (nodes past) m × (signaled_by m.act ≡ Some (x.semaphore, x.value)) × (Available (nodes past) w m ↔ (j < x.clock.available))
+  forward_available x c = let f = forward x c in (f.0, f.1, f.2, f.3)
 
-  forward_shown : (x : Signaled) → Contains signals x → (m : Node) × Contains (nodes past) m × (signaled_by m.act ≡ Some (x.semaphore, x.value)) × (Shown (nodes past) w m ↔ (j < x.clock.readable))
-  forward_shown x c = let f = forward x c in (f.0, f.1, f.2, f.4)
+  forward_visible : (x : Signaled) → Contains signals x → (m : Node) × Contains (nodes past) m × (signaled_by m.act ≡ Some (x.semaphore, x.value)) × (Visible (nodes past) w m ↔ (j < x.clock.readable))
+  forward_visible x c = let f = forward x c in (f.0, f.1, f.2, f.4)
 
-  backward_freed : (m : Node) → Contains (nodes past) m → (s v : ℕ) → signaled_by m.act ≡ Some (s, v) → (x : Signaled) × Contains signals x × (x.semaphore ≡ s) × (x.value ≡ v) × (Freed (nodes past) w m ↔ (j < x.clock.available))
-  backward_freed m c s v e = let f = backward m c s v e in (f.0, f.1, f.2, f.3, f.4)
+  backward_available : (m : Node) → Contains (nodes past) m → (s v : ℕ) → signaled_by m.act ≡ Some (s, v) → (x : Signaled) × Contains signals x × (x.semaphore ≡ s) × (x.value ≡ v) × (Available (nodes past) w m ↔ (j < x.clock.available))
+  backward_available m c s v e = let f = backward m c s v e in (f.0, f.1, f.2, f.3, f.4)
 
-  backward_shown : (m : Node) → Contains (nodes past) m → (s v : ℕ) → signaled_by m.act ≡ Some (s, v) → (x : Signaled) × Contains signals x × (x.semaphore ≡ s) × (x.value ≡ v) × (Shown (nodes past) w m ↔ (j < x.clock.readable))
-  backward_shown m c s v e = let f = backward m c s v e in (f.0, f.1, f.2, f.3, f.5)
+  backward_visible : (m : Node) → Contains (nodes past) m → (s v : ℕ) → signaled_by m.act ≡ Some (s, v) → (x : Signaled) × Contains signals x × (x.semaphore ≡ s) × (x.value ≡ v) × (Visible (nodes past) w m ↔ (j < x.clock.readable))
+  backward_visible m c s v e = let f = backward m c s v e in (f.0, f.1, f.2, f.3, f.5)
 
-  abbrev LinkedFreed : Type 0
-  LinkedFreed = AnyLinked (nodes past) signals rising (Freed (nodes past) w) (λ c. c.available) (λ c d u. u.0) (λ c d. refl) j forward_freed backward_freed past cleared refl ws
+  abbrev LinkedAvailable : Type 0
+  LinkedAvailable = AnyLinked (nodes past) signals rising (Available (nodes past) w) (λ c. c.available) (λ c d u. u.0) (λ c d. refl) j forward_available backward_available past cleared refl ws
 
-  abbrev LinkedShown : Type 0
-  LinkedShown = AnyLinked (nodes past) signals rising (Shown (nodes past) w) (λ c. c.readable) (λ c d u. u.1) (λ c d. refl) j forward_shown backward_shown past cleared refl ws
+  abbrev LinkedVisible : Type 0
+  LinkedVisible = AnyLinked (nodes past) signals rising (Visible (nodes past) w) (λ c. c.readable) (λ c d u. u.1) (λ c d. refl) j forward_visible backward_visible past cleared refl ws
 
   low : (m : Node) → Contains (nodes past) m → m.number < length (nodes past)
   low m c = number_below (nodes past) (numbered past) m c
@@ -67,42 +67,42 @@ module _ (past : Past) (cleared : IsCleared past) (simple : (m : Node) → Conta
   among_all : (m : Node) → by_semaphore (earlier n (nodes past)) m n ≡ true → by_semaphore (nodes past) m n ≡ true
   among_all m e = subst (λ (l : List Node). by_semaphore l m n ≡ true) earlier_is e
 
-  freed_to : Freed (n ∷ nodes past) w n → Via (nodes past) w is_host ⊎ LinkedFreed
-  freed_to f = elim (freed_from n (nodes past) refl (numbered past) w j f) [
+  available_to : Available (n ∷ nodes past) w n → Via (nodes past) w is_host ⊎ LinkedAvailable
+  available_to f = elim (available_from n (nodes past) refl (numbered past) w j f) [
     | inl sent ↦ no sent.1
-    | inr m ↦ (let c = freed_stands (nodes past) w m.0 m.1 in elim (into_host (nodes past) m.0 (length (nodes past)) p x (simple m.0 c) m.2) [
-      | inl host ↦ inl (record { node = m.0; passes = host; freed = m.1 })
-      | inr sem ↦ inr (linked_by (nodes past) signals rising (Freed (nodes past) w) (λ c. c.available) (λ c d u. u.0) (λ c d. refl) j forward_freed backward_freed past cleared refl ws (length (nodes past)) p x waits m.0 c m.1 (among_all m.0 sem))
+    | inr m ↦ (let c = available_stands (nodes past) w m.0 m.1 in elim (into_host (nodes past) m.0 (length (nodes past)) p x (simple m.0 c) m.2) [
+      | inl host ↦ inl (record { node = m.0; passes = host; made_available = m.1 })
+      | inr sem ↦ inr (linked_by (nodes past) signals rising (Available (nodes past) w) (λ c. c.available) (λ c d u. u.0) (λ c d. refl) j forward_available backward_available past cleared refl ws (length (nodes past)) p x waits m.0 c m.1 (among_all m.0 sem))
     ])
   ]
 
-  freed_back : LinkedFreed → Freed (n ∷ nodes past) w n
-  freed_back l =
-      let m = edge_of (nodes past) signals rising (Freed (nodes past) w) (λ c. c.available) (λ c d u. u.0) (λ c d. refl) j forward_freed backward_freed past cleared refl ws (length (nodes past)) p x waits l in
-      freed_by n (nodes past) refl (numbered past) w j m.0 m.2 (linked_edge m.0 m.1 m.3)
+  available_back : LinkedAvailable → Available (n ∷ nodes past) w n
+  available_back l =
+      let m = edge_of (nodes past) signals rising (Available (nodes past) w) (λ c. c.available) (λ c d u. u.0) (λ c d. refl) j forward_available backward_available past cleared refl ws (length (nodes past)) p x waits l in
+      available_by n (nodes past) refl (numbered past) w j m.0 m.2 (linked_edge m.0 m.1 m.3)
 
-  shown_to : Shown (n ∷ nodes past) w n → ShownVia (nodes past) w is_host ⊎ LinkedShown
-  shown_to s = elim (shown_from n (nodes past) refl (numbered past) w j s) [
-    | inl q ↦ (let c = freed_stands (nodes past) w q.0 q.1 in let none = reads_signal q.0.act q.2 in elim (into_host (nodes past) q.0 (length (nodes past)) p x (simple q.0 c) q.3) [
+  visible_to : Visible (n ∷ nodes past) w n → VisibleVia (nodes past) w is_host ⊎ LinkedVisible
+  visible_to s = elim (visible_from n (nodes past) refl (numbered past) w j s) [
+    | inl q ↦ (let c = available_stands (nodes past) w q.0 q.1 in let none = reads_signal q.0.act q.2 in elim (into_host (nodes past) q.0 (length (nodes past)) p x (simple q.0 c) q.3) [
       | inl host ↦ clash host none.0
       | inr sem ↦ no (sym (rw none.1 refl) ∙ sem)
     ])
-    | inr m ↦ (let c = shown_stands (nodes past) w m.0 m.1 in elim (into_host (nodes past) m.0 (length (nodes past)) p x (simple m.0 c) m.2) [
-      | inl host ↦ inl (record { node = m.0; passes = host; shown = m.1 })
-      | inr sem ↦ inr (linked_by (nodes past) signals rising (Shown (nodes past) w) (λ c. c.readable) (λ c d u. u.1) (λ c d. refl) j forward_shown backward_shown past cleared refl ws (length (nodes past)) p x waits m.0 c m.1 (among_all m.0 sem))
+    | inr m ↦ (let c = visible_stands (nodes past) w m.0 m.1 in elim (into_host (nodes past) m.0 (length (nodes past)) p x (simple m.0 c) m.2) [
+      | inl host ↦ inl (record { node = m.0; passes = host; made_visible = m.1 })
+      | inr sem ↦ inr (linked_by (nodes past) signals rising (Visible (nodes past) w) (λ c. c.readable) (λ c d u. u.1) (λ c d. refl) j forward_visible backward_visible past cleared refl ws (length (nodes past)) p x waits m.0 c m.1 (among_all m.0 sem))
     ])
   ]
 
-  shown_back : LinkedShown → Shown (n ∷ nodes past) w n
-  shown_back l =
-      let m = edge_of (nodes past) signals rising (Shown (nodes past) w) (λ c. c.readable) (λ c d u. u.1) (λ c d. refl) j forward_shown backward_shown past cleared refl ws (length (nodes past)) p x waits l in
-      shown_by n (nodes past) refl (numbered past) w j m.0 m.2 (linked_edge m.0 m.1 m.3)
+  visible_back : LinkedVisible → Visible (n ∷ nodes past) w n
+  visible_back l =
+      let m = edge_of (nodes past) signals rising (Visible (nodes past) w) (λ c. c.readable) (λ c d u. u.1) (λ c d. refl) j forward_visible backward_visible past cleared refl ws (length (nodes past)) p x waits l in
+      visible_through n (nodes past) refl (numbered past) w j m.0 m.2 (linked_edge m.0 m.1 m.3)
 
-  joined_freed : (Via (nodes past) w is_host ⊎ LinkedFreed) ↔ (j < (after_waits past signals ws o).host.available)
-  joined_freed = waits_join (nodes past) signals rising (Freed (nodes past) w) (λ c. c.available) (λ c d u. u.0) (λ c d. refl) j forward_freed backward_freed past cleared refl ws o (Via (nodes past) w is_host) means.hosts
+  joined_available : (Via (nodes past) w is_host ⊎ LinkedAvailable) ↔ (j < (after_waits past signals ws o).host.available)
+  joined_available = waits_join (nodes past) signals rising (Available (nodes past) w) (λ c. c.available) (λ c d u. u.0) (λ c d. refl) j forward_available backward_available past cleared refl ws o (Via (nodes past) w is_host) means.hosts
 
-  joined_shown : (ShownVia (nodes past) w is_host ⊎ LinkedShown) ↔ (j < (after_waits past signals ws o).host.readable)
-  joined_shown = waits_join (nodes past) signals rising (Shown (nodes past) w) (λ c. c.readable) (λ c d u. u.1) (λ c d. refl) j forward_shown backward_shown past cleared refl ws o (ShownVia (nodes past) w is_host) means.shown_hosts
+  joined_visible : (VisibleVia (nodes past) w is_host ⊎ LinkedVisible) ↔ (j < (after_waits past signals ws o).host.readable)
+  joined_visible = waits_join (nodes past) signals rising (Visible (nodes past) w) (λ c. c.readable) (λ c d u. u.1) (λ c d. refl) j forward_visible backward_visible past cleared refl ws o (VisibleVia (nodes past) w is_host) means.visible_hosts
 
   -- the thresholds after the waits of a host entry say what they say
   pub host_means : Means (after_waits past signals ws o) (n ∷ nodes past) w j
@@ -112,14 +112,14 @@ module _ (past : Past) (cleared : IsCleared past) (simple : (m : Node) → Conta
     host_stages = keeps n (nodes past) refl (numbered past) w j leads_to_host o.to_host refl means.host_stages;
     host_reads = keeps n (nodes past) refl (numbered past) w j leads_to_reads o.to_host_reads refl means.host_reads;
     signals = keeps n (nodes past) refl (numbered past) w j is_signal o.signals.available refl means.signals;
-    shown_signals = keeps_shown n (nodes past) refl (numbered past) w j is_signal o.signals.readable refl means.shown_signals;
+    visible_signals = keeps_visible n (nodes past) refl (numbered past) w j is_signal o.signals.readable refl means.visible_signals;
     hosts = (
-      λ v. elim (via_splits n (nodes past) refl (numbered past) w is_host v) [ inl old ↦ joined_freed.0 (inl old) | inr here ↦ joined_freed.0 (freed_to here.1) ],
-      λ lt. elim (joined_freed.1 lt) [ inl old ↦ via_stays n (nodes past) refl (numbered past) w is_host old | inr l ↦ via_new n (nodes past) refl (numbered past) w is_host refl (freed_back l) ],
+      λ v. elim (via_splits n (nodes past) refl (numbered past) w is_host v) [ inl old ↦ joined_available.0 (inl old) | inr here ↦ joined_available.0 (available_to here.1) ],
+      λ lt. elim (joined_available.1 lt) [ inl old ↦ via_stays n (nodes past) refl (numbered past) w is_host old | inr l ↦ via_new n (nodes past) refl (numbered past) w is_host refl (available_back l) ],
     );
-    shown_hosts = (
-      λ v. elim (shown_splits n (nodes past) refl (numbered past) w is_host v) [ inl old ↦ joined_shown.0 (inl old) | inr here ↦ joined_shown.0 (shown_to here.1) ],
-      λ lt. elim (joined_shown.1 lt) [ inl old ↦ shown_via_stays n (nodes past) refl (numbered past) w is_host old | inr l ↦ record { node = n; passes = refl; shown = shown_back l } ],
+    visible_hosts = (
+      λ v. elim (visible_splits n (nodes past) refl (numbered past) w is_host v) [ inl old ↦ joined_visible.0 (inl old) | inr here ↦ joined_visible.0 (visible_to here.1) ],
+      λ lt. elim (joined_visible.1 lt) [ inl old ↦ visible_via_stays n (nodes past) refl (numbered past) w is_host old | inr l ↦ record { node = n; passes = refl; made_visible = visible_back l } ],
     );
     commands = keeps_commands n (nodes past) refl (numbered past) w j refl means.commands;
   })
@@ -137,16 +137,16 @@ module _ (ns : List Node) (numbers : IsNumbered ns) (simple : (m : Node) → Con
         host_stages = keeps n ns refl numbers w j leads_to_host o.to_host refl means.host_stages;
         host_reads = keeps n ns refl numbers w j leads_to_reads o.to_host_reads refl means.host_reads;
         signals = keeps n ns refl numbers w j is_signal o.signals.available refl means.signals;
-        shown_signals = keeps_shown n ns refl numbers w j is_signal o.signals.readable refl means.shown_signals;
+        visible_signals = keeps_visible n ns refl numbers w j is_signal o.signals.readable refl means.visible_signals;
         hosts = keeps n ns refl numbers w j is_host o.host.available refl means.hosts;
-        shown_hosts = keeps_shown n ns refl numbers w j is_host o.host.readable refl means.shown_hosts;
+        visible_hosts = keeps_visible n ns refl numbers w j is_host o.host.readable refl means.visible_hosts;
         commands = λ v. elim (via_splits n ns refl numbers w is_command v) [
           | inl old ↦ elim (means.commands old) [ inl t ↦ inl (via_stays n ns refl numbers w leads_to_transfers t) | inr h ↦ inr (via_stays n ns refl numbers w is_host h) ]
-          | inr here ↦ elim (freed_from n ns refl numbers w j here.1) [
+          | inr here ↦ elim (available_from n ns refl numbers w j here.1) [
             | inl sent ↦ no sent.1
-            | inr m ↦ elim (into_command ns m.0 (length ns) p c (simple m.0 (freed_stands ns w m.0 m.1)) m.2) [
-              | inl host ↦ inr (via_stays n ns refl numbers w is_host (record { node = m.0; passes = host; freed = m.1 }))
-              | inr leads ↦ inl (via_stays n ns refl numbers w leads_to_transfers (record { node = m.0; passes = leads; freed = m.1 }))
+            | inr m ↦ elim (into_command ns m.0 (length ns) p c (simple m.0 (available_stands ns w m.0 m.1)) m.2) [
+              | inl host ↦ inr (via_stays n ns refl numbers w is_host (record { node = m.0; passes = host; made_available = m.1 }))
+              | inr leads ↦ inl (via_stays n ns refl numbers w leads_to_transfers (record { node = m.0; passes = leads; made_available = m.1 }))
             ]
           ]
         ];

@@ -24,10 +24,10 @@ use Rattle.vk_validate.proofs.Members.{contains-cons, contains-tail}
 use Rattle.vk_validate.proofs.Truths.{no, clash}
 use Rattle.vk_validate.proofs.Growth.{number_below}
 use Rattle.vk_validate.proofs.Ordered.{Submitted, host_edge, hosts_follow, submit_hosts, submit_leads, signal_hosts}
-use Rattle.vk_validate.proofs.Freed.{Freed, Shown, Via, leads_to_transfers, leads_to_writes, leads_to_host, leads_to_reads, freed_stands, shown_via, freed_stays, freed_was, shown_splits, shown_via_stays, Passed}
+use Rattle.vk_validate.proofs.Available.{Available, Visible, Via, leads_to_transfers, leads_to_writes, leads_to_host, leads_to_reads, available_stands, visible_via, available_stays, available_was, visible_splits, visible_via_stays, Passed}
 use Rattle.vk_validate.proofs.Causes.{meets, meet_transfers, meet_host, into_element, into_signal, IntoElement, FromHost, FromCommand, FromTransfers, FromElement, IntoSignal, FromHosts, FromSignal, FromToHost}
 use Rattle.vk_validate.proofs.Waits.{max_iff}
-use Rattle.vk_validate.proofs.Clocked.{Means, command_signals, command_hosts, command_leads, reads_to_host, stage_edge, order_edge, freed_from, freed_by, freed_sent, shown_from, shown_begins, keeps, keeps_shown, joins, keeps_commands}
+use Rattle.vk_validate.proofs.Clocked.{Means, command_signals, command_hosts, command_leads, reads_to_host, stage_edge, order_edge, available_from, available_by, available_sent, visible_from, visible_begins, keeps, keeps_visible, joins, keeps_commands}
 
 -- ---- edges of batches
 
@@ -80,10 +80,10 @@ same_itself p = rw (eq-eqb p.entry p.entry refl, eq-eqb p.batch p.batch refl, eq
 module _ (base : List Node) (numbers : IsNumbered base) (simple : (m : Node) → Contains base m → is_supported_act m.act ≡ true) (on_0 : (m : Node) → Contains base m → is_host m.act ≡ false → m.point.queue ≡ 0)
     (p : Point) (queue : p.queue ≡ 0) (submitted : Submitted p.entry base) (w : Node) (j point : ℕ) (stands : Contains base w) (command : is_command w.act ≡ true) (lt : j < point) (o : Order) (means : Means o base w j) where
   -- what has come to some host entry has come to the submit
-  fed : Via base w is_host → Freed base w submitted.node
-  fed v = elim (submitted.newest v.node (freed_stands base w v.node v.freed) v.passes) [
-    | inl same ↦ subst (λ (m : Node). Freed base w m) same v.freed
-    | inr less ↦ Passed v.freed submitted.stands (host_edge base v.node submitted.node less (hosts_follow v.node submitted.node v.passes (submit_hosts submitted.node.act submitted.submits)))
+  fed : Via base w is_host → Available base w submitted.node
+  fed v = elim (submitted.newest v.node (available_stands base w v.node v.made_available) v.passes) [
+    | inl same ↦ subst (λ (m : Node). Available base w m) same v.made_available
+    | inr less ↦ Passed v.made_available submitted.stands (host_edge base v.node submitted.node less (hosts_follow v.node submitted.node v.passes (submit_hosts submitted.node.act submitted.submits)))
   ]
 
   -- ---- an element of a barrier
@@ -94,8 +94,8 @@ module _ (base : List Node) (numbers : IsNumbered base) (simple : (m : Node) →
     pub split : (m : Node) → Contains ns m → ((m.point ≡ p) × (is_element m.act ≡ true)) ⊎ Contains base m
     pub forms : (m : Node) → Contains ns m → is_supported_act m.act ≡ true
     pub grows : (m : Node) → Contains base m → Contains ns m
-    pub up : (m : Node) → Freed base w m → Freed ns w m
-    pub down : (m : Node) → Contains base m → Freed ns w m → Freed base w m
+    pub up : (m : Node) → Available base w m → Available ns w m
+    pub down : (m : Node) → Contains base m → Available ns w m → Available base w m
 
   pub amid_start : Amid base
   amid_start = record { numbering = numbers; split = λ m c. inr c; forms = simple; grows = λ m c. c; up = λ m f. f; down = λ m c f. f }
@@ -108,8 +108,8 @@ module _ (base : List Node) (numbers : IsNumbered base) (simple : (m : Node) →
         split = λ m c. elim (contains-cons n ns m c) [ inl same ↦ inl (ap (λ (k : Node). k.point) (sym same), sym (ap (λ (k : Node). is_element k.act) same)) | inr older ↦ amid.split m older ];
         forms = λ m c. elim (contains-cons n ns m c) [ inl same ↦ sym (ap (λ (k : Node). is_supported_act k.act) same) ∙ memory | inr older ↦ amid.forms m older ];
         grows = λ m c. contains-tail n ns m (amid.grows m c);
-        up = λ m f. freed_stays n ns refl amid.numbering w m (amid.up m f);
-        down = λ m c f. amid.down m c (freed_was n ns refl amid.numbering w m f (number_below ns amid.numbering m (amid.grows m c)));
+        up = λ m f. available_stays n ns refl amid.numbering w m (amid.up m f);
+        down = λ m c f. amid.down m c (available_was n ns refl amid.numbering w m f (number_below ns amid.numbering m (amid.grows m c)));
       }
 
   module _ (apart : (m : Node) → Contains base m → is_element m.act ≡ true → same_place m.point p ≡ false) (ns : List Node) (amid : Amid ns) (d : Dependency) where
@@ -136,30 +136,30 @@ module _ (base : List Node) (numbers : IsNumbered base) (simple : (m : Node) →
     by_host_stage h lt = rw h (omega (arith, lt))
 
     -- where the write comes from
-    to : Freed (n ∷ ns) w n → j < available_at o d point
-    to f = elim (freed_from n ns refl amid.numbering w j f) [
-      | inl sent ↦ sends (into_element ns w (length ns) p (element.Memory d) (amid.forms w (amid.grows w stands)) sent.0) sent.1
-      | inr m ↦ (let c = freed_stands ns w m.0 m.1 in passes m.0 m.1 (amid.split m.0 c) (into_element ns m.0 (length ns) p (element.Memory d) (amid.forms m.0 c) m.2))
+    to : Available (n ∷ ns) w n → j < available_at o d point
+    to f = elim (available_from n ns refl amid.numbering w j f) [
+      | inl sent ↦ makes_writes_available (into_element ns w (length ns) p (element.Memory d) (amid.forms w (amid.grows w stands)) sent.0) sent.1
+      | inr m ↦ (let c = available_stands ns w m.0 m.1 in passes m.0 m.1 (amid.split m.0 c) (into_element ns m.0 (length ns) p (element.Memory d) (amid.forms m.0 c) m.2))
     ] where
-      sends : IntoElement w p source → has_some d.source_accesses.0 (command_mask Write) ≡ true → j < available_at o d point
-      sends (FromHost h) a = clash h (command_hosts w.act command)
-      sends (FromCommand c t) a = by_command t a
-      sends (FromTransfers l t away) a = clash l (command_leads w.act command).0
-      sends (FromElement l h away) a = clash l (command_leads w.act command).1
+      makes_writes_available : IntoElement w p source → has_some d.source_accesses.0 (command_mask Write) ≡ true → j < available_at o d point
+      makes_writes_available (FromHost h) a = clash h (command_hosts w.act command)
+      makes_writes_available (FromCommand c t) a = by_command t a
+      makes_writes_available (FromTransfers l t away) a = clash l (command_leads w.act command).0
+      makes_writes_available (FromElement l h away) a = clash l (command_leads w.act command).1
 
-      passes : (m : Node) → Freed ns w m → ((m.point ≡ p) × (is_element m.act ≡ true)) ⊎ Contains base m → IntoElement m p source → j < available_at o d point
+      passes : (m : Node) → Available ns w m → ((m.point ≡ p) × (is_element m.act ≡ true)) ⊎ Contains base m → IntoElement m p source → j < available_at o d point
       passes m f (inl new) (FromHost h) = clash h (element_hosts m.act new.1).0
       passes m f (inl new) (FromCommand c t) = clash c (element_hosts m.act new.1).1
       passes m f (inl new) (FromTransfers l t away) = clash (same_itself p) (subst (λ (q : Point). same_place q p ≡ false) new.0 away)
       passes m f (inl new) (FromElement l h away) = clash (same_itself p) (subst (λ (q : Point). same_place q p ≡ false) new.0 away)
-      passes m f (inr old) (FromHost h) = by_host_clock (means.hosts.0 (record { node = m; passes = h; freed = amid.down m old f }))
-      passes m f (inr old) (FromCommand c t) = elim (means.commands (record { node = m; passes = c; freed = amid.down m old f })) [ inl v ↦ by_transfers t (means.transfers.0 v) | inr v ↦ by_host_clock (means.hosts.0 v) ]
-      passes m f (inr old) (FromTransfers l t away) = by_transfers t (means.transfers.0 (record { node = m; passes = l; freed = amid.down m old f }))
-      passes m f (inr old) (FromElement l h away) = by_host_stage h (means.host_stages.0 (record { node = m; passes = l; freed = amid.down m old f }))
+      passes m f (inr old) (FromHost h) = by_host_clock (means.hosts.0 (record { node = m; passes = h; made_available = amid.down m old f }))
+      passes m f (inr old) (FromCommand c t) = elim (means.commands (record { node = m; passes = c; made_available = amid.down m old f })) [ inl v ↦ by_transfers t (means.transfers.0 v) | inr v ↦ by_host_clock (means.hosts.0 v) ]
+      passes m f (inr old) (FromTransfers l t away) = by_transfers t (means.transfers.0 (record { node = m; passes = l; made_available = amid.down m old f }))
+      passes m f (inr old) (FromElement l h away) = by_host_stage h (means.host_stages.0 (record { node = m; passes = l; made_available = amid.down m old f }))
 
     -- and that it comes
-    from_base : (m : Node) → Contains base m → Freed base w m → edge ns m n ≡ true → Freed (n ∷ ns) w n
-    from_base m c f e = freed_by n ns refl amid.numbering w j m (amid.up m f) e
+    from_base : (m : Node) → Contains base m → Available base w m → edge ns m n ≡ true → Available (n ∷ ns) w n
+    from_base m c f e = available_by n ns refl amid.numbering w j m (amid.up m f) e
 
     element_edge : (m : Node) → Contains base m → is_element m.act ≡ true → (a : ℕ) → second_scope m.act ≡ Some a → meet a source ≡ true → edge ns m n ≡ true
     element_edge m c is a scope meets =
@@ -169,51 +169,51 @@ module _ (base : List Node) (numbers : IsNumbered base) (simple : (m : Node) →
     scope_of : (m : Node) → Contains base m → is_element m.act ≡ true → (e : Element) × (m.act ≡ Depends Barrier e) × (second_scope m.act ≡ Some (dependency_of e).destination_stages.0)
     scope_of m c is = let e = barrier_of m.act (simple m c) is in (e.0, e.1, ap second_scope e.1)
 
-    from_transfers : on_transfers source ≡ true → Via base w leads_to_transfers → Freed (n ∷ ns) w n
+    from_transfers : on_transfers source ≡ true → Via base w leads_to_transfers → Available (n ∷ ns) w n
     from_transfers t v =
-        let c = freed_stands base w v.node v.freed in
+        let c = available_stands base w v.node v.made_available in
         let is = leads_element v.node.act (inl v.passes) in
         let e = scope_of v.node c is in
         let leads : on_transfers (dependency_of e.0).destination_stages.0 ≡ true = sym (ap leads_to_transfers e.1) ∙ v.passes in
-        from_base v.node c v.freed (element_edge v.node c is (dependency_of e.0).destination_stages.0 e.2 (meet_transfers (dependency_of e.0).destination_stages.0 source leads t))
+        from_base v.node c v.made_available (element_edge v.node c is (dependency_of e.0).destination_stages.0 e.2 (meet_transfers (dependency_of e.0).destination_stages.0 source leads t))
 
-    from_host_stage : on_host source ≡ true → Via base w leads_to_host → Freed (n ∷ ns) w n
+    from_host_stage : on_host source ≡ true → Via base w leads_to_host → Available (n ∷ ns) w n
     from_host_stage h v =
-        let c = freed_stands base w v.node v.freed in
+        let c = available_stands base w v.node v.made_available in
         let is = leads_element v.node.act (inr v.passes) in
         let e = scope_of v.node c is in
         let leads : on_host (dependency_of e.0).destination_stages.0 ≡ true = sym (ap leads_to_host e.1) ∙ v.passes in
-        from_base v.node c v.freed (element_edge v.node c is (dependency_of e.0).destination_stages.0 e.2 (meet_host (dependency_of e.0).destination_stages.0 source leads h))
+        from_base v.node c v.made_available (element_edge v.node c is (dependency_of e.0).destination_stages.0 e.2 (meet_host (dependency_of e.0).destination_stages.0 source leads h))
 
-    from_hosts : Via base w is_host → Freed (n ∷ ns) w n
+    from_hosts : Via base w is_host → Available (n ∷ ns) w n
     from_hosts v =
         let s = submitted in
         from_base s.node s.stands (fed v) (host_edge ns s.node n (low s.node (amid.grows s.node s.stands)) (submit_leads s.node n s.submits s.entry_is))
 
-    from_command : on_transfers source ≡ true → has_some d.source_accesses.0 (command_mask Write) ≡ true → Freed (n ∷ ns) w n
+    from_command : on_transfers source ≡ true → has_some d.source_accesses.0 (command_mask Write) ≡ true → Available (n ∷ ns) w n
     from_command t a =
         let scope = command_scope w.act command in
         let host = command_hosts w.act command in
-        freed_sent n ns refl amid.numbering w j (stage_edge ns w n (low w (amid.grows w stands)) (queue_stages w n transfer_stage source host refl (on_0 w stands host ∙ sym queue) (rw scope.1 refl) (and-false _) scope.0 refl (meet_transfers transfer_stage source refl t))) a
+        available_sent n ns refl amid.numbering w j (stage_edge ns w n (low w (amid.grows w stands)) (queue_stages w n transfer_stage source host refl (on_0 w stands host ∙ sym queue) (rw scope.1 refl) (and-false _) scope.0 refl (meet_transfers transfer_stage source refl t))) a
 
-    from : j < available_at o d point → Freed (n ∷ ns) w n
+    from : j < available_at o d point → Available (n ∷ ns) w n
     from lt = by_stages_of (on_transfers source) refl (has_some d.source_accesses.0 (command_mask Write)) refl (on_host source) refl lt where
       by_stages_of : (t : Bool) → on_transfers source ≡ t → (a : Bool) → has_some d.source_accesses.0 (command_mask Write) ≡ a → (h : Bool) → on_host source ≡ h
-          → j < max (max o.host.available (counted t (max o.to_transfers (counted a point)))) (counted h o.to_host) → Freed (n ∷ ns) w n
+          → j < max (max o.host.available (counted t (max o.to_transfers (counted a point)))) (counted h o.to_host) → Available (n ∷ ns) w n
       by_stages_of t te a ae h he lt = elim (cases_lt j o.host.available) [
         | inl low ↦ from_hosts (means.hosts.1 low)
         | inr high ↦ rest t te a ae h he lt high
       ] where
         rest : (t : Bool) → on_transfers source ≡ t → (a : Bool) → has_some d.source_accesses.0 (command_mask Write) ≡ a → (h : Bool) → on_host source ≡ h
-            → j < max (max o.host.available (counted t (max o.to_transfers (counted a point)))) (counted h o.to_host) → o.host.available ≤ j → Freed (n ∷ ns) w n
+            → j < max (max o.host.available (counted t (max o.to_transfers (counted a point)))) (counted h o.to_host) → o.host.available ≤ j → Available (n ∷ ns) w n
         rest true te true ae h he lt high = from_command te ae
         rest true te false ae true he lt high = elim (cases_lt j o.to_transfers) [ inl low ↦ from_transfers te (means.transfers.1 low) | inr more ↦ from_host_stage he (means.host_stages.1 (omega (arith, lt, high, more))) ]
         rest true te false ae false he lt high = from_transfers te (means.transfers.1 (omega (arith, lt, high)))
         rest false te a ae true he lt high = from_host_stage he (means.host_stages.1 (omega (arith, lt, high)))
         rest false te a ae false he lt high = absurd (omega (arith, lt, high))
 
-    pub element_freed : Freed (n ∷ ns) w n ↔ (j < available_at o d point)
-    element_freed = (to, from)
+    pub element_available : Available (n ∷ ns) w n ↔ (j < available_at o d point)
+    element_available = (to, from)
 
   -- all elements of a barrier
   module _ (apart : (m : Node) → Contains base m → is_element m.act ≡ true → same_place m.point p ≡ false) where
@@ -221,16 +221,16 @@ module _ (base : List Node) (numbers : IsNumbered base) (simple : (m : Node) →
     one_element ns amid d q known =
         let n : Node = record { number = length ns; point = p; act = Depends Barrier (element.Memory d) } in
         let a : ℕ = available_at o d point in
-        let is = element_freed apart ns amid d in
+        let is = element_available apart ns amid d in
         record {
           transfers = joins n ns refl amid.numbering w j leads_to_transfers q.to_transfers a known.transfers is;
           writes = joins n ns refl amid.numbering w j leads_to_writes q.to_writes a known.writes is;
           host_stages = joins n ns refl amid.numbering w j leads_to_host q.to_host a known.host_stages is;
           host_reads = joins n ns refl amid.numbering w j leads_to_reads q.to_host_reads a known.host_reads is;
           signals = keeps n ns refl amid.numbering w j is_signal q.signals.available refl known.signals;
-          shown_signals = keeps_shown n ns refl amid.numbering w j is_signal q.signals.readable refl known.shown_signals;
+          visible_signals = keeps_visible n ns refl amid.numbering w j is_signal q.signals.readable refl known.visible_signals;
           hosts = keeps n ns refl amid.numbering w j is_host q.host.available refl known.hosts;
-          shown_hosts = keeps_shown n ns refl amid.numbering w j is_host q.host.readable refl known.shown_hosts;
+          visible_hosts = keeps_visible n ns refl amid.numbering w j is_host q.host.readable refl known.visible_hosts;
           commands = keeps_commands n ns refl amid.numbering w j refl known.commands;
         }
 
@@ -256,10 +256,10 @@ module _ (base : List Node) (numbers : IsNumbered base) (simple : (m : Node) →
     below_signal : (m : Node) → Contains base m → m.number < length base
     below_signal m c = number_below base numbers m c
 
-    signal_after : (m : Node) → Freed base w m → edge base m signal ≡ true → Freed (signal ∷ base) w signal
-    signal_after m f e = freed_by signal base refl numbers w j m f e
+    signal_after : (m : Node) → Available base w m → edge base m signal ≡ true → Available (signal ∷ base) w signal
+    signal_after m f e = available_by signal base refl numbers w j m f e
 
-    after_hosts : Via base w is_host → Freed (signal ∷ base) w signal
+    after_hosts : Via base w is_host → Available (signal ∷ base) w signal
     after_hosts v =
         let t = submitted in
         signal_after t.node (fed v) (host_edge base t.node signal (below_signal t.node t.stands) (submit_leads t.node signal t.submits t.entry_is))
@@ -274,59 +274,59 @@ module _ (base : List Node) (numbers : IsNumbered base) (simple : (m : Node) →
     after_signals : (m : Node) → Contains base m → is_signal m.act ≡ true → edge base m signal ≡ true
     after_signals m c is = order_edge base m signal (below_signal m c) (queue_signal m signal (signal_hosts m.act is) refl (on_0 m c (signal_hosts m.act is) ∙ sym queue) refl (rw is refl))
 
-    after_commands : on_transfers s.stages.0 ≡ true → Freed (signal ∷ base) w signal
+    after_commands : on_transfers s.stages.0 ≡ true → Available (signal ∷ base) w signal
     after_commands t =
         let scope = command_scope w.act command in
         let host = command_hosts w.act command in
-        freed_sent signal base refl numbers w j (stage_edge base w signal (below_signal w stands) (queue_stages w signal transfer_stage s.stages.0 host refl (on_0 w stands host ∙ sym queue) (rw scope.1 refl) (and-false _) scope.0 refl (meet_transfers transfer_stage s.stages.0 refl t))) refl
+        available_sent signal base refl numbers w j (stage_edge base w signal (below_signal w stands) (queue_stages w signal transfer_stage s.stages.0 host refl (on_0 w stands host ∙ sym queue) (rw scope.1 refl) (and-false _) scope.0 refl (meet_transfers transfer_stage s.stages.0 refl t))) refl
 
     -- with the transfers a signal covers all commands, and otherwise what leads to the host
-    uncovered : on_transfers s.stages.0 ≡ false → Freed (signal ∷ base) w signal → (Via base w leads_to_host ⊎ Via base w is_signal) ⊎ Via base w is_host
-    uncovered none f = elim (freed_from signal base refl numbers w j f) [
-      | inl sent ↦ sends (into_signal base w (length base) p s (simple w stands) none sent.0)
-      | inr m ↦ passes m.0 m.1 (into_signal base m.0 (length base) p s (simple m.0 (freed_stands base w m.0 m.1)) none m.2)
+    uncovered : on_transfers s.stages.0 ≡ false → Available (signal ∷ base) w signal → (Via base w leads_to_host ⊎ Via base w is_signal) ⊎ Via base w is_host
+    uncovered none f = elim (available_from signal base refl numbers w j f) [
+      | inl sent ↦ makes_writes_available (into_signal base w (length base) p s (simple w stands) none sent.0)
+      | inr m ↦ passes m.0 m.1 (into_signal base m.0 (length base) p s (simple m.0 (available_stands base w m.0 m.1)) none m.2)
     ] where
-      sends : {A : Type 0} → IntoSignal w → A
-      sends (FromHosts h) = clash h (command_hosts w.act command)
-      sends (FromSignal h) = clash h (command_signals w.act command)
-      sends (FromToHost h) = clash h (command_leads w.act command).1
+      makes_writes_available : {A : Type 0} → IntoSignal w → A
+      makes_writes_available (FromHosts h) = clash h (command_hosts w.act command)
+      makes_writes_available (FromSignal h) = clash h (command_signals w.act command)
+      makes_writes_available (FromToHost h) = clash h (command_leads w.act command).1
 
-      passes : (m : Node) → Freed base w m → IntoSignal m → (Via base w leads_to_host ⊎ Via base w is_signal) ⊎ Via base w is_host
-      passes m f (FromHosts h) = inr (record { node = m; passes = h; freed = f })
-      passes m f (FromSignal h) = inl (inr (record { node = m; passes = h; freed = f }))
-      passes m f (FromToHost h) = inl (inl (record { node = m; passes = h; freed = f }))
+      passes : (m : Node) → Available base w m → IntoSignal m → (Via base w leads_to_host ⊎ Via base w is_signal) ⊎ Via base w is_host
+      passes m f (FromHosts h) = inr (record { node = m; passes = h; made_available = f })
+      passes m f (FromSignal h) = inl (inr (record { node = m; passes = h; made_available = f }))
+      passes m f (FromToHost h) = inl (inl (record { node = m; passes = h; made_available = f }))
 
-    covering : (Via base w leads_to_host ⊎ Via base w is_signal) ⊎ Via base w is_host → Freed (signal ∷ base) w signal
+    covering : (Via base w leads_to_host ⊎ Via base w is_signal) ⊎ Via base w is_host → Available (signal ∷ base) w signal
     covering (inr v) = after_hosts v
-    covering (inl (inl v)) = signal_after v.node v.freed (after_host_stage v.node (freed_stands base w v.node v.freed) v.passes)
-    covering (inl (inr v)) = signal_after v.node v.freed (after_signals v.node (freed_stands base w v.node v.freed) v.passes)
+    covering (inl (inl v)) = signal_after v.node v.made_available (after_host_stage v.node (available_stands base w v.node v.made_available) v.passes)
+    covering (inl (inr v)) = signal_after v.node v.made_available (after_signals v.node (available_stands base w v.node v.made_available) v.passes)
 
     -- a write is available at a signal just where its clock counts it
-    pub signal_freed : Freed (signal ∷ base) w signal ↔ (j < clock.available)
-    signal_freed = go (on_transfers s.stages.0) refl where
-      go : (t : Bool) → on_transfers s.stages.0 ≡ t → Freed (signal ∷ base) w signal ↔ (j < max (max (cond t point o.to_host) o.signals.available) o.host.available)
+    pub signal_available : Available (signal ∷ base) w signal ↔ (j < clock.available)
+    signal_available = go (on_transfers s.stages.0) refl where
+      go : (t : Bool) → on_transfers s.stages.0 ≡ t → Available (signal ∷ base) w signal ↔ (j < max (max (cond t point o.to_host) o.signals.available) o.host.available)
       go true t = (λ f. omega (arith, lt), λ more. after_commands t)
       go false t =
           let all = max_iff j (max o.to_host o.signals.available) o.host.available (max_iff j o.to_host o.signals.available means.host_stages means.signals) means.hosts in
           (λ f. all.0 (uncovered t f), λ more. covering (all.1 more))
 
     -- and shown there just where its clock counts it as shown
-    pub signal_shown : Shown (signal ∷ base) w signal ↔ (j < clock.readable)
-    signal_shown = (to_number, from_number) where
-      to_number : Shown (signal ∷ base) w signal → j < clock.readable
+    pub signal_visible : Visible (signal ∷ base) w signal ↔ (j < clock.readable)
+    signal_visible = (to_number, from_number) where
+      to_number : Visible (signal ∷ base) w signal → j < clock.readable
       to_number f =
-          let v : Via base w leads_to_reads = elim (shown_from signal base refl numbers w j f) [ inl q ↦ record { node = q.0; passes = q.2; freed = q.1 } | inr m ↦ shown_via base w m.0 m.1 ] in
+          let v : Via base w leads_to_reads = elim (visible_from signal base refl numbers w j f) [ inl q ↦ record { node = q.0; passes = q.2; made_available = q.1 } | inr m ↦ visible_via base w m.0 m.1 ] in
           let low = means.host_reads.0 v in omega (arith, low)
 
-      begins : Via base w leads_to_reads → Shown (signal ∷ base) w signal
-      begins v = shown_begins signal base refl numbers w j v.node v.freed v.passes (after_host_stage v.node (freed_stands base w v.node v.freed) (reads_to_host v.node.act v.passes))
+      begins : Via base w leads_to_reads → Visible (signal ∷ base) w signal
+      begins v = visible_begins signal base refl numbers w j v.node v.made_available v.passes (after_host_stage v.node (available_stands base w v.node v.made_available) (reads_to_host v.node.act v.passes))
 
-      from_number : j < clock.readable → Shown (signal ∷ base) w signal
+      from_number : j < clock.readable → Visible (signal ∷ base) w signal
       from_number more = elim (cases_lt j o.to_host_reads) [
         | inl low ↦ begins (means.host_reads.1 low)
         | inr high ↦ elim (cases_lt j o.signals.readable) [
-          | inl low ↦ (let v = means.shown_signals.1 low in begins (shown_via base w v.node v.shown))
-          | inr higher ↦ (let v = means.shown_hosts.1 (omega (arith, more, high, higher)) in begins (shown_via base w v.node v.shown))
+          | inl low ↦ (let v = means.visible_signals.1 low in begins (visible_via base w v.node v.made_visible))
+          | inr higher ↦ (let v = means.visible_hosts.1 (omega (arith, more, high, higher)) in begins (visible_via base w v.node v.made_visible))
         ]
       ]
 
@@ -337,13 +337,13 @@ module _ (base : List Node) (numbers : IsNumbered base) (simple : (m : Node) →
       writes = keeps signal base refl numbers w j leads_to_writes o.to_writes refl means.writes;
       host_stages = keeps signal base refl numbers w j leads_to_host o.to_host refl means.host_stages;
       host_reads = keeps signal base refl numbers w j leads_to_reads o.to_host_reads refl means.host_reads;
-      signals = joins signal base refl numbers w j is_signal o.signals.available clock.available means.signals signal_freed;
-      shown_signals =
-          let all = max_iff j o.signals.readable clock.readable means.shown_signals signal_shown in (
-            λ v. all.0 (elim (shown_splits signal base refl numbers w is_signal v) [ inl old ↦ inl old | inr here ↦ inr here.1 ]),
-            λ more. elim (all.1 more) [ inl old ↦ shown_via_stays signal base refl numbers w is_signal old | inr here ↦ record { node = signal; passes = refl; shown = here } ],
+      signals = joins signal base refl numbers w j is_signal o.signals.available clock.available means.signals signal_available;
+      visible_signals =
+          let all = max_iff j o.signals.readable clock.readable means.visible_signals signal_visible in (
+            λ v. all.0 (elim (visible_splits signal base refl numbers w is_signal v) [ inl old ↦ inl old | inr here ↦ inr here.1 ]),
+            λ more. elim (all.1 more) [ inl old ↦ visible_via_stays signal base refl numbers w is_signal old | inr here ↦ record { node = signal; passes = refl; made_visible = here } ],
           );
       hosts = keeps signal base refl numbers w j is_host o.host.available refl means.hosts;
-      shown_hosts = keeps_shown signal base refl numbers w j is_host o.host.readable refl means.shown_hosts;
+      visible_hosts = keeps_visible signal base refl numbers w j is_host o.host.readable refl means.visible_hosts;
       commands = keeps_commands signal base refl numbers w j refl means.commands;
     }

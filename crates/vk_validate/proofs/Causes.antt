@@ -16,7 +16,7 @@ use Rattle.vk_model.specs.Edge.{edge, meet, is_host, is_signal, is_command, is_e
 use Rattle.vk_validate.specs.Standing.{on_transfers, on_host}
 use Rattle.vk_validate.proofs.Acts.{is_supported_act}
 use Rattle.vk_validate.proofs.Truths.{no, clash, second, six}
-use Rattle.vk_validate.proofs.Freed.{leads_to_transfers, leads_to_host}
+use Rattle.vk_validate.proofs.Available.{leads_to_transfers, leads_to_host}
 
 -- ---- stages
 

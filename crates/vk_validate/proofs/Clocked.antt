@@ -11,7 +11,7 @@ use Rattle.vk_validate.specs.declared.clocks.Order.{Order}
 use Rattle.vk_validate.proofs.Members.{contains-head}
 use Rattle.vk_validate.proofs.Truths.{no, clash, second_of_six, third_of_six, last_of_six}
 use Rattle.vk_validate.proofs.Paths.{edge_forward, edge-new}
-use Rattle.vk_validate.proofs.Freed.{Freed, Sent, Passed, Shown, Begun, Carried, Via, ShownVia, frees, leads_to_transfers, leads_to_writes, leads_to_host, leads_to_reads, freed_stays, freed_was, shown_stays, shown_was, via_splits, via_stays, via_new, shown_splits, shown_via_stays}
+use Rattle.vk_validate.proofs.Available.{Available, MadeHere, Passed, Visible, Begun, Carried, Via, VisibleVia, makes_available, leads_to_transfers, leads_to_writes, leads_to_host, leads_to_reads, available_stays, available_was, visible_stays, visible_was, via_splits, via_stays, via_new, visible_splits, visible_via_stays}
 use Rattle.vk_validate.proofs.Waits.{max_iff}
 
 -- a command's write is available, visible or shown where the thresholds are above its point's number
@@ -21,9 +21,9 @@ pub record Means (o : Order) (ns : List Node) (w : Node) (j : ℕ) : Type 0 wher
   pub host_stages : Via ns w leads_to_host ↔ (j < o.to_host)
   pub host_reads : Via ns w leads_to_reads ↔ (j < o.to_host_reads)
   pub signals : Via ns w is_signal ↔ (j < o.signals.available)
-  pub shown_signals : ShownVia ns w is_signal ↔ (j < o.signals.readable)
+  pub visible_signals : VisibleVia ns w is_signal ↔ (j < o.signals.readable)
   pub hosts : Via ns w is_host ↔ (j < o.host.available)
-  pub shown_hosts : ShownVia ns w is_host ↔ (j < o.host.readable)
+  pub visible_hosts : VisibleVia ns w is_host ↔ (j < o.host.readable)
   pub commands : Via ns w is_command → Via ns w leads_to_transfers ⊎ Via ns w is_host
 
 -- ---- acts
@@ -93,40 +93,40 @@ counted_iff j a b false f g splits stays new = (λ c. elim (splits c) [ inl x �
 
 module _ (n : Node) (ns : List Node) (new : n.number ≡ length ns) (numbers : IsNumbered ns) (w : Node) (j : ℕ) where
   -- where a write comes to a new node from
-  pub freed_from : Freed (n ∷ ns) w n → ((edge ns w n ≡ true) × (frees n.act ≡ true)) ⊎ ((m : Node) × Freed ns w m × (edge ns m n ≡ true))
-  freed_from (Sent c e f) = inl (sym (edge-new n ns new numbers w) ∙ e, f)
-  freed_from (Passed {m = m} f c e) = let less = edge_forward (n ∷ ns) m n e in inr (m, freed_was n ns new numbers w m f (omega (arith, less, new)), sym (edge-new n ns new numbers m) ∙ e)
+  pub available_from : Available (n ∷ ns) w n → ((edge ns w n ≡ true) × (makes_available n.act ≡ true)) ⊎ ((m : Node) × Available ns w m × (edge ns m n ≡ true))
+  available_from (MadeHere c e f) = inl (sym (edge-new n ns new numbers w) ∙ e, f)
+  available_from (Passed {m = m} f c e) = let less = edge_forward (n ∷ ns) m n e in inr (m, available_was n ns new numbers w m f (omega (arith, less, new)), sym (edge-new n ns new numbers m) ∙ e)
 
   -- a write comes to a new node from an older one
-  pub freed_by : (m : Node) → Freed ns w m → edge ns m n ≡ true → Freed (n ∷ ns) w n
-  freed_by m f e = Passed (freed_stays n ns new numbers w m f) (contains-head n ns) (edge-new n ns new numbers m ∙ e)
+  pub available_by : (m : Node) → Available ns w m → edge ns m n ≡ true → Available (n ∷ ns) w n
+  available_by m f e = Passed (available_stays n ns new numbers w m f) (contains-head n ns) (edge-new n ns new numbers m ∙ e)
 
   -- or from the command itself
-  pub freed_sent : edge ns w n ≡ true → frees n.act ≡ true → Freed (n ∷ ns) w n
-  freed_sent e f = Sent (contains-head n ns) (edge-new n ns new numbers w ∙ e) f
+  pub available_sent : edge ns w n ≡ true → makes_available n.act ≡ true → Available (n ∷ ns) w n
+  available_sent e f = MadeHere (contains-head n ns) (edge-new n ns new numbers w ∙ e) f
 
   -- where a write that is shown at a new node comes from
-  pub shown_from : Shown (n ∷ ns) w n → ((q : Node) × Freed ns w q × (leads_to_reads q.act ≡ true) × (edge ns q n ≡ true)) ⊎ ((m : Node) × Shown ns w m × (edge ns m n ≡ true))
-  shown_from (Begun {q = q} f l c e) = let less = edge_forward (n ∷ ns) q n e in inl (q, freed_was n ns new numbers w q f (omega (arith, less, new)), l, sym (edge-new n ns new numbers q) ∙ e)
-  shown_from (Carried {m = m} s c e) = let less = edge_forward (n ∷ ns) m n e in inr (m, shown_was n ns new numbers w m s (omega (arith, less, new)), sym (edge-new n ns new numbers m) ∙ e)
+  pub visible_from : Visible (n ∷ ns) w n → ((q : Node) × Available ns w q × (leads_to_reads q.act ≡ true) × (edge ns q n ≡ true)) ⊎ ((m : Node) × Visible ns w m × (edge ns m n ≡ true))
+  visible_from (Begun {q = q} f l c e) = let less = edge_forward (n ∷ ns) q n e in inl (q, available_was n ns new numbers w q f (omega (arith, less, new)), l, sym (edge-new n ns new numbers q) ∙ e)
+  visible_from (Carried {m = m} s c e) = let less = edge_forward (n ∷ ns) m n e in inr (m, visible_was n ns new numbers w m s (omega (arith, less, new)), sym (edge-new n ns new numbers m) ∙ e)
 
   -- from a node where it is shown
-  pub shown_by : (m : Node) → Shown ns w m → edge ns m n ≡ true → Shown (n ∷ ns) w n
-  shown_by m s e = Carried (shown_stays n ns new numbers w m s) (contains-head n ns) (edge-new n ns new numbers m ∙ e)
+  pub visible_through : (m : Node) → Visible ns w m → edge ns m n ≡ true → Visible (n ∷ ns) w n
+  visible_through m s e = Carried (visible_stays n ns new numbers w m s) (contains-head n ns) (edge-new n ns new numbers m ∙ e)
 
   -- or from an element that leads to the host's reads
-  pub shown_begins : (q : Node) → Freed ns w q → leads_to_reads q.act ≡ true → edge ns q n ≡ true → Shown (n ∷ ns) w n
-  shown_begins q f l e = Begun (freed_stays n ns new numbers w q f) l (contains-head n ns) (edge-new n ns new numbers q ∙ e)
+  pub visible_begins : (q : Node) → Available ns w q → leads_to_reads q.act ≡ true → edge ns q n ≡ true → Visible (n ∷ ns) w n
+  visible_begins q f l e = Begun (available_stays n ns new numbers w q f) l (contains-head n ns) (edge-new n ns new numbers q ∙ e)
 
   -- a node that fails a test leaves its threshold
   pub keeps : (test : Act → Bool) (a : ℕ) → test n.act ≡ false → Via ns w test ↔ (j < a) → Via (n ∷ ns) w test ↔ (j < a)
   keeps test a none is = (λ v. elim (via_splits n ns new numbers w test v) [ inl old ↦ is.0 old | inr here ↦ clash here.0 none ], λ lt. via_stays n ns new numbers w test (is.1 lt))
 
-  pub keeps_shown : (test : Act → Bool) (a : ℕ) → test n.act ≡ false → ShownVia ns w test ↔ (j < a) → ShownVia (n ∷ ns) w test ↔ (j < a)
-  keeps_shown test a none is = (λ v. elim (shown_splits n ns new numbers w test v) [ inl old ↦ is.0 old | inr here ↦ clash here.0 none ], λ lt. shown_via_stays n ns new numbers w test (is.1 lt))
+  pub keeps_visible : (test : Act → Bool) (a : ℕ) → test n.act ≡ false → VisibleVia ns w test ↔ (j < a) → VisibleVia (n ∷ ns) w test ↔ (j < a)
+  keeps_visible test a none is = (λ v. elim (visible_splits n ns new numbers w test v) [ inl old ↦ is.0 old | inr here ↦ clash here.0 none ], λ lt. visible_via_stays n ns new numbers w test (is.1 lt))
 
   -- and one that passes it raises it
-  pub joins : (test : Act → Bool) (a b : ℕ) → Via ns w test ↔ (j < a) → Freed (n ∷ ns) w n ↔ (j < b) → Via (n ∷ ns) w test ↔ (j < max a (counted (test n.act) b))
+  pub joins : (test : Act → Bool) (a b : ℕ) → Via ns w test ↔ (j < a) → Available (n ∷ ns) w n ↔ (j < b) → Via (n ∷ ns) w test ↔ (j < max a (counted (test n.act) b))
   joins test a b is here = counted_iff j a b (test n.act) is (λ e. here) (via_splits n ns new numbers w test) (via_stays n ns new numbers w test) (via_new n ns new numbers w test)
 
   -- a node that is no command changes nothing of what commands pass on

@@ -15,7 +15,7 @@ pub mod Judged
 pub mod Plain
 pub mod Growth
 pub mod Paths
-pub mod Freed
+pub mod Available
 pub mod Causes
 pub mod Reach
 pub mod Awaited
@@ -26,7 +26,7 @@ pub mod Advances
 pub mod BatchNodes
 pub mod Stands
 pub mod StandsOn
-pub mod Sights
+pub mod Visibility
 pub mod FillWriters
 pub mod Unseen
 pub mod Named

@@ -19,33 +19,33 @@ use Rattle.vk_validate.specs.declared.clocks.Order.{Order}
 use Rattle.vk_validate.proofs.Members.{contains-head, contains-tail}
 use Rattle.vk_validate.proofs.Growth.{number_below}
 use Rattle.vk_validate.proofs.Acts.{with_keeps}
-use Rattle.vk_validate.proofs.Freed.{Freed, Shown, freed_stays, freed_was, shown_stays, shown_was}
+use Rattle.vk_validate.proofs.Available.{Available, Visible, available_stays, available_was, visible_stays, visible_was}
 use Rattle.vk_validate.proofs.Waits.{IsRising, Under, least_some}
 use Rattle.vk_validate.proofs.Clocked.{Means}
 
 -- ---- several nodes more
 
 module _ (p : Point) (w : Node) where
-  pub freed_grows : (more : List Act) (ns : List Node) → IsNumbered ns → (m : Node) → Freed ns w m → Freed (with_acts p more ns) w m
-  freed_grows [] ns numbers m f = f
-  freed_grows (a ∷ more) ns numbers m f =
-      let n : Node = record { number = length ns; point = p; act = a } in freed_grows more (n ∷ ns) (refl, numbers) m (freed_stays n ns refl numbers w m f)
+  pub available_grows : (more : List Act) (ns : List Node) → IsNumbered ns → (m : Node) → Available ns w m → Available (with_acts p more ns) w m
+  available_grows [] ns numbers m f = f
+  available_grows (a ∷ more) ns numbers m f =
+      let n : Node = record { number = length ns; point = p; act = a } in available_grows more (n ∷ ns) (refl, numbers) m (available_stays n ns refl numbers w m f)
 
   -- more nodes change nothing of what is available or shown at an older one
-  pub freed_ungrown : (more : List Act) (ns : List Node) → IsNumbered ns → (m : Node) → Contains ns m → Freed (with_acts p more ns) w m → Freed ns w m
-  freed_ungrown [] ns numbers m c f = f
-  freed_ungrown (a ∷ more) ns numbers m c f =
-      let n : Node = record { number = length ns; point = p; act = a } in freed_was n ns refl numbers w m (freed_ungrown more (n ∷ ns) (refl, numbers) m (contains-tail n ns m c) f) (number_below ns numbers m c)
+  pub available_ungrown : (more : List Act) (ns : List Node) → IsNumbered ns → (m : Node) → Contains ns m → Available (with_acts p more ns) w m → Available ns w m
+  available_ungrown [] ns numbers m c f = f
+  available_ungrown (a ∷ more) ns numbers m c f =
+      let n : Node = record { number = length ns; point = p; act = a } in available_was n ns refl numbers w m (available_ungrown more (n ∷ ns) (refl, numbers) m (contains-tail n ns m c) f) (number_below ns numbers m c)
 
-  pub shown_grows : (more : List Act) (ns : List Node) → IsNumbered ns → (m : Node) → Shown ns w m → Shown (with_acts p more ns) w m
-  shown_grows [] ns numbers m f = f
-  shown_grows (a ∷ more) ns numbers m f =
-      let n : Node = record { number = length ns; point = p; act = a } in shown_grows more (n ∷ ns) (refl, numbers) m (shown_stays n ns refl numbers w m f)
+  pub visible_grows : (more : List Act) (ns : List Node) → IsNumbered ns → (m : Node) → Visible ns w m → Visible (with_acts p more ns) w m
+  visible_grows [] ns numbers m f = f
+  visible_grows (a ∷ more) ns numbers m f =
+      let n : Node = record { number = length ns; point = p; act = a } in visible_grows more (n ∷ ns) (refl, numbers) m (visible_stays n ns refl numbers w m f)
 
-  pub shown_ungrown : (more : List Act) (ns : List Node) → IsNumbered ns → (m : Node) → Contains ns m → Shown (with_acts p more ns) w m → Shown ns w m
-  shown_ungrown [] ns numbers m c f = f
-  shown_ungrown (a ∷ more) ns numbers m c f =
-      let n : Node = record { number = length ns; point = p; act = a } in shown_was n ns refl numbers w m (shown_ungrown more (n ∷ ns) (refl, numbers) m (contains-tail n ns m c) f) (number_below ns numbers m c)
+  pub visible_ungrown : (more : List Act) (ns : List Node) → IsNumbered ns → (m : Node) → Contains ns m → Visible (with_acts p more ns) w m → Visible ns w m
+  visible_ungrown [] ns numbers m c f = f
+  visible_ungrown (a ∷ more) ns numbers m c f =
+      let n : Node = record { number = length ns; point = p; act = a } in visible_was n ns refl numbers w m (visible_ungrown more (n ∷ ns) (refl, numbers) m (contains-tail n ns m c) f) (number_below ns numbers m c)
 
 -- ---- commands by the numbers of their points
 
@@ -85,13 +85,13 @@ pub record IsBounded (o : Order) (k : ℕ) : Type 0 where
   pub host_stages : o.to_host ≤ k
   pub host_reads : o.to_host_reads ≤ k
   pub signals : o.signals.available ≤ k
-  pub shown_signals : o.signals.readable ≤ k
+  pub visible_signals : o.signals.readable ≤ k
   pub hosts : o.host.available ≤ k
-  pub shown_hosts : o.host.readable ≤ k
+  pub visible_hosts : o.host.readable ≤ k
 
 -- a clock says of each command whether its write is available, and shown, at a node
 abbrev pub IsClocked : Past → Clock → Node → Type 0
-IsClocked past c m = (w : Node) (j : ℕ) → IsCommandAt past w j → (Freed (nodes past) w m ↔ (j < c.available)) × (Shown (nodes past) w m ↔ (j < c.readable))
+IsClocked past c m = (w : Node) (j : ℕ) → IsCommandAt past w j → (Available (nodes past) w m ↔ (j < c.available)) × (Visible (nodes past) w m ↔ (j < c.readable))
 
 pub record IsStanding (s : Standing) (past : Past) : Type 0 where
   pub bounded : IsBounded s.order (length past)
@@ -108,9 +108,9 @@ more_points o k b = record {
   host_stages = (let h = b.host_stages in omega (arith, h));
   host_reads = (let h = b.host_reads in omega (arith, h));
   signals = (let h = b.signals in omega (arith, h));
-  shown_signals = (let h = b.shown_signals in omega (arith, h));
+  visible_signals = (let h = b.visible_signals in omega (arith, h));
   hosts = (let h = b.hosts in omega (arith, h));
-  shown_hosts = (let h = b.shown_hosts in omega (arith, h));
+  visible_hosts = (let h = b.visible_hosts in omega (arith, h));
 }
 
 counted_low : (t : Bool) (n k : ℕ) → n ≤ k → counted t n ≤ k
@@ -124,9 +124,9 @@ bounded_element old o k d b q = record {
   host_stages = (let h = q.host_stages in let l = counted_low (on_host d.destination_stages.0) (available_at old d k) k at in omega (arith, h, l));
   host_reads = (let h = q.host_reads in let l = counted_low (on_host d.destination_stages.0 && has_some d.destination_accesses.0 (host_mask Read)) (available_at old d k) k at in omega (arith, h, l));
   signals = q.signals;
-  shown_signals = q.shown_signals;
+  visible_signals = q.visible_signals;
   hosts = q.hosts;
-  shown_hosts = q.shown_hosts;
+  visible_hosts = q.visible_hosts;
 } where
   at : available_at old d k ≤ k
   at =
@@ -162,7 +162,7 @@ bounded_waits past signals rising k low (w ∷ ws) o b = bounded_waits past sign
     host_stages = b.host_stages;
     host_reads = b.host_reads;
     signals = b.signals;
-    shown_signals = b.shown_signals;
+    visible_signals = b.visible_signals;
     hosts = (let a = b.hosts in let l = h.0 in omega (arith, a, l));
-    shown_hosts = (let a = b.shown_hosts in let l = h.1 in omega (arith, a, l));
+    visible_hosts = (let a = b.visible_hosts in let l = h.1 in omega (arith, a, l));
   }

@@ -28,19 +28,19 @@ use Rattle.vk_validate.proofs.Acts.{with_member, with_keeps, on_queue_0, last_qu
 use Rattle.vk_validate.proofs.Ordered.{Submitted, submitted}
 use Rattle.vk_validate.proofs.Places.{IsApart, IsElsewhere, elsewhere}
 use Rattle.vk_validate.proofs.Reach.{supported_of}
-use Rattle.vk_validate.proofs.Freed.{Freed, Shown, Via, ShownVia, freed_stands, freed_later, shown_via, shown_freed}
+use Rattle.vk_validate.proofs.Available.{Available, Visible, Via, VisibleVia, available_stands, available_later, visible_via, visible_available}
 use Rattle.vk_validate.proofs.Waits.{Under}
 use Rattle.vk_validate.proofs.Clocked.{Means}
 use Rattle.vk_validate.proofs.Advances.{host_means, run_means}
-use Rattle.vk_validate.proofs.BatchNodes.{barrier_means, signal_freed, signal_shown, signal_means}
-use Rattle.vk_validate.proofs.Stands.{freed_grows, freed_ungrown, shown_grows, shown_ungrown, command_stands, IsBounded, IsStanding, more_points, bounded_elements, bounded_waits, IsClocked}
+use Rattle.vk_validate.proofs.BatchNodes.{barrier_means, signal_available, signal_visible, signal_means}
+use Rattle.vk_validate.proofs.Stands.{available_grows, available_ungrown, visible_grows, visible_ungrown, command_stands, IsBounded, IsStanding, more_points, bounded_elements, bounded_waits, IsClocked}
 
 -- ---- one point more
 
-none_after : {A : Type 0} (n : Node) (ns : List Node) → n.number ≡ length ns → IsNumbered ns → (m : Node) → Freed (n ∷ ns) n m → A
+none_after : {A : Type 0} (n : Node) (ns : List Node) → n.number ≡ length ns → IsNumbered ns → (m : Node) → Available (n ∷ ns) n m → A
 none_after n ns new numbers m f =
-    let more = freed_later (n ∷ ns) n m f in
-    let low = number_below (n ∷ ns) (new, numbers) m (freed_stands (n ∷ ns) n m f) in
+    let more = available_later (n ∷ ns) n m f in
+    let low = number_below (n ∷ ns) (new, numbers) m (available_stands (n ∷ ns) n m f) in
     absurd (omega (arith, more, low, new))
 
 never : {A : Type 0} (j a : ℕ) → a ≤ j → (A → ⊥) → A ↔ (j < a)
@@ -54,24 +54,24 @@ newest_means o n ns new numbers j b = record {
   host_stages = never j o.to_host b.host_stages none;
   host_reads = never j o.to_host_reads b.host_reads none;
   signals = never j o.signals.available b.signals none;
-  shown_signals = never j o.signals.readable b.shown_signals hidden;
+  visible_signals = never j o.signals.readable b.visible_signals hidden;
   hosts = never j o.host.available b.hosts none;
-  shown_hosts = never j o.host.readable b.shown_hosts hidden;
+  visible_hosts = never j o.host.readable b.visible_hosts hidden;
   commands = λ v. absurd (none v);
 } where
   none : {test : Act → Bool} → Via (n ∷ ns) n test → ⊥
-  none v = none_after n ns new numbers v.node v.freed
+  none v = none_after n ns new numbers v.node v.made_available
 
-  hidden : {test : Act → Bool} → ShownVia (n ∷ ns) n test → ⊥
-  hidden v = let u = shown_via (n ∷ ns) n v.node v.shown in none_after n ns new numbers u.node u.freed
+  hidden : {test : Act → Bool} → VisibleVia (n ∷ ns) n test → ⊥
+  hidden v = let u = visible_via (n ∷ ns) n v.node v.made_visible in none_after n ns new numbers u.node u.made_available
 
 -- what a clock says of an older node stays
 clocked_stays : (p : Point) (past : Past) (c : Clock) (m : Node) → Contains (nodes past) m → c.available ≤ length past → c.readable ≤ length past → IsClocked past c m → IsClocked (p ∷ past) c m
 clocked_stays p past c m stands a r is w j (inr old) =
     let h = is w j old in
     let ns : List Node = nodes past in (
-      (λ f. h.0.0 (freed_ungrown p w (acts p.action) ns (numbered past) m stands f), λ lt. freed_grows p w (acts p.action) ns (numbered past) m (h.0.1 lt)),
-      (λ f. h.1.0 (shown_ungrown p w (acts p.action) ns (numbered past) m stands f), λ lt. shown_grows p w (acts p.action) ns (numbered past) m (h.1.1 lt)),
+      (λ f. h.0.0 (available_ungrown p w (acts p.action) ns (numbered past) m stands f), λ lt. available_grows p w (acts p.action) ns (numbered past) m (h.0.1 lt)),
+      (λ f. h.1.0 (visible_ungrown p w (acts p.action) ns (numbered past) m stands f), λ lt. visible_grows p w (acts p.action) ns (numbered past) m (h.1.1 lt)),
     )
 clocked_stays p past c m stands a r is w j (inl new) = (never j c.available (omega (arith, a, count)) unfreed, never j c.readable (omega (arith, r, count)) unshown) where
   count : j ≡ length past
@@ -80,18 +80,18 @@ clocked_stays p past c m stands a r is w j (inl new) = (never j c.available (ome
   number_is : w.number ≡ length (nodes past)
   number_is = ap (λ (k : Node). k.number) new.node_is
 
-  unfreed : Freed (nodes (p ∷ past)) w m → ⊥
-  unfreed f = let more = freed_later (nodes (p ∷ past)) w m f in let low = number_below (nodes past) (numbered past) m stands in omega (arith, more, low, number_is)
+  unfreed : Available (nodes (p ∷ past)) w m → ⊥
+  unfreed f = let more = available_later (nodes (p ∷ past)) w m f in let low = number_below (nodes past) (numbered past) m stands in omega (arith, more, low, number_is)
 
-  unshown : Shown (nodes (p ∷ past)) w m → ⊥
-  unshown f = unfreed (shown_freed (nodes (p ∷ past)) w m f)
+  unshown : Visible (nodes (p ∷ past)) w m → ⊥
+  unshown f = unfreed (visible_available (nodes (p ∷ past)) w m f)
 
 module _ (past : Past) (cleared : IsCleared past) (plain : IsPlain past) (s : Standing) (stands : IsStanding s past) where
   low : (x : Signaled) → Contains s.signals x → (x.clock.available ≤ length past) × (x.clock.readable ≤ length past)
   low x c =
       let u = stands.under x c in
       let a = stands.bounded.signals in
-      let r = stands.bounded.shown_signals in
+      let r = stands.bounded.visible_signals in
       let ua = u.0 in
       let ur = u.1 in (omega (arith, a, ua), omega (arith, r, ur))
 
@@ -223,9 +223,9 @@ module _ (past : Past) (cleared : IsCleared past) (plain : IsPlain past) (s : St
         host_stages = b.host_stages;
         host_reads = b.host_reads;
         signals = (let a = b.signals in let l = clock_low.0 in omega (arith, a, l));
-        shown_signals = (let a = b.shown_signals in let l = clock_low.1 in omega (arith, a, l));
+        visible_signals = (let a = b.visible_signals in let l = clock_low.1 in omega (arith, a, l));
         hosts = b.hosts;
-        shown_hosts = b.shown_hosts;
+        visible_hosts = b.visible_hosts;
       });
       rising = ((λ y c. let u = stands.under y c in let ua = u.0 in let ur = u.1 in let ca = over_signals.0 in let cr = over_signals.1 in (omega (arith, ua, ca), omega (arith, ur, cr))), stands.rising);
       under = λ y c. elim (contains-cons (new_signal x) s.signals y c) [
@@ -257,9 +257,9 @@ module _ (past : Past) (cleared : IsCleared past) (plain : IsPlain past) (s : St
           let h = b.host_stages in
           let r = b.host_reads in
           let sa = b.signals in
-          let sr = b.shown_signals in
+          let sr = b.visible_signals in
           let ha = b.hosts in
-          let hr = b.shown_hosts in
+          let hr = b.visible_hosts in
           let own : cond (on_transfers x.stages.0) (length past) s.order.to_host ≤ length past = pick (on_transfers x.stages.0) h in
           (omega (arith, own, sa, ha), omega (arith, r, sr, hr))
         where
@@ -272,12 +272,12 @@ module _ (past : Past) (cleared : IsCleared past) (plain : IsPlain past) (s : St
 
       clocked : IsClocked (at_signal x ∷ past) (new_clock x) (signaling x)
       clocked w j (inl new) = absurd (let bad : Signal x ≡ Run new.command = new.runs in cc)
-      clocked w j (inr old) = let h = command_stands past w j old in (signal_freed (nodes past) (numbered past) simple on_0 (at_signal x) queue after w j (length past) h.0 h.1 h.2 s.order (stands.means w j old) x, signal_shown (nodes past) (numbered past) simple on_0 (at_signal x) queue after w j (length past) h.0 h.1 h.2 s.order (stands.means w j old) x)
+      clocked w j (inr old) = let h = command_stands past w j old in (signal_available (nodes past) (numbered past) simple on_0 (at_signal x) queue after w j (length past) h.0 h.1 h.2 s.order (stands.means w j old) x, signal_visible (nodes past) (numbered past) simple on_0 (at_signal x) queue after w j (length past) h.0 h.1 h.2 s.order (stands.means w j old) x)
 
 -- the order that is kept says of every point's nodes what they do
 pub stands : (past : Past) → IsCleared past → IsPlain past → IsApart past → IsStanding (standing past) past
 stands [] cleared plain apart = record {
-  bounded = record { transfers = zero_low; writes = zero_low; host_stages = zero_low; host_reads = zero_low; signals = zero_low; shown_signals = zero_low; hosts = zero_low; shown_hosts = zero_low };
+  bounded = record { transfers = zero_low; writes = zero_low; host_stages = zero_low; host_reads = zero_low; signals = zero_low; visible_signals = zero_low; hosts = zero_low; visible_hosts = zero_low };
   rising = tt;
   under = λ x c. absurd (none_in x c);
   means = λ w j at. absurd at;

@@ -18,7 +18,7 @@ use Rattle.vk_model.specs.Node.{Node, Hosts, Runs, acts, nodes}
 use Rattle.vk_model.specs.Edge.{edge, is_host, is_command, transfer_stage, second_scope}
 use Rattle.vk_model.specs.Ownership.{dependency_of}
 use Rattle.vk_model.specs.Seen.{Read, Write}
-use Rattle.vk_model.specs.Access.{raw, waw, reads, writes, sees, precedes, is_in, host_reads}
+use Rattle.vk_model.specs.Access.{raw, waw, reads, writes, is_seen, precedes, is_in, host_reads}
 use Rattle.vk_model.specs.RulesBytes.{breaks_hazard_raw, breaks_hazard_waw}
 use Rattle.vk_validate.specs.Cleared.{IsCleared}
 use Rattle.vk_validate.specs.Supported.{is_supported, is_supported_action}
@@ -38,13 +38,13 @@ use Rattle.vk_validate.proofs.Hazards.{hazard_none, lined_act, reads_none, write
 use Rattle.vk_validate.proofs.Spans.{one_of, some_of}
 use Rattle.vk_validate.proofs.Places.{IsApart}
 use Rattle.vk_validate.proofs.Reach.{supported_of}
-use Rattle.vk_validate.proofs.Freed.{Shown, Via, ShownVia, leads_to_transfers, leads_to_writes, shown_stands}
+use Rattle.vk_validate.proofs.Available.{Visible, Via, VisibleVia, leads_to_transfers, leads_to_writes, visible_stands}
 use Rattle.vk_validate.proofs.Causes.{meet_transfers}
-use Rattle.vk_validate.proofs.Clocked.{Means, stage_edge, shown_by}
+use Rattle.vk_validate.proofs.Clocked.{Means, stage_edge, visible_through}
 use Rattle.vk_validate.proofs.BatchNodes.{queue_stages, barrier_of, leads_element, element_hosts}
 use Rattle.vk_validate.proofs.Stands.{IsStanding, IsCommandAt, command_stands}
 use Rattle.vk_validate.proofs.StandsOn.{stands, after_host, after_fill}
-use Rattle.vk_validate.proofs.Sights.{uncached, seen_by_read, seen_by_write}
+use Rattle.vk_validate.proofs.Visibility.{uncached, seen_by_read, seen_by_write}
 use Rattle.vk_validate.proofs.FillWriters.{writer_of, last_node}
 
 -- ---- HAZARD_RAW
@@ -63,8 +63,8 @@ module _ (past : Past) (cleared : IsCleared past) (plain : IsPlain past) (apart 
   supported_now = supported-next reading past refl (supported_of past cleared)
 
   -- a read sees a write where it comes after the number of its point
-  read_sees : (x : Node) (j : ℕ) (c : Cmd) (byte : Byte) → IsCommandAt past x j → x.act ≡ Runs c → (sees (reading ∷ past) x reader Read byte ≡ true) ↔ (j < readable)
-  read_sees x j c byte at is = (λ e. now.shown_hosts.0 (record { node = reader; passes = refl; shown = seen_it.0 e }), λ lt. seen_it.1 (comes (then.shown_hosts.1 lt))) where
+  read_is_seen : (x : Node) (j : ℕ) (c : Cmd) (byte : Byte) → IsCommandAt past x j → x.act ≡ Runs c → (is_seen (reading ∷ past) x reader Read byte ≡ true) ↔ (j < readable)
+  read_is_seen x j c byte at is = (λ e. now.visible_hosts.0 (record { node = reader; passes = refl; made_visible = seen_it.0 e }), λ lt. seen_it.1 (comes (then.visible_hosts.1 lt))) where
     stood : IsStanding (standing past) past
     stood = stands past cleared plain apart
 
@@ -77,11 +77,11 @@ module _ (past : Past) (cleared : IsCleared past) (plain : IsPlain past) (apart 
     h : Contains (nodes past) x × (is_command x.act ≡ true) × (j < length past)
     h = command_stands past x j at
 
-    seen_it : (sees (reading ∷ past) x reader Read byte ≡ true) ↔ Shown (reader ∷ nodes past) x reader
+    seen_it : (is_seen (reading ∷ past) x reader Read byte ≡ true) ↔ Visible (reader ∷ nodes past) x reader
     seen_it = seen_by_read past reading x (λ c. is_cached (reading ∷ past) (resource_at c)) byte h.1 (contains-tail reader (nodes past) x h.0) (supported_node (reading ∷ past) supported_now) reader (entry.Read b o n) refl (contains-head reader (nodes past)) (uncached (reading ∷ past) supported_now (resource_at byte)) c is
 
-    comes : ShownVia (nodes past) x is_host → Shown (reader ∷ nodes past) x reader
-    comes v = shown_by reader (nodes past) refl (numbered past) x j v.node v.shown (host_edge (nodes past) v.node reader (number_below (nodes past) (numbered past) v.node (shown_stands (nodes past) x v.node v.shown)) (hosts_follow v.node reader v.passes refl))
+    comes : VisibleVia (nodes past) x is_host → Visible (reader ∷ nodes past) x reader
+    comes v = visible_through reader (nodes past) refl (numbered past) x j v.node v.made_visible (host_edge (nodes past) v.node reader (number_below (nodes past) (numbered past) v.node (visible_stands (nodes past) x v.node v.made_visible)) (hosts_follow v.node reader v.passes refl))
 
   -- HAZARD_RAW of a read of the host
   pub raw_is : breaks_hazard_raw past reading ≡ reads_unseen past (Host (entry.Read b o n))
@@ -92,16 +92,16 @@ module _ (past : Past) (cleared : IsCleared past) (plain : IsPlain past) (apart 
         let parts = and_parts (precedes x.0 reader) (raw (reading ∷ past) x.0 reader) x.2 in
         elim (contains-cons reader (nodes past) x.0 x.1) [
           | inl same ↦ no (sym (ap (λ (t : Bool). t && not (is_host x.0.act && true)) (le-ltb x.0.number (length (nodes past)) (let e : length (nodes past) ≡ x.0.number = ap (λ (m : Node). m.number) same in omega arith))) ∙ parts.0)
-          | inr old ↦ at_byte x.0 old (some_of (λ k. is_in (in_buffer b (o + k)) (writes (reading ∷ past) x.0) && not (sees (reading ∷ past) x.0 reader Read (in_buffer b (o + k)))) 0 n (sym (any_map (λ c. is_in c (writes (reading ∷ past) x.0) && not (sees (reading ∷ past) x.0 reader Read c)) (λ k. in_buffer b (o + k)) (below n)) ∙ parts.1))
+          | inr old ↦ at_byte x.0 old (some_of (λ k. is_in (in_buffer b (o + k)) (writes (reading ∷ past) x.0) && not (is_seen (reading ∷ past) x.0 reader Read (in_buffer b (o + k)))) 0 n (sym (any_map (λ c. is_in c (writes (reading ∷ past) x.0) && not (is_seen (reading ∷ past) x.0 reader Read c)) (λ k. in_buffer b (o + k)) (below n)) ∙ parts.1))
         ]
       where
-        at_byte : (x : Node) → Contains (nodes past) x → ((k : ℕ) × (0 ≤ k) × (k < 0 + n) × ((is_in (in_buffer b (o + k)) (writes (reading ∷ past) x) && not (sees (reading ∷ past) x reader Read (in_buffer b (o + k)))) ≡ true)) → reads_unseen past (Host (entry.Read b o n)) ≡ true
+        at_byte : (x : Node) → Contains (nodes past) x → ((k : ℕ) × (0 ≤ k) × (k < 0 + n) × ((is_in (in_buffer b (o + k)) (writes (reading ∷ past) x) && not (is_seen (reading ∷ past) x reader Read (in_buffer b (o + k)))) ≡ true)) → reads_unseen past (Host (entry.Read b o n)) ≡ true
         at_byte x old k =
-            let parts = and_parts (is_in (in_buffer b (o + k.0)) (writes (reading ∷ past) x)) (not (sees (reading ∷ past) x reader Read (in_buffer b (o + k.0)))) k.3 in
+            let parts = and_parts (is_in (in_buffer b (o + k.0)) (writes (reading ∷ past) x)) (not (is_seen (reading ∷ past) x reader Read (in_buffer b (o + k.0)))) k.3 in
             let w = writer_of past cleared reading (λ c. refl) x old b (o + k.0) parts.0 in
-            let sight = read_sees x w.number w.command (in_buffer b (o + k.0)) w.at w.runs_it in
+            let visibility = read_is_seen x w.number w.command (in_buffer b (o + k.0)) w.at w.runs_it in
             let late = w.not_after in
-            let unseen : readable ≤ w.last = elim (cases_lt w.number readable) [ inl lt ↦ clash (sight.1 lt) (not-true (sees (reading ∷ past) x reader Read (in_buffer b (o + k.0))) parts.1) | inr ge ↦ omega (arith, ge, late) ] in
+            let unseen : readable ≤ w.last = elim (cases_lt w.number readable) [ inl lt ↦ clash (visibility.1 lt) (not-true (is_seen (reading ∷ past) x reader Read (in_buffer b (o + k.0))) parts.1) | inr ge ↦ omega (arith, ge, late) ] in
             one_of (λ k. holds (last_writer past b (o + k)) (nat_le readable)) 0 n k.0 k.1 k.2 (rw w.last_is_it (le-leb readable w.last unseen))
 
     from : reads_unseen past (Host (entry.Read b o n)) ≡ true → (list_any (λ x. precedes x reader && raw (reading ∷ past) x reader) (reader ∷ nodes past) || false) ≡ true
@@ -110,12 +110,12 @@ module _ (past : Past) (cleared : IsCleared past) (plain : IsPlain past) (apart 
       by_last k low high None at h = no h
       by_last k low high (Some m) at h =
           let w = last_node past cleared reading (λ c. refl) b (o + k) m at in
-          let sight = read_sees w.node m w.command (in_buffer b (o + k)) w.at w.runs_it in
+          let visibility = read_is_seen w.node m w.command (in_buffer b (o + k)) w.at w.runs_it in
           let late : readable ≤ m = leb-true readable m h in
-          let unseen : sees (reading ∷ past) w.node reader Read (in_buffer b (o + k)) ≡ false = false_from_ne_true (sees (reading ∷ past) w.node reader Read (in_buffer b (o + k))) (λ e. let lt = sight.0 e in omega (arith, lt, late)) in
+          let unseen : is_seen (reading ∷ past) w.node reader Read (in_buffer b (o + k)) ≡ false = false_from_ne_true (is_seen (reading ∷ past) w.node reader Read (in_buffer b (o + k))) (λ e. let lt = visibility.0 e in omega (arith, lt, late)) in
           let hit : raw (reading ∷ past) w.node reader ≡ true =
-          any_map (λ c. is_in c (writes (reading ∷ past) w.node) && not (sees (reading ∷ past) w.node reader Read c)) (λ k. in_buffer b (o + k)) (below n)
-          ∙ one_of (λ k. is_in (in_buffer b (o + k)) (writes (reading ∷ past) w.node) && not (sees (reading ∷ past) w.node reader Read (in_buffer b (o + k)))) 0 n k low high (rw (w.writes_it, unseen) refl) in
+          any_map (λ c. is_in c (writes (reading ∷ past) w.node) && not (is_seen (reading ∷ past) w.node reader Read c)) (λ k. in_buffer b (o + k)) (below n)
+          ∙ one_of (λ k. is_in (in_buffer b (o + k)) (writes (reading ∷ past) w.node) && not (is_seen (reading ∷ past) w.node reader Read (in_buffer b (o + k)))) 0 n k low high (rw (w.writes_it, unseen) refl) in
           let first : precedes w.node reader ≡ true = rw (lt-ltb w.node.number (length (nodes past)) (number_below (nodes past) (numbered past) w.node w.stands_in), ap is_host w.runs_it) refl in
           or_left (list_any (λ x. precedes x reader && raw (reading ∷ past) x reader) (reader ∷ nodes past)) false (member_passes (λ x. precedes x reader && raw (reading ∷ past) x reader) (reader ∷ nodes past) w.node (contains-tail reader (nodes past) w.node w.stands_in) (rw (first, hit) refl))
 
@@ -150,19 +150,19 @@ module _ (past : Past) (cleared : IsCleared past) (plain : IsPlain past) (apart 
   ]
 
   -- a fill sees a write where it comes after the number of its point
-  write_sees : (x : Node) (j : ℕ) (c : Cmd) (byte : Byte) → IsCommandAt past x j → x.act ≡ Runs c → (sees (writing ∷ past) x writer Write byte ≡ true) ↔ (j < to_writes)
-  write_sees x j c byte at is = (λ e. now.writes.0 (seen_it.0 e), λ lt. seen_it.1 (now.writes.1 lt)) where
+  write_is_seen : (x : Node) (j : ℕ) (c : Cmd) (byte : Byte) → IsCommandAt past x j → x.act ≡ Runs c → (is_seen (writing ∷ past) x writer Write byte ≡ true) ↔ (j < to_writes)
+  write_is_seen x j c byte at is = (λ e. now.writes.0 (seen_it.0 e), λ lt. seen_it.1 (now.writes.1 lt)) where
     now : Means (standing past).order (writer ∷ nodes past) x j
     now = (after_fill past cleared plain (standing past) (stands past cleared plain apart) p b o n word).means x j (inr at)
 
     h : Contains (nodes past) x × (is_command x.act ≡ true) × (j < length past)
     h = command_stands past x j at
 
-    seen_it : (sees (writing ∷ past) x writer Write byte ≡ true) ↔ Via (writer ∷ nodes past) x leads_to_writes
+    seen_it : (is_seen (writing ∷ past) x writer Write byte ≡ true) ↔ Via (writer ∷ nodes past) x leads_to_writes
     seen_it = seen_by_write past writing x (λ c. is_cached (writing ∷ past) (resource_at c)) byte h.1 (contains-tail writer (nodes past) x h.0) (supported_node (writing ∷ past) supported_then) (length (nodes past)) writing (cmd.Fill b o n word) (contains-head writer (nodes past)) edge_to c is
 
   abbrev overwrites : Node → Byte → Bool
-  overwrites x c = is_in c (writes (writing ∷ past) x) && not (sees (writing ∷ past) x writer Write c)
+  overwrites x c = is_in c (writes (writing ∷ past) x) && not (is_seen (writing ∷ past) x writer Write c)
 
   writes_range : (x : Node) → waw (writing ∷ past) x writer ≡ list_any (λ k. overwrites x (in_buffer b (o + k))) (below size)
   writes_range x = ap (λ (bs : List Byte). list_any (overwrites x) bs) (fill-targets (writing ∷ past) b o n word) ∙ any_map (overwrites x) (λ k. in_buffer b (o + k)) (below size)
@@ -181,11 +181,11 @@ module _ (past : Past) (cleared : IsCleared past) (plain : IsPlain past) (apart 
       where
         at_byte : (x : Node) → Contains (nodes past) x → ((k : ℕ) × (0 ≤ k) × (k < 0 + size) × (overwrites x (in_buffer b (o + k)) ≡ true)) → overwrites_unseen past (Run (cmd.Fill b o n word)) ≡ true
         at_byte x old k =
-            let parts = and_parts (is_in (in_buffer b (o + k.0)) (writes (writing ∷ past) x)) (not (sees (writing ∷ past) x writer Write (in_buffer b (o + k.0)))) k.3 in
+            let parts = and_parts (is_in (in_buffer b (o + k.0)) (writes (writing ∷ past) x)) (not (is_seen (writing ∷ past) x writer Write (in_buffer b (o + k.0)))) k.3 in
             let w = writer_of past cleared writing (λ c. refl) x old b (o + k.0) parts.0 in
-            let sight = write_sees x w.number w.command (in_buffer b (o + k.0)) w.at w.runs_it in
+            let visibility = write_is_seen x w.number w.command (in_buffer b (o + k.0)) w.at w.runs_it in
             let late = w.not_after in
-            let unseen : to_writes ≤ w.last = elim (cases_lt w.number to_writes) [ inl lt ↦ clash (sight.1 lt) (not-true (sees (writing ∷ past) x writer Write (in_buffer b (o + k.0))) parts.1) | inr ge ↦ omega (arith, ge, late) ] in
+            let unseen : to_writes ≤ w.last = elim (cases_lt w.number to_writes) [ inl lt ↦ clash (visibility.1 lt) (not-true (is_seen (writing ∷ past) x writer Write (in_buffer b (o + k.0))) parts.1) | inr ge ↦ omega (arith, ge, late) ] in
             one_of (λ k. holds (last_writer past b (o + k)) (nat_le to_writes)) 0 size k.0 k.1 k.2 (rw w.last_is_it (le-leb to_writes w.last unseen))
 
     from : overwrites_unseen past (Run (cmd.Fill b o n word)) ≡ true → (list_any (λ x. precedes x writer && waw (writing ∷ past) x writer) (writer ∷ nodes past) || false) ≡ true
@@ -194,9 +194,9 @@ module _ (past : Past) (cleared : IsCleared past) (plain : IsPlain past) (apart 
       by_last k low high None at h = no h
       by_last k low high (Some m) at h =
           let w = last_node past cleared writing (λ c. refl) b (o + k) m at in
-          let sight = write_sees w.node m w.command (in_buffer b (o + k)) w.at w.runs_it in
+          let visibility = write_is_seen w.node m w.command (in_buffer b (o + k)) w.at w.runs_it in
           let late : to_writes ≤ m = leb-true to_writes m h in
-          let unseen : sees (writing ∷ past) w.node writer Write (in_buffer b (o + k)) ≡ false = false_from_ne_true (sees (writing ∷ past) w.node writer Write (in_buffer b (o + k))) (λ e. let lt = sight.0 e in omega (arith, lt, late)) in
+          let unseen : is_seen (writing ∷ past) w.node writer Write (in_buffer b (o + k)) ≡ false = false_from_ne_true (is_seen (writing ∷ past) w.node writer Write (in_buffer b (o + k))) (λ e. let lt = visibility.0 e in omega (arith, lt, late)) in
           let hit : waw (writing ∷ past) w.node writer ≡ true = writes_range w.node ∙ one_of (λ k. overwrites w.node (in_buffer b (o + k))) 0 size k low high (rw (w.writes_it, unseen) refl) in
           let first : precedes w.node writer ≡ true = rw (lt-ltb w.node.number (length (nodes past)) (number_below (nodes past) (numbered past) w.node w.stands_in), ap is_host w.runs_it) refl in
           or_left (list_any (λ x. precedes x writer && waw (writing ∷ past) x writer) (writer ∷ nodes past)) false (member_passes (λ x. precedes x writer && waw (writing ∷ past) x writer) (writer ∷ nodes past) w.node (contains-tail writer (nodes past) w.node w.stands_in) (rw (first, hit) refl))

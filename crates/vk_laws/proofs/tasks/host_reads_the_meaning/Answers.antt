@@ -20,6 +20,6 @@ host_agent all next h = go (node_at all next.node) h
 pub returns : goal.returns
 returns c = λ t done cells next b none r may reads host.
     let d = c.reads_are_defined.ensures t next b none reads host in
-    let sees = c.cached_trace_is_fresh.ensures.fresh t done cells next b d.0 none r may reads d.1 in
-    let here : view 0 (cells b) ≡ d.0 = subst (λ (a : ℕ). view a (cells b) ≡ d.0) (host_agent (plain_order t) next host) sees in
+    let is_seen = c.cached_trace_is_fresh.ensures.fresh t done cells next b d.0 none r may reads d.1 in
+    let here : view 0 (cells b) ≡ d.0 = subst (λ (a : ℕ). view a (cells b) ≡ d.0) (host_agent (plain_order t) next host) is_seen in
     d.1 ∙ ap Some (sym here)

@@ -18,5 +18,5 @@ returns c =
       reads_byte = reads_byte;
       defined = defined;
       state = (bare (memory_after (with_discards points) (caching_of points) run), reached (with_discards points) (caching_of points) run (allowed leads));
-      sees = λ cells r. c.cached_trace_is_fresh.ensures.fresh example run cells (task 11) (in_buffer 1 0) 1 no_fault r (next leads) reads_byte defined;
+      is_seen = λ cells r. c.cached_trace_is_fresh.ensures.fresh example run cells (task 11) (in_buffer 1 0) 1 no_fault r (next leads) reads_byte defined;
     }

@@ -21,12 +21,12 @@ returns c = record {
   fresh = λ t part_count steps e run first next b v none may reads is.
       let all = plain_order t in
       let d = c.defined_runs_are_allowed.ensures t part_count steps e run none in
-      let sees = c.trace_is_fresh.ensures.fresh t d.0 (bare (bytes_after (accesses_of all) first d.0)) next b v none (reached_from (accesses_of all) uncached first d.0 d.1.allowed) (d.1.next next may) reads is in
-      ap (λ (done : List Task). bytes_after (accesses_of all) first done b) (sym d.2) ∙ sym (bytes_same all first d.0 b) ∙ sees;
+      let is_seen = c.trace_is_fresh.ensures.fresh t d.0 (bare (bytes_after (accesses_of all) first d.0)) next b v none (reached_from (accesses_of all) uncached first d.0 d.1.allowed) (d.1.next next may) reads is in
+      ap (λ (done : List Task). bytes_after (accesses_of all) first done b) (sym d.2) ∙ sym (bytes_same all first d.0 b) ∙ is_seen;
   written = λ t part_count steps e run first writer b v none last is.
       let all = plain_order t in
       let d = c.defined_runs_are_allowed.ensures t part_count steps e run none in
       let newest = latest_same all b d.0 ∙ ap (λ (done : List Task). latest (accesses_of all) b done) d.2 ∙ last in
-      let sees = c.trace_is_fresh.ensures.written t d.0 (bare (bytes_after (accesses_of all) first d.0)) writer b v none (reached_from (accesses_of all) uncached first d.0 d.1.allowed) newest is in
-      ap (λ (done : List Task). bytes_after (accesses_of all) first done b) (sym d.2) ∙ sym (bytes_same all first d.0 b) ∙ sees;
+      let is_seen = c.trace_is_fresh.ensures.written t d.0 (bare (bytes_after (accesses_of all) first d.0)) writer b v none (reached_from (accesses_of all) uncached first d.0 d.1.allowed) newest is in
+      ap (λ (done : List Task). bytes_after (accesses_of all) first done b) (sym d.2) ∙ sym (bytes_same all first d.0 b) ∙ is_seen;
 }

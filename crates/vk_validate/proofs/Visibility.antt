@@ -16,7 +16,7 @@ use Rattle.vk_model.specs.Ownership.{dependency_of}
 use Rattle.vk_model.specs.Node.{Node, Act, Hosts, Waits, Signals, Runs, Depends, Barrier, SetOf, AwaitOf, nodes, same_node}
 use Rattle.vk_model.specs.Edge.{edge, is_host, is_command, is_submit}
 use Rattle.vk_model.specs.Before.{before, Path, direct, longer, IsNumbered}
-use Rattle.vk_model.specs.Seen.{Access, Read, Write, seen, sends, receives, available_by, visible_by, passes, invalidates, command_mask, host_mask, is_wait, to_host}
+use Rattle.vk_model.specs.Seen.{Access, Read, Write, seen, makes_writes_available, makes_writes_visible, available_by, visible_by, passes, invalidates, command_mask, host_mask, is_wait, to_host}
 use Rattle.vk_validate.specs.Supported.{is_supported, is_memory, is_supported_entry}
 use Rattle.vk_validate.proofs.Acts.{is_supported_act}
 use Rattle.vk_validate.proofs.Members.{some_member, member_passes}
@@ -25,7 +25,7 @@ use Rattle.vk_validate.proofs.Forms.{entry_cases}
 use Rattle.vk_validate.proofs.Pasts.{made_supported}
 use Rattle.vk_validate.proofs.Growth.{numbered}
 use Rattle.vk_validate.proofs.Paths.{path_of_before, before_of_path, target, unique}
-use Rattle.vk_validate.proofs.Freed.{Freed, Sent, Passed, Shown, Begun, Carried, Via, frees, leads_to_transfers, leads_to_writes, leads_to_reads, freed_stands}
+use Rattle.vk_validate.proofs.Available.{Available, MadeHere, Passed, Visible, Begun, Carried, Via, makes_available, leads_to_transfers, leads_to_writes, leads_to_reads, available_stands}
 use Rattle.vk_validate.proofs.Causes.{into_command}
 use Rattle.vk_validate.proofs.Clocked.{command_hosts}
 
@@ -42,9 +42,9 @@ uncached past supported i = go (made past i) refl where
 
 -- ---- what makes available and visible, on memory of all
 
-supported_sends : (cached : Byte → Bool) (ns : List Node) (p : Node) (b : Byte) → is_supported_act p.act ≡ true → sends cached ns p b p.act ≡ frees p.act
-supported_sends cached ns p b = go p.act where
-  go : (a : Act) → is_supported_act a ≡ true → sends cached ns p b a ≡ frees a
+supported_available : (cached : Byte → Bool) (ns : List Node) (p : Node) (b : Byte) → is_supported_act p.act ≡ true → makes_writes_available cached ns p b p.act ≡ makes_available p.act
+supported_available cached ns p b = go p.act where
+  go : (a : Act) → is_supported_act a ≡ true → makes_writes_available cached ns p b a ≡ makes_available a
   go (Hosts x) h = refl
   go (Waits s) h = no h
   go (Signals s) h = refl
@@ -55,9 +55,9 @@ supported_sends cached ns p b = go p.act where
   go (Depends (SetOf v k) e) h = no h
   go (Depends (AwaitOf v k) e) h = no h
 
-supported_receives : (cached : Byte → Bool) (ns : List Node) (mask : ℕ) (b : Byte) (q : Node) → is_supported_act q.act ≡ true → receives cached ns mask b q q.act ≡ true → (e : Element) × (q.act ≡ Depends Barrier e) × (has_some (dependency_of e).destination_accesses.0 mask ≡ true)
-supported_receives cached ns mask b q = go q.act where
-  go : (a : Act) → is_supported_act a ≡ true → receives cached ns mask b q a ≡ true → (e : Element) × (a ≡ Depends Barrier e) × (has_some (dependency_of e).destination_accesses.0 mask ≡ true)
+supported_visible : (cached : Byte → Bool) (ns : List Node) (mask : ℕ) (b : Byte) (q : Node) → is_supported_act q.act ≡ true → makes_writes_visible cached ns mask b q q.act ≡ true → (e : Element) × (q.act ≡ Depends Barrier e) × (has_some (dependency_of e).destination_accesses.0 mask ≡ true)
+supported_visible cached ns mask b q = go q.act where
+  go : (a : Act) → is_supported_act a ≡ true → makes_writes_visible cached ns mask b q a ≡ true → (e : Element) × (a ≡ Depends Barrier e) × (has_some (dependency_of e).destination_accesses.0 mask ≡ true)
   go (Hosts x) h r = no r
   go (Waits s) h r = no r
   go (Signals s) h r = no r
@@ -69,7 +69,7 @@ supported_receives cached ns mask b q = go q.act where
   go (Depends (AwaitOf v k) e) h r = no h
 
 -- and an element on all memory that has the access does
-makes_visible : (cached : Byte → Bool) (ns : List Node) (mask : ℕ) (b : Byte) (q : Node) (e : Element) → is_memory e ≡ true → q.act ≡ Depends Barrier e → has_some (dependency_of e).destination_accesses.0 mask ≡ true → receives cached ns mask b q q.act ≡ true
+makes_visible : (cached : Byte → Bool) (ns : List Node) (mask : ℕ) (b : Byte) (q : Node) (e : Element) → is_memory e ≡ true → q.act ≡ Depends Barrier e → has_some (dependency_of e).destination_accesses.0 mask ≡ true → makes_writes_visible cached ns mask b q q.act ≡ true
 makes_visible cached ns mask b q (element.Memory d) m at has = rw (at, has) refl
 makes_visible cached ns mask b q (element.Buffer e) m at has = no m
 makes_visible cached ns mask b q (element.Image e) m at has = no m
@@ -104,10 +104,10 @@ supported_waits (Runs c) h = refl
 supported_waits (Depends r e) h = refl
 
 -- a sight, by the acts
-abbrev sight : (Byte → Bool) → List Node → Node → Node → Act → Act → Access → Byte → Bool
-sight cached ns w a of by k b = list_any (λ p. available_by cached ns w of b p && list_any (λ q. (same_node p q || before ns p q) && visible_by cached ns w a by k b q && (same_node q a || before ns q a)) ns) ns
+abbrev visibility : (Byte → Bool) → List Node → Node → Node → Act → Act → Access → Byte → Bool
+visibility cached ns w a of by k b = list_any (λ p. available_by cached ns w of b p && list_any (λ q. (same_node p q || before ns p q) && visible_by cached ns w a by k b q && (same_node q a || before ns q a)) ns) ns
 
-seen_is : (cached : Byte → Bool) (ns : List Node) (w a : Node) (k : Access) (b : Byte) → seen cached ns w a k b ≡ sight cached ns w a w.act a.act k b
+seen_is : (cached : Byte → Bool) (ns : List Node) (w a : Node) (k : Access) (b : Byte) → seen cached ns w a k b ≡ visibility cached ns w a w.act a.act k b
 unfolding seen
 seen_is cached ns w a k b = refl
 
@@ -119,13 +119,13 @@ module _ (past : Past) (p : Point) (w : Node) (cached : Byte → Bool) (b : Byte
   numbers = numbered (p ∷ past)
 
   -- a write is available at all that comes after a node that makes it so
-  freed_along : (m n : Node) → Freed ns w m → Path ns m n → Freed ns w n
-  freed_along m n f (direct c d e) = Passed f d e
-  freed_along m n f (longer {k = k} q d e) = Passed (freed_along m k f q) d e
+  available_along : (m n : Node) → Available ns w m → Path ns m n → Available ns w n
+  available_along m n f (direct c d e) = Passed f d e
+  available_along m n f (longer {k = k} q d e) = Passed (available_along m k f q) d e
 
-  shown_along : (m n : Node) → Freed ns w m → leads_to_reads m.act ≡ true → Path ns m n → Shown ns w n
-  shown_along m n f l (direct c d e) = Begun f l d e
-  shown_along m n f l (longer {k = k} q d e) = Carried (shown_along m k f l q) d e
+  visible_along : (m n : Node) → Available ns w m → leads_to_reads m.act ≡ true → Path ns m n → Visible ns w n
+  visible_along m n f l (direct c d e) = Begun f l d e
+  visible_along m n f l (longer {k = k} q d e) = Carried (visible_along m k f l q) d e
 
   -- the same node, or a path
   reaches : (m n : Node) → Contains ns m → Contains ns n → (same_node m n || before ns m n) ≡ true → (m ≡ n) ⊎ Path ns m n
@@ -134,76 +134,76 @@ module _ (past : Past) (p : Point) (w : Node) (cached : Byte → Bool) (b : Byte
     | inr later ↦ inr (path_of_before ns numbers m n cm cn later)
   ]
 
-  available_is : (q : Node) → Contains ns q → (edge ns w q && sends cached ns q b q.act) ≡ true → Freed ns w q
-  available_is q c e = let h = and_parts (edge ns w q) (sends cached ns q b q.act) e in Sent c h.0 (sym (supported_sends cached ns q b (simple q c)) ∙ h.1)
+  available_is : (q : Node) → Contains ns q → (edge ns w q && makes_writes_available cached ns q b q.act) ≡ true → Available ns w q
+  available_is q c e = let h = and_parts (edge ns w q) (makes_writes_available cached ns q b q.act) e in MadeHere c h.0 (sym (supported_available cached ns q b (simple q c)) ∙ h.1)
 
-  freed_at : (m n : Node) → Freed ns w m → (m ≡ n) ⊎ Path ns m n → Freed ns w n
-  freed_at m n f (inl same) = subst (λ (k : Node). Freed ns w k) same f
-  freed_at m n f (inr q) = freed_along m n f q
+  available_here : (m n : Node) → Available ns w m → (m ≡ n) ⊎ Path ns m n → Available ns w n
+  available_here m n f (inl same) = subst (λ (k : Node). Available ns w k) same f
+  available_here m n f (inr q) = available_along m n f q
 
   -- the node that made it available, and the path from there
   extended : (m k n : Node) → Contains ns k → Contains ns n → edge ns k n ≡ true → (m ≡ k) ⊎ Path ns m k → Path ns m n
   extended m k n ck cn e (inl same) = subst (λ (a : Node). Path ns a n) (sym same) (direct ck cn e)
   extended m k n ck cn e (inr q) = longer q cn e
 
-  origin : (n : Node) → Freed ns w n → (m : Node) × Contains ns m × (edge ns w m ≡ true) × (frees m.act ≡ true) × ((m ≡ n) ⊎ Path ns m n)
-  origin n (Sent c e f) = (n, c, e, f, inl refl)
-  origin n (Passed {m = k} f c e) = let o = origin k f in (o.0, o.1, o.2, o.3, inr (extended o.0 k n (freed_stands ns w k f) c e o.4))
+  origin : (n : Node) → Available ns w n → (m : Node) × Contains ns m × (edge ns w m ≡ true) × (makes_available m.act ≡ true) × ((m ≡ n) ⊎ Path ns m n)
+  origin n (MadeHere c e f) = (n, c, e, f, inl refl)
+  origin n (Passed {m = k} f c e) = let o = origin k f in (o.0, o.1, o.2, o.3, inr (extended o.0 k n (available_stands ns w k f) c e o.4))
 
   is_reached : (m n : Node) → Contains ns m → (m ≡ n) ⊎ Path ns m n → (same_node m n || before ns m n) ≡ true
   is_reached m n c (inl same) = rw (eq-eqb m.number n.number (ap (λ (k : Node). k.number) same)) refl
   is_reached m n c (inr q) = or_right (same_node m n) (before ns m n) (before_of_path ns numbers m n c (target ns m n q) q)
 
-  freed_by_some : (n : Node) → Freed ns w n → (m : Node) × Contains ns m × ((edge ns w m && sends cached ns m b m.act) ≡ true) × ((same_node m n || before ns m n) ≡ true)
-  freed_by_some n f = let o = origin n f in (o.0, o.1, rw (o.2, supported_sends cached ns o.0 b (simple o.0 o.1), o.3) refl, is_reached o.0 n o.1 o.4)
+  available_by_some : (n : Node) → Available ns w n → (m : Node) × Contains ns m × ((edge ns w m && makes_writes_available cached ns m b m.act) ≡ true) × ((same_node m n || before ns m n) ≡ true)
+  available_by_some n f = let o = origin n f in (o.0, o.1, rw (o.2, supported_available cached ns o.0 b (simple o.0 o.1), o.3) refl, is_reached o.0 n o.1 o.4)
 
   -- where the write is shown: by an element to the host's reads, and a path from it
-  pub shown_begin : (n : Node) → Shown ns w n → (q : Node) × Freed ns w q × (leads_to_reads q.act ≡ true) × Path ns q n
-  shown_begin n (Begun {q = q} f l c e) = (q, f, l, direct (freed_stands ns w q f) c e)
-  shown_begin n (Carried {m = m} s c e) = let o = shown_begin m s in (o.0, o.1, o.2, longer o.3 c e)
+  pub visible_begin : (n : Node) → Visible ns w n → (q : Node) × Available ns w q × (leads_to_reads q.act ≡ true) × Path ns q n
+  visible_begin n (Begun {q = q} f l c e) = (q, f, l, direct (available_stands ns w q f) c e)
+  visible_begin n (Carried {m = m} s c e) = let o = visible_begin m s in (o.0, o.1, o.2, longer o.3 c e)
 
   -- ---- a read of the host
 
   module _ (a : Node) (x : Entry) (reads : a.act ≡ Hosts x) (stands_a : Contains ns a) (coherent : cached b ≡ false) where
-    shown_of : (m q : Node) → Contains ns m → Contains ns q → (edge ns w m && sends cached ns m b m.act) ≡ true → (same_node m q || before ns m q) ≡ true
-        → (before ns q a && to_host q.act && receives cached ns (host_mask Read) b q q.act && (not (cached b) || passes cached ns (λ f. invalidates f b) q a)) ≡ true → Shown ns w a
-    shown_of m q cm cq sent reached visible =
-        let f : Freed ns w q = freed_at m q (available_is m cm sent) (reaches m q cm cq reached) in
-        let v1 = and_parts (before ns q a && to_host q.act && receives cached ns (host_mask Read) b q q.act) _ visible in
-        let v2 = and_parts (before ns q a && to_host q.act) (receives cached ns (host_mask Read) b q q.act) v1.0 in
+    visible_when : (m q : Node) → Contains ns m → Contains ns q → (edge ns w m && makes_writes_available cached ns m b m.act) ≡ true → (same_node m q || before ns m q) ≡ true
+        → (before ns q a && to_host q.act && makes_writes_visible cached ns (host_mask Read) b q q.act && (not (cached b) || passes cached ns (λ f. invalidates f b) q a)) ≡ true → Visible ns w a
+    visible_when m q cm cq sent reached visible =
+        let f : Available ns w q = available_here m q (available_is m cm sent) (reaches m q cm cq reached) in
+        let v1 = and_parts (before ns q a && to_host q.act && makes_writes_visible cached ns (host_mask Read) b q q.act) _ visible in
+        let v2 = and_parts (before ns q a && to_host q.act) (makes_writes_visible cached ns (host_mask Read) b q q.act) v1.0 in
         let v3 = and_parts (before ns q a) (to_host q.act) v2.0 in
-        let e = supported_receives cached ns (host_mask Read) b q (simple q cq) v2.1 in
-        shown_along q a f (leads q.act e.0 e.1 v3.1 e.2) (path_of_before ns numbers q a cq stands_a v3.0)
+        let e = supported_visible cached ns (host_mask Read) b q (simple q cq) v2.1 in
+        visible_along q a f (leads q.act e.0 e.1 v3.1 e.2) (path_of_before ns numbers q a cq stands_a v3.0)
       where
         leads : (act : Act) (e : Element) → act ≡ Depends Barrier e → to_host act ≡ true → has_some (dependency_of e).destination_accesses.0 (host_mask Read) ≡ true → leads_to_reads act ≡ true
         leads act e at to has = rw (at) (rw (sym (ap to_host at) ∙ to, has) refl)
 
     visible_of : (q : Node) → Contains ns q → leads_to_reads q.act ≡ true → Path ns q a
-        → (before ns q a && to_host q.act && receives cached ns (host_mask Read) b q q.act && (not (cached b) || passes cached ns (λ f. invalidates f b) q a)) ≡ true
+        → (before ns q a && to_host q.act && makes_writes_visible cached ns (host_mask Read) b q q.act && (not (cached b) || passes cached ns (λ f. invalidates f b) q a)) ≡ true
     visible_of q c l path =
         let parts = reads_parts q.act (simple q c) l in
         rw (before_of_path ns numbers q a c stands_a path, parts.3, makes_visible cached ns (host_mask Read) b q parts.0 parts.2 parts.1 parts.4, coherent) refl
 
     -- a read of the host sees a write just where the write is shown
-    pub seen_by_read : (c : Cmd) → w.act ≡ Runs c → (seen cached ns w a Read b ≡ true) ↔ Shown ns w a
-    seen_by_read c runs = (λ e. to (sym (is_sight) ∙ e), λ s. is_sight ∙ from s) where
-      is_sight : seen cached ns w a Read b ≡ sight cached ns w a (Runs c) (Hosts x) Read b
-      is_sight = seen_is cached ns w a Read b ∙ ap (λ (of : Act). sight cached ns w a of a.act Read b) runs ∙ ap (λ (by : Act). sight cached ns w a (Runs c) by Read b) reads
+    pub seen_by_read : (c : Cmd) → w.act ≡ Runs c → (seen cached ns w a Read b ≡ true) ↔ Visible ns w a
+    seen_by_read c runs = (λ e. to (sym (is_visibility) ∙ e), λ s. is_visibility ∙ from s) where
+      is_visibility : seen cached ns w a Read b ≡ visibility cached ns w a (Runs c) (Hosts x) Read b
+      is_visibility = seen_is cached ns w a Read b ∙ ap (λ (of : Act). visibility cached ns w a of a.act Read b) runs ∙ ap (λ (by : Act). visibility cached ns w a (Runs c) by Read b) reads
 
-      to : sight cached ns w a (Runs c) (Hosts x) Read b ≡ true → Shown ns w a
+      to : visibility cached ns w a (Runs c) (Hosts x) Read b ≡ true → Visible ns w a
       to e =
           let m = some_member _ ns e in
-          let h = and_parts (edge ns w m.0 && sends cached ns m.0 b m.0.act) _ m.2 in
+          let h = and_parts (edge ns w m.0 && makes_writes_available cached ns m.0 b m.0.act) _ m.2 in
           let q = some_member _ ns h.1 in
           let g = and_parts ((same_node m.0 q.0 || before ns m.0 q.0) && visible_by cached ns w a (Hosts x) Read b q.0) (same_node q.0 a || before ns q.0 a) q.2 in
           let k = and_parts (same_node m.0 q.0 || before ns m.0 q.0) (visible_by cached ns w a (Hosts x) Read b q.0) g.0 in
-          shown_of m.0 q.0 m.1 q.1 h.0 k.0 k.1
+          visible_when m.0 q.0 m.1 q.1 h.0 k.0 k.1
 
-      from : Shown ns w a → sight cached ns w a (Runs c) (Hosts x) Read b ≡ true
+      from : Visible ns w a → visibility cached ns w a (Runs c) (Hosts x) Read b ≡ true
       from s =
-          let q = shown_begin a s in
-          let cq : Contains ns q.0 = freed_stands ns w q.0 q.1 in
-          let m = freed_by_some q.0 q.1 in
+          let q = visible_begin a s in
+          let cq : Contains ns q.0 = available_stands ns w q.0 q.1 in
+          let m = available_by_some q.0 q.1 in
           member_passes _ ns m.0 m.1 (rw (m.2) (member_passes _ ns q.0 cq (rw (m.3, visible_of q.0 cq q.2 q.3, is_reached q.0 a cq (inr q.3)) refl)))
 
   -- ---- a command's write
@@ -212,18 +212,18 @@ module _ (past : Past) (p : Point) (w : Node) (cached : Byte → Bool) (b : Byte
     abbrev a : Node
     a = record { number = n; point = on; act = Runs d }
 
-    via_of : (c : Cmd) → w.act ≡ Runs c → (m q : Node) → Contains ns m → Contains ns q → (edge ns w m && sends cached ns m b m.act) ≡ true → (same_node m q || before ns m q) ≡ true
-        → (edge ns q a && (receives cached ns (command_mask Write) b q q.act || is_wait q.act || is_host w.act && is_submit q.act)) ≡ true → Via ns w leads_to_writes
+    via_of : (c : Cmd) → w.act ≡ Runs c → (m q : Node) → Contains ns m → Contains ns q → (edge ns w m && makes_writes_available cached ns m b m.act) ≡ true → (same_node m q || before ns m q) ≡ true
+        → (edge ns q a && (makes_writes_visible cached ns (command_mask Write) b q q.act || is_wait q.act || is_host w.act && is_submit q.act)) ≡ true → Via ns w leads_to_writes
     via_of c runs m q cm cq sent reached visible =
-        let f : Freed ns w q = freed_at m q (available_is m cm sent) (reaches m q cm cq reached) in
-        let v = and_parts (edge ns q a) (receives cached ns (command_mask Write) b q q.act || is_wait q.act || is_host w.act && is_submit q.act) visible in
-        let r : receives cached ns (command_mask Write) b q q.act ≡ true = received v.1 in
-        let e = supported_receives cached ns (command_mask Write) b q (simple q cq) r in
-        record { node = q; passes = leads q.act e.0 e.1 (into_command ns q n on d (simple q cq) v.0) e.2; freed = f }
+        let f : Available ns w q = available_here m q (available_is m cm sent) (reaches m q cm cq reached) in
+        let v = and_parts (edge ns q a) (makes_writes_visible cached ns (command_mask Write) b q q.act || is_wait q.act || is_host w.act && is_submit q.act) visible in
+        let r : makes_writes_visible cached ns (command_mask Write) b q q.act ≡ true = made_visible v.1 in
+        let e = supported_visible cached ns (command_mask Write) b q (simple q cq) r in
+        record { node = q; passes = leads q.act e.0 e.1 (into_command ns q n on d (simple q cq) v.0) e.2; made_available = f }
       where
-        received : (receives cached ns (command_mask Write) b q q.act || is_wait q.act || is_host w.act && is_submit q.act) ≡ true → receives cached ns (command_mask Write) b q q.act ≡ true
-        received e = elim (or_cases (receives cached ns (command_mask Write) b q q.act || is_wait q.act) (is_host w.act && is_submit q.act) e) [
-          | inl some ↦ elim (or_cases (receives cached ns (command_mask Write) b q q.act) (is_wait q.act) some) [ inl r ↦ r | inr waits ↦ clash waits (supported_waits q.act (simple q cq)) ]
+        made_visible : (makes_writes_visible cached ns (command_mask Write) b q q.act || is_wait q.act || is_host w.act && is_submit q.act) ≡ true → makes_writes_visible cached ns (command_mask Write) b q q.act ≡ true
+        made_visible e = elim (or_cases (makes_writes_visible cached ns (command_mask Write) b q q.act || is_wait q.act) (is_host w.act && is_submit q.act) e) [
+          | inl some ↦ elim (or_cases (makes_writes_visible cached ns (command_mask Write) b q q.act) (is_wait q.act) some) [ inl r ↦ r | inr waits ↦ clash waits (supported_waits q.act (simple q cq)) ]
           | inr host ↦ clash (and_parts (is_host w.act) (is_submit q.act) host).0 (command_hosts w.act command)
         ]
 
@@ -233,24 +233,24 @@ module _ (past : Past) (p : Point) (w : Node) (cached : Byte → Bool) (b : Byte
 
     -- a command's write sees another just where that is available at an element that leads to writes
     pub seen_by_write : (c : Cmd) → w.act ≡ Runs c → (seen cached ns w a Write b ≡ true) ↔ Via ns w leads_to_writes
-    seen_by_write c runs = (λ e. to (sym (is_sight) ∙ e), λ v. is_sight ∙ from v) where
-      is_sight : seen cached ns w a Write b ≡ sight cached ns w a (Runs c) (Runs d) Write b
-      is_sight = seen_is cached ns w a Write b ∙ ap (λ (of : Act). sight cached ns w a of (Runs d) Write b) runs
+    seen_by_write c runs = (λ e. to (sym (is_visibility) ∙ e), λ v. is_visibility ∙ from v) where
+      is_visibility : seen cached ns w a Write b ≡ visibility cached ns w a (Runs c) (Runs d) Write b
+      is_visibility = seen_is cached ns w a Write b ∙ ap (λ (of : Act). visibility cached ns w a of (Runs d) Write b) runs
 
-      to : sight cached ns w a (Runs c) (Runs d) Write b ≡ true → Via ns w leads_to_writes
+      to : visibility cached ns w a (Runs c) (Runs d) Write b ≡ true → Via ns w leads_to_writes
       to e =
           let m = some_member _ ns e in
-          let h = and_parts (edge ns w m.0 && sends cached ns m.0 b m.0.act) _ m.2 in
+          let h = and_parts (edge ns w m.0 && makes_writes_available cached ns m.0 b m.0.act) _ m.2 in
           let q = some_member _ ns h.1 in
           let g = and_parts ((same_node m.0 q.0 || before ns m.0 q.0) && visible_by cached ns w a (Runs d) Write b q.0) (same_node q.0 a || before ns q.0 a) q.2 in
           let k = and_parts (same_node m.0 q.0 || before ns m.0 q.0) (visible_by cached ns w a (Runs d) Write b q.0) g.0 in
           via_of c runs m.0 q.0 m.1 q.1 h.0 k.0 k.1
 
-      from : Via ns w leads_to_writes → sight cached ns w a (Runs c) (Runs d) Write b ≡ true
+      from : Via ns w leads_to_writes → visibility cached ns w a (Runs c) (Runs d) Write b ≡ true
       from v =
-          let cq : Contains ns v.node = freed_stands ns w v.node v.freed in
-          let m = freed_by_some v.node v.freed in
+          let cq : Contains ns v.node = available_stands ns w v.node v.made_available in
+          let m = available_by_some v.node v.made_available in
           let parts = writes_parts v.node.act (simple v.node cq) v.passes in
           let leads : edge ns v.node a ≡ true = edge_to v.node cq parts.3 in
-          let sees : (edge ns v.node a && (receives cached ns (command_mask Write) b v.node v.node.act || is_wait v.node.act || is_host w.act && is_submit v.node.act)) ≡ true = rw (leads, makes_visible cached ns (command_mask Write) b v.node parts.0 parts.2 parts.1 parts.4) refl in
-          member_passes _ ns m.0 m.1 (rw (m.2) (member_passes _ ns v.node cq (rw (m.3, sees, is_reached v.node a cq (inr (direct cq stands_a leads))) refl)))
+          let is_seen : (edge ns v.node a && (makes_writes_visible cached ns (command_mask Write) b v.node v.node.act || is_wait v.node.act || is_host w.act && is_submit v.node.act)) ≡ true = rw (leads, makes_visible cached ns (command_mask Write) b v.node parts.0 parts.2 parts.1 parts.4) refl in
+          member_passes _ ns m.0 m.1 (rw (m.2) (member_passes _ ns v.node cq (rw (m.3, is_seen, is_reached v.node a cq (inr (direct cq stands_a leads))) refl)))
