@@ -7,7 +7,7 @@ use Rattle.std.proofs.lemmas.List.{length-map}
 use Rattle.std.specs.Prelude.{if◌then◌else◌, nat_lt, nat_le}
 use Rattle.std.specs.List.{fold, list_any}
 use Rattle.vk_memory.specs.declared.memories.Object.{Object}
-use Rattle.vk_memory.specs.Standing.{Standing, IsFull, size_on, sizes_on, nothing, object_at, with_region, with_mapped}
+use Rattle.vk_memory.specs.MemoryState.{MemoryState, IsFull, size_on, sizes_on, nothing, object_at, with_region, with_mapped}
 use Rattle.vk_model.specs.declared.entry.Entry.{Entry}
 use Rattle.vk_model.specs.declared.entry.Entry.TheVariants as entry
 use Rattle.vk_model.specs.declared.resource.BufferInfo.{BufferInfo}
@@ -20,17 +20,17 @@ use Rattle.vk_device.specs.declared.applied.Applied.TheVariants as applied
 use Rattle.vk_device.specs.declared.device.Placed.{Placed}
 use Rattle.vk_device.specs.Allotted.{Allotted, allotted, asked_by, asked_at, with_asked, heaps_with, finds_no_room, stop_from}
 use Rattle.vk_device.specs.Held.{Held, MapsAt}
-use Rattle.vk_device.specs.Stands.{MadeOr, Rooms}
+use Rattle.vk_device.specs.Matches.{MadeOr, Rooms}
 
 -- ---- an object keeps its type and its size
 
 abbrev kind : Object → ℕ × ℕ
 kind o = (o.memory_type, o.size)
 
-pub region_allots : (m : Standing) (o : ℕ) (bytes : List ℕ) → allotted (with_region m o bytes) ≡ allotted m
+pub region_allots : (m : MemoryState) (o : ℕ) (bytes : List ℕ) → allotted (with_region m o bytes) ≡ allotted m
 region_allots m o bytes = ap (λ (l : List (ℕ × ℕ)). record (allotted m) { objects = l }) (map-set_same kind m.objects o (record (object_at m o) { region = bytes }) nothing refl)
 
-mapped_allots : (m : Standing) (o : ℕ) (b : Bool) → allotted (with_mapped m o b) ≡ allotted m
+mapped_allots : (m : MemoryState) (o : ℕ) (b : Bool) → allotted (with_mapped m o b) ≡ allotted m
 mapped_allots m o b = ap (λ (l : List (ℕ × ℕ)). record (allotted m) { objects = l }) (map-set_same kind m.objects o (record (object_at m o) { mapped = b }) nothing refl)
 
 pub map_allots : (old new : Held) (p : Option Placed) → MapsAt old new p → allotted new.memory ≡ allotted old.memory
@@ -69,7 +69,7 @@ or_left : (a b : Bool) → a ≡ true → (a || b) ≡ true
 or_left true b h = refl
 or_left false b h = absurd cc
 
-module _ (m : Standing) where
+module _ (m : MemoryState) where
   limit_at : (b : Bool) → (heaps_with (allotted m)).limit (if b then 0 else 1) ≡ (if b then m.heap0 else m.heap1)
   limit_at true = refl
   limit_at false = refl

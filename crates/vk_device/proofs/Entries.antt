@@ -7,7 +7,7 @@ use Rattle.std.proofs.lemmas.List.FromFn.{get_or-map-range_with_len, length-map-
 use Rattle.std.specs.Prelude.{IsSome, IfSome, option_map, unwrap_or}
 use Rattle.std.specs.List.{range_with_len}
 use Rattle.vk_heap.specs.Region.{piece}
-use Rattle.vk_memory.specs.Standing.{Standing, region_of, fresh, nothing, object_at, with_mapped}
+use Rattle.vk_memory.specs.MemoryState.{MemoryState, region_of, fresh, nothing, object_at, with_mapped}
 use Rattle.vk_model.specs.declared.entry.Batch.{Batch}
 use Rattle.vk_model.specs.declared.entry.Entry.{Entry}
 use Rattle.vk_model.specs.declared.entry.Entry.TheVariants as entry
@@ -24,13 +24,13 @@ use Rattle.vk_device.specs.declared.applied.Applied.TheVariants as applied
 use Rattle.vk_device.specs.declared.device.Placed.{Placed}
 use Rattle.vk_device.specs.Held.{Held, IsApart, placed, byte_in, byte_at, MapsAt}
 use Rattle.vk_device.specs.Fits.{AllFit, FitsEntry, FitsRead}
-use Rattle.vk_device.specs.Stands.{IsThere, Stands, next_past, batches_past, Makes, MadeOr, Told}
+use Rattle.vk_device.specs.Matches.{IsThere, Matches, next_past, batches_past, Makes, MadeOr, Told}
 use Rattle.vk_device.proofs.Steps.{there_placed}
 
 -- ---- a new buffer
 
 -- what was not made is not placed
-not_placed : (past : Past) (s : Held) (i : ℕ) → Stands past s → made past i ≡ None → placed s i ≡ None
+not_placed : (past : Past) (s : Held) (i : ℕ) → Matches past s → made past i ≡ None → placed s i ≡ None
 not_placed past s i st no_entry = go (placed s i) refl
   where
     go : (o : Option Placed) → placed s i ≡ o → o ≡ None
@@ -40,7 +40,7 @@ not_placed past s i st no_entry = go (placed s i) refl
         ∙ ap (λ (o : Option Entry). option_map (λ (i : BufferInfo). i.size) (Rattle.std.specs.Prelude.option_and_then buffer_in o)) no_entry in
         absurd cc
 
-module _ (old new : Held) (apart : IsApart old.memory old.buffers) (i t : ℕ) (info : BufferInfo) (makes : Makes old new i t info.size) (past : Past) (st : Stands past old) (fresh_id : made past i ≡ None) where
+module _ (old new : Held) (apart : IsApart old.memory old.buffers) (i t : ℕ) (info : BufferInfo) (makes : Makes old new i t info.size) (past : Past) (st : Matches past old) (fresh_id : made past i ≡ None) where
   new_sizes : (e b : ℕ) (c : Bool) → (b == i) ≡ c → option_map (λ (p : Placed). p.size) (placed new b) ≡ option_map (λ (i : BufferInfo). i.size) (Rattle.std.specs.Prelude.option_and_then buffer_in (cond c (Some (entry.Buffer i info)) (made past b)))
   new_sizes e b true h =
       let same : b ≡ i = eqb-true b i h in
@@ -60,8 +60,8 @@ module _ (old new : Held) (apart : IsApart old.memory old.buffers) (i t : ℕ) (
       clash : placed old i ≡ Some p → placed old i ≡ None → ⊥
       clash a b = let both : Some p ≡ None = sym a ∙ b in absurd cc
 
-  pub buffer_stands : (e : ℕ) → Stands (host e (entry.Buffer i info) ∷ past) new
-  buffer_stands e = record {
+  pub buffer_matches : (e : ℕ) → Matches (host e (entry.Buffer i info) ∷ past) new
+  buffer_matches e = record {
     sizes = λ b. new_sizes e b (b == i) refl;
     values = λ c v h. go c v (st.values c v h);
   }
@@ -72,12 +72,12 @@ module _ (old new : Held) (apart : IsApart old.memory old.buffers) (i t : ℕ) (
           (rw kept.0 was.0, rw kept.0 kept.1)
       go (in_image j l a x y p) v was = absurd was.0
 
-pub buffer_told : (old new : Held) (y : Entry) (i t : ℕ) (info : BufferInfo) → y ≡ entry.Buffer i info → IsApart old.memory old.buffers → (a : Applied) → MadeOr a old new i t info.size → (e : ℕ) (past : Past) → Stands past old → AllFit (next_past e y past) → Told a e y past old new
+pub buffer_told : (old new : Held) (y : Entry) (i t : ℕ) (info : BufferInfo) → y ≡ entry.Buffer i info → IsApart old.memory old.buffers → (a : Applied) → MadeOr a old new i t info.size → (e : ℕ) (past : Past) → Matches past old → AllFit (next_past e y past) → Told a e y past old new
 buffer_told old new y i t info is apart a made e past st fit =
     subst (λ (x : Entry). Told a e x past old new) (sym is) (go a made (subst (λ (x : Entry). AllFit (next_past e x past)) is fit))
   where
     go : (a : Applied) → MadeOr a old new i t info.size → AllFit (next_past e (entry.Buffer i info) past) → Told a e (entry.Buffer i info) past old new
-    go applied.Done made f = (buffer_stands old new apart i t info made.0 past st f.0.0 e, refl)
+    go applied.Done made f = (buffer_matches old new apart i t info made.0 past st f.0.0 e, refl)
     go (applied.Bytes bytes) made f = absurd made
     go applied.NoRoom made f = made.0
 
@@ -89,7 +89,7 @@ piece_at region o n i lt le = grind (arith, elements)
 length-piece : (region : List ℕ) (o n : ℕ) → o + n ≤ length region → length (piece region o n) ≡ n
 length-piece region o n le = grind (arith, common_steps)
 
-module _ (past : Past) (s : Held) (st : Stands past s) (b o n : ℕ) (p : Placed) (here : placed s b ≡ Some p) (room : o + n ≤ length (region_of s.memory p.object)) (defined : (k : ℕ) → k < n → IsSome ((world past).value (in_buffer b (o + k)))) where
+module _ (past : Past) (s : Held) (st : Matches past s) (b o n : ℕ) (p : Placed) (here : placed s b ≡ Some p) (room : o + n ≤ length (region_of s.memory p.object)) (defined : (k : ℕ) → k < n → IsSome ((world past).value (in_buffer b (o + k)))) where
   byte_read : (i : ℕ) → i < n → unwrap_or ((world past).value (in_buffer b (o + i))) 0 ≡ get_or (region_of s.memory p.object) (o + i) 0
   byte_read i lt = go ((world past).value (in_buffer b (o + i))) refl (defined i lt)
     where
@@ -105,7 +105,7 @@ module _ (past : Past) (s : Held) (st : Stands past s) (b o n : ℕ) (p : Placed
       (λ i lt. let lt' : i < n = omega arith in get_or-map-range_with_len f 0 n i i 0 lt' (omega arith) ∙ byte_read i lt' ∙ sym (piece_at (region_of s.memory p.object) o n i lt' room))
 
 pub read_told : (s : Held) (y : Entry) (b o n : ℕ) (bytes : List ℕ) → y ≡ entry.Read b o n → IsApart s.memory s.buffers → ((p : Placed) → placed s b ≡ Some p → bytes ≡ piece (region_of s.memory p.object) o n)
-    → (e : ℕ) (past : Past) → Stands past s → AllFit (next_past e y past) → Told (applied.Bytes bytes) e y past s s
+    → (e : ℕ) (past : Past) → Matches past s → AllFit (next_past e y past) → Told (applied.Bytes bytes) e y past s s
 read_told s y b o n bytes is apart got e past st fit =
     subst (λ (x : Entry). Told (applied.Bytes bytes) e x past s s) (sym is) (go (buffer past b) refl (subst (λ (x : Entry). AllFit (next_past e x past)) is fit).0)
   where
@@ -122,7 +122,7 @@ read_told s y b o n bytes is apart got e past st fit =
 
 -- ---- a map
 
-region_of-mapped : (m : Standing) (o p : ℕ) → o < length m.objects → region_of (with_mapped m o true) p ≡ region_of m p
+region_of-mapped : (m : MemoryState) (o p : ℕ) → o < length m.objects → region_of (with_mapped m o true) p ≡ region_of m p
 region_of-mapped m o p lt = go (eqb p o) refl
   where
     go : (t : Bool) → eqb p o ≡ t → region_of (with_mapped m o true) p ≡ region_of m p
@@ -132,8 +132,8 @@ region_of-mapped m o p lt = go (eqb p o) refl
         (ap (λ x. x.region) (get_or-set_same m.objects o (record (object_at m o) { mapped = true }) nothing lt))
     go false e = ap (λ x. x.region) (get_or-set_other m.objects o p (record (object_at m o) { mapped = true }) nothing (eqb-false p o e))
 
-mapped_stands : (past : Past) (s : Held) (o : ℕ) → o < length s.memory.objects → Stands past s → Stands past (record s { memory = with_mapped s.memory o true })
-mapped_stands past s o lt st = record {
+mapped_matches : (past : Past) (s : Held) (o : ℕ) → o < length s.memory.objects → Matches past s → Matches past (record s { memory = with_mapped s.memory o true })
+mapped_matches past s o lt st = record {
   sizes = st.sizes;
   values = λ c v h. go c v (st.values c v h);
 }
@@ -146,22 +146,22 @@ mapped_stands past s o lt st = record {
     go (in_buffer b k) v was = (was.0, byte (placed s b) k ∙ was.1)
     go (in_image j l a x y p) v was = absurd was.0
 
-pub map_told : (s s' : Held) (y : Entry) (b : ℕ) (o : Option Placed) → y ≡ entry.Map b → MapsAt s s' o → (e : ℕ) (past : Past) → Stands past s → Stands (next_past e y past) s' × (read_in (world past) e y ≡ [])
+pub map_told : (s s' : Held) (y : Entry) (b : ℕ) (o : Option Placed) → y ≡ entry.Map b → MapsAt s s' o → (e : ℕ) (past : Past) → Matches past s → Matches (next_past e y past) s' × (read_in (world past) e y ≡ [])
 map_told s s' y b o is maps e past st =
-    subst (λ (x : Entry). Stands (next_past e x past) s' × (read_in (world past) e x ≡ [])) (sym is) (mapped o maps, refl)
+    subst (λ (x : Entry). Matches (next_past e x past) s' × (read_in (world past) e x ≡ [])) (sym is) (mapped o maps, refl)
   where
-    here : Stands (next_past e (entry.Map b) past) s
+    here : Matches (next_past e (entry.Map b) past) s
     here = record { sizes = st.sizes; values = st.values }
 
-    mapped : (o : Option Placed) → MapsAt s s' o → Stands (next_past e (entry.Map b) past) s'
-    mapped None same = subst (λ (r : Held). Stands (next_past e (entry.Map b) past) r) (sym same) here
-    mapped (Some p) (inl same) = subst (λ (r : Held). Stands (next_past e (entry.Map b) past) r) (sym same) here
-    mapped (Some p) (inr now) = subst (λ (r : Held). Stands (next_past e (entry.Map b) past) r) (sym now.1) (mapped_stands (next_past e (entry.Map b) past) s p.object now.0 here)
+    mapped : (o : Option Placed) → MapsAt s s' o → Matches (next_past e (entry.Map b) past) s'
+    mapped None same = subst (λ (r : Held). Matches (next_past e (entry.Map b) past) r) (sym same) here
+    mapped (Some p) (inl same) = subst (λ (r : Held). Matches (next_past e (entry.Map b) past) r) (sym same) here
+    mapped (Some p) (inr now) = subst (λ (r : Held). Matches (next_past e (entry.Map b) past) r) (sym now.1) (mapped_matches (next_past e (entry.Map b) past) s p.object now.0 here)
 
 -- ---- a submit
 
-pub submit_told : (s s' : Held) (y : Entry) (q : ℕ) (bs : List Batch) → y ≡ entry.Submit q bs → ((at : Past) (e r : ℕ) (past : Past) → Stands past s → AllFit (batches_past at e r 0 bs past) → Stands (batches_past at e r 0 bs past) s')
-    → (e : ℕ) (past : Past) → Stands past s → AllFit (next_past e y past) → Told applied.Done e y past s s'
+pub submit_told : (s s' : Held) (y : Entry) (q : ℕ) (bs : List Batch) → y ≡ entry.Submit q bs → ((at : Past) (e r : ℕ) (past : Past) → Matches past s → AllFit (batches_past at e r 0 bs past) → Matches (batches_past at e r 0 bs past) s')
+    → (e : ℕ) (past : Past) → Matches past s → AllFit (next_past e y past) → Told applied.Done e y past s s'
 submit_told s s' y q bs is ran e past st fit =
     subst (λ (x : Entry). Told applied.Done e x past s s') (sym is)
     (ran past e q (host e (entry.Submit q bs) ∷ past) (record { sizes = st.sizes; values = st.values }) (subst (λ (x : Entry). AllFit (next_past e x past)) is fit), refl)

@@ -8,7 +8,7 @@ use Rattle.std.specs.List.{find, range_with_len}
 use Rattle.std.specs.Int.{to_le_bytes, w32}
 use Rattle.vk_heap.specs.Region.{splice, repeated}
 use Rattle.vk_heap.proofs.RegionLemmas.{length-repeated}
-use Rattle.vk_memory.specs.Standing.{Standing, region_of, with_region, object_at, nothing}
+use Rattle.vk_memory.specs.MemoryState.{MemoryState, region_of, with_region, object_at, nothing}
 use Rattle.vk_model.specs.Basics.{below, byte_of}
 use Rattle.vk_model.specs.World.{in_buffer, in_image, same_byte}
 use Rattle.vk_model.specs.Moves.{Value, Move, move}
@@ -58,10 +58,10 @@ splice_in xs ys at k ge lt le = grind (arith, elements)
 splice_after : (xs ys : List ℕ) (at k : ℕ) → at + length ys ≤ k → at + length ys ≤ length xs → get_or (splice xs at ys) k 0 ≡ get_or xs k 0
 splice_after xs ys at k ge le = grind (arith, elements)
 
-pub region_of-same : (m : Standing) (o : ℕ) (bytes : List ℕ) → o < length m.objects → region_of (with_region m o bytes) o ≡ bytes
+pub region_of-same : (m : MemoryState) (o : ℕ) (bytes : List ℕ) → o < length m.objects → region_of (with_region m o bytes) o ≡ bytes
 region_of-same m o bytes lt = ap (λ x. x.region) (get_or-set_same m.objects o (record (object_at m o) { region = bytes }) nothing lt)
 
-pub region_of-other : (m : Standing) (o p : ℕ) (bytes : List ℕ) → (p ≡ o → ⊥) → region_of (with_region m o bytes) p ≡ region_of m p
+pub region_of-other : (m : MemoryState) (o p : ℕ) (bytes : List ℕ) → (p ≡ o → ⊥) → region_of (with_region m o bytes) p ≡ region_of m p
 region_of-other m o p bytes ne = ap (λ x. x.region) (get_or-set_other m.objects o p (record (object_at m o) { region = bytes }) nothing ne)
 
 module _ (b o words w : ℕ) where

@@ -5,7 +5,7 @@ use Rattle.vk_model.specs.declared.entry.Entry.{Entry}
 use Rattle.vk_device.specs.declared.applied.Applied.{Applied}
 use Rattle.vk_device.specs.declared.applied.ApplyError.{ApplyError}
 use Rattle.vk_device.specs.Held.{Held}
-use Rattle.vk_device.specs.Stands.{IsNext, Ready}
+use Rattle.vk_device.specs.Matches.{IsNext, Ready}
 use Rattle.vk_device.proofs.Clean.{fits_clean}
 
 pub if_ok : (r : Result Applied ApplyError) (P Q : Applied → Type 0) → ((a : Applied) → P a → Q a) → IfOk r P → IfOk r Q

@@ -1,7 +1,7 @@
 -- The memory objects that entries ask for, and the first entry that finds no room.
 use Rattle.std.specs.Prelude.{ℕ, ◌+◌, ◌==◌, List, [], ◌∷◌, ◌++◌, map, length, sum_by, Bool, Option, Some, None, if◌then◌else◌}
 use Rattle.std.specs.List.{list_any}
-use Rattle.vk_memory.specs.Standing.{Standing}
+use Rattle.vk_memory.specs.MemoryState.{MemoryState}
 use Rattle.vk_model.specs.declared.config.Config.{Config}
 use Rattle.vk_model.specs.declared.entry.Entry.{Entry}
 use Rattle.vk_model.specs.declared.entry.Entry.TheVariants as entry
@@ -17,7 +17,7 @@ pub record Allotted : Type 0 where
   pub objects : List (ℕ × ℕ)
 
 -- The same of the memory objects of a device.
-abbrev pub allotted : Standing → Allotted
+abbrev pub allotted : MemoryState → Allotted
 allotted m = record { heap0 = m.heap0; heap1 = m.heap1; objects = map (λ o. (o.memory_type, o.size)) m.objects }
 
 -- A resource of this size asks for a memory object of its own where its place is an allocation of its own (VMA, "Choosing memory type", on dedicated allocations).

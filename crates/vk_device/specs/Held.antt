@@ -3,13 +3,13 @@ use Rattle.std.specs.Prelude.{◌≡◌, ℕ, ◌<◌, ◌≤◌, ◌⊎◌, tru
 use Rattle.std.specs.Ordering.{nat_cmp}
 use Rattle.std.specs.Map.{lookup}
 use Rattle.std.specs.BTreeMap.{is_at}
-use Rattle.vk_memory.specs.Standing.{Standing, region_of, with_mapped}
+use Rattle.vk_memory.specs.MemoryState.{MemoryState, region_of, with_mapped}
 use Rattle.vk_model.specs.World.{Byte, in_buffer, in_image}
 use Rattle.vk_device.specs.declared.device.Placed.{Placed}
 
 -- What is seen of a device: its memory objects, where each buffer lies, by its id, and whether an earlier entry has failed.
 pub record Held : Type 0 where
-  pub memory : Standing
+  pub memory : MemoryState
   pub buffers : List (ℕ × Placed)
   pub failed : Bool
 
@@ -22,12 +22,12 @@ abbrev pub placed : Held → ℕ → Option Placed
 placed s id = placed_in s.buffers id
 
 -- Each buffer lies in a memory object that is there and long enough, and no other buffer lies in it (VMA, "Choosing memory type", on dedicated allocations).
-pub record IsApart (memory : Standing) (buffers : List (ℕ × Placed)) : Type 0 where
+pub record IsApart (memory : MemoryState) (buffers : List (ℕ × Placed)) : Type 0 where
   pub inside : (id : ℕ) → IfSome (placed_in buffers id) (λ b. (b.object < length memory.objects) × (b.size ≤ length (region_of memory b.object)))
   pub own : (b c : ℕ) (p q : Placed) → placed_in buffers b ≡ Some p → placed_in buffers c ≡ Some q → p.object ≡ q.object → b ≡ c
 
 -- Byte k of a buffer that lies in memory; 0 for one that doesn't.
-abbrev pub byte_in : Standing → Option Placed → ℕ → ℕ
+abbrev pub byte_in : MemoryState → Option Placed → ℕ → ℕ
 byte_in memory None k = 0
 byte_in memory (Some p) k = slice_index (region_of memory p.object) k
 

@@ -2,5 +2,5 @@ pub mod Held
 pub mod Allotted
 pub mod Clean
 pub mod Fits
-pub mod Stands
+pub mod Matches
 pub mod Replays

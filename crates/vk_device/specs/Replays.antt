@@ -4,8 +4,8 @@ use Rattle.vk_model.specs.declared.entry.Entry.{Entry}
 use Rattle.vk_model.specs.Order.{plain_order}
 use Rattle.vk_device.specs.Held.{Held}
 use Rattle.vk_device.specs.Allotted.{allotted, finds_no_room}
-use Rattle.vk_device.specs.Stands.{Stands}
+use Rattle.vk_device.specs.Matches.{Matches}
 
 -- A device stands to the entries before entry n of a trace, and entry n finds no room in it (profile).
 abbrev pub StopsAt : List Entry → ℕ → Held → Type 0
-StopsAt t n s = (n < length t) × Stands (plain_order (take n t)) s × (x : Entry) × (slice_get t n ≡ Some x) × (finds_no_room (allotted s.memory) x ≡ true)
+StopsAt t n s = (n < length t) × Matches (plain_order (take n t)) s × (x : Entry) × (slice_get t n ≡ Some x) × (finds_no_room (allotted s.memory) x ≡ true)

@@ -1,7 +1,7 @@
 ghost use Rattle.std.specs.Prelude.{◌≡◌, ◌⊎◌, ℕ, ◌+◌, ◌/◌, ◌<◌, ◌≤◌, true, false, IfOk, IsTrue, Some, None, OnErr, IfErr, [], ◌∷◌, if◌then◌else◌};
 ghost use Rattle.std.specs.Int.{to_le_bytes, w32};
 ghost use Rattle.vk_heap.specs.Region.{splice, piece, repeated};
-ghost use Rattle.vk_memory.specs.Standing.{region_of, with_region};
+ghost use Rattle.vk_memory.specs.MemoryState.{region_of, with_region};
 ghost use Rattle.vk_model.specs.Moves.{fill_size};
 
 use crate::applied::{Applied, ApplyError};
@@ -61,12 +61,12 @@ impl Device {
     ghost use Rattle.vk_device.specs.Allotted.{allotted};
     ghost use Rattle.vk_device.specs.Clean.{IsClean};
     ghost use Rattle.vk_device.specs.Fits.{AllFit, FitsCommand};
-    ghost use Rattle.vk_device.specs.Stands.{Stands, run_point, batches_past, next_past, CommandReady, CommandsReady, BatchReady, BatchesReady, Ready, IsNext, MayFill, MayRead, MadeOr, Told, Rooms, Allots};
+    ghost use Rattle.vk_device.specs.Matches.{Matches, run_point, batches_past, next_past, CommandReady, CommandsReady, BatchReady, BatchesReady, Ready, IsNext, MayFill, MayRead, MadeOr, Told, Rooms, Allots};
     ghost use Rattle.vk_device.specs.declared.applied.ApplyError.TheVariants.{NoMemory, Failed};
 
     /// A device with heaps of these sizes, without resources. It takes no memory.
     pub fn new(alloc: Global, config: Config) -> Device
-        ensures stands { Stands [] result }
+        ensures matches { Matches [] result }
         ensures empty { result.memory ≡ record { heap0 = config.heap0; heap1 = config.heap1; objects = [] } }
         ensures works { result.failed ≡ false }
     {
@@ -98,7 +98,7 @@ impl Device {
     /// Runs a fill; a barrier has nothing to do, since each command has ended before the next begins.
     fn run_command(&mut self, command: &Cmd)
         requires { CommandReady self.old command.now }
-        ensures stands { (e b k q : ℕ) (past : Past) → Stands past self.old → FitsCommand past command.now → Stands (run_point e b k q command.now ∷ past) self.new }
+        ensures matches { (e b k q : ℕ) (past : Past) → Matches past self.old → FitsCommand past command.now → Matches (run_point e b k q command.now ∷ past) self.new }
         ensures allotted { allotted self.new.memory ≡ allotted self.old.memory }
         ensures failed { self.new.failed ≡ self.old.failed }
     {
@@ -115,7 +115,7 @@ impl Device {
 
     fn run_commands(&mut self, commands: &[Cmd])
         requires { CommandsReady self.old commands.now }
-        ensures stands { (t : SubmittedBatch) (past : Past) → Stands past self.old → AllFit (actions Run t 0 commands.now past) → Stands (actions Run t 0 commands.now past) self.new }
+        ensures matches { (t : SubmittedBatch) (past : Past) → Matches past self.old → AllFit (actions Run t 0 commands.now past) → Matches (actions Run t 0 commands.now past) self.new }
         ensures allotted { allotted self.new.memory ≡ allotted self.old.memory }
         ensures failed { self.new.failed ≡ self.old.failed }
     {
@@ -126,7 +126,7 @@ impl Device {
 
     fn run_batch(&mut self, batch: &Batch)
         requires { BatchReady self.old batch.now }
-        ensures stands { (t : SubmittedBatch) (past : Past) → t.content ≡ batch.now → Stands past self.old → AllFit (started t past) → Stands (started t past) self.new }
+        ensures matches { (t : SubmittedBatch) (past : Past) → t.content ≡ batch.now → Matches past self.old → AllFit (started t past) → Matches (started t past) self.new }
         ensures allotted { allotted self.new.memory ≡ allotted self.old.memory }
         ensures failed { self.new.failed ≡ self.old.failed }
     {
@@ -135,7 +135,7 @@ impl Device {
 
     fn run_batches(&mut self, batches: &[Batch])
         requires { BatchesReady self.old batches.now }
-        ensures stands { (at : Past) (e q : ℕ) (past : Past) → Stands past self.old → AllFit (batches_past at e q 0 batches.now past) → Stands (batches_past at e q 0 batches.now past) self.new }
+        ensures matches { (at : Past) (e q : ℕ) (past : Past) → Matches past self.old → AllFit (batches_past at e q 0 batches.now past) → Matches (batches_past at e q 0 batches.now past) self.new }
         ensures allotted { allotted self.new.memory ≡ allotted self.old.memory }
         ensures failed { self.new.failed ≡ self.old.failed }
     {
@@ -192,7 +192,7 @@ impl Device {
     /// Applies an entry, and leaves it to the caller to keep that it failed.
     fn apply_entry(&mut self, entry: &Entry) -> Result<Applied, ApplyError>
         requires { Ready self.old entry.now }
-        ensures told { IfOk result (λ a. (e : ℕ) (past : Past) → Stands past self.old → AllFit (next_past e entry.now past) → Told a e entry.now past self.old self.new) }
+        ensures told { IfOk result (λ a. (e : ℕ) (past : Past) → Matches past self.old → AllFit (next_past e entry.now past) → Told a e entry.now past self.old self.new) }
         ensures rooms { IfOk result (λ a. Rooms a self.old entry.now) }
         ensures allots { IfOk result (λ a. Allots a entry.now self.old self.new) }
         ensures failed { self.new.failed ≡ self.old.failed }
@@ -232,7 +232,7 @@ impl Device {
         sched: &mut S,
     ) -> Result<Applied, ApplyError>
         requires { IsTrue self.old.failed ⊎ IsNext self.old entry.now }
-        ensures told { IfOk result (λ a. (e : ℕ) (past : Past) → Stands past self.old → IsClean (next_past e entry.now past) → Told a e entry.now past self.old self.new) }
+        ensures told { IfOk result (λ a. (e : ℕ) (past : Past) → Matches past self.old → IsClean (next_past e entry.now past) → Told a e entry.now past self.old self.new) }
         ensures rooms { IfOk result (λ a. Rooms a self.old entry.now) }
         ensures allots { IfOk result (λ a. Allots a entry.now self.old self.new) }
         ensures works { IfOk result (λ a. (self.old.failed ≡ false) × (self.new.failed ≡ false)) }

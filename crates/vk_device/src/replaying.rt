@@ -3,7 +3,7 @@ ghost use Rattle.vk_model.specs.Order.{plain_order};
 ghost use Rattle.vk_model.specs.Meaning.{meaning};
 ghost use Rattle.vk_model.specs.Rules.{first_fault};
 ghost use Rattle.vk_device.specs.Clean.{IsClean};
-ghost use Rattle.vk_device.specs.Stands.{Stands};
+ghost use Rattle.vk_device.specs.Matches.{Matches};
 ghost use Rattle.vk_device.specs.Allotted.{first_stop};
 ghost use Rattle.vk_device.specs.Replays.{StopsAt};
 ghost use Rattle.vk_device.specs.declared.applied.ApplyError.TheVariants.{NoMemory};
@@ -41,7 +41,7 @@ pub fn replay<S: Scheduler>(
     ensures first { IfOk result (λ r. r.stop ≡ first_stop config accepted.now) }
     // The device stands to the entries that were applied.
     ensures stop { IfOk result (λ r. MatchOption r.stop
-        (Stands (plain_order accepted.now) r.device) (λ n. StopsAt accepted.now n r.device)) }
+        (Matches (plain_order accepted.now) r.device) (λ n. StopsAt accepted.now n r.device)) }
     ensures error { IfErr result (λ f. f ≡ NoMemory) }
     ensures unasked { S.held sched.new ≡ S.held sched.old }
 {
@@ -61,7 +61,7 @@ fn replay_entries<S: Scheduler>(
         (r.reads ≡ meaning entries.now (length entries.now)) (λ n. r.reads ≡ meaning entries.now n)) }
     ensures first { IfOk result (λ r. r.stop ≡ first_stop config entries.now) }
     ensures stop { IfOk result (λ r. MatchOption r.stop
-        (Stands (plain_order entries.now) r.device) (λ n. StopsAt entries.now n r.device)) }
+        (Matches (plain_order entries.now) r.device) (λ n. StopsAt entries.now n r.device)) }
     ensures error { IfErr result (λ f. f ≡ NoMemory) }
     ensures unasked { S.held sched.new ≡ S.held sched.old }
 {

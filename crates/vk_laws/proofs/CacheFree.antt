@@ -19,7 +19,7 @@ use Rattle.vk_laws.specs.Trace.{accesses, NoHazardLaw, SeenIsBefore, HostInOrder
 use Rattle.vk_laws.specs.Tasks.{task_count, node_at, accesses_of}
 use Rattle.vk_laws.specs.TraceCaches.{caching_of}
 use Rattle.vk_laws.proofs.Steady.{IsNew, made_step, new_ids, live_ids, IsLive, comes_within}
-use Rattle.vk_laws.proofs.Points.{Stands, stands, comes_at, stands_below}
+use Rattle.vk_laws.proofs.Points.{AtPoint, stands, comes_at, at_point_below}
 use Rattle.vk_laws.proofs.CachedStays.{cached_stays}
 use Rattle.vk_laws.specs.TraceBytes.{before_node}
 use Rattle.vk_laws.proofs.ModelBytes.{more_nodes, before_inside}
@@ -31,7 +31,7 @@ use Rattle.vk_laws.proofs.TraceCaches.{agent_is, seen_task, available_task, avai
 
 -- whether the host caches what a node writes is the same at any later point
 module _ (all newer low : Past) (whole : all ≡ newer ++ low) (new : IsNew all) (alive : IsLive all) (x : Node) (cx : Contains (nodes low) x) (ax : IsTrue (accesses x.act)) (b : Byte) (judged : Past) (h : Contains (writes judged x) b) where
-  s : Stands low x
+  s : AtPoint low x
   s = stands low x cx
 
   base : Past
@@ -71,7 +71,7 @@ pub cached_then : (all : Past) → IsNew all → IsLive all → (x : Node) → C
     → is_cached (before_node all n.number) (resource_at b) ≡ is_cached all (resource_at b)
 cached_then all new alive x cx ax b judged h n cn le =
     let low = sn.new in
-    let lt = stands_below _ _ sn in
+    let lt = at_point_below _ _ sn in
     let at : before_node all n.number ≡ sn.past = ap (λ (l : Past). before_node l n.number) sn.whole ∙ before_inside sn.newer sn.past sn.at n.number low lt in
     let m = written_made all x sx b new alive ax judged x.point.queue h in
     let more = further (compare sn.newer sx.newer sn.at sx.at sn.past sx.past (sym sn.whole ∙ sx.whole)) in
@@ -82,10 +82,10 @@ cached_then all new alive x cx ax b judged h n cn le =
     ap (λ (l : Past). is_cached l (resource_at b)) (at ∙ more.1) ∙ cached_stays more.0 sx.past new_n live_x new_x (resource_at b) m.0 m.1
     ∙ sym (cached_stays (sx.newer ++ sx.at ∷ []) sx.past (subst (λ (l : Past). IsNew l) whole new) live_x new_x (resource_at b) m.0 m.1) ∙ sym (ap (λ (l : Past). is_cached l (resource_at b)) whole)
   where
-    sx : Stands all x
+    sx : AtPoint all x
     sx = stands all x cx
 
-    sn : Stands all n
+    sn : AtPoint all n
     sn = stands all n cn
 
     come : (newer : Past) (p : Point) (past : Past) → all ≡ newer ++ p ∷ past → (c : Past) (q : Point) → Comes past c q → Comes all c q
@@ -95,7 +95,7 @@ cached_then all new alive x cx ax b judged h n cn le =
     further (inl m) = m
     further (inr m) =
         let low = sx.new in
-        let lt = stands_below _ _ sn in
+        let lt = at_point_below _ _ sn in
         let size : length (nodes sx.past) ≡ length (nodes (m.0 ++ sn.at ∷ sn.past)) = ap (λ (l : Past). length (nodes l)) m.1 in
         let long = more_nodes m.0 (sn.at ∷ sn.past) in
         absurd (omega (arith, le, low, lt, size, long))
@@ -125,7 +125,7 @@ module _ (together : PiecesAreMoves) (paths : BeforeIsPath) (joins : BeforeIsTra
       by_agents (is_host x.node.act) (is_host y.node.act)
       (λ h k. inl (same_agent w u x.node y.node x.at y.at h k))
       (λ h.
-      let s : Stands all y.node = stands all y.node y.stands in
+      let s : AtPoint all y.node = stands all y.node y.stands in
       let is_seen = read_is_seen stay hazards visibilities hosts keeps t none x.node y.node x.stands y.stands later x.is_access y.is_access c h (is_in_of together all c _ x.accessed) y.accessed in
       let has_x = judged_has stay hazards visibilities hosts keeps t none x.node y.node x.stands y.stands later x.is_access y.is_access c h in
       inr (seen_task paths joins all w u x.node y.node x.at y.at (has_task w x.node x.at x.there) x.stands y.stands x.is_access y.is_access (λ b. is_cached (s.at ∷ s.past) (resource_at b)) c
@@ -143,7 +143,7 @@ module _ (together : PiecesAreMoves) (paths : BeforeIsPath) (joins : BeforeIsTra
       by_agents (is_host x.node.act) (is_host y.node.act)
       (λ h k. inl (same_agent w u x.node y.node x.at y.at h k))
       (λ h.
-      let s : Stands all y.node = stands all y.node y.stands in
+      let s : AtPoint all y.node = stands all y.node y.stands in
       let is_seen = write_is_seen stay hazards visibilities hosts keeps t none x.node y.node x.stands y.stands later x.is_access y.is_access c h (is_in_of together all c _ x.accessed) y.accessed in
       let has_x = judged_has stay hazards visibilities hosts keeps t none x.node y.node x.stands y.stands later x.is_access y.is_access c h in
       inr (available_task paths joins all w u x.node y.node x.at y.at (has_task w x.node x.at x.there) x.stands y.stands x.is_access y.is_access (λ b. is_cached (s.at ∷ s.past) (resource_at b)) c

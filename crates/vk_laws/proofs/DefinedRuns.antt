@@ -177,7 +177,7 @@ module _ (paths : BeforeIsPath) (joins : BeforeIsTransitive) (leads : BeforeLead
 
   -- ---- tasks that stand as a stage says
 
-  record Stands (s : Stage) (did : List Task) : Type 0 where
+  record AtPoint (s : Stage) (did : List Task) : Type 0 where
     placed : Place s
     tasks : List Task
     allowed : IsAllowed tr tasks
@@ -187,7 +187,7 @@ module _ (paths : BeforeIsPath) (joins : BeforeIsTransitive) (leads : BeforeLead
 
   -- with the events that can happen
   settle : (s : Stage) (did : List Task) → Place s → (tasks : List Task) → IsAllowed tr tasks → ((u : Task) → IsTrue (tr.has u) → is_event all u ≡ false → IsIn u tasks ↔ IsTrue (has_happened all s u))
-      → filter (λ u. not (is_event all u)) tasks ≡ did → Stands s did
+      → filter (λ u. not (is_event all u)) tasks ≡ did → AtPoint s did
   settle s did placed tasks ok happened order =
       let g = due_done paths joins leads all tasks ok in
       record {
@@ -199,7 +199,7 @@ module _ (paths : BeforeIsPath) (joins : BeforeIsTransitive) (leads : BeforeLead
         order = g.same ∙ order;
       }
 
-  begins : Stands (start t) []
+  begins : AtPoint (start t) []
   begins = settle (start t) [] (start_placed orders keeps t sound) [] tt (λ u there plain. (λ h. absurd h, λ h. absurd (nothing u there plain h))) refl
     where
       nothing : (u : Task) → IsTrue (tr.has u) → is_event all u ≡ false → IsTrue (has_happened all (start t) u) → ⊥
@@ -209,7 +209,7 @@ module _ (paths : BeforeIsPath) (joins : BeforeIsTransitive) (leads : BeforeLead
           go (piece n c at act lt) = let no = turned (happened_is (start t) u n at (Runs c) act) h in cc
           go (hosts n x at act first) = let lt = ltb-true n.point.entry 0 (turned (happened_is (start t) u n at (Hosts x) act) h) in omega (arith, lt)
 
-  module _ (s : Stage) (did : List Task) (i : Stands s did) where
+  module _ (s : Stage) (did : List Task) (i : AtPoint s did) where
     grows : Front s
     grows = later orders keeps t sound s i.placed
 
@@ -366,7 +366,7 @@ module _ (paths : BeforeIsPath) (joins : BeforeIsTransitive) (leads : BeforeLead
 
   -- ---- steps
 
-  apply_step : (s : Stage) (did : List Task) (i : Stands s did) (x : Entry) (xs : List Entry) → s.left ≡ x ∷ xs → IsTrue (may_go s x) → Stands (applied s x xs) (entry_task s ∷ did)
+  apply_step : (s : Stage) (did : List Task) (i : AtPoint s did) (x : Entry) (xs : List Entry) → s.left ≡ x ∷ xs → IsTrue (may_go s x) → AtPoint (applied s x xs) (entry_task s ∷ did)
   apply_step s did i x xs left may = settle (applied s x xs) (entry_task s ∷ did) (next_placed orders keeps t sound s i.placed x xs left) (entry_task s ∷ i.tasks) (entry_may s did i x xs left may, i.allowed)
       (λ u there plain. (forward u there plain, backward u there plain)) (rw mine (ap (λ (us : List Task). entry_task s ∷ us) i.order))
     where
@@ -402,7 +402,7 @@ module _ (paths : BeforeIsPath) (joins : BeforeIsTransitive) (leads : BeforeLead
   abbrev ran : Stage → Name → Stage
   ran s x = record s { done = x ∷ s.done }
 
-  run_step : (s : Stage) (did : List Task) (i : Stands s did) (x : Name) → Offered s did i x → Stands (ran s x) (piece_task x ∷ did)
+  run_step : (s : Stage) (did : List Task) (i : AtPoint s did) (x : Name) → Offered s did i x → AtPoint (ran s x) (piece_task x ∷ did)
   run_step s did i x o = settle (ran s x) (piece_task x ∷ did) (record { gone = i.placed.gone; split = i.placed.split; count = i.placed.count; front = i.placed.front })
       (piece_task x ∷ i.tasks) (piece_may s did i x o, i.allowed)
       (λ u there plain. (forward u there plain, backward u there plain)) (rw mine (ap (λ (us : List Task). piece_task x ∷ us) i.order))
@@ -433,7 +433,7 @@ module _ (paths : BeforeIsPath) (joins : BeforeIsTransitive) (leads : BeforeLead
               (or_cases (same_name (u.node, u.part) x) (is_done s.done (u.node, u.part)) (turned (happened_is (ran s x) u n at (Runs c) act) h))
           go (hosts n y at act first) = inr ((i.happened u there plain).1 (turned (sym (happened_is s u n at (Hosts y) act)) (turned (happened_is (ran s x) u n at (Hosts y) act) h)))
 
-  copy_step : (s : Stage) (did : List Task) (k : ℕ) → Stands s did → Stands (record s { copied = k ∷ s.copied }) did
+  copy_step : (s : Stage) (did : List Task) (k : ℕ) → AtPoint s did → AtPoint (record s { copied = k ∷ s.copied }) did
   copy_step s did k i = record {
     placed = record { gone = i.placed.gone; split = i.placed.split; count = i.placed.count; front = i.placed.front };
     tasks = i.tasks;
@@ -443,13 +443,13 @@ module _ (paths : BeforeIsPath) (joins : BeforeIsTransitive) (leads : BeforeLead
     order = i.order;
   }
 
-  comes_next : (s : Stage) (did : List Task) (i : Stands s did) (u : Task) → MayCome s u → MayRun tr i.tasks u
+  comes_next : (s : Stage) (did : List Task) (i : AtPoint s did) (u : Task) → MayCome s u → MayRun tr i.tasks u
   comes_next s did i _ (Offers x h) = piece_may s did i x (offered_of s did i x h)
   comes_next s did i _ (Enters x xs left may) = entry_may s did i x xs left may
 
   -- ---- what may come next in the machine may come next at the stage
 
-  module _ (s : Stage) (did : List Task) (i : Stands s did) where
+  module _ (s : Stage) (did : List Task) (i : AtPoint s did) where
     is_offered : (n : Node) (c : Cmd) (j : ℕ) → Contains (nodes s.front.past) n → n.act ≡ Runs c → j < length (pieces s.front.past c) → IsTrue (is_free s.front.past s.done n) → is_done s.done (n.number, j) ≡ false → IsTrue (is_done (offered s.front.past s.done) (n.number, j))
     is_offered n c j cn act lt free fresh =
         let each : Node → List Name = λ n. if is_free s.front.past s.done n then filter (λ x. not (is_done s.done x)) (node_pieces s.front.past n n.act) else [] in
@@ -572,24 +572,24 @@ module _ (paths : BeforeIsPath) (joins : BeforeIsTransitive) (leads : BeforeLead
         go (hosts n x at act first) = entry_comes u n x at act first may
 
   module _ (part_count : Past → ℕ) where
-    one_step : (s : Stage) (did : List Task) → Stands s did → (step : Step) (e : Stage) → Next part_count s step e → Stands e (with_step s step did)
+    one_step : (s : Stage) (did : List Task) → AtPoint s did → (step : Step) (e : Stage) → Next part_count s step e → AtPoint e (with_step s step did)
     one_step s did i (Apply atoms) e next = go s.left refl next
       where
-        go : (left : List Entry) → s.left ≡ left → Applies s atoms left e → Stands e (entry_task s ∷ did)
+        go : (left : List Entry) → s.left ≡ left → Applies s atoms left e → AtPoint e (entry_task s ∷ did)
         go [] left next = absurd next
-        go (x ∷ xs) left next = subst (λ (m : Stage). Stands m (entry_task s ∷ did)) (sym next.2) (apply_step s did i x xs left next.0)
-    one_step s did i (RunPiece x) e next = subst (λ (m : Stage). Stands m (piece_task x ∷ did)) (sym next.1) (run_step s did i x (offered_of s did i x next.0))
-    one_step s did i (CopyPart k) e next = subst (λ (m : Stage). Stands m did) (sym next.1) (copy_step s did k i)
+        go (x ∷ xs) left next = subst (λ (m : Stage). AtPoint m (entry_task s ∷ did)) (sym next.2) (apply_step s did i x xs left next.0)
+    one_step s did i (RunPiece x) e next = subst (λ (m : Stage). AtPoint m (piece_task x ∷ did)) (sym next.1) (run_step s did i x (offered_of s did i x next.0))
+    one_step s did i (CopyPart k) e next = subst (λ (m : Stage). AtPoint m did) (sym next.1) (copy_step s did k i)
 
-    all_steps : (steps : List Step) (s : Stage) (did : List Task) → Stands s did → (e : Stage) (run : Allowed part_count s steps e) → Stands e (done_by part_count s steps e run did)
-    all_steps [] s did i e run = subst (λ (m : Stage). Stands m did) (sym run) i
+    all_steps : (steps : List Step) (s : Stage) (did : List Task) → AtPoint s did → (e : Stage) (run : Allowed part_count s steps e) → AtPoint e (done_by part_count s steps e run did)
+    all_steps [] s did i e run = subst (λ (m : Stage). AtPoint m did) (sym run) i
     all_steps (step ∷ steps) s did i e run = all_steps steps run.0 (with_step s step did) (one_step s did i step run.0 run.1) e run.2
 
     pub allowed_too : (steps : List Step) (e : Stage) (run : Allowed part_count (start t) steps e)
         → (done : List Task) × Matches all e done × (filter (λ u. not (is_event all u)) done ≡ done_by part_count (start t) steps e run [])
     allowed_too steps e run =
         let did : List Task = done_by part_count (start t) steps e run [] in
-        let i : Stands e did = all_steps steps (start t) [] begins e run in (
+        let i : AtPoint e did = all_steps steps (start t) [] begins e run in (
           i.tasks,
           record {
             allowed = i.allowed;
@@ -603,7 +603,7 @@ module _ (paths : BeforeIsPath) (joins : BeforeIsTransitive) (leads : BeforeLead
 
   -- ---- where nothing may come next
 
-  module _ (s : Stage) (did : List Task) (i : Stands s did) (over : IsOver s) where
+  module _ (s : Stage) (did : List Task) (i : AtPoint s did) (over : IsOver s) where
     abbrev past : Past
     past = s.front.past
 
@@ -683,5 +683,5 @@ module _ (paths : BeforeIsPath) (joins : BeforeIsTransitive) (leads : BeforeLead
   pub ended : (part_count : Past → ℕ) (steps : List Step) (e : Stage) → Allowed part_count (start t) steps e → IsOver e → (e.left ≡ []) × ((u : Task) → IsTrue (tr.has u) → is_event all u ≡ false → IsTrue (has_happened all e u))
   ended part_count steps e run over =
       let did : List Task = done_by part_count (start t) steps e run [] in
-      let i : Stands e did = all_steps part_count steps (start t) [] begins e run in
+      let i : AtPoint e did = all_steps part_count steps (start t) [] begins e run in
       (none_left e did i over, all_happened e did i over)

@@ -26,7 +26,7 @@ use Rattle.vk_laws.specs.TraceCaches.{caching_of}
 use Rattle.vk_laws.specs.Discards.{entry_forgets, forgets, or_unknown, with_discards}
 use Rattle.vk_laws.proofs.TaskNodes.{node_of, same_task}
 use Rattle.vk_laws.proofs.Steady.{new_ids, live_ids}
-use Rattle.vk_laws.proofs.Points.{Stands, stands}
+use Rattle.vk_laws.proofs.Points.{AtPoint, stands}
 use Rattle.vk_laws.proofs.TaskAccesses.{Accessor, writer, reader, is_in_of}
 use Rattle.vk_laws.proofs.Ordered.{judged_has, write_is_seen}
 use Rattle.vk_laws.proofs.HazardFree.{read_act, write_act, host_put, hazard_free}
@@ -207,7 +207,7 @@ module _ (t : List Entry) (given : Given t) where
   -- what is forgotten is undefined
   lost_value : (u : Task) (c : Byte) (v : ℕ) → Forgot all u c → value_before all (suc u.node) c ≡ Some v → ⊥
   lost_value u c v f h =
-      let s : Stands all f.node = stands all f.node f.stands in
+      let s : AtPoint all f.node = stands all f.node f.stands in
       let l = forget t given f.node f.stands f.entry f.act c f.lost in
       let e = ends t given f.node f.stands f.entry f.act c f.lost in
       let d = action t given f.node f.stands f.entry f.act c f.lost in
@@ -287,7 +287,7 @@ module _ (t : List Entry) (given : Given t) where
           let wk = w_writes t given f.node f.stands f.entry f.act c f.lost in
           let earlier = w_earlier t given f.node f.stands f.entry f.act c f.lost in
           let first = before_write t given f.node f.stands f.entry f.act c f.lost x.node x.stands cmd is_x Write x.accessed (lower s u x.node f.node x.number f.number lt) in
-          let sk : Stands all k = stands all k ck in
+          let sk : AtPoint all k = stands all k ck in
           let apart_hosts : IsTrue (not (is_host x.node.act && is_host k.act)) = rw is_x refl in
           let is_seen = write_is_seen given.stay given.hazards given.visibilities given.hosts given.keeps t given.none x.node k x.stands ck first.0 x.is_access refl c apart_hosts (is_in_of given.pieces_together all c (writes all x.node) x.accessed) wk in
           let has_x = judged_has given.stay given.hazards given.visibilities given.hosts given.keeps t given.none x.node k x.stands ck first.0 x.is_access refl c apart_hosts in

@@ -30,7 +30,7 @@ use Rattle.vk_laws.proofs.Members.{contains-head, member_passes, some_member}
 use Rattle.vk_laws.proofs.Truths.{not_both}
 use Rattle.vk_laws.proofs.NoHazard.{number_below, unique, numbered, edge_before, reaches_join, or_before, before_reaches}
 use Rattle.vk_laws.proofs.Steady.{new_ids, live_ids}
-use Rattle.vk_laws.proofs.Points.{Stands, stands, comes_at}
+use Rattle.vk_laws.proofs.Points.{AtPoint, stands, comes_at}
 use Rattle.vk_laws.proofs.TaskAccesses.{host_writes_it, is_in_of}
 use Rattle.vk_laws.proofs.Ordered.{judged_has, read_is_seen, write_is_seen}
 use Rattle.vk_laws.proofs.ModelBytes.{host_action, more_nodes, alone, at_node}
@@ -146,7 +146,7 @@ module _ (t : List Entry) (given : Given t) where
   all = plain_order t
 
   module _ (i : Node) (ci : Contains (nodes all) i) (y : Entry) (is_i : i.act ≡ Hosts y) (c : Byte) (lost : IsTrue (entry_forgets (before_node all i.number) y c)) where
-    abbrev pub s : Stands all i
+    abbrev pub s : AtPoint all i
     s = stands all i ci
 
     pub forget : Forgets s.past y c
@@ -161,7 +161,7 @@ module _ (t : List Entry) (given : Given t) where
     pub ends : (length (nodes s.past) ≡ i.number) × (length (nodes (s.at ∷ s.past)) ≡ suc i.number)
     ends = alone given.pieces_together given.apart t given.sound i s (ap (λ (d : Action). length (acts d)) action)
 
-    split : (n : Node) (sn : Stands all n) → all ≡ (sn.newer ++ sn.at ∷ []) ++ sn.past
+    split : (n : Node) (sn : AtPoint all n) → all ≡ (sn.newer ++ sn.at ∷ []) ++ sn.past
     split n sn = sn.whole ∙ sym (append_assoc sn.newer (sn.at ∷ []) sn.past)
 
     abbrev pub write : Entry
@@ -213,7 +213,7 @@ module _ (t : List Entry) (given : Given t) where
       Touches Read = Contains (reads all a) c
       Touches Write = Contains (writes all a) c
 
-      abbrev pub point : Stands all a
+      abbrev pub point : AtPoint all a
       point = stands all a ca
 
       abbrev pub one : Byte → Bool

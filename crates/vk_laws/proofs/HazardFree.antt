@@ -25,7 +25,7 @@ use Rattle.vk_laws.specs.Tasks.{moves_of, host_value, part_write, part_read, nod
 use Rattle.vk_laws.proofs.TaskNodes.{node_of, same_task}
 use Rattle.vk_laws.proofs.Members.{member_passes, found, map_has, chosen_has, chosen_from}
 use Rattle.vk_laws.proofs.Steady.{kept_moves, kept_pieces, new_ids, live_ids}
-use Rattle.vk_laws.proofs.Points.{Stands, stands, action_of, comes_at}
+use Rattle.vk_laws.proofs.Points.{AtPoint, stands, action_of, comes_at}
 use Rattle.vk_laws.proofs.TaskAccesses.{byte_same, piece_move, is_there, is_in_of, ordered}
 use Rattle.vk_laws.proofs.Apart.{pair_of, no_overlap}
 
@@ -95,7 +95,7 @@ module _ (together : PiecesAreMoves) (apart : PiecesWriteApart) (t : List Entry)
   -- ---- a command of the trace
 
   module _ (n : Node) (cn : Contains (nodes all) n) (x : Cmd) (act : n.act ≡ Runs x) where
-    abbrev pub place : Stands all n
+    abbrev pub place : AtPoint all n
     place = stands all n cn
 
     pub action : place.at.action ≡ Run x

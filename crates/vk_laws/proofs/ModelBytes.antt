@@ -39,7 +39,7 @@ use Rattle.vk_laws.proofs.Fresh.{none_unless}
 use Rattle.vk_laws.proofs.Members.{member_passes, mapped_from, only_one}
 use Rattle.vk_laws.proofs.NoHazard.{numbered}
 use Rattle.vk_laws.proofs.TaskAccesses.{is_there}
-use Rattle.vk_laws.proofs.Points.{Stands, stands, comes_at, stands_below}
+use Rattle.vk_laws.proofs.Points.{AtPoint, stands, comes_at, at_point_below}
 use Rattle.vk_laws.proofs.HazardFree.{read_act, write_act, moved, host_put, same_moves, run_once, place, action}
 
 -- ---- what a byte is after a step it was before, or it's undefined
@@ -281,20 +281,20 @@ module _ (together : PiecesAreMoves) (apart : PiecesWriteApart) (t : List Entry)
   all = plain_order t
 
   -- a node's act is all that its point does, where it isn't an element
-  pub alone : (n : Node) (s : Stands all n) → length (acts s.at.action) ≡ 1 → (length (nodes s.past) ≡ n.number) × (length (nodes (s.at ∷ s.past)) ≡ suc n.number)
+  pub alone : (n : Node) (s : AtPoint all n) → length (acts s.at.action) ≡ 1 → (length (nodes s.past) ≡ n.number) × (length (nodes (s.at ∷ s.past)) ≡ suc n.number)
   alone n s one =
       let low = s.new in
       let e = count_acts s.at (acts s.at.action) (nodes s.past) in
-      let lt = stands_below _ _ s in
+      let lt = at_point_below _ _ s in
       (omega (arith, e, one), omega (arith, e, one))
 
-  pub at_node : (n : Node) (s : Stands all n) → before_node all n.number ≡ s.past
+  pub at_node : (n : Node) (s : AtPoint all n) → before_node all n.number ≡ s.past
   at_node n s =
-      let lt = stands_below _ _ s in
+      let lt = at_point_below _ _ s in
       ap (λ (l : Past). before_node l n.number) s.whole ∙ before_inside s.newer s.past s.at n.number s.new lt
 
   -- a value after a point's last node is the point's
-  after_point : (n : Node) (s : Stands all n) (c : Byte) (v : ℕ) → length (nodes (s.at ∷ s.past)) ≡ suc n.number → value_before all (suc n.number) c ≡ Some v → from_source (source_at s.past s.at.action c) (world s.past).value c ≡ Some v
+  after_point : (n : Node) (s : AtPoint all n) (c : Byte) (v : ℕ) → length (nodes (s.at ∷ s.past)) ≡ suc n.number → value_before all (suc n.number) c ≡ Some v → from_source (source_at s.past s.at.action c) (world s.past).value c ≡ Some v
   after_point n s c v end h =
       point_source s.past s.at c v (settles s.newer (s.at ∷ s.past) (suc n.number) c v end (subst (λ (l : Past). value_before l (suc n.number) c ≡ Some v) s.whole h))
 
@@ -310,7 +310,7 @@ module _ (together : PiecesAreMoves) (apart : PiecesWriteApart) (t : List Entry)
       part_puts : (l : ℕ) (q : List Move) (y : Move) → slice_get (pieces all x) l ≡ Some q → find (λ m. same_byte m.to c) q ≡ Some y → part_write all (Runs x) l c ≡ Some (Puts y.source)
       part_puts l q y at e = rw at (rw e refl)
 
-  put_here : (n : Node) (s : Stands all n) (c : Byte) (v : ℕ) (w : Put) (source : Source) → w ≡ Puts source → source_at s.past s.at.action c ≡ Some source → length (acts s.at.action) ≡ 1 → value_before all (suc n.number) c ≡ Some v
+  put_here : (n : Node) (s : AtPoint all n) (c : Byte) (v : ℕ) (w : Put) (source : Source) → w ≡ Puts source → source_at s.past s.at.action c ≡ Some source → length (acts s.at.action) ≡ 1 → value_before all (suc n.number) c ≡ Some v
       → put_value w (value_before all n.number) ≡ Some v
   put_here n s c v w source put is one h =
       let after = subst (λ (o : Option Source). from_source o (world s.past).value c ≡ Some v) is (after_point n s c v (alone n s one).1 h) in
@@ -319,7 +319,7 @@ module _ (together : PiecesAreMoves) (apart : PiecesWriteApart) (t : List Entry)
   written_by : (n : Node) (cn : Contains (nodes all) n) (k : ℕ) (c : Byte) (w : Put) (v : ℕ) → part_write all n.act k c ≡ Some w → value_before all (suc n.number) c ≡ Some v → put_value w (value_before all n.number) ≡ Some v
   written_by n cn k c w v h e = go n.act refl h
     where
-      s : Stands all n
+      s : AtPoint all n
       s = stands all n cn
 
       go : (a : Act) → n.act ≡ a → part_write all a k c ≡ Some w → put_value w (value_before all n.number) ≡ Some v
@@ -341,7 +341,7 @@ module _ (together : PiecesAreMoves) (apart : PiecesWriteApart) (t : List Entry)
   no_source : (n : Node) (cn : Contains (nodes all) n) (c : Byte) → ((k : ℕ) → part_write all n.act k c ≡ None) → source_at (stands all n cn).past (stands all n cn).at.action c ≡ None
   no_source n cn c none = go s.at.action refl
     where
-      s : Stands all n
+      s : AtPoint all n
       s = stands all n cn
 
       acted : (d : Action) → s.at.action ≡ d → Contains (acts d) n.act
@@ -370,7 +370,7 @@ module _ (together : PiecesAreMoves) (apart : PiecesWriteApart) (t : List Entry)
   kept_by n cn c v none h =
       let s = stands all n cn in
       let low = s.new in
-      let lt = stands_below _ _ s in
+      let lt = at_point_below _ _ s in
       subst (λ (l : Past). (world l).value c ≡ Some v) (sym (at_node n s))
       (⊎_elim
       (λ more. subst (λ (l : Past). (world l).value c ≡ Some v) (ap (λ (l : Past). before_node l (suc n.number)) s.whole ∙ before_inside s.newer s.past s.at (suc n.number) (omega arith) more) h)
@@ -417,7 +417,7 @@ module _ (together : PiecesAreMoves) (apart : PiecesWriteApart) (t : List Entry)
       by_entry : (n : Node) (cn : Contains (nodes all) n) (x : Entry) → n.act ≡ Hosts x → IsTrue (is_in c (host_reads x)) → (v : ℕ) × (value_before all n.number c ≡ Some v)
       by_entry n cn (entry.Read b o m) act h = go ((world s.past).value c) refl
         where
-          s : Stands all n
+          s : AtPoint all n
           s = stands all n cn
 
           go : (o : Option ℕ) → (world s.past).value c ≡ o → (v : ℕ) × (value_before all n.number c ≡ Some v)

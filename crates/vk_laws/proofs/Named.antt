@@ -25,7 +25,7 @@ use Rattle.vk_laws.proofs.Members.{contains-head, contains-tail, member_passes, 
 use Rattle.vk_laws.proofs.Truths.{unless}
 use Rattle.vk_laws.proofs.Steady.{IsNew, live_made, made_until, comes_here, comes_later, IsLive}
 use Rattle.vk_laws.proofs.Apart.{grid_from}
-use Rattle.vk_laws.proofs.Points.{Stands, action_of}
+use Rattle.vk_laws.proofs.Points.{AtPoint, action_of}
 use Rattle.vk_laws.proofs.ModelBytes.{host_action}
 use Rattle.vk_model.specs.Fault.{Comes, older}
 
@@ -108,7 +108,7 @@ named_made all newer past p c whole new alive names = go (is_some (host_of p.act
         (l.0, made_until p.entry past (resource_at c) l.0 new_past l.1)
 
 -- the resource of a byte that a node writes was made before the node's point
-pub written_made : (all : Past) (n : Node) (s : Stands all n) (c : Byte) → IsNew all → IsLive all → IsTrue (accesses n.act) → (judged : Past) (q : ℕ) → Contains (writes_of judged q n.act) c → (x : Entry) × (made s.past (resource_at c) ≡ Some x)
+pub written_made : (all : Past) (n : Node) (s : AtPoint all n) (c : Byte) → IsNew all → IsLive all → IsTrue (accesses n.act) → (judged : Past) (q : ℕ) → Contains (writes_of judged q n.act) c → (x : Entry) × (made s.past (resource_at c) ≡ Some x)
 written_made all n s c new alive access judged q h = named_made all s.newer s.past s.at c s.whole new alive (go n.act refl access h)
   where
     acted : (a : Act) → n.act ≡ a → Contains (acts s.at.action) a

@@ -18,7 +18,7 @@ use Rattle.vk_model.specs.Laws.{GrowthKeeps}
 use Rattle.vk_model.specs.Rules.{first_fault}
 use Rattle.vk_laws.specs.Trace.{IsSeen, HasNoHazard, NoHazardLaw, SeenIsBefore, HostInOrder, CommandsStay, Meets, accesses}
 use Rattle.vk_laws.proofs.Prefixes.{is_old}
-use Rattle.vk_laws.proofs.Points.{Stands, stands, action_of, comes_at, stands_below}
+use Rattle.vk_laws.proofs.Points.{AtPoint, stands, action_of, comes_at, at_point_below}
 
 module _ (stay : CommandsStay) (t : List Entry) (none : first_fault t ≡ None) (newer past : Past) (p : Point) (whole : plain_order t ≡ newer ++ p ∷ past) (x : Node) (cx : Contains (nodes (p ∷ past)) x) where
   -- a command's moves are those of the whole trace
@@ -54,9 +54,9 @@ module _ (stay : CommandsStay) (t : List Entry) (none : first_fault t ≡ None) 
 
 module _ (stay : CommandsStay) (hazards : NoHazardLaw) (visibilities : SeenIsBefore) (hosts : HostInOrder) (keeps : GrowthKeeps) (t : List Entry) (none : first_fault t ≡ None) (x y : Node)
     (cx : Contains (nodes (plain_order t)) x) (cy : Contains (nodes (plain_order t)) y) (lt : x.number < y.number) (ax : IsTrue (accesses x.act)) (ay : IsTrue (accesses y.act)) (b : Byte) where
-  here : (s : Stands (plain_order t) y) → Contains (nodes (s.at ∷ s.past)) x
+  here : (s : AtPoint (plain_order t) y) → Contains (nodes (s.at ∷ s.past)) x
   here s =
-      let low = stands_below _ _ s in
+      let low = at_point_below _ _ s in
       is_old keeps (plain_order t) s.newer (s.at ∷ s.past) s.whole x cx (omega (arith, low, lt))
 
   apart : IsTrue (not (is_host x.act && is_host y.act)) → IsTrue (precedes x y)
@@ -64,7 +64,7 @@ module _ (stay : CommandsStay) (hazards : NoHazardLaw) (visibilities : SeenIsBef
 
   -- the point of the later node, and what is judged there
   module _ (h : IsTrue (not (is_host x.act && is_host y.act))) where
-    abbrev pub judged : Stands (plain_order t) y
+    abbrev pub judged : AtPoint (plain_order t) y
     judged = stands (plain_order t) y cy
 
     pub judged_has : Contains (nodes (judged.at ∷ judged.past)) x

@@ -15,7 +15,7 @@ use Rattle.vk_model.specs.Fault.{Comes}
 
 -- ---- the point of a node
 
-pub record Stands (all : Past) (n : Node) : Type 0 where
+pub record AtPoint (all : Past) (n : Node) : Type 0 where
   pub newer : Past
   pub past : Past
   pub at : Point
@@ -36,19 +36,19 @@ in_acts p (a ∷ more) ns n c =
     (λ h. let le = h.0 in inr (omega arith, contains-tail a more n.act h.1, h.2))
     (in_acts p more (one ∷ ns) n c)
 
-pub stands : (all : Past) (n : Node) → Contains (nodes all) n → Stands all n
+pub stands : (all : Past) (n : Node) → Contains (nodes all) n → AtPoint all n
 stands [] n c = absurd (none_in n c)
 stands (p ∷ past) n c = go (stands past n) (in_acts p (acts p.action) (nodes past) n c)
   where
-    go : (Contains (nodes past) n → Stands past n) → Contains (nodes past) n ⊎ (length (nodes past) ≤ n.number) × Contains (acts p.action) n.act × (n.point ≡ p) → Stands (p ∷ past) n
+    go : (Contains (nodes past) n → AtPoint past n) → Contains (nodes past) n ⊎ (length (nodes past) ≤ n.number) × Contains (acts p.action) n.act × (n.point ≡ p) → AtPoint (p ∷ past) n
     go rest (inl older) = let s = rest older in record { newer = p ∷ s.newer; past = s.past; at = s.at; whole = ap (λ (l : Past). p ∷ l) s.whole; here = s.here; new = s.new; acted = s.acted; pointed = s.pointed }
     go rest (inr h) = record { newer = []; past = past; at = p; whole = refl; here = c; new = h.0; acted = h.1; pointed = h.2 }
 
-pub comes_at : (all : Past) (n : Node) (s : Stands all n) → Comes all s.past s.at
+pub comes_at : (all : Past) (n : Node) (s : AtPoint all n) → Comes all s.past s.at
 comes_at all n s = subst (λ (l : Past). Comes l s.past s.at) (sym s.whole) (comes_here s.newer s.past s.at)
 
-pub stands_below : (all : Past) (n : Node) (s : Stands all n) → n.number < length (nodes (s.at ∷ s.past))
-stands_below all n s = number_below (nodes (s.at ∷ s.past)) (numbered (s.at ∷ s.past)) n s.here
+pub at_point_below : (all : Past) (n : Node) (s : AtPoint all n) → n.number < length (nodes (s.at ∷ s.past))
+at_point_below all n s = number_below (nodes (s.at ∷ s.past)) (numbered (s.at ∷ s.past)) n s.here
 
 -- ---- the action of a command's node
 

@@ -15,13 +15,13 @@ use Rattle.vk_laws.proofs.TaskNodes.{node_of}
 use Rattle.vk_laws.proofs.Members.{right_has}
 use Rattle.vk_laws.proofs.NoHazard.{number_below, numbered}
 use Rattle.vk_laws.proofs.Steady.{IsNew, kept_pieces, IsLive, comes_within}
-use Rattle.vk_laws.proofs.Points.{Stands, stands, action_of, older_node}
+use Rattle.vk_laws.proofs.Points.{AtPoint, stands, action_of, older_node}
 use Rattle.vk_laws.proofs.TraceCaches.{before_number}
 
 pub has_more : GrowthKeeps → (newer past : Past) (n : Node) → Contains (nodes past) n → Contains (nodes (newer ++ past)) n
 has_more keeps newer past n c =
     let kept = keeps past newer in
-    subst (λ (l : List Node). Contains l n) (sym kept.stand.1) (right_has kept.stand.0 (nodes past) n c)
+    subst (λ (l : List Node). Contains l n) (sym kept.added.1) (right_has kept.added.0 (nodes past) n c)
 
 module _ (all : Past) where
   -- the task's node is below the count of nodes
@@ -50,8 +50,8 @@ module _ (keeps : GrowthKeeps) (all newer old : Past) (whole : all ≡ newer ++ 
   pub is_old : (n : Node) → Contains (nodes all) n → n.number < length (nodes old) → Contains (nodes old) n
   is_old n c lt =
       let kept = keeps old newer in
-      let same : nodes all ≡ kept.stand.0 ++ nodes old = ap nodes whole ∙ kept.stand.1 in
-      older_node kept.stand.0 (nodes old) n (subst IsNumbered same (numbered all)) (subst (λ (l : List Node). Contains l n) same c) lt
+      let same : nodes all ≡ kept.added.0 ++ nodes old = ap nodes whole ∙ kept.added.1 in
+      older_node kept.added.0 (nodes old) n (subst IsNumbered same (numbered all)) (subst (λ (l : List Node). Contains l n) same c) lt
 
   pub same_before : (m n : Node) → Contains (nodes old) n → before (nodes all) m n ≡ before (nodes old) m n
   same_before m n c = ap (λ (l : Past). before (nodes l) m n) whole ∙ (keeps old newer).orders m n c
@@ -59,7 +59,7 @@ module _ (keeps : GrowthKeeps) (all newer old : Past) (whole : all ≡ newer ++ 
 module _ (all newer old : Past) (whole : all ≡ newer ++ old) (new : IsNew all) (alive : IsLive all) where
   pub same_pieces : (n : Node) (c : Cmd) → Contains (nodes old) n → n.act ≡ Runs c → pieces all c ≡ pieces old c
   same_pieces n c cn act =
-      let place : Stands old n = stands old n cn in
+      let place : AtPoint old n = stands old n cn in
       let action : place.at.action ≡ Run c = action_of place.at.action c (subst (λ (a : Act). Contains (acts place.at.action) a) act place.acted) in
       let come : (b : Past) (q : Point) → Comes old b q → Comes all b q = λ b q h. comes_within _ newer old whole b q h in
       let split : all ≡ (newer ++ place.newer) ++ place.at ∷ place.past = whole ∙ ap (λ (l : Past). newer ++ l) place.whole ∙ sym (append_assoc newer place.newer (place.at ∷ place.past)) in

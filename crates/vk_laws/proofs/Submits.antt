@@ -12,20 +12,20 @@ use Rattle.vk_model.specs.Node.{Node, Act, Hosts, Waits, Signals, Runs, Depends,
 use Rattle.vk_model.specs.Edge.{is_submit}
 use Rattle.vk_laws.specs.TraceCaches.{submits_to}
 use Rattle.vk_laws.proofs.Members.{contains-head, right_has}
-use Rattle.vk_laws.proofs.Points.{Stands, stands, action_of}
+use Rattle.vk_laws.proofs.Points.{AtPoint, stands, action_of}
 use Rattle.vk_laws.proofs.ModelBytes.{host_action}
 use Rattle.vk_laws.proofs.Entries.{OfAction, point_of}
 
-in_past : (all : Past) (n : Node) (s : Stands all n) → Contains all s.at
+in_past : (all : Past) (n : Node) (s : AtPoint all n) → Contains all s.at
 in_past all n s = subst (λ (l : Past). Contains l s.at) (sym s.whole) (right_has s.newer (s.at ∷ s.past) s.at (contains-head s.at s.past))
 
 pub submits_there : (t : List Entry) (q y : Node) (c : Cmd) → Contains (nodes (plain_order t)) q → Contains (nodes (plain_order t)) y → IsTrue (is_submit q.act) → y.act ≡ Runs c → q.point.entry ≡ y.point.entry → IsTrue (submits_to q.act y.point.queue)
 submits_there t q y c cq cy submit is_y same = go q.act refl submit
   where
-    sq : Stands (plain_order t) q
+    sq : AtPoint (plain_order t) q
     sq = stands (plain_order t) q cq
 
-    sy : Stands (plain_order t) y
+    sy : AtPoint (plain_order t) y
     sy = stands (plain_order t) y cy
 
     by_entry : (x : Entry) → q.act ≡ Hosts x → IsTrue (is_submit (Hosts x)) → IsTrue (submits_to (Hosts x) y.point.queue)

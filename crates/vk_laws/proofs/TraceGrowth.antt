@@ -27,7 +27,7 @@ use Rattle.vk_laws.proofs.Prefixes.{old_has, same_pieces, leads_on, there_below}
 use Rattle.vk_laws.proofs.Members.{contains-cons, contains-head, contains-tail, none_in}
 use Rattle.vk_laws.proofs.NoHazard.{number_below, numbered}
 use Rattle.vk_laws.proofs.Steady.{IsNew, IsLive}
-use Rattle.vk_laws.proofs.Points.{Stands, stands, stands_below}
+use Rattle.vk_laws.proofs.Points.{AtPoint, stands, at_point_below}
 use Rattle.vk_laws.proofs.ModelBytes.{node_there, before_inside}
 use Rattle.vk_laws.proofs.TraceCaches.{node_at_self, before_number, made_of}
 
@@ -101,7 +101,7 @@ module _ (paths : BeforeIsPath) (joins : BeforeIsTransitive) (keeps : GrowthKeep
 
   -- what a node of the shorter trace does
   module _ (n : Node) (cn : Contains (nodes old) n) where
-    s : Stands old n
+    s : AtPoint old n
     s = stands old n cn
 
     far : whole ≡ (newer ++ s.newer) ++ s.at ∷ s.past
@@ -109,7 +109,7 @@ module _ (paths : BeforeIsPath) (joins : BeforeIsTransitive) (keeps : GrowthKeep
 
     same_before : before_node whole n.number ≡ before_node old n.number
     same_before =
-        let lt = stands_below _ _ s in
+        let lt = at_point_below _ _ s in
         (ap (λ (l : Past). before_node l n.number) far ∙ before_inside (newer ++ s.newer) s.past s.at n.number s.new lt)
         ∙ sym (ap (λ (l : Past). before_node l n.number) s.whole ∙ before_inside s.newer s.past s.at n.number s.new lt)
 
@@ -144,14 +144,14 @@ module _ (paths : BeforeIsPath) (joins : BeforeIsTransitive) (keeps : GrowthKeep
     same_cached c = ap (λ (l : Past). is_cached l (resource_at c)) same_before
 
     -- no new node is before it
-    not_new : (v : Node) → Contains kept.stand.0 v → before (nodes whole) v n ≡ false
+    not_new : (v : Node) → Contains kept.added.0 v → before (nodes whole) v n ≡ false
     not_new v c =
-        let high = front_number kept.stand.0 (nodes old) v (subst (λ (l : List Node). IsNumbered l) kept.stand.1 (numbered whole)) c in
+        let high = front_number kept.added.0 (nodes old) v (subst (λ (l : List Node). IsNumbered l) kept.added.1 (numbered whole)) c in
         let low = number_below (nodes old) (numbered old) n cn in
         false_from_ne_true (before (nodes whole) v n) (λ h. let lt = before_number (nodes whole) v n h in omega (arith, high, low, lt))
 
-    over_nodes : (f g : Node → Bool) → ((v : Node) → Contains kept.stand.0 v → f v ≡ false) → ((v : Node) → Contains (nodes old) v → f v ≡ g v) → list_any f (nodes whole) ≡ list_any g (nodes old)
-    over_nodes f g never same = ap (list_any f) kept.stand.1 ∙ grown f g kept.stand.0 (nodes old) never same
+    over_nodes : (f g : Node → Bool) → ((v : Node) → Contains kept.added.0 v → f v ≡ false) → ((v : Node) → Contains (nodes old) v → f v ≡ g v) → list_any f (nodes whole) ≡ list_any g (nodes old)
+    over_nodes f g never same = ap (list_any f) kept.added.1 ∙ grown f g kept.added.0 (nodes old) never same
 
     same_wrote : (c : Byte) → host_wrote whole n c ≡ host_wrote old n c
     same_wrote c = over_nodes _ _ (λ v cv. and_right (is_host v.act && is_in c (writes whole v)) (before (nodes whole) v n) (not_new v cv)) (λ v cv. by_act' v v.act refl ∙ ap (λ (b : Bool). is_host v.act && is_in c (writes old v) && b) (kept.orders v n cn))

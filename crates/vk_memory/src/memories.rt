@@ -82,9 +82,9 @@ pub struct Memories {
 impl Model for Memories {
     ghost use Rattle.std.specs.Prelude.{◌≡◌, List, true, false};
     ghost use Rattle.vk_memory.specs.declared.memories.Object.{Object};
-    ghost use Rattle.vk_memory.specs.Standing.{Standing, sizes_on};
+    ghost use Rattle.vk_memory.specs.MemoryState.{MemoryState, sizes_on};
 
-    ghost Value = { Standing };
+    ghost Value = { MemoryState };
 
     ghost view = { λ m. record { heap0 = m.heap0.size; heap1 = m.heap1.size; objects = m.objects.items } };
 
@@ -92,7 +92,7 @@ impl Model for Memories {
 }
 
 impl Memories {
-    ghost use Rattle.vk_memory.specs.Standing.{IsFull, fresh, heap_size, on_first, sizes_on, region_of, with_region, with_mapped, is_mapped};
+    ghost use Rattle.vk_memory.specs.MemoryState.{IsFull, fresh, heap_size, on_first, sizes_on, region_of, with_region, with_mapped, is_mapped};
     ghost use Rattle.std.specs.Borrow.{Lends, sem};
     ghost use Rattle.vk_memory.specs.contracts.memories.Memories.{the_row};
     ghost use Rattle.vk_heap.specs.contracts.region.Region.{the_row as region_row};
@@ -111,7 +111,7 @@ impl Memories {
     }
 
     /// Makes an object of `size` bytes, and answers its number: they count from 0, and rise.
-    #[tactic(auto, using(crate::proofs::StandingLemmas::adding))]
+    #[tactic(auto, using(crate::proofs::MemoryStateLemmas::adding))]
     pub fn allocate(&mut self, memory_type: u32, size: u64) -> Result<u32, MemoryError>
         requires { 0 < size }
         ensures ok { IfOk result (λ number. (number ≡ length self.old.objects)

@@ -141,7 +141,7 @@ module _ (n : Node) (ns : List Node) (new : n.number ≡ length ns) where
 
 kept_one : (old : List Node) (n : Node) (ns : List Node) → IsNumbered old → IsNumbered ns → n.number ≡ length ns → Keeps old ns → length old ≤ length ns → Keeps old (n ∷ ns)
 kept_one old n ns old_numbers numbers new kept le = record {
-  stand = (n ∷ kept.stand.0, ap (λ (l : List Node). n ∷ l) kept.stand.1);
+  added = (n ∷ kept.added.0, ap (λ (l : List Node). n ∷ l) kept.added.1);
   edges = λ m k c. edge-older n ns new m k (low k c) ∙ kept.edges m k c;
   orders = λ m k c. before-older n ns new m k (low k c) ∙ kept.orders m k c;
   visibilities = λ cached w a k b c. seen-older n ns new numbers cached w a k b (low a c) ∙ kept.visibilities cached w a k b c;
@@ -157,7 +157,7 @@ kept_acts old p (a ∷ more) ns old_numbers numbers kept le =
     (kept_one old (record { number = length ns; point = p; act = a }) ns old_numbers numbers refl kept le) (omega arith)
 
 kept_points : (past more : Past) → Keeps (nodes past) (nodes (more ++ past)) × (length (nodes past) ≤ length (nodes (more ++ past)))
-kept_points past [] = (record { stand = ([], refl); edges = λ m n c. refl; orders = λ m n c. refl; visibilities = λ cached w a k b c. refl }, omega arith)
+kept_points past [] = (record { added = ([], refl); edges = λ m n c. refl; orders = λ m n c. refl; visibilities = λ cached w a k b c. refl }, omega arith)
 kept_points past (p ∷ more) =
     let kept = kept_points past more in
     kept_acts (nodes past) p (acts p.action) (nodes (more ++ past)) (numbered past) (numbered (more ++ past)) kept.0 kept.1

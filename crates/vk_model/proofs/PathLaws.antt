@@ -222,19 +222,19 @@ pub leads_on : (ns : List Node) (x y : Node) → IsTrue (before ns x y) → x.nu
 leads_on = before_lt
 
 -- what is reached stands among the nodes
-reached_stands : (ns : List Node) → IsNumbered ns → (x y : Node) → Contains ns x → Contains (reached x ns) y → Contains ns y
-reached_stands ns numbers x y c at = stands ((reached_paths ns numbers x c y).0 at)
+reached_present : (ns : List Node) → IsNumbered ns → (x y : Node) → Contains ns x → Contains (reached x ns) y → Contains ns y
+reached_present ns numbers x y c at = present ((reached_paths ns numbers x c y).0 at)
   where
-    stands : Reached ns x y → Contains ns y
-    stands (inl e) = subst (λ (z : Node). Contains ns z) (sym e) c
-    stands (inr p) = target ns x y p
+    present : Reached ns x y → Contains ns y
+    present (inl e) = subst (λ (z : Node). Contains ns z) (sym e) c
+    present (inr p) = target ns x y p
 
 module _ (ns : List Node) (numbers : IsNumbered ns) (x y : Node) (cx : Contains ns x) (cy : Contains ns y) where
   path_of_before : IsTrue (before ns x y) → Path ns x y
   path_of_before e =
       let lt = before_lt ns x y e in
       let z = some_member (same_node y) (reached x ns) (before_found ns x y e) in
-      let same : y ≡ z.0 = unique ns numbers y z.0 cy (reached_stands ns numbers x z.0 cx z.1) (eqb-true y.number z.0.number z.2) in
+      let same : y ≡ z.0 = unique ns numbers y z.0 cy (reached_present ns numbers x z.0 cx z.1) (eqb-true y.number z.0.number z.2) in
       elim ((reached_paths ns numbers x cx y).0 (subst (λ (n : Node). Contains (reached x ns) n) (sym same) z.1)) [
         | inl itself ↦ absurd (let bad : y.number ≡ x.number = ap (λ (n : Node). n.number) itself in omega arith)
         | inr p ↦ p

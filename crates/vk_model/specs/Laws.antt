@@ -41,7 +41,7 @@ FaultIsFirst = (t : List Entry) (told : At) (r : Rule) → first_fault t ≡ Som
 
 -- Among the old nodes every edge, order and visibility is as it was when these were all.
 pub record Keeps (old new : List Node) : Type 0 where
-  pub stand : (front : List Node) × (new ≡ front ++ old)
+  pub added : (front : List Node) × (new ≡ front ++ old)
   pub edges : (m n : Node) → Contains old n → edge new m n ≡ edge old m n
   pub orders : (m n : Node) → Contains old n → before new m n ≡ before old m n
   pub visibilities : (cached : Byte → Bool) (w a : Node) (k : Access) (b : Byte) → Contains old a → seen cached new w a k b ≡ seen cached old w a k b

@@ -136,12 +136,12 @@ abbrev pub resource : Past → ℕ → Option Resource
 resource past i = option_and_then resource_in (made past i)
 
 -- The ids of the objects that stand and that a test on their entries finds.
-abbrev pub standing : {A : Type 0} → (Entry → Option A) → Past → List ℕ
-standing kind_of past = filter (λ i. is_some (option_and_then kind_of (live past i))) (filter_map made_by (entries past))
+abbrev pub live_of : {A : Type 0} → (Entry → Option A) → Past → List ℕ
+live_of kind_of past = filter (λ i. is_some (option_and_then kind_of (live past i))) (filter_map made_by (entries past))
 
 -- The ids of the resources that stand.
 abbrev pub live_resources : Past → List ℕ
-live_resources past = standing resource_in past
+live_resources past = live_of resource_in past
 
 -- ---- where resources are
 

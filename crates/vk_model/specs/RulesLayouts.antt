@@ -89,12 +89,12 @@ abbrev pub is_allowed : Bool → ℕ → Bool
 is_allowed written l = l == 1 || l == (if written then 7 else 6)
 
 -- Whether some subresource of a range stands in another layout.
-abbrev pub stands_otherwise : World → ℕ → SubresourceRange → ℕ → Bool
-stands_otherwise w i r l = list_any (λ k. list_any (λ m. not (w.layout i (r.first_level + k) (r.first_layer + m) == l)) (below r.layers)) (below r.levels)
+abbrev pub has_other_layout : World → ℕ → SubresourceRange → ℕ → Bool
+has_other_layout w i r l = list_any (λ k. list_any (λ m. not (w.layout i (r.first_level + k) (r.first_layer + m) == l)) (below r.layers)) (below r.levels)
 
 -- Whether a layout isn't allowed for its use or isn't current.
 abbrev pub bad_named : World → Named → Bool
-bad_named w x = not (is_allowed x.written x.layout) || stands_otherwise w x.image x.range x.layout
+bad_named w x = not (is_allowed x.written x.layout) || has_other_layout w x.image x.range x.layout
 
 -- Whether a number is a layout of the profile (Vulkan, "Image Layouts").
 abbrev pub is_layout : ℕ → Bool
@@ -117,7 +117,7 @@ breaks_layout past p = on_command (bad_layout (world past)) p
 
 -- A transition whose old layout is neither UNDEFINED nor current; that of an ownership transfer is tested at its release (Vulkan, "Image Memory Barriers"; at the release alone: profile).
 abbrev pub bad_old_layout : World → ℕ → Element → Bool
-bad_old_layout w q (element.Image e) = is_transition e && not (is_acquire q (element.Image e)) && not (e.old_layout == 0) && stands_otherwise w e.image e.range e.old_layout
+bad_old_layout w q (element.Image e) = is_transition e && not (is_acquire q (element.Image e)) && not (e.old_layout == 0) && has_other_layout w e.image e.range e.old_layout
 bad_old_layout w q _ = false
 
 -- OLD_LAYOUT: a transition from a layout in which the subresources don't stand (Vulkan, "Image Memory Barriers").

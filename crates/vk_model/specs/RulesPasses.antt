@@ -10,7 +10,7 @@ use Rattle.vk_model.specs.declared.resource.Place.{Place}
 use Rattle.vk_model.specs.declared.resource.Place.TheVariants as place
 use Rattle.vk_model.specs.Basics.{holds}
 use Rattle.vk_model.specs.Point.{Past, Point, entries, on_host}
-use Rattle.vk_model.specs.Objects.{pool, live, standing, resource_in, defrag_in, pool_of}
+use Rattle.vk_model.specs.Objects.{pool, live, live_of, resource_in, defrag_in, pool_of}
 use Rattle.vk_model.specs.World.{resource_at}
 use Rattle.vk_model.specs.Node.{acts}
 use Rattle.vk_model.specs.Access.{writes_of}
@@ -63,7 +63,7 @@ in_pass past d = nat_lt (count_of past d finishes) (count_of past d begins)
 
 -- The defragmentations that have begun and not ended.
 abbrev pub defrags : Past → List ℕ
-defrags past = standing defrag_in past
+defrags past = live_of defrag_in past
 
 -- The pool of a defragmentation that hasn't ended (VMA, "Defragmentation").
 abbrev pub pool_of_defrag : Past → ℕ → Option ℕ

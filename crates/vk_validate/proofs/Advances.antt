@@ -9,13 +9,13 @@ use Rattle.vk_model.specs.Node.{Node, Hosts, Runs, nodes}
 use Rattle.vk_model.specs.Edge.{edge, is_host, is_signal, is_command, by_semaphore, earlier, signaled_by, host_waits}
 use Rattle.vk_model.specs.Before.{IsNumbered}
 use Rattle.vk_validate.specs.Cleared.{IsCleared}
-use Rattle.vk_validate.specs.Standing.{joined, Signaled, after_waits, awaited, after_wait}
+use Rattle.vk_validate.specs.OrderState.{joined, Signaled, after_waits, awaited, after_wait}
 use Rattle.vk_validate.specs.declared.clocks.Clock.{Clock}
 use Rattle.vk_validate.specs.declared.clocks.Order.{Order}
 use Rattle.vk_validate.proofs.Acts.{is_supported_act}
 use Rattle.vk_validate.proofs.Truths.{no, clash}
 use Rattle.vk_validate.proofs.Growth.{number_below, numbered}
-use Rattle.vk_validate.proofs.Available.{Available, Visible, Via, VisibleVia, leads_to_transfers, leads_to_writes, leads_to_host, leads_to_reads, available_stands, visible_stands, via_splits, via_stays, via_new, visible_splits, visible_via_stays}
+use Rattle.vk_validate.proofs.Available.{Available, Visible, Via, VisibleVia, leads_to_transfers, leads_to_writes, leads_to_host, leads_to_reads, available_present, visible_present, via_splits, via_stays, via_new, visible_splits, visible_via_stays}
 use Rattle.vk_validate.proofs.Causes.{into_host, into_command}
 use Rattle.vk_validate.proofs.Waits.{IsRising, AnyLinked, waits_join, linked_by, edge_of}
 use Rattle.vk_validate.proofs.Clocked.{Means, reads_signal, semaphore_edge, all_below, available_from, available_by, visible_from, visible_through, keeps, keeps_visible, keeps_commands}
@@ -70,7 +70,7 @@ module _ (past : Past) (cleared : IsCleared past) (simple : (m : Node) → Conta
   available_to : Available (n ∷ nodes past) w n → Via (nodes past) w is_host ⊎ LinkedAvailable
   available_to f = elim (available_from n (nodes past) refl (numbered past) w j f) [
     | inl sent ↦ no sent.1
-    | inr m ↦ (let c = available_stands (nodes past) w m.0 m.1 in elim (into_host (nodes past) m.0 (length (nodes past)) p x (simple m.0 c) m.2) [
+    | inr m ↦ (let c = available_present (nodes past) w m.0 m.1 in elim (into_host (nodes past) m.0 (length (nodes past)) p x (simple m.0 c) m.2) [
       | inl host ↦ inl (record { node = m.0; passes = host; made_available = m.1 })
       | inr sem ↦ inr (linked_by (nodes past) signals rising (Available (nodes past) w) (λ c. c.available) (λ c d u. u.0) (λ c d. refl) j forward_available backward_available past cleared refl ws (length (nodes past)) p x waits m.0 c m.1 (among_all m.0 sem))
     ])
@@ -83,11 +83,11 @@ module _ (past : Past) (cleared : IsCleared past) (simple : (m : Node) → Conta
 
   visible_to : Visible (n ∷ nodes past) w n → VisibleVia (nodes past) w is_host ⊎ LinkedVisible
   visible_to s = elim (visible_from n (nodes past) refl (numbered past) w j s) [
-    | inl q ↦ (let c = available_stands (nodes past) w q.0 q.1 in let none = reads_signal q.0.act q.2 in elim (into_host (nodes past) q.0 (length (nodes past)) p x (simple q.0 c) q.3) [
+    | inl q ↦ (let c = available_present (nodes past) w q.0 q.1 in let none = reads_signal q.0.act q.2 in elim (into_host (nodes past) q.0 (length (nodes past)) p x (simple q.0 c) q.3) [
       | inl host ↦ clash host none.0
       | inr sem ↦ no (sym (rw none.1 refl) ∙ sem)
     ])
-    | inr m ↦ (let c = visible_stands (nodes past) w m.0 m.1 in elim (into_host (nodes past) m.0 (length (nodes past)) p x (simple m.0 c) m.2) [
+    | inr m ↦ (let c = visible_present (nodes past) w m.0 m.1 in elim (into_host (nodes past) m.0 (length (nodes past)) p x (simple m.0 c) m.2) [
       | inl host ↦ inl (record { node = m.0; passes = host; made_visible = m.1 })
       | inr sem ↦ inr (linked_by (nodes past) signals rising (Visible (nodes past) w) (λ c. c.readable) (λ c d u. u.1) (λ c d. refl) j forward_visible backward_visible past cleared refl ws (length (nodes past)) p x waits m.0 c m.1 (among_all m.0 sem))
     ])
@@ -144,7 +144,7 @@ module _ (ns : List Node) (numbers : IsNumbered ns) (simple : (m : Node) → Con
           | inl old ↦ elim (means.commands old) [ inl t ↦ inl (via_stays n ns refl numbers w leads_to_transfers t) | inr h ↦ inr (via_stays n ns refl numbers w is_host h) ]
           | inr here ↦ elim (available_from n ns refl numbers w j here.1) [
             | inl sent ↦ no sent.1
-            | inr m ↦ elim (into_command ns m.0 (length ns) p c (simple m.0 (available_stands ns w m.0 m.1)) m.2) [
+            | inr m ↦ elim (into_command ns m.0 (length ns) p c (simple m.0 (available_present ns w m.0 m.1)) m.2) [
               | inl host ↦ inr (via_stays n ns refl numbers w is_host (record { node = m.0; passes = host; made_available = m.1 }))
               | inr leads ↦ inl (via_stays n ns refl numbers w leads_to_transfers (record { node = m.0; passes = leads; made_available = m.1 }))
             ]

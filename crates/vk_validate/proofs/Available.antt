@@ -7,7 +7,7 @@ use Rattle.vk_model.specs.Node.{Node, Act, Signals, Depends}
 use Rattle.vk_model.specs.Edge.{edge}
 use Rattle.vk_model.specs.Before.{IsNumbered}
 use Rattle.vk_model.specs.Seen.{Read, Write, command_mask, host_mask}
-use Rattle.vk_validate.specs.Standing.{on_transfers, on_host}
+use Rattle.vk_validate.specs.OrderState.{on_transfers, on_host}
 use Rattle.vk_validate.proofs.Members.{contains-cons, contains-tail}
 use Rattle.vk_validate.proofs.Growth.{number_below, edge-older}
 use Rattle.vk_validate.proofs.Paths.{edge_forward, in_rest}
@@ -46,13 +46,13 @@ pub data Visible (ns : List Node) (w : Node) : Node → Type 0 where
   Carried : {m n : Node} → Visible ns w m → Contains ns n → edge ns m n ≡ true → Visible ns w n
 
 -- where a write is available or shown stands among the nodes
-pub available_stands : (ns : List Node) (w n : Node) → Available ns w n → Contains ns n
-available_stands ns w n (MadeHere c e f) = c
-available_stands ns w n (Passed f c e) = c
+pub available_present : (ns : List Node) (w n : Node) → Available ns w n → Contains ns n
+available_present ns w n (MadeHere c e f) = c
+available_present ns w n (Passed f c e) = c
 
-pub visible_stands : (ns : List Node) (w n : Node) → Visible ns w n → Contains ns n
-visible_stands ns w n (Begun f l c e) = c
-visible_stands ns w n (Carried s c e) = c
+pub visible_present : (ns : List Node) (w n : Node) → Visible ns w n → Contains ns n
+visible_present ns w n (Begun f l c e) = c
+visible_present ns w n (Carried s c e) = c
 
 -- and comes after the command
 pub available_later : (ns : List Node) (w n : Node) → Available ns w n → w.number < n.number
@@ -113,7 +113,7 @@ module _ (n : Node) (ns : List Node) (new : n.number ≡ length ns) (numbers : I
 
   -- the nodes when which the write is available are the older ones, and perhaps the new one
   pub via_splits : (test : Act → Bool) → Via (n ∷ ns) w test → Via ns w test ⊎ ((test n.act ≡ true) × Available (n ∷ ns) w n)
-  via_splits test v = elim (contains-cons n ns v.node (available_stands (n ∷ ns) w v.node v.made_available)) [
+  via_splits test v = elim (contains-cons n ns v.node (available_present (n ∷ ns) w v.node v.made_available)) [
     | inl same ↦ inr (ap (λ (k : Node). test k.act) same ∙ v.passes, subst (λ (k : Node). Available (n ∷ ns) w k) (sym same) v.made_available)
     | inr older ↦ inl (record { node = v.node; passes = v.passes; made_available = available_was v.node v.made_available (number_below ns numbers v.node older) })
   ]
@@ -128,7 +128,7 @@ module _ (n : Node) (ns : List Node) (new : n.number ≡ length ns) (numbers : I
 
   -- the same of what is shown
   pub visible_splits : (test : Act → Bool) → VisibleVia (n ∷ ns) w test → VisibleVia ns w test ⊎ ((test n.act ≡ true) × Visible (n ∷ ns) w n)
-  visible_splits test v = elim (contains-cons n ns v.node (visible_stands (n ∷ ns) w v.node v.made_visible)) [
+  visible_splits test v = elim (contains-cons n ns v.node (visible_present (n ∷ ns) w v.node v.made_visible)) [
     | inl same ↦ inr (ap (λ (k : Node). test k.act) same ∙ v.passes, subst (λ (k : Node). Visible (n ∷ ns) w k) (sym same) v.made_visible)
     | inr older ↦ inl (record { node = v.node; passes = v.passes; made_visible = visible_was v.node v.made_visible (number_below ns numbers v.node older) })
   ]

@@ -91,9 +91,9 @@ initial_node (p ∷ past) cleared n s u c is = elim (with_member p (acts p.actio
     by_action (Signal t) at c = absurd (let h = hosts_only n.act is in let b = all_passes (λ a. not (is_host a)) (acts (Signal t)) n.act refl c in let bad : not (is_host (Hosts h.0)) ≡ true = ap (λ (a : Act). not (is_host a)) (sym h.1) ∙ b in cc)
 
 -- and the entry that made a semaphore has a node
-initial_stands : (past : Past) (s u : ℕ) → initial past s ≡ Some u → (n : Node) × Contains (nodes past) n × (initial_by s n.act ≡ Some u)
-initial_stands [] s u is = absurd cc
-initial_stands (p ∷ past) s u is = by_action (λ e. later (initial_stands past s u e)) p.action refl is where
+initial_present : (past : Past) (s u : ℕ) → initial past s ≡ Some u → (n : Node) × Contains (nodes past) n × (initial_by s n.act ≡ Some u)
+initial_present [] s u is = absurd cc
+initial_present (p ∷ past) s u is = by_action (λ e. later (initial_present past s u e)) p.action refl is where
   later : ((n : Node) × Contains (nodes past) n × (initial_by s n.act ≡ Some u)) → (n : Node) × Contains (nodes (p ∷ past)) n × (initial_by s n.act ≡ Some u)
   later found = (found.0, with_keeps p (acts p.action) (nodes past) found.0 found.1, found.2)
 
@@ -128,7 +128,7 @@ pub enough_is : (past : Past) → IsCleared past → (s v : ℕ) → is_enough (
 enough_is past cleared s v = go (holds (initial past s) (nat_le v)) refl where
   found : (o : Option ℕ) → initial past s ≡ o → holds o (nat_le v) ≡ true → is_enough (nodes past) s v ≡ true
   found None is e = absurd cc
-  found (Some u) is e = let n = initial_stands past s u is in member_passes (λ n. holds (initial_by s n.act) (nat_le v)) (nodes past) n.0 n.1 (rw n.2 e)
+  found (Some u) is e = let n = initial_present past s u is in member_passes (λ n. holds (initial_by s n.act) (nat_le v)) (nodes past) n.0 n.1 (rw n.2 e)
 
   none : (t : Bool) → is_enough (nodes past) s v ≡ t → holds (initial past s) (nat_le v) ≡ false → t ≡ false
   none false is e = refl

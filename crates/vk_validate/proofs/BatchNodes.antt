@@ -16,7 +16,7 @@ use Rattle.vk_model.specs.Edge.{edge, meet, is_host, is_signal, is_command, is_e
 use Rattle.vk_model.specs.Before.{IsNumbered}
 use Rattle.vk_model.specs.Seen.{Write, command_mask}
 use Rattle.vk_validate.specs.Supported.{is_memory}
-use Rattle.vk_validate.specs.Standing.{on_transfers, on_host, counted, available_at, with_dependency, after_elements, signal_at, joined}
+use Rattle.vk_validate.specs.OrderState.{on_transfers, on_host, counted, available_at, with_dependency, after_elements, signal_at, joined}
 use Rattle.vk_validate.specs.declared.clocks.Clock.{Clock}
 use Rattle.vk_validate.specs.declared.clocks.Order.{Order}
 use Rattle.vk_validate.proofs.Acts.{is_supported_act}
@@ -24,7 +24,7 @@ use Rattle.vk_validate.proofs.Members.{contains-cons, contains-tail}
 use Rattle.vk_validate.proofs.Truths.{no, clash}
 use Rattle.vk_validate.proofs.Growth.{number_below}
 use Rattle.vk_validate.proofs.Ordered.{Submitted, host_edge, hosts_follow, submit_hosts, submit_leads, signal_hosts}
-use Rattle.vk_validate.proofs.Available.{Available, Visible, Via, leads_to_transfers, leads_to_writes, leads_to_host, leads_to_reads, available_stands, visible_via, available_stays, available_was, visible_splits, visible_via_stays, Passed}
+use Rattle.vk_validate.proofs.Available.{Available, Visible, Via, leads_to_transfers, leads_to_writes, leads_to_host, leads_to_reads, available_present, visible_via, available_stays, available_was, visible_splits, visible_via_stays, Passed}
 use Rattle.vk_validate.proofs.Causes.{meets, meet_transfers, meet_host, into_element, into_signal, IntoElement, FromHost, FromCommand, FromTransfers, FromElement, IntoSignal, FromHosts, FromSignal, FromToHost}
 use Rattle.vk_validate.proofs.Waits.{max_iff}
 use Rattle.vk_validate.proofs.Clocked.{Means, command_signals, command_hosts, command_leads, reads_to_host, stage_edge, order_edge, available_from, available_by, available_sent, visible_from, visible_begins, keeps, keeps_visible, joins, keeps_commands}
@@ -78,12 +78,12 @@ same_itself p = rw (eq-eqb p.entry p.entry refl, eq-eqb p.batch p.batch refl, eq
 -- ---- a batch's node, after what it is submitted with
 
 module _ (base : List Node) (numbers : IsNumbered base) (simple : (m : Node) → Contains base m → is_supported_act m.act ≡ true) (on_0 : (m : Node) → Contains base m → is_host m.act ≡ false → m.point.queue ≡ 0)
-    (p : Point) (queue : p.queue ≡ 0) (submitted : Submitted p.entry base) (w : Node) (j point : ℕ) (stands : Contains base w) (command : is_command w.act ≡ true) (lt : j < point) (o : Order) (means : Means o base w j) where
+    (p : Point) (queue : p.queue ≡ 0) (submitted : Submitted p.entry base) (w : Node) (j point : ℕ) (present : Contains base w) (command : is_command w.act ≡ true) (lt : j < point) (o : Order) (means : Means o base w j) where
   -- what has come to some host entry has come to the submit
   fed : Via base w is_host → Available base w submitted.node
-  fed v = elim (submitted.newest v.node (available_stands base w v.node v.made_available) v.passes) [
+  fed v = elim (submitted.newest v.node (available_present base w v.node v.made_available) v.passes) [
     | inl same ↦ subst (λ (m : Node). Available base w m) same v.made_available
-    | inr less ↦ Passed v.made_available submitted.stands (host_edge base v.node submitted.node less (hosts_follow v.node submitted.node v.passes (submit_hosts submitted.node.act submitted.submits)))
+    | inr less ↦ Passed v.made_available submitted.present (host_edge base v.node submitted.node less (hosts_follow v.node submitted.node v.passes (submit_hosts submitted.node.act submitted.submits)))
   ]
 
   -- ---- an element of a barrier
@@ -138,8 +138,8 @@ module _ (base : List Node) (numbers : IsNumbered base) (simple : (m : Node) →
     -- where the write comes from
     to : Available (n ∷ ns) w n → j < available_at o d point
     to f = elim (available_from n ns refl amid.numbering w j f) [
-      | inl sent ↦ makes_writes_available (into_element ns w (length ns) p (element.Memory d) (amid.forms w (amid.grows w stands)) sent.0) sent.1
-      | inr m ↦ (let c = available_stands ns w m.0 m.1 in passes m.0 m.1 (amid.split m.0 c) (into_element ns m.0 (length ns) p (element.Memory d) (amid.forms m.0 c) m.2))
+      | inl sent ↦ makes_writes_available (into_element ns w (length ns) p (element.Memory d) (amid.forms w (amid.grows w present)) sent.0) sent.1
+      | inr m ↦ (let c = available_present ns w m.0 m.1 in passes m.0 m.1 (amid.split m.0 c) (into_element ns m.0 (length ns) p (element.Memory d) (amid.forms m.0 c) m.2))
     ] where
       makes_writes_available : IntoElement w p source → has_some d.source_accesses.0 (command_mask Write) ≡ true → j < available_at o d point
       makes_writes_available (FromHost h) a = clash h (command_hosts w.act command)
@@ -171,7 +171,7 @@ module _ (base : List Node) (numbers : IsNumbered base) (simple : (m : Node) →
 
     from_transfers : on_transfers source ≡ true → Via base w leads_to_transfers → Available (n ∷ ns) w n
     from_transfers t v =
-        let c = available_stands base w v.node v.made_available in
+        let c = available_present base w v.node v.made_available in
         let is = leads_element v.node.act (inl v.passes) in
         let e = scope_of v.node c is in
         let leads : on_transfers (dependency_of e.0).destination_stages.0 ≡ true = sym (ap leads_to_transfers e.1) ∙ v.passes in
@@ -179,7 +179,7 @@ module _ (base : List Node) (numbers : IsNumbered base) (simple : (m : Node) →
 
     from_host_stage : on_host source ≡ true → Via base w leads_to_host → Available (n ∷ ns) w n
     from_host_stage h v =
-        let c = available_stands base w v.node v.made_available in
+        let c = available_present base w v.node v.made_available in
         let is = leads_element v.node.act (inr v.passes) in
         let e = scope_of v.node c is in
         let leads : on_host (dependency_of e.0).destination_stages.0 ≡ true = sym (ap leads_to_host e.1) ∙ v.passes in
@@ -188,13 +188,13 @@ module _ (base : List Node) (numbers : IsNumbered base) (simple : (m : Node) →
     from_hosts : Via base w is_host → Available (n ∷ ns) w n
     from_hosts v =
         let s = submitted in
-        from_base s.node s.stands (fed v) (host_edge ns s.node n (low s.node (amid.grows s.node s.stands)) (submit_leads s.node n s.submits s.entry_is))
+        from_base s.node s.present (fed v) (host_edge ns s.node n (low s.node (amid.grows s.node s.present)) (submit_leads s.node n s.submits s.entry_is))
 
     from_command : on_transfers source ≡ true → has_some d.source_accesses.0 (command_mask Write) ≡ true → Available (n ∷ ns) w n
     from_command t a =
         let scope = command_scope w.act command in
         let host = command_hosts w.act command in
-        available_sent n ns refl amid.numbering w j (stage_edge ns w n (low w (amid.grows w stands)) (queue_stages w n transfer_stage source host refl (on_0 w stands host ∙ sym queue) (rw scope.1 refl) (and-false _) scope.0 refl (meet_transfers transfer_stage source refl t))) a
+        available_sent n ns refl amid.numbering w j (stage_edge ns w n (low w (amid.grows w present)) (queue_stages w n transfer_stage source host refl (on_0 w present host ∙ sym queue) (rw scope.1 refl) (and-false _) scope.0 refl (meet_transfers transfer_stage source refl t))) a
 
     from : j < available_at o d point → Available (n ∷ ns) w n
     from lt = by_stages_of (on_transfers source) refl (has_some d.source_accesses.0 (command_mask Write)) refl (on_host source) refl lt where
@@ -262,7 +262,7 @@ module _ (base : List Node) (numbers : IsNumbered base) (simple : (m : Node) →
     after_hosts : Via base w is_host → Available (signal ∷ base) w signal
     after_hosts v =
         let t = submitted in
-        signal_after t.node (fed v) (host_edge base t.node signal (below_signal t.node t.stands) (submit_leads t.node signal t.submits t.entry_is))
+        signal_after t.node (fed v) (host_edge base t.node signal (below_signal t.node t.present) (submit_leads t.node signal t.submits t.entry_is))
 
     after_host_stage : (m : Node) → Contains base m → leads_to_host m.act ≡ true → edge base m signal ≡ true
     after_host_stage m c l =
@@ -278,13 +278,13 @@ module _ (base : List Node) (numbers : IsNumbered base) (simple : (m : Node) →
     after_commands t =
         let scope = command_scope w.act command in
         let host = command_hosts w.act command in
-        available_sent signal base refl numbers w j (stage_edge base w signal (below_signal w stands) (queue_stages w signal transfer_stage s.stages.0 host refl (on_0 w stands host ∙ sym queue) (rw scope.1 refl) (and-false _) scope.0 refl (meet_transfers transfer_stage s.stages.0 refl t))) refl
+        available_sent signal base refl numbers w j (stage_edge base w signal (below_signal w present) (queue_stages w signal transfer_stage s.stages.0 host refl (on_0 w present host ∙ sym queue) (rw scope.1 refl) (and-false _) scope.0 refl (meet_transfers transfer_stage s.stages.0 refl t))) refl
 
     -- with the transfers a signal covers all commands, and otherwise what leads to the host
     uncovered : on_transfers s.stages.0 ≡ false → Available (signal ∷ base) w signal → (Via base w leads_to_host ⊎ Via base w is_signal) ⊎ Via base w is_host
     uncovered none f = elim (available_from signal base refl numbers w j f) [
-      | inl sent ↦ makes_writes_available (into_signal base w (length base) p s (simple w stands) none sent.0)
-      | inr m ↦ passes m.0 m.1 (into_signal base m.0 (length base) p s (simple m.0 (available_stands base w m.0 m.1)) none m.2)
+      | inl sent ↦ makes_writes_available (into_signal base w (length base) p s (simple w present) none sent.0)
+      | inr m ↦ passes m.0 m.1 (into_signal base m.0 (length base) p s (simple m.0 (available_present base w m.0 m.1)) none m.2)
     ] where
       makes_writes_available : {A : Type 0} → IntoSignal w → A
       makes_writes_available (FromHosts h) = clash h (command_hosts w.act command)
@@ -298,8 +298,8 @@ module _ (base : List Node) (numbers : IsNumbered base) (simple : (m : Node) →
 
     covering : (Via base w leads_to_host ⊎ Via base w is_signal) ⊎ Via base w is_host → Available (signal ∷ base) w signal
     covering (inr v) = after_hosts v
-    covering (inl (inl v)) = signal_after v.node v.made_available (after_host_stage v.node (available_stands base w v.node v.made_available) v.passes)
-    covering (inl (inr v)) = signal_after v.node v.made_available (after_signals v.node (available_stands base w v.node v.made_available) v.passes)
+    covering (inl (inl v)) = signal_after v.node v.made_available (after_host_stage v.node (available_present base w v.node v.made_available) v.passes)
+    covering (inl (inr v)) = signal_after v.node v.made_available (after_signals v.node (available_present base w v.node v.made_available) v.passes)
 
     -- a write is available at a signal just where its clock counts it
     pub signal_available : Available (signal ∷ base) w signal ↔ (j < clock.available)
@@ -319,7 +319,7 @@ module _ (base : List Node) (numbers : IsNumbered base) (simple : (m : Node) →
           let low = means.host_reads.0 v in omega (arith, low)
 
       begins : Via base w leads_to_reads → Visible (signal ∷ base) w signal
-      begins v = visible_begins signal base refl numbers w j v.node v.made_available v.passes (after_host_stage v.node (available_stands base w v.node v.made_available) (reads_to_host v.node.act v.passes))
+      begins v = visible_begins signal base refl numbers w j v.node v.made_available v.passes (after_host_stage v.node (available_present base w v.node v.made_available) (reads_to_host v.node.act v.passes))
 
       from_number : j < clock.readable → Visible (signal ∷ base) w signal
       from_number more = elim (cases_lt j o.to_host_reads) [

@@ -25,7 +25,7 @@ use Rattle.vk_validate.proofs.Acts.{with_member, supported_node, is_supported_ac
 use Rattle.vk_validate.proofs.Hazards.{writes_none, fill-targets}
 use Rattle.vk_validate.proofs.Spans.{one_of, some_of}
 use Rattle.vk_validate.proofs.Reach.{supported_of, fills_low, kept_size}
-use Rattle.vk_validate.proofs.Stands.{IsCommandAt, command_stands}
+use Rattle.vk_validate.proofs.OrderMatches.{IsCommandAt, command_present}
 
 -- ---- bytes of a range
 
@@ -100,9 +100,9 @@ abbrev pub fill_node : Past → Point → Cmd → Node
 fill_node before q c = record { number = length (nodes before); point = q; act = Runs c }
 
 -- the fill of a point has a node
-pub fill_stands : (past before : Past) (q : Point) (b o : ℕ) (n : Length) (w : ℕ) → Comes past before q → q.action ≡ Run (cmd.Fill b o n w) → IsCommandAt past (fill_node before q (cmd.Fill b o n w)) (length before)
-fill_stands past before q b o n w newest is = inl (record { command = cmd.Fill b o n w; runs = is; alone = refl; node_is = refl; count = refl })
-fill_stands past before q b o n w (older {past = rest} c) is = inr (fill_stands rest before q b o n w c is)
+pub fill_present : (past before : Past) (q : Point) (b o : ℕ) (n : Length) (w : ℕ) → Comes past before q → q.action ≡ Run (cmd.Fill b o n w) → IsCommandAt past (fill_node before q (cmd.Fill b o n w)) (length before)
+fill_present past before q b o n w newest is = inl (record { command = cmd.Fill b o n w; runs = is; alone = refl; node_is = refl; count = refl })
+fill_present past before q b o n w (older {past = rest} c) is = inr (fill_present rest before q b o n w c is)
 
 -- and each node of a fill is of a point
 pub record IsFillNode (past : Past) (x : Node) (c : Cmd) : Type 0 where
@@ -215,7 +215,7 @@ module _ (past : Past) (cleared : IsCleared past) (pt : Point) (same_size : (c :
   -- the node of the last writer
   pub record IsLastNode (b k m : ℕ) : Type 0 where
     pub node : Node
-    pub stands_in : Contains (nodes past) node
+    pub present_in : Contains (nodes past) node
     pub command : Cmd
     pub runs_it : node.act ≡ Runs command
     pub at : IsCommandAt past node m
@@ -227,13 +227,13 @@ module _ (past : Past) (cleared : IsCleared past) (pt : Point) (same_size : (c :
       let fill = fill_of from.1.action from.0 b k from.4 in
       let c : Cmd = cmd.Fill b fill.offset fill.size fill.word in
       let x : Node = fill_node from.0 from.1 c in
-      let at : IsCommandAt past x (length from.0) = fill_stands past from.0 from.1 b fill.offset fill.size fill.word from.2 fill.is in
+      let at : IsCommandAt past x (length from.0) = fill_present past from.0 from.1 b fill.offset fill.size fill.word from.2 fill.is in
       let size_is : buffer_size past b ≡ buffer_size from.0 b = kept_size past from.0 from.1 b fill.offset fill.size fill.word cleared from.2 fill.is in
       let parts = and_parts (nat_le fill.offset k) (nat_lt k (fill.offset + fill_size (buffer_size from.0 b) fill.offset fill.size)) fill.inside in
       let high : k < fill.offset + fill_size (buffer_size from.0 b) fill.offset fill.size = ltb-true k (fill.offset + fill_size (buffer_size from.0 b) fill.offset fill.size) parts.1 in
       record {
         node = x;
-        stands_in = (command_stands past x (length from.0) at).0;
+        present_in = (command_present past x (length from.0) at).0;
         command = c;
         runs_it = refl;
         at = subst (λ (j : ℕ). IsCommandAt past x j) (sym from.3) at;

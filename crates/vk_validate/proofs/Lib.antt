@@ -24,8 +24,8 @@ pub mod Places
 pub mod Clocked
 pub mod Advances
 pub mod BatchNodes
-pub mod Stands
-pub mod StandsOn
+pub mod OrderMatches
+pub mod OrderMatchesOn
 pub mod Visibility
 pub mod FillWriters
 pub mod Unseen

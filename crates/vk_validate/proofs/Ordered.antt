@@ -87,7 +87,7 @@ no_signal_order past p supported now plain = rw (next_nodes-lined past p) (by_ac
 -- the submit of a batch stands among the nodes, and no host entry came after it
 pub record Submitted (e : ℕ) (ns : List Node) : Type 0 where
   pub node : Node
-  pub stands : Contains ns node
+  pub present : Contains ns node
   pub submits : is_submit node.act ≡ true
   pub entry_is : node.point.entry ≡ e
   pub newest : (x : Node) → Contains ns x → is_host x.act ≡ true → (x ≡ node) ⊎ (x.number < node.number)
@@ -103,7 +103,7 @@ submitted e q (p ∷ past) supported last = let s = supported-cons p past suppor
   later : (d : Action) → is_supported_action d ≡ true → host_of d ≡ None → Submitted e (nodes past) → Submitted e (with_acts p (acts d) (nodes past))
   later d h is found = record {
     node = found.node;
-    stands = with_keeps p (acts d) (nodes past) found.node found.stands;
+    present = with_keeps p (acts d) (nodes past) found.node found.present;
     submits = found.submits;
     entry_is = found.entry_is;
     newest = λ x c host. elim (with_member p (acts d) (nodes past) x c) [
@@ -115,7 +115,7 @@ submitted e q (p ∷ past) supported last = let s = supported-cons p past suppor
   go : (d : Action) → is_supported_action d ≡ true → LastBy (host_of d) e q p (LastSubmit e q past) → (LastSubmit e q past → Submitted e (nodes past)) → Submitted e (with_acts p (acts d) (nodes past))
   go (Host x) h last rest = record {
     node = record { number = length (nodes past); point = p; act = Hosts x };
-    stands = contains-head _ _;
+    present = contains-head _ _;
     submits = submit_is q x last.1;
     entry_is = last.0;
     newest = λ y c host. elim (contains-cons (record { number = length (nodes past); point = p; act = Hosts x }) (nodes past) y c) [
@@ -153,9 +153,9 @@ host_before past p y supported last at here cy x cx host =
     let s = submitted p.entry p.queue past supported last in
     let ns : List Node = nodes (p ∷ past) in
     let kept : (n : Node) → Contains (nodes past) n → Contains ns n = with_keeps p (acts p.action) (nodes past) in
-    let low : s.node.number < length (nodes past) = number_below (nodes past) (numbered past) s.node s.stands in
-    let on : Path ns s.node y = direct (kept s.node s.stands) cy (host_edge ns s.node y (omega arith) (submit_leads s.node y s.submits (s.entry_is ∙ ap (λ (q : Point). q.entry) (sym at)))) in
+    let low : s.node.number < length (nodes past) = number_below (nodes past) (numbered past) s.node s.present in
+    let on : Path ns s.node y = direct (kept s.node s.present) cy (host_edge ns s.node y (omega arith) (submit_leads s.node y s.submits (s.entry_is ∙ ap (λ (q : Point). q.entry) (sym at)))) in
     before_of_path ns (numbered (p ∷ past)) x y (kept x cx) cy (elim (s.newest x cx host) [
       | inl same ↦ subst (λ (n : Node). Path ns n y) (sym same) on
-      | inr less ↦ path_joined ns x s.node y (direct (kept x cx) (kept s.node s.stands) (host_edge ns x s.node less (hosts_follow x s.node host (submit_hosts s.node.act s.submits)))) on
+      | inr less ↦ path_joined ns x s.node y (direct (kept x cx) (kept s.node s.present) (host_edge ns x s.node less (hosts_follow x s.node host (submit_hosts s.node.act s.submits)))) on
     ])

@@ -119,9 +119,9 @@ fills_low past before q b o n w k cleared comes is h =
 
 -- what was made stays as it was made
 pub kept_made : (past : Past) (p : Point) (i : ℕ) → IsClear past p → is_some (made past i) ≡ true → made (p ∷ past) i ≡ made past i
-kept_made past p i clear stands = go (host_of p.action) (new_id past p clear) where
+kept_made past p i clear present = go (host_of p.action) (new_id past p clear) where
   other : (j : ℕ) → is_some (made past j) ≡ false → (t : Bool) → (i == j) ≡ t → t ≡ false
-  other j fresh true e = let same : i ≡ j = eqb-true i j e in absurd (let stood : is_some (made past j) ≡ true = subst (λ (k : ℕ). is_some (made past k) ≡ true) same stands in cc)
+  other j fresh true e = let same : i ≡ j = eqb-true i j e in absurd (let stood : is_some (made past j) ≡ true = subst (λ (k : ℕ). is_some (made past k) ≡ true) same present in cc)
   other j fresh false e = refl
 
   by_made : (x : Entry) (o : Option ℕ) → holds o (λ j. is_some (made past j)) ≡ false → cond (holds o (λ j. i == j)) (Some x) (made past i) ≡ made past i
@@ -133,10 +133,10 @@ kept_made past p i clear stands = go (host_of p.action) (new_id past p clear) wh
   go (Some x) e = by_made x (made_by x) e
 
 kept_since : (i : ℕ) (past before : Past) (q : Point) → IsCleared past → Comes past before q → is_some (made before i) ≡ true → made past i ≡ made before i
-kept_since i past before q cleared newest stands = kept_made before q i cleared.0 stands
-kept_since i past before q cleared (older {past = rest} {q = p} comes) stands =
-    let same : made rest i ≡ made before i = kept_since i rest before q cleared.1 comes stands in
-    kept_made rest p i cleared.0 (rw same stands) ∙ same
+kept_since i past before q cleared newest present = kept_made before q i cleared.0 present
+kept_since i past before q cleared (older {past = rest} {q = p} comes) present =
+    let same : made rest i ≡ made before i = kept_since i rest before q cleared.1 comes present in
+    kept_made rest p i cleared.0 (rw same present) ∙ same
 
 -- a buffer that a fill names keeps its size from then on
 pub kept_size : (past before : Past) (q : Point) (b o : ℕ) (n : Length) (w : ℕ) → IsCleared past → Comes past before q → q.action ≡ Run (cmd.Fill b o n w) → buffer_size past b ≡ buffer_size before b

@@ -67,7 +67,7 @@ within_yes o n k low high = rw (le-leb o k low, lt-ltb k (o + n) high) refl
 -- a fill makes itself the last writer of its bytes
 pub writers_next : (old new : ℕ → Option LastWriters) (p : spec.Point) (past : spec.Past) (b first last n : ℕ) → WritersAre old past → IsFillOf past p.action b first last → n ≡ length past
     → IsSome (new b) → IfSome (new b) (λ w. IsAssigned (old b) w first last n) → ((other : ℕ) → other ≢ b → new other ≡ old other) → WritersAre new (p ∷ past)
-writers_next old new p past b first last n are fill here stands assigned others = λ c k lt. by_buffer c k lt (b == c) refl where
+writers_next old new p past b first last n are fill here present assigned others = λ c k lt. by_buffer c k lt (b == c) refl where
   size : ℕ
   size = fill_size (buffer_size past b) fill.offset fill.size
 
@@ -85,7 +85,7 @@ writers_next old new p past b first last n are fill here stands assigned others 
   by_buffer : (c k : ℕ) → k < 2 ^ 64 → (t : Bool) → (b == c) ≡ t → WasLast (new c) k (last_writer (p ∷ past) c k)
   by_buffer c k lt true e =
       let same : b ≡ c = eqb-true b c e in
-      rw (fill.is, e) (subst (λ (x : ℕ). WasLast (new x) k (if within fill.offset size k && nat_lt k (2 ^ 64) then Some (length past) else last_writer past x k)) same (found k lt (new b) stands assigned))
+      rw (fill.is, e) (subst (λ (x : ℕ). WasLast (new x) k (if within fill.offset size k && nat_lt k (2 ^ 64) then Some (length past) else last_writer past x k)) same (found k lt (new b) present assigned))
   by_buffer c k lt false e =
       let apart : b ≢ c = eqb-false b c e in
       rw (fill.is, e) (subst (λ (o : Option LastWriters). WasLast o k (last_writer past c k)) (sym (others c (λ same. apart (sym same)))) (are c k lt))

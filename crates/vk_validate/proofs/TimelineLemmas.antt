@@ -5,7 +5,7 @@ use Rattle.std.proofs.lemmas.Bool.{le-leb, lt-leb, lt-ltb, le-ltb, eqb-true, eqb
 use Rattle.vk_model.specs.Basics.{holds}
 use Rattle.vk_validate.specs.declared.clocks.Clock.{Clock}
 use Rattle.vk_validate.specs.declared.timelines.Timeline.{Timeline}
-use Rattle.vk_validate.specs.Standing.{Signaled, least_signal}
+use Rattle.vk_validate.specs.OrderState.{Signaled, least_signal}
 use Rattle.vk_validate.specs.Tabled.{IsLeast, TimelinesAre}
 use Rattle.vk_validate.specs.Signals.{IsSignaled, clock_of}
 
@@ -54,7 +54,7 @@ module _ (old new : ℕ → Option Clock) (x : Signaled) (here : new x.value ≡
 -- the newest signal is put into the timeline of its semaphore
 pub timelines_next : (old new : ℕ → Option Timeline) (signals : List Signaled) (x : Signaled) → TimelinesAre old signals
     → IsSome (new x.semaphore) → IfSome (new x.semaphore) (λ t. IsSignaled (old x.semaphore) t x.value x.clock) → ((other : ℕ) → other ≢ x.semaphore → new other ≡ old other) → TimelinesAre new (x ∷ signals)
-timelines_next old new signals x are stands signaled others = λ s v. by_semaphore s v (x.semaphore == s) refl where
+timelines_next old new signals x are present signaled others = λ s v. by_semaphore s v (x.semaphore == s) refl where
   of_timeline : (o : Option Timeline) → IsSome o → IfSome o (λ t. IsSignaled (old x.semaphore) t x.value x.clock) → (v : ℕ)
       → IsLeast o v (if nat_le v x.value && not (holds (least_signal signals x.semaphore v) (λ y. nat_lt y.value x.value)) then Some x else least_signal signals x.semaphore v)
   of_timeline None some is v = absurd cc
@@ -63,7 +63,7 @@ timelines_next old new signals x are stands signaled others = λ s v. by_semapho
   by_semaphore : (s v : ℕ) → (t : Bool) → (x.semaphore == s) ≡ t → IsLeast (new s) v (least_signal (x ∷ signals) s v)
   by_semaphore s v true e =
       let same : x.semaphore ≡ s = eqb-true x.semaphore s e in
-      rw e (subst (λ (n : ℕ). IsLeast (new n) v (if nat_le v x.value && not (holds (least_signal signals n v) (λ y. nat_lt y.value x.value)) then Some x else least_signal signals n v)) same (of_timeline (new x.semaphore) stands signaled v))
+      rw e (subst (λ (n : ℕ). IsLeast (new n) v (if nat_le v x.value && not (holds (least_signal signals n v) (λ y. nat_lt y.value x.value)) then Some x else least_signal signals n v)) same (of_timeline (new x.semaphore) present signaled v))
   by_semaphore s v false e =
       let apart : x.semaphore ≢ s = eqb-false x.semaphore s e in
       rw (e, others s (λ same. apart (sym same))) (are s v)

@@ -22,7 +22,7 @@ use Rattle.vk_model.specs.Access.{raw, waw, reads, writes, is_seen, precedes, is
 use Rattle.vk_model.specs.RulesBytes.{breaks_hazard_raw, breaks_hazard_waw}
 use Rattle.vk_validate.specs.Cleared.{IsCleared}
 use Rattle.vk_validate.specs.Supported.{is_supported, is_supported_action}
-use Rattle.vk_validate.specs.Standing.{standing}
+use Rattle.vk_validate.specs.OrderState.{order_state}
 use Rattle.vk_validate.specs.Tabled.{last_writer}
 use Rattle.vk_validate.specs.Tests.{reads_unseen, overwrites_unseen}
 use Rattle.vk_validate.proofs.Members.{none_in, contains-cons, contains-head, contains-tail, all_passes, some_member, member_passes, any_map}
@@ -38,12 +38,12 @@ use Rattle.vk_validate.proofs.Hazards.{hazard_none, lined_act, reads_none, write
 use Rattle.vk_validate.proofs.Spans.{one_of, some_of}
 use Rattle.vk_validate.proofs.Places.{IsApart}
 use Rattle.vk_validate.proofs.Reach.{supported_of}
-use Rattle.vk_validate.proofs.Available.{Visible, Via, VisibleVia, leads_to_transfers, leads_to_writes, visible_stands}
+use Rattle.vk_validate.proofs.Available.{Visible, Via, VisibleVia, leads_to_transfers, leads_to_writes, visible_present}
 use Rattle.vk_validate.proofs.Causes.{meet_transfers}
 use Rattle.vk_validate.proofs.Clocked.{Means, stage_edge, visible_through}
 use Rattle.vk_validate.proofs.BatchNodes.{queue_stages, barrier_of, leads_element, element_hosts}
-use Rattle.vk_validate.proofs.Stands.{IsStanding, IsCommandAt, command_stands}
-use Rattle.vk_validate.proofs.StandsOn.{stands, after_host, after_fill}
+use Rattle.vk_validate.proofs.OrderMatches.{MatchesOrderState, IsCommandAt, command_present}
+use Rattle.vk_validate.proofs.OrderMatchesOn.{present, after_host, after_fill}
 use Rattle.vk_validate.proofs.Visibility.{uncached, seen_by_read, seen_by_write}
 use Rattle.vk_validate.proofs.FillWriters.{writer_of, last_node}
 
@@ -57,7 +57,7 @@ module _ (past : Past) (cleared : IsCleared past) (plain : IsPlain past) (apart 
   reader = record { number = length (nodes past); point = record p { action = Host (entry.Read b o n) }; act = Hosts (entry.Read b o n) }
 
   abbrev readable : ℕ
-  readable = (standing past).order.host.readable
+  readable = (order_state past).order.host.readable
 
   supported_now : is_supported (reading ∷ past) ≡ true
   supported_now = supported-next reading past refl (supported_of past cleared)
@@ -65,23 +65,23 @@ module _ (past : Past) (cleared : IsCleared past) (plain : IsPlain past) (apart 
   -- a read sees a write where it comes after the number of its point
   read_is_seen : (x : Node) (j : ℕ) (c : Cmd) (byte : Byte) → IsCommandAt past x j → x.act ≡ Runs c → (is_seen (reading ∷ past) x reader Read byte ≡ true) ↔ (j < readable)
   read_is_seen x j c byte at is = (λ e. now.visible_hosts.0 (record { node = reader; passes = refl; made_visible = seen_it.0 e }), λ lt. seen_it.1 (comes (then.visible_hosts.1 lt))) where
-    stood : IsStanding (standing past) past
-    stood = stands past cleared plain apart
+    stood : MatchesOrderState (order_state past) past
+    stood = present past cleared plain apart
 
-    then : Means (standing past).order (nodes past) x j
+    then : Means (order_state past).order (nodes past) x j
     then = stood.means x j at
 
-    now : Means (standing past).order (reader ∷ nodes past) x j
-    now = (after_host past cleared plain (standing past) stood p (entry.Read b o n) refl [] refl).means x j (inr at)
+    now : Means (order_state past).order (reader ∷ nodes past) x j
+    now = (after_host past cleared plain (order_state past) stood p (entry.Read b o n) refl [] refl).means x j (inr at)
 
     h : Contains (nodes past) x × (is_command x.act ≡ true) × (j < length past)
-    h = command_stands past x j at
+    h = command_present past x j at
 
     seen_it : (is_seen (reading ∷ past) x reader Read byte ≡ true) ↔ Visible (reader ∷ nodes past) x reader
     seen_it = seen_by_read past reading x (λ c. is_cached (reading ∷ past) (resource_at c)) byte h.1 (contains-tail reader (nodes past) x h.0) (supported_node (reading ∷ past) supported_now) reader (entry.Read b o n) refl (contains-head reader (nodes past)) (uncached (reading ∷ past) supported_now (resource_at byte)) c is
 
     comes : VisibleVia (nodes past) x is_host → Visible (reader ∷ nodes past) x reader
-    comes v = visible_through reader (nodes past) refl (numbered past) x j v.node v.made_visible (host_edge (nodes past) v.node reader (number_below (nodes past) (numbered past) v.node (visible_stands (nodes past) x v.node v.made_visible)) (hosts_follow v.node reader v.passes refl))
+    comes v = visible_through reader (nodes past) refl (numbered past) x j v.node v.made_visible (host_edge (nodes past) v.node reader (number_below (nodes past) (numbered past) v.node (visible_present (nodes past) x v.node v.made_visible)) (hosts_follow v.node reader v.passes refl))
 
   -- HAZARD_RAW of a read of the host
   pub raw_is : breaks_hazard_raw past reading ≡ reads_unseen past (Host (entry.Read b o n))
@@ -116,8 +116,8 @@ module _ (past : Past) (cleared : IsCleared past) (plain : IsPlain past) (apart 
           let hit : raw (reading ∷ past) w.node reader ≡ true =
           any_map (λ c. is_in c (writes (reading ∷ past) w.node) && not (is_seen (reading ∷ past) w.node reader Read c)) (λ k. in_buffer b (o + k)) (below n)
           ∙ one_of (λ k. is_in (in_buffer b (o + k)) (writes (reading ∷ past) w.node) && not (is_seen (reading ∷ past) w.node reader Read (in_buffer b (o + k)))) 0 n k low high (rw (w.writes_it, unseen) refl) in
-          let first : precedes w.node reader ≡ true = rw (lt-ltb w.node.number (length (nodes past)) (number_below (nodes past) (numbered past) w.node w.stands_in), ap is_host w.runs_it) refl in
-          or_left (list_any (λ x. precedes x reader && raw (reading ∷ past) x reader) (reader ∷ nodes past)) false (member_passes (λ x. precedes x reader && raw (reading ∷ past) x reader) (reader ∷ nodes past) w.node (contains-tail reader (nodes past) w.node w.stands_in) (rw (first, hit) refl))
+          let first : precedes w.node reader ≡ true = rw (lt-ltb w.node.number (length (nodes past)) (number_below (nodes past) (numbered past) w.node w.present_in), ap is_host w.runs_it) refl in
+          or_left (list_any (λ x. precedes x reader && raw (reading ∷ past) x reader) (reader ∷ nodes past)) false (member_passes (λ x. precedes x reader && raw (reading ∷ past) x reader) (reader ∷ nodes past) w.node (contains-tail reader (nodes past) w.node w.present_in) (rw (first, hit) refl))
 
 -- ---- HAZARD_WAW
 
@@ -129,7 +129,7 @@ module _ (past : Past) (cleared : IsCleared past) (plain : IsPlain past) (apart 
   writer = record { number = length (nodes past); point = record p { action = Run (cmd.Fill b o n word) }; act = Runs (cmd.Fill b o n word) }
 
   abbrev to_writes : ℕ
-  to_writes = (standing past).order.to_writes
+  to_writes = (order_state past).order.to_writes
 
   abbrev size : ℕ
   size = fill_size (buffer_size past b) o n
@@ -152,11 +152,11 @@ module _ (past : Past) (cleared : IsCleared past) (plain : IsPlain past) (apart 
   -- a fill sees a write where it comes after the number of its point
   write_is_seen : (x : Node) (j : ℕ) (c : Cmd) (byte : Byte) → IsCommandAt past x j → x.act ≡ Runs c → (is_seen (writing ∷ past) x writer Write byte ≡ true) ↔ (j < to_writes)
   write_is_seen x j c byte at is = (λ e. now.writes.0 (seen_it.0 e), λ lt. seen_it.1 (now.writes.1 lt)) where
-    now : Means (standing past).order (writer ∷ nodes past) x j
-    now = (after_fill past cleared plain (standing past) (stands past cleared plain apart) p b o n word).means x j (inr at)
+    now : Means (order_state past).order (writer ∷ nodes past) x j
+    now = (after_fill past cleared plain (order_state past) (present past cleared plain apart) p b o n word).means x j (inr at)
 
     h : Contains (nodes past) x × (is_command x.act ≡ true) × (j < length past)
-    h = command_stands past x j at
+    h = command_present past x j at
 
     seen_it : (is_seen (writing ∷ past) x writer Write byte ≡ true) ↔ Via (writer ∷ nodes past) x leads_to_writes
     seen_it = seen_by_write past writing x (λ c. is_cached (writing ∷ past) (resource_at c)) byte h.1 (contains-tail writer (nodes past) x h.0) (supported_node (writing ∷ past) supported_then) (length (nodes past)) writing (cmd.Fill b o n word) (contains-head writer (nodes past)) edge_to c is
@@ -198,8 +198,8 @@ module _ (past : Past) (cleared : IsCleared past) (plain : IsPlain past) (apart 
           let late : to_writes ≤ m = leb-true to_writes m h in
           let unseen : is_seen (writing ∷ past) w.node writer Write (in_buffer b (o + k)) ≡ false = false_from_ne_true (is_seen (writing ∷ past) w.node writer Write (in_buffer b (o + k))) (λ e. let lt = visibility.0 e in omega (arith, lt, late)) in
           let hit : waw (writing ∷ past) w.node writer ≡ true = writes_range w.node ∙ one_of (λ k. overwrites w.node (in_buffer b (o + k))) 0 size k low high (rw (w.writes_it, unseen) refl) in
-          let first : precedes w.node writer ≡ true = rw (lt-ltb w.node.number (length (nodes past)) (number_below (nodes past) (numbered past) w.node w.stands_in), ap is_host w.runs_it) refl in
-          or_left (list_any (λ x. precedes x writer && waw (writing ∷ past) x writer) (writer ∷ nodes past)) false (member_passes (λ x. precedes x writer && waw (writing ∷ past) x writer) (writer ∷ nodes past) w.node (contains-tail writer (nodes past) w.node w.stands_in) (rw (first, hit) refl))
+          let first : precedes w.node writer ≡ true = rw (lt-ltb w.node.number (length (nodes past)) (number_below (nodes past) (numbered past) w.node w.present_in), ap is_host w.runs_it) refl in
+          or_left (list_any (λ x. precedes x writer && waw (writing ∷ past) x writer) (writer ∷ nodes past)) false (member_passes (λ x. precedes x writer && waw (writing ∷ past) x writer) (writer ∷ nodes past) w.node (contains-tail writer (nodes past) w.node w.present_in) (rw (first, hit) refl))
 
 -- ---- all forms
 

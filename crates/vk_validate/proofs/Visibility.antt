@@ -25,7 +25,7 @@ use Rattle.vk_validate.proofs.Forms.{entry_cases}
 use Rattle.vk_validate.proofs.Pasts.{made_supported}
 use Rattle.vk_validate.proofs.Growth.{numbered}
 use Rattle.vk_validate.proofs.Paths.{path_of_before, before_of_path, target, unique}
-use Rattle.vk_validate.proofs.Available.{Available, MadeHere, Passed, Visible, Begun, Carried, Via, makes_available, leads_to_transfers, leads_to_writes, leads_to_reads, available_stands}
+use Rattle.vk_validate.proofs.Available.{Available, MadeHere, Passed, Visible, Begun, Carried, Via, makes_available, leads_to_transfers, leads_to_writes, leads_to_reads, available_present}
 use Rattle.vk_validate.proofs.Causes.{into_command}
 use Rattle.vk_validate.proofs.Clocked.{command_hosts}
 
@@ -111,7 +111,7 @@ seen_is : (cached : Byte → Bool) (ns : List Node) (w a : Node) (k : Access) (b
 unfolding seen
 seen_is cached ns w a k b = refl
 
-module _ (past : Past) (p : Point) (w : Node) (cached : Byte → Bool) (b : Byte) (command : is_command w.act ≡ true) (stands_w : Contains (nodes (p ∷ past)) w) (simple : (m : Node) → Contains (nodes (p ∷ past)) m → is_supported_act m.act ≡ true) where
+module _ (past : Past) (p : Point) (w : Node) (cached : Byte → Bool) (b : Byte) (command : is_command w.act ≡ true) (present_w : Contains (nodes (p ∷ past)) w) (simple : (m : Node) → Contains (nodes (p ∷ past)) m → is_supported_act m.act ≡ true) where
   abbrev ns : List Node
   ns = nodes (p ∷ past)
 
@@ -148,7 +148,7 @@ module _ (past : Past) (p : Point) (w : Node) (cached : Byte → Bool) (b : Byte
 
   origin : (n : Node) → Available ns w n → (m : Node) × Contains ns m × (edge ns w m ≡ true) × (makes_available m.act ≡ true) × ((m ≡ n) ⊎ Path ns m n)
   origin n (MadeHere c e f) = (n, c, e, f, inl refl)
-  origin n (Passed {m = k} f c e) = let o = origin k f in (o.0, o.1, o.2, o.3, inr (extended o.0 k n (available_stands ns w k f) c e o.4))
+  origin n (Passed {m = k} f c e) = let o = origin k f in (o.0, o.1, o.2, o.3, inr (extended o.0 k n (available_present ns w k f) c e o.4))
 
   is_reached : (m n : Node) → Contains ns m → (m ≡ n) ⊎ Path ns m n → (same_node m n || before ns m n) ≡ true
   is_reached m n c (inl same) = rw (eq-eqb m.number n.number (ap (λ (k : Node). k.number) same)) refl
@@ -159,12 +159,12 @@ module _ (past : Past) (p : Point) (w : Node) (cached : Byte → Bool) (b : Byte
 
   -- where the write is shown: by an element to the host's reads, and a path from it
   pub visible_begin : (n : Node) → Visible ns w n → (q : Node) × Available ns w q × (leads_to_reads q.act ≡ true) × Path ns q n
-  visible_begin n (Begun {q = q} f l c e) = (q, f, l, direct (available_stands ns w q f) c e)
+  visible_begin n (Begun {q = q} f l c e) = (q, f, l, direct (available_present ns w q f) c e)
   visible_begin n (Carried {m = m} s c e) = let o = visible_begin m s in (o.0, o.1, o.2, longer o.3 c e)
 
   -- ---- a read of the host
 
-  module _ (a : Node) (x : Entry) (reads : a.act ≡ Hosts x) (stands_a : Contains ns a) (coherent : cached b ≡ false) where
+  module _ (a : Node) (x : Entry) (reads : a.act ≡ Hosts x) (present_a : Contains ns a) (coherent : cached b ≡ false) where
     visible_when : (m q : Node) → Contains ns m → Contains ns q → (edge ns w m && makes_writes_available cached ns m b m.act) ≡ true → (same_node m q || before ns m q) ≡ true
         → (before ns q a && to_host q.act && makes_writes_visible cached ns (host_mask Read) b q q.act && (not (cached b) || passes cached ns (λ f. invalidates f b) q a)) ≡ true → Visible ns w a
     visible_when m q cm cq sent reached visible =
@@ -173,7 +173,7 @@ module _ (past : Past) (p : Point) (w : Node) (cached : Byte → Bool) (b : Byte
         let v2 = and_parts (before ns q a && to_host q.act) (makes_writes_visible cached ns (host_mask Read) b q q.act) v1.0 in
         let v3 = and_parts (before ns q a) (to_host q.act) v2.0 in
         let e = supported_visible cached ns (host_mask Read) b q (simple q cq) v2.1 in
-        visible_along q a f (leads q.act e.0 e.1 v3.1 e.2) (path_of_before ns numbers q a cq stands_a v3.0)
+        visible_along q a f (leads q.act e.0 e.1 v3.1 e.2) (path_of_before ns numbers q a cq present_a v3.0)
       where
         leads : (act : Act) (e : Element) → act ≡ Depends Barrier e → to_host act ≡ true → has_some (dependency_of e).destination_accesses.0 (host_mask Read) ≡ true → leads_to_reads act ≡ true
         leads act e at to has = rw (at) (rw (sym (ap to_host at) ∙ to, has) refl)
@@ -182,7 +182,7 @@ module _ (past : Past) (p : Point) (w : Node) (cached : Byte → Bool) (b : Byte
         → (before ns q a && to_host q.act && makes_writes_visible cached ns (host_mask Read) b q q.act && (not (cached b) || passes cached ns (λ f. invalidates f b) q a)) ≡ true
     visible_of q c l path =
         let parts = reads_parts q.act (simple q c) l in
-        rw (before_of_path ns numbers q a c stands_a path, parts.3, makes_visible cached ns (host_mask Read) b q parts.0 parts.2 parts.1 parts.4, coherent) refl
+        rw (before_of_path ns numbers q a c present_a path, parts.3, makes_visible cached ns (host_mask Read) b q parts.0 parts.2 parts.1 parts.4, coherent) refl
 
     -- a read of the host sees a write just where the write is shown
     pub seen_by_read : (c : Cmd) → w.act ≡ Runs c → (seen cached ns w a Read b ≡ true) ↔ Visible ns w a
@@ -202,13 +202,13 @@ module _ (past : Past) (p : Point) (w : Node) (cached : Byte → Bool) (b : Byte
       from : Visible ns w a → visibility cached ns w a (Runs c) (Hosts x) Read b ≡ true
       from s =
           let q = visible_begin a s in
-          let cq : Contains ns q.0 = available_stands ns w q.0 q.1 in
+          let cq : Contains ns q.0 = available_present ns w q.0 q.1 in
           let m = available_by_some q.0 q.1 in
           member_passes _ ns m.0 m.1 (rw (m.2) (member_passes _ ns q.0 cq (rw (m.3, visible_of q.0 cq q.2 q.3, is_reached q.0 a cq (inr q.3)) refl)))
 
   -- ---- a command's write
 
-  module _ (n : ℕ) (on : Point) (d : Cmd) (stands_a : Contains ns (record { number = n; point = on; act = Runs d })) (edge_to : (q : Node) → Contains ns q → leads_to_transfers q.act ≡ true → edge ns q (record { number = n; point = on; act = Runs d }) ≡ true) where
+  module _ (n : ℕ) (on : Point) (d : Cmd) (present_a : Contains ns (record { number = n; point = on; act = Runs d })) (edge_to : (q : Node) → Contains ns q → leads_to_transfers q.act ≡ true → edge ns q (record { number = n; point = on; act = Runs d }) ≡ true) where
     abbrev a : Node
     a = record { number = n; point = on; act = Runs d }
 
@@ -248,9 +248,9 @@ module _ (past : Past) (p : Point) (w : Node) (cached : Byte → Bool) (b : Byte
 
       from : Via ns w leads_to_writes → visibility cached ns w a (Runs c) (Runs d) Write b ≡ true
       from v =
-          let cq : Contains ns v.node = available_stands ns w v.node v.made_available in
+          let cq : Contains ns v.node = available_present ns w v.node v.made_available in
           let m = available_by_some v.node v.made_available in
           let parts = writes_parts v.node.act (simple v.node cq) v.passes in
           let leads : edge ns v.node a ≡ true = edge_to v.node cq parts.3 in
           let is_seen : (edge ns v.node a && (makes_writes_visible cached ns (command_mask Write) b v.node v.node.act || is_wait v.node.act || is_host w.act && is_submit v.node.act)) ≡ true = rw (leads, makes_visible cached ns (command_mask Write) b v.node parts.0 parts.2 parts.1 parts.4) refl in
-          member_passes _ ns m.0 m.1 (rw (m.2) (member_passes _ ns v.node cq (rw (m.3, is_seen, is_reached v.node a cq (inr (direct cq stands_a leads))) refl)))
+          member_passes _ ns m.0 m.1 (rw (m.2) (member_passes _ ns v.node cq (rw (m.3, is_seen, is_reached v.node a cq (inr (direct cq present_a leads))) refl)))

@@ -11,7 +11,7 @@ use Rattle.vk_model.specs.Objects.{initial}
 use Rattle.vk_model.specs.Node.{Node, Hosts, nodes}
 use Rattle.vk_model.specs.Edge.{signaled_by, values_to, is_enough, is_least, by_semaphore, host_waits}
 use Rattle.vk_validate.specs.Cleared.{IsCleared}
-use Rattle.vk_validate.specs.Standing.{Signaled, least_signal, after_wait, after_waits, joined}
+use Rattle.vk_validate.specs.OrderState.{Signaled, least_signal, after_wait, after_waits, joined}
 use Rattle.vk_validate.specs.declared.clocks.Clock.{Clock}
 use Rattle.vk_validate.specs.declared.clocks.Order.{Order}
 use Rattle.vk_validate.proofs.Truths.{clash}
@@ -30,7 +30,7 @@ IsRising (x ∷ xs) = ((y : Signaled) → Contains xs y → Under y.clock x.cloc
 -- ---- the signal of the least value
 
 pub record Least (signals : List Signaled) (s v : ℕ) (z : Signaled) : Type 0 where
-  pub stands : Contains signals z
+  pub present : Contains signals z
   pub semaphore_is : z.semaphore ≡ s
   pub from : v ≤ z.value
   pub least : (y : Signaled) → Contains signals y → y.semaphore ≡ s → v ≤ y.value → z.value ≤ y.value
@@ -70,7 +70,7 @@ least_some (x ∷ xs) rising s v z is = go (is_next x (least_signal xs s v) s v)
   -- the newest is the one
   newest_is : ((u : Signaled) → least_signal xs s v ≡ Some u → Least xs s v u) → (o : Option Signaled) → least_signal xs s v ≡ o → (x.semaphore ≡ s) × (v ≤ x.value) × (holds o (λ y. nat_lt y.value x.value) ≡ false) → Least (x ∷ xs) s v x
   newest_is next o at h = record {
-    stands = contains-head x xs;
+    present = contains-head x xs;
     semaphore_is = h.0;
     from = h.1;
     least = λ y c sem from. elim (contains-cons x xs y c) [
@@ -95,7 +95,7 @@ least_some (x ∷ xs) rising s v z is = go (is_next x (least_signal xs s v) s v)
   -- the one is older
   older_is : Least xs s v z → least_signal xs s v ≡ Some z → is_next x (least_signal xs s v) s v ≡ false → Least (x ∷ xs) s v z
   older_is found at e = record {
-    stands = contains-tail x xs z found.stands;
+    present = contains-tail x xs z found.present;
     semaphore_is = found.semaphore_is;
     from = found.from;
     least = λ y c sem from. elim (contains-cons x xs y c) [
@@ -139,7 +139,7 @@ module _ (ns : List Node) (signals : List Signaled) (rising : IsRising signals) 
   -- a signal that the wait comes after, and that passes the test F
   pub record Linked (s v : ℕ) : Type 0 where
     pub node : Node
-    pub stands : Contains ns node
+    pub present : Contains ns node
     pub signal : ℕ × ℕ
     pub signals_it : signaled_by node.act ≡ Some signal
     pub is : is_linked ns s v signal ≡ true
@@ -155,7 +155,7 @@ module _ (ns : List Node) (signals : List Signaled) (rising : IsRising signals) 
       let a = and_parts (l.signal.0 == s && is_least ns s v l.signal.1) (not (is_enough ns s v)) l.is in
       let b = and_parts (l.signal.0 == s) (is_least ns s v l.signal.1) a.0 in
       let c = and_parts (nat_le v l.signal.1) (not (list_any (λ u. nat_le v u && nat_lt u l.signal.1) (values_to ns s))) b.1 in
-      let x = backward l.node l.stands l.signal.0 l.signal.1 l.signals_it in
+      let x = backward l.node l.present l.signal.0 l.signal.1 l.signals_it in
       let low : v ≤ l.signal.1 = leb-true v l.signal.1 c.0 in
       let value_is : x.0.value ≡ l.signal.1 = x.3 in (
         x.0,
@@ -180,7 +180,7 @@ module _ (ns : List Node) (signals : List Signaled) (rising : IsRising signals) 
     to l =
         let x = listed s v l in
         let le : z.value ≤ x.0.value = found.least x.0 x.1 x.2 x.3 in
-        let m = forward z found.stands in
+        let m = forward z found.present in
         let from = found.from in
         let same : x.0.value ≡ z.value = elim (cases_lt z.value x.0.value) [
           | inl lt ↦ (let hit : list_any (λ u. nat_le v u && nat_lt u x.0.value) (values_to ns s) ≡ true = signals_value (λ u. nat_le v u && nat_lt u x.0.value) ns m.0 s z.value m.1 (m.2 ∙ ap (λ (k : ℕ). Some (k, z.value)) found.semaphore_is) (rw (le-leb v z.value from, lt-ltb z.value x.0.value lt) refl) in clash hit x.5)
@@ -191,10 +191,10 @@ module _ (ns : List Node) (signals : List Signaled) (rising : IsRising signals) 
 
     from : j < of z.clock → Linked s v
     from lt =
-        let m = forward z found.stands in
+        let m = forward z found.present in
         record {
           node = m.0;
-          stands = m.1;
+          present = m.1;
           signal = (z.semaphore, z.value);
           signals_it = m.2;
           is = rw (eq-eqb z.semaphore s found.semaphore_is, le-leb v z.value found.from, none_lower, more) refl;
@@ -253,7 +253,7 @@ module _ (ns : List Node) (signals : List Signaled) (rising : IsRising signals) 
     linked_in : (ws : List SemaphoreValue) (m : Node) → Contains ns m → F m → (x : ℕ × ℕ) → signaled_by m.act ≡ Some x → list_any (waits_for x) (map (λ (w : SemaphoreValue). (w.semaphore, w.value)) ws) ≡ true → AnyLinked ws
     linked_in [] m c f x at e = absurd cc
     linked_in (w ∷ ws) m c f x at e = elim (or_cases (is_linked ns w.semaphore w.value x) _ e) [
-      | inl here ↦ inl (record { node = m; stands = c; signal = x; signals_it = at; is = here; passes = f })
+      | inl here ↦ inl (record { node = m; present = c; signal = x; signals_it = at; is = here; passes = f })
       | inr more ↦ inr (linked_in ws m c f x at more)
     ]
 
@@ -267,7 +267,7 @@ module _ (ns : List Node) (signals : List Signaled) (rising : IsRising signals) 
     -- and back
     link_of : (ws : List SemaphoreValue) → AnyLinked ws → (m : Node) × Contains ns m × F m × (x : ℕ × ℕ) × (signaled_by m.act ≡ Some x) × (list_any (waits_for x) (map (λ (w : SemaphoreValue). (w.semaphore, w.value)) ws) ≡ true)
     link_of [] l = absurd l
-    link_of (w ∷ ws) (inl l) = (l.node, l.stands, l.passes, l.signal, l.signals_it, rw l.is refl)
+    link_of (w ∷ ws) (inl l) = (l.node, l.present, l.passes, l.signal, l.signals_it, rw l.is refl)
     link_of (w ∷ ws) (inr l) = let rest = link_of ws l in (rest.0, rest.1, rest.2, rest.3, rest.4, or_right _ _ rest.5)
 
     -- and each link makes such an edge

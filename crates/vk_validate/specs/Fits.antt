@@ -11,7 +11,7 @@ use Rattle.vk_model.specs.RulesMapping.{maps}
 use Rattle.vk_validate.specs.declared.tables.Change.{Change}
 use Rattle.vk_validate.specs.declared.tables.Change.TheVariants as change
 use Rattle.vk_validate.specs.Tabled.{writes_byte}
-use Rattle.vk_validate.specs.Standing.{Standing, standing, after_action, signal_at}
+use Rattle.vk_validate.specs.OrderState.{OrderState, order_state, after_action, signal_at}
 use Rattle.vk_validate.specs.declared.clocks.Clock.{Clock}
 use Rattle.vk_model.specs.declared.entry.SemaphoreSubmit.{SemaphoreSubmit}
 
@@ -37,7 +37,7 @@ pub record IsFillOf (past : Past) (d : Action) (b first last : ℕ) : Type 0 whe
 
 -- An action that orders nothing.
 abbrev pub OrdersNone : Past → Action → Type 0
-OrdersNone past d = (old : Standing) → after_action past d old ≡ old
+OrdersNone past d = (old : OrderState) → after_action past d old ≡ old
 
 -- A signal of a semaphore with a value, of this clock.
 pub record IsSignalOf (past : Past) (d : Action) (s v : ℕ) (clock : Clock) : Type 0 where
@@ -45,7 +45,7 @@ pub record IsSignalOf (past : Past) (d : Action) (s v : ℕ) (clock : Clock) : T
   pub is : d ≡ Signal submit
   pub semaphore_is : submit.semaphore ≡ s
   pub value_is : submit.value ≡ v
-  pub clock_is : clock ≡ signal_at (standing past).order submit.stages.0 (length past)
+  pub clock_is : clock ≡ signal_at (order_state past).order submit.stages.0 (length past)
 
 -- A change of the tables is what an action does.
 abbrev pub Fits : Change → Past → Action → Type 0
@@ -54,4 +54,4 @@ Fits (change.Made i x) past d = (d ≡ Host x.now) × (made_by x.now ≡ Some i)
 Fits (change.Mapped b) past d = (x : Entry) × (d ≡ Host x) × (made_by x ≡ None) × (maps x ≡ Some b) × (signal_of d ≡ None) × OrdersNone past d
 Fits (change.Written b s n) past d = IsQuiet d × IsFillOf past d b s.first s.last × (n ≡ length past)
 Fits (change.Signaled s v clock) past d = IsSignalOf past d s v clock
-Fits (change.Ordered o) past d = IsQuiet d × WritesNone past d × (after_action past d (standing past) ≡ record (standing past) { order = o })
+Fits (change.Ordered o) past d = IsQuiet d × WritesNone past d × (after_action past d (order_state past) ≡ record (order_state past) { order = o })

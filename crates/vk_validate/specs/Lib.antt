@@ -1,7 +1,7 @@
 pub mod Supported
 pub mod Told
 pub mod Laid
-pub mod Standing
+pub mod OrderState
 pub mod Signals
 pub mod Tabled
 pub mod Fits

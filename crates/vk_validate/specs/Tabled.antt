@@ -15,7 +15,7 @@ use Rattle.vk_model.specs.declared.command.Cmd.TheVariants as cmd
 use Rattle.vk_model.specs.Moves.{buffer_size, fill_size}
 use Rattle.vk_validate.specs.declared.writers.LastWriters.{LastWriters}
 use Rattle.vk_validate.specs.Writers.{WasLast}
-use Rattle.vk_validate.specs.Standing.{Signaled, least_signal, standing}
+use Rattle.vk_validate.specs.OrderState.{Signaled, least_signal, order_state}
 use Rattle.vk_validate.specs.declared.timelines.Timeline.{Timeline}
 use Rattle.vk_validate.specs.declared.tables.Tables.{Tables}
 use denote.Ref.{Bor}
@@ -71,5 +71,5 @@ pub record IsTabled (tables : Tables) (past : Past) : Type 0 where
   pub maps_are : Maps (get nat_cmp tables.maps) past
   pub highest_values_match : HighestValues (get nat_cmp tables.highest_values) past
   pub writers_are : WritersAre (get nat_cmp tables.writers) past
-  pub timelines_are : TimelinesAre (get nat_cmp tables.timelines) (standing past).signals
-  pub order_is : tables.order ≡ (standing past).order
+  pub timelines_are : TimelinesAre (get nat_cmp tables.timelines) (order_state past).signals
+  pub order_is : tables.order ≡ (order_state past).order

@@ -12,7 +12,7 @@ use Rattle.vk_model.specs.Point.{Past, Action, Host, Wait, Run, Signal}
 use Rattle.vk_model.specs.Objects.{buffer, initial}
 use Rattle.vk_model.specs.RulesSizes.{is_outside}
 use Rattle.vk_model.specs.Moves.{buffer_size, fill_size}
-use Rattle.vk_validate.specs.Standing.{standing}
+use Rattle.vk_validate.specs.OrderState.{order_state}
 use Rattle.vk_validate.specs.Tabled.{was_mapped, last_writer}
 
 -- Whether an entry names what was never made as the kind asked.
@@ -77,7 +77,7 @@ maps_local past _ = false
 
 -- HAZARD_RAW: a read names a byte whose last writer the host doesn't see: the writers before it it then sees.
 abbrev pub entry_reads_unseen : Past → Entry → Bool
-entry_reads_unseen past (entry.Read b o n) = list_any (λ k. holds (last_writer past b (o + k)) (nat_le (standing past).order.host.readable)) (below n)
+entry_reads_unseen past (entry.Read b o n) = list_any (λ k. holds (last_writer past b (o + k)) (nat_le (order_state past).order.host.readable)) (below n)
 entry_reads_unseen past _ = false
 
 -- The same of what happens at a point.
@@ -87,7 +87,7 @@ reads_unseen past _ = false
 
 -- HAZARD_WAW: a fill writes a byte whose last writer it doesn't see.
 abbrev pub command_overwrites_unseen : Past → Cmd → Bool
-command_overwrites_unseen past (cmd.Fill b o n w) = list_any (λ k. holds (last_writer past b (o + k)) (nat_le (standing past).order.to_writes)) (below (fill_size (buffer_size past b) o n))
+command_overwrites_unseen past (cmd.Fill b o n w) = list_any (λ k. holds (last_writer past b (o + k)) (nat_le (order_state past).order.to_writes)) (below (fill_size (buffer_size past b) o n))
 command_overwrites_unseen past _ = false
 
 -- The same of what happens at a point.

@@ -1,5 +1,5 @@
 ghost use Rattle.std.specs.Prelude.{◌≡◌, Some};
-ghost use Rattle.vk_validate.specs.Standing as standing;
+ghost use Rattle.vk_validate.specs.OrderState as order_state;
 
 use crate::scopes::{HOST_READS, TRANSFER_WRITES, TRANSFERS};
 use bitflags::Flags;
@@ -27,7 +27,7 @@ impl Clock {
 
     /// The clock of what comes after both.
     fn join(self, other: Clock) -> Clock
-        ensures { result ≡ standing.joined self other }
+        ensures { result ≡ order_state.joined self other }
     {
         Clock {
             available: self.available.max(other.available),
@@ -83,7 +83,7 @@ impl Order {
     /// Where a dependency of the command at this point stands. A batch comes after its submit, which
     /// is the last entry of the host.
     fn available_at(&self, dependency: &Dependency, point: usize) -> usize
-        ensures { result ≡ standing.available_at self.now dependency.now point }
+        ensures { result ≡ order_state.available_at self.now dependency.now point }
     {
         let mut available = self.host.available;
         if dependency.source_stages.intersects(TRANSFERS) {
@@ -100,7 +100,7 @@ impl Order {
 
     /// With a dependency more, which stands where `available` says.
     fn with_dependency(mut self, dependency: &Dependency, available: usize) -> Order
-        ensures { result ≡ standing.with_dependency self dependency.now available }
+        ensures { result ≡ order_state.with_dependency self dependency.now available }
     {
         if dependency.destination_stages.intersects(TRANSFERS) {
             self.to_transfers = self.to_transfers.max(available);
@@ -120,7 +120,7 @@ impl Order {
     /// After a barrier at this point. Its elements don't come after each other: all stand in the order
     /// as it was before the barrier.
     pub fn after_barrier(self, elements: &[Element], point: usize) -> Order
-        ensures { result ≡ standing.after_elements self point elements.now self }
+        ensures { result ≡ order_state.after_elements self point elements.now self }
     {
         let mut after = self;
         for element in elements {
@@ -135,7 +135,7 @@ impl Order {
     /// The clock of a signal of a batch at this point. It covers all earlier commands where its stages
     /// have the transfers, and then their dependencies too.
     pub fn signal_at(&self, stages: Stages, point: usize) -> Clock
-        ensures { result ≡ standing.signal_at self.now stages.0 point }
+        ensures { result ≡ order_state.signal_at self.now stages.0 point }
     {
         let covered = if stages.intersects(TRANSFERS) {
             point
@@ -151,7 +151,7 @@ impl Order {
 
     /// After a signal of this clock.
     pub fn after_signal(self, clock: Clock) -> Order
-        ensures { result ≡ record self { signals = standing.joined self.signals clock } }
+        ensures { result ≡ record self { signals = order_state.joined self.signals clock } }
     {
         Order {
             signals: self.signals.join(clock),
@@ -161,7 +161,7 @@ impl Order {
 
     /// After an entry of the host that comes after a signal of this clock.
     pub fn after_wait(self, clock: Clock) -> Order
-        ensures { result ≡ standing.after_wait (Some clock) self }
+        ensures { result ≡ order_state.after_wait (Some clock) self }
     {
         Order {
             host: self.host.join(clock),

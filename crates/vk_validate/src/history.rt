@@ -12,7 +12,7 @@ ghost use Rattle.vk_validate.specs.Told.{action_of, point_of, past};
 ghost use Rattle.vk_validate.specs.Tabled.{was_mapped, last_writer};
 ghost use Rattle.vk_validate.specs.Fits.{Fits};
 ghost use Rattle.vk_validate.specs.Seeks.{Tells};
-ghost use Rattle.vk_validate.specs.Standing.{standing, after_waits, awaited};
+ghost use Rattle.vk_validate.specs.OrderState.{order_state, after_waits, awaited};
 ghost use Rattle.vk_model.specs.Basics.{holds};
 
 use crate::clocks::{Clock, Order};
@@ -146,7 +146,7 @@ impl<'a> History<'a> {
     /// Whether a byte was written by a command whose write isn't visible to the writes of the next
     /// command.
     pub fn has_unseen_by_write(&self, buffer: u32, span: Span) -> bool
-        ensures { Tells result span.first span.last (λ k. holds (last_writer (past self.now) buffer k) (nat_le (standing (past self.now)).order.to_writes)) }
+        ensures { Tells result span.first span.last (λ k. holds (last_writer (past self.now) buffer k) (nat_le (order_state (past self.now)).order.to_writes)) }
     {
         match self.tables.writers.get(&buffer) {
             Some(writers) => writers.has(span, Sought::Since(self.tables.order.seen_by_write())),
@@ -156,7 +156,7 @@ impl<'a> History<'a> {
 
     /// Whether a byte was written by a command whose write isn't visible to reads of the host.
     pub fn has_unseen_by_host_read(&self, buffer: u32, span: Span) -> bool
-        ensures { Tells result span.first span.last (λ k. holds (last_writer (past self.now) buffer k) (nat_le (standing (past self.now)).order.host.readable)) }
+        ensures { Tells result span.first span.last (λ k. holds (last_writer (past self.now) buffer k) (nat_le (order_state (past self.now)).order.host.readable)) }
     {
         match self.tables.writers.get(&buffer) {
             Some(writers) => writers.has(
@@ -248,7 +248,7 @@ impl<'a> History<'a> {
     }
 
     fn after_waits(&self, waits: &[SemaphoreValue]) -> Order
-        ensures { result ≡ after_waits (past self.now) (standing (past self.now)).signals waits.now (standing (past self.now)).order }
+        ensures { result ≡ after_waits (past self.now) (order_state (past self.now)).signals waits.now (order_state (past self.now)).order }
     {
         let mut order = self.tables.order;
         for wait in waits {
@@ -261,7 +261,7 @@ impl<'a> History<'a> {
 
     /// The signal that a wait comes after; none where the initial value is enough.
     fn awaited(&self, wait: &SemaphoreValue) -> Option<Clock>
-        ensures { result ≡ awaited (past self.now) (standing (past self.now)).signals wait.now }
+        ensures { result ≡ awaited (past self.now) (order_state (past self.now)).signals wait.now }
     {
         if self
             .initial(wait.semaphore)

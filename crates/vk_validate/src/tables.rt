@@ -6,7 +6,7 @@ ghost use Rattle.vk_model.specs.Point.{Past, Point};
 ghost use Rattle.vk_validate.specs.Tabled.{IsTabled};
 ghost use Rattle.vk_validate.specs.Fits.{Fits};
 ghost use Rattle.vk_validate.specs.Writers.{IsAssigned};
-ghost use Rattle.vk_validate.specs.Standing.{start};
+ghost use Rattle.vk_validate.specs.OrderState.{start};
 ghost use Rattle.vk_validate.specs.Signals.{IsSignaled};
 
 use crate::clocks::{Clock, Order};
@@ -136,7 +136,7 @@ fn note_write(
     point: usize,
 ) -> Result<(), AllocError>
     ensures here { OnOk result (IfSome (get nat_cmp writers.new buffer) (λ new. IsAssigned (get nat_cmp writers.old buffer) new span.first span.last point)) }
-    ensures stands { OnOk result (IsSome (get nat_cmp writers.new buffer)) }
+    ensures present { OnOk result (IsSome (get nat_cmp writers.new buffer)) }
     ensures others { OnOk result ((other : ℕ) → other ≢ buffer → get nat_cmp writers.new other ≡ get nat_cmp writers.old other) }
 {
     let mut of_buffer = match writers.remove(&buffer) {
@@ -156,7 +156,7 @@ fn note_signal(
     clock: Clock,
 ) -> Result<(), AllocError>
     ensures here { OnOk result (IfSome (get nat_cmp timelines.new semaphore) (λ new. IsSignaled (get nat_cmp timelines.old semaphore) new value clock)) }
-    ensures stands { OnOk result (IsSome (get nat_cmp timelines.new semaphore)) }
+    ensures present { OnOk result (IsSome (get nat_cmp timelines.new semaphore)) }
     ensures others { OnOk result ((other : ℕ) → other ≢ semaphore → get nat_cmp timelines.new other ≡ get nat_cmp timelines.old other) }
 {
     let timeline = timelines.entry(semaphore)?.or_insert(Timeline::new(alloc));

@@ -24,4 +24,4 @@ loop-index-preserved g c = (
 )
 
 pub loop-index-init : goal.loop-index-init
-loop-index-init g c = (rw c.new-reads.ensures.items (replays_start c.args.config c.args.entries.now c.new-device.result c.new-device.ensures.stands c.new-device.ensures.empty c.new-device.ensures.works), refl)
+loop-index-init g c = (rw c.new-reads.ensures.items (replays_start c.args.config c.args.entries.now c.new-device.result c.new-device.ensures.matches c.new-device.ensures.empty c.new-device.ensures.works), refl)

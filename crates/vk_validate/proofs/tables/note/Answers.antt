@@ -1,5 +1,5 @@
 use Rattle.std.proofs.Common.{◌≡◌, ◌∷◌, refl, sym, ap, ◌∙◌}
-use Rattle.vk_validate.specs.Standing.{Signaled, standing, joined}
+use Rattle.vk_validate.specs.OrderState.{Signaled, order_state, joined}
 use Rattle.vk_validate.specs.declared.clocks.Order.{Order}
 use Rattle.vk_validate.proofs.TableLemmas.{signaled-some, writers_stay, writers_next}
 use Rattle.vk_validate.proofs.TimelineLemmas.{timelines_next}
@@ -15,9 +15,9 @@ returns-in_ok-note_signal-in-Signaled c = λ past p fits tabled.
       maps_are = λ i. rw is.is (tabled.maps_are i);
       highest_values_match = λ i. let e = signaled-some p past c.in-Signaled.semaphore c.in-Signaled.value (rw (is.is, is.semaphore_is, is.value_is) refl) i in let f = c.in_ok-note_highest_value-in-Signaled.ensures i in let g = tabled.highest_values_match i in cc;
       writers_are = writers_stay _ p past (λ b k. rw is.is refl) tabled.writers_are;
-      timelines_are = rw (is.is, is.semaphore_is, is.value_is, ← is.clock_is) (timelines_next _ _ _ x tabled.timelines_are signal.stands signal.here signal.others);
+      timelines_are = rw (is.is, is.semaphore_is, is.value_is, ← is.clock_is) (timelines_next _ _ _ x tabled.timelines_are signal.present signal.here signal.others);
       order_is =
-          let signaled : (standing (p ∷ past)).order ≡ record (standing past).order { signals = joined (standing past).order.signals c.in-Signaled.clock } = rw (is.is, is.clock_is) refl in
+          let signaled : (order_state (p ∷ past)).order ≡ record (order_state past).order { signals = joined (order_state past).order.signals c.in-Signaled.clock } = rw (is.is, is.clock_is) refl in
           c.after_signal-tables.ensures ∙ ap (λ (o : Order). record o { signals = joined o.signals c.in-Signaled.clock }) tabled.order_is ∙ sym signaled;
     }
 
@@ -29,7 +29,7 @@ returns-in_ok-note_write-in-Written c = λ past p fits tabled.
       creating_entries_match = λ i. rw fill.is (tabled.creating_entries_match i);
       maps_are = λ i. rw fill.is (tabled.maps_are i);
       highest_values_match = λ i. rw fill.is (tabled.highest_values_match i);
-      writers_are = writers_next _ _ p past c.in-Written.buffer c.in-Written.span.first c.in-Written.span.last c.in-Written.point tabled.writers_are fill is.2 c.in_ok-note_write-in-Written.ensures.stands c.in_ok-note_write-in-Written.ensures.here c.in_ok-note_write-in-Written.ensures.others;
+      writers_are = writers_next _ _ p past c.in-Written.buffer c.in-Written.span.first c.in-Written.span.last c.in-Written.point tabled.writers_are fill is.2 c.in_ok-note_write-in-Written.ensures.present c.in_ok-note_write-in-Written.ensures.here c.in_ok-note_write-in-Written.ensures.others;
       timelines_are = rw fill.is tabled.timelines_are;
       order_is = rw fill.is tabled.order_is;
     }

@@ -26,7 +26,7 @@ returns-in_ok-bytes-in-Read-clause-told c = λ e past st fit.
 pub returns-in-Submit-clause-told : goal.returns-in-Submit-clause-told
 returns-in-Submit-clause-told c = λ e past st fit.
     submit_told c.args.self.now c.run_batches.new.self c.args.entry.now c.in-Submit.queue c.in-Submit.batches c.in-Submit.is
-    (rw c.as_slice.ensures at c.run_batches.ensures.stands) e past st fit
+    (rw c.as_slice.ensures at c.run_batches.ensures.matches) e past st fit
 
 pub returns-in-Map-clause-told : goal.returns-in-Map-clause-told
 returns-in-Map-clause-told c = λ e past st fit. map_told c.args.self.now c.map.new.self c.args.entry.now c.in-Map.buffer (placed c.args.self.now c.in-Map.buffer) c.in-Map.is c.map.ensures.mapped e past st

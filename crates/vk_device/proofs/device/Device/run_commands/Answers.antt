@@ -8,7 +8,7 @@ pub run_command-requires : goal.run_command-requires
 run_command-requires c = command_ready c.args.self.now c.args.commands.now c.loop-command.command-index c.loop-command.self c.command-item.result c.requires c.loop-command.invariant c.command-item.is c.loop-command-test.true
 
 pub loop-command-preserved : goal.loop-command-preserved
-loop-command-preserved c = command_more c.args.self.now c.args.commands.now c.loop-command.command-index c.loop-command.self c.run_command.new.self c.command-item.result c.requires c.loop-command.invariant c.command-item.is c.loop-command-test.true (record { stands = c.run_command.ensures.stands; allotted = c.run_command.ensures.allotted; failed = c.run_command.ensures.failed })
+loop-command-preserved c = command_more c.args.self.now c.args.commands.now c.loop-command.command-index c.loop-command.self c.run_command.new.self c.command-item.result c.requires c.loop-command.invariant c.command-item.is c.loop-command-test.true (record { matches = c.run_command.ensures.matches; allotted = c.run_command.ensures.allotted; failed = c.run_command.ensures.failed })
 
-pub returns-clause-stands : goal.returns-clause-stands
-returns-clause-stands c = commands_end c.args.self.now c.args.commands.now c.loop-command.command-index c.loop-command.self c.loop-command.invariant c.loop-command-test.false
+pub returns-clause-matches : goal.returns-clause-matches
+returns-clause-matches c = commands_end c.args.self.now c.args.commands.now c.loop-command.command-index c.loop-command.self c.loop-command.invariant c.loop-command-test.false

@@ -1,13 +1,13 @@
 use Rattle.std.proofs.Common.{◌≡◌, length, refl, sym, ap}
 use Rattle.vk_validate.specs.Told.{past, action_of}
-use Rattle.vk_validate.specs.Standing.{standing}
+use Rattle.vk_validate.specs.OrderState.{order_state}
 use Rattle.vk_validate.proofs.Clears.{length-past}
 use Rattle.vk_validate.proofs.history.History.change.Goals as goal
 
 pub returns-in-Signal : goal.returns-in-Signal
 returns-in-Signal c =
     let count : c.self.inside.count ≡ length (past c.args.self.now) = sym (rw c.self.view_is at (length-past (record { points = c.self.inside.points.now; count = c.self.inside.count }) c.self.invariant.0)) in
-    let order : c.self.inside.tables.order ≡ (standing (past c.args.self.now)).order = rw c.self.view_is at c.self.invariant.1.order_is in
+    let order : c.self.inside.tables.order ≡ (order_state (past c.args.self.now)).order = rw c.self.view_is at c.self.invariant.1.order_is in
     record {
       submit = c.in-Signal.signal.now;
       is = ap action_of c.in-Signal.is;

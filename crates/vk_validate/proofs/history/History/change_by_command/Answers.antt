@@ -1,7 +1,7 @@
 use Rattle.std.proofs.Common.{◌≡◌, length, refl, sym, ap}
 use Rattle.vk_model.specs.Point.{Run}
 use Rattle.vk_validate.specs.Told.{past}
-use Rattle.vk_validate.specs.Standing.{standing}
+use Rattle.vk_validate.specs.OrderState.{order_state}
 use Rattle.vk_validate.proofs.Clears.{length-past}
 use Rattle.vk_validate.proofs.history.History.change_by_command.Goals as goal
 
@@ -24,7 +24,7 @@ returns-in-Some c =
 pub returns-in-Barrier : goal.returns-in-Barrier
 returns-in-Barrier c =
     let count : c.self.inside.count ≡ length (past c.args.self.now) = sym (rw c.self.view_is at (length-past (record { points = c.self.inside.points.now; count = c.self.inside.count }) c.self.invariant.0)) in
-    let order : c.self.inside.tables.order ≡ (standing (past c.args.self.now)).order = rw c.self.view_is at c.self.invariant.1.order_is in
+    let order : c.self.inside.tables.order ≡ (order_state (past c.args.self.now)).order = rw c.self.view_is at c.self.invariant.1.order_is in
     rw c.in-Barrier.is (
       record { makes_none = λ x e. absurd cc; maps_none = λ x e. absurd cc; signals_none = refl },
       λ b k. refl,

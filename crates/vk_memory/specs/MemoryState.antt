@@ -3,7 +3,7 @@ use Rattle.std.specs.Prelude.{◌≡◌, ℕ, ◌+◌, ◌<◌, ◌≤◌, ◌==
 use Rattle.vk_memory.specs.declared.memories.Object.{Object}
 
 -- The sizes of the heaps, and the objects by their numbers.
-pub record Standing : Type 0 where
+pub record MemoryState : Type 0 where
   pub heap0 : ℕ
   pub heap1 : ℕ
   pub objects : List Object
@@ -22,7 +22,7 @@ abbrev pub sizes_on : Bool → List Object → ℕ
 sizes_on first objects = sum_by (size_on first) objects
 
 -- The size of a type's heap.
-abbrev pub heap_size : Standing → ℕ → ℕ
+abbrev pub heap_size : MemoryState → ℕ → ℕ
 heap_size s memory_type = if on_first memory_type then s.heap0 else s.heap1
 
 -- A new object, with the bytes 0xCD: Vulkan leaves the contents of new memory undefined (profile).
@@ -30,7 +30,7 @@ abbrev pub fresh : ℕ → ℕ → Object
 fresh t size = record { memory_type = t; size = size; mapped = false; region = replicate size 205 }
 
 -- There is no room for an object: its heap would be passed, or 4,096 objects stand (profile).
-abbrev pub IsFull : Standing → ℕ → ℕ → Type 0
+abbrev pub IsFull : MemoryState → ℕ → ℕ → Type 0
 IsFull s memory_type size = (4096 ≤ length s.objects) ⊎ (heap_size s memory_type < sizes_on (on_first memory_type) s.objects + size)
 
 -- Stands for the object of a number that none has.
@@ -38,21 +38,21 @@ abbrev pub nothing : Object
 nothing = record { memory_type = 0; size = 0; mapped = false; region = [] }
 
 -- The object of a number.
-abbrev pub object_at : Standing → ℕ → Object
+abbrev pub object_at : MemoryState → ℕ → Object
 object_at s number = slice_index_or s.objects number nothing
 
 -- The bytes of an object.
-abbrev pub region_of : Standing → ℕ → List ℕ
+abbrev pub region_of : MemoryState → ℕ → List ℕ
 region_of s number = (object_at s number).region
 
 -- Whether an object is mapped.
-abbrev pub is_mapped : Standing → ℕ → Bool
+abbrev pub is_mapped : MemoryState → ℕ → Bool
 is_mapped s number = (object_at s number).mapped
 
 -- The objects, with other bytes in one of them.
-abbrev pub with_region : Standing → ℕ → List ℕ → Standing
+abbrev pub with_region : MemoryState → ℕ → List ℕ → MemoryState
 with_region s number bytes = record s { objects = slice_set s.objects number (record (object_at s number) { region = bytes }) }
 
 -- The objects, with one of them mapped or not.
-abbrev pub with_mapped : Standing → ℕ → Bool → Standing
+abbrev pub with_mapped : MemoryState → ℕ → Bool → MemoryState
 with_mapped s number mapped = record s { objects = slice_set s.objects number (record (object_at s number) { mapped = mapped }) }

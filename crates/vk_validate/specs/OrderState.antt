@@ -85,42 +85,42 @@ after_waits past signals [] o = o
 after_waits past signals (w ∷ ws) o = after_waits past signals ws (after_wait (awaited past signals w) o)
 
 -- The order of the points so far, and the signals so far, the newest first.
-pub record Standing : Type 0 where
+pub record OrderState : Type 0 where
   pub order : Order
   pub signals : List Signaled
 
 -- The order when a batch has signaled.
-abbrev pub after_signal : SemaphoreSubmit → Clock → Standing → Standing
+abbrev pub after_signal : SemaphoreSubmit → Clock → OrderState → OrderState
 after_signal s clock old = record {
   order = record old.order { signals = joined old.order.signals clock };
   signals = record { semaphore = s.semaphore; value = s.value; clock = clock } ∷ old.signals;
 }
 
 -- When a host entry has come: only waits order.
-abbrev pub after_entry : Past → Entry → Standing → Standing
+abbrev pub after_entry : Past → Entry → OrderState → OrderState
 after_entry past (entry.Wait ws) old = record old { order = after_waits past old.signals ws old.order }
 after_entry past _ old = old
 
 -- When a command has come: only barriers order.
-abbrev pub after_command : Past → Cmd → Standing → Standing
+abbrev pub after_command : Past → Cmd → OrderState → OrderState
 after_command past (cmd.Barrier es) old = record old { order = after_elements old.order (length past) es old.order }
 after_command past _ old = old
 
 -- When an action has happened.
-abbrev pub after_action : Past → Action → Standing → Standing
+abbrev pub after_action : Past → Action → OrderState → OrderState
 after_action past (Host x) old = after_entry past x old
 after_action past (Run c) old = after_command past c old
 after_action past (Signal s) old = after_signal s (signal_at old.order s.stages.0 (length past)) old
 after_action past _ old = old
 
 -- Before the first point.
-abbrev pub start : Standing
+abbrev pub start : OrderState
 start = record {
   order = record { to_transfers = 0; to_writes = 0; to_host = 0; to_host_reads = 0; signals = record { available = 0; readable = 0 }; host = record { available = 0; readable = 0 } };
   signals = [];
 }
 
 -- The order after a past.
-abbrev pub standing : Past → Standing
-standing [] = start
-standing (p ∷ past) = after_action past p.action (standing past)
+abbrev pub order_state : Past → OrderState
+order_state [] = start
+order_state (p ∷ past) = after_action past p.action (order_state past)

@@ -13,7 +13,7 @@ use Rattle.vk_model.specs.Node.{Node, Act, Runs, acts, nodes, with_acts}
 use Rattle.vk_model.specs.Edge.{is_command, signaled_by}
 use Rattle.vk_model.specs.Before.{IsNumbered}
 use Rattle.vk_model.specs.Seen.{Read, Write, command_mask, host_mask}
-use Rattle.vk_validate.specs.Standing.{Standing, on_transfers, on_host, counted, available_at, with_dependency, after_elements, Signaled, least_signal, after_waits, awaited, after_wait}
+use Rattle.vk_validate.specs.OrderState.{OrderState, on_transfers, on_host, counted, available_at, with_dependency, after_elements, Signaled, least_signal, after_waits, awaited, after_wait}
 use Rattle.vk_validate.specs.declared.clocks.Clock.{Clock}
 use Rattle.vk_validate.specs.declared.clocks.Order.{Order}
 use Rattle.vk_validate.proofs.Members.{contains-head, contains-tail}
@@ -63,10 +63,10 @@ IsCommandAt [] w j = ⊥
 IsCommandAt (p ∷ past) w j = IsRunAt past p w j ⊎ IsCommandAt past w j
 
 -- a command at a point stands among the nodes
-pub command_stands : (past : Past) (w : Node) (j : ℕ) → IsCommandAt past w j → Contains (nodes past) w × (is_command w.act ≡ true) × (j < length past)
-command_stands [] w j at = absurd at
-command_stands (p ∷ past) w j (inr old) = let h = command_stands past w j old in (with_keeps p (acts p.action) (nodes past) w h.0, h.1, let lt = h.2 in omega (arith, lt))
-command_stands (p ∷ past) w j (inl new) =
+pub command_present : (past : Past) (w : Node) (j : ℕ) → IsCommandAt past w j → Contains (nodes past) w × (is_command w.act ≡ true) × (j < length past)
+command_present [] w j at = absurd at
+command_present (p ∷ past) w j (inr old) = let h = command_present past w j old in (with_keeps p (acts p.action) (nodes past) w h.0, h.1, let lt = h.2 in omega (arith, lt))
+command_present (p ∷ past) w j (inl new) =
     let n : Node = record { number = length (nodes past); point = p; act = Runs new.command } in
     let acts_are : acts p.action ≡ Runs new.command ∷ [] = ap acts new.runs ∙ new.alone in
     let here : Contains (with_acts p (Runs new.command ∷ []) (nodes past)) n = contains-head n (nodes past) in
@@ -93,7 +93,7 @@ pub record IsBounded (o : Order) (k : ℕ) : Type 0 where
 abbrev pub IsClocked : Past → Clock → Node → Type 0
 IsClocked past c m = (w : Node) (j : ℕ) → IsCommandAt past w j → (Available (nodes past) w m ↔ (j < c.available)) × (Visible (nodes past) w m ↔ (j < c.readable))
 
-pub record IsStanding (s : Standing) (past : Past) : Type 0 where
+pub record MatchesOrderState (s : OrderState) (past : Past) : Type 0 where
   pub bounded : IsBounded s.order (length past)
   pub rising : IsRising s.signals
   pub under : (x : Signaled) → Contains s.signals x → Under x.clock s.order.signals
@@ -149,7 +149,7 @@ awaited_low past signals rising k low w c is = go (holds (initial past w.semapho
   go : (t : Bool) (z : Option Signaled) → least_signal signals w.semaphore w.value ≡ z → cond t None (option_map (λ x. x.clock) z) ≡ Some c → (c.available ≤ k) × (c.readable ≤ k)
   go true z e is = absurd cc
   go false None e is = absurd cc
-  go false (Some z) e is = let same : z.clock ≡ c = cc in subst (λ (d : Clock). (d.available ≤ k) × (d.readable ≤ k)) same (low z (least_some signals rising w.semaphore w.value z e).stands)
+  go false (Some z) e is = let same : z.clock ≡ c = cc in subst (λ (d : Clock). (d.available ≤ k) × (d.readable ≤ k)) same (low z (least_some signals rising w.semaphore w.value z e).present)
 
 pub bounded_waits : (past : Past) (signals : List Signaled) (rising : IsRising signals) (k : ℕ) → ((x : Signaled) → Contains signals x → (x.clock.available ≤ k) × (x.clock.readable ≤ k)) → (ws : List SemaphoreValue) (o : Order) → IsBounded o k → IsBounded (after_waits past signals ws o) k
 bounded_waits past signals rising k low [] o b = b

@@ -17,7 +17,7 @@ use Rattle.vk_model.specs.Edge.{is_host, signaled_by, host_waits}
 use Rattle.vk_model.specs.Before.{IsNumbered}
 use Rattle.vk_validate.specs.Cleared.{IsCleared}
 use Rattle.vk_validate.specs.Supported.{is_supported_action, is_memory}
-use Rattle.vk_validate.specs.Standing.{Standing, standing, after_action, on_transfers, available_at, with_dependency, after_elements, signal_at, joined, Signaled, after_waits, awaited, after_wait, after_signal}
+use Rattle.vk_validate.specs.OrderState.{OrderState, order_state, after_action, on_transfers, available_at, with_dependency, after_elements, signal_at, joined, Signaled, after_waits, awaited, after_wait, after_signal}
 use Rattle.vk_validate.specs.declared.clocks.Clock.{Clock}
 use Rattle.vk_validate.specs.declared.clocks.Order.{Order}
 use Rattle.vk_validate.proofs.Members.{none_in, contains-cons, contains-head, contains-tail}
@@ -28,19 +28,19 @@ use Rattle.vk_validate.proofs.Acts.{with_member, with_keeps, on_queue_0, last_qu
 use Rattle.vk_validate.proofs.Ordered.{Submitted, submitted}
 use Rattle.vk_validate.proofs.Places.{IsApart, IsElsewhere, elsewhere}
 use Rattle.vk_validate.proofs.Reach.{supported_of}
-use Rattle.vk_validate.proofs.Available.{Available, Visible, Via, VisibleVia, available_stands, available_later, visible_via, visible_available}
+use Rattle.vk_validate.proofs.Available.{Available, Visible, Via, VisibleVia, available_present, available_later, visible_via, visible_available}
 use Rattle.vk_validate.proofs.Waits.{Under}
 use Rattle.vk_validate.proofs.Clocked.{Means}
 use Rattle.vk_validate.proofs.Advances.{host_means, run_means}
 use Rattle.vk_validate.proofs.BatchNodes.{barrier_means, signal_available, signal_visible, signal_means}
-use Rattle.vk_validate.proofs.Stands.{available_grows, available_ungrown, visible_grows, visible_ungrown, command_stands, IsBounded, IsStanding, more_points, bounded_elements, bounded_waits, IsClocked}
+use Rattle.vk_validate.proofs.OrderMatches.{available_grows, available_ungrown, visible_grows, visible_ungrown, command_present, IsBounded, MatchesOrderState, more_points, bounded_elements, bounded_waits, IsClocked}
 
 -- ---- one point more
 
 none_after : {A : Type 0} (n : Node) (ns : List Node) → n.number ≡ length ns → IsNumbered ns → (m : Node) → Available (n ∷ ns) n m → A
 none_after n ns new numbers m f =
     let more = available_later (n ∷ ns) n m f in
-    let low = number_below (n ∷ ns) (new, numbers) m (available_stands (n ∷ ns) n m f) in
+    let low = number_below (n ∷ ns) (new, numbers) m (available_present (n ∷ ns) n m f) in
     absurd (omega (arith, more, low, new))
 
 never : {A : Type 0} (j a : ℕ) → a ≤ j → (A → ⊥) → A ↔ (j < a)
@@ -67,13 +67,13 @@ newest_means o n ns new numbers j b = record {
 
 -- what a clock says of an older node stays
 clocked_stays : (p : Point) (past : Past) (c : Clock) (m : Node) → Contains (nodes past) m → c.available ≤ length past → c.readable ≤ length past → IsClocked past c m → IsClocked (p ∷ past) c m
-clocked_stays p past c m stands a r is w j (inr old) =
+clocked_stays p past c m present a r is w j (inr old) =
     let h = is w j old in
     let ns : List Node = nodes past in (
-      (λ f. h.0.0 (available_ungrown p w (acts p.action) ns (numbered past) m stands f), λ lt. available_grows p w (acts p.action) ns (numbered past) m (h.0.1 lt)),
-      (λ f. h.1.0 (visible_ungrown p w (acts p.action) ns (numbered past) m stands f), λ lt. visible_grows p w (acts p.action) ns (numbered past) m (h.1.1 lt)),
+      (λ f. h.0.0 (available_ungrown p w (acts p.action) ns (numbered past) m present f), λ lt. available_grows p w (acts p.action) ns (numbered past) m (h.0.1 lt)),
+      (λ f. h.1.0 (visible_ungrown p w (acts p.action) ns (numbered past) m present f), λ lt. visible_grows p w (acts p.action) ns (numbered past) m (h.1.1 lt)),
     )
-clocked_stays p past c m stands a r is w j (inl new) = (never j c.available (omega (arith, a, count)) unfreed, never j c.readable (omega (arith, r, count)) unshown) where
+clocked_stays p past c m present a r is w j (inl new) = (never j c.available (omega (arith, a, count)) unfreed, never j c.readable (omega (arith, r, count)) unshown) where
   count : j ≡ length past
   count = new.count
 
@@ -81,26 +81,26 @@ clocked_stays p past c m stands a r is w j (inl new) = (never j c.available (ome
   number_is = ap (λ (k : Node). k.number) new.node_is
 
   unfreed : Available (nodes (p ∷ past)) w m → ⊥
-  unfreed f = let more = available_later (nodes (p ∷ past)) w m f in let low = number_below (nodes past) (numbered past) m stands in omega (arith, more, low, number_is)
+  unfreed f = let more = available_later (nodes (p ∷ past)) w m f in let low = number_below (nodes past) (numbered past) m present in omega (arith, more, low, number_is)
 
   unshown : Visible (nodes (p ∷ past)) w m → ⊥
   unshown f = unfreed (visible_available (nodes (p ∷ past)) w m f)
 
-module _ (past : Past) (cleared : IsCleared past) (plain : IsPlain past) (s : Standing) (stands : IsStanding s past) where
+module _ (past : Past) (cleared : IsCleared past) (plain : IsPlain past) (s : OrderState) (present : MatchesOrderState s past) where
   low : (x : Signaled) → Contains s.signals x → (x.clock.available ≤ length past) × (x.clock.readable ≤ length past)
   low x c =
-      let u = stands.under x c in
-      let a = stands.bounded.signals in
-      let r = stands.bounded.visible_signals in
+      let u = present.under x c in
+      let a = present.bounded.signals in
+      let r = present.bounded.visible_signals in
       let ua = u.0 in
       let ur = u.1 in (omega (arith, a, ua), omega (arith, r, ur))
 
   -- the signals stay where no point signals
   kept_forward : (p : Point) (x : Signaled) → Contains s.signals x → (m : Node) × Contains (nodes (p ∷ past)) m × (signaled_by m.act ≡ Some (x.semaphore, x.value)) × IsClocked (p ∷ past) x.clock m
-  kept_forward p x c = let f = stands.forward x c in let b = low x c in (f.0, with_keeps p (acts p.action) (nodes past) f.0 f.1, f.2, clocked_stays p past x.clock f.0 f.1 b.0 b.1 f.3)
+  kept_forward p x c = let f = present.forward x c in let b = low x c in (f.0, with_keeps p (acts p.action) (nodes past) f.0 f.1, f.2, clocked_stays p past x.clock f.0 f.1 b.0 b.1 f.3)
 
   kept_old : (p : Point) (m : Node) → Contains (nodes past) m → (t v : ℕ) → signaled_by m.act ≡ Some (t, v) → (x : Signaled) × Contains s.signals x × (x.semaphore ≡ t) × (x.value ≡ v) × IsClocked (p ∷ past) x.clock m
-  kept_old p m c t v e = let f = stands.backward m c t v e in let b = low f.0 f.1 in (f.0, f.1, f.2, f.3, clocked_stays p past f.0.clock m c b.0 b.1 f.4)
+  kept_old p m c t v e = let f = present.backward m c t v e in let b = low f.0 f.1 in (f.0, f.1, f.2, f.3, clocked_stays p past f.0.clock m c b.0 b.1 f.4)
 
   kept_backward : (p : Point) → ((a : Act) → Contains (acts p.action) a → signaled_by a ≡ None) → (m : Node) → Contains (nodes (p ∷ past)) m → (t v : ℕ) → signaled_by m.act ≡ Some (t, v)
       → (x : Signaled) × Contains s.signals x × (x.semaphore ≡ t) × (x.value ≡ v) × IsClocked (p ∷ past) x.clock m
@@ -117,14 +117,14 @@ module _ (past : Past) (cleared : IsCleared past) (plain : IsPlain past) (s : St
 
   -- ---- a host entry
   pub after_host : (p : Point) (x : Entry) → signaled_by (Hosts x) ≡ None → (ws : List SemaphoreValue) → host_waits x ≡ map (λ (w : SemaphoreValue). (w.semaphore, w.value)) ws
-      → IsStanding (record { order = after_waits past s.signals ws s.order; signals = s.signals }) (record p { action = Host x } ∷ past)
+      → MatchesOrderState (record { order = after_waits past s.signals ws s.order; signals = s.signals }) (record p { action = Host x } ∷ past)
   after_host p x quiet ws waits = record {
-    bounded = more_points (after_waits past s.signals ws s.order) (length past) (bounded_waits past s.signals stands.rising (length past) low ws s.order stands.bounded);
-    rising = stands.rising;
-    under = λ y c. subst (λ (k : Clock). Under y.clock k) (sym (waits_signals ws s.order)) (stands.under y c);
+    bounded = more_points (after_waits past s.signals ws s.order) (length past) (bounded_waits past s.signals present.rising (length past) low ws s.order present.bounded);
+    rising = present.rising;
+    under = λ y c. subst (λ (k : Clock). Under y.clock k) (sym (waits_signals ws s.order)) (present.under y c);
     means = λ w j at. elim at [
       | inl new ↦ absurd (let bad : Host x ≡ Run new.command = new.runs in cc)
-      | inr old ↦ host_means past cleared simple w j s.signals stands.rising (λ y c. let f = stands.forward y c in let h = f.3 w j old in (f.0, f.1, f.2, h.0, h.1)) (λ m c t v e. let f = stands.backward m c t v e in let h = f.4 w j old in (f.0, f.1, f.2, f.3, h.0, h.1)) (record p { action = Host x }) x ws waits s.order (stands.means w j old)
+      | inr old ↦ host_means past cleared simple w j s.signals present.rising (λ y c. let f = present.forward y c in let h = f.3 w j old in (f.0, f.1, f.2, h.0, h.1)) (λ m c t v e. let f = present.backward m c t v e in let h = f.4 w j old in (f.0, f.1, f.2, f.3, h.0, h.1)) (record p { action = Host x }) x ws waits s.order (present.means w j old)
     ];
     forward = kept_forward (record p { action = Host x });
     backward = kept_backward (record p { action = Host x }) (λ a c. elim (contains-cons (Hosts x) [] a c) [ inl same ↦ ap signaled_by (sym same) ∙ quiet | inr later ↦ absurd (none_in a later) ]);
@@ -141,17 +141,17 @@ module _ (past : Past) (cleared : IsCleared past) (plain : IsPlain past) (s : St
   filling p c = record { number = length (nodes past); point = record p { action = Run c }; act = Runs c }
 
   -- the order still stands after a fill
-  pub after_fill : (p : Point) (b o : ℕ) (n : Length) (word : ℕ) → IsStanding s (record p { action = Run (cmd.Fill b o n word) } ∷ past)
+  pub after_fill : (p : Point) (b o : ℕ) (n : Length) (word : ℕ) → MatchesOrderState s (record p { action = Run (cmd.Fill b o n word) } ∷ past)
   after_fill p b o n word = record {
-    bounded = more_points s.order (length past) stands.bounded;
-    rising = stands.rising;
-    under = stands.under;
+    bounded = more_points s.order (length past) present.bounded;
+    rising = present.rising;
+    under = present.under;
     means = λ w j at. elim at [
       | inl new ↦ (let same : cmd.Fill b o n word ≡ new.command = command_is new.command new.runs in
           let count = new.count in
           subst (λ (k : ℕ). Means s.order (filling p (cmd.Fill b o n word) ∷ nodes past) w k) (sym count) (subst (λ (v : Node). Means s.order (filling p (cmd.Fill b o n word) ∷ nodes past) v (length past)) (sym (new.node_is ∙ ap (λ (c : Cmd). record { number = length (nodes past); point = record p { action = Run (cmd.Fill b o n word) }; act = Runs c }) (sym same)))
-          (newest_means s.order (filling p (cmd.Fill b o n word)) (nodes past) refl (numbered past) (length past) stands.bounded)))
-      | inr old ↦ run_means (nodes past) (numbered past) simple (record p { action = Run (cmd.Fill b o n word) }) (cmd.Fill b o n word) s.order w j (stands.means w j old)
+          (newest_means s.order (filling p (cmd.Fill b o n word)) (nodes past) refl (numbered past) (length past) present.bounded)))
+      | inr old ↦ run_means (nodes past) (numbered past) simple (record p { action = Run (cmd.Fill b o n word) }) (cmd.Fill b o n word) s.order w j (present.means w j old)
     ];
     forward = kept_forward (record p { action = Run (cmd.Fill b o n word) });
     backward = kept_backward (record p { action = Run (cmd.Fill b o n word) }) (λ a c. elim (contains-cons (Runs (cmd.Fill b o n word)) [] a c) [ inl same ↦ ap signaled_by (sym same) | inr later ↦ absurd (none_in a later) ]);
@@ -173,14 +173,14 @@ module _ (past : Past) (cleared : IsCleared past) (plain : IsPlain past) (s : St
 
     -- and after a barrier
     pub after_barrier : (es : List Element) → list_all is_memory es ≡ true → IsElsewhere (record p { action = Run (cmd.Barrier es) }) past
-        → IsStanding (record { order = after_elements s.order (length past) es s.order; signals = s.signals }) (record p { action = Run (cmd.Barrier es) } ∷ past)
+        → MatchesOrderState (record { order = after_elements s.order (length past) es s.order; signals = s.signals }) (record p { action = Run (cmd.Barrier es) } ∷ past)
     after_barrier es all away = record {
-      bounded = more_points (after_elements s.order (length past) es s.order) (length past) (bounded_elements s.order s.order (length past) es stands.bounded stands.bounded);
-      rising = stands.rising;
-      under = λ y c. subst (λ (k : Clock). Under y.clock k) (sym (elements_signals es s.order)) (stands.under y c);
+      bounded = more_points (after_elements s.order (length past) es s.order) (length past) (bounded_elements s.order s.order (length past) es present.bounded present.bounded);
+      rising = present.rising;
+      under = λ y c. subst (λ (k : Clock). Under y.clock k) (sym (elements_signals es s.order)) (present.under y c);
       means = λ w j at. elim at [
         | inl new ↦ absurd (alone_fill new.command es all (let same : cmd.Barrier es ≡ new.command = command_is new.command new.runs in same) new.alone)
-        | inr old ↦ (let h = command_stands past w j old in barrier_means (nodes past) (numbered past) simple on_0 (at_run (cmd.Barrier es)) queue after w j (length past) h.0 h.1 h.2 s.order (stands.means w j old) (elsewhere past (at_run (cmd.Barrier es)) (cmd.Barrier es) refl away) es all)
+        | inr old ↦ (let h = command_present past w j old in barrier_means (nodes past) (numbered past) simple on_0 (at_run (cmd.Barrier es)) queue after w j (length past) h.0 h.1 h.2 s.order (present.means w j old) (elsewhere past (at_run (cmd.Barrier es)) (cmd.Barrier es) refl away) es all)
       ];
       forward = kept_forward (at_run (cmd.Barrier es));
       backward = kept_backward (at_run (cmd.Barrier es)) (λ a c. quiet_elements es a c);
@@ -215,7 +215,7 @@ module _ (past : Past) (cleared : IsCleared past) (plain : IsPlain past) (s : St
     new_signal x = record { semaphore = x.semaphore; value = x.value; clock = signal_at s.order x.stages.0 (length past) }
 
     -- and after a signal
-    pub after_signal_point : (x : SemaphoreSubmit) → IsStanding (after_signal x (signal_at s.order x.stages.0 (length past)) s) (record p { action = Signal x } ∷ past)
+    pub after_signal_point : (x : SemaphoreSubmit) → MatchesOrderState (after_signal x (signal_at s.order x.stages.0 (length past)) s) (record p { action = Signal x } ∷ past)
     after_signal_point x = record {
       bounded = more_points (record s.order { signals = joined s.order.signals (new_clock x) }) (length past) (record {
         transfers = b.transfers;
@@ -227,14 +227,14 @@ module _ (past : Past) (cleared : IsCleared past) (plain : IsPlain past) (s : St
         hosts = b.hosts;
         visible_hosts = b.visible_hosts;
       });
-      rising = ((λ y c. let u = stands.under y c in let ua = u.0 in let ur = u.1 in let ca = over_signals.0 in let cr = over_signals.1 in (omega (arith, ua, ca), omega (arith, ur, cr))), stands.rising);
+      rising = ((λ y c. let u = present.under y c in let ua = u.0 in let ur = u.1 in let ca = over_signals.0 in let cr = over_signals.1 in (omega (arith, ua, ca), omega (arith, ur, cr))), present.rising);
       under = λ y c. elim (contains-cons (new_signal x) s.signals y c) [
         | inl same ↦ subst (λ (k : Signaled). Under k.clock (joined s.order.signals (new_clock x))) same (let ca : (new_clock x).available ≤ max s.order.signals.available (new_clock x).available = omega arith in let cr : (new_clock x).readable ≤ max s.order.signals.readable (new_clock x).readable = omega arith in (ca, cr))
-        | inr older ↦ (let u = stands.under y older in let ua = u.0 in let ur = u.1 in (omega (arith, ua), omega (arith, ur)))
+        | inr older ↦ (let u = present.under y older in let ua = u.0 in let ur = u.1 in (omega (arith, ua), omega (arith, ur)))
       ];
       means = λ w j at. elim at [
         | inl new ↦ absurd (let bad : Signal x ≡ Run new.command = new.runs in cc)
-        | inr old ↦ (let h = command_stands past w j old in signal_means (nodes past) (numbered past) simple on_0 (at_signal x) queue after w j (length past) h.0 h.1 h.2 s.order (stands.means w j old) x)
+        | inr old ↦ (let h = command_present past w j old in signal_means (nodes past) (numbered past) simple on_0 (at_signal x) queue after w j (length past) h.0 h.1 h.2 s.order (present.means w j old) x)
       ];
       forward = λ y c. elim (contains-cons (new_signal x) s.signals y c) [
         | inl same ↦ (signaling x, contains-head (signaling x) (nodes past), ap (λ (k : Signaled). Some (k.semaphore, k.value)) same, subst (λ (k : Signaled). IsClocked (at_signal x ∷ past) k.clock (signaling x)) same clocked)
@@ -247,7 +247,7 @@ module _ (past : Past) (cleared : IsCleared past) (plain : IsPlain past) (s : St
       ];
     } where
       b : IsBounded s.order (length past)
-      b = stands.bounded
+      b = present.bounded
 
       value_of : (y z : ℕ × ℕ) → Some y ≡ Some z → y ≡ z
       value_of y z e = cc
@@ -272,11 +272,11 @@ module _ (past : Past) (cleared : IsCleared past) (plain : IsPlain past) (s : St
 
       clocked : IsClocked (at_signal x ∷ past) (new_clock x) (signaling x)
       clocked w j (inl new) = absurd (let bad : Signal x ≡ Run new.command = new.runs in cc)
-      clocked w j (inr old) = let h = command_stands past w j old in (signal_available (nodes past) (numbered past) simple on_0 (at_signal x) queue after w j (length past) h.0 h.1 h.2 s.order (stands.means w j old) x, signal_visible (nodes past) (numbered past) simple on_0 (at_signal x) queue after w j (length past) h.0 h.1 h.2 s.order (stands.means w j old) x)
+      clocked w j (inr old) = let h = command_present past w j old in (signal_available (nodes past) (numbered past) simple on_0 (at_signal x) queue after w j (length past) h.0 h.1 h.2 s.order (present.means w j old) x, signal_visible (nodes past) (numbered past) simple on_0 (at_signal x) queue after w j (length past) h.0 h.1 h.2 s.order (present.means w j old) x)
 
 -- the order that is kept says of every point's nodes what they do
-pub stands : (past : Past) → IsCleared past → IsPlain past → IsApart past → IsStanding (standing past) past
-stands [] cleared plain apart = record {
+pub present : (past : Past) → IsCleared past → IsPlain past → IsApart past → MatchesOrderState (order_state past) past
+present [] cleared plain apart = record {
   bounded = record { transfers = zero_low; writes = zero_low; host_stages = zero_low; host_reads = zero_low; signals = zero_low; visible_signals = zero_low; hosts = zero_low; visible_hosts = zero_low };
   rising = tt;
   under = λ x c. absurd (none_in x c);
@@ -286,18 +286,18 @@ stands [] cleared plain apart = record {
 } where
   zero_low : 0 ≤ 0
   zero_low = omega arith
-stands (p ∷ past) cleared plain apart = next p.action cleared.0.supported plain.0 apart.0 (stands past cleared.1 plain.1 apart.1) where
-  next : (d : Action) → is_supported_action d ≡ true → Placed (host_of d) p past → IsElsewhere (record p { action = d }) past → IsStanding (standing past) past → IsStanding (after_action past d (standing past)) (record p { action = d } ∷ past)
-  next = let P : Action → Type 0 = λ d. Placed (host_of d) p past → IsElsewhere (record p { action = d }) past → IsStanding (standing past) past → IsStanding (after_action past d (standing past)) (record p { action = d } ∷ past) in
+present (p ∷ past) cleared plain apart = next p.action cleared.0.supported plain.0 apart.0 (present past cleared.1 plain.1 apart.1) where
+  next : (d : Action) → is_supported_action d ≡ true → Placed (host_of d) p past → IsElsewhere (record p { action = d }) past → MatchesOrderState (order_state past) past → MatchesOrderState (after_action past d (order_state past)) (record p { action = d } ∷ past)
+  next = let P : Action → Type 0 = λ d. Placed (host_of d) p past → IsElsewhere (record p { action = d }) past → MatchesOrderState (order_state past) past → MatchesOrderState (after_action past d (order_state past)) (record p { action = d } ∷ past) in
       action_cases P
       (entry_cases (λ x. P (Host x))
-      (λ i b t is other placed away old. after_host past cleared.1 plain.1 (standing past) old p (entry.Buffer i b) refl [] refl)
-      (λ b placed away old. after_host past cleared.1 plain.1 (standing past) old p (entry.Map b) refl [] refl)
-      (λ b o n placed away old. after_host past cleared.1 plain.1 (standing past) old p (entry.Read b o n) refl [] refl)
-      (λ i v placed away old. after_host past cleared.1 plain.1 (standing past) old p (entry.Semaphore i v) refl [] refl)
-      (λ ws placed away old. after_host past cleared.1 plain.1 (standing past) old p (entry.Wait ws) refl ws refl)
-      (λ bs placed away old. after_host past cleared.1 plain.1 (standing past) old p (entry.Submit 0 bs) refl [] refl))
+      (λ i b t is other placed away old. after_host past cleared.1 plain.1 (order_state past) old p (entry.Buffer i b) refl [] refl)
+      (λ b placed away old. after_host past cleared.1 plain.1 (order_state past) old p (entry.Map b) refl [] refl)
+      (λ b o n placed away old. after_host past cleared.1 plain.1 (order_state past) old p (entry.Read b o n) refl [] refl)
+      (λ i v placed away old. after_host past cleared.1 plain.1 (order_state past) old p (entry.Semaphore i v) refl [] refl)
+      (λ ws placed away old. after_host past cleared.1 plain.1 (order_state past) old p (entry.Wait ws) refl ws refl)
+      (λ bs placed away old. after_host past cleared.1 plain.1 (order_state past) old p (entry.Submit 0 bs) refl [] refl))
       (command_cases (λ c. P (Run c))
-      (λ b o n w placed away old. after_fill past cleared.1 plain.1 (standing past) old p b o n w)
-      (λ es all placed away old. after_barrier past cleared.1 plain.1 (standing past) old p placed es all away))
-      (λ s placed away old. after_signal_point past cleared.1 plain.1 (standing past) old p placed s)
+      (λ b o n w placed away old. after_fill past cleared.1 plain.1 (order_state past) old p b o n w)
+      (λ es all placed away old. after_barrier past cleared.1 plain.1 (order_state past) old p placed es all away))
+      (λ s placed away old. after_signal_point past cleared.1 plain.1 (order_state past) old p placed s)

@@ -1,7 +1,7 @@
 -- How a device stands to what has happened, what it asks of what comes next, and what it answers.
 use Rattle.std.specs.Prelude.{◌≡◌, ℕ, ◌+◌, ◌≤◌, List, [], ◌∷◌, ◌++◌, length, true, false, Option, Some, None, IsSome, option_map, ⊤}
 use Rattle.std.specs.List.{fold}
-use Rattle.vk_memory.specs.Standing.{IsFull, fresh}
+use Rattle.vk_memory.specs.MemoryState.{IsFull, fresh}
 use Rattle.vk_model.specs.declared.command.Cmd.{Cmd}
 use Rattle.vk_model.specs.declared.command.Length.{Length}
 use Rattle.vk_model.specs.declared.entry.Batch.{Batch}
@@ -28,7 +28,7 @@ IsThere s (in_buffer b k) = IsSome (placed s b)
 IsThere s (in_image i l a x y p) = ⊥
 
 -- A device holds what a past means: the buffers that were made, and the value of each byte that is defined.
-pub record Stands (past : Past) (s : Held) : Type 0 where
+pub record Matches (past : Past) (s : Held) : Type 0 where
   -- the buffers are those that were made
   pub sizes : (b : ℕ) → option_map (λ p. p.size) (placed s b) ≡ option_map (λ i. i.size) (buffer past b)
   -- a byte that is defined is there, with its value
@@ -48,27 +48,27 @@ run_point e b k q c = record { entry = e; batch = b; place = k; queue = q; actio
 
 -- A device stands to some past in which the command that comes next fits.
 abbrev pub CommandReady : Held → Cmd → Type 0
-CommandReady s c = (past : Past) × Stands past s × FitsCommand past c
+CommandReady s c = (past : Past) × Matches past s × FitsCommand past c
 
 -- The same for the commands of a batch.
 abbrev pub CommandsReady : Held → List Cmd → Type 0
-CommandsReady s cs = (t : SubmittedBatch) × (past : Past) × Stands past s × AllFit (actions Run t 0 cs past)
+CommandsReady s cs = (t : SubmittedBatch) × (past : Past) × Matches past s × AllFit (actions Run t 0 cs past)
 
 -- The same for a batch.
 abbrev pub BatchReady : Held → Batch → Type 0
-BatchReady s b = (t : SubmittedBatch) × (past : Past) × Stands past s × (t.content ≡ b) × AllFit (started t past)
+BatchReady s b = (t : SubmittedBatch) × (past : Past) × Matches past s × (t.content ≡ b) × AllFit (started t past)
 
 -- The same for the batches of a submit.
 abbrev pub BatchesReady : Held → List Batch → Type 0
-BatchesReady s bs = (at : Past) × (e : ℕ) × (q : ℕ) × (past : Past) × Stands past s × AllFit (batches_past at e q 0 bs past)
+BatchesReady s bs = (at : Past) × (e : ℕ) × (q : ℕ) × (past : Past) × Matches past s × AllFit (batches_past at e q 0 bs past)
 
 -- The same for an entry.
 abbrev pub Ready : Held → Entry → Type 0
-Ready s x = (e : ℕ) × (past : Past) × Stands past s × AllFit (next_past e x past)
+Ready s x = (e : ℕ) × (past : Past) × Matches past s × AllFit (next_past e x past)
 
 -- A device stands to some entries that break no rule, and neither does the entry that comes next.
 abbrev pub IsNext : Held → Entry → Type 0
-IsNext s x = (e : ℕ) × (past : Past) × Stands past s × IsClean (next_past e x past)
+IsNext s x = (e : ℕ) × (past : Past) × Matches past s × IsClean (next_past e x past)
 
 -- A fill lies in the buffer, where there is one.
 abbrev pub MayFill : Option Placed → ℕ → Length → Type 0
@@ -105,6 +105,6 @@ Allots _ x old new = allotted new.memory ≡ with_asked (allotted old.memory) x
 
 -- What an entry is answered: the bytes that it means, if it reads. Then the device stands to the past with the entry; where there was no room it is as it was.
 abbrev pub Told : Applied → ℕ → Entry → Past → Held → Held → Type 0
-Told applied.Done e x past old new = Stands (next_past e x past) new × (read_in (world past) e x ≡ [])
-Told (applied.Bytes bytes) e x past old new = Stands (next_past e x past) new × (read_in (world past) e x ≡ (e, bytes) ∷ [])
+Told applied.Done e x past old new = Matches (next_past e x past) new × (read_in (world past) e x ≡ [])
+Told (applied.Bytes bytes) e x past old new = Matches (next_past e x past) new × (read_in (world past) e x ≡ (e, bytes) ∷ [])
 Told applied.NoRoom e x past old new = new ≡ old
