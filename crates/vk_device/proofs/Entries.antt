@@ -24,7 +24,7 @@ use Rattle.vk_device.specs.declared.applied.Applied.TheVariants as applied
 use Rattle.vk_device.specs.declared.device.Placed.{Placed}
 use Rattle.vk_device.specs.Held.{Held, IsApart, placed, byte_in, byte_at, MapsAt}
 use Rattle.vk_device.specs.Fits.{AllFit, FitsEntry, FitsRead}
-use Rattle.vk_device.specs.Matches.{IsThere, Matches, next_past, batches_past, Makes, MadeOr, Told}
+use Rattle.vk_device.specs.Matches.{IsThere, Matches, next_past, batches_past, Makes, MadeOr, Answered}
 use Rattle.vk_device.proofs.Steps.{there_placed}
 
 -- ---- a new buffer
@@ -72,11 +72,11 @@ module _ (old new : Held) (apart : IsApart old.memory old.buffers) (i t : ℕ) (
           (rw kept.0 was.0, rw kept.0 kept.1)
       go (in_image j l a x y p) v was = absurd was.0
 
-pub buffer_told : (old new : Held) (y : Entry) (i t : ℕ) (info : BufferInfo) → y ≡ entry.Buffer i info → IsApart old.memory old.buffers → (a : Applied) → MadeOr a old new i t info.size → (e : ℕ) (past : Past) → Matches past old → AllFit (next_past e y past) → Told a e y past old new
-buffer_told old new y i t info is apart a made e past st fit =
-    subst (λ (x : Entry). Told a e x past old new) (sym is) (go a made (subst (λ (x : Entry). AllFit (next_past e x past)) is fit))
+pub buffer_answered : (old new : Held) (y : Entry) (i t : ℕ) (info : BufferInfo) → y ≡ entry.Buffer i info → IsApart old.memory old.buffers → (a : Applied) → MadeOr a old new i t info.size → (e : ℕ) (past : Past) → Matches past old → AllFit (next_past e y past) → Answered a e y past old new
+buffer_answered old new y i t info is apart a made e past st fit =
+    subst (λ (x : Entry). Answered a e x past old new) (sym is) (go a made (subst (λ (x : Entry). AllFit (next_past e x past)) is fit))
   where
-    go : (a : Applied) → MadeOr a old new i t info.size → AllFit (next_past e (entry.Buffer i info) past) → Told a e (entry.Buffer i info) past old new
+    go : (a : Applied) → MadeOr a old new i t info.size → AllFit (next_past e (entry.Buffer i info) past) → Answered a e (entry.Buffer i info) past old new
     go applied.Done made f = (buffer_matches old new apart i t info made.0 past st f.0.0 e, refl)
     go (applied.Bytes bytes) made f = absurd made
     go applied.NoRoom made f = made.0
@@ -104,12 +104,12 @@ module _ (past : Past) (s : Held) (st : Matches past s) (b o n : ℕ) (p : Place
       ext_get_or 0 (map f (range_with_len 0 n)) (piece (region_of s.memory p.object) o n) (long ∙ sym (length-piece (region_of s.memory p.object) o n room))
       (λ i lt. let lt' : i < n = omega arith in get_or-map-range_with_len f 0 n i i 0 lt' (omega arith) ∙ byte_read i lt' ∙ sym (piece_at (region_of s.memory p.object) o n i lt' room))
 
-pub read_told : (s : Held) (y : Entry) (b o n : ℕ) (bytes : List ℕ) → y ≡ entry.Read b o n → IsApart s.memory s.buffers → ((p : Placed) → placed s b ≡ Some p → bytes ≡ piece (region_of s.memory p.object) o n)
-    → (e : ℕ) (past : Past) → Matches past s → AllFit (next_past e y past) → Told (applied.Bytes bytes) e y past s s
-read_told s y b o n bytes is apart got e past st fit =
-    subst (λ (x : Entry). Told (applied.Bytes bytes) e x past s s) (sym is) (go (buffer past b) refl (subst (λ (x : Entry). AllFit (next_past e x past)) is fit).0)
+pub read_answered : (s : Held) (y : Entry) (b o n : ℕ) (bytes : List ℕ) → y ≡ entry.Read b o n → IsApart s.memory s.buffers → ((p : Placed) → placed s b ≡ Some p → bytes ≡ piece (region_of s.memory p.object) o n)
+    → (e : ℕ) (past : Past) → Matches past s → AllFit (next_past e y past) → Answered (applied.Bytes bytes) e y past s s
+read_answered s y b o n bytes is apart got e past st fit =
+    subst (λ (x : Entry). Answered (applied.Bytes bytes) e x past s s) (sym is) (go (buffer past b) refl (subst (λ (x : Entry). AllFit (next_past e x past)) is fit).0)
   where
-    go : (x : Option BufferInfo) → buffer past b ≡ x → FitsEntry past (entry.Read b o n) → Told (applied.Bytes bytes) e (entry.Read b o n) past s s
+    go : (x : Option BufferInfo) → buffer past b ≡ x → FitsEntry past (entry.Read b o n) → Answered (applied.Bytes bytes) e (entry.Read b o n) past s s
     go None e' f = absurd (subst (λ (x : Option BufferInfo). FitsRead x o n) e' f.0)
     go (Some info) e' f =
         let at = there_placed past s b info st e' in
@@ -146,8 +146,8 @@ mapped_matches past s o lt st = record {
     go (in_buffer b k) v was = (was.0, byte (placed s b) k ∙ was.1)
     go (in_image j l a x y p) v was = absurd was.0
 
-pub map_told : (s s' : Held) (y : Entry) (b : ℕ) (o : Option Placed) → y ≡ entry.Map b → MapsAt s s' o → (e : ℕ) (past : Past) → Matches past s → Matches (next_past e y past) s' × (read_in (world past) e y ≡ [])
-map_told s s' y b o is maps e past st =
+pub map_answered : (s s' : Held) (y : Entry) (b : ℕ) (o : Option Placed) → y ≡ entry.Map b → MapsAt s s' o → (e : ℕ) (past : Past) → Matches past s → Matches (next_past e y past) s' × (read_in (world past) e y ≡ [])
+map_answered s s' y b o is maps e past st =
     subst (λ (x : Entry). Matches (next_past e x past) s' × (read_in (world past) e x ≡ [])) (sym is) (mapped o maps, refl)
   where
     here : Matches (next_past e (entry.Map b) past) s
@@ -160,8 +160,8 @@ map_told s s' y b o is maps e past st =
 
 -- ---- a submit
 
-pub submit_told : (s s' : Held) (y : Entry) (q : ℕ) (bs : List Batch) → y ≡ entry.Submit q bs → ((at : Past) (e r : ℕ) (past : Past) → Matches past s → AllFit (batches_past at e r 0 bs past) → Matches (batches_past at e r 0 bs past) s')
-    → (e : ℕ) (past : Past) → Matches past s → AllFit (next_past e y past) → Told applied.Done e y past s s'
-submit_told s s' y q bs is ran e past st fit =
-    subst (λ (x : Entry). Told applied.Done e x past s s') (sym is)
+pub submit_answered : (s s' : Held) (y : Entry) (q : ℕ) (bs : List Batch) → y ≡ entry.Submit q bs → ((at : Past) (e r : ℕ) (past : Past) → Matches past s → AllFit (batches_past at e r 0 bs past) → Matches (batches_past at e r 0 bs past) s')
+    → (e : ℕ) (past : Past) → Matches past s → AllFit (next_past e y past) → Answered applied.Done e y past s s'
+submit_answered s s' y q bs is ran e past st fit =
+    subst (λ (x : Entry). Answered applied.Done e x past s s') (sym is)
     (ran past e q (host e (entry.Submit q bs) ∷ past) (record { sizes = st.sizes; values = st.values }) (subst (λ (x : Entry). AllFit (next_past e x past)) is fit), refl)

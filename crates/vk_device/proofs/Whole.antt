@@ -15,16 +15,16 @@ use Rattle.vk_device.specs.declared.applied.Applied.TheVariants as applied
 use Rattle.vk_device.specs.Allotted.{allotted, with_asked, finds_no_room, stop_from, first_stop}
 use Rattle.vk_device.specs.Held.{Held}
 use Rattle.vk_device.specs.Clean.{IsClean}
-use Rattle.vk_device.specs.Matches.{Matches, next_past, IsNext, Told, Rooms, Allots}
+use Rattle.vk_device.specs.Matches.{Matches, next_past, IsNext, Answered, Rooms, Allots}
 use Rattle.vk_device.specs.Replays.{StopsAt}
 use Rattle.vk_device.proofs.Allotting.{stop_here, stop_later}
 use Rattle.vk_device.proofs.Clean.{clean_plain}
 use Rattle.vk_device.proofs.Steps.{plain_more, plain_append, reads_next}
 
 -- what holds after i entries
-pub record Replays (config : Config) (t : List Entry) (i : ℕ) (told : Reads) (s : Held) : Type 0 where
+pub record Replays (config : Config) (t : List Entry) (i : ℕ) (reported : Reads) (s : Held) : Type 0 where
   pub matches : Matches (plain_order (take i t)) s
-  pub same : told ≡ meaning t i
+  pub same : reported ≡ meaning t i
   pub goes_on : stop_from (allotted s.memory) i (drop i t) ≡ first_stop config t
   pub works : s.failed ≡ false
 
@@ -56,40 +56,40 @@ fit_front t i fit =
 next_fits : (t : List Entry) (i : ℕ) (x : Entry) → IsClean (plain_order t) → x ≡ get_or t i x → i < length t → IsClean (next_past i x (plain_order (take i t)))
 next_fits t i x fit is lt = subst IsClean (one_more t i x is lt) (fit_front t (i + 1) fit)
 
-pub entry_ready : (config : Config) (t : List Entry) (i : ℕ) (told : Reads) (s : Held) (x : Entry) → IsClean (plain_order t) → Replays config t i told s → x ≡ get_or t i x → i < length t → IsTrue s.failed ⊎ IsNext s x
-entry_ready config t i told s x fit so_far is lt = inr (i, plain_order (take i t), so_far.matches, next_fits t i x fit is lt)
+pub entry_ready : (config : Config) (t : List Entry) (i : ℕ) (reported : Reads) (s : Held) (x : Entry) → IsClean (plain_order t) → Replays config t i reported s → x ≡ get_or t i x → i < length t → IsTrue s.failed ⊎ IsNext s x
+entry_ready config t i reported s x fit so_far is lt = inr (i, plain_order (take i t), so_far.matches, next_fits t i x fit is lt)
 
-replays_more : (config : Config) (t : List Entry) (i : ℕ) (told : Reads) (s s' : Held) (x : Entry) (new : Reads) → IsClean (plain_order t) → Replays config t i told s → x ≡ get_or t i x → i < length t
-    → Matches (next_past i x (plain_order (take i t))) s' → read_in (world (plain_order (take i t))) i x ≡ new → finds_no_room (allotted s.memory) x ≡ false → allotted s'.memory ≡ with_asked (allotted s.memory) x → s'.failed ≡ false → Replays config t (i + 1) (told ++ new) s'
+replays_more : (config : Config) (t : List Entry) (i : ℕ) (reported : Reads) (s s' : Held) (x : Entry) (new : Reads) → IsClean (plain_order t) → Replays config t i reported s → x ≡ get_or t i x → i < length t
+    → Matches (next_past i x (plain_order (take i t))) s' → read_in (world (plain_order (take i t))) i x ≡ new → finds_no_room (allotted s.memory) x ≡ false → allotted s'.memory ≡ with_asked (allotted s.memory) x → s'.failed ≡ false → Replays config t (i + 1) (reported ++ new) s'
 unfolding meaning
-replays_more config t i told s s' x new fit so_far is lt st gave room allots works = record {
+replays_more config t i reported s s' x new fit so_far is lt st gave room allots works = record {
   matches = subst (λ (p : Past). Matches p s') (sym (one_more t i x is lt)) st;
   same = ap (λ (r : Reads). r ++ new) so_far.same ∙ ap (λ (r : Reads). meaning t i ++ r) (sym gave) ∙ sym (reads_next i x (plain_order (take i t))) ∙ ap reads (sym (one_more t i x is lt));
   goes_on = sym (stop_later (allotted s.memory) (allotted s'.memory) i x (drop (i + 1) t) room allots) ∙ ap (λ (l : List Entry). stop_from (allotted s.memory) i l) (sym (entries_from t i x is lt)) ∙ so_far.goes_on;
   works = works;
 }
 
-abbrev pub TellsAt : Applied → Entry → Held → Held → Type 0
-TellsAt a x s s' = (e : ℕ) (past : Past) → Matches past s → IsClean (next_past e x past) → Told a e x past s s'
+abbrev pub AnsweredAt : Applied → Entry → Held → Held → Type 0
+AnsweredAt a x s s' = (e : ℕ) (past : Past) → Matches past s → IsClean (next_past e x past) → Answered a e x past s s'
 
-pub stops : (config : Config) (t : List Entry) (i : ℕ) (told : Reads) (s s' : Held) (x : Entry) (a : Applied) → IsClean (plain_order t) → Replays config t i told s → x ≡ get_or t i x → i < length t → a ≡ applied.NoRoom → TellsAt a x s s' → Rooms a s x → StopsAt t i s' × (Some i ≡ first_stop config t)
-stops config t i told s s' x a fit so_far is lt no_room tells rooms =
-    let same : s' ≡ s = subst (λ (b : Applied). TellsAt b x s s') no_room tells i (plain_order (take i t)) so_far.matches (next_fits t i x fit is lt) in
+pub stops : (config : Config) (t : List Entry) (i : ℕ) (reported : Reads) (s s' : Held) (x : Entry) (a : Applied) → IsClean (plain_order t) → Replays config t i reported s → x ≡ get_or t i x → i < length t → a ≡ applied.NoRoom → AnsweredAt a x s s' → Rooms a s x → StopsAt t i s' × (Some i ≡ first_stop config t)
+stops config t i reported s s' x a fit so_far is lt no_room answers rooms =
+    let same : s' ≡ s = subst (λ (b : Applied). AnsweredAt b x s s') no_room answers i (plain_order (take i t)) so_far.matches (next_fits t i x fit is lt) in
     let full : finds_no_room (allotted s.memory) x ≡ true = subst (λ (b : Applied). Rooms b s x) no_room rooms in (
       (lt, rw same so_far.matches, x, slice_get-get_or t i x lt ∙ ap (λ (y : Entry). Some y) (sym is), rw same full),
       sym (stop_here (allotted s.memory) i x (drop (i + 1) t) full) ∙ ap (λ (l : List Entry). stop_from (allotted s.memory) i l) (sym (entries_from t i x is lt)) ∙ so_far.goes_on,
     )
 
-pub after_done : (config : Config) (t : List Entry) (i : ℕ) (told : Reads) (s s' : Held) (x : Entry) (a : Applied) → IsClean (plain_order t) → Replays config t i told s → x ≡ get_or t i x → i < length t → a ≡ applied.Done → TellsAt a x s s' → Rooms a s x → Allots a x s s' → s'.failed ≡ false → Replays config t (i + 1) told s'
-after_done config t i told s s' x a fit so_far is lt done tells rooms allots works =
-    let now = subst (λ (b : Applied). TellsAt b x s s') done tells i (plain_order (take i t)) so_far.matches (next_fits t i x fit is lt) in
+pub after_done : (config : Config) (t : List Entry) (i : ℕ) (reported : Reads) (s s' : Held) (x : Entry) (a : Applied) → IsClean (plain_order t) → Replays config t i reported s → x ≡ get_or t i x → i < length t → a ≡ applied.Done → AnsweredAt a x s s' → Rooms a s x → Allots a x s s' → s'.failed ≡ false → Replays config t (i + 1) reported s'
+after_done config t i reported s s' x a fit so_far is lt done answers rooms allots works =
+    let now = subst (λ (b : Applied). AnsweredAt b x s s') done answers i (plain_order (take i t)) so_far.matches (next_fits t i x fit is lt) in
     let room = subst (λ (b : Applied). Rooms b s x) done rooms in
     let more = subst (λ (b : Applied). Allots b x s s') done allots in
-    rw (← append-nil told) (replays_more config t i told s s' x [] fit so_far is lt now.0 now.1 room more works)
+    rw (← append-nil reported) (replays_more config t i reported s s' x [] fit so_far is lt now.0 now.1 room more works)
 
-pub after_bytes : (config : Config) (t : List Entry) (i : ℕ) (told : Reads) (s s' : Held) (x : Entry) (a : Applied) (bytes : List ℕ) → IsClean (plain_order t) → Replays config t i told s → x ≡ get_or t i x → i < length t → a ≡ applied.Bytes bytes → TellsAt a x s s' → Rooms a s x → Allots a x s s' → s'.failed ≡ false → Replays config t (i + 1) (told ++ (i, bytes) ∷ []) s'
-after_bytes config t i told s s' x a bytes fit so_far is lt given tells rooms allots works =
-    let now = subst (λ (b : Applied). TellsAt b x s s') given tells i (plain_order (take i t)) so_far.matches (next_fits t i x fit is lt) in
+pub after_bytes : (config : Config) (t : List Entry) (i : ℕ) (reported : Reads) (s s' : Held) (x : Entry) (a : Applied) (bytes : List ℕ) → IsClean (plain_order t) → Replays config t i reported s → x ≡ get_or t i x → i < length t → a ≡ applied.Bytes bytes → AnsweredAt a x s s' → Rooms a s x → Allots a x s s' → s'.failed ≡ false → Replays config t (i + 1) (reported ++ (i, bytes) ∷ []) s'
+after_bytes config t i reported s s' x a bytes fit so_far is lt given answers rooms allots works =
+    let now = subst (λ (b : Applied). AnsweredAt b x s s') given answers i (plain_order (take i t)) so_far.matches (next_fits t i x fit is lt) in
     let room = subst (λ (b : Applied). Rooms b s x) given rooms in
     let more = subst (λ (b : Applied). Allots b x s s') given allots in
-    replays_more config t i told s s' x ((i, bytes) ∷ []) fit so_far is lt now.0 now.1 room more works
+    replays_more config t i reported s s' x ((i, bytes) ∷ []) fit so_far is lt now.0 now.1 room more works

@@ -104,7 +104,7 @@ Allots applied.NoRoom x old new = new ≡ old
 Allots _ x old new = allotted new.memory ≡ with_asked (allotted old.memory) x
 
 -- What an entry is answered: the bytes that it means, if it reads. Then the device stands to the past with the entry; where there was no room it is as it was.
-abbrev pub Told : Applied → ℕ → Entry → Past → Held → Held → Type 0
-Told applied.Done e x past old new = Matches (next_past e x past) new × (read_in (world past) e x ≡ [])
-Told (applied.Bytes bytes) e x past old new = Matches (next_past e x past) new × (read_in (world past) e x ≡ (e, bytes) ∷ [])
-Told applied.NoRoom e x past old new = new ≡ old
+abbrev pub Answered : Applied → ℕ → Entry → Past → Held → Held → Type 0
+Answered applied.Done e x past old new = Matches (next_past e x past) new × (read_in (world past) e x ≡ [])
+Answered (applied.Bytes bytes) e x past old new = Matches (next_past e x past) new × (read_in (world past) e x ≡ (e, bytes) ∷ [])
+Answered applied.NoRoom e x past old new = new ≡ old

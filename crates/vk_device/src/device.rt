@@ -61,7 +61,7 @@ impl Device {
     ghost use Rattle.vk_device.specs.Allotted.{allotted};
     ghost use Rattle.vk_device.specs.Clean.{IsClean};
     ghost use Rattle.vk_device.specs.Fits.{AllFit, FitsCommand};
-    ghost use Rattle.vk_device.specs.Matches.{Matches, run_point, batches_past, next_past, CommandReady, CommandsReady, BatchReady, BatchesReady, Ready, IsNext, MayFill, MayRead, MadeOr, Told, Rooms, Allots};
+    ghost use Rattle.vk_device.specs.Matches.{Matches, run_point, batches_past, next_past, CommandReady, CommandsReady, BatchReady, BatchesReady, Ready, IsNext, MayFill, MayRead, MadeOr, Answered, Rooms, Allots};
     ghost use Rattle.vk_device.specs.declared.applied.ApplyError.TheVariants.{NoMemory, Failed};
 
     /// A device with heaps of these sizes, without resources. It takes no memory.
@@ -192,7 +192,7 @@ impl Device {
     /// Applies an entry, and leaves it to the caller to keep that it failed.
     fn apply_entry(&mut self, entry: &Entry) -> Result<Applied, ApplyError>
         requires { Ready self.old entry.now }
-        ensures told { IfOk result (λ a. (e : ℕ) (past : Past) → Matches past self.old → AllFit (next_past e entry.now past) → Told a e entry.now past self.old self.new) }
+        ensures answered { IfOk result (λ a. (e : ℕ) (past : Past) → Matches past self.old → AllFit (next_past e entry.now past) → Answered a e entry.now past self.old self.new) }
         ensures rooms { IfOk result (λ a. Rooms a self.old entry.now) }
         ensures allots { IfOk result (λ a. Allots a entry.now self.old self.new) }
         ensures failed { self.new.failed ≡ self.old.failed }
@@ -232,7 +232,7 @@ impl Device {
         sched: &mut S,
     ) -> Result<Applied, ApplyError>
         requires { IsTrue self.old.failed ⊎ IsNext self.old entry.now }
-        ensures told { IfOk result (λ a. (e : ℕ) (past : Past) → Matches past self.old → IsClean (next_past e entry.now past) → Told a e entry.now past self.old self.new) }
+        ensures answered { IfOk result (λ a. (e : ℕ) (past : Past) → Matches past self.old → IsClean (next_past e entry.now past) → Answered a e entry.now past self.old self.new) }
         ensures rooms { IfOk result (λ a. Rooms a self.old entry.now) }
         ensures allots { IfOk result (λ a. Allots a entry.now self.old self.new) }
         ensures works { IfOk result (λ a. (self.old.failed ≡ false) × (self.new.failed ≡ false)) }

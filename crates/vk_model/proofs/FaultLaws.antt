@@ -61,18 +61,18 @@ fault-cons_none past p =
     newest_none (Some r) none = absurd cc
 
 -- the fault of a past with one point more is the older one, or that of the point
-pub fault-cons_some : (past : Past) (p : Point) (told : At) (r : Rule) → fault (p ∷ past) ≡ Some (told, r) → (fault past ≡ Some (told, r)) ⊎ ((fault past ≡ None) × (first_rule past p ≡ Some r) × (at_of p ≡ told))
+pub fault-cons_some : (past : Past) (p : Point) (reported : At) (r : Rule) → fault (p ∷ past) ≡ Some (reported, r) → (fault past ≡ Some (reported, r)) ⊎ ((fault past ≡ None) × (first_rule past p ≡ Some r) × (at_of p ≡ reported))
 unfolding fault
-fault-cons_some past p told r =
-    elim (fault past) as (λ f. (let g : Option (At × Rule) = elim f [ Some h ↦ Some h | None ↦ option_map (λ s. (let h : At × Rule = (at_of p, s) in h)) (first_rule past p) ] in g ≡ Some (told, r)) → (f ≡ Some (told, r)) ⊎ ((f ≡ None) × (first_rule past p ≡ Some r) × (at_of p ≡ told))) [
+fault-cons_some past p reported r =
+    elim (fault past) as (λ f. (let g : Option (At × Rule) = elim f [ Some h ↦ Some h | None ↦ option_map (λ s. (let h : At × Rule = (at_of p, s) in h)) (first_rule past p) ] in g ≡ Some (reported, r)) → (f ≡ Some (reported, r)) ⊎ ((f ≡ None) × (first_rule past p ≡ Some r) × (at_of p ≡ reported))) [
       | Some h ↦ λ some. inl some
       | None ↦ λ some. inr (newest_some (first_rule past p) some)
     ]
   where
-    newest_some : (rule : Option Rule) → option_map (λ s. (let h : At × Rule = (at_of p, s) in h)) rule ≡ Some (told, r) → (let f : Option (At × Rule) = None in f ≡ None) × (rule ≡ Some r) × (at_of p ≡ told)
+    newest_some : (rule : Option Rule) → option_map (λ s. (let h : At × Rule = (at_of p, s) in h)) rule ≡ Some (reported, r) → (let f : Option (At × Rule) = None in f ≡ None) × (rule ≡ Some r) × (at_of p ≡ reported)
     newest_some None some = absurd cc
     newest_some (Some s) some =
-        let both : (let h : At × Rule = (at_of p, s) in h) ≡ (told, r) = cc in
+        let both : (let h : At × Rule = (at_of p, s) in h) ≡ (reported, r) = cc in
         (refl, ap (λ (x : At × Rule). Some x.1) both, ap (λ (x : At × Rule). x.0) both)
 
 pub no_fault-cons : (past : Past) (p : Point) → fault past ≡ None → first_rule past p ≡ None → fault (p ∷ past) ≡ None
@@ -88,9 +88,9 @@ start : fault [] ≡ None
 unfolding fault
 start = refl
 
-none_at_start : (told : At) (r : Rule) → fault [] ≡ Some (told, r) → ⊥
+none_at_start : (reported : At) (r : Rule) → fault [] ≡ Some (reported, r) → ⊥
 unfolding fault
-none_at_start told r some = cc
+none_at_start reported r some = cc
 
 -- a point that breaks no rule of the table breaks no rule
 pub breaks_none : (before : Past) (p : Point) (r : Rule) → first_rule before p ≡ None → breaks r before p ≡ false
@@ -142,29 +142,29 @@ pub none_of_sound_trace : (t : List Entry) → IsSound t → fault (plain_order 
 none_of_sound_trace t sound = none_of_sound (plain_order t) (λ before p r comes broken. sound before p r (comes, broken))
 
 -- the point of the first fault, in the past that has it
-pub record IsFault (all : Past) (told : At) (r : Rule) : Type 0 where
+pub record IsFault (all : Past) (reported : At) (r : Rule) : Type 0 where
   pub before : Past
   pub point : Point
   pub comes : Comes all before point
-  pub is_told : at_of point ≡ told
+  pub is_reported : at_of point ≡ reported
   pub first : first_rule before point ≡ Some r
   pub clean : fault before ≡ None
 
-pub fault_at : (all : Past) (told : At) (r : Rule) → fault all ≡ Some (told, r) → IsFault all told r
-fault_at [] told r some = absurd (none_at_start told r some)
-fault_at (q ∷ past) told r some = elim (fault-cons_some past q told r some) [
-  | inl earlier ↦ let f = fault_at past told r earlier in record { before = f.before; point = f.point; comes = older f.comes; is_told = f.is_told; first = f.first; clean = f.clean }
-  | inr here ↦ record { before = past; point = q; comes = newest; is_told = here.2; first = here.1; clean = here.0 }
+pub fault_at : (all : Past) (reported : At) (r : Rule) → fault all ≡ Some (reported, r) → IsFault all reported r
+fault_at [] reported r some = absurd (none_at_start reported r some)
+fault_at (q ∷ past) reported r some = elim (fault-cons_some past q reported r some) [
+  | inl earlier ↦ let f = fault_at past reported r earlier in record { before = f.before; point = f.point; comes = older f.comes; is_reported = f.is_reported; first = f.first; clean = f.clean }
+  | inr here ↦ record { before = past; point = q; comes = newest; is_reported = here.2; first = here.1; clean = here.0 }
 ]
 
-pub first_of_fault : (t : List Entry) (told : At) (r : Rule) → fault (plain_order t) ≡ Some (told, r) → IsFirst t told r
+pub first_of_fault : (t : List Entry) (reported : At) (r : Rule) → fault (plain_order t) ≡ Some (reported, r) → IsFirst t reported r
 unfolding first_rule
-first_of_fault t told r some =
-    let f = fault_at (plain_order t) told r some in record {
+first_of_fault t reported r some =
+    let f = fault_at (plain_order t) reported r some in record {
       before = f.before;
       point = f.point;
       comes = f.comes;
-      is_told = f.is_told;
+      is_reported = f.is_reported;
       broken = first_is_broken f.before f.point r f.first;
       earlier_points = λ past p s comes broken.
           let unbroken : breaks s past p ≡ false = breaks_none past p s (no_fault-at f.before past p f.clean comes) in

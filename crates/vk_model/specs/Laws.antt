@@ -25,19 +25,19 @@ use Rattle.vk_model.specs.Fault.{Comes, IsSound}
 abbrev pub NoFaultIsSound : Type 0
 NoFaultIsSound = (t : List Entry) → (first_fault t ≡ None) ↔ IsSound t
 
--- A point of a trace is told with a rule that it breaks; no earlier point breaks any, and the point breaks no earlier rule of the table.
-pub record IsFirst (t : List Entry) (told : At) (r : Rule) : Type 0 where
+-- A point of a trace is reported with a rule that it breaks; no earlier point breaks any, and the point breaks no earlier rule of the table.
+pub record IsFirst (t : List Entry) (reported : At) (r : Rule) : Type 0 where
   pub before : Past
   pub point : Point
   pub comes : Comes (plain_order t) before point
-  pub is_told : at_of point ≡ told
+  pub is_reported : at_of point ≡ reported
   pub broken : IsTrue (breaks r before point)
   pub earlier_points : (older : Past) (p : Point) (s : Rule) → Comes before older p → IsTrue (breaks s older p) → ⊥
   pub earlier_rules : (i j : ℕ) (s : Rule) → slice_get rules i ≡ Some s → slice_get rules j ≡ Some r → i < j → breaks s before point ≡ false
 
 -- The first fault of a trace is first among its points, and first among the rules there.
 abbrev pub FaultIsFirst : Type 0
-FaultIsFirst = (t : List Entry) (told : At) (r : Rule) → first_fault t ≡ Some (told, r) → IsFirst t told r
+FaultIsFirst = (t : List Entry) (reported : At) (r : Rule) → first_fault t ≡ Some (reported, r) → IsFirst t reported r
 
 -- Among the old nodes every edge, order and visibility is as it was when these were all.
 pub record Keeps (old new : List Node) : Type 0 where

@@ -66,6 +66,6 @@ next_nodes past p = reverse (filter (λ n. nat_le (length (nodes past)) n.number
 abbrev pub same_node : Node → Node → Bool
 same_node m n = m.number == n.number
 
--- Whether two points of batches are in the same batch and place; what tells commands from waits and signals is their action.
+-- Whether two points of batches are in the same batch and place; what sets commands apart from waits and signals is their action.
 abbrev pub same_place : Point → Point → Bool
 same_place p q = p.entry == q.entry && p.batch == q.batch && p.place == q.place

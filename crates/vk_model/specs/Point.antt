@@ -27,14 +27,14 @@ pub record Point : Type 0 where
 abbrev pub Past : Type 0
 Past = List Point
 
--- How a point is told, by its action (profile).
+-- How a point is reported, by its action (profile).
 abbrev pub label : Point → Action → At
 label p (Host x) = at.Entry p.entry
 label p (Wait s) = at.Wait p.entry p.batch p.place
 label p (Run c) = at.Command p.entry p.batch p.place
 label p (Signal s) = at.Signal p.entry p.batch p.place
 
--- How a point is told (profile).
+-- How a point is reported (profile).
 abbrev pub at_of : Point → At
 at_of p = label p p.action
 

@@ -18,7 +18,7 @@ pub record Objects : Type 0 where
       (entry.Semaphore 1 0
       ∷ entry.Semaphore 1 0
       ∷ []) (at.Entry 1) rule.NewId
-  -- A size of 0, no usage and a type that isn't there: the first rule in the order of test is told.
+  -- A size of 0, no usage and a type that isn't there: the first rule in the order of test is reported.
   pub three_faults : Refuses
       (buffer_entry 1 0 0 sharing.Exclusive (place.Dedicated 3)
       ∷ []) (at.Entry 0) rule.Size
@@ -30,7 +30,7 @@ pub record Objects : Type 0 where
   pub one_fault : Refuses
       (buffer_entry 1 16 both sharing.Exclusive (place.Dedicated 3)
       ∷ []) (at.Entry 0) rule.MemoryType
-  -- Two waits for nothing: the first point is told.
+  -- Two waits for nothing: the first point is reported.
   pub first_point : Refuses
       (entry.Wait []
       ∷ entry.Wait []

@@ -1,4 +1,4 @@
--- What a run tells of the trace that it reads, and how it ends.
+-- What a run answers to the trace that it reads, and how it ends.
 use Rattle.std.specs.Prelude.{◌≡◌, ℕ, List, length, Some, None}
 use Rattle.vk_model.specs.declared.config.Config.{Config}
 use Rattle.vk_model.specs.declared.entry.Entry.{Entry}
@@ -14,24 +14,24 @@ use Rattle.vk_trace.specs.declared.errors.RunError.TheVariants.{NotTrace, NoMemo
 use Rattle.vk_trace.specs.Trace.{IsTrace}
 use Rattle.vk_trace.specs.Text.{lines_of}
 
--- How a run ended, by what it told.
+-- How a run ended, by what it reported.
 abbrev pub status_of : Outcome → Status
 status_of (Reads reads None) = status.Replayed
 status_of (Reads reads (Some e)) = status.Stopped
 status_of (Refused at rule) = status.Refused
 
--- What is told of a trace. It is refused by its first fault; or it has none, and then told are the bytes that it means: all of them where each entry finds room in heaps of these sizes, else those of the entries before the first one that finds none.
+-- What is reported of a trace. It is refused by its first fault; or it has none, and then reported are the bytes that it means: all of them where each entry finds room in heaps of these sizes, else those of the entries before the first one that finds none.
 abbrev pub IsAnswer : Config → List Entry → Outcome → Type 0
 IsAnswer config t (Refused at rule) = first_fault t ≡ Some (at, rule)
 IsAnswer config t (Reads reads None) = (first_fault t ≡ None) × (first_stop config t ≡ None) × (reads ≡ meaning t (length t))
 IsAnswer config t (Reads reads (Some n)) = (first_fault t ≡ None) × (first_stop config t ≡ Some n) × (reads ≡ meaning t n)
 
--- The input is a trace, the outcome is the answer to it, and the text tells the outcome.
-pub record Tells (config : Config) (input text : List ℕ) (outcome : Outcome) : Type 0 where
+-- The input is a trace, the outcome is the answer to it, and the text is that of the outcome.
+pub record Reports (config : Config) (input text : List ℕ) (outcome : Outcome) : Type 0 where
   pub entries : List Entry
   pub trace : IsTrace input entries
   pub answer : IsAnswer config entries outcome
-  pub told : text ≡ lines_of outcome
+  pub lines : text ≡ lines_of outcome
 
 -- A fault that comes before anything is written.
 abbrev pub IsBeforeWriting : RunError → Type 0

@@ -1,4 +1,4 @@
--- Worked texts: what some bytes mean, which bytes mean nothing, and how answers are told.
+-- Worked texts: what some bytes mean, which bytes mean nothing, and the texts of answers.
 use Rattle.std.specs.Prelude.{◌≡◌, ℕ, List, [], ◌∷◌, codes, Option, Some, None}
 use Rattle.serde_json.specs.Read.{read}
 use Rattle.vk_model.specs.declared.resource.Sharing.TheVariants as sharing

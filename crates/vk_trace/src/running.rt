@@ -5,7 +5,7 @@ ghost use Rattle.vk_model.specs.Order.{plain_order};
 ghost use Rattle.vk_validate.specs.Supported.{is_supported};
 ghost use Rattle.vk_trace.specs.declared.printing.Outcome.{Outcome};
 ghost use Rattle.vk_trace.specs.Trace.{IsTrace};
-ghost use Rattle.vk_trace.specs.Run.{Tells, IsAnswer, status_of, IsBeforeWriting, IsOfReading, IsOfAnswering};
+ghost use Rattle.vk_trace.specs.Run.{Reports, IsAnswer, status_of, IsBeforeWriting, IsOfReading, IsOfAnswering};
 
 use crate::errors::{ReadTraceError, RunError};
 use crate::printing::{Outcome, text};
@@ -49,7 +49,7 @@ pub fn run<R: Read, W: Write, S: Scheduler>(
     requires writes { writer.old.failed ≡ false }
     // The bytes that were read are a trace, the answer to it is written, and nothing else is.
     ensures done { IfOk result (λ status. IfSome (R.remaining reader.old.inner) (λ input.
-        (text : List ℕ) × (outcome : Outcome) × Tells config input text outcome × (status ≡ status_of outcome)
+        (text : List ℕ) × (outcome : Outcome) × Reports config input text outcome × (status ≡ status_of outcome)
         × Appends (W.contents writer.old.inner) (W.contents writer.new.inner) text)) }
     // There is no trace only where the bytes are none.
     ensures no_trace { result ≡ Err RunError.NotTrace
@@ -60,7 +60,7 @@ pub fn run<R: Read, W: Write, S: Scheduler>(
     // A failed write has written the front of the answer.
     ensures sent { (n : ℕ) → result ≡ Err (RunError.WriteFault n)
         → IfSome (R.remaining reader.old.inner) (λ input. (text : List ℕ) × (outcome : Outcome)
-        × Tells config input text outcome × (n ≤ length text)
+        × Reports config input text outcome × (n ≤ length text)
         × Appends (W.contents writer.old.inner) (W.contents writer.new.inner) (take n text)) }
     ensures read_fault { (result ≡ Err RunError.ReadFault) ↔ IsTrue reader.new.failed }
     ensures write_fault { (n : ℕ) → result ≡ Err (RunError.WriteFault n) → IsTrue writer.new.failed }
@@ -119,7 +119,7 @@ fn answer<S: Scheduler>(
     config: Config,
     sched: &mut S,
 ) -> Result<(Status, String), RunError>
-    ensures ok { IfOk result (λ r. (outcome : Outcome) × Tells config input.now (string_bytes r.1) outcome × (r.0 ≡ status_of outcome)) }
+    ensures ok { IfOk result (λ r. (outcome : Outcome) × Reports config input.now (string_bytes r.1) outcome × (r.0 ≡ status_of outcome)) }
     ensures kinds { IfErr result IsOfAnswering }
     ensures no_trace { result ≡ Err RunError.NotTrace → (t : List Entry) → IsTrace input.now t → ⊥ }
     ensures view { S.held sched.new ≡ S.held sched.old }
@@ -130,12 +130,12 @@ fn answer<S: Scheduler>(
         Err(ReadTraceError::NoMemory) => return Err(RunError::NoMemory),
     };
     let outcome = outcome_of(alloc, &entries, config, sched)?;
-    let status = told_status(&outcome);
+    let status = answer_status(&outcome);
     let output = text(alloc, &outcome)?;
     Ok((status, output))
 }
 
-fn told_status(outcome: &Outcome) -> Status
+fn answer_status(outcome: &Outcome) -> Status
     ensures { result ≡ status_of outcome.now }
 {
     match outcome {

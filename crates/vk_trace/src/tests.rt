@@ -223,9 +223,9 @@ fn faults_and_limits(rt: HostRuntime) -> Result<(), Fail> {
         expect_write_fault(&rt, alloc, room, false);
     }
     expect_flush_fault(&rt);
-    let told = Outcome::Refused(At::Wait(1, 0, 2), Rule::WaitBeforeSignal);
+    let refusal = Outcome::Refused(At::Wait(1, 0, 2), Rule::WaitBeforeSignal);
     assert_eq!(rt;
-        text(alloc, &told)?.as_str(),
+        text(alloc, &refusal)?.as_str(),
         "refused 1.0.w2 WAIT_BEFORE_SIGNAL\n"
     );
     let most = semaphores(alloc, 131_072)?;

@@ -1,4 +1,4 @@
--- What is told of a trace is its first fault.
+-- What is reported of a trace is its first fault.
 use Rattle.std.proofs.Common.{◌≡◌, ◌≤◌, ◌+◌, ℕ, List, [], ◌∷◌, Bool, true, false, refl, ap, sym, ◌∙◌, subst, length, take, drop, Option, Some, None}
 use Rattle.std.specs.Prelude.{option_map, slice_get, if◌then◌else◌}
 use Rattle.std.specs.List.{fold}
@@ -13,9 +13,9 @@ use Rattle.vk_model.specs.Order.{plain_order}
 use Rattle.vk_model.specs.Rules.{first_rule, fault, first_fault}
 use Rattle.vk_validate.specs.declared.steps.Step.{Step}
 use Rattle.vk_validate.specs.Supported.{is_supported, is_supported_action}
-use Rattle.vk_validate.specs.Told.{past, past_of, point_of, action_of, add, Walk}
+use Rattle.vk_validate.specs.PointViews.{past, past_of, point_of, action_of, add, Walk}
 use Rattle.vk_validate.specs.Cleared.{first_test, IsClear, IsCleared}
-use Rattle.vk_validate.specs.Faults.{fault_by, told_rule, told_fault, tested_rule, tested_fault}
+use Rattle.vk_validate.specs.Faults.{fault_by, reported_rule, reported_fault, tested_rule, tested_fault}
 use Rattle.vk_validate.specs.Acceptable.{IsAcceptable}
 use Rattle.vk_validate.proofs.Exact.{first_test_is}
 use Rattle.vk_validate.proofs.Pasts.{supported-cons}
@@ -24,7 +24,7 @@ use Rattle.vk_validate.proofs.Places.{IsApart, plain_order_apart}
 use Rattle.vk_validate.proofs.Reach.{supported_of}
 use Rattle.vk_validate.proofs.TableLemmas.{past-next}
 
--- ---- the first of the points of which a rule is told
+-- ---- the first of the points of which a rule is reported
 
 -- the fault of a past with one point more: the older one, or that of the point
 abbrev or_here : Option (At × Rule) → Point → Option Rule → Option (At × Rule)
@@ -47,52 +47,52 @@ none_tested : (past : Past) → IsCleared past → fault_by tested_rule past ≡
 none_tested [] cleared = refl
 none_tested (p ∷ past) cleared = rw (none_tested past cleared.1, cleared.0.supported, cleared.0.clear) refl
 
--- ---- the tests tell what is to be told
+-- ---- the tests tell what is to be reported
 
-tested_rule_is : (past : Past) (p : Point) → IsCleared past → IsPlain (p ∷ past) → IsApart past → tested_rule past p ≡ told_rule past p
+tested_rule_is : (past : Past) (p : Point) → IsCleared past → IsPlain (p ∷ past) → IsApart past → tested_rule past p ≡ reported_rule past p
 tested_rule_is past p cleared plain apart = go (is_supported_action p.action) refl where
   go : (b : Bool) → is_supported_action p.action ≡ b → (if b then first_test past p else Some rule.LiveId) ≡ (if b then first_rule past p else Some rule.LiveId)
   go true e = first_test_is past p cleared e plain apart
   go false e = refl
 
-tested_is : (past : Past) → IsPlain past → IsApart past → fault_by tested_rule past ≡ fault_by told_rule past
+tested_is : (past : Past) → IsPlain past → IsApart past → fault_by tested_rule past ≡ fault_by reported_rule past
 tested_is [] plain apart = refl
 tested_is (p ∷ past) plain apart = go (fault_by tested_rule past) refl (tested_is past plain.1 apart.1) where
-  go : (older : Option (At × Rule)) → fault_by tested_rule past ≡ older → older ≡ fault_by told_rule past → or_here older p (tested_rule past p) ≡ or_here (fault_by told_rule past) p (told_rule past p)
-  go (Some f) e same = ap (λ (o : Option (At × Rule)). or_here o p (told_rule past p)) same
-  go None e same = ap (λ (o : Option Rule). or_here None p o) (tested_rule_is past p (cleared_of past e) plain apart.1) ∙ ap (λ (o : Option (At × Rule)). or_here o p (told_rule past p)) same
+  go : (older : Option (At × Rule)) → fault_by tested_rule past ≡ older → older ≡ fault_by reported_rule past → or_here older p (tested_rule past p) ≡ or_here (fault_by reported_rule past) p (reported_rule past p)
+  go (Some f) e same = ap (λ (o : Option (At × Rule)). or_here o p (reported_rule past p)) same
+  go None e same = ap (λ (o : Option Rule). or_here None p o) (tested_rule_is past p (cleared_of past e) plain apart.1) ∙ ap (λ (o : Option (At × Rule)). or_here o p (reported_rule past p)) same
 
-tested_plain : (xs : List Entry) → tested_fault (plain_order xs) ≡ told_fault (plain_order xs)
-unfolding tested_fault told_fault
+tested_plain : (xs : List Entry) → tested_fault (plain_order xs) ≡ reported_fault (plain_order xs)
+unfolding tested_fault reported_fault
 tested_plain xs = tested_is (plain_order xs) (plain_order_plain xs) (plain_order_apart xs)
 
--- ---- of supported forms the first fault is told
+-- ---- of supported forms the first fault is reported
 
-supported_is : (past : Past) → is_supported past ≡ true → fault_by told_rule past ≡ fault past
+supported_is : (past : Past) → is_supported past ≡ true → fault_by reported_rule past ≡ fault past
 unfolding fault
 supported_is [] supported = refl
 supported_is (p ∷ past) supported =
     let h = supported-cons p past supported in
-    ap (λ (o : Option (At × Rule)). or_here o p (told_rule past p)) (supported_is past h.1) ∙ ap (λ (b : Bool). or_here (fault past) p (if b then first_rule past p else Some rule.LiveId)) h.0
+    ap (λ (o : Option (At × Rule)). or_here o p (reported_rule past p)) (supported_is past h.1) ∙ ap (λ (b : Bool). or_here (fault past) p (if b then first_rule past p else Some rule.LiveId)) h.0
 
-told_supported : (xs : List Entry) → is_supported (plain_order xs) ≡ true → told_fault (plain_order xs) ≡ first_fault xs
-unfolding told_fault first_fault
-told_supported xs supported = supported_is (plain_order xs) supported
+reported_supported : (xs : List Entry) → is_supported (plain_order xs) ≡ true → reported_fault (plain_order xs) ≡ first_fault xs
+unfolding reported_fault first_fault
+reported_supported xs supported = supported_is (plain_order xs) supported
 
 -- what no test finds is accepted
 acceptable : (xs : List Entry) → tested_fault (plain_order xs) ≡ None → IsAcceptable xs
 unfolding tested_fault
 acceptable xs none =
     let supported : is_supported (plain_order xs) ≡ true = supported_of (plain_order xs) (cleared_of (plain_order xs) none) in
-    record { supported = supported; faultless = sym (told_supported xs supported) ∙ sym (tested_plain xs) ∙ none }
+    record { supported = supported; faultless = sym (reported_supported xs supported) ∙ sym (tested_plain xs) ∙ none }
 
 -- what the tests tell of the points of a trace
 module _ (xs : List Entry) (points : Past) (laid : points ≡ plain_order xs) (f : Option (At × Rule)) (found : f ≡ tested_fault points) where
-  pub tells : f ≡ told_fault (plain_order xs)
-  tells = found ∙ ap tested_fault laid ∙ tested_plain xs
+  pub reports : f ≡ reported_fault (plain_order xs)
+  reports = found ∙ ap tested_fault laid ∙ tested_plain xs
 
-  pub tells_first : is_supported (plain_order xs) ≡ true → f ≡ first_fault xs
-  tells_first supported = tells ∙ told_supported xs supported
+  pub reports_first : is_supported (plain_order xs) ≡ true → f ≡ first_fault xs
+  reports_first supported = reports ∙ reported_supported xs supported
 
   pub accepts : f ≡ None → IsAcceptable xs
   accepts none = acceptable xs (ap tested_fault (sym laid) ∙ sym found ∙ none)

@@ -1,4 +1,4 @@
--- In plain order no two commands are told alike.
+-- In plain order no two commands are reported alike.
 use Rattle.std.proofs.Common.{◌≡◌, ◌<◌, ◌+◌, ℕ, List, [], ◌∷◌, true, false, ◌&&◌, ◌==◌, refl, ap, sym, subst, arith, inl, inr, ◌⊎◌}
 use Rattle.std.specs.Prelude.{Contains, ⊤}
 use Rattle.std.specs.List.{fold}

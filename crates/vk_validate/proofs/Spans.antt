@@ -9,7 +9,7 @@ use Rattle.vk_model.specs.declared.command.Cmd.{Cmd}
 use Rattle.vk_model.specs.declared.command.Cmd.TheVariants as cmd
 use Rattle.vk_model.specs.Point as spec
 use Rattle.vk_validate.specs.Tabled.{last_writer, fills_byte, writes_byte}
-use Rattle.vk_validate.specs.Seeks.{Tells}
+use Rattle.vk_validate.specs.Seeks.{FoundIn}
 use Rattle.vk_validate.proofs.TableLemmas.{unwritten-next}
 
 -- ---- what a test finds
@@ -38,25 +38,25 @@ module _ (test : ℕ → Bool) (first last n : ℕ) (some : 0 < n) (last_is : la
   found_any : (byte : ℕ) → first ≤ byte → byte < first + n → test byte ≡ true → list_any (λ k. test (first + k)) (below n) ≡ true
   found_any byte low high is = one_of (λ k. test (first + k)) 0 n (byte - first) (omega arith) (omega arith) (let e : first + (byte - first) ≡ byte = omega arith in ap test e ∙ is)
 
-  -- what is told of the bytes of a span is told of the range, where no byte past the span passes the test
-  pub told_of_span : (found : Bool) → Tells found first last test → ((k : ℕ) → last < k → k < first + n → test k ≡ false) → found ≡ list_any (λ k. test (first + k)) (below n)
-  told_of_span true is none = let high = is.2 in sym (found_any is.0 is.1 (omega arith) is.3)
-  told_of_span false is none = sym (none_of (λ k. test (first + k)) 0 n (λ k low high. by_side k high (cases_lt last (first + k)))) where
+  -- what is reported of the bytes of a span is reported of the range, where no byte past the span passes the test
+  pub found_of_span : (found : Bool) → FoundIn found first last test → ((k : ℕ) → last < k → k < first + n → test k ≡ false) → found ≡ list_any (λ k. test (first + k)) (below n)
+  found_of_span true is none = let high = is.2 in sym (found_any is.0 is.1 (omega arith) is.3)
+  found_of_span false is none = sym (none_of (λ k. test (first + k)) 0 n (λ k low high. by_side k high (cases_lt last (first + k)))) where
     by_side : (k : ℕ) → k < 0 + n → (last < first + k) ⊎ (first + k ≤ last) → test (first + k) ≡ false
     by_side k high (inl beyond) = none (first + k) beyond (omega arith)
     by_side k high (inr upto) = is (first + k) (omega arith) upto
 
   -- also where none from 2^64 on does
-  pub told_below : (found : Bool) → Tells found first last test → ((k : ℕ) → 2 ^ 64 ≤ k → test k ≡ false) → found ≡ list_any (λ k. test (first + k)) (below n)
-  told_below found is none = told_of_span found is (λ k above inside. none k (omega arith))
+  pub found_below : (found : Bool) → FoundIn found first last test → ((k : ℕ) → 2 ^ 64 ≤ k → test k ≡ false) → found ≡ list_any (λ k. test (first + k)) (below n)
+  found_below found is none = found_of_span found is (λ k above inside. none k (omega arith))
 
   -- also where the span has all of the range
-  pub told_whole : (found : Bool) → Tells found first last test → n - 1 ≤ last - first → first ≤ last → found ≡ list_any (λ k. test (first + k)) (below n)
-  told_whole found is whole ordered = told_of_span found is (λ k above inside. absurd (omega arith))
+  pub found_whole : (found : Bool) → FoundIn found first last test → n - 1 ≤ last - first → first ≤ last → found ≡ list_any (λ k. test (first + k)) (below n)
+  found_whole found is whole ordered = found_of_span found is (λ k above inside. absurd (omega arith))
 
   -- a range with more bytes than the span reaches 2^64
-  pub told_beyond : last - first < n - 1 → first ≤ last → test (2 ^ 64) ≡ true → true ≡ list_any (λ k. test (first + k)) (below n)
-  told_beyond more ordered is = sym (found_any (2 ^ 64) (omega arith) (omega arith) is)
+  pub found_beyond : last - first < n - 1 → first ≤ last → test (2 ^ 64) ≡ true → true ≡ list_any (λ k. test (first + k)) (below n)
+  found_beyond more ordered is = sym (found_any (2 ^ 64) (omega arith) (omega arith) is)
 
 -- ---- no byte from 2^64 on has a writer
 

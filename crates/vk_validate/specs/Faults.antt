@@ -1,4 +1,4 @@
--- The first fault that is told of a trace, which may have points of forms that aren't supported.
+-- The first fault that is reported of a trace, which may have points of forms that aren't supported.
 use Rattle.std.specs.Prelude.{[], ◌∷◌, Option, Some, None, option_map, if◌then◌else◌}
 use Rattle.vk_model.specs.declared.rule.At.{At}
 use Rattle.vk_model.specs.declared.rule.Rule.{Rule}
@@ -8,23 +8,23 @@ use Rattle.vk_model.specs.Rules.{first_rule}
 use Rattle.vk_validate.specs.Supported.{is_supported_action}
 use Rattle.vk_validate.specs.Cleared.{first_test}
 
--- The first point of a past of which a rule is told, with that rule.
+-- The first point of a past of which a rule is reported, with that rule.
 abbrev pub fault_by : (Past → Point → Option Rule) → Past → Option (At × Rule)
 fault_by rule_of [] = None
 fault_by rule_of (p ∷ past) = elim (fault_by rule_of past) [ Some f ↦ Some f | None ↦ option_map (λ r. (at_of p, r)) (rule_of past p) ]
 
--- The rule that is told of a point: the first that it breaks, or LIVE_ID where its form isn't supported.
-abbrev pub told_rule : Past → Point → Option Rule
-told_rule past p = if is_supported_action p.action then first_rule past p else Some rule.LiveId
+-- The rule that is reported of a point: the first that it breaks, or LIVE_ID where its form isn't supported.
+abbrev pub reported_rule : Past → Point → Option Rule
+reported_rule past p = if is_supported_action p.action then first_rule past p else Some rule.LiveId
 
--- What is told of a past.
-unfoldable pub told_fault : Past → Option (At × Rule)
-told_fault past = fault_by told_rule past
+-- What is reported of a past.
+unfoldable pub reported_fault : Past → Option (At × Rule)
+reported_fault past = fault_by reported_rule past
 
 -- The same by the first test that finds a point.
 abbrev pub tested_rule : Past → Point → Option Rule
 tested_rule past p = if is_supported_action p.action then first_test past p else Some rule.LiveId
 
--- What is told of a past by the tests.
+-- What is reported of a past by the tests.
 unfoldable pub tested_fault : Past → Option (At × Rule)
 tested_fault past = fault_by tested_rule past

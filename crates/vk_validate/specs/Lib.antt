@@ -1,5 +1,5 @@
 pub mod Supported
-pub mod Told
+pub mod PointViews
 pub mod Laid
 pub mod OrderState
 pub mod Signals

@@ -20,7 +20,7 @@ pub record HasSought (bounds : Bounds) (s : Sought) (first last : ℕ) : Type 0 
   pub is : IsLastWriter bounds byte writer
   pub sought : is_sought s writer ≡ true
 
--- What a yes or a no tells of the bytes of a span: that one passes the test, or that none does.
-abbrev pub Tells : Bool → ℕ → ℕ → (ℕ → Bool) → Type 0
-Tells true first last test = (byte : ℕ) × (first ≤ byte) × (byte ≤ last) × (test byte ≡ true)
-Tells false first last test = (byte : ℕ) → first ≤ byte → byte ≤ last → test byte ≡ false
+-- What a yes or a no means for the bytes of a span: that one passes the test, or that none does.
+abbrev pub FoundIn : Bool → ℕ → ℕ → (ℕ → Bool) → Type 0
+FoundIn true first last test = (byte : ℕ) × (first ≤ byte) × (byte ≤ last) × (test byte ≡ true)
+FoundIn false first last test = (byte : ℕ) → first ≤ byte → byte ≤ last → test byte ≡ false

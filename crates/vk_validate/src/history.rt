@@ -8,10 +8,10 @@ ghost use Rattle.vk_model.specs.Objects.{made, buffer, initial};
 ghost use Rattle.vk_model.specs.Order.{counter, signaled};
 ghost use Rattle.vk_model.specs.Moves.{buffer_size, fill_size};
 ghost use Rattle.vk_validate.specs.Supported.{is_supported_action, is_supported_entry, is_supported_command};
-ghost use Rattle.vk_validate.specs.Told.{action_of, point_of, past};
+ghost use Rattle.vk_validate.specs.PointViews.{action_of, point_of, past};
 ghost use Rattle.vk_validate.specs.Tabled.{was_mapped, last_writer};
 ghost use Rattle.vk_validate.specs.Fits.{Fits};
-ghost use Rattle.vk_validate.specs.Seeks.{Tells};
+ghost use Rattle.vk_validate.specs.Seeks.{FoundIn};
 ghost use Rattle.vk_validate.specs.OrderState.{order_state, after_waits, awaited};
 ghost use Rattle.vk_model.specs.Basics.{holds};
 
@@ -34,7 +34,7 @@ pub struct History<'a> {
 
 impl<'a> Model for History<'a> {
     ghost use Rattle.std.specs.Prelude.{◌≡◌, ◌≤◌, ℕ, Option, List, length};
-    ghost use Rattle.vk_validate.specs.Told.{Walk, past};
+    ghost use Rattle.vk_validate.specs.PointViews.{Walk, past};
     ghost use Rattle.vk_validate.specs.Tabled.{IsTabled};
 
     ghost Value = { Walk };
@@ -146,7 +146,7 @@ impl<'a> History<'a> {
     /// Whether a byte was written by a command whose write isn't visible to the writes of the next
     /// command.
     pub fn has_unseen_by_write(&self, buffer: u32, span: Span) -> bool
-        ensures { Tells result span.first span.last (λ k. holds (last_writer (past self.now) buffer k) (nat_le (order_state (past self.now)).order.to_writes)) }
+        ensures { FoundIn result span.first span.last (λ k. holds (last_writer (past self.now) buffer k) (nat_le (order_state (past self.now)).order.to_writes)) }
     {
         match self.tables.writers.get(&buffer) {
             Some(writers) => writers.has(span, Sought::Since(self.tables.order.seen_by_write())),
@@ -156,7 +156,7 @@ impl<'a> History<'a> {
 
     /// Whether a byte was written by a command whose write isn't visible to reads of the host.
     pub fn has_unseen_by_host_read(&self, buffer: u32, span: Span) -> bool
-        ensures { Tells result span.first span.last (λ k. holds (last_writer (past self.now) buffer k) (nat_le (order_state (past self.now)).order.host.readable)) }
+        ensures { FoundIn result span.first span.last (λ k. holds (last_writer (past self.now) buffer k) (nat_le (order_state (past self.now)).order.host.readable)) }
     {
         match self.tables.writers.get(&buffer) {
             Some(writers) => writers.has(
@@ -169,7 +169,7 @@ impl<'a> History<'a> {
 
     /// Whether a byte was never written, so that its value is undefined.
     pub fn has_undefined(&self, buffer: u32, span: Span) -> bool
-        ensures { Tells result span.first span.last (λ k. is_none (last_writer (past self.now) buffer k)) }
+        ensures { FoundIn result span.first span.last (λ k. is_none (last_writer (past self.now) buffer k)) }
     {
         match self.tables.writers.get(&buffer) {
             Some(writers) => writers.has(span, Sought::Nothing),

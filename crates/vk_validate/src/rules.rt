@@ -3,7 +3,7 @@ ghost use Rattle.std.specs.List.{find};
 ghost use Rattle.vk_model.specs.Point.{Point};
 ghost use Rattle.vk_model.specs.RulesBytes.{breaks_limit};
 ghost use Rattle.vk_validate.specs.Supported.{is_supported_action};
-ghost use Rattle.vk_validate.specs.Told.{action_of, point_of, past};
+ghost use Rattle.vk_validate.specs.PointViews.{action_of, point_of, past};
 ghost use Rattle.vk_validate.specs.Cleared.{tests, first_test};
 
 mod commands;

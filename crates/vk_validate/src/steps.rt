@@ -1,7 +1,7 @@
 ghost use Rattle.std.specs.Prelude.{◌≡◌, [], OnOk, IfOk};
 ghost use Rattle.vk_model.specs.Point.{at_of, Run, Signal, Wait};
 ghost use Rattle.vk_model.specs.Order.{actions, plain_order};
-ghost use Rattle.vk_validate.specs.Told.{past_of, point_of};
+ghost use Rattle.vk_validate.specs.PointViews.{past_of, point_of};
 ghost use Rattle.vk_validate.specs.Laid.{laid_batch, laid_batches, laid_submit, batch_at};
 
 use std::alloc::{AllocError, Global};
@@ -32,7 +32,7 @@ pub struct Step<'a> {
 }
 
 impl<'a> Step<'a> {
-    /// How the point is told.
+    /// How the point is reported.
     pub fn at(&self) -> At
         ensures { result ≡ at_of (point_of self.now) }
     {

@@ -2,9 +2,9 @@ ghost use Rattle.std.specs.Prelude.{◌≡◌, IfOk, IsTrue, None};
 ghost use Rattle.vk_model.specs.Order.{plain_order};
 ghost use Rattle.vk_model.specs.Rules.{first_fault};
 ghost use Rattle.vk_validate.specs.Supported.{is_supported};
-ghost use Rattle.vk_validate.specs.Faults.{told_fault, tested_fault};
-ghost use Rattle.vk_validate.specs.Verdicts.{told, IsAbout};
-ghost use Rattle.vk_validate.specs.Told.{past_of};
+ghost use Rattle.vk_validate.specs.Faults.{reported_fault, tested_fault};
+ghost use Rattle.vk_validate.specs.Verdicts.{reported, IsAbout};
+ghost use Rattle.vk_validate.specs.PointViews.{past_of};
 
 use crate::history::History;
 use crate::rules::first_rule;
@@ -44,7 +44,7 @@ impl<'a> Accepted<'a> {
     }
 }
 
-/// What is told of a trace.
+/// What is reported of a trace.
 #[derive(Drop)]
 pub enum Verdict<'a> {
     /// It breaks no rule.
@@ -60,8 +60,8 @@ pub enum Verdict<'a> {
 /// than 2, semaphores, submits on queue 0, maps, reads and waits of the host; fills and barriers with
 /// memory elements alone; signals of batches. A point of any other form is refused by `Rule::LiveId`.
 pub fn validate<'a>(alloc: Global, entries: &'a [Entry]) -> Result<Verdict<'a>, AllocError>
-    ensures told { IfOk result (λ v. told v ≡ told_fault (plain_order entries.now)) }
-    ensures exact { IfOk result (λ v. IsTrue (is_supported (plain_order entries.now)) → told v ≡ first_fault entries.now) }
+    ensures reported { IfOk result (λ v. reported v ≡ reported_fault (plain_order entries.now)) }
+    ensures exact { IfOk result (λ v. IsTrue (is_supported (plain_order entries.now)) → reported v ≡ first_fault entries.now) }
     ensures same { IfOk result (IsAbout entries.now) }
 {
     let points = reference_order(alloc, entries)?;

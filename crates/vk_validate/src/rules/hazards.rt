@@ -1,5 +1,5 @@
 ghost use Rattle.std.specs.Prelude.{◌≡◌};
-ghost use Rattle.vk_validate.specs.Told.{action_of, past};
+ghost use Rattle.vk_validate.specs.PointViews.{action_of, past};
 ghost use Rattle.vk_validate.specs.Tests.{reads_unseen, overwrites_unseen, reads_unwritten};
 
 use crate::history::History;

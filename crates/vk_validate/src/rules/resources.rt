@@ -7,7 +7,7 @@ ghost use Rattle.vk_model.specs.RulesIds as ids;
 ghost use Rattle.vk_model.specs.RulesSizes as sizes;
 ghost use Rattle.vk_model.specs.RulesMapping as mapping;
 ghost use Rattle.vk_validate.specs.Supported.{is_supported_action, is_supported_entry, is_supported_command};
-ghost use Rattle.vk_validate.specs.Told.{action_of, point_of, past};
+ghost use Rattle.vk_validate.specs.PointViews.{action_of, point_of, past};
 ghost use Rattle.vk_validate.specs.Tests.{names_dead, lacks_usage, reads_unmapped, is_on_type_0, maps_local};
 
 use crate::history::History;

@@ -8,7 +8,7 @@ ghost use Rattle.vk_model.specs.Ownership.{dependency_of};
 ghost use Rattle.vk_model.specs.RulesSync as sync;
 ghost use Rattle.vk_model.specs.RulesLayouts as layouts;
 ghost use Rattle.vk_validate.specs.Supported.{is_supported_action, is_supported_command};
-ghost use Rattle.vk_validate.specs.Told.{action_of, point_of, past};
+ghost use Rattle.vk_validate.specs.PointViews.{action_of, point_of, past};
 
 use crate::history::History;
 use crate::scopes::{BY_HOST, BY_TRANSFERS, KNOWN_ACCESSES, KNOWN_STAGES, TRANSFERS};

@@ -1,4 +1,4 @@
-use Rattle.vk_validate.specs.Told.{past, point_of}
+use Rattle.vk_validate.specs.PointViews.{past, point_of}
 use Rattle.vk_validate.specs.Cleared.{tests}
 use Rattle.vk_validate.proofs.rules.breaks.Goals as goal
 

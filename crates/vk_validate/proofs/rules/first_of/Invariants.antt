@@ -1,6 +1,6 @@
 use Rattle.std.proofs.Common.{◌≡◌, drop}
 use Rattle.std.specs.List.{find}
-use Rattle.vk_validate.specs.Told.{past, point_of}
+use Rattle.vk_validate.specs.PointViews.{past, point_of}
 use Rattle.vk_validate.specs.Cleared.{tests}
 use Rattle.vk_validate.proofs.rules.first_of.Given as goal
 

@@ -1,5 +1,5 @@
 use Rattle.std.proofs.Common.{◌≡◌, drop}
-use Rattle.vk_validate.specs.Told.{past_of}
+use Rattle.vk_validate.specs.PointViews.{past_of}
 use Rattle.vk_validate.specs.Laid.{laid_batches}
 use Rattle.vk_validate.proofs.steps.push_batches.Given as goal
 

@@ -1,7 +1,7 @@
 use Rattle.std.proofs.Common.{◌≡◌, drop}
 use Rattle.vk_model.specs.Point.{Wait}
 use Rattle.vk_model.specs.Order.{actions}
-use Rattle.vk_validate.specs.Told.{past_of}
+use Rattle.vk_validate.specs.PointViews.{past_of}
 use Rattle.vk_validate.specs.Laid.{batch_at}
 use Rattle.vk_validate.proofs.steps.push_waits.Given as goal
 

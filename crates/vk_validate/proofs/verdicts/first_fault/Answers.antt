@@ -3,7 +3,7 @@ use Rattle.std.specs.Prelude.{slice_get}
 use Rattle.std.proofs.lemmas.Option.{slice_get_read}
 use Rattle.vk_model.specs.declared.rule.At.{At}
 use Rattle.vk_model.specs.declared.rule.Rule.TheVariants as rule
-use Rattle.vk_validate.specs.Told.{past, Walk}
+use Rattle.vk_validate.specs.PointViews.{past, Walk}
 use Rattle.vk_validate.specs.Faults.{tested_rule}
 use Rattle.vk_validate.proofs.Faults.{next, done, found}
 use Rattle.vk_validate.proofs.verdicts.first_fault.Goals as goal
@@ -24,13 +24,13 @@ loop-step-preserved c =
 pub returns-then-not-is_supported : goal.returns-then-not-is_supported
 returns-then-not-is_supported c =
     let at : slice_get c.args.points.now c.loop-step.step-index ≡ Some c.step-item.result = slice_get_read c.args.points.now (length c.args.points.now) c.loop-step.step-index c.step-item.result refl (omega arith) c.step-item.is in
-    ap (λ (told : At). Some (told, rule.LiveId)) c.at.ensures
+    ap (λ (reported : At). Some (reported, rule.LiveId)) c.at.ensures
     ∙ found c.loop-step.history c.args.points.now c.loop-step.step-index c.loop-step.invariant.here c.loop-step.invariant.cleared c.step-item.result rule.LiveId at (rw (tested_rule, ← c.is_supported.ensures, c.if-not-is_supported.true) refl)
 
 pub returns-in-Some : goal.returns-in-Some
 returns-in-Some c =
     let at : slice_get c.args.points.now c.loop-step.step-index ≡ Some c.step-item.result = slice_get_read c.args.points.now (length c.args.points.now) c.loop-step.step-index c.step-item.result refl (omega arith) c.step-item.is in
-    ap (λ (told : At). Some (told, c.in-Some.rule)) c.at-in-Some.ensures
+    ap (λ (reported : At). Some (reported, c.in-Some.rule)) c.at-in-Some.ensures
     ∙ found c.loop-step.history c.args.points.now c.loop-step.step-index c.loop-step.invariant.here c.loop-step.invariant.cleared c.step-item.result c.in-Some.rule at (rw (tested_rule, ← c.is_supported.ensures, c.if-not-is_supported.false, ← c.first_rule.ensures) c.in-Some.is)
 
 pub advance-requires-clause-here : goal.advance-requires-clause-here

@@ -1,5 +1,5 @@
 use Rattle.std.proofs.Common.{◌≡◌}
-use Rattle.vk_validate.specs.Told.{past}
+use Rattle.vk_validate.specs.PointViews.{past}
 use Rattle.vk_validate.specs.Cleared.{IsCleared}
 use Rattle.vk_validate.proofs.verdicts.first_fault.Given as goal
 

@@ -1,19 +1,19 @@
 use Rattle.std.proofs.Common.{◌∙◌, ap, sym}
-use Rattle.vk_validate.specs.Told.{past_of}
-use Rattle.vk_validate.proofs.Faults.{tells, tells_first, accepts}
+use Rattle.vk_validate.specs.PointViews.{past_of}
+use Rattle.vk_validate.proofs.Faults.{reports, reports_first, accepts}
 use Rattle.vk_validate.proofs.verdicts.validate.Goals as goal
 
-pub returns-in-Some-clause-told : goal.returns-in-Some-clause-told
-returns-in-Some-clause-told c = sym c.in-Some.is ∙ tells c.args.entries.now _ (ap past_of c.as_slice.ensures.value ∙ c.in_ok-points.ensures) _ c.in_ok-at.ensures
+pub returns-in-Some-clause-reported : goal.returns-in-Some-clause-reported
+returns-in-Some-clause-reported c = sym c.in-Some.is ∙ reports c.args.entries.now _ (ap past_of c.as_slice.ensures.value ∙ c.in_ok-points.ensures) _ c.in_ok-at.ensures
 
 pub returns-in-Some-clause-exact : goal.returns-in-Some-clause-exact
-returns-in-Some-clause-exact c = λ supported. sym c.in-Some.is ∙ tells_first c.args.entries.now _ (ap past_of c.as_slice.ensures.value ∙ c.in_ok-points.ensures) _ c.in_ok-at.ensures supported
+returns-in-Some-clause-exact c = λ supported. sym c.in-Some.is ∙ reports_first c.args.entries.now _ (ap past_of c.as_slice.ensures.value ∙ c.in_ok-points.ensures) _ c.in_ok-at.ensures supported
 
 pub invariant_of-result : goal.invariant_of-result
 invariant_of-result c = accepts c.args.entries.now _ (ap past_of c.as_slice.ensures.value ∙ c.in_ok-points.ensures) _ c.in_ok-at.ensures c.in-None.is
 
-pub returns-clause-told : goal.returns-clause-told
-returns-clause-told c = sym c.in-None.is ∙ tells c.args.entries.now _ (ap past_of c.as_slice.ensures.value ∙ c.in_ok-points.ensures) _ c.in_ok-at.ensures
+pub returns-clause-reported : goal.returns-clause-reported
+returns-clause-reported c = sym c.in-None.is ∙ reports c.args.entries.now _ (ap past_of c.as_slice.ensures.value ∙ c.in_ok-points.ensures) _ c.in_ok-at.ensures
 
 pub returns-clause-exact : goal.returns-clause-exact
-returns-clause-exact c = λ supported. sym c.in-None.is ∙ tells_first c.args.entries.now _ (ap past_of c.as_slice.ensures.value ∙ c.in_ok-points.ensures) _ c.in_ok-at.ensures supported
+returns-clause-exact c = λ supported. sym c.in-None.is ∙ reports_first c.args.entries.now _ (ap past_of c.as_slice.ensures.value ∙ c.in_ok-points.ensures) _ c.in_ok-at.ensures supported

@@ -10,6 +10,6 @@ apply_entry-applied-requires g c =
     let works : c.args.self.now.failed ≡ false = cc (same, c.if-self.false) in
     ready_next c.args.self.now c.args.entry.now works c.requires
 
-pub returns-else-is_err-clause-told : goal.returns-else-is_err-clause-told
-returns-else-is_err-clause-told g c =
-    if_ok c.apply_entry-applied.result _ _ (λ a told. λ e past st clean. told e past st (fits_clean _ clean)) c.apply_entry-applied.ensures.told
+pub returns-else-is_err-clause-answered : goal.returns-else-is_err-clause-answered
+returns-else-is_err-clause-answered g c =
+    if_ok c.apply_entry-applied.result _ _ (λ a answered. λ e past st clean. answered e past st (fits_clean _ clean)) c.apply_entry-applied.ensures.answered

@@ -1,7 +1,7 @@
 use Rattle.std.proofs.Common.{Result, Ok, Err, ap}
 use Rattle.std.specs.Prelude.{IfOk}
 use Rattle.vk_model.specs.declared.entry.Entry.{Entry}
-use Rattle.vk_device.proofs.Entries.{map_told, buffer_told, read_told, submit_told}
+use Rattle.vk_device.proofs.Entries.{map_answered, buffer_answered, read_answered, submit_answered}
 use Rattle.vk_device.specs.declared.applied.Applied.{Applied}
 use Rattle.vk_device.specs.declared.applied.ApplyError.{ApplyError}
 use Rattle.vk_device.specs.Allotted.{asked_by}
@@ -13,23 +13,23 @@ if_ok : (r : Result Applied ApplyError) (P Q : Applied → Type 0) → ((a : App
 if_ok (Ok a) P Q f p = f a p
 if_ok (Err e) P Q f p = p
 
-pub returns-in-Dedicated-clause-told : goal.returns-in-Dedicated-clause-told
-returns-in-Dedicated-clause-told c =
+pub returns-in-Dedicated-clause-answered : goal.returns-in-Dedicated-clause-answered
+returns-in-Dedicated-clause-answered c =
     if_ok c.make_buffer.result _ _ (λ a made. λ e past st fit.
-    buffer_told c.args.self.now c.make_buffer.new.self c.args.entry.now c.in-Buffer.id c.in-Dedicated.memory_type c.in-Buffer.info c.in-Buffer.is c.make_buffer.ensures.apart a made e past st fit)
+    buffer_answered c.args.self.now c.make_buffer.new.self c.args.entry.now c.in-Buffer.id c.in-Dedicated.memory_type c.in-Buffer.info c.in-Buffer.is c.make_buffer.ensures.apart a made e past st fit)
     c.make_buffer.ensures.made
 
-pub returns-in_ok-bytes-in-Read-clause-told : goal.returns-in_ok-bytes-in-Read-clause-told
-returns-in_ok-bytes-in-Read-clause-told c = λ e past st fit.
-    read_told c.args.self.now c.args.entry.now c.in-Read.buffer c.in-Read.offset c.in-Read.size c.in_ok-bytes-in-Read.bytes c.in-Read.is c.in_ok-bytes-in-Read.ensures.apart (λ p here. c.in_ok-bytes-in-Read.ensures.bytes p here) e past st fit
+pub returns-in_ok-bytes-in-Read-clause-answered : goal.returns-in_ok-bytes-in-Read-clause-answered
+returns-in_ok-bytes-in-Read-clause-answered c = λ e past st fit.
+    read_answered c.args.self.now c.args.entry.now c.in-Read.buffer c.in-Read.offset c.in-Read.size c.in_ok-bytes-in-Read.bytes c.in-Read.is c.in_ok-bytes-in-Read.ensures.apart (λ p here. c.in_ok-bytes-in-Read.ensures.bytes p here) e past st fit
 
-pub returns-in-Submit-clause-told : goal.returns-in-Submit-clause-told
-returns-in-Submit-clause-told c = λ e past st fit.
-    submit_told c.args.self.now c.run_batches.new.self c.args.entry.now c.in-Submit.queue c.in-Submit.batches c.in-Submit.is
+pub returns-in-Submit-clause-answered : goal.returns-in-Submit-clause-answered
+returns-in-Submit-clause-answered c = λ e past st fit.
+    submit_answered c.args.self.now c.run_batches.new.self c.args.entry.now c.in-Submit.queue c.in-Submit.batches c.in-Submit.is
     (rw c.as_slice.ensures at c.run_batches.ensures.matches) e past st fit
 
-pub returns-in-Map-clause-told : goal.returns-in-Map-clause-told
-returns-in-Map-clause-told c = λ e past st fit. map_told c.args.self.now c.map.new.self c.args.entry.now c.in-Map.buffer (placed c.args.self.now c.in-Map.buffer) c.in-Map.is c.map.ensures.mapped e past st
+pub returns-in-Map-clause-answered : goal.returns-in-Map-clause-answered
+returns-in-Map-clause-answered c = λ e past st fit. map_answered c.args.self.now c.map.new.self c.args.entry.now c.in-Map.buffer (placed c.args.self.now c.in-Map.buffer) c.in-Map.is c.map.ensures.mapped e past st
 
 pub returns-in-Dedicated-clause-rooms : goal.returns-in-Dedicated-clause-rooms
 returns-in-Dedicated-clause-rooms c =

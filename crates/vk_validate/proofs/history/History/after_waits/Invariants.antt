@@ -1,5 +1,5 @@
 use Rattle.std.proofs.Common.{◌≡◌, drop}
-use Rattle.vk_validate.specs.Told.{past}
+use Rattle.vk_validate.specs.PointViews.{past}
 use Rattle.vk_validate.specs.OrderState.{order_state, after_waits}
 use Rattle.vk_validate.proofs.history.History.after_waits.Given as goal
 

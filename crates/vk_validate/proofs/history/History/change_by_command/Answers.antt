@@ -1,6 +1,6 @@
 use Rattle.std.proofs.Common.{◌≡◌, length, refl, sym, ap}
 use Rattle.vk_model.specs.Point.{Run}
-use Rattle.vk_validate.specs.Told.{past}
+use Rattle.vk_validate.specs.PointViews.{past}
 use Rattle.vk_validate.specs.OrderState.{order_state}
 use Rattle.vk_validate.proofs.Clears.{length-past}
 use Rattle.vk_validate.proofs.history.History.change_by_command.Goals as goal
