@@ -14,7 +14,7 @@ use Rattle.vk_model.specs.RulesSizes.{breaks_size, bad_entry_size, bad_command_s
 use Rattle.vk_model.specs.RulesRanges.{breaks_range, host_past, command_past, fills_from_end, breaks_align, misaligned, off_4_length}
 use Rattle.vk_model.specs.RulesBytes.{breaks_read_undefined, reads_undefined}
 use Rattle.vk_model.specs.Effect.{world}
-use Rattle.vk_model.specs.Moves.{buffer_size, fill_size}
+use Rattle.vk_model.specs.ByteWrites.{buffer_size, fill_size}
 use Rattle.vk_model.specs.World.{in_buffer}
 use Rattle.vk_model.specs.declared.command.Length.{Length}
 use Rattle.vk_model.specs.declared.command.Length.TheVariants as length_of

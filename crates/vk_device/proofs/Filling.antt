@@ -11,10 +11,10 @@ use Rattle.vk_heap.proofs.RegionLemmas.{length-repeated}
 use Rattle.vk_memory.specs.MemoryState.{MemoryState, region_of, with_region, object_at, nothing}
 use Rattle.vk_model.specs.Basics.{below, byte_of}
 use Rattle.vk_model.specs.World.{in_buffer, in_image, same_byte}
-use Rattle.vk_model.specs.Moves.{Value, Move, move}
+use Rattle.vk_model.specs.ByteWrites.{Value, ByteWrite, byte_write}
 use Rattle.vk_device.specs.declared.device.Placed.{Placed}
 use Rattle.vk_device.specs.Held.{Held, IsApart, placed, byte_in, byte_at}
-use Rattle.vk_device.proofs.Running.{stored, move_to, HaveRun}
+use Rattle.vk_device.proofs.Running.{stored, write_to, HaveRun}
 
 -- what is looked for stands at one number of the range
 pub find_one : {X : Type 0} (test : X → Bool) (f : ℕ → X) (j a n : ℕ) → a ≤ j → j < a + n → test (f j) ≡ true → ((k : ℕ) → test (f k) ≡ true → k ≡ j) → find test (map f (range_with_len a n)) ≡ Some (f j)
@@ -65,30 +65,30 @@ pub region_of-other : (m : MemoryState) (o p : ℕ) (bytes : List ℕ) → (p �
 region_of-other m o p bytes ne = ap (λ x. x.region) (get_or-set_other m.objects o p (record (object_at m o) { region = bytes }) nothing ne)
 
 module _ (b o words w : ℕ) where
-  abbrev pub fill_move : ℕ → Move
-  fill_move k = move (in_buffer b (o + k)) (Value (byte_of w (k % 4)))
+  abbrev pub fill_write : ℕ → ByteWrite
+  fill_write k = byte_write (in_buffer b (o + k)) (Value (byte_of w (k % 4)))
 
-  abbrev pub fill_moves : List Move
-  fill_moves = map fill_move (below (4 * words))
+  abbrev pub fill_writes : List ByteWrite
+  fill_writes = map fill_write (below (4 * words))
 
-  pub image_missed : (i l a x y p : ℕ) → move_to fill_moves (in_image i l a x y p) ≡ None
-  image_missed i l a x y p = find_none (λ m. same_byte m.to (in_image i l a x y p)) fill_move 0 (4 * words) (λ k low high. refl)
+  pub image_missed : (i l a x y p : ℕ) → write_to fill_writes (in_image i l a x y p) ≡ None
+  image_missed i l a x y p = find_none (λ m. same_byte m.to (in_image i l a x y p)) fill_write 0 (4 * words) (λ k low high. refl)
 
-  other_missed : (c k : ℕ) → eqb b c ≡ false → move_to fill_moves (in_buffer c k) ≡ None
-  other_missed c k ne = find_none (λ m. same_byte m.to (in_buffer c k)) fill_move 0 (4 * words) (λ j low high. rw ne refl)
+  other_missed : (c k : ℕ) → eqb b c ≡ false → write_to fill_writes (in_buffer c k) ≡ None
+  other_missed c k ne = find_none (λ m. same_byte m.to (in_buffer c k)) fill_write 0 (4 * words) (λ j low high. rw ne refl)
 
-  outside_missed : (k : ℕ) → (k < o) ⊎ (o + 4 * words ≤ k) → move_to fill_moves (in_buffer b k) ≡ None
-  outside_missed k out = find_none (λ m. same_byte m.to (in_buffer b k)) fill_move 0 (4 * words) (λ j low high. go j (eqb (o + j) k) refl low high out)
+  outside_missed : (k : ℕ) → (k < o) ⊎ (o + 4 * words ≤ k) → write_to fill_writes (in_buffer b k) ≡ None
+  outside_missed k out = find_none (λ m. same_byte m.to (in_buffer b k)) fill_write 0 (4 * words) (λ j low high. go j (eqb (o + j) k) refl low high out)
     where
       go : (j : ℕ) (t : Bool) → eqb (o + j) k ≡ t → 0 ≤ j → j < 0 + 4 * words → (k < o) ⊎ (o + 4 * words ≤ k) → (eqb b b && t) ≡ false
       go j true e low high (inl lt) = let same = eqb-true (o + j) k e in absurd (omega arith)
       go j true e low high (inr le) = let same = eqb-true (o + j) k e in absurd (omega arith)
       go j false e low high out = rw (eq-eqb b b refl) refl
 
-  inside_found : (k : ℕ) → o ≤ k → k < o + 4 * words → move_to fill_moves (in_buffer b k) ≡ Some (fill_move (k - o))
+  inside_found : (k : ℕ) → o ≤ k → k < o + 4 * words → write_to fill_writes (in_buffer b k) ≡ Some (fill_write (k - o))
   inside_found k low high =
       let at : o + (k - o) ≡ k = omega arith in
-      find_one (λ m. same_byte m.to (in_buffer b k)) fill_move (k - o) 0 (4 * words) (omega arith) (omega arith)
+      find_one (λ m. same_byte m.to (in_buffer b k)) fill_write (k - o) 0 (4 * words) (omega arith) (omega arith)
       (rw (eq-eqb b b refl, eq-eqb (o + (k - o)) k at) refl)
       (λ j e. only j (eqb (o + j) k) refl e)
     where
@@ -116,7 +116,7 @@ module _ (s : Held) (apart : IsApart s.memory s.buffers) (b o words w : ℕ) (p 
   written = length-repeated words (to_le_bytes w32 w)
 
   -- a byte of the buffer itself
-  here_ran : (k : ℕ) → slice_index filled k ≡ stored (move_to (fill_moves b o words w) (in_buffer b k)) (byte_at s) (in_buffer b k)
+  here_ran : (k : ℕ) → slice_index filled k ≡ stored (write_to (fill_writes b o words w) (in_buffer b k)) (byte_at s) (in_buffer b k)
   here_ran k = elim (below_or k o) [
     | inl lt ↦ rw (outside_missed b o words w k (inl lt), here) (splice_before (region_of s.memory p.object) (repeated words (to_le_bytes w32 w)) o k lt (omega (arith, written, is_inside)))
     | inr ge ↦ elim (below_or k (o + 4 * words)) [
@@ -131,22 +131,22 @@ module _ (s : Held) (apart : IsApart s.memory s.buffers) (b o words w : ℕ) (p 
   other_ran c k ne None e = refl
   other_ran c k ne (Some q) e = ap (λ (r : List ℕ). slice_index r k) (region_of-other s.memory p.object q.object filled (λ same. ne (apart.own c b q p e here same)))
 
-  buffer_ran : (c k : ℕ) (t : Bool) → eqb b c ≡ t → byte_at after_fill (in_buffer c k) ≡ stored (move_to (fill_moves b o words w) (in_buffer c k)) (byte_at s) (in_buffer c k)
+  buffer_ran : (c k : ℕ) (t : Bool) → eqb b c ≡ t → byte_at after_fill (in_buffer c k) ≡ stored (write_to (fill_writes b o words w) (in_buffer c k)) (byte_at s) (in_buffer c k)
   buffer_ran c k true e =
       let same : b ≡ c = eqb-true b c e in
-      subst (λ (d : ℕ). byte_at after_fill (in_buffer d k) ≡ stored (move_to (fill_moves b o words w) (in_buffer d k)) (byte_at s) (in_buffer d k)) same
+      subst (λ (d : ℕ). byte_at after_fill (in_buffer d k) ≡ stored (write_to (fill_writes b o words w) (in_buffer d k)) (byte_at s) (in_buffer d k)) same
       (rw here (ap (λ (r : List ℕ). slice_index r k) (region_of-same s.memory p.object filled (is_inside.0)) ∙ here_ran k))
   buffer_ran c k false e =
       rw (other_missed b o words w c k e) (other_ran c k (λ h. eqb-false b c e (sym h)) (placed s c) refl)
 
-  pub fill_ran : HaveRun (fill_moves b o words w) (byte_at s) (byte_at after_fill)
+  pub fill_ran : HaveRun (fill_writes b o words w) (byte_at s) (byte_at after_fill)
   fill_ran (in_buffer c k) = buffer_ran c k (eqb b c) refl
   fill_ran (in_image i l a x y z) = rw (image_missed b o words w i l a x y z) refl
 
   -- what a fill writes has a place
-  pub fill_there : (c k : ℕ) → IsSome (move_to (fill_moves b o words w) (in_buffer c k)) → IsSome (placed s c)
+  pub fill_there : (c k : ℕ) → IsSome (write_to (fill_writes b o words w) (in_buffer c k)) → IsSome (placed s c)
   fill_there c k h = go (eqb b c) refl
     where
       go : (t : Bool) → eqb b c ≡ t → IsSome (placed s c)
       go true e = subst (λ (d : ℕ). IsSome (placed s d)) (eqb-true b c e) (rw here refl)
-      go false e = let none : IsSome {T = Move} None = subst (λ (m : Option Move). IsSome m) (other_missed b o words w c k e) h in absurd cc
+      go false e = let none : IsSome {T = ByteWrite} None = subst (λ (m : Option ByteWrite). IsSome m) (other_missed b o words w c k e) h in absurd cc

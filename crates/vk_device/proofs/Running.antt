@@ -1,31 +1,31 @@
--- The moves of a command, made on the bytes of memory: what was shown before is shown after them.
+-- The byte writes of a command, made on the bytes of memory: what was shown before is shown after them.
 use Rattle.std.proofs.Common.{◌≡◌, ℕ, List, refl, ◌∙◌, Option, Some, None}
 use Rattle.std.specs.Prelude.{IsSome}
 use Rattle.std.specs.List.{find}
 use Rattle.vk_model.specs.World.{Byte, same_byte}
-use Rattle.vk_model.specs.Moves.{Source, Value, From, Move}
-use Rattle.vk_model.specs.Effect.{source_value, moved, after_moves}
+use Rattle.vk_model.specs.ByteWrites.{Source, Value, From, ByteWrite}
+use Rattle.vk_model.specs.Effect.{source_value, value_after, after_writes}
 
 -- what a source gives, by the bytes before
 abbrev pub given : Source → (Byte → ℕ) → ℕ
 given (Value n) bytes = n
 given (From d) bytes = bytes d
 
--- what a byte holds after the move to it, if there is one
-abbrev pub stored : Option Move → (Byte → ℕ) → Byte → ℕ
+-- what a byte holds after the write to it, if there is one
+abbrev pub stored : Option ByteWrite → (Byte → ℕ) → Byte → ℕ
 stored None bytes c = bytes c
 stored (Some m) bytes c = given m.source bytes
 
 -- the move to a byte
-abbrev pub move_to : List Move → Byte → Option Move
-move_to ms c = find (λ m. same_byte m.to c) ms
+abbrev pub write_to : List ByteWrite → Byte → Option ByteWrite
+write_to ms c = find (λ m. same_byte m.to c) ms
 
 -- the moves have been made, and nothing else has changed
-abbrev pub HaveRun : List Move → (Byte → ℕ) → (Byte → ℕ) → Type 0
-HaveRun ms old new = (c : Byte) → new c ≡ stored (move_to ms c) old c
+abbrev pub HaveRun : List ByteWrite → (Byte → ℕ) → (Byte → ℕ) → Type 0
+HaveRun ms old new = (c : Byte) → new c ≡ stored (write_to ms c) old c
 
 -- one byte: what the definition gives to it is what was stored
-kept : (o : Option Move) (value : Byte → Option ℕ) (old : Byte → ℕ) (c : Byte) (v : ℕ) → ((d : Byte) (u : ℕ) → value d ≡ Some u → old d ≡ u) → moved value o c ≡ Some v → stored o old c ≡ v
+kept : (o : Option ByteWrite) (value : Byte → Option ℕ) (old : Byte → ℕ) (c : Byte) (v : ℕ) → ((d : Byte) (u : ℕ) → value d ≡ Some u → old d ≡ u) → value_after value o c ≡ Some v → stored o old c ≡ v
 kept None value old c v values h = values c v h
 kept (Some m) value old c v values h = go m.source h
   where
@@ -33,13 +33,13 @@ kept (Some m) value old c v values h = go m.source h
     go (Value n) e = cc
     go (From d) e = values d v e
 
-pub run_keeps_values : (ms : List Move) (value : Byte → Option ℕ) (old new : Byte → ℕ) → HaveRun ms old new → ((c : Byte) (v : ℕ) → value c ≡ Some v → old c ≡ v) → (c : Byte) (v : ℕ) → after_moves ms value c ≡ Some v → new c ≡ v
-run_keeps_values ms value old new ran values c v h = ran c ∙ kept (move_to ms c) value old c v values h
+pub run_keeps_values : (ms : List ByteWrite) (value : Byte → Option ℕ) (old new : Byte → ℕ) → HaveRun ms old new → ((c : Byte) (v : ℕ) → value c ≡ Some v → old c ≡ v) → (c : Byte) (v : ℕ) → after_writes ms value c ≡ Some v → new c ≡ v
+run_keeps_values ms value old new ran values c v h = ran c ∙ kept (write_to ms c) value old c v values h
 
 -- a byte that is defined after the moves was written by one or defined before
-pub run_there : (There : Byte → Type 0) (ms : List Move) (value : Byte → Option ℕ) → ((c : Byte) (v : ℕ) → value c ≡ Some v → There c) → ((c : Byte) → IsSome (move_to ms c) → There c) → (c : Byte) (v : ℕ) → after_moves ms value c ≡ Some v → There c
-run_there There ms value before written c v h = go (move_to ms c) refl h
+pub run_there : (There : Byte → Type 0) (ms : List ByteWrite) (value : Byte → Option ℕ) → ((c : Byte) (v : ℕ) → value c ≡ Some v → There c) → ((c : Byte) → IsSome (write_to ms c) → There c) → (c : Byte) (v : ℕ) → after_writes ms value c ≡ Some v → There c
+run_there There ms value before written c v h = go (write_to ms c) refl h
   where
-    go : (o : Option Move) → move_to ms c ≡ o → moved value o c ≡ Some v → There c
+    go : (o : Option ByteWrite) → write_to ms c ≡ o → value_after value o c ≡ Some v → There c
     go None e defined = before c v defined
     go (Some m) e defined = written c (rw e refl)

@@ -18,16 +18,16 @@ use Rattle.vk_model.specs.Point.{Past, Action, Wait, Run, Signal}
 use Rattle.vk_model.specs.Objects.{made, buffer, is_exclusive}
 use Rattle.vk_model.specs.Order.{SubmittedBatch, actions, started, batches_of, plain_from, host}
 use Rattle.vk_model.specs.World.{Byte, in_buffer, in_image, resource_at, World}
-use Rattle.vk_model.specs.Moves.{Move, moves, buffer_size, fill_size}
-use Rattle.vk_model.specs.Effect.{used, without, is_other, after_element, after_moves, world}
+use Rattle.vk_model.specs.ByteWrites.{ByteWrite, byte_writes, buffer_size, fill_size}
+use Rattle.vk_model.specs.Effect.{used, without, is_other, after_element, after_writes, world}
 use Rattle.vk_model.specs.Ownership.{family_of}
 use Rattle.vk_model.specs.Meaning.{reads, read_by, read_in}
 use Rattle.vk_device.specs.declared.device.Placed.{Placed}
 use Rattle.vk_device.specs.Held.{Held, IsApart, placed, byte_at}
 use Rattle.vk_device.specs.Fits.{FitsFill, AllMemory, FitsCommand, AllFit}
 use Rattle.vk_device.specs.Matches.{IsThere, Matches, next_past, run_point}
-use Rattle.vk_device.proofs.Running.{move_to, run_keeps_values, run_there}
-use Rattle.vk_device.proofs.Filling.{fill_move, fill_moves, image_missed, fill_ran, fill_there}
+use Rattle.vk_device.proofs.Running.{write_to, run_keeps_values, run_there}
+use Rattle.vk_device.proofs.Filling.{fill_write, fill_writes, image_missed, fill_ran, fill_there}
 
 -- a use only takes values away
 less : (t : Bool) (value : Byte → Option ℕ) (c : Byte) (v : ℕ) → cond t None (value c) ≡ Some v → value c ≡ Some v
@@ -55,7 +55,7 @@ memory_only past f (element.Image e ∷ es) w m = absurd m
 barrier_matches : (e b k q : ℕ) (es : List Element) (past : Past) (s : Held) → AllMemory es → Matches past s → Matches (run_point e b k q (cmd.Barrier es) ∷ past) s
 barrier_matches e b k q es past s m old = record {
   sizes = old.sizes;
-  values = λ c v h. old.values c v (subst (λ (w : World). w.value c ≡ Some v) (memory_only past (family_of q) es (record (world past) { value = after_moves [] (world past).value }) m) h);
+  values = λ c v h. old.values c v (subst (λ (w : World). w.value c ≡ Some v) (memory_only past (family_of q) es (record (world past) { value = after_writes [] (world past).value }) m) h);
 }
 
 -- ---- a fill
@@ -96,16 +96,16 @@ fill_matches e b k q i o n w past s p apart here st fits =
     let words : ℕ = fill_size p.size o n / 4 in
     let asked = fill_fits past s i p o n st here fits in
     let room : o + 4 * words ≤ p.size = omega arith in
-    let same : moves past (cmd.Fill i o n w) ≡ fill_moves i o words w = ap (λ (z : ℕ). map (fill_move i o words w) (below z)) (ap (λ (z : ℕ). fill_size z o n) (known_size past s i p st here) ∙ asked.2) in
+    let same : byte_writes past (cmd.Fill i o n w) ≡ fill_writes i o words w = ap (λ (z : ℕ). map (fill_write i o words w) (below z)) (ap (λ (z : ℕ). fill_size z o n) (known_size past s i p st here) ∙ asked.2) in
     let ran = fill_ran s apart i o words w p here room in
     let value : Byte → Option ℕ = (used past (family_of q) i (world past)).value in
     let was : (c : Byte) (v : ℕ) → value c ≡ Some v → IsThere s c × (byte_at s c ≡ v) = λ c v h. st.values c v (used_less past (family_of q) i (world past) c v h) in
     record {
       sizes = st.sizes;
       values = λ c v h.
-          let h' : after_moves (fill_moves i o words w) value c ≡ Some v = subst (λ (ms : List Move). after_moves ms value c ≡ Some v) same h in (
-            there c v (run_there (IsThere s) (fill_moves i o words w) value (λ d u g. (was d u g).0) (landed words room) c v h'),
-            run_keeps_values (fill_moves i o words w) value (byte_at s) _ ran (λ d u g. (was d u g).1) c v h',
+          let h' : after_writes (fill_writes i o words w) value c ≡ Some v = subst (λ (ms : List ByteWrite). after_writes ms value c ≡ Some v) same h in (
+            there c v (run_there (IsThere s) (fill_writes i o words w) value (λ d u g. (was d u g).0) (landed words room) c v h'),
+            run_keeps_values (fill_writes i o words w) value (byte_at s) _ ran (λ d u g. (was d u g).1) c v h',
           );
     }
   where
@@ -113,9 +113,9 @@ fill_matches e b k q i o n w past s p apart here st fits =
     there (in_buffer c k) v t = t
     there (in_image i l a x y z) v t = t
 
-    landed : (words : ℕ) → o + 4 * words ≤ p.size → (c : Byte) → IsSome (move_to (fill_moves i o words w) c) → IsThere s c
+    landed : (words : ℕ) → o + 4 * words ≤ p.size → (c : Byte) → IsSome (write_to (fill_writes i o words w) c) → IsThere s c
     landed words room (in_buffer c k) h = fill_there s apart i o words w p here room c k h
-    landed words room (in_image j l a x y z) h = let none : IsSome {T = Move} None = subst (λ (m : Option Move). IsSome m) (image_missed i o words w j l a x y z) h in absurd cc
+    landed words room (in_image j l a x y z) h = let none : IsSome {T = ByteWrite} None = subst (λ (m : Option ByteWrite). IsSome m) (image_missed i o words w j l a x y z) h in absurd cc
 
 -- ---- batches
 

@@ -13,7 +13,7 @@ use Rattle.vk_model.specs.declared.resource.Place.TheVariants as place
 use Rattle.vk_model.specs.Point.{Past, Action, Host, Wait, Run, Signal}
 use Rattle.vk_model.specs.Objects.{made, buffer}
 use Rattle.vk_model.specs.World.{in_buffer}
-use Rattle.vk_model.specs.Moves.{fill_size}
+use Rattle.vk_model.specs.ByteWrites.{fill_size}
 use Rattle.vk_model.specs.Effect.{world}
 
 -- A fill lies in a buffer that was made, and writes whole words (Vulkan, "Filling Buffers").

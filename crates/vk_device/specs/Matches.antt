@@ -11,7 +11,7 @@ use Rattle.vk_model.specs.Objects.{buffer}
 use Rattle.vk_model.specs.Basics.{round_up}
 use Rattle.vk_model.specs.Order.{SubmittedBatch, actions, started, batches_of, batches_from, host}
 use Rattle.vk_model.specs.World.{Byte, in_buffer, in_image}
-use Rattle.vk_model.specs.Moves.{fill_size}
+use Rattle.vk_model.specs.ByteWrites.{fill_size}
 use Rattle.vk_model.specs.Effect.{world}
 use Rattle.vk_model.specs.Meaning.{read_in}
 use Rattle.vk_device.specs.declared.applied.Applied.{Applied}

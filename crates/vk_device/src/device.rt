@@ -2,7 +2,7 @@ ghost use Rattle.std.specs.Prelude.{◌≡◌, ◌⊎◌, ℕ, ◌+◌, ◌/◌,
 ghost use Rattle.std.specs.Int.{to_le_bytes, w32};
 ghost use Rattle.vk_heap.specs.Region.{splice, piece, repeated};
 ghost use Rattle.vk_memory.specs.MemoryState.{region_of, with_region};
-ghost use Rattle.vk_model.specs.Moves.{fill_size};
+ghost use Rattle.vk_model.specs.ByteWrites.{fill_size};
 
 use crate::applied::{Applied, ApplyError};
 use std::alloc::Global;

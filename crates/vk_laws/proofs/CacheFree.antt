@@ -12,7 +12,7 @@ use Rattle.vk_model.specs.Edge.{is_host}
 use Rattle.vk_model.specs.Access.{writes}
 use Rattle.vk_model.specs.Rules.{first_fault}
 use Rattle.vk_model.specs.Fault.{Comes, older, IsSound}
-use Rattle.vk_model.specs.Laws.{BeforeIsPath, BeforeIsTransitive, GrowthKeeps, PiecesAreMoves}
+use Rattle.vk_model.specs.Laws.{BeforeIsPath, BeforeIsTransitive, GrowthKeeps, PiecesAreByteWrites}
 use Rattle.vk_laws.specs.Machine.{Task, Writes, Reads}
 use Rattle.vk_laws.specs.Caches.{CacheFree, Seen, Available}
 use Rattle.vk_laws.specs.Trace.{accesses, NoHazardLaw, SeenIsBefore, HostInOrder, CommandsStay}
@@ -100,7 +100,7 @@ cached_then all new alive x cx ax b judged h n cn le =
         let long = more_nodes m.0 (sn.at ∷ sn.past) in
         absurd (omega (arith, le, low, lt, size, long))
 
-module _ (together : PiecesAreMoves) (paths : BeforeIsPath) (joins : BeforeIsTransitive) (stay : CommandsStay) (hazards : NoHazardLaw) (visibilities : SeenIsBefore) (hosts : HostInOrder) (keeps : GrowthKeeps) (t : List Entry) (sound : IsSound t) (none : first_fault t ≡ None) where
+module _ (together : PiecesAreByteWrites) (paths : BeforeIsPath) (joins : BeforeIsTransitive) (stay : CommandsStay) (hazards : NoHazardLaw) (visibilities : SeenIsBefore) (hosts : HostInOrder) (keeps : GrowthKeeps) (t : List Entry) (sound : IsSound t) (none : first_fault t ≡ None) where
   abbrev all : Past
   all = plain_order t
 

@@ -2,7 +2,7 @@
 use Rattle.std.proofs.Common.{◌≡◌, ◌⊎◌, ℕ, suc, ◌<◌, ◌≤◌, IsTrue, List, Option, Some, None}
 use Rattle.std.specs.Prelude.{⊤}
 use Rattle.vk_model.specs.World.{Byte}
-use Rattle.vk_model.specs.Moves.{Value, From}
+use Rattle.vk_model.specs.ByteWrites.{Value, From}
 use Rattle.vk_laws.specs.Machine.{IsIn, Task, Put, Puts, Unknown, TraceAccesses, Writes, Precedes, latest}
 use Rattle.vk_laws.specs.Caches.{Clean, Dirty, Cell, Caching}
 

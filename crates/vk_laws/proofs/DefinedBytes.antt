@@ -3,10 +3,10 @@ use Rattle.std.proofs.Common.{◌≡◌, ⊎_elim, ℕ, List, [], ◌∷◌, Boo
 use Rattle.std.specs.List.{filter}
 use Rattle.vk_model.specs.Basics.{holds}
 use Rattle.vk_model.specs.World.{Byte}
-use Rattle.vk_model.specs.Moves.{Value, From}
+use Rattle.vk_model.specs.ByteWrites.{Value, From}
 use Rattle.vk_model.specs.Point.{Past}
 use Rattle.vk_model.specs.Node.{Node, Act, Hosts, Waits, Signals, Runs, Depends}
-use Rattle.vk_model.specs.Laws.{PiecesAreMoves}
+use Rattle.vk_model.specs.Laws.{PiecesAreByteWrites}
 use Rattle.std.specs.Prelude.{nat_lt}
 use Rattle.vk_laws.specs.Machine.{Task, Put, Puts, Unknown, TraceAccesses, Writes, Reads, Conflict, newest, latest}
 use Rattle.vk_laws.specs.Trace.{accesses}
@@ -60,7 +60,7 @@ module _ (all : Past) where
       go false e rest = ap (newest (tr.write_of u c) u) rest
 
   -- a task that accesses a byte is there, and no event
-  module _ (and_from : PiecesAreMoves) where
+  module _ (and_from : PiecesAreByteWrites) where
     abbrev Real : Task → Type 0
     Real u = IsTrue (tr.has u) × (is_event all u ≡ false)
 

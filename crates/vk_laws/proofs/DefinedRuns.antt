@@ -10,7 +10,7 @@ use Rattle.vk_model.specs.declared.entry.Entry.TheVariants as entry
 use Rattle.vk_model.specs.Basics.{holds, below}
 use Rattle.vk_model.specs.Point.{Past, Point}
 use Rattle.vk_model.specs.Order.{plain_order}
-use Rattle.vk_model.specs.Moves.{Move}
+use Rattle.vk_model.specs.ByteWrites.{ByteWrite}
 use Rattle.vk_model.specs.Pieces.{pieces}
 use Rattle.vk_model.specs.Node.{Node, Act, Hosts, Waits, Signals, Runs, Depends, Barrier, SetOf, AwaitOf, nodes}
 use Rattle.vk_model.specs.Edge.{edge, is_host, is_submit, same_queue, by_host, by_stages, by_signal, by_all_commands, by_semaphore, pairs, signaled_by, waited_by, host_waits, earlier}
@@ -170,7 +170,7 @@ module _ (paths : BeforeIsPath) (joins : BeforeIsTransitive) (leads : BeforeLead
       let runs = all_passes (λ m. not (before (nodes past) m n) || list_all (is_done done) (node_pieces past m m.act)) (nodes past) m free old in
       let all_run = implied (before (nodes past) m n) (list_all (is_done done) (node_pieces past m m.act)) (turned (before_same P past g m n cn) b) runs in
       let runs_each = subst (λ (a : Act). IsTrue (list_all (is_done done) (node_pieces past m a))) act all_run in
-      let count : length (pieces all c) ≡ length (pieces past c) = ap (λ (ps : List (List Move)). length ps) (pieces_same P past g m c old act) in
+      let count : length (pieces all c) ≡ length (pieces past c) = ap (λ (ps : List (List ByteWrite)). length ps) (pieces_same P past g m c old act) in
       let here : Contains (node_pieces past m (Runs c)) (m.number, 0 + j) = map_has (λ k. (m.number, k)) (below (length (pieces past c))) (0 + j) (numbers_have 0 (length (pieces past c)) j (omega (arith, lt, count))) in
       subst (λ (k : ℕ). IsTrue (is_done done (m.number, k))) (let same : 0 + j ≡ j = omega arith in same)
       (all_passes (is_done done) (node_pieces past m (Runs c)) (m.number, 0 + j) runs_each here)
@@ -290,7 +290,7 @@ module _ (paths : BeforeIsPath) (joins : BeforeIsTransitive) (leads : BeforeLead
     piece_may : (x : Name) → Offered x → MayRun tr i.tasks (piece_task x)
     piece_may x o =
         let at = offered_at x o in
-        let count : length (pieces all o.command) ≡ length (pieces s.front.past o.command) = ap (λ (ps : List (List Move)). length ps) (pieces_same _ s.front.past grows o.node o.command o.stands o.act) in
+        let count : length (pieces all o.command) ≡ length (pieces s.front.past o.command) = ap (λ (ps : List (List ByteWrite)). length ps) (pieces_same _ s.front.past grows o.node o.command o.stands o.act) in
         let within = o.part in
         let there : IsTrue (tr.has (piece_task x)) = has_task (piece_task x) o.node at
         (subst (λ (a : Act). IsTrue (nat_lt x.1 (task_count all a))) (sym o.act) (lt-ltb x.1 (length (pieces all o.command)) (omega (arith, count, within)))) in
@@ -472,7 +472,7 @@ module _ (paths : BeforeIsPath) (joins : BeforeIsTransitive) (leads : BeforeLead
             let within = (range_from 0 (length (pieces past c)) j.0 j.1).1 in
             let v : Task = piece_task (m.number, j.0) in
             let at = node_at_self paths joins all m (node_in_all P past g m cm) in
-            let count : length (pieces all c) ≡ length (pieces past c) = ap (λ (ps : List (List Move)). length ps) (pieces_same P past g m c cm act) in
+            let count : length (pieces all c) ≡ length (pieces past c) = ap (λ (ps : List (List ByteWrite)). length ps) (pieces_same P past g m c cm act) in
             let there : IsTrue (tr.has v) = has_task v m at (subst (λ (a : Act). IsTrue (nat_lt j.0 (task_count all a))) (sym act) (lt-ltb j.0 (length (pieces all c)) (omega (arith, within, count)))) in
             let stands = may.after v (there, turned (sym (before_is v u m n at at_u)) (turned (sym (before_same P past g m n cn)) b)) in
             let ran : IsTrue (is_done s.done (m.number, j.0)) = turned (happened_is s v m at (Runs c) act) ((i.happened v there (plain_is v m at (Runs c) act refl)).0 stands) in
@@ -506,7 +506,7 @@ module _ (paths : BeforeIsPath) (joins : BeforeIsTransitive) (leads : BeforeLead
         let sub = submitted orders keeps t sound n (ap is_host act) found.0 in
         let m = sub.submit in
         let old = applied_node n found.0 (by_submit m sub.stands sub.is_it (submit_first m n sub.stands found.0 sub.is_it sub.entry sub.earlier) sub.entry m.act refl sub.is_it) in
-        let count : length (pieces all c) ≡ length (pieces s.front.past c) = ap (λ (ps : List (List Move)). length ps) (pieces_same _ s.front.past (grows s did i) n c old act) in
+        let count : length (pieces all c) ≡ length (pieces s.front.past c) = ap (λ (ps : List (List ByteWrite)). length ps) (pieces_same _ s.front.past (grows s did i) n c old act) in
         let free = free_before _ s.front.past (grows s did i) u n at old may in
         let itself : u ≡ piece_task (n.number, u.part) = same_task u (piece_task (n.number, u.part)) (sym found.1) refl in
         subst (λ (v : Task). MayCome s v) (sym itself)
@@ -648,7 +648,7 @@ module _ (paths : BeforeIsPath) (joins : BeforeIsTransitive) (leads : BeforeLead
         ran_there : (m : Node) → (here s did i x xs left ≡ m) ⊎ Contains (nodes past) m → IsTrue (list_all (is_done s.done) (node_pieces (past_with s x) m m.act))
         ran_there m (inl same) = subst (λ (n : Node). IsTrue (list_all (is_done s.done) (node_pieces (past_with s x) n n.act))) same refl
         ran_there m (inr old) = node_ran (past_with s x) (length (nodes past)) (all_ran (length (nodes past))) m old (number_below (nodes past) (numbered past) m old)
-            (λ c act. ap (λ (ps : List (List Move)). length ps)
+            (λ c act. ap (λ (ps : List (List ByteWrite)). length ps)
             (sym (pieces_same _ (past_with s x) (after_grows s did i x xs left) m c (subst (λ (l : Past). Contains (nodes l) m) (sym (wait_past orders keeps t sound s i.placed x xs left e)) (contains-tail (here s did i x xs left) (nodes past) m old)) act)
             ∙ pieces_same _ past (grows s did i) m c old act))
 

@@ -14,8 +14,8 @@ use Rattle.vk_model.specs.World.{Byte, World}
 use Rattle.vk_model.specs.Objects.{is_exclusive, is_cached}
 use Rattle.vk_model.specs.Point.{Past, Point, Action, Host, Wait, Run, Signal}
 use Rattle.vk_model.specs.Ownership.{family_of, uses, elements_of, transfer, Transfer, Stays, Release, Acquire, Neither, is_transition}
-use Rattle.vk_model.specs.Moves.{moves}
-use Rattle.vk_model.specs.Effect.{after_moves, used, transitioned, after_buffer_element, after_image_element, after_element, after_command, after_host, after_action, written, reaches, world}
+use Rattle.vk_model.specs.ByteWrites.{byte_writes}
+use Rattle.vk_model.specs.Effect.{after_writes, used, transitioned, after_buffer_element, after_image_element, after_element, after_command, after_host, after_action, written, reaches, world}
 use Rattle.vk_model.specs.Node.{nodes}
 use Rattle.vk_model.specs.Fault.{Comes, newest, older}
 use Rattle.vk_laws.proofs.ModelBytes.{more_nodes}
@@ -64,7 +64,7 @@ fold_dirty f step (x ∷ xs) w = fold_dirty f step xs (f w x) ∙ step w x
 command_dirty : (past : Past) (f : ℕ) (x : Cmd) (w : World) → (after_command past f x w).dirty ≡ w.dirty
 command_dirty past f x w =
     let ready : World = fold (λ v r. used past f r v) w (uses x) in
-    fold_dirty (after_element past f) (element_dirty past f) (elements_of x) (record ready { value = after_moves (moves past x) ready.value })
+    fold_dirty (after_element past f) (element_dirty past f) (elements_of x) (record ready { value = after_writes (byte_writes past x) ready.value })
     ∙ fold_dirty (λ v r. used past f r v) (λ v r. used_dirty past f r v) (uses x) w
 
 -- ---- the write that dirty a byte

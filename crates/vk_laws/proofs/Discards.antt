@@ -16,7 +16,7 @@ use Rattle.vk_model.specs.Edge.{is_host}
 use Rattle.vk_model.specs.Before.{before}
 use Rattle.vk_model.specs.Seen.{Access, Read, Write, seen}
 use Rattle.vk_model.specs.Access.{is_in, host_reads, reads, writes}
-use Rattle.vk_model.specs.Moves.{From}
+use Rattle.vk_model.specs.ByteWrites.{From}
 use Rattle.vk_laws.specs.Machine.{Task, Put, Puts, Unknown, Writes, Reads, Precedes, Conflict, HazardFree, IsModel}
 use Rattle.vk_laws.specs.Caches.{CacheFree, Seen, Available}
 use Rattle.vk_laws.specs.Trace.{accesses}

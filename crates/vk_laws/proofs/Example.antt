@@ -3,7 +3,7 @@ use Rattle.std.proofs.Common.{◌≡◌, ◌⊎◌, inl, inr, ⊎_elim, ℕ, zer
 use Rattle.std.specs.Prelude.{◌&&◌, ◌==◌, nat_lt}
 use Rattle.std.proofs.lemmas.Bool.{eqb-true}
 use Rattle.vk_model.specs.World.{Byte, in_buffer, in_image}
-use Rattle.vk_model.specs.Moves.{From}
+use Rattle.vk_model.specs.ByteWrites.{From}
 use Rattle.vk_laws.specs.Machine.{IsIn, Task, Put, Puts, Writes, Reads, HazardFree, MayRun}
 use Rattle.vk_laws.specs.Caches.{Clean, Dirty, Cell, Touched, Dropped, WrittenBack, Loaded, CellRan, CacheFree, Seen, Reached, Start, Touch, Run}
 use Rattle.vk_laws.specs.Commands.{IsCut}

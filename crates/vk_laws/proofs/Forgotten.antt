@@ -20,7 +20,7 @@ use Rattle.vk_model.specs.Seen.{Access, Read, Write, command_mask, seen, availab
 use Rattle.vk_model.specs.Access.{reads, writes}
 use Rattle.vk_model.specs.Rules.{first_fault}
 use Rattle.vk_model.specs.Fault.{Comes, newest, older, IsSound}
-use Rattle.vk_model.specs.Laws.{BeforeIsPath, BeforeIsTransitive, GrowthKeeps, PiecesAreMoves, PiecesWriteApart}
+use Rattle.vk_model.specs.Laws.{BeforeIsPath, BeforeIsTransitive, GrowthKeeps, PiecesAreByteWrites, PiecesWriteApart}
 use Rattle.vk_laws.specs.Trace.{accesses, AccessesInOrder, NoHazardLaw, SeenIsBefore, HostInOrder, CommandsStay}
 use Rattle.vk_laws.specs.Discards.{entry_forgets}
 use Rattle.vk_laws.specs.TraceBytes.{before_node}
@@ -128,7 +128,7 @@ module _ (paths : BeforeIsPath) (joins : BeforeIsTransitive) (all : Past) (one :
 
 -- what the laws of nodes and pieces give, for a trace that breaks no rule
 pub record Given (t : List Entry) : Type 0 where
-  pub pieces_together : PiecesAreMoves
+  pub pieces_together : PiecesAreByteWrites
   pub apart : PiecesWriteApart
   pub paths : BeforeIsPath
   pub joins : BeforeIsTransitive

@@ -11,22 +11,22 @@ use Rattle.vk_model.specs.Basics.{holds, some_pair}
 use Rattle.vk_model.specs.World.{Byte, same_byte}
 use Rattle.vk_model.specs.Point.{Past, Action, Run, host_of, command_of}
 use Rattle.vk_model.specs.Order.{plain_order}
-use Rattle.vk_model.specs.Moves.{Value, From, Move, moves}
+use Rattle.vk_model.specs.ByteWrites.{Value, From, ByteWrite, byte_writes}
 use Rattle.vk_model.specs.Pieces.{pieces}
 use Rattle.vk_model.specs.Node.{Node, Act, Hosts, Waits, Signals, Runs, Depends, nodes, acts}
 use Rattle.vk_model.specs.Access.{is_in, origin, origins, targets, host_reads}
 use Rattle.vk_model.specs.RulesRanges.{command_overlaps, lists_twice}
 use Rattle.vk_model.specs.Rules.{breaks, first_fault}
 use Rattle.vk_model.specs.Fault.{Comes, IsSound}
-use Rattle.vk_model.specs.Laws.{PiecesAreMoves, PiecesWriteApart, write_common}
+use Rattle.vk_model.specs.Laws.{PiecesAreByteWrites, PiecesWriteApart, write_common}
 use Rattle.vk_laws.specs.Machine.{Task, Put, Puts, Reads, HazardFree}
 use Rattle.vk_laws.specs.Trace.{AccessesInOrder}
-use Rattle.vk_laws.specs.Tasks.{moves_of, host_value, part_write, part_read, node_at, by_act, accesses_of}
+use Rattle.vk_laws.specs.Tasks.{piece_writes, host_value, part_write, part_read, node_at, by_act, accesses_of}
 use Rattle.vk_laws.proofs.TaskNodes.{node_of, same_task}
 use Rattle.vk_laws.proofs.Members.{member_passes, found, map_has, chosen_has, chosen_from}
-use Rattle.vk_laws.proofs.Steady.{kept_moves, kept_pieces, new_ids, live_ids}
+use Rattle.vk_laws.proofs.Steady.{kept_writes, kept_pieces, new_ids, live_ids}
 use Rattle.vk_laws.proofs.Points.{AtPoint, stands, action_of, comes_at}
-use Rattle.vk_laws.proofs.TaskAccesses.{byte_same, piece_move, is_there, is_in_of, ordered}
+use Rattle.vk_laws.proofs.TaskAccesses.{byte_same, piece_write, is_there, is_in_of, ordered}
 use Rattle.vk_laws.proofs.Apart.{pair_of, no_overlap}
 
 -- ---- what a part does
@@ -49,25 +49,25 @@ module _ (all : Past) where
 
   -- a move of a piece
   pub record Moved (x : Cmd) (k : ℕ) (c : Byte) (w : Put) : Type 0 where
-    pub piece : List Move
+    pub piece : List ByteWrite
     pub at : slice_get (pieces all x) k ≡ Some piece
-    pub mover : Move
-    pub first : find (λ m. same_byte m.to c) piece ≡ Some mover
-    pub put : Puts mover.source ≡ w
+    pub byte_writer : ByteWrite
+    pub first : find (λ m. same_byte m.to c) piece ≡ Some byte_writer
+    pub put : Puts byte_writer.source ≡ w
 
-  pub moved : (x : Cmd) (k : ℕ) (c : Byte) (w : Put) → part_write all (Runs x) k c ≡ Some w → Moved x k c w
-  moved x k c w h = go (slice_get (pieces all x) k) refl h
+  pub value_after : (x : Cmd) (k : ℕ) (c : Byte) (w : Put) → part_write all (Runs x) k c ≡ Some w → Moved x k c w
+  value_after x k c w h = go (slice_get (pieces all x) k) refl h
     where
-      by_move : (ps : List Move) → slice_get (pieces all x) k ≡ Some ps → (o : Option Move) → find (λ m. same_byte m.to c) ps ≡ o → option_map (λ m. Puts m.source) o ≡ Some w → Moved x k c w
-      by_move ps at None f h = absurd cc
-      by_move ps at (Some m) f h = record { piece = ps; at = at; mover = m; first = f; put = let e : Puts m.source ≡ w = cc in e }
+      by_write : (ps : List ByteWrite) → slice_get (pieces all x) k ≡ Some ps → (o : Option ByteWrite) → find (λ m. same_byte m.to c) ps ≡ o → option_map (λ m. Puts m.source) o ≡ Some w → Moved x k c w
+      by_write ps at None f h = absurd cc
+      by_write ps at (Some m) f h = record { piece = ps; at = at; byte_writer = m; first = f; put = let e : Puts m.source ≡ w = cc in e }
 
-      go : (o : Option (List Move)) → slice_get (pieces all x) k ≡ o → option_map (λ m. Puts m.source) (find (λ m. same_byte m.to c) (moves_of o)) ≡ Some w → Moved x k c w
+      go : (o : Option (List ByteWrite)) → slice_get (pieces all x) k ≡ o → option_map (λ m. Puts m.source) (find (λ m. same_byte m.to c) (piece_writes o)) ≡ Some w → Moved x k c w
       go None at h = absurd cc
-      go (Some ps) at h = by_move ps at (find (λ m. same_byte m.to c) ps) refl h
+      go (Some ps) at h = by_write ps at (find (λ m. same_byte m.to c) ps) refl h
 
-  pub moved_to : (x : Cmd) (k : ℕ) (c : Byte) (w : Put) (m : Moved x k c w) → Contains m.piece m.mover × (m.mover.to ≡ c)
-  moved_to x k c w m = let f = found (λ m. same_byte m.to c) m.piece m.mover m.first in (f.0, byte_same m.mover.to c f.1)
+  pub written_to : (x : Cmd) (k : ℕ) (c : Byte) (w : Put) (m : Moved x k c w) → Contains m.piece m.byte_writer × (m.byte_writer.to ≡ c)
+  written_to x k c w m = let f = found (λ m. same_byte m.to c) m.piece m.byte_writer m.first in (f.0, byte_same m.byte_writer.to c f.1)
 
   pub record HostPut (x : Entry) (k : ℕ) (c : Byte) (w : Put) : Type 0 where
     pub only : k ≡ 0
@@ -88,7 +88,7 @@ host_apart : (x : Entry) (c : Byte) (v : ℕ) → host_value x c ≡ Some v → 
 host_apart (entry.Write b o bytes) c v h r = cc
 host_apart _ c v h r = cc
 
-module _ (together : PiecesAreMoves) (apart : PiecesWriteApart) (t : List Entry) (sound : IsSound t) where
+module _ (together : PiecesAreByteWrites) (apart : PiecesWriteApart) (t : List Entry) (sound : IsSound t) where
   abbrev all : Past
   all = plain_order t
 
@@ -104,8 +104,8 @@ module _ (together : PiecesAreMoves) (apart : PiecesWriteApart) (t : List Entry)
     pub comes : Comes all place.past place.at
     comes = comes_at _ _ place
 
-    pub same_moves : moves all x ≡ moves place.past x
-    same_moves = kept_moves all place.newer place.past place.at x place.whole action (new_ids t sound) (live_ids t sound)
+    pub same_byte_writes : byte_writes all x ≡ byte_writes place.past x
+    same_byte_writes = kept_writes all place.newer place.past place.at x place.whole action (new_ids t sound) (live_ids t sound)
 
     same_pieces : pieces all x ≡ pieces place.past x
     same_pieces = kept_pieces all place.newer place.past place.at x place.whole action (new_ids t sound) (live_ids t sound)
@@ -121,26 +121,26 @@ module _ (together : PiecesAreMoves) (apart : PiecesWriteApart) (t : List Entry)
 
     run_apart : (k l : ℕ) (c : Byte) (w : Put) → part_write all (Runs x) k c ≡ Some w → IsTrue (part_read all (Runs x) l c) → ⊥
     run_apart k l c w h r =
-        let m = moved all x k c w h in
-        let to = moved_to all x k c w m in
-        let here = piece_move together all x k m.mover (subst (λ (o : Option (List Move)). Contains (moves_of o) m.mover) (sym m.at) to.0) in
-        let f = chosen_from (λ m. origin m.source) (moves_of (slice_get (pieces all x) l)) c (is_there together all c (origins (moves_of (slice_get (pieces all x) l))) r) in
-        let there = piece_move together all x l f.0 f.1 in
+        let m = value_after all x k c w h in
+        let to = written_to all x k c w m in
+        let here = piece_write together all x k m.byte_writer (subst (λ (o : Option (List ByteWrite)). Contains (piece_writes o) m.byte_writer) (sym m.at) to.0) in
+        let f = chosen_from (λ m. origin m.source) (piece_writes (slice_get (pieces all x) l)) c (is_there together all c (origins (piece_writes (slice_get (pieces all x) l))) r) in
+        let there = piece_write together all x l f.0 f.1 in
         no_overlap place.past x c no_overlaps
-        (m.mover, subst (λ (ms : List Move). Contains ms m.mover) same_moves here, to.1)
-        (f.0, subst (λ (ms : List Move). Contains ms f.0) same_moves there, f.2)
+        (m.byte_writer, subst (λ (ms : List ByteWrite). Contains ms m.byte_writer) same_byte_writes here, to.1)
+        (f.0, subst (λ (ms : List ByteWrite). Contains ms f.0) same_byte_writes there, f.2)
 
-    common : (p q : List Move) (c : Byte) → Contains (targets p) c → Contains (targets q) c → IsTrue (write_common p q)
+    common : (p q : List ByteWrite) (c : Byte) → Contains (targets p) c → Contains (targets q) c → IsTrue (write_common p q)
     common p q c cp cq = member_passes (λ b. is_in b (targets q)) (targets p) c cp (is_in_of together all c (targets q) cq)
 
     pub run_once : (k l : ℕ) (c : Byte) (w u : Put) → part_write all (Runs x) k c ≡ Some w → part_write all (Runs x) l c ≡ Some u → k ≡ l
     run_once k l c w u h g =
-        let m = moved all x k c w h in
-        let n = moved all x l c u g in
-        let to = moved_to all x k c w m in
-        let to' = moved_to all x l c u n in
-        let at = subst (λ (b : Byte). Contains (targets m.piece) b) to.1 (map_has (λ m. m.to) m.piece m.mover to.0) in
-        let at' = subst (λ (b : Byte). Contains (targets n.piece) b) to'.1 (map_has (λ m. m.to) n.piece n.mover to'.0) in
+        let m = value_after all x k c w h in
+        let n = value_after all x l c u g in
+        let to = written_to all x k c w m in
+        let to' = written_to all x l c u n in
+        let at = subst (λ (b : Byte). Contains (targets m.piece) b) to.1 (map_has (λ m. m.to) m.piece m.byte_writer to.0) in
+        let at' = subst (λ (b : Byte). Contains (targets n.piece) b) to'.1 (map_has (λ m. m.to) n.piece n.byte_writer to'.0) in
         ⊎_elim
         (λ lt. absurd (clash (pair_of write_common (pieces all x) k l m.piece n.piece m.at n.at lt (common m.piece n.piece c at at'))))
         (λ le. ⊎_elim (λ e. sym e) (λ lt. absurd (clash (pair_of write_common (pieces all x) l k n.piece m.piece n.at m.at lt (common n.piece m.piece c at' at)))) (eq-or-lt_of_le le))
@@ -173,11 +173,11 @@ module _ (together : PiecesAreMoves) (apart : PiecesWriteApart) (t : List Entry)
 
   part_source : (a : Act) (k : ℕ) (c d : Byte) → part_write all a k c ≡ Some (Puts (From d)) → IsTrue (part_read all a k d)
   part_source (Runs x) k c d h =
-      let m = moved all x k c (Puts (From d)) h in
-      let to = moved_to all x k c (Puts (From d)) m in
-      let from : m.mover.source ≡ From d = let e = m.put in cc in
-      subst (λ (o : Option (List Move)). IsTrue (is_in d (origins (moves_of o)))) (sym m.at)
-      (is_in_of together all d (origins m.piece) (chosen_has (λ m. origin m.source) m.piece m.mover d to.0 (ap origin from)))
+      let m = value_after all x k c (Puts (From d)) h in
+      let to = written_to all x k c (Puts (From d)) m in
+      let from : m.byte_writer.source ≡ From d = let e = m.put in cc in
+      subst (λ (o : Option (List ByteWrite)). IsTrue (is_in d (origins (piece_writes o)))) (sym m.at)
+      (is_in_of together all d (origins m.piece) (chosen_has (λ m. origin m.source) m.piece m.byte_writer d to.0 (ap origin from)))
   part_source (Hosts x) k c d h = let p = host_put all x k c (Puts (From d)) h in let e = p.put in absurd cc
   part_source (Waits s) k c d h = absurd cc
   part_source (Signals s) k c d h = absurd cc

@@ -18,9 +18,9 @@ use Rattle.vk_model.specs.Objects.{is_exclusive, is_cached}
 use Rattle.vk_model.specs.Point.{Past, Point, Action, Host, Wait, Run, Signal}
 use Rattle.vk_model.specs.Order.{plain_order}
 use Rattle.vk_model.specs.Ownership.{family_of, uses, elements_of, transfer, Transfer, Stays, Release, Acquire, Neither, is_transition}
-use Rattle.vk_model.specs.Moves.{Source, Value, From, Move, moves}
+use Rattle.vk_model.specs.ByteWrites.{Source, Value, From, ByteWrite, byte_writes}
 use Rattle.vk_model.specs.Pieces.{pieces}
-use Rattle.vk_model.specs.Effect.{source_value, moved as moved_to_byte, after_moves, without, is_other, used, in_range, transitioned, after_buffer_element, after_image_element, after_element, after_command, after_host, after_action, written, reaches, world}
+use Rattle.vk_model.specs.Effect.{source_value, value_after as written_to_byte, after_writes, without, is_other, used, in_range, transitioned, after_buffer_element, after_image_element, after_element, after_command, after_host, after_action, written, reaches, world}
 use Rattle.vk_model.specs.Node.{Node, Act, Hosts, Waits, Signals, Runs, Depends, nodes, acts, command_acts, with_acts, Role, Barrier, SetOf, AwaitOf}
 use Rattle.vk_model.specs.Before.{IsNumbered}
 use Rattle.vk_model.specs.declared.rule.Rule.TheVariants as rule
@@ -30,9 +30,9 @@ use Rattle.vk_model.specs.Access.{bytes_of, host_reads, is_in}
 use Rattle.vk_model.specs.RulesBytes.{reads_undefined}
 use Rattle.vk_model.specs.Rules.{breaks}
 use Rattle.vk_model.specs.Fault.{IsSound}
-use Rattle.vk_model.specs.Laws.{PiecesAreMoves, PiecesWriteApart}
+use Rattle.vk_model.specs.Laws.{PiecesAreByteWrites, PiecesWriteApart}
 use Rattle.vk_laws.specs.Machine.{Task, Reads, Put, Puts, put_value, IsModel}
-use Rattle.vk_laws.specs.Tasks.{moves_of, host_value, part_write, part_read, node_at, by_act, accesses_of}
+use Rattle.vk_laws.specs.Tasks.{piece_writes, host_value, part_write, part_read, node_at, by_act, accesses_of}
 use Rattle.vk_laws.specs.TraceBytes.{before_node, value_before}
 use Rattle.vk_laws.proofs.TaskNodes.{node_of}
 use Rattle.vk_laws.proofs.Fresh.{none_unless}
@@ -40,7 +40,7 @@ use Rattle.vk_laws.proofs.Members.{member_passes, mapped_from, only_one}
 use Rattle.vk_laws.proofs.NoHazard.{numbered}
 use Rattle.vk_laws.proofs.TaskAccesses.{is_there}
 use Rattle.vk_laws.proofs.Points.{AtPoint, stands, comes_at, at_point_below}
-use Rattle.vk_laws.proofs.HazardFree.{read_act, write_act, moved, host_put, same_moves, run_once, place, action}
+use Rattle.vk_laws.proofs.HazardFree.{read_act, write_act, value_after, host_put, same_byte_writes, run_once, place, action}
 
 -- ---- what a byte is after a step it was before, or it's undefined
 
@@ -99,7 +99,7 @@ fold_weaker f step (x ∷ xs) w c v h = step w x c v (fold_weaker f step xs (f w
 
 abbrev source_at : Past → Action → Byte → Option Source
 source_at past (Host x) c = option_map Value (host_value x c)
-source_at past (Run x) c = option_map (λ m. m.source) (find (λ m. same_byte m.to c) (moves past x))
+source_at past (Run x) c = option_map (λ m. m.source) (find (λ m. same_byte m.to c) (byte_writes past x))
 source_at past (Wait s) c = None
 source_at past (Signal s) c = None
 
@@ -115,10 +115,10 @@ command_source : (past : Past) (f : ℕ) (x : Cmd) (w : World) (c : Byte) (v : �
 command_source past f x w c v h =
     let ready : World = fold (λ v r. used past f r v) w (uses x) in
     let weak : Weaker ready.value w.value = fold_weaker (λ v r. used past f r v) (λ v r. used_weaker past f r v) (uses x) w in
-    go (find (λ m. same_byte m.to c) (moves past x)) ready.value weak
-    (fold_weaker (after_element past f) (element_weaker past f) (elements_of x) (record ready { value = after_moves (moves past x) ready.value }) c v h)
+    go (find (λ m. same_byte m.to c) (byte_writes past x)) ready.value weak
+    (fold_weaker (after_element past f) (element_weaker past f) (elements_of x) (record ready { value = after_writes (byte_writes past x) ready.value }) c v h)
   where
-    go : (o : Option Move) (ready : Byte → Option ℕ) → Weaker ready w.value → moved_to_byte ready o c ≡ Some v → from_source (option_map (λ m. m.source) o) w.value c ≡ Some v
+    go : (o : Option ByteWrite) (ready : Byte → Option ℕ) → Weaker ready w.value → written_to_byte ready o c ≡ Some v → from_source (option_map (λ m. m.source) o) w.value c ≡ Some v
     go None ready weak h = weak c v h
     go (Some m) ready weak h = source_weaker m.source ready w.value v weak h
 
@@ -226,7 +226,7 @@ node_there (n ∷ ns) k numbers lt = go (node_there ns k numbers.1) (n.number ==
 -- ---- the actions of nodes
 
 -- a command runs as one node, or its nodes are elements and it moves nothing
-pub runs_or_idle : (x : Cmd) (a : Act) → Contains (command_acts x) a → ((a ≡ Runs x) × (length (command_acts x) ≡ 1)) ⊎ ((r : Role) × (e : Element) × (a ≡ Depends r e) × ((past : Past) → moves past x ≡ []))
+pub runs_or_idle : (x : Cmd) (a : Act) → Contains (command_acts x) a → ((a ≡ Runs x) × (length (command_acts x) ≡ 1)) ⊎ ((r : Role) × (e : Element) × (a ≡ Depends r e) × ((past : Past) → byte_writes past x ≡ []))
 runs_or_idle (cmd.Barrier es) a c = let m = mapped_from (Depends Barrier) es a c in inr (Barrier, m.0, sym m.2, λ past. refl)
 runs_or_idle (cmd.Set v ms) a c = let m = mapped_from (λ p. Depends (SetOf v p.0) (element.Memory p.1)) (enumerate_from 0 ms) a c in inr (SetOf v m.0.0, element.Memory m.0.1, sym m.2, λ past. refl)
 runs_or_idle (cmd.Await v ms) a c = let m = mapped_from (λ p. Depends (AwaitOf v p.0) (element.Memory p.1)) (enumerate_from 0 ms) a c in inr (AwaitOf v m.0.0, element.Memory m.0.1, sym m.2, λ past. refl)
@@ -276,7 +276,7 @@ find_nowhere f (p ∷ parts) none = find_past f p (flat_map (λ p. p) parts) (no
 
 -- ---- the model
 
-module _ (together : PiecesAreMoves) (apart : PiecesWriteApart) (t : List Entry) (sound : IsSound t) where
+module _ (together : PiecesAreByteWrites) (apart : PiecesWriteApart) (t : List Entry) (sound : IsSound t) where
   abbrev all : Past
   all = plain_order t
 
@@ -300,14 +300,14 @@ module _ (together : PiecesAreMoves) (apart : PiecesWriteApart) (t : List Entry)
 
   run_source : (n : Node) (cn : Contains (nodes all) n) (x : Cmd) (act : n.act ≡ Runs x) (k : ℕ) (c : Byte) (w : Put) → part_write all (Runs x) k c ≡ Some w → (s : Source) × (w ≡ Puts s) × (source_at (place together apart t sound n cn x act).past (Run x) c ≡ Some s)
   run_source n cn x act k c w h =
-      let m = moved all x k c w h in
-      let f : Move → Bool = λ m. same_byte m.to c in
-      let whole : find f (moves all x) ≡ Some m.mover =
-      ap (find f) (sym (together all x)) ∙ find_part f (pieces all x) k m.piece m.mover m.at m.first
+      let m = value_after all x k c w h in
+      let f : ByteWrite → Bool = λ m. same_byte m.to c in
+      let whole : find f (byte_writes all x) ≡ Some m.byte_writer =
+      ap (find f) (sym (together all x)) ∙ find_part f (pieces all x) k m.piece m.byte_writer m.at m.first
       (λ l q y at' g. run_once together apart t sound n cn x act l k c (Puts y.source) w (part_puts l q y at' g) h) in
-      (m.mover.source, sym m.put, ap (option_map (λ (m : Move). m.source)) (ap (find f) (sym (same_moves together apart t sound n cn x act)) ∙ whole))
+      (m.byte_writer.source, sym m.put, ap (option_map (λ (m : ByteWrite). m.source)) (ap (find f) (sym (same_byte_writes together apart t sound n cn x act)) ∙ whole))
     where
-      part_puts : (l : ℕ) (q : List Move) (y : Move) → slice_get (pieces all x) l ≡ Some q → find (λ m. same_byte m.to c) q ≡ Some y → part_write all (Runs x) l c ≡ Some (Puts y.source)
+      part_puts : (l : ℕ) (q : List ByteWrite) (y : ByteWrite) → slice_get (pieces all x) l ≡ Some q → find (λ m. same_byte m.to c) q ≡ Some y → part_write all (Runs x) l c ≡ Some (Puts y.source)
       part_puts l q y at e = rw at (rw e refl)
 
   put_here : (n : Node) (s : AtPoint all n) (c : Byte) (v : ℕ) (w : Put) (source : Source) → w ≡ Puts source → source_at s.past s.at.action c ≡ Some source → length (acts s.at.action) ≡ 1 → value_before all (suc n.number) c ≡ Some v
@@ -353,10 +353,10 @@ module _ (together : PiecesAreMoves) (apart : PiecesWriteApart) (t : List Entry)
 
       run : (x : Cmd) → n.act ≡ Runs x → source_at s.past (Run x) c ≡ None
       run x act =
-          let f : Move → Bool = λ m. same_byte m.to c in
-          let nowhere = find_nowhere f (pieces all x) (λ l q at. unmapped (λ (m : Move). Puts m.source) (find f q)
-          (ap (λ (o : Option (List Move)). option_map (λ (m : Move). Puts m.source) (find f (moves_of o))) (sym at) ∙ subst (λ (a : Act). part_write all a l c ≡ None) act (none l))) in
-          ap (option_map (λ (m : Move). m.source)) (ap (find f) (sym (same_moves together apart t sound n cn x act)) ∙ ap (find f) (sym (together all x)) ∙ nowhere)
+          let f : ByteWrite → Bool = λ m. same_byte m.to c in
+          let nowhere = find_nowhere f (pieces all x) (λ l q at. unmapped (λ (m : ByteWrite). Puts m.source) (find f q)
+          (ap (λ (o : Option (List ByteWrite)). option_map (λ (m : ByteWrite). Puts m.source) (find f (piece_writes o))) (sym at) ∙ subst (λ (a : Act). part_write all a l c ≡ None) act (none l))) in
+          ap (option_map (λ (m : ByteWrite). m.source)) (ap (find f) (sym (same_byte_writes together apart t sound n cn x act)) ∙ ap (find f) (sym (together all x)) ∙ nowhere)
 
       go : (d : Action) → s.at.action ≡ d → source_at s.past d c ≡ None
       go (Host x) e =
@@ -364,7 +364,7 @@ module _ (together : PiecesAreMoves) (apart : PiecesWriteApart) (t : List Entry)
           ap (option_map Value) (unmapped (λ v. Puts (Value v)) (host_value x c) (subst (λ (a : Act). part_write all a 0 c ≡ None) (sym act) (none 0)))
       go (Wait q) e = refl
       go (Signal q) e = refl
-      go (Run x) e = ⊎_elim (λ r. run x r.0) (λ i. ap (λ (ms : List Move). option_map (λ (m : Move). m.source) (find (λ m. same_byte m.to c) ms)) (i.3 s.past)) (runs_or_idle x n.act (acted (Run x) e))
+      go (Run x) e = ⊎_elim (λ r. run x r.0) (λ i. ap (λ (ms : List ByteWrite). option_map (λ (m : ByteWrite). m.source) (find (λ m. same_byte m.to c) ms)) (i.3 s.past)) (runs_or_idle x n.act (acted (Run x) e))
 
   kept_by : (n : Node) (cn : Contains (nodes all) n) (c : Byte) (v : ℕ) → ((k : ℕ) → part_write all n.act k c ≡ None) → value_before all (suc n.number) c ≡ Some v → value_before all n.number c ≡ Some v
   kept_by n cn c v none h =

@@ -15,7 +15,7 @@ use Rattle.vk_model.specs.Basics.{holds, below}
 use Rattle.vk_model.specs.World.{Byte, in_buffer, in_image, resource_at}
 use Rattle.vk_model.specs.Image.{texel, level_width, level_height}
 use Rattle.vk_model.specs.Objects.{made, live, image}
-use Rattle.vk_model.specs.Moves.{Move, moves, copy_moves, copy_in_moves, copy_out_moves, copy_image_moves, clear_moves, clear_move, level_bytes, subresource_bytes}
+use Rattle.vk_model.specs.ByteWrites.{ByteWrite, byte_writes, copy_writes, copy_in_writes, copy_out_writes, copy_image_writes, clear_writes, clear_write, level_bytes, subresource_bytes}
 use Rattle.vk_model.specs.Access.{host_writes, writes_of}
 use Rattle.vk_model.specs.RulesIds.{asked_by, asked_by_command, asked_by_entry, is_buffer, is_image, is_dead, judged_in, until}
 use Rattle.vk_model.specs.Point.{Past, Point, Action, host_of}
@@ -33,32 +33,32 @@ abbrev Names : List (ℕ × (Entry → Bool)) → Byte → Type 0
 Names asked c = (k : Entry → Bool) × Contains asked (resource_at c, k)
 
 -- each move of a list goes to this resource
-abbrev Fills : ℕ → List Move → Type 0
-Fills r ms = (m : Move) → Contains ms m → resource_at m.to ≡ r
+abbrev Fills : ℕ → List ByteWrite → Type 0
+Fills r ms = (m : ByteWrite) → Contains ms m → resource_at m.to ≡ r
 
 level_fills : (i : ℕ) (n : ImageInfo) (r : SubresourceRange) (l : ℕ) (q : Byte × ℕ) → Contains (level_bytes i n r l) q → resource_at q.0 ≡ i
 level_fills i n r l q c = ap (λ (q : Byte × ℕ). resource_at q.0) (sym (grid_from (λ z y x b. (in_image i l (r.first_layer + z) x y b, b)) r.layers (level_height n l) (level_width n l) (texel n.format) q c).is)
 
-clear_fills : (i : ℕ) (color : List ℕ) (o : Option ImageInfo) (r : SubresourceRange) → Fills i (clear_moves i color o r)
+clear_fills : (i : ℕ) (color : List ℕ) (o : Option ImageInfo) (r : SubresourceRange) → Fills i (clear_writes i color o r)
 clear_fills i color None r m c = absurd (none_in m c)
 clear_fills i color (Some n) r m c =
-    let p = mapped_from (clear_move n color) (subresource_bytes i n r) m c in
+    let p = mapped_from (clear_write n color) (subresource_bytes i n r) m c in
     let level = flat_from (λ k. level_bytes i n r (r.first_level + k)) (below r.levels) p.0 p.1 in
-    ap (λ (m : Move). resource_at m.to) (sym p.2) ∙ level_fills i n r (r.first_level + level.0) p.0 level.2
+    ap (λ (m : ByteWrite). resource_at m.to) (sym p.2) ∙ level_fills i n r (r.first_level + level.0) p.0 level.2
 
-in_fills : (b i : ℕ) (o : Option ImageInfo) (g : BufferImageCopy) → Fills i (copy_in_moves b i o g)
+in_fills : (b i : ℕ) (o : Option ImageInfo) (g : BufferImageCopy) → Fills i (copy_in_writes b i o g)
 in_fills b i None g m c = absurd (none_in m c)
-in_fills b i (Some n) g m c = ap (λ (m : Move). resource_at m.to) (sym (grid_from _ g.layers g.height g.width (texel n.format) m c).is)
+in_fills b i (Some n) g m c = ap (λ (m : ByteWrite). resource_at m.to) (sym (grid_from _ g.layers g.height g.width (texel n.format) m c).is)
 
-out_fills : (i b : ℕ) (o : Option ImageInfo) (g : BufferImageCopy) → Fills b (copy_out_moves i b o g)
+out_fills : (i b : ℕ) (o : Option ImageInfo) (g : BufferImageCopy) → Fills b (copy_out_writes i b o g)
 out_fills i b None g m c = absurd (none_in m c)
-out_fills i b (Some n) g m c = ap (λ (m : Move). resource_at m.to) (sym (grid_from _ g.layers g.height g.width (texel n.format) m c).is)
+out_fills i b (Some n) g m c = ap (λ (m : ByteWrite). resource_at m.to) (sym (grid_from _ g.layers g.height g.width (texel n.format) m c).is)
 
-image_fills : (s d : ℕ) (o : Option ImageInfo) (g : ImageCopy) → Fills d (copy_image_moves s d o g)
+image_fills : (s d : ℕ) (o : Option ImageInfo) (g : ImageCopy) → Fills d (copy_image_writes s d o g)
 image_fills s d None g m c = absurd (none_in m c)
-image_fills s d (Some n) g m c = ap (λ (m : Move). resource_at m.to) (sym (grid_from _ g.layers g.height g.width (texel n.format) m c).is)
+image_fills s d (Some n) g m c = ap (λ (m : ByteWrite). resource_at m.to) (sym (grid_from _ g.layers g.height g.width (texel n.format) m c).is)
 
-all_fill : {G : Type 0} (r : ℕ) (f : G → List Move) (gs : List G) → ((g : G) → Fills r (f g)) → Fills r (flat_map f gs)
+all_fill : {G : Type 0} (r : ℕ) (f : G → List ByteWrite) (gs : List G) → ((g : G) → Fills r (f g)) → Fills r (flat_map f gs)
 all_fill r f gs each m c = let g = flat_from f gs m c in each g.0 m g.2
 
 first_named : (r : ℕ) (k : Entry → Bool) (rest : List (ℕ × (Entry → Bool))) (c : Byte) → resource_at c ≡ r → Names ((r, k) ∷ rest) c
@@ -67,17 +67,17 @@ first_named r k rest c same = (k, subst (λ (i : ℕ). Contains ((r, k) ∷ rest
 second_named : (p : ℕ × (Entry → Bool)) (r : ℕ) (k : Entry → Bool) (c : Byte) → resource_at c ≡ r → Names (p ∷ (r, k) ∷ []) c
 second_named p r k c same = (k, subst (λ (i : ℕ). Contains (p ∷ (r, k) ∷ []) (i, k)) (sym same) (contains-tail p ((r, k) ∷ []) (r, k) (contains-head (r, k) [])))
 
-command_names : (past : Past) (x : Cmd) (m : Move) → Contains (moves past x) m → Names (asked_by_command x) m.to
-command_names past (cmd.Fill b o n w) m c = let k = mapped_from _ _ m c in first_named b is_buffer [] m.to (ap (λ (m : Move). resource_at m.to) (sym k.2))
-command_names past (cmd.Update b o bytes) m c = let k = mapped_from _ (enumerate_from 0 bytes) m c in first_named b is_buffer [] m.to (ap (λ (m : Move). resource_at m.to) (sym k.2))
+command_names : (past : Past) (x : Cmd) (m : ByteWrite) → Contains (byte_writes past x) m → Names (asked_by_command x) m.to
+command_names past (cmd.Fill b o n w) m c = let k = mapped_from _ _ m c in first_named b is_buffer [] m.to (ap (λ (m : ByteWrite). resource_at m.to) (sym k.2))
+command_names past (cmd.Update b o bytes) m c = let k = mapped_from _ (enumerate_from 0 bytes) m c in first_named b is_buffer [] m.to (ap (λ (m : ByteWrite). resource_at m.to) (sym k.2))
 command_names past (cmd.Copy s d gs) m c =
-    let g = flat_from (copy_moves s d) gs m c in
+    let g = flat_from (copy_writes s d) gs m c in
     let k = mapped_from _ _ m g.2 in
-    second_named (s, is_buffer) d is_buffer m.to (ap (λ (m : Move). resource_at m.to) (sym k.2))
-command_names past (cmd.Clear i l color rs) m c = first_named i is_image [] m.to (all_fill i (clear_moves i color (image past i)) rs (clear_fills i color (image past i)) m c)
-command_names past (cmd.CopyIn b i l gs) m c = second_named (b, is_buffer) i is_image m.to (all_fill i (copy_in_moves b i (image past i)) gs (in_fills b i (image past i)) m c)
-command_names past (cmd.CopyOut i l b gs) m c = second_named (i, is_image) b is_buffer m.to (all_fill b (copy_out_moves i b (image past i)) gs (out_fills i b (image past i)) m c)
-command_names past (cmd.CopyImage s l d n gs) m c = second_named (s, is_image) d is_image m.to (all_fill d (copy_image_moves s d (image past d)) gs (image_fills s d (image past d)) m c)
+    second_named (s, is_buffer) d is_buffer m.to (ap (λ (m : ByteWrite). resource_at m.to) (sym k.2))
+command_names past (cmd.Clear i l color rs) m c = first_named i is_image [] m.to (all_fill i (clear_writes i color (image past i)) rs (clear_fills i color (image past i)) m c)
+command_names past (cmd.CopyIn b i l gs) m c = second_named (b, is_buffer) i is_image m.to (all_fill i (copy_in_writes b i (image past i)) gs (in_fills b i (image past i)) m c)
+command_names past (cmd.CopyOut i l b gs) m c = second_named (i, is_image) b is_buffer m.to (all_fill b (copy_out_writes i b (image past i)) gs (out_fills i b (image past i)) m c)
+command_names past (cmd.CopyImage s l d n gs) m c = second_named (s, is_image) d is_image m.to (all_fill d (copy_image_writes s d (image past d)) gs (image_fills s d (image past d)) m c)
 command_names past (cmd.Barrier es) m c = absurd (none_in m c)
 command_names past (cmd.Set v ms) m c = absurd (none_in m c)
 command_names past (cmd.Await v ms) m c = absurd (none_in m c)
@@ -116,7 +116,7 @@ written_made all n s c new alive access judged q h = named_made all s.newer s.pa
 
     go : (a : Act) → n.act ≡ a → IsTrue (accesses a) → Contains (writes_of judged q a) c → Names (asked_by s.at.action) c
     go (Runs x) e access h =
-        let m = mapped_from (λ m. m.to) (moves judged x) c h in
+        let m = mapped_from (λ m. m.to) (byte_writes judged x) c h in
         let names = subst (λ (b : Byte). Names (asked_by_command x) b) m.2 (command_names judged x m.0 m.1) in
         subst (λ (d : Action). Names (asked_by d) c) (sym (action_of s.at.action x (acted (Runs x) e))) names
     go (Hosts x) e access h = subst (λ (d : Action). Names (asked_by d) c) (sym (host_action s.at.action x (acted (Hosts x) e))) (host_names x c h)

@@ -8,7 +8,7 @@ use Rattle.vk_model.specs.declared.command.Cmd.{Cmd}
 use Rattle.vk_model.specs.Order.{plain_order}
 use Rattle.vk_model.specs.World.{Byte}
 use Rattle.vk_model.specs.Point.{Past, Point}
-use Rattle.vk_model.specs.Moves.{moves}
+use Rattle.vk_model.specs.ByteWrites.{byte_writes}
 use Rattle.vk_model.specs.Node.{Node, Act, Hosts, Waits, Signals, Runs, Depends, nodes, acts}
 use Rattle.vk_model.specs.Edge.{is_host}
 use Rattle.vk_model.specs.Before.{before}
@@ -22,22 +22,22 @@ use Rattle.vk_laws.proofs.Points.{AtPoint, stands, action_of, comes_at, at_point
 
 module _ (stay : CommandsStay) (t : List Entry) (none : first_fault t ≡ None) (newer past : Past) (p : Point) (whole : plain_order t ≡ newer ++ p ∷ past) (x : Node) (cx : Contains (nodes (p ∷ past)) x) where
   -- a command's moves are those of the whole trace
-  same_moves : (c : Cmd) → x.act ≡ Runs c → moves (plain_order t) c ≡ moves (p ∷ past) c
-  same_moves c e =
+  same_byte_writes : (c : Cmd) → x.act ≡ Runs c → byte_writes (plain_order t) c ≡ byte_writes (p ∷ past) c
+  same_byte_writes c e =
       let s = stands (p ∷ past) x cx in
       let action = action_of s.at.action c (subst (λ (a : Act). Contains (acts s.at.action) a) e s.acted) in
       let all : plain_order t ≡ newer ++ (s.newer ++ s.at ∷ s.past) = whole ∙ ap (λ (l : Past). newer ++ l) s.whole in
       let far : plain_order t ≡ (newer ++ s.newer) ++ s.at ∷ s.past = all ∙ sym (append_assoc newer s.newer (s.at ∷ s.past)) in
       let a = stay t newer s.newer s.past s.at c none all action in
       let b = stay t [] (newer ++ s.newer) s.past s.at c none far action in
-      ap (λ (l : Past). moves l c) far ∙ b ∙ sym a ∙ ap (λ (l : Past). moves l c) (sym s.whole)
+      ap (λ (l : Past). byte_writes l c) far ∙ b ∙ sym a ∙ ap (λ (l : Past). byte_writes l c) (sym s.whole)
 
   same_reads : IsTrue (accesses x.act) → reads (plain_order t) x ≡ reads (p ∷ past) x
   same_reads h = go x.act refl h
     where
       go : (a : Act) → x.act ≡ a → IsTrue (accesses a) → reads_of (plain_order t) x.point.queue a ≡ reads_of (p ∷ past) x.point.queue a
       go (Hosts y) e h = refl
-      go (Runs c) e h = ap origins (same_moves c e)
+      go (Runs c) e h = ap origins (same_byte_writes c e)
       go (Waits s) e h = absurd cc
       go (Signals s) e h = absurd cc
       go (Depends r s) e h = absurd cc
@@ -47,7 +47,7 @@ module _ (stay : CommandsStay) (t : List Entry) (none : first_fault t ≡ None) 
     where
       go : (a : Act) → x.act ≡ a → IsTrue (accesses a) → writes_of (plain_order t) x.point.queue a ≡ writes_of (p ∷ past) x.point.queue a
       go (Hosts y) e h = refl
-      go (Runs c) e h = ap targets (same_moves c e)
+      go (Runs c) e h = ap targets (same_byte_writes c e)
       go (Waits s) e h = absurd cc
       go (Signals s) e h = absurd cc
       go (Depends r s) e h = absurd cc

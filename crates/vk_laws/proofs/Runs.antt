@@ -5,7 +5,7 @@ use Rattle.std.specs.List.{list_any, list_all}
 use Rattle.std.proofs.lemmas.Bool.{eqb-true, eq-eqb, ltb-true, lt-ltb, cases_lt, or_right, and_parts, or_cases, or_parts}
 use Rattle.vk_model.specs.Basics.{holds}
 use Rattle.vk_model.specs.World.{Byte}
-use Rattle.vk_model.specs.Moves.{Value, From}
+use Rattle.vk_model.specs.ByteWrites.{Value, From}
 use Rattle.vk_model.specs.Point.{Past}
 use Rattle.vk_model.specs.Node.{Node, nodes}
 use Rattle.vk_model.specs.Before.{before}

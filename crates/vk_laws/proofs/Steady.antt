@@ -10,7 +10,7 @@ use Rattle.vk_model.specs.Basics.{holds, below, byte_of}
 use Rattle.vk_model.specs.World.{in_buffer}
 use Rattle.vk_model.specs.Point.{Past, Point, Action, Run, host_of, entries}
 use Rattle.vk_model.specs.Objects.{made_by, made, ended, live, buffer_in, image_in}
-use Rattle.vk_model.specs.Moves.{Value, move, moves, fill_size, clear_moves, copy_in_moves, copy_out_moves, copy_image_moves}
+use Rattle.vk_model.specs.ByteWrites.{Value, byte_write, byte_writes, fill_size, clear_writes, copy_in_writes, copy_out_writes, copy_image_writes}
 use Rattle.vk_model.specs.Pieces.{cut, row_bytes, clear_pieces, pieces}
 use Rattle.vk_model.specs.RulesIds.{breaks_new_id, breaks_live_id, is_dead, asked_by, asked_by_command, until}
 use Rattle.vk_model.specs.Fault.{Comes, newest, older, IsSound}
@@ -77,31 +77,31 @@ live_made past i k h = go (ended past i) (made past i) refl h
 
 -- where two pasts have the same objects of the ids that a command names, they have the same moves and pieces of it
 module _ (judged one other : Past) (same : (i : ℕ) (k : Entry → Bool) → (IsTrue (is_dead judged (i, k)) → ⊥) → made one i ≡ made other i) where
-  pub moves_same : (c : Cmd) → (IsTrue (list_any (is_dead judged) (asked_by_command c)) → ⊥) → moves one c ≡ moves other c
-  moves_same (cmd.Fill b o n w) alive =
-      ap (λ (m : Option Entry). map (λ k. move (in_buffer b (o + k)) (Value (byte_of w (k % 4)))) (below (fill_size (elim (option_and_then buffer_in m) [ None ↦ 0 | Some x ↦ x.size ]) o n)))
+  pub writes_same : (c : Cmd) → (IsTrue (list_any (is_dead judged) (asked_by_command c)) → ⊥) → byte_writes one c ≡ byte_writes other c
+  writes_same (cmd.Fill b o n w) alive =
+      ap (λ (m : Option Entry). map (λ k. byte_write (in_buffer b (o + k)) (Value (byte_of w (k % 4)))) (below (fill_size (elim (option_and_then buffer_in m) [ None ↦ 0 | Some x ↦ x.size ]) o n)))
       (same b _ (λ h. alive (or_left _ _ h)))
-  moves_same (cmd.Update b o bytes) alive = refl
-  moves_same (cmd.Copy s d gs) alive = refl
-  moves_same (cmd.Clear i l color rs) alive = ap (λ (m : Option Entry). flat_map (clear_moves i color (option_and_then image_in m)) rs) (same i _ (λ h. alive (or_left _ _ h)))
-  moves_same (cmd.CopyIn b i l gs) alive = ap (λ (m : Option Entry). flat_map (copy_in_moves b i (option_and_then image_in m)) gs) (same i _ (λ h. alive (or_right _ _ (or_left _ _ h))))
-  moves_same (cmd.CopyOut i l b gs) alive = ap (λ (m : Option Entry). flat_map (copy_out_moves i b (option_and_then image_in m)) gs) (same i _ (λ h. alive (or_left _ _ h)))
-  moves_same (cmd.CopyImage s l d m gs) alive = ap (λ (x : Option Entry). flat_map (copy_image_moves s d (option_and_then image_in x)) gs) (same d _ (λ h. alive (or_right _ _ (or_left _ _ h))))
-  moves_same (cmd.Barrier es) alive = refl
-  moves_same (cmd.Set v ms) alive = refl
-  moves_same (cmd.Await v ms) alive = refl
+  writes_same (cmd.Update b o bytes) alive = refl
+  writes_same (cmd.Copy s d gs) alive = refl
+  writes_same (cmd.Clear i l color rs) alive = ap (λ (m : Option Entry). flat_map (clear_writes i color (option_and_then image_in m)) rs) (same i _ (λ h. alive (or_left _ _ h)))
+  writes_same (cmd.CopyIn b i l gs) alive = ap (λ (m : Option Entry). flat_map (copy_in_writes b i (option_and_then image_in m)) gs) (same i _ (λ h. alive (or_right _ _ (or_left _ _ h))))
+  writes_same (cmd.CopyOut i l b gs) alive = ap (λ (m : Option Entry). flat_map (copy_out_writes i b (option_and_then image_in m)) gs) (same i _ (λ h. alive (or_left _ _ h)))
+  writes_same (cmd.CopyImage s l d m gs) alive = ap (λ (x : Option Entry). flat_map (copy_image_writes s d (option_and_then image_in x)) gs) (same d _ (λ h. alive (or_right _ _ (or_left _ _ h))))
+  writes_same (cmd.Barrier es) alive = refl
+  writes_same (cmd.Set v ms) alive = refl
+  writes_same (cmd.Await v ms) alive = refl
 
   pub pieces_same : (c : Cmd) → (IsTrue (list_any (is_dead judged) (asked_by_command c)) → ⊥) → pieces one c ≡ pieces other c
-  pieces_same (cmd.Fill b o n w) alive = ap (cut 4096) (moves_same (cmd.Fill b o n w) alive)
+  pieces_same (cmd.Fill b o n w) alive = ap (cut 4096) (writes_same (cmd.Fill b o n w) alive)
   pieces_same (cmd.Update b o bytes) alive = refl
   pieces_same (cmd.Copy s d gs) alive = refl
   pieces_same (cmd.Clear i l color rs) alive = ap (λ (m : Option Entry). flat_map (clear_pieces i color (option_and_then image_in m)) rs) (same i _ (λ h. alive (or_left _ _ h)))
   pieces_same (cmd.CopyIn b i l gs) alive =
-      ap (λ (m : Option Entry). flat_map (λ g. cut (row_bytes (option_and_then image_in m) g.width) (copy_in_moves b i (option_and_then image_in m) g)) gs) (same i _ (λ h. alive (or_right _ _ (or_left _ _ h))))
+      ap (λ (m : Option Entry). flat_map (λ g. cut (row_bytes (option_and_then image_in m) g.width) (copy_in_writes b i (option_and_then image_in m) g)) gs) (same i _ (λ h. alive (or_right _ _ (or_left _ _ h))))
   pieces_same (cmd.CopyOut i l b gs) alive =
-      ap (λ (m : Option Entry). flat_map (λ g. cut (row_bytes (option_and_then image_in m) g.width) (copy_out_moves i b (option_and_then image_in m) g)) gs) (same i _ (λ h. alive (or_left _ _ h)))
+      ap (λ (m : Option Entry). flat_map (λ g. cut (row_bytes (option_and_then image_in m) g.width) (copy_out_writes i b (option_and_then image_in m) g)) gs) (same i _ (λ h. alive (or_left _ _ h)))
   pieces_same (cmd.CopyImage s l d m gs) alive =
-      ap (λ (x : Option Entry). flat_map (λ g. cut (row_bytes (option_and_then image_in x) g.width) (copy_image_moves s d (option_and_then image_in x) g)) gs) (same d _ (λ h. alive (or_right _ _ (or_left _ _ h))))
+      ap (λ (x : Option Entry). flat_map (λ g. cut (row_bytes (option_and_then image_in x) g.width) (copy_image_writes s d (option_and_then image_in x) g)) gs) (same d _ (λ h. alive (or_right _ _ (or_left _ _ h))))
   pieces_same (cmd.Barrier es) alive = refl
   pieces_same (cmd.Set v ms) alive = refl
   pieces_same (cmd.Await v ms) alive = refl
@@ -141,18 +141,18 @@ module _ (whole newer past : Past) (p : Point) (c : Cmd) (split : whole ≡ newe
   same_objects i k live = ap (λ (l : Past). made l i) split ∙ made_stay newer past p (λ b q h. new b q (come b q h)) i k live
 
   -- a command's moves and pieces are those of the past before its point
-  pub kept_moves : moves whole c ≡ moves past c
-  kept_moves = moves_same (until p.entry past) whole past same_objects c named_alive
+  pub kept_writes : byte_writes whole c ≡ byte_writes past c
+  kept_writes = writes_same (until p.entry past) whole past same_objects c named_alive
 
   pub kept_pieces : pieces whole c ≡ pieces past c
   kept_pieces = pieces_same (until p.entry past) whole past same_objects c named_alive
 
 pub commands_stay : (whole newer between past : Past) (p : Point) (c : Cmd) → whole ≡ newer ++ (between ++ p ∷ past) → p.action ≡ Run c
     → ((b : Past) (q : Point) → Comes whole b q → IsTrue (breaks_new_id b q) → ⊥) → ((b : Past) (q : Point) → Comes whole b q → IsTrue (breaks_live_id b q) → ⊥)
-    → moves (between ++ p ∷ past) c ≡ moves (p ∷ past) c
+    → byte_writes (between ++ p ∷ past) c ≡ byte_writes (p ∷ past) c
 commands_stay whole newer between past p c same action new alive =
     let middle = between ++ p ∷ past in
     let come : (b : Past) (q : Point) → Comes middle b q → Comes whole b q = λ b q h. comes_within _ newer middle same b q h in
     let low : (b : Past) (q : Point) → Comes (p ∷ past) b q → Comes whole b q = λ b q h. come b q (comes_later between (p ∷ past) b q h) in
-    kept_moves middle between past p c refl action (λ b q h. new b q (come b q h)) (λ b q h. alive b q (come b q h))
-    ∙ sym (kept_moves (p ∷ past) [] past p c refl action (λ b q h. new b q (low b q h)) (λ b q h. alive b q (low b q h)))
+    kept_writes middle between past p c refl action (λ b q h. new b q (come b q h)) (λ b q h. alive b q (come b q h))
+    ∙ sym (kept_writes (p ∷ past) [] past p c refl action (λ b q h. new b q (low b q h)) (λ b q h. alive b q (low b q h)))

@@ -9,18 +9,18 @@ use Rattle.vk_model.specs.declared.entry.Entry.{Entry}
 use Rattle.vk_model.specs.declared.entry.Entry.TheVariants as entry
 use Rattle.vk_model.specs.declared.command.Cmd.{Cmd}
 use Rattle.vk_model.specs.Point.{Past}
-use Rattle.vk_model.specs.Moves.{Value, Move, moves}
+use Rattle.vk_model.specs.ByteWrites.{Value, ByteWrite, byte_writes}
 use Rattle.vk_model.specs.Pieces.{pieces}
 use Rattle.vk_model.specs.Node.{Node, Act, Hosts, Waits, Signals, Runs, Depends, nodes}
 use Rattle.vk_model.specs.Access.{is_in, origin, origins, targets, bytes_of, host_reads, host_writes, reads_of, writes_of, reads, writes}
-use Rattle.vk_model.specs.Laws.{PiecesAreMoves}
+use Rattle.vk_model.specs.Laws.{PiecesAreByteWrites}
 use Rattle.vk_model.specs.Order.{plain_order}
 use Rattle.vk_model.specs.Rules.{first_fault}
 use Rattle.vk_model.specs.Before.{before}
 use Rattle.vk_laws.specs.EveryOrder.{IsSettled}
 use Rattle.vk_laws.specs.Machine.{Task, Put, Puts, Writes, Reads, Precedes, Conflict, MayRun, IsAllowed}
 use Rattle.vk_laws.specs.Trace.{accesses, AccessesInOrder}
-use Rattle.vk_laws.specs.Tasks.{moves_of, host_value, part_write, part_read, task_count, node_at, by_act, accesses_of}
+use Rattle.vk_laws.specs.Tasks.{piece_writes, host_value, part_write, part_read, task_count, node_at, by_act, accesses_of}
 use Rattle.vk_laws.proofs.TaskNodes.{node_of}
 use Rattle.vk_laws.proofs.Members.{member_passes, some_member, found, map_has, part_has, chosen_has, chosen_from, numbers_have, none_in}
 use Rattle.vk_laws.proofs.Fresh.{closed}
@@ -48,22 +48,22 @@ byte_itself (in_image i a b x y p) = rw (eq-eqb i i refl, eq-eqb a a refl, eq-eq
 
 -- ---- what tasks access
 
-module _ (together : PiecesAreMoves) (all : Past) where
-  pub piece_move : (x : Cmd) (k : ℕ) (m : Move) → Contains (moves_of (slice_get (pieces all x) k)) m → Contains (moves all x) m
-  piece_move x k m c = go (slice_get (pieces all x) k) refl c
+module _ (together : PiecesAreByteWrites) (all : Past) where
+  pub piece_write : (x : Cmd) (k : ℕ) (m : ByteWrite) → Contains (piece_writes (slice_get (pieces all x) k)) m → Contains (byte_writes all x) m
+  piece_write x k m c = go (slice_get (pieces all x) k) refl c
     where
-      go : (o : Option (List Move)) → slice_get (pieces all x) k ≡ o → Contains (moves_of o) m → Contains (moves all x) m
+      go : (o : Option (List ByteWrite)) → slice_get (pieces all x) k ≡ o → Contains (piece_writes o) m → Contains (byte_writes all x) m
       go None e c = absurd (none_in m c)
-      go (Some ms) e c = subst (λ (l : List Move). Contains l m) (together all x) (part_has (pieces all x) k ms m e c)
+      go (Some ms) e c = subst (λ (l : List ByteWrite). Contains l m) (together all x) (part_has (pieces all x) k ms m e c)
 
-  run_writes : (x : Cmd) (k : ℕ) (c : Byte) (w : Put) → part_write all (Runs x) k c ≡ Some w → Contains (targets (moves all x)) c
-  run_writes x k c w e = go (find (λ m. same_byte m.to c) (moves_of (slice_get (pieces all x) k))) refl e
+  run_writes : (x : Cmd) (k : ℕ) (c : Byte) (w : Put) → part_write all (Runs x) k c ≡ Some w → Contains (targets (byte_writes all x)) c
+  run_writes x k c w e = go (find (λ m. same_byte m.to c) (piece_writes (slice_get (pieces all x) k))) refl e
     where
-      go : (o : Option Move) → find (λ m. same_byte m.to c) (moves_of (slice_get (pieces all x) k)) ≡ o → option_map (λ m. Puts m.source) o ≡ Some w → Contains (targets (moves all x)) c
+      go : (o : Option ByteWrite) → find (λ m. same_byte m.to c) (piece_writes (slice_get (pieces all x) k)) ≡ o → option_map (λ m. Puts m.source) o ≡ Some w → Contains (targets (byte_writes all x)) c
       go None f e = absurd cc
       go (Some m) f e =
-          let h = found (λ m. same_byte m.to c) (moves_of (slice_get (pieces all x) k)) m f in
-          subst (λ (b : Byte). Contains (targets (moves all x)) b) (byte_same m.to c h.1) (map_has (λ m. m.to) (moves all x) m (piece_move x k m h.0))
+          let h = found (λ m. same_byte m.to c) (piece_writes (slice_get (pieces all x) k)) m f in
+          subst (λ (b : Byte). Contains (targets (byte_writes all x)) b) (byte_same m.to c h.1) (map_has (λ m. m.to) (byte_writes all x) m (piece_write x k m h.0))
 
   host_bytes : (b o n j : ℕ) → o ≤ j → j - o < n → Contains (bytes_of b o n) (in_buffer b j)
   host_bytes b o n j le lt = subst (λ (i : ℕ). Contains (bytes_of b o n) (in_buffer b i)) (let e : o + (0 + (j - o)) ≡ j = omega arith in e) (map_has (λ k. in_buffer b (o + k)) (range_with_len 0 n) (0 + (j - o)) (numbers_have 0 n (j - o) lt))
@@ -95,9 +95,9 @@ module _ (together : PiecesAreMoves) (all : Past) where
 
   reads_it : (a : Act) (q k : ℕ) (c : Byte) → IsTrue (part_read all a k c) → IsTrue (accesses a) × Contains (reads_of all q a) c
   reads_it (Runs x) q k c h =
-      let there = is_there c (origins (moves_of (slice_get (pieces all x) k))) h in
-      let m = chosen_from (λ m. origin m.source) (moves_of (slice_get (pieces all x) k)) c there in
-      (refl, chosen_has (λ m. origin m.source) (moves all x) m.0 c (piece_move x k m.0 m.1) m.2)
+      let there = is_there c (origins (piece_writes (slice_get (pieces all x) k))) h in
+      let m = chosen_from (λ m. origin m.source) (piece_writes (slice_get (pieces all x) k)) c there in
+      (refl, chosen_has (λ m. origin m.source) (byte_writes all x) m.0 c (piece_write x k m.0 m.1) m.2)
   reads_it (Hosts x) q k c h = (refl, is_there c (host_reads x) (and_parts (k == 0) _ h).1)
   reads_it (Waits s) q k c h = absurd cc
   reads_it (Signals s) q k c h = absurd cc
@@ -108,10 +108,10 @@ module _ (together : PiecesAreMoves) (all : Past) where
 
   -- ---- and that there are such tasks
 
-  piece_there : (x : Cmd) (k : ℕ) (m : Move) → Contains (moves_of (slice_get (pieces all x) k)) m → IsTrue (nat_lt k (length (pieces all x)))
+  piece_there : (x : Cmd) (k : ℕ) (m : ByteWrite) → Contains (piece_writes (slice_get (pieces all x) k)) m → IsTrue (nat_lt k (length (pieces all x)))
   piece_there x k m c = go (slice_get (pieces all x) k) refl c
     where
-      go : (o : Option (List Move)) → slice_get (pieces all x) k ≡ o → Contains (moves_of o) m → IsTrue (nat_lt k (length (pieces all x)))
+      go : (o : Option (List ByteWrite)) → slice_get (pieces all x) k ≡ o → Contains (piece_writes o) m → IsTrue (nat_lt k (length (pieces all x)))
       go None e c = absurd (none_in m c)
       go (Some ms) e c = lt-ltb k (length (pieces all x)) (slice_get_within (pieces all x) k ms e)
 
@@ -119,11 +119,11 @@ module _ (together : PiecesAreMoves) (all : Past) where
   only_part k h = let e = eqb-true k 0 h in lt-ltb k 1 (omega arith)
 
   writer_there : (a : Act) (k : ℕ) (c : Byte) (w : Put) → part_write all a k c ≡ Some w → IsTrue (nat_lt k (task_count all a))
-  writer_there (Runs x) k c w e = go (find (λ m. same_byte m.to c) (moves_of (slice_get (pieces all x) k))) refl e
+  writer_there (Runs x) k c w e = go (find (λ m. same_byte m.to c) (piece_writes (slice_get (pieces all x) k))) refl e
     where
-      go : (o : Option Move) → find (λ m. same_byte m.to c) (moves_of (slice_get (pieces all x) k)) ≡ o → option_map (λ m. Puts m.source) o ≡ Some w → IsTrue (nat_lt k (length (pieces all x)))
+      go : (o : Option ByteWrite) → find (λ m. same_byte m.to c) (piece_writes (slice_get (pieces all x) k)) ≡ o → option_map (λ m. Puts m.source) o ≡ Some w → IsTrue (nat_lt k (length (pieces all x)))
       go None f e = absurd cc
-      go (Some m) f e = piece_there x k m (found (λ m. same_byte m.to c) (moves_of (slice_get (pieces all x) k)) m f).0
+      go (Some m) f e = piece_there x k m (found (λ m. same_byte m.to c) (piece_writes (slice_get (pieces all x) k)) m f).0
   writer_there (Hosts x) k c w e = go (k == 0) refl e
     where
       go : (b : Bool) → (k == 0) ≡ b → cond b (option_map (λ v. Puts (Value v)) (host_value x c)) None ≡ Some w → IsTrue (nat_lt k 1)
@@ -135,8 +135,8 @@ module _ (together : PiecesAreMoves) (all : Past) where
 
   reader_there : (a : Act) (k : ℕ) (c : Byte) → IsTrue (part_read all a k c) → IsTrue (nat_lt k (task_count all a))
   reader_there (Runs x) k c h =
-      let there = is_there c (origins (moves_of (slice_get (pieces all x) k))) h in
-      let m = chosen_from (λ m. origin m.source) (moves_of (slice_get (pieces all x) k)) c there in
+      let there = is_there c (origins (piece_writes (slice_get (pieces all x) k))) h in
+      let m = chosen_from (λ m. origin m.source) (piece_writes (slice_get (pieces all x) k)) c there in
       piece_there x k m.0 m.1
   reader_there (Hosts x) k c h = only_part k (and_parts (k == 0) _ h).0
   reader_there (Waits s) k c h = absurd cc
@@ -177,7 +177,7 @@ module _ (together : PiecesAreMoves) (all : Past) where
 
 -- ---- the law
 
-module _ (together : PiecesAreMoves) (order : AccessesInOrder) (t : List Entry) (none : first_fault t ≡ None) where
+module _ (together : PiecesAreByteWrites) (order : AccessesInOrder) (t : List Entry) (none : first_fault t ≡ None) where
   abbrev all : Past
   all = plain_order t
 

@@ -8,7 +8,7 @@ use Rattle.vk_model.specs.Basics.{holds}
 use Rattle.vk_model.specs.World.{Byte, same_byte, resource_at}
 use Rattle.vk_model.specs.Objects.{is_cached}
 use Rattle.vk_model.specs.Point.{Past}
-use Rattle.vk_model.specs.Moves.{Move}
+use Rattle.vk_model.specs.ByteWrites.{ByteWrite}
 use Rattle.vk_model.specs.Node.{Node, Act, Hosts, Waits, Signals, Runs, Depends, nodes}
 use Rattle.vk_model.specs.Edge.{edge, is_host, is_submit}
 use Rattle.vk_model.specs.Before.{before, IsNumbered}
@@ -18,7 +18,7 @@ use Rattle.vk_model.specs.Laws.{BeforeIsPath, BeforeIsTransitive, GrowthKeeps, K
 use Rattle.vk_laws.specs.Machine.{Task, Put}
 use Rattle.vk_laws.specs.Growth.{Extends}
 use Rattle.vk_laws.specs.Trace.{accesses}
-use Rattle.vk_laws.specs.Tasks.{moves_of, task_count, part_write, node_at, by_act, accesses_of}
+use Rattle.vk_laws.specs.Tasks.{piece_writes, task_count, part_write, node_at, by_act, accesses_of}
 use Rattle.vk_laws.specs.TraceBytes.{before_node}
 use Rattle.vk_laws.specs.Discards.{entry_forgets, forgets, or_unknown, with_discards}
 use Rattle.vk_laws.specs.TraceCaches.{agent_of, submits_to, cached, host_wrote, sends_write, makes_visible_to, caching_of}
@@ -127,7 +127,7 @@ module _ (paths : BeforeIsPath) (joins : BeforeIsTransitive) (keeps : GrowthKeep
     same_part k c = go n.act refl
       where
         go : (a : Act) → n.act ≡ a → part_write whole a k c ≡ part_write old a k c
-        go (Runs x) e = ap (λ (ps : List (List Move)). option_map (λ m. Rattle.vk_laws.specs.Machine.Puts m.source) (find (λ m. same_byte m.to c) (moves_of (slice_get ps k)))) (same_pieces whole newer old split new alive n x cn e)
+        go (Runs x) e = ap (λ (ps : List (List ByteWrite)). option_map (λ m. Rattle.vk_laws.specs.Machine.Puts m.source) (find (λ m. same_byte m.to c) (piece_writes (slice_get ps k)))) (same_pieces whole newer old split new alive n x cn e)
         go (Hosts x) e = refl
         go (Waits w) e = refl
         go (Signals w) e = refl

@@ -4,7 +4,7 @@ use Rattle.std.specs.List.{filter}
 use Rattle.vk_model.specs.declared.entry.Entry.{Entry}
 use Rattle.vk_model.specs.Basics.{holds}
 use Rattle.vk_model.specs.World.{Byte}
-use Rattle.vk_model.specs.Moves.{Value, From}
+use Rattle.vk_model.specs.ByteWrites.{Value, From}
 use Rattle.vk_model.specs.Point.{Past}
 use Rattle.vk_model.specs.Order.{plain_order}
 use Rattle.vk_model.specs.Effect.{world}

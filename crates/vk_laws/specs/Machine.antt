@@ -2,7 +2,7 @@
 -- In these files a comment names the chapter or section of the Vulkan 1.3 specification that a definition comes from, and says `profile` where it is our own choice. One that names neither is a word for the definitions beside it.
 use Rattle.std.specs.Prelude.{◌≡◌, ◌⊎◌, ℕ, suc, ◌<◌, Bool, IsTrue, List, [], ◌∷◌, Option, Some, None, ⊤}
 use Rattle.vk_model.specs.World.{Byte}
-use Rattle.vk_model.specs.Moves.{Source, From}
+use Rattle.vk_model.specs.ByteWrites.{Source, From}
 use Rattle.vk_model.specs.Effect.{source_value}
 
 -- An item stands in a list.

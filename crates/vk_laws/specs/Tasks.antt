@@ -7,7 +7,7 @@ use Rattle.vk_model.specs.Basics.{holds}
 use Rattle.vk_model.specs.World.{Byte, same_byte}
 use Rattle.vk_model.specs.Point.{Past}
 use Rattle.vk_model.specs.Order.{plain_order}
-use Rattle.vk_model.specs.Moves.{Value, Move}
+use Rattle.vk_model.specs.ByteWrites.{Value, ByteWrite}
 use Rattle.vk_model.specs.Effect.{written}
 use Rattle.vk_model.specs.Node.{Node, Act, Hosts, Runs, nodes}
 use Rattle.vk_model.specs.Before.{before}
@@ -26,10 +26,10 @@ abbrev pub task_count : Past → Act → ℕ
 task_count all (Runs c) = length (pieces all c)
 task_count all _ = 1
 
--- The moves of a piece, if there is such a piece.
-abbrev pub moves_of : Option (List Move) → List Move
-moves_of None = []
-moves_of (Some ms) = ms
+-- The byte writes of a piece, if there is such a piece.
+abbrev pub piece_writes : Option (List ByteWrite) → List ByteWrite
+piece_writes None = []
+piece_writes (Some ms) = ms
 
 -- What the host writes to a byte by an entry (Vulkan, "Host Access to Device Memory Objects").
 abbrev pub host_value : Entry → Byte → Option ℕ
@@ -38,13 +38,13 @@ host_value _ c = None
 
 -- What part k of an act writes to a byte; an event writes nothing.
 abbrev pub part_write : Past → Act → ℕ → Byte → Option Put
-part_write all (Runs x) k c = option_map (λ m. Puts m.source) (find (λ m. same_byte m.to c) (moves_of (slice_get (pieces all x) k)))
+part_write all (Runs x) k c = option_map (λ m. Puts m.source) (find (λ m. same_byte m.to c) (piece_writes (slice_get (pieces all x) k)))
 part_write all (Hosts x) k c = if k == 0 then option_map (λ v. Puts (Value v)) (host_value x c) else None
 part_write all _ k c = None
 
 -- Whether part k of an act reads a byte.
 abbrev pub part_read : Past → Act → ℕ → Byte → Bool
-part_read all (Runs x) k c = is_in c (origins (moves_of (slice_get (pieces all x) k)))
+part_read all (Runs x) k c = is_in c (origins (piece_writes (slice_get (pieces all x) k)))
 part_read all (Hosts x) k c = k == 0 && is_in c (host_reads x)
 part_read all _ k c = false
 

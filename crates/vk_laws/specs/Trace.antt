@@ -4,7 +4,7 @@ use Rattle.vk_model.specs.declared.entry.Entry.{Entry}
 use Rattle.vk_model.specs.World.{Byte, resource_at}
 use Rattle.vk_model.specs.Objects.{is_cached}
 use Rattle.vk_model.specs.declared.command.Cmd.{Cmd}
-use Rattle.vk_model.specs.Moves.{moves}
+use Rattle.vk_model.specs.ByteWrites.{byte_writes}
 use Rattle.vk_model.specs.Point.{Past, Point, Run}
 use Rattle.vk_model.specs.Order.{plain_order}
 use Rattle.vk_model.specs.Node.{Node, Act, nodes}
@@ -47,7 +47,7 @@ HostInOrder =
 abbrev pub CommandsStay : Type 0
 CommandsStay =
     (t : List Entry) (newer between past : Past) (p : Point) (c : Cmd) → first_fault t ≡ None → plain_order t ≡ newer ++ (between ++ p ∷ past) → p.action ≡ Run c
-    → moves (between ++ p ∷ past) c ≡ moves (p ∷ past) c
+    → byte_writes (between ++ p ∷ past) c ≡ byte_writes (p ∷ past) c
 
 -- Whether an act accesses memory itself: a clear or copy command, or a host entry. What a transition accesses is judged by the same rules, and isn't spoken of here.
 abbrev pub accesses : Act → Bool

@@ -15,7 +15,7 @@ ghost use Rattle.vk_laws.specs.Machine.{Conflict, IsAllowed, IsIn, MayRun, Task}
 use crate::machine::{every_order, runs_carry_over};
 use crate::trace::{accesses_in_order, commands_stay, host_in_order, no_hazard, seen_is_before};
 use vk_model::{
-    before_is_order, before_is_path, growth_keeps, no_fault_is_sound, pieces_are_moves,
+    before_is_order, before_is_path, growth_keeps, no_fault_is_sound, pieces_are_byte_writes,
     pieces_write_apart,
 };
 
@@ -25,7 +25,7 @@ use vk_model::{
 pub fn trace_is_settled()
     ensures { TraceSettledLaw }
 {
-    pieces_are_moves();
+    pieces_are_byte_writes();
     accesses_in_order();
 }
 
@@ -35,7 +35,7 @@ pub fn trace_is_hazard_free()
     ensures { TraceHazardFreeLaw }
 {
     no_fault_is_sound();
-    pieces_are_moves();
+    pieces_are_byte_writes();
     pieces_write_apart();
     accesses_in_order();
 }
@@ -46,7 +46,7 @@ pub fn trace_is_modelled()
     ensures { TraceModelLaw }
 {
     no_fault_is_sound();
-    pieces_are_moves();
+    pieces_are_byte_writes();
     pieces_write_apart();
 }
 
@@ -55,7 +55,7 @@ pub fn reads_are_defined()
     ensures { ReadsDefinedLaw }
 {
     no_fault_is_sound();
-    pieces_are_moves();
+    pieces_are_byte_writes();
     pieces_write_apart();
 }
 
@@ -77,7 +77,7 @@ pub fn discards_keep_premises()
     ensures modelled { DiscardsModelLaw }
 {
     no_fault_is_sound();
-    pieces_are_moves();
+    pieces_are_byte_writes();
     pieces_write_apart();
     before_is_path();
     before_is_order();
@@ -95,7 +95,7 @@ pub fn trace_is_cache_free()
     ensures { TraceCacheFreeLaw }
 {
     no_fault_is_sound();
-    pieces_are_moves();
+    pieces_are_byte_writes();
     pieces_write_apart();
     before_is_path();
     before_is_order();

@@ -3,7 +3,7 @@ ghost use Rattle.vk_laws.specs.Trace.{AccessesInOrder, CommandsStay, HostInOrder
 
 use crate::machine::every_order;
 use vk_model::{
-    before_is_order, before_is_path, growth_keeps, no_fault_is_sound, pieces_are_moves,
+    before_is_order, before_is_path, growth_keeps, no_fault_is_sound, pieces_are_byte_writes,
     pieces_write_apart,
 };
 

@@ -4,7 +4,7 @@ ghost use Rattle.vk_laws.specs.DefinedRuns.{DefinedRunsAreAllowed, DefinedRunsAr
 use crate::tasks::{trace_is_fresh, trace_is_hazard_free, trace_is_modelled, trace_is_settled};
 use vk_model::{
     before_is_order, before_is_path, growth_keeps, no_fault_is_sound, orders_agree,
-    pieces_are_moves,
+    pieces_are_byte_writes,
 };
 
 /// Each run of a trace without a fault that the definitions allow is an allowed run of the machine, with
@@ -29,7 +29,7 @@ pub fn defined_runs_are_fresh()
     ensures fresh { DefinedRunsAreFresh }
     ensures written { DefinedRunsAreWritten }
 {
-    pieces_are_moves();
+    pieces_are_byte_writes();
     trace_is_settled();
     trace_is_fresh();
     defined_runs_are_allowed();
@@ -47,7 +47,7 @@ pub fn defined_runs_end()
     before_is_path();
     before_is_order();
     orders_agree();
-    pieces_are_moves();
+    pieces_are_byte_writes();
     trace_is_hazard_free();
     trace_is_modelled();
     trace_is_fresh();

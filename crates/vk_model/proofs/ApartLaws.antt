@@ -24,7 +24,7 @@ use Rattle.vk_model.specs.World.{Byte, in_buffer, in_image, same_byte}
 use Rattle.std.specs.List.{enumerate_from}
 use Rattle.vk_model.specs.declared.command.BufferCopy.{BufferCopy}
 use Rattle.vk_model.specs.Basics.{byte_of}
-use Rattle.vk_model.specs.Moves.{Move, move, moves, fill_size, buffer_size, Source, Value, From, copy_moves, copy_in_moves, copy_image_moves, copy_out_moves, clear_moves, clear_move, level_bytes, subresource_bytes, buffer_texel, row_texels, layer_rows}
+use Rattle.vk_model.specs.ByteWrites.{ByteWrite, byte_write, byte_writes, fill_size, buffer_size, Source, Value, From, copy_writes, copy_in_writes, copy_image_writes, copy_out_writes, clear_writes, clear_write, level_bytes, subresource_bytes, buffer_texel, row_texels, layer_rows}
 use Rattle.vk_model.specs.declared.command.BufferImageCopy.{BufferImageCopy}
 use Rattle.vk_model.specs.declared.command.ImageCopy.{ImageCopy}
 use Rattle.vk_model.specs.declared.command.SubresourceRange.{SubresourceRange}
@@ -34,9 +34,9 @@ use Rattle.vk_model.specs.Parts.{Bytes, Rows, Texels, Subresources, Box, parts_m
 use Rattle.vk_model.proofs.Pairs.{refuted, or_left, or_right, or_none, none_at, append_pairs, once_of_pairs, Each, Pairs, Less, At, pairs_map, pairs_of, pairs_range, pairs_flat, pairs_of_once, each_of, each_range, each_map, each_flat, grid_apart, in_grid}
 use Rattle.vk_model.proofs.BytePlaces.{and_both, buffer_same, image_same, common_meets, clash, Differ, digit_first, no_less, texels_differ, place_less, less_differs}
 
--- ---- the moves of each command
+-- ---- the byte writes of each command
 
-abbrev Apart : Move → Move → Type 0
+abbrev Apart : ByteWrite → ByteWrite → Type 0
 Apart m n = Differ m.to n.to
 
 each_all : {A : Type 0} (P : A → Type 0) (xs : List A) → ((x : A) → P x) → Each P xs
@@ -55,7 +55,7 @@ pairs_made : {A B : Type 0} (R : B → B → Type 0) (f : A → B) (xs : List A)
 pairs_made R f [] p = tt
 pairs_made R f (x ∷ xs) p = (each_made (R (f x)) f xs p.0, pairs_made R f xs p.1)
 
-fill_apart : (b o n w : ℕ) → Pairs Apart (map (λ k. move (in_buffer b (o + k)) (Value (byte_of w (k % 4)))) (below n))
+fill_apart : (b o n w : ℕ) → Pairs Apart (map (λ k. byte_write (in_buffer b (o + k)) (Value (byte_of w (k % 4)))) (below n))
 fill_apart b o n w = pairs_of Apart _ (below n) (pairs_range _ 0 n (λ i j lt high. less_differs b (o + i) (o + j) (omega arith)))
 
 numbered_later : {A : Type 0} (a : ℕ) (xs : List A) (low : ℕ) → low < a → Each (λ (q : ℕ × A). low < q.0) (enumerate_from a xs)
@@ -66,27 +66,27 @@ numbered_pairs : {A : Type 0} (a : ℕ) (xs : List A) → Pairs (λ (p q : ℕ �
 numbered_pairs a [] = tt
 numbered_pairs a (x ∷ xs) = (numbered_later (a + 1) xs a (omega arith), numbered_pairs (a + 1) xs)
 
-update_apart : (b o : ℕ) (bytes : List ℕ) → Pairs Apart (map (λ p. move (in_buffer b (o + p.0)) (Value p.1)) (enumerate_from 0 bytes))
+update_apart : (b o : ℕ) (bytes : List ℕ) → Pairs Apart (map (λ p. byte_write (in_buffer b (o + p.0)) (Value p.1)) (enumerate_from 0 bytes))
 update_apart b o bytes = pairs_of Apart _ (enumerate_from 0 bytes) (pairs_all _ _ (enumerate_from 0 bytes) (numbered_pairs 0 bytes) (λ p q lt. less_differs b (o + p.0) (o + q.0) (omega arith)))
 
 -- ---- copies between buffers
 
-abbrev IsCopied : ℕ → BufferCopy → Move → Type 0
+abbrev IsCopied : ℕ → BufferCopy → ByteWrite → Type 0
 IsCopied d g m = (k : ℕ) × (k < g.size) × (m.to ≡ in_buffer d (g.destination_offset + k))
 
-copied_each : (s d : ℕ) (g : BufferCopy) → Each (IsCopied d g) (copy_moves s d g)
+copied_each : (s d : ℕ) (g : BufferCopy) → Each (IsCopied d g) (copy_writes s d g)
 copied_each s d g = each_of (IsCopied d g) _ (below g.size) (each_range _ 0 g.size (λ k low high. (k, omega arith, refl)))
 
-copied_apart : (d : ℕ) (g h : BufferCopy) (m n : Move) → parts_meet (Bytes d g.destination_offset g.size) (Bytes d h.destination_offset h.size) ≡ false → IsCopied d g m → IsCopied d h n → Apart m n
+copied_apart : (d : ℕ) (g h : BufferCopy) (m n : ByteWrite) → parts_meet (Bytes d g.destination_offset g.size) (Bytes d h.destination_offset h.size) ≡ false → IsCopied d g m → IsCopied d h n → Apart m n
 copied_apart d g h m n meet at at' = refuted (same_byte m.to n.to) (λ e.
     let e' : same_byte (in_buffer d (g.destination_offset + at.0)) (in_buffer d (h.destination_offset + at'.0)) ≡ true = rw (at.2, at'.2) at e in
     let same = (buffer_same d (g.destination_offset + at.0) d (h.destination_offset + at'.0) e').1 in
     let together = common_meets g.destination_offset g.size h.destination_offset h.size (g.destination_offset + at.0) (omega arith) (let lt = at.1 in omega arith) (omega arith) (let lt = at'.1 in omega arith) in
     clash _ (and_both (d == d) (ranges_meet g.destination_offset g.size h.destination_offset h.size) (eq-eqb d d refl) together) meet)
 
-copy_apart : (s d : ℕ) (gs : List BufferCopy) → some_pair parts_meet (map (λ g. Bytes d g.destination_offset g.size) gs) ≡ false → Pairs Apart (flat_map (copy_moves s d) gs)
+copy_apart : (s d : ℕ) (gs : List BufferCopy) → some_pair parts_meet (map (λ g. Bytes d g.destination_offset g.size) gs) ≡ false → Pairs Apart (flat_map (copy_writes s d) gs)
 copy_apart s d gs none =
-    pairs_flat Apart (copy_moves s d) (IsCopied d) gs
+    pairs_flat Apart (copy_writes s d) (IsCopied d) gs
     (each_all _ gs (λ g. pairs_of Apart _ (below g.size) (pairs_range _ 0 g.size (λ i j lt high. less_differs d (g.destination_offset + i) (g.destination_offset + j) (omega arith)))))
     (each_all _ gs (copied_each s d))
     (pairs_all _ _ gs (pairs_made _ (λ g. Bytes d g.destination_offset g.size) gs (pairs_of_once parts_meet _ none)) (λ g h meet. λ m n at at'. copied_apart d g h m n meet at at'))
@@ -114,37 +114,37 @@ boxes_apart i k l b c meet at at' = refuted (same_byte b c) (λ e.
 
 -- a grid of moves to the texels of a box
 module _ (i : ℕ) (k : Box) (t : ℕ) (source : ℕ → ℕ → ℕ → ℕ → Source) where
-  abbrev box_move : ℕ → ℕ → ℕ → ℕ → Move
-  box_move z y x p = move (in_image i k.level (k.first_layer + z) (k.x + x) (k.y + y) p) (source z y x p)
+  abbrev box_write : ℕ → ℕ → ℕ → ℕ → ByteWrite
+  box_write z y x p = byte_write (in_image i k.level (k.first_layer + z) (k.x + x) (k.y + y) p) (source z y x p)
 
-  box_each : Each (λ m. InBox i k m.to) (grid k.layers k.height k.width t box_move)
-  box_each = each_map (At box_move k.layers k.height k.width t) (λ m. InBox i k m.to) (grid k.layers k.height k.width t box_move)
-      (λ m at. record { z = at.z; y = at.y; x = at.x; part = at.k; low_z = at.low_z; low_y = at.low_y; low_x = at.low_x; is = ap (λ (n : Move). n.to) at.is }) (in_grid box_move k.layers k.height k.width t)
+  box_each : Each (λ m. InBox i k m.to) (grid k.layers k.height k.width t box_write)
+  box_each = each_map (At box_write k.layers k.height k.width t) (λ m. InBox i k m.to) (grid k.layers k.height k.width t box_write)
+      (λ m at. record { z = at.z; y = at.y; x = at.x; part = at.k; low_z = at.low_z; low_y = at.low_y; low_x = at.low_x; is = ap (λ (n : ByteWrite). n.to) at.is }) (in_grid box_write k.layers k.height k.width t)
 
-  box_own : Pairs Apart (grid k.layers k.height k.width t box_move)
-  box_own = grid_apart Apart box_move k.layers k.height k.width t
+  box_own : Pairs Apart (grid k.layers k.height k.width t box_write)
+  box_own = grid_apart Apart box_write k.layers k.height k.width t
       (λ z y x p z' y' x' p' lz lz' ly ly' lx lx' lk lk' less. texels_differ i k.level k.first_layer k.x k.y z y x p z' y' x' p' less)
 
 -- regions whose boxes don't meet
-regions_apart : {A : Type 0} (i : ℕ) (box : A → Box) (f : A → List Move) (gs : List A) → ((g : A) → Pairs Apart (f g)) → ((g : A) → Each (λ m. InBox i (box g) m.to) (f g))
+regions_apart : {A : Type 0} (i : ℕ) (box : A → Box) (f : A → List ByteWrite) (gs : List A) → ((g : A) → Pairs Apart (f g)) → ((g : A) → Each (λ m. InBox i (box g) m.to) (f g))
     → some_pair parts_meet (map (λ g. Texels i (box g)) gs) ≡ false → Pairs Apart (flat_map f gs)
 regions_apart i box f gs own known none =
     pairs_flat Apart f (λ g m. InBox i (box g) m.to) gs (each_all _ gs own) (each_all _ gs known)
     (pairs_all _ _ gs (pairs_made _ (λ g. Texels i (box g)) gs (pairs_of_once parts_meet _ none)) (λ g h meet. λ m n at at'. boxes_apart i (box g) (box h) m.to n.to meet at at'))
 
-copy_in_own : (b i : ℕ) (o : Option ImageInfo) (g : BufferImageCopy) → Pairs Apart (copy_in_moves b i o g)
+copy_in_own : (b i : ℕ) (o : Option ImageInfo) (g : BufferImageCopy) → Pairs Apart (copy_in_writes b i o g)
 copy_in_own b i None g = tt
 copy_in_own b i (Some m) g = box_own i (region_box g) (texel m.format) (λ z y x k. From (in_buffer b (buffer_texel g (texel m.format) z y x k)))
 
-copy_in_each : (b i : ℕ) (o : Option ImageInfo) (g : BufferImageCopy) → Each (λ m. InBox i (region_box g) m.to) (copy_in_moves b i o g)
+copy_in_each : (b i : ℕ) (o : Option ImageInfo) (g : BufferImageCopy) → Each (λ m. InBox i (region_box g) m.to) (copy_in_writes b i o g)
 copy_in_each b i None g = tt
 copy_in_each b i (Some m) g = box_each i (region_box g) (texel m.format) (λ z y x k. From (in_buffer b (buffer_texel g (texel m.format) z y x k)))
 
-copy_image_own : (s d : ℕ) (o : Option ImageInfo) (g : ImageCopy) → Pairs Apart (copy_image_moves s d o g)
+copy_image_own : (s d : ℕ) (o : Option ImageInfo) (g : ImageCopy) → Pairs Apart (copy_image_writes s d o g)
 copy_image_own s d None g = tt
 copy_image_own s d (Some m) g = box_own d (destination_box g) (texel m.format) (λ z y x k. From (in_image s g.source_level (g.source_first_layer + z) (g.source_x + x) (g.source_y + y) k))
 
-copy_image_each : (s d : ℕ) (o : Option ImageInfo) (g : ImageCopy) → Each (λ m. InBox d (destination_box g) m.to) (copy_image_moves s d o g)
+copy_image_each : (s d : ℕ) (o : Option ImageInfo) (g : ImageCopy) → Each (λ m. InBox d (destination_box g) m.to) (copy_image_writes s d o g)
 copy_image_each s d None g = tt
 copy_image_each s d (Some m) g = box_each d (destination_box g) (texel m.format) (λ z y x k. From (in_image s g.source_level (g.source_first_layer + z) (g.source_x + x) (g.source_y + y) k))
 
@@ -201,13 +201,13 @@ module _ (i : ℕ) (m : ImageInfo) (r : SubresourceRange) where
   range_each = each_flat _ (λ k. level_bytes i m r (r.first_level + k)) (below r.levels)
       (each_range _ 0 r.levels (λ k low high. each_map (λ (p : Byte × ℕ). InLevel i r (r.first_level + k) p.0) (λ (p : Byte × ℕ). InRange i r p.0) (level_bytes i m r (r.first_level + k)) (λ p at. record { step = k; low = omega arith; inside = at }) (level_each (r.first_level + k))))
 
-clear_own : (i : ℕ) (color : List ℕ) (o : Option ImageInfo) (r : SubresourceRange) → Pairs Apart (clear_moves i color o r)
+clear_own : (i : ℕ) (color : List ℕ) (o : Option ImageInfo) (r : SubresourceRange) → Pairs Apart (clear_writes i color o r)
 clear_own i color None r = tt
-clear_own i color (Some m) r = pairs_of Apart (clear_move m color) (subresource_bytes i m r) (range_own i m r)
+clear_own i color (Some m) r = pairs_of Apart (clear_write m color) (subresource_bytes i m r) (range_own i m r)
 
-clear_each : (i : ℕ) (color : List ℕ) (o : Option ImageInfo) (r : SubresourceRange) → Each (λ m. InRange i r m.to) (clear_moves i color o r)
+clear_each : (i : ℕ) (color : List ℕ) (o : Option ImageInfo) (r : SubresourceRange) → Each (λ m. InRange i r m.to) (clear_writes i color o r)
 clear_each i color None r = tt
-clear_each i color (Some m) r = each_of (λ (n : Move). InRange i r n.to) (clear_move m color) (subresource_bytes i m r) (range_each i m r)
+clear_each i color (Some m) r = each_of (λ (n : ByteWrite). InRange i r n.to) (clear_write m color) (subresource_bytes i m r) (range_each i m r)
 
 ranges_apart : (i : ℕ) (r s : SubresourceRange) (b c : Byte) → parts_meet (Subresources i r) (Subresources i s) ≡ false → InRange i r b → InRange i s c → Differ b c
 ranges_apart i r s b c meet at at' =
@@ -220,9 +220,9 @@ ranges_apart i r s b c meet at at' =
     clash _ (and_both (i == i) (subresources_meet r s) (eq-eqb i i refl) (and_both _ _ levels layers)) meet)
     at.inside at'.inside
 
-clear_apart : (i : ℕ) (color : List ℕ) (o : Option ImageInfo) (rs : List SubresourceRange) → some_pair parts_meet (map (Subresources i) rs) ≡ false → Pairs Apart (flat_map (clear_moves i color o) rs)
+clear_apart : (i : ℕ) (color : List ℕ) (o : Option ImageInfo) (rs : List SubresourceRange) → some_pair parts_meet (map (Subresources i) rs) ≡ false → Pairs Apart (flat_map (clear_writes i color o) rs)
 clear_apart i color o rs none =
-    pairs_flat Apart (clear_moves i color o) (λ r m. InRange i r m.to) rs (each_all _ rs (clear_own i color o)) (each_all _ rs (clear_each i color o))
+    pairs_flat Apart (clear_writes i color o) (λ r m. InRange i r m.to) rs (each_all _ rs (clear_own i color o)) (each_all _ rs (clear_each i color o))
     (pairs_all _ _ rs (pairs_made _ (Subresources i) rs (pairs_of_once parts_meet _ none)) (λ r s meet. λ m n at at'. ranges_apart i r s m.to n.to meet at at'))
 
 -- ---- copies from images to buffers
@@ -257,13 +257,13 @@ pub record InRegion (b t : ℕ) (g : BufferImageCopy) (byte : Byte) : Type 0 whe
   pub low_part : part < t
   pub is : byte ≡ in_buffer b (buffer_texel g t z y x part)
 
-region_each : (i b : ℕ) (m : ImageInfo) (g : BufferImageCopy) → Each (λ n. InRegion b (texel m.format) g n.to) (copy_out_moves i b (Some m) g)
+region_each : (i b : ℕ) (m : ImageInfo) (g : BufferImageCopy) → Each (λ n. InRegion b (texel m.format) g n.to) (copy_out_writes i b (Some m) g)
 region_each i b m g =
-    each_map (At _ g.layers g.height g.width (texel m.format)) (λ (n : Move). InRegion b (texel m.format) g n.to) (copy_out_moves i b (Some m) g)
-    (λ n at. record { z = at.z; y = at.y; x = at.x; part = at.k; low_z = at.low_z; low_y = at.low_y; low_x = at.low_x; low_part = at.low_k; is = ap (λ (k : Move). k.to) at.is })
+    each_map (At _ g.layers g.height g.width (texel m.format)) (λ (n : ByteWrite). InRegion b (texel m.format) g n.to) (copy_out_writes i b (Some m) g)
+    (λ n at. record { z = at.z; y = at.y; x = at.x; part = at.k; low_z = at.low_z; low_y = at.low_y; low_x = at.low_x; low_part = at.low_k; is = ap (λ (k : ByteWrite). k.to) at.is })
     (in_grid _ g.layers g.height g.width (texel m.format))
 
-region_own : (i b : ℕ) (m : ImageInfo) (g : BufferImageCopy) → IsLong g → Pairs Apart (copy_out_moves i b (Some m) g)
+region_own : (i b : ℕ) (m : ImageInfo) (g : BufferImageCopy) → IsLong g → Pairs Apart (copy_out_writes i b (Some m) g)
 region_own i b m g long = grid_apart Apart _ g.layers g.height g.width (texel m.format)
     (λ z y x p z' y' x' p' lz lz' ly ly' lx lx' lk lk' less.
     let rows = long.rows in let layers = long.layers in
@@ -320,23 +320,23 @@ rows_apart b t g h m n meet at at' = refuted (same_byte m n) (λ e.
     off_diagonal true c e f = f
     off_diagonal false c e f = absurd cc
 
-copy_out_apart : (i b : ℕ) (m : ImageInfo) (gs : List BufferImageCopy) → Each IsLong gs → some_pair parts_meet (map (Rows b (texel m.format)) gs) ≡ false → Pairs Apart (flat_map (copy_out_moves i b (Some m)) gs)
+copy_out_apart : (i b : ℕ) (m : ImageInfo) (gs : List BufferImageCopy) → Each IsLong gs → some_pair parts_meet (map (Rows b (texel m.format)) gs) ≡ false → Pairs Apart (flat_map (copy_out_writes i b (Some m)) gs)
 copy_out_apart i b m gs long none =
-    pairs_flat Apart (copy_out_moves i b (Some m)) (λ g n. InRegion b (texel m.format) g n.to) gs
+    pairs_flat Apart (copy_out_writes i b (Some m)) (λ g n. InRegion b (texel m.format) g n.to) gs
     (each_map IsLong _ gs (λ g l. region_own i b m g l) long)
     (each_all _ gs (region_each i b m))
     (pairs_all _ _ gs (pairs_made _ (Rows b (texel m.format)) gs (pairs_of_once parts_meet _ none)) (λ g h meet. λ x y at at'. rows_apart b (texel m.format) g h x.to y.to meet at at'))
 
 -- ---- commands that break no rule
 
-no_parts : (past : Past) (i b : ℕ) (gs : List BufferImageCopy) → Each IsLong gs → some_pair parts_meet (region_rows past b i gs) ≡ false → Pairs Apart (flat_map (copy_out_moves i b (image past i)) gs)
+no_parts : (past : Past) (i b : ℕ) (gs : List BufferImageCopy) → Each IsLong gs → some_pair parts_meet (region_rows past b i gs) ≡ false → Pairs Apart (flat_map (copy_out_writes i b (image past i)) gs)
 no_parts past i b gs long none = go (image past i) refl none
   where
-    nothing : (gs : List BufferImageCopy) → Pairs Apart (flat_map (copy_out_moves i b None) gs)
+    nothing : (gs : List BufferImageCopy) → Pairs Apart (flat_map (copy_out_writes i b None) gs)
     nothing [] = tt
     nothing (g ∷ gs) = nothing gs
 
-    go : (o : Option ImageInfo) → image past i ≡ o → some_pair parts_meet (elim o [ None ↦ [] | Some m ↦ map (Rows b (texel m.format)) gs ]) ≡ false → Pairs Apart (flat_map (copy_out_moves i b o) gs)
+    go : (o : Option ImageInfo) → image past i ≡ o → some_pair parts_meet (elim o [ None ↦ [] | Some m ↦ map (Rows b (texel m.format)) gs ]) ≡ false → Pairs Apart (flat_map (copy_out_writes i b o) gs)
     go None is e = nothing gs
     go (Some m) is e = copy_out_apart i b m gs long e
 
@@ -344,26 +344,26 @@ each_long : (gs : List BufferImageCopy) → list_any is_short gs ≡ false → E
 each_long [] e = tt
 each_long (g ∷ gs) e = (is_long g (or_left (is_short g) (list_any is_short gs) e), each_long gs (or_right (is_short g) (list_any is_short gs) e))
 
-pub moves_apart : (past : Past) (c : Cmd) → some_pair parts_meet (parts_written past c) ≡ false → list_any is_short (regions_of c) ≡ false → Pairs Apart (moves past c)
-moves_apart past (cmd.Fill b o n w) none short = fill_apart b o (fill_size (buffer_size past b) o n) w
-moves_apart past (cmd.Update b o bytes) none short = update_apart b o bytes
-moves_apart past (cmd.Copy s d gs) none short = copy_apart s d gs none
-moves_apart past (cmd.Clear i l color rs) none short = clear_apart i color (image past i) rs none
-moves_apart past (cmd.CopyIn b i l gs) none short = regions_apart i region_box (copy_in_moves b i (image past i)) gs (copy_in_own b i (image past i)) (copy_in_each b i (image past i)) none
-moves_apart past (cmd.CopyOut i l b gs) none short = no_parts past i b gs (each_long gs short) none
-moves_apart past (cmd.CopyImage s l d m gs) none short = regions_apart d destination_box (copy_image_moves s d (image past d)) gs (copy_image_own s d (image past d)) (copy_image_each s d (image past d)) none
-moves_apart past (cmd.Barrier es) none short = tt
-moves_apart past (cmd.Set v ms) none short = tt
-moves_apart past (cmd.Await v ms) none short = tt
+pub writes_apart : (past : Past) (c : Cmd) → some_pair parts_meet (parts_written past c) ≡ false → list_any is_short (regions_of c) ≡ false → Pairs Apart (byte_writes past c)
+writes_apart past (cmd.Fill b o n w) none short = fill_apart b o (fill_size (buffer_size past b) o n) w
+writes_apart past (cmd.Update b o bytes) none short = update_apart b o bytes
+writes_apart past (cmd.Copy s d gs) none short = copy_apart s d gs none
+writes_apart past (cmd.Clear i l color rs) none short = clear_apart i color (image past i) rs none
+writes_apart past (cmd.CopyIn b i l gs) none short = regions_apart i region_box (copy_in_writes b i (image past i)) gs (copy_in_own b i (image past i)) (copy_in_each b i (image past i)) none
+writes_apart past (cmd.CopyOut i l b gs) none short = no_parts past i b gs (each_long gs short) none
+writes_apart past (cmd.CopyImage s l d m gs) none short = regions_apart d destination_box (copy_image_writes s d (image past d)) gs (copy_image_own s d (image past d)) (copy_image_each s d (image past d)) none
+writes_apart past (cmd.Barrier es) none short = tt
+writes_apart past (cmd.Set v ms) none short = tt
+writes_apart past (cmd.Await v ms) none short = tt
 
 -- ---- and so the pieces of a command
 
 -- no byte of one list of moves is one of the other's
-shares_none : (xs ys : List Move) → Each (λ m. Each (Apart m) ys) xs → share (targets xs) (targets ys) ≡ false
+shares_none : (xs ys : List ByteWrite) → Each (λ m. Each (Apart m) ys) xs → share (targets xs) (targets ys) ≡ false
 shares_none [] ys e = refl
 shares_none (m ∷ xs) ys e = or_none (is_in m.to (targets ys)) (share (targets xs) (targets ys)) (in_none m ys e.0) (shares_none xs ys e.1)
   where
-    in_none : (m : Move) (ys : List Move) → Each (Apart m) ys → is_in m.to (targets ys) ≡ false
+    in_none : (m : ByteWrite) (ys : List ByteWrite) → Each (Apart m) ys → is_in m.to (targets ys) ≡ false
     in_none m [] e = refl
     in_none m (n ∷ ys) e = or_none (same_byte m.to n.to) (is_in m.to (targets ys)) e.0 (in_none m ys e.1)
 
@@ -371,14 +371,14 @@ split_each : {A : Type 0} (P : A → Type 0) (xs ys : List A) → Each P (xs ++ 
 split_each P [] ys e = (tt, e)
 split_each P (x ∷ xs) ys e = let rest = split_each P xs ys e.1 in ((e.0, rest.0), rest.1)
 
-one_by_one : (xs : List Move) (ps : List (List Move)) → Each (λ m. Each (Apart m) (together ps)) xs → Each (λ p. share (targets xs) (targets p) ≡ false) ps
+one_by_one : (xs : List ByteWrite) (ps : List (List ByteWrite)) → Each (λ m. Each (Apart m) (together ps)) xs → Each (λ p. share (targets xs) (targets p) ≡ false) ps
 one_by_one xs [] e = tt
 one_by_one xs (p ∷ ps) e = (
   shares_none xs p (each_map (λ m. Each (Apart m) (p ++ together ps)) (λ m. Each (Apart m) p) xs (λ m h. (split_each (Apart m) p (together ps) h).0) e),
   one_by_one xs ps (each_map (λ m. Each (Apart m) (p ++ together ps)) (λ m. Each (Apart m) (together ps)) xs (λ m h. (split_each (Apart m) p (together ps) h).1) e),
 )
 
-pieces_pairs : (ps : List (List Move)) → Pairs Apart (together ps) → Pairs (λ p q. share (targets p) (targets q) ≡ false) ps
+pieces_pairs : (ps : List (List ByteWrite)) → Pairs Apart (together ps) → Pairs (λ p q. share (targets p) (targets q) ≡ false) ps
 pieces_pairs [] e = tt
 pieces_pairs (p ∷ ps) e = let rest = append_pairs Apart p (together ps) e in (one_by_one p ps rest.1, pieces_pairs ps rest.0)
 
@@ -395,5 +395,5 @@ range_false past p c is e =
 
 pub write_apart : (past : Past) (p : Point) (c : Cmd) → p.action ≡ Run c → breaks rule.Overlap past p ≡ false → breaks rule.Range past p ≡ false → some_pair write_common (pieces past c) ≡ false
 write_apart past p c is overlap range =
-    let apart : Pairs Apart (moves past c) = moves_apart past c (overlap_false past p c is overlap) (range_false past p c is range) in
-    once_of_pairs write_common (pieces past c) (pieces_pairs (pieces past c) (subst (λ (ms : List Move). Pairs Apart ms) (sym (pieces_together past c)) apart))
+    let apart : Pairs Apart (byte_writes past c) = writes_apart past c (overlap_false past p c is overlap) (range_false past p c is range) in
+    once_of_pairs write_common (pieces past c) (pieces_pairs (pieces past c) (subst (λ (ms : List ByteWrite). Pairs Apart ms) (sym (pieces_together past c)) apart))

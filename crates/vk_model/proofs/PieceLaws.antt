@@ -15,7 +15,7 @@ use Rattle.vk_model.specs.Basics.{below, grid}
 use Rattle.vk_model.specs.Image.{texel, level_width}
 use Rattle.vk_model.specs.Point.{Past}
 use Rattle.vk_model.specs.Objects.{image}
-use Rattle.vk_model.specs.Moves.{Move, moves, copy_moves, copy_in_moves, copy_out_moves, copy_image_moves, clear_move, clear_moves, level_bytes}
+use Rattle.vk_model.specs.ByteWrites.{ByteWrite, byte_writes, copy_writes, copy_in_writes, copy_out_writes, copy_image_writes, clear_write, clear_writes, level_bytes}
 use Rattle.vk_model.specs.Pieces.{parts, cut, row_bytes, level_pieces, clear_pieces, pieces}
 use Rattle.vk_model.specs.Laws.{together}
 
@@ -76,15 +76,15 @@ rows_together a b (suc w) m f = cut_together (suc w * texel m.format) (grid a b 
 
 -- ---- regions and ranges
 
-copy_in_together : (b i : ℕ) (o : Option ImageInfo) (g : BufferImageCopy) → together (cut (row_bytes o g.width) (copy_in_moves b i o g)) ≡ copy_in_moves b i o g
+copy_in_together : (b i : ℕ) (o : Option ImageInfo) (g : BufferImageCopy) → together (cut (row_bytes o g.width) (copy_in_writes b i o g)) ≡ copy_in_writes b i o g
 copy_in_together b i None g = refl
 copy_in_together b i (Some m) g = rows_together g.layers g.height g.width m _
 
-copy_out_together : (i b : ℕ) (o : Option ImageInfo) (g : BufferImageCopy) → together (cut (row_bytes o g.width) (copy_out_moves i b o g)) ≡ copy_out_moves i b o g
+copy_out_together : (i b : ℕ) (o : Option ImageInfo) (g : BufferImageCopy) → together (cut (row_bytes o g.width) (copy_out_writes i b o g)) ≡ copy_out_writes i b o g
 copy_out_together i b None g = refl
 copy_out_together i b (Some m) g = rows_together g.layers g.height g.width m _
 
-copy_image_together : (s d : ℕ) (o : Option ImageInfo) (g : ImageCopy) → together (cut (row_bytes o g.width) (copy_image_moves s d o g)) ≡ copy_image_moves s d o g
+copy_image_together : (s d : ℕ) (o : Option ImageInfo) (g : ImageCopy) → together (cut (row_bytes o g.width) (copy_image_writes s d o g)) ≡ copy_image_writes s d o g
 copy_image_together s d None g = refl
 copy_image_together s d (Some m) g = rows_together g.layers g.height g.width m _
 
@@ -99,29 +99,29 @@ width_some m k = max_some (m.width / 2 ^ k)
     max_some zero = omega arith
     max_some (suc n) = omega arith
 
-level_together : (i : ℕ) (color : List ℕ) (m : ImageInfo) (r : SubresourceRange) (k : ℕ) → together (level_pieces i color m r k) ≡ map (clear_move m color) (level_bytes i m r k)
-level_together i color m r k = cut_together (level_width m k * texel m.format) (map (clear_move m color) (level_bytes i m r k)) (inl (rows_some (level_width m k) m (width_some m k)))
+level_together : (i : ℕ) (color : List ℕ) (m : ImageInfo) (r : SubresourceRange) (k : ℕ) → together (level_pieces i color m r k) ≡ map (clear_write m color) (level_bytes i m r k)
+level_together i color m r k = cut_together (level_width m k * texel m.format) (map (clear_write m color) (level_bytes i m r k)) (inl (rows_some (level_width m k) m (width_some m k)))
 
-clear_together : (i : ℕ) (color : List ℕ) (o : Option ImageInfo) (r : SubresourceRange) → together (clear_pieces i color o r) ≡ clear_moves i color o r
+clear_together : (i : ℕ) (color : List ℕ) (o : Option ImageInfo) (r : SubresourceRange) → together (clear_pieces i color o r) ≡ clear_writes i color o r
 clear_together i color None r = refl
 clear_together i color (Some m) r =
-    each_together (λ k. level_pieces i color m r (r.first_level + k)) (λ k. map (clear_move m color) (level_bytes i m r (r.first_level + k))) (below r.levels)
+    each_together (λ k. level_pieces i color m r (r.first_level + k)) (λ k. map (clear_write m color) (level_bytes i m r (r.first_level + k))) (below r.levels)
     (λ k. level_together i color m r (r.first_level + k))
-    ∙ sym (map-flat (clear_move m color) (λ k. level_bytes i m r (r.first_level + k)) (below r.levels))
+    ∙ sym (map-flat (clear_write m color) (λ k. level_bytes i m r (r.first_level + k)) (below r.levels))
 
 -- ---- commands
 
-cut_by_4096 : (xs : List Move) → together (cut 4096 xs) ≡ xs
+cut_by_4096 : (xs : List ByteWrite) → together (cut 4096 xs) ≡ xs
 cut_by_4096 xs = cut_together 4096 xs (inl (omega arith))
 
-pub pieces_together : (past : Past) (c : Cmd) → together (pieces past c) ≡ moves past c
-pieces_together past (cmd.Copy s d gs) = each_together (λ g. cut 4096 (copy_moves s d g)) (copy_moves s d) gs (λ g. cut_by_4096 (copy_moves s d g))
-pieces_together past (cmd.CopyIn b i l gs) = each_together (λ g. cut (row_bytes (image past i) g.width) (copy_in_moves b i (image past i) g)) (copy_in_moves b i (image past i)) gs (copy_in_together b i (image past i))
-pieces_together past (cmd.CopyOut i l b gs) = each_together (λ g. cut (row_bytes (image past i) g.width) (copy_out_moves i b (image past i) g)) (copy_out_moves i b (image past i)) gs (copy_out_together i b (image past i))
-pieces_together past (cmd.CopyImage s l d m gs) = each_together (λ g. cut (row_bytes (image past d) g.width) (copy_image_moves s d (image past d) g)) (copy_image_moves s d (image past d)) gs (copy_image_together s d (image past d))
-pieces_together past (cmd.Clear i l color rs) = each_together (clear_pieces i color (image past i)) (clear_moves i color (image past i)) rs (clear_together i color (image past i))
-pieces_together past (cmd.Fill b o n w) = cut_by_4096 (moves past (cmd.Fill b o n w))
-pieces_together past (cmd.Update b o bytes) = cut_by_4096 (moves past (cmd.Update b o bytes))
+pub pieces_together : (past : Past) (c : Cmd) → together (pieces past c) ≡ byte_writes past c
+pieces_together past (cmd.Copy s d gs) = each_together (λ g. cut 4096 (copy_writes s d g)) (copy_writes s d) gs (λ g. cut_by_4096 (copy_writes s d g))
+pieces_together past (cmd.CopyIn b i l gs) = each_together (λ g. cut (row_bytes (image past i) g.width) (copy_in_writes b i (image past i) g)) (copy_in_writes b i (image past i)) gs (copy_in_together b i (image past i))
+pieces_together past (cmd.CopyOut i l b gs) = each_together (λ g. cut (row_bytes (image past i) g.width) (copy_out_writes i b (image past i) g)) (copy_out_writes i b (image past i)) gs (copy_out_together i b (image past i))
+pieces_together past (cmd.CopyImage s l d m gs) = each_together (λ g. cut (row_bytes (image past d) g.width) (copy_image_writes s d (image past d) g)) (copy_image_writes s d (image past d)) gs (copy_image_together s d (image past d))
+pieces_together past (cmd.Clear i l color rs) = each_together (clear_pieces i color (image past i)) (clear_writes i color (image past i)) rs (clear_together i color (image past i))
+pieces_together past (cmd.Fill b o n w) = cut_by_4096 (byte_writes past (cmd.Fill b o n w))
+pieces_together past (cmd.Update b o bytes) = cut_by_4096 (byte_writes past (cmd.Update b o bytes))
 pieces_together past (cmd.Barrier es) = refl
 pieces_together past (cmd.Set v ms) = refl
 pieces_together past (cmd.Await v ms) = refl

@@ -11,7 +11,7 @@ use Rattle.vk_model.specs.Basics.{below}
 use Rattle.vk_model.specs.Point.{Past, Point}
 use Rattle.vk_model.specs.Objects.{image, is_cached}
 use Rattle.vk_model.specs.World.{Byte, in_buffer, same_byte, resource_at}
-use Rattle.vk_model.specs.Moves.{Source, Value, From, Move, moves, subresource_bytes}
+use Rattle.vk_model.specs.ByteWrites.{Source, Value, From, ByteWrite, byte_writes, subresource_bytes}
 use Rattle.vk_model.specs.Ownership.{is_transition, is_release}
 use Rattle.vk_model.specs.Node.{Node, Act, Hosts, Runs, Depends, nodes, next_nodes}
 use Rattle.vk_model.specs.Edge.{is_host}
@@ -27,12 +27,12 @@ abbrev pub origin : Source → Option Byte
 origin (Value n) = None
 origin (From b) = Some b
 
--- The bytes that moves write.
-abbrev pub targets : List Move → List Byte
+-- The bytes that byte writes write.
+abbrev pub targets : List ByteWrite → List Byte
 targets ms = map (λ m. m.to) ms
 
--- The bytes that moves read.
-abbrev pub origins : List Move → List Byte
+-- The bytes that byte writes read.
+abbrev pub origins : List ByteWrite → List Byte
 origins ms = filter_map (λ m. origin m.source) ms
 
 -- The bytes of the subresources that an image element names.
@@ -58,14 +58,14 @@ host_writes _ = []
 -- The bytes that an act on a queue reads (Vulkan, "Copy Commands" and "Image Layout Transitions").
 abbrev pub reads_of : Past → ℕ → Act → List Byte
 reads_of past q (Hosts x) = host_reads x
-reads_of past q (Runs c) = origins (moves past c)
+reads_of past q (Runs c) = origins (byte_writes past c)
 reads_of past q (Depends r e) = transition_bytes past q e
 reads_of past q _ = []
 
 -- The bytes that an act on a queue writes (Vulkan, "Clear Commands", "Copy Commands" and "Image Layout Transitions").
 abbrev pub writes_of : Past → ℕ → Act → List Byte
 writes_of past q (Hosts x) = host_writes x
-writes_of past q (Runs c) = targets (moves past c)
+writes_of past q (Runs c) = targets (byte_writes past c)
 writes_of past q (Depends r e) = transition_bytes past q e
 writes_of past q _ = []
 

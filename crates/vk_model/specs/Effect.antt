@@ -16,7 +16,7 @@ use Rattle.vk_model.specs.Basics.{within}
 use Rattle.vk_model.specs.Point.{Past, Action, Host, Run}
 use Rattle.vk_model.specs.Objects.{is_exclusive, is_cached}
 use Rattle.vk_model.specs.World.{Byte, in_buffer, in_image, same_byte, resource_at, Owner, Nobody, Family, Released, World, new_world}
-use Rattle.vk_model.specs.Moves.{Source, Value, From, Move, moves}
+use Rattle.vk_model.specs.ByteWrites.{Source, Value, From, ByteWrite, byte_writes}
 use Rattle.vk_model.specs.Ownership.{family_of, uses, elements_of, Transfer, Stays, Release, Acquire, Neither, transfer, is_transition}
 
 -- ---- bytes
@@ -26,14 +26,14 @@ abbrev pub source_value : (Byte → Option ℕ) → Source → Option ℕ
 source_value value (Value n) = Some n
 source_value value (From b) = value b
 
--- The value of byte b after the move to it, if there is one.
-abbrev pub moved : (Byte → Option ℕ) → Option Move → Byte → Option ℕ
-moved value None b = value b
-moved value (Some m) b = source_value value m.source
+-- The value of byte b after the write to it, if there is one.
+abbrev pub value_after : (Byte → Option ℕ) → Option ByteWrite → Byte → Option ℕ
+value_after value None b = value b
+value_after value (Some m) b = source_value value m.source
 
--- The bytes after the moves of a command, which are made at once, from the bytes before it. Undefined is copied as undefined (profile).
-abbrev pub after_moves : List Move → (Byte → Option ℕ) → Byte → Option ℕ
-after_moves ms value b = moved value (find (λ m. same_byte m.to b) ms) b
+-- The bytes after the writes of a command, which are made at once, from the bytes before it. Undefined is copied as undefined (profile).
+abbrev pub after_writes : List ByteWrite → (Byte → Option ℕ) → Byte → Option ℕ
+after_writes ms value b = value_after value (find (λ m. same_byte m.to b) ms) b
 
 -- The bytes when some are lost.
 abbrev pub without : (Byte → Bool) → (Byte → Option ℕ) → Byte → Option ℕ
@@ -98,11 +98,11 @@ after_element past f w (element.Image e) = after_image_element past f e (transfe
 
 -- ---- commands
 
--- A command uses its resources, makes its moves, and its elements take effect in order (Vulkan, "Clear Commands", "Copy Commands" and "Pipeline Barriers"; the order: profile).
+-- A command uses its resources, makes its byte writes, and its elements take effect in order (Vulkan, "Clear Commands", "Copy Commands" and "Pipeline Barriers"; the order: profile).
 abbrev pub after_command : Past → ℕ → Cmd → World → World
 after_command past f c w =
     let ready = fold (λ v r. used past f r v) w (uses c) in
-    fold (after_element past f) (record ready { value = after_moves (moves past c) ready.value }) (elements_of c)
+    fold (after_element past f) (record ready { value = after_writes (byte_writes past c) ready.value }) (elements_of c)
 
 -- ---- host entries
 

@@ -11,7 +11,7 @@ use Rattle.vk_model.specs.Node.{Node, nodes}
 use Rattle.vk_model.specs.Edge.{edge}
 use Rattle.vk_model.specs.Before.{before, Path}
 use Rattle.vk_model.specs.Seen.{Access, seen}
-use Rattle.vk_model.specs.Moves.{Move, moves}
+use Rattle.vk_model.specs.ByteWrites.{ByteWrite, byte_writes}
 use Rattle.vk_model.specs.Access.{targets, share}
 use Rattle.vk_model.specs.Basics.{some_pair}
 use Rattle.vk_model.specs.Pieces.{pieces}
@@ -75,12 +75,12 @@ OrdersAgree = (t : List Entry) → NeverAhead t → order t ≡ plain_order t
 abbrev pub together : {A : Type 0} → List (List A) → List A
 together parts = flat_map (λ part. part) parts
 
--- The pieces of a command, put together, are its moves.
-abbrev pub PiecesAreMoves : Type 0
-PiecesAreMoves = (past : Past) (c : Cmd) → together (pieces past c) ≡ moves past c
+-- The pieces of a command, put together, are its byte writes.
+abbrev pub PiecesAreByteWrites : Type 0
+PiecesAreByteWrites = (past : Past) (c : Cmd) → together (pieces past c) ≡ byte_writes past c
 
 -- Whether two pieces write a common byte.
-abbrev pub write_common : List Move → List Move → Bool
+abbrev pub write_common : List ByteWrite → List ByteWrite → Bool
 write_common p q = share (targets p) (targets q)
 
 -- No two pieces of a command write one byte where it breaks neither OVERLAP nor RANGE; no other rule is needed.

@@ -6,7 +6,7 @@ pub mod Image
 pub mod Objects
 pub mod Order
 pub mod World
-pub mod Moves
+pub mod ByteWrites
 pub mod Ownership
 pub mod Effect
 pub mod Meaning

@@ -11,7 +11,7 @@ use Rattle.vk_model.specs.Basics.{below}
 use Rattle.vk_model.specs.Image.{texel}
 use Rattle.vk_model.specs.Point.{Past}
 use Rattle.vk_model.specs.Objects.{image}
-use Rattle.vk_model.specs.Moves.{buffer_size, fill_size, buffer_texel}
+use Rattle.vk_model.specs.ByteWrites.{buffer_size, fill_size, buffer_texel}
 
 -- Texels of one level and some layers of an image (Vulkan, "Copying Data Between Images").
 pub record Box : Type 0 where

@@ -9,7 +9,7 @@ use Rattle.vk_model.specs.Basics.{below}
 use Rattle.vk_model.specs.Image.{texel, level_width}
 use Rattle.vk_model.specs.Point.{Past}
 use Rattle.vk_model.specs.Objects.{image}
-use Rattle.vk_model.specs.Moves.{Move, moves, clear_move, level_bytes, copy_moves, copy_in_moves, copy_out_moves, copy_image_moves}
+use Rattle.vk_model.specs.ByteWrites.{ByteWrite, byte_writes, clear_write, level_bytes, copy_writes, copy_in_writes, copy_out_writes, copy_image_writes}
 
 -- A list in parts of n items, the last one maybe shorter; the first number is at least how many parts there are.
 abbrev pub parts : {A : Type 0} → ℕ → ℕ → List A → List (List A)
@@ -27,19 +27,19 @@ row_bytes None w = 0
 row_bytes (Some m) w = w * texel m.format
 
 -- The rows of level k of a range that is cleared.
-abbrev pub level_pieces : ℕ → List ℕ → ImageInfo → SubresourceRange → ℕ → List (List Move)
-level_pieces i color m r k = cut (level_width m k * texel m.format) (map (clear_move m color) (level_bytes i m r k))
+abbrev pub level_pieces : ℕ → List ℕ → ImageInfo → SubresourceRange → ℕ → List (List ByteWrite)
+level_pieces i color m r k = cut (level_width m k * texel m.format) (map (clear_write m color) (level_bytes i m r k))
 
 -- The rows of a range that is cleared.
-abbrev pub clear_pieces : ℕ → List ℕ → Option ImageInfo → SubresourceRange → List (List Move)
+abbrev pub clear_pieces : ℕ → List ℕ → Option ImageInfo → SubresourceRange → List (List ByteWrite)
 clear_pieces i color None r = []
 clear_pieces i color (Some m) r = flat_map (λ k. level_pieces i color m r (r.first_level + k)) (below r.levels)
 
--- The pieces of a command: each row of a region or range, or 4,096 bytes at most. In order they are its moves; run in any order they have its effect (profile).
-abbrev pub pieces : Past → Cmd → List (List Move)
-pieces past (cmd.Copy s d gs) = flat_map (λ g. cut 4096 (copy_moves s d g)) gs
-pieces past (cmd.CopyIn b i l gs) = flat_map (λ g. cut (row_bytes (image past i) g.width) (copy_in_moves b i (image past i) g)) gs
-pieces past (cmd.CopyOut i l b gs) = flat_map (λ g. cut (row_bytes (image past i) g.width) (copy_out_moves i b (image past i) g)) gs
-pieces past (cmd.CopyImage s l d m gs) = flat_map (λ g. cut (row_bytes (image past d) g.width) (copy_image_moves s d (image past d) g)) gs
+-- The pieces of a command: each row of a region or range, or 4,096 bytes at most. In order they are its byte writes; run in any order they have its effect (profile).
+abbrev pub pieces : Past → Cmd → List (List ByteWrite)
+pieces past (cmd.Copy s d gs) = flat_map (λ g. cut 4096 (copy_writes s d g)) gs
+pieces past (cmd.CopyIn b i l gs) = flat_map (λ g. cut (row_bytes (image past i) g.width) (copy_in_writes b i (image past i) g)) gs
+pieces past (cmd.CopyOut i l b gs) = flat_map (λ g. cut (row_bytes (image past i) g.width) (copy_out_writes i b (image past i) g)) gs
+pieces past (cmd.CopyImage s l d m gs) = flat_map (λ g. cut (row_bytes (image past d) g.width) (copy_image_writes s d (image past d) g)) gs
 pieces past (cmd.Clear i l color rs) = flat_map (clear_pieces i color (image past i)) rs
-pieces past c = cut 4096 (moves past c)
+pieces past c = cut 4096 (byte_writes past c)

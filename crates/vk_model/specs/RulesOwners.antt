@@ -12,7 +12,7 @@ use Rattle.vk_model.specs.Basics.{holds}
 use Rattle.vk_model.specs.Point.{Past, Point, on_command}
 use Rattle.vk_model.specs.Objects.{image, is_exclusive}
 use Rattle.vk_model.specs.World.{World, Owner, Released}
-use Rattle.vk_model.specs.Moves.{buffer_size}
+use Rattle.vk_model.specs.ByteWrites.{buffer_size}
 use Rattle.vk_model.specs.Ownership.{elements_of, named_by, families_of, family_of, Transfer, Stays, Release, Acquire, Neither, transfer_on, is_release}
 use Rattle.vk_model.specs.Effect.{world, after_element}
 use Rattle.vk_model.specs.Node.{Node, Act, Depends, nodes, next_nodes}

@@ -16,7 +16,7 @@ use Rattle.vk_model.specs.Basics.{holds, some_pair}
 use Rattle.vk_model.specs.Image.{texel, level_width, level_height}
 use Rattle.vk_model.specs.Point.{Past, Point, on_host, on_command}
 use Rattle.vk_model.specs.Objects.{image}
-use Rattle.vk_model.specs.Moves.{buffer_size, buffer_texel}
+use Rattle.vk_model.specs.ByteWrites.{buffer_size, buffer_texel}
 use Rattle.vk_model.specs.Ownership.{elements_of, is_transition}
 use Rattle.vk_model.specs.Parts.{Part, Bytes, Rows, Texels, Subresources, Box, parts_read, parts_written, parts_meet, subresources_meet}
 

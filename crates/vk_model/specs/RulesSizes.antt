@@ -17,7 +17,7 @@ use Rattle.vk_model.specs.Basics.{holds, has_bits}
 use Rattle.vk_model.specs.Image.{most_levels}
 use Rattle.vk_model.specs.Point.{Past, Point, on_host, on_command}
 use Rattle.vk_model.specs.Objects.{resource_in, resource, pool, pool_at, type_at}
-use Rattle.vk_model.specs.Moves.{buffer_size}
+use Rattle.vk_model.specs.ByteWrites.{buffer_size}
 use Rattle.vk_model.specs.Ownership.{elements_of, is_transition}
 
 -- ---- SIZE

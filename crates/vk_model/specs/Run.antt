@@ -7,7 +7,7 @@ use Rattle.vk_model.specs.Basics.{below, among}
 use Rattle.vk_model.specs.Point.{Past}
 use Rattle.vk_model.specs.Objects.{is_cached}
 use Rattle.vk_model.specs.Order.{Front, after_entry}
-use Rattle.vk_model.specs.Moves.{buffer_size}
+use Rattle.vk_model.specs.ByteWrites.{buffer_size}
 use Rattle.vk_model.specs.Node.{Node, Act, Runs, nodes}
 use Rattle.vk_model.specs.Before.{before}
 use Rattle.vk_model.specs.Pieces.{pieces}

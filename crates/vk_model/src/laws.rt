@@ -1,5 +1,5 @@
 //! Laws of the definitions, each the contract of a function that does nothing.
-ghost use Rattle.vk_model.specs.Laws.{NoFaultIsSound, FaultIsFirst, NamesDiffer, TableIsWhole, GrowthKeeps, BeforeIsPath, BeforeIsTransitive, BeforeLeadsOn, PiecesAreMoves, PiecesWriteApart, OrdersAgree};
+ghost use Rattle.vk_model.specs.Laws.{NoFaultIsSound, FaultIsFirst, NamesDiffer, TableIsWhole, GrowthKeeps, BeforeIsPath, BeforeIsTransitive, BeforeLeadsOn, PiecesAreByteWrites, PiecesWriteApart, OrdersAgree};
 
 /// The first fault of a trace is none exactly where no point of it breaks any rule.
 pub fn no_fault_is_sound()
@@ -38,9 +38,9 @@ pub fn before_is_order()
     ensures forward { BeforeLeadsOn }
 {}
 
-/// The pieces of a command, put together, are its moves.
-pub fn pieces_are_moves()
-    ensures { PiecesAreMoves }
+/// The pieces of a command, put together, are its byte writes.
+pub fn pieces_are_byte_writes()
+    ensures { PiecesAreByteWrites }
 {}
 
 /// Where no batch waits for a value above the counter, each is started right after its submit: the order

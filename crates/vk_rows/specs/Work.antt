@@ -16,7 +16,7 @@ use Rattle.vk_model.specs.declared.rule.Rule.TheVariants as rule
 use Rattle.vk_model.specs.Basics.{holds}
 use Rattle.vk_model.specs.Point.{at_of}
 use Rattle.vk_model.specs.Objects.{resource}
-use Rattle.vk_model.specs.Moves.{moves}
+use Rattle.vk_model.specs.ByteWrites.{byte_writes}
 use Rattle.vk_model.specs.Rules.{first_fault}
 use Rattle.vk_model.specs.Image.{image_size, row_pitch}
 use Rattle.vk_model.specs.Order.{plain_order}
@@ -131,7 +131,7 @@ pub record Work : Type 0 where
   pub asked_size : option_map (λ r. r.size) (resource (plain_order large_buffer) 1) ≡ Some 5008
   pub asked_align : option_map (λ r. r.align) (resource (plain_order large_buffer) 1) ≡ Some 16
   -- A fill to the end of 5,000 bytes from byte 2 on writes 4,996.
-  pub moves_to_end : length (moves (plain_order large_buffer) (cmd.Fill 1 2 to_end 7)) ≡ 4996
+  pub moves_to_end : length (byte_writes (plain_order large_buffer) (cmd.Fill 1 2 to_end 7)) ≡ 4996
   -- An order without a memory dependency doesn't mend a write after a write.
   pub no_memory_dependency : first_fault ordered_fills ≡ Some (at.Command 1 0 2, rule.HazardWaw)
   -- A fill of 5,000 bytes has a piece of 4,096 and one of 904.

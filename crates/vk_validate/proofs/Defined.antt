@@ -10,10 +10,10 @@ use Rattle.vk_model.specs.declared.command.Element.{Element}
 use Rattle.vk_model.specs.declared.command.Element.TheVariants as element
 use Rattle.vk_model.specs.Basics.{below, within, byte_of}
 use Rattle.vk_model.specs.World.{Byte, in_buffer, same_byte, World, Family, resource_at}
-use Rattle.vk_model.specs.Moves.{Value, move, fill_size, buffer_size}
+use Rattle.vk_model.specs.ByteWrites.{Value, byte_write, fill_size, buffer_size}
 use Rattle.vk_model.specs.Ownership.{family_of}
 use Rattle.vk_model.specs.Objects.{is_exclusive}
-use Rattle.vk_model.specs.Effect.{world, after_action, after_command, after_element, moved, used, is_other, set_owner, without}
+use Rattle.vk_model.specs.Effect.{world, after_action, after_command, after_element, value_after, used, is_other, set_owner, without}
 use Rattle.vk_model.specs.Point.{Past, Point, Action, Host, Run, host_of}
 use Rattle.vk_model.specs.RulesBytes.{breaks_read_undefined}
 use Rattle.vk_model.specs.Fault.{newest}
@@ -30,7 +30,7 @@ use Rattle.vk_validate.proofs.Acts.{last_queue}
 
 module _ (value : Byte → Option ℕ) (to : ℕ → Byte) (of : ℕ → ℕ) (at : Byte) where
   abbrev written : List ℕ → Option ℕ
-  written ks = moved value (find (λ m. same_byte m.to at) (map (λ k. move (to k) (Value (of k))) ks)) at
+  written ks = value_after value (find (λ m. same_byte m.to at) (map (λ k. byte_write (to k) (Value (of k))) ks)) at
 
   -- a byte that no move is to stays as it is
   missed : (a n : ℕ) → ((k : ℕ) → a ≤ k → k < a + n → same_byte (to k) at ≡ false) → written (range_with_len a n) ≡ value at
@@ -42,7 +42,7 @@ module _ (value : Byte → Option ℕ) (to : ℕ → Byte) (of : ℕ → ℕ) (a
   hit a zero k low high e = absurd (omega arith)
   hit a (suc n) k low high e = go (same_byte (to a) at) refl (eqb a k) refl (λ next. hit (a + 1) n k next (omega arith) e) where
     go : (b : Bool) → same_byte (to a) at ≡ b → (c : Bool) → eqb a k ≡ c → (a + 1 ≤ k → is_none (written (range_with_len (a + 1) n)) ≡ false)
-        → is_none (moved value (cond b (Some (move (to a) (Value (of a)))) (find (λ m. same_byte m.to at) (map (λ k. move (to k) (Value (of k))) (range_with_len (a + 1) n)))) at) ≡ false
+        → is_none (value_after value (cond b (Some (byte_write (to a) (Value (of a)))) (find (λ m. same_byte m.to at) (map (λ k. byte_write (to k) (Value (of k))) (range_with_len (a + 1) n)))) at) ≡ false
     go true s c t rest = refl
     go false s true t rest = absurd (let same : a ≡ k = eqb-true a k t in let bad : true ≡ false = sym e ∙ ap (λ j. same_byte (to j) at) (sym same) ∙ s in cc)
     go false s false t rest = let other : a ≡ k → ⊥ = eqb-false a k t in rest (omega arith)
@@ -103,7 +103,7 @@ known_next past p cleared plain known = let h = by_action p.action cleared.0.sup
         let bad : true ≡ false = rw (both.0, inside, lt-ltb k (2 ^ 64) (low k inside)) at e in cc
 
     by_test : (c k : ℕ) (t : Bool) → (b == c && within o size k && nat_lt k (2 ^ 64)) ≡ t
-        → is_none (moved (used past 0 b (world past)).value (find (λ m. same_byte m.to (in_buffer c k)) (map (λ j. move (in_buffer b (o + j)) (Value (byte_of w (j % 4)))) (below size))) (in_buffer c k)) ≡ is_none (if t then Some (length past) else last_writer past c k)
+        → is_none (value_after (used past 0 b (world past)).value (find (λ m. same_byte m.to (in_buffer c k)) (map (λ j. byte_write (in_buffer b (o + j)) (Value (byte_of w (j % 4)))) (below size))) (in_buffer c k)) ≡ is_none (if t then Some (length past) else last_writer past c k)
     by_test c k false e = ap is_none (missed (used past 0 b (world past)).value (λ j. in_buffer b (o + j)) (λ j. byte_of w (j % 4)) (in_buffer c k) 0 size (λ j from high. beside c k e j (omega arith) (same_byte (in_buffer b (o + j)) (in_buffer c k)) refl) ∙ kept_owners.1 (in_buffer c k)) ∙ known.defined c k
     by_test c k true e =
         let both = and_parts (b == c) (within o size k) (and_parts (b == c && within o size k) (nat_lt k (2 ^ 64)) e).0 in

@@ -7,7 +7,7 @@ use Rattle.vk_model.specs.declared.command.Cmd.TheVariants as cmd
 use Rattle.vk_model.specs.declared.command.Length.{Length}
 use Rattle.vk_model.specs.declared.command.Length.TheVariants as length_of
 use Rattle.vk_model.specs.Point.{Past}
-use Rattle.vk_model.specs.Moves.{buffer_size}
+use Rattle.vk_model.specs.ByteWrites.{buffer_size}
 use Rattle.vk_model.specs.RulesRanges.{command_past, ends_past}
 
 whole_past : (size o : ℕ) → (nat_lt size (o + (size - o) / 4 * 4) || nat_le size o) ≡ nat_le size o

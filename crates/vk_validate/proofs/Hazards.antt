@@ -11,7 +11,7 @@ use Rattle.vk_model.specs.declared.command.Element.TheVariants as element
 use Rattle.vk_model.specs.declared.entry.Entry.{Entry}
 use Rattle.vk_model.specs.World.{Byte, in_buffer}
 use Rattle.vk_model.specs.Basics.{below, byte_of}
-use Rattle.vk_model.specs.Moves.{Move, moves, Value, move, fill_size, buffer_size}
+use Rattle.vk_model.specs.ByteWrites.{ByteWrite, byte_writes, Value, byte_write, fill_size, buffer_size}
 use Rattle.vk_model.specs.Point.{Past, Point, Action, Host, Run, Signal, host_of}
 use Rattle.vk_model.specs.Node.{Node, Act, Hosts, Waits, Signals, Runs, Depends, Barrier, acts, nodes, with_acts, SetOf, AwaitOf}
 use Rattle.vk_model.specs.Edge.{is_host, is_command}
@@ -28,7 +28,7 @@ use Rattle.vk_validate.proofs.Ordered.{host_before}
 
 -- ---- what acts of supported forms read and write
 
-values_only : (b o : ℕ) (f : ℕ → ℕ) (ks : List ℕ) → origins (map (λ k. move (in_buffer b (o + k)) (Value (f k))) ks) ≡ []
+values_only : (b o : ℕ) (f : ℕ → ℕ) (ks : List ℕ) → origins (map (λ k. byte_write (in_buffer b (o + k)) (Value (f k))) ks) ≡ []
 values_only b o f [] = refl
 values_only b o f (k ∷ ks) = values_only b o f ks
 
@@ -53,12 +53,12 @@ reads_none past q (Runs (cmd.Barrier es)) h host = absurd cc
 reads_none past q (Runs (cmd.Set v ms)) h host = absurd cc
 reads_none past q (Runs (cmd.Await v ms)) h host = absurd cc
 
-to-map : {A : Type 0} (f : A → Move) (xs : List A) → targets (map f xs) ≡ map (λ x. (f x).to) xs
+to-map : {A : Type 0} (f : A → ByteWrite) (xs : List A) → targets (map f xs) ≡ map (λ x. (f x).to) xs
 to-map f [] = refl
 to-map f (x ∷ xs) = ap (λ (bs : List Byte). (f x).to ∷ bs) (to-map f xs)
 
 -- a fill writes the bytes of its range
-pub fill-targets : (past : Past) (b o : ℕ) (n : Length) (w : ℕ) → targets (moves past (cmd.Fill b o n w)) ≡ bytes_of b o (fill_size (buffer_size past b) o n)
+pub fill-targets : (past : Past) (b o : ℕ) (n : Length) (w : ℕ) → targets (byte_writes past (cmd.Fill b o n w)) ≡ bytes_of b o (fill_size (buffer_size past b) o n)
 fill-targets past b o n w = to-map _ (below (fill_size (buffer_size past b) o n))
 
 host_writes_none : (x : Entry) → is_supported_entry x ≡ true → host_writes x ≡ []

@@ -15,7 +15,7 @@ use Rattle.vk_model.specs.declared.rule.Rule.TheVariants as rule
 use Rattle.vk_model.specs.Basics.{holds, within, round_up}
 use Rattle.vk_model.specs.Point.{Past, Point, Action, Run, host_of, command_of, entries}
 use Rattle.vk_model.specs.Objects.{made, made_by, buffer, buffer_in}
-use Rattle.vk_model.specs.Moves.{buffer_size, fill_size}
+use Rattle.vk_model.specs.ByteWrites.{buffer_size, fill_size}
 use Rattle.vk_model.specs.Rules.{rules}
 use Rattle.vk_model.specs.RulesIds.{breaks_new_id}
 use Rattle.vk_model.specs.RulesRanges.{breaks_range, host_past, command_past, ends_past}

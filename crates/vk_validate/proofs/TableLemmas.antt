@@ -10,7 +10,7 @@ use Rattle.vk_model.specs.Point as spec
 use Rattle.vk_model.specs.Objects.{initial}
 use Rattle.vk_model.specs.Order.{counter, signaled, signal_of}
 use Rattle.vk_model.specs.Basics.{within}
-use Rattle.vk_model.specs.Moves.{fill_size, buffer_size}
+use Rattle.vk_model.specs.ByteWrites.{fill_size, buffer_size}
 use Rattle.vk_validate.specs.declared.steps.Step.{Step}
 use Rattle.vk_validate.specs.PointViews.{past, past_of, point_of}
 use Rattle.vk_validate.specs.Tabled.{writes_byte, last_writer, WritersAre}

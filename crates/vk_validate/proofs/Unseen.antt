@@ -11,7 +11,7 @@ use Rattle.vk_model.specs.declared.entry.Entry.{Entry}
 use Rattle.vk_model.specs.declared.entry.Entry.TheVariants as entry
 use Rattle.vk_model.specs.Basics.{holds, below}
 use Rattle.vk_model.specs.World.{Byte, in_buffer, resource_at}
-use Rattle.vk_model.specs.Moves.{buffer_size, fill_size}
+use Rattle.vk_model.specs.ByteWrites.{buffer_size, fill_size}
 use Rattle.vk_model.specs.Point.{Past, Point, Action, Host, Run, Signal, host_of}
 use Rattle.vk_model.specs.Objects.{is_cached}
 use Rattle.vk_model.specs.Node.{Node, Hosts, Runs, acts, nodes}

@@ -3,7 +3,7 @@ use Rattle.std.specs.Prelude.{◌≡◌, ◌<◌, ◌+◌, ◌-◌, ◌^◌, min
 use Rattle.vk_model.specs.declared.command.Cmd.TheVariants as cmd
 use Rattle.vk_model.specs.declared.command.Length.{Length}
 use Rattle.vk_model.specs.declared.entry.Entry.{Entry}
-use Rattle.vk_model.specs.Moves.{buffer_size, fill_size}
+use Rattle.vk_model.specs.ByteWrites.{buffer_size, fill_size}
 use Rattle.vk_model.specs.Point.{Past, Action, Host, Run, Signal}
 use Rattle.vk_model.specs.Objects.{made_by}
 use Rattle.vk_model.specs.Order.{signal_of}

@@ -12,7 +12,7 @@ use Rattle.vk_model.specs.Order.{signaled}
 use Rattle.vk_model.specs.RulesMapping.{maps}
 use Rattle.vk_model.specs.declared.command.Cmd.{Cmd}
 use Rattle.vk_model.specs.declared.command.Cmd.TheVariants as cmd
-use Rattle.vk_model.specs.Moves.{buffer_size, fill_size}
+use Rattle.vk_model.specs.ByteWrites.{buffer_size, fill_size}
 use Rattle.vk_validate.specs.declared.writers.LastWriters.{LastWriters}
 use Rattle.vk_validate.specs.Writers.{WasLast}
 use Rattle.vk_validate.specs.OrderState.{Signaled, least_signal, order_state}

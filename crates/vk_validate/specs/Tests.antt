@@ -11,7 +11,7 @@ use Rattle.vk_model.specs.Basics.{holds, has_bits, below}
 use Rattle.vk_model.specs.Point.{Past, Action, Host, Wait, Run, Signal}
 use Rattle.vk_model.specs.Objects.{buffer, initial}
 use Rattle.vk_model.specs.RulesSizes.{is_outside}
-use Rattle.vk_model.specs.Moves.{buffer_size, fill_size}
+use Rattle.vk_model.specs.ByteWrites.{buffer_size, fill_size}
 use Rattle.vk_validate.specs.OrderState.{order_state}
 use Rattle.vk_validate.specs.Tabled.{was_mapped, last_writer}
 

@@ -6,7 +6,7 @@ ghost use Rattle.std.specs.BTreeMap.{get};
 ghost use Rattle.vk_model.specs.Point.{Past, Host, Run};
 ghost use Rattle.vk_model.specs.Objects.{made, buffer, initial};
 ghost use Rattle.vk_model.specs.Order.{counter, signaled};
-ghost use Rattle.vk_model.specs.Moves.{buffer_size, fill_size};
+ghost use Rattle.vk_model.specs.ByteWrites.{buffer_size, fill_size};
 ghost use Rattle.vk_validate.specs.Supported.{is_supported_action, is_supported_entry, is_supported_command};
 ghost use Rattle.vk_validate.specs.PointViews.{action_of, point_of, past};
 ghost use Rattle.vk_validate.specs.Tabled.{was_mapped, last_writer};

@@ -8,7 +8,7 @@ use Rattle.vk_laws.proofs.tasks.discards_keep_premises.Goals as goal
 pub returns : goal.returns
 returns c =
     let given : (t : List Entry) → first_fault t ≡ None → Given t = λ t none. record {
-      pieces_together = c.pieces_are_moves.ensures;
+      pieces_together = c.pieces_are_byte_writes.ensures;
       apart = c.pieces_write_apart.ensures;
       paths = c.before_is_path.ensures;
       joins = c.before_is_order.ensures.transitive;

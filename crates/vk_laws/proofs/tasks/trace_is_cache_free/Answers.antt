@@ -3,7 +3,7 @@ use Rattle.vk_laws.proofs.tasks.trace_is_cache_free.Goals as goal
 
 pub returns : goal.returns
 returns c = λ t none. discards_cache_free t (record {
-  pieces_together = c.pieces_are_moves.ensures;
+  pieces_together = c.pieces_are_byte_writes.ensures;
   apart = c.pieces_write_apart.ensures;
   paths = c.before_is_path.ensures;
   joins = c.before_is_order.ensures.transitive;

@@ -2,4 +2,4 @@ use Rattle.vk_laws.proofs.HazardFree.{hazard_free}
 use Rattle.vk_laws.proofs.tasks.trace_is_hazard_free.Goals as goal
 
 pub returns : goal.returns
-returns c = λ t none. hazard_free c.pieces_are_moves.ensures c.pieces_write_apart.ensures t ((c.no_fault_is_sound.ensures t).0 none) c.accesses_in_order.ensures none
+returns c = λ t none. hazard_free c.pieces_are_byte_writes.ensures c.pieces_write_apart.ensures t ((c.no_fault_is_sound.ensures t).0 none) c.accesses_in_order.ensures none

@@ -2,4 +2,4 @@ use Rattle.vk_laws.proofs.TaskAccesses.{settled}
 use Rattle.vk_laws.proofs.tasks.trace_is_settled.Goals as goal
 
 pub returns : goal.returns
-returns c = λ t done next none ok may. settled c.pieces_are_moves.ensures c.accesses_in_order.ensures t none done next ok may
+returns c = λ t done next none ok may. settled c.pieces_are_byte_writes.ensures c.accesses_in_order.ensures t none done next ok may

@@ -15,8 +15,8 @@ returns c = record {
       let all = plain_order t in
       let d = c.defined_runs_are_allowed.ensures t part_count steps e run none in
       let settled = c.trace_is_settled.ensures t d.0 next none d.1.allowed (d.1.next next may) in (
-        λ lt meet. let real = first_real all c.pieces_are_moves.ensures other next b meet in (d.1.happened other real.0 real.1).0 (settled.earlier other b lt meet),
-        λ lt meet. let real = second_real all c.pieces_are_moves.ensures next other b meet in false_from_ne_true (has_happened all e other) (λ h. settled.later other b lt meet ((d.1.happened other real.0 real.1).1 h)),
+        λ lt meet. let real = first_real all c.pieces_are_byte_writes.ensures other next b meet in (d.1.happened other real.0 real.1).0 (settled.earlier other b lt meet),
+        λ lt meet. let real = second_real all c.pieces_are_byte_writes.ensures next other b meet in false_from_ne_true (has_happened all e other) (λ h. settled.later other b lt meet ((d.1.happened other real.0 real.1).1 h)),
       );
   fresh = λ t part_count steps e run first next b v none may reads is.
       let all = plain_order t in

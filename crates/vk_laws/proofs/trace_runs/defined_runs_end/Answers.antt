@@ -26,9 +26,9 @@ returns c = record {
       let d = c.defined_runs_are_allowed.ensures t part_count steps e run none in
       let ends = ended c.before_is_path.ensures c.before_is_order.ensures.transitive c.before_is_order.ensures.forward c.growth_keeps.ensures c.orders_agree.ensures t ((c.no_fault_is_sound.ensures t).0 none) part_count steps e run over in
       let settled : Settled (accesses_of all) d.0 b (length (nodes all)) = record {
-        earlier = λ u lt w. let real = writer_real all c.pieces_are_moves.ensures u b w in (d.1.happened u real.0 real.1).1 (ends.1 u real.0 real.1);
+        earlier = λ u lt w. let real = writer_real all c.pieces_are_byte_writes.ensures u b w in (d.1.happened u real.0 real.1).1 (ends.1 u real.0 real.1);
         later = λ u le w h.
-            let real = writer_real all c.pieces_are_moves.ensures u b w in
+            let real = writer_real all c.pieces_are_byte_writes.ensures u b w in
             let lt = there_below all u.node (λ a. nat_lt u.part (task_count all a)) real.0 in
             omega (arith, lt, le);
       } in

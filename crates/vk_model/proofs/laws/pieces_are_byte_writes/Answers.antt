@@ -1,5 +1,5 @@
 use Rattle.vk_model.proofs.PieceLaws.{pieces_together}
-use Rattle.vk_model.proofs.laws.pieces_are_moves.Goals as goal
+use Rattle.vk_model.proofs.laws.pieces_are_byte_writes.Goals as goal
 
 pub returns : goal.returns
 returns c = pieces_together

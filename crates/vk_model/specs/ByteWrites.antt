@@ -22,13 +22,13 @@ pub data Source : Type 0 where
   From : Byte → Source
 
 -- One byte that a command writes.
-pub record Move : Type 0 where
+pub record ByteWrite : Type 0 where
   pub to : Byte
   pub source : Source
 
--- The move to a byte from a source.
-abbrev pub move : Byte → Source → Move
-move b s = record { to = b; source = s }
+-- The write of a byte from a source.
+abbrev pub byte_write : Byte → Source → ByteWrite
+byte_write b s = record { to = b; source = s }
 
 -- ---- lengths and addresses
 
@@ -69,47 +69,47 @@ level_bytes i m r level = grid r.layers (level_height m level) (level_width m le
 abbrev pub subresource_bytes : ℕ → ImageInfo → SubresourceRange → List (Byte × ℕ)
 subresource_bytes i m r = flat_map (λ k. level_bytes i m r (r.first_level + k)) (below r.levels)
 
--- ---- the moves of each command
+-- ---- the byte writes of each command
 
 -- Of one region of a buffer copy (Vulkan, "Copying Data Between Buffers").
-abbrev pub copy_moves : ℕ → ℕ → BufferCopy → List Move
-copy_moves s d g = map (λ k. move (in_buffer d (g.destination_offset + k)) (From (in_buffer s (g.source_offset + k)))) (below g.size)
+abbrev pub copy_writes : ℕ → ℕ → BufferCopy → List ByteWrite
+copy_writes s d g = map (λ k. byte_write (in_buffer d (g.destination_offset + k)) (From (in_buffer s (g.source_offset + k)))) (below g.size)
 
 -- Of one byte of a clear.
-abbrev pub clear_move : ImageInfo → List ℕ → Byte × ℕ → Move
-clear_move m color p = move p.0 (Value (color_byte m color p.1))
+abbrev pub clear_write : ImageInfo → List ℕ → Byte × ℕ → ByteWrite
+clear_write m color p = byte_write p.0 (Value (color_byte m color p.1))
 
 -- Of one range of a clear (Vulkan, "Clearing Images Outside a Render Pass Instance").
-abbrev pub clear_moves : ℕ → List ℕ → Option ImageInfo → SubresourceRange → List Move
-clear_moves i color None r = []
-clear_moves i color (Some m) r = map (clear_move m color) (subresource_bytes i m r)
+abbrev pub clear_writes : ℕ → List ℕ → Option ImageInfo → SubresourceRange → List ByteWrite
+clear_writes i color None r = []
+clear_writes i color (Some m) r = map (clear_write m color) (subresource_bytes i m r)
 
 -- Of one region of a copy from a buffer to an image (Vulkan, "Copying Data Between Buffers and Images").
-abbrev pub copy_in_moves : ℕ → ℕ → Option ImageInfo → BufferImageCopy → List Move
-copy_in_moves b i None g = []
-copy_in_moves b i (Some m) g = grid g.layers g.height g.width (texel m.format)
-    (λ z y x k. move (image_texel i g z y x k) (From (in_buffer b (buffer_texel g (texel m.format) z y x k))))
+abbrev pub copy_in_writes : ℕ → ℕ → Option ImageInfo → BufferImageCopy → List ByteWrite
+copy_in_writes b i None g = []
+copy_in_writes b i (Some m) g = grid g.layers g.height g.width (texel m.format)
+    (λ z y x k. byte_write (image_texel i g z y x k) (From (in_buffer b (buffer_texel g (texel m.format) z y x k))))
 
 -- Of one region of a copy from an image to a buffer (Vulkan, "Copying Data Between Buffers and Images").
-abbrev pub copy_out_moves : ℕ → ℕ → Option ImageInfo → BufferImageCopy → List Move
-copy_out_moves i b None g = []
-copy_out_moves i b (Some m) g = grid g.layers g.height g.width (texel m.format)
-    (λ z y x k. move (in_buffer b (buffer_texel g (texel m.format) z y x k)) (From (image_texel i g z y x k)))
+abbrev pub copy_out_writes : ℕ → ℕ → Option ImageInfo → BufferImageCopy → List ByteWrite
+copy_out_writes i b None g = []
+copy_out_writes i b (Some m) g = grid g.layers g.height g.width (texel m.format)
+    (λ z y x k. byte_write (in_buffer b (buffer_texel g (texel m.format) z y x k)) (From (image_texel i g z y x k)))
 
 -- Of one region of an image copy, with the destination's texels (Vulkan, "Copying Data Between Images").
-abbrev pub copy_image_moves : ℕ → ℕ → Option ImageInfo → ImageCopy → List Move
-copy_image_moves s d None g = []
-copy_image_moves s d (Some m) g = grid g.layers g.height g.width (texel m.format)
-    (λ z y x k. move (in_image d g.destination_level (g.destination_first_layer + z) (g.destination_x + x) (g.destination_y + y) k)
+abbrev pub copy_image_writes : ℕ → ℕ → Option ImageInfo → ImageCopy → List ByteWrite
+copy_image_writes s d None g = []
+copy_image_writes s d (Some m) g = grid g.layers g.height g.width (texel m.format)
+    (λ z y x k. byte_write (in_image d g.destination_level (g.destination_first_layer + z) (g.destination_x + x) (g.destination_y + y) k)
     (From (in_image s g.source_level (g.source_first_layer + z) (g.source_x + x) (g.source_y + y) k)))
 
 -- The bytes that a command writes, in order, each with the source of its value; a synchronization command writes none (Vulkan, "Clear Commands" and "Copy Commands").
-abbrev pub moves : Past → Cmd → List Move
-moves past (cmd.Fill b o n w) = map (λ k. move (in_buffer b (o + k)) (Value (byte_of w (k % 4)))) (below (fill_size (buffer_size past b) o n))
-moves past (cmd.Update b o bytes) = map (λ p. move (in_buffer b (o + p.0)) (Value p.1)) (enumerate_from 0 bytes)
-moves past (cmd.Copy s d gs) = flat_map (copy_moves s d) gs
-moves past (cmd.Clear i l color rs) = flat_map (clear_moves i color (image past i)) rs
-moves past (cmd.CopyIn b i l gs) = flat_map (copy_in_moves b i (image past i)) gs
-moves past (cmd.CopyOut i l b gs) = flat_map (copy_out_moves i b (image past i)) gs
-moves past (cmd.CopyImage s l d m gs) = flat_map (copy_image_moves s d (image past d)) gs
-moves past _ = []
+abbrev pub byte_writes : Past → Cmd → List ByteWrite
+byte_writes past (cmd.Fill b o n w) = map (λ k. byte_write (in_buffer b (o + k)) (Value (byte_of w (k % 4)))) (below (fill_size (buffer_size past b) o n))
+byte_writes past (cmd.Update b o bytes) = map (λ p. byte_write (in_buffer b (o + p.0)) (Value p.1)) (enumerate_from 0 bytes)
+byte_writes past (cmd.Copy s d gs) = flat_map (copy_writes s d) gs
+byte_writes past (cmd.Clear i l color rs) = flat_map (clear_writes i color (image past i)) rs
+byte_writes past (cmd.CopyIn b i l gs) = flat_map (copy_in_writes b i (image past i)) gs
+byte_writes past (cmd.CopyOut i l b gs) = flat_map (copy_out_writes i b (image past i)) gs
+byte_writes past (cmd.CopyImage s l d m gs) = flat_map (copy_image_writes s d (image past d)) gs
+byte_writes past _ = []
