@@ -17,7 +17,7 @@ use Rattle.vk_model.specs.Objects.{image}
 use Rattle.vk_model.specs.Image.{texel}
 use Rattle.vk_model.specs.ByteWrites.{Value, From, ByteWrite, byte_write, byte_writes, copy_writes, copy_in_writes, copy_out_writes, copy_image_writes, clear_writes, clear_write, subresource_bytes, image_texel, buffer_texel}
 use Rattle.vk_model.specs.Suballocation.{ranges_meet}
-use Rattle.vk_model.specs.Parts.{Part, Bytes, Texels, parts_meet, source_box, destination_box, parts_read, parts_written}
+use Rattle.vk_model.specs.Areas.{Area, Bytes, Texels, areas_meet, source_box, destination_box, areas_read, areas_written}
 use Rattle.vk_model.specs.Access.{origin}
 use Rattle.vk_model.specs.RulesRanges.{command_overlaps}
 use Rattle.vk_laws.proofs.Members.{member_passes, none_in, mapped_from, flat_from, range_from, place_has, map_has}
@@ -61,8 +61,8 @@ common_meets a n b m v la ha lb hb =
     and_from _ _ (and_from _ _ (and_from _ _ (lt-ltb 0 n (omega arith)) (lt-ltb 0 m (omega arith))) (lt-ltb a (b + m) (omega arith))) (lt-ltb b (a + n) (omega arith))
 
 module _ (past : Past) where
-  overlapping : (c : Cmd) (w r : Part) → Contains (parts_written past c) w → Contains (parts_read past c) r → IsTrue (parts_meet w r) → IsTrue (command_overlaps past c)
-  overlapping c w r cw cr h = or_left _ _ (or_right _ _ (member_passes (λ w. list_any (parts_meet w) (parts_read past c)) (parts_written past c) w cw (member_passes (parts_meet w) (parts_read past c) r cr h)))
+  overlapping : (c : Cmd) (w r : Area) → Contains (areas_written past c) w → Contains (areas_read past c) r → IsTrue (areas_meet w r) → IsTrue (command_overlaps past c)
+  overlapping c w r cw cr h = or_left _ _ (or_right _ _ (member_passes (λ w. list_any (areas_meet w) (areas_read past c)) (areas_written past c) w cw (member_passes (areas_meet w) (areas_read past c) r cr h)))
 
   abbrev Wrote : Cmd → Byte → Type 0
   Wrote c b = (m : ByteWrite) × Contains (byte_writes past c) m × (m.to ≡ b)

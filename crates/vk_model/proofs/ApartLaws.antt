@@ -30,7 +30,7 @@ use Rattle.vk_model.specs.declared.command.ImageCopy.{ImageCopy}
 use Rattle.vk_model.specs.declared.command.SubresourceRange.{SubresourceRange}
 use Rattle.vk_model.specs.declared.resource.ImageInfo.{ImageInfo}
 use Rattle.vk_model.specs.Image.{texel, level_width, level_height}
-use Rattle.vk_model.specs.Parts.{Bytes, Rows, Texels, Subresources, Box, parts_meet, boxes_meet, subresources_meet, rows_meet, row_count, row_start, region_box, destination_box, region_rows, parts_written, parts_read}
+use Rattle.vk_model.specs.Areas.{Bytes, Rows, Texels, Subresources, Box, areas_meet, boxes_meet, subresources_meet, rows_meet, row_count, row_start, region_box, destination_box, region_rows, areas_written, areas_read}
 use Rattle.vk_model.proofs.Pairs.{refuted, or_left, or_right, or_none, none_at, append_pairs, once_of_pairs, Each, Pairs, Less, At, pairs_map, pairs_of, pairs_range, pairs_flat, pairs_of_once, each_of, each_range, each_map, each_flat, grid_apart, in_grid}
 use Rattle.vk_model.proofs.BytePlaces.{and_both, buffer_same, image_same, common_meets, clash, Differ, digit_first, no_less, texels_differ, place_less, less_differs}
 
@@ -77,19 +77,19 @@ IsCopied d g m = (k : ℕ) × (k < g.size) × (m.to ≡ in_buffer d (g.destinati
 copied_each : (s d : ℕ) (g : BufferCopy) → Each (IsCopied d g) (copy_writes s d g)
 copied_each s d g = each_of (IsCopied d g) _ (below g.size) (each_range _ 0 g.size (λ k low high. (k, omega arith, refl)))
 
-copied_apart : (d : ℕ) (g h : BufferCopy) (m n : ByteWrite) → parts_meet (Bytes d g.destination_offset g.size) (Bytes d h.destination_offset h.size) ≡ false → IsCopied d g m → IsCopied d h n → Apart m n
+copied_apart : (d : ℕ) (g h : BufferCopy) (m n : ByteWrite) → areas_meet (Bytes d g.destination_offset g.size) (Bytes d h.destination_offset h.size) ≡ false → IsCopied d g m → IsCopied d h n → Apart m n
 copied_apart d g h m n meet at at' = refuted (same_byte m.to n.to) (λ e.
     let e' : same_byte (in_buffer d (g.destination_offset + at.0)) (in_buffer d (h.destination_offset + at'.0)) ≡ true = rw (at.2, at'.2) at e in
     let same = (buffer_same d (g.destination_offset + at.0) d (h.destination_offset + at'.0) e').1 in
     let together = common_meets g.destination_offset g.size h.destination_offset h.size (g.destination_offset + at.0) (omega arith) (let lt = at.1 in omega arith) (omega arith) (let lt = at'.1 in omega arith) in
     clash _ (and_both (d == d) (ranges_meet g.destination_offset g.size h.destination_offset h.size) (eq-eqb d d refl) together) meet)
 
-copy_apart : (s d : ℕ) (gs : List BufferCopy) → some_pair parts_meet (map (λ g. Bytes d g.destination_offset g.size) gs) ≡ false → Pairs Apart (flat_map (copy_writes s d) gs)
+copy_apart : (s d : ℕ) (gs : List BufferCopy) → some_pair areas_meet (map (λ g. Bytes d g.destination_offset g.size) gs) ≡ false → Pairs Apart (flat_map (copy_writes s d) gs)
 copy_apart s d gs none =
     pairs_flat Apart (copy_writes s d) (IsCopied d) gs
     (each_all _ gs (λ g. pairs_of Apart _ (below g.size) (pairs_range _ 0 g.size (λ i j lt high. less_differs d (g.destination_offset + i) (g.destination_offset + j) (omega arith)))))
     (each_all _ gs (copied_each s d))
-    (pairs_all _ _ gs (pairs_made _ (λ g. Bytes d g.destination_offset g.size) gs (pairs_of_once parts_meet _ none)) (λ g h meet. λ m n at at'. copied_apart d g h m n meet at at'))
+    (pairs_all _ _ gs (pairs_made _ (λ g. Bytes d g.destination_offset g.size) gs (pairs_of_once areas_meet _ none)) (λ g h meet. λ m n at at'. copied_apart d g h m n meet at at'))
 
 -- ---- boxes of texels
 
@@ -103,7 +103,7 @@ pub record InBox (i : ℕ) (k : Box) (b : Byte) : Type 0 where
   pub low_x : x < k.width
   pub is : b ≡ in_image i k.level (k.first_layer + z) (k.x + x) (k.y + y) part
 
-boxes_apart : (i : ℕ) (k l : Box) (b c : Byte) → parts_meet (Texels i k) (Texels i l) ≡ false → InBox i k b → InBox i l c → Differ b c
+boxes_apart : (i : ℕ) (k l : Box) (b c : Byte) → areas_meet (Texels i k) (Texels i l) ≡ false → InBox i k b → InBox i l c → Differ b c
 boxes_apart i k l b c meet at at' = refuted (same_byte b c) (λ e.
     let e' : same_byte (in_image i k.level (k.first_layer + at.z) (k.x + at.x) (k.y + at.y) at.part) (in_image i l.level (l.first_layer + at'.z) (l.x + at'.x) (l.y + at'.y) at'.part) ≡ true = rw (at.is, at'.is) at e in
     let s = image_same i k.level (k.first_layer + at.z) (k.x + at.x) (k.y + at.y) at.part i l.level (l.first_layer + at'.z) (l.x + at'.x) (l.y + at'.y) at'.part e' in
@@ -127,10 +127,10 @@ module _ (i : ℕ) (k : Box) (t : ℕ) (source : ℕ → ℕ → ℕ → ℕ →
 
 -- regions whose boxes don't meet
 regions_apart : {A : Type 0} (i : ℕ) (box : A → Box) (f : A → List ByteWrite) (gs : List A) → ((g : A) → Pairs Apart (f g)) → ((g : A) → Each (λ m. InBox i (box g) m.to) (f g))
-    → some_pair parts_meet (map (λ g. Texels i (box g)) gs) ≡ false → Pairs Apart (flat_map f gs)
+    → some_pair areas_meet (map (λ g. Texels i (box g)) gs) ≡ false → Pairs Apart (flat_map f gs)
 regions_apart i box f gs own known none =
     pairs_flat Apart f (λ g m. InBox i (box g) m.to) gs (each_all _ gs own) (each_all _ gs known)
-    (pairs_all _ _ gs (pairs_made _ (λ g. Texels i (box g)) gs (pairs_of_once parts_meet _ none)) (λ g h meet. λ m n at at'. boxes_apart i (box g) (box h) m.to n.to meet at at'))
+    (pairs_all _ _ gs (pairs_made _ (λ g. Texels i (box g)) gs (pairs_of_once areas_meet _ none)) (λ g h meet. λ m n at at'. boxes_apart i (box g) (box h) m.to n.to meet at at'))
 
 copy_in_own : (b i : ℕ) (o : Option ImageInfo) (g : BufferImageCopy) → Pairs Apart (copy_in_writes b i o g)
 copy_in_own b i None g = tt
@@ -209,7 +209,7 @@ clear_each : (i : ℕ) (color : List ℕ) (o : Option ImageInfo) (r : Subresourc
 clear_each i color None r = tt
 clear_each i color (Some m) r = each_of (λ (n : ByteWrite). InRange i r n.to) (clear_write m color) (subresource_bytes i m r) (range_each i m r)
 
-ranges_apart : (i : ℕ) (r s : SubresourceRange) (b c : Byte) → parts_meet (Subresources i r) (Subresources i s) ≡ false → InRange i r b → InRange i s c → Differ b c
+ranges_apart : (i : ℕ) (r s : SubresourceRange) (b c : Byte) → areas_meet (Subresources i r) (Subresources i s) ≡ false → InRange i r b → InRange i s c → Differ b c
 ranges_apart i r s b c meet at at' =
     levels_apart i r s (r.first_level + at.step) (s.first_level + at'.step) b c
     (λ same l a1 a2 b1 b2.
@@ -220,10 +220,10 @@ ranges_apart i r s b c meet at at' =
     clash _ (and_both (i == i) (subresources_meet r s) (eq-eqb i i refl) (and_both _ _ levels layers)) meet)
     at.inside at'.inside
 
-clear_apart : (i : ℕ) (color : List ℕ) (o : Option ImageInfo) (rs : List SubresourceRange) → some_pair parts_meet (map (Subresources i) rs) ≡ false → Pairs Apart (flat_map (clear_writes i color o) rs)
+clear_apart : (i : ℕ) (color : List ℕ) (o : Option ImageInfo) (rs : List SubresourceRange) → some_pair areas_meet (map (Subresources i) rs) ≡ false → Pairs Apart (flat_map (clear_writes i color o) rs)
 clear_apart i color o rs none =
     pairs_flat Apart (clear_writes i color o) (λ r m. InRange i r m.to) rs (each_all _ rs (clear_own i color o)) (each_all _ rs (clear_each i color o))
-    (pairs_all _ _ rs (pairs_made _ (Subresources i) rs (pairs_of_once parts_meet _ none)) (λ r s meet. λ m n at at'. ranges_apart i r s m.to n.to meet at at'))
+    (pairs_all _ _ rs (pairs_made _ (Subresources i) rs (pairs_of_once areas_meet _ none)) (λ r s meet. λ m n at at'. ranges_apart i r s m.to n.to meet at at'))
 
 -- ---- copies from images to buffers
 
@@ -299,7 +299,7 @@ module _ (t : ℕ) (g : BufferImageCopy) (z y x part : ℕ) (low_z : z < g.layer
       let f : (line + 0) * t ≡ line * t = ap (λ (n : ℕ). n * t) (let h : line + 0 ≡ line = omega arith in h) in
       rw row_begins (omega arith)
 
-rows_apart : (b t : ℕ) (g h : BufferImageCopy) (m n : Byte) → parts_meet (Rows b t g) (Rows b t h) ≡ false → InRegion b t g m → InRegion b t h n → Differ m n
+rows_apart : (b t : ℕ) (g h : BufferImageCopy) (m n : Byte) → areas_meet (Rows b t g) (Rows b t h) ≡ false → InRegion b t g m → InRegion b t h n → Differ m n
 rows_apart b t g h m n meet at at' = refuted (same_byte m n) (λ e.
     let e' : same_byte (in_buffer b (buffer_texel g t at.z at.y at.x at.part)) (in_buffer b (buffer_texel h t at'.z at'.y at'.x at'.part)) ≡ true = rw (at.is, at'.is) at e in
     let same = (buffer_same b (buffer_texel g t at.z at.y at.x at.part) b (buffer_texel h t at'.z at'.y at'.x at'.part) e').1 in
@@ -320,23 +320,23 @@ rows_apart b t g h m n meet at at' = refuted (same_byte m n) (λ e.
     off_diagonal true c e f = f
     off_diagonal false c e f = absurd cc
 
-copy_out_apart : (i b : ℕ) (m : ImageInfo) (gs : List BufferImageCopy) → Each IsLong gs → some_pair parts_meet (map (Rows b (texel m.format)) gs) ≡ false → Pairs Apart (flat_map (copy_out_writes i b (Some m)) gs)
+copy_out_apart : (i b : ℕ) (m : ImageInfo) (gs : List BufferImageCopy) → Each IsLong gs → some_pair areas_meet (map (Rows b (texel m.format)) gs) ≡ false → Pairs Apart (flat_map (copy_out_writes i b (Some m)) gs)
 copy_out_apart i b m gs long none =
     pairs_flat Apart (copy_out_writes i b (Some m)) (λ g n. InRegion b (texel m.format) g n.to) gs
     (each_map IsLong _ gs (λ g l. region_own i b m g l) long)
     (each_all _ gs (region_each i b m))
-    (pairs_all _ _ gs (pairs_made _ (Rows b (texel m.format)) gs (pairs_of_once parts_meet _ none)) (λ g h meet. λ x y at at'. rows_apart b (texel m.format) g h x.to y.to meet at at'))
+    (pairs_all _ _ gs (pairs_made _ (Rows b (texel m.format)) gs (pairs_of_once areas_meet _ none)) (λ g h meet. λ x y at at'. rows_apart b (texel m.format) g h x.to y.to meet at at'))
 
 -- ---- commands that break no rule
 
-no_parts : (past : Past) (i b : ℕ) (gs : List BufferImageCopy) → Each IsLong gs → some_pair parts_meet (region_rows past b i gs) ≡ false → Pairs Apart (flat_map (copy_out_writes i b (image past i)) gs)
+no_parts : (past : Past) (i b : ℕ) (gs : List BufferImageCopy) → Each IsLong gs → some_pair areas_meet (region_rows past b i gs) ≡ false → Pairs Apart (flat_map (copy_out_writes i b (image past i)) gs)
 no_parts past i b gs long none = go (image past i) refl none
   where
     nothing : (gs : List BufferImageCopy) → Pairs Apart (flat_map (copy_out_writes i b None) gs)
     nothing [] = tt
     nothing (g ∷ gs) = nothing gs
 
-    go : (o : Option ImageInfo) → image past i ≡ o → some_pair parts_meet (elim o [ None ↦ [] | Some m ↦ map (Rows b (texel m.format)) gs ]) ≡ false → Pairs Apart (flat_map (copy_out_writes i b o) gs)
+    go : (o : Option ImageInfo) → image past i ≡ o → some_pair areas_meet (elim o [ None ↦ [] | Some m ↦ map (Rows b (texel m.format)) gs ]) ≡ false → Pairs Apart (flat_map (copy_out_writes i b o) gs)
     go None is e = nothing gs
     go (Some m) is e = copy_out_apart i b m gs long e
 
@@ -344,7 +344,7 @@ each_long : (gs : List BufferImageCopy) → list_any is_short gs ≡ false → E
 each_long [] e = tt
 each_long (g ∷ gs) e = (is_long g (or_left (is_short g) (list_any is_short gs) e), each_long gs (or_right (is_short g) (list_any is_short gs) e))
 
-pub writes_apart : (past : Past) (c : Cmd) → some_pair parts_meet (parts_written past c) ≡ false → list_any is_short (regions_of c) ≡ false → Pairs Apart (byte_writes past c)
+pub writes_apart : (past : Past) (c : Cmd) → some_pair areas_meet (areas_written past c) ≡ false → list_any is_short (regions_of c) ≡ false → Pairs Apart (byte_writes past c)
 writes_apart past (cmd.Fill b o n w) none short = fill_apart b o (fill_size (buffer_size past b) o n) w
 writes_apart past (cmd.Update b o bytes) none short = update_apart b o bytes
 writes_apart past (cmd.Copy s d gs) none short = copy_apart s d gs none
@@ -382,11 +382,11 @@ pieces_pairs : (ps : List (List ByteWrite)) → Pairs Apart (together ps) → Pa
 pieces_pairs [] e = tt
 pieces_pairs (p ∷ ps) e = let rest = append_pairs Apart p (together ps) e in (one_by_one p ps rest.1, pieces_pairs ps rest.0)
 
-overlap_false : (past : Past) (p : Point) (c : Cmd) → p.action ≡ Run c → breaks rule.Overlap past p ≡ false → some_pair parts_meet (parts_written past c) ≡ false
+overlap_false : (past : Past) (p : Point) (c : Cmd) → p.action ≡ Run c → breaks rule.Overlap past p ≡ false → some_pair areas_meet (areas_written past c) ≡ false
 unfolding breaks
 overlap_false past p c is e =
     let whole : command_overlaps past c ≡ false = rw is at e in
-    or_left _ (list_any (λ w. list_any (parts_meet w) (parts_read past c)) (parts_written past c)) (or_left _ (some_pair transitions_meet (elements_of c)) whole)
+    or_left _ (list_any (λ w. list_any (areas_meet w) (areas_read past c)) (areas_written past c)) (or_left _ (some_pair transitions_meet (elements_of c)) whole)
 
 range_false : (past : Past) (p : Point) (c : Cmd) → p.action ≡ Run c → breaks rule.Range past p ≡ false → list_any is_short (regions_of c) ≡ false
 unfolding breaks

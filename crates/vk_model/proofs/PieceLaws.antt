@@ -16,7 +16,7 @@ use Rattle.vk_model.specs.Image.{texel, level_width}
 use Rattle.vk_model.specs.Point.{Past}
 use Rattle.vk_model.specs.Objects.{image}
 use Rattle.vk_model.specs.ByteWrites.{ByteWrite, byte_writes, copy_writes, copy_in_writes, copy_out_writes, copy_image_writes, clear_write, clear_writes, level_bytes}
-use Rattle.vk_model.specs.Pieces.{parts, cut, row_bytes, level_pieces, clear_pieces, pieces}
+use Rattle.vk_model.specs.Pieces.{chunks, cut, row_bytes, level_pieces, clear_pieces, pieces}
 use Rattle.vk_model.specs.Laws.{together}
 
 together-append : {A : Type 0} (xs ys : List (List A)) → together (xs ++ ys) ≡ together xs ++ together ys
@@ -24,17 +24,17 @@ together-append xs ys = flat_map-append (λ x. x) xs ys
 
 -- ---- a list in parts
 
-parts_together : {A : Type 0} (k n : ℕ) (xs : List A) → length xs ≤ k → 0 < n → together (parts k n xs) ≡ xs
-parts_together zero n [] le pos = refl
-parts_together zero n (x ∷ xs) le pos = absurd (omega arith)
-parts_together (suc k) n [] le pos = refl
-parts_together (suc k) n (x ∷ xs) le pos =
+chunks_together : {A : Type 0} (k n : ℕ) (xs : List A) → length xs ≤ k → 0 < n → together (chunks k n xs) ≡ xs
+chunks_together zero n [] le pos = refl
+chunks_together zero n (x ∷ xs) le pos = absurd (omega arith)
+chunks_together (suc k) n [] le pos = refl
+chunks_together (suc k) n (x ∷ xs) le pos =
     let shorter : length (drop n (x ∷ xs)) ≤ k = omega (arith, length-drop n (x ∷ xs)) in
-    ap (λ ys. take n (x ∷ xs) ++ ys) (parts_together k n (drop n (x ∷ xs)) shorter pos) ∙ take-append-drop n (x ∷ xs)
+    ap (λ ys. take n (x ∷ xs) ++ ys) (chunks_together k n (drop n (x ∷ xs)) shorter pos) ∙ take-append-drop n (x ∷ xs)
 
 -- with no size for the parts there has to be nothing
 cut_together : {A : Type 0} (n : ℕ) (xs : List A) → (0 < n) ⊎ (xs ≡ []) → together (cut n xs) ≡ xs
-cut_together n xs (inl pos) = parts_together (length xs) n xs (omega arith) pos
+cut_together n xs (inl pos) = chunks_together (length xs) n xs (omega arith) pos
 cut_together n xs (inr none) = rw none refl
 
 -- what holds of each item holds of the whole

@@ -73,7 +73,7 @@ OrdersAgree = (t : List Entry) → NeverAhead t → order t ≡ plain_order t
 
 -- Parts put one after the other.
 abbrev pub together : {A : Type 0} → List (List A) → List A
-together parts = flat_map (λ part. part) parts
+together lists = flat_map (λ list. list) lists
 
 -- The pieces of a command, put together, are its byte writes.
 abbrev pub PiecesAreByteWrites : Type 0

@@ -15,7 +15,7 @@ pub mod Edge
 pub mod Before
 pub mod Seen
 pub mod Access
-pub mod Parts
+pub mod Areas
 pub mod Complete
 pub mod RulesIds
 pub mod RulesSizes

@@ -18,7 +18,7 @@ use Rattle.vk_model.specs.Point.{Past, Point, on_host, on_command}
 use Rattle.vk_model.specs.Objects.{image}
 use Rattle.vk_model.specs.ByteWrites.{buffer_size, buffer_texel}
 use Rattle.vk_model.specs.Ownership.{elements_of, is_transition}
-use Rattle.vk_model.specs.Parts.{Part, Bytes, Rows, Texels, Subresources, Box, parts_read, parts_written, parts_meet, subresources_meet}
+use Rattle.vk_model.specs.Areas.{Area, Bytes, Rows, Texels, Subresources, Box, areas_read, areas_written, areas_meet, subresources_meet}
 
 -- ---- RANGE
 
@@ -45,10 +45,10 @@ abbrev pub region_past : ℕ → ℕ → BufferImageCopy → Bool
 region_past size t g = nat_lt 0 g.layers && nat_lt 0 g.height && nat_lt 0 g.width && nat_lt size (buffer_texel g t (g.layers - 1) (g.height - 1) (g.width - 1) t)
 
 -- Whether a part of a buffer ends past it (Vulkan, "Copy Commands" and "Clear Commands"). Parts of images are the matter of SUBRESOURCE.
-abbrev pub part_past : Past → Part → Bool
-part_past past (Bytes b o n) = nat_lt (buffer_size past b) (o + n)
-part_past past (Rows b t g) = region_past (buffer_size past b) t g
-part_past past _ = false
+abbrev pub area_past : Past → Area → Bool
+area_past past (Bytes b o n) = nat_lt (buffer_size past b) (o + n)
+area_past past (Rows b t g) = region_past (buffer_size past b) t g
+area_past past _ = false
 
 -- Whether a fill to the end begins at the end or past it (Vulkan, "Filling Buffers").
 abbrev pub fills_from_end : Past → Cmd → Bool
@@ -67,7 +67,7 @@ regions_of _ = []
 
 -- Whether a command names bytes past a buffer, or rows that are too short.
 abbrev pub command_past : Past → Cmd → Bool
-command_past past c = list_any (part_past past) (parts_read past c ++ parts_written past c) || fills_from_end past c
+command_past past c = list_any (area_past past) (areas_read past c ++ areas_written past c) || fills_from_end past c
     || list_any (element_past past) (elements_of c) || list_any is_short (regions_of c)
 
 -- RANGE: bytes outside a buffer, or a row length or image height under the region's (Vulkan, valid usage of each call).
@@ -109,12 +109,12 @@ transitions_meet (element.Image e) (element.Image f) = e.image == f.image && is_
 transitions_meet _ _ = false
 
 -- Whether a part that a command writes meets another one that it writes, or one that it reads.
-abbrev pub writes_overlap : List Part → List Part → Bool
-writes_overlap written read = some_pair parts_meet written || list_any (λ w. list_any (parts_meet w) read) written
+abbrev pub writes_overlap : List Area → List Area → Bool
+writes_overlap written read = some_pair areas_meet written || list_any (λ w. list_any (areas_meet w) read) written
 
 -- Whether a command's parts or transitions overlap.
 abbrev pub command_overlaps : Past → Cmd → Bool
-command_overlaps past c = writes_overlap (parts_written past c) (parts_read past c) || some_pair transitions_meet (elements_of c)
+command_overlaps past c = writes_overlap (areas_written past c) (areas_read past c) || some_pair transitions_meet (elements_of c)
 
 -- Whether an end of a pass lists an id twice, in one list or in both (VMA, "Defragmentation").
 abbrev pub lists_twice : Entry → Bool
@@ -152,19 +152,19 @@ bad_box m k = is_beyond m.levels k.level 1 || is_beyond m.layers k.first_layer k
     || is_beyond (level_width m k.level) k.x k.width || is_beyond (level_height m k.level) k.y k.height
 
 -- Whether a part isn't of its image.
-abbrev pub bad_part : Past → Part → Bool
-bad_part past (Texels i k) = holds (image past i) (λ m. bad_box m k)
-bad_part past (Subresources i r) = holds (image past i) (λ m. bad_range m r)
-bad_part past _ = false
+abbrev pub bad_area : Past → Area → Bool
+bad_area past (Texels i k) = holds (image past i) (λ m. bad_box m k)
+bad_area past (Subresources i r) = holds (image past i) (λ m. bad_range m r)
+bad_area past _ = false
 
 -- Whether an image element's range isn't of its image, also where it's no transition (Vulkan, "Image Memory Barriers").
 abbrev pub bad_element : Past → Element → Bool
-bad_element past (element.Image e) = bad_part past (Subresources e.image e.range)
+bad_element past (element.Image e) = bad_area past (Subresources e.image e.range)
 bad_element past _ = false
 
 -- Whether a command or one of its elements names what isn't of an image.
 abbrev pub bad_subresource : Past → Cmd → Bool
-bad_subresource past c = list_any (bad_part past) (parts_read past c ++ parts_written past c) || list_any (bad_element past) (elements_of c)
+bad_subresource past c = list_any (bad_area past) (areas_read past c ++ areas_written past c) || list_any (bad_element past) (elements_of c)
 
 -- SUBRESOURCE: levels, layers or texels outside the image, or a count or extent of 0 (Vulkan, valid usage of each call).
 abbrev pub breaks_subresource : Past → Point → Bool

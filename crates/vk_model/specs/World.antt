@@ -2,10 +2,10 @@
 use Rattle.std.specs.Prelude.{ℕ, Bool, false, ◌&&◌, ◌==◌, Option, None}
 use Rattle.vk_model.specs.declared.command.Element.{Element}
 
--- A byte of a buffer, or byte `part` of a texel of an image. Each resource has bytes of its own, whatever memory it's in (profile).
+-- A byte of a buffer, or byte `texel_byte` of a texel of an image. Each resource has bytes of its own, whatever memory it's in (profile).
 pub data Byte : Type 0 where
   in_buffer : (buffer at : ℕ) → Byte
-  in_image : (image level layer x y part : ℕ) → Byte
+  in_image : (image level layer x y texel_byte : ℕ) → Byte
 
 -- Whether two bytes are the same one.
 abbrev pub same_byte : Byte → Byte → Bool

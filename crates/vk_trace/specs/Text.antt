@@ -18,15 +18,15 @@ stop_line None = []
 stop_line (Some e) = codes "stopped " ++ decimal e ++ codes " NO_ROOM\n"
 
 -- A part of a batch by the entry, the batch, a mark, and its place in the list (profile).
-abbrev pub part_text : ℕ → ℕ → List ℕ → ℕ → List ℕ
-part_text e b mark k = decimal e ++ codes "." ++ decimal b ++ mark ++ decimal k
+abbrev pub batch_item_text : ℕ → ℕ → List ℕ → ℕ → List ℕ
+batch_item_text e b mark k = decimal e ++ codes "." ++ decimal b ++ mark ++ decimal k
 
 -- A point of a trace; all numbers count from 0 (profile).
 abbrev pub at_text : At → List ℕ
 at_text (Entry e) = decimal e
-at_text (Command e b c) = part_text e b (codes ".") c
-at_text (Wait e b k) = part_text e b (codes ".w") k
-at_text (Signal e b k) = part_text e b (codes ".s") k
+at_text (Command e b c) = batch_item_text e b (codes ".") c
+at_text (Wait e b k) = batch_item_text e b (codes ".w") k
+at_text (Signal e b k) = batch_item_text e b (codes ".s") k
 
 -- A line for each read, in order, and the stop; or the first point that breaks a rule, with the rule (profile).
 abbrev pub lines_of : Outcome → List ℕ

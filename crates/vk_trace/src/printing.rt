@@ -1,6 +1,6 @@
 ghost use Rattle.std.specs.Prelude.{◌≡◌, ◌++◌, IfOk, OnOk, string_bytes, decimal};
 ghost use Rattle.std.specs.List.{flat_map};
-ghost use Rattle.vk_trace.specs.Text.{read_line, stop_line, part_text, at_text, lines_of};
+ghost use Rattle.vk_trace.specs.Text.{read_line, stop_line, batch_item_text, at_text, lines_of};
 
 use itoa::Buffer;
 use std::alloc::{AllocError, Global};
@@ -83,8 +83,8 @@ fn push_number(out: &mut String, n: usize) -> Result<(), AllocError>
     out.push_str(buffer.format(n))
 }
 
-fn push_part(out: &mut String, e: usize, b: usize, mark: &str, k: usize) -> Result<(), AllocError>
-    ensures { OnOk result (string_bytes out.new ≡ string_bytes out.old ++ part_text e b mark.now k) }
+fn push_batch_item(out: &mut String, e: usize, b: usize, mark: &str, k: usize) -> Result<(), AllocError>
+    ensures { OnOk result (string_bytes out.new ≡ string_bytes out.old ++ batch_item_text e b mark.now k) }
 {
     push_number(out, e)?;
     out.push_str(".")?;
@@ -98,8 +98,8 @@ fn push_at(out: &mut String, at: At) -> Result<(), AllocError>
 {
     match at {
         At::Entry(e) => push_number(out, e),
-        At::Command(e, b, c) => push_part(out, e, b, ".", c),
-        At::Wait(e, b, k) => push_part(out, e, b, ".w", k),
-        At::Signal(e, b, k) => push_part(out, e, b, ".s", k),
+        At::Command(e, b, c) => push_batch_item(out, e, b, ".", c),
+        At::Wait(e, b, k) => push_batch_item(out, e, b, ".w", k),
+        At::Signal(e, b, k) => push_batch_item(out, e, b, ".s", k),
     }
 }

@@ -11,7 +11,7 @@ use Rattle.vk_model.specs.RulesSizes.{breaks_pool_size}
 use Rattle.vk_model.specs.RulesBinding.{breaks_bind_range, breaks_bind_align, breaks_aliased}
 use Rattle.vk_model.specs.RulesRanges.{breaks_overlap, breaks_format, breaks_subresource, bad_element, transitions_meet}
 use Rattle.vk_model.specs.RulesLayouts.{breaks_layout, breaks_old_layout, bad_transition, bad_old_layout}
-use Rattle.vk_model.specs.RulesOwners.{breaks_owner_whole, transfers_part}
+use Rattle.vk_model.specs.RulesOwners.{breaks_owner_whole, is_partial_transfer}
 use Rattle.vk_model.specs.RulesSync.{breaks_event_state, breaks_event_dependency, breaks_wait_before_signal}
 use Rattle.vk_model.specs.RulesPasses.{breaks_pool_kind, breaks_pass_busy}
 use Rattle.vk_model.specs.RulesBytes.{breaks_in_use}
@@ -85,7 +85,7 @@ module _ (past : Past) (p : Point) (supported : is_supported_action p.action ≡
   pub no_owner_whole : breaks_owner_whole past p ≡ false
   no_owner_whole =
       let P : Action → Type 0 = λ d. breaks_owner_whole past (record p { action = d }) ≡ false in
-      action_cases P (entry_cases (λ x. P (Host x)) (λ i b t is other. refl) (λ b. refl) (λ b o n. refl) (λ i v. refl) (λ ws. refl) (λ bs. refl)) (command_cases (λ c. P (Run c)) (λ b o n w. refl) (λ es all. memory_any (transfers_part past) (λ d. refl) es all)) (λ s. refl) p.action supported
+      action_cases P (entry_cases (λ x. P (Host x)) (λ i b t is other. refl) (λ b. refl) (λ b o n. refl) (λ i v. refl) (λ ws. refl) (λ bs. refl)) (command_cases (λ c. P (Run c)) (λ b o n w. refl) (λ es all. memory_any (is_partial_transfer past) (λ d. refl) es all)) (λ s. refl) p.action supported
 
   pub no_event_state : breaks_event_state past p ≡ false
   no_event_state =

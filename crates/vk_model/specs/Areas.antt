@@ -24,11 +24,11 @@ pub record Box : Type 0 where
   pub height : ℕ
 
 -- A part of a resource: a range of a buffer, the rows of a region in a buffer with texels of some bytes, a box of texels of an image, or whole subresources of an image.
-pub data Part : Type 0 where
-  Bytes : (buffer offset size : ℕ) → Part
-  Rows : (buffer texel_size : ℕ) → BufferImageCopy → Part
-  Texels : (image : ℕ) → Box → Part
-  Subresources : (image : ℕ) → SubresourceRange → Part
+pub data Area : Type 0 where
+  Bytes : (buffer offset size : ℕ) → Area
+  Rows : (buffer texel_size : ℕ) → BufferImageCopy → Area
+  Texels : (image : ℕ) → Box → Area
+  Subresources : (image : ℕ) → SubresourceRange → Area
 
 -- ---- where parts meet
 
@@ -54,12 +54,12 @@ abbrev pub subresources_meet : SubresourceRange → SubresourceRange → Bool
 subresources_meet r s = ranges_meet r.first_level r.levels s.first_level s.levels && ranges_meet r.first_layer r.layers s.first_layer s.layers
 
 -- Whether two parts of one command, of the same form, have a byte in common.
-abbrev pub parts_meet : Part → Part → Bool
-parts_meet (Bytes b o n) (Bytes c p m) = b == c && ranges_meet o n p m
-parts_meet (Rows b t g) (Rows c u h) = b == c && rows_meet t g u h
-parts_meet (Texels i k) (Texels j l) = i == j && boxes_meet k l
-parts_meet (Subresources i r) (Subresources j s) = i == j && subresources_meet r s
-parts_meet _ _ = false
+abbrev pub areas_meet : Area → Area → Bool
+areas_meet (Bytes b o n) (Bytes c p m) = b == c && ranges_meet o n p m
+areas_meet (Rows b t g) (Rows c u h) = b == c && rows_meet t g u h
+areas_meet (Texels i k) (Texels j l) = i == j && boxes_meet k l
+areas_meet (Subresources i r) (Subresources j s) = i == j && subresources_meet r s
+areas_meet _ _ = false
 
 -- ---- the parts of each command
 
@@ -76,24 +76,24 @@ abbrev pub destination_box : ImageCopy → Box
 destination_box g = record { level = g.destination_level; first_layer = g.destination_first_layer; layers = g.layers; x = g.destination_x; y = g.destination_y; width = g.width; height = g.height }
 
 -- The rows of regions in a buffer, by the texels of an image; none where there is no such image.
-abbrev pub region_rows : Past → ℕ → ℕ → List BufferImageCopy → List Part
+abbrev pub region_rows : Past → ℕ → ℕ → List BufferImageCopy → List Area
 region_rows past b i gs = elim (image past i) [ None ↦ [] | Some m ↦ map (Rows b (texel m.format)) gs ]
 
 -- The parts that a command reads (Vulkan, "Copy Commands").
-abbrev pub parts_read : Past → Cmd → List Part
-parts_read past (cmd.Copy s d gs) = map (λ g. Bytes s g.source_offset g.size) gs
-parts_read past (cmd.CopyIn b i l gs) = region_rows past b i gs
-parts_read past (cmd.CopyOut i l b gs) = map (λ g. Texels i (region_box g)) gs
-parts_read past (cmd.CopyImage s l d m gs) = map (λ g. Texels s (source_box g)) gs
-parts_read past _ = []
+abbrev pub areas_read : Past → Cmd → List Area
+areas_read past (cmd.Copy s d gs) = map (λ g. Bytes s g.source_offset g.size) gs
+areas_read past (cmd.CopyIn b i l gs) = region_rows past b i gs
+areas_read past (cmd.CopyOut i l b gs) = map (λ g. Texels i (region_box g)) gs
+areas_read past (cmd.CopyImage s l d m gs) = map (λ g. Texels s (source_box g)) gs
+areas_read past _ = []
 
 -- The parts that a command writes (Vulkan, "Clear Commands" and "Copy Commands").
-abbrev pub parts_written : Past → Cmd → List Part
-parts_written past (cmd.Fill b o n w) = Bytes b o (fill_size (buffer_size past b) o n) ∷ []
-parts_written past (cmd.Update b o bytes) = Bytes b o (length bytes) ∷ []
-parts_written past (cmd.Copy s d gs) = map (λ g. Bytes d g.destination_offset g.size) gs
-parts_written past (cmd.Clear i l color rs) = map (Subresources i) rs
-parts_written past (cmd.CopyIn b i l gs) = map (λ g. Texels i (region_box g)) gs
-parts_written past (cmd.CopyOut i l b gs) = region_rows past b i gs
-parts_written past (cmd.CopyImage s l d m gs) = map (λ g. Texels d (destination_box g)) gs
-parts_written past _ = []
+abbrev pub areas_written : Past → Cmd → List Area
+areas_written past (cmd.Fill b o n w) = Bytes b o (fill_size (buffer_size past b) o n) ∷ []
+areas_written past (cmd.Update b o bytes) = Bytes b o (length bytes) ∷ []
+areas_written past (cmd.Copy s d gs) = map (λ g. Bytes d g.destination_offset g.size) gs
+areas_written past (cmd.Clear i l color rs) = map (Subresources i) rs
+areas_written past (cmd.CopyIn b i l gs) = map (λ g. Texels i (region_box g)) gs
+areas_written past (cmd.CopyOut i l b gs) = region_rows past b i gs
+areas_written past (cmd.CopyImage s l d m gs) = map (λ g. Texels d (destination_box g)) gs
+areas_written past _ = []
