@@ -104,7 +104,7 @@ module _ (together : PiecesAreByteWrites) (paths : BeforeIsPath) (joins : Before
   abbrev all : Past
   all = plain_order t
 
-  has_task : (u : Task) (n : Node) → node_at all u.node ≡ Some n → IsTrue (nat_lt u.part (task_count all n.act)) → IsTrue ((accesses_of all).has u)
+  has_task : (u : Task) (n : Node) → node_at all u.node ≡ Some n → IsTrue (nat_lt u.index (task_count all n.act)) → IsTrue ((accesses_of all).has u)
   has_task u n e h = rw e h
 
   -- two tasks of the host have one agent

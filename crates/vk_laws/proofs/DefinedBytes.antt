@@ -10,7 +10,7 @@ use Rattle.vk_model.specs.Laws.{PiecesAreByteWrites}
 use Rattle.std.specs.Prelude.{nat_lt}
 use Rattle.vk_laws.specs.Machine.{Task, Put, Puts, Unknown, TraceAccesses, Writes, Reads, Conflict, newest, latest}
 use Rattle.vk_laws.specs.Trace.{accesses}
-use Rattle.vk_laws.specs.Tasks.{part_write, task_count, node_at, by_act, accesses_of}
+use Rattle.vk_laws.specs.Tasks.{task_write, task_count, node_at, by_act, accesses_of}
 use Rattle.vk_laws.specs.DefinedRuns.{is_event, stored, bytes_after}
 use Rattle.vk_laws.proofs.TaskAccesses.{Accessor, writer, reader}
 
@@ -25,14 +25,14 @@ module _ (all : Past) where
   silent : (u : Task) (c : Byte) → is_event all u ≡ true → tr.write_of u c ≡ None
   silent u c e = go (node_at all u.node) e
     where
-      by_kind : (a : Act) → not (accesses a) ≡ true → part_write all a u.part c ≡ None
+      by_kind : (a : Act) → not (accesses a) ≡ true → task_write all a u.index c ≡ None
       by_kind (Runs x) e = absurd cc
       by_kind (Hosts x) e = absurd cc
       by_kind (Waits s) e = refl
       by_kind (Signals s) e = refl
       by_kind (Depends r d) e = refl
 
-      go : (o : Option Node) → holds o (λ n. not (accesses n.act)) ≡ true → by_act None (λ a. part_write all a u.part c) o ≡ None
+      go : (o : Option Node) → holds o (λ n. not (accesses n.act)) ≡ true → by_act None (λ a. task_write all a u.index c) o ≡ None
       go None e = refl
       go (Some n) e = by_kind n.act e
 
@@ -66,7 +66,7 @@ module _ (all : Past) where
 
     real_of : {P : Node → Type 0} (u : Task) → Accessor and_from all u P → Real u
     real_of u a = (
-      subst (λ (o : Option Node). IsTrue (by_act false (λ a. nat_lt u.part (task_count all a)) o)) (sym a.at) a.there,
+      subst (λ (o : Option Node). IsTrue (by_act false (λ a. nat_lt u.index (task_count all a)) o)) (sym a.at) a.there,
       ap (λ (o : Option Node). holds o (λ n. not (accesses n.act))) a.at ∙ ap not a.is_access,
     )
 

@@ -114,25 +114,25 @@ module _ (paths : BeforeIsPath) (joins : BeforeIsTransitive) (leads : BeforeLead
 
   -- a piece or a host entry
   data Kind (v : Task) : Type 0 where
-    piece : (n : Node) (c : Cmd) → node_at all v.node ≡ Some n → n.act ≡ Runs c → v.part < length (pieces all c) → Kind v
-    hosts : (n : Node) (x : Entry) → node_at all v.node ≡ Some n → n.act ≡ Hosts x → v.part ≡ 0 → Kind v
+    piece : (n : Node) (c : Cmd) → node_at all v.node ≡ Some n → n.act ≡ Runs c → v.index < length (pieces all c) → Kind v
+    hosts : (n : Node) (x : Entry) → node_at all v.node ≡ Some n → n.act ≡ Hosts x → v.index ≡ 0 → Kind v
 
   kind : (v : Task) → IsTrue (tr.has v) → is_event all v ≡ false → Kind v
   kind v there plain = go (node_at all v.node) refl there plain
     where
-      by_kind : (n : Node) → node_at all v.node ≡ Some n → (a : Act) → n.act ≡ a → IsTrue (nat_lt v.part (task_count all a)) → not (accesses a) ≡ false → Kind v
-      by_kind n at (Runs c) e there plain = piece n c at e (ltb-true v.part (length (pieces all c)) there)
-      by_kind n at (Hosts x) e there plain = hosts n x at e (let lt = ltb-true v.part 1 there in omega (arith, lt))
+      by_kind : (n : Node) → node_at all v.node ≡ Some n → (a : Act) → n.act ≡ a → IsTrue (nat_lt v.index (task_count all a)) → not (accesses a) ≡ false → Kind v
+      by_kind n at (Runs c) e there plain = piece n c at e (ltb-true v.index (length (pieces all c)) there)
+      by_kind n at (Hosts x) e there plain = hosts n x at e (let lt = ltb-true v.index 1 there in omega (arith, lt))
       by_kind n at (Waits s) e there plain = absurd cc
       by_kind n at (Signals s) e there plain = absurd cc
       by_kind n at (Depends r d) e there plain = absurd cc
 
-      go : (o : Option Node) → node_at all v.node ≡ o → IsTrue (by_act false (λ a. nat_lt v.part (task_count all a)) o) → holds o (λ n. not (accesses n.act)) ≡ false → Kind v
+      go : (o : Option Node) → node_at all v.node ≡ o → IsTrue (by_act false (λ a. nat_lt v.index (task_count all a)) o) → holds o (λ n. not (accesses n.act)) ≡ false → Kind v
       go None at there plain = absurd cc
       go (Some n) at there plain = by_kind n at n.act refl there plain
 
-  has_task : (v : Task) (n : Node) → node_at all v.node ≡ Some n → IsTrue (nat_lt v.part (task_count all n.act)) → IsTrue (tr.has v)
-  has_task v n at h = subst (λ (o : Option Node). IsTrue (by_act false (λ a. nat_lt v.part (task_count all a)) o)) (sym at) h
+  has_task : (v : Task) (n : Node) → node_at all v.node ≡ Some n → IsTrue (nat_lt v.index (task_count all n.act)) → IsTrue (tr.has v)
+  has_task v n at h = subst (λ (o : Option Node). IsTrue (by_act false (λ a. nat_lt v.index (task_count all a)) o)) (sym at) h
 
   plain_is : (v : Task) (n : Node) → node_at all v.node ≡ Some n → (a : Act) → n.act ≡ a → not (accesses a) ≡ false → is_event all v ≡ false
   plain_is v n at a act e = ap (λ (o : Option Node). holds o (λ n. not (accesses n.act))) at ∙ ap (λ (a : Act). not (accesses a)) act ∙ e
@@ -213,7 +213,7 @@ module _ (paths : BeforeIsPath) (joins : BeforeIsTransitive) (leads : BeforeLead
     grows : Front s
     grows = later orders keeps t sound s i.placed
 
-    piece_in : (v : Task) (m : Node) (c : Cmd) → IsTrue (tr.has v) → node_at all v.node ≡ Some m → m.act ≡ Runs c → IsTrue (is_done s.done (v.node, v.part)) → IsIn v i.tasks
+    piece_in : (v : Task) (m : Node) (c : Cmd) → IsTrue (tr.has v) → node_at all v.node ≡ Some m → m.act ≡ Runs c → IsTrue (is_done s.done (v.node, v.index)) → IsIn v i.tasks
     piece_in v m c there at act h = (i.happened v there (plain_is v m at (Runs c) act refl)).1 (turned (sym (happened_is s v m at (Runs c) act)) h)
 
     entry_in : (v : Task) (m : Node) (x : Entry) → IsTrue (tr.has v) → node_at all v.node ≡ Some m → m.act ≡ Hosts x → Contains (nodes s.front.past) m → IsIn v i.tasks
@@ -222,7 +222,7 @@ module _ (paths : BeforeIsPath) (joins : BeforeIsTransitive) (leads : BeforeLead
 
     -- where the pieces before a next task are done, it is due
     due : (u : Task) (n : Node) → node_at all u.node ≡ Some n → n.number ≤ length (nodes s.front.past)
-        → ((v : Task) (m : Node) (c : Cmd) → IsTrue (tr.has v) → node_at all v.node ≡ Some m → m.act ≡ Runs c → v.part < length (pieces all c) → IsTrue (before (nodes all) m n) → IsIn v i.tasks)
+        → ((v : Task) (m : Node) (c : Cmd) → IsTrue (tr.has v) → node_at all v.node ≡ Some m → m.act ≡ Runs c → v.index < length (pieces all c) → IsTrue (before (nodes all) m n) → IsIn v i.tasks)
         → IsDue tr (is_event all) i.tasks u
     due u n at_u le each v plain p = go (kind v p.0 plain)
       where
@@ -234,10 +234,10 @@ module _ (paths : BeforeIsPath) (joins : BeforeIsTransitive) (leads : BeforeLead
 
     -- pieces that have run before a node that is free
     free_in : (P : Point → Type 0) (past : Past) → Grows P past all → (n : Node) → Contains (nodes past) n → IsTrue (is_free past s.done n)
-        → (v : Task) (m : Node) (c : Cmd) → IsTrue (tr.has v) → node_at all v.node ≡ Some m → m.act ≡ Runs c → v.part < length (pieces all c) → IsTrue (before (nodes all) m n) → IsIn v i.tasks
+        → (v : Task) (m : Node) (c : Cmd) → IsTrue (tr.has v) → node_at all v.node ≡ Some m → m.act ≡ Runs c → v.index < length (pieces all c) → IsTrue (before (nodes all) m n) → IsIn v i.tasks
     free_in P past g n cn free v m c there at act lt b =
         let found = node_of all v.node m at in
-        piece_in v m c there at act (subst (λ (k : ℕ). IsTrue (is_done s.done (k, v.part))) found.1 (free_done P past g s.done n cn free m c v.part found.0 act lt b))
+        piece_in v m c there at act (subst (λ (k : ℕ). IsTrue (is_done s.done (k, v.index))) found.1 (free_done P past g s.done n cn free m c v.index found.0 act lt b))
 
     -- ---- a piece that is offered
 
@@ -247,7 +247,7 @@ module _ (paths : BeforeIsPath) (joins : BeforeIsTransitive) (leads : BeforeLead
       stands : Contains (nodes s.front.past) node
       act : node.act ≡ Runs command
       number : node.number ≡ x.0
-      part : x.1 < length (pieces s.front.past command)
+      index : x.1 < length (pieces s.front.past command)
       free : IsTrue (is_free s.front.past s.done node)
       fresh : IsTrue (not (is_done s.done x))
 
@@ -270,7 +270,7 @@ module _ (paths : BeforeIsPath) (joins : BeforeIsTransitive) (leads : BeforeLead
               stands = cn;
               act = act;
               number = ap (λ (z : Name). z.0) whole;
-              part = omega (arith, is_part, within);
+              index = omega (arith, is_part, within);
               free = free;
               fresh = subst (λ (z : Name). IsTrue (not (is_done s.done z))) (sym same) fresh;
             }
@@ -291,7 +291,7 @@ module _ (paths : BeforeIsPath) (joins : BeforeIsTransitive) (leads : BeforeLead
     piece_may x o =
         let at = offered_at x o in
         let count : length (pieces all o.command) ≡ length (pieces s.front.past o.command) = ap (λ (ps : List (List ByteWrite)). length ps) (pieces_same _ s.front.past grows o.node o.command o.stands o.act) in
-        let within = o.part in
+        let within = o.index in
         let there : IsTrue (tr.has (piece_task x)) = has_task (piece_task x) o.node at
         (subst (λ (a : Act). IsTrue (nat_lt x.1 (task_count all a))) (sym o.act) (lt-ltb x.1 (length (pieces all o.command)) (omega (arith, count, within)))) in
         let small = number_below (nodes s.front.past) (numbered s.front.past) o.node o.stands in
@@ -324,7 +324,7 @@ module _ (paths : BeforeIsPath) (joins : BeforeIsTransitive) (leads : BeforeLead
       here_there = has_task (entry_task s) here here_at refl
 
       -- a piece before it by a host entry was done before that one
-      by_path : is_host_wait x ≡ false → (v : Task) (m : Node) (c : Cmd) → IsTrue (tr.has v) → node_at all v.node ≡ Some m → m.act ≡ Runs c → v.part < length (pieces all c) → IsTrue (before (nodes all) m here) → IsIn v i.tasks
+      by_path : is_host_wait x ≡ false → (v : Task) (m : Node) (c : Cmd) → IsTrue (tr.has v) → node_at all v.node ≡ Some m → m.act ≡ Runs c → v.index < length (pieces all c) → IsTrue (before (nodes all) m here) → IsIn v i.tasks
       by_path plain v m c there at act lt b = go m here (node_of all v.node m at).0 at act refl ((paths all m here (node_of all v.node m at).0 here_in_all).0 b)
         where
           through : (m k n : Node) → Contains (nodes all) m → node_at all v.node ≡ Some m → n ≡ here → Path (nodes all) m k → Contains (nodes all) n → IsTrue (edge (nodes all) k n) → IsIn v i.tasks
@@ -339,7 +339,7 @@ module _ (paths : BeforeIsPath) (joins : BeforeIsTransitive) (leads : BeforeLead
             where
               by_host_act : (k : Node) → Contains (nodes all) k → Contains (nodes s.front.past) k → IsTrue (before (nodes all) m k) → (a : Act) → k.act ≡ a → IsTrue (is_host a) → IsIn v i.tasks
               by_host_act k ck old first (Hosts y) act h =
-                  let u : Task = record { node = k.number; part = 0 } in
+                  let u : Task = record { node = k.number; index = 0 } in
                   let at_k = node_at_self paths joins all k ck in
                   let there_k = has_task u k at_k (subst (λ (a : Act). IsTrue (nat_lt 0 (task_count all a))) (sym act) refl) in
                   closed tr i.tasks i.allowed u v (entry_in u k y there_k at_k act old) (there, turned (sym (before_is v u m k at at_k)) first)
@@ -419,7 +419,7 @@ module _ (paths : BeforeIsPath) (joins : BeforeIsTransitive) (leads : BeforeLead
       forward u there plain (inr h) = go (kind u there plain) ((i.happened u there plain).0 h)
         where
           go : Kind u → IsTrue (has_happened all s u) → IsTrue (has_happened all (ran s x) u)
-          go (piece n c at act lt) h = turned (sym (happened_is (ran s x) u n at (Runs c) act)) (or_right (same_name (u.node, u.part) x) (is_done s.done (u.node, u.part)) (turned (happened_is s u n at (Runs c) act) h))
+          go (piece n c at act lt) h = turned (sym (happened_is (ran s x) u n at (Runs c) act)) (or_right (same_name (u.node, u.index) x) (is_done s.done (u.node, u.index)) (turned (happened_is s u n at (Runs c) act) h))
           go (hosts n y at act first) h = turned (sym (happened_is (ran s x) u n at (Hosts y) act)) (turned (happened_is s u n at (Hosts y) act) h)
 
       backward : (u : Task) → IsTrue (tr.has u) → is_event all u ≡ false → IsTrue (has_happened all (ran s x) u) → IsIn u (piece_task x ∷ i.tasks)
@@ -428,9 +428,9 @@ module _ (paths : BeforeIsPath) (joins : BeforeIsTransitive) (leads : BeforeLead
           go : Kind u → IsIn u (piece_task x ∷ i.tasks)
           go (piece n c at act lt) =
               ⊎_elim
-              (λ same. let e = names_same (u.node, u.part) x same in inl (same_task u (piece_task x) (ap (λ (z : Name). z.0) e) (ap (λ (z : Name). z.1) e)))
+              (λ same. let e = names_same (u.node, u.index) x same in inl (same_task u (piece_task x) (ap (λ (z : Name). z.0) e) (ap (λ (z : Name). z.1) e)))
               (λ ran. inr (piece_in s did i u n c there at act ran))
-              (or_cases (same_name (u.node, u.part) x) (is_done s.done (u.node, u.part)) (turned (happened_is (ran s x) u n at (Runs c) act) h))
+              (or_cases (same_name (u.node, u.index) x) (is_done s.done (u.node, u.index)) (turned (happened_is (ran s x) u n at (Runs c) act) h))
           go (hosts n y at act first) = inr ((i.happened u there plain).1 (turned (sym (happened_is s u n at (Hosts y) act)) (turned (happened_is (ran s x) u n at (Hosts y) act) h)))
 
   copy_step : (s : Stage) (did : List Task) (k : ℕ) → AtPoint s did → AtPoint (record s { copied = k ∷ s.copied }) did
@@ -500,7 +500,7 @@ module _ (paths : BeforeIsPath) (joins : BeforeIsTransitive) (leads : BeforeLead
         (first_of (by_host m n) (by_stages m n) (by_signal m n) (by_all_commands m n) (pairs m.act n.act) (by_semaphore (earlier n (nodes all)) m n)
         (or_right (is_host m.act && is_host n.act) (is_submit m.act && m.point.entry == n.point.entry) (and_from (is_submit m.act) (m.point.entry == n.point.entry) is (eq-eqb m.point.entry n.point.entry same)))))
 
-    piece_comes : (u : Task) (n : Node) (c : Cmd) → node_at all u.node ≡ Some n → n.act ≡ Runs c → u.part < length (pieces all c) → MayRun tr i.tasks u → MayCome s u
+    piece_comes : (u : Task) (n : Node) (c : Cmd) → node_at all u.node ≡ Some n → n.act ≡ Runs c → u.index < length (pieces all c) → MayRun tr i.tasks u → MayCome s u
     piece_comes u n c at act lt may =
         let found = node_of all u.node n at in
         let sub = submitted orders keeps t sound n (ap is_host act) found.0 in
@@ -508,13 +508,13 @@ module _ (paths : BeforeIsPath) (joins : BeforeIsTransitive) (leads : BeforeLead
         let old = applied_node n found.0 (by_submit m sub.stands sub.is_it (submit_first m n sub.stands found.0 sub.is_it sub.entry sub.earlier) sub.entry m.act refl sub.is_it) in
         let count : length (pieces all c) ≡ length (pieces s.front.past c) = ap (λ (ps : List (List ByteWrite)). length ps) (pieces_same _ s.front.past (grows s did i) n c old act) in
         let free = free_before _ s.front.past (grows s did i) u n at old may in
-        let itself : u ≡ piece_task (n.number, u.part) = same_task u (piece_task (n.number, u.part)) (sym found.1) refl in
+        let itself : u ≡ piece_task (n.number, u.index) = same_task u (piece_task (n.number, u.index)) (sym found.1) refl in
         subst (λ (v : Task). MayCome s v) (sym itself)
-        (Offers (n.number, u.part) (is_offered n c u.part old act (omega (arith, lt, count)) free (false_from_ne_true (is_done s.done (n.number, u.part)) (λ h. may.fresh (piece_in s did i u n c may.there at act (subst (λ (k : ℕ). IsTrue (is_done s.done (k, u.part))) found.1 h))))))
+        (Offers (n.number, u.index) (is_offered n c u.index old act (omega (arith, lt, count)) free (false_from_ne_true (is_done s.done (n.number, u.index)) (λ h. may.fresh (piece_in s did i u n c may.there at act (subst (λ (k : ℕ). IsTrue (is_done s.done (k, u.index))) found.1 h))))))
       where
         by_submit : (m : Node) → Contains (nodes all) m → IsTrue (is_submit m.act) → IsTrue (before (nodes all) m n) → m.point.entry ≡ n.point.entry → (a : Act) → m.act ≡ a → IsTrue (is_submit a) → n.point.entry < s.count
         by_submit m cm is b same (Hosts x) act is_it =
-            let v : Task = record { node = m.number; part = 0 } in
+            let v : Task = record { node = m.number; index = 0 } in
             let at_v = node_at_self paths joins all m cm in
             let there = has_task v m at_v (subst (λ (a : Act). IsTrue (nat_lt 0 (task_count all a))) (sym act) refl) in
             let was = host_was v m x there at_v act (may.after v (there, turned (sym (before_is v u m n at_v at)) b)) in
@@ -524,8 +524,8 @@ module _ (paths : BeforeIsPath) (joins : BeforeIsTransitive) (leads : BeforeLead
         by_submit m cm is b same (Signals x) act is_it = absurd cc
         by_submit m cm is b same (Depends r d) act is_it = absurd cc
 
-    entry_comes : (u : Task) (n : Node) (x : Entry) → node_at all u.node ≡ Some n → n.act ≡ Hosts x → u.part ≡ 0 → MayRun tr i.tasks u → MayCome s u
-    entry_comes u n x at act part may = go s.left refl
+    entry_comes : (u : Task) (n : Node) (x : Entry) → node_at all u.node ≡ Some n → n.act ≡ Hosts x → u.index ≡ 0 → MayRun tr i.tasks u → MayCome s u
+    entry_comes u n x at act index may = go s.left refl
       where
         found : Contains (nodes all) n × (n.number ≡ u.node)
         found = node_of all u.node n at
@@ -561,7 +561,7 @@ module _ (paths : BeforeIsPath) (joins : BeforeIsTransitive) (leads : BeforeLead
         go [] e = absurd (not_old (subst (λ (l : Past). Contains (nodes l) n) (sym (whole_past orders keeps t sound s i.placed e)) found.0))
         go (y ∷ ys) e =
             let number : n.number ≡ length (nodes s.front.past) = ap (λ (k : Node). k.number) (its_own y ys e) in
-            let itself : u ≡ entry_task s = same_task u (entry_task s) (sym found.1 ∙ number) part in
+            let itself : u ≡ entry_task s = same_task u (entry_task s) (sym found.1 ∙ number) index in
             subst (λ (v : Task). MayCome s v) (sym itself) (Enters y ys e (goes y ys e (is_host_wait y) refl))
 
     only_next : (u : Task) → is_event all u ≡ false → MayRun tr i.tasks u → MayCome s u
@@ -676,8 +676,8 @@ module _ (paths : BeforeIsPath) (joins : BeforeIsTransitive) (leads : BeforeLead
         go (piece n c at act lt) =
             let cn = in_past n at in
             let count : length (pieces past c) ≡ length (pieces all c) = ap (λ (l : Past). length (pieces l c)) whole in
-            let ran = all_ran (length (nodes past)) n c u.part cn (number_below (nodes past) (numbered past) n cn) act (omega (arith, lt, count)) in
-            turned (sym (happened_is s u n at (Runs c) act)) (subst (λ (k : ℕ). IsTrue (is_done s.done (k, u.part))) (node_of all u.node n at).1 ran)
+            let ran = all_ran (length (nodes past)) n c u.index cn (number_below (nodes past) (numbered past) n cn) act (omega (arith, lt, count)) in
+            turned (sym (happened_is s u n at (Runs c) act)) (subst (λ (k : ℕ). IsTrue (is_done s.done (k, u.index))) (node_of all u.node n at).1 ran)
         go (hosts n x at act first) = turned (sym (happened_is s u n at (Hosts x) act)) (lt-ltb n.point.entry s.count (low orders keeps t sound s i.placed n (in_past n at)))
 
   pub ended : (part_count : Past → ℕ) (steps : List Step) (e : Stage) → Allowed part_count (start t) steps e → IsOver e → (e.left ≡ []) × ((u : Task) → IsTrue (tr.has u) → is_event all u ≡ false → IsTrue (has_happened all e u))

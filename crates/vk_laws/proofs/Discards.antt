@@ -20,7 +20,7 @@ use Rattle.vk_model.specs.ByteWrites.{From}
 use Rattle.vk_laws.specs.Machine.{Task, Put, Puts, Unknown, Writes, Reads, Precedes, Conflict, HazardFree, IsModel}
 use Rattle.vk_laws.specs.Caches.{CacheFree, Seen, Available}
 use Rattle.vk_laws.specs.Trace.{accesses}
-use Rattle.vk_laws.specs.Tasks.{part_write, part_read, task_count, node_at, by_act, accesses_of}
+use Rattle.vk_laws.specs.Tasks.{task_write, task_read, task_count, node_at, by_act, accesses_of}
 use Rattle.vk_laws.specs.TraceBytes.{before_node, value_before}
 use Rattle.vk_laws.specs.TraceCaches.{caching_of}
 use Rattle.vk_laws.specs.Discards.{entry_forgets, forgets, or_unknown, with_discards}
@@ -51,29 +51,29 @@ module _ (all : Past) where
     pub at : node_at all u.node ≡ Some node
     pub stands : Contains (nodes all) node
     pub number : node.number ≡ u.node
-    pub only : u.part ≡ 0
+    pub only : u.index ≡ 0
     pub entry : Entry
     pub act : node.act ≡ Hosts entry
     pub lost : IsTrue (entry_forgets (before_node all node.number) entry c)
 
-  forgot_of : (u : Task) (c : Byte) → IsTrue (u.part == 0 && by_act false (λ a. forgets all u.node a c) (node_at all u.node)) → Forgot u c
-  forgot_of u c h = go (node_at all u.node) refl (eqb-true u.part 0 (and_parts _ _ h).0) (and_parts _ _ h).1
+  forgot_of : (u : Task) (c : Byte) → IsTrue (u.index == 0 && by_act false (λ a. forgets all u.node a c) (node_at all u.node)) → Forgot u c
+  forgot_of u c h = go (node_at all u.node) refl (eqb-true u.index 0 (and_parts _ _ h).0) (and_parts _ _ h).1
     where
-      by_entry : (n : Node) → node_at all u.node ≡ Some n → u.part ≡ 0 → (a : Act) → n.act ≡ a → IsTrue (forgets all u.node a c) → Forgot u c
+      by_entry : (n : Node) → node_at all u.node ≡ Some n → u.index ≡ 0 → (a : Act) → n.act ≡ a → IsTrue (forgets all u.node a c) → Forgot u c
       by_entry n e only (Hosts x) f h =
           let k = node_of all u.node n e in
           record { node = n; at = e; stands = k.0; number = k.1; only = only; entry = x; act = f; lost = subst (λ (m : ℕ). IsTrue (entry_forgets (before_node all m) x c)) (sym k.1) h }
       by_entry n e only _ f h = absurd cc
 
-      go : (o : Option Node) → node_at all u.node ≡ o → u.part ≡ 0 → IsTrue (by_act false (λ a. forgets all u.node a c) o) → Forgot u c
+      go : (o : Option Node) → node_at all u.node ≡ o → u.index ≡ 0 → IsTrue (by_act false (λ a. forgets all u.node a c) o) → Forgot u c
       go None e only h = absurd cc
       go (Some n) e only h = by_entry n e only n.act refl h
 
   -- a write of the accesses with discards is one of these, or one of the trace's
   how : (u : Task) (c : Byte) (x : Put) → (with_discards all).write_of u c ≡ Some x → ((x ≡ Unknown) × Forgot u c) ⊎ ((accesses_of all).write_of u c ≡ Some x)
-  how u c x h = go (u.part == 0 && by_act false (λ a. forgets all u.node a c) (node_at all u.node)) refl h
+  how u c x h = go (u.index == 0 && by_act false (λ a. forgets all u.node a c) (node_at all u.node)) refl h
     where
-      go : (b : Bool) → (u.part == 0 && by_act false (λ a. forgets all u.node a c) (node_at all u.node)) ≡ b → or_unknown b ((accesses_of all).write_of u c) ≡ Some x → ((x ≡ Unknown) × Forgot u c) ⊎ ((accesses_of all).write_of u c ≡ Some x)
+      go : (b : Bool) → (u.index == 0 && by_act false (λ a. forgets all u.node a c) (node_at all u.node)) ≡ b → or_unknown b ((accesses_of all).write_of u c) ≡ Some x → ((x ≡ Unknown) × Forgot u c) ⊎ ((accesses_of all).write_of u c ≡ Some x)
       go true e h = inl (let same : Unknown ≡ x = cc in sym same, forgot_of u c e)
       go false e h = inr h
 
@@ -81,7 +81,7 @@ module _ (all : Past) where
   write_kind u c w = ⊎_elim (λ f. inl f.1) (λ b. inr (w.0, b)) (how u c w.0 w.1)
 
   quiet_base : (u : Task) (c : Byte) → (with_discards all).write_of u c ≡ None → (accesses_of all).write_of u c ≡ None
-  quiet_base u c h = go (u.part == 0 && by_act false (λ a. forgets all u.node a c) (node_at all u.node)) h
+  quiet_base u c h = go (u.index == 0 && by_act false (λ a. forgets all u.node a c) (node_at all u.node)) h
     where
       go : (b : Bool) → or_unknown b ((accesses_of all).write_of u c) ≡ None → (accesses_of all).write_of u c ≡ None
       go true h = absurd cc
@@ -100,8 +100,8 @@ module _ (all : Past) where
       let one : f.node ≡ a.0 = let e : Some f.node ≡ Some a.0 = sym f.at ∙ ap (node_at all) same ∙ a.1 in cc in
       let act : a.0.act ≡ Hosts f.entry = ap (λ (n : Node). n.act) (sym one) ∙ f.act in
       let l = forgets_of (before_node all f.node.number) f.entry c f.lost in
-      let r' : IsTrue (part_read all (Hosts (entry.Invalidate l.buffer l.offset l.size)) u.part c) = subst (λ (b : Act). IsTrue (part_read all b u.part c)) (act ∙ ap Hosts l.is) a.2 in
-      not_false (and_parts (u.part == 0) (is_in c (host_reads (entry.Invalidate l.buffer l.offset l.size))) r').1
+      let r' : IsTrue (task_read all (Hosts (entry.Invalidate l.buffer l.offset l.size)) u.index c) = subst (λ (b : Act). IsTrue (task_read all b u.index c)) (act ∙ ap Hosts l.is) a.2 in
+      not_false (and_parts (u.index == 0) (is_in c (host_reads (entry.Invalidate l.buffer l.offset l.size))) r').1
     where
       not_false : IsTrue false → ⊥
       not_false h = cc
@@ -112,7 +112,7 @@ module _ (all : Past) where
       let one : f.node ≡ a.0 = let e : Some f.node ≡ Some a.0 = sym f.at ∙ ap (node_at all) same ∙ a.1 in cc in
       let act : a.0.act ≡ Hosts f.entry = ap (λ (n : Node). n.act) (sym one) ∙ f.act in
       let l = forgets_of (before_node all f.node.number) f.entry c f.lost in
-      let p = host_put all (entry.Invalidate l.buffer l.offset l.size) u.part c w.0 (subst (λ (b : Act). part_write all b u.part c ≡ Some w.0) (act ∙ ap Hosts l.is) a.2) in
+      let p = host_put all (entry.Invalidate l.buffer l.offset l.size) u.index c w.0 (subst (λ (b : Act). task_write all b u.index c ≡ Some w.0) (act ∙ ap Hosts l.is) a.2) in
       let e : None ≡ Some p.value = p.is in cc
 
   -- the two traffics have the same order
@@ -159,7 +159,7 @@ module _ (t : List Entry) (given : Given t) where
       seen_it Read cmd is_n h = seen_after t given f.node f.stands f.entry f.act c f.lost n cn cmd is_n Read h (lower s u f.node n f.number num lt)
       seen_it Write cmd is_n h = seen_after t given f.node f.stands f.entry f.act c f.lost n cn cmd is_n Write h (lower s u f.node n f.number num lt)
 
-  forgot_last : (s u : Task) (c : Byte) (f : Forgot all u c) (m : Node) → node_at all s.node ≡ Some m → Contains (nodes all) m → m.number ≡ s.node → IsTrue (nat_lt s.part (task_count all m.act)) → IsTrue (accesses m.act) → (k : Access) → Has k m c → s.node < u.node
+  forgot_last : (s u : Task) (c : Byte) (f : Forgot all u c) (m : Node) → node_at all s.node ≡ Some m → Contains (nodes all) m → m.number ≡ s.node → IsTrue (nat_lt s.index (task_count all m.act)) → IsTrue (accesses m.act) → (k : Access) → Has k m c → s.node < u.node
       → Precedes (accesses_of all) s u
   forgot_last s u c f m at cm num there ac k h lt =
       by_nodes all s u m f.node at f.at (rw at there)
@@ -228,7 +228,7 @@ module _ (t : List Entry) (given : Given t) where
 
   -- ---- the caches
 
-  there : (u : Task) (n : Node) → node_at all u.node ≡ Some n → IsTrue (nat_lt u.part (task_count all n.act)) → IsTrue ((accesses_of all).has u)
+  there : (u : Task) (n : Node) → node_at all u.node ≡ Some n → IsTrue (nat_lt u.index (task_count all n.act)) → IsTrue ((accesses_of all).has u)
   there u n e h = rw e h
 
   agents : (s u : Task) (m n : Node) → node_at all s.node ≡ Some m → node_at all u.node ≡ Some n → IsTrue (is_host m.act) → IsTrue (is_host n.act) → (caching_of all).agent s ≡ (caching_of all).agent u
@@ -294,11 +294,11 @@ module _ (t : List Entry) (given : Given t) where
           let same = same_cached all sk.newer (sk.at ∷ sk.past) sk.whole (new_ids t given.sound) (live_ids t given.sound) x.node has_x x.is_access c all x.accessed in
           let then_same = λ (n : Node) (cn : Contains (nodes all) n) (le : x.node.number ≤ n.number). same ∙ sym (cached_then all (new_ids t given.sound) (live_ids t given.sound) x.node x.stands x.is_access c all x.accessed n cn le) in
           let at_k = node_at_self given.paths given.joins all k ck in
-          let av = available_task given.paths given.joins all s (record { node = k.number; part = 0 }) x.node k x.at at_k (there s x.node x.at x.there) x.stands ck x.is_access refl (λ b. is_cached (sk.at ∷ sk.past) (resource_at b)) c then_same is_seen in
+          let av = available_task given.paths given.joins all s (record { node = k.number; index = 0 }) x.node k x.at at_k (there s x.node x.at x.there) x.stands ck x.is_access refl (λ b. is_cached (sk.at ∷ sk.past) (resource_at b)) c then_same is_seen in
           record {
             p = av.p;
             available = av.available;
-            before = precedes_on av.p (record { node = k.number; part = 0 }) u k f.node at_k f.at ck f.stands (given.hosts all k f.node ck f.stands refl (forgot_host u c f) earlier) av.before;
+            before = precedes_on av.p (record { node = k.number; index = 0 }) u k f.node at_k f.at ck f.stands (given.hosts all k f.node ck f.stands refl (forgot_host u c f) earlier) av.before;
           }
 
   pub discards_cache_free : CacheFree (with_discards all) (caching_of all)

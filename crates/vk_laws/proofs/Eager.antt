@@ -34,22 +34,22 @@ module _ (paths : BeforeIsPath) (joins : BeforeIsTransitive) (leads : BeforeLead
       go (Some l) (Some m) (Some n) e f g h k = joins all l m n (node_of all a l e).0 (node_of all b m f).0 (node_of all c n g).0 h k
 
   -- an event has one part
-  event_part : (u : Task) → is_event all u ≡ true → IsTrue (tr.has u) → u.part ≡ 0
+  event_part : (u : Task) → is_event all u ≡ true → IsTrue (tr.has u) → u.index ≡ 0
   event_part u e h = go (node_at all u.node) e h
     where
-      by_kind : (a : Act) → not (accesses a) ≡ true → IsTrue (nat_lt u.part (task_count all a)) → u.part ≡ 0
+      by_kind : (a : Act) → not (accesses a) ≡ true → IsTrue (nat_lt u.index (task_count all a)) → u.index ≡ 0
       by_kind (Runs c) e h = absurd cc
       by_kind (Hosts x) e h = absurd cc
-      by_kind (Waits s) e h = let lt = ltb-true u.part 1 h in omega (arith, lt)
-      by_kind (Signals s) e h = let lt = ltb-true u.part 1 h in omega (arith, lt)
-      by_kind (Depends r d) e h = let lt = ltb-true u.part 1 h in omega (arith, lt)
+      by_kind (Waits s) e h = let lt = ltb-true u.index 1 h in omega (arith, lt)
+      by_kind (Signals s) e h = let lt = ltb-true u.index 1 h in omega (arith, lt)
+      by_kind (Depends r d) e h = let lt = ltb-true u.index 1 h in omega (arith, lt)
 
-      go : (o : Option Node) → holds o (λ n. not (accesses n.act)) ≡ true → IsTrue (by_act false (λ a. nat_lt u.part (task_count all a)) o) → u.part ≡ 0
+      go : (o : Option Node) → holds o (λ n. not (accesses n.act)) ≡ true → IsTrue (by_act false (λ a. nat_lt u.index (task_count all a)) o) → u.index ≡ 0
       go None e h = absurd cc
       go (Some n) e h = by_kind n.act e h
 
   abbrev event : ℕ → Task
-  event k = record { node = k; part = 0 }
+  event k = record { node = k; index = 0 }
 
   abbrev size : ℕ
   size = length (nodes all)
@@ -132,4 +132,4 @@ module _ (paths : BeforeIsPath) (joins : BeforeIsTransitive) (leads : BeforeLead
   due_done done ok = grown size done ok
 
   pub is_eager : (done : List Task) (g : Grown size done) → IsEager tr (is_event all) g.tasks
-  is_eager done g u e there due = g.eager u e there (there_below all u.node (λ a. nat_lt u.part (task_count all a)) there) due
+  is_eager done g u e there due = g.eager u e there (there_below all u.node (λ a. nat_lt u.index (task_count all a)) there) due

@@ -7,7 +7,7 @@ use Rattle.vk_model.specs.ByteWrites.{From}
 use Rattle.vk_laws.specs.Machine.{IsIn, Task, Put, Puts, Writes, Reads, HazardFree, MayRun}
 use Rattle.vk_laws.specs.Caches.{Clean, Dirty, Cell, Touched, Dropped, WrittenBack, Loaded, CellRan, CacheFree, Seen, Reached, Start, Touch, Run}
 use Rattle.vk_laws.specs.Commands.{IsCut}
-use Rattle.vk_laws.specs.Example.{task, writes, reads, first_part, accesses, caching, effects, holding, with_original, when_filled, when_copied, MeetsPremises}
+use Rattle.vk_laws.specs.Example.{task, writes, reads, only_index, accesses, caching, effects, holding, with_original, when_filled, when_copied, MeetsPremises}
 use Rattle.vk_laws.proofs.TaskNodes.{same_task}
 use Rattle.vk_laws.proofs.Commands.{is_model}
 
@@ -32,19 +32,19 @@ unfolding home
 reader (suc (suc (suc zero))) (in_buffer zero zero) h = (refl, refl)
 reader _ _ h = absurd cc
 
-part_of_write : (n k : ℕ) (c : Byte) (x : Put) → first_part None (writes n c) k ≡ Some x → (k ≡ 0) × (writes n c ≡ Some x)
+part_of_write : (n k : ℕ) (c : Byte) (x : Put) → only_index None (writes n c) k ≡ Some x → (k ≡ 0) × (writes n c ≡ Some x)
 part_of_write n zero c x e = (refl, e)
 part_of_write n (suc k) c x e = absurd cc
 
-part_of_read : (n k : ℕ) (c : Byte) → IsTrue (first_part false (reads n c) k) → (k ≡ 0) × IsTrue (reads n c)
+part_of_read : (n k : ℕ) (c : Byte) → IsTrue (only_index false (reads n c) k) → (k ≡ 0) × IsTrue (reads n c)
 part_of_read n zero c h = (refl, h)
 part_of_read n (suc k) c h = absurd cc
 
-written_by : (t : Task) (c : Byte) → Writes accesses t c → (t.part ≡ 0) × (t.node ≡ home c)
-written_by t c w = let p = part_of_write t.node t.part c w.0 w.1 in (p.0, writer t.node c w.0 p.1)
+written_by : (t : Task) (c : Byte) → Writes accesses t c → (t.index ≡ 0) × (t.node ≡ home c)
+written_by t c w = let p = part_of_write t.node t.index c w.0 w.1 in (p.0, writer t.node c w.0 p.1)
 
-read_by : (t : Task) (c : Byte) → Reads accesses t c → (t.part ≡ 0) × (t.node ≡ 3) × (home c ≡ 0)
-read_by t c r = let p = part_of_read t.node t.part c r in let q = reader t.node c p.1 in (p.0, q.0, q.1)
+read_by : (t : Task) (c : Byte) → Reads accesses t c → (t.index ≡ 0) × (t.node ≡ 3) × (home c ≡ 0)
+read_by t c r = let p = part_of_read t.node t.index c r in let q = reader t.node c p.1 in (p.0, q.0, q.1)
 
 -- ---- the premises
 
@@ -59,13 +59,13 @@ copy_writer _ _ d e = absurd cc
 
 copies_what : (t : Task) (c d : Byte) → accesses.write_of t c ≡ Some (Puts (From d)) → Reads accesses t d
 copies_what t c d e =
-    let p = part_of_write t.node t.part c (Puts (From d)) e in
-    subst (λ (k : ℕ). IsTrue (first_part false (reads t.node d) k)) (sym p.0) (copy_writer t.node c d p.1)
+    let p = part_of_write t.node t.index c (Puts (From d)) e in
+    subst (λ (k : ℕ). IsTrue (only_index false (reads t.node d) k)) (sym p.0) (copy_writer t.node c d p.1)
 
 hazard_free : HazardFree accesses
 hazard_free = record {
   ordered = λ s t c lt meet. ⊎_elim
-      (λ wr. let w = written_by s c wr.0 in let r = read_by t c wr.1 in let h = r.2 in let z : s.node ≡ 0 = cc in goes_before s.node s.part t.node z w.0 r.1)
+      (λ wr. let w = written_by s c wr.0 in let r = read_by t c wr.1 in let h = r.2 in let z : s.node ≡ 0 = cc in goes_before s.node s.index t.node z w.0 r.1)
       (λ h. ⊎_elim
       (λ rw'. let r = read_by s c rw'.0 in let w = written_by t c rw'.1 in let g = r.2 in let z : t.node ≡ 0 = cc in absurd (omega arith))
       (λ ww. let v = written_by s c ww.0 in let w = written_by t c ww.1 in let z : s.node ≡ t.node = cc in absurd (omega arith)) h)
@@ -77,11 +77,11 @@ hazard_free = record {
 
 cut : IsCut effects accesses
 cut = record {
-  within = λ t c x e. (part_of_write t.node t.part c x e).1;
+  within = λ t c x e. (part_of_write t.node t.index c x e).1;
   covered = λ n c x e. (task n, refl, e);
 }
 
-seen_by_copy : (w t : Task) (c : Byte) → w.part ≡ 0 → w.node ≡ 0 → t.node ≡ 3 → Seen accesses caching w t c
+seen_by_copy : (w t : Task) (c : Byte) → w.index ≡ 0 → w.node ≡ 0 → t.node ≡ 3 → Seen accesses caching w t c
 seen_by_copy w t c wp wn tn = record {
   p = task 1;
   q = task 2;
@@ -95,7 +95,7 @@ cache_free : CacheFree accesses caching
 cache_free = record {
   seen_read = λ w t c lt wr r. let v = written_by w c wr in let u = read_by t c r in let h = u.2 in let z : w.node ≡ 0 = cc in inr (seen_by_copy w t c v.0 z u.1);
   seen_write = λ w t c lt wr wr'. let v = written_by w c wr in let u = written_by t c wr' in let z : w.node ≡ t.node = cc in absurd (omega arith);
-  available_later = λ p w c h. later p.node p.part w.node w.part h;
+  available_later = λ p w c h. later p.node p.index w.node w.index h;
 }
   where
     later : (n k m l : ℕ) → IsTrue (n == 1 && k == 0 && m == 0 && l == 0) → IsTrue (nat_lt m 5 && l == 0) × IsTrue (nat_lt m n && nat_lt n 4)
@@ -183,33 +183,33 @@ first_may = record { there = refl; fresh = λ h. h; after = λ s p. absurd (none
     none n h = grind arith
 
 second_may : MayRun accesses (task 0 ∷ []) (task 1)
-second_may = record { there = refl; fresh = λ h. ⊎_elim (λ e. let f = ap (λ (t : Task). t.node) e in omega arith) (λ n. n) h; after = λ s p. go s.node s.part p.0 p.1 }
+second_may = record { there = refl; fresh = λ h. ⊎_elim (λ e. let f = ap (λ (t : Task). t.node) e in omega arith) (λ n. n) h; after = λ s p. go s.node s.index p.0 p.1 }
   where
-    go : (n k : ℕ) → IsTrue (nat_lt n 5 && k == 0) → IsTrue (nat_lt n 1 && nat_lt 1 4) → IsIn (record { node = n; part = k }) (task 0 ∷ [])
+    go : (n k : ℕ) → IsTrue (nat_lt n 5 && k == 0) → IsTrue (nat_lt n 1 && nat_lt 1 4) → IsIn (record { node = n; index = k }) (task 0 ∷ [])
     go zero zero h b = inl refl
     go (suc n) zero h b = absurd (grind arith)
     go n (suc k) h b = absurd (grind arith)
 
 third_may : MayRun accesses (task 1 ∷ task 0 ∷ []) (task 2)
-third_may = record { there = refl; fresh = fresh; after = λ s p. go s.node s.part p.0 p.1 }
+third_may = record { there = refl; fresh = fresh; after = λ s p. go s.node s.index p.0 p.1 }
   where
     fresh : IsIn (task 2) (task 1 ∷ task 0 ∷ []) → ⊥
     fresh h = ⊎_elim (λ e. let f = ap (λ (t : Task). t.node) e in omega arith) (λ h. ⊎_elim (λ e. let f = ap (λ (t : Task). t.node) e in omega arith) (λ n. n) h) h
 
-    go : (n k : ℕ) → IsTrue (nat_lt n 5 && k == 0) → IsTrue (nat_lt n 2 && nat_lt 2 4) → IsIn (record { node = n; part = k }) (task 1 ∷ task 0 ∷ [])
+    go : (n k : ℕ) → IsTrue (nat_lt n 5 && k == 0) → IsTrue (nat_lt n 2 && nat_lt 2 4) → IsIn (record { node = n; index = k }) (task 1 ∷ task 0 ∷ [])
     go zero zero h b = inr (inl refl)
     go (suc zero) zero h b = inl refl
     go (suc (suc n)) zero h b = absurd (grind arith)
     go n (suc k) h b = absurd (grind arith)
 
 copy_may : MayRun accesses (task 2 ∷ task 1 ∷ task 0 ∷ []) (task 3)
-copy_may = record { there = refl; fresh = fresh; after = λ s p. go s.node s.part p.0 p.1 }
+copy_may = record { there = refl; fresh = fresh; after = λ s p. go s.node s.index p.0 p.1 }
   where
     fresh : IsIn (task 3) (task 2 ∷ task 1 ∷ task 0 ∷ []) → ⊥
     fresh h = ⊎_elim (λ e. let f = ap (λ (t : Task). t.node) e in omega arith)
         (λ h. ⊎_elim (λ e. let f = ap (λ (t : Task). t.node) e in omega arith) (λ h. ⊎_elim (λ e. let f = ap (λ (t : Task). t.node) e in omega arith) (λ n. n) h) h) h
 
-    go : (n k : ℕ) → IsTrue (nat_lt n 5 && k == 0) → IsTrue (nat_lt n 3 && nat_lt 3 4) → IsIn (record { node = n; part = k }) (task 2 ∷ task 1 ∷ task 0 ∷ [])
+    go : (n k : ℕ) → IsTrue (nat_lt n 5 && k == 0) → IsTrue (nat_lt n 3 && nat_lt 3 4) → IsIn (record { node = n; index = k }) (task 2 ∷ task 1 ∷ task 0 ∷ [])
     go zero zero h b = inr (inr (inl refl))
     go (suc zero) zero h b = inr (inl refl)
     go (suc (suc zero)) zero h b = inl refl

@@ -21,7 +21,7 @@ use Rattle.vk_model.specs.Fault.{Comes, IsSound}
 use Rattle.vk_model.specs.Laws.{PiecesAreByteWrites, PiecesWriteApart, write_common}
 use Rattle.vk_laws.specs.Machine.{Task, Put, Puts, Reads, HazardFree}
 use Rattle.vk_laws.specs.Trace.{AccessesInOrder}
-use Rattle.vk_laws.specs.Tasks.{piece_writes, host_value, part_write, part_read, node_at, by_act, accesses_of}
+use Rattle.vk_laws.specs.Tasks.{piece_writes, host_value, task_write, task_read, node_at, by_act, accesses_of}
 use Rattle.vk_laws.proofs.TaskNodes.{node_of, same_task}
 use Rattle.vk_laws.proofs.Members.{member_passes, found, map_has, chosen_has, chosen_from}
 use Rattle.vk_laws.proofs.Steady.{kept_writes, kept_pieces, new_ids, live_ids}
@@ -33,17 +33,17 @@ use Rattle.vk_laws.proofs.Apart.{pair_of, no_overlap}
 
 module _ (all : Past) where
   -- the node of a task that writes, and of one that reads
-  pub write_act : (t : Task) (c : Byte) (w : Put) → (accesses_of all).write_of t c ≡ Some w → (n : Node) × (node_at all t.node ≡ Some n) × (part_write all n.act t.part c ≡ Some w)
+  pub write_act : (t : Task) (c : Byte) (w : Put) → (accesses_of all).write_of t c ≡ Some w → (n : Node) × (node_at all t.node ≡ Some n) × (task_write all n.act t.index c ≡ Some w)
   write_act t c w h = go (node_at all t.node) refl h
     where
-      go : (o : Option Node) → node_at all t.node ≡ o → by_act None (λ a. part_write all a t.part c) o ≡ Some w → (n : Node) × (node_at all t.node ≡ Some n) × (part_write all n.act t.part c ≡ Some w)
+      go : (o : Option Node) → node_at all t.node ≡ o → by_act None (λ a. task_write all a t.index c) o ≡ Some w → (n : Node) × (node_at all t.node ≡ Some n) × (task_write all n.act t.index c ≡ Some w)
       go None e h = absurd cc
       go (Some n) e h = (n, e, h)
 
-  pub read_act : (t : Task) (c : Byte) → Reads (accesses_of all) t c → (n : Node) × (node_at all t.node ≡ Some n) × IsTrue (part_read all n.act t.part c)
+  pub read_act : (t : Task) (c : Byte) → Reads (accesses_of all) t c → (n : Node) × (node_at all t.node ≡ Some n) × IsTrue (task_read all n.act t.index c)
   read_act t c h = go (node_at all t.node) refl h
     where
-      go : (o : Option Node) → node_at all t.node ≡ o → IsTrue (by_act false (λ a. part_read all a t.part c) o) → (n : Node) × (node_at all t.node ≡ Some n) × IsTrue (part_read all n.act t.part c)
+      go : (o : Option Node) → node_at all t.node ≡ o → IsTrue (by_act false (λ a. task_read all a t.index c) o) → (n : Node) × (node_at all t.node ≡ Some n) × IsTrue (task_read all n.act t.index c)
       go None e h = absurd cc
       go (Some n) e h = (n, e, h)
 
@@ -55,7 +55,7 @@ module _ (all : Past) where
     pub first : find (λ m. same_byte m.to c) piece ≡ Some byte_writer
     pub put : Puts byte_writer.source ≡ w
 
-  pub value_after : (x : Cmd) (k : ℕ) (c : Byte) (w : Put) → part_write all (Runs x) k c ≡ Some w → Moved x k c w
+  pub value_after : (x : Cmd) (k : ℕ) (c : Byte) (w : Put) → task_write all (Runs x) k c ≡ Some w → Moved x k c w
   value_after x k c w h = go (slice_get (pieces all x) k) refl h
     where
       by_write : (ps : List ByteWrite) → slice_get (pieces all x) k ≡ Some ps → (o : Option ByteWrite) → find (λ m. same_byte m.to c) ps ≡ o → option_map (λ m. Puts m.source) o ≡ Some w → Moved x k c w
@@ -75,7 +75,7 @@ module _ (all : Past) where
     pub is : host_value x c ≡ Some value
     pub put : Puts (Value value) ≡ w
 
-  pub host_put : (x : Entry) (k : ℕ) (c : Byte) (w : Put) → part_write all (Hosts x) k c ≡ Some w → HostPut x k c w
+  pub host_put : (x : Entry) (k : ℕ) (c : Byte) (w : Put) → task_write all (Hosts x) k c ≡ Some w → HostPut x k c w
   host_put x k c w h = go (k == 0) (host_value x c) refl refl h
     where
       go : (b : Bool) (o : Option ℕ) → (k == 0) ≡ b → host_value x c ≡ o → cond b (option_map (λ v. Puts (Value v)) o) None ≡ Some w → HostPut x k c w
@@ -119,7 +119,7 @@ module _ (together : PiecesAreByteWrites) (apart : PiecesWriteApart) (t : List E
         ap (some_pair write_common) same_pieces
         ∙ apart place.past place.at x action (false_from_ne_true _ (λ h. sound place.past place.at rule.Overlap (comes, h))) (false_from_ne_true _ (λ h. sound place.past place.at rule.Range (comes, h)))
 
-    run_apart : (k l : ℕ) (c : Byte) (w : Put) → part_write all (Runs x) k c ≡ Some w → IsTrue (part_read all (Runs x) l c) → ⊥
+    run_apart : (k l : ℕ) (c : Byte) (w : Put) → task_write all (Runs x) k c ≡ Some w → IsTrue (task_read all (Runs x) l c) → ⊥
     run_apart k l c w h r =
         let m = value_after all x k c w h in
         let to = written_to all x k c w m in
@@ -133,7 +133,7 @@ module _ (together : PiecesAreByteWrites) (apart : PiecesWriteApart) (t : List E
     common : (p q : List ByteWrite) (c : Byte) → Contains (targets p) c → Contains (targets q) c → IsTrue (write_common p q)
     common p q c cp cq = member_passes (λ b. is_in b (targets q)) (targets p) c cp (is_in_of together all c (targets q) cq)
 
-    pub run_once : (k l : ℕ) (c : Byte) (w u : Put) → part_write all (Runs x) k c ≡ Some w → part_write all (Runs x) l c ≡ Some u → k ≡ l
+    pub run_once : (k l : ℕ) (c : Byte) (w u : Put) → task_write all (Runs x) k c ≡ Some w → task_write all (Runs x) l c ≡ Some u → k ≡ l
     run_once k l c w u h g =
         let m = value_after all x k c w h in
         let n = value_after all x l c u g in
@@ -151,37 +151,37 @@ module _ (together : PiecesAreByteWrites) (apart : PiecesWriteApart) (t : List E
 
   -- ---- the parts of any act
 
-  part_apart : (n : Node) → Contains (nodes all) n → (k l : ℕ) (c : Byte) (w : Put) → part_write all n.act k c ≡ Some w → IsTrue (part_read all n.act l c) → ⊥
-  part_apart n cn k l c w h r = go n.act refl h r
+  index_apart : (n : Node) → Contains (nodes all) n → (k l : ℕ) (c : Byte) (w : Put) → task_write all n.act k c ≡ Some w → IsTrue (task_read all n.act l c) → ⊥
+  index_apart n cn k l c w h r = go n.act refl h r
     where
-      go : (a : Act) → n.act ≡ a → part_write all a k c ≡ Some w → IsTrue (part_read all a l c) → ⊥
+      go : (a : Act) → n.act ≡ a → task_write all a k c ≡ Some w → IsTrue (task_read all a l c) → ⊥
       go (Runs x) e h r = run_apart n cn x e k l c w h r
       go (Hosts x) e h r = let p = host_put all x k c w h in host_apart x c p.value p.is (and_parts (l == 0) _ r).1
       go (Waits s) e h r = cc
       go (Signals s) e h r = cc
       go (Depends q s) e h r = cc
 
-  pub part_once : (n : Node) → Contains (nodes all) n → (k l : ℕ) (c : Byte) (w u : Put) → part_write all n.act k c ≡ Some w → part_write all n.act l c ≡ Some u → k ≡ l
-  part_once n cn k l c w u h g = go n.act refl h g
+  pub index_once : (n : Node) → Contains (nodes all) n → (k l : ℕ) (c : Byte) (w u : Put) → task_write all n.act k c ≡ Some w → task_write all n.act l c ≡ Some u → k ≡ l
+  index_once n cn k l c w u h g = go n.act refl h g
     where
-      go : (a : Act) → n.act ≡ a → part_write all a k c ≡ Some w → part_write all a l c ≡ Some u → k ≡ l
+      go : (a : Act) → n.act ≡ a → task_write all a k c ≡ Some w → task_write all a l c ≡ Some u → k ≡ l
       go (Runs x) e h g = run_once n cn x e k l c w u h g
       go (Hosts x) e h g = (host_put all x k c w h).only ∙ sym (host_put all x l c u g).only
       go (Waits s) e h g = absurd cc
       go (Signals s) e h g = absurd cc
       go (Depends q s) e h g = absurd cc
 
-  part_source : (a : Act) (k : ℕ) (c d : Byte) → part_write all a k c ≡ Some (Puts (From d)) → IsTrue (part_read all a k d)
-  part_source (Runs x) k c d h =
+  task_source : (a : Act) (k : ℕ) (c d : Byte) → task_write all a k c ≡ Some (Puts (From d)) → IsTrue (task_read all a k d)
+  task_source (Runs x) k c d h =
       let m = value_after all x k c (Puts (From d)) h in
       let to = written_to all x k c (Puts (From d)) m in
       let from : m.byte_writer.source ≡ From d = let e = m.put in cc in
       subst (λ (o : Option (List ByteWrite)). IsTrue (is_in d (origins (piece_writes o)))) (sym m.at)
       (is_in_of together all d (origins m.piece) (chosen_has (λ m. origin m.source) m.piece m.byte_writer d to.0 (ap origin from)))
-  part_source (Hosts x) k c d h = let p = host_put all x k c (Puts (From d)) h in let e = p.put in absurd cc
-  part_source (Waits s) k c d h = absurd cc
-  part_source (Signals s) k c d h = absurd cc
-  part_source (Depends q s) k c d h = absurd cc
+  task_source (Hosts x) k c d h = let p = host_put all x k c (Puts (From d)) h in let e = p.put in absurd cc
+  task_source (Waits s) k c d h = absurd cc
+  task_source (Signals s) k c d h = absurd cc
+  task_source (Depends q s) k c d h = absurd cc
 
   -- ---- the law's first premise
 
@@ -195,13 +195,13 @@ module _ (together : PiecesAreByteWrites) (apart : PiecesWriteApart) (t : List E
         let a = write_act all s c w.0 w.1 in
         let b = read_act all u c r in
         let one = same_node_act s.node u.node a.0 b.0 same a.1 b.1 in
-        part_apart a.0 (node_of all s.node a.0 a.1).0 s.part u.part c w.0 a.2 (subst (λ (n : Node). IsTrue (part_read all n.act u.part c)) (sym one) b.2);
+        index_apart a.0 (node_of all s.node a.0 a.1).0 s.index u.index c w.0 a.2 (subst (λ (n : Node). IsTrue (task_read all n.act u.index c)) (sym one) b.2);
     single = λ s u c same w v.
         let a = write_act all s c w.0 w.1 in
         let b = write_act all u c v.0 v.1 in
         let one = same_node_act s.node u.node a.0 b.0 same a.1 b.1 in
-        same_task s u same (part_once a.0 (node_of all s.node a.0 a.1).0 s.part u.part c w.0 v.0 a.2 (subst (λ (n : Node). part_write all n.act u.part c ≡ Some v.0) (sym one) b.2));
+        same_task s u same (index_once a.0 (node_of all s.node a.0 a.1).0 s.index u.index c w.0 v.0 a.2 (subst (λ (n : Node). task_write all n.act u.index c ≡ Some v.0) (sym one) b.2));
     source_read = λ s c d h.
         let a = write_act all s c (Puts (From d)) h in
-        subst (λ (o : Option Node). IsTrue (by_act false (λ a. part_read all a s.part d) o)) (sym a.1) (part_source a.0.act s.part c d a.2);
+        subst (λ (o : Option Node). IsTrue (by_act false (λ a. task_read all a s.index d) o)) (sym a.1) (task_source a.0.act s.index c d a.2);
   }

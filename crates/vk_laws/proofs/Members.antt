@@ -109,10 +109,10 @@ pub mapped_from : {X Y : Type 0} (f : X → Y) (xs : List X) (y : Y) → Contain
 mapped_from f [] y c = absurd (none_in y c)
 mapped_from f (x ∷ xs) y c = ⊎_elim (λ e. (x, contains-head x xs, e)) (λ later. let r = mapped_from f xs y later in (r.0, contains-tail x xs r.0 r.1, r.2)) (contains-cons (f x) (map f xs) y c)
 
-pub part_has : {X : Type 0} (parts : List (List X)) (k : ℕ) (part : List X) (x : X) → slice_get parts k ≡ Some part → Contains part x → Contains (flat_map (λ p. p) parts) x
-part_has [] k part x e c = absurd cc
-part_has {X} (p ∷ parts) zero part x e c = let same : p ≡ part = cc in left_has p (flat_map (λ p. p) parts) x (subst (λ (l : List X). Contains l x) (sym same) c)
-part_has (p ∷ parts) (suc k) part x e c = right_has p (flat_map (λ p. p) parts) x (part_has parts k part x e c)
+pub task_has : {X : Type 0} (parts : List (List X)) (k : ℕ) (index : List X) (x : X) → slice_get parts k ≡ Some index → Contains index x → Contains (flat_map (λ p. p) parts) x
+task_has [] k index x e c = absurd cc
+task_has {X} (p ∷ parts) zero index x e c = let same : p ≡ index = cc in left_has p (flat_map (λ p. p) parts) x (subst (λ (l : List X). Contains l x) (sym same) c)
+task_has (p ∷ parts) (suc k) index x e c = right_has p (flat_map (λ p. p) parts) x (task_has parts k index x e c)
 
 pub flat_from : {X Y : Type 0} (f : X → List Y) (xs : List X) (y : Y) → Contains (flat_map f xs) y → (x : X) × Contains xs x × Contains (f x) y
 flat_from f [] y c = absurd (none_in y c)

@@ -32,7 +32,7 @@ use Rattle.vk_model.specs.Rules.{breaks}
 use Rattle.vk_model.specs.Fault.{IsSound}
 use Rattle.vk_model.specs.Laws.{PiecesAreByteWrites, PiecesWriteApart}
 use Rattle.vk_laws.specs.Machine.{Task, Reads, Put, Puts, put_value, IsModel}
-use Rattle.vk_laws.specs.Tasks.{piece_writes, host_value, part_write, part_read, node_at, by_act, accesses_of}
+use Rattle.vk_laws.specs.Tasks.{piece_writes, host_value, task_write, task_read, node_at, by_act, accesses_of}
 use Rattle.vk_laws.specs.TraceBytes.{before_node, value_before}
 use Rattle.vk_laws.proofs.TaskNodes.{node_of}
 use Rattle.vk_laws.proofs.Fresh.{none_unless}
@@ -262,13 +262,13 @@ find_past {X} f (z ∷ xs) ys e = go (f z) (find_past f xs ys) e
     go true rest e = absurd cc
     go false rest e = rest e
 
-find_part : {X : Type 0} (f : X → Bool) (parts : List (List X)) (k : ℕ) (part : List X) (x : X) → slice_get parts k ≡ Some part → find f part ≡ Some x
+find_index : {X : Type 0} (f : X → Bool) (parts : List (List X)) (k : ℕ) (index : List X) (x : X) → slice_get parts k ≡ Some index → find f index ≡ Some x
     → ((l : ℕ) (q : List X) (y : X) → slice_get parts l ≡ Some q → find f q ≡ Some y → l ≡ k) → find f (flat_map (λ p. p) parts) ≡ Some x
-find_part f [] k part x at e only = absurd cc
-find_part f (p ∷ parts) zero part x at e only = find_here f p (flat_map (λ p. p) parts) x (let same : p ≡ part = cc in ap (find f) same ∙ e)
-find_part f (p ∷ parts) (suc k) part x at e only =
+find_index f [] k index x at e only = absurd cc
+find_index f (p ∷ parts) zero index x at e only = find_here f p (flat_map (λ p. p) parts) x (let same : p ≡ index = cc in ap (find f) same ∙ e)
+find_index f (p ∷ parts) (suc k) index x at e only =
     let none = none_unless (find f p) (λ y g. let wrong = only 0 p y refl g in omega arith) in
-    find_past f p (flat_map (λ p. p) parts) none ∙ find_part f parts k part x at e (λ l q y at' g. let same = only (suc l) q y at' g in omega arith)
+    find_past f p (flat_map (λ p. p) parts) none ∙ find_index f parts k index x at e (λ l q y at' g. let same = only (suc l) q y at' g in omega arith)
 
 find_nowhere : {X : Type 0} (f : X → Bool) (parts : List (List X)) → ((l : ℕ) (q : List X) → slice_get parts l ≡ Some q → find f q ≡ None) → find f (flat_map (λ p. p) parts) ≡ None
 find_nowhere f [] none = refl
@@ -298,17 +298,17 @@ module _ (together : PiecesAreByteWrites) (apart : PiecesWriteApart) (t : List E
   after_point n s c v end h =
       point_source s.past s.at c v (settles s.newer (s.at ∷ s.past) (suc n.number) c v end (subst (λ (l : Past). value_before l (suc n.number) c ≡ Some v) s.whole h))
 
-  run_source : (n : Node) (cn : Contains (nodes all) n) (x : Cmd) (act : n.act ≡ Runs x) (k : ℕ) (c : Byte) (w : Put) → part_write all (Runs x) k c ≡ Some w → (s : Source) × (w ≡ Puts s) × (source_at (place together apart t sound n cn x act).past (Run x) c ≡ Some s)
+  run_source : (n : Node) (cn : Contains (nodes all) n) (x : Cmd) (act : n.act ≡ Runs x) (k : ℕ) (c : Byte) (w : Put) → task_write all (Runs x) k c ≡ Some w → (s : Source) × (w ≡ Puts s) × (source_at (place together apart t sound n cn x act).past (Run x) c ≡ Some s)
   run_source n cn x act k c w h =
       let m = value_after all x k c w h in
       let f : ByteWrite → Bool = λ m. same_byte m.to c in
       let whole : find f (byte_writes all x) ≡ Some m.byte_writer =
-      ap (find f) (sym (together all x)) ∙ find_part f (pieces all x) k m.piece m.byte_writer m.at m.first
-      (λ l q y at' g. run_once together apart t sound n cn x act l k c (Puts y.source) w (part_puts l q y at' g) h) in
+      ap (find f) (sym (together all x)) ∙ find_index f (pieces all x) k m.piece m.byte_writer m.at m.first
+      (λ l q y at' g. run_once together apart t sound n cn x act l k c (Puts y.source) w (task_puts l q y at' g) h) in
       (m.byte_writer.source, sym m.put, ap (option_map (λ (m : ByteWrite). m.source)) (ap (find f) (sym (same_byte_writes together apart t sound n cn x act)) ∙ whole))
     where
-      part_puts : (l : ℕ) (q : List ByteWrite) (y : ByteWrite) → slice_get (pieces all x) l ≡ Some q → find (λ m. same_byte m.to c) q ≡ Some y → part_write all (Runs x) l c ≡ Some (Puts y.source)
-      part_puts l q y at e = rw at (rw e refl)
+      task_puts : (l : ℕ) (q : List ByteWrite) (y : ByteWrite) → slice_get (pieces all x) l ≡ Some q → find (λ m. same_byte m.to c) q ≡ Some y → task_write all (Runs x) l c ≡ Some (Puts y.source)
+      task_puts l q y at e = rw at (rw e refl)
 
   put_here : (n : Node) (s : AtPoint all n) (c : Byte) (v : ℕ) (w : Put) (source : Source) → w ≡ Puts source → source_at s.past s.at.action c ≡ Some source → length (acts s.at.action) ≡ 1 → value_before all (suc n.number) c ≡ Some v
       → put_value w (value_before all n.number) ≡ Some v
@@ -316,13 +316,13 @@ module _ (together : PiecesAreByteWrites) (apart : PiecesWriteApart) (t : List E
       let after = subst (λ (o : Option Source). from_source o (world s.past).value c ≡ Some v) is (after_point n s c v (alone n s one).1 h) in
       subst (λ (w : Put). put_value w (value_before all n.number) ≡ Some v) (sym put) (subst (λ (l : Past). source_value (world l).value source ≡ Some v) (sym (at_node n s)) after)
 
-  written_by : (n : Node) (cn : Contains (nodes all) n) (k : ℕ) (c : Byte) (w : Put) (v : ℕ) → part_write all n.act k c ≡ Some w → value_before all (suc n.number) c ≡ Some v → put_value w (value_before all n.number) ≡ Some v
+  written_by : (n : Node) (cn : Contains (nodes all) n) (k : ℕ) (c : Byte) (w : Put) (v : ℕ) → task_write all n.act k c ≡ Some w → value_before all (suc n.number) c ≡ Some v → put_value w (value_before all n.number) ≡ Some v
   written_by n cn k c w v h e = go n.act refl h
     where
       s : AtPoint all n
       s = stands all n cn
 
-      go : (a : Act) → n.act ≡ a → part_write all a k c ≡ Some w → put_value w (value_before all n.number) ≡ Some v
+      go : (a : Act) → n.act ≡ a → task_write all a k c ≡ Some w → put_value w (value_before all n.number) ≡ Some v
       go (Runs x) act h =
           let d : s.at.action ≡ Run x = action together apart t sound n cn x act in
           let r = run_source n cn x act k c w h in
@@ -338,7 +338,7 @@ module _ (together : PiecesAreByteWrites) (apart : PiecesWriteApart) (t : List E
       go (Depends q r) act h = absurd cc
 
   -- where no part of a node writes a byte its point doesn't
-  no_source : (n : Node) (cn : Contains (nodes all) n) (c : Byte) → ((k : ℕ) → part_write all n.act k c ≡ None) → source_at (stands all n cn).past (stands all n cn).at.action c ≡ None
+  no_source : (n : Node) (cn : Contains (nodes all) n) (c : Byte) → ((k : ℕ) → task_write all n.act k c ≡ None) → source_at (stands all n cn).past (stands all n cn).at.action c ≡ None
   no_source n cn c none = go s.at.action refl
     where
       s : AtPoint all n
@@ -355,18 +355,18 @@ module _ (together : PiecesAreByteWrites) (apart : PiecesWriteApart) (t : List E
       run x act =
           let f : ByteWrite → Bool = λ m. same_byte m.to c in
           let nowhere = find_nowhere f (pieces all x) (λ l q at. unmapped (λ (m : ByteWrite). Puts m.source) (find f q)
-          (ap (λ (o : Option (List ByteWrite)). option_map (λ (m : ByteWrite). Puts m.source) (find f (piece_writes o))) (sym at) ∙ subst (λ (a : Act). part_write all a l c ≡ None) act (none l))) in
+          (ap (λ (o : Option (List ByteWrite)). option_map (λ (m : ByteWrite). Puts m.source) (find f (piece_writes o))) (sym at) ∙ subst (λ (a : Act). task_write all a l c ≡ None) act (none l))) in
           ap (option_map (λ (m : ByteWrite). m.source)) (ap (find f) (sym (same_byte_writes together apart t sound n cn x act)) ∙ ap (find f) (sym (together all x)) ∙ nowhere)
 
       go : (d : Action) → s.at.action ≡ d → source_at s.past d c ≡ None
       go (Host x) e =
           let act = only_one (Hosts x) n.act (acted (Host x) e) in
-          ap (option_map Value) (unmapped (λ v. Puts (Value v)) (host_value x c) (subst (λ (a : Act). part_write all a 0 c ≡ None) (sym act) (none 0)))
+          ap (option_map Value) (unmapped (λ v. Puts (Value v)) (host_value x c) (subst (λ (a : Act). task_write all a 0 c ≡ None) (sym act) (none 0)))
       go (Wait q) e = refl
       go (Signal q) e = refl
       go (Run x) e = ⊎_elim (λ r. run x r.0) (λ i. ap (λ (ms : List ByteWrite). option_map (λ (m : ByteWrite). m.source) (find (λ m. same_byte m.to c) ms)) (i.3 s.past)) (runs_or_idle x n.act (acted (Run x) e))
 
-  kept_by : (n : Node) (cn : Contains (nodes all) n) (c : Byte) (v : ℕ) → ((k : ℕ) → part_write all n.act k c ≡ None) → value_before all (suc n.number) c ≡ Some v → value_before all n.number c ≡ Some v
+  kept_by : (n : Node) (cn : Contains (nodes all) n) (c : Byte) (v : ℕ) → ((k : ℕ) → task_write all n.act k c ≡ None) → value_before all (suc n.number) c ≡ Some v → value_before all n.number c ≡ Some v
   kept_by n cn c v none h =
       let s = stands all n cn in
       let low = s.new in
@@ -383,12 +383,12 @@ module _ (together : PiecesAreByteWrites) (apart : PiecesWriteApart) (t : List E
     written = λ u c w v h e.
         let a = write_act all u c w h in
         let n = node_of all u.node a.0 a.1 in
-        subst (λ (k : ℕ). value_before all (suc k) c ≡ Some v → put_value w (value_before all k) ≡ Some v) n.1 (written_by a.0 n.0 u.part c w v a.2) e;
+        subst (λ (k : ℕ). value_before all (suc k) c ≡ Some v → put_value w (value_before all k) ≡ Some v) n.1 (written_by a.0 n.0 u.index c w v a.2) e;
     kept = λ k c v none h. ⊎_elim
         (λ lt.
         let a = node_there (nodes all) k (numbered all) lt in
         let n = node_of all k a.0 a.1 in
-        let quiet : (l : ℕ) → part_write all a.0.act l c ≡ None = λ l. subst (λ (o : Option Node). by_act None (λ x. part_write all x l c) o ≡ None) a.1 (none (record { node = k; part = l }) refl) in
+        let quiet : (l : ℕ) → task_write all a.0.act l c ≡ None = λ l. subst (λ (o : Option Node). by_act None (λ x. task_write all x l c) o ≡ None) a.1 (none (record { node = k; index = l }) refl) in
         subst (λ (k : ℕ). value_before all (suc k) c ≡ Some v → value_before all k c ≡ Some v) n.1 (kept_by a.0 n.0 c v quiet) h)
         (λ le.
         let whole = before_whole all k le in
@@ -429,11 +429,11 @@ module _ (together : PiecesAreByteWrites) (apart : PiecesWriteApart) (t : List E
           go (Some v) e = (v, subst (λ (l : Past). (world l).value c ≡ Some v) (sym (at_node n s)) e)
       by_entry n cn _ act h = absurd cc
 
-      by_node : (n : Node) → Contains (nodes all) n → IsTrue (is_host n.act) → IsTrue (part_read all n.act u.part c) → (v : ℕ) × (value_before all n.number c ≡ Some v)
+      by_node : (n : Node) → Contains (nodes all) n → IsTrue (is_host n.act) → IsTrue (task_read all n.act u.index c) → (v : ℕ) × (value_before all n.number c ≡ Some v)
       by_node n cn h r = go n.act refl h r
         where
-          go : (a : Act) → n.act ≡ a → IsTrue (is_host a) → IsTrue (part_read all a u.part c) → (v : ℕ) × (value_before all n.number c ≡ Some v)
-          go (Hosts x) act h r = by_entry n cn x act (and_parts (u.part == 0) _ r).1
+          go : (a : Act) → n.act ≡ a → IsTrue (is_host a) → IsTrue (task_read all a u.index c) → (v : ℕ) × (value_before all n.number c ≡ Some v)
+          go (Hosts x) act h r = by_entry n cn x act (and_parts (u.index == 0) _ r).1
           go (Runs x) act h r = absurd cc
           go (Waits q) act h r = absurd cc
           go (Signals q) act h r = absurd cc

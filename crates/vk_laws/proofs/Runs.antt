@@ -57,20 +57,20 @@ module _ (leads : BeforeLeadsOn) (all : Past) where
   -- the first parts of a node, after other tasks
   abbrev with_parts : ℕ → ℕ → List Task → List Task
   with_parts k zero rest = rest
-  with_parts k (suc j) rest = record { node = k; part = j } ∷ with_parts k j rest
+  with_parts k (suc j) rest = record { node = k; index = j } ∷ with_parts k j rest
 
   abbrev pub in_order : ℕ → List Task
   in_order zero = []
   in_order (suc k) = with_parts k (count k) (in_order k)
 
-  there : (u : Task) → IsTrue (tr.has u) → u.part < count u.node
+  there : (u : Task) → IsTrue (tr.has u) → u.index < count u.node
   there u h = go (node_at all u.node) h
     where
-      go : (o : Option Node) → IsTrue (by_act false (λ a. nat_lt u.part (task_count all a)) o) → u.part < (elim o [ None ↦ 0 | Some n ↦ task_count all n.act ])
+      go : (o : Option Node) → IsTrue (by_act false (λ a. nat_lt u.index (task_count all a)) o) → u.index < (elim o [ None ↦ 0 | Some n ↦ task_count all n.act ])
       go None h = absurd cc
-      go (Some n) h = ltb-true u.part (task_count all n.act) h
+      go (Some n) h = ltb-true u.index (task_count all n.act) h
 
-  has_part : (k j : ℕ) → j < count k → IsTrue (tr.has (record { node = k; part = j }))
+  has_part : (k j : ℕ) → j < count k → IsTrue (tr.has (record { node = k; index = j }))
   has_part k j lt = go (node_at all k) lt
     where
       go : (o : Option Node) → j < (elim o [ None ↦ 0 | Some n ↦ task_count all n.act ]) → IsTrue (by_act false (λ a. nat_lt j (task_count all a)) o)
@@ -89,9 +89,9 @@ module _ (leads : BeforeLeadsOn) (all : Past) where
           let a = (node_of all s.node m e).1 in
           let b = (node_of all t.node n f).1 in omega arith
 
-  part_in : (k j : ℕ) (rest : List Task) (u : Task) → u.node ≡ k → u.part < j → IsIn u (with_parts k j rest)
-  part_in k zero rest u e lt = absurd (omega (arith, lt))
-  part_in k (suc j) rest u e lt = elim (cases_lt u.part j) [ inl less ↦ inr (part_in k j rest u e less) | inr le ↦ inl (same_task u (record { node = k; part = j }) e (omega (arith, lt, le))) ]
+  index_in : (k j : ℕ) (rest : List Task) (u : Task) → u.node ≡ k → u.index < j → IsIn u (with_parts k j rest)
+  index_in k zero rest u e lt = absurd (omega (arith, lt))
+  index_in k (suc j) rest u e lt = elim (cases_lt u.index j) [ inl less ↦ inr (index_in k j rest u e less) | inr le ↦ inl (same_task u (record { node = k; index = j }) e (omega (arith, lt, le))) ]
 
   later_in : (k j : ℕ) (rest : List Task) (u : Task) → IsIn u rest → IsIn u (with_parts k j rest)
   later_in k zero rest u h = h
@@ -101,13 +101,13 @@ module _ (leads : BeforeLeadsOn) (all : Past) where
   task_in zero u h lt = absurd (omega (arith, lt))
   task_in (suc k) u h lt = elim (cases_lt u.node k) [
     | inl less ↦ later_in k (count k) (in_order k) u (task_in k u h less)
-    | inr le ↦ let e : u.node ≡ k = omega (arith, lt, le) in part_in k (count k) (in_order k) u e (subst (λ (n : ℕ). u.part < count n) e (there u h))
+    | inr le ↦ let e : u.node ≡ k = omega (arith, lt, le) in index_in k (count k) (in_order k) u e (subst (λ (n : ℕ). u.index < count n) e (there u h))
   ]
 
   -- a task of the run: of an earlier node, or an earlier part
-  in_parts : (k j : ℕ) (rest : List Task) (u : Task) → IsIn u (with_parts k j rest) → IsIn u rest ⊎ ((u.node ≡ k) × (u.part < j))
+  in_parts : (k j : ℕ) (rest : List Task) (u : Task) → IsIn u (with_parts k j rest) → IsIn u rest ⊎ ((u.node ≡ k) × (u.index < j))
   in_parts k zero rest u h = inl h
-  in_parts k (suc j) rest u (inl e) = inr (ap (λ (t : Task). t.node) e, let f = ap (λ (t : Task). t.part) e in omega (arith, f))
+  in_parts k (suc j) rest u (inl e) = inr (ap (λ (t : Task). t.node) e, let f = ap (λ (t : Task). t.index) e in omega (arith, f))
   in_parts k (suc j) rest u (inr h) = ⊎_elim (λ r. inl r) (λ p. inr (p.0, let lt = p.1 in omega (arith, lt))) (in_parts k j rest u h)
 
   low : (k : ℕ) (u : Task) → IsIn u (in_order k) → u.node < k
@@ -119,8 +119,8 @@ module _ (leads : BeforeLeadsOn) (all : Past) where
   parts_allowed k (suc j) le ok = (
     record {
       there = has_part k j (omega (arith, le));
-      fresh = λ h. ⊎_elim (λ r. let lt : k < k = low k (record { node = k; part = j }) r in omega (arith, lt)) (λ p. let lt : j < j = p.1 in omega (arith, lt)) (in_parts k j (in_order k) (record { node = k; part = j }) h);
-      after = λ s p. later_in k j (in_order k) s (task_in k s p.0 (earlier s (record { node = k; part = j }) p));
+      fresh = λ h. ⊎_elim (λ r. let lt : k < k = low k (record { node = k; index = j }) r in omega (arith, lt)) (λ p. let lt : j < j = p.1 in omega (arith, lt)) (in_parts k j (in_order k) (record { node = k; index = j }) h);
+      after = λ s p. later_in k j (in_order k) s (task_in k s p.0 (earlier s (record { node = k; index = j }) p));
     },
     parts_allowed k j (omega (arith, le)) ok,
   )
@@ -139,7 +139,7 @@ module _ (leads : BeforeLeadsOn) (all : Past) where
   -- ---- a run by tests
 
   abbrev pub same : Task → Task → Bool
-  same t u = t.node == u.node && t.part == u.part
+  same t u = t.node == u.node && t.index == u.index
 
   abbrev pub is_done : Task → List Task → Bool
   is_done t done = list_any (same t) done
@@ -152,7 +152,7 @@ module _ (leads : BeforeLeadsOn) (all : Past) where
   is_allowed size (t ∷ done) = may_run size done t && is_allowed size done
 
   is_same : (t u : Task) → IsTrue (same t u) → t ≡ u
-  is_same t u h = let g = and_parts _ _ h in same_task t u (eqb-true t.node u.node g.0) (eqb-true t.part u.part g.1)
+  is_same t u h = let g = and_parts _ _ h in same_task t u (eqb-true t.node u.node g.0) (eqb-true t.index u.index g.1)
 
   pub found_in : (t : Task) (done : List Task) → IsTrue (is_done t done) → IsIn t done
   found_in t [] h = absurd cc
@@ -160,7 +160,7 @@ module _ (leads : BeforeLeadsOn) (all : Past) where
 
   pub in_found : (t : Task) (done : List Task) → IsIn t done → IsTrue (is_done t done)
   in_found t [] h = absurd h
-  in_found t (u ∷ done) (inl e) = rw e (rw (eq-eqb u.node u.node refl, eq-eqb u.part u.part refl) refl)
+  in_found t (u ∷ done) (inl e) = rw e (rw (eq-eqb u.node u.node refl, eq-eqb u.index u.index refl) refl)
   in_found t (u ∷ done) (inr h) = or_right (same t u) (is_done t done) (in_found t done h)
 
   each_in : (f : Task → Bool) (xs : List Task) (x : Task) → IsTrue (list_all f xs) → IsIn x xs → IsTrue (f x)
@@ -180,7 +180,7 @@ module _ (leads : BeforeLeadsOn) (all : Past) where
       below_size : (s : Task) → IsTrue (tr.has s) → s.node < size
       below_size s h = go (node_at all s.node) refl h
         where
-          go : (o : Option Node) → node_at all s.node ≡ o → IsTrue (by_act false (λ a. nat_lt s.part (task_count all a)) o) → s.node < size
+          go : (o : Option Node) → node_at all s.node ≡ o → IsTrue (by_act false (λ a. nat_lt s.index (task_count all a)) o) → s.node < size
           go None e h = absurd cc
           go (Some n) e h = let f = node_of all s.node n e in let lt = number_below (nodes all) (numbered all) n f.0 in let at = f.1 in omega (arith, lt, at, le)
 

@@ -20,9 +20,9 @@ use Rattle.vk_model.specs.Before.{before}
 use Rattle.vk_laws.specs.EveryOrder.{IsSettled}
 use Rattle.vk_laws.specs.Machine.{Task, Put, Puts, Writes, Reads, Precedes, Conflict, MayRun, IsAllowed}
 use Rattle.vk_laws.specs.Trace.{accesses, AccessesInOrder}
-use Rattle.vk_laws.specs.Tasks.{piece_writes, host_value, part_write, part_read, task_count, node_at, by_act, accesses_of}
+use Rattle.vk_laws.specs.Tasks.{piece_writes, host_value, task_write, task_read, task_count, node_at, by_act, accesses_of}
 use Rattle.vk_laws.proofs.TaskNodes.{node_of}
-use Rattle.vk_laws.proofs.Members.{member_passes, some_member, found, map_has, part_has, chosen_has, chosen_from, numbers_have, none_in}
+use Rattle.vk_laws.proofs.Members.{member_passes, some_member, found, map_has, task_has, chosen_has, chosen_from, numbers_have, none_in}
 use Rattle.vk_laws.proofs.Fresh.{closed}
 
 -- ---- bytes
@@ -54,9 +54,9 @@ module _ (together : PiecesAreByteWrites) (all : Past) where
     where
       go : (o : Option (List ByteWrite)) → slice_get (pieces all x) k ≡ o → Contains (piece_writes o) m → Contains (byte_writes all x) m
       go None e c = absurd (none_in m c)
-      go (Some ms) e c = subst (λ (l : List ByteWrite). Contains l m) (together all x) (part_has (pieces all x) k ms m e c)
+      go (Some ms) e c = subst (λ (l : List ByteWrite). Contains l m) (together all x) (task_has (pieces all x) k ms m e c)
 
-  run_writes : (x : Cmd) (k : ℕ) (c : Byte) (w : Put) → part_write all (Runs x) k c ≡ Some w → Contains (targets (byte_writes all x)) c
+  run_writes : (x : Cmd) (k : ℕ) (c : Byte) (w : Put) → task_write all (Runs x) k c ≡ Some w → Contains (targets (byte_writes all x)) c
   run_writes x k c w e = go (find (λ m. same_byte m.to c) (piece_writes (slice_get (pieces all x) k))) refl e
     where
       go : (o : Option ByteWrite) → find (λ m. same_byte m.to c) (piece_writes (slice_get (pieces all x) k)) ≡ o → option_map (λ m. Puts m.source) o ≡ Some w → Contains (targets (byte_writes all x)) c
@@ -78,7 +78,7 @@ module _ (together : PiecesAreByteWrites) (all : Past) where
   host_writes_it (entry.Write b o bytes) (in_image i l m x y p) v e = absurd cc
   host_writes_it _ c v e = absurd cc
 
-  writes_it : (a : Act) (q k : ℕ) (c : Byte) (w : Put) → part_write all a k c ≡ Some w → IsTrue (accesses a) × Contains (writes_of all q a) c
+  writes_it : (a : Act) (q k : ℕ) (c : Byte) (w : Put) → task_write all a k c ≡ Some w → IsTrue (accesses a) × Contains (writes_of all q a) c
   writes_it (Runs x) q k c w e = (refl, run_writes x k c w e)
   writes_it (Hosts x) q k c w e = (refl, go (k == 0) (host_value x c) refl e)
     where
@@ -93,7 +93,7 @@ module _ (together : PiecesAreByteWrites) (all : Past) where
   pub is_there : (c : Byte) (bs : List Byte) → IsTrue (is_in c bs) → Contains bs c
   is_there c bs h = let s = some_member (same_byte c) bs h in subst (λ (b : Byte). Contains bs b) (sym (byte_same c s.0 s.2)) s.1
 
-  reads_it : (a : Act) (q k : ℕ) (c : Byte) → IsTrue (part_read all a k c) → IsTrue (accesses a) × Contains (reads_of all q a) c
+  reads_it : (a : Act) (q k : ℕ) (c : Byte) → IsTrue (task_read all a k c) → IsTrue (accesses a) × Contains (reads_of all q a) c
   reads_it (Runs x) q k c h =
       let there = is_there c (origins (piece_writes (slice_get (pieces all x) k))) h in
       let m = chosen_from (λ m. origin m.source) (piece_writes (slice_get (pieces all x) k)) c there in
@@ -118,7 +118,7 @@ module _ (together : PiecesAreByteWrites) (all : Past) where
   only_part : (k : ℕ) → (k == 0) ≡ true → IsTrue (nat_lt k 1)
   only_part k h = let e = eqb-true k 0 h in lt-ltb k 1 (omega arith)
 
-  writer_there : (a : Act) (k : ℕ) (c : Byte) (w : Put) → part_write all a k c ≡ Some w → IsTrue (nat_lt k (task_count all a))
+  writer_there : (a : Act) (k : ℕ) (c : Byte) (w : Put) → task_write all a k c ≡ Some w → IsTrue (nat_lt k (task_count all a))
   writer_there (Runs x) k c w e = go (find (λ m. same_byte m.to c) (piece_writes (slice_get (pieces all x) k))) refl e
     where
       go : (o : Option ByteWrite) → find (λ m. same_byte m.to c) (piece_writes (slice_get (pieces all x) k)) ≡ o → option_map (λ m. Puts m.source) o ≡ Some w → IsTrue (nat_lt k (length (pieces all x)))
@@ -133,7 +133,7 @@ module _ (together : PiecesAreByteWrites) (all : Past) where
   writer_there (Signals s) k c w e = absurd cc
   writer_there (Depends r s) k c w e = absurd cc
 
-  reader_there : (a : Act) (k : ℕ) (c : Byte) → IsTrue (part_read all a k c) → IsTrue (nat_lt k (task_count all a))
+  reader_there : (a : Act) (k : ℕ) (c : Byte) → IsTrue (task_read all a k c) → IsTrue (nat_lt k (task_count all a))
   reader_there (Runs x) k c h =
       let there = is_there c (origins (piece_writes (slice_get (pieces all x) k))) h in
       let m = chosen_from (λ m. origin m.source) (piece_writes (slice_get (pieces all x) k)) c there in
@@ -151,29 +151,29 @@ module _ (together : PiecesAreByteWrites) (all : Past) where
     pub at : node_at all t.node ≡ Some node
     pub stands : Contains (nodes all) node
     pub number : node.number ≡ t.node
-    pub there : IsTrue (nat_lt t.part (task_count all node.act))
+    pub there : IsTrue (nat_lt t.index (task_count all node.act))
     pub is_access : IsTrue (accesses node.act)
     pub accessed : access node
 
   pub writer : (t : Task) (c : Byte) → Writes (accesses_of all) t c → Accessor t (λ n. Contains (writes all n) c)
   writer t c w = go (node_at all t.node) refl w.1
     where
-      go : (o : Option Node) → node_at all t.node ≡ o → by_act None (λ a. part_write all a t.part c) o ≡ Some w.0 → Accessor t (λ n. Contains (writes all n) c)
+      go : (o : Option Node) → node_at all t.node ≡ o → by_act None (λ a. task_write all a t.index c) o ≡ Some w.0 → Accessor t (λ n. Contains (writes all n) c)
       go None e h = absurd cc
       go (Some n) e h =
           let f = node_of all t.node n e in
-          let both = writes_it n.act n.point.queue t.part c w.0 h in
-          record { node = n; at = e; stands = f.0; number = f.1; there = writer_there n.act t.part c w.0 h; is_access = both.0; accessed = both.1 }
+          let both = writes_it n.act n.point.queue t.index c w.0 h in
+          record { node = n; at = e; stands = f.0; number = f.1; there = writer_there n.act t.index c w.0 h; is_access = both.0; accessed = both.1 }
 
   pub reader : (t : Task) (c : Byte) → Reads (accesses_of all) t c → Accessor t (λ n. Contains (reads all n) c)
   reader t c r = go (node_at all t.node) refl r
     where
-      go : (o : Option Node) → node_at all t.node ≡ o → IsTrue (by_act false (λ a. part_read all a t.part c) o) → Accessor t (λ n. Contains (reads all n) c)
+      go : (o : Option Node) → node_at all t.node ≡ o → IsTrue (by_act false (λ a. task_read all a t.index c) o) → Accessor t (λ n. Contains (reads all n) c)
       go None e h = absurd cc
       go (Some n) e h =
           let f = node_of all t.node n e in
-          let both = reads_it n.act n.point.queue t.part c h in
-          record { node = n; at = e; stands = f.0; number = f.1; there = reader_there n.act t.part c h; is_access = both.0; accessed = both.1 }
+          let both = reads_it n.act n.point.queue t.index c h in
+          record { node = n; at = e; stands = f.0; number = f.1; there = reader_there n.act t.index c h; is_access = both.0; accessed = both.1 }
 
 -- ---- the law
 
@@ -181,7 +181,7 @@ module _ (together : PiecesAreByteWrites) (order : AccessesInOrder) (t : List En
   abbrev all : Past
   all = plain_order t
 
-  by_nodes : (s u : Task) (m n : Node) → node_at all s.node ≡ Some m → node_at all u.node ≡ Some n → IsTrue (nat_lt s.part (task_count all m.act)) → IsTrue (before (nodes all) m n) → Precedes (accesses_of all) s u
+  by_nodes : (s u : Task) (m n : Node) → node_at all s.node ≡ Some m → node_at all u.node ≡ Some n → IsTrue (nat_lt s.index (task_count all m.act)) → IsTrue (before (nodes all) m n) → Precedes (accesses_of all) s u
   by_nodes s u m n e f there b = (rw e there, rw (e, f) b)
 
   pub ordered : (s u : Task) (c : Byte) → s.node < u.node → Conflict (accesses_of all) s u c → Precedes (accesses_of all) s u

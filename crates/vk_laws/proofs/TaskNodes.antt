@@ -8,8 +8,8 @@ use Rattle.vk_laws.specs.Machine.{Task}
 use Rattle.vk_laws.specs.Tasks.{node_at}
 use Rattle.vk_laws.proofs.Members.{found}
 
-pub same_task : (s t : Task) → s.node ≡ t.node → s.part ≡ t.part → s ≡ t
-same_task s t e f = λ i. record { node = e i; part = f i }
+pub same_task : (s t : Task) → s.node ≡ t.node → s.index ≡ t.index → s ≡ t
+same_task s t e f = λ i. record { node = e i; index = f i }
 
 pub node_of : (all : Past) (k : ℕ) (n : Node) → node_at all k ≡ Some n → Contains (nodes all) n × (n.number ≡ k)
 node_of all k n e = let f = found (λ m. m.number == k) (nodes all) n e in (f.0, eqb-true n.number k f.1)

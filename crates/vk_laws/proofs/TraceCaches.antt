@@ -134,7 +134,7 @@ before_number ns x y h = ltb-true x.number y.number (and_parts _ _ h).0
 
 module _ (paths : BeforeIsPath) (joins : BeforeIsTransitive) (all : Past) where
   abbrev numbered_task : ℕ → Task
-  numbered_task k = record { node = k; part = 0 }
+  numbered_task k = record { node = k; index = 0 }
 
   abbrev task_of : Node → Task
   task_of n = numbered_task n.number

@@ -18,7 +18,7 @@ use Rattle.vk_model.specs.Laws.{BeforeIsPath, BeforeIsTransitive, GrowthKeeps, K
 use Rattle.vk_laws.specs.Machine.{Task, Put}
 use Rattle.vk_laws.specs.Growth.{Extends}
 use Rattle.vk_laws.specs.Trace.{accesses}
-use Rattle.vk_laws.specs.Tasks.{piece_writes, task_count, part_write, node_at, by_act, accesses_of}
+use Rattle.vk_laws.specs.Tasks.{piece_writes, task_count, task_write, node_at, by_act, accesses_of}
 use Rattle.vk_laws.specs.TraceBytes.{before_node}
 use Rattle.vk_laws.specs.Discards.{entry_forgets, forgets, or_unknown, with_discards}
 use Rattle.vk_laws.specs.TraceCaches.{agent_of, submits_to, cached, host_wrote, sends_write, makes_visible_to, caching_of}
@@ -123,10 +123,10 @@ module _ (paths : BeforeIsPath) (joins : BeforeIsTransitive) (keeps : GrowthKeep
         go (Signals w) e = refl
         go (Depends r d) e = refl
 
-    same_part : (k : ℕ) (c : Byte) → part_write whole n.act k c ≡ part_write old n.act k c
-    same_part k c = go n.act refl
+    same_index : (k : ℕ) (c : Byte) → task_write whole n.act k c ≡ task_write old n.act k c
+    same_index k c = go n.act refl
       where
-        go : (a : Act) → n.act ≡ a → part_write whole a k c ≡ part_write old a k c
+        go : (a : Act) → n.act ≡ a → task_write whole a k c ≡ task_write old a k c
         go (Runs x) e = ap (λ (ps : List (List ByteWrite)). option_map (λ m. Rattle.vk_laws.specs.Machine.Puts m.source) (find (λ m. same_byte m.to c) (piece_writes (slice_get ps k)))) (same_pieces whole newer old split new alive n x cn e)
         go (Hosts x) e = refl
         go (Waits w) e = refl
@@ -202,16 +202,16 @@ module _ (paths : BeforeIsPath) (joins : BeforeIsTransitive) (keeps : GrowthKeep
   has_same : (t : Task) → t.node < size → (with_discards whole).has t ≡ (with_discards old).has t
   has_same t lt =
       let n = at t.node lt in
-      ap (by_act false (λ a. nat_lt t.part (task_count whole a))) n.in_whole ∙ ap (nat_lt t.part) (same_count n.node n.stands) ∙ sym (ap (by_act false (λ a. nat_lt t.part (task_count old a))) n.in_old)
+      ap (by_act false (λ a. nat_lt t.index (task_count whole a))) n.in_whole ∙ ap (nat_lt t.index) (same_count n.node n.stands) ∙ sym (ap (by_act false (λ a. nat_lt t.index (task_count old a))) n.in_old)
 
   write_same : (t : Task) (c : Byte) → t.node < size → (with_discards whole).write_of t c ≡ (with_discards old).write_of t c
   write_same t c lt =
       let n = at t.node lt in
-      let f : (o : Option Node) → (u : Past) → Option Put = λ o u. or_unknown (t.part == 0 && by_act false (λ a. forgets u t.node a c) o) (by_act None (λ a. part_write u a t.part c) o) in
+      let f : (o : Option Node) → (u : Past) → Option Put = λ o u. or_unknown (t.index == 0 && by_act false (λ a. forgets u t.node a c) o) (by_act None (λ a. task_write u a t.index c) o) in
       let lost : forgets whole t.node n.node.act c ≡ forgets old t.node n.node.act c = subst (λ (k : ℕ). forgets whole k n.node.act c ≡ forgets old k n.node.act c) n.number (same_forgets n.node n.stands n.node.act c) in
       ap (λ (o : Option Node). f o whole) n.in_whole
-      ∙ ap (λ (b : Bool). or_unknown (t.part == 0 && b) (part_write whole n.node.act t.part c)) lost
-      ∙ ap (λ (w : Option Put). or_unknown (t.part == 0 && forgets old t.node n.node.act c) w) (same_part n.node n.stands t.part c)
+      ∙ ap (λ (b : Bool). or_unknown (t.index == 0 && b) (task_write whole n.node.act t.index c)) lost
+      ∙ ap (λ (w : Option Put). or_unknown (t.index == 0 && forgets old t.node n.node.act c) w) (same_index n.node n.stands t.index c)
       ∙ sym (ap (λ (o : Option Node). f o old) n.in_old)
 
   before_same : (a b : ℕ) → b < size → (with_discards whole).before a b ≡ (with_discards old).before a b
@@ -264,7 +264,7 @@ module _ (paths : BeforeIsPath) (joins : BeforeIsTransitive) (keeps : GrowthKeep
 
   pub extends : Extends size (with_discards old) (caching_of old) (with_discards whole) (caching_of whole)
   extends = record {
-    old = λ t h. there_below old t.node (λ a. nat_lt t.part (task_count old a)) h;
+    old = λ t h. there_below old t.node (λ a. nat_lt t.index (task_count old a)) h;
     has = has_same;
     write_of = write_same;
     before = before_same;

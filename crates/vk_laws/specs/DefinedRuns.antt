@@ -23,11 +23,11 @@ is_event all u = holds (node_at all u.node) (λ n. not (accesses n.act))
 
 -- The task of a piece.
 abbrev pub piece_task : Name → Task
-piece_task x = record { node = x.0; part = x.1 }
+piece_task x = record { node = x.0; index = x.1 }
 
 -- The task of the entry that comes next at a stage: its node is the next one.
 abbrev pub entry_task : Stage → Task
-entry_task s = record { node = length (nodes s.front.past); part = 0 }
+entry_task s = record { node = length (nodes s.front.past); index = 0 }
 
 -- The tasks after a step, the newest first: a part of a pass that is copied is none.
 abbrev pub with_step : Stage → Step → List Task → List Task
@@ -54,7 +54,7 @@ bytes_after tr first (u ∷ done) c = stored (tr.write_of u c) (bytes_after tr f
 
 -- Whether a piece has run, or the entry of a host entry's node has been applied.
 abbrev pub act_happened : Stage → Task → Node → Act → Bool
-act_happened s u n (Runs c) = is_done s.done (u.node, u.part)
+act_happened s u n (Runs c) = is_done s.done (u.node, u.index)
 act_happened s u n (Hosts x) = nat_lt n.point.entry s.count
 act_happened s u n _ = false
 

@@ -32,7 +32,7 @@ or_unknown false w = w
 abbrev pub with_discards : Past → TraceAccesses
 with_discards all = record {
   has = (accesses_of all).has;
-  write_of = λ t c. or_unknown (t.part == 0 && by_act false (λ a. forgets all t.node a c) (node_at all t.node)) ((accesses_of all).write_of t c);
+  write_of = λ t c. or_unknown (t.index == 0 && by_act false (λ a. forgets all t.node a c) (node_at all t.node)) ((accesses_of all).write_of t c);
   reads = (accesses_of all).reads;
   before = (accesses_of all).before;
 }

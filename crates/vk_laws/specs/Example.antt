@@ -8,7 +8,7 @@ use Rattle.vk_laws.specs.Commands.{Effects, meaning}
 
 -- The tasks: the first fill is node 0, its queue's signal node 1, the other queue's wait node 2, the copy node 3, and the other fill node 4.
 abbrev pub task : ℕ → Task
-task n = record { node = n; part = 0 }
+task n = record { node = n; index = 0 }
 
 -- The byte that is filled and copied.
 abbrev pub original : Byte
@@ -26,17 +26,17 @@ abbrev pub reads : ℕ → Byte → Bool
 reads (suc (suc (suc zero))) (in_buffer zero zero) = true
 reads _ _ = false
 
--- What a task of one part does, where others do nothing.
-abbrev pub first_part : {A : Type 0} → A → A → ℕ → A
-first_part nothing x zero = x
-first_part nothing x (suc k) = nothing
+-- What the only task of a node does, where others do nothing.
+abbrev pub only_index : {A : Type 0} → A → A → ℕ → A
+only_index nothing x zero = x
+only_index nothing x (suc k) = nothing
 
 -- The trace: fill, signal, wait and copy come one after another.
 abbrev pub accesses : TraceAccesses
 accesses = record {
-  has = λ t. nat_lt t.node 5 && t.part == 0;
-  write_of = λ t c. first_part None (writes t.node c) t.part;
-  reads = λ t c. first_part false (reads t.node c) t.part;
+  has = λ t. nat_lt t.node 5 && t.index == 0;
+  write_of = λ t c. only_index None (writes t.node c) t.index;
+  reads = λ t c. only_index false (reads t.node c) t.index;
   before = λ a b. nat_lt a b && nat_lt b 4;
 }
 
@@ -50,8 +50,8 @@ queue _ = 2
 abbrev pub caching : Caching
 caching = record {
   agent = λ t. queue t.node;
-  makes_available = λ p w c. p.node == 1 && p.part == 0 && w.node == 0 && w.part == 0;
-  makes_visible = λ q a c. q.node == 2 && q.part == 0 && a == 2;
+  makes_available = λ p w c. p.node == 1 && p.index == 0 && w.node == 0 && w.index == 0;
+  makes_visible = λ q a c. q.node == 2 && q.index == 0 && a == 2;
 }
 
 -- What the nodes do, each as a whole.

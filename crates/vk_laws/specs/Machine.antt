@@ -10,10 +10,10 @@ abbrev pub IsIn : {A : Type 0} → A → List A → Type 0
 IsIn x [] = ⊥
 IsIn x (y ∷ ys) = (x ≡ y) ⊎ IsIn x ys
 
--- What happens at one moment of a run: a part of node number `node`. A command's parts are its pieces; a host entry and an event (a barrier's, set's or await's element, a batch's wait or signal) have one part (profile).
+-- What happens at one moment of a run: a piece of node number `node`. A command has a task for each of its pieces, by the piece's index; a host entry and an event (a barrier's, set's or await's element, a batch's wait or signal) have one, of index 0 (profile).
 pub record Task : Type 0 where
   pub node : ℕ
-  pub part : ℕ
+  pub index : ℕ
 
 -- What a task writes to a byte: a value, what another byte holds just then, or an unknown value (Vulkan, "Clear Commands" and "Copy Commands"; the last for a host write that an invalidation discards: "Host Access to Device Memory Objects").
 pub data Put : Type 0 where

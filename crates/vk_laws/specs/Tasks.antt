@@ -36,17 +36,17 @@ abbrev pub host_value : Entry → Byte → Option ℕ
 host_value (entry.Write b o bytes) c = written b o bytes c
 host_value _ c = None
 
--- What part k of an act writes to a byte; an event writes nothing.
-abbrev pub part_write : Past → Act → ℕ → Byte → Option Put
-part_write all (Runs x) k c = option_map (λ m. Puts m.source) (find (λ m. same_byte m.to c) (piece_writes (slice_get (pieces all x) k)))
-part_write all (Hosts x) k c = if k == 0 then option_map (λ v. Puts (Value v)) (host_value x c) else None
-part_write all _ k c = None
+-- What the task of index k of an act writes to a byte; an event writes nothing.
+abbrev pub task_write : Past → Act → ℕ → Byte → Option Put
+task_write all (Runs x) k c = option_map (λ m. Puts m.source) (find (λ m. same_byte m.to c) (piece_writes (slice_get (pieces all x) k)))
+task_write all (Hosts x) k c = if k == 0 then option_map (λ v. Puts (Value v)) (host_value x c) else None
+task_write all _ k c = None
 
--- Whether part k of an act reads a byte.
-abbrev pub part_read : Past → Act → ℕ → Byte → Bool
-part_read all (Runs x) k c = is_in c (origins (piece_writes (slice_get (pieces all x) k)))
-part_read all (Hosts x) k c = k == 0 && is_in c (host_reads x)
-part_read all _ k c = false
+-- Whether the task of index k of an act reads a byte.
+abbrev pub task_read : Past → Act → ℕ → Byte → Bool
+task_read all (Runs x) k c = is_in c (origins (piece_writes (slice_get (pieces all x) k)))
+task_read all (Hosts x) k c = k == 0 && is_in c (host_reads x)
+task_read all _ k c = false
 
 -- What a node's act gives, if there is the node.
 abbrev pub by_act : {A : Type 0} → A → (Act → A) → Option Node → A
@@ -56,9 +56,9 @@ by_act nothing f (Some n) = f n.act
 -- A trace as the machine's accesses, with the order of its nodes (Vulkan, "Execution and Memory Dependencies").
 abbrev pub accesses_of : Past → TraceAccesses
 accesses_of all = record {
-  has = λ t. by_act false (λ a. nat_lt t.part (task_count all a)) (node_at all t.node);
-  write_of = λ t c. by_act None (λ a. part_write all a t.part c) (node_at all t.node);
-  reads = λ t c. by_act false (λ a. part_read all a t.part c) (node_at all t.node);
+  has = λ t. by_act false (λ a. nat_lt t.index (task_count all a)) (node_at all t.node);
+  write_of = λ t c. by_act None (λ a. task_write all a t.index c) (node_at all t.node);
+  reads = λ t c. by_act false (λ a. task_read all a t.index c) (node_at all t.node);
   before = λ a b. holds (node_at all a) (λ m. holds (node_at all b) (λ n. before (nodes all) m n));
 }
 

@@ -29,7 +29,7 @@ returns c = record {
         earlier = λ u lt w. let real = writer_real all c.pieces_are_byte_writes.ensures u b w in (d.1.happened u real.0 real.1).1 (ends.1 u real.0 real.1);
         later = λ u le w h.
             let real = writer_real all c.pieces_are_byte_writes.ensures u b w in
-            let lt = there_below all u.node (λ a. nat_lt u.part (task_count all a)) real.0 in
+            let lt = there_below all u.node (λ a. nat_lt u.index (task_count all a)) real.0 in
             omega (arith, lt, le);
       } in
       let follows : Follows (accesses_of all) (value_before all) d.0 (bytes_after (accesses_of all) first d.0) = λ a w u last its.
