@@ -19,7 +19,7 @@ use Rattle.vk_laws.specs.Trace.{accesses, NoHazardLaw, SeenIsBefore, HostInOrder
 use Rattle.vk_laws.specs.Tasks.{task_count, node_at, accesses_of}
 use Rattle.vk_laws.specs.TraceCaches.{caching_of}
 use Rattle.vk_laws.proofs.Steady.{IsNew, made_step, new_ids, live_ids, IsLive, comes_within}
-use Rattle.vk_laws.proofs.Points.{AtPoint, stands, comes_at, at_point_below}
+use Rattle.vk_laws.proofs.Points.{AtPoint, at_point, comes_at, at_point_below}
 use Rattle.vk_laws.proofs.CachedStays.{cached_stays}
 use Rattle.vk_laws.specs.TraceBytes.{before_node}
 use Rattle.vk_laws.proofs.ModelBytes.{more_nodes, before_inside}
@@ -32,7 +32,7 @@ use Rattle.vk_laws.proofs.TraceCaches.{agent_is, seen_task, available_task, avai
 -- whether the host caches what a node writes is the same at any later point
 module _ (all newer low : Past) (whole : all ≡ newer ++ low) (new : IsNew all) (alive : IsLive all) (x : Node) (cx : Contains (nodes low) x) (ax : IsTrue (accesses x.act)) (b : Byte) (judged : Past) (h : Contains (writes judged x) b) where
   s : AtPoint low x
-  s = stands low x cx
+  s = at_point low x cx
 
   base : Past
   base = s.at ∷ s.past
@@ -83,10 +83,10 @@ cached_then all new alive x cx ax b judged h n cn le =
     ∙ sym (cached_stays (sx.newer ++ sx.at ∷ []) sx.past (subst (λ (l : Past). IsNew l) whole new) live_x new_x (resource_at b) m.0 m.1) ∙ sym (ap (λ (l : Past). is_cached l (resource_at b)) whole)
   where
     sx : AtPoint all x
-    sx = stands all x cx
+    sx = at_point all x cx
 
     sn : AtPoint all n
-    sn = stands all n cn
+    sn = at_point all n cn
 
     come : (newer : Past) (p : Point) (past : Past) → all ≡ newer ++ p ∷ past → (c : Past) (q : Point) → Comes past c q → Comes all c q
     come newer p past whole c q k = comes_within _ newer (p ∷ past) whole c q (older k)
@@ -125,15 +125,15 @@ module _ (together : PiecesAreByteWrites) (paths : BeforeIsPath) (joins : Before
       by_agents (is_host x.node.act) (is_host y.node.act)
       (λ h k. inl (same_agent w u x.node y.node x.at y.at h k))
       (λ h.
-      let s : AtPoint all y.node = stands all y.node y.stands in
-      let is_seen = read_is_seen stay hazards visibilities hosts keeps t none x.node y.node x.stands y.stands later x.is_access y.is_access c h (is_in_of together all c _ x.accessed) y.accessed in
-      let has_x = judged_has stay hazards visibilities hosts keeps t none x.node y.node x.stands y.stands later x.is_access y.is_access c h in
-      inr (seen_task paths joins all w u x.node y.node x.at y.at (has_task w x.node x.at x.there) x.stands y.stands x.is_access y.is_access (λ b. is_cached (s.at ∷ s.past) (resource_at b)) c
+      let s : AtPoint all y.node = at_point all y.node y.present in
+      let is_seen = read_is_seen stay hazards visibilities hosts keeps t none x.node y.node x.present y.present later x.is_access y.is_access c h (is_in_of together all c _ x.accessed) y.accessed in
+      let has_x = judged_has stay hazards visibilities hosts keeps t none x.node y.node x.present y.present later x.is_access y.is_access c h in
+      inr (seen_task paths joins all w u x.node y.node x.at y.at (has_task w x.node x.at x.there) x.present y.present x.is_access y.is_access (λ b. is_cached (s.at ∷ s.past) (resource_at b)) c
       (λ n cn le.
       same_cached all s.newer (s.at ∷ s.past) s.whole (new_ids t sound) (live_ids t sound) x.node has_x x.is_access c all x.accessed
-      ∙ sym (cached_then all (new_ids t sound) (live_ids t sound) x.node x.stands x.is_access c all x.accessed n cn le))
+      ∙ sym (cached_then all (new_ids t sound) (live_ids t sound) x.node x.present x.is_access c all x.accessed n cn le))
       (submits_there t)
-      (λ host. record { by = x.node; stands = x.stands; host = host; wrote = is_in_of together all c _ x.accessed; order = inl refl }) is_seen))
+      (λ host. record { by = x.node; present = x.present; host = host; wrote = is_in_of together all c _ x.accessed; order = inl refl }) is_seen))
 
   written_after : (w u : Task) (c : Byte) → w.node < u.node → Writes (accesses_of all) w c → Writes (accesses_of all) u c → ((caching_of all).agent w ≡ (caching_of all).agent u) ⊎ Available (accesses_of all) (caching_of all) w u c
   written_after w u c lt wr r =
@@ -143,13 +143,13 @@ module _ (together : PiecesAreByteWrites) (paths : BeforeIsPath) (joins : Before
       by_agents (is_host x.node.act) (is_host y.node.act)
       (λ h k. inl (same_agent w u x.node y.node x.at y.at h k))
       (λ h.
-      let s : AtPoint all y.node = stands all y.node y.stands in
-      let is_seen = write_is_seen stay hazards visibilities hosts keeps t none x.node y.node x.stands y.stands later x.is_access y.is_access c h (is_in_of together all c _ x.accessed) y.accessed in
-      let has_x = judged_has stay hazards visibilities hosts keeps t none x.node y.node x.stands y.stands later x.is_access y.is_access c h in
-      inr (available_task paths joins all w u x.node y.node x.at y.at (has_task w x.node x.at x.there) x.stands y.stands x.is_access y.is_access (λ b. is_cached (s.at ∷ s.past) (resource_at b)) c
+      let s : AtPoint all y.node = at_point all y.node y.present in
+      let is_seen = write_is_seen stay hazards visibilities hosts keeps t none x.node y.node x.present y.present later x.is_access y.is_access c h (is_in_of together all c _ x.accessed) y.accessed in
+      let has_x = judged_has stay hazards visibilities hosts keeps t none x.node y.node x.present y.present later x.is_access y.is_access c h in
+      inr (available_task paths joins all w u x.node y.node x.at y.at (has_task w x.node x.at x.there) x.present y.present x.is_access y.is_access (λ b. is_cached (s.at ∷ s.past) (resource_at b)) c
       (λ n cn le.
       same_cached all s.newer (s.at ∷ s.past) s.whole (new_ids t sound) (live_ids t sound) x.node has_x x.is_access c all x.accessed
-      ∙ sym (cached_then all (new_ids t sound) (live_ids t sound) x.node x.stands x.is_access c all x.accessed n cn le)) is_seen))
+      ∙ sym (cached_then all (new_ids t sound) (live_ids t sound) x.node x.present x.is_access c all x.accessed n cn le)) is_seen))
 
   pub cache_free : CacheFree (accesses_of all) (caching_of all)
   cache_free = record {

@@ -244,7 +244,7 @@ module _ (paths : BeforeIsPath) (joins : BeforeIsTransitive) (leads : BeforeLead
     record Offered (x : Name) : Type 0 where
       node : Node
       command : Cmd
-      stands : Contains (nodes s.front.past) node
+      present : Contains (nodes s.front.past) node
       act : node.act ≡ Runs command
       number : node.number ≡ x.0
       index : x.1 < length (pieces s.front.past command)
@@ -267,7 +267,7 @@ module _ (paths : BeforeIsPath) (joins : BeforeIsTransitive) (leads : BeforeLead
             record {
               node = n;
               command = c;
-              stands = cn;
+              present = cn;
               act = act;
               number = ap (λ (z : Name). z.0) whole;
               index = omega (arith, is_part, within);
@@ -285,19 +285,19 @@ module _ (paths : BeforeIsPath) (joins : BeforeIsTransitive) (leads : BeforeLead
         by_free n cn y same true e h = let f = filtered (λ x. not (is_done s.done x)) (node_pieces s.front.past n n.act) y h in by_kind n cn y same e f.1 n.act refl f.0
 
     offered_at : (x : Name) (o : Offered x) → node_at all x.0 ≡ Some o.node
-    offered_at x o = subst (λ (k : ℕ). node_at all k ≡ Some o.node) o.number (node_at_self paths joins all o.node (node_in_all _ s.front.past grows o.node o.stands))
+    offered_at x o = subst (λ (k : ℕ). node_at all k ≡ Some o.node) o.number (node_at_self paths joins all o.node (node_in_all _ s.front.past grows o.node o.present))
 
     piece_may : (x : Name) → Offered x → MayRun tr i.tasks (piece_task x)
     piece_may x o =
         let at = offered_at x o in
-        let count : length (pieces all o.command) ≡ length (pieces s.front.past o.command) = ap (λ (ps : List (List ByteWrite)). length ps) (pieces_same _ s.front.past grows o.node o.command o.stands o.act) in
+        let count : length (pieces all o.command) ≡ length (pieces s.front.past o.command) = ap (λ (ps : List (List ByteWrite)). length ps) (pieces_same _ s.front.past grows o.node o.command o.present o.act) in
         let within = o.index in
         let there : IsTrue (tr.has (piece_task x)) = has_task (piece_task x) o.node at
         (subst (λ (a : Act). IsTrue (nat_lt x.1 (task_count all a))) (sym o.act) (lt-ltb x.1 (length (pieces all o.command)) (omega (arith, count, within)))) in
-        let small = number_below (nodes s.front.past) (numbered s.front.past) o.node o.stands in
+        let small = number_below (nodes s.front.past) (numbered s.front.past) o.node o.present in
         may_run tr (is_event all) i.tasks (piece_task x) (transitive paths joins leads all) i.eager there
         (λ h. clash (is_done s.done x) (turned (happened_is s (piece_task x) o.node at (Runs o.command) o.act) ((i.happened (piece_task x) there (plain_is (piece_task x) o.node at (Runs o.command) o.act refl)).0 h)) o.fresh)
-        (due (piece_task x) o.node at (omega (arith, small)) (free_in _ s.front.past grows o.node o.stands o.free))
+        (due (piece_task x) o.node at (omega (arith, small)) (free_in _ s.front.past grows o.node o.present o.free))
 
     -- ---- the entry that comes next
 
@@ -474,8 +474,8 @@ module _ (paths : BeforeIsPath) (joins : BeforeIsTransitive) (leads : BeforeLead
             let at = node_at_self paths joins all m (node_in_all P past g m cm) in
             let count : length (pieces all c) ≡ length (pieces past c) = ap (λ (ps : List (List ByteWrite)). length ps) (pieces_same P past g m c cm act) in
             let there : IsTrue (tr.has v) = has_task v m at (subst (λ (a : Act). IsTrue (nat_lt j.0 (task_count all a))) (sym act) (lt-ltb j.0 (length (pieces all c)) (omega (arith, within, count)))) in
-            let stands = may.after v (there, turned (sym (before_is v u m n at at_u)) (turned (sym (before_same P past g m n cn)) b)) in
-            let ran : IsTrue (is_done s.done (m.number, j.0)) = turned (happened_is s v m at (Runs c) act) ((i.happened v there (plain_is v m at (Runs c) act refl)).0 stands) in
+            let present = may.after v (there, turned (sym (before_is v u m n at at_u)) (turned (sym (before_same P past g m n cn)) b)) in
+            let ran : IsTrue (is_done s.done (m.number, j.0)) = turned (happened_is s v m at (Runs c) act) ((i.happened v there (plain_is v m at (Runs c) act refl)).0 at_point) in
             subst (λ (z : Name). IsTrue (is_done s.done z)) j.2 ran)
         pieces_run m cm b (Hosts x) act = refl
         pieces_run m cm b (Waits x) act = refl
@@ -505,7 +505,7 @@ module _ (paths : BeforeIsPath) (joins : BeforeIsTransitive) (leads : BeforeLead
         let found = node_of all u.node n at in
         let sub = submitted orders keeps t sound n (ap is_host act) found.0 in
         let m = sub.submit in
-        let old = applied_node n found.0 (by_submit m sub.stands sub.is_it (submit_first m n sub.stands found.0 sub.is_it sub.entry sub.earlier) sub.entry m.act refl sub.is_it) in
+        let old = applied_node n found.0 (by_submit m sub.present sub.is_it (submit_first m n sub.present found.0 sub.is_it sub.entry sub.earlier) sub.entry m.act refl sub.is_it) in
         let count : length (pieces all c) ≡ length (pieces s.front.past c) = ap (λ (ps : List (List ByteWrite)). length ps) (pieces_same _ s.front.past (grows s did i) n c old act) in
         let free = free_before _ s.front.past (grows s did i) u n at old may in
         let itself : u ≡ piece_task (n.number, u.index) = same_task u (piece_task (n.number, u.index)) (sym found.1) refl in

@@ -26,7 +26,7 @@ use Rattle.vk_laws.specs.TraceCaches.{caching_of}
 use Rattle.vk_laws.specs.Discards.{entry_forgets, forgets, or_unknown, with_discards}
 use Rattle.vk_laws.proofs.TaskNodes.{node_of, same_task}
 use Rattle.vk_laws.proofs.Steady.{new_ids, live_ids}
-use Rattle.vk_laws.proofs.Points.{AtPoint, stands}
+use Rattle.vk_laws.proofs.Points.{AtPoint, at_point}
 use Rattle.vk_laws.proofs.TaskAccesses.{Accessor, writer, reader, is_in_of}
 use Rattle.vk_laws.proofs.Ordered.{judged_has, write_is_seen}
 use Rattle.vk_laws.proofs.HazardFree.{read_act, write_act, host_put, hazard_free}
@@ -49,7 +49,7 @@ module _ (all : Past) where
   pub record Forgot (u : Task) (c : Byte) : Type 0 where
     pub node : Node
     pub at : node_at all u.node ≡ Some node
-    pub stands : Contains (nodes all) node
+    pub present : Contains (nodes all) node
     pub number : node.number ≡ u.node
     pub only : u.index ≡ 0
     pub entry : Entry
@@ -62,7 +62,7 @@ module _ (all : Past) where
       by_entry : (n : Node) → node_at all u.node ≡ Some n → u.index ≡ 0 → (a : Act) → n.act ≡ a → IsTrue (forgets all u.node a c) → Forgot u c
       by_entry n e only (Hosts x) f h =
           let k = node_of all u.node n e in
-          record { node = n; at = e; stands = k.0; number = k.1; only = only; entry = x; act = f; lost = subst (λ (m : ℕ). IsTrue (entry_forgets (before_node all m) x c)) (sym k.1) h }
+          record { node = n; at = e; present = k.0; number = k.1; only = only; entry = x; act = f; lost = subst (λ (m : ℕ). IsTrue (entry_forgets (before_node all m) x c)) (sym k.1) h }
       by_entry n e only _ f h = absurd cc
 
       go : (o : Option Node) → node_at all u.node ≡ o → u.index ≡ 0 → IsTrue (by_act false (λ a. forgets all u.node a c) o) → Forgot u c
@@ -151,36 +151,36 @@ module _ (t : List Entry) (given : Given t) where
   forgot_first s u c f n at cn num ac k h lt =
       by_nodes all s u f.node n f.at at (forgot_has all s c f)
       (⊎_elim
-      (λ host. given.hosts all f.node n f.stands cn (forgot_host s c f) host (lower s u f.node n f.number num lt))
-      (λ cmd. given.visibilities all _ f.node n k c f.stands cn (lower s u f.node n f.number num lt) (seen_it k cmd.0 cmd.1 h))
+      (λ host. given.hosts all f.node n f.present cn (forgot_host s c f) host (lower s u f.node n f.number num lt))
+      (λ cmd. given.visibilities all _ f.node n k c f.present cn (lower s u f.node n f.number num lt) (seen_it k cmd.0 cmd.1 h))
       (as_command n.act ac))
     where
-      seen_it : (k : Access) (cmd : Cmd) (is_n : n.act ≡ Runs cmd) → Has k n c → IsTrue (seen (λ b. is_cached ((stands all n cn).at ∷ (stands all n cn).past) (resource_at b)) (nodes all) f.node n k c)
-      seen_it Read cmd is_n h = seen_after t given f.node f.stands f.entry f.act c f.lost n cn cmd is_n Read h (lower s u f.node n f.number num lt)
-      seen_it Write cmd is_n h = seen_after t given f.node f.stands f.entry f.act c f.lost n cn cmd is_n Write h (lower s u f.node n f.number num lt)
+      seen_it : (k : Access) (cmd : Cmd) (is_n : n.act ≡ Runs cmd) → Has k n c → IsTrue (seen (λ b. is_cached ((at_point all n cn).at ∷ (at_point all n cn).past) (resource_at b)) (nodes all) f.node n k c)
+      seen_it Read cmd is_n h = seen_after t given f.node f.present f.entry f.act c f.lost n cn cmd is_n Read h (lower s u f.node n f.number num lt)
+      seen_it Write cmd is_n h = seen_after t given f.node f.present f.entry f.act c f.lost n cn cmd is_n Write h (lower s u f.node n f.number num lt)
 
   forgot_last : (s u : Task) (c : Byte) (f : Forgot all u c) (m : Node) → node_at all s.node ≡ Some m → Contains (nodes all) m → m.number ≡ s.node → IsTrue (nat_lt s.index (task_count all m.act)) → IsTrue (accesses m.act) → (k : Access) → Has k m c → s.node < u.node
       → Precedes (accesses_of all) s u
   forgot_last s u c f m at cm num there ac k h lt =
       by_nodes all s u m f.node at f.at (rw at there)
       (⊎_elim
-      (λ host. given.hosts all m f.node cm f.stands host (forgot_host u c f) (lower s u m f.node num f.number lt))
+      (λ host. given.hosts all m f.node cm f.present host (forgot_host u c f) (lower s u m f.node num f.number lt))
       (λ cmd. earlier k cmd.0 cmd.1 h)
       (as_command m.act ac))
     where
       earlier : (k : Access) (cmd : Cmd) (is_m : m.act ≡ Runs cmd) → Has k m c → IsTrue (before (nodes all) m f.node)
-      earlier Read cmd is_m h = before_it t given f.node f.stands f.entry f.act c f.lost m cm cmd is_m Read h (lower s u m f.node num f.number lt)
-      earlier Write cmd is_m h = before_it t given f.node f.stands f.entry f.act c f.lost m cm cmd is_m Write h (lower s u m f.node num f.number lt)
+      earlier Read cmd is_m h = before_it t given f.node f.present f.entry f.act c f.lost m cm cmd is_m Read h (lower s u m f.node num f.number lt)
+      earlier Write cmd is_m h = before_it t given f.node f.present f.entry f.act c f.lost m cm cmd is_m Write h (lower s u m f.node num f.number lt)
 
   ordered : (s u : Task) (c : Byte) → s.node < u.node → Conflict (with_discards all) s u c → Precedes (with_discards all) s u
   ordered s u c lt meet = ⊎_elim
       (λ wr. ⊎_elim
-      (λ f. let y = reader given.pieces_together all u c wr.1 in forgot_first s u c f y.node y.at y.stands y.number y.is_access Read y.accessed lt)
+      (λ f. let y = reader given.pieces_together all u c wr.1 in forgot_first s u c f y.node y.at y.present y.number y.is_access Read y.accessed lt)
       (λ b. base_free.ordered s u c lt (inl (b, wr.1)))
       (write_kind all s c wr.0))
       (λ rest. ⊎_elim
       (λ rw'. ⊎_elim
-      (λ f. let x = reader given.pieces_together all s c rw'.0 in forgot_last s u c f x.node x.at x.stands x.number x.there x.is_access Read x.accessed lt)
+      (λ f. let x = reader given.pieces_together all s c rw'.0 in forgot_last s u c f x.node x.at x.present x.number x.there x.is_access Read x.accessed lt)
       (λ b. base_free.ordered s u c lt (inr (inl (rw'.0, b))))
       (write_kind all u c rw'.1))
       (λ ww. two_writes (write_kind all s c ww.0) (write_kind all u c ww.1))
@@ -188,9 +188,9 @@ module _ (t : List Entry) (given : Given t) where
       meet
     where
       two_writes : Forgot all s c ⊎ Writes (accesses_of all) s c → Forgot all u c ⊎ Writes (accesses_of all) u c → Precedes (accesses_of all) s u
-      two_writes (inl f) (inl g) = by_nodes all s u f.node g.node f.at g.at (forgot_has all s c f) (given.hosts all f.node g.node f.stands g.stands (forgot_host s c f) (forgot_host u c g) (lower s u f.node g.node f.number g.number lt))
-      two_writes (inl f) (inr b) = let y = writer given.pieces_together all u c b in forgot_first s u c f y.node y.at y.stands y.number y.is_access Write y.accessed lt
-      two_writes (inr a) (inl g) = let x = writer given.pieces_together all s c a in forgot_last s u c g x.node x.at x.stands x.number x.there x.is_access Write x.accessed lt
+      two_writes (inl f) (inl g) = by_nodes all s u f.node g.node f.at g.at (forgot_has all s c f) (given.hosts all f.node g.node f.present g.present (forgot_host s c f) (forgot_host u c g) (lower s u f.node g.node f.number g.number lt))
+      two_writes (inl f) (inr b) = let y = writer given.pieces_together all u c b in forgot_first s u c f y.node y.at y.present y.number y.is_access Write y.accessed lt
+      two_writes (inr a) (inl g) = let x = writer given.pieces_together all s c a in forgot_last s u c g x.node x.at x.present x.number x.there x.is_access Write x.accessed lt
       two_writes (inr a) (inr b) = base_free.ordered s u c lt (inr (inr (a, b)))
 
   pub discards_hazard_free : HazardFree (with_discards all)
@@ -207,10 +207,10 @@ module _ (t : List Entry) (given : Given t) where
   -- what is forgotten is undefined
   lost_value : (u : Task) (c : Byte) (v : ℕ) → Forgot all u c → value_before all (suc u.node) c ≡ Some v → ⊥
   lost_value u c v f h =
-      let s : AtPoint all f.node = stands all f.node f.stands in
-      let l = forget t given f.node f.stands f.entry f.act c f.lost in
-      let e = ends t given f.node f.stands f.entry f.act c f.lost in
-      let d = action t given f.node f.stands f.entry f.act c f.lost in
+      let s : AtPoint all f.node = at_point all f.node f.present in
+      let l = forget t given f.node f.present f.entry f.act c f.lost in
+      let e = ends t given f.node f.present f.entry f.act c f.lost in
+      let d = action t given f.node f.present f.entry f.act c f.lost in
       let here = subst (λ (k : ℕ). value_before all (suc k) c ≡ Some v) (sym f.number) h in
       let after = settles s.newer (s.at ∷ s.past) (suc f.node.number) c v e.1 (subst (λ (l : Past). value_before l (suc f.node.number) c ≡ Some v) s.whole here) in
       gone s.past l.buffer l.offset l.size l.kept_buffer l.reached l.dirty
@@ -240,18 +240,18 @@ module _ (t : List Entry) (given : Given t) where
       (λ host. inl (agents s u f.node y.node f.at y.at (forgot_host s c f) host))
       (λ cmd.
       let low = lower s u f.node y.node f.number y.number lt in
-      let earlier = w_earlier t given f.node f.stands f.entry f.act c f.lost in
-      inr (seen_task given.paths given.joins all s u f.node y.node f.at y.at (forgot_has all s c f) f.stands y.stands (rw f.act refl) y.is_access (λ b. is_cached ((stands all y.node y.stands).at ∷ (stands all y.node y.stands).past) (resource_at b)) c
-      (λ n cn le. same_one t given f.node f.stands f.entry f.act c f.lost y.node y.stands cmd.0 cmd.1 (omega (arith, earlier, low)) ∙ sym (kept_then t given f.node f.stands f.entry f.act c f.lost n cn (omega (arith, earlier, le))))
+      let earlier = w_earlier t given f.node f.present f.entry f.act c f.lost in
+      inr (seen_task given.paths given.joins all s u f.node y.node f.at y.at (forgot_has all s c f) f.present y.present (rw f.act refl) y.is_access (λ b. is_cached ((at_point all y.node y.present).at ∷ (at_point all y.node y.present).past) (resource_at b)) c
+      (λ n cn le. same_one t given f.node f.present f.entry f.act c f.lost y.node y.present cmd.0 cmd.1 (omega (arith, earlier, low)) ∙ sym (kept_then t given f.node f.present f.entry f.act c f.lost n cn (omega (arith, earlier, le))))
       (submits_there t)
       (λ host. record {
-        by = w t given f.node f.stands f.entry f.act c f.lost;
-        stands = w_all t given f.node f.stands f.entry f.act c f.lost;
+        by = w t given f.node f.present f.entry f.act c f.lost;
+        present = w_all t given f.node f.present f.entry f.act c f.lost;
         host = refl;
-        wrote = is_in_of given.pieces_together all c _ (w_writes t given f.node f.stands f.entry f.act c f.lost);
-        order = inr (given.hosts all (w t given f.node f.stands f.entry f.act c f.lost) f.node (w_all t given f.node f.stands f.entry f.act c f.lost) f.stands refl (forgot_host s c f) earlier);
+        wrote = is_in_of given.pieces_together all c _ (w_writes t given f.node f.present f.entry f.act c f.lost);
+        order = inr (given.hosts all (w t given f.node f.present f.entry f.act c f.lost) f.node (w_all t given f.node f.present f.entry f.act c f.lost) f.present refl (forgot_host s c f) earlier);
       })
-      (seen_after t given f.node f.stands f.entry f.act c f.lost y.node y.stands cmd.0 cmd.1 Read y.accessed low)))
+      (seen_after t given f.node f.present f.entry f.act c f.lost y.node y.present cmd.0 cmd.1 Read y.accessed low)))
       (as_command y.node.act y.is_access)
 
   forgot_write : (s u : Task) (c : Byte) (f : Forgot all s c) (y : Accessor given.pieces_together all u (λ n. Contains (writes all n) c)) → s.node < u.node → ((caching_of all).agent s ≡ (caching_of all).agent u) ⊎ Available (accesses_of all) (caching_of all) s u c
@@ -259,10 +259,10 @@ module _ (t : List Entry) (given : Given t) where
       (λ host. inl (agents s u f.node y.node f.at y.at (forgot_host s c f) host))
       (λ cmd.
       let low = lower s u f.node y.node f.number y.number lt in
-      let earlier = w_earlier t given f.node f.stands f.entry f.act c f.lost in
-      inr (available_task given.paths given.joins all s u f.node y.node f.at y.at (forgot_has all s c f) f.stands y.stands (rw f.act refl) y.is_access (λ b. is_cached ((stands all y.node y.stands).at ∷ (stands all y.node y.stands).past) (resource_at b)) c
-      (λ n cn le. same_one t given f.node f.stands f.entry f.act c f.lost y.node y.stands cmd.0 cmd.1 (omega (arith, earlier, low)) ∙ sym (kept_then t given f.node f.stands f.entry f.act c f.lost n cn (omega (arith, earlier, le))))
-      (seen_after t given f.node f.stands f.entry f.act c f.lost y.node y.stands cmd.0 cmd.1 Write y.accessed low)))
+      let earlier = w_earlier t given f.node f.present f.entry f.act c f.lost in
+      inr (available_task given.paths given.joins all s u f.node y.node f.at y.at (forgot_has all s c f) f.present y.present (rw f.act refl) y.is_access (λ b. is_cached ((at_point all y.node y.present).at ∷ (at_point all y.node y.present).past) (resource_at b)) c
+      (λ n cn le. same_one t given f.node f.present f.entry f.act c f.lost y.node y.present cmd.0 cmd.1 (omega (arith, earlier, low)) ∙ sym (kept_then t given f.node f.present f.entry f.act c f.lost n cn (omega (arith, earlier, le))))
+      (seen_after t given f.node f.present f.entry f.act c f.lost y.node y.present cmd.0 cmd.1 Write y.accessed low)))
       (as_command y.node.act y.is_access)
 
   -- what comes before a node comes before what that is before
@@ -282,23 +282,23 @@ module _ (t : List Entry) (given : Given t) where
     where
       by_write : (cmd : Cmd) → x.node.act ≡ Runs cmd → Available (accesses_of all) (caching_of all) s u c
       by_write cmd is_x =
-          let k : Node = w t given f.node f.stands f.entry f.act c f.lost in
-          let ck = w_all t given f.node f.stands f.entry f.act c f.lost in
-          let wk = w_writes t given f.node f.stands f.entry f.act c f.lost in
-          let earlier = w_earlier t given f.node f.stands f.entry f.act c f.lost in
-          let first = before_write t given f.node f.stands f.entry f.act c f.lost x.node x.stands cmd is_x Write x.accessed (lower s u x.node f.node x.number f.number lt) in
-          let sk : AtPoint all k = stands all k ck in
+          let k : Node = w t given f.node f.present f.entry f.act c f.lost in
+          let ck = w_all t given f.node f.present f.entry f.act c f.lost in
+          let wk = w_writes t given f.node f.present f.entry f.act c f.lost in
+          let earlier = w_earlier t given f.node f.present f.entry f.act c f.lost in
+          let first = before_write t given f.node f.present f.entry f.act c f.lost x.node x.present cmd is_x Write x.accessed (lower s u x.node f.node x.number f.number lt) in
+          let sk : AtPoint all k = at_point all k ck in
           let apart_hosts : IsTrue (not (is_host x.node.act && is_host k.act)) = rw is_x refl in
-          let is_seen = write_is_seen given.stay given.hazards given.visibilities given.hosts given.keeps t given.none x.node k x.stands ck first.0 x.is_access refl c apart_hosts (is_in_of given.pieces_together all c (writes all x.node) x.accessed) wk in
-          let has_x = judged_has given.stay given.hazards given.visibilities given.hosts given.keeps t given.none x.node k x.stands ck first.0 x.is_access refl c apart_hosts in
+          let is_seen = write_is_seen given.stay given.hazards given.visibilities given.hosts given.keeps t given.none x.node k x.present ck first.0 x.is_access refl c apart_hosts (is_in_of given.pieces_together all c (writes all x.node) x.accessed) wk in
+          let has_x = judged_has given.stay given.hazards given.visibilities given.hosts given.keeps t given.none x.node k x.present ck first.0 x.is_access refl c apart_hosts in
           let same = same_cached all sk.newer (sk.at ∷ sk.past) sk.whole (new_ids t given.sound) (live_ids t given.sound) x.node has_x x.is_access c all x.accessed in
-          let then_same = λ (n : Node) (cn : Contains (nodes all) n) (le : x.node.number ≤ n.number). same ∙ sym (cached_then all (new_ids t given.sound) (live_ids t given.sound) x.node x.stands x.is_access c all x.accessed n cn le) in
+          let then_same = λ (n : Node) (cn : Contains (nodes all) n) (le : x.node.number ≤ n.number). same ∙ sym (cached_then all (new_ids t given.sound) (live_ids t given.sound) x.node x.present x.is_access c all x.accessed n cn le) in
           let at_k = node_at_self given.paths given.joins all k ck in
-          let av = available_task given.paths given.joins all s (record { node = k.number; index = 0 }) x.node k x.at at_k (there s x.node x.at x.there) x.stands ck x.is_access refl (λ b. is_cached (sk.at ∷ sk.past) (resource_at b)) c then_same is_seen in
+          let av = available_task given.paths given.joins all s (record { node = k.number; index = 0 }) x.node k x.at at_k (there s x.node x.at x.there) x.present ck x.is_access refl (λ b. is_cached (sk.at ∷ sk.past) (resource_at b)) c then_same is_seen in
           record {
             p = av.p;
             available = av.available;
-            before = precedes_on av.p (record { node = k.number; index = 0 }) u k f.node at_k f.at ck f.stands (given.hosts all k f.node ck f.stands refl (forgot_host u c f) earlier) av.before;
+            before = precedes_on av.p (record { node = k.number; index = 0 }) u k f.node at_k f.at ck f.present (given.hosts all k f.node ck f.present refl (forgot_host u c f) earlier) av.before;
           }
 
   pub discards_cache_free : CacheFree (with_discards all) (caching_of all)

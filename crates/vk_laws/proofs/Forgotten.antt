@@ -30,7 +30,7 @@ use Rattle.vk_laws.proofs.Members.{contains-head, member_passes, some_member}
 use Rattle.vk_laws.proofs.Truths.{not_both}
 use Rattle.vk_laws.proofs.NoHazard.{number_below, unique, numbered, edge_before, reaches_join, or_before, before_reaches}
 use Rattle.vk_laws.proofs.Steady.{new_ids, live_ids}
-use Rattle.vk_laws.proofs.Points.{AtPoint, stands, comes_at}
+use Rattle.vk_laws.proofs.Points.{AtPoint, at_point, comes_at}
 use Rattle.vk_laws.proofs.TaskAccesses.{host_writes_it, is_in_of}
 use Rattle.vk_laws.proofs.Ordered.{judged_has, read_is_seen, write_is_seen}
 use Rattle.vk_laws.proofs.ModelBytes.{host_action, more_nodes, alone, at_node}
@@ -77,7 +77,7 @@ comes_in (r ∷ newer) past p b q (older h) le lt = comes_in newer past p b q h 
 module _ (paths : BeforeIsPath) (joins : BeforeIsTransitive) (all : Past) (one : Byte → Bool) (w a : Node) (cw : Contains (nodes all) w) (ca : Contains (nodes all) a) (cmd : Cmd) (is_a : a.act ≡ Runs cmd) (x : Entry) (is_w : w.act ≡ Hosts x) (c : Byte) (kept : one c ≡ true) (k : Access) where
   pub record Flushed : Type 0 where
     pub flush : Node
-    pub stands : Contains (nodes all) flush
+    pub present : Contains (nodes all) flush
     pub reaches_it : IsTrue (flushes flush.act c)
     pub later : IsTrue (before (nodes all) w flush)
     pub earlier : IsTrue (before (nodes all) flush a)
@@ -104,7 +104,7 @@ module _ (paths : BeforeIsPath) (joins : BeforeIsTransitive) (all : Past) (one :
       let order = reaches_join paths all joins p.0 q.0 a p.1 q.1 ca (or_before paths all joins one p.0 q.0 third.0) (inr last) in
       record {
         flush = f.0;
-        stands = f.1;
+        present = f.1;
         reaches_it = l.0;
         later = l.1;
         earlier = before_reaches paths all joins f.0 p.0 a f.1 p.1 ca g.1 order;
@@ -147,7 +147,7 @@ module _ (t : List Entry) (given : Given t) where
 
   module _ (i : Node) (ci : Contains (nodes all) i) (y : Entry) (is_i : i.act ≡ Hosts y) (c : Byte) (lost : IsTrue (entry_forgets (before_node all i.number) y c)) where
     abbrev pub s : AtPoint all i
-    s = stands all i ci
+    s = at_point all i ci
 
     pub forget : Forgets s.past y c
     forget = forgets_of s.past y c (subst (λ (l : Past). IsTrue (entry_forgets l y c)) (at_node given.pieces_together given.apart t given.sound i s) lost)
@@ -195,7 +195,7 @@ module _ (t : List Entry) (given : Given t) where
     pub unflushed : (g : Node) → Contains (nodes all) g → IsTrue (flushes g.act c) → w.number < g.number → g.number < i.number → ⊥
     unflushed g cg h after before_it =
         let u = flush_of g.act c h in
-        let sg = stands all g cg in
+        let sg = at_point all g cg in
         let d = host_action sg.at.action (entry.Flush u.0 u.1 u.2) (subst (λ (a : Act). Contains (acts sg.at.action) a) u.3 sg.acted) in
         let ends_g = alone given.pieces_together given.apart t given.sound g sg (ap (λ (d : Action). length (acts d)) d) in
         let come : Comes all sg.past sg.at = comes_at _ _ sg in
@@ -214,7 +214,7 @@ module _ (t : List Entry) (given : Given t) where
       Touches Write = Contains (writes all a) c
 
       abbrev pub point : AtPoint all a
-      point = stands all a ca
+      point = at_point all a ca
 
       abbrev pub one : Byte → Bool
       one b = is_cached (point.at ∷ point.past) (resource_at b)
@@ -243,10 +243,10 @@ module _ (t : List Entry) (given : Given t) where
           let f = by_flush lt' k h in
           let later = before_number (nodes all) w f.flush f.later in
           ⊎_elim
-          (λ less. absurd (unflushed f.flush f.stands f.reaches_it later less))
+          (λ less. absurd (unflushed f.flush f.present f.reaches_it later less))
           (λ le. ⊎_elim
-          (λ same. absurd (no_flush f.flush f.reaches_it (unique (nodes all) (numbered all) i f.flush ci f.stands same)))
-          (λ more. f.again i ci y is_i (given.hosts all i f.flush ci f.stands (rw is_i refl) (flush_host f.flush f.reaches_it) more))
+          (λ same. absurd (no_flush f.flush f.reaches_it (unique (nodes all) (numbered all) i f.flush ci f.present same)))
+          (λ more. f.again i ci y is_i (given.hosts all i f.flush ci f.present (rw is_i refl) (flush_host f.flush f.reaches_it) more))
           (eq-or-lt_of_le le))
           (cases_lt f.flush.number i.number)
         where
@@ -269,7 +269,7 @@ module _ (t : List Entry) (given : Given t) where
           let f = by_flush more k h in
           let later = before_number (nodes all) w f.flush f.later in
           let earlier = before_number (nodes all) f.flush a f.earlier in
-          absurd (unflushed f.flush f.stands f.reaches_it later (omega (arith, earlier, lt))))
+          absurd (unflushed f.flush f.present f.reaches_it later (omega (arith, earlier, lt))))
           (eq-or-lt_of_le le))
           (cases_lt a.number w.number)
         where

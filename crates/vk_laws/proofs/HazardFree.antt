@@ -25,7 +25,7 @@ use Rattle.vk_laws.specs.Tasks.{piece_writes, host_value, task_write, task_read,
 use Rattle.vk_laws.proofs.TaskNodes.{node_of, same_task}
 use Rattle.vk_laws.proofs.Members.{member_passes, found, map_has, chosen_has, chosen_from}
 use Rattle.vk_laws.proofs.Steady.{kept_writes, kept_pieces, new_ids, live_ids}
-use Rattle.vk_laws.proofs.Points.{AtPoint, stands, action_of, comes_at}
+use Rattle.vk_laws.proofs.Points.{AtPoint, at_point, action_of, comes_at}
 use Rattle.vk_laws.proofs.TaskAccesses.{byte_same, piece_write, is_there, is_in_of, ordered}
 use Rattle.vk_laws.proofs.Apart.{pair_of, no_overlap}
 
@@ -96,7 +96,7 @@ module _ (together : PiecesAreByteWrites) (apart : PiecesWriteApart) (t : List E
 
   module _ (n : Node) (cn : Contains (nodes all) n) (x : Cmd) (act : n.act ≡ Runs x) where
     abbrev pub place : AtPoint all n
-    place = stands all n cn
+    place = at_point all n cn
 
     pub action : place.at.action ≡ Run x
     action = action_of place.at.action x (subst (λ (a : Act). Contains (acts place.at.action) a) act place.acted)

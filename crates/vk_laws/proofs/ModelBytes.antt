@@ -39,7 +39,7 @@ use Rattle.vk_laws.proofs.Fresh.{none_unless}
 use Rattle.vk_laws.proofs.Members.{member_passes, mapped_from, only_one}
 use Rattle.vk_laws.proofs.NoHazard.{numbered}
 use Rattle.vk_laws.proofs.TaskAccesses.{is_there}
-use Rattle.vk_laws.proofs.Points.{AtPoint, stands, comes_at, at_point_below}
+use Rattle.vk_laws.proofs.Points.{AtPoint, at_point, comes_at, at_point_below}
 use Rattle.vk_laws.proofs.HazardFree.{read_act, write_act, value_after, host_put, same_byte_writes, run_once, place, action}
 
 -- ---- what a byte is after a step it was before, or it's undefined
@@ -320,7 +320,7 @@ module _ (together : PiecesAreByteWrites) (apart : PiecesWriteApart) (t : List E
   written_by n cn k c w v h e = go n.act refl h
     where
       s : AtPoint all n
-      s = stands all n cn
+      s = at_point all n cn
 
       go : (a : Act) → n.act ≡ a → task_write all a k c ≡ Some w → put_value w (value_before all n.number) ≡ Some v
       go (Runs x) act h =
@@ -338,11 +338,11 @@ module _ (together : PiecesAreByteWrites) (apart : PiecesWriteApart) (t : List E
       go (Depends q r) act h = absurd cc
 
   -- where no part of a node writes a byte its point doesn't
-  no_source : (n : Node) (cn : Contains (nodes all) n) (c : Byte) → ((k : ℕ) → task_write all n.act k c ≡ None) → source_at (stands all n cn).past (stands all n cn).at.action c ≡ None
+  no_source : (n : Node) (cn : Contains (nodes all) n) (c : Byte) → ((k : ℕ) → task_write all n.act k c ≡ None) → source_at (at_point all n cn).past (at_point all n cn).at.action c ≡ None
   no_source n cn c none = go s.at.action refl
     where
       s : AtPoint all n
-      s = stands all n cn
+      s = at_point all n cn
 
       acted : (d : Action) → s.at.action ≡ d → Contains (acts d) n.act
       acted d e = subst (λ (d : Action). Contains (acts d) n.act) e s.acted
@@ -368,7 +368,7 @@ module _ (together : PiecesAreByteWrites) (apart : PiecesWriteApart) (t : List E
 
   kept_by : (n : Node) (cn : Contains (nodes all) n) (c : Byte) (v : ℕ) → ((k : ℕ) → task_write all n.act k c ≡ None) → value_before all (suc n.number) c ≡ Some v → value_before all n.number c ≡ Some v
   kept_by n cn c v none h =
-      let s = stands all n cn in
+      let s = at_point all n cn in
       let low = s.new in
       let lt = at_point_below _ _ s in
       subst (λ (l : Past). (world l).value c ≡ Some v) (sym (at_node n s))
@@ -418,7 +418,7 @@ module _ (together : PiecesAreByteWrites) (apart : PiecesWriteApart) (t : List E
       by_entry n cn (entry.Read b o m) act h = go ((world s.past).value c) refl
         where
           s : AtPoint all n
-          s = stands all n cn
+          s = at_point all n cn
 
           go : (o : Option ℕ) → (world s.past).value c ≡ o → (v : ℕ) × (value_before all n.number c ≡ Some v)
           go None e = absurd (sound s.past s.at rule.ReadUndefined (

@@ -18,13 +18,13 @@ use Rattle.vk_model.specs.Laws.{GrowthKeeps}
 use Rattle.vk_model.specs.Rules.{first_fault}
 use Rattle.vk_laws.specs.Trace.{IsSeen, HasNoHazard, NoHazardLaw, SeenIsBefore, HostInOrder, CommandsStay, Meets, accesses}
 use Rattle.vk_laws.proofs.Prefixes.{is_old}
-use Rattle.vk_laws.proofs.Points.{AtPoint, stands, action_of, comes_at, at_point_below}
+use Rattle.vk_laws.proofs.Points.{AtPoint, at_point, action_of, comes_at, at_point_below}
 
 module _ (stay : CommandsStay) (t : List Entry) (none : first_fault t ≡ None) (newer past : Past) (p : Point) (whole : plain_order t ≡ newer ++ p ∷ past) (x : Node) (cx : Contains (nodes (p ∷ past)) x) where
   -- a command's moves are those of the whole trace
   same_byte_writes : (c : Cmd) → x.act ≡ Runs c → byte_writes (plain_order t) c ≡ byte_writes (p ∷ past) c
   same_byte_writes c e =
-      let s = stands (p ∷ past) x cx in
+      let s = at_point (p ∷ past) x cx in
       let action = action_of s.at.action c (subst (λ (a : Act). Contains (acts s.at.action) a) e s.acted) in
       let all : plain_order t ≡ newer ++ (s.newer ++ s.at ∷ s.past) = whole ∙ ap (λ (l : Past). newer ++ l) s.whole in
       let far : plain_order t ≡ (newer ++ s.newer) ++ s.at ∷ s.past = all ∙ sym (append_assoc newer s.newer (s.at ∷ s.past)) in
@@ -65,7 +65,7 @@ module _ (stay : CommandsStay) (hazards : NoHazardLaw) (visibilities : SeenIsBef
   -- the point of the later node, and what is judged there
   module _ (h : IsTrue (not (is_host x.act && is_host y.act))) where
     abbrev pub judged : AtPoint (plain_order t) y
-    judged = stands (plain_order t) y cy
+    judged = at_point (plain_order t) y cy
 
     pub judged_has : Contains (nodes (judged.at ∷ judged.past)) x
     judged_has = here judged

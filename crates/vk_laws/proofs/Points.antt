@@ -36,9 +36,9 @@ in_acts p (a ∷ more) ns n c =
     (λ h. let le = h.0 in inr (omega arith, contains-tail a more n.act h.1, h.2))
     (in_acts p more (one ∷ ns) n c)
 
-pub stands : (all : Past) (n : Node) → Contains (nodes all) n → AtPoint all n
-stands [] n c = absurd (none_in n c)
-stands (p ∷ past) n c = go (stands past n) (in_acts p (acts p.action) (nodes past) n c)
+pub at_point : (all : Past) (n : Node) → Contains (nodes all) n → AtPoint all n
+at_point [] n c = absurd (none_in n c)
+at_point (p ∷ past) n c = go (at_point past n) (in_acts p (acts p.action) (nodes past) n c)
   where
     go : (Contains (nodes past) n → AtPoint past n) → Contains (nodes past) n ⊎ (length (nodes past) ≤ n.number) × Contains (acts p.action) n.act × (n.point ≡ p) → AtPoint (p ∷ past) n
     go rest (inl older) = let s = rest older in record { newer = p ∷ s.newer; past = s.past; at = s.at; whole = ap (λ (l : Past). p ∷ l) s.whole; here = s.here; new = s.new; acted = s.acted; pointed = s.pointed }

@@ -15,7 +15,7 @@ use Rattle.vk_laws.proofs.TaskNodes.{node_of}
 use Rattle.vk_laws.proofs.Members.{right_has}
 use Rattle.vk_laws.proofs.NoHazard.{number_below, numbered}
 use Rattle.vk_laws.proofs.Steady.{IsNew, kept_pieces, IsLive, comes_within}
-use Rattle.vk_laws.proofs.Points.{AtPoint, stands, action_of, older_node}
+use Rattle.vk_laws.proofs.Points.{AtPoint, at_point, action_of, older_node}
 use Rattle.vk_laws.proofs.TraceCaches.{before_number}
 
 pub has_more : GrowthKeeps → (newer past : Past) (n : Node) → Contains (nodes past) n → Contains (nodes (newer ++ past)) n
@@ -59,7 +59,7 @@ module _ (keeps : GrowthKeeps) (all newer old : Past) (whole : all ≡ newer ++ 
 module _ (all newer old : Past) (whole : all ≡ newer ++ old) (new : IsNew all) (alive : IsLive all) where
   pub same_pieces : (n : Node) (c : Cmd) → Contains (nodes old) n → n.act ≡ Runs c → pieces all c ≡ pieces old c
   same_pieces n c cn act =
-      let place : AtPoint old n = stands old n cn in
+      let place : AtPoint old n = at_point old n cn in
       let action : place.at.action ≡ Run c = action_of place.at.action c (subst (λ (a : Act). Contains (acts place.at.action) a) act place.acted) in
       let come : (b : Past) (q : Point) → Comes old b q → Comes all b q = λ b q h. comes_within _ newer old whole b q h in
       let split : all ≡ (newer ++ place.newer) ++ place.at ∷ place.past = whole ∙ ap (λ (l : Past). newer ++ l) place.whole ∙ sym (append_assoc newer place.newer (place.at ∷ place.past)) in

@@ -33,7 +33,7 @@ order_splits e f (x ∷ xs) ys =
 -- a node of a batch comes after the node of its submit
 pub record Submitted (all : Past) (n : Node) : Type 0 where
   pub submit : Node
-  pub stands : Contains (nodes all) submit
+  pub present : Contains (nodes all) submit
   pub is_it : IsTrue (is_submit submit.act)
   pub entry : submit.point.entry ≡ n.point.entry
   pub earlier : submit.number < n.number
@@ -59,7 +59,7 @@ submitted_from keeps e past (x ∷ xs) n batch c = ⊎_elim (λ here. by_entry x
         ⊎_elim (λ old. inl (not_new (entry.Submit q bs) old))
         (λ new. let le : length (one ∷ nodes past) ≤ n.number = new.2 in inr (record {
           submit = one;
-          stands = in_all (entry.Submit q bs) one (contains-head one (nodes past));
+          present = in_all (entry.Submit q bs) one (contains-head one (nodes past));
           is_it = refl;
           entry = sym new.0.0;
           earlier = omega (arith, le);

@@ -12,7 +12,7 @@ use Rattle.vk_model.specs.Node.{Node, Act, Hosts, Waits, Signals, Runs, Depends,
 use Rattle.vk_model.specs.Edge.{is_submit}
 use Rattle.vk_laws.specs.TraceCaches.{submits_to}
 use Rattle.vk_laws.proofs.Members.{contains-head, right_has}
-use Rattle.vk_laws.proofs.Points.{AtPoint, stands, action_of}
+use Rattle.vk_laws.proofs.Points.{AtPoint, at_point, action_of}
 use Rattle.vk_laws.proofs.ModelBytes.{host_action}
 use Rattle.vk_laws.proofs.Entries.{OfAction, point_of}
 
@@ -23,10 +23,10 @@ pub submits_there : (t : List Entry) (q y : Node) (c : Cmd) → Contains (nodes 
 submits_there t q y c cq cy submit is_y same = go q.act refl submit
   where
     sq : AtPoint (plain_order t) q
-    sq = stands (plain_order t) q cq
+    sq = at_point (plain_order t) q cq
 
     sy : AtPoint (plain_order t) y
-    sy = stands (plain_order t) y cy
+    sy = at_point (plain_order t) y cy
 
     by_entry : (x : Entry) → q.act ≡ Hosts x → IsTrue (is_submit (Hosts x)) → IsTrue (submits_to (Hosts x) y.point.queue)
     by_entry (entry.Submit k bs) act h =

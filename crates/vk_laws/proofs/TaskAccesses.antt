@@ -149,7 +149,7 @@ module _ (together : PiecesAreByteWrites) (all : Past) where
   pub record Accessor (t : Task) (access : Node → Type 0) : Type 0 where
     pub node : Node
     pub at : node_at all t.node ≡ Some node
-    pub stands : Contains (nodes all) node
+    pub present : Contains (nodes all) node
     pub number : node.number ≡ t.node
     pub there : IsTrue (nat_lt t.index (task_count all node.act))
     pub is_access : IsTrue (accesses node.act)
@@ -163,7 +163,7 @@ module _ (together : PiecesAreByteWrites) (all : Past) where
       go (Some n) e h =
           let f = node_of all t.node n e in
           let both = writes_it n.act n.point.queue t.index c w.0 h in
-          record { node = n; at = e; stands = f.0; number = f.1; there = writer_there n.act t.index c w.0 h; is_access = both.0; accessed = both.1 }
+          record { node = n; at = e; present = f.0; number = f.1; there = writer_there n.act t.index c w.0 h; is_access = both.0; accessed = both.1 }
 
   pub reader : (t : Task) (c : Byte) → Reads (accesses_of all) t c → Accessor t (λ n. Contains (reads all n) c)
   reader t c r = go (node_at all t.node) refl r
@@ -173,7 +173,7 @@ module _ (together : PiecesAreByteWrites) (all : Past) where
       go (Some n) e h =
           let f = node_of all t.node n e in
           let both = reads_it n.act n.point.queue t.index c h in
-          record { node = n; at = e; stands = f.0; number = f.1; there = reader_there n.act t.index c h; is_access = both.0; accessed = both.1 }
+          record { node = n; at = e; present = f.0; number = f.1; there = reader_there n.act t.index c h; is_access = both.0; accessed = both.1 }
 
 -- ---- the law
 
@@ -187,12 +187,12 @@ module _ (together : PiecesAreByteWrites) (order : AccessesInOrder) (t : List En
   pub ordered : (s u : Task) (c : Byte) → s.node < u.node → Conflict (accesses_of all) s u c → Precedes (accesses_of all) s u
   ordered s u c lt meet = ⊎_elim
       (λ wr. let x = writer together all s c wr.0 in let y = reader together all u c wr.1 in
-      by_nodes s u x.node y.node x.at y.at x.there (order t x.node y.node c none x.stands y.stands (let e = x.number in let f = y.number in omega arith) x.is_access y.is_access (inl (is_in_of together all c _ x.accessed, y.accessed))))
+      by_nodes s u x.node y.node x.at y.at x.there (order t x.node y.node c none x.present y.present (let e = x.number in let f = y.number in omega arith) x.is_access y.is_access (inl (is_in_of together all c _ x.accessed, y.accessed))))
       (λ rest. ⊎_elim
       (λ rw'. let x = reader together all s c rw'.0 in let y = writer together all u c rw'.1 in
-      by_nodes s u x.node y.node x.at y.at x.there (order t x.node y.node c none x.stands y.stands (let e = x.number in let f = y.number in omega arith) x.is_access y.is_access (inr (inl (x.accessed, is_in_of together all c _ y.accessed)))))
+      by_nodes s u x.node y.node x.at y.at x.there (order t x.node y.node c none x.present y.present (let e = x.number in let f = y.number in omega arith) x.is_access y.is_access (inr (inl (x.accessed, is_in_of together all c _ y.accessed)))))
       (λ ww. let x = writer together all s c ww.0 in let y = writer together all u c ww.1 in
-      by_nodes s u x.node y.node x.at y.at x.there (order t x.node y.node c none x.stands y.stands (let e = x.number in let f = y.number in omega arith) x.is_access y.is_access (inr (inr (is_in_of together all c _ x.accessed, y.accessed)))))
+      by_nodes s u x.node y.node x.at y.at x.there (order t x.node y.node c none x.present y.present (let e = x.number in let f = y.number in omega arith) x.is_access y.is_access (inr (inr (is_in_of together all c _ x.accessed, y.accessed)))))
       rest)
       meet
 

@@ -197,7 +197,7 @@ module _ (paths : BeforeIsPath) (joins : BeforeIsTransitive) (all : Past) where
   -- a node that shows a byte to the agent of y, at or after node q
   pub record MadeVisible (q y : Node) (b : Byte) : Type 0 where
     pub by : Node
-    pub stands : Contains (nodes all) by
+    pub present : Contains (nodes all) by
     pub order : Reaches paths all joins q by
     pub made_visible : IsTrue (makes_visible_to all by (agent_of y) b)
     pub quiet : is_command by.act ≡ false
@@ -213,7 +213,7 @@ module _ (paths : BeforeIsPath) (joins : BeforeIsTransitive) (all : Past) where
       let made_visible = by_edge (edge_to_command (nodes all) q y c is g.0) g.1 in
       record {
         by = q;
-        stands = cq;
+        present = cq;
         order = inl refl;
         made_visible = subst (λ (k : ℕ). IsTrue (makes_visible_to all q k b)) (sym (ap (λ (a : Act). if is_host a then 0 else suc y.point.queue) is)) made_visible.0;
         quiet = made_visible.1;
@@ -266,17 +266,17 @@ module _ (paths : BeforeIsPath) (joins : BeforeIsTransitive) (all : Past) where
           let f = some_member (λ f. invalidates f.act b && before (nodes all) q f && before (nodes all) f y) (nodes all) p in
           let k = and_parts _ _ f.2 in
           let l = and_parts _ _ k.0 in
-          record { by = f.0; stands = f.1; order = inr l.1; made_visible = to_agent f.0 (rw (sym (same f.0 f.1 (further f.0 f.1 l.1)) ∙ c) l.0); quiet = invalidate_event f.0.act b l.0; earlier = k.1 }
+          record { by = f.0; present = f.1; order = inr l.1; made_visible = to_agent f.0 (rw (sym (same f.0 f.1 (further f.0 f.1 l.1)) ∙ c) l.0); quiet = invalidate_event f.0.act b l.0; earlier = k.1 }
       go false c earlier to r p =
           let s = visible_same one (cached all q.number) (nodes all) b (host_mask Read) q q.act r in
-          record { by = q; stands = cq; order = inl refl; made_visible = to_agent q (rw (sym (same q cq (after q later)) ∙ c) (and_from _ _ to s.0)); quiet = host_event q.act to; earlier = earlier }
+          record { by = q; present = cq; order = inl refl; made_visible = to_agent q (rw (sym (same q cq (after q later)) ∙ c) (and_from _ _ to s.0)); quiet = host_event q.act to; earlier = earlier }
 
   -- ---- accesses that see a write
 
   -- a host entry that wrote the byte, and comes before a node or is it
   pub record HostSource (x : Node) (b : Byte) : Type 0 where
     pub by : Node
-    pub stands : Contains (nodes all) by
+    pub present : Contains (nodes all) by
     pub host : IsTrue (is_host by.act)
     pub wrote : IsTrue (is_in b (writes all by))
     pub order : Reaches paths all joins by x
@@ -294,7 +294,7 @@ module _ (paths : BeforeIsPath) (joins : BeforeIsTransitive) (all : Past) where
 
     -- it comes before what shows the byte
     host_first : HostSource x b → (q : Node) → Contains (nodes all) q → IsTrue (before (nodes all) x q) → IsTrue (host_wrote all q b)
-    host_first v q cq later = member_passes (λ v. is_host v.act && is_in b (writes all v) && before (nodes all) v q) (nodes all) v.by v.stands (and_from _ _ (and_from _ _ v.host v.wrote) (reaches_before paths all joins v.by x q v.stands cx cq v.order later))
+    host_first v q cq later = member_passes (λ v. is_host v.act && is_in b (writes all v) && before (nodes all) v q) (nodes all) v.by v.present (and_from _ _ (and_from _ _ v.host v.wrote) (reaches_before paths all joins v.by x q v.present cx cq v.order later))
 
     visible_of : Submits → (q : Node) → Contains (nodes all) q → IsTrue (before (nodes all) x q) → (is_host x.act ≡ true → IsTrue (host_wrote all q b)) → IsTrue (visible_by one (nodes all) x y y.act Read b q) → MadeVisible q y b
     visible_of submits q cq later ready h = go y.act refl ay h
@@ -322,9 +322,9 @@ module _ (paths : BeforeIsPath) (joins : BeforeIsTransitive) (all : Past) where
       p = task_of p;
       q = task_of made_visible.by;
       available = made_available p cp is_made;
-      order = ⊎_elim (λ e. inl (ap (λ (k : ℕ). numbered_task k) e)) (λ earlier. inr (precedes p made_visible.by cp is_made.quiet earlier (task_of made_visible.by) (node_at_self made_visible.by made_visible.stands))) order;
-      visible = subst (λ (a : ℕ). IsTrue (holds (node_at all made_visible.by.number) (λ n. makes_visible_to all n a b))) (sym (agent_is t y at_t)) (rw (node_at_self made_visible.by made_visible.stands) made_visible.made_visible);
-      before = precedes made_visible.by y made_visible.stands made_visible.quiet made_visible.earlier t at_t;
+      order = ⊎_elim (λ e. inl (ap (λ (k : ℕ). numbered_task k) e)) (λ earlier. inr (precedes p made_visible.by cp is_made.quiet earlier (task_of made_visible.by) (node_at_self made_visible.by made_visible.present))) order;
+      visible = subst (λ (a : ℕ). IsTrue (holds (node_at all made_visible.by.number) (λ n. makes_visible_to all n a b))) (sym (agent_is t y at_t)) (rw (node_at_self made_visible.by made_visible.present) made_visible.made_visible);
+      before = precedes made_visible.by y made_visible.present made_visible.quiet made_visible.earlier t at_t;
     }
 
     pub seen_task : Submits → (is_host x.act ≡ true → HostSource x b) → IsTrue (seen one (nodes all) x y Read b) → Seen (accesses_of all) (caching_of all) w t b
@@ -337,7 +337,7 @@ module _ (paths : BeforeIsPath) (joins : BeforeIsTransitive) (all : Past) where
         let is_made = made_of one x p.0 b at_writer cx p.1 ax first.0 in
         let last = before_reaches paths all joins x p.0 q.0 cx p.1 q.1 is_made.later (or_before paths all joins one p.0 q.0 second.0) in
         let made_visible = visible_of submits q.0 q.1 last (λ host. host_first (source host) q.0 q.1 last) second.1 in
-        let order = reaches_join paths all joins p.0 q.0 made_visible.by p.1 q.1 made_visible.stands (or_before paths all joins one p.0 q.0 second.0) made_visible.order in
+        let order = reaches_join paths all joins p.0 q.0 made_visible.by p.1 q.1 made_visible.present (or_before paths all joins one p.0 q.0 second.0) made_visible.order in
         seen_by p.0 q.0 p.1 is_made made_visible order
 
     pub available_task : IsTrue (seen one (nodes all) x y Write b) → Available (accesses_of all) (caching_of all) w t b

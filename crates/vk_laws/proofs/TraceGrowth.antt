@@ -27,7 +27,7 @@ use Rattle.vk_laws.proofs.Prefixes.{old_has, same_pieces, leads_on, there_below}
 use Rattle.vk_laws.proofs.Members.{contains-cons, contains-head, contains-tail, none_in}
 use Rattle.vk_laws.proofs.NoHazard.{number_below, numbered}
 use Rattle.vk_laws.proofs.Steady.{IsNew, IsLive}
-use Rattle.vk_laws.proofs.Points.{AtPoint, stands, at_point_below}
+use Rattle.vk_laws.proofs.Points.{AtPoint, at_point, at_point_below}
 use Rattle.vk_laws.proofs.ModelBytes.{node_there, before_inside}
 use Rattle.vk_laws.proofs.TraceCaches.{node_at_self, before_number, made_of}
 
@@ -81,7 +81,7 @@ module _ (paths : BeforeIsPath) (joins : BeforeIsTransitive) (keeps : GrowthKeep
   -- the node of a number below the size
   record At (k : ℕ) : Type 0 where
     pub node : Node
-    pub stands : Contains (nodes old) node
+    pub present : Contains (nodes old) node
     pub number : node.number ≡ k
     pub in_old : node_at old k ≡ Some node
     pub in_whole : node_at whole k ≡ Some node
@@ -90,7 +90,7 @@ module _ (paths : BeforeIsPath) (joins : BeforeIsTransitive) (keeps : GrowthKeep
   at k lt =
       let n = node_there (nodes old) k (numbered old) lt in
       let f = node_of old k n.0 n.1 in
-      record { node = n.0; stands = f.0; number = f.1; in_old = n.1; in_whole = subst (λ (j : ℕ). node_at whole j ≡ Some n.0) f.1 (node_at_self paths joins whole n.0 (raise n.0 f.0)) }
+      record { node = n.0; present = f.0; number = f.1; in_old = n.1; in_whole = subst (λ (j : ℕ). node_at whole j ≡ Some n.0) f.1 (node_at_self paths joins whole n.0 (raise n.0 f.0)) }
 
   none_old : (k : ℕ) → size ≤ k → node_at old k ≡ None
   none_old k le = go (node_at old k) refl
@@ -102,7 +102,7 @@ module _ (paths : BeforeIsPath) (joins : BeforeIsTransitive) (keeps : GrowthKeep
   -- what a node of the shorter trace does
   module _ (n : Node) (cn : Contains (nodes old) n) where
     s : AtPoint old n
-    s = stands old n cn
+    s = at_point old n cn
 
     far : whole ≡ (newer ++ s.newer) ++ s.at ∷ s.past
     far = split ∙ ap (λ (l : Past). newer ++ l) s.whole ∙ sym (append_assoc newer s.newer (s.at ∷ s.past))
@@ -202,16 +202,16 @@ module _ (paths : BeforeIsPath) (joins : BeforeIsTransitive) (keeps : GrowthKeep
   has_same : (t : Task) → t.node < size → (with_discards whole).has t ≡ (with_discards old).has t
   has_same t lt =
       let n = at t.node lt in
-      ap (by_act false (λ a. nat_lt t.index (task_count whole a))) n.in_whole ∙ ap (nat_lt t.index) (same_count n.node n.stands) ∙ sym (ap (by_act false (λ a. nat_lt t.index (task_count old a))) n.in_old)
+      ap (by_act false (λ a. nat_lt t.index (task_count whole a))) n.in_whole ∙ ap (nat_lt t.index) (same_count n.node n.present) ∙ sym (ap (by_act false (λ a. nat_lt t.index (task_count old a))) n.in_old)
 
   write_same : (t : Task) (c : Byte) → t.node < size → (with_discards whole).write_of t c ≡ (with_discards old).write_of t c
   write_same t c lt =
       let n = at t.node lt in
       let f : (o : Option Node) → (u : Past) → Option Put = λ o u. or_unknown (t.index == 0 && by_act false (λ a. forgets u t.node a c) o) (by_act None (λ a. task_write u a t.index c) o) in
-      let lost : forgets whole t.node n.node.act c ≡ forgets old t.node n.node.act c = subst (λ (k : ℕ). forgets whole k n.node.act c ≡ forgets old k n.node.act c) n.number (same_forgets n.node n.stands n.node.act c) in
+      let lost : forgets whole t.node n.node.act c ≡ forgets old t.node n.node.act c = subst (λ (k : ℕ). forgets whole k n.node.act c ≡ forgets old k n.node.act c) n.number (same_forgets n.node n.present n.node.act c) in
       ap (λ (o : Option Node). f o whole) n.in_whole
       ∙ ap (λ (b : Bool). or_unknown (t.index == 0 && b) (task_write whole n.node.act t.index c)) lost
-      ∙ ap (λ (w : Option Put). or_unknown (t.index == 0 && forgets old t.node n.node.act c) w) (same_index n.node n.stands t.index c)
+      ∙ ap (λ (w : Option Put). or_unknown (t.index == 0 && forgets old t.node n.node.act c) w) (same_index n.node n.present t.index c)
       ∙ sym (ap (λ (o : Option Node). f o old) n.in_old)
 
   before_same : (a b : ℕ) → b < size → (with_discards whole).before a b ≡ (with_discards old).before a b
@@ -232,7 +232,7 @@ module _ (paths : BeforeIsPath) (joins : BeforeIsTransitive) (keeps : GrowthKeep
       by_first : (n : At b) → (a < size) ⊎ (size ≤ a) → holds (node_at whole a) (λ m. before (nodes whole) m n.node) ≡ holds (node_at old a) (λ m. before (nodes old) m n.node)
       by_first n (inl low) =
           let m = at a low in
-          ap (λ (o : Option Node). holds o (λ m. before (nodes whole) m n.node)) m.in_whole ∙ kept.orders m.node n.node n.stands ∙ sym (ap (λ (o : Option Node). holds o (λ m. before (nodes old) m n.node)) m.in_old)
+          ap (λ (o : Option Node). holds o (λ m. before (nodes whole) m n.node)) m.in_whole ∙ kept.orders m.node n.node n.present ∙ sym (ap (λ (o : Option Node). holds o (λ m. before (nodes old) m n.node)) m.in_old)
       by_first n (inr le) = never n le (node_at whole a) refl ∙ sym (ap (λ (o : Option Node). holds o (λ m. before (nodes old) m n.node)) (none_old a le))
 
   available_same : (p w : Task) (c : Byte) → p.node < size → (caching_of whole).makes_available p w c ≡ (caching_of old).makes_available p w c
@@ -244,14 +244,14 @@ module _ (paths : BeforeIsPath) (joins : BeforeIsTransitive) (keeps : GrowthKeep
     where
       never : (n : At p.node) → size ≤ w.node → (o : Option Node) → node_at whole w.node ≡ o → holds o (λ m. sends_write whole n.node m c) ≡ false
       never n le None e = refl
-      never n le (Some m) e = let f = node_of whole w.node m e in none_made n.node n.stands m f.0 (let g = f.1 in omega (arith, le, g)) c
+      never n le (Some m) e = let f = node_of whole w.node m e in none_made n.node n.present m f.0 (let g = f.1 in omega (arith, le, g)) c
 
       by_writer : (n : At p.node) → (w.node < size) ⊎ (size ≤ w.node) → ((accesses_of whole).has w && holds (node_at whole w.node) (λ m. sends_write whole n.node m c)) ≡ ((accesses_of old).has w && holds (node_at old w.node) (λ m. sends_write old n.node m c))
       by_writer n (inl low) =
           let m = at w.node low in
           ap (λ (b : Bool). b && holds (node_at whole w.node) (λ m. sends_write whole n.node m c)) (has_same w low)
           ∙ ap (λ (o : Option Node). (accesses_of old).has w && holds o (λ m. sends_write whole n.node m c)) m.in_whole
-          ∙ ap (λ (b : Bool). (accesses_of old).has w && b) (same_made n.node n.stands m.node m.stands (same_cached m.node m.stands) c)
+          ∙ ap (λ (b : Bool). (accesses_of old).has w && b) (same_made n.node n.present m.node m.present (same_cached m.node m.present) c)
           ∙ sym (ap (λ (o : Option Node). (accesses_of old).has w && holds o (λ m. sends_write old n.node m c)) m.in_old)
       by_writer n (inr le) =
           and_right ((accesses_of whole).has w) _ (never n le (node_at whole w.node) refl)
@@ -260,7 +260,7 @@ module _ (paths : BeforeIsPath) (joins : BeforeIsTransitive) (keeps : GrowthKeep
   visible_same : (q : Task) (a : ℕ) (c : Byte) → q.node < size → (caching_of whole).makes_visible q a c ≡ (caching_of old).makes_visible q a c
   visible_same q a c lt =
       let n = at q.node lt in
-      ap (λ (o : Option Node). holds o (λ n. makes_visible_to whole n a c)) n.in_whole ∙ same_visible n.node n.stands a c ∙ sym (ap (λ (o : Option Node). holds o (λ n. makes_visible_to old n a c)) n.in_old)
+      ap (λ (o : Option Node). holds o (λ n. makes_visible_to whole n a c)) n.in_whole ∙ same_visible n.node n.present a c ∙ sym (ap (λ (o : Option Node). holds o (λ n. makes_visible_to old n a c)) n.in_old)
 
   pub extends : Extends size (with_discards old) (caching_of old) (with_discards whole) (caching_of whole)
   extends = record {
