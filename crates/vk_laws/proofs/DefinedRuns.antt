@@ -34,7 +34,7 @@ use Rattle.vk_laws.proofs.Growth.{may_run}
 use Rattle.vk_laws.proofs.PlainOrder.{Grows, old_or_newer}
 use Rattle.vk_laws.proofs.Prefixes.{is_old, old_has, same_before, same_pieces}
 use Rattle.vk_laws.proofs.Eager.{transitive, due_done, is_eager}
-use Rattle.vk_laws.proofs.Stages.{Placed, start_placed, later, low, next_placed, entry_node, entry_stands, entries_then, submitted, whole_past, wait_past}
+use Rattle.vk_laws.proofs.Stages.{Placed, start_placed, later, low, next_placed, entry_node, entry_present, entries_then, submitted, whole_past, wait_past}
 
 -- ---- names
 
@@ -311,11 +311,11 @@ module _ (paths : BeforeIsPath) (joins : BeforeIsTransitive) (leads : BeforeLead
       after_grows : Front (applied s x xs)
       after_grows = later orders keeps t sound (applied s x xs) after
 
-      here_stands : Contains (nodes (past_with s x)) here
-      here_stands = entry_stands orders keeps t sound s i.placed x xs left
+      here_present : Contains (nodes (past_with s x)) here
+      here_present = entry_present orders keeps t sound s i.placed x xs left
 
       here_in_all : Contains (nodes all) here
-      here_in_all = node_in_all _ (past_with s x) after_grows here here_stands
+      here_in_all = node_in_all _ (past_with s x) after_grows here here_present
 
       here_at : node_at all here.number ≡ Some here
       here_at = node_at_self paths joins all here here_in_all
@@ -356,8 +356,8 @@ module _ (paths : BeforeIsPath) (joins : BeforeIsTransitive) (leads : BeforeLead
       entry_due may false plain = due (entry_task s) here here_at (omega arith) (by_path plain)
       entry_due may true waits =
           let all_free = implied (is_host_wait x) _ waits may in
-          let free = implied (here.point.entry == s.count) (is_free (past_with s x) s.done here) (eq-eqb s.count s.count refl) (all_passes (λ n. not (n.point.entry == s.count) || is_free (past_with s x) s.done n) (nodes (past_with s x)) here all_free here_stands) in
-          due (entry_task s) here here_at (omega arith) (free_in _ (past_with s x) after_grows here here_stands free)
+          let free = implied (here.point.entry == s.count) (is_free (past_with s x) s.done here) (eq-eqb s.count s.count refl) (all_passes (λ n. not (n.point.entry == s.count) || is_free (past_with s x) s.done n) (nodes (past_with s x)) here all_free here_present) in
+          due (entry_task s) here here_at (omega arith) (free_in _ (past_with s x) after_grows here here_present free)
 
       entry_may : IsTrue (may_go s x) → MayRun tr i.tasks (entry_task s)
       entry_may may = may_run tr (is_event all) i.tasks (entry_task s) (transitive paths joins leads all) i.eager here_there
@@ -475,7 +475,7 @@ module _ (paths : BeforeIsPath) (joins : BeforeIsTransitive) (leads : BeforeLead
             let count : length (pieces all c) ≡ length (pieces past c) = ap (λ (ps : List (List ByteWrite)). length ps) (pieces_same P past g m c cm act) in
             let there : IsTrue (tr.has v) = has_task v m at (subst (λ (a : Act). IsTrue (nat_lt j.0 (task_count all a))) (sym act) (lt-ltb j.0 (length (pieces all c)) (omega (arith, within, count)))) in
             let present = may.after v (there, turned (sym (before_is v u m n at at_u)) (turned (sym (before_same P past g m n cn)) b)) in
-            let ran : IsTrue (is_done s.done (m.number, j.0)) = turned (happened_is s v m at (Runs c) act) ((i.happened v there (plain_is v m at (Runs c) act refl)).0 at_point) in
+            let ran : IsTrue (is_done s.done (m.number, j.0)) = turned (happened_is s v m at (Runs c) act) ((i.happened v there (plain_is v m at (Runs c) act refl)).0 present) in
             subst (λ (z : Name). IsTrue (is_done s.done z)) j.2 ran)
         pieces_run m cm b (Hosts x) act = refl
         pieces_run m cm b (Waits x) act = refl
@@ -553,7 +553,7 @@ module _ (paths : BeforeIsPath) (joins : BeforeIsTransitive) (leads : BeforeLead
         goes y ys left true e = or_right (not (is_host_wait y)) _ (each_of (λ m. not (m.point.entry == s.count) || is_free (past_with s y) s.done m) (nodes (past_with s y)) (λ m cm.
             ⊎_elim
             (λ same. or_right (not (m.point.entry == s.count)) _ (subst (λ (k : Node). IsTrue (is_free (past_with s y) s.done k)) same
-            (free_before _ (past_with s y) (after_grows s did i y ys left) u (here s did i y ys left) (subst (λ (k : Node). node_at all u.node ≡ Some k) (its_own y ys left) at) (here_stands s did i y ys left) may)))
+            (free_before _ (past_with s y) (after_grows s did i y ys left) u (here s did i y ys left) (subst (λ (k : Node). node_at all u.node ≡ Some k) (its_own y ys left) at) (here_present s did i y ys left) may)))
             (λ old. or_left (not (m.point.entry == s.count)) _ (ap not (ne_eqb m.point.entry s.count (λ same. let lt = low orders keeps t sound s i.placed m old in omega (arith, lt, same)))))
             (contains-cons (here s did i y ys left) (nodes s.front.past) m (subst (λ (l : Past). Contains (nodes l) m) (wait_past orders keeps t sound s i.placed y ys left e) cm))))
 

@@ -141,8 +141,8 @@ module _ (orders : OrdersAgree) (keeps : GrowthKeeps) (t : List Entry) (sound : 
     abbrev pub entry_node : Node
     entry_node = record { number = length (nodes s.front.past); point = host s.count x; act = Hosts x }
 
-    pub entry_stands : Contains (nodes (past_with s x)) entry_node
-    entry_stands = subst (λ (l : Past). Contains (nodes l) entry_node) (sym batches.whole) (has_more keeps batches.newer (host s.count x ∷ s.front.past) entry_node (contains-head entry_node (nodes s.front.past)))
+    pub entry_present : Contains (nodes (past_with s x)) entry_node
+    entry_present = subst (λ (l : Past). Contains (nodes l) entry_node) (sym batches.whole) (has_more keeps batches.newer (host s.count x ∷ s.front.past) entry_node (contains-head entry_node (nodes s.front.past)))
 
     -- a host entry that has been applied then is this one, or was before
     pub entries_then : (m : Node) (y : Entry) → Contains (nodes all) m → m.act ≡ Hosts y → m.point.entry < s.count + 1 → (entry_node ≡ m) ⊎ Contains (nodes s.front.past) m
