@@ -2,20 +2,20 @@
 use Rattle.std.proofs.Common.{◌≡◌, ◌≢◌, ℕ, zero, suc, ◌+◌, ◌-◌, ◌*◌, ◌/◌, ◌%◌, ◌<◌, ◌≤◌, List, [], ◌∷◌, Bool, true, false, not, ◌&&◌, ◌||◌, ◌==◌, nat_lt, nat_le, refl, ap, subst, arith, inl, inr, Option, Some, None}
 use Rattle.std.specs.Prelude.{IsSome, is_some, is_none}
 use Rattle.std.specs.List.{fold, list_any, list_all, range_with_len}
-use Rattle.vk_model.specs.Order.{SubmittedBatch, actions, started, batches_of, plain_from, host}
+use Rattle.vk_model.specs.Trace.Order.{SubmittedBatch, actions, started, batches_of, plain_from, host}
 use Rattle.std.proofs.lemmas.Bool.{ltb-false, leb-false, eqb-false, eqb-true}
 use Rattle.vk_model.specs.declared.rule.Rule.{Rule}
 use Rattle.vk_model.specs.declared.rule.Rule.TheVariants as rule
-use Rattle.vk_model.specs.Point.{Past, Point, Action, Host, Wait, Run, Signal}
-use Rattle.vk_model.specs.Rules.{breaks}
-use Rattle.vk_model.specs.Fault.{newest, older}
-use Rattle.vk_model.specs.RulesIds.{breaks_new_id}
-use Rattle.vk_model.specs.RulesSizes.{breaks_size, bad_entry_size, bad_command_size, fills_none, breaks_memory_size, bad_memory_size}
-use Rattle.vk_model.specs.RulesRanges.{breaks_range, host_past, command_past, fills_from_end, breaks_align, misaligned, off_4_length}
-use Rattle.vk_model.specs.RulesBytes.{breaks_read_undefined, reads_undefined}
-use Rattle.vk_model.specs.Effect.{world}
-use Rattle.vk_model.specs.ByteWrites.{buffer_size, fill_size}
-use Rattle.vk_model.specs.World.{in_buffer}
+use Rattle.vk_model.specs.Trace.Point.{Past, Point, Action, Host, Wait, Run, Signal}
+use Rattle.vk_model.specs.Rules.Table.{breaks}
+use Rattle.vk_model.specs.Rules.Fault.{newest, older}
+use Rattle.vk_model.specs.Rules.Ids.{breaks_new_id}
+use Rattle.vk_model.specs.Rules.Sizes.{breaks_size, bad_entry_size, bad_command_size, fills_none, breaks_memory_size, bad_memory_size}
+use Rattle.vk_model.specs.Rules.Ranges.{breaks_range, host_past, command_past, fills_from_end, breaks_align, misaligned, off_4_length}
+use Rattle.vk_model.specs.Rules.Hazards.{breaks_read_undefined, reads_undefined}
+use Rattle.vk_model.specs.World.Effect.{world}
+use Rattle.vk_model.specs.World.ByteWrites.{buffer_size, fill_size}
+use Rattle.vk_model.specs.World.Bytes.{in_buffer}
 use Rattle.vk_model.specs.declared.command.Length.{Length}
 use Rattle.vk_model.specs.declared.command.Length.TheVariants as length_of
 use Rattle.vk_model.specs.declared.command.Cmd.TheVariants as cmd
@@ -27,10 +27,10 @@ use Rattle.vk_model.specs.declared.resource.Place.{Place}
 use Rattle.vk_model.specs.declared.resource.Place.TheVariants as place
 use Rattle.vk_validate.specs.Supported.{is_supported, is_supported_action, is_supported_place, is_memory}
 use Rattle.vk_device.specs.Clean.{IsClean}
-use Rattle.vk_device.specs.Fits.{FitsFill, FitsCommand, FitsRead, FitsEntry, FitsAction, AllFit, AllMemory, IsOwn}
+use Rattle.vk_device.specs.Inner.Fits.{FitsFill, FitsCommand, FitsRead, FitsEntry, FitsAction, AllFit, AllMemory, IsOwn}
 use Rattle.std.proofs.Math.Nat.{eq-or-lt_of_le, div-add-mod, div-mul-le_self, mul-div_cancel, mod-lt}
 use Rattle.vk_model.specs.declared.command.Cmd.{Cmd}
-use Rattle.vk_model.specs.Objects.{made, made_by, buffer}
+use Rattle.vk_model.specs.Trace.Objects.{made, made_by, buffer}
 use Rattle.vk_model.specs.declared.entry.Entry.{Entry}
 
 -- a point breaks no rule

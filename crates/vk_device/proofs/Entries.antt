@@ -12,18 +12,18 @@ use Rattle.vk_model.specs.declared.entry.Batch.{Batch}
 use Rattle.vk_model.specs.declared.entry.Entry.{Entry}
 use Rattle.vk_model.specs.declared.entry.Entry.TheVariants as entry
 use Rattle.vk_model.specs.declared.resource.BufferInfo.{BufferInfo}
-use Rattle.vk_model.specs.Point.{Past}
+use Rattle.vk_model.specs.Trace.Point.{Past}
 use Rattle.vk_model.specs.Basics.{round_up}
-use Rattle.vk_model.specs.Objects.{made, buffer, buffer_in}
-use Rattle.vk_model.specs.Order.{host}
-use Rattle.vk_model.specs.World.{Byte, in_buffer, in_image}
-use Rattle.vk_model.specs.Effect.{world}
-use Rattle.vk_model.specs.Meaning.{bytes_at, read_in}
+use Rattle.vk_model.specs.Trace.Objects.{made, buffer, buffer_in}
+use Rattle.vk_model.specs.Trace.Order.{host}
+use Rattle.vk_model.specs.World.Bytes.{Byte, in_buffer, in_image}
+use Rattle.vk_model.specs.World.Effect.{world}
+use Rattle.vk_model.specs.World.Meaning.{bytes_at, read_in}
 use Rattle.vk_device.specs.declared.applied.Applied.{Applied}
 use Rattle.vk_device.specs.declared.applied.Applied.TheVariants as applied
 use Rattle.vk_device.specs.declared.device.Placed.{Placed}
 use Rattle.vk_device.specs.Held.{Held, IsApart, placed, byte_in, byte_at, MapsAt}
-use Rattle.vk_device.specs.Fits.{AllFit, FitsEntry, FitsRead}
+use Rattle.vk_device.specs.Inner.Fits.{AllFit, FitsEntry, FitsRead}
 use Rattle.vk_device.specs.Matches.{IsThere, Matches, next_past, batches_past, Makes, MadeOr, Answered}
 use Rattle.vk_device.proofs.Steps.{there_placed}
 

@@ -10,8 +10,8 @@ use Rattle.vk_heap.specs.Region.{splice, repeated}
 use Rattle.vk_heap.proofs.RegionLemmas.{length-repeated}
 use Rattle.vk_memory.specs.MemoryState.{MemoryState, region_of, with_region, object_at, nothing}
 use Rattle.vk_model.specs.Basics.{below, byte_of}
-use Rattle.vk_model.specs.World.{in_buffer, in_image, same_byte}
-use Rattle.vk_model.specs.ByteWrites.{Value, ByteWrite, byte_write}
+use Rattle.vk_model.specs.World.Bytes.{in_buffer, in_image, same_byte}
+use Rattle.vk_model.specs.World.ByteWrites.{Value, ByteWrite, byte_write}
 use Rattle.vk_device.specs.declared.device.Placed.{Placed}
 use Rattle.vk_device.specs.Held.{Held, IsApart, placed, byte_in, byte_at}
 use Rattle.vk_device.proofs.Running.{stored, write_to, HaveRun}

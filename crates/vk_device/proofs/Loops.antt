@@ -4,11 +4,11 @@ use Rattle.std.proofs.lemmas.List.{drop_all}
 use Rattle.std.proofs.Math.Seq.{drop-cons}
 use Rattle.vk_model.specs.declared.command.Cmd.{Cmd}
 use Rattle.vk_model.specs.declared.entry.Batch.{Batch}
-use Rattle.vk_model.specs.Point.{Past, Run}
-use Rattle.vk_model.specs.Order.{SubmittedBatch, actions, started, batches_from, submitted_batch}
+use Rattle.vk_model.specs.Trace.Point.{Past, Run}
+use Rattle.vk_model.specs.Trace.Order.{SubmittedBatch, actions, started, batches_from, submitted_batch}
 use Rattle.vk_device.specs.Allotted.{allotted}
 use Rattle.vk_device.specs.Held.{Held}
-use Rattle.vk_device.specs.Fits.{FitsCommand, AllFit}
+use Rattle.vk_device.specs.Inner.Fits.{FitsCommand, AllFit}
 use Rattle.vk_device.specs.Matches.{Matches, run_point, CommandReady, CommandsReady, BatchReady, BatchesReady, batches_past}
 use Rattle.vk_device.proofs.Steps.{fit_actions, fit_batches, waits_match, signals_match}
 
@@ -103,16 +103,16 @@ batches_end old bs i s done le at e q past st fit =
 pub of_batch : (s : Held) (x : Batch) → BatchReady s x → CommandsReady s x.commands
 of_batch s x ready =
     let t = ready.0 in
-    let fit : AllFit (actions Run t 0 t.content.commands (actions Rattle.vk_model.specs.Point.Wait t 0 t.content.waits ready.1)) = fit_actions Rattle.vk_model.specs.Point.Signal t 0 t.content.signals _ ready.4 in (
+    let fit : AllFit (actions Run t 0 t.content.commands (actions Rattle.vk_model.specs.Trace.Point.Wait t 0 t.content.waits ready.1)) = fit_actions Rattle.vk_model.specs.Trace.Point.Signal t 0 t.content.signals _ ready.4 in (
       t,
-      actions Rattle.vk_model.specs.Point.Wait t 0 t.content.waits ready.1,
+      actions Rattle.vk_model.specs.Trace.Point.Wait t 0 t.content.waits ready.1,
       waits_match t 0 t.content.waits ready.1 s ready.2,
-      subst (λ (b : Batch). AllFit (actions Run t 0 b.commands (actions Rattle.vk_model.specs.Point.Wait t 0 t.content.waits ready.1))) ready.3 fit,
+      subst (λ (b : Batch). AllFit (actions Run t 0 b.commands (actions Rattle.vk_model.specs.Trace.Point.Wait t 0 t.content.waits ready.1))) ready.3 fit,
     )
 
 pub batch_runs : (s s' : Held) (x : Batch) → ((t : SubmittedBatch) (past : Past) → Matches past s → AllFit (actions Run t 0 x.commands past) → Matches (actions Run t 0 x.commands past) s') → (t : SubmittedBatch) (past : Past) → t.content ≡ x → Matches past s → AllFit (started t past) → Matches (started t past) s'
 batch_runs s s' x ran t past is st fit =
-    let waited : Past = actions Rattle.vk_model.specs.Point.Wait t 0 t.content.waits past in
-    let fit' : AllFit (actions Run t 0 t.content.commands waited) = fit_actions Rattle.vk_model.specs.Point.Signal t 0 t.content.signals _ fit in
+    let waited : Past = actions Rattle.vk_model.specs.Trace.Point.Wait t 0 t.content.waits past in
+    let fit' : AllFit (actions Run t 0 t.content.commands waited) = fit_actions Rattle.vk_model.specs.Trace.Point.Signal t 0 t.content.signals _ fit in
     let ran' : Matches (actions Run t 0 t.content.commands waited) s' = subst (λ (b : Batch). Matches (actions Run t 0 b.commands waited) s') (sym is) (ran t waited (waits_match t 0 t.content.waits past s st) (subst (λ (b : Batch). AllFit (actions Run t 0 b.commands waited)) is fit')) in
     signals_match t 0 t.content.signals _ s' ran'

@@ -2,9 +2,9 @@
 use Rattle.std.proofs.Common.{◌≡◌, ℕ, List, refl, ◌∙◌, Option, Some, None}
 use Rattle.std.specs.Prelude.{IsSome}
 use Rattle.std.specs.List.{find}
-use Rattle.vk_model.specs.World.{Byte, same_byte}
-use Rattle.vk_model.specs.ByteWrites.{Source, Value, From, ByteWrite}
-use Rattle.vk_model.specs.Effect.{source_value, value_after, after_writes}
+use Rattle.vk_model.specs.World.Bytes.{Byte, same_byte}
+use Rattle.vk_model.specs.World.ByteWrites.{Source, Value, From, ByteWrite}
+use Rattle.vk_model.specs.World.Effect.{source_value, value_after, after_writes}
 
 -- what a source gives, by the bytes before
 abbrev pub given : Source → (Byte → ℕ) → ℕ

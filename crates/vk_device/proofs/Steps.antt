@@ -14,17 +14,17 @@ use Rattle.vk_model.specs.declared.entry.Entry.{Entry}
 use Rattle.vk_model.specs.declared.entry.SemaphoreSubmit.{SemaphoreSubmit}
 use Rattle.vk_model.specs.declared.resource.BufferInfo.{BufferInfo}
 use Rattle.vk_model.specs.Basics.{below}
-use Rattle.vk_model.specs.Point.{Past, Action, Wait, Run, Signal}
-use Rattle.vk_model.specs.Objects.{made, buffer, is_exclusive}
-use Rattle.vk_model.specs.Order.{SubmittedBatch, actions, started, batches_of, plain_from, host}
-use Rattle.vk_model.specs.World.{Byte, in_buffer, in_image, resource_at, World}
-use Rattle.vk_model.specs.ByteWrites.{ByteWrite, byte_writes, buffer_size, fill_size}
-use Rattle.vk_model.specs.Effect.{used, without, is_other, after_element, after_writes, world}
-use Rattle.vk_model.specs.Ownership.{family_of}
-use Rattle.vk_model.specs.Meaning.{reads, read_by, read_in}
+use Rattle.vk_model.specs.Trace.Point.{Past, Action, Wait, Run, Signal}
+use Rattle.vk_model.specs.Trace.Objects.{made, buffer, is_exclusive}
+use Rattle.vk_model.specs.Trace.Order.{SubmittedBatch, actions, started, batches_of, plain_from, host}
+use Rattle.vk_model.specs.World.Bytes.{Byte, in_buffer, in_image, resource_at, World}
+use Rattle.vk_model.specs.World.ByteWrites.{ByteWrite, byte_writes, buffer_size, fill_size}
+use Rattle.vk_model.specs.World.Effect.{used, without, is_other, after_element, after_writes, world}
+use Rattle.vk_model.specs.World.Ownership.{family_of}
+use Rattle.vk_model.specs.World.Meaning.{reads, read_by, read_in}
 use Rattle.vk_device.specs.declared.device.Placed.{Placed}
 use Rattle.vk_device.specs.Held.{Held, IsApart, placed, byte_at}
-use Rattle.vk_device.specs.Fits.{FitsFill, AllMemory, FitsCommand, AllFit}
+use Rattle.vk_device.specs.Inner.Fits.{FitsFill, AllMemory, FitsCommand, AllFit}
 use Rattle.vk_device.specs.Matches.{IsThere, Matches, next_past, run_point}
 use Rattle.vk_device.proofs.Running.{write_to, run_keeps_values, run_there}
 use Rattle.vk_device.proofs.Filling.{fill_write, fill_writes, image_missed, fill_ran, fill_there}
@@ -41,7 +41,7 @@ used_less past f r w c v h = exclusive (is_exclusive past r) h
     other true h = less (resource_at c == r) w.value c v h
     other false h = h
 
-    exclusive : (t : Bool) → (cond t (record w { value = cond (is_other f (w.owner r)) (without (λ (b : Byte). resource_at b == r) w.value) w.value; owner = λ s. cond (s == r) (Rattle.vk_model.specs.World.Family f) (w.owner s) }) w).value c ≡ Some v → w.value c ≡ Some v
+    exclusive : (t : Bool) → (cond t (record w { value = cond (is_other f (w.owner r)) (without (λ (b : Byte). resource_at b == r) w.value) w.value; owner = λ s. cond (s == r) (Rattle.vk_model.specs.World.Bytes.Family f) (w.owner s) }) w).value c ≡ Some v → w.value c ≡ Some v
     exclusive true h = other (is_other f (w.owner r)) h
     exclusive false h = h
 

@@ -6,10 +6,10 @@ use Rattle.std.specs.Prelude.{IsTrue}
 use Rattle.vk_memory.specs.MemoryState.{MemoryState}
 use Rattle.vk_model.specs.declared.config.Config.{Config}
 use Rattle.vk_model.specs.declared.entry.Entry.{Entry}
-use Rattle.vk_model.specs.Point.{Past}
-use Rattle.vk_model.specs.Order.{plain_order}
-use Rattle.vk_model.specs.Effect.{world}
-use Rattle.vk_model.specs.Meaning.{Reads, reads, read_in, meaning}
+use Rattle.vk_model.specs.Trace.Point.{Past}
+use Rattle.vk_model.specs.Trace.Order.{plain_order}
+use Rattle.vk_model.specs.World.Effect.{world}
+use Rattle.vk_model.specs.World.Meaning.{Reads, reads, read_in, meaning}
 use Rattle.vk_device.specs.declared.applied.Applied.{Applied}
 use Rattle.vk_device.specs.declared.applied.Applied.TheVariants as applied
 use Rattle.vk_device.specs.Allotted.{allotted, with_asked, finds_no_room, stop_from, first_stop}

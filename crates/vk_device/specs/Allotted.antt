@@ -7,8 +7,8 @@ use Rattle.vk_model.specs.declared.entry.Entry.{Entry}
 use Rattle.vk_model.specs.declared.entry.Entry.TheVariants as entry
 use Rattle.vk_model.specs.declared.resource.Place.{Place}
 use Rattle.vk_model.specs.declared.resource.Place.TheVariants as place
-use Rattle.vk_model.specs.Objects.{of_buffer}
-use Rattle.vk_model.specs.Room.{Heaps, heap_of, no_object}
+use Rattle.vk_model.specs.Trace.Objects.{of_buffer}
+use Rattle.vk_model.specs.Memory.Room.{Heaps, heap_of, no_object}
 
 -- The sizes of the heaps, and each memory object by its memory type and its size, the oldest first (Vulkan, "Device Memory").
 pub record Allotted : Type 0 where

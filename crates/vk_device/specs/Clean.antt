@@ -1,9 +1,9 @@
 -- What may have happened on a device.
 use Rattle.std.specs.Prelude.{IsTrue}
 use Rattle.vk_model.specs.declared.rule.Rule.{Rule}
-use Rattle.vk_model.specs.Point.{Past, Point}
-use Rattle.vk_model.specs.Rules.{breaks}
-use Rattle.vk_model.specs.Fault.{Comes}
+use Rattle.vk_model.specs.Trace.Point.{Past, Point}
+use Rattle.vk_model.specs.Rules.Table.{breaks}
+use Rattle.vk_model.specs.Rules.Fault.{Comes}
 use Rattle.vk_validate.specs.Supported.{is_supported}
 
 -- No point of a past breaks a rule, and each is of a supported form so far.

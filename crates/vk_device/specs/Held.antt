@@ -4,7 +4,7 @@ use Rattle.std.specs.Ordering.{nat_cmp}
 use Rattle.std.specs.Map.{lookup}
 use Rattle.std.specs.BTreeMap.{is_at}
 use Rattle.vk_memory.specs.MemoryState.{MemoryState, region_of, with_mapped}
-use Rattle.vk_model.specs.World.{Byte, in_buffer, in_image}
+use Rattle.vk_model.specs.World.Bytes.{Byte, in_buffer, in_image}
 use Rattle.vk_device.specs.declared.device.Placed.{Placed}
 
 -- What is seen of a device: its memory objects, where each buffer lies, by its id, and whether an earlier entry has failed.

@@ -1,6 +1,6 @@
 pub mod Held
 pub mod Allotted
 pub mod Clean
-pub mod Fits
+pub mod Inner
 pub mod Matches
 pub mod Replays

@@ -6,21 +6,21 @@ use Rattle.vk_model.specs.declared.command.Cmd.{Cmd}
 use Rattle.vk_model.specs.declared.command.Length.{Length}
 use Rattle.vk_model.specs.declared.entry.Batch.{Batch}
 use Rattle.vk_model.specs.declared.entry.Entry.{Entry}
-use Rattle.vk_model.specs.Point.{Past, Point, Run}
-use Rattle.vk_model.specs.Objects.{buffer}
+use Rattle.vk_model.specs.Trace.Point.{Past, Point, Run}
+use Rattle.vk_model.specs.Trace.Objects.{buffer}
 use Rattle.vk_model.specs.Basics.{round_up}
-use Rattle.vk_model.specs.Order.{SubmittedBatch, actions, started, batches_of, batches_from, host}
-use Rattle.vk_model.specs.World.{Byte, in_buffer, in_image}
-use Rattle.vk_model.specs.ByteWrites.{fill_size}
-use Rattle.vk_model.specs.Effect.{world}
-use Rattle.vk_model.specs.Meaning.{read_in}
+use Rattle.vk_model.specs.Trace.Order.{SubmittedBatch, actions, started, batches_of, batches_from, host}
+use Rattle.vk_model.specs.World.Bytes.{Byte, in_buffer, in_image}
+use Rattle.vk_model.specs.World.ByteWrites.{fill_size}
+use Rattle.vk_model.specs.World.Effect.{world}
+use Rattle.vk_model.specs.World.Meaning.{read_in}
 use Rattle.vk_device.specs.declared.applied.Applied.{Applied}
 use Rattle.vk_device.specs.declared.applied.Applied.TheVariants as applied
 use Rattle.vk_device.specs.declared.device.Placed.{Placed}
 use Rattle.vk_device.specs.Held.{Held, placed, byte_at}
 use Rattle.vk_device.specs.Allotted.{allotted, with_asked, finds_no_room}
 use Rattle.vk_device.specs.Clean.{IsClean}
-use Rattle.vk_device.specs.Fits.{FitsCommand, AllFit}
+use Rattle.vk_device.specs.Inner.Fits.{FitsCommand, AllFit}
 
 -- A byte of a resource has a place in memory.
 abbrev pub IsThere : Held → Byte → Type 0

@@ -1,7 +1,7 @@
 -- Where a replay stops.
 use Rattle.std.specs.Prelude.{◌≡◌, ℕ, ◌<◌, List, take, length, true, Some, slice_get}
 use Rattle.vk_model.specs.declared.entry.Entry.{Entry}
-use Rattle.vk_model.specs.Order.{plain_order}
+use Rattle.vk_model.specs.Trace.Order.{plain_order}
 use Rattle.vk_device.specs.Held.{Held}
 use Rattle.vk_device.specs.Allotted.{allotted, finds_no_room}
 use Rattle.vk_device.specs.Matches.{Matches}

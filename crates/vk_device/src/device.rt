@@ -2,7 +2,7 @@ ghost use Rattle.std.specs.Prelude.{◌≡◌, ◌⊎◌, ℕ, ◌+◌, ◌/◌,
 ghost use Rattle.std.specs.Int.{to_le_bytes, w32};
 ghost use Rattle.vk_heap.specs.Region.{splice, piece, repeated};
 ghost use Rattle.vk_memory.specs.MemoryState.{region_of, with_region};
-ghost use Rattle.vk_model.specs.ByteWrites.{fill_size};
+ghost use Rattle.vk_model.specs.World.ByteWrites.{fill_size};
 
 use crate::applied::{Applied, ApplyError};
 use std::alloc::Global;
@@ -55,12 +55,12 @@ fn fill_size(size: u64, offset: u64, length: Length) -> u64
 }
 
 impl Device {
-    ghost use Rattle.vk_model.specs.Order.{SubmittedBatch, actions, started};
-    ghost use Rattle.vk_model.specs.Point.{Past, Run};
+    ghost use Rattle.vk_model.specs.Trace.Order.{SubmittedBatch, actions, started};
+    ghost use Rattle.vk_model.specs.Trace.Point.{Past, Run};
     ghost use Rattle.vk_device.specs.Held.{placed, IsApart, MapsAt};
     ghost use Rattle.vk_device.specs.Allotted.{allotted};
     ghost use Rattle.vk_device.specs.Clean.{IsClean};
-    ghost use Rattle.vk_device.specs.Fits.{AllFit, FitsCommand};
+    ghost use Rattle.vk_device.specs.Inner.Fits.{AllFit, FitsCommand};
     ghost use Rattle.vk_device.specs.Matches.{Matches, run_point, batches_past, next_past, CommandReady, CommandsReady, BatchReady, BatchesReady, Ready, IsNext, MayFill, MayRead, MadeOr, Answered, Rooms, Allots};
     ghost use Rattle.vk_device.specs.declared.applied.ApplyError.TheVariants.{NoMemory, Failed};
 

@@ -1,7 +1,7 @@
 ghost use Rattle.std.specs.Prelude.{◌≡◌, length, IfOk, IfErr, MatchOption, None};
-ghost use Rattle.vk_model.specs.Order.{plain_order};
-ghost use Rattle.vk_model.specs.Meaning.{meaning};
-ghost use Rattle.vk_model.specs.Rules.{first_fault};
+ghost use Rattle.vk_model.specs.Trace.Order.{plain_order};
+ghost use Rattle.vk_model.specs.World.Meaning.{meaning};
+ghost use Rattle.vk_model.specs.Rules.Table.{first_fault};
 ghost use Rattle.vk_device.specs.Clean.{IsClean};
 ghost use Rattle.vk_device.specs.Matches.{Matches};
 ghost use Rattle.vk_device.specs.Allotted.{first_stop};

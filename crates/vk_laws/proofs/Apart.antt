@@ -11,15 +11,15 @@ use Rattle.vk_model.specs.declared.command.ImageCopy.{ImageCopy}
 use Rattle.vk_model.specs.declared.command.SubresourceRange.{SubresourceRange}
 use Rattle.vk_model.specs.declared.resource.ImageInfo.{ImageInfo}
 use Rattle.vk_model.specs.Basics.{some_pair, below, grid}
-use Rattle.vk_model.specs.World.{Byte, in_buffer, in_image}
-use Rattle.vk_model.specs.Point.{Past}
-use Rattle.vk_model.specs.Objects.{image}
-use Rattle.vk_model.specs.Image.{texel}
-use Rattle.vk_model.specs.ByteWrites.{Value, From, ByteWrite, byte_write, byte_writes, copy_writes, copy_in_writes, copy_out_writes, copy_image_writes, clear_writes, clear_write, subresource_bytes, image_texel, buffer_texel}
-use Rattle.vk_model.specs.Suballocation.{ranges_meet}
-use Rattle.vk_model.specs.Areas.{Area, Bytes, Texels, areas_meet, source_box, destination_box, areas_read, areas_written}
-use Rattle.vk_model.specs.Access.{origin}
-use Rattle.vk_model.specs.RulesRanges.{command_overlaps}
+use Rattle.vk_model.specs.World.Bytes.{Byte, in_buffer, in_image}
+use Rattle.vk_model.specs.Trace.Point.{Past}
+use Rattle.vk_model.specs.Trace.Objects.{image}
+use Rattle.vk_model.specs.Trace.Image.{texel}
+use Rattle.vk_model.specs.World.ByteWrites.{Value, From, ByteWrite, byte_write, byte_writes, copy_writes, copy_in_writes, copy_out_writes, copy_image_writes, clear_writes, clear_write, subresource_bytes, image_texel, buffer_texel}
+use Rattle.vk_model.specs.Memory.Suballocation.{ranges_meet}
+use Rattle.vk_model.specs.World.Areas.{Area, Bytes, Texels, areas_meet, source_box, destination_box, areas_read, areas_written}
+use Rattle.vk_model.specs.Sync.Access.{origin}
+use Rattle.vk_model.specs.Rules.Ranges.{command_overlaps}
 use Rattle.vk_laws.proofs.Members.{member_passes, none_in, mapped_from, flat_from, range_from, place_has, map_has}
 
 -- ---- what grids are made of

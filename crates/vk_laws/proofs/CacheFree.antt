@@ -3,15 +3,15 @@ use Rattle.std.proofs.Common.{◌≡◌, ◌⊎◌, inl, inr, ℕ, ◌<◌, ◌�
 use Rattle.std.specs.Prelude.{Contains, nat_lt, if◌then◌else◌}
 use Rattle.std.proofs.lemmas.List.{append_assoc}
 use Rattle.vk_model.specs.declared.entry.Entry.{Entry}
-use Rattle.vk_model.specs.World.{Byte, resource_at}
-use Rattle.vk_model.specs.Objects.{is_cached}
-use Rattle.vk_model.specs.Point.{Past, Point}
-use Rattle.vk_model.specs.Order.{plain_order}
-use Rattle.vk_model.specs.Node.{Node, nodes}
-use Rattle.vk_model.specs.Edge.{is_host}
-use Rattle.vk_model.specs.Access.{writes}
-use Rattle.vk_model.specs.Rules.{first_fault}
-use Rattle.vk_model.specs.Fault.{Comes, older, IsSound}
+use Rattle.vk_model.specs.World.Bytes.{Byte, resource_at}
+use Rattle.vk_model.specs.Trace.Objects.{is_cached}
+use Rattle.vk_model.specs.Trace.Point.{Past, Point}
+use Rattle.vk_model.specs.Trace.Order.{plain_order}
+use Rattle.vk_model.specs.Sync.Node.{Node, nodes}
+use Rattle.vk_model.specs.Sync.Edge.{is_host}
+use Rattle.vk_model.specs.Sync.Access.{writes}
+use Rattle.vk_model.specs.Rules.Table.{first_fault}
+use Rattle.vk_model.specs.Rules.Fault.{Comes, older, IsSound}
 use Rattle.vk_model.specs.Laws.{BeforeIsPath, BeforeIsTransitive, GrowthKeeps, PiecesAreByteWrites}
 use Rattle.vk_laws.specs.Machine.{Task, Writes, Reads}
 use Rattle.vk_laws.specs.Caches.{CacheFree, Seen, Available}

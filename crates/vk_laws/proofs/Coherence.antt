@@ -1,8 +1,8 @@
 -- In an allowed run each byte has one value, which is the model's where that is defined, and which every agent sees that it has been shown to.
 use Rattle.std.proofs.Common.{◌≡◌, ◌⊎◌, inl, inr, ⊎_elim, ℕ, suc, ◌<◌, IsTrue, List, ◌∷◌, Option, Some, None, refl, sym, ap, ◌∙◌, subst, eq-or-lt_of_le}
 use Rattle.std.proofs.lemmas.Bool.{cases_lt}
-use Rattle.vk_model.specs.World.{Byte}
-use Rattle.vk_model.specs.ByteWrites.{Value, From}
+use Rattle.vk_model.specs.World.Bytes.{Byte}
+use Rattle.vk_model.specs.World.ByteWrites.{Value, From}
 use Rattle.vk_laws.specs.Machine.{IsIn, Task, Put, Puts, Unknown, TraceAccesses, Writes, Reads, Precedes, HazardFree, MayRun, IsAllowed, IsModel, newest, latest}
 use Rattle.vk_laws.specs.Caches.{Dirty, Cell, view, Wrote, CellRan, Caching, CacheFree, Guard, Reached, Start, Touch, Run}
 use Rattle.vk_laws.proofs.Coherent.{Stores, Follows, CellOk, owner_of, MadeAvailable, MadeVisible, Coherent}

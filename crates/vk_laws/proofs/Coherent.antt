@@ -1,8 +1,8 @@
 -- What holds at every moment of a run: the ghost bytes, and each byte's region and caches beside them.
 use Rattle.std.proofs.Common.{◌≡◌, ◌⊎◌, ℕ, suc, ◌<◌, ◌≤◌, IsTrue, List, Option, Some, None}
 use Rattle.std.specs.Prelude.{⊤}
-use Rattle.vk_model.specs.World.{Byte}
-use Rattle.vk_model.specs.ByteWrites.{Value, From}
+use Rattle.vk_model.specs.World.Bytes.{Byte}
+use Rattle.vk_model.specs.World.ByteWrites.{Value, From}
 use Rattle.vk_laws.specs.Machine.{IsIn, Task, Put, Puts, Unknown, TraceAccesses, Writes, Precedes, latest}
 use Rattle.vk_laws.specs.Caches.{Clean, Dirty, Cell, Caching}
 

@@ -1,7 +1,7 @@
 -- The meaning of whole commands is a model of their pieces.
 use Rattle.std.proofs.Common.{◌≡◌, ℕ, Bool, true, false, cond, Option, Some, None, refl, subst}
-use Rattle.vk_model.specs.World.{Byte}
-use Rattle.vk_model.specs.ByteWrites.{Value, From}
+use Rattle.vk_model.specs.World.Bytes.{Byte}
+use Rattle.vk_model.specs.World.ByteWrites.{Value, From}
 use Rattle.vk_laws.specs.Machine.{Task, Put, Puts, Unknown, TraceAccesses, put_value, IsModel}
 use Rattle.vk_laws.specs.Commands.{Effects, left_by, set_by, meaning, IsCut}
 

@@ -2,10 +2,10 @@
 use Rattle.std.proofs.Common.{◌≡◌, ⊎_elim, ℕ, List, [], ◌∷◌, Bool, true, false, cond, not, IsTrue, Option, Some, None, refl, ap, sym, ◌∙◌, subst}
 use Rattle.std.specs.List.{filter}
 use Rattle.vk_model.specs.Basics.{holds}
-use Rattle.vk_model.specs.World.{Byte}
-use Rattle.vk_model.specs.ByteWrites.{Value, From}
-use Rattle.vk_model.specs.Point.{Past}
-use Rattle.vk_model.specs.Node.{Node, Act, Hosts, Waits, Signals, Runs, Depends}
+use Rattle.vk_model.specs.World.Bytes.{Byte}
+use Rattle.vk_model.specs.World.ByteWrites.{Value, From}
+use Rattle.vk_model.specs.Trace.Point.{Past}
+use Rattle.vk_model.specs.Sync.Node.{Node, Act, Hosts, Waits, Signals, Runs, Depends}
 use Rattle.vk_model.specs.Laws.{PiecesAreByteWrites}
 use Rattle.std.specs.Prelude.{nat_lt}
 use Rattle.vk_laws.specs.Machine.{Task, Put, Puts, Unknown, TraceAccesses, Writes, Reads, Conflict, newest, latest}

@@ -8,16 +8,16 @@ use Rattle.vk_model.specs.declared.command.Cmd.{Cmd}
 use Rattle.vk_model.specs.declared.entry.Entry.{Entry}
 use Rattle.vk_model.specs.declared.entry.Entry.TheVariants as entry
 use Rattle.vk_model.specs.Basics.{holds, below}
-use Rattle.vk_model.specs.Point.{Past, Point}
-use Rattle.vk_model.specs.Order.{plain_order}
-use Rattle.vk_model.specs.ByteWrites.{ByteWrite}
-use Rattle.vk_model.specs.Pieces.{pieces}
-use Rattle.vk_model.specs.Node.{Node, Act, Hosts, Waits, Signals, Runs, Depends, Barrier, SetOf, AwaitOf, nodes}
-use Rattle.vk_model.specs.Edge.{edge, is_host, is_submit, same_queue, by_host, by_stages, by_signal, by_all_commands, by_semaphore, pairs, signaled_by, waited_by, host_waits, earlier}
-use Rattle.vk_model.specs.Before.{before, Path, direct, longer}
-use Rattle.vk_model.specs.Fault.{IsSound}
+use Rattle.vk_model.specs.Trace.Point.{Past, Point}
+use Rattle.vk_model.specs.Trace.Order.{plain_order}
+use Rattle.vk_model.specs.World.ByteWrites.{ByteWrite}
+use Rattle.vk_model.specs.Run.Pieces.{pieces}
+use Rattle.vk_model.specs.Sync.Node.{Node, Act, Hosts, Waits, Signals, Runs, Depends, Barrier, SetOf, AwaitOf, nodes}
+use Rattle.vk_model.specs.Sync.Edge.{edge, is_host, is_submit, same_queue, by_host, by_stages, by_signal, by_all_commands, by_semaphore, pairs, signaled_by, waited_by, host_waits, earlier}
+use Rattle.vk_model.specs.Sync.Before.{before, Path, direct, longer}
+use Rattle.vk_model.specs.Rules.Fault.{IsSound}
 use Rattle.vk_model.specs.Laws.{BeforeIsPath, BeforeIsTransitive, BeforeLeadsOn, GrowthKeeps, OrdersAgree}
-use Rattle.vk_model.specs.Run.{Name, same_name, is_done, node_pieces, is_free, offered, Step, Apply, RunPiece, CopyPart, Stage, start, is_host_wait, past_with, may_go, applied, Applies, Next, Allowed}
+use Rattle.vk_model.specs.Run.Runs.{Name, same_name, is_done, node_pieces, is_free, offered, Step, Apply, RunPiece, CopyPart, Stage, start, is_host_wait, past_with, may_go, applied, Applies, Next, Allowed}
 use Rattle.vk_laws.specs.Machine.{IsIn, Task, TraceAccesses, MayRun, IsAllowed}
 use Rattle.vk_laws.specs.Growth.{IsDue, IsEager}
 use Rattle.vk_laws.specs.Trace.{accesses}

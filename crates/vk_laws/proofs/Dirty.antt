@@ -10,14 +10,14 @@ use Rattle.vk_model.specs.declared.command.Element.{Element}
 use Rattle.vk_model.specs.declared.command.Element.TheVariants as element
 use Rattle.vk_model.specs.declared.command.BufferElement.{BufferElement}
 use Rattle.vk_model.specs.declared.command.ImageElement.{ImageElement}
-use Rattle.vk_model.specs.World.{Byte, World}
-use Rattle.vk_model.specs.Objects.{is_exclusive, is_cached}
-use Rattle.vk_model.specs.Point.{Past, Point, Action, Host, Wait, Run, Signal}
-use Rattle.vk_model.specs.Ownership.{family_of, uses, elements_of, transfer, Transfer, Stays, Release, Acquire, Neither, is_transition}
-use Rattle.vk_model.specs.ByteWrites.{byte_writes}
-use Rattle.vk_model.specs.Effect.{after_writes, used, transitioned, after_buffer_element, after_image_element, after_element, after_command, after_host, after_action, written, reaches, world}
-use Rattle.vk_model.specs.Node.{nodes}
-use Rattle.vk_model.specs.Fault.{Comes, newest, older}
+use Rattle.vk_model.specs.World.Bytes.{Byte, World}
+use Rattle.vk_model.specs.Trace.Objects.{is_exclusive, is_cached}
+use Rattle.vk_model.specs.Trace.Point.{Past, Point, Action, Host, Wait, Run, Signal}
+use Rattle.vk_model.specs.World.Ownership.{family_of, uses, elements_of, transfer, Transfer, Stays, Release, Acquire, Neither, is_transition}
+use Rattle.vk_model.specs.World.ByteWrites.{byte_writes}
+use Rattle.vk_model.specs.World.Effect.{after_writes, used, transitioned, after_buffer_element, after_image_element, after_element, after_command, after_host, after_action, written, reaches, world}
+use Rattle.vk_model.specs.Sync.Node.{nodes}
+use Rattle.vk_model.specs.Rules.Fault.{Comes, newest, older}
 use Rattle.vk_laws.proofs.ModelBytes.{more_nodes}
 
 -- ---- commands make nothing dirty

@@ -6,17 +6,17 @@ use Rattle.vk_model.specs.declared.entry.Entry.{Entry}
 use Rattle.vk_model.specs.declared.entry.Entry.TheVariants as entry
 use Rattle.vk_model.specs.declared.command.Cmd.{Cmd}
 use Rattle.vk_model.specs.Basics.{holds}
-use Rattle.vk_model.specs.World.{Byte, resource_at}
-use Rattle.vk_model.specs.Objects.{is_cached}
-use Rattle.vk_model.specs.Point.{Past, Action}
-use Rattle.vk_model.specs.Order.{plain_order}
-use Rattle.vk_model.specs.Effect.{after_action, after_host, reaches, world}
-use Rattle.vk_model.specs.Node.{Node, Act, Hosts, Waits, Signals, Runs, Depends, nodes}
-use Rattle.vk_model.specs.Edge.{is_host}
-use Rattle.vk_model.specs.Before.{before}
-use Rattle.vk_model.specs.Seen.{Access, Read, Write, seen}
-use Rattle.vk_model.specs.Access.{is_in, host_reads, reads, writes}
-use Rattle.vk_model.specs.ByteWrites.{From}
+use Rattle.vk_model.specs.World.Bytes.{Byte, resource_at}
+use Rattle.vk_model.specs.Trace.Objects.{is_cached}
+use Rattle.vk_model.specs.Trace.Point.{Past, Action}
+use Rattle.vk_model.specs.Trace.Order.{plain_order}
+use Rattle.vk_model.specs.World.Effect.{after_action, after_host, reaches, world}
+use Rattle.vk_model.specs.Sync.Node.{Node, Act, Hosts, Waits, Signals, Runs, Depends, nodes}
+use Rattle.vk_model.specs.Sync.Edge.{is_host}
+use Rattle.vk_model.specs.Sync.Before.{before}
+use Rattle.vk_model.specs.Sync.Seen.{Access, Read, Write, seen}
+use Rattle.vk_model.specs.Sync.Access.{is_in, host_reads, reads, writes}
+use Rattle.vk_model.specs.World.ByteWrites.{From}
 use Rattle.vk_laws.specs.Machine.{Task, Put, Puts, Unknown, Writes, Reads, Precedes, Conflict, HazardFree, IsModel}
 use Rattle.vk_laws.specs.Caches.{CacheFree, Seen, Available}
 use Rattle.vk_laws.specs.Trace.{accesses}

@@ -4,9 +4,9 @@ use Rattle.std.specs.Prelude.{nat_lt}
 use Rattle.std.specs.List.{filter}
 use Rattle.std.proofs.lemmas.Bool.{cases_lt, ltb-true, and_parts, and_from}
 use Rattle.vk_model.specs.Basics.{holds}
-use Rattle.vk_model.specs.Point.{Past}
-use Rattle.vk_model.specs.Node.{Node, Act, Hosts, Waits, Signals, Runs, Depends, nodes}
-use Rattle.vk_model.specs.Before.{before}
+use Rattle.vk_model.specs.Trace.Point.{Past}
+use Rattle.vk_model.specs.Sync.Node.{Node, Act, Hosts, Waits, Signals, Runs, Depends, nodes}
+use Rattle.vk_model.specs.Sync.Before.{before}
 use Rattle.vk_model.specs.Laws.{BeforeIsPath, BeforeIsTransitive, BeforeLeadsOn}
 use Rattle.vk_laws.specs.Machine.{IsIn, Task, TraceAccesses, Precedes, MayRun, IsAllowed}
 use Rattle.vk_laws.specs.Growth.{IsTransitive, IsDue, IsEager}

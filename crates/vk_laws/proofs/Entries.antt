@@ -6,8 +6,8 @@ use Rattle.std.proofs.lemmas.List.{append_assoc, length-append, append-nil}
 use Rattle.vk_model.specs.declared.entry.Batch.{Batch}
 use Rattle.vk_model.specs.declared.entry.Entry.{Entry}
 use Rattle.vk_model.specs.declared.entry.Entry.TheVariants as entry
-use Rattle.vk_model.specs.Point.{Past, Point, Action, Host, Wait, Run, Signal}
-use Rattle.vk_model.specs.Order.{host, started, batches_of, plain_from, plain_order}
+use Rattle.vk_model.specs.Trace.Point.{Past, Point, Action, Host, Wait, Run, Signal}
+use Rattle.vk_model.specs.Trace.Order.{host, started, batches_of, plain_from, plain_order}
 use Rattle.vk_laws.proofs.PlainOrder.{Each, Grows, Allows, stays, one_more, grows_on, batches_grow}
 use Rattle.vk_laws.proofs.Members.{contains-cons, none_in}
 

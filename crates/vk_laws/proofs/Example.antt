@@ -2,8 +2,8 @@
 use Rattle.std.proofs.Common.{◌≡◌, ◌⊎◌, inl, inr, ⊎_elim, ℕ, zero, suc, false, IsTrue, [], ◌∷◌, Some, None, refl, sym, ap, subst, arith}
 use Rattle.std.specs.Prelude.{◌&&◌, ◌==◌, nat_lt}
 use Rattle.std.proofs.lemmas.Bool.{eqb-true}
-use Rattle.vk_model.specs.World.{Byte, in_buffer, in_image}
-use Rattle.vk_model.specs.ByteWrites.{From}
+use Rattle.vk_model.specs.World.Bytes.{Byte, in_buffer, in_image}
+use Rattle.vk_model.specs.World.ByteWrites.{From}
 use Rattle.vk_laws.specs.Machine.{IsIn, Task, Put, Puts, Writes, Reads, HazardFree, MayRun}
 use Rattle.vk_laws.specs.Caches.{Clean, Dirty, Cell, Touched, Dropped, WrittenBack, Loaded, CellRan, CacheFree, Seen, Reached, Start, Touch, Run}
 use Rattle.vk_laws.specs.Commands.{IsCut}

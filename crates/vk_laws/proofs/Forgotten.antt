@@ -8,18 +8,18 @@ use Rattle.vk_model.specs.declared.entry.Entry.{Entry}
 use Rattle.vk_model.specs.declared.entry.Entry.TheVariants as entry
 use Rattle.vk_model.specs.declared.command.Cmd.{Cmd}
 use Rattle.vk_model.specs.declared.command.Length.{Length}
-use Rattle.vk_model.specs.World.{Byte, in_buffer, in_image, resource_at}
-use Rattle.vk_model.specs.Objects.{is_cached}
-use Rattle.vk_model.specs.Point.{Past, Point, Action, Host}
-use Rattle.vk_model.specs.Order.{plain_order}
-use Rattle.vk_model.specs.Effect.{reaches, in_atoms, world}
-use Rattle.vk_model.specs.Node.{Node, Act, Hosts, Runs, nodes, acts, with_acts, same_node}
-use Rattle.vk_model.specs.Edge.{edge, is_host, is_submit}
-use Rattle.vk_model.specs.Before.{before}
-use Rattle.vk_model.specs.Seen.{Access, Read, Write, command_mask, seen, available_by, visible_by, makes_writes_visible, flushes, is_wait}
-use Rattle.vk_model.specs.Access.{reads, writes}
-use Rattle.vk_model.specs.Rules.{first_fault}
-use Rattle.vk_model.specs.Fault.{Comes, newest, older, IsSound}
+use Rattle.vk_model.specs.World.Bytes.{Byte, in_buffer, in_image, resource_at}
+use Rattle.vk_model.specs.Trace.Objects.{is_cached}
+use Rattle.vk_model.specs.Trace.Point.{Past, Point, Action, Host}
+use Rattle.vk_model.specs.Trace.Order.{plain_order}
+use Rattle.vk_model.specs.World.Effect.{reaches, in_atoms, world}
+use Rattle.vk_model.specs.Sync.Node.{Node, Act, Hosts, Runs, nodes, acts, with_acts, same_node}
+use Rattle.vk_model.specs.Sync.Edge.{edge, is_host, is_submit}
+use Rattle.vk_model.specs.Sync.Before.{before}
+use Rattle.vk_model.specs.Sync.Seen.{Access, Read, Write, command_mask, seen, available_by, visible_by, makes_writes_visible, flushes, is_wait}
+use Rattle.vk_model.specs.Sync.Access.{reads, writes}
+use Rattle.vk_model.specs.Rules.Table.{first_fault}
+use Rattle.vk_model.specs.Rules.Fault.{Comes, newest, older, IsSound}
 use Rattle.vk_model.specs.Laws.{BeforeIsPath, BeforeIsTransitive, GrowthKeeps, PiecesAreByteWrites, PiecesWriteApart}
 use Rattle.vk_laws.specs.Trace.{accesses, AccessesInOrder, NoHazardLaw, SeenIsBefore, HostInOrder, CommandsStay}
 use Rattle.vk_laws.specs.Discards.{entry_forgets}

@@ -1,6 +1,6 @@
 -- What a run has reached it has reached in the longer trace too.
 use Rattle.std.proofs.Common.{◌≡◌, inl, inr, ℕ, ◌<◌, IsTrue, Bool, List, [], ◌∷◌, Option, Some, None, refl, sym, ◌∙◌, subst, true, false, arith}
-use Rattle.vk_model.specs.World.{Byte}
+use Rattle.vk_model.specs.World.Bytes.{Byte}
 use Rattle.vk_laws.specs.Machine.{IsIn, Task, Put, TraceAccesses, Precedes, MayRun, newest, latest}
 use Rattle.vk_laws.specs.Caches.{Dirty, Cell, CellRan, Caching, Guard, Reached, Start, Touch, Run}
 use Rattle.vk_laws.specs.Growth.{Extends, IsTransitive, IsDue, IsEager}

@@ -8,16 +8,16 @@ use Rattle.vk_model.specs.declared.entry.Entry.TheVariants as entry
 use Rattle.vk_model.specs.declared.command.Cmd.{Cmd}
 use Rattle.vk_model.specs.declared.rule.Rule.TheVariants as rule
 use Rattle.vk_model.specs.Basics.{holds, some_pair}
-use Rattle.vk_model.specs.World.{Byte, same_byte}
-use Rattle.vk_model.specs.Point.{Past, Action, Run, host_of, command_of}
-use Rattle.vk_model.specs.Order.{plain_order}
-use Rattle.vk_model.specs.ByteWrites.{Value, From, ByteWrite, byte_writes}
-use Rattle.vk_model.specs.Pieces.{pieces}
-use Rattle.vk_model.specs.Node.{Node, Act, Hosts, Waits, Signals, Runs, Depends, nodes, acts}
-use Rattle.vk_model.specs.Access.{is_in, origin, origins, targets, host_reads}
-use Rattle.vk_model.specs.RulesRanges.{command_overlaps, lists_twice}
-use Rattle.vk_model.specs.Rules.{breaks, first_fault}
-use Rattle.vk_model.specs.Fault.{Comes, IsSound}
+use Rattle.vk_model.specs.World.Bytes.{Byte, same_byte}
+use Rattle.vk_model.specs.Trace.Point.{Past, Action, Run, host_of, command_of}
+use Rattle.vk_model.specs.Trace.Order.{plain_order}
+use Rattle.vk_model.specs.World.ByteWrites.{Value, From, ByteWrite, byte_writes}
+use Rattle.vk_model.specs.Run.Pieces.{pieces}
+use Rattle.vk_model.specs.Sync.Node.{Node, Act, Hosts, Waits, Signals, Runs, Depends, nodes, acts}
+use Rattle.vk_model.specs.Sync.Access.{is_in, origin, origins, targets, host_reads}
+use Rattle.vk_model.specs.Rules.Ranges.{command_overlaps, lists_twice}
+use Rattle.vk_model.specs.Rules.Table.{breaks, first_fault}
+use Rattle.vk_model.specs.Rules.Fault.{Comes, IsSound}
 use Rattle.vk_model.specs.Laws.{PiecesAreByteWrites, PiecesWriteApart, write_common}
 use Rattle.vk_laws.specs.Machine.{Task, Put, Puts, Reads, HazardFree}
 use Rattle.vk_laws.specs.Trace.{AccessesInOrder}

@@ -13,23 +13,23 @@ use Rattle.vk_model.specs.declared.command.Element.{Element}
 use Rattle.vk_model.specs.declared.command.Element.TheVariants as element
 use Rattle.vk_model.specs.declared.command.BufferElement.{BufferElement}
 use Rattle.vk_model.specs.declared.command.ImageElement.{ImageElement}
-use Rattle.vk_model.specs.World.{Byte, in_buffer, World, resource_at, same_byte}
-use Rattle.vk_model.specs.Objects.{is_exclusive, is_cached}
-use Rattle.vk_model.specs.Point.{Past, Point, Action, Host, Wait, Run, Signal}
-use Rattle.vk_model.specs.Order.{plain_order}
-use Rattle.vk_model.specs.Ownership.{family_of, uses, elements_of, transfer, Transfer, Stays, Release, Acquire, Neither, is_transition}
-use Rattle.vk_model.specs.ByteWrites.{Source, Value, From, ByteWrite, byte_writes}
-use Rattle.vk_model.specs.Pieces.{pieces}
-use Rattle.vk_model.specs.Effect.{source_value, value_after as written_to_byte, after_writes, without, is_other, used, in_range, transitioned, after_buffer_element, after_image_element, after_element, after_command, after_host, after_action, written, reaches, world}
-use Rattle.vk_model.specs.Node.{Node, Act, Hosts, Waits, Signals, Runs, Depends, nodes, acts, command_acts, with_acts, Role, Barrier, SetOf, AwaitOf}
-use Rattle.vk_model.specs.Before.{IsNumbered}
+use Rattle.vk_model.specs.World.Bytes.{Byte, in_buffer, World, resource_at, same_byte}
+use Rattle.vk_model.specs.Trace.Objects.{is_exclusive, is_cached}
+use Rattle.vk_model.specs.Trace.Point.{Past, Point, Action, Host, Wait, Run, Signal}
+use Rattle.vk_model.specs.Trace.Order.{plain_order}
+use Rattle.vk_model.specs.World.Ownership.{family_of, uses, elements_of, transfer, Transfer, Stays, Release, Acquire, Neither, is_transition}
+use Rattle.vk_model.specs.World.ByteWrites.{Source, Value, From, ByteWrite, byte_writes}
+use Rattle.vk_model.specs.Run.Pieces.{pieces}
+use Rattle.vk_model.specs.World.Effect.{source_value, value_after as written_to_byte, after_writes, without, is_other, used, in_range, transitioned, after_buffer_element, after_image_element, after_element, after_command, after_host, after_action, written, reaches, world}
+use Rattle.vk_model.specs.Sync.Node.{Node, Act, Hosts, Waits, Signals, Runs, Depends, nodes, acts, command_acts, with_acts, Role, Barrier, SetOf, AwaitOf}
+use Rattle.vk_model.specs.Sync.Before.{IsNumbered}
 use Rattle.vk_model.specs.declared.rule.Rule.TheVariants as rule
 use Rattle.vk_model.specs.Basics.{holds, below}
-use Rattle.vk_model.specs.Edge.{is_host}
-use Rattle.vk_model.specs.Access.{bytes_of, host_reads, is_in}
-use Rattle.vk_model.specs.RulesBytes.{reads_undefined}
-use Rattle.vk_model.specs.Rules.{breaks}
-use Rattle.vk_model.specs.Fault.{IsSound}
+use Rattle.vk_model.specs.Sync.Edge.{is_host}
+use Rattle.vk_model.specs.Sync.Access.{bytes_of, host_reads, is_in}
+use Rattle.vk_model.specs.Rules.Hazards.{reads_undefined}
+use Rattle.vk_model.specs.Rules.Table.{breaks}
+use Rattle.vk_model.specs.Rules.Fault.{IsSound}
 use Rattle.vk_model.specs.Laws.{PiecesAreByteWrites, PiecesWriteApart}
 use Rattle.vk_laws.specs.Machine.{Task, Reads, Put, Puts, put_value, IsModel}
 use Rattle.vk_laws.specs.Tasks.{piece_writes, host_value, task_write, task_read, node_at, by_act, accesses_of}

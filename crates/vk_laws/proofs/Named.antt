@@ -12,14 +12,14 @@ use Rattle.vk_model.specs.declared.command.BufferImageCopy.{BufferImageCopy}
 use Rattle.vk_model.specs.declared.command.ImageCopy.{ImageCopy}
 use Rattle.vk_model.specs.declared.command.SubresourceRange.{SubresourceRange}
 use Rattle.vk_model.specs.Basics.{holds, below}
-use Rattle.vk_model.specs.World.{Byte, in_buffer, in_image, resource_at}
-use Rattle.vk_model.specs.Image.{texel, level_width, level_height}
-use Rattle.vk_model.specs.Objects.{made, live, image}
-use Rattle.vk_model.specs.ByteWrites.{ByteWrite, byte_writes, copy_writes, copy_in_writes, copy_out_writes, copy_image_writes, clear_writes, clear_write, level_bytes, subresource_bytes}
-use Rattle.vk_model.specs.Access.{host_writes, writes_of}
-use Rattle.vk_model.specs.RulesIds.{asked_by, asked_by_command, asked_by_entry, is_buffer, is_image, is_dead, judged_in, until}
-use Rattle.vk_model.specs.Point.{Past, Point, Action, host_of}
-use Rattle.vk_model.specs.Node.{Node, Act, Hosts, Waits, Signals, Runs, Depends, acts}
+use Rattle.vk_model.specs.World.Bytes.{Byte, in_buffer, in_image, resource_at}
+use Rattle.vk_model.specs.Trace.Image.{texel, level_width, level_height}
+use Rattle.vk_model.specs.Trace.Objects.{made, live, image}
+use Rattle.vk_model.specs.World.ByteWrites.{ByteWrite, byte_writes, copy_writes, copy_in_writes, copy_out_writes, copy_image_writes, clear_writes, clear_write, level_bytes, subresource_bytes}
+use Rattle.vk_model.specs.Sync.Access.{host_writes, writes_of}
+use Rattle.vk_model.specs.Rules.Ids.{asked_by, asked_by_command, asked_by_entry, is_buffer, is_image, is_dead, judged_in, until}
+use Rattle.vk_model.specs.Trace.Point.{Past, Point, Action, host_of}
+use Rattle.vk_model.specs.Sync.Node.{Node, Act, Hosts, Waits, Signals, Runs, Depends, acts}
 use Rattle.vk_laws.specs.Trace.{accesses}
 use Rattle.vk_laws.proofs.Members.{contains-head, contains-tail, member_passes, none_in, mapped_from, flat_from}
 use Rattle.vk_laws.proofs.Truths.{unless}
@@ -27,7 +27,7 @@ use Rattle.vk_laws.proofs.Steady.{IsNew, live_made, made_until, comes_here, come
 use Rattle.vk_laws.proofs.Apart.{grid_from}
 use Rattle.vk_laws.proofs.Points.{AtPoint, action_of}
 use Rattle.vk_laws.proofs.ModelBytes.{host_action}
-use Rattle.vk_model.specs.Fault.{Comes, older}
+use Rattle.vk_model.specs.Rules.Fault.{Comes, older}
 
 abbrev Names : List (ℕ × (Entry → Bool)) → Byte → Type 0
 Names asked c = (k : Entry → Bool) × Contains asked (resource_at c, k)

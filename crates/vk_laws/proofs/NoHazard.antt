@@ -4,18 +4,18 @@ use Rattle.std.specs.Prelude.{nat_le, Contains}
 use Rattle.std.specs.List.{list_any, filter}
 use Rattle.std.proofs.lemmas.Bool.{lt-ltb, le-leb, eqb-true, and_parts, or_cases, and_from}
 use Rattle.std.proofs.lemmas.List.Sorted.{list_any-IsPermutation, IsPermutation-reverse}
-use Rattle.vk_model.specs.World.{Byte, resource_at}
-use Rattle.vk_model.specs.Objects.{is_cached}
-use Rattle.vk_model.specs.Point.{Past, Point}
-use Rattle.vk_model.specs.Node.{Node, Act, Hosts, Waits, Signals, Runs, Depends, nodes, acts, with_acts, next_nodes, same_node}
-use Rattle.vk_model.specs.Edge.{edge, is_host}
-use Rattle.vk_model.specs.Before.{before, direct, IsNumbered}
-use Rattle.vk_model.specs.Seen.{Access, Read, Write, seen, available_by, visible_by}
-use Rattle.vk_model.specs.Access.{reads, writes, is_in, share, precedes, war, raw, waw, hazard}
-use Rattle.vk_model.specs.Fault.{Comes, newest, older}
+use Rattle.vk_model.specs.World.Bytes.{Byte, resource_at}
+use Rattle.vk_model.specs.Trace.Objects.{is_cached}
+use Rattle.vk_model.specs.Trace.Point.{Past, Point}
+use Rattle.vk_model.specs.Sync.Node.{Node, Act, Hosts, Waits, Signals, Runs, Depends, nodes, acts, with_acts, next_nodes, same_node}
+use Rattle.vk_model.specs.Sync.Edge.{edge, is_host}
+use Rattle.vk_model.specs.Sync.Before.{before, direct, IsNumbered}
+use Rattle.vk_model.specs.Sync.Seen.{Access, Read, Write, seen, available_by, visible_by}
+use Rattle.vk_model.specs.Sync.Access.{reads, writes, is_in, share, precedes, war, raw, waw, hazard}
+use Rattle.vk_model.specs.Rules.Fault.{Comes, newest, older}
 use Rattle.vk_model.specs.Laws.{BeforeIsPath, BeforeIsTransitive, GrowthKeeps, Keeps}
 use Rattle.vk_model.specs.declared.entry.Entry.{Entry}
-use Rattle.vk_model.specs.Order.{plain_order}
+use Rattle.vk_model.specs.Trace.Order.{plain_order}
 use Rattle.vk_laws.specs.Trace.{HasNoHazard}
 use Rattle.vk_laws.proofs.Members.{contains-cons, member_passes, some_member, any_filter, none_in}
 use Rattle.vk_laws.proofs.Truths.{unless}

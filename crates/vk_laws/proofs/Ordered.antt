@@ -5,17 +5,17 @@ use Rattle.std.proofs.lemmas.Bool.{lt-ltb}
 use Rattle.std.proofs.lemmas.List.{append_assoc}
 use Rattle.vk_model.specs.declared.entry.Entry.{Entry}
 use Rattle.vk_model.specs.declared.command.Cmd.{Cmd}
-use Rattle.vk_model.specs.Order.{plain_order}
-use Rattle.vk_model.specs.World.{Byte}
-use Rattle.vk_model.specs.Point.{Past, Point}
-use Rattle.vk_model.specs.ByteWrites.{byte_writes}
-use Rattle.vk_model.specs.Node.{Node, Act, Hosts, Waits, Signals, Runs, Depends, nodes, acts}
-use Rattle.vk_model.specs.Edge.{is_host}
-use Rattle.vk_model.specs.Before.{before}
-use Rattle.vk_model.specs.Seen.{Read, Write}
-use Rattle.vk_model.specs.Access.{reads, writes, reads_of, writes_of, origins, targets, is_in, precedes}
+use Rattle.vk_model.specs.Trace.Order.{plain_order}
+use Rattle.vk_model.specs.World.Bytes.{Byte}
+use Rattle.vk_model.specs.Trace.Point.{Past, Point}
+use Rattle.vk_model.specs.World.ByteWrites.{byte_writes}
+use Rattle.vk_model.specs.Sync.Node.{Node, Act, Hosts, Waits, Signals, Runs, Depends, nodes, acts}
+use Rattle.vk_model.specs.Sync.Edge.{is_host}
+use Rattle.vk_model.specs.Sync.Before.{before}
+use Rattle.vk_model.specs.Sync.Seen.{Read, Write}
+use Rattle.vk_model.specs.Sync.Access.{reads, writes, reads_of, writes_of, origins, targets, is_in, precedes}
 use Rattle.vk_model.specs.Laws.{GrowthKeeps}
-use Rattle.vk_model.specs.Rules.{first_fault}
+use Rattle.vk_model.specs.Rules.Table.{first_fault}
 use Rattle.vk_laws.specs.Trace.{IsSeen, HasNoHazard, NoHazardLaw, SeenIsBefore, HostInOrder, CommandsStay, Meets, accesses}
 use Rattle.vk_laws.proofs.Prefixes.{is_old}
 use Rattle.vk_laws.proofs.Points.{AtPoint, at_point, action_of, comes_at, at_point_below}

@@ -6,9 +6,9 @@ use Rattle.std.proofs.lemmas.List.{append_assoc}
 use Rattle.vk_model.specs.declared.entry.Batch.{Batch}
 use Rattle.vk_model.specs.declared.entry.Entry.{Entry}
 use Rattle.vk_model.specs.declared.entry.Entry.TheVariants as entry
-use Rattle.vk_model.specs.Point.{Point, Past, Action, Wait, Run, Signal, host_of}
-use Rattle.vk_model.specs.Order.{SubmittedBatch, host, actions, started, submitted_batch, batches_from, batches_of, plain_from}
-use Rattle.vk_model.specs.Node.{Node, nodes, acts}
+use Rattle.vk_model.specs.Trace.Point.{Point, Past, Action, Wait, Run, Signal, host_of}
+use Rattle.vk_model.specs.Trace.Order.{SubmittedBatch, host, actions, started, submitted_batch, batches_from, batches_of, plain_from}
+use Rattle.vk_model.specs.Sync.Node.{Node, nodes, acts}
 use Rattle.vk_laws.proofs.Points.{in_acts}
 use Rattle.vk_laws.proofs.ModelBytes.{more_nodes}
 

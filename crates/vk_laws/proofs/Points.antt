@@ -5,13 +5,13 @@ use Rattle.std.specs.List.{enumerate_from}
 use Rattle.std.proofs.lemmas.List.{length-append}
 use Rattle.vk_model.specs.declared.command.Cmd.{Cmd}
 use Rattle.vk_model.specs.declared.command.Cmd.TheVariants as cmd
-use Rattle.vk_model.specs.Point.{Past, Point, Action, Host, Wait, Run, Signal}
-use Rattle.vk_model.specs.Node.{Node, Act, Hosts, Waits, Signals, Runs, Depends, nodes, acts, with_acts, Barrier}
-use Rattle.vk_model.specs.Before.{IsNumbered}
+use Rattle.vk_model.specs.Trace.Point.{Past, Point, Action, Host, Wait, Run, Signal}
+use Rattle.vk_model.specs.Sync.Node.{Node, Act, Hosts, Waits, Signals, Runs, Depends, nodes, acts, with_acts, Barrier}
+use Rattle.vk_model.specs.Sync.Before.{IsNumbered}
 use Rattle.vk_laws.proofs.NoHazard.{number_below, numbered}
 use Rattle.vk_laws.proofs.Steady.{comes_here}
 use Rattle.vk_laws.proofs.Members.{contains-cons, contains-head, contains-tail, only_one, none_in}
-use Rattle.vk_model.specs.Fault.{Comes}
+use Rattle.vk_model.specs.Rules.Fault.{Comes}
 
 -- ---- the point of a node
 

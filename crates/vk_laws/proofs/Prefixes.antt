@@ -4,11 +4,11 @@ use Rattle.std.specs.Prelude.{Contains}
 use Rattle.std.proofs.lemmas.List.{append_assoc}
 use Rattle.vk_model.specs.declared.command.Cmd.{Cmd}
 use Rattle.vk_model.specs.Basics.{holds}
-use Rattle.vk_model.specs.Point.{Past, Point, Run}
-use Rattle.vk_model.specs.Pieces.{pieces}
-use Rattle.vk_model.specs.Node.{Node, Act, Runs, nodes, acts}
-use Rattle.vk_model.specs.Before.{before, IsNumbered}
-use Rattle.vk_model.specs.Fault.{Comes}
+use Rattle.vk_model.specs.Trace.Point.{Past, Point, Run}
+use Rattle.vk_model.specs.Run.Pieces.{pieces}
+use Rattle.vk_model.specs.Sync.Node.{Node, Act, Runs, nodes, acts}
+use Rattle.vk_model.specs.Sync.Before.{before, IsNumbered}
+use Rattle.vk_model.specs.Rules.Fault.{Comes}
 use Rattle.vk_model.specs.Laws.{GrowthKeeps}
 use Rattle.vk_laws.specs.Tasks.{node_at, by_act, accesses_of}
 use Rattle.vk_laws.proofs.TaskNodes.{node_of}

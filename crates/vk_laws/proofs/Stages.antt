@@ -5,14 +5,14 @@ use Rattle.std.proofs.lemmas.Bool.{false_from_ne_true}
 use Rattle.vk_model.specs.declared.entry.Entry.{Entry}
 use Rattle.vk_model.specs.declared.entry.Entry.TheVariants as entry
 use Rattle.vk_model.specs.declared.rule.Rule.TheVariants as rule
-use Rattle.vk_model.specs.Point.{Past, Host, host_of}
-use Rattle.vk_model.specs.Order.{Front, host, started, batches_of, plain_from, plain_order, after_entry, order_from}
-use Rattle.vk_model.specs.Node.{Node, Act, Hosts, nodes, acts}
-use Rattle.vk_model.specs.Edge.{is_host, is_submit}
-use Rattle.vk_model.specs.Rules.{breaks}
-use Rattle.vk_model.specs.Fault.{IsSound}
+use Rattle.vk_model.specs.Trace.Point.{Past, Host, host_of}
+use Rattle.vk_model.specs.Trace.Order.{Front, host, started, batches_of, plain_from, plain_order, after_entry, order_from}
+use Rattle.vk_model.specs.Sync.Node.{Node, Act, Hosts, nodes, acts}
+use Rattle.vk_model.specs.Sync.Edge.{is_host, is_submit}
+use Rattle.vk_model.specs.Rules.Table.{breaks}
+use Rattle.vk_model.specs.Rules.Fault.{IsSound}
 use Rattle.vk_model.specs.Laws.{GrowthKeeps, NeverAhead, OrdersAgree}
-use Rattle.vk_model.specs.Run.{Stage, start, applied, past_with, is_host_wait}
+use Rattle.vk_model.specs.Run.Runs.{Stage, start, applied, past_with, is_host_wait}
 use Rattle.vk_laws.proofs.Members.{contains-cons, contains-head, none_in}
 use Rattle.vk_laws.proofs.Steady.{comes_within}
 use Rattle.vk_laws.proofs.ModelBytes.{host_action}

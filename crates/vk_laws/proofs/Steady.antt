@@ -7,16 +7,16 @@ use Rattle.vk_model.specs.declared.command.Cmd.{Cmd}
 use Rattle.vk_model.specs.declared.command.Cmd.TheVariants as cmd
 use Rattle.vk_model.specs.declared.entry.Entry.{Entry}
 use Rattle.vk_model.specs.Basics.{holds, below, byte_of}
-use Rattle.vk_model.specs.World.{in_buffer}
-use Rattle.vk_model.specs.Point.{Past, Point, Action, Run, host_of, entries}
-use Rattle.vk_model.specs.Objects.{made_by, made, ended, live, buffer_in, image_in}
-use Rattle.vk_model.specs.ByteWrites.{Value, byte_write, byte_writes, fill_size, clear_writes, copy_in_writes, copy_out_writes, copy_image_writes}
-use Rattle.vk_model.specs.Pieces.{cut, row_bytes, clear_pieces, pieces}
-use Rattle.vk_model.specs.RulesIds.{breaks_new_id, breaks_live_id, is_dead, asked_by, asked_by_command, until}
-use Rattle.vk_model.specs.Fault.{Comes, newest, older, IsSound}
+use Rattle.vk_model.specs.World.Bytes.{in_buffer}
+use Rattle.vk_model.specs.Trace.Point.{Past, Point, Action, Run, host_of, entries}
+use Rattle.vk_model.specs.Trace.Objects.{made_by, made, ended, live, buffer_in, image_in}
+use Rattle.vk_model.specs.World.ByteWrites.{Value, byte_write, byte_writes, fill_size, clear_writes, copy_in_writes, copy_out_writes, copy_image_writes}
+use Rattle.vk_model.specs.Run.Pieces.{cut, row_bytes, clear_pieces, pieces}
+use Rattle.vk_model.specs.Rules.Ids.{breaks_new_id, breaks_live_id, is_dead, asked_by, asked_by_command, until}
+use Rattle.vk_model.specs.Rules.Fault.{Comes, newest, older, IsSound}
 use Rattle.vk_laws.proofs.Truths.{unless}
-use Rattle.vk_model.specs.Order.{plain_order}
-use Rattle.vk_model.specs.Rules.{breaks}
+use Rattle.vk_model.specs.Trace.Order.{plain_order}
+use Rattle.vk_model.specs.Rules.Table.{breaks}
 use Rattle.vk_model.specs.declared.rule.Rule.TheVariants as rule
 
 -- ---- objects

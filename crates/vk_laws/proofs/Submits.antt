@@ -6,10 +6,10 @@ use Rattle.vk_model.specs.declared.entry.Batch.{Batch}
 use Rattle.vk_model.specs.declared.entry.Entry.{Entry}
 use Rattle.vk_model.specs.declared.entry.Entry.TheVariants as entry
 use Rattle.vk_model.specs.declared.command.Cmd.{Cmd}
-use Rattle.vk_model.specs.Point.{Past, Point, Action}
-use Rattle.vk_model.specs.Order.{plain_order}
-use Rattle.vk_model.specs.Node.{Node, Act, Hosts, Waits, Signals, Runs, Depends, nodes, acts}
-use Rattle.vk_model.specs.Edge.{is_submit}
+use Rattle.vk_model.specs.Trace.Point.{Past, Point, Action}
+use Rattle.vk_model.specs.Trace.Order.{plain_order}
+use Rattle.vk_model.specs.Sync.Node.{Node, Act, Hosts, Waits, Signals, Runs, Depends, nodes, acts}
+use Rattle.vk_model.specs.Sync.Edge.{is_submit}
 use Rattle.vk_laws.specs.TraceCaches.{submits_to}
 use Rattle.vk_laws.proofs.Members.{contains-head, right_has}
 use Rattle.vk_laws.proofs.Points.{AtPoint, at_point, action_of}

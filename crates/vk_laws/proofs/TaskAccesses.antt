@@ -4,19 +4,19 @@ use Rattle.std.specs.Prelude.{Contains, nat_lt, nat_le, ◌==◌, option_map}
 use Rattle.std.specs.List.{find, range_with_len}
 use Rattle.std.proofs.lemmas.Bool.{eqb-true, eq-eqb, leb-true, lt-ltb, and_parts}
 use Rattle.std.proofs.lemmas.Option.{slice_get_within}
-use Rattle.vk_model.specs.World.{Byte, in_buffer, in_image, same_byte}
+use Rattle.vk_model.specs.World.Bytes.{Byte, in_buffer, in_image, same_byte}
 use Rattle.vk_model.specs.declared.entry.Entry.{Entry}
 use Rattle.vk_model.specs.declared.entry.Entry.TheVariants as entry
 use Rattle.vk_model.specs.declared.command.Cmd.{Cmd}
-use Rattle.vk_model.specs.Point.{Past}
-use Rattle.vk_model.specs.ByteWrites.{Value, ByteWrite, byte_writes}
-use Rattle.vk_model.specs.Pieces.{pieces}
-use Rattle.vk_model.specs.Node.{Node, Act, Hosts, Waits, Signals, Runs, Depends, nodes}
-use Rattle.vk_model.specs.Access.{is_in, origin, origins, targets, bytes_of, host_reads, host_writes, reads_of, writes_of, reads, writes}
+use Rattle.vk_model.specs.Trace.Point.{Past}
+use Rattle.vk_model.specs.World.ByteWrites.{Value, ByteWrite, byte_writes}
+use Rattle.vk_model.specs.Run.Pieces.{pieces}
+use Rattle.vk_model.specs.Sync.Node.{Node, Act, Hosts, Waits, Signals, Runs, Depends, nodes}
+use Rattle.vk_model.specs.Sync.Access.{is_in, origin, origins, targets, bytes_of, host_reads, host_writes, reads_of, writes_of, reads, writes}
 use Rattle.vk_model.specs.Laws.{PiecesAreByteWrites}
-use Rattle.vk_model.specs.Order.{plain_order}
-use Rattle.vk_model.specs.Rules.{first_fault}
-use Rattle.vk_model.specs.Before.{before}
+use Rattle.vk_model.specs.Trace.Order.{plain_order}
+use Rattle.vk_model.specs.Rules.Table.{first_fault}
+use Rattle.vk_model.specs.Sync.Before.{before}
 use Rattle.vk_laws.specs.EveryOrder.{IsSettled}
 use Rattle.vk_laws.specs.Machine.{Task, Put, Puts, Writes, Reads, Precedes, Conflict, MayRun, IsAllowed}
 use Rattle.vk_laws.specs.Trace.{accesses, AccessesInOrder}

@@ -2,8 +2,8 @@
 use Rattle.std.proofs.Common.{◌≡◌, ℕ, Some}
 use Rattle.std.specs.Prelude.{Contains, ◌==◌}
 use Rattle.std.proofs.lemmas.Bool.{eqb-true}
-use Rattle.vk_model.specs.Point.{Past}
-use Rattle.vk_model.specs.Node.{Node, nodes}
+use Rattle.vk_model.specs.Trace.Point.{Past}
+use Rattle.vk_model.specs.Sync.Node.{Node, nodes}
 use Rattle.vk_laws.specs.Machine.{Task}
 use Rattle.vk_laws.specs.Tasks.{node_at}
 use Rattle.vk_laws.proofs.Members.{found}

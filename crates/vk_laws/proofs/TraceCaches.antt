@@ -6,13 +6,13 @@ use Rattle.std.proofs.lemmas.Bool.{eqb-true, eq-eqb, ltb-true, or_left, or_right
 use Rattle.vk_model.specs.declared.entry.Entry.{Entry}
 use Rattle.vk_model.specs.declared.command.Cmd.{Cmd}
 use Rattle.vk_model.specs.Basics.{holds}
-use Rattle.vk_model.specs.World.{Byte}
-use Rattle.vk_model.specs.Point.{Past}
-use Rattle.vk_model.specs.Node.{Node, Act, Hosts, Waits, Signals, Runs, Depends, Barrier, SetOf, AwaitOf, nodes}
-use Rattle.vk_model.specs.Edge.{edge, is_host, is_submit, is_command, pairs, by_host, by_stages, by_signal, by_all_commands, by_semaphore, earlier, signaled_by, same_queue}
-use Rattle.vk_model.specs.Before.{before, IsNumbered}
-use Rattle.vk_model.specs.Seen.{Read, Write, command_mask, host_mask, seen, makes_writes_available, makes_writes_visible, available_by, visible_by, invalidates, is_wait, to_host, passes, flushes}
-use Rattle.vk_model.specs.Access.{is_in, writes}
+use Rattle.vk_model.specs.World.Bytes.{Byte}
+use Rattle.vk_model.specs.Trace.Point.{Past}
+use Rattle.vk_model.specs.Sync.Node.{Node, Act, Hosts, Waits, Signals, Runs, Depends, Barrier, SetOf, AwaitOf, nodes}
+use Rattle.vk_model.specs.Sync.Edge.{edge, is_host, is_submit, is_command, pairs, by_host, by_stages, by_signal, by_all_commands, by_semaphore, earlier, signaled_by, same_queue}
+use Rattle.vk_model.specs.Sync.Before.{before, IsNumbered}
+use Rattle.vk_model.specs.Sync.Seen.{Read, Write, command_mask, host_mask, seen, makes_writes_available, makes_writes_visible, available_by, visible_by, invalidates, is_wait, to_host, passes, flushes}
+use Rattle.vk_model.specs.Sync.Access.{is_in, writes}
 use Rattle.vk_model.specs.Laws.{BeforeIsPath, BeforeIsTransitive}
 use Rattle.vk_laws.specs.Machine.{Task, Precedes}
 use Rattle.vk_laws.specs.Caches.{Seen, Available}

@@ -1,11 +1,11 @@
 -- The example trace breaks no rule, and its run is allowed.
 use Rattle.std.proofs.Common.{◌≡◌, ◌≤◌, length, IsTrue, Some, None, refl, arith}
-use Rattle.vk_model.specs.World.{in_buffer}
-use Rattle.vk_model.specs.Node.{nodes}
-use Rattle.vk_model.specs.Edge.{meet, edge}
-use Rattle.vk_model.specs.Before.{before}
-use Rattle.vk_model.specs.Seen.{seen}
-use Rattle.vk_model.specs.Rules.{breaks, first_rule, fault, first_fault}
+use Rattle.vk_model.specs.World.Bytes.{in_buffer}
+use Rattle.vk_model.specs.Sync.Node.{nodes}
+use Rattle.vk_model.specs.Sync.Edge.{meet, edge}
+use Rattle.vk_model.specs.Sync.Before.{before}
+use Rattle.vk_model.specs.Sync.Seen.{seen}
+use Rattle.vk_model.specs.Rules.Table.{breaks, first_rule, fault, first_fault}
 use Rattle.vk_model.specs.Laws.{BeforeLeadsOn}
 use Rattle.vk_laws.specs.Machine.{Unknown, Reads, IsAllowed, MayRun}
 use Rattle.vk_laws.specs.Example.{task}

@@ -5,15 +5,15 @@ use Rattle.std.specs.List.{list_any, find}
 use Rattle.std.proofs.lemmas.Bool.{cases_lt, and_parts, false_from_ne_true, and_right}
 use Rattle.std.proofs.lemmas.List.{append_assoc, length-append}
 use Rattle.vk_model.specs.Basics.{holds}
-use Rattle.vk_model.specs.World.{Byte, same_byte, resource_at}
-use Rattle.vk_model.specs.Objects.{is_cached}
-use Rattle.vk_model.specs.Point.{Past}
-use Rattle.vk_model.specs.ByteWrites.{ByteWrite}
-use Rattle.vk_model.specs.Node.{Node, Act, Hosts, Waits, Signals, Runs, Depends, nodes}
-use Rattle.vk_model.specs.Edge.{edge, is_host, is_submit}
-use Rattle.vk_model.specs.Before.{before, IsNumbered}
-use Rattle.vk_model.specs.Access.{is_in, writes}
-use Rattle.vk_model.specs.Seen.{Read, command_mask, host_mask, makes_writes_available, makes_writes_visible, available_by, flushes, invalidates, is_wait, to_host, passes}
+use Rattle.vk_model.specs.World.Bytes.{Byte, same_byte, resource_at}
+use Rattle.vk_model.specs.Trace.Objects.{is_cached}
+use Rattle.vk_model.specs.Trace.Point.{Past}
+use Rattle.vk_model.specs.World.ByteWrites.{ByteWrite}
+use Rattle.vk_model.specs.Sync.Node.{Node, Act, Hosts, Waits, Signals, Runs, Depends, nodes}
+use Rattle.vk_model.specs.Sync.Edge.{edge, is_host, is_submit}
+use Rattle.vk_model.specs.Sync.Before.{before, IsNumbered}
+use Rattle.vk_model.specs.Sync.Access.{is_in, writes}
+use Rattle.vk_model.specs.Sync.Seen.{Read, command_mask, host_mask, makes_writes_available, makes_writes_visible, available_by, flushes, invalidates, is_wait, to_host, passes}
 use Rattle.vk_model.specs.Laws.{BeforeIsPath, BeforeIsTransitive, GrowthKeeps, Keeps}
 use Rattle.vk_laws.specs.Machine.{Task, Put}
 use Rattle.vk_laws.specs.Growth.{Extends}

@@ -1,7 +1,7 @@
 -- The machine's memory: a byte in its region, and in front of it a cache for each agent, which is a queue or the host.
 use Rattle.std.specs.Prelude.{◌≡◌, ◌⊎◌, ℕ, ◌<◌, Bool, IsTrue, List, [], ◌∷◌, Option, Some, None}
-use Rattle.vk_model.specs.World.{Byte}
-use Rattle.vk_model.specs.ByteWrites.{Value, From}
+use Rattle.vk_model.specs.World.Bytes.{Byte}
+use Rattle.vk_model.specs.World.ByteWrites.{Value, From}
 use Rattle.vk_laws.specs.Machine.{Task, Put, Puts, Unknown, TraceAccesses, Writes, Reads, Precedes, MayRun, latest}
 
 -- What a cache holds of a byte: a copy, or a write that hasn't reached the region (Vulkan, "Execution and Memory Dependencies", on availability and visibility).

@@ -1,6 +1,6 @@
 -- Whole commands one at a time, and the tasks that they are cut into.
 use Rattle.std.specs.Prelude.{◌≡◌, ℕ, zero, suc, Bool, Option, Some, None, if◌then◌else◌}
-use Rattle.vk_model.specs.World.{Byte}
+use Rattle.vk_model.specs.World.Bytes.{Byte}
 use Rattle.vk_laws.specs.Machine.{Task, Put, TraceAccesses, put_value}
 
 -- What a node does to bytes: it makes some undefined, and then writes (Vulkan, "Clear Commands", "Copy Commands" and "Resource Sharing Mode").

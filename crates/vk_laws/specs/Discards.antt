@@ -2,13 +2,13 @@
 use Rattle.std.specs.Prelude.{◌≡◌, ℕ, List, None, Bool, true, false, ◌&&◌, ◌==◌, Option, Some}
 use Rattle.vk_model.specs.declared.entry.Entry.{Entry}
 use Rattle.vk_model.specs.declared.entry.Entry.TheVariants as entry
-use Rattle.vk_model.specs.World.{Byte}
-use Rattle.vk_model.specs.Objects.{is_cached}
-use Rattle.vk_model.specs.Point.{Past}
-use Rattle.vk_model.specs.Order.{plain_order}
-use Rattle.vk_model.specs.Rules.{first_fault}
-use Rattle.vk_model.specs.Node.{Act, Hosts}
-use Rattle.vk_model.specs.Effect.{reaches, world}
+use Rattle.vk_model.specs.World.Bytes.{Byte}
+use Rattle.vk_model.specs.Trace.Objects.{is_cached}
+use Rattle.vk_model.specs.Trace.Point.{Past}
+use Rattle.vk_model.specs.Trace.Order.{plain_order}
+use Rattle.vk_model.specs.Rules.Table.{first_fault}
+use Rattle.vk_model.specs.Sync.Node.{Act, Hosts}
+use Rattle.vk_model.specs.World.Effect.{reaches, world}
 use Rattle.vk_laws.specs.Machine.{Put, Unknown, TraceAccesses, HazardFree, IsModel}
 use Rattle.vk_laws.specs.Tasks.{by_act, node_at, accesses_of}
 use Rattle.vk_laws.specs.TraceBytes.{before_node, value_before}

@@ -1,6 +1,6 @@
 -- The law of the machine: in every allowed order, tasks see the model's bytes.
 use Rattle.std.specs.Prelude.{◌≡◌, ℕ, suc, ◌<◌, List, Option, Some}
-use Rattle.vk_model.specs.World.{Byte}
+use Rattle.vk_model.specs.World.Bytes.{Byte}
 use Rattle.vk_laws.specs.Machine.{IsIn, Task, TraceAccesses, Reads, Conflict, HazardFree, MayRun, IsModel, latest}
 use Rattle.vk_laws.specs.Caches.{Cell, Caching, CacheFree, Reached, view}
 use Rattle.vk_laws.specs.Commands.{Effects, meaning, IsCut}

@@ -1,7 +1,7 @@
 -- A run that meets every premise of the law: queue 1 fills a byte and signals; queue 2 waits, and copies it. A fill on queue 2 has no order with any of this.
 use Rattle.std.specs.Prelude.{◌≡◌, ℕ, zero, suc, Bool, true, false, ◌&&◌, ◌==◌, nat_lt, [], ◌∷◌, Option, Some, None}
-use Rattle.vk_model.specs.World.{Byte, in_buffer}
-use Rattle.vk_model.specs.ByteWrites.{Value, From}
+use Rattle.vk_model.specs.World.Bytes.{Byte, in_buffer}
+use Rattle.vk_model.specs.World.ByteWrites.{Value, From}
 use Rattle.vk_laws.specs.Machine.{Task, Put, Puts, TraceAccesses, Reads, HazardFree, MayRun, IsModel}
 use Rattle.vk_laws.specs.Caches.{Held, Clean, Dirty, Cell, Caching, CacheFree, Reached, view}
 use Rattle.vk_laws.specs.Commands.{Effects, meaning}

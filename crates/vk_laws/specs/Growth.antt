@@ -1,6 +1,6 @@
 -- A trace goes on, and what a task must wait for.
 use Rattle.std.specs.Prelude.{◌≡◌, ℕ, ◌<◌, Bool, true, false, IsTrue, List}
-use Rattle.vk_model.specs.World.{Byte}
+use Rattle.vk_model.specs.World.Bytes.{Byte}
 use Rattle.vk_laws.specs.Machine.{IsIn, Task, TraceAccesses, Precedes, MayRun}
 use Rattle.vk_laws.specs.Caches.{Cell, Caching, Reached}
 

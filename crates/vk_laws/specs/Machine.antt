@@ -1,9 +1,9 @@
 -- An abstract machine that runs pieces of commands, host entries and events in any order that a dependency leaves.
 -- In these files a comment names the chapter or section of the Vulkan 1.3 specification that a definition comes from, and says `profile` where it is our own choice. One that names neither is a word for the definitions beside it.
 use Rattle.std.specs.Prelude.{◌≡◌, ◌⊎◌, ℕ, suc, ◌<◌, Bool, IsTrue, List, [], ◌∷◌, Option, Some, None, ⊤}
-use Rattle.vk_model.specs.World.{Byte}
-use Rattle.vk_model.specs.ByteWrites.{Source, From}
-use Rattle.vk_model.specs.Effect.{source_value}
+use Rattle.vk_model.specs.World.Bytes.{Byte}
+use Rattle.vk_model.specs.World.ByteWrites.{Source, From}
+use Rattle.vk_model.specs.World.Effect.{source_value}
 
 -- An item stands in a list.
 abbrev pub IsIn : {A : Type 0} → A → List A → Type 0

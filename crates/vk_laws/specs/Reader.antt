@@ -1,6 +1,6 @@
 -- The small memory as the machine's bytes.
 use Rattle.std.specs.Prelude.{ℕ, zero, suc, slice_index, slice_get, Option, Some, None}
-use Rattle.vk_model.specs.World.{Byte, in_buffer}
+use Rattle.vk_model.specs.World.Bytes.{Byte, in_buffer}
 use Rattle.vk_laws.specs.Caches.{Held, Clean, Dirty, Cell}
 use Rattle.vk_laws.specs.declared.reader.Copied.{Copied}
 use Rattle.vk_laws.specs.declared.reader.Copied.TheVariants as copied

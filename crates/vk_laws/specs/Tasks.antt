@@ -4,16 +4,16 @@ use Rattle.std.specs.List.{find}
 use Rattle.vk_model.specs.declared.entry.Entry.{Entry}
 use Rattle.vk_model.specs.declared.entry.Entry.TheVariants as entry
 use Rattle.vk_model.specs.Basics.{holds}
-use Rattle.vk_model.specs.World.{Byte, same_byte}
-use Rattle.vk_model.specs.Point.{Past}
-use Rattle.vk_model.specs.Order.{plain_order}
-use Rattle.vk_model.specs.ByteWrites.{Value, ByteWrite}
-use Rattle.vk_model.specs.Effect.{written}
-use Rattle.vk_model.specs.Node.{Node, Act, Hosts, Runs, nodes}
-use Rattle.vk_model.specs.Before.{before}
-use Rattle.vk_model.specs.Access.{is_in, origins, host_reads}
-use Rattle.vk_model.specs.Pieces.{pieces}
-use Rattle.vk_model.specs.Rules.{first_fault}
+use Rattle.vk_model.specs.World.Bytes.{Byte, same_byte}
+use Rattle.vk_model.specs.Trace.Point.{Past}
+use Rattle.vk_model.specs.Trace.Order.{plain_order}
+use Rattle.vk_model.specs.World.ByteWrites.{Value, ByteWrite}
+use Rattle.vk_model.specs.World.Effect.{written}
+use Rattle.vk_model.specs.Sync.Node.{Node, Act, Hosts, Runs, nodes}
+use Rattle.vk_model.specs.Sync.Before.{before}
+use Rattle.vk_model.specs.Sync.Access.{is_in, origins, host_reads}
+use Rattle.vk_model.specs.Run.Pieces.{pieces}
+use Rattle.vk_model.specs.Rules.Table.{first_fault}
 use Rattle.vk_laws.specs.Machine.{Task, Put, Puts, TraceAccesses, HazardFree, IsAllowed, MayRun}
 use Rattle.vk_laws.specs.EveryOrder.{IsSettled}
 

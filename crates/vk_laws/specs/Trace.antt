@@ -1,19 +1,19 @@
 -- A trace without a fault, in the words of nodes: what of two accesses of a byte is ordered, and what is seen.
 use Rattle.std.specs.Prelude.{◌≡◌, ◌⊎◌, ◌||◌, ◌<◌, ◌≤◌, length, Bool, IsTrue, List, ◌∷◌, ◌++◌, None, Contains}
 use Rattle.vk_model.specs.declared.entry.Entry.{Entry}
-use Rattle.vk_model.specs.World.{Byte, resource_at}
-use Rattle.vk_model.specs.Objects.{is_cached}
+use Rattle.vk_model.specs.World.Bytes.{Byte, resource_at}
+use Rattle.vk_model.specs.Trace.Objects.{is_cached}
 use Rattle.vk_model.specs.declared.command.Cmd.{Cmd}
-use Rattle.vk_model.specs.ByteWrites.{byte_writes}
-use Rattle.vk_model.specs.Point.{Past, Point, Run}
-use Rattle.vk_model.specs.Order.{plain_order}
-use Rattle.vk_model.specs.Node.{Node, Act, nodes}
-use Rattle.vk_model.specs.Edge.{is_host, is_command}
-use Rattle.vk_model.specs.Before.{before}
-use Rattle.vk_model.specs.Seen.{Access, Read, Write, seen}
-use Rattle.vk_model.specs.Access.{reads, writes, is_in, precedes}
-use Rattle.vk_model.specs.Rules.{first_fault}
-use Rattle.vk_model.specs.Fault.{Comes}
+use Rattle.vk_model.specs.World.ByteWrites.{byte_writes}
+use Rattle.vk_model.specs.Trace.Point.{Past, Point, Run}
+use Rattle.vk_model.specs.Trace.Order.{plain_order}
+use Rattle.vk_model.specs.Sync.Node.{Node, Act, nodes}
+use Rattle.vk_model.specs.Sync.Edge.{is_host, is_command}
+use Rattle.vk_model.specs.Sync.Before.{before}
+use Rattle.vk_model.specs.Sync.Seen.{Access, Read, Write, seen}
+use Rattle.vk_model.specs.Sync.Access.{reads, writes, is_in, precedes}
+use Rattle.vk_model.specs.Rules.Table.{first_fault}
+use Rattle.vk_model.specs.Rules.Fault.{Comes}
 
 -- Whether a node's access of a byte sees another node's write, among the nodes of the whole trace (Vulkan, "Execution and Memory Dependencies", on memory dependencies).
 abbrev pub IsSeen : List Entry → Past → Node → Node → Access → Byte → Type 0

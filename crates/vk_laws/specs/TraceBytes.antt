@@ -1,14 +1,14 @@
 -- The model's bytes before each node of a trace, and what its tasks see of them where queues and the host have no caches.
 use Rattle.std.specs.Prelude.{◌≡◌, ℕ, suc, false, IsTrue, List, [], ◌∷◌, length, nat_le, Option, Some, None, if◌then◌else◌}
 use Rattle.vk_model.specs.declared.entry.Entry.{Entry}
-use Rattle.vk_model.specs.World.{Byte}
-use Rattle.vk_model.specs.Point.{Past}
-use Rattle.vk_model.specs.Order.{plain_order}
-use Rattle.vk_model.specs.Node.{nodes}
-use Rattle.vk_model.specs.Edge.{is_host}
+use Rattle.vk_model.specs.World.Bytes.{Byte}
+use Rattle.vk_model.specs.Trace.Point.{Past}
+use Rattle.vk_model.specs.Trace.Order.{plain_order}
+use Rattle.vk_model.specs.Sync.Node.{nodes}
+use Rattle.vk_model.specs.Sync.Edge.{is_host}
 use Rattle.vk_model.specs.Basics.{holds}
-use Rattle.vk_model.specs.Effect.{world}
-use Rattle.vk_model.specs.Rules.{first_fault}
+use Rattle.vk_model.specs.World.Effect.{world}
+use Rattle.vk_model.specs.Rules.Table.{first_fault}
 use Rattle.vk_laws.specs.Machine.{Task, Reads, MayRun, IsModel, latest}
 use Rattle.vk_laws.specs.Caches.{Cell, Caching, Reached, view}
 use Rattle.vk_laws.specs.Tasks.{node_at, accesses_of}

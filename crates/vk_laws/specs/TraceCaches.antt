@@ -4,16 +4,16 @@ use Rattle.std.specs.List.{list_any}
 use Rattle.vk_model.specs.declared.entry.Entry.{Entry}
 use Rattle.vk_model.specs.declared.entry.Entry.TheVariants as entry
 use Rattle.vk_model.specs.Basics.{holds}
-use Rattle.vk_model.specs.World.{Byte, resource_at}
-use Rattle.vk_model.specs.Objects.{is_cached}
-use Rattle.vk_model.specs.Point.{Past}
-use Rattle.vk_model.specs.Order.{plain_order}
-use Rattle.vk_model.specs.Node.{Node, Act, Hosts, nodes}
-use Rattle.vk_model.specs.Edge.{is_host}
-use Rattle.vk_model.specs.Before.{before}
-use Rattle.vk_model.specs.Access.{is_in, writes}
-use Rattle.vk_model.specs.Seen.{Read, command_mask, host_mask, available_by, makes_writes_visible, invalidates, is_wait, to_host}
-use Rattle.vk_model.specs.Rules.{first_fault}
+use Rattle.vk_model.specs.World.Bytes.{Byte, resource_at}
+use Rattle.vk_model.specs.Trace.Objects.{is_cached}
+use Rattle.vk_model.specs.Trace.Point.{Past}
+use Rattle.vk_model.specs.Trace.Order.{plain_order}
+use Rattle.vk_model.specs.Sync.Node.{Node, Act, Hosts, nodes}
+use Rattle.vk_model.specs.Sync.Edge.{is_host}
+use Rattle.vk_model.specs.Sync.Before.{before}
+use Rattle.vk_model.specs.Sync.Access.{is_in, writes}
+use Rattle.vk_model.specs.Sync.Seen.{Read, command_mask, host_mask, available_by, makes_writes_visible, invalidates, is_wait, to_host}
+use Rattle.vk_model.specs.Rules.Table.{first_fault}
 use Rattle.vk_laws.specs.Machine.{Task, Reads, MayRun, latest}
 use Rattle.vk_laws.specs.Caches.{Cell, Caching, CacheFree, Reached, view}
 use Rattle.vk_laws.specs.Trace.{accesses}

@@ -7,10 +7,10 @@ use Rattle.vk_model.specs.declared.resource.Place.TheVariants as place
 use Rattle.vk_model.specs.declared.command.Cmd.TheVariants as cmd
 use Rattle.vk_model.specs.declared.command.Element.TheVariants as element
 use Rattle.vk_model.specs.declared.command.Length.TheVariants as length_of
-use Rattle.vk_model.specs.World.{Byte, in_buffer}
-use Rattle.vk_model.specs.Point.{Past}
-use Rattle.vk_model.specs.Order.{plain_order}
-use Rattle.vk_model.specs.Rules.{first_fault}
+use Rattle.vk_model.specs.World.Bytes.{Byte, in_buffer}
+use Rattle.vk_model.specs.Trace.Point.{Past}
+use Rattle.vk_model.specs.Trace.Order.{plain_order}
+use Rattle.vk_model.specs.Rules.Table.{first_fault}
 use Rattle.vk_laws.specs.Machine.{Task, Unknown, Reads, IsAllowed, MayRun}
 use Rattle.vk_laws.specs.Caches.{Cell, Reached, view}
 use Rattle.vk_laws.specs.Discards.{with_discards}

@@ -1,10 +1,10 @@
 -- That there are runs: of any accesses, and of each trace.
 use Rattle.std.specs.Prelude.{◌≡◌, List, ◌++◌, None, IsTrue}
 use Rattle.vk_model.specs.declared.entry.Entry.{Entry}
-use Rattle.vk_model.specs.Order.{plain_order}
-use Rattle.vk_model.specs.Rules.{first_fault}
-use Rattle.vk_model.specs.World.{Byte}
-use Rattle.vk_model.specs.Point.{Past}
+use Rattle.vk_model.specs.Trace.Order.{plain_order}
+use Rattle.vk_model.specs.Rules.Table.{first_fault}
+use Rattle.vk_model.specs.World.Bytes.{Byte}
+use Rattle.vk_model.specs.Trace.Point.{Past}
 use Rattle.vk_laws.specs.Machine.{IsIn, Task, TraceAccesses, IsAllowed, MayRun}
 use Rattle.vk_laws.specs.Caches.{Cell, Caching, Reached}
 use Rattle.vk_laws.specs.Discards.{with_discards}

@@ -1,6 +1,6 @@
 //! A small memory with caches, whose reads are the model's by the law of the machine.
 ghost use Rattle.std.specs.Prelude.{◌≡◌, ℕ, ◌<◌, List, length, Option, Some, None, IsTrue, ◌↔◌};
-ghost use Rattle.vk_model.specs.World.{Byte, in_buffer};
+ghost use Rattle.vk_model.specs.World.Bytes.{Byte, in_buffer};
 ghost use Rattle.vk_laws.specs.Machine.{Conflict, HazardFree, IsIn, IsModel, MayRun, Reads, Task, TraceAccesses};
 ghost use Rattle.vk_laws.specs.Caches.{CacheFree, Caching, Cell, Reached, value_through};
 ghost use Rattle.vk_laws.specs.Reader.{cells_of, held_as};
@@ -8,8 +8,8 @@ ghost use Rattle.vk_laws.specs.Discards.{with_discards};
 ghost use Rattle.vk_laws.specs.TraceBytes.{value_before};
 ghost use Rattle.vk_laws.specs.TraceCaches.{caching_of};
 ghost use Rattle.vk_model.specs.declared.entry.Entry.{Entry};
-ghost use Rattle.vk_model.specs.Order.{plain_order};
-ghost use Rattle.vk_model.specs.Rules.{first_fault};
+ghost use Rattle.vk_model.specs.Trace.Order.{plain_order};
+ghost use Rattle.vk_model.specs.Rules.Table.{first_fault};
 
 use crate::machine::every_order;
 use crate::tasks::cached_trace_is_fresh;

@@ -7,9 +7,9 @@ ghost use Rattle.vk_laws.specs.TraceRuns.{AllowedIsReached, EachTaskRuns, NeverS
 ghost use Rattle.vk_laws.specs.TraceExample.{TraceMeetsPremises};
 ghost use Rattle.std.specs.Prelude.{List, None, IsTrue, ◌≡◌, ◌↔◌};
 ghost use Rattle.vk_model.specs.declared.entry.Entry.{Entry};
-ghost use Rattle.vk_model.specs.World.{Byte};
-ghost use Rattle.vk_model.specs.Order.{plain_order};
-ghost use Rattle.vk_model.specs.Rules.{first_fault};
+ghost use Rattle.vk_model.specs.World.Bytes.{Byte};
+ghost use Rattle.vk_model.specs.Trace.Order.{plain_order};
+ghost use Rattle.vk_model.specs.Rules.Table.{first_fault};
 ghost use Rattle.vk_laws.specs.Machine.{Conflict, IsAllowed, IsIn, MayRun, Task};
 
 use crate::machine::{every_order, runs_carry_over};

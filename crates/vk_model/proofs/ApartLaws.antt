@@ -8,29 +8,29 @@ use Rattle.std.specs.Prelude.{if◌then◌else◌}
 use Rattle.vk_model.specs.declared.command.Cmd.{Cmd}
 use Rattle.vk_model.specs.declared.command.Cmd.TheVariants as cmd
 use Rattle.vk_model.specs.declared.rule.Rule.TheVariants as rule
-use Rattle.vk_model.specs.Point.{Past, Point, Run}
-use Rattle.vk_model.specs.Objects.{image}
-use Rattle.vk_model.specs.Ownership.{elements_of}
-use Rattle.vk_model.specs.Pieces.{pieces}
-use Rattle.vk_model.specs.Access.{targets, share, is_in}
-use Rattle.vk_model.specs.Rules.{breaks}
+use Rattle.vk_model.specs.Trace.Point.{Past, Point, Run}
+use Rattle.vk_model.specs.Trace.Objects.{image}
+use Rattle.vk_model.specs.World.Ownership.{elements_of}
+use Rattle.vk_model.specs.Run.Pieces.{pieces}
+use Rattle.vk_model.specs.Sync.Access.{targets, share, is_in}
+use Rattle.vk_model.specs.Rules.Table.{breaks}
 use Rattle.vk_model.specs.Laws.{together, write_common}
 use Rattle.vk_model.proofs.PieceLaws.{pieces_together}
-use Rattle.vk_model.specs.RulesRanges.{is_short, regions_of, command_past, command_overlaps, transitions_meet}
+use Rattle.vk_model.specs.Rules.Ranges.{is_short, regions_of, command_past, command_overlaps, transitions_meet}
 use Rattle.std.proofs.lemmas.Bool.{eqb-true, eq-eqb, ltb-false}
 use Rattle.vk_model.specs.Basics.{some_pair, below, grid}
-use Rattle.vk_model.specs.Suballocation.{ranges_meet}
-use Rattle.vk_model.specs.World.{Byte, in_buffer, in_image, same_byte}
+use Rattle.vk_model.specs.Memory.Suballocation.{ranges_meet}
+use Rattle.vk_model.specs.World.Bytes.{Byte, in_buffer, in_image, same_byte}
 use Rattle.std.specs.List.{enumerate_from}
 use Rattle.vk_model.specs.declared.command.BufferCopy.{BufferCopy}
 use Rattle.vk_model.specs.Basics.{byte_of}
-use Rattle.vk_model.specs.ByteWrites.{ByteWrite, byte_write, byte_writes, fill_size, buffer_size, Source, Value, From, copy_writes, copy_in_writes, copy_image_writes, copy_out_writes, clear_writes, clear_write, level_bytes, subresource_bytes, buffer_texel, row_texels, layer_rows}
+use Rattle.vk_model.specs.World.ByteWrites.{ByteWrite, byte_write, byte_writes, fill_size, buffer_size, Source, Value, From, copy_writes, copy_in_writes, copy_image_writes, copy_out_writes, clear_writes, clear_write, level_bytes, subresource_bytes, buffer_texel, row_texels, layer_rows}
 use Rattle.vk_model.specs.declared.command.BufferImageCopy.{BufferImageCopy}
 use Rattle.vk_model.specs.declared.command.ImageCopy.{ImageCopy}
 use Rattle.vk_model.specs.declared.command.SubresourceRange.{SubresourceRange}
 use Rattle.vk_model.specs.declared.resource.ImageInfo.{ImageInfo}
-use Rattle.vk_model.specs.Image.{texel, level_width, level_height}
-use Rattle.vk_model.specs.Areas.{Bytes, Rows, Texels, Subresources, Box, areas_meet, boxes_meet, subresources_meet, rows_meet, row_count, row_start, region_box, destination_box, region_rows, areas_written, areas_read}
+use Rattle.vk_model.specs.Trace.Image.{texel, level_width, level_height}
+use Rattle.vk_model.specs.World.Areas.{Bytes, Rows, Texels, Subresources, Box, areas_meet, boxes_meet, subresources_meet, rows_meet, row_count, row_start, region_box, destination_box, region_rows, areas_written, areas_read}
 use Rattle.vk_model.proofs.Pairs.{refuted, or_left, or_right, or_none, none_at, append_pairs, once_of_pairs, Each, Pairs, Less, At, pairs_map, pairs_of, pairs_range, pairs_flat, pairs_of_once, each_of, each_range, each_map, each_flat, grid_apart, in_grid}
 use Rattle.vk_model.proofs.BytePlaces.{and_both, buffer_same, image_same, common_meets, clash, Differ, digit_first, no_less, texels_differ, place_less, less_differs}
 

@@ -2,8 +2,8 @@
 use Rattle.std.proofs.Common.{◌≡◌, ℕ, ◌+◌, ◌*◌, ◌<◌, ◌≤◌, Bool, true, false, ◌&&◌, ◌==◌, refl, arith, inl, inr, ◌⊎◌}
 use Rattle.std.proofs.Math.Nat.{mul-le-mul_right}
 use Rattle.std.proofs.lemmas.Bool.{eqb-true, lt-ltb}
-use Rattle.vk_model.specs.Suballocation.{ranges_meet}
-use Rattle.vk_model.specs.World.{Byte, in_buffer, in_image, same_byte}
+use Rattle.vk_model.specs.Memory.Suballocation.{ranges_meet}
+use Rattle.vk_model.specs.World.Bytes.{Byte, in_buffer, in_image, same_byte}
 use Rattle.vk_model.proofs.Pairs.{refuted, Less}
 
 pub and_left : (a b : Bool) → (a && b) ≡ true → a ≡ true

@@ -4,12 +4,12 @@ use Rattle.std.specs.Prelude.{option_map, slice_get}
 use Rattle.vk_model.specs.declared.rule.At.{At}
 use Rattle.vk_model.specs.declared.rule.Rule.{Rule}
 use Rattle.vk_model.specs.Basics.{first_that}
-use Rattle.vk_model.specs.Point.{Past, Point, at_of}
-use Rattle.vk_model.specs.Rules.{breaks, rules, first_rule, fault}
-use Rattle.vk_model.specs.Fault.{Comes, newest, older, IsSound}
+use Rattle.vk_model.specs.Trace.Point.{Past, Point, at_of}
+use Rattle.vk_model.specs.Rules.Table.{breaks, rules, first_rule, fault}
+use Rattle.vk_model.specs.Rules.Fault.{Comes, newest, older, IsSound}
 use Rattle.vk_model.specs.Laws.{IsFirst}
 use Rattle.vk_model.proofs.RuleTable.{place_of, once}
-use Rattle.vk_model.specs.Order.{plain_order}
+use Rattle.vk_model.specs.Trace.Order.{plain_order}
 use Rattle.vk_model.specs.declared.entry.Entry.{Entry}
 
 -- ---- the first item that passes a test

@@ -3,14 +3,14 @@ use Rattle.std.proofs.Common.{◌≡◌, ℕ, zero, suc, ◌<◌, ◌≤◌, Lis
 use Rattle.std.specs.Prelude.{nat_lt, nat_le, Contains, if◌then◌else◌}
 use Rattle.std.specs.List.{list_any, filter}
 use Rattle.std.proofs.lemmas.Bool.{le-ltb, ne_eqb}
-use Rattle.vk_model.specs.World.{Byte}
-use Rattle.vk_model.specs.Point.{Past, Point}
-use Rattle.vk_model.specs.Node.{Node, Act, nodes, with_acts, acts, same_node}
-use Rattle.vk_model.specs.Edge.{edge}
-use Rattle.vk_model.specs.Before.{before, reached, IsNumbered}
+use Rattle.vk_model.specs.World.Bytes.{Byte}
+use Rattle.vk_model.specs.Trace.Point.{Past, Point}
+use Rattle.vk_model.specs.Sync.Node.{Node, Act, nodes, with_acts, acts, same_node}
+use Rattle.vk_model.specs.Sync.Edge.{edge}
+use Rattle.vk_model.specs.Sync.Before.{before, reached, IsNumbered}
 use Rattle.vk_model.specs.Laws.{Keeps}
-use Rattle.vk_model.specs.Seen.{Access, seen, passes, available_by, visible_by}
-use Rattle.vk_model.specs.Node.{Hosts, Waits, Signals, Runs, Depends}
+use Rattle.vk_model.specs.Sync.Seen.{Access, seen, passes, available_by, visible_by}
+use Rattle.vk_model.specs.Sync.Node.{Hosts, Waits, Signals, Runs, Depends}
 
 -- ---- members of a list
 
@@ -96,14 +96,14 @@ module _ (n : Node) (ns : List Node) (new : n.number ≡ length ns) where
     available-older : (w p : Node) (act : Act) (b : Byte) → p.number < length ns → available_by cached (n ∷ ns) w act b p ≡ available_by cached ns w act b p
     available-older w p (Runs c) b lt = rw (edge-older w p lt) refl
     available-older w p (Depends r e) b lt = refl
-    available-older w p (Hosts x) b lt = rw (before-older w p lt, passes-older (λ f. Rattle.vk_model.specs.Seen.flushes f b) w p lt) refl
+    available-older w p (Hosts x) b lt = rw (before-older w p lt, passes-older (λ f. Rattle.vk_model.specs.Sync.Seen.flushes f b) w p lt) refl
     available-older w p (Waits s) b lt = refl
     available-older w p (Signals s) b lt = refl
 
     visible-older : (w a q : Node) (act : Act) (k : Access) (b : Byte) → a.number < length ns → visible_by cached (n ∷ ns) w a act k b q ≡ visible_by cached ns w a act k b q
     visible-older w a q (Runs c) k b lt = rw (edge-older q a lt) refl
     visible-older w a q (Depends r e) k b lt = refl
-    visible-older w a q (Hosts x) k b lt = rw (before-older q a lt, passes-older (λ f. Rattle.vk_model.specs.Seen.invalidates f b) q a lt) refl
+    visible-older w a q (Hosts x) k b lt = rw (before-older q a lt, passes-older (λ f. Rattle.vk_model.specs.Sync.Seen.invalidates f b) q a lt) refl
     visible-older w a q (Waits s) k b lt = refl
     visible-older w a q (Signals s) k b lt = refl
 

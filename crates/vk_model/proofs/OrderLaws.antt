@@ -9,12 +9,12 @@ use Rattle.vk_model.specs.declared.entry.Entry.TheVariants as entry
 use Rattle.vk_model.specs.declared.entry.SemaphoreSubmit.{SemaphoreSubmit}
 use Rattle.vk_model.specs.declared.rule.Rule.TheVariants as rule
 use Rattle.vk_model.specs.Basics.{holds}
-use Rattle.vk_model.specs.Point.{Point, Past, Action, Host, Wait, Run, Signal}
-use Rattle.vk_model.specs.Objects.{live, made, ended, initial, semaphore_in}
-use Rattle.vk_model.specs.Order.{SubmittedBatch, Front, host, actions, started, submitted_batch, batches_from, batches_of, plain_from, plain_order, counter, is_met, same_batch, next_batch, start_batch, settled, after_entry, order_from, order}
-use Rattle.vk_model.specs.Rules.{breaks}
-use Rattle.vk_model.specs.RulesSync.{waits_early}
-use Rattle.vk_model.specs.Fault.{Comes, newest, older}
+use Rattle.vk_model.specs.Trace.Point.{Point, Past, Action, Host, Wait, Run, Signal}
+use Rattle.vk_model.specs.Trace.Objects.{live, made, ended, initial, semaphore_in}
+use Rattle.vk_model.specs.Trace.Order.{SubmittedBatch, Front, host, actions, started, submitted_batch, batches_from, batches_of, plain_from, plain_order, counter, is_met, same_batch, next_batch, start_batch, settled, after_entry, order_from, order}
+use Rattle.vk_model.specs.Rules.Table.{breaks}
+use Rattle.vk_model.specs.Rules.Synchronization.{waits_early}
+use Rattle.vk_model.specs.Rules.Fault.{Comes, newest, older}
 use Rattle.vk_model.specs.Laws.{NeverAhead}
 
 -- ---- no wait of a past is ahead
@@ -52,11 +52,11 @@ is_met_there : (now : Past) (w : SemaphoreSubmit) → is_some (initial now w.sem
 is_met_there now w known early = go (initial now w.semaphore) refl known early
   where
     go : (o : Option ℕ) → initial now w.semaphore ≡ o → is_some o ≡ true
-        → holds (option_map (λ v. fold Rattle.std.specs.Prelude.max v (Rattle.vk_model.specs.Order.signaled now w.semaphore)) (initial now w.semaphore)) (λ c. nat_lt c w.value) ≡ false
-        → holds (option_map (λ v. fold Rattle.std.specs.Prelude.max v (Rattle.vk_model.specs.Order.signaled now w.semaphore)) (initial now w.semaphore)) (nat_le w.value) ≡ true
+        → holds (option_map (λ v. fold Rattle.std.specs.Prelude.max v (Rattle.vk_model.specs.Trace.Order.signaled now w.semaphore)) (initial now w.semaphore)) (λ c. nat_lt c w.value) ≡ false
+        → holds (option_map (λ v. fold Rattle.std.specs.Prelude.max v (Rattle.vk_model.specs.Trace.Order.signaled now w.semaphore)) (initial now w.semaphore)) (nat_le w.value) ≡ true
     go None is known early = absurd cc
     go (Some v) is known early =
-        let c : ℕ = fold Rattle.std.specs.Prelude.max v (Rattle.vk_model.specs.Order.signaled now w.semaphore) in
+        let c : ℕ = fold Rattle.std.specs.Prelude.max v (Rattle.vk_model.specs.Trace.Order.signaled now w.semaphore) in
         let low : nat_lt c w.value ≡ false = rw is at early in
         rw is (le-leb w.value c (ltb-false c w.value low))
 
@@ -87,16 +87,16 @@ waits_met past now same t k (w ∷ ws) here counts met =
 
 -- ---- a batch changes no object
 
-kept_entries : {A : Type 0} (of : A → Action) → ((x : A) → Rattle.vk_model.specs.Point.host_of (of x) ≡ None) → (t : SubmittedBatch) (k : ℕ) (xs : List A) (past : Past) → Rattle.vk_model.specs.Point.entries (actions of t k xs past) ≡ Rattle.vk_model.specs.Point.entries past
+kept_entries : {A : Type 0} (of : A → Action) → ((x : A) → Rattle.vk_model.specs.Trace.Point.host_of (of x) ≡ None) → (t : SubmittedBatch) (k : ℕ) (xs : List A) (past : Past) → Rattle.vk_model.specs.Trace.Point.entries (actions of t k xs past) ≡ Rattle.vk_model.specs.Trace.Point.entries past
 kept_entries of mute t k [] past = refl
 kept_entries of mute t k (x ∷ xs) past = kept_entries of mute t (k + 1) xs (record { entry = t.entry; batch = t.batch; place = k; queue = t.queue; action = of x } ∷ past) ∙ rw (mute x) refl
 
-started_entries : (t : SubmittedBatch) (past : Past) → Rattle.vk_model.specs.Point.entries (started t past) ≡ Rattle.vk_model.specs.Point.entries past
+started_entries : (t : SubmittedBatch) (past : Past) → Rattle.vk_model.specs.Trace.Point.entries (started t past) ≡ Rattle.vk_model.specs.Trace.Point.entries past
 started_entries t past =
     kept_entries Signal (λ x. refl) t 0 t.content.signals _ ∙ kept_entries Run (λ x. refl) t 0 t.content.commands _ ∙ kept_entries Wait (λ x. refl) t 0 t.content.waits past
 
 started_initial : (t : SubmittedBatch) (past : Past) (s : ℕ) → initial (started t past) s ≡ initial past s
-started_initial t past s = ap (λ (xs : List Entry). option_and_then semaphore_in (Rattle.std.specs.List.find (λ x. holds (Rattle.vk_model.specs.Objects.made_by x) (λ j. s == j)) xs)) (started_entries t past)
+started_initial t past s = ap (λ (xs : List Entry). option_and_then semaphore_in (Rattle.std.specs.List.find (λ x. holds (Rattle.vk_model.specs.Trace.Objects.made_by x) (λ j. s == j)) xs)) (started_entries t past)
 
 -- ---- batches that can all be started
 

@@ -3,10 +3,10 @@ use Rattle.std.proofs.Common.{◌≡◌, ◌<◌, ◌≤◌, List, [], ◌∷◌
 use Rattle.std.specs.Prelude.{nat_lt, Contains, if◌then◌else◌, ◌↔◌}
 use Rattle.std.specs.List.{list_any}
 use Rattle.std.proofs.lemmas.Bool.{le-ltb, ne_eqb, eqb-true, eq-eqb, ltb-true, lt-ltb}
-use Rattle.vk_model.specs.Point.{Past}
-use Rattle.vk_model.specs.Node.{Node, nodes, same_node}
-use Rattle.vk_model.specs.Edge.{edge}
-use Rattle.vk_model.specs.Before.{before, reached, Path, direct, longer, IsNumbered}
+use Rattle.vk_model.specs.Trace.Point.{Past}
+use Rattle.vk_model.specs.Sync.Node.{Node, nodes, same_node}
+use Rattle.vk_model.specs.Sync.Edge.{edge}
+use Rattle.vk_model.specs.Sync.Before.{before, reached, Path, direct, longer, IsNumbered}
 use Rattle.vk_model.proofs.GrowthLaws.{contains-cons, contains-head, contains-tail, number_below, numbered, edge-older}
 
 -- ---- members that pass a test

@@ -12,11 +12,11 @@ use Rattle.vk_model.specs.declared.resource.ImageInfo.{ImageInfo}
 use Rattle.vk_model.specs.declared.layout.Format.{Format}
 use Rattle.vk_model.specs.declared.layout.Format.TheVariants as format
 use Rattle.vk_model.specs.Basics.{below, grid}
-use Rattle.vk_model.specs.Image.{texel, level_width}
-use Rattle.vk_model.specs.Point.{Past}
-use Rattle.vk_model.specs.Objects.{image}
-use Rattle.vk_model.specs.ByteWrites.{ByteWrite, byte_writes, copy_writes, copy_in_writes, copy_out_writes, copy_image_writes, clear_write, clear_writes, level_bytes}
-use Rattle.vk_model.specs.Pieces.{chunks, cut, row_bytes, level_pieces, clear_pieces, pieces}
+use Rattle.vk_model.specs.Trace.Image.{texel, level_width}
+use Rattle.vk_model.specs.Trace.Point.{Past}
+use Rattle.vk_model.specs.Trace.Objects.{image}
+use Rattle.vk_model.specs.World.ByteWrites.{ByteWrite, byte_writes, copy_writes, copy_in_writes, copy_out_writes, copy_image_writes, clear_write, clear_writes, level_bytes}
+use Rattle.vk_model.specs.Run.Pieces.{chunks, cut, row_bytes, level_pieces, clear_pieces, pieces}
 use Rattle.vk_model.specs.Laws.{together}
 
 together-append : {A : Type 0} (xs ys : List (List A)) → together (xs ++ ys) ≡ together xs ++ together ys

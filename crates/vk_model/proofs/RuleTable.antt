@@ -6,8 +6,8 @@ use Rattle.std.specs.Str.{bytes_eq}
 use Rattle.std.proofs.lemmas.Option.{slice_get-map}
 use Rattle.vk_model.specs.declared.rule.Rule.{Rule}
 use Rattle.vk_model.specs.declared.rule.Rule.TheVariants as rule
-use Rattle.vk_model.specs.RuleNames.{rule_name}
-use Rattle.vk_model.specs.Rules.{rules}
+use Rattle.vk_model.specs.Rules.Names.{rule_name}
+use Rattle.vk_model.specs.Rules.Table.{rules}
 use Rattle.vk_model.specs.Laws.{HasOnePlace}
 
 -- the number of each rule in the table

@@ -3,23 +3,23 @@ use Rattle.std.specs.Prelude.{◌≡◌, ℕ, ◌<◌, ◌++◌, Bool, Contains,
 use Rattle.vk_model.specs.declared.entry.Entry.{Entry}
 use Rattle.vk_model.specs.declared.rule.At.{At}
 use Rattle.vk_model.specs.declared.rule.Rule.{Rule}
-use Rattle.vk_model.specs.Point.{Past, Point, Run, at_of}
-use Rattle.vk_model.specs.World.{Byte}
-use Rattle.vk_model.specs.Order.{plain_order, order}
+use Rattle.vk_model.specs.Trace.Point.{Past, Point, Run, at_of}
+use Rattle.vk_model.specs.World.Bytes.{Byte}
+use Rattle.vk_model.specs.Trace.Order.{plain_order, order}
 use Rattle.vk_model.specs.declared.rule.Rule.TheVariants as rule
-use Rattle.vk_model.specs.Node.{Node, nodes}
-use Rattle.vk_model.specs.Edge.{edge}
-use Rattle.vk_model.specs.Before.{before, Path}
-use Rattle.vk_model.specs.Seen.{Access, seen}
-use Rattle.vk_model.specs.ByteWrites.{ByteWrite, byte_writes}
-use Rattle.vk_model.specs.Access.{targets, share}
+use Rattle.vk_model.specs.Sync.Node.{Node, nodes}
+use Rattle.vk_model.specs.Sync.Edge.{edge}
+use Rattle.vk_model.specs.Sync.Before.{before, Path}
+use Rattle.vk_model.specs.Sync.Seen.{Access, seen}
+use Rattle.vk_model.specs.World.ByteWrites.{ByteWrite, byte_writes}
+use Rattle.vk_model.specs.Sync.Access.{targets, share}
 use Rattle.vk_model.specs.Basics.{some_pair}
-use Rattle.vk_model.specs.Pieces.{pieces}
+use Rattle.vk_model.specs.Run.Pieces.{pieces}
 use Rattle.vk_model.specs.declared.command.Cmd.{Cmd}
 use Rattle.std.specs.List.{flat_map}
-use Rattle.vk_model.specs.RuleNames.{rule_name}
-use Rattle.vk_model.specs.Rules.{breaks, rules, first_fault}
-use Rattle.vk_model.specs.Fault.{Comes, IsSound}
+use Rattle.vk_model.specs.Rules.Names.{rule_name}
+use Rattle.vk_model.specs.Rules.Table.{breaks, rules, first_fault}
+use Rattle.vk_model.specs.Rules.Fault.{Comes, IsSound}
 
 -- The first fault is none exactly where no point breaks any rule.
 abbrev pub NoFaultIsSound : Type 0

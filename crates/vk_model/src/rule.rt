@@ -1,5 +1,5 @@
 ghost use Rattle.std.specs.Prelude.{◌≡◌};
-ghost use Rattle.vk_model.specs.RuleNames.{rule_name};
+ghost use Rattle.vk_model.specs.Rules.Names.{rule_name};
 
 /// A rule that a trace may break, in the order in which rules are tested at a point.
 #[derive(Clone, Copy, Debug, PartialEq, Eq)]

@@ -1,5 +1,5 @@
 ghost use Rattle.std.specs.Prelude.{◌≡◌, ℕ, List, IfOk, OnErr, IsOk, IsErrOf};
-ghost use Rattle.vk_model.specs.Suballocation.{Taken, Request, IsRequest, IsTakenAt, IsSound, IsLargestFree, Puts, TakesAway};
+ghost use Rattle.vk_model.specs.Memory.Suballocation.{Taken, Request, IsRequest, IsTakenAt, IsSound, IsLargestFree, Puts, TakesAway};
 
 use crate::resource::Kind;
 

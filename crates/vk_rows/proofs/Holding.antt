@@ -4,9 +4,9 @@ use Rattle.std.specs.Prelude.{◌&&◌, ◌==◌, ◌%◌, not, nat_le, All, [],
 use Rattle.std.proofs.lemmas.List.Elements.{All-from_recursion}
 use Rattle.std.specs.List.{list_any, range_with_len}
 use Rattle.std.proofs.lemmas.Bool.{or_parts, and_parts, cases_lt, leb-true}
-use Rattle.vk_model.specs.Suballocation.{Taken, Request, conflict}
+use Rattle.vk_model.specs.Memory.Suballocation.{Taken, Request, conflict}
 use Rattle.vk_model.specs.Basics.{below}
-use Rattle.vk_model.specs.Room.{fits, CanHold}
+use Rattle.vk_model.specs.Memory.Room.{fits, CanHold}
 
 differ : ◌≡◌ {A = Bool} false true → ⊥
 differ h = cc

@@ -6,14 +6,14 @@ use Rattle.vk_model.specs.declared.rule.At.{At}
 use Rattle.vk_model.specs.declared.rule.Rule.{Rule}
 use Rattle.vk_model.specs.declared.rule.Rule.TheVariants as rule
 use Rattle.vk_model.specs.Basics.{first_that}
-use Rattle.vk_model.specs.Point.{Past, Point, at_of, on_host}
-use Rattle.vk_model.specs.Order.{plain_order, order}
-use Rattle.vk_model.specs.Meaning.{Reads, reads, meaning}
-use Rattle.vk_model.specs.Edge.{meet, edge}
-use Rattle.vk_model.specs.Before.{before}
-use Rattle.vk_model.specs.Seen.{seen}
-use Rattle.vk_model.specs.RulesPasses.{bad_pass}
-use Rattle.vk_model.specs.Rules.{breaks, rules, first_rule, fault, first_fault}
+use Rattle.vk_model.specs.Trace.Point.{Past, Point, at_of, on_host}
+use Rattle.vk_model.specs.Trace.Order.{plain_order, order}
+use Rattle.vk_model.specs.World.Meaning.{Reads, reads, meaning}
+use Rattle.vk_model.specs.Sync.Edge.{meet, edge}
+use Rattle.vk_model.specs.Sync.Before.{before}
+use Rattle.vk_model.specs.Sync.Seen.{seen}
+use Rattle.vk_model.specs.Rules.Passes.{bad_pass}
+use Rattle.vk_model.specs.Rules.Table.{breaks, rules, first_rule, fault, first_fault}
 
 -- ---- once commands may run inside a pass, and batches may wait for signals that come later
 

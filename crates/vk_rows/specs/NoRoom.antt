@@ -3,8 +3,8 @@ use Rattle.std.specs.Prelude.{◌≡◌, ℕ, List, [], ◌∷◌, true, false, 
 use Rattle.vk_model.specs.declared.resource.PoolKind.{PoolKind}
 use Rattle.vk_model.specs.declared.resource.PoolKind.TheVariants as algorithm
 use Rattle.vk_model.specs.declared.resource.Kind.TheVariants as kind
-use Rattle.vk_model.specs.Suballocation.{Taken, Request}
-use Rattle.vk_model.specs.Room.{Heaps, no_object, Block, General, Stack, PoolState, NoRoomInPool}
+use Rattle.vk_model.specs.Memory.Suballocation.{Taken, Request}
+use Rattle.vk_model.specs.Memory.Room.{Heaps, no_object, Block, General, Stack, PoolState, NoRoomInPool}
 
 -- Heaps of these sizes, so much of which is used, and how many memory objects stand.
 abbrev pub heaps : ℕ → ℕ → ℕ → ℕ → ℕ → Heaps

@@ -1,9 +1,9 @@
 -- Places in blocks, and the moves of a pass.
 use Rattle.std.specs.Prelude.{◌≡◌, ℕ, List, [], ◌∷◌, true, Option, Some, None}
 use Rattle.vk_model.specs.declared.resource.Kind.TheVariants as kind
-use Rattle.vk_model.specs.Suballocation.{Taken, Request}
-use Rattle.vk_model.specs.Room.{Linear, lowest, lower_place, upper_place}
-use Rattle.vk_model.specs.MoveTargets.{Numbered, Resident, Moved, pass_moves}
+use Rattle.vk_model.specs.Memory.Suballocation.{Taken, Request}
+use Rattle.vk_model.specs.Memory.Room.{Linear, lowest, lower_place, upper_place}
+use Rattle.vk_model.specs.Memory.MoveTargets.{Numbered, Resident, Moved, pass_moves}
 use Rattle.vk_rows.specs.NoRoom.{buffer_at, buffer_of}
 
 -- An image that asks for 256 bytes at a multiple of 256.

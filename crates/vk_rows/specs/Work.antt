@@ -14,21 +14,21 @@ use Rattle.vk_model.specs.declared.resource.Sharing.TheVariants as sharing
 use Rattle.vk_model.specs.declared.rule.At.TheVariants as at
 use Rattle.vk_model.specs.declared.rule.Rule.TheVariants as rule
 use Rattle.vk_model.specs.Basics.{holds}
-use Rattle.vk_model.specs.Point.{at_of}
-use Rattle.vk_model.specs.Objects.{resource}
-use Rattle.vk_model.specs.ByteWrites.{byte_writes}
-use Rattle.vk_model.specs.Rules.{first_fault}
-use Rattle.vk_model.specs.Image.{image_size, row_pitch}
-use Rattle.vk_model.specs.Order.{plain_order}
-use Rattle.vk_model.specs.World.{in_buffer}
-use Rattle.vk_model.specs.Effect.{world}
-use Rattle.vk_model.specs.Node.{Node, nodes}
-use Rattle.vk_model.specs.Edge.{edge}
-use Rattle.vk_model.specs.Before.{before}
-use Rattle.vk_model.specs.Seen.{Read, seen}
-use Rattle.vk_model.specs.Pieces.{pieces}
-use Rattle.vk_model.specs.Run.{Name, Apply, RunPiece, offered, start, Allowed}
-use Rattle.vk_model.specs.Picks.{Picked, trace_picks}
+use Rattle.vk_model.specs.Trace.Point.{at_of}
+use Rattle.vk_model.specs.Trace.Objects.{resource}
+use Rattle.vk_model.specs.World.ByteWrites.{byte_writes}
+use Rattle.vk_model.specs.Rules.Table.{first_fault}
+use Rattle.vk_model.specs.Trace.Image.{image_size, row_pitch}
+use Rattle.vk_model.specs.Trace.Order.{plain_order}
+use Rattle.vk_model.specs.World.Bytes.{in_buffer}
+use Rattle.vk_model.specs.World.Effect.{world}
+use Rattle.vk_model.specs.Sync.Node.{Node, nodes}
+use Rattle.vk_model.specs.Sync.Edge.{edge}
+use Rattle.vk_model.specs.Sync.Before.{before}
+use Rattle.vk_model.specs.Sync.Seen.{Read, seen}
+use Rattle.vk_model.specs.Run.Pieces.{pieces}
+use Rattle.vk_model.specs.Run.Runs.{Name, Apply, RunPiece, offered, start, Allowed}
+use Rattle.vk_model.specs.Run.Picks.{Picked, trace_picks}
 use Rattle.vk_rows.specs.Writing.{bytes, to_end, dependency, levels, image_element, submit_info, semaphore_value, batch, buffer_entry, image_entry, transfer, host, all_commands, transfer_write, host_read, both, undefined, destination_optimal, ignored}
 
 -- ---- pieces, layouts and sizes

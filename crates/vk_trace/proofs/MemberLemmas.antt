@@ -7,7 +7,7 @@ use Rattle.serde_json.specs.declared.value.Value.{Value}
 use Rattle.vk_trace.specs.declared.errors.ReadTraceError.{ReadTraceError}
 use Rattle.vk_trace.specs.declared.errors.ReadTraceError.TheVariants.{NotTrace, NoMemory}
 use Rattle.vk_trace.specs.Members.{◌>>=◌, items_list, array_members, each_member}
-use Rattle.vk_trace.specs.Gives.{Fails}
+use Rattle.vk_trace.specs.Inner.Gives.{Fails}
 
 -- the list of an array that was made of a list
 items_list-items_of : (ds : List Data) → items_list (items_of ds) ≡ ds

@@ -14,8 +14,8 @@ use Rattle.vk_model.specs.declared.entry.Entry.TheVariants as entry
 use Rattle.vk_model.specs.declared.entry.SemaphoreSubmit.{SemaphoreSubmit}
 use Rattle.vk_model.specs.declared.resource.Place.{Place}
 use Rattle.vk_model.specs.declared.resource.Place.TheVariants as place
-use Rattle.vk_model.specs.Point.{Past, Point, Action, Wait, Run, Signal}
-use Rattle.vk_model.specs.Order.{SubmittedBatch, host, actions, taken, batches_from, batches_of, plain_from, plain_order}
+use Rattle.vk_model.specs.Trace.Point.{Past, Point, Action, Wait, Run, Signal}
+use Rattle.vk_model.specs.Trace.Order.{SubmittedBatch, host, actions, taken, batches_from, batches_of, plain_from, plain_order}
 use Rattle.vk_validate.specs.Supported.{is_supported, is_supported_action, is_supported_entry, is_supported_command, is_supported_place, is_memory}
 use Rattle.vk_trace.specs.Members.{Reader, Row, ◌>>=◌, array_members, first_member, no_member, from, ◌<*>◌, only, members, at_word, after_word, word_and_members, tagged, each_member, list_of, empty_list, u32_value, u64_value}
 use Rattle.vk_trace.specs.Trace.{memory_element, dependency_value, command_rows, command_value, semaphore_submit, batch_value, semaphore_value, queue_value, memory_type_value, place_rows, place_value, sharing_value, length_or_whole, buffer, entry_rows, entry_value, IsTrace}

@@ -1,6 +1,6 @@
 pub mod Members
 pub mod Trace
-pub mod Gives
+pub mod Inner
 pub mod Text
 pub mod Run
 pub mod Watching

@@ -2,8 +2,8 @@
 use Rattle.std.specs.Prelude.{◌≡◌, ℕ, List, length, Some, None}
 use Rattle.vk_model.specs.declared.config.Config.{Config}
 use Rattle.vk_model.specs.declared.entry.Entry.{Entry}
-use Rattle.vk_model.specs.Rules.{first_fault}
-use Rattle.vk_model.specs.Meaning.{meaning}
+use Rattle.vk_model.specs.Rules.Table.{first_fault}
+use Rattle.vk_model.specs.World.Meaning.{meaning}
 use Rattle.vk_device.specs.Allotted.{first_stop}
 use Rattle.vk_trace.specs.declared.printing.Outcome.{Outcome}
 use Rattle.vk_trace.specs.declared.printing.Outcome.TheVariants.{Reads, Refused}

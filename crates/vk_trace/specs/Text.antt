@@ -2,7 +2,7 @@
 use Rattle.std.specs.Prelude.{ℕ, List, [], ◌++◌, codes, decimal, Option, Some, None}
 use Rattle.std.specs.List.{flat_map}
 use Rattle.hex.specs.Hex.{encode_lower}
-use Rattle.vk_model.specs.RuleNames.{rule_name}
+use Rattle.vk_model.specs.Rules.Names.{rule_name}
 use Rattle.vk_model.specs.declared.rule.At.{At}
 use Rattle.vk_model.specs.declared.rule.At.TheVariants.{Entry, Command, Wait, Signal}
 use Rattle.vk_trace.specs.declared.printing.Outcome.{Outcome}

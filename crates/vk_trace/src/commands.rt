@@ -2,7 +2,7 @@ ghost use Rattle.std.specs.Prelude.{map, codes};
 ghost use Rattle.serde_json.specs.View.{view};
 ghost use Rattle.vk_trace.specs.Members.{after_word};
 ghost use Rattle.vk_trace.specs.Trace.{length_or_whole, dependency_value, memory_element, command_rows, command_value};
-ghost use Rattle.vk_trace.specs.Gives.{Gives};
+ghost use Rattle.vk_trace.specs.Inner.Gives.{Gives};
 
 use crate::errors::ReadTraceError;
 use crate::members::{Member, Reading, end, first, list_members, word_first};

@@ -2,7 +2,7 @@ ghost use Rattle.std.specs.Prelude.{map, codes};
 ghost use Rattle.serde_json.specs.View.{view};
 ghost use Rattle.vk_trace.specs.Members.{after_word};
 ghost use Rattle.vk_trace.specs.Trace.{sharing_value, memory_type_value, place_rows, place_value, semaphore_value, semaphore_submit, batch_value, queue_value, entry_rows, entry_value};
-ghost use Rattle.vk_trace.specs.Gives.{Gives};
+ghost use Rattle.vk_trace.specs.Inner.Gives.{Gives};
 
 use crate::errors::ReadTraceError;
 use crate::members::{Member, Reading, end, first, list_members, text_of, word_first};

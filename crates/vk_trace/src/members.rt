@@ -3,7 +3,7 @@ ghost use Rattle.serde_json.specs.Find.{as_str};
 ghost use Rattle.serde_json.specs.Data.{Data};
 ghost use Rattle.serde_json.specs.View.{view};
 ghost use Rattle.vk_trace.specs.Members.{array_members, first_member, no_member, word_and_members, each_member, list_of, empty_list, u64_value, u32_value};
-ghost use Rattle.vk_trace.specs.Gives.{Gives};
+ghost use Rattle.vk_trace.specs.Inner.Gives.{Gives};
 
 use crate::errors::ReadTraceError;
 use serde_json::Value;

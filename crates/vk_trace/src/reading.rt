@@ -2,7 +2,7 @@ ghost use Rattle.std.specs.Prelude.{◌≡◌, List, IfOk};
 ghost use Rattle.serde_json.specs.Read.{read};
 ghost use Rattle.serde_json.specs.View.{view};
 ghost use Rattle.vk_model.specs.declared.entry.Entry.{Entry};
-ghost use Rattle.vk_trace.specs.Gives.{Gives};
+ghost use Rattle.vk_trace.specs.Inner.Gives.{Gives};
 ghost use Rattle.vk_trace.specs.Trace.{IsTrace};
 
 use crate::errors::ReadTraceError;

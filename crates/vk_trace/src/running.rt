@@ -1,7 +1,7 @@
 ghost use Rattle.std.specs.Prelude.{◌≡◌, ◌↔◌, ◌≤◌, ℕ, List, take, length, IfOk, IfErr, OnOk, IfSome, IsTrue, string_bytes, vec_len, false};
 ghost use Rattle.std.specs.Io.KnownBytes.{Appends, Keeps};
 ghost use Rattle.vk_model.specs.declared.entry.Entry.{Entry};
-ghost use Rattle.vk_model.specs.Order.{plain_order};
+ghost use Rattle.vk_model.specs.Trace.Order.{plain_order};
 ghost use Rattle.vk_validate.specs.Supported.{is_supported};
 ghost use Rattle.vk_trace.specs.declared.printing.Outcome.{Outcome};
 ghost use Rattle.vk_trace.specs.Trace.{IsTrace};

@@ -9,13 +9,13 @@ use Rattle.vk_model.specs.declared.command.Element.{Element}
 use Rattle.vk_model.specs.declared.command.Element.TheVariants as element
 use Rattle.vk_model.specs.declared.entry.Entry.{Entry}
 use Rattle.vk_model.specs.Basics.{holds}
-use Rattle.vk_model.specs.World.{World}
-use Rattle.vk_model.specs.Effect.{world}
-use Rattle.vk_model.specs.Point.{Past, Point, Action, Host, Wait, Run, Signal, host_of}
-use Rattle.vk_model.specs.Order.{signal_in}
-use Rattle.vk_model.specs.Node.{Node, Act, Hosts, Waits, Signals, Runs, Depends, Barrier, acts, nodes, with_acts, SetOf, AwaitOf}
-use Rattle.vk_model.specs.Edge.{signaled_by, is_host, is_signal}
-use Rattle.vk_model.specs.RulesOwners.{some_bad_pair, bad_pair, element_in, after_some, breaks_owner_pair}
+use Rattle.vk_model.specs.World.Bytes.{World}
+use Rattle.vk_model.specs.World.Effect.{world}
+use Rattle.vk_model.specs.Trace.Point.{Past, Point, Action, Host, Wait, Run, Signal, host_of}
+use Rattle.vk_model.specs.Trace.Order.{signal_in}
+use Rattle.vk_model.specs.Sync.Node.{Node, Act, Hosts, Waits, Signals, Runs, Depends, Barrier, acts, nodes, with_acts, SetOf, AwaitOf}
+use Rattle.vk_model.specs.Sync.Edge.{signaled_by, is_host, is_signal}
+use Rattle.vk_model.specs.Rules.Owners.{some_bad_pair, bad_pair, element_in, after_some, breaks_owner_pair}
 use Rattle.vk_validate.specs.Supported.{is_supported, is_supported_action, is_supported_entry, is_memory}
 use Rattle.vk_validate.proofs.Truths.{clash}
 use Rattle.vk_validate.proofs.Members.{none_in, contains-cons, contains-head, contains-tail, all_passes}

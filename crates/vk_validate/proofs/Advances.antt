@@ -4,12 +4,12 @@ use Rattle.std.specs.Prelude.{Contains, ◌↔◌}
 use Rattle.vk_model.specs.declared.command.Cmd.{Cmd}
 use Rattle.vk_model.specs.declared.entry.Entry.{Entry}
 use Rattle.vk_model.specs.declared.entry.SemaphoreValue.{SemaphoreValue}
-use Rattle.vk_model.specs.Point.{Past, Point}
-use Rattle.vk_model.specs.Node.{Node, Hosts, Runs, nodes}
-use Rattle.vk_model.specs.Edge.{edge, is_host, is_signal, is_command, by_semaphore, earlier, signaled_by, host_waits}
-use Rattle.vk_model.specs.Before.{IsNumbered}
-use Rattle.vk_validate.specs.Cleared.{IsCleared}
-use Rattle.vk_validate.specs.OrderState.{joined, Signaled, after_waits, awaited, after_wait}
+use Rattle.vk_model.specs.Trace.Point.{Past, Point}
+use Rattle.vk_model.specs.Sync.Node.{Node, Hosts, Runs, nodes}
+use Rattle.vk_model.specs.Sync.Edge.{edge, is_host, is_signal, is_command, by_semaphore, earlier, signaled_by, host_waits}
+use Rattle.vk_model.specs.Sync.Before.{IsNumbered}
+use Rattle.vk_validate.specs.Inner.Cleared.{IsCleared}
+use Rattle.vk_validate.specs.Inner.OrderState.{joined, Signaled, after_waits, awaited, after_wait}
 use Rattle.vk_validate.specs.declared.clocks.Clock.{Clock}
 use Rattle.vk_validate.specs.declared.clocks.Order.{Order}
 use Rattle.vk_validate.proofs.Acts.{is_supported_act}

@@ -2,12 +2,12 @@
 use Rattle.std.proofs.Common.{◌≡◌, ◌<◌, List, ◌∷◌, length, Bool, true, false, ◌&&◌, ap, sym, ◌∙◌, subst, arith, inl, inr, ◌⊎◌}
 use Rattle.std.specs.Prelude.{Contains}
 use Rattle.vk_model.specs.Basics.{has_some}
-use Rattle.vk_model.specs.Ownership.{dependency_of}
-use Rattle.vk_model.specs.Node.{Node, Act, Signals, Depends}
-use Rattle.vk_model.specs.Edge.{edge}
-use Rattle.vk_model.specs.Before.{IsNumbered}
-use Rattle.vk_model.specs.Seen.{Read, Write, command_mask, host_mask}
-use Rattle.vk_validate.specs.OrderState.{on_transfers, on_host}
+use Rattle.vk_model.specs.World.Ownership.{dependency_of}
+use Rattle.vk_model.specs.Sync.Node.{Node, Act, Signals, Depends}
+use Rattle.vk_model.specs.Sync.Edge.{edge}
+use Rattle.vk_model.specs.Sync.Before.{IsNumbered}
+use Rattle.vk_model.specs.Sync.Seen.{Read, Write, command_mask, host_mask}
+use Rattle.vk_validate.specs.Inner.OrderState.{on_transfers, on_host}
 use Rattle.vk_validate.proofs.Members.{contains-cons, contains-tail}
 use Rattle.vk_validate.proofs.Growth.{number_below, edge-older}
 use Rattle.vk_validate.proofs.Paths.{edge_forward, in_rest}

@@ -6,12 +6,12 @@ use Rattle.std.proofs.lemmas.Bool.{eqb-true, eq-eqb, or_cases, or_right}
 use Rattle.vk_model.specs.declared.entry.Entry.{Entry}
 use Rattle.vk_model.specs.declared.entry.Entry.TheVariants as entry
 use Rattle.vk_model.specs.Basics.{holds}
-use Rattle.vk_model.specs.Point.{Past, Action, Host, Wait, Run, Signal, host_of, entries}
-use Rattle.vk_model.specs.Objects.{made, made_by, initial, semaphore_in}
-use Rattle.vk_model.specs.Order.{value_for}
-use Rattle.vk_model.specs.Node.{Node, Act, Hosts, Waits, Signals, Runs, Depends, acts, nodes, with_acts}
-use Rattle.vk_model.specs.Edge.{signaled_by, values_to, initial_by, is_enough, is_host}
-use Rattle.vk_validate.specs.Cleared.{IsCleared}
+use Rattle.vk_model.specs.Trace.Point.{Past, Action, Host, Wait, Run, Signal, host_of, entries}
+use Rattle.vk_model.specs.Trace.Objects.{made, made_by, initial, semaphore_in}
+use Rattle.vk_model.specs.Trace.Order.{value_for}
+use Rattle.vk_model.specs.Sync.Node.{Node, Act, Hosts, Waits, Signals, Runs, Depends, acts, nodes, with_acts}
+use Rattle.vk_model.specs.Sync.Edge.{signaled_by, values_to, initial_by, is_enough, is_host}
+use Rattle.vk_validate.specs.Inner.Cleared.{IsCleared}
 use Rattle.vk_validate.specs.Supported.{is_supported_action}
 use Rattle.vk_validate.proofs.Members.{none_in, contains-cons, contains-head, contains-tail, all_passes, some_member, member_passes}
 use Rattle.vk_validate.proofs.Acts.{with_member, with_keeps, host_acts, batch_acts}

@@ -9,14 +9,14 @@ use Rattle.vk_model.specs.declared.command.Element.{Element}
 use Rattle.vk_model.specs.declared.command.Element.TheVariants as element
 use Rattle.vk_model.specs.declared.entry.SemaphoreSubmit.{SemaphoreSubmit}
 use Rattle.vk_model.specs.Basics.{holds, has_some}
-use Rattle.vk_model.specs.Point.{Point}
-use Rattle.vk_model.specs.Ownership.{dependency_of}
-use Rattle.vk_model.specs.Node.{Node, Act, Hosts, Waits, Signals, Runs, Depends, Barrier, SetOf, AwaitOf, with_acts, same_place}
-use Rattle.vk_model.specs.Edge.{edge, meet, is_host, is_signal, is_command, is_element, by_stages, by_signal, transfer_stage, host_stage, siblings, first_scope, second_scope}
-use Rattle.vk_model.specs.Before.{IsNumbered}
-use Rattle.vk_model.specs.Seen.{Write, command_mask}
+use Rattle.vk_model.specs.Trace.Point.{Point}
+use Rattle.vk_model.specs.World.Ownership.{dependency_of}
+use Rattle.vk_model.specs.Sync.Node.{Node, Act, Hosts, Waits, Signals, Runs, Depends, Barrier, SetOf, AwaitOf, with_acts, same_place}
+use Rattle.vk_model.specs.Sync.Edge.{edge, meet, is_host, is_signal, is_command, is_element, by_stages, by_signal, transfer_stage, host_stage, siblings, first_scope, second_scope}
+use Rattle.vk_model.specs.Sync.Before.{IsNumbered}
+use Rattle.vk_model.specs.Sync.Seen.{Write, command_mask}
 use Rattle.vk_validate.specs.Supported.{is_memory}
-use Rattle.vk_validate.specs.OrderState.{on_transfers, on_host, counted, available_at, with_dependency, after_elements, signal_at, joined}
+use Rattle.vk_validate.specs.Inner.OrderState.{on_transfers, on_host, counted, available_at, with_dependency, after_elements, signal_at, joined}
 use Rattle.vk_validate.specs.declared.clocks.Clock.{Clock}
 use Rattle.vk_validate.specs.declared.clocks.Order.{Order}
 use Rattle.vk_validate.proofs.Acts.{is_supported_act}

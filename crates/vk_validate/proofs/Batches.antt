@@ -6,11 +6,11 @@ use Rattle.std.proofs.lemmas.List.Sums.{fold-append}
 use Rattle.vk_model.specs.declared.entry.Batch.{Batch}
 use Rattle.vk_model.specs.declared.entry.Entry.{Entry}
 use Rattle.vk_model.specs.declared.entry.Entry.TheVariants as entry
-use Rattle.vk_model.specs.Point.{Past, Action, Wait, Run, Signal}
-use Rattle.vk_model.specs.Order.{SubmittedBatch, actions, started, submitted_batch, batches_from, batches_of, plain_from, plain_order, host}
+use Rattle.vk_model.specs.Trace.Point.{Past, Action, Wait, Run, Signal}
+use Rattle.vk_model.specs.Trace.Order.{SubmittedBatch, actions, started, submitted_batch, batches_from, batches_of, plain_from, plain_order, host}
 use Rattle.vk_validate.specs.declared.steps.Step.{Step}
-use Rattle.vk_validate.specs.PointViews.{past_of, point_of, add}
-use Rattle.vk_validate.specs.Laid.{batch_at, laid_batch, laid_batches, laid_submit, laid_entries}
+use Rattle.vk_validate.specs.Inner.PointViews.{past_of, point_of, add}
+use Rattle.vk_validate.specs.Inner.Laid.{batch_at, laid_batch, laid_batches, laid_submit, laid_entries}
 
 pub past_of-push : (ps : List Step) (p : Step) → past_of (ps ++ p ∷ []) ≡ point_of p ∷ past_of ps
 past_of-push ps p = fold-append add [] ps (p ∷ [])

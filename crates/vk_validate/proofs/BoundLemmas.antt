@@ -10,7 +10,7 @@ use Rattle.std.specs.declared.ops.Bound.TheVariants.{Included, Unbounded}
 use Rattle.std.proofs.lemmas.Bool.{cases_lt, cases_order}
 use Rattle.std.proofs.lemmas.Map.Keys.{ge_from_not_lt, le_from_not_gt}
 use Rattle.std.proofs.lemmas.Option.{none-some}
-use Rattle.vk_validate.specs.Writers.{Bounds, IsFrom, IsLastWriter, Keeps, WasLast}
+use Rattle.vk_validate.specs.Inner.Writers.{Bounds, IsFrom, IsLastWriter, Keeps, WasLast}
 use Rattle.vk_validate.specs.declared.writers.LastWriters.{LastWriters}
 
 -- what is not there is none

@@ -9,11 +9,11 @@ use Rattle.vk_model.specs.declared.command.Cmd.{Cmd}
 use Rattle.vk_model.specs.declared.entry.Entry.{Entry}
 use Rattle.vk_model.specs.declared.entry.SemaphoreSubmit.{SemaphoreSubmit}
 use Rattle.vk_model.specs.Basics.{holds, has_some, has_bits}
-use Rattle.vk_model.specs.Point.{Point}
-use Rattle.vk_model.specs.Ownership.{dependency_of}
-use Rattle.vk_model.specs.Node.{Node, Act, Hosts, Waits, Signals, Runs, Depends, Barrier, SetOf, AwaitOf, same_place}
-use Rattle.vk_model.specs.Edge.{edge, meet, is_host, is_signal, is_command, is_element, signals_all, waits_for_all, same_queue, siblings, scopes_meet, first_scope, second_scope, by_host, by_stages, by_signal, by_all_commands, pairs, by_semaphore, earlier, transfer_stage, host_stage, all_commands}
-use Rattle.vk_validate.specs.OrderState.{on_transfers, on_host}
+use Rattle.vk_model.specs.Trace.Point.{Point}
+use Rattle.vk_model.specs.World.Ownership.{dependency_of}
+use Rattle.vk_model.specs.Sync.Node.{Node, Act, Hosts, Waits, Signals, Runs, Depends, Barrier, SetOf, AwaitOf, same_place}
+use Rattle.vk_model.specs.Sync.Edge.{edge, meet, is_host, is_signal, is_command, is_element, signals_all, waits_for_all, same_queue, siblings, scopes_meet, first_scope, second_scope, by_host, by_stages, by_signal, by_all_commands, pairs, by_semaphore, earlier, transfer_stage, host_stage, all_commands}
+use Rattle.vk_validate.specs.Inner.OrderState.{on_transfers, on_host}
 use Rattle.vk_validate.proofs.Acts.{is_supported_act}
 use Rattle.vk_validate.proofs.Truths.{no, clash, second, six}
 use Rattle.vk_validate.proofs.Available.{leads_to_transfers, leads_to_host}

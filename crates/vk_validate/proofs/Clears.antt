@@ -3,9 +3,9 @@ use Rattle.std.proofs.Common.{◌≡◌, ◌≤◌, ◌<◌, ◌+◌, ℕ, List,
 use Rattle.std.specs.List.{fold, find}
 use Rattle.std.proofs.lemmas.List.{drop_all}
 use Rattle.std.proofs.lemmas.Grind.{common_steps}
-use Rattle.vk_model.specs.Point as spec
+use Rattle.vk_model.specs.Trace.Point as spec
 use Rattle.vk_validate.specs.declared.steps.Step.{Step}
-use Rattle.vk_validate.specs.PointViews.{past, add, Walk}
+use Rattle.vk_validate.specs.Inner.PointViews.{past, add, Walk}
 
 pub find-drop : {X : Type 0} (p : X → Bool) (xs : List X) (i : ℕ) (d : X) → i < length xs → find p (drop i xs) ≡ cond (p (get_or xs i d)) (Some (get_or xs i d)) (find p (drop (i + 1) xs))
 find-drop p xs i d lt = rw (add-one, drop-cons xs i d) refl

@@ -3,10 +3,10 @@ use Rattle.std.proofs.Common.{◌≡◌, ◌<◌, ◌≤◌, ℕ, List, [], ◌�
 use Rattle.std.specs.Prelude.{nat_lt, ◌↔◌}
 use Rattle.std.specs.List.{filter}
 use Rattle.std.proofs.lemmas.Bool.{lt-ltb, and_parts}
-use Rattle.vk_model.specs.Node.{Node, Act, Hosts, Waits, Signals, Runs, Depends}
-use Rattle.vk_model.specs.Edge.{edge, is_host, is_signal, is_command, by_host, by_stages, by_signal, by_all_commands, pairs, by_semaphore, earlier, signaled_by}
-use Rattle.vk_model.specs.Before.{IsNumbered}
-use Rattle.vk_validate.specs.OrderState.{counted}
+use Rattle.vk_model.specs.Sync.Node.{Node, Act, Hosts, Waits, Signals, Runs, Depends}
+use Rattle.vk_model.specs.Sync.Edge.{edge, is_host, is_signal, is_command, by_host, by_stages, by_signal, by_all_commands, pairs, by_semaphore, earlier, signaled_by}
+use Rattle.vk_model.specs.Sync.Before.{IsNumbered}
+use Rattle.vk_validate.specs.Inner.OrderState.{counted}
 use Rattle.vk_validate.specs.declared.clocks.Order.{Order}
 use Rattle.vk_validate.proofs.Members.{contains-head}
 use Rattle.vk_validate.proofs.Truths.{no, clash, second_of_six, third_of_six, last_of_six}

@@ -9,18 +9,18 @@ use Rattle.vk_model.specs.declared.command.Length.{Length}
 use Rattle.vk_model.specs.declared.command.Element.{Element}
 use Rattle.vk_model.specs.declared.command.Element.TheVariants as element
 use Rattle.vk_model.specs.Basics.{below, within, byte_of}
-use Rattle.vk_model.specs.World.{Byte, in_buffer, same_byte, World, Family, resource_at}
-use Rattle.vk_model.specs.ByteWrites.{Value, byte_write, fill_size, buffer_size}
-use Rattle.vk_model.specs.Ownership.{family_of}
-use Rattle.vk_model.specs.Objects.{is_exclusive}
-use Rattle.vk_model.specs.Effect.{world, after_action, after_command, after_element, value_after, used, is_other, set_owner, without}
-use Rattle.vk_model.specs.Point.{Past, Point, Action, Host, Run, host_of}
-use Rattle.vk_model.specs.RulesBytes.{breaks_read_undefined}
-use Rattle.vk_model.specs.Fault.{newest}
+use Rattle.vk_model.specs.World.Bytes.{Byte, in_buffer, same_byte, World, Family, resource_at}
+use Rattle.vk_model.specs.World.ByteWrites.{Value, byte_write, fill_size, buffer_size}
+use Rattle.vk_model.specs.World.Ownership.{family_of}
+use Rattle.vk_model.specs.Trace.Objects.{is_exclusive}
+use Rattle.vk_model.specs.World.Effect.{world, after_action, after_command, after_element, value_after, used, is_other, set_owner, without}
+use Rattle.vk_model.specs.Trace.Point.{Past, Point, Action, Host, Run, host_of}
+use Rattle.vk_model.specs.Rules.Hazards.{breaks_read_undefined}
+use Rattle.vk_model.specs.Rules.Fault.{newest}
 use Rattle.vk_validate.specs.Supported.{is_supported_action, is_memory}
-use Rattle.vk_validate.specs.Tests.{reads_unwritten}
-use Rattle.vk_validate.specs.Tabled.{writes_byte, last_writer}
-use Rattle.vk_validate.specs.Cleared.{IsCleared}
+use Rattle.vk_validate.specs.Inner.Tests.{reads_unwritten}
+use Rattle.vk_validate.specs.Inner.Tabled.{writes_byte, last_writer}
+use Rattle.vk_validate.specs.Inner.Cleared.{IsCleared}
 use Rattle.vk_validate.proofs.Forms.{entry_cases, command_cases, action_cases}
 use Rattle.vk_validate.proofs.Plain.{IsPlain, Placed}
 use Rattle.vk_validate.proofs.Reach.{fills_low, supported_of}

@@ -4,10 +4,10 @@ use Rattle.std.specs.List.{find}
 use Rattle.vk_model.specs.declared.rule.Rule.{Rule}
 use Rattle.vk_model.specs.declared.rule.Rule.TheVariants as rule
 use Rattle.vk_model.specs.Basics.{first_that}
-use Rattle.vk_model.specs.Point.{Past, Point}
-use Rattle.vk_model.specs.Rules.{breaks, rules, first_rule}
+use Rattle.vk_model.specs.Trace.Point.{Past, Point}
+use Rattle.vk_model.specs.Rules.Table.{breaks, rules, first_rule}
 use Rattle.vk_validate.specs.Supported.{is_supported, is_supported_action}
-use Rattle.vk_validate.specs.Cleared.{tests, first_test, IsCleared}
+use Rattle.vk_validate.specs.Inner.Cleared.{tests, first_test, IsCleared}
 use Rattle.vk_validate.proofs.Plain.{IsPlain}
 use Rattle.vk_validate.proofs.Unbroken as unbroken
 use Rattle.vk_validate.proofs.Judged.{usage_is, map_state_is, host_visible_is, no_pass_state, no_pass_write}

@@ -8,13 +8,13 @@ use Rattle.vk_model.specs.declared.entry.Entry.{Entry}
 use Rattle.vk_model.specs.declared.rule.At.{At}
 use Rattle.vk_model.specs.declared.rule.Rule.{Rule}
 use Rattle.vk_model.specs.declared.rule.Rule.TheVariants as rule
-use Rattle.vk_model.specs.Point.{Past, Point, at_of}
-use Rattle.vk_model.specs.Order.{plain_order}
-use Rattle.vk_model.specs.Rules.{first_rule, fault, first_fault}
+use Rattle.vk_model.specs.Trace.Point.{Past, Point, at_of}
+use Rattle.vk_model.specs.Trace.Order.{plain_order}
+use Rattle.vk_model.specs.Rules.Table.{first_rule, fault, first_fault}
 use Rattle.vk_validate.specs.declared.steps.Step.{Step}
 use Rattle.vk_validate.specs.Supported.{is_supported, is_supported_action}
-use Rattle.vk_validate.specs.PointViews.{past, past_of, point_of, action_of, add, Walk}
-use Rattle.vk_validate.specs.Cleared.{first_test, IsClear, IsCleared}
+use Rattle.vk_validate.specs.Inner.PointViews.{past, past_of, point_of, action_of, add, Walk}
+use Rattle.vk_validate.specs.Inner.Cleared.{first_test, IsClear, IsCleared}
 use Rattle.vk_validate.specs.Faults.{fault_by, reported_rule, reported_fault, tested_rule, tested_fault}
 use Rattle.vk_validate.specs.Acceptable.{IsAcceptable}
 use Rattle.vk_validate.proofs.Exact.{first_test_is}

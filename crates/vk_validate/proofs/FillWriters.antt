@@ -7,16 +7,16 @@ use Rattle.vk_model.specs.declared.command.Cmd.TheVariants as cmd
 use Rattle.vk_model.specs.declared.command.Element.{Element}
 use Rattle.vk_model.specs.declared.command.Length.{Length}
 use Rattle.vk_model.specs.Basics.{below, within}
-use Rattle.vk_model.specs.World.{Byte, in_buffer, same_byte}
-use Rattle.vk_model.specs.ByteWrites.{buffer_size, fill_size}
-use Rattle.vk_model.specs.Point.{Past, Point, Action, Host, Wait, Run, Signal}
-use Rattle.vk_model.specs.Fault.{Comes, newest, older}
-use Rattle.vk_model.specs.Node.{Node, Act, Hosts, Waits, Signals, Runs, Depends, Barrier, nodes}
-use Rattle.vk_model.specs.Edge.{is_command}
-use Rattle.vk_model.specs.Access.{writes, is_in, bytes_of, writes_of}
-use Rattle.vk_validate.specs.Cleared.{IsCleared}
+use Rattle.vk_model.specs.World.Bytes.{Byte, in_buffer, same_byte}
+use Rattle.vk_model.specs.World.ByteWrites.{buffer_size, fill_size}
+use Rattle.vk_model.specs.Trace.Point.{Past, Point, Action, Host, Wait, Run, Signal}
+use Rattle.vk_model.specs.Rules.Fault.{Comes, newest, older}
+use Rattle.vk_model.specs.Sync.Node.{Node, Act, Hosts, Waits, Signals, Runs, Depends, Barrier, nodes}
+use Rattle.vk_model.specs.Sync.Edge.{is_command}
+use Rattle.vk_model.specs.Sync.Access.{writes, is_in, bytes_of, writes_of}
+use Rattle.vk_validate.specs.Inner.Cleared.{IsCleared}
 use Rattle.vk_validate.specs.Supported.{is_supported, is_supported_action}
-use Rattle.vk_validate.specs.Tabled.{writes_byte, last_writer}
+use Rattle.vk_validate.specs.Inner.Tabled.{writes_byte, last_writer}
 use Rattle.vk_validate.proofs.Members.{none_in, contains-cons, any_map}
 use Rattle.vk_validate.proofs.Truths.{no}
 use Rattle.vk_validate.proofs.Forms.{command_cases, action_cases}

@@ -6,9 +6,9 @@ use Rattle.std.proofs.lemmas.Bool.Decides.{nat_tests}
 use Rattle.vk_model.specs.declared.command.Cmd.TheVariants as cmd
 use Rattle.vk_model.specs.declared.command.Length.{Length}
 use Rattle.vk_model.specs.declared.command.Length.TheVariants as length_of
-use Rattle.vk_model.specs.Point.{Past}
-use Rattle.vk_model.specs.ByteWrites.{buffer_size}
-use Rattle.vk_model.specs.RulesRanges.{command_past, ends_past}
+use Rattle.vk_model.specs.Trace.Point.{Past}
+use Rattle.vk_model.specs.World.ByteWrites.{buffer_size}
+use Rattle.vk_model.specs.Rules.Ranges.{command_past, ends_past}
 
 whole_past : (size o : ℕ) → (nat_lt size (o + (size - o) / 4 * 4) || nat_le size o) ≡ nat_le size o
 whole_past size o = let le : (size - o) / 4 * 4 ≤ size - o = div-mul-le_self (size - o) 4 in grind (arith, nat_tests)

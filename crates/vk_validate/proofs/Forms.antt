@@ -14,7 +14,7 @@ use Rattle.vk_model.specs.declared.entry.SemaphoreValue.{SemaphoreValue}
 use Rattle.vk_model.specs.declared.resource.BufferInfo.{BufferInfo}
 use Rattle.vk_model.specs.declared.resource.Place.{Place}
 use Rattle.vk_model.specs.declared.resource.Place.TheVariants as place
-use Rattle.vk_model.specs.Point.{Action, Host, Wait, Run, Signal}
+use Rattle.vk_model.specs.Trace.Point.{Action, Host, Wait, Run, Signal}
 use Rattle.vk_validate.specs.Supported.{is_supported_action, is_supported_entry, is_supported_place, is_supported_command, is_memory}
 
 module _ (P : Entry → Type 0)

@@ -2,10 +2,10 @@
 use Rattle.std.proofs.Common.{◌≡◌, ◌<◌, List, [], ◌∷◌, length, false, refl, ap, sym, ◌∙◌, arith, inl, inr}
 use Rattle.std.specs.Prelude.{nat_lt, Contains}
 use Rattle.std.proofs.lemmas.Bool.{le-ltb}
-use Rattle.vk_model.specs.Point.{Past, Point}
-use Rattle.vk_model.specs.Node.{Node, Act, nodes, with_acts, acts}
-use Rattle.vk_model.specs.Edge.{edge}
-use Rattle.vk_model.specs.Before.{IsNumbered}
+use Rattle.vk_model.specs.Trace.Point.{Past, Point}
+use Rattle.vk_model.specs.Sync.Node.{Node, Act, nodes, with_acts, acts}
+use Rattle.vk_model.specs.Sync.Edge.{edge}
+use Rattle.vk_model.specs.Sync.Before.{IsNumbered}
 use Rattle.vk_validate.proofs.Members.{none_in, contains-cons}
 
 -- ---- numbers of nodes

@@ -9,15 +9,15 @@ use Rattle.vk_model.specs.declared.command.Length.{Length}
 use Rattle.vk_model.specs.declared.command.Element.{Element}
 use Rattle.vk_model.specs.declared.command.Element.TheVariants as element
 use Rattle.vk_model.specs.declared.entry.Entry.{Entry}
-use Rattle.vk_model.specs.World.{Byte, in_buffer}
+use Rattle.vk_model.specs.World.Bytes.{Byte, in_buffer}
 use Rattle.vk_model.specs.Basics.{below, byte_of}
-use Rattle.vk_model.specs.ByteWrites.{ByteWrite, byte_writes, Value, byte_write, fill_size, buffer_size}
-use Rattle.vk_model.specs.Point.{Past, Point, Action, Host, Run, Signal, host_of}
-use Rattle.vk_model.specs.Node.{Node, Act, Hosts, Waits, Signals, Runs, Depends, Barrier, acts, nodes, with_acts, SetOf, AwaitOf}
-use Rattle.vk_model.specs.Edge.{is_host, is_command}
-use Rattle.vk_model.specs.Before.{before}
-use Rattle.vk_model.specs.Access.{hazard, war, share, reads, writes, precedes, host_writes, writes_of, reads_of, origins, targets, bytes_of}
-use Rattle.vk_model.specs.RulesBytes.{breaks_hazard_war}
+use Rattle.vk_model.specs.World.ByteWrites.{ByteWrite, byte_writes, Value, byte_write, fill_size, buffer_size}
+use Rattle.vk_model.specs.Trace.Point.{Past, Point, Action, Host, Run, Signal, host_of}
+use Rattle.vk_model.specs.Sync.Node.{Node, Act, Hosts, Waits, Signals, Runs, Depends, Barrier, acts, nodes, with_acts, SetOf, AwaitOf}
+use Rattle.vk_model.specs.Sync.Edge.{is_host, is_command}
+use Rattle.vk_model.specs.Sync.Before.{before}
+use Rattle.vk_model.specs.Sync.Access.{hazard, war, share, reads, writes, precedes, host_writes, writes_of, reads_of, origins, targets, bytes_of}
+use Rattle.vk_model.specs.Rules.Hazards.{breaks_hazard_war}
 use Rattle.vk_validate.specs.Supported.{is_supported, is_supported_action, is_supported_entry}
 use Rattle.vk_validate.proofs.Members.{none_in, contains-cons, contains-head, contains-tail, all_passes, none_passes_any}
 use Rattle.vk_validate.proofs.Forms.{entry_cases, command_cases, action_cases}

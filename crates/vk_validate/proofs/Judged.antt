@@ -8,17 +8,17 @@ use Rattle.std.proofs.lemmas.Bool.{and_parts}
 use Rattle.std.proofs.Math.Bool.{or-false}
 use Rattle.vk_model.specs.declared.entry.Entry.{Entry}
 use Rattle.vk_model.specs.Basics.{holds, has_bits}
-use Rattle.vk_model.specs.World.{resource_at}
-use Rattle.vk_model.specs.Node.{acts}
-use Rattle.vk_model.specs.Access.{writes_of}
-use Rattle.vk_model.specs.Point.{Past, Point, Action, Host, Run, entries}
-use Rattle.vk_model.specs.Objects.{made, made_by, live, buffer, buffer_in, resource_in, type_at, is_of_type, defrag_in}
-use Rattle.vk_model.specs.RulesSizes.{lacks, layout_lacks, breaks_usage}
-use Rattle.vk_model.specs.RulesMapping.{mapping, maps, unmaps, count_for, is_mapped, breaks_map_state, breaks_host_visible}
-use Rattle.vk_model.specs.RulesPasses.{some_pass, in_pass, breaks_pass_state, breaks_pass_write}
+use Rattle.vk_model.specs.World.Bytes.{resource_at}
+use Rattle.vk_model.specs.Sync.Node.{acts}
+use Rattle.vk_model.specs.Sync.Access.{writes_of}
+use Rattle.vk_model.specs.Trace.Point.{Past, Point, Action, Host, Run, entries}
+use Rattle.vk_model.specs.Trace.Objects.{made, made_by, live, buffer, buffer_in, resource_in, type_at, is_of_type, defrag_in}
+use Rattle.vk_model.specs.Rules.Sizes.{lacks, layout_lacks, breaks_usage}
+use Rattle.vk_model.specs.Rules.Mapping.{mapping, maps, unmaps, count_for, is_mapped, breaks_map_state, breaks_host_visible}
+use Rattle.vk_model.specs.Rules.Passes.{some_pass, in_pass, breaks_pass_state, breaks_pass_write}
 use Rattle.vk_validate.specs.Supported.{is_supported, is_supported_action, is_supported_entry}
-use Rattle.vk_validate.specs.Tests.{is_on_type_0, lacks_usage, reads_unmapped, maps_local}
-use Rattle.vk_validate.specs.Tabled.{was_mapped}
+use Rattle.vk_validate.specs.Inner.Tests.{is_on_type_0, lacks_usage, reads_unmapped, maps_local}
+use Rattle.vk_validate.specs.Inner.Tabled.{was_mapped}
 use Rattle.vk_validate.proofs.Members.{none_passes_any}
 use Rattle.vk_validate.proofs.Truths.{or-false-false}
 use Rattle.vk_validate.proofs.Barriers.{memory_any}

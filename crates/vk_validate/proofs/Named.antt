@@ -8,11 +8,11 @@ use Rattle.vk_model.specs.declared.command.Element.TheVariants as element
 use Rattle.vk_model.specs.declared.entry.Entry.{Entry}
 use Rattle.vk_model.specs.declared.entry.SemaphoreValue.{SemaphoreValue}
 use Rattle.vk_model.specs.Basics.{holds}
-use Rattle.vk_model.specs.Point.{Past, Point, Action, Host, Run, host_of}
-use Rattle.vk_model.specs.Objects.{made, live, buffer_in, semaphore_in, initial}
-use Rattle.vk_model.specs.RulesIds.{asked_by_element, is_semaphore, is_dead, breaks_live_id, until}
+use Rattle.vk_model.specs.Trace.Point.{Past, Point, Action, Host, Run, host_of}
+use Rattle.vk_model.specs.Trace.Objects.{made, live, buffer_in, semaphore_in, initial}
+use Rattle.vk_model.specs.Rules.Ids.{asked_by_element, is_semaphore, is_dead, breaks_live_id, until}
 use Rattle.vk_validate.specs.Supported.{is_supported, is_supported_action, is_memory}
-use Rattle.vk_validate.specs.Tests.{names_dead}
+use Rattle.vk_validate.specs.Inner.Tests.{names_dead}
 use Rattle.vk_validate.proofs.Truths.{or-false-false}
 use Rattle.vk_validate.proofs.Forms.{entry_cases, command_cases, action_cases}
 use Rattle.vk_validate.proofs.Pasts.{supported-cons, live_made}

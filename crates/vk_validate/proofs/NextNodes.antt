@@ -5,9 +5,9 @@ use Rattle.std.proofs.lemmas.Bool.{lt-leb, le-leb}
 use Rattle.std.proofs.lemmas.List.{reverse-reverse}
 use Rattle.std.proofs.lemmas.Grind.{reverse_onto}
 use Rattle.std.proofs.lemmas.List.Elements.{filter-append}
-use Rattle.vk_model.specs.Point.{Past, Point}
-use Rattle.vk_model.specs.Node.{Node, Act, acts, nodes, with_acts, next_nodes}
-use Rattle.vk_model.specs.Before.{IsNumbered}
+use Rattle.vk_model.specs.Trace.Point.{Past, Point}
+use Rattle.vk_model.specs.Sync.Node.{Node, Act, acts, nodes, with_acts, next_nodes}
+use Rattle.vk_model.specs.Sync.Before.{IsNumbered}
 use Rattle.vk_validate.proofs.Growth.{numbered}
 
 -- acts as nodes of a point, from number k on

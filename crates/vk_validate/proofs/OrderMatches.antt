@@ -7,13 +7,13 @@ use Rattle.vk_model.specs.declared.command.Element.{Element}
 use Rattle.vk_model.specs.declared.command.Element.TheVariants as element
 use Rattle.vk_model.specs.declared.entry.SemaphoreValue.{SemaphoreValue}
 use Rattle.vk_model.specs.Basics.{holds, has_some}
-use Rattle.vk_model.specs.Objects.{initial}
-use Rattle.vk_model.specs.Point.{Past, Point, Run}
-use Rattle.vk_model.specs.Node.{Node, Act, Runs, acts, nodes, with_acts}
-use Rattle.vk_model.specs.Edge.{is_command, signaled_by}
-use Rattle.vk_model.specs.Before.{IsNumbered}
-use Rattle.vk_model.specs.Seen.{Read, Write, command_mask, host_mask}
-use Rattle.vk_validate.specs.OrderState.{OrderState, on_transfers, on_host, counted, available_at, with_dependency, after_elements, Signaled, least_signal, after_waits, awaited, after_wait}
+use Rattle.vk_model.specs.Trace.Objects.{initial}
+use Rattle.vk_model.specs.Trace.Point.{Past, Point, Run}
+use Rattle.vk_model.specs.Sync.Node.{Node, Act, Runs, acts, nodes, with_acts}
+use Rattle.vk_model.specs.Sync.Edge.{is_command, signaled_by}
+use Rattle.vk_model.specs.Sync.Before.{IsNumbered}
+use Rattle.vk_model.specs.Sync.Seen.{Read, Write, command_mask, host_mask}
+use Rattle.vk_validate.specs.Inner.OrderState.{OrderState, on_transfers, on_host, counted, available_at, with_dependency, after_elements, Signaled, least_signal, after_waits, awaited, after_wait}
 use Rattle.vk_validate.specs.declared.clocks.Clock.{Clock}
 use Rattle.vk_validate.specs.declared.clocks.Order.{Order}
 use Rattle.vk_validate.proofs.Members.{contains-head, contains-tail}

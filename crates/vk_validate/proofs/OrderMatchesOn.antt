@@ -11,13 +11,13 @@ use Rattle.vk_model.specs.declared.entry.Entry.{Entry}
 use Rattle.vk_model.specs.declared.entry.Entry.TheVariants as entry
 use Rattle.vk_model.specs.declared.entry.SemaphoreSubmit.{SemaphoreSubmit}
 use Rattle.vk_model.specs.declared.entry.SemaphoreValue.{SemaphoreValue}
-use Rattle.vk_model.specs.Point.{Past, Point, Action, Host, Run, Signal, host_of}
-use Rattle.vk_model.specs.Node.{Node, Act, Hosts, Signals, Runs, Depends, Barrier, acts, nodes}
-use Rattle.vk_model.specs.Edge.{is_host, signaled_by, host_waits}
-use Rattle.vk_model.specs.Before.{IsNumbered}
-use Rattle.vk_validate.specs.Cleared.{IsCleared}
+use Rattle.vk_model.specs.Trace.Point.{Past, Point, Action, Host, Run, Signal, host_of}
+use Rattle.vk_model.specs.Sync.Node.{Node, Act, Hosts, Signals, Runs, Depends, Barrier, acts, nodes}
+use Rattle.vk_model.specs.Sync.Edge.{is_host, signaled_by, host_waits}
+use Rattle.vk_model.specs.Sync.Before.{IsNumbered}
+use Rattle.vk_validate.specs.Inner.Cleared.{IsCleared}
 use Rattle.vk_validate.specs.Supported.{is_supported_action, is_memory}
-use Rattle.vk_validate.specs.OrderState.{OrderState, order_state, after_action, on_transfers, available_at, with_dependency, after_elements, signal_at, joined, Signaled, after_waits, awaited, after_wait, after_signal}
+use Rattle.vk_validate.specs.Inner.OrderState.{OrderState, order_state, after_action, on_transfers, available_at, with_dependency, after_elements, signal_at, joined, Signaled, after_waits, awaited, after_wait, after_signal}
 use Rattle.vk_validate.specs.declared.clocks.Clock.{Clock}
 use Rattle.vk_validate.specs.declared.clocks.Order.{Order}
 use Rattle.vk_validate.proofs.Members.{none_in, contains-cons, contains-head, contains-tail}

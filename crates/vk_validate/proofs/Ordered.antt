@@ -9,11 +9,11 @@ use Rattle.vk_model.specs.declared.command.Element.{Element}
 use Rattle.vk_model.specs.declared.entry.Entry.{Entry}
 use Rattle.vk_model.specs.declared.entry.Entry.TheVariants as entry
 use Rattle.vk_model.specs.Basics.{holds}
-use Rattle.vk_model.specs.Point.{Past, Point, Action, Host, Wait, Run, Signal, host_of}
-use Rattle.vk_model.specs.Node.{Node, Act, Hosts, Waits, Signals, Runs, Depends, Barrier, acts, nodes, with_acts}
-use Rattle.vk_model.specs.Edge.{edge, signaled_by, is_host, is_signal, is_submit, by_host, by_stages, by_signal, by_all_commands, pairs, by_semaphore, earlier}
-use Rattle.vk_model.specs.Before.{before, Path, direct}
-use Rattle.vk_model.specs.RulesSync.{same_semaphore, breaks_signal_order}
+use Rattle.vk_model.specs.Trace.Point.{Past, Point, Action, Host, Wait, Run, Signal, host_of}
+use Rattle.vk_model.specs.Sync.Node.{Node, Act, Hosts, Waits, Signals, Runs, Depends, Barrier, acts, nodes, with_acts}
+use Rattle.vk_model.specs.Sync.Edge.{edge, signaled_by, is_host, is_signal, is_submit, by_host, by_stages, by_signal, by_all_commands, pairs, by_semaphore, earlier}
+use Rattle.vk_model.specs.Sync.Before.{before, Path, direct}
+use Rattle.vk_model.specs.Rules.Synchronization.{same_semaphore, breaks_signal_order}
 use Rattle.vk_validate.specs.Supported.{is_supported, is_supported_action}
 use Rattle.vk_validate.proofs.Members.{contains-cons, contains-head, all_passes, none_passes_any}
 use Rattle.vk_validate.proofs.Truths.{first_of_six, third_of_six}

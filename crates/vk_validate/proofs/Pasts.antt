@@ -7,10 +7,10 @@ use Rattle.vk_model.specs.declared.entry.Entry.{Entry}
 use Rattle.vk_model.specs.declared.resource.BufferInfo.{BufferInfo}
 use Rattle.vk_model.specs.declared.resource.Place.TheVariants as place
 use Rattle.vk_model.specs.Basics.{holds, among}
-use Rattle.vk_model.specs.Point.{Past, Point, Action, Host, Wait, Run, Signal, entries, host_of}
-use Rattle.vk_model.specs.Objects.{made, made_by, ended, ended_by, live, buffer, buffer_in, resource, resource_in, Resource, of_buffer, memory_of, pool_of, bound_at, pool_at}
-use Rattle.vk_model.specs.RulesMapping.{mapping}
-use Rattle.vk_model.specs.RulesPasses.{moves_now}
+use Rattle.vk_model.specs.Trace.Point.{Past, Point, Action, Host, Wait, Run, Signal, entries, host_of}
+use Rattle.vk_model.specs.Trace.Objects.{made, made_by, ended, ended_by, live, buffer, buffer_in, resource, resource_in, Resource, of_buffer, memory_of, pool_of, bound_at, pool_at}
+use Rattle.vk_model.specs.Rules.Mapping.{mapping}
+use Rattle.vk_model.specs.Rules.Passes.{moves_now}
 use Rattle.vk_validate.specs.Supported.{is_supported, is_supported_action, is_supported_entry}
 use Rattle.vk_validate.proofs.Forms.{entry_cases}
 

@@ -3,9 +3,9 @@ use Rattle.std.proofs.Common.{◌≡◌, ◌<◌, ◌≤◌, List, [], ◌∷◌
 use Rattle.std.specs.Prelude.{nat_lt, Contains, if◌then◌else◌}
 use Rattle.std.specs.List.{list_any}
 use Rattle.std.proofs.lemmas.Bool.{le-ltb, ne_eqb, eqb-true, eq-eqb, ltb-true, lt-ltb, and_parts}
-use Rattle.vk_model.specs.Node.{Node, same_node}
-use Rattle.vk_model.specs.Edge.{edge}
-use Rattle.vk_model.specs.Before.{before, reached, Path, direct, longer, IsNumbered}
+use Rattle.vk_model.specs.Sync.Node.{Node, same_node}
+use Rattle.vk_model.specs.Sync.Edge.{edge}
+use Rattle.vk_model.specs.Sync.Before.{before, reached, Path, direct, longer, IsNumbered}
 use Rattle.vk_validate.proofs.Members.{none_in, contains-cons, contains-head, contains-tail, some_member, member_passes}
 use Rattle.vk_validate.proofs.Truths.{second}
 use Rattle.vk_validate.proofs.Growth.{number_below, edge-older}

@@ -8,11 +8,11 @@ use Rattle.vk_model.specs.declared.command.Cmd.{Cmd}
 use Rattle.vk_model.specs.declared.entry.Batch.{Batch}
 use Rattle.vk_model.specs.declared.entry.Entry.{Entry}
 use Rattle.vk_model.specs.declared.entry.Entry.TheVariants as entry
-use Rattle.vk_model.specs.Point.{Past, Point, Action, Host, Wait, Run, Signal}
-use Rattle.vk_model.specs.Fault.{Comes, newest, older}
-use Rattle.vk_model.specs.Order.{SubmittedBatch, actions, started, submitted_batch, batches_from, batches_of, plain_from, plain_order, host}
-use Rattle.vk_model.specs.Node.{Node, Act, acts, nodes, same_place}
-use Rattle.vk_model.specs.Edge.{is_element}
+use Rattle.vk_model.specs.Trace.Point.{Past, Point, Action, Host, Wait, Run, Signal}
+use Rattle.vk_model.specs.Rules.Fault.{Comes, newest, older}
+use Rattle.vk_model.specs.Trace.Order.{SubmittedBatch, actions, started, submitted_batch, batches_from, batches_of, plain_from, plain_order, host}
+use Rattle.vk_model.specs.Sync.Node.{Node, Act, acts, nodes, same_place}
+use Rattle.vk_model.specs.Sync.Edge.{is_element}
 use Rattle.vk_validate.proofs.Members.{none_in, contains-cons}
 use Rattle.vk_validate.proofs.Acts.{with_member}
 

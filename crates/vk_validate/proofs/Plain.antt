@@ -7,10 +7,10 @@ use Rattle.vk_model.specs.declared.entry.Batch.{Batch}
 use Rattle.vk_model.specs.declared.entry.Entry.{Entry}
 use Rattle.vk_model.specs.declared.entry.Entry.TheVariants as entry
 use Rattle.vk_model.specs.Basics.{holds}
-use Rattle.vk_model.specs.Point.{Past, Point, Action, Wait, Run, Signal, host_of, entries}
-use Rattle.vk_model.specs.Objects.{made, made_by}
-use Rattle.vk_model.specs.Order.{SubmittedBatch, actions, started, submitted_batch, batches_from, batches_of, plain_from, plain_order, host}
-use Rattle.vk_model.specs.RulesIds.{until}
+use Rattle.vk_model.specs.Trace.Point.{Past, Point, Action, Wait, Run, Signal, host_of, entries}
+use Rattle.vk_model.specs.Trace.Objects.{made, made_by}
+use Rattle.vk_model.specs.Trace.Order.{SubmittedBatch, actions, started, submitted_batch, batches_from, batches_of, plain_from, plain_order, host}
+use Rattle.vk_model.specs.Rules.Ids.{until}
 
 -- an entry is a submit on a queue
 abbrev pub IsSubmitOn : ℕ → Entry → Type 0

@@ -13,17 +13,17 @@ use Rattle.vk_model.specs.declared.entry.Entry.TheVariants as entry
 use Rattle.vk_model.specs.declared.rule.Rule.{Rule}
 use Rattle.vk_model.specs.declared.rule.Rule.TheVariants as rule
 use Rattle.vk_model.specs.Basics.{holds, within, round_up}
-use Rattle.vk_model.specs.Point.{Past, Point, Action, Run, host_of, command_of, entries}
-use Rattle.vk_model.specs.Objects.{made, made_by, buffer, buffer_in}
-use Rattle.vk_model.specs.ByteWrites.{buffer_size, fill_size}
-use Rattle.vk_model.specs.Rules.{rules}
-use Rattle.vk_model.specs.RulesIds.{breaks_new_id}
-use Rattle.vk_model.specs.RulesRanges.{breaks_range, host_past, command_past, ends_past}
-use Rattle.vk_model.specs.RulesSizes.{bad_memory_size, breaks_memory_size}
-use Rattle.vk_model.specs.Fault.{Comes, newest, older}
-use Rattle.vk_validate.specs.Cleared.{tests, first_test, IsClear, IsCleared}
+use Rattle.vk_model.specs.Trace.Point.{Past, Point, Action, Run, host_of, command_of, entries}
+use Rattle.vk_model.specs.Trace.Objects.{made, made_by, buffer, buffer_in}
+use Rattle.vk_model.specs.World.ByteWrites.{buffer_size, fill_size}
+use Rattle.vk_model.specs.Rules.Table.{rules}
+use Rattle.vk_model.specs.Rules.Ids.{breaks_new_id}
+use Rattle.vk_model.specs.Rules.Ranges.{breaks_range, host_past, command_past, ends_past}
+use Rattle.vk_model.specs.Rules.Sizes.{bad_memory_size, breaks_memory_size}
+use Rattle.vk_model.specs.Rules.Fault.{Comes, newest, older}
+use Rattle.vk_validate.specs.Inner.Cleared.{tests, first_test, IsClear, IsCleared}
 use Rattle.vk_validate.specs.Supported.{is_supported}
-use Rattle.vk_validate.specs.Tests.{names_dead}
+use Rattle.vk_validate.specs.Inner.Tests.{names_dead}
 use Rattle.vk_validate.proofs.Fills.{fill_range}
 
 -- ---- what no test finds

@@ -4,8 +4,8 @@ use Rattle.std.specs.Ordering.{nat_cmp}
 use Rattle.std.specs.BTreeMap.{get}
 use Rattle.std.proofs.lemmas.Bool.{cases_lt}
 use Rattle.vk_validate.specs.declared.writers.Sought.{Sought}
-use Rattle.vk_validate.specs.Writers.{Bounds, IsLastWriter}
-use Rattle.vk_validate.specs.Seeks.{is_sought}
+use Rattle.vk_validate.specs.Inner.Writers.{Bounds, IsLastWriter}
+use Rattle.vk_validate.specs.Inner.Seeks.{is_sought}
 use Rattle.vk_validate.proofs.BoundLemmas.{same_writer, writer_before}
 
 -- no byte from the start up to n has what is sought

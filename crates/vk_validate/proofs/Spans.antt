@@ -7,9 +7,9 @@ use Rattle.std.proofs.Math.Bool.{or-true, and-false}
 use Rattle.vk_model.specs.Basics.{below}
 use Rattle.vk_model.specs.declared.command.Cmd.{Cmd}
 use Rattle.vk_model.specs.declared.command.Cmd.TheVariants as cmd
-use Rattle.vk_model.specs.Point as spec
-use Rattle.vk_validate.specs.Tabled.{last_writer, fills_byte, writes_byte}
-use Rattle.vk_validate.specs.Seeks.{FoundIn}
+use Rattle.vk_model.specs.Trace.Point as spec
+use Rattle.vk_validate.specs.Inner.Tabled.{last_writer, fills_byte, writes_byte}
+use Rattle.vk_validate.specs.Inner.Seeks.{FoundIn}
 use Rattle.vk_validate.proofs.TableLemmas.{unwritten-next}
 
 -- ---- what a test finds

@@ -6,16 +6,16 @@ use Rattle.std.proofs.lemmas.List.{start_more}
 use Rattle.std.proofs.lemmas.Option.{slice_get_within, get_or_from_slice_get}
 use Rattle.std.proofs.lemmas.Bool.{lt-leb, le-leb, lt-ltb, le-ltb, eqb-true, eqb-false, cases_lt}
 use Rattle.std.proofs.Math.Bool.{and-false}
-use Rattle.vk_model.specs.Point as spec
-use Rattle.vk_model.specs.Objects.{initial}
-use Rattle.vk_model.specs.Order.{counter, signaled, signal_of}
+use Rattle.vk_model.specs.Trace.Point as spec
+use Rattle.vk_model.specs.Trace.Objects.{initial}
+use Rattle.vk_model.specs.Trace.Order.{counter, signaled, signal_of}
 use Rattle.vk_model.specs.Basics.{within}
-use Rattle.vk_model.specs.ByteWrites.{fill_size, buffer_size}
+use Rattle.vk_model.specs.World.ByteWrites.{fill_size, buffer_size}
 use Rattle.vk_validate.specs.declared.steps.Step.{Step}
-use Rattle.vk_validate.specs.PointViews.{past, past_of, point_of}
-use Rattle.vk_validate.specs.Tabled.{writes_byte, last_writer, WritersAre}
-use Rattle.vk_validate.specs.Writers.{WasLast, IsLastWriter, IsAssigned}
-use Rattle.vk_validate.specs.Fits.{IsFillOf}
+use Rattle.vk_validate.specs.Inner.PointViews.{past, past_of, point_of}
+use Rattle.vk_validate.specs.Inner.Tabled.{writes_byte, last_writer, WritersAre}
+use Rattle.vk_validate.specs.Inner.Writers.{WasLast, IsLastWriter, IsAssigned}
+use Rattle.vk_validate.specs.Inner.Fits.{IsFillOf}
 use Rattle.vk_validate.specs.declared.writers.LastWriters.{LastWriters}
 use Rattle.vk_validate.proofs.Batches.{past_of-push}
 

@@ -5,9 +5,9 @@ use Rattle.std.proofs.lemmas.Bool.{le-leb, lt-leb, lt-ltb, le-ltb, eqb-true, eqb
 use Rattle.vk_model.specs.Basics.{holds}
 use Rattle.vk_validate.specs.declared.clocks.Clock.{Clock}
 use Rattle.vk_validate.specs.declared.timelines.Timeline.{Timeline}
-use Rattle.vk_validate.specs.OrderState.{Signaled, least_signal}
-use Rattle.vk_validate.specs.Tabled.{IsLeast, TimelinesAre}
-use Rattle.vk_validate.specs.Signals.{IsSignaled, clock_of}
+use Rattle.vk_validate.specs.Inner.OrderState.{Signaled, least_signal}
+use Rattle.vk_validate.specs.Inner.Tabled.{IsLeast, TimelinesAre}
+use Rattle.vk_validate.specs.Inner.Signals.{IsSignaled, clock_of}
 
 -- the same of the clocks by value, in a timeline or where there is none
 IsLeastOf : (ℕ → Option Clock) → ℕ → Option Signaled → Type 0

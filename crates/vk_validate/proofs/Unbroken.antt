@@ -4,17 +4,17 @@ use Rattle.std.specs.List.{list_all}
 use Rattle.vk_model.specs.declared.command.Element.{Element}
 use Rattle.vk_model.specs.declared.command.Element.TheVariants as element
 use Rattle.vk_model.specs.Basics.{some_pair}
-use Rattle.vk_model.specs.Point.{Past, Point, Action, Host, Run}
-use Rattle.vk_model.specs.Effect.{world}
-use Rattle.vk_model.specs.RulesIds.{breaks_queue, breaks_queue_kind}
-use Rattle.vk_model.specs.RulesSizes.{breaks_pool_size}
-use Rattle.vk_model.specs.RulesBinding.{breaks_bind_range, breaks_bind_align, breaks_aliased}
-use Rattle.vk_model.specs.RulesRanges.{breaks_overlap, breaks_format, breaks_subresource, bad_element, transitions_meet}
-use Rattle.vk_model.specs.RulesLayouts.{breaks_layout, breaks_old_layout, bad_transition, bad_old_layout}
-use Rattle.vk_model.specs.RulesOwners.{breaks_owner_whole, is_partial_transfer}
-use Rattle.vk_model.specs.RulesSync.{breaks_event_state, breaks_event_dependency, breaks_wait_before_signal}
-use Rattle.vk_model.specs.RulesPasses.{breaks_pool_kind, breaks_pass_busy}
-use Rattle.vk_model.specs.RulesBytes.{breaks_in_use}
+use Rattle.vk_model.specs.Trace.Point.{Past, Point, Action, Host, Run}
+use Rattle.vk_model.specs.World.Effect.{world}
+use Rattle.vk_model.specs.Rules.Ids.{breaks_queue, breaks_queue_kind}
+use Rattle.vk_model.specs.Rules.Sizes.{breaks_pool_size}
+use Rattle.vk_model.specs.Rules.Binding.{breaks_bind_range, breaks_bind_align, breaks_aliased}
+use Rattle.vk_model.specs.Rules.Ranges.{breaks_overlap, breaks_format, breaks_subresource, bad_element, transitions_meet}
+use Rattle.vk_model.specs.Rules.Layouts.{breaks_layout, breaks_old_layout, bad_transition, bad_old_layout}
+use Rattle.vk_model.specs.Rules.Owners.{breaks_owner_whole, is_partial_transfer}
+use Rattle.vk_model.specs.Rules.Synchronization.{breaks_event_state, breaks_event_dependency, breaks_wait_before_signal}
+use Rattle.vk_model.specs.Rules.Passes.{breaks_pool_kind, breaks_pass_busy}
+use Rattle.vk_model.specs.Rules.Hazards.{breaks_in_use}
 use Rattle.vk_validate.specs.Supported.{is_supported_action, is_memory}
 use Rattle.vk_validate.proofs.Barriers.{memory_any}
 use Rattle.vk_validate.proofs.Forms.{entry_cases, command_cases, action_cases}

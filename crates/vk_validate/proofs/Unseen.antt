@@ -10,21 +10,21 @@ use Rattle.vk_model.specs.declared.command.Length.{Length}
 use Rattle.vk_model.specs.declared.entry.Entry.{Entry}
 use Rattle.vk_model.specs.declared.entry.Entry.TheVariants as entry
 use Rattle.vk_model.specs.Basics.{holds, below}
-use Rattle.vk_model.specs.World.{Byte, in_buffer, resource_at}
-use Rattle.vk_model.specs.ByteWrites.{buffer_size, fill_size}
-use Rattle.vk_model.specs.Point.{Past, Point, Action, Host, Run, Signal, host_of}
-use Rattle.vk_model.specs.Objects.{is_cached}
-use Rattle.vk_model.specs.Node.{Node, Hosts, Runs, acts, nodes}
-use Rattle.vk_model.specs.Edge.{edge, is_host, is_command, transfer_stage, second_scope}
-use Rattle.vk_model.specs.Ownership.{dependency_of}
-use Rattle.vk_model.specs.Seen.{Read, Write}
-use Rattle.vk_model.specs.Access.{raw, waw, reads, writes, is_seen, precedes, is_in, host_reads}
-use Rattle.vk_model.specs.RulesBytes.{breaks_hazard_raw, breaks_hazard_waw}
-use Rattle.vk_validate.specs.Cleared.{IsCleared}
+use Rattle.vk_model.specs.World.Bytes.{Byte, in_buffer, resource_at}
+use Rattle.vk_model.specs.World.ByteWrites.{buffer_size, fill_size}
+use Rattle.vk_model.specs.Trace.Point.{Past, Point, Action, Host, Run, Signal, host_of}
+use Rattle.vk_model.specs.Trace.Objects.{is_cached}
+use Rattle.vk_model.specs.Sync.Node.{Node, Hosts, Runs, acts, nodes}
+use Rattle.vk_model.specs.Sync.Edge.{edge, is_host, is_command, transfer_stage, second_scope}
+use Rattle.vk_model.specs.World.Ownership.{dependency_of}
+use Rattle.vk_model.specs.Sync.Seen.{Read, Write}
+use Rattle.vk_model.specs.Sync.Access.{raw, waw, reads, writes, is_seen, precedes, is_in, host_reads}
+use Rattle.vk_model.specs.Rules.Hazards.{breaks_hazard_raw, breaks_hazard_waw}
+use Rattle.vk_validate.specs.Inner.Cleared.{IsCleared}
 use Rattle.vk_validate.specs.Supported.{is_supported, is_supported_action}
-use Rattle.vk_validate.specs.OrderState.{order_state}
-use Rattle.vk_validate.specs.Tabled.{last_writer}
-use Rattle.vk_validate.specs.Tests.{reads_unseen, overwrites_unseen}
+use Rattle.vk_validate.specs.Inner.OrderState.{order_state}
+use Rattle.vk_validate.specs.Inner.Tabled.{last_writer}
+use Rattle.vk_validate.specs.Inner.Tests.{reads_unseen, overwrites_unseen}
 use Rattle.vk_validate.proofs.Members.{none_in, contains-cons, contains-head, contains-tail, all_passes, some_member, member_passes, any_map}
 use Rattle.vk_validate.proofs.Truths.{no, clash, bool_same}
 use Rattle.vk_validate.proofs.Forms.{entry_cases, command_cases, action_cases}

@@ -9,14 +9,14 @@ use Rattle.vk_model.specs.declared.command.Element.{Element}
 use Rattle.vk_model.specs.declared.command.Element.TheVariants as element
 use Rattle.vk_model.specs.declared.entry.Entry.{Entry}
 use Rattle.vk_model.specs.Basics.{holds, has_some}
-use Rattle.vk_model.specs.World.{Byte}
-use Rattle.vk_model.specs.Point.{Past, Point}
-use Rattle.vk_model.specs.Objects.{made, is_cached, resource_in, type_at}
-use Rattle.vk_model.specs.Ownership.{dependency_of}
-use Rattle.vk_model.specs.Node.{Node, Act, Hosts, Waits, Signals, Runs, Depends, Barrier, SetOf, AwaitOf, nodes, same_node}
-use Rattle.vk_model.specs.Edge.{edge, is_host, is_command, is_submit}
-use Rattle.vk_model.specs.Before.{before, Path, direct, longer, IsNumbered}
-use Rattle.vk_model.specs.Seen.{Access, Read, Write, seen, makes_writes_available, makes_writes_visible, available_by, visible_by, passes, invalidates, command_mask, host_mask, is_wait, to_host}
+use Rattle.vk_model.specs.World.Bytes.{Byte}
+use Rattle.vk_model.specs.Trace.Point.{Past, Point}
+use Rattle.vk_model.specs.Trace.Objects.{made, is_cached, resource_in, type_at}
+use Rattle.vk_model.specs.World.Ownership.{dependency_of}
+use Rattle.vk_model.specs.Sync.Node.{Node, Act, Hosts, Waits, Signals, Runs, Depends, Barrier, SetOf, AwaitOf, nodes, same_node}
+use Rattle.vk_model.specs.Sync.Edge.{edge, is_host, is_command, is_submit}
+use Rattle.vk_model.specs.Sync.Before.{before, Path, direct, longer, IsNumbered}
+use Rattle.vk_model.specs.Sync.Seen.{Access, Read, Write, seen, makes_writes_available, makes_writes_visible, available_by, visible_by, passes, invalidates, command_mask, host_mask, is_wait, to_host}
 use Rattle.vk_validate.specs.Supported.{is_supported, is_memory, is_supported_entry}
 use Rattle.vk_validate.proofs.Acts.{is_supported_act}
 use Rattle.vk_validate.proofs.Members.{some_member, member_passes}

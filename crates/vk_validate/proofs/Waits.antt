@@ -6,12 +6,12 @@ use Rattle.std.proofs.lemmas.Bool.{eqb-true, eq-eqb, ltb-true, lt-ltb, leb-true,
 use Rattle.vk_model.specs.declared.entry.Entry.{Entry}
 use Rattle.vk_model.specs.declared.entry.SemaphoreValue.{SemaphoreValue}
 use Rattle.vk_model.specs.Basics.{holds}
-use Rattle.vk_model.specs.Point.{Past, Point}
-use Rattle.vk_model.specs.Objects.{initial}
-use Rattle.vk_model.specs.Node.{Node, Hosts, nodes}
-use Rattle.vk_model.specs.Edge.{signaled_by, values_to, is_enough, is_least, by_semaphore, host_waits}
-use Rattle.vk_validate.specs.Cleared.{IsCleared}
-use Rattle.vk_validate.specs.OrderState.{Signaled, least_signal, after_wait, after_waits, joined}
+use Rattle.vk_model.specs.Trace.Point.{Past, Point}
+use Rattle.vk_model.specs.Trace.Objects.{initial}
+use Rattle.vk_model.specs.Sync.Node.{Node, Hosts, nodes}
+use Rattle.vk_model.specs.Sync.Edge.{signaled_by, values_to, is_enough, is_least, by_semaphore, host_waits}
+use Rattle.vk_validate.specs.Inner.Cleared.{IsCleared}
+use Rattle.vk_validate.specs.Inner.OrderState.{Signaled, least_signal, after_wait, after_waits, joined}
 use Rattle.vk_validate.specs.declared.clocks.Clock.{Clock}
 use Rattle.vk_validate.specs.declared.clocks.Order.{Order}
 use Rattle.vk_validate.proofs.Truths.{clash}

@@ -1,8 +1,8 @@
 -- What is accepted.
 use Rattle.std.specs.Prelude.{◌≡◌, List, true, None}
 use Rattle.vk_model.specs.declared.entry.Entry.{Entry}
-use Rattle.vk_model.specs.Order.{plain_order}
-use Rattle.vk_model.specs.Rules.{first_fault}
+use Rattle.vk_model.specs.Trace.Order.{plain_order}
+use Rattle.vk_model.specs.Rules.Table.{first_fault}
 use Rattle.vk_validate.specs.Supported.{is_supported}
 
 -- A trace of supported forms, of which no point breaks a rule.

@@ -3,10 +3,10 @@ use Rattle.std.specs.Prelude.{[], ◌∷◌, Option, Some, None, option_map, if�
 use Rattle.vk_model.specs.declared.rule.At.{At}
 use Rattle.vk_model.specs.declared.rule.Rule.{Rule}
 use Rattle.vk_model.specs.declared.rule.Rule.TheVariants as rule
-use Rattle.vk_model.specs.Point.{Past, Point, at_of}
-use Rattle.vk_model.specs.Rules.{first_rule}
+use Rattle.vk_model.specs.Trace.Point.{Past, Point, at_of}
+use Rattle.vk_model.specs.Rules.Table.{first_rule}
 use Rattle.vk_validate.specs.Supported.{is_supported_action}
-use Rattle.vk_validate.specs.Cleared.{first_test}
+use Rattle.vk_validate.specs.Inner.Cleared.{first_test}
 
 -- The first point of a past of which a rule is reported, with that rule.
 abbrev pub fault_by : (Past → Point → Option Rule) → Past → Option (At × Rule)

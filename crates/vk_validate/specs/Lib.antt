@@ -1,14 +1,5 @@
 pub mod Supported
-pub mod PointViews
-pub mod Laid
-pub mod OrderState
-pub mod Signals
-pub mod Tabled
-pub mod Fits
-pub mod Tests
-pub mod Cleared
+pub mod Inner
 pub mod Faults
 pub mod Acceptable
 pub mod Verdicts
-pub mod Writers
-pub mod Seeks

@@ -9,7 +9,7 @@ use Rattle.vk_model.specs.declared.entry.Entry.{Entry}
 use Rattle.vk_model.specs.declared.entry.Entry.TheVariants as entry
 use Rattle.vk_model.specs.declared.resource.Place.{Place}
 use Rattle.vk_model.specs.declared.resource.Place.TheVariants as place
-use Rattle.vk_model.specs.Point.{Past, Action, Host, Wait, Run, Signal}
+use Rattle.vk_model.specs.Trace.Point.{Past, Action, Host, Wait, Run, Signal}
 
 -- Memory of a buffer's own, of a type other than 2, whose host accesses go through a cache.
 abbrev pub is_supported_place : Place → Bool

@@ -1,5 +1,5 @@
 ghost use Rattle.std.specs.Prelude.{◌≡◌, Some};
-ghost use Rattle.vk_validate.specs.OrderState as order_state;
+ghost use Rattle.vk_validate.specs.Inner.OrderState as order_state;
 
 use crate::scopes::{HOST_READS, TRANSFER_WRITES, TRANSFERS};
 use bitflags::Flags;

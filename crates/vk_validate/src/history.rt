@@ -3,16 +3,16 @@ ghost use Rattle.std.specs.Option.{option_map};
 ghost use Rattle.std.specs.List.{fold};
 ghost use Rattle.std.specs.Ordering.{nat_cmp};
 ghost use Rattle.std.specs.BTreeMap.{get};
-ghost use Rattle.vk_model.specs.Point.{Past, Host, Run};
-ghost use Rattle.vk_model.specs.Objects.{made, buffer, initial};
-ghost use Rattle.vk_model.specs.Order.{counter, signaled};
-ghost use Rattle.vk_model.specs.ByteWrites.{buffer_size, fill_size};
+ghost use Rattle.vk_model.specs.Trace.Point.{Past, Host, Run};
+ghost use Rattle.vk_model.specs.Trace.Objects.{made, buffer, initial};
+ghost use Rattle.vk_model.specs.Trace.Order.{counter, signaled};
+ghost use Rattle.vk_model.specs.World.ByteWrites.{buffer_size, fill_size};
 ghost use Rattle.vk_validate.specs.Supported.{is_supported_action, is_supported_entry, is_supported_command};
-ghost use Rattle.vk_validate.specs.PointViews.{action_of, point_of, past};
-ghost use Rattle.vk_validate.specs.Tabled.{was_mapped, last_writer};
-ghost use Rattle.vk_validate.specs.Fits.{Fits};
-ghost use Rattle.vk_validate.specs.Seeks.{FoundIn};
-ghost use Rattle.vk_validate.specs.OrderState.{order_state, after_waits, awaited};
+ghost use Rattle.vk_validate.specs.Inner.PointViews.{action_of, point_of, past};
+ghost use Rattle.vk_validate.specs.Inner.Tabled.{was_mapped, last_writer};
+ghost use Rattle.vk_validate.specs.Inner.Fits.{Fits};
+ghost use Rattle.vk_validate.specs.Inner.Seeks.{FoundIn};
+ghost use Rattle.vk_validate.specs.Inner.OrderState.{order_state, after_waits, awaited};
 ghost use Rattle.vk_model.specs.Basics.{holds};
 
 use crate::clocks::{Clock, Order};
@@ -34,8 +34,8 @@ pub struct History<'a> {
 
 impl<'a> Model for History<'a> {
     ghost use Rattle.std.specs.Prelude.{◌≡◌, ◌≤◌, ℕ, Option, List, length};
-    ghost use Rattle.vk_validate.specs.PointViews.{Walk, past};
-    ghost use Rattle.vk_validate.specs.Tabled.{IsTabled};
+    ghost use Rattle.vk_validate.specs.Inner.PointViews.{Walk, past};
+    ghost use Rattle.vk_validate.specs.Inner.Tabled.{IsTabled};
 
     ghost Value = { Walk };
 

@@ -1,10 +1,10 @@
 ghost use Rattle.std.specs.Prelude.{◌≡◌, IsTrue};
 ghost use Rattle.std.specs.List.{find};
-ghost use Rattle.vk_model.specs.Point.{Point};
-ghost use Rattle.vk_model.specs.RulesBytes.{breaks_limit};
+ghost use Rattle.vk_model.specs.Trace.Point.{Point};
+ghost use Rattle.vk_model.specs.Rules.Traces.{breaks_limit};
 ghost use Rattle.vk_validate.specs.Supported.{is_supported_action};
-ghost use Rattle.vk_validate.specs.PointViews.{action_of, point_of, past};
-ghost use Rattle.vk_validate.specs.Cleared.{tests, first_test};
+ghost use Rattle.vk_validate.specs.Inner.PointViews.{action_of, point_of, past};
+ghost use Rattle.vk_validate.specs.Inner.Cleared.{tests, first_test};
 
 mod commands;
 mod hazards;
@@ -63,7 +63,7 @@ const RULES: [Rule; 40] = [
 ];
 
 /// The first rule of the table that a point breaks.
-#[tactic(auto, unfolding(crate::specs::Cleared::first_test))]
+#[tactic(auto, unfolding(crate::specs::Inner::Cleared::first_test))]
 pub fn first_rule(history: &History<'_>, step: &Step<'_>) -> Option<Rule>
     requires { IsTrue (is_supported_action (action_of step.now.action)) }
     ensures { result ≡ first_test (past history.now) (point_of step.now) }
@@ -87,7 +87,7 @@ fn first_of(rules: &[Rule], history: &History<'_>, step: &Step<'_>) -> Option<Ru
 // Points of the supported forms can't break the rules that aren't listed. Those speak of images,
 // pools, memory objects, events, other queues, waits of batches, reads by commands, or of what is unmapped
 // or destroyed; and the signals of one queue, or a read of the host and a later batch, are always in order.
-#[tactic(auto, unfolding(crate::specs::Cleared::tests))]
+#[tactic(auto, unfolding(crate::specs::Inner::Cleared::tests))]
 fn breaks(rule: Rule, history: &History<'_>, step: &Step<'_>) -> bool
     requires { IsTrue (is_supported_action (action_of step.now.action)) }
     ensures { result ≡ tests rule (past history.now) (point_of step.now) }

@@ -1,8 +1,8 @@
 ghost use Rattle.std.specs.Prelude.{◌≡◌, [], OnOk, IfOk};
-ghost use Rattle.vk_model.specs.Point.{at_of, Run, Signal, Wait};
-ghost use Rattle.vk_model.specs.Order.{actions, plain_order};
-ghost use Rattle.vk_validate.specs.PointViews.{past_of, point_of};
-ghost use Rattle.vk_validate.specs.Laid.{laid_batch, laid_batches, laid_submit, batch_at};
+ghost use Rattle.vk_model.specs.Trace.Point.{at_of, Run, Signal, Wait};
+ghost use Rattle.vk_model.specs.Trace.Order.{actions, plain_order};
+ghost use Rattle.vk_validate.specs.Inner.PointViews.{past_of, point_of};
+ghost use Rattle.vk_validate.specs.Inner.Laid.{laid_batch, laid_batches, laid_submit, batch_at};
 
 use std::alloc::{AllocError, Global};
 use vk_model::{At, Batch, Cmd, Entry, SemaphoreSubmit};
@@ -95,7 +95,7 @@ fn push_batches<'a>(
     Ok(())
 }
 
-#[tactic(auto, unfolding(crate::specs::Laid::laid_batch))]
+#[tactic(auto, unfolding(crate::specs::Inner::Laid::laid_batch))]
 fn push_batch<'a>(
     points: &mut Vec<Step<'a>>,
     entry: usize,

@@ -1,7 +1,7 @@
 ghost use Rattle.std.specs.Prelude.{◌≡◌};
 ghost use Rattle.std.specs.List.{list_all};
 ghost use Rattle.vk_validate.specs.Supported as supported;
-ghost use Rattle.vk_validate.specs.PointViews.{action_of};
+ghost use Rattle.vk_validate.specs.Inner.PointViews.{action_of};
 
 use crate::steps::{Action, Step};
 use vk_model::{Cmd, Element, Entry, Place};

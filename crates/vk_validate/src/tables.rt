@@ -2,12 +2,12 @@ ghost use Rattle.std.specs.Prelude.{◌≡◌, ◌==◌, ◌||◌, ◌+◌, ◌�
 ghost use Rattle.std.specs.Option.{option_map};
 ghost use Rattle.std.specs.Ordering.{nat_cmp};
 ghost use Rattle.std.specs.BTreeMap.{get, IsEmpty};
-ghost use Rattle.vk_model.specs.Point.{Past, Point};
-ghost use Rattle.vk_validate.specs.Tabled.{IsTabled};
-ghost use Rattle.vk_validate.specs.Fits.{Fits};
-ghost use Rattle.vk_validate.specs.Writers.{IsAssigned};
-ghost use Rattle.vk_validate.specs.OrderState.{start};
-ghost use Rattle.vk_validate.specs.Signals.{IsSignaled};
+ghost use Rattle.vk_model.specs.Trace.Point.{Past, Point};
+ghost use Rattle.vk_validate.specs.Inner.Tabled.{IsTabled};
+ghost use Rattle.vk_validate.specs.Inner.Fits.{Fits};
+ghost use Rattle.vk_validate.specs.Inner.Writers.{IsAssigned};
+ghost use Rattle.vk_validate.specs.Inner.OrderState.{start};
+ghost use Rattle.vk_validate.specs.Inner.Signals.{IsSignaled};
 
 use crate::clocks::{Clock, Order};
 use crate::timelines::Timeline;

@@ -1,8 +1,8 @@
 ghost use Rattle.std.specs.Prelude.{◌≡◌, ◌≢◌, ℕ, OnOk, Some, None, Option, option_map};
 ghost use Rattle.std.specs.Ordering.{nat_cmp};
 ghost use Rattle.std.specs.BTreeMap.{get, IsEmpty};
-ghost use Rattle.vk_validate.specs.OrderState.{Signaled};
-ghost use Rattle.vk_validate.specs.Tabled.{IsLeast};
+ghost use Rattle.vk_validate.specs.Inner.OrderState.{Signaled};
+ghost use Rattle.vk_validate.specs.Inner.Tabled.{IsLeast};
 
 use crate::clocks::Clock;
 use std::alloc::{AllocError, Global};

@@ -1,10 +1,10 @@
 ghost use Rattle.std.specs.Prelude.{◌≡◌, IfOk, IsTrue, None};
-ghost use Rattle.vk_model.specs.Order.{plain_order};
-ghost use Rattle.vk_model.specs.Rules.{first_fault};
+ghost use Rattle.vk_model.specs.Trace.Order.{plain_order};
+ghost use Rattle.vk_model.specs.Rules.Table.{first_fault};
 ghost use Rattle.vk_validate.specs.Supported.{is_supported};
 ghost use Rattle.vk_validate.specs.Faults.{reported_fault, tested_fault};
 ghost use Rattle.vk_validate.specs.Verdicts.{reported, IsAbout};
-ghost use Rattle.vk_validate.specs.PointViews.{past_of};
+ghost use Rattle.vk_validate.specs.Inner.PointViews.{past_of};
 
 use crate::history::History;
 use crate::rules::first_rule;

@@ -1,8 +1,8 @@
 ghost use Rattle.std.specs.Prelude.{◌≡◌, Option, Some, true, false, ◌<◌, ◌≤◌, ◌+◌, ◌-◌, ◌^◌, ◌↔◌, min, IfSome, IfNone, IsSome, ℕ, None, ◌≢◌, OnOk, OnErr};
 ghost use Rattle.std.specs.Ordering.{nat_cmp};
 ghost use Rattle.std.specs.BTreeMap.{get, IsEmpty};
-ghost use Rattle.vk_validate.specs.Writers.{IsLastWriter, Keeps};
-ghost use Rattle.vk_validate.specs.Seeks.{is_sought, HasSought};
+ghost use Rattle.vk_validate.specs.Inner.Writers.{IsLastWriter, Keeps};
+ghost use Rattle.vk_validate.specs.Inner.Seeks.{is_sought, HasSought};
 
 use std::alloc::{AllocError, Global};
 use std::collections::BTreeMap;

@@ -1,8 +1,8 @@
 ghost use Rattle.std.specs.Prelude.{◌≡◌, ◌%◌, ◌==◌, not, IsTrue, ◌||◌, nat_lt, nat_le, ◌+◌};
-ghost use Rattle.vk_model.specs.Point.{Past};
-ghost use Rattle.vk_model.specs.RulesRanges as ranges;
+ghost use Rattle.vk_model.specs.Trace.Point.{Past};
+ghost use Rattle.vk_model.specs.Rules.Ranges as ranges;
 ghost use Rattle.vk_validate.specs.Supported.{is_supported_action, is_supported_command};
-ghost use Rattle.vk_validate.specs.PointViews.{action_of, point_of, past};
+ghost use Rattle.vk_validate.specs.Inner.PointViews.{action_of, point_of, past};
 
 use crate::history::History;
 use crate::steps::{Action, Step};

@@ -1,6 +1,6 @@
 ghost use Rattle.std.specs.Prelude.{◌≡◌};
-ghost use Rattle.vk_validate.specs.PointViews.{action_of, past};
-ghost use Rattle.vk_validate.specs.Tests.{reads_unseen, overwrites_unseen, reads_unwritten};
+ghost use Rattle.vk_validate.specs.Inner.PointViews.{action_of, past};
+ghost use Rattle.vk_validate.specs.Inner.Tests.{reads_unseen, overwrites_unseen, reads_unwritten};
 
 use crate::history::History;
 use crate::steps::{Action, Step};

@@ -1,14 +1,14 @@
 ghost use Rattle.std.specs.Prelude.{◌≡◌, ◌==◌, ◌&&◌, not, IsTrue, ◌||◌, nat_lt, nat_le, ◌+◌, is_some, is_none};
 ghost use Rattle.std.specs.List.{list_any};
-ghost use Rattle.vk_model.specs.Point.{Past, Host, Run};
+ghost use Rattle.vk_model.specs.Trace.Point.{Past, Host, Run};
 ghost use Rattle.vk_model.specs.Basics.{holds, has_bits};
-ghost use Rattle.vk_model.specs.Objects.{initial, buffer};
-ghost use Rattle.vk_model.specs.RulesIds as ids;
-ghost use Rattle.vk_model.specs.RulesSizes as sizes;
-ghost use Rattle.vk_model.specs.RulesMapping as mapping;
+ghost use Rattle.vk_model.specs.Trace.Objects.{initial, buffer};
+ghost use Rattle.vk_model.specs.Rules.Ids as ids;
+ghost use Rattle.vk_model.specs.Rules.Sizes as sizes;
+ghost use Rattle.vk_model.specs.Rules.Mapping as mapping;
 ghost use Rattle.vk_validate.specs.Supported.{is_supported_action, is_supported_entry, is_supported_command};
-ghost use Rattle.vk_validate.specs.PointViews.{action_of, point_of, past};
-ghost use Rattle.vk_validate.specs.Tests.{names_dead, lacks_usage, reads_unmapped, is_on_type_0, maps_local};
+ghost use Rattle.vk_validate.specs.Inner.PointViews.{action_of, point_of, past};
+ghost use Rattle.vk_validate.specs.Inner.Tests.{names_dead, lacks_usage, reads_unmapped, is_on_type_0, maps_local};
 
 use crate::history::History;
 use crate::steps::{Action, Step};

@@ -1,14 +1,13 @@
 ghost use Rattle.std.specs.Prelude.{◌≡◌, ◌||◌, nat_le, nat_lt, not, IsTrue, bit_and};
 ghost use Rattle.std.specs.List.{list_any};
 ghost use Rattle.vk_model.specs.Basics.{holds, has_bits, has_some};
-ghost use Rattle.vk_model.specs.Order.{counter};
-ghost use Rattle.vk_model.specs.Edge.{host_stage};
-ghost use Rattle.vk_model.specs.RulesLayouts.{known_stages};
-ghost use Rattle.vk_model.specs.Ownership.{dependency_of};
-ghost use Rattle.vk_model.specs.RulesSync as sync;
-ghost use Rattle.vk_model.specs.RulesLayouts as layouts;
+ghost use Rattle.vk_model.specs.Trace.Order.{counter};
+ghost use Rattle.vk_model.specs.Sync.Edge.{host_stage};
+ghost use Rattle.vk_model.specs.Rules.Synchronization.{known_stages};
+ghost use Rattle.vk_model.specs.World.Ownership.{dependency_of};
+ghost use Rattle.vk_model.specs.Rules.Synchronization as sync;
 ghost use Rattle.vk_validate.specs.Supported.{is_supported_action, is_supported_command};
-ghost use Rattle.vk_validate.specs.PointViews.{action_of, point_of, past};
+ghost use Rattle.vk_validate.specs.Inner.PointViews.{action_of, point_of, past};
 
 use crate::history::History;
 use crate::scopes::{BY_HOST, BY_TRANSFERS, KNOWN_ACCESSES, KNOWN_STAGES, TRANSFERS};
@@ -20,7 +19,7 @@ use vk_model::{Accesses, Cmd, Dependency, Element, Entry, SemaphoreValue, Stages
 /// in a wait or signal of a batch.
 pub fn breaks_stage(step: &Step<'_>) -> bool
     requires { IsTrue (is_supported_action (action_of step.now.action)) }
-    ensures { result ≡ layouts.action_stages (action_of step.now.action) }
+    ensures { result ≡ sync.action_stages (action_of step.now.action) }
 {
     match step.action {
         Action::Host(_) => false,
@@ -38,13 +37,13 @@ fn is_bad_submit(stages: Stages) -> bool
 }
 
 fn has_bad_element(elements: &[Element]) -> bool
-    ensures { result ≡ list_any (λ e. layouts.bad_dependency (dependency_of e)) elements.now }
+    ensures { result ≡ list_any (λ e. sync.bad_dependency (dependency_of e)) elements.now }
 {
     elements.iter().any(|element| is_bad_element(element))
 }
 
 fn is_bad_element(element: &Element) -> bool
-    ensures { result ≡ layouts.bad_dependency (dependency_of element.now) }
+    ensures { result ≡ sync.bad_dependency (dependency_of element.now) }
 {
     match element {
         Element::Memory(dependency) => is_bad_dependency(dependency),
@@ -54,7 +53,7 @@ fn is_bad_element(element: &Element) -> bool
 }
 
 fn is_bad_dependency(dependency: &Dependency) -> bool
-    ensures { result ≡ layouts.bad_dependency dependency.now }
+    ensures { result ≡ sync.bad_dependency dependency.now }
 {
     is_bad_scope(dependency.source_stages, dependency.source_accesses)
         || is_bad_scope(
@@ -64,7 +63,7 @@ fn is_bad_dependency(dependency: &Dependency) -> bool
 }
 
 fn is_bad_scope(stages: Stages, accesses: Accesses) -> bool
-    ensures { result ≡ layouts.bad_masks stages.0 accesses.0 }
+    ensures { result ≡ sync.bad_masks stages.0 accesses.0 }
 {
     !KNOWN_STAGES.contains(stages)
         || !KNOWN_ACCESSES.contains(accesses)

@@ -1,4 +1,4 @@
-use Rattle.vk_model.specs.Order.{plain_order}
+use Rattle.vk_model.specs.Trace.Order.{plain_order}
 use Rattle.vk_laws.specs.Discards.{with_discards}
 use Rattle.vk_laws.specs.TraceBytes.{value_before}
 use Rattle.vk_laws.specs.TraceCaches.{caching_of}

@@ -1,9 +1,9 @@
 use Rattle.std.proofs.Common.{◌≡◌, ℕ, IsTrue, Option, Some, None, refl, ap, sym, ◌∙◌, subst}
 use Rattle.vk_model.specs.Basics.{holds}
-use Rattle.vk_model.specs.Point.{Past}
-use Rattle.vk_model.specs.Node.{Node}
-use Rattle.vk_model.specs.Edge.{is_host}
-use Rattle.vk_model.specs.Order.{plain_order}
+use Rattle.vk_model.specs.Trace.Point.{Past}
+use Rattle.vk_model.specs.Sync.Node.{Node}
+use Rattle.vk_model.specs.Sync.Edge.{is_host}
+use Rattle.vk_model.specs.Trace.Order.{plain_order}
 use Rattle.vk_laws.specs.Machine.{Task}
 use Rattle.vk_laws.specs.Caches.{view}
 use Rattle.vk_laws.specs.Tasks.{node_at}

@@ -1,7 +1,7 @@
 use Rattle.std.proofs.Common.{sym, ◌∙◌}
 use Rattle.vk_laws.proofs.Fresh.{done_by_number}
 use Rattle.vk_laws.proofs.tasks.is_done_before.Goals as goal
-use Rattle.vk_model.specs.Order.{plain_order}
+use Rattle.vk_model.specs.Trace.Order.{plain_order}
 use Rattle.vk_laws.specs.Tasks.{accesses_of}
 
 pub returns : goal.returns

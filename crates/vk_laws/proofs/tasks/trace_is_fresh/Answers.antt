@@ -1,5 +1,5 @@
 use Rattle.std.proofs.Common.{inl, refl}
-use Rattle.vk_model.specs.Order.{plain_order}
+use Rattle.vk_model.specs.Trace.Order.{plain_order}
 use Rattle.vk_laws.specs.Machine.{TraceAccesses}
 use Rattle.vk_laws.specs.Caches.{CacheFree}
 use Rattle.vk_laws.specs.TraceBytes.{uncached, value_before}

@@ -1,4 +1,4 @@
-use Rattle.vk_model.specs.World.{in_buffer}
+use Rattle.vk_model.specs.World.Bytes.{in_buffer}
 use Rattle.vk_laws.specs.Example.{task}
 use Rattle.vk_laws.specs.Discards.{with_discards}
 use Rattle.vk_laws.specs.TraceCaches.{caching_of}

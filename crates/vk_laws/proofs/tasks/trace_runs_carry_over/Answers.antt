@@ -1,6 +1,6 @@
 use Rattle.std.proofs.Common.{[], length, ◌++◌, ◌∙◌, ◌+◌}
-use Rattle.vk_model.specs.Node.{nodes}
-use Rattle.vk_model.specs.Order.{plain_order}
+use Rattle.vk_model.specs.Sync.Node.{nodes}
+use Rattle.vk_model.specs.Trace.Order.{plain_order}
 use Rattle.vk_laws.specs.Discards.{with_discards}
 use Rattle.vk_laws.specs.TraceCaches.{caching_of}
 use Rattle.vk_laws.proofs.PlainOrder.{plain_grows, plain_splits}

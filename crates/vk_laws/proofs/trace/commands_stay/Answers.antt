@@ -1,7 +1,7 @@
 use Rattle.vk_model.specs.declared.rule.Rule.TheVariants as rule
-use Rattle.vk_model.specs.Rules.{breaks}
+use Rattle.vk_model.specs.Rules.Table.{breaks}
 use Rattle.vk_laws.proofs.Steady.{commands_stay}
-use Rattle.vk_model.specs.Order.{plain_order}
+use Rattle.vk_model.specs.Trace.Order.{plain_order}
 use Rattle.vk_laws.proofs.trace.commands_stay.Goals as goal
 
 pub returns : goal.returns

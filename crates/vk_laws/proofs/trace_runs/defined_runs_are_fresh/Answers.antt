@@ -1,6 +1,6 @@
 use Rattle.std.proofs.Common.{List, sym, ◌∙◌, ap}
 use Rattle.std.proofs.lemmas.Bool.{false_from_ne_true}
-use Rattle.vk_model.specs.Order.{plain_order}
+use Rattle.vk_model.specs.Trace.Order.{plain_order}
 use Rattle.vk_laws.specs.Machine.{Task, latest}
 use Rattle.vk_laws.specs.Tasks.{accesses_of}
 use Rattle.vk_laws.specs.TraceBytes.{uncached}

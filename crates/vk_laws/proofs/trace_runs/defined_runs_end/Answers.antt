@@ -1,9 +1,9 @@
 use Rattle.std.proofs.Common.{◌≡◌, List, length, Some, sym, ◌∙◌, ap, arith}
 use Rattle.std.specs.Prelude.{nat_lt}
-use Rattle.vk_model.specs.Point.{Past}
-use Rattle.vk_model.specs.Order.{plain_order}
-use Rattle.vk_model.specs.Effect.{world}
-use Rattle.vk_model.specs.Node.{nodes}
+use Rattle.vk_model.specs.Trace.Point.{Past}
+use Rattle.vk_model.specs.Trace.Order.{plain_order}
+use Rattle.vk_model.specs.World.Effect.{world}
+use Rattle.vk_model.specs.Sync.Node.{nodes}
 use Rattle.vk_laws.specs.Machine.{Task}
 use Rattle.vk_laws.specs.Tasks.{task_count, accesses_of}
 use Rattle.vk_laws.specs.TraceBytes.{uncached, value_before}

@@ -1,4 +1,4 @@
-use Rattle.vk_model.specs.Rules.{first_fault}
+use Rattle.vk_model.specs.Rules.Table.{first_fault}
 use Rattle.vk_model.proofs.FaultLaws.{first_of_fault}
 use Rattle.vk_model.proofs.laws.fault_is_first.Goals as goal
 

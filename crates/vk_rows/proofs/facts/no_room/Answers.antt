@@ -1,5 +1,5 @@
 use Rattle.std.specs.Prelude.{ℕ, refl, false}
-use Rattle.vk_model.specs.Room.{Block, General, BlockHolds, CanHold}
+use Rattle.vk_model.specs.Memory.Room.{Block, General, BlockHolds, CanHold}
 use Rattle.vk_rows.specs.NoRoom.{holed, halves, ring, stacks, buffer_of}
 use Rattle.vk_rows.proofs.Holding.{nowhere, absent, neither, no_other}
 use Rattle.vk_rows.proofs.facts.no_room.Goals as goal

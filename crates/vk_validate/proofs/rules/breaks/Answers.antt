@@ -1,5 +1,5 @@
-use Rattle.vk_validate.specs.PointViews.{past, point_of}
-use Rattle.vk_validate.specs.Cleared.{tests}
+use Rattle.vk_validate.specs.Inner.PointViews.{past, point_of}
+use Rattle.vk_validate.specs.Inner.Cleared.{tests}
 use Rattle.vk_validate.proofs.rules.breaks.Goals as goal
 
 pub returns-in-MemoryType : goal.returns-in-MemoryType

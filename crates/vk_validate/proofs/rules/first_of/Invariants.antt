@@ -1,7 +1,7 @@
 use Rattle.std.proofs.Common.{◌≡◌, drop}
 use Rattle.std.specs.List.{find}
-use Rattle.vk_validate.specs.PointViews.{past, point_of}
-use Rattle.vk_validate.specs.Cleared.{tests}
+use Rattle.vk_validate.specs.Inner.PointViews.{past, point_of}
+use Rattle.vk_validate.specs.Inner.Cleared.{tests}
 use Rattle.vk_validate.proofs.rules.first_of.Given as goal
 
 abbrev pub invariant-loop-rule : goal.invariant-loop-rule

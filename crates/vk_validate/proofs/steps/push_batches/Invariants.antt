@@ -1,6 +1,6 @@
 use Rattle.std.proofs.Common.{◌≡◌, drop}
-use Rattle.vk_validate.specs.PointViews.{past_of}
-use Rattle.vk_validate.specs.Laid.{laid_batches}
+use Rattle.vk_validate.specs.Inner.PointViews.{past_of}
+use Rattle.vk_validate.specs.Inner.Laid.{laid_batches}
 use Rattle.vk_validate.proofs.steps.push_batches.Given as goal
 
 abbrev pub invariant-loop-batch : goal.invariant-loop-batch

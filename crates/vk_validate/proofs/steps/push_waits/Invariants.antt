@@ -1,8 +1,8 @@
 use Rattle.std.proofs.Common.{◌≡◌, drop}
-use Rattle.vk_model.specs.Point.{Wait}
-use Rattle.vk_model.specs.Order.{actions}
-use Rattle.vk_validate.specs.PointViews.{past_of}
-use Rattle.vk_validate.specs.Laid.{batch_at}
+use Rattle.vk_model.specs.Trace.Point.{Wait}
+use Rattle.vk_model.specs.Trace.Order.{actions}
+use Rattle.vk_validate.specs.Inner.PointViews.{past_of}
+use Rattle.vk_validate.specs.Inner.Laid.{batch_at}
 use Rattle.vk_validate.proofs.steps.push_waits.Given as goal
 
 abbrev pub invariant-loop-place : goal.invariant-loop-place

@@ -1,6 +1,6 @@
 use Rattle.std.proofs.Common.{◌≡◌, drop, []}
-use Rattle.vk_validate.specs.PointViews.{past_of}
-use Rattle.vk_validate.specs.Laid.{laid_entries}
+use Rattle.vk_validate.specs.Inner.PointViews.{past_of}
+use Rattle.vk_validate.specs.Inner.Laid.{laid_entries}
 use Rattle.vk_validate.proofs.steps.reference_order.Given as goal
 
 abbrev pub invariant-loop-number : goal.invariant-loop-number

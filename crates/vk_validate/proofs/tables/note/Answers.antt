@@ -1,5 +1,5 @@
 use Rattle.std.proofs.Common.{◌≡◌, ◌∷◌, refl, sym, ap, ◌∙◌}
-use Rattle.vk_validate.specs.OrderState.{Signaled, order_state, joined}
+use Rattle.vk_validate.specs.Inner.OrderState.{Signaled, order_state, joined}
 use Rattle.vk_validate.specs.declared.clocks.Order.{Order}
 use Rattle.vk_validate.proofs.TableLemmas.{signaled-some, writers_stay, writers_next}
 use Rattle.vk_validate.proofs.TimelineLemmas.{timelines_next}

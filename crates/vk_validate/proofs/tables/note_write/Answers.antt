@@ -1,7 +1,7 @@
 use Rattle.std.proofs.Common.{sym, ◌∙◌, ℕ, Option}
 use Rattle.std.specs.Ordering.{nat_cmp}
 use Rattle.std.specs.BTreeMap.{get}
-use Rattle.vk_validate.specs.Writers.{WasLast, IsLastWriter}
+use Rattle.vk_validate.specs.Inner.Writers.{WasLast, IsLastWriter}
 use Rattle.vk_validate.proofs.BoundLemmas.{was_some, was_none}
 use Rattle.vk_validate.proofs.tables.note_write.Goals as goal
 use Rattle.vk_validate.proofs.tables.note_write.Goals.{in-Some, in-None}

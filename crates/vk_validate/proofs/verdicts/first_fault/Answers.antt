@@ -3,7 +3,7 @@ use Rattle.std.specs.Prelude.{slice_get}
 use Rattle.std.proofs.lemmas.Option.{slice_get_read}
 use Rattle.vk_model.specs.declared.rule.At.{At}
 use Rattle.vk_model.specs.declared.rule.Rule.TheVariants as rule
-use Rattle.vk_validate.specs.PointViews.{past, Walk}
+use Rattle.vk_validate.specs.Inner.PointViews.{past, Walk}
 use Rattle.vk_validate.specs.Faults.{tested_rule}
 use Rattle.vk_validate.proofs.Faults.{next, done, found}
 use Rattle.vk_validate.proofs.verdicts.first_fault.Goals as goal

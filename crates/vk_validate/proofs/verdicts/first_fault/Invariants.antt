@@ -1,6 +1,6 @@
 use Rattle.std.proofs.Common.{◌≡◌}
-use Rattle.vk_validate.specs.PointViews.{past}
-use Rattle.vk_validate.specs.Cleared.{IsCleared}
+use Rattle.vk_validate.specs.Inner.PointViews.{past}
+use Rattle.vk_validate.specs.Inner.Cleared.{IsCleared}
 use Rattle.vk_validate.proofs.verdicts.first_fault.Given as goal
 
 abbrev pub invariant-loop-step : goal.invariant-loop-step

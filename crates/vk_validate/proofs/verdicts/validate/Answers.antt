@@ -1,5 +1,5 @@
 use Rattle.std.proofs.Common.{◌∙◌, ap, sym}
-use Rattle.vk_validate.specs.PointViews.{past_of}
+use Rattle.vk_validate.specs.Inner.PointViews.{past_of}
 use Rattle.vk_validate.proofs.Faults.{reports, reports_first, accepts}
 use Rattle.vk_validate.proofs.verdicts.validate.Goals as goal
 

@@ -1,7 +1,7 @@
 use Rattle.std.proofs.Common.{◌≡◌, ℕ, Some, sym, ap, ◌∙◌, subst, slice_get}
 use Rattle.std.proofs.lemmas.Option.{slice_get-get_or}
 use Rattle.std.proofs.lemmas.Grind.{get_or_default_zero}
-use Rattle.vk_model.specs.World.{in_buffer}
+use Rattle.vk_model.specs.World.Bytes.{in_buffer}
 use Rattle.vk_laws.specs.Caches.{view}
 use Rattle.vk_laws.specs.Reader.{cells_of}
 use Rattle.vk_laws.proofs.CacheView.{same_view}

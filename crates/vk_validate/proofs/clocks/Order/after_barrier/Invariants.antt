@@ -1,5 +1,5 @@
 use Rattle.std.proofs.Common.{◌≡◌, drop}
-use Rattle.vk_validate.specs.OrderState.{after_elements}
+use Rattle.vk_validate.specs.Inner.OrderState.{after_elements}
 use Rattle.vk_validate.proofs.clocks.Order.after_barrier.Given as goal
 
 abbrev pub invariant-loop-element : goal.invariant-loop-element

@@ -1,6 +1,6 @@
 use Rattle.std.proofs.Common.{◌≡◌, drop}
-use Rattle.vk_validate.specs.PointViews.{past}
-use Rattle.vk_validate.specs.OrderState.{order_state, after_waits}
+use Rattle.vk_validate.specs.Inner.PointViews.{past}
+use Rattle.vk_validate.specs.Inner.OrderState.{order_state, after_waits}
 use Rattle.vk_validate.proofs.history.History.after_waits.Given as goal
 
 abbrev pub invariant-loop-wait : goal.invariant-loop-wait

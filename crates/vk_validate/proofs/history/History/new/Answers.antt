@@ -1,5 +1,5 @@
 use Rattle.std.proofs.Common.{refl, arith}
-use Rattle.vk_validate.specs.PointViews.{past}
+use Rattle.vk_validate.specs.Inner.PointViews.{past}
 use Rattle.vk_validate.proofs.history.History.new.Goals as goal
 
 pub invariant_of-result : goal.invariant_of-result

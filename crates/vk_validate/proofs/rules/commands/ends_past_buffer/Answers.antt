@@ -1,6 +1,6 @@
 use Rattle.std.proofs.Common.{refl, sym, ap, false, ◌||◌}
-use Rattle.vk_model.specs.RulesRanges.{element_past}
-use Rattle.vk_validate.specs.PointViews.{past}
+use Rattle.vk_model.specs.Rules.Ranges.{element_past}
+use Rattle.vk_validate.specs.Inner.PointViews.{past}
 use Rattle.vk_validate.proofs.Barriers.{memory_any}
 use Rattle.vk_validate.proofs.rules.commands.ends_past_buffer.Goals as goal
 

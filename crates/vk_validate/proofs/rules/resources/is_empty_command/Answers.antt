@@ -1,5 +1,5 @@
 use Rattle.std.proofs.Common.{refl, sym}
-use Rattle.vk_model.specs.RulesSizes.{is_empty_element}
+use Rattle.vk_model.specs.Rules.Sizes.{is_empty_element}
 use Rattle.vk_validate.proofs.Barriers.{memory_any}
 use Rattle.vk_validate.proofs.rules.resources.is_empty_command.Goals as goal
 

@@ -1,6 +1,6 @@
 use Rattle.std.proofs.Common.{◌≡◌, ◌≤◌, ◌-◌, ℕ, Option, false}
-use Rattle.vk_validate.specs.Writers.{IsLastWriter}
-use Rattle.vk_validate.specs.Seeks.{is_sought}
+use Rattle.vk_validate.specs.Inner.Writers.{IsLastWriter}
+use Rattle.vk_validate.specs.Inner.Seeks.{is_sought}
 use Rattle.vk_validate.proofs.writers.LastWriters.has.Given as goal
 
 abbrev pub invariant-loop-bound : goal.invariant-loop-bound

@@ -1,0 +1,3 @@
+pub mod Suballocation
+pub mod Room
+pub mod MoveTargets

@@ -1,0 +1,4 @@
+pub mod Point
+pub mod Objects
+pub mod Order
+pub mod Image

@@ -1,0 +1,10 @@
+pub mod PointViews
+pub mod Laid
+pub mod OrderState
+pub mod Signals
+pub mod Tabled
+pub mod Fits
+pub mod Tests
+pub mod Cleared
+pub mod Writers
+pub mod Seeks

@@ -1,0 +1,26 @@
+-- What is sought among last writers.
+use Rattle.std.specs.Prelude.{◌≡◌, ◌≤◌, ℕ, Bool, true, false, nat_le, Option, Some, None}
+use Rattle.vk_validate.specs.declared.writers.Sought.{Sought}
+use Rattle.vk_validate.specs.Inner.Writers.{Bounds, IsLastWriter}
+use Rattle.vk_validate.specs.declared.writers.Sought.TheVariants as sought
+
+-- Whether a byte with this writer is sought.
+abbrev pub is_sought : Sought → Option ℕ → Bool
+is_sought (sought.Since point) None = false
+is_sought (sought.Since point) (Some number) = nat_le point number
+is_sought sought.Nothing None = true
+is_sought sought.Nothing (Some number) = false
+
+-- A byte of a span that has what is sought.
+pub record HasSought (bounds : Bounds) (s : Sought) (first last : ℕ) : Type 0 where
+  pub byte : ℕ
+  pub writer : Option ℕ
+  pub low : first ≤ byte
+  pub high : byte ≤ last
+  pub is : IsLastWriter bounds byte writer
+  pub sought : is_sought s writer ≡ true
+
+-- What a yes or a no means for the bytes of a span: that one passes the test, or that none does.
+abbrev pub FoundIn : Bool → ℕ → ℕ → (ℕ → Bool) → Type 0
+FoundIn true first last test = (byte : ℕ) × (first ≤ byte) × (byte ≤ last) × (test byte ≡ true)
+FoundIn false first last test = (byte : ℕ) → first ≤ byte → byte ≤ last → test byte ≡ false
