@@ -1,4 +1,4 @@
--- Which memory objects stand after each step, and which entry finds no room for its own.
+-- Which memory objects are live after each step, and which entry finds no room for its own.
 use Rattle.std.proofs.Common.{◌≡◌, ◌⊎◌, inl, inr, ℕ, ◌+◌, List, [], ◌∷◌, map, length, Bool, true, false, ◌==◌, ◌||◌, refl, ap, sym, ◌∙◌, subst, append-nil, Option, Some, None}
 use Rattle.std.proofs.Math.Seq.{map-set_same}
 use Rattle.std.proofs.Math.Bool.{or-false}
@@ -43,7 +43,7 @@ map_allots old new (Some p) (inr now) = ap (λ (s : Held). allotted s.memory) no
 pub nothing_allots : (x : Entry) (old new : Held) → asked_by x ≡ [] → allotted new.memory ≡ allotted old.memory → allotted new.memory ≡ with_asked (allotted old.memory) x
 nothing_allots x old new none same = same ∙ rw none (ap (λ (l : List (ℕ × ℕ)). record (allotted old.memory) { objects = l }) (sym (append-nil (allotted old.memory).objects)))
 
--- ---- room for an object, as the heaps tell it
+-- ---- room for an object, by the heaps
 
 used_same : (g : ℕ × ℕ → ℕ) (f : Object → ℕ) → ((o : Object) → g (kind o) ≡ f o) → (n : ℕ) (os : List Object) → fold (λ a x. a + g x) n (map kind os) ≡ fold (λ a x. a + f x) n os
 used_same g f same n [] = refl

@@ -182,7 +182,7 @@ fill_point : (past : Past) (p : Point) (b o : ℕ) (n : Length) (w : ℕ) → p.
 fill_point past p b o n w is none =
     go (buffer past b) refl (fill_fits (buffer_size past b) o n (command_size past p none (cmd.Fill b o n w) is) inside (from_end n ranged) (or-right _ _ (command_align past p none (cmd.Fill b o n w) is)))
   where
-    -- the parts and the end, without the elements and regions that a fill hasn't
+    -- the areas and the end, without the elements and regions that a fill hasn't
     ranged : ((outside past b o n || false) || fills_from_end past (cmd.Fill b o n w)) ≡ false
     ranged = or-left _ false (or-left _ false (command_range past p none (cmd.Fill b o n w) is))
 

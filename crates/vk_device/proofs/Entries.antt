@@ -1,4 +1,4 @@
--- What an entry tells, and that the device stands to the past after it.
+-- What an entry is answered, and that the device matches the past after it.
 use Rattle.std.proofs.Common.{◌≡◌, inl, inr, ℕ, ◌+◌, ◌<◌, ◌≤◌, List, [], ◌∷◌, map, length, Bool, true, false, ◌==◌, eqb, refl, ap, sym, ◌∙◌, subst, arith, cond, get_or, slice_index, get_or-set_same, get_or-set_other, Option, Some, None}
 use Rattle.std.proofs.lemmas.Bool.{eqb-false, eqb-true}
 use Rattle.std.proofs.lemmas.Grind.{common_steps, elements}

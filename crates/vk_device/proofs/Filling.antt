@@ -1,4 +1,4 @@
--- A fill's moves, and the bytes of a region after a fill.
+-- A fill's byte writes, and the bytes of a region after a fill.
 use Rattle.std.proofs.Common.{◌≡◌, ◌⊎◌, inl, inr, ℕ, zero, suc, ◌+◌, ◌-◌, ◌*◌, ◌%◌, ◌<◌, ◌≤◌, List, map, length, Bool, true, false, ◌&&◌, eq-eqb, eqb, refl, ap, sym, ◌∙◌, subst, arith, cond, get_or, slice_index, get_or-set_same, get_or-set_other, Option, Some, None}
 use Rattle.std.proofs.lemmas.Bool.{eqb-false, eqb-true}
 use Rattle.std.proofs.lemmas.Grind.{elements}
@@ -16,7 +16,7 @@ use Rattle.vk_device.specs.declared.device.Placed.{Placed}
 use Rattle.vk_device.specs.Held.{Held, IsApart, placed, byte_in, byte_at}
 use Rattle.vk_device.proofs.Running.{stored, write_to, HaveRun}
 
--- what is looked for stands at one number of the range
+-- what is looked for is at one number of the range
 pub find_one : {X : Type 0} (test : X → Bool) (f : ℕ → X) (j a n : ℕ) → a ≤ j → j < a + n → test (f j) ≡ true → ((k : ℕ) → test (f k) ≡ true → k ≡ j) → find test (map f (range_with_len a n)) ≡ Some (f j)
 find_one test f j a zero low high hit only = absurd (omega arith)
 find_one {X} test f j a (suc n) low high hit only = go (test (f a)) refl (λ next. find_one test f j (a + 1) n next (omega arith) hit only)
@@ -101,7 +101,7 @@ below_or k zero = inr (omega arith)
 below_or zero (suc at) = inl (omega arith)
 below_or (suc k) (suc at) = elim (below_or k at) [ inl h ↦ inl (omega (arith, h)) | inr h ↦ inr (omega (arith, h)) ]
 
--- a fill of a placed buffer has made the fill's moves
+-- a fill of a placed buffer has made the fill's byte writes
 module _ (s : Held) (apart : IsApart s.memory s.buffers) (b o words w : ℕ) (p : Placed) (here : placed s b ≡ Some p) (room : o + 4 * words ≤ p.size) where
   abbrev pub filled : List ℕ
   filled = splice (region_of s.memory p.object) o (repeated words (to_le_bytes w32 w))

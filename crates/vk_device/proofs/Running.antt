@@ -1,4 +1,4 @@
--- The byte writes of a command, made on the bytes of memory: what was shown before is shown after them.
+-- The byte writes of a command, made on the bytes of memory: what memory held before it holds after them.
 use Rattle.std.proofs.Common.{◌≡◌, ℕ, List, refl, ◌∙◌, Option, Some, None}
 use Rattle.std.specs.Prelude.{IsSome}
 use Rattle.std.specs.List.{find}
@@ -16,11 +16,11 @@ abbrev pub stored : Option ByteWrite → (Byte → ℕ) → Byte → ℕ
 stored None bytes c = bytes c
 stored (Some m) bytes c = given m.source bytes
 
--- the move to a byte
+-- the write of a byte
 abbrev pub write_to : List ByteWrite → Byte → Option ByteWrite
 write_to ms c = find (λ m. same_byte m.to c) ms
 
--- the moves have been made, and nothing else has changed
+-- the byte writes have been made, and nothing else has changed
 abbrev pub HaveRun : List ByteWrite → (Byte → ℕ) → (Byte → ℕ) → Type 0
 HaveRun ms old new = (c : Byte) → new c ≡ stored (write_to ms c) old c
 
@@ -36,7 +36,7 @@ kept (Some m) value old c v values h = go m.source h
 pub run_keeps_values : (ms : List ByteWrite) (value : Byte → Option ℕ) (old new : Byte → ℕ) → HaveRun ms old new → ((c : Byte) (v : ℕ) → value c ≡ Some v → old c ≡ v) → (c : Byte) (v : ℕ) → after_writes ms value c ≡ Some v → new c ≡ v
 run_keeps_values ms value old new ran values c v h = ran c ∙ kept (write_to ms c) value old c v values h
 
--- a byte that is defined after the moves was written by one or defined before
+-- a byte that is defined after the byte writes was written by one or defined before
 pub run_there : (There : Byte → Type 0) (ms : List ByteWrite) (value : Byte → Option ℕ) → ((c : Byte) (v : ℕ) → value c ≡ Some v → There c) → ((c : Byte) → IsSome (write_to ms c) → There c) → (c : Byte) (v : ℕ) → after_writes ms value c ≡ Some v → There c
 run_there There ms value before written c v h = go (write_to ms c) refl h
   where

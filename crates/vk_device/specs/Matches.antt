@@ -1,4 +1,4 @@
--- How a device stands to what has happened, what it asks of what comes next, and what it answers.
+-- How a device matches what has happened, what it asks of what comes next, and what it answers.
 use Rattle.std.specs.Prelude.{◌≡◌, ℕ, ◌+◌, ◌≤◌, List, [], ◌∷◌, ◌++◌, length, true, false, Option, Some, None, IsSome, option_map, ⊤}
 use Rattle.std.specs.List.{fold}
 use Rattle.vk_memory.specs.MemoryState.{IsFull, fresh}
@@ -46,7 +46,7 @@ next_past e x past = fold (λ p t. started t p) (host e x ∷ past) (batches_of 
 abbrev pub run_point : ℕ → ℕ → ℕ → ℕ → Cmd → Point
 run_point e b k q c = record { entry = e; batch = b; place = k; queue = q; action = Run c }
 
--- A device stands to some past in which the command that comes next fits.
+-- A device matches some past in which the command that comes next fits.
 abbrev pub CommandReady : Held → Cmd → Type 0
 CommandReady s c = (past : Past) × Matches past s × FitsCommand past c
 
@@ -66,7 +66,7 @@ BatchesReady s bs = (at : Past) × (e : ℕ) × (q : ℕ) × (past : Past) × Ma
 abbrev pub Ready : Held → Entry → Type 0
 Ready s x = (e : ℕ) × (past : Past) × Matches past s × AllFit (next_past e x past)
 
--- A device stands to some entries that break no rule, and neither does the entry that comes next.
+-- A device matches some entries that break no rule, and neither does the entry that comes next.
 abbrev pub IsNext : Held → Entry → Type 0
 IsNext s x = (e : ℕ) × (past : Past) × Matches past s × IsClean (next_past e x past)
 
@@ -103,7 +103,7 @@ abbrev pub Allots : Applied → Entry → Held → Held → Type 0
 Allots applied.NoRoom x old new = new ≡ old
 Allots _ x old new = allotted new.memory ≡ with_asked (allotted old.memory) x
 
--- What an entry is answered: the bytes that it means, if it reads. Then the device stands to the past with the entry; where there was no room it is as it was.
+-- What an entry is answered: the bytes that it means, if it reads. Then the device matches the past with the entry; where there was no room it is as it was.
 abbrev pub Answered : Applied → ℕ → Entry → Past → Held → Held → Type 0
 Answered applied.Done e x past old new = Matches (next_past e x past) new × (read_in (world past) e x ≡ [])
 Answered (applied.Bytes bytes) e x past old new = Matches (next_past e x past) new × (read_in (world past) e x ≡ (e, bytes) ∷ [])

@@ -6,6 +6,6 @@ use Rattle.vk_device.specs.Held.{Held}
 use Rattle.vk_device.specs.Allotted.{allotted, finds_no_room}
 use Rattle.vk_device.specs.Matches.{Matches}
 
--- A device stands to the entries before entry n of a trace, and entry n finds no room in it (profile).
+-- A device matches the entries before entry n of a trace, and entry n finds no room in it (profile).
 abbrev pub StopsAt : List Entry → ℕ → Held → Type 0
 StopsAt t n s = (n < length t) × Matches (plain_order (take n t)) s × (x : Entry) × (slice_get t n ≡ Some x) × (finds_no_room (allotted s.memory) x ≡ true)

@@ -78,7 +78,7 @@ impl Device {
         }
     }
 
-    /// Fills a part of a buffer with a word, where the buffer is there.
+    /// Fills a range of a buffer with a word, where the buffer is there.
     fn fill(&mut self, id: u32, offset: u64, size: Length, word: u32)
         requires { MayFill (placed self.old id) offset size }
         ensures filled { (b : Placed) → placed self.old id ≡ Some b → self.new ≡ record self.old {
@@ -165,7 +165,7 @@ impl Device {
     }
 
     /// Maps the memory object under a buffer. A buffer's mapping is counted, and nothing ends it yet, so
-    /// the first mapping is the one that the object sees.
+    /// the first mapping is the one that reaches the object.
     fn map(&mut self, id: u32)
         ensures mapped { MapsAt self.old self.new (placed self.old id) }
     {

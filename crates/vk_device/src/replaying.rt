@@ -26,7 +26,7 @@ pub struct Replayed {
 }
 
 /// Applies the entries of an accepted trace to a new device, up to the first that finds no room. The only
-/// fault is `NoMemory`.
+/// error is `NoMemory`.
 pub fn replay<S: Scheduler>(
     alloc: Global,
     accepted: &Accepted<'_>,
@@ -39,7 +39,7 @@ pub fn replay<S: Scheduler>(
         (r.reads ≡ meaning accepted.now (length accepted.now)) (λ n. r.reads ≡ meaning accepted.now n)) }
     // It stops at the first entry that finds no room, and nowhere else.
     ensures first { IfOk result (λ r. r.stop ≡ first_stop config accepted.now) }
-    // The device stands to the entries that were applied.
+    // The device matches the entries that were applied.
     ensures stop { IfOk result (λ r. MatchOption r.stop
         (Matches (plain_order accepted.now) r.device) (λ n. StopsAt accepted.now n r.device)) }
     ensures error { IfErr result (λ f. f ≡ NoMemory) }

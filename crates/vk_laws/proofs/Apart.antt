@@ -1,4 +1,4 @@
--- No part of an act reads or writes what another part of it writes.
+-- No task of an act reads or writes what another task of it writes.
 use Rattle.std.proofs.Common.{◌≡◌, ℕ, zero, suc, ◌+◌, ◌<◌, ◌≤◌, List, [], ◌∷◌, Bool, true, IsTrue, Option, Some, None, ap, sym, ◌∙◌, subst, arith, slice_get}
 use Rattle.std.specs.Prelude.{Contains}
 use Rattle.std.specs.List.{list_any, enumerate_from}

@@ -16,7 +16,7 @@ module _ (x : ℕ) (cell : Cell) (owner : Option ℕ) (made_available : Type 0) 
       (λ d. absurd (⊎_elim (λ own. let same : a ≡ d.0 = let h = d.1 in cc in let h = subst (λ (b : ℕ). cell.held b ≡ None) same e in let g = d.2 in cc) (λ f. (ok.dirty d.0 x d.2).2 f) (ok.is_visible a s)))
       ok.home
 
-  -- an agent that it has been shown to sees it
+  -- it is visible to an agent that it was made visible to
   pub view_ok : (a : ℕ) → made_visible a → view a cell ≡ x
   view_ok a s = go (cell.held a) refl
     where
@@ -62,7 +62,7 @@ module _ (x : ℕ) (cell : Cell) (owner : Option ℕ) (made_available : Type 0) 
   touched_ok new (WrittenBack a v others was is region) = written_back_ok a v new others is region (ok.dirty a v was).0
   touched_ok new (Loaded a others was is region) = loaded_ok a new others was is region
 
-  -- a write, once the one before it was freed or by the same agent
+  -- a write, once the one before it was made available, or is by the same agent
   pub written_ok : (a y : ℕ) (new : Cell) (freed' : Type 0) (shown' : ℕ → Type 0) → (owner ≡ Some a) ⊎ made_available → (freed' → ⊥) → ((b : ℕ) → shown' b → a ≡ b) → Wrote a y cell new → CellOk y new (Some a) freed' shown'
   written_ok a y new freed' shown' before not_freed to_self w = record {
     dirty = λ b u e. ⊎_elim

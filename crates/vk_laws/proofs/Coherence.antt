@@ -1,4 +1,4 @@
--- In an allowed run each byte has one value, which is the model's where that is defined, and which every agent sees that it has been shown to.
+-- In an allowed run each byte has one value, which is the model's where that is defined, and which is visible to every agent that it was made visible to.
 use Rattle.std.proofs.Common.{◌≡◌, ◌⊎◌, inl, inr, ⊎_elim, ℕ, suc, ◌<◌, IsTrue, List, ◌∷◌, Option, Some, None, refl, sym, ap, ◌∙◌, subst, eq-or-lt_of_le}
 use Rattle.std.proofs.lemmas.Bool.{cases_lt}
 use Rattle.vk_model.specs.World.Bytes.{Byte}

@@ -175,7 +175,7 @@ module _ (paths : BeforeIsPath) (joins : BeforeIsTransitive) (leads : BeforeLead
       subst (λ (k : ℕ). IsTrue (is_done done (m.number, k))) (let same : 0 + j ≡ j = omega arith in same)
       (all_passes (is_done done) (node_pieces past m (Runs c)) (m.number, 0 + j) runs_each here)
 
-  -- ---- tasks that stand as a stage says
+  -- ---- tasks that match a stage
 
   record AtPoint (s : Stage) (did : List Task) : Type 0 where
     placed : Place s
@@ -486,7 +486,7 @@ module _ (paths : BeforeIsPath) (joins : BeforeIsTransitive) (leads : BeforeLead
         go m cm false e = refl
         go m cm true e = pieces_run m cm e m.act refl
 
-    -- a node whose entry was applied stands in the past
+    -- a node whose entry was applied is in the past
     applied_node : (n : Node) → Contains (nodes all) n → n.point.entry < s.count → Contains (nodes s.front.past) n
     applied_node n c lt = ⊎_elim (λ old. old) (λ new. let le : s.count ≤ n.point.entry = new.0 in absurd (omega (arith, lt, le))) (old_or_newer (λ q. s.count ≤ q.entry) s.front.past all (grows s did i) n c)
 

@@ -33,7 +33,7 @@ module _ (paths : BeforeIsPath) (joins : BeforeIsTransitive) (leads : BeforeLead
       go (Some l) (Some m) None e f g h k = absurd cc
       go (Some l) (Some m) (Some n) e f g h k = joins all l m n (node_of all a l e).0 (node_of all b m f).0 (node_of all c n g).0 h k
 
-  -- an event has one part
+  -- an event has one task
   event_part : (u : Task) → is_event all u ≡ true → IsTrue (tr.has u) → u.index ≡ 0
   event_part u e h = go (node_at all u.node) e h
     where

@@ -72,7 +72,7 @@ comes_in [] past p b q (older h) le lt = h
 comes_in (r ∷ newer) past p b q newest le lt = let more = more_nodes (r ∷ newer) (p ∷ past) in absurd (omega (arith, le, lt, more))
 comes_in (r ∷ newer) past p b q (older h) le lt = comes_in newer past p b q h le lt
 
--- ---- a command that sees a host write sees it by a flush
+-- ---- a host write is seen by a command through a flush
 
 module _ (paths : BeforeIsPath) (joins : BeforeIsTransitive) (all : Past) (one : Byte → Bool) (w a : Node) (cw : Contains (nodes all) w) (ca : Contains (nodes all) a) (cmd : Cmd) (is_a : a.act ≡ Runs cmd) (x : Entry) (is_w : w.act ≡ Hosts x) (c : Byte) (kept : one c ≡ true) (k : Access) where
   pub record Flushed : Type 0 where
@@ -236,7 +236,7 @@ module _ (t : List Entry) (given : Given t) where
         by_flush : (k : Access) → Touches k → Flushed given.paths given.joins all one w a w_all ca cmd is_a write refl c (same_one ∙ kept) k
         by_flush k h = flushed given.paths given.joins all one w a w_all ca cmd is_a write refl c (same_one ∙ kept) k (is_seen k h)
 
-      -- a later one sees the invalidation as it sees the write
+      -- the invalidation is visible to a later one as the write is
       pub seen_after : (k : Access) → Touches k → (i.number < a.number) → IsTrue (seen one (nodes all) i a k c)
       seen_after k h lt =
           let lt' : w.number < a.number = let e = w_earlier in omega (arith, e, lt) in

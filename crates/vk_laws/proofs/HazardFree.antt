@@ -29,7 +29,7 @@ use Rattle.vk_laws.proofs.Points.{AtPoint, at_point, action_of, comes_at}
 use Rattle.vk_laws.proofs.TaskAccesses.{byte_same, piece_write, is_there, is_in_of, ordered}
 use Rattle.vk_laws.proofs.Apart.{pair_of, no_overlap}
 
--- ---- what a part does
+-- ---- what a task does
 
 module _ (all : Past) where
   -- the node of a task that writes, and of one that reads
@@ -47,7 +47,7 @@ module _ (all : Past) where
       go None e h = absurd cc
       go (Some n) e h = (n, e, h)
 
-  -- a move of a piece
+  -- a byte write of a piece
   pub record Moved (x : Cmd) (k : ℕ) (c : Byte) (w : Put) : Type 0 where
     pub piece : List ByteWrite
     pub at : slice_get (pieces all x) k ≡ Some piece
@@ -149,7 +149,7 @@ module _ (together : PiecesAreByteWrites) (apart : PiecesWriteApart) (t : List E
         clash : IsTrue (some_pair write_common (pieces all x)) → ⊥
         clash e = let f = written_once in cc
 
-  -- ---- the parts of any act
+  -- ---- the tasks of any act
 
   index_apart : (n : Node) → Contains (nodes all) n → (k l : ℕ) (c : Byte) (w : Put) → task_write all n.act k c ≡ Some w → IsTrue (task_read all n.act l c) → ⊥
   index_apart n cn k l c w h r = go n.act refl h r

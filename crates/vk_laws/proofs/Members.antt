@@ -5,7 +5,7 @@ use Rattle.std.specs.List.{list_any, list_all, filter, find, flat_map, filter_ma
 use Rattle.std.proofs.lemmas.Bool.{or_left, or_right, and_parts, and_from}
 use Rattle.vk_laws.proofs.Truths.{not_both}
 
--- ---- where a member stands
+-- ---- where a member is
 
 pub none_in : {X : Type 0} (x : X) → Contains [] x → ⊥
 none_in x c = let none : c.0 < 0 = c.1 in omega arith
@@ -49,7 +49,7 @@ pub all_passes : {X : Type 0} (f : X → Bool) (xs : List X) (x : X) → IsTrue 
 all_passes f [] x h c = absurd (none_in x c)
 all_passes {X} f (y ∷ ys) x h c = ⊎_elim (λ e. subst (λ (z : X). IsTrue (f z)) e (and_parts _ _ h).0) (λ later. all_passes f ys x (and_parts _ _ h).1 later) (contains-cons y ys x c)
 
--- a test that an item of a list passes is passed in the list's part that has it, in or_cases order
+-- a test that an item of a list passes is passed in the piece of the list that has it, in or_cases order
 pub any_filter : {X : Type 0} (f g : X → Bool) (xs : List X) (x : X) → Contains xs x → IsTrue (g x) → IsTrue (f x) → IsTrue (list_any f (filter g xs))
 any_filter f g [] x c h k = absurd (none_in x c)
 any_filter {X} f g (y ∷ ys) x c h k = ⊎_elim (λ e. here (g y) (ap g e ∙ h) (ap f e ∙ k)) (λ later. there (g y) (any_filter f g ys x later h k)) (contains-cons y ys x c)

@@ -225,7 +225,7 @@ node_there (n ∷ ns) k numbers lt = go (node_there ns k numbers.1) (n.number ==
 
 -- ---- the actions of nodes
 
--- a command runs as one node, or its nodes are elements and it moves nothing
+-- a command runs as one node, or its nodes are elements and it writes nothing
 pub runs_or_idle : (x : Cmd) (a : Act) → Contains (command_acts x) a → ((a ≡ Runs x) × (length (command_acts x) ≡ 1)) ⊎ ((r : Role) × (e : Element) × (a ≡ Depends r e) × ((past : Past) → byte_writes past x ≡ []))
 runs_or_idle (cmd.Barrier es) a c = let m = mapped_from (Depends Barrier) es a c in inr (Barrier, m.0, sym m.2, λ past. refl)
 runs_or_idle (cmd.Set v ms) a c = let m = mapped_from (λ p. Depends (SetOf v p.0) (element.Memory p.1)) (enumerate_from 0 ms) a c in inr (SetOf v m.0.0, element.Memory m.0.1, sym m.2, λ past. refl)
@@ -244,7 +244,7 @@ host_action (Wait s) x c = let e = only_one (Waits s) (Hosts x) c in absurd cc
 host_action (Signal s) x c = let e = only_one (Signals s) (Hosts x) c in absurd cc
 host_action (Run y) x c = ⊎_elim (λ r. let e = r.0 in absurd cc) (λ i. let e = i.2 in absurd cc) (runs_or_idle y (Hosts x) c)
 
--- ---- a move among those of the pieces
+-- ---- a byte write among those of the pieces
 
 find_here : {X : Type 0} (f : X → Bool) (xs ys : List X) (x : X) → find f xs ≡ Some x → find f (xs ++ ys) ≡ Some x
 find_here f [] ys x e = absurd cc
@@ -337,7 +337,7 @@ module _ (together : PiecesAreByteWrites) (apart : PiecesWriteApart) (t : List E
       go (Signals q) act h = absurd cc
       go (Depends q r) act h = absurd cc
 
-  -- where no part of a node writes a byte its point doesn't
+  -- where no task of a node writes a byte its point doesn't
   no_source : (n : Node) (cn : Contains (nodes all) n) (c : Byte) → ((k : ℕ) → task_write all n.act k c ≡ None) → source_at (at_point all n cn).past (at_point all n cn).at.action c ≡ None
   no_source n cn c none = go s.at.action refl
     where

@@ -32,7 +32,7 @@ use Rattle.vk_model.specs.Rules.Fault.{Comes, older}
 abbrev Names : List (ℕ × (Entry → Bool)) → Byte → Type 0
 Names asked c = (k : Entry → Bool) × Contains asked (resource_at c, k)
 
--- each move of a list goes to this resource
+-- each byte write of a list is to this resource
 abbrev Fills : ℕ → List ByteWrite → Type 0
 Fills r ms = (m : ByteWrite) → Contains ms m → resource_at m.to ≡ r
 

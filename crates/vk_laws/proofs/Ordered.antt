@@ -21,7 +21,7 @@ use Rattle.vk_laws.proofs.Prefixes.{is_old}
 use Rattle.vk_laws.proofs.Points.{AtPoint, at_point, action_of, comes_at, at_point_below}
 
 module _ (stay : CommandsStay) (t : List Entry) (none : first_fault t ≡ None) (newer past : Past) (p : Point) (whole : plain_order t ≡ newer ++ p ∷ past) (x : Node) (cx : Contains (nodes (p ∷ past)) x) where
-  -- a command's moves are those of the whole trace
+  -- a command's byte writes are those of the whole trace
   same_byte_writes : (c : Cmd) → x.act ≡ Runs c → byte_writes (plain_order t) c ≡ byte_writes (p ∷ past) c
   same_byte_writes c e =
       let s = at_point (p ∷ past) x cx in

@@ -54,7 +54,7 @@ module _ (leads : BeforeLeadsOn) (all : Past) where
   abbrev count : ℕ → ℕ
   count k = elim (node_at all k) [ None ↦ 0 | Some n ↦ task_count all n.act ]
 
-  -- the first parts of a node, after other tasks
+  -- the first tasks of a node, after other tasks
   abbrev with_parts : ℕ → ℕ → List Task → List Task
   with_parts k zero rest = rest
   with_parts k (suc j) rest = record { node = k; index = j } ∷ with_parts k j rest
@@ -104,7 +104,7 @@ module _ (leads : BeforeLeadsOn) (all : Past) where
     | inr le ↦ let e : u.node ≡ k = omega (arith, lt, le) in index_in k (count k) (in_order k) u e (subst (λ (n : ℕ). u.index < count n) e (there u h))
   ]
 
-  -- a task of the run: of an earlier node, or an earlier part
+  -- a task of the run: of an earlier node, or of an earlier index
   in_parts : (k j : ℕ) (rest : List Task) (u : Task) → IsIn u (with_parts k j rest) → IsIn u rest ⊎ ((u.node ≡ k) × (u.index < j))
   in_parts k zero rest u h = inl h
   in_parts k (suc j) rest u (inl e) = inr (ap (λ (t : Task). t.node) e, let f = ap (λ (t : Task). t.index) e in omega (arith, f))

@@ -1,4 +1,4 @@
--- Where a stage of a run stands in its trace.
+-- Where a stage of a run is in its trace.
 use Rattle.std.proofs.Common.{false, inl, inr, IsTrue, ◌≡◌, ◌⊎◌, ⊎_elim, ℕ, ◌+◌, ◌<◌, ◌≤◌, List, [], ◌∷◌, ◌++◌, length, true, Some, None, refl, ap, sym, ◌∙◌, subst, arith, append_assoc, length-append}
 use Rattle.std.specs.Prelude.{Contains}
 use Rattle.std.proofs.lemmas.Bool.{false_from_ne_true}

@@ -75,7 +75,7 @@ live_made past i k h = go (ended past i) (made past i) refl h
 
 -- ---- commands
 
--- where two pasts have the same objects of the ids that a command names, they have the same moves and pieces of it
+-- where two pasts have the same objects of the ids that a command names, they have the same byte writes and pieces of it
 module _ (judged one other : Past) (same : (i : ℕ) (k : Entry → Bool) → (IsTrue (is_dead judged (i, k)) → ⊥) → made one i ≡ made other i) where
   pub writes_same : (c : Cmd) → (IsTrue (list_any (is_dead judged) (asked_by_command c)) → ⊥) → byte_writes one c ≡ byte_writes other c
   writes_same (cmd.Fill b o n w) alive =
@@ -140,7 +140,7 @@ module _ (whole newer past : Past) (p : Point) (c : Cmd) (split : whole ≡ newe
   same_objects : (i : ℕ) (k : Entry → Bool) → (IsTrue (is_dead (until p.entry past) (i, k)) → ⊥) → made whole i ≡ made past i
   same_objects i k live = ap (λ (l : Past). made l i) split ∙ made_stay newer past p (λ b q h. new b q (come b q h)) i k live
 
-  -- a command's moves and pieces are those of the past before its point
+  -- a command's byte writes and pieces are those of the past before its point
   pub kept_writes : byte_writes whole c ≡ byte_writes past c
   kept_writes = writes_same (until p.entry past) whole past same_objects c named_alive
 

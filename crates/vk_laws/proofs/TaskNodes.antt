@@ -1,4 +1,4 @@
--- A task is its two numbers, and its node stands in the trace.
+-- A task is its two numbers, and its node is in the trace.
 use Rattle.std.proofs.Common.{◌≡◌, ℕ, Some}
 use Rattle.std.specs.Prelude.{Contains, ◌==◌}
 use Rattle.std.proofs.lemmas.Bool.{eqb-true}

@@ -1,4 +1,4 @@
--- What truth values tell of one another, beyond std's lemmas.
+-- What truth values say of one another, beyond std's lemmas.
 use Rattle.std.proofs.Common.{◌≡◌, Bool, true, false, ◌||◌, not, IsTrue, refl}
 
 -- what isn't refuted holds

@@ -14,13 +14,13 @@ pub record Cell : Type 0 where
   pub region : ℕ
   pub held : ℕ → Option Held
 
--- What an agent sees that holds this of a byte.
+-- The value of a byte through a cache that holds this of it.
 abbrev pub value_through : Option Held → ℕ → ℕ
 value_through None region = region
 value_through (Some (Clean value)) region = value
 value_through (Some (Dirty value)) region = value
 
--- The byte as an agent sees it.
+-- The byte as it is visible to an agent.
 abbrev pub view : ℕ → Cell → ℕ
 view a cell = value_through (cell.held a) cell.region
 

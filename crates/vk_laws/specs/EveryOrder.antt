@@ -1,4 +1,4 @@
--- The law of the machine: in every allowed order, tasks see the model's bytes.
+-- The law of the machine: in every allowed order, the model's bytes are visible to tasks.
 use Rattle.std.specs.Prelude.{◌≡◌, ℕ, suc, ◌<◌, List, Option, Some}
 use Rattle.vk_model.specs.World.Bytes.{Byte}
 use Rattle.vk_laws.specs.Machine.{IsIn, Task, TraceAccesses, Reads, Conflict, HazardFree, MayRun, IsModel, latest}
@@ -14,13 +14,13 @@ pub record IsSettled (tr : TraceAccesses) (done : List Task) (t : Task) : Type 0
 abbrev pub SettledLaw : Type 0
 SettledLaw = (tr : TraceAccesses) (ca : Caching) (done : List Task) (cells : Byte → Cell) (t : Task) → HazardFree tr → Reached tr ca done cells → MayRun tr done t → IsSettled tr done t
 
--- When a task comes next, its agent sees of each byte that it reads the model's value before its node, where the model defines one.
+-- When a task comes next, what is visible to its agent of each byte that it reads is the model's value before its node, where the model defines one.
 abbrev pub FreshLaw : Type 0
 FreshLaw =
     (tr : TraceAccesses) (ca : Caching) (value : ℕ → Byte → Option ℕ) (done : List Task) (cells : Byte → Cell) (t : Task) (c : Byte) (v : ℕ) → HazardFree tr → CacheFree tr ca → IsModel tr value
     → Reached tr ca done cells → MayRun tr done t → Reads tr t c → value t.node c ≡ Some v → view (ca.agent t) (cells c) ≡ v
 
--- After any step, the agent that wrote a byte last sees the model's value after that write's node, where the model defines one.
+-- After any step, the model's value after the node of a byte's last write is visible to the agent that wrote it, where the model defines one.
 abbrev pub WrittenLaw : Type 0
 WrittenLaw =
     (tr : TraceAccesses) (ca : Caching) (value : ℕ → Byte → Option ℕ) (done : List Task) (cells : Byte → Cell) (w : Task) (c : Byte) (v : ℕ) → HazardFree tr → CacheFree tr ca → IsModel tr value

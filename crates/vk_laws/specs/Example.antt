@@ -77,7 +77,7 @@ when_filled = with_original (record { region = 0; held = holding (Some (Dirty 7)
 abbrev pub when_copied : Byte → Cell
 when_copied = with_original (record { region = 7; held = holding (Some (Clean 7)) None })
 
--- The premises hold of the trace; a run reaches a state in which queue 2 sees the old byte; and then one in which the copy may come next, which reads a byte that the model defines. The other fill may come first.
+-- The premises hold of the trace; a run reaches a state in which the old byte is visible to queue 2; and then one in which the copy may come next, which reads a byte that the model defines. The other fill may come first.
 pub record MeetsPremises : Type 0 where
   pub hazard_free : HazardFree accesses
   pub cache_free : CacheFree accesses caching

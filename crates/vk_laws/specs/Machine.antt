@@ -5,7 +5,7 @@ use Rattle.vk_model.specs.World.Bytes.{Byte}
 use Rattle.vk_model.specs.World.ByteWrites.{Source, From}
 use Rattle.vk_model.specs.World.Effect.{source_value}
 
--- An item stands in a list.
+-- An item is in a list.
 abbrev pub IsIn : {A : Type 0} → A → List A → Type 0
 IsIn x [] = ⊥
 IsIn x (y ∷ ys) = (x ≡ y) ⊎ IsIn x ys
@@ -60,7 +60,7 @@ pub record MayRun (tr : TraceAccesses) (done : List Task) (t : Task) : Type 0 wh
   pub fresh : IsIn t done → ⊥
   pub after : (s : Task) → Precedes tr s t → IsIn s done
 
--- Tasks were done in an allowed order; the newest stands first.
+-- Tasks were done in an allowed order; the newest comes first.
 abbrev pub IsAllowed : TraceAccesses → List Task → Type 0
 IsAllowed tr [] = ⊤
 IsAllowed tr (t ∷ done) = MayRun tr done t × IsAllowed tr done

@@ -15,11 +15,11 @@ use Rattle.vk_model.specs.Sync.Access.{reads, writes, is_in, precedes}
 use Rattle.vk_model.specs.Rules.Table.{first_fault}
 use Rattle.vk_model.specs.Rules.Fault.{Comes}
 
--- Whether a node's access of a byte sees another node's write, among the nodes of the whole trace (Vulkan, "Execution and Memory Dependencies", on memory dependencies).
+-- Whether another node's write of a byte is seen by a node's access, among the nodes of the whole trace (Vulkan, "Execution and Memory Dependencies", on memory dependencies).
 abbrev pub IsSeen : List Entry → Past → Node → Node → Access → Byte → Type 0
 IsSeen t past w a k b = IsTrue (seen (λ c. is_cached past (resource_at c)) (nodes (plain_order t)) w a k b)
 
--- Node y, of the newest point of a past of the trace, has no hazard with an earlier node x: what x reads and y writes is ordered, and what x writes and y reads or writes is seen. The accesses are as the past has them; orders and sights are those of the whole trace (Vulkan, "Execution and Memory Dependencies", on data hazards).
+-- Node y, of the newest point of a past of the trace, has no hazard with an earlier node x: what x reads and y writes is ordered, and what x writes and y reads or writes is seen. The accesses are as the past has them; orders and visibility are those of the whole trace (Vulkan, "Execution and Memory Dependencies", on data hazards).
 pub record HasNoHazard (t : List Entry) (past : Past) (x y : Node) : Type 0 where
   pub read_first : (b : Byte) → IsTrue (is_in b (writes past y)) → Contains (reads past x) b → IsTrue (before (nodes (plain_order t)) x y)
   pub read_after : (b : Byte) → IsTrue (is_in b (writes past x)) → Contains (reads past y) b → IsSeen t past x y Read b
@@ -31,7 +31,7 @@ NoHazardLaw =
     (t : List Entry) (past : Past) (p : Point) (x y : Node) → first_fault t ≡ None → Comes (plain_order t) past p
     → Contains (nodes (p ∷ past)) x → Contains (nodes (p ∷ past)) y → length (nodes past) ≤ y.number → IsTrue (precedes x y) → HasNoHazard t (p ∷ past) x y
 
--- What an access sees is before it.
+-- What an access has seen is before it.
 abbrev pub SeenIsBefore : Type 0
 SeenIsBefore =
     (past : Past) (cached : Byte → Bool) (w a : Node) (k : Access) (b : Byte) → Contains (nodes past) w → Contains (nodes past) a → w.number < a.number

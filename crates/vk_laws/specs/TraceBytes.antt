@@ -1,4 +1,4 @@
--- The model's bytes before each node of a trace, and what its tasks see of them where queues and the host have no caches.
+-- The model's bytes before each node of a trace, and what is visible of them to its tasks where queues and the host have no caches.
 use Rattle.std.specs.Prelude.{◌≡◌, ℕ, suc, false, IsTrue, List, [], ◌∷◌, length, nat_le, Option, Some, None, if◌then◌else◌}
 use Rattle.vk_model.specs.declared.entry.Entry.{Entry}
 use Rattle.vk_model.specs.World.Bytes.{Byte}
@@ -30,7 +30,7 @@ TraceModelLaw = (t : List Entry) → first_fault t ≡ None → IsModel (accesse
 abbrev pub uncached : Caching
 uncached = record { agent = λ t. 0; makes_available = λ p w c. false; makes_visible = λ q a c. false }
 
--- In every allowed run of a trace without a fault, without caches: a piece or host entry that may come next sees, of each byte that it reads, the model's value before its node, where the model defines one.
+-- In every allowed run of a trace without a fault, without caches: what is visible, of each byte that it reads, to a piece or host entry that may come next is the model's value before its node, where the model defines one.
 abbrev pub TraceFreshLaw : Type 0
 TraceFreshLaw =
     (t : List Entry) (done : List Task) (cells : Byte → Cell) (next : Task) (c : Byte) (v : ℕ) → first_fault t ≡ None → Reached (accesses_of (plain_order t)) uncached done cells

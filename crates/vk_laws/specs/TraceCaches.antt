@@ -77,19 +77,19 @@ CachedSettledLaw =
     (t : List Entry) (done : List Task) (cells : Byte → Cell) (next : Task) → first_fault t ≡ None → Reached (with_discards (plain_order t)) (caching_of (plain_order t)) done cells
     → MayRun (with_discards (plain_order t)) done next → IsSettled (with_discards (plain_order t)) done next
 
--- A piece or host entry that may come next sees, of each byte that it reads, the model's value before its node, where the model defines one.
+-- What is visible, of each byte that it reads, to a piece or host entry that may come next is the model's value before its node, where the model defines one.
 abbrev pub CachedFreshLaw : Type 0
 CachedFreshLaw =
     (t : List Entry) (done : List Task) (cells : Byte → Cell) (next : Task) (c : Byte) (v : ℕ) → first_fault t ≡ None → Reached (with_discards (plain_order t)) (caching_of (plain_order t)) done cells
     → MayRun (with_discards (plain_order t)) done next → Reads (with_discards (plain_order t)) next c → value_before (plain_order t) next.node c ≡ Some v → view ((caching_of (plain_order t)).agent next) (cells c) ≡ v
 
--- After any step the queue or host that wrote a byte last sees the model's value after that write's node, where the model defines one.
+-- After any step the model's value after the node of a byte's last write is visible to the queue or host that wrote it, where the model defines one.
 abbrev pub CachedWrittenLaw : Type 0
 CachedWrittenLaw =
     (t : List Entry) (done : List Task) (cells : Byte → Cell) (writer : Task) (c : Byte) (v : ℕ) → first_fault t ≡ None → Reached (with_discards (plain_order t)) (caching_of (plain_order t)) done cells
     → latest (with_discards (plain_order t)) c done ≡ Some writer → value_before (plain_order t) (suc writer.node) c ≡ Some v → view ((caching_of (plain_order t)).agent writer) (cells c) ≡ v
 
--- So a host read that may come next sees the model's bytes, each of them defined: what the trace means.
+-- So a host read that may come next reads the model's bytes, each of them defined: what the trace means.
 abbrev pub HostReadLaw : Type 0
 HostReadLaw =
     (t : List Entry) (done : List Task) (cells : Byte → Cell) (next : Task) (c : Byte) → first_fault t ≡ None → Reached (with_discards (plain_order t)) (caching_of (plain_order t)) done cells

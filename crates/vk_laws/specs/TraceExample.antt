@@ -1,4 +1,4 @@
--- A trace that breaks no rule, and a run of it in another order than that of submission: what its read sees is the model's.
+-- A trace that breaks no rule, and a run of it in another order than that of submission: what its read reads is the model's.
 use Rattle.std.specs.Prelude.{◌≡◌, List, [], ◌∷◌, Some, None}
 use Rattle.vk_model.specs.declared.entry.Entry.{Entry}
 use Rattle.vk_model.specs.declared.entry.Entry.TheVariants as entry
@@ -42,11 +42,11 @@ example =
 abbrev pub points : Past
 points = plain_order example
 
--- All before the read was done, the second fill before the first; the newest stands first.
+-- All before the read was done, the second fill before the first; the newest comes first.
 abbrev pub run : List Task
 run = task 10 ∷ task 9 ∷ task 8 ∷ task 7 ∷ task 6 ∷ task 5 ∷ task 3 ∷ task 4 ∷ task 2 ∷ task 1 ∷ task 0 ∷ []
 
--- The trace breaks no rule; the invalidation forgets the host's write; the run is allowed, and after it the read may come next; some state is reached by it; and in every such state the host sees the byte that the first fill wrote.
+-- The trace breaks no rule; the invalidation forgets the host's write; the run is allowed, and after it the read may come next; some state is reached by it; and in every such state the byte that the first fill wrote is visible to the host.
 pub record TraceMeetsPremises : Type 0 where
   pub no_fault : first_fault example ≡ None
   pub forgotten : (with_discards points).write_of (task 10) (in_buffer 1 8) ≡ Some Unknown

@@ -122,7 +122,7 @@ pub fn cached_trace_is_fresh()
 }
 
 /// In every allowed run of a trace without a fault, through caches of the host and of each queue, a host
-/// read that may come next sees what the trace means.
+/// read that may come next reads what the trace means.
 pub fn host_reads_the_meaning()
     ensures { HostReadLaw }
 {
@@ -153,7 +153,7 @@ pub fn trace_runs_carry_over()
 }
 
 /// There is a trace that breaks no rule, and a run of it in another order than that of submission after
-/// which a host read through a cache may come next, and then sees the model's byte.
+/// which a host read through a cache may come next, and then reads the model's byte.
 pub fn trace_premises_can_be_met()
     ensures { TraceMeetsPremises }
 {

@@ -9,7 +9,7 @@ use vk_model::{
 
 /// In a trace without a fault no node of a point has a hazard with an earlier node, commands and host
 /// accesses alike: what one reads and the other then writes is ordered, and what one writes the other
-/// sees, among all nodes of the trace.
+/// is visible, among all nodes of the trace.
 pub fn no_hazard()
     ensures { NoHazardLaw }
 {
@@ -17,7 +17,7 @@ pub fn no_hazard()
     growth_keeps();
 }
 
-/// What an access sees is before it, so a memory dependency is an execution dependency.
+/// What an access has seen is before it, so a memory dependency is an execution dependency.
 pub fn seen_is_before()
     ensures { SeenIsBefore }
 {

@@ -1,4 +1,4 @@
--- The memory objects that stand, and how full the heaps are (Vulkan, "Device Memory").
+-- The live memory objects, and how full the heaps are (Vulkan, "Device Memory").
 use Rattle.std.specs.Prelude.{◌≡◌, ℕ, ◌+◌, ◌<◌, ◌≤◌, ◌==◌, ◌⊎◌, List, [], ◌∷◌, length, replicate, slice_index_or, slice_set, sum_by, Bool, true, false, if◌then◌else◌}
 use Rattle.vk_memory.specs.declared.memories.Object.{Object}
 
@@ -29,11 +29,11 @@ heap_size s memory_type = if on_first memory_type then s.heap0 else s.heap1
 abbrev pub fresh : ℕ → ℕ → Object
 fresh t size = record { memory_type = t; size = size; mapped = false; region = replicate size 205 }
 
--- There is no room for an object: its heap would be passed, or 4,096 objects stand (profile).
+-- There is no room for an object: its heap would be passed, or 4,096 objects are live (profile).
 abbrev pub IsFull : MemoryState → ℕ → ℕ → Type 0
 IsFull s memory_type size = (4096 ≤ length s.objects) ⊎ (heap_size s memory_type < sizes_on (on_first memory_type) s.objects + size)
 
--- Stands for the object of a number that none has.
+-- In place of the object of a number that none has.
 abbrev pub nothing : Object
 nothing = record { memory_type = 0; size = 0; mapped = false; region = [] }
 

@@ -6,13 +6,13 @@ use thiserror::Error;
 use vk_heap::{Budget, HeapFull, Region};
 use vk_model::Config;
 
-/// How many memory objects may stand at once, as `maxMemoryAllocationCount` (profile).
+/// How many memory objects may be live at once, as `maxMemoryAllocationCount` (profile).
 const MOST_OBJECTS: usize = 4096;
 
 /// Why a memory object could not be made. Nothing is changed then.
 #[derive(Clone, Copy, Debug, Drop, PartialEq, Eq, Error)]
 pub enum MemoryError {
-    /// The heap would be passed, or the most objects stand (`VK_ERROR_OUT_OF_DEVICE_MEMORY`,
+    /// The heap would be passed, or the most objects are live (`VK_ERROR_OUT_OF_DEVICE_MEMORY`,
     /// `VK_ERROR_TOO_MANY_OBJECTS`).
     #[error("no room in the heap")]
     NoRoom,

@@ -112,7 +112,7 @@ boxes_apart i k l b c meet at at' = refuted (same_byte b c) (λ e.
     let ys = common_meets k.y k.height l.y l.height (k.y + at.y) (omega arith) (let h = at.low_y in omega arith) (let h = s.y_is in omega arith) (let h = s.y_is in let h' = at'.low_y in omega arith) in
     clash _ (and_both (i == i) (boxes_meet k l) (eq-eqb i i refl) (and_both _ _ (and_both _ _ (and_both _ _ (eq-eqb k.level l.level s.level) layers) xs) ys)) meet)
 
--- a grid of moves to the texels of a box
+-- a grid of byte writes to the texels of a box
 module _ (i : ℕ) (k : Box) (t : ℕ) (source : ℕ → ℕ → ℕ → ℕ → Source) where
   abbrev box_write : ℕ → ℕ → ℕ → ℕ → ByteWrite
   box_write z y x p = byte_write (in_image i k.level (k.first_layer + z) (k.x + x) (k.y + y) p) (source z y x p)
@@ -270,7 +270,7 @@ region_own i b m g long = grid_apart Apart _ g.layers g.height g.width (texel m.
     less_differs b (buffer_texel g (texel m.format) z y x p) (buffer_texel g (texel m.format) z' y' x' p')
     (place_less g.buffer_offset (texel m.format) (layer_rows g) (row_texels g) z y x p z' y' x' p' (omega arith) (omega arith) lk less))
 
--- the row of a byte, and where in it the byte stands
+-- the row of a byte, and where in it the byte is
 module _ (t : ℕ) (g : BufferImageCopy) (z y x part : ℕ) (low_z : z < g.layers) (low_y : y < g.height) (low_x : x < g.width) (low_part : part < t) where
   abbrev row_of : ℕ
   row_of = z * g.height + y
@@ -358,7 +358,7 @@ writes_apart past (cmd.Await v ms) none short = tt
 
 -- ---- and so the pieces of a command
 
--- no byte of one list of moves is one of the other's
+-- no byte of one list of byte writes is one of the other's
 shares_none : (xs ys : List ByteWrite) → Each (λ m. Each (Apart m) ys) xs → share (targets xs) (targets ys) ≡ false
 shares_none [] ys e = refl
 shares_none (m ∷ xs) ys e = or_none (is_in m.to (targets ys)) (share (targets xs) (targets ys)) (in_none m ys e.0) (shares_none xs ys e.1)

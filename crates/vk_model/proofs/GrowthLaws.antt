@@ -117,7 +117,7 @@ module _ (n : Node) (ns : List Node) (new : n.number ≡ length ns) where
     reaches_by-older : (w a p q : Node) (k : Access) (b : Byte) → a.number < length ns → q.number < length ns → reaches_by (n ∷ ns) w a k b p q ≡ reaches_by ns w a k b p q
     reaches_by-older w a p q k b lt low = rw (before-older p q low, visible-older w a q a.act k b lt, before-older q a lt) refl
 
-    -- nothing is shown by the new node as p
+    -- nothing is made visible by the new node as p
     from-new : (w a q : Node) (k : Access) (b : Byte) → q.number < length ns → reaches_by (n ∷ ns) w a k b n q ≡ false
     from-new w a q k b low = rw (same_not q low, before-new q low) refl
 

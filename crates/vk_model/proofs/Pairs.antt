@@ -212,7 +212,7 @@ module _ {A : Type 0} (R : A → A → Type 0) (f : ℕ → ℕ → ℕ → ℕ 
       (pairs_range (λ z z'. (i j : A) → InLayer z i → InLayer z' j → R i j) 0 a
       (λ z z' lt high. λ i j at at'. related z at.0 at.1 at.2 z' at'.0 at'.1 at'.2 i j (omega arith) (omega arith) at.3 at'.3 at.4 at'.4 at.5 at'.5 at.6 at'.6 (inl lt)))
 
--- each item of a grid stands at its place
+-- each item of a grid is at its place
 pub in_grid : {A : Type 0} (f : ℕ → ℕ → ℕ → ℕ → A) (a b c d : ℕ) → Each (At f a b c d) (grid a b c d f)
 in_grid f a b c d =
     each_flat (At f a b c d) _ (below a) (each_range _ 0 a (λ z low_z high_z.

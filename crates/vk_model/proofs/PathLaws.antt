@@ -221,7 +221,7 @@ found_before ns x y lt e = rw (lt-ltb x.number y.number lt, e) refl
 pub leads_on : (ns : List Node) (x y : Node) → IsTrue (before ns x y) → x.number < y.number
 leads_on = before_lt
 
--- what is reached stands among the nodes
+-- what is reached is among the nodes
 reached_present : (ns : List Node) → IsNumbered ns → (x y : Node) → Contains ns x → Contains (reached x ns) y → Contains ns y
 reached_present ns numbers x y c at = present ((reached_paths ns numbers x c y).0 at)
   where

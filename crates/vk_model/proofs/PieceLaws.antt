@@ -22,7 +22,7 @@ use Rattle.vk_model.specs.Laws.{together}
 together-append : {A : Type 0} (xs ys : List (List A)) → together (xs ++ ys) ≡ together xs ++ together ys
 together-append xs ys = flat_map-append (λ x. x) xs ys
 
--- ---- a list in parts
+-- ---- a list in chunks
 
 chunks_together : {A : Type 0} (k n : ℕ) (xs : List A) → length xs ≤ k → 0 < n → together (chunks k n xs) ≡ xs
 chunks_together zero n [] le pos = refl
@@ -32,7 +32,7 @@ chunks_together (suc k) n (x ∷ xs) le pos =
     let shorter : length (drop n (x ∷ xs)) ≤ k = omega (arith, length-drop n (x ∷ xs)) in
     ap (λ ys. take n (x ∷ xs) ++ ys) (chunks_together k n (drop n (x ∷ xs)) shorter pos) ∙ take-append-drop n (x ∷ xs)
 
--- with no size for the parts there has to be nothing
+-- with no size for the chunks there has to be nothing
 cut_together : {A : Type 0} (n : ℕ) (xs : List A) → (0 < n) ⊎ (xs ≡ []) → together (cut n xs) ≡ xs
 cut_together n xs (inl pos) = chunks_together (length xs) n xs (omega arith) pos
 cut_together n xs (inr none) = rw none refl

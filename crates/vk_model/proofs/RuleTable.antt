@@ -1,4 +1,4 @@
--- The table of rules: where each stands, and how each is printed.
+-- The table of rules: where each is, and how each is printed.
 use Rattle.std.proofs.Common.{◌≡◌, ℕ, zero, suc, ◌+◌, map, List, refl, ap, sym, ◌∙◌, arith, Option, Some}
 use Rattle.std.specs.Prelude.{option_map, slice_get, position}
 use Rattle.std.specs.List.{range_with_len}
@@ -105,7 +105,7 @@ range_at a zero k v at = absurd cc
 range_at a (suc n) zero v at = let same : a ≡ v = cc in omega arith
 range_at a (suc n) (suc k) v at = let later = range_at (a + 1) n k v at in omega arith
 
--- so each rule stands in the table once
+-- so each rule is in the table once
 number_at : (k : ℕ) (r : Rule) → slice_get rules k ≡ Some r → number_of r ≡ k
 number_at k r at =
     let here : slice_get (range_with_len 0 40) k ≡ Some (number_of r) =
@@ -120,7 +120,7 @@ has_one_place r = let at = place_of r in record { place = at.0; here = at.1; onl
 
 -- ---- names
 
--- where a name stands among the names of the table
+-- where a name is among the names of the table
 name_place : List ℕ → Option ℕ
 name_place name = position (λ other. bytes_eq other name) (map rule_name rules)
 

@@ -71,7 +71,7 @@ NeverAhead t = (before : Past) (p : Point) → Comes (plain_order t) before p �
 abbrev pub OrdersAgree : Type 0
 OrdersAgree = (t : List Entry) → NeverAhead t → order t ≡ plain_order t
 
--- Parts put one after the other.
+-- Lists put one after the other.
 abbrev pub together : {A : Type 0} → List (List A) → List A
 together lists = flat_map (λ list. list) lists
 
@@ -98,6 +98,6 @@ pub record HasOnePlace (r : Rule) : Type 0 where
   pub here : slice_get rules place ≡ Some r
   pub only : (k : ℕ) → slice_get rules k ≡ Some r → k ≡ place
 
--- Each rule stands in the table just once.
+-- Each rule is in the table just once.
 abbrev pub TableIsWhole : Type 0
 TableIsWhole = (r : Rule) → HasOnePlace r

@@ -22,9 +22,9 @@ pub struct BufferCopy {
 pub struct BufferImageCopy {
     /// In bytes.
     pub buffer_offset: u64,
-    /// In texels; 0 stands for the width.
+    /// In texels; 0 means the width.
     pub row_length: u32,
-    /// In rows; 0 stands for the height.
+    /// In rows; 0 means the height.
     pub image_height: u32,
     pub level: u32,
     pub first_layer: u32,
@@ -76,7 +76,7 @@ pub struct Families {
     pub destination: u32,
 }
 
-/// A dependency on a part of a buffer, as `VkBufferMemoryBarrier2`.
+/// A dependency on a range of a buffer, as `VkBufferMemoryBarrier2`.
 #[derive(Clone, Copy, PartialEq, Eq, Debug)]
 pub struct BufferElement {
     pub dependency: Dependency,
@@ -98,7 +98,7 @@ pub struct ImageElement {
     pub range: SubresourceRange,
 }
 
-/// One dependency of a barrier: on all memory, on a part of a buffer, or on a part of an image.
+/// One dependency of a barrier: on all memory, on a range of a buffer, or on a range of an image.
 #[derive(Clone, Copy, PartialEq, Eq, Debug)]
 pub enum Element {
     Memory(Dependency),

@@ -74,13 +74,13 @@ pub enum Entry {
         offset: u64,
         size: u64,
     },
-    /// `vkFlushMappedMemoryRanges` on a part of a buffer.
+    /// `vkFlushMappedMemoryRanges` on a range of a buffer.
     Flush {
         buffer: u32,
         offset: u64,
         size: Length,
     },
-    /// `vkInvalidateMappedMemoryRanges` on a part of a buffer.
+    /// `vkInvalidateMappedMemoryRanges` on a range of a buffer.
     Invalidate {
         buffer: u32,
         offset: u64,

@@ -17,7 +17,7 @@ pub fn names_differ()
     ensures { NamesDiffer }
 {}
 
-/// Each rule stands in the table just once.
+/// Each rule is in the table just once.
 pub fn table_is_whole()
     ensures { TableIsWhole }
 {}

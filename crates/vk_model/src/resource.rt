@@ -48,7 +48,7 @@ pub struct PoolInfo {
     pub memory_type: u32,
     /// The bytes of each block.
     pub block_size: u64,
-    /// How many blocks may stand at once.
+    /// How many blocks may be live at once.
     pub block_limit: u32,
 }
 

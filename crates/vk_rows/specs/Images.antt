@@ -81,7 +81,7 @@ pub record Images : Type 0 where
       ∷ entry.Map 1
       ∷ entry.Read 1 0 4
       ∷ []) (at.Command 3 0 2) rule.OldLayout
-  -- Equal layouts are no transition, so the image still stands in TRANSFER_DST_OPTIMAL.
+  -- Equal layouts are no transition, so the image is still in TRANSFER_DST_OPTIMAL.
   pub equal_layouts : Refuses
       (buffer_entry 1 64 destination sharing.Exclusive (place.Dedicated 1)
       ∷ image_entry 2 texel_format.R8Uint 8 8 1 1 kind.Optimal both sharing.Exclusive (place.Dedicated 0)
@@ -97,7 +97,7 @@ pub record Images : Type 0 where
       ∷ entry.Map 1
       ∷ entry.Read 1 0 4
       ∷ []) (at.Command 3 0 3) rule.Layout
-  -- A clear of an image that stands in UNDEFINED.
+  -- A clear of an image in UNDEFINED.
   pub clear_undefined : Refuses
       (image_entry 1 texel_format.R8Uint 8 8 1 1 kind.Optimal both sharing.Exclusive (place.Dedicated 0)
       ∷ entry.Submit 0 (batch [] (cmd.Clear 1 destination_optimal (0 ∷ 0 ∷ 0 ∷ 0 ∷ []) ((levels 0 1 0 1) ∷ []) ∷ []) [] ∷ [])

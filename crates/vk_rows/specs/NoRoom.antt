@@ -1,4 +1,4 @@
--- Where the traces that stop find no room: the device as it stands before the entry that allocates.
+-- Where the traces that stop find no room: the device as it is before the entry that allocates.
 use Rattle.std.specs.Prelude.{◌≡◌, ℕ, List, [], ◌∷◌, true, false, if◌then◌else◌, ◌==◌}
 use Rattle.vk_model.specs.declared.resource.PoolKind.{PoolKind}
 use Rattle.vk_model.specs.declared.resource.PoolKind.TheVariants as algorithm
@@ -6,7 +6,7 @@ use Rattle.vk_model.specs.declared.resource.Kind.TheVariants as kind
 use Rattle.vk_model.specs.Memory.Suballocation.{Taken, Request}
 use Rattle.vk_model.specs.Memory.Room.{Heaps, no_object, Block, General, Stack, PoolState, NoRoomInPool}
 
--- Heaps of these sizes, so much of which is used, and how many memory objects stand.
+-- Heaps of these sizes, so much of which is used, and how many memory objects are live.
 abbrev pub heaps : ℕ → ℕ → ℕ → ℕ → ℕ → Heaps
 heaps size0 size1 used0 used1 objects = record { limit = λ h. if h == 0 then size0 else size1; used = λ h. if h == 0 then used0 else used1; objects = objects }
 
@@ -48,7 +48,7 @@ pub record NoRoom : Type 0 where
   pub small_heap_used : no_object (heaps 4194304 65536 0 65536 1) 1 1 ≡ true
   -- In a heap of the usual size it fits.
   pub usual_heap_fits : no_object (heaps 4194304 4194304 0 65536 1) 1 1 ≡ false
-  -- 4,096 memory objects stand.
+  -- 4,096 memory objects are live.
   pub most_objects : no_object (heaps 4194304 4194304 0 65536 4096) 1 16 ≡ true
   -- One more of 4,095 is possible.
   pub one_more_object : no_object (heaps 4194304 4194304 0 65520 4095) 1 16 ≡ false

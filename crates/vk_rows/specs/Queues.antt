@@ -59,7 +59,7 @@ pub record Queues : Type 0 where
       ∷ entry.Map 2
       ∷ entry.Read 2 0 4
       ∷ []) (at.Command 4 0 0) rule.OwnerPair
-  -- A release of a part of a buffer.
+  -- A release of a range of a buffer.
   pub part_released : Refuses
       (buffer_entry 1 16 both sharing.Exclusive (place.Dedicated 0)
       ∷ buffer_entry 2 16 destination sharing.Exclusive (place.Dedicated 1)

@@ -24,12 +24,12 @@ pub record RulesOfAccess : Type 0 where
       ∷ entry.Map 1
       ∷ entry.Unmap 1
       ∷ [])
-  -- A map of memory that the host doesn't see.
+  -- A map of memory that isn't visible to the host.
   pub host_visible : BreaksOnly
       (buffer_entry 1 16 both sharing.Exclusive (place.Dedicated 0)
       ∷ entry.Map 1
       ∷ []) (at.Entry 1) rule.HostVisible
-  -- Of memory that it sees.
+  -- Of memory that is visible to it.
   pub host_visible_corrected : BreaksNothing
       (buffer_entry 1 16 both sharing.Exclusive (place.Dedicated 1)
       ∷ entry.Map 1

@@ -67,7 +67,7 @@ pub record RulesOfObjects : Type 0 where
   pub usage_corrected : BreaksNothing
       (buffer_entry 1 16 source sharing.Exclusive (place.Dedicated 1)
       ∷ [])
-  -- An optimal image in memory that the host sees.
+  -- An optimal image in memory that is visible to the host.
   pub memory_type : BreaksOnly
       (image_entry 1 texel_format.R8Uint 8 8 1 1 kind.Optimal both sharing.Exclusive (place.Dedicated 1)
       ∷ []) (at.Entry 0) rule.MemoryType

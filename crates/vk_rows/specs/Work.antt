@@ -71,7 +71,7 @@ related test t m n =
     let ns = nodes (plain_order t) in
     holds (slice_get (reverse ns) m) (λ x. holds (slice_get (reverse ns) n) (test ns x))
 
--- Whether the read of byte 0 of buffer 1 by one node sees the write by another.
+-- Whether the read of byte 0 of buffer 1 by one node has seen the write by another.
 abbrev pub seen_byte : List Node → Node → Node → Bool
 seen_byte ns w a = seen (λ b. false) ns w a Read (in_buffer 1 0)
 
@@ -143,10 +143,10 @@ pub record Work : Type 0 where
   pub tiled_size : image_size (nine_by_five kind.Optimal) kind.Optimal ≡ 256
   pub linear_size : image_size (nine_by_five kind.Linear) kind.Linear ≡ 320
   pub linear_pitch : row_pitch (nine_by_five kind.Linear) ≡ 64
-  -- The fill comes before the host's read, which sees it.
+  -- The fill comes before the host's read, by which it is seen.
   pub fill_before_read : related before (upload to_host) 3 8 ≡ true
   pub read_seen_fill : related seen_byte (upload to_host) 3 8 ≡ true
-  -- Without the barrier it comes before the read all the same, which doesn't see it.
+  -- Without the barrier it comes before the read all the same, by which it isn't seen.
   pub still_before : related before (upload []) 3 7 ≡ true
   pub not_seen : related seen_byte (upload []) 3 7 ≡ false
   -- The fill is ordered directly before the signal.

@@ -53,6 +53,6 @@ is_done means front total so_far = sym so_far ∙ ap Some (append-nil front)
 pub rest_at : {X : Type 0} (vs : List X) (i : ℕ) (v : X) → i < length vs → v ≡ get_or vs i v → drop i vs ≡ v ∷ drop (i + 1) vs
 rest_at vs i v lt h = rw (add-one) (drop-cons vs i v lt ∙ ap (λ w. w ∷ drop (suc i) vs) (sym h))
 
--- the same of what the values stand for
+-- the same of what the values mean
 pub rest_views : (vs : List Value) (i : ℕ) (v : Value) → i < length vs → v ≡ get_or vs i v → map view (drop i vs) ≡ view v ∷ map view (drop (i + 1) vs)
 rest_views vs i v lt h = ap (map view) (rest_at vs i v lt h)

@@ -3,11 +3,11 @@ use Rattle.std.specs.Prelude.{ℕ, ◌^◌, List, [], ◌∷◌, Option, Some, N
 use Rattle.serde_json.specs.Data.{Data, Items, no_items, item}
 use Rattle.serde_json.specs.Find.{as_array, as_number, as_u64, as_str}
 
--- What a value stands for, if it stands for anything.
+-- What a value means, if it means anything.
 abbrev pub Reader : Type 0 → Type 0
 Reader A = Data → Option A
 
--- What the members at the front of an array stand for, and the members after them.
+-- What the members at the front of an array mean, and the members after them.
 abbrev pub Row : Type 0 → Type 0
 Row A = List Data → Option (A × List Data)
 
@@ -55,7 +55,7 @@ only row ds = row ds >>= λ x. no_member x.1 >>= λ _. Some x.0
 abbrev pub members : {A : Type 0} → Row A → Reader A
 members row d = array_members d >>= only row
 
--- What stands beside a word in a table.
+-- What is beside a word in a table.
 abbrev pub at_word : {A : Type 0} → List (List ℕ × A) → List ℕ → Option A
 at_word [] word = None
 at_word ((w, x) ∷ table) word = if bytes_eq word w then Some x else at_word table word
@@ -76,7 +76,7 @@ after_word rows word ds = at_word rows word >>= λ row. only row ds
 abbrev pub tagged : {A : Type 0} → List (List ℕ × Row A) → Reader A
 tagged rows d = word_and_members d >>= λ x. after_word rows x.0 x.1
 
--- What each of the members stands for.
+-- What each of the members means.
 unfoldable pub each_member : {A : Type 0} → Reader A → List Data → Option (List A)
 each_member read [] = Some []
 each_member read (d ∷ ds) = read d >>= λ x. each_member read ds >>= λ xs. Some (x ∷ xs)

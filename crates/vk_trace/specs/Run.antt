@@ -33,7 +33,7 @@ pub record Reports (config : Config) (input text : List ℕ) (outcome : Outcome)
   pub answer : IsAnswer config entries outcome
   pub lines : text ≡ lines_of outcome
 
--- A fault that comes before anything is written.
+-- An error that comes before anything is written.
 abbrev pub IsBeforeWriting : RunError → Type 0
 IsBeforeWriting NotTrace = Unit {0}
 IsBeforeWriting NoMemory = Unit {0}
@@ -41,7 +41,7 @@ IsBeforeWriting TooLong = Unit {0}
 IsBeforeWriting ReadFault = Unit {0}
 IsBeforeWriting (WriteFault n) = ⊥
 
--- A fault of reading the input.
+-- An error of reading the input.
 abbrev pub IsOfReading : RunError → Type 0
 IsOfReading NotTrace = ⊥
 IsOfReading NoMemory = Unit {0}
@@ -49,7 +49,7 @@ IsOfReading TooLong = Unit {0}
 IsOfReading ReadFault = Unit {0}
 IsOfReading (WriteFault n) = ⊥
 
--- A fault between reading and writing.
+-- An error between reading and writing.
 abbrev pub IsOfAnswering : RunError → Type 0
 IsOfAnswering NotTrace = Unit {0}
 IsOfAnswering NoMemory = Unit {0}

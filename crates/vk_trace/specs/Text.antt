@@ -17,7 +17,7 @@ abbrev pub stop_line : Option ℕ → List ℕ
 stop_line None = []
 stop_line (Some e) = codes "stopped " ++ decimal e ++ codes " NO_ROOM\n"
 
--- A part of a batch by the entry, the batch, a mark, and its place in the list (profile).
+-- An item of a batch by the entry, the batch, a mark, and its place in the list (profile).
 abbrev pub batch_item_text : ℕ → ℕ → List ℕ → ℕ → List ℕ
 batch_item_text e b mark k = decimal e ++ codes "." ++ decimal b ++ mark ++ decimal k
 

@@ -15,7 +15,7 @@ use Rattle.vk_trace.specs.Members.{◌>>=◌}
 use Rattle.vk_trace.specs.Trace.{trace_value}
 use Rattle.vk_trace.specs.Text.{lines_of}
 
--- The entries that a text of JSON stands for.
+-- The entries that a text of JSON means.
 abbrev pub meant_by : List ℕ → Option (List Entry)
 meant_by bytes = read bytes >>= trace_value
 

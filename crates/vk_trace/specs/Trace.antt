@@ -22,7 +22,7 @@ use Rattle.vk_model.specs.declared.entry.Entry.{Entry}
 use Rattle.vk_model.specs.declared.entry.Entry.TheVariants.{Buffer, Map, Read, Semaphore, Wait, Submit}
 use Rattle.vk_trace.specs.Members.{Reader, Row, ◌>>=◌, from, ◌<*>◌, members, at_word, one_word, tagged, list_of, empty_list, u64_value, u32_value}
 
--- A number of bytes, or the word that stands for all to the end (`VK_WHOLE_SIZE`) (profile).
+-- A number of bytes, or the word that means all to the end (`VK_WHOLE_SIZE`) (profile).
 unfoldable pub length_or_whole : Reader Length
 length_or_whole d = by_word (as_str d)
   where
@@ -122,7 +122,7 @@ entry_value = tagged entry_rows
 abbrev pub trace_value : Reader (List Entry)
 trace_value = list_of entry_value
 
--- The bytes are UTF-8, and spell a value of JSON that stands for these entries.
+-- The bytes are UTF-8, and spell a value of JSON that means these entries.
 pub record IsTrace (bytes : List ℕ) (entries : List Entry) : Type 0 where
   pub text : IsUtf8 bytes
   pub value : Data

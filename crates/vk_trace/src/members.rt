@@ -10,14 +10,14 @@ use serde_json::Value;
 use std::alloc::Global;
 use vk_model::Sequence;
 
-/// What a reader answers. It has no fault but those of `read_trace`.
+/// What a reader answers. It has no error but those of `read_trace`.
 pub type Reading<T> = Result<T, ReadTraceError>;
 
-/// A type whose values stand in a trace as a value of JSON.
+/// A type whose values are written in a trace as a value of JSON.
 pub trait Member: Drop {
     ghost means: { Data → Option Self };
 
-    /// What the value of JSON stands for.
+    /// What the value of JSON means.
     fn member(alloc: Global, value: &Value) -> Reading<Self>
         ensures { Gives (λ x. x) result (means (view value.now)) };
 }
@@ -32,7 +32,7 @@ pub fn list_members(value: &Value) -> Reading<&[Value]>
     }
 }
 
-/// What the first member stands for, and the members after it.
+/// What the first member means, and the members after it.
 pub fn first<T: Member>(alloc: Global, values: &[Value]) -> Reading<(T, &[Value])>
     ensures { Gives (λ x. (x.0, map view x.1.now)) result (first_member T.means (map view values.now)) }
 {
@@ -71,7 +71,7 @@ pub fn word_first(value: &Value) -> Reading<(&str, &[Value])>
     }
 }
 
-/// What the members of a list stand for, one after the other.
+/// What the members of a list mean, one after the other.
 fn each<T: Member>(alloc: Global, values: &[Value]) -> Reading<Vec<T>>
     ensures { Gives (λ v. v.items) result (each_member T.means (map view values.now)) }
 {

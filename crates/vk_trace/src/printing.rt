@@ -6,7 +6,7 @@ use itoa::Buffer;
 use std::alloc::{AllocError, Global};
 use vk_model::{At, Rule, Sequence};
 
-/// What there is to tell of a trace. Entries are named by their place in the trace, from 0 on.
+/// What there is to report of a trace. Entries are named by their place in the trace, from 0 on.
 #[derive(Debug, Drop)]
 pub enum Outcome {
     /// The bytes that each `read` gave, with its entry, in the order of the trace, and the entry that

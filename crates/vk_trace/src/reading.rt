@@ -11,7 +11,7 @@ use serde_json::Value;
 use std::alloc::Global;
 use vk_model::{Entry, Sequence};
 
-/// The entries that the bytes of a trace stand for. `NotTrace` comes only where they stand for none.
+/// The entries that the bytes of a trace mean. `NotTrace` comes only where they mean none.
 pub fn read_trace(alloc: Global, bytes: &[u8]) -> Result<Vec<Entry>, ReadTraceError>
     ensures ok { IfOk result (λ v. IsTrace bytes.now v.items) }
     ensures none { result ≡ Err ReadTraceError.NotTrace → (t : List Entry) → IsTrace bytes.now t → ⊥ }

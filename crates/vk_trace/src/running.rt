@@ -37,7 +37,7 @@ const CHUNK: usize = 65_536;
 /// Reads a trace to its end, looks for a broken rule, replays it where there is none, and writes the
 /// text of the answer: the bytes that the trace means, up to the first entry that finds no room in heaps
 /// of these sizes, or a refusal. Nothing is written before the whole text is built, so only `WriteFault` has
-/// written a part of it. Nothing is flushed.
+/// written a front of it. Nothing is flushed.
 pub fn run<R: Read, W: Write, S: Scheduler>(
     alloc: Global,
     reader: &mut Watched<R>,
@@ -54,7 +54,7 @@ pub fn run<R: Read, W: Write, S: Scheduler>(
     // There is no trace only where the bytes are none.
     ensures no_trace { result ≡ Err RunError.NotTrace
         → IfSome (R.remaining reader.old.inner) (λ input. (t : List Entry) → IsTrace input t → ⊥) }
-    // Every fault but that of a write has written nothing.
+    // Every error but that of a write has written nothing.
     ensures silent { IfErr result (λ e. IsBeforeWriting e
         → Keeps (W.contents writer.old.inner) (W.contents writer.new.inner)) }
     // A failed write has written the front of the answer.
@@ -145,7 +145,7 @@ fn answer_status(outcome: &Outcome) -> Status
     }
 }
 
-/// The answer to a trace. A device that is new has no fault but want of memory.
+/// The answer to a trace. A device that is new has no error but want of memory.
 fn outcome_of<S: Scheduler>(
     alloc: Global,
     entries: &[Entry],

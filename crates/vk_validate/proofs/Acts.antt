@@ -69,7 +69,7 @@ no_owner_pair past p now = rw (next_nodes-lined past p) (unpaired past (nodes (p
 
 -- ---- where nodes come from
 
--- a node that stands once acts are added is an older one, or is of one of the acts
+-- a node that is there once acts are added is an older one, or is of one of the acts
 pub with_member : (p : Point) (more : List Act) (ns : List Node) (n : Node) → Contains (with_acts p more ns) n → Contains ns n ⊎ ((n.point ≡ p) × Contains more n.act)
 with_member p [] ns n c = inl c
 with_member p (a ∷ more) ns n c = elim (with_member p more (record { number = length ns; point = p; act = a } ∷ ns) n c) [

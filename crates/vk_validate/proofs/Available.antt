@@ -1,4 +1,4 @@
--- When a command's write is available, and when it is shown to the host.
+-- When a command's write is available, and when it is visible to the host.
 use Rattle.std.proofs.Common.{◌≡◌, ◌<◌, List, ◌∷◌, length, Bool, true, false, ◌&&◌, ap, sym, ◌∙◌, subst, arith, inl, inr, ◌⊎◌}
 use Rattle.std.specs.Prelude.{Contains}
 use Rattle.vk_model.specs.Basics.{has_some}
@@ -45,7 +45,7 @@ pub data Visible (ns : List Node) (w : Node) : Node → Type 0 where
   Begun : {q n : Node} → Available ns w q → leads_to_reads q.act ≡ true → Contains ns n → edge ns q n ≡ true → Visible ns w n
   Carried : {m n : Node} → Visible ns w m → Contains ns n → edge ns m n ≡ true → Visible ns w n
 
--- where a write is available or shown stands among the nodes
+-- where a write is available or visible is among the nodes
 pub available_present : (ns : List Node) (w n : Node) → Available ns w n → Contains ns n
 available_present ns w n (MadeHere c e f) = c
 available_present ns w n (Passed f c e) = c
@@ -65,13 +65,13 @@ pub record Via (ns : List Node) (w : Node) (test : Act → Bool) : Type 0 where
   pub passes : test node.act ≡ true
   pub made_available : Available ns w node
 
--- and one when which it is shown
+-- and one when which it is visible
 pub record VisibleVia (ns : List Node) (w : Node) (test : Act → Bool) : Type 0 where
   pub node : Node
   pub passes : test node.act ≡ true
   pub made_visible : Visible ns w node
 
--- what is shown was available at an element to the host's reads
+-- what is visible was available at an element to the host's reads
 pub visible_via : (ns : List Node) (w n : Node) → Visible ns w n → Via ns w leads_to_reads
 visible_via ns w n (Begun {q = q} f l c e) = record { node = q; passes = l; made_available = f }
 visible_via ns w n (Carried {m = m} s c e) = visible_via ns w m s
@@ -87,7 +87,7 @@ module _ (n : Node) (ns : List Node) (new : n.number ≡ length ns) (numbers : I
   lift_edge : (a b : Node) → Contains ns b → edge ns a b ≡ true → edge (n ∷ ns) a b ≡ true
   lift_edge a b c e = edge-older n ns new a b (number_below ns numbers b c) ∙ e
 
-  -- what is available or shown at a node stays so
+  -- what is available or visible at a node stays so
   pub available_stays : (m : Node) → Available ns w m → Available (n ∷ ns) w m
   available_stays m (MadeHere c e f) = MadeHere (contains-tail n ns m c) (lift_edge w m c e) f
   available_stays m (Passed {m = k} f c e) = Passed (available_stays k f) (contains-tail n ns m c) (lift_edge k m c e)
@@ -126,7 +126,7 @@ module _ (n : Node) (ns : List Node) (new : n.number ≡ length ns) (numbers : I
   pub via_new : (test : Act → Bool) → test n.act ≡ true → Available (n ∷ ns) w n → Via (n ∷ ns) w test
   via_new test is f = record { node = n; passes = is; made_available = f }
 
-  -- the same of what is shown
+  -- the same of what is visible
   pub visible_splits : (test : Act → Bool) → VisibleVia (n ∷ ns) w test → VisibleVia ns w test ⊎ ((test n.act ≡ true) × Visible (n ∷ ns) w n)
   visible_splits test v = elim (contains-cons n ns v.node (visible_present (n ∷ ns) w v.node v.made_visible)) [
     | inl same ↦ inr (ap (λ (k : Node). test k.act) same ∙ v.passes, subst (λ (k : Node). Visible (n ∷ ns) w k) (sym same) v.made_visible)

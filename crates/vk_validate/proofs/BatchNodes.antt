@@ -122,7 +122,7 @@ module _ (base : List Node) (numbers : IsNumbered base) (simple : (m : Node) →
     low : (m : Node) → Contains ns m → m.number < length ns
     low m c = number_below ns amid.numbering m c
 
-    -- the parts of the number where the element stands
+    -- the terms of the number where the element is
     by_host_clock : j < o.host.available → j < available_at o d point
     by_host_clock lt = omega (arith, lt)
 
@@ -310,7 +310,7 @@ module _ (base : List Node) (numbers : IsNumbered base) (simple : (m : Node) →
           let all = max_iff j (max o.to_host o.signals.available) o.host.available (max_iff j o.to_host o.signals.available means.host_stages means.signals) means.hosts in
           (λ f. all.0 (uncovered t f), λ more. covering (all.1 more))
 
-    -- and shown there just where its clock counts it as shown
+    -- and visible there just where its clock counts it as visible
     pub signal_visible : Visible (signal ∷ base) w signal ↔ (j < clock.readable)
     signal_visible = (to_number, from_number) where
       to_number : Visible (signal ∷ base) w signal → j < clock.readable

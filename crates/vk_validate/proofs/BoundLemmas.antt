@@ -116,7 +116,7 @@ was_none o x y is same empty byte writer h =
     let none : writer ≡ None = subst (λ (z : Option LastWriters). WasLast z byte writer) is h in
     subst (λ (z : LastWriters). IsLastWriter z.bounds byte writer) (sym same) (inr (record { free = λ key le. rw empty refl; none = none }))
 
--- a number that isn't above another, as a map's order tells it
+-- a number that isn't above another, by a map's order
 pub not_gt : (a b : ℕ) → a ≤ b → is_gt (nat_cmp a b) ≡ false
 not_gt a b le = by_order (cases_order a b) where
   by_order : (a ≡ b) ⊎ ((a < b) ⊎ (b < a)) → is_gt (nat_cmp a b) ≡ false

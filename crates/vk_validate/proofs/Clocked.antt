@@ -14,7 +14,7 @@ use Rattle.vk_validate.proofs.Paths.{edge_forward, edge-new}
 use Rattle.vk_validate.proofs.Available.{Available, MadeHere, Passed, Visible, Begun, Carried, Via, VisibleVia, makes_available, leads_to_transfers, leads_to_writes, leads_to_host, leads_to_reads, available_stays, available_was, visible_stays, visible_was, via_splits, via_stays, via_new, visible_splits, visible_via_stays}
 use Rattle.vk_validate.proofs.Waits.{max_iff}
 
--- a command's write is available, visible or shown where the thresholds are above its point's number
+-- a command's write is available, or visible, where the thresholds are above its point's number
 pub record Means (o : Order) (ns : List Node) (w : Node) (j : ℕ) : Type 0 where
   pub transfers : Via ns w leads_to_transfers ↔ (j < o.to_transfers)
   pub writes : Via ns w leads_to_writes ↔ (j < o.to_writes)
@@ -105,12 +105,12 @@ module _ (n : Node) (ns : List Node) (new : n.number ≡ length ns) (numbers : I
   pub available_sent : edge ns w n ≡ true → makes_available n.act ≡ true → Available (n ∷ ns) w n
   available_sent e f = MadeHere (contains-head n ns) (edge-new n ns new numbers w ∙ e) f
 
-  -- where a write that is shown at a new node comes from
+  -- where a write that is visible at a new node comes from
   pub visible_from : Visible (n ∷ ns) w n → ((q : Node) × Available ns w q × (leads_to_reads q.act ≡ true) × (edge ns q n ≡ true)) ⊎ ((m : Node) × Visible ns w m × (edge ns m n ≡ true))
   visible_from (Begun {q = q} f l c e) = let less = edge_forward (n ∷ ns) q n e in inl (q, available_was n ns new numbers w q f (omega (arith, less, new)), l, sym (edge-new n ns new numbers q) ∙ e)
   visible_from (Carried {m = m} s c e) = let less = edge_forward (n ∷ ns) m n e in inr (m, visible_was n ns new numbers w m s (omega (arith, less, new)), sym (edge-new n ns new numbers m) ∙ e)
 
-  -- from a node where it is shown
+  -- from a node where it is visible
   pub visible_through : (m : Node) → Visible ns w m → edge ns m n ≡ true → Visible (n ∷ ns) w n
   visible_through m s e = Carried (visible_stays n ns new numbers w m s) (contains-head n ns) (edge-new n ns new numbers m ∙ e)
 

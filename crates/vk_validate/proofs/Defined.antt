@@ -26,18 +26,18 @@ use Rattle.vk_validate.proofs.Plain.{IsPlain, Placed}
 use Rattle.vk_validate.proofs.Reach.{fills_low, supported_of}
 use Rattle.vk_validate.proofs.Acts.{last_queue}
 
--- ---- what a fill's moves leave
+-- ---- what a fill's byte writes leave
 
 module _ (value : Byte → Option ℕ) (to : ℕ → Byte) (of : ℕ → ℕ) (at : Byte) where
   abbrev written : List ℕ → Option ℕ
   written ks = value_after value (find (λ m. same_byte m.to at) (map (λ k. byte_write (to k) (Value (of k))) ks)) at
 
-  -- a byte that no move is to stays as it is
+  -- a byte that no write is to stays as it is
   missed : (a n : ℕ) → ((k : ℕ) → a ≤ k → k < a + n → same_byte (to k) at ≡ false) → written (range_with_len a n) ≡ value at
   missed a zero none = refl
   missed a (suc n) none = rw (none a (omega arith) (omega arith)) (missed (a + 1) n (λ k low high. none k (omega arith) (omega arith)))
 
-  -- a byte that a move is to has a value
+  -- a byte that a write is to has a value
   hit : (a n k : ℕ) → a ≤ k → k < a + n → same_byte (to k) at ≡ true → is_none (written (range_with_len a n)) ≡ false
   hit a zero k low high e = absurd (omega arith)
   hit a (suc n) k low high e = go (same_byte (to a) at) refl (eqb a k) refl (λ next. hit (a + 1) n k next (omega arith) e) where

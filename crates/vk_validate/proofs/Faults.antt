@@ -35,7 +35,7 @@ none_before (Some f) p here none = absurd cc
 none_before None p None none = (refl, refl)
 none_before None p (Some r) none = absurd cc
 
--- a past in which no test tells a rule is cleared, and the other way round
+-- a past in which no test finds a rule is cleared, and the other way round
 cleared_of : (past : Past) → fault_by tested_rule past ≡ None → IsCleared past
 cleared_of [] none = tt
 cleared_of (p ∷ past) none = let h = none_before (fault_by tested_rule past) p (tested_rule past p) none in (here (is_supported_action p.action) refl h.1, cleared_of past h.0) where
@@ -47,7 +47,7 @@ none_tested : (past : Past) → IsCleared past → fault_by tested_rule past ≡
 none_tested [] cleared = refl
 none_tested (p ∷ past) cleared = rw (none_tested past cleared.1, cleared.0.supported, cleared.0.clear) refl
 
--- ---- the tests tell what is to be reported
+-- ---- the tests find what is to be reported
 
 tested_rule_is : (past : Past) (p : Point) → IsCleared past → IsPlain (p ∷ past) → IsApart past → tested_rule past p ≡ reported_rule past p
 tested_rule_is past p cleared plain apart = go (is_supported_action p.action) refl where
@@ -86,7 +86,7 @@ acceptable xs none =
     let supported : is_supported (plain_order xs) ≡ true = supported_of (plain_order xs) (cleared_of (plain_order xs) none) in
     record { supported = supported; faultless = sym (reported_supported xs supported) ∙ sym (tested_plain xs) ∙ none }
 
--- what the tests tell of the points of a trace
+-- what the tests find of the points of a trace
 module _ (xs : List Entry) (points : Past) (laid : points ≡ plain_order xs) (f : Option (At × Rule)) (found : f ≡ tested_fault points) where
   pub reports : f ≡ reported_fault (plain_order xs)
   reports = found ∙ ap tested_fault laid ∙ tested_plain xs

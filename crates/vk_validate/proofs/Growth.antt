@@ -10,7 +10,7 @@ use Rattle.vk_validate.proofs.Members.{none_in, contains-cons}
 
 -- ---- numbers of nodes
 
--- a node that stands has a number below the count
+-- a node that is there has a number below the count
 pub number_below : (ns : List Node) → IsNumbered ns → (m : Node) → Contains ns m → m.number < length ns
 number_below [] numbered m c = absurd (none_in m c)
 number_below (n ∷ ns) numbered m c = elim (contains-cons n ns m c) [

@@ -5,7 +5,7 @@ use Rattle.std.specs.List.{list_any, list_all}
 use Rattle.std.proofs.lemmas.Bool.{and_parts}
 use Rattle.std.proofs.Math.Bool.{or-true}
 
--- ---- where a member stands
+-- ---- where a member is
 
 pub none_in : {A : Type 0} (x : A) → Contains [] x → ⊥
 none_in x c = let lt : c.0 < 0 = c.1 in omega arith

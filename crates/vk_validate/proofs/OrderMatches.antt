@@ -31,7 +31,7 @@ module _ (p : Point) (w : Node) where
   available_grows (a ∷ more) ns numbers m f =
       let n : Node = record { number = length ns; point = p; act = a } in available_grows more (n ∷ ns) (refl, numbers) m (available_stays n ns refl numbers w m f)
 
-  -- more nodes change nothing of what is available or shown at an older one
+  -- more nodes change nothing of what is available or visible at an older one
   pub available_ungrown : (more : List Act) (ns : List Node) → IsNumbered ns → (m : Node) → Contains ns m → Available (with_acts p more ns) w m → Available ns w m
   available_ungrown [] ns numbers m c f = f
   available_ungrown (a ∷ more) ns numbers m c f =
@@ -62,7 +62,7 @@ abbrev pub IsCommandAt : Past → Node → ℕ → Type 0
 IsCommandAt [] w j = ⊥
 IsCommandAt (p ∷ past) w j = IsRunAt past p w j ⊎ IsCommandAt past w j
 
--- a command at a point stands among the nodes
+-- a command at a point is among the nodes
 pub command_present : (past : Past) (w : Node) (j : ℕ) → IsCommandAt past w j → Contains (nodes past) w × (is_command w.act ≡ true) × (j < length past)
 command_present [] w j at = absurd at
 command_present (p ∷ past) w j (inr old) = let h = command_present past w j old in (with_keeps p (acts p.action) (nodes past) w h.0, h.1, let lt = h.2 in omega (arith, lt))
@@ -89,7 +89,7 @@ pub record IsBounded (o : Order) (k : ℕ) : Type 0 where
   pub hosts : o.host.available ≤ k
   pub visible_hosts : o.host.readable ≤ k
 
--- a clock says of each command whether its write is available, and shown, at a node
+-- a clock says of each command whether its write is available, and visible, at a node
 abbrev pub IsClocked : Past → Clock → Node → Type 0
 IsClocked past c m = (w : Node) (j : ℕ) → IsCommandAt past w j → (Available (nodes past) w m ↔ (j < c.available)) × (Visible (nodes past) w m ↔ (j < c.readable))
 

@@ -140,7 +140,7 @@ module _ (past : Past) (cleared : IsCleared past) (plain : IsPlain past) (s : Or
   abbrev filling : Point → Cmd → Node
   filling p c = record { number = length (nodes past); point = record p { action = Run c }; act = Runs c }
 
-  -- the order still stands after a fill
+  -- the order still matches after a fill
   pub after_fill : (p : Point) (b o : ℕ) (n : Length) (word : ℕ) → MatchesOrderState s (record p { action = Run (cmd.Fill b o n word) } ∷ past)
   after_fill p b o n word = record {
     bounded = more_points s.order (length past) present.bounded;

@@ -84,7 +84,7 @@ no_signal_order past p supported now plain = rw (next_nodes-lined past p) (by_ac
 
 -- ---- HAZARD_WAR
 
--- the submit of a batch stands among the nodes, and no host entry came after it
+-- the submit of a batch is among the nodes, and no host entry came after it
 pub record Submitted (e : ℕ) (ns : List Node) : Type 0 where
   pub node : Node
   pub present : Contains ns node
@@ -96,7 +96,7 @@ submit_is : (q : ℕ) (x : Entry) → IsSubmitOn q x → is_submit (Hosts x) ≡
 submit_is q (entry.Submit r bs) h = refl
 submit_is q _ h = absurd h
 
--- before the points of a batch stands their submit
+-- before the points of a batch is their submit
 pub submitted : (e q : ℕ) (past : Past) → is_supported past ≡ true → LastSubmit e q past → Submitted e (nodes past)
 submitted e q [] supported last = absurd last
 submitted e q (p ∷ past) supported last = let s = supported-cons p past supported in go p.action s.0 last (submitted e q past s.1) where

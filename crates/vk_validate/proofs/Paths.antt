@@ -37,7 +37,7 @@ source : (ns : List Node) (m n : Node) → Path ns m n → Contains ns m
 source ns m n (direct c d e) = c
 source ns m n (longer {k = k} p d e) = source ns m k p
 
--- a path ends at a node that stands
+-- a path ends at a node that is there
 pub target : (ns : List Node) (m n : Node) → Path ns m n → Contains ns n
 target ns m n (direct c d e) = d
 target ns m n (longer p d e) = d
@@ -192,7 +192,7 @@ found_before : (ns : List Node) (x y : Node) → x.number < y.number → list_an
 unfolding before
 found_before ns x y lt e = rw (lt-ltb x.number y.number lt, e) refl
 
--- what is reached stands among the nodes
+-- what is reached is among the nodes
 reached_present : (ns : List Node) → IsNumbered ns → (x y : Node) → Contains ns x → Contains (reached x ns) y → Contains ns y
 reached_present ns numbers x y c at = present ((reached_paths ns numbers x c y).0 at)
   where

@@ -113,7 +113,7 @@ plain_order_apart xs = entries_apart 0 xs [] (λ before q d c is. absurd (none_c
 
 -- ---- nodes
 
--- a node's point stands in the past
+-- a node's point is in the past
 member_point : (past : Past) (m : Node) → Contains (nodes past) m → (before : Past) × Comes past before m.point × Contains (acts m.point.action) m.act
 member_point [] m c = absurd (none_in m c)
 member_point (p ∷ past) m c = elim (with_member p (acts p.action) (nodes past) m c) [

@@ -1,4 +1,4 @@
--- HAZARD_RAW and HAZARD_WAW: of the writers of a byte the last one tells of all.
+-- HAZARD_RAW and HAZARD_WAW: of the writers of a byte the last one decides for all.
 use Rattle.std.proofs.Common.{◌≡◌, ◌<◌, ◌≤◌, ◌+◌, ℕ, List, [], ◌∷◌, length, Bool, true, false, not, ◌&&◌, ◌||◌, refl, ap, sym, ◌∙◌, arith, inl, inr, Option, Some, None}
 use Rattle.std.specs.Prelude.{Contains, ◌↔◌, nat_le}
 use Rattle.std.specs.List.{list_any, list_all}
@@ -62,7 +62,7 @@ module _ (past : Past) (cleared : IsCleared past) (plain : IsPlain past) (apart 
   supported_now : is_supported (reading ∷ past) ≡ true
   supported_now = supported-next reading past refl (supported_of past cleared)
 
-  -- a read sees a write where it comes after the number of its point
+  -- a write is visible to a read where the read's number is above that of its point
   read_is_seen : (x : Node) (j : ℕ) (c : Cmd) (byte : Byte) → IsCommandAt past x j → x.act ≡ Runs c → (is_seen (reading ∷ past) x reader Read byte ≡ true) ↔ (j < readable)
   read_is_seen x j c byte at is = (λ e. now.visible_hosts.0 (record { node = reader; passes = refl; made_visible = seen_it.0 e }), λ lt. seen_it.1 (comes (then.visible_hosts.1 lt))) where
     stood : MatchesOrderState (order_state past) past
@@ -149,7 +149,7 @@ module _ (past : Past) (cleared : IsCleared past) (plain : IsPlain past) (apart 
         stage_edge (writer ∷ nodes past) q writer (number_below (nodes past) (numbered past) q old) (queue_stages q writer (dependency_of e.0).destination_stages.0 transfer_stage hosts.0 refl on (rw is refl) (rw hosts.1 refl) (ap second_scope e.1) refl (meet_transfers (dependency_of e.0).destination_stages.0 transfer_stage (sym (ap leads_to_transfers e.1) ∙ leads) refl)))
   ]
 
-  -- a fill sees a write where it comes after the number of its point
+  -- a write is visible to a fill where the fill's number is above that of its point
   write_is_seen : (x : Node) (j : ℕ) (c : Cmd) (byte : Byte) → IsCommandAt past x j → x.act ≡ Runs c → (is_seen (writing ∷ past) x writer Write byte ≡ true) ↔ (j < to_writes)
   write_is_seen x j c byte at is = (λ e. now.writes.0 (seen_it.0 e), λ lt. seen_it.1 (now.writes.1 lt)) where
     now : Means (order_state past).order (writer ∷ nodes past) x j

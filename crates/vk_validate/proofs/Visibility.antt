@@ -1,4 +1,4 @@
--- What a read of the host and a write of a command see: what is made available on the way to them, and visible.
+-- What is visible to a read of the host and to a write of a command: what is made available on the way to them, and visible.
 use Rattle.std.proofs.Common.{◌≡◌, ℕ, List, ◌∷◌, Bool, true, false, not, ◌&&◌, ◌||◌, ◌==◌, refl, ap, sym, ◌∙◌, subst, inl, inr, ◌⊎◌, Option, Some, None}
 use Rattle.std.specs.Prelude.{Contains, ◌↔◌, option_and_then}
 use Rattle.std.specs.List.{list_any}
@@ -74,7 +74,7 @@ makes_visible cached ns mask b q (element.Memory d) m at has = rw (at, has) refl
 makes_visible cached ns mask b q (element.Buffer e) m at has = no m
 makes_visible cached ns mask b q (element.Image e) m at has = no m
 
--- ---- sights
+-- ---- visibility
 
 -- an element to the host's reads
 reads_parts : (a : Act) → is_supported_act a ≡ true → leads_to_reads a ≡ true → (e : Element) × (a ≡ Depends Barrier e) × (is_memory e ≡ true) × (to_host a ≡ true) × (has_some (dependency_of e).destination_accesses.0 (host_mask Read) ≡ true)
@@ -103,7 +103,7 @@ supported_waits (Signals s) h = refl
 supported_waits (Runs c) h = refl
 supported_waits (Depends r e) h = refl
 
--- a sight, by the acts
+-- whether a write is seen, by the acts
 abbrev visibility : (Byte → Bool) → List Node → Node → Node → Act → Act → Access → Byte → Bool
 visibility cached ns w a of by k b = list_any (λ p. available_by cached ns w of b p && list_any (λ q. (same_node p q || before ns p q) && visible_by cached ns w a by k b q && (same_node q a || before ns q a)) ns) ns
 
@@ -157,7 +157,7 @@ module _ (past : Past) (p : Point) (w : Node) (cached : Byte → Bool) (b : Byte
   available_by_some : (n : Node) → Available ns w n → (m : Node) × Contains ns m × ((edge ns w m && makes_writes_available cached ns m b m.act) ≡ true) × ((same_node m n || before ns m n) ≡ true)
   available_by_some n f = let o = origin n f in (o.0, o.1, rw (o.2, supported_available cached ns o.0 b (simple o.0 o.1), o.3) refl, is_reached o.0 n o.1 o.4)
 
-  -- where the write is shown: by an element to the host's reads, and a path from it
+  -- where the write is visible: by an element to the host's reads, and a path from it
   pub visible_begin : (n : Node) → Visible ns w n → (q : Node) × Available ns w q × (leads_to_reads q.act ≡ true) × Path ns q n
   visible_begin n (Begun {q = q} f l c e) = (q, f, l, direct (available_present ns w q f) c e)
   visible_begin n (Carried {m = m} s c e) = let o = visible_begin m s in (o.0, o.1, o.2, longer o.3 c e)
@@ -184,7 +184,7 @@ module _ (past : Past) (p : Point) (w : Node) (cached : Byte → Bool) (b : Byte
         let parts = reads_parts q.act (simple q c) l in
         rw (before_of_path ns numbers q a c present_a path, parts.3, makes_visible cached ns (host_mask Read) b q parts.0 parts.2 parts.1 parts.4, coherent) refl
 
-    -- a read of the host sees a write just where the write is shown
+    -- a write is seen by a read of the host just where it is visible
     pub seen_by_read : (c : Cmd) → w.act ≡ Runs c → (seen cached ns w a Read b ≡ true) ↔ Visible ns w a
     seen_by_read c runs = (λ e. to (sym (is_visibility) ∙ e), λ s. is_visibility ∙ from s) where
       is_visibility : seen cached ns w a Read b ≡ visibility cached ns w a (Runs c) (Hosts x) Read b
@@ -231,7 +231,7 @@ module _ (past : Past) (p : Point) (w : Node) (cached : Byte → Bool) (b : Byte
         leads act e at (inl host) has = clash host (ap is_host at)
         leads act e at (inr to) has = rw at (rw (sym (ap leads_to_transfers at) ∙ to, has) refl)
 
-    -- a command's write sees another just where that is available at an element that leads to writes
+    -- a write is seen by another command's just where it is available at an element that leads to writes
     pub seen_by_write : (c : Cmd) → w.act ≡ Runs c → (seen cached ns w a Write b ≡ true) ↔ Via ns w leads_to_writes
     seen_by_write c runs = (λ e. to (sym (is_visibility) ∙ e), λ v. is_visibility ∙ from v) where
       is_visibility : seen cached ns w a Write b ≡ visibility cached ns w a (Runs c) (Runs d) Write b

@@ -1,4 +1,4 @@
--- What a host entry that waits comes after, and where that makes it stand.
+-- What a host entry that waits comes after, and what that makes of its clock.
 use Rattle.std.proofs.Common.{◌≡◌, ◌<◌, ◌≤◌, ℕ, List, [], ◌∷◌, map, Bool, true, false, not, ◌&&◌, ◌==◌, cond, refl, ap, sym, ◌∙◌, subst, arith, Option, Some, None, inl, inr, ◌⊎◌, max}
 use Rattle.std.specs.Prelude.{Contains, nat_lt, nat_le, ⊤, option_map, ◌↔◌}
 use Rattle.std.specs.List.{list_any}

@@ -66,21 +66,21 @@ impl Order {
         host: Clock::START,
     };
 
-    /// A write of the next command sees the writes of commands at points below this number.
+    /// The writes of commands at points below this number are visible to writes of the next command.
     pub fn seen_by_write(&self) -> usize
         ensures { result ≡ self.now.to_writes }
     {
         self.to_writes
     }
 
-    /// A read of the host sees the writes of commands at points below this number.
+    /// The writes of commands at points below this number are visible to reads of the host.
     pub fn seen_by_host_read(&self) -> usize
         ensures { result ≡ self.now.host.readable }
     {
         self.host.readable
     }
 
-    /// Where a dependency of the command at this point stands. A batch comes after its submit, which
+    /// The clock of a dependency of the command at this point. A batch comes after its submit, which
     /// is the last entry of the host.
     fn available_at(&self, dependency: &Dependency, point: usize) -> usize
         ensures { result ≡ order_state.available_at self.now dependency.now point }
@@ -98,7 +98,7 @@ impl Order {
         available
     }
 
-    /// With a dependency more, which stands where `available` says.
+    /// With a dependency more, of the clock `available`.
     fn with_dependency(mut self, dependency: &Dependency, available: usize) -> Order
         ensures { result ≡ order_state.with_dependency self dependency.now available }
     {
@@ -117,7 +117,7 @@ impl Order {
         self
     }
 
-    /// After a barrier at this point. Its elements don't come after each other: all stand in the order
+    /// After a barrier at this point. Its elements don't come after each other: all have the order
     /// as it was before the barrier.
     pub fn after_barrier(self, elements: &[Element], point: usize) -> Order
         ensures { result ≡ order_state.after_elements self point elements.now self }

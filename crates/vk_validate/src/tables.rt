@@ -69,7 +69,7 @@ impl<'a> Tables<'a> {
     }
 }
 
-/// Makes a change. After an error the tables may have a part of it.
+/// Makes a change. After an error the tables may have some of it.
 pub fn note<'a>(
     alloc: Global,
     tables: &mut Tables<'a>,

@@ -53,7 +53,7 @@ pub enum Verdict<'a> {
     Refused(At, Rule),
 }
 
-/// Tells whether a trace breaks a rule, and which it breaks first. It fails only for want of memory.
+/// Says whether a trace breaks a rule, and which it breaks first. It fails only for want of memory.
 ///
 /// The points of a trace are its entries, in order, and after a submit the waits, the commands and the
 /// signals of its batches. The forms that are supported so far: dedicated buffers on memory types other

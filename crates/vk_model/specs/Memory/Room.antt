@@ -94,7 +94,7 @@ abbrev pub BlockHolds : Block → Request → Bool → Type 0
 BlockHolds (General size taken) r upper = CanHold size taken r
 BlockHolds (Stack b) r upper = IsTrue (is_some (if upper then upper_place b r else lower_place b r))
 
--- The heaps as they stand: the size and the use of each, and how many memory objects there are (Vulkan, "Device Memory").
+-- The heaps: the size and the use of each, and how many memory objects there are (Vulkan, "Device Memory").
 pub record Heaps : Type 0 where
   pub limit : ℕ → ℕ
   pub used : ℕ → ℕ
@@ -104,11 +104,11 @@ pub record Heaps : Type 0 where
 abbrev pub heap_of : ℕ → ℕ
 heap_of t = if t == 0 then 0 else 1
 
--- Whether no memory object of this type and size can be made: its heap would be passed, or 4,096 objects stand (Vulkan, "Device Memory", on `maxMemoryAllocationCount`; the number: profile).
+-- Whether no memory object of this type and size can be made: its heap would be passed, or 4,096 objects are live (Vulkan, "Device Memory", on `maxMemoryAllocationCount`; the number: profile).
 abbrev pub no_object : Heaps → ℕ → ℕ → Bool
 no_object h t size = nat_lt (h.limit (heap_of t)) (h.used (heap_of t) + size) || nat_le 4096 h.objects
 
--- A pool as it stands: what it was made with, and its blocks (VMA, "Custom memory pools").
+-- A pool: what it was made with, and its blocks (VMA, "Custom memory pools").
 pub record PoolState : Type 0 where
   pub info : PoolInfo
   pub blocks : List Block

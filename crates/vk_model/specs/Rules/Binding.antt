@@ -27,7 +27,7 @@ is_misplaced past r m o = not (o % r.align == 0) || holds (type_at past r.place)
 abbrev pub breaks_bind_align : Past → Point → Bool
 breaks_bind_align past p = on_host (on_bound (is_misplaced past)) p
 
--- Whether the range of a resource at an offset of a memory object conflicts with that of a resource that stands there.
+-- Whether the range of a resource at an offset of a memory object conflicts with that of a live resource there.
 abbrev pub conflicts_with : Past → Resource → ℕ → ℕ → Resource → Bool
 conflicts_with past r m o s = holds (bound_at s.place) (λ t. m == t.0 && conflict r.kind o r.size s.kind t.1 s.size)
 

@@ -42,7 +42,7 @@ layouts_named _ = []
 abbrev pub is_allowed : Bool → ℕ → Bool
 is_allowed written l = l == 1 || l == (if written then 7 else 6)
 
--- Whether some subresource of a range stands in another layout.
+-- Whether some subresource of a range is in another layout.
 abbrev pub has_other_layout : World → ℕ → SubresourceRange → ℕ → Bool
 has_other_layout w i r l = list_any (λ k. list_any (λ m. not (w.layout i (r.first_level + k) (r.first_layer + m) == l)) (below r.layers)) (below r.levels)
 
@@ -74,6 +74,6 @@ abbrev pub bad_old_layout : World → ℕ → Element → Bool
 bad_old_layout w q (element.Image e) = is_transition e && not (is_acquire q (element.Image e)) && not (e.old_layout == 0) && has_other_layout w e.image e.range e.old_layout
 bad_old_layout w q _ = false
 
--- OLD_LAYOUT: a transition from a layout in which the subresources don't stand (Vulkan, "Image Memory Barriers").
+-- OLD_LAYOUT: a transition from a layout that isn't the subresources' current one (Vulkan, "Image Memory Barriers").
 abbrev pub breaks_old_layout : Past → Point → Bool
 breaks_old_layout past p = on_command (λ c. list_any (bad_old_layout (world past) p.queue) (elements_of c)) p

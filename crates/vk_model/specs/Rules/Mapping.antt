@@ -49,6 +49,6 @@ bad_mapping past _ = false
 abbrev pub breaks_map_state : Past → Point → Bool
 breaks_map_state past p = on_host (bad_mapping past) p
 
--- HOST_VISIBLE: a buffer on type 0, which the host can't see, is mapped (Vulkan, "Host Access to Device Memory Objects"; the number: profile).
+-- HOST_VISIBLE: a buffer on type 0, which isn't visible to the host, is mapped (Vulkan, "Host Access to Device Memory Objects"; the number: profile).
 abbrev pub breaks_host_visible : Past → Point → Bool
 breaks_host_visible past p = on_host (λ x. holds (maps x) (is_of_type past 0)) p

@@ -34,13 +34,13 @@ is_all size length_of.Whole = true
 abbrev pub is_all_of : ImageInfo → SubresourceRange → Bool
 is_all_of m r = r.first_level == 0 && r.first_layer == 0 && r.levels == m.levels && r.layers == m.layers
 
--- Whether an element transfers a part of its resource.
+-- Whether an element transfers less than its whole resource.
 abbrev pub is_partial_transfer : Past → Element → Bool
 is_partial_transfer past (element.Memory d) = false
 is_partial_transfer past (element.Buffer e) = families_differ e.families && not (e.offset == 0 && is_all (buffer_size past e.buffer) e.size)
 is_partial_transfer past (element.Image e) = families_differ e.families && holds (image past e.image) (λ m. not (is_all_of m e.range))
 
--- OWNER_WHOLE: an ownership transfer of a part of a resource (profile; Vulkan allows it, "Queue Family Ownership Transfer").
+-- OWNER_WHOLE: an ownership transfer of less than a whole resource (profile; Vulkan allows it, "Queue Family Ownership Transfer").
 abbrev pub breaks_owner_whole : Past → Point → Bool
 breaks_owner_whole past p = on_command (λ c. list_any (is_partial_transfer past) (elements_of c)) p
 

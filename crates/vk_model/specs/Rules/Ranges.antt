@@ -44,7 +44,7 @@ element_past past _ = false
 abbrev pub region_past : ℕ → ℕ → BufferImageCopy → Bool
 region_past size t g = nat_lt 0 g.layers && nat_lt 0 g.height && nat_lt 0 g.width && nat_lt size (buffer_texel g t (g.layers - 1) (g.height - 1) (g.width - 1) t)
 
--- Whether a part of a buffer ends past it (Vulkan, "Copy Commands" and "Clear Commands"). Parts of images are the matter of SUBRESOURCE.
+-- Whether an area of a buffer ends past it (Vulkan, "Copy Commands" and "Clear Commands"). Areas of images are the matter of SUBRESOURCE.
 abbrev pub area_past : Past → Area → Bool
 area_past past (Bytes b o n) = nat_lt (buffer_size past b) (o + n)
 area_past past (Rows b t g) = region_past (buffer_size past b) t g
@@ -108,11 +108,11 @@ abbrev pub transitions_meet : Element → Element → Bool
 transitions_meet (element.Image e) (element.Image f) = e.image == f.image && is_transition e && is_transition f && subresources_meet e.range f.range
 transitions_meet _ _ = false
 
--- Whether a part that a command writes meets another one that it writes, or one that it reads.
+-- Whether an area that a command writes meets another one that it writes, or one that it reads.
 abbrev pub writes_overlap : List Area → List Area → Bool
 writes_overlap written read = some_pair areas_meet written || list_any (λ w. list_any (areas_meet w) read) written
 
--- Whether a command's parts or transitions overlap.
+-- Whether a command's areas or transitions overlap.
 abbrev pub command_overlaps : Past → Cmd → Bool
 command_overlaps past c = writes_overlap (areas_written past c) (areas_read past c) || some_pair transitions_meet (elements_of c)
 
@@ -151,7 +151,7 @@ abbrev pub bad_box : ImageInfo → Box → Bool
 bad_box m k = is_beyond m.levels k.level 1 || is_beyond m.layers k.first_layer k.layers
     || is_beyond (level_width m k.level) k.x k.width || is_beyond (level_height m k.level) k.y k.height
 
--- Whether a part isn't of its image.
+-- Whether an area isn't of its image.
 abbrev pub bad_area : Past → Area → Bool
 bad_area past (Texels i k) = holds (image past i) (λ m. bad_box m k)
 bad_area past (Subresources i r) = holds (image past i) (λ m. bad_range m r)

@@ -11,7 +11,7 @@ pub data Choice : Type 0 where
   Take : Step → Choice
   Go : Choice
 
--- Steps that have been taken, where the run stands then, and what the scheduler holds.
+-- Steps that a run has made, its stage then, and what the scheduler holds.
 pub record Picked : Type 0 where
   pub steps : List Step
   pub stage : Stage

@@ -11,13 +11,13 @@ use Rattle.vk_model.specs.Trace.Point.{Past}
 use Rattle.vk_model.specs.Trace.Objects.{image}
 use Rattle.vk_model.specs.World.ByteWrites.{ByteWrite, byte_writes, clear_write, level_bytes, copy_writes, copy_in_writes, copy_out_writes, copy_image_writes}
 
--- A list in parts of n items, the last one maybe shorter; the first number is at least how many parts there are.
+-- A list in chunks of n items, the last one maybe shorter; the first number is at least how many chunks there are.
 abbrev pub chunks : {A : Type 0} → ℕ → ℕ → List A → List (List A)
 chunks zero n xs = []
 chunks (suc k) n [] = []
 chunks (suc k) n (x ∷ xs) = take n (x ∷ xs) ∷ chunks k n (drop n (x ∷ xs))
 
--- A list in parts of n items, n above 0.
+-- A list in chunks of n items, n above 0.
 abbrev pub cut : {A : Type 0} → ℕ → List A → List (List A)
 cut n xs = chunks (length xs) n xs
 

@@ -44,7 +44,7 @@ pub data Step : Type 0 where
   RunPiece : Name → Step
   CopyPart : ℕ → Step
 
--- Where a run stands: the batches started and those that wait, the pieces that have run, the parts of the open pass that are copied, the entries to come, and how many have been applied.
+-- The stage of a run: the batches started and those that wait, the pieces that have run, the parts of the open pass that are copied, the entries to come, and how many have been applied.
 pub record Stage : Type 0 where
   pub front : Front
   pub done : List Name
@@ -91,7 +91,7 @@ is_pass_entry (entry.Pass d) = true
 is_pass_entry (entry.EndPass d kept lost) = true
 is_pass_entry _ = false
 
--- Where a run stands when an entry has been applied.
+-- The stage of a run when an entry has been applied.
 abbrev pub applied : Stage → Entry → List Entry → Stage
 applied s x xs = record s { front = after_entry s.count x s.front; copied = if is_pass_entry x then [] else s.copied; left = xs; count = s.count + 1 }
 

@@ -1,4 +1,4 @@
--- Which writes a later access sees: those made available, and then visible to it.
+-- Which writes are seen by a later access: those made available, and then visible to it.
 use Rattle.std.specs.Prelude.{ℕ, ◌+◌, List, Bool, true, false, not, ◌&&◌, ◌||◌, ◌==◌, nat_le}
 use Rattle.std.specs.List.{list_any}
 use Rattle.vk_model.specs.declared.command.Length.{Length}
@@ -113,7 +113,7 @@ module _ (cached : Byte → Bool) (ns : List Node) where
       && (not (needs_invalidation k b) || passes (λ f. invalidates f b) q a)
   visible_by w a _ k b q = false
 
-  -- Whether the access of a byte by node a sees the write by node w: on some path from w to a, one node makes the write available, and it or a later one makes it visible (Vulkan, "Execution and Memory Dependencies", on memory dependencies).
+  -- Whether node w's write of a byte is seen by node a's access of it: on some path from w to a, one node makes the write available, and it or a later one makes it visible (Vulkan, "Execution and Memory Dependencies", on memory dependencies).
   unfoldable pub seen : Node → Node → Access → Byte → Bool
   seen w a k b = list_any (λ p. available_by w w.act b p
       && list_any (λ q. (same_node p q || before ns p q) && visible_by w a a.act k b q && (same_node q a || before ns q a)) ns) ns

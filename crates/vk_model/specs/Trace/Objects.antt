@@ -1,4 +1,4 @@
--- The objects of a trace: which entry made an id, which object it is, and whether it stands.
+-- The objects of a trace: which entry made an id, which object it is, and whether it is live.
 use Rattle.std.specs.Prelude.{ℕ, List, [], ◌∷◌, Bool, true, false, ◌==◌, if◌then◌else◌, Option, Some, None, option_map, option_and_then, is_some}
 use Rattle.std.specs.List.{find, list_any, filter, filter_map}
 use Rattle.vk_model.specs.declared.entry.Entry.{Entry}
@@ -45,7 +45,7 @@ made past i = find (λ x. holds (made_by x) (λ j. i == j)) (entries past)
 abbrev pub ended : Past → ℕ → Bool
 ended past i = list_any (λ x. among i (ended_by x)) (entries past)
 
--- The entry that made an object that still stands (Vulkan, "Object Lifetime").
+-- The entry that made an object that is live (Vulkan, "Object Lifetime").
 abbrev pub live : Past → ℕ → Option Entry
 live past i = if ended past i then None else made past i
 
@@ -135,11 +135,11 @@ resource_in _ = None
 abbrev pub resource : Past → ℕ → Option Resource
 resource past i = option_and_then resource_in (made past i)
 
--- The ids of the objects that stand and that a test on their entries finds.
+-- The ids of the live objects that a test on their entries finds.
 abbrev pub live_of : {A : Type 0} → (Entry → Option A) → Past → List ℕ
 live_of kind_of past = filter (λ i. is_some (option_and_then kind_of (live past i))) (filter_map made_by (entries past))
 
--- The ids of the resources that stand.
+-- The ids of the live resources.
 abbrev pub live_resources : Past → List ℕ
 live_resources past = live_of resource_in past
 

@@ -1,4 +1,4 @@
--- The parts of resources that a command reads and writes, as ranges, rows and boxes: arithmetic, and no lists of bytes.
+-- The areas of resources that a command reads and writes, as ranges, rows and boxes: arithmetic, and no lists of bytes.
 use Rattle.std.specs.Prelude.{ℕ, ◌*◌, ◌/◌, ◌%◌, List, [], ◌∷◌, map, length, Bool, false, ◌&&◌, ◌==◌, if◌then◌else◌, Some, None}
 use Rattle.std.specs.List.{list_any}
 use Rattle.vk_model.specs.declared.command.Cmd.{Cmd}
@@ -23,14 +23,14 @@ pub record Box : Type 0 where
   pub width : ℕ
   pub height : ℕ
 
--- A part of a resource: a range of a buffer, the rows of a region in a buffer with texels of some bytes, a box of texels of an image, or whole subresources of an image.
+-- An area of a resource: a range of a buffer, the rows of a region in a buffer with texels of some bytes, a box of texels of an image, or whole subresources of an image.
 pub data Area : Type 0 where
   Bytes : (buffer offset size : ℕ) → Area
   Rows : (buffer texel_size : ℕ) → BufferImageCopy → Area
   Texels : (image : ℕ) → Box → Area
   Subresources : (image : ℕ) → SubresourceRange → Area
 
--- ---- where parts meet
+-- ---- where areas meet
 
 -- The number of rows that a region has in the buffer; none where it has no texel.
 abbrev pub row_count : BufferImageCopy → ℕ
@@ -53,7 +53,7 @@ boxes_meet k l = k.level == l.level && ranges_meet k.first_layer k.layers l.firs
 abbrev pub subresources_meet : SubresourceRange → SubresourceRange → Bool
 subresources_meet r s = ranges_meet r.first_level r.levels s.first_level s.levels && ranges_meet r.first_layer r.layers s.first_layer s.layers
 
--- Whether two parts of one command, of the same form, have a byte in common.
+-- Whether two areas of one command, of the same form, have a byte in common.
 abbrev pub areas_meet : Area → Area → Bool
 areas_meet (Bytes b o n) (Bytes c p m) = b == c && ranges_meet o n p m
 areas_meet (Rows b t g) (Rows c u h) = b == c && rows_meet t g u h
@@ -61,7 +61,7 @@ areas_meet (Texels i k) (Texels j l) = i == j && boxes_meet k l
 areas_meet (Subresources i r) (Subresources j s) = i == j && subresources_meet r s
 areas_meet _ _ = false
 
--- ---- the parts of each command
+-- ---- the areas of each command
 
 -- The texels that a region names in its image (Vulkan, "Copying Data Between Buffers and Images").
 abbrev pub region_box : BufferImageCopy → Box
@@ -79,7 +79,7 @@ destination_box g = record { level = g.destination_level; first_layer = g.destin
 abbrev pub region_rows : Past → ℕ → ℕ → List BufferImageCopy → List Area
 region_rows past b i gs = elim (image past i) [ None ↦ [] | Some m ↦ map (Rows b (texel m.format)) gs ]
 
--- The parts that a command reads (Vulkan, "Copy Commands").
+-- The areas that a command reads (Vulkan, "Copy Commands").
 abbrev pub areas_read : Past → Cmd → List Area
 areas_read past (cmd.Copy s d gs) = map (λ g. Bytes s g.source_offset g.size) gs
 areas_read past (cmd.CopyIn b i l gs) = region_rows past b i gs
@@ -87,7 +87,7 @@ areas_read past (cmd.CopyOut i l b gs) = map (λ g. Texels i (region_box g)) gs
 areas_read past (cmd.CopyImage s l d m gs) = map (λ g. Texels s (source_box g)) gs
 areas_read past _ = []
 
--- The parts that a command writes (Vulkan, "Clear Commands" and "Copy Commands").
+-- The areas that a command writes (Vulkan, "Clear Commands" and "Copy Commands").
 abbrev pub areas_written : Past → Cmd → List Area
 areas_written past (cmd.Fill b o n w) = Bytes b o (fill_size (buffer_size past b) o n) ∷ []
 areas_written past (cmd.Update b o bytes) = Bytes b o (length bytes) ∷ []

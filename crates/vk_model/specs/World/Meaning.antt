@@ -8,7 +8,7 @@ use Rattle.vk_model.specs.World.Bytes.{World, in_buffer}
 use Rattle.vk_model.specs.World.Effect.{world}
 use Rattle.vk_model.specs.Trace.Order.{plain_order}
 
--- The bytes that the host reads in a buffer. 0 stands for an undefined one, which no trace without a broken rule reads (profile).
+-- The bytes that the host reads in a buffer. 0 is put for an undefined one, which no trace without a broken rule reads (profile).
 abbrev pub bytes_at : World → ℕ → ℕ → ℕ → List ℕ
 bytes_at w b offset size = map (λ k. unwrap_or (w.value (in_buffer b (offset + k))) 0) (below size)
 

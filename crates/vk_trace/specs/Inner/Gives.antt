@@ -3,7 +3,7 @@ use Rattle.std.specs.Prelude.{◌≡◌, Option, Some, None, Result, Ok, Err}
 use Rattle.vk_trace.specs.declared.errors.ReadTraceError.{ReadTraceError}
 use Rattle.vk_trace.specs.declared.errors.ReadTraceError.TheVariants.{NotTrace, NoMemory}
 
--- The fault says that nothing is meant, unless memory ran out.
+-- The error says that nothing is meant, unless memory ran out.
 abbrev pub Fails : {Y : Type 0} → ReadTraceError → Option Y → Type 0
 Fails NoMemory means = Unit {0}
 Fails NotTrace means = means ≡ None

@@ -1,4 +1,4 @@
--- How the points so far are ordered, as the tables keep it. A number of a point stands for the commands at all points below it.
+-- How the points so far are ordered, as the tables keep it. A number of a point means the commands at all points below it.
 use Rattle.std.specs.Prelude.{ℕ, ◌+◌, max, List, [], ◌∷◌, length, Bool, not, ◌&&◌, ◌==◌, nat_lt, nat_le, if◌then◌else◌, Option, Some, None, option_map}
 use Rattle.vk_model.specs.declared.command.Cmd.{Cmd}
 use Rattle.vk_model.specs.declared.command.Cmd.TheVariants as cmd
@@ -33,13 +33,13 @@ on_host stages = has_some stages host_stage
 abbrev pub counted : Bool → ℕ → ℕ
 counted test n = if test then n else 0
 
--- Where a dependency at a point stands: the commands whose writes are made available when it has happened.
+-- The clock of a dependency at a point: the commands whose writes are made available when it has happened.
 abbrev pub available_at : Order → Dependency → ℕ → ℕ
 available_at o d point =
     max (max o.host.available (counted (on_transfers d.source_stages.0) (max o.to_transfers (counted (has_some d.source_accesses.0 (command_mask Write)) point))))
     (counted (on_host d.source_stages.0) o.to_host)
 
--- The order with a dependency more, which stands there.
+-- The order with a dependency more, of this clock.
 abbrev pub with_dependency : Order → Dependency → ℕ → Order
 with_dependency o d available = record o {
   to_transfers = max o.to_transfers (counted (on_transfers d.destination_stages.0) available);
@@ -48,7 +48,7 @@ with_dependency o d available = record o {
   to_host_reads = max o.to_host_reads (counted (on_host d.destination_stages.0 && has_some d.destination_accesses.0 (host_mask Read)) available);
 }
 
--- The order after the elements of a barrier at a point. They don't come after each other: each stands in the order as it was before the barrier, `old`.
+-- The order after the elements of a barrier at a point. They don't come after each other: each has the order as it was before the barrier, `old`.
 abbrev pub after_elements : Order → ℕ → List Element → Order → Order
 after_elements old point [] o = o
 after_elements old point (element.Memory d ∷ es) o = after_elements old point es (with_dependency o d (available_at old d point))

@@ -1,4 +1,4 @@
--- What the points that the code keeps stand for.
+-- What the points that the code keeps mean.
 use Rattle.std.specs.Prelude.{ℕ, List, [], ◌∷◌, take}
 use Rattle.std.specs.List.{fold}
 use Rattle.vk_model.specs.Trace.Point as spec
@@ -13,7 +13,7 @@ action_of (action.Wait s) = spec.Wait s.now
 action_of (action.Run c) = spec.Run c.now
 action_of (action.Signal s) = spec.Signal s.now
 
--- The point that a step stands for.
+-- The point that a step means.
 abbrev pub point_of : Step → spec.Point
 point_of p = record { entry = p.entry; batch = p.batch; place = p.place; queue = p.queue; action = action_of p.action }
 

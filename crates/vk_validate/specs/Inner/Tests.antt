@@ -75,7 +75,7 @@ abbrev pub maps_local : Past → Action → Bool
 maps_local past (Host x) = maps_local_entry past x
 maps_local past _ = false
 
--- HAZARD_RAW: a read names a byte whose last writer the host doesn't see: the writers before it it then sees.
+-- HAZARD_RAW: a read names a byte whose last write isn't visible to the host; where it is, so are those before it.
 abbrev pub entry_reads_unseen : Past → Entry → Bool
 entry_reads_unseen past (entry.Read b o n) = list_any (λ k. holds (last_writer past b (o + k)) (nat_le (order_state past).order.host.readable)) (below n)
 entry_reads_unseen past _ = false
