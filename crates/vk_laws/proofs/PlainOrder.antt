@@ -65,12 +65,12 @@ module _ (P : Point → Type 0) where
       grows_on P past _ _ (actions_grow Wait (λ x. refl) t may 0 t.content.waits past)
       (grows_on P _ _ _ (actions_grow Run (λ x. refl) t may 0 t.content.commands _) (actions_grow Signal (λ x. refl) t may 0 t.content.signals _))
 
-  batches_grow : (before : Past) (e q k : ℕ) → Allows P e q → (bs : List Batch) (past : Past) → Grows P past (fold (λ p t. started t p) past (batches_from before e q k bs))
-  batches_grow before e q k may [] past = stays P past
-  batches_grow before e q k may (b ∷ bs) past = grows_on P past _ _ (started_grows (submitted_batch before e q k b) may past) (batches_grow before e q (k + 1) may bs (started (submitted_batch before e q k b) past))
+  list_grows : (before : Past) (e q k : ℕ) → Allows P e q → (bs : List Batch) (past : Past) → Grows P past (fold (λ p t. started t p) past (batches_from before e q k bs))
+  list_grows before e q k may [] past = stays P past
+  list_grows before e q k may (b ∷ bs) past = grows_on P past _ _ (started_grows (submitted_batch before e q k b) may past) (list_grows before e q (k + 1) may bs (started (submitted_batch before e q k b) past))
 
   pub batches_grow : (before : Past) (e : ℕ) (x : Entry) → ((q : ℕ) (bs : List Batch) → x ≡ entry.Submit q bs → Allows P e q) → (past : Past) → Grows P past (fold (λ p t. started t p) past (batches_of before e x))
-  batches_grow before e (entry.Submit q bs) may past = batches_grow before e q 0 (may q bs refl) bs past
+  batches_grow before e (entry.Submit q bs) may past = list_grows before e q 0 (may q bs refl) bs past
   batches_grow before e _ may past = stays P past
 
 -- a point of a batch of entry e

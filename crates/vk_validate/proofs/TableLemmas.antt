@@ -2,7 +2,7 @@
 use Rattle.std.proofs.Common.{◌≡◌, ◌≤◌, ◌<◌, ◌+◌, max, ℕ, List, [], ◌∷◌, ◌++◌, refl, ap, sym, ◌∙◌, take, length, Option, Some, None, arith, ◌⊎◌, inl, inr, subst, cond, ◌≢◌}
 use Rattle.std.specs.Prelude.{Bool, true, false, slice_get, ◌==◌, IsSome, IfSome, ◌&&◌, nat_le, nat_lt, if◌then◌else◌, ◌^◌}
 use Rattle.std.specs.List.{fold, cons_option}
-use Rattle.std.proofs.lemmas.List.{start_more}
+use Rattle.std.proofs.lemmas.List.{take_more}
 use Rattle.std.proofs.lemmas.Option.{slice_get_within, get_or_from_slice_get}
 use Rattle.std.proofs.lemmas.Bool.{lt-leb, le-leb, lt-ltb, le-ltb, eqb-true, eqb-false, cases_lt}
 use Rattle.std.proofs.Math.Bool.{and-false}
@@ -31,15 +31,15 @@ counter-none p s is = rw is refl
 
 pub ruleset counters = (counter-some, counter-none)
 
-start_next : {A : Type 0} (xs : List A) (n : ℕ) (x : A) → slice_get xs n ≡ Some x → take (n + 1) xs ≡ take n xs ++ x ∷ []
-start_next xs n x is =
+take_next : {A : Type 0} (xs : List A) (n : ℕ) (x : A) → slice_get xs n ≡ Some x → take (n + 1) xs ≡ take n xs ++ x ∷ []
+take_next xs n x is =
     let lt : n < length xs = slice_get_within xs n x is in
-    start_more xs n x lt ∙ ap (λ y. take n xs ++ y ∷ []) (get_or_from_slice_get xs n x x is)
+    take_more xs n x lt ∙ ap (λ y. take n xs ++ y ∷ []) (get_or_from_slice_get xs n x x is)
 
 -- the past of a walk that goes one point on
 pub past-next : (points : List Step) (count : ℕ) (x : Step) → slice_get points count ≡ Some x → past (record { points = points; count = count + 1 }) ≡ point_of x ∷ past (record { points = points; count = count })
 unfolding past
-past-next points count x is = ap past_of (start_next points count x is) ∙ past_of-push (take count points) x
+past-next points count x is = ap past_of (take_next points count x is) ∙ past_of-push (take count points) x
 
 pub ruleset steps = (past-next)
 

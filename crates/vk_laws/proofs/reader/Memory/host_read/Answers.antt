@@ -14,4 +14,4 @@ returns c = λ t done next v none r may agent reads h.
     let here : view 0 (cells_of m (in_buffer 0 c.args.at)) ≡ v = subst (λ (a : ℕ). view a (cells_of m (in_buffer 0 c.args.at)) ≡ v) agent law in
     let found : slice_get m.first.bytes.items c.args.at ≡ Some c.index.result.now = slice_get-get_or m.first.bytes.items c.args.at c.index.result.now c.requires.first ∙ ap Some (sym c.index.ensures) in
     let region = get_or_default_zero m.region.items c.args.at c.index-2.result.now c.requires.region in
-    c.made_visible.ensures ∙ same_view c.index.result.now (slice_get m.first.bytes.items c.args.at) _ _ found (c.index-2.ensures ∙ region) ∙ here
+    c.value_through.ensures ∙ same_view c.index.result.now (slice_get m.first.bytes.items c.args.at) _ _ found (c.index-2.ensures ∙ region) ∙ here
