@@ -4,7 +4,7 @@ use Rattle.std.proofs.lemmas.Option.{slice_get-get_or}
 use Rattle.std.proofs.lemmas.Grind.{take_at_read, common_steps}
 use Rattle.std.specs.Prelude.{IsTrue}
 use Rattle.vk_memory.specs.MemoryState.{MemoryState}
-use Rattle.vk_model.specs.declared.config.Config.{Config}
+use Rattle.vk_model.specs.Memory.HeapSizes.{HeapSizes}
 use Rattle.vk_model.specs.declared.entry.Entry.{Entry}
 use Rattle.vk_model.specs.Trace.Point.{Past}
 use Rattle.vk_model.specs.Trace.Order.{plain_order}
@@ -22,13 +22,13 @@ use Rattle.vk_device.proofs.Clean.{clean_plain}
 use Rattle.vk_device.proofs.Steps.{plain_more, plain_append, reads_next}
 
 -- what holds after i entries
-pub record Replays (config : Config) (t : List Entry) (i : ℕ) (reported : Reads) (s : Held) : Type 0 where
+pub record Replays (config : HeapSizes) (t : List Entry) (i : ℕ) (reported : Reads) (s : Held) : Type 0 where
   pub matches : Matches (plain_order (take i t)) s
   pub same : reported ≡ meaning t i
   pub goes_on : stop_from (allotted s.memory) i (drop i t) ≡ first_stop config t
   pub works : s.failed ≡ false
 
-pub replays_start : (config : Config) (t : List Entry) (s : Held) → Matches [] s → s.memory ≡ record { heap0 = config.heap0; heap1 = config.heap1; objects = [] } → s.failed ≡ false → Replays config t 0 [] s
+pub replays_start : (config : HeapSizes) (t : List Entry) (s : Held) → Matches [] s → s.memory ≡ record { heap0 = config.heap0; heap1 = config.heap1; objects = [] } → s.failed ≡ false → Replays config t 0 [] s
 unfolding meaning first_stop
 replays_start config t s st empty works = record {
   matches = st;
@@ -56,10 +56,10 @@ fit_front t i fit =
 next_fits : (t : List Entry) (i : ℕ) (x : Entry) → IsClean (plain_order t) → x ≡ get_or t i x → i < length t → IsClean (next_past i x (plain_order (take i t)))
 next_fits t i x fit is lt = subst IsClean (one_more t i x is lt) (fit_front t (i + 1) fit)
 
-pub entry_ready : (config : Config) (t : List Entry) (i : ℕ) (reported : Reads) (s : Held) (x : Entry) → IsClean (plain_order t) → Replays config t i reported s → x ≡ get_or t i x → i < length t → IsTrue s.failed ⊎ IsNext s x
+pub entry_ready : (config : HeapSizes) (t : List Entry) (i : ℕ) (reported : Reads) (s : Held) (x : Entry) → IsClean (plain_order t) → Replays config t i reported s → x ≡ get_or t i x → i < length t → IsTrue s.failed ⊎ IsNext s x
 entry_ready config t i reported s x fit so_far is lt = inr (i, plain_order (take i t), so_far.matches, next_fits t i x fit is lt)
 
-replays_more : (config : Config) (t : List Entry) (i : ℕ) (reported : Reads) (s s' : Held) (x : Entry) (new : Reads) → IsClean (plain_order t) → Replays config t i reported s → x ≡ get_or t i x → i < length t
+replays_more : (config : HeapSizes) (t : List Entry) (i : ℕ) (reported : Reads) (s s' : Held) (x : Entry) (new : Reads) → IsClean (plain_order t) → Replays config t i reported s → x ≡ get_or t i x → i < length t
     → Matches (next_past i x (plain_order (take i t))) s' → read_in (world (plain_order (take i t))) i x ≡ new → finds_no_room (allotted s.memory) x ≡ false → allotted s'.memory ≡ with_asked (allotted s.memory) x → s'.failed ≡ false → Replays config t (i + 1) (reported ++ new) s'
 unfolding meaning
 replays_more config t i reported s s' x new fit so_far is lt st gave room allots works = record {
@@ -72,7 +72,7 @@ replays_more config t i reported s s' x new fit so_far is lt st gave room allots
 abbrev pub AnsweredAt : Applied → Entry → Held → Held → Type 0
 AnsweredAt a x s s' = (e : ℕ) (past : Past) → Matches past s → IsClean (next_past e x past) → Answered a e x past s s'
 
-pub stops : (config : Config) (t : List Entry) (i : ℕ) (reported : Reads) (s s' : Held) (x : Entry) (a : Applied) → IsClean (plain_order t) → Replays config t i reported s → x ≡ get_or t i x → i < length t → a ≡ applied.NoRoom → AnsweredAt a x s s' → Rooms a s x → StopsAt t i s' × (Some i ≡ first_stop config t)
+pub stops : (config : HeapSizes) (t : List Entry) (i : ℕ) (reported : Reads) (s s' : Held) (x : Entry) (a : Applied) → IsClean (plain_order t) → Replays config t i reported s → x ≡ get_or t i x → i < length t → a ≡ applied.NoRoom → AnsweredAt a x s s' → Rooms a s x → StopsAt t i s' × (Some i ≡ first_stop config t)
 stops config t i reported s s' x a fit so_far is lt no_room answers rooms =
     let same : s' ≡ s = subst (λ (b : Applied). AnsweredAt b x s s') no_room answers i (plain_order (take i t)) so_far.matches (next_fits t i x fit is lt) in
     let full : finds_no_room (allotted s.memory) x ≡ true = subst (λ (b : Applied). Rooms b s x) no_room rooms in (
@@ -80,14 +80,14 @@ stops config t i reported s s' x a fit so_far is lt no_room answers rooms =
       sym (stop_here (allotted s.memory) i x (drop (i + 1) t) full) ∙ ap (λ (l : List Entry). stop_from (allotted s.memory) i l) (sym (entries_from t i x is lt)) ∙ so_far.goes_on,
     )
 
-pub after_done : (config : Config) (t : List Entry) (i : ℕ) (reported : Reads) (s s' : Held) (x : Entry) (a : Applied) → IsClean (plain_order t) → Replays config t i reported s → x ≡ get_or t i x → i < length t → a ≡ applied.Done → AnsweredAt a x s s' → Rooms a s x → Allots a x s s' → s'.failed ≡ false → Replays config t (i + 1) reported s'
+pub after_done : (config : HeapSizes) (t : List Entry) (i : ℕ) (reported : Reads) (s s' : Held) (x : Entry) (a : Applied) → IsClean (plain_order t) → Replays config t i reported s → x ≡ get_or t i x → i < length t → a ≡ applied.Done → AnsweredAt a x s s' → Rooms a s x → Allots a x s s' → s'.failed ≡ false → Replays config t (i + 1) reported s'
 after_done config t i reported s s' x a fit so_far is lt done answers rooms allots works =
     let now = subst (λ (b : Applied). AnsweredAt b x s s') done answers i (plain_order (take i t)) so_far.matches (next_fits t i x fit is lt) in
     let room = subst (λ (b : Applied). Rooms b s x) done rooms in
     let more = subst (λ (b : Applied). Allots b x s s') done allots in
     rw (← append-nil reported) (replays_more config t i reported s s' x [] fit so_far is lt now.0 now.1 room more works)
 
-pub after_bytes : (config : Config) (t : List Entry) (i : ℕ) (reported : Reads) (s s' : Held) (x : Entry) (a : Applied) (bytes : List ℕ) → IsClean (plain_order t) → Replays config t i reported s → x ≡ get_or t i x → i < length t → a ≡ applied.Bytes bytes → AnsweredAt a x s s' → Rooms a s x → Allots a x s s' → s'.failed ≡ false → Replays config t (i + 1) (reported ++ (i, bytes) ∷ []) s'
+pub after_bytes : (config : HeapSizes) (t : List Entry) (i : ℕ) (reported : Reads) (s s' : Held) (x : Entry) (a : Applied) (bytes : List ℕ) → IsClean (plain_order t) → Replays config t i reported s → x ≡ get_or t i x → i < length t → a ≡ applied.Bytes bytes → AnsweredAt a x s s' → Rooms a s x → Allots a x s s' → s'.failed ≡ false → Replays config t (i + 1) (reported ++ (i, bytes) ∷ []) s'
 after_bytes config t i reported s s' x a bytes fit so_far is lt given answers rooms allots works =
     let now = subst (λ (b : Applied). AnsweredAt b x s s') given answers i (plain_order (take i t)) so_far.matches (next_fits t i x fit is lt) in
     let room = subst (λ (b : Applied). Rooms b s x) given rooms in

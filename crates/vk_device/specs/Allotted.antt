@@ -2,7 +2,7 @@
 use Rattle.std.specs.Prelude.{ℕ, ◌+◌, ◌==◌, List, [], ◌∷◌, ◌++◌, map, length, sum_by, Bool, Option, Some, None, if◌then◌else◌}
 use Rattle.std.specs.List.{list_any}
 use Rattle.vk_memory.specs.MemoryState.{MemoryState}
-use Rattle.vk_model.specs.declared.config.Config.{Config}
+use Rattle.vk_model.specs.Memory.HeapSizes.{HeapSizes}
 use Rattle.vk_model.specs.declared.entry.Entry.{Entry}
 use Rattle.vk_model.specs.declared.entry.Entry.TheVariants as entry
 use Rattle.vk_model.specs.declared.resource.Place.{Place}
@@ -52,5 +52,5 @@ stop_from a e [] = None
 stop_from a e (x ∷ xs) = if finds_no_room a x then Some e else stop_from (with_asked a x) (e + 1) xs
 
 -- The first entry of a trace that finds no room on a device with heaps of these sizes (profile).
-unfoldable pub first_stop : Config → List Entry → Option ℕ
+unfoldable pub first_stop : HeapSizes → List Entry → Option ℕ
 first_stop c t = stop_from (record { heap0 = c.heap0; heap1 = c.heap1; objects = [] }) 0 t

@@ -104,8 +104,8 @@ impl Memories {
     {
         Memories {
             alloc,
-            heap0: Budget::new(config.heap0),
-            heap1: Budget::new(config.heap1),
+            heap0: Budget::new(config.heap0()),
+            heap1: Budget::new(config.heap1()),
             objects: Vec::new(alloc),
         }
     }

@@ -6,3 +6,4 @@ pub mod Rules
 pub mod Run
 pub mod Memory
 pub mod Laws
+pub mod Inner

@@ -1,3 +1,4 @@
+pub mod HeapSizes
 pub mod Suballocation
 pub mod Room
 pub mod MoveTargets

@@ -44,7 +44,9 @@ pub enum Place {
 /// What a pool is made with, as `VmaPoolCreateInfo`.
 #[derive(Clone, Copy, PartialEq, Eq, Debug)]
 pub struct PoolInfo {
+    /// Which algorithm places its allocations.
     pub kind: PoolKind,
+    /// The memory type of its blocks.
     pub memory_type: u32,
     /// The bytes of each block.
     pub block_size: u64,
@@ -57,30 +59,41 @@ pub struct PoolInfo {
 pub struct BufferInfo {
     /// In bytes.
     pub size: u64,
+    /// What it may be used for.
     pub usage: Usage,
+    /// Whether one queue family at a time owns it.
     pub sharing: Sharing,
+    /// Where it gets its memory.
     pub place: Place,
 }
 
 /// What an image is made with, as `VkImageCreateInfo`, and its place.
 #[derive(Clone, Copy, PartialEq, Eq, Debug)]
 pub struct ImageInfo {
+    /// The format of a texel.
     pub format: Format,
     /// In texels, of level 0.
     pub width: u32,
     /// In texels, of level 0.
     pub height: u32,
+    /// How many mip levels it has.
     pub levels: u32,
+    /// How many array layers it has.
     pub layers: u32,
+    /// How its texels lie in memory.
     pub tiling: Kind,
+    /// What it may be used for.
     pub usage: Usage,
+    /// Whether one queue family at a time owns it.
     pub sharing: Sharing,
+    /// Where it gets its memory.
     pub place: Place,
 }
 
 /// What a memory object is made with, as `VkMemoryAllocateInfo`.
 #[derive(Clone, Copy, PartialEq, Eq, Debug)]
 pub struct MemoryInfo {
+    /// The memory type, 0 to 2.
     pub memory_type: u32,
     /// In bytes.
     pub size: u64,

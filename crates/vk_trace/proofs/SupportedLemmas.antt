@@ -15,7 +15,7 @@ use Rattle.vk_model.specs.declared.entry.SemaphoreSubmit.{SemaphoreSubmit}
 use Rattle.vk_model.specs.declared.resource.Place.{Place}
 use Rattle.vk_model.specs.declared.resource.Place.TheVariants as place
 use Rattle.vk_model.specs.Trace.Point.{Past, Point, Action, Wait, Run, Signal}
-use Rattle.vk_model.specs.Trace.Order.{SubmittedBatch, host, actions, taken, batches_from, batches_of, plain_from, plain_order}
+use Rattle.vk_model.specs.Trace.Order.{SubmittedBatch, host, actions, started, batches_from, batches_of, plain_from, plain_order}
 use Rattle.vk_validate.specs.Supported.{is_supported, is_supported_action, is_supported_entry, is_supported_command, is_supported_place, is_memory}
 use Rattle.vk_trace.specs.Members.{Reader, Row, ◌>>=◌, array_members, first_member, no_member, from, ◌<*>◌, only, members, at_word, after_word, word_and_members, tagged, each_member, list_of, empty_list, u32_value, u64_value}
 use Rattle.vk_trace.specs.Trace.{memory_element, dependency_value, command_rows, command_value, semaphore_submit, batch_value, semaphore_value, queue_value, memory_type_value, place_rows, place_value, sharing_value, length_or_whole, buffer, entry_rows, entry_value, IsTrace}
@@ -216,14 +216,14 @@ signals : (xs : List SemaphoreSubmit) → Each (λ x. is_supported_action (Signa
 signals [] = tt
 signals (x ∷ xs) = (refl, signals xs)
 
-started_supported : (t : SubmittedBatch) (past : Past) → IsSupportedBatch t.content → is_supported past ≡ true → is_supported (taken t past) ≡ true
+started_supported : (t : SubmittedBatch) (past : Past) → IsSupportedBatch t.content → is_supported past ≡ true → is_supported (started t past) ≡ true
 started_supported t past batch before =
     let waited : is_supported (actions Wait t 0 t.content.waits past) ≡ true = subst (λ (ws : List SemaphoreSubmit). is_supported (actions Wait t 0 ws past) ≡ true) (sym batch.waits) before in
     actions_supported Signal t 0 t.content.signals _ (signals t.content.signals) (actions_supported Run t 0 t.content.commands _ batch.commands waited)
 
-batches_supported : (ts : List SubmittedBatch) (past : Past) → Each (λ (t : SubmittedBatch). IsSupportedBatch t.content) ts → is_supported past ≡ true → is_supported (fold (λ p t. taken t p) past ts) ≡ true
+batches_supported : (ts : List SubmittedBatch) (past : Past) → Each (λ (t : SubmittedBatch). IsSupportedBatch t.content) ts → is_supported past ≡ true → is_supported (fold (λ p t. started t p) past ts) ≡ true
 batches_supported [] past each before = before
-batches_supported (t ∷ ts) past each before = batches_supported ts (taken t past) each.1 (started_supported t past each.0 before)
+batches_supported (t ∷ ts) past each before = batches_supported ts (started t past) each.1 (started_supported t past each.0 before)
 
 plain_supported : (e : ℕ) (past : Past) (xs : List Entry) → Each IsSupportedEntry xs → is_supported past ≡ true → is_supported (plain_from e past xs) ≡ true
 plain_supported e past [] each before = before

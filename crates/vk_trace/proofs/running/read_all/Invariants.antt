@@ -6,7 +6,7 @@ abbrev pub invariant-loop : goal.invariant-loop
 invariant-loop g l = record {
   read : Consumes (g.R.Read.remaining l.fn.reader.inner) (g.R.Read.remaining l.reader.inner) l.input.items;
   within : length l.input.items ≤ 16777216;
-  batches : l.counter ≤ length l.input.items;
+  rounds : l.counter ≤ length l.input.items;
   room : length l.chunk.items ≡ 65536;
   whole : l.reader.failed ≡ false;
 }

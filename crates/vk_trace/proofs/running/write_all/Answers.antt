@@ -10,7 +10,7 @@ loop-preserved g c =
     let some = c.in-Ok.n-test.1 in
     let bound : c.in-Ok.n ≤ length (take (length bytes - sent) (drop sent bytes)) = c.in-Ok.ensures.bound in record {
       written = written_more _ _ _ bytes sent c.in-Ok.n c.loop.invariant.written c.in-Ok.ensures.bytes;
-      batches = omega arith;
+      rounds = omega arith;
       within = omega (arith, bound, length-take (length bytes - sent) (drop sent bytes), length-drop sent bytes);
       whole = not_true _ (λ h. elim (c.in-Ok.ensures.failed.0 h) [ inl a ↦ cc (c.loop.invariant.whole, a) | inr (inl b) ↦ cc b | inr (inr d) ↦ some (cc d) ]);
     }
