@@ -7,7 +7,9 @@ use Rattle.std.proofs.lemmas.List.FromFn.{get_or-map-range_with_len, length-map-
 use Rattle.std.specs.Prelude.{IsSome, IfSome, option_map, unwrap_or}
 use Rattle.std.specs.List.{range_with_len}
 use Rattle.vk_heap.specs.Region.{piece}
-use Rattle.vk_memory.specs.MemoryState.{MemoryState, region_of, fresh, nothing, object_at, with_mapped}
+use Rattle.vk_memory.specs.MemoryState.{MemoryState, IsLive, region_of, bytes_of, fresh, object_at, remapped, with_mapped}
+use Rattle.vk_memory.specs.declared.memories.Object.{Object}
+use Rattle.vk_device.proofs.Filling.{live_below}
 use Rattle.vk_model.specs.declared.entry.Batch.{Batch}
 use Rattle.vk_model.specs.declared.entry.Entry.{Entry}
 use Rattle.vk_model.specs.declared.entry.Entry.TheVariants as entry
@@ -51,10 +53,10 @@ module _ (old new : Held) (apart : IsApart old.memory old.buffers) (i t : ℕ) (
   old_byte : (b k v : ℕ) (o : Option Placed) → placed old b ≡ o → IsSome o → byte_in old.memory o k ≡ v → (placed new b ≡ o) × (byte_in new.memory o k ≡ v)
   old_byte b k v None e some h = absurd cc
   old_byte b k v (Some p) e some h =
-      let inside : p.object < length old.memory.objects = (subst (λ (q : Option Placed). IfSome q (λ b. (b.object < length old.memory.objects) × (b.size ≤ length (region_of old.memory b.object)))) e (apart.inside b)).0 in
+      let inside : IsLive old.memory p.object = (subst (λ (q : Option Placed). IfSome q (λ b. IsLive old.memory b.object × (b.size ≤ length (region_of old.memory b.object)))) e (apart.inside b)).0 in
       let other : b ≡ i → ⊥ = λ (same : b ≡ i). clash (ap (λ (k : ℕ). placed old k) (sym same) ∙ e) (not_placed past old i st fresh_id) in (
         makes.others b other ∙ e,
-        rw makes.memory (ap (λ x. slice_index x.region k) (get_or_append_left old.memory.objects (fresh t (round_up info.size 16) ∷ []) nothing p.object inside) ∙ h),
+        rw makes.memory (ap (λ x. slice_index (bytes_of x) k) (get_or_append_left old.memory.objects (Some (fresh t (round_up info.size 16)) ∷ []) None p.object (live_below old.memory p.object inside)) ∙ h),
       )
     where
       clash : placed old i ≡ Some p → placed old i ≡ None → ⊥
@@ -115,24 +117,29 @@ read_answered s y b o n bytes is apart got e past st fit =
         let at = there_placed past s b info st e' in
         let p : Placed = at.0 in
         let here : placed s b ≡ Some p = at.1 in
-        let inside = subst (λ (q : Option Placed). IfSome q (λ b. (b.object < length s.memory.objects) × (b.size ≤ length (region_of s.memory b.object)))) here (apart.inside b) in
+        let inside = subst (λ (q : Option Placed). IfSome q (λ b. IsLive s.memory b.object × (b.size ≤ length (region_of s.memory b.object)))) here (apart.inside b) in
         let range : o + n ≤ info.size = subst (λ (x : Option BufferInfo). FitsRead x o n) e' f.0 in
         let room : o + n ≤ length (region_of s.memory p.object) = omega (arith, range, at.2, inside.1) in
         (record { sizes = st.sizes; values = st.values }, ap (λ (l : List ℕ). (e, l) ∷ []) (bytes_read past s st b o n p here room f.1 ∙ sym (got p here)))
 
 -- ---- a map
 
-region_of-mapped : (m : MemoryState) (o p : ℕ) → o < length m.objects → region_of (with_mapped m o true) p ≡ region_of m p
-region_of-mapped m o p lt = go (eqb p o) refl
+-- another mapping changes no byte of an object
+remapped_bytes : (o : Option Object) (b : Bool) → bytes_of (remapped b o) ≡ bytes_of o
+remapped_bytes None b = refl
+remapped_bytes (Some o) b = refl
+
+region_of-mapped : (m : MemoryState) (o p : ℕ) → IsLive m o → region_of (with_mapped m o true) p ≡ region_of m p
+region_of-mapped m o p live = go (eqb p o) refl
   where
     go : (t : Bool) → eqb p o ≡ t → region_of (with_mapped m o true) p ≡ region_of m p
     go true e =
         let same : p ≡ o = eqb-true p o e in
         subst (λ (q : ℕ). region_of (with_mapped m o true) q ≡ region_of m q) (sym same)
-        (ap (λ x. x.region) (get_or-set_same m.objects o (record (object_at m o) { mapped = true }) nothing lt))
-    go false e = ap (λ x. x.region) (get_or-set_other m.objects o p (record (object_at m o) { mapped = true }) nothing (eqb-false p o e))
+        (ap bytes_of (get_or-set_same m.objects o (remapped true (object_at m o)) None (live_below m o live)) ∙ remapped_bytes (object_at m o) true)
+    go false e = ap bytes_of (get_or-set_other m.objects o p (remapped true (object_at m o)) None (eqb-false p o e))
 
-mapped_matches : (past : Past) (s : Held) (o : ℕ) → o < length s.memory.objects → Matches past s → Matches past (record s { memory = with_mapped s.memory o true })
+mapped_matches : (past : Past) (s : Held) (o : ℕ) → IsLive s.memory o → Matches past s → Matches past (record s { memory = with_mapped s.memory o true })
 mapped_matches past s o lt st = record {
   sizes = st.sizes;
   values = λ c v h. go c v (st.values c v h);

@@ -2,13 +2,15 @@
 use Rattle.std.proofs.Common.{◌≡◌, ◌⊎◌, inl, inr, ℕ, zero, suc, ◌+◌, ◌-◌, ◌*◌, ◌%◌, ◌<◌, ◌≤◌, List, map, length, Bool, true, false, ◌&&◌, eq-eqb, eqb, refl, ap, sym, ◌∙◌, subst, arith, cond, get_or, slice_index, get_or-set_same, get_or-set_other, Option, Some, None}
 use Rattle.std.proofs.lemmas.Bool.{eqb-false, eqb-true}
 use Rattle.std.proofs.lemmas.Grind.{elements}
+use Rattle.std.proofs.lemmas.List.{get_or_past}
 use Rattle.std.proofs.Math.Nat.{add-mod_left}
 use Rattle.std.specs.Prelude.{IsSome, IfSome}
 use Rattle.std.specs.List.{find, range_with_len}
 use Rattle.std.specs.Int.{to_le_bytes, w32}
 use Rattle.vk_heap.specs.Region.{splice, repeated}
 use Rattle.vk_heap.proofs.RegionLemmas.{length-repeated}
-use Rattle.vk_memory.specs.MemoryState.{MemoryState, region_of, with_region, object_at, nothing}
+use Rattle.vk_memory.specs.MemoryState.{MemoryState, IsLive, region_of, with_region, object_at, bytes_of, rewritten}
+use Rattle.vk_memory.specs.declared.memories.Object.{Object}
 use Rattle.vk_model.specs.Basics.{below, byte_of}
 use Rattle.vk_model.specs.World.Bytes.{in_buffer, in_image, same_byte}
 use Rattle.vk_model.specs.World.ByteWrites.{Value, ByteWrite, byte_write}
@@ -58,11 +60,28 @@ splice_in xs ys at k ge lt le = grind (arith, elements)
 splice_after : (xs ys : List ℕ) (at k : ℕ) → at + length ys ≤ k → at + length ys ≤ length xs → get_or (splice xs at ys) k 0 ≡ get_or xs k 0
 splice_after xs ys at k ge le = grind (arith, elements)
 
-pub region_of-same : (m : MemoryState) (o : ℕ) (bytes : List ℕ) → o < length m.objects → region_of (with_region m o bytes) o ≡ bytes
-region_of-same m o bytes lt = ap (λ x. x.region) (get_or-set_same m.objects o (record (object_at m o) { region = bytes }) nothing lt)
+below_or : (k at : ℕ) → (k < at) ⊎ (at ≤ k)
+below_or k zero = inr (omega arith)
+below_or zero (suc at) = inl (omega arith)
+below_or (suc k) (suc at) = elim (below_or k at) [ inl h ↦ inl (omega (arith, h)) | inr h ↦ inr (omega (arith, h)) ]
+
+-- a live object has a number that was given
+pub live_below : (m : MemoryState) (o : ℕ) → IsLive m o → o < length m.objects
+live_below m o live = elim (below_or o (length m.objects)) [
+  | inl lt ↦ lt
+  | inr le ↦ let none : IsSome {T = Object} None = rw (get_or_past m.objects o None le) at live in absurd cc
+]
+
+-- the bytes of a live object are those that were put there
+rewritten_bytes : (o : Option Object) (bytes : List ℕ) → IsSome o → bytes_of (rewritten bytes o) ≡ bytes
+rewritten_bytes (Some o) bytes live = refl
+rewritten_bytes None bytes live = let none : IsSome {T = Object} None = live in absurd cc
+
+pub region_of-same : (m : MemoryState) (o : ℕ) (bytes : List ℕ) → IsLive m o → region_of (with_region m o bytes) o ≡ bytes
+region_of-same m o bytes live = ap bytes_of (get_or-set_same m.objects o (rewritten bytes (object_at m o)) None (live_below m o live)) ∙ rewritten_bytes (object_at m o) bytes live
 
 pub region_of-other : (m : MemoryState) (o p : ℕ) (bytes : List ℕ) → (p ≡ o → ⊥) → region_of (with_region m o bytes) p ≡ region_of m p
-region_of-other m o p bytes ne = ap (λ x. x.region) (get_or-set_other m.objects o p (record (object_at m o) { region = bytes }) nothing ne)
+region_of-other m o p bytes ne = ap bytes_of (get_or-set_other m.objects o p (rewritten bytes (object_at m o)) None ne)
 
 module _ (b o words w : ℕ) where
   abbrev pub fill_write : ℕ → ByteWrite
@@ -96,11 +115,6 @@ module _ (b o words w : ℕ) where
       only j true e is_it = let same = eqb-true (o + j) k e in omega arith
       only j false e is_it = let not_it : (eqb b b && false) ≡ false = rw (eq-eqb b b refl) refl in absurd cc
 
-below_or : (k at : ℕ) → (k < at) ⊎ (at ≤ k)
-below_or k zero = inr (omega arith)
-below_or zero (suc at) = inl (omega arith)
-below_or (suc k) (suc at) = elim (below_or k at) [ inl h ↦ inl (omega (arith, h)) | inr h ↦ inr (omega (arith, h)) ]
-
 -- a fill of a placed buffer has made the fill's byte writes
 module _ (s : Held) (apart : IsApart s.memory s.buffers) (b o words w : ℕ) (p : Placed) (here : placed s b ≡ Some p) (room : o + 4 * words ≤ p.size) where
   abbrev pub filled : List ℕ
@@ -109,8 +123,8 @@ module _ (s : Held) (apart : IsApart s.memory s.buffers) (b o words w : ℕ) (p 
   abbrev pub after_fill : Held
   after_fill = record s { memory = with_region s.memory p.object filled }
 
-  is_inside : (p.object < length s.memory.objects) × (p.size ≤ length (region_of s.memory p.object))
-  is_inside = subst (λ (q : Option Placed). IfSome q (λ b. (b.object < length s.memory.objects) × (b.size ≤ length (region_of s.memory b.object)))) here (apart.inside b)
+  is_inside : IsLive s.memory p.object × (p.size ≤ length (region_of s.memory p.object))
+  is_inside = subst (λ (q : Option Placed). IfSome q (λ b. IsLive s.memory b.object × (b.size ≤ length (region_of s.memory b.object)))) here (apart.inside b)
 
   written : length (repeated words (to_le_bytes w32 w)) ≡ words * 4
   written = length-repeated words (to_le_bytes w32 w)

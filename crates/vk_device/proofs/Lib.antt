@@ -7,3 +7,4 @@ pub mod Entries
 pub mod Whole
 pub mod Next
 pub mod Allotting
+pub mod Apart

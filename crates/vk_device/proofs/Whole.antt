@@ -28,7 +28,7 @@ pub record Replays (config : HeapSizes) (t : List Entry) (i : ℕ) (reported : R
   pub goes_on : stop_from (allotted s.memory) i (drop i t) ≡ first_stop config t
   pub works : s.failed ≡ false
 
-pub replays_start : (config : HeapSizes) (t : List Entry) (s : Held) → Matches [] s → s.memory ≡ record { heap0 = config.heap0; heap1 = config.heap1; objects = [] } → s.failed ≡ false → Replays config t 0 [] s
+pub replays_start : (config : HeapSizes) (t : List Entry) (s : Held) → Matches [] s → s.memory ≡ record { sizes = config; objects = [] } → s.failed ≡ false → Replays config t 0 [] s
 unfolding meaning first_stop
 replays_start config t s st empty works = record {
   matches = st;

@@ -1,6 +1,7 @@
 -- The memory objects that entries ask for, and the first entry that finds no room.
 use Rattle.std.specs.Prelude.{ℕ, ◌+◌, ◌==◌, List, [], ◌∷◌, ◌++◌, map, length, sum_by, Bool, Option, Some, None, if◌then◌else◌}
-use Rattle.std.specs.List.{list_any}
+use Rattle.std.specs.List.{list_any, filter_map}
+use Rattle.vk_memory.specs.declared.memories.Object.{Object}
 use Rattle.vk_memory.specs.MemoryState.{MemoryState}
 use Rattle.vk_model.specs.Memory.HeapSizes.{HeapSizes}
 use Rattle.vk_model.specs.declared.entry.Entry.{Entry}
@@ -10,15 +11,19 @@ use Rattle.vk_model.specs.declared.resource.Place.TheVariants as place
 use Rattle.vk_model.specs.Trace.Objects.{of_buffer}
 use Rattle.vk_model.specs.Memory.Room.{Heaps, heap_of, no_object}
 
--- The sizes of the heaps, and each memory object by its memory type and its size, the oldest first (Vulkan, "Device Memory").
+-- The sizes of the heaps, and each live memory object by its memory type and its size, the oldest first (Vulkan, "Device Memory").
 pub record Allotted : Type 0 where
-  pub heap0 : ℕ
-  pub heap1 : ℕ
+  pub sizes : HeapSizes
   pub objects : List (ℕ × ℕ)
+
+-- The memory type and the size of an object, where there is one.
+abbrev pub kind_of : Option Object → Option (ℕ × ℕ)
+kind_of None = None
+kind_of (Some o) = Some (o.memory_type, o.size)
 
 -- The same of the memory objects of a device.
 abbrev pub allotted : MemoryState → Allotted
-allotted m = record { heap0 = m.heap0; heap1 = m.heap1; objects = map (λ o. (o.memory_type, o.size)) m.objects }
+allotted m = record { sizes = m.sizes; objects = filter_map (λ k. k) (map kind_of m.objects) }
 
 -- A resource of this size asks for a memory object of its own where its place is an allocation of its own (VMA, "Choosing memory type", on dedicated allocations).
 abbrev pub asked_at : Place → ℕ → List (ℕ × ℕ)
@@ -37,7 +42,7 @@ with_asked a x = record a { objects = a.objects ++ asked_by x }
 -- The heaps, each with what the memory objects take of it (Vulkan, "Device Memory").
 abbrev pub heaps_with : Allotted → Heaps
 heaps_with a = record {
-  limit = λ h. if h == 0 then a.heap0 else a.heap1;
+  limit = λ h. if h == 0 then a.sizes.heap0 else a.sizes.heap1;
   used = λ h. sum_by (λ o. if heap_of o.0 == h then o.1 else 0) a.objects;
   objects = length a.objects;
 }
@@ -53,4 +58,4 @@ stop_from a e (x ∷ xs) = if finds_no_room a x then Some e else stop_from (with
 
 -- The first entry of a trace that finds no room on a device with heaps of these sizes (profile).
 unfoldable pub first_stop : HeapSizes → List Entry → Option ℕ
-first_stop c t = stop_from (record { heap0 = c.heap0; heap1 = c.heap1; objects = [] }) 0 t
+first_stop c t = stop_from (record { sizes = c; objects = [] }) 0 t

@@ -1,9 +1,9 @@
 -- What a device holds: its buffers and the memory under them.
-use Rattle.std.specs.Prelude.{◌≡◌, ℕ, ◌<◌, ◌≤◌, ◌⊎◌, true, List, length, slice_index, Bool, Option, Some, None, IfSome}
+use Rattle.std.specs.Prelude.{◌≡◌, ℕ, ◌≤◌, ◌⊎◌, true, List, length, slice_index, Bool, Option, Some, None, IfSome}
 use Rattle.std.specs.Ordering.{nat_cmp}
 use Rattle.std.specs.Map.{lookup}
 use Rattle.std.specs.BTreeMap.{is_at}
-use Rattle.vk_memory.specs.MemoryState.{MemoryState, region_of, with_mapped}
+use Rattle.vk_memory.specs.MemoryState.{MemoryState, IsLive, region_of, with_mapped}
 use Rattle.vk_model.specs.World.Bytes.{Byte, in_buffer, in_image}
 use Rattle.vk_device.specs.declared.device.Placed.{Placed}
 
@@ -23,7 +23,7 @@ placed s id = placed_in s.buffers id
 
 -- Each buffer lies in a memory object that is there and long enough, and no other buffer lies in it (VMA, "Choosing memory type", on dedicated allocations).
 pub record IsApart (memory : MemoryState) (buffers : List (ℕ × Placed)) : Type 0 where
-  pub inside : (id : ℕ) → IfSome (placed_in buffers id) (λ b. (b.object < length memory.objects) × (b.size ≤ length (region_of memory b.object)))
+  pub inside : (id : ℕ) → IfSome (placed_in buffers id) (λ b. IsLive memory b.object × (b.size ≤ length (region_of memory b.object)))
   pub own : (b c : ℕ) (p q : Placed) → placed_in buffers b ≡ Some p → placed_in buffers c ≡ Some q → p.object ≡ q.object → b ≡ c
 
 -- Byte k of a buffer that lies in memory; 0 for one that doesn't.
@@ -39,4 +39,4 @@ byte_at s (in_image i l a x y p) = 0
 -- The memory object under a buffer may have been mapped, and nothing else has changed (Vulkan, "Host Access to Device Memory Objects").
 abbrev pub MapsAt : Held → Held → Option Placed → Type 0
 MapsAt old new None = new ≡ old
-MapsAt old new (Some p) = (new ≡ old) ⊎ ((p.object < length old.memory.objects) × (new ≡ record old { memory = with_mapped old.memory p.object true }))
+MapsAt old new (Some p) = (new ≡ old) ⊎ (IsLive old.memory p.object × (new ≡ record old { memory = with_mapped old.memory p.object true }))

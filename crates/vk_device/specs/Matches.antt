@@ -82,7 +82,7 @@ MayRead (Some b) o n = o + n ≤ b.size
 
 -- A new buffer lies in a new memory object of its own, of a multiple of 16 bytes (profile), and nothing else has changed.
 pub record Makes (old new : Held) (id t size : ℕ) : Type 0 where
-  pub memory : new.memory ≡ record old.memory { objects = old.memory.objects ++ fresh t (round_up size 16) ∷ [] }
+  pub memory : new.memory ≡ record old.memory { objects = old.memory.objects ++ Some (fresh t (round_up size 16)) ∷ [] }
   pub here : placed new id ≡ Some (record { size = size; object = length old.memory.objects })
   pub others : (q : ℕ) → (q ≡ id → ⊥) → placed new q ≡ placed old q
   pub failed : new.failed ≡ old.failed

@@ -17,7 +17,7 @@ pub struct Placed {
     /// The buffer's size in bytes, as it was asked for.
     pub size: u64,
     /// The number of the memory object.
-    pub object: u32,
+    pub object: u64,
 }
 
 /// A device with its memory. It runs the commands of a submit when the submit is applied.
@@ -67,7 +67,7 @@ impl Device {
     /// A device with heaps of these sizes, without resources. It takes no memory.
     pub fn new(alloc: Global, config: Config) -> Device
         ensures matches { Matches [] result }
-        ensures empty { result.memory ≡ record { heap0 = config.heap0; heap1 = config.heap1; objects = [] } }
+        ensures empty { result.memory ≡ record { sizes = config; objects = [] } }
         ensures works { result.failed ≡ false }
     {
         Device {

@@ -1,4 +1,4 @@
-ghost use Rattle.std.specs.Prelude.{◌≡◌, ◌<◌, ◌≤◌, ◌+◌, [], ◌∷◌, ◌++◌, length, IfOk, IsOk, OnErr, IsErrOf};
+ghost use Rattle.std.specs.Prelude.{◌≡◌, ◌<◌, [], ◌∷◌, ◌++◌, length, IfOk, IsOk, OnErr, IsErrOf};
 
 use std::alloc::{AllocError, AllocFailed, Global};
 use std::marker::Model;
@@ -62,83 +62,89 @@ pub struct MapState;
 /// A memory object.
 #[derive(Drop)]
 pub struct Object {
+    /// Its memory type, as it was asked for.
     pub memory_type: u32,
     /// In bytes: the length of the region, kept beside it since a region may be lent out.
     pub size: u64,
+    /// Whether the host has mapped it.
     pub mapped: bool,
+    /// Its bytes.
     pub region: Region,
 }
 
 /// The memory objects of a device, each named by its number, within the budgets of two heaps. Type 0
-/// lies on heap 0, every other type on heap 1.
+/// lies on heap 0, every other type on heap 1. Numbers rise and are never given again.
 #[derive(Drop)]
 pub struct Memories {
     alloc: Global,
     heap0: Budget,
     heap1: Budget,
-    objects: Vec<Object>,
+    objects: Vec<Option<Object>>,
+    live: usize,
 }
 
 impl Model for Memories {
-    ghost use Rattle.std.specs.Prelude.{◌≡◌, List, true, false};
-    ghost use Rattle.vk_memory.specs.declared.memories.Object.{Object};
-    ghost use Rattle.vk_memory.specs.MemoryState.{MemoryState, sizes_on};
+    ghost use Rattle.std.specs.Prelude.{◌≡◌, true, false};
+    ghost use Rattle.vk_memory.specs.MemoryState.{MemoryState, sizes_on, live_count};
 
     ghost Value = { MemoryState };
 
-    ghost view = { λ m. record { heap0 = m.heap0.size; heap1 = m.heap1.size; objects = m.objects.items } };
+    ghost view = { λ m. record { sizes = record { heap0 = m.heap0.size; heap1 = m.heap1.size }; objects = m.objects.items } };
 
-    ghost invariant = { λ m. (m.heap0.used ≡ sizes_on true m.objects.items) × (m.heap1.used ≡ sizes_on false m.objects.items) };
+    ghost invariant = { λ m. (m.heap0.used ≡ sizes_on true m.objects.items) × (m.heap1.used ≡ sizes_on false m.objects.items)
+        × (m.live ≡ live_count m.objects.items) };
 }
 
 impl Memories {
-    ghost use Rattle.vk_memory.specs.MemoryState.{IsFull, fresh, heap_size, on_first, sizes_on, region_of, with_region, with_mapped, is_mapped};
+    ghost use Rattle.vk_memory.specs.MemoryState.{IsFull, IsLive, fresh, heap_size, on_first, sizes_on, region_of, with_object, with_region, with_mapped, is_mapped};
     ghost use Rattle.std.specs.Borrow.{Lends, sem};
     ghost use Rattle.vk_memory.specs.contracts.memories.Memories.{the_row};
     ghost use Rattle.vk_heap.specs.contracts.region.Region.{the_row as region_row};
-    ghost use Rattle.std.specs.Prelude.{◌==◌, ◌↔◌, IsErr, OnOk, IsTrue, true};
+    ghost use Rattle.std.specs.Prelude.{◌==◌, ◌↔◌, IsErr, OnOk, IsTrue, true, Some, None};
 
     /// Heaps of these sizes, without objects. It takes no memory.
     pub fn new(alloc: Global, config: Config) -> Memories
-        ensures { result ≡ record { heap0 = config.heap0; heap1 = config.heap1; objects = [] } }
+        ensures { result ≡ record { sizes = config; objects = [] } }
     {
         Memories {
             alloc,
             heap0: Budget::new(config.heap0()),
             heap1: Budget::new(config.heap1()),
             objects: Vec::new(alloc),
+            live: 0,
         }
     }
 
     /// Makes an object of `size` bytes, and answers its number: they count from 0, and rise.
     #[tactic(auto, using(crate::proofs::MemoryStateLemmas::adding))]
-    pub fn allocate(&mut self, memory_type: u32, size: u64) -> Result<u32, MemoryError>
+    pub fn allocate(&mut self, memory_type: u32, size: u64) -> Result<u64, MemoryError>
         requires { 0 < size }
         ensures ok { IfOk result (λ number. (number ≡ length self.old.objects)
-            × (self.new ≡ record self.old { objects = self.old.objects ++ fresh memory_type size ∷ [] })) }
+            × (self.new ≡ record self.old { objects = self.old.objects ++ Some (fresh memory_type size) ∷ [] })) }
         ensures room { IsOk result → ¬ IsFull self.old memory_type size }
         ensures full { IsErrOf result MemoryError.NoRoom → IsFull self.old memory_type size }
         ensures err { OnErr result (self.new ≡ self.old) }
     {
-        let number = self.objects.len();
-        if number >= MOST_OBJECTS {
+        if self.live >= MOST_OBJECTS {
             return Err(MemoryError::NoRoom);
         }
+        let number = self.objects.len();
         let mut heap = self.heap(memory_type);
         heap.take(size)?;
         let region = Region::new(self.alloc, size)?;
-        self.objects.push(Object {
+        self.objects.push(Some(Object {
             memory_type,
             size,
             mapped: false,
             region,
-        })?;
+        }))?;
+        self.live += 1;
         if memory_type == 0 {
             self.heap0 = heap;
         } else {
             self.heap1 = heap;
         }
-        Ok(number as u32)
+        Ok(number as u64)
     }
 
     /// The heap of a memory type.
@@ -153,40 +159,49 @@ impl Memories {
         }
     }
 
-    /// The bytes of an object.
-    pub fn region(&self, number: u32) -> &Region
-        requires { number < length self.now.objects }
+    /// The bytes of a live object.
+    pub fn region(&self, number: u64) -> &Region
+        requires { IsLive self.now number }
         ensures { result.now ≡ region_of self.now number }
     {
-        &self.objects[number as usize].region
+        match &self.objects[number as usize] {
+            Some(object) => &object.region,
+            None => unreachable!(),
+        }
     }
 
-    /// The bytes of an object, to be written.
-    pub fn region_mut(&mut self, number: u32) -> &mut Region
-        requires { number < length self.old.objects }
+    /// The bytes of a live object, to be written.
+    pub fn region_mut(&mut self, number: u64) -> &mut Region
+        requires { IsLive self.old number }
         ensures* writes_back { sem 𝓛 (Lends the_row region_row self.entry result (with_region self.old number)) }
         ensures value { result.now ≡ region_of self.old number }
     {
-        let object = &mut self.objects[number as usize];
-        &mut object.region
+        match &mut self.objects[number as usize] {
+            Some(object) => &mut object.region,
+            None => unreachable!(),
+        }
     }
 
-    /// Maps an object that is not mapped.
-    pub fn map(&mut self, number: u32) -> Result<(), MapState>
-        requires { number < length self.old.objects }
+    /// Maps a live object that is not mapped.
+    pub fn map(&mut self, number: u64) -> Result<(), MapState>
+        requires { IsLive self.old number }
         ensures ok { OnOk result (self.new ≡ with_mapped self.old number true) }
         ensures state { IsErr result ↔ IsTrue (is_mapped self.old number) }
         ensures err { OnErr result (self.new ≡ self.old) }
     {
-        let object = &mut self.objects[number as usize];
-        if object.mapped {
-            return Err(MapState);
+        match &mut self.objects[number as usize] {
+            Some(object) => {
+                if object.mapped {
+                    return Err(MapState);
+                }
+                object.mapped = true;
+                Ok(())
+            }
+            None => unreachable!(),
         }
-        object.mapped = true;
-        Ok(())
     }
 
-    /// The bytes that the objects take of heap 0 or of heap 1.
+    /// The bytes that the live objects take of heap 0 or of heap 1.
     pub fn used(&self, heap: u32) -> u64
         ensures { result ≡ sizes_on (heap == 0) self.now.objects }
     {

@@ -114,7 +114,7 @@ pub struct Need {
 #[derive(Clone, Copy, PartialEq, Eq, Debug)]
 pub struct Spot {
     /// The number of the memory object.
-    pub memory: u32,
+    pub memory: u64,
     /// In bytes from the object's start.
     pub offset: u64,
     /// In bytes.
