@@ -1,8 +1,9 @@
-# Helpers of the benchmark scripts. A script sources this file, has each of its rows measured, and ends with `finish`.
-# A row checks how the program ends and what it answers, so that a crash or a wrong answer fails it.
+# Helpers of the benchmark scripts. A script sources this file, has each of its rows measured, and
+# ends with `finish`. A row checks how the program ends and what it answers, so that a crash or a
+# wrong answer fails it.
 #
-# PROGRAM is the program to measure; where it isn't set, the repository's own, which ./replay builds where
-# that is due. RUNS is how often a row is run, 5 where nothing is said.
+# PROGRAM is the program to measure; where it isn't set, the repository's own, which ./replay builds
+# where that is due. RUNS is how often a row is run, 5 where nothing is said.
 set -u
 top=$(cd "$(dirname "${BASH_SOURCE[0]}")/.." && pwd)
 runs=${RUNS:-5}
@@ -16,7 +17,8 @@ if [ -z "${PROGRAM:-}" ]; then
     "$top/replay" <"$top/examples/first_upload.json" >"$folder/answer" || exit 1
 fi
 
-# FILE COMMAND..: runs the command, and writes its peak of memory in kilobytes to the file, or '-' where nothing here measures it.
+# FILE COMMAND..: runs the command, and writes its peak of memory in kilobytes to the file, or '-'
+# where nothing here measures it.
 if /usr/bin/time -f %M true 2>/dev/null >&2; then
     with_peak() {
         local file=$1
@@ -62,8 +64,8 @@ fault_of() {
     fi
 }
 
-# NAME STATUS ANSWER TRACE..: a row. TRACE is a command that prints the trace, ANSWER one, in a word, that
-# prints what the program is to write for it, and STATUS how the program is to end.
+# NAME STATUS ANSWER TRACE..: a row. TRACE is a command that prints the trace, ANSWER one, in one
+# word, that prints what the program is to write for it, and STATUS how the program is to end.
 row() {
     local name=$1 status=$2 answer=$3 best= fault= run from
     shift 3
@@ -83,20 +85,31 @@ row() {
         [ -z "$fault" ] || break
     done
     [ -z "$fault" ] || wrong=$((wrong + 1))
-    awk -v name="$name" -v bytes="$(wc -c <"$folder/trace")" -v best="$best" -v peak="$(tail -n 1 "$folder/peak")" -v status="$ended" -v fault="$fault" 'BEGIN {
-        peak = peak == "-" ? "-" : sprintf("%.1f", peak / 1024)
-        printf "%-32s %10d %12.1f %10s %6d  %s\n", name, bytes, best / 1000, peak, status, fault ? fault : "as wanted"
-    }'
+    print_row "$name" "$(wc -c <"$folder/trace")" "$(milliseconds "$best")" \
+        "$(mebibytes "$(tail -n 1 "$folder/peak")")" "$ended" "${fault:-as wanted}"
+}
+
+milliseconds() {
+    awk -v us="$1" 'BEGIN { printf "%.1f", us / 1000 }'
+}
+
+# The kilobytes that `with_peak` wrote, or its '-'.
+mebibytes() {
+    awk -v kb="$1" 'BEGIN { if (kb == "-") print kb; else printf "%.1f", kb / 1024 }'
+}
+
+print_row() {
+    printf '%-28s %10s %14s %10s %7s  %s\n' "$@"
 }
 
 # The line above the rows.
 heading() {
-    printf '%-32s %10s %12s %10s %6s\n' "trace" "bytes" "best of $runs, ms" "peak, MiB" "status"
+    print_row trace bytes "best of $runs, ms" "peak, MiB" status ""
 }
 
 # Ends the script: with 1 where a row was wrong.
 finish() {
-    [ "$wrong" -eq 0 ] || echo "$wrong wrong"
-    [ "$wrong" -eq 0 ]
-    exit
+    [ "$wrong" -ne 0 ] || exit 0
+    echo "$wrong wrong"
+    exit 1
 }

@@ -1,62 +1,82 @@
 #!/bin/bash
-# Measures the program on traces near its limits: the best time of some runs, and the peak of memory. How long a row
-# takes is for a reader to judge; that it ends as it must, with the right answer, is checked (bench/common.sh).
+# Measures the program on traces near its limits: the best time of some runs, and the peak of
+# memory. How long a row takes is for a reader to judge; that it ends as it must, with the right
+# answer, is checked (bench/common.sh).
 . "$(dirname "${BASH_SOURCE[0]}")/common.sh"
+
+make_available='["barrier",[[4096,4096,4096,4096]],[],[]]'
 
 # N semaphores.
 semaphores() {
-    awk -v n="$1" 'BEGIN { printf "["; for (i = 0; i < n; i++) printf "%s[\"semaphore\",%d,0]", i ? "," : "", i; print "]" }'
+    awk -v n="$1" 'BEGIN {
+        printf "["
+        for (i = 0; i < n; i++) printf "%s[\"semaphore\",%d,0]", i ? "," : "", i
+        print "]"
+    }'
 }
 
-# SIZE COMMANDS READS: the commands on a buffer of SIZE bytes, and the reads after a wait; from standard input.
+# SIZE COUNT OFFSET BYTES: a trace that submits the commands of standard input, each of which has a
+# comma after it, on a buffer of SIZE bytes, waits, and reads COUNT times so many bytes from there.
 fill_and_read() {
-    printf '[["buffer",1,%d,3,"exclusive",["dedicated",1]],["semaphore",2,0],["submit",0,[[[],[' "$1"
+    printf '[["buffer",1,%d,3,"exclusive",["dedicated",1]],["semaphore",2,0],' "$1"
+    printf '["submit",0,[[[],['
     cat
     printf '["barrier",[[4096,4096,16384,8192]],[],[]]],[[2,1,65536]]]]],["wait",[[2,1]]],["map",1]'
-    awk -v count="$2" -v offset="$3" -v size="$4" 'BEGIN { while (count-- > 0) printf ",[\"read\",1,%d,%d]", offset, size; print "]" }'
+    awk -v count="$2" -v offset="$3" -v bytes="$4" 'BEGIN {
+        for (i = 0; i < count; i++) printf ",[\"read\",1,%d,%d]", offset, bytes
+        print "]"
+    }'
 }
 
-# N fills of a word that go round a buffer of 4,096 bytes, with a barrier after each, and a read of the first word.
+# Helpers of awk: the bytes of a word, little-endian, in hex; and the answers of N reads of a line.
+words='
+    function hex(word) {
+        return sprintf("%02x%02x%02x%02x", word % 256, int(word / 256) % 256,
+            int(word / 65536) % 256, int(word / 16777216))
+    }
+    function reads(n, line, i) { for (i = 0; i < n; i++) print 5 + i, line }
+'
+
+# N fills of a word that go round a buffer of 4,096 bytes, with a barrier after each, and a read of
+# the first word.
 ordered_fills() {
-    awk -v n="$1" 'BEGIN {
-        for (i = 0; i < n; i++)
-            printf "[\"fill\",1,%d,4,%d],[\"barrier\",[[4096,4096,4096,4096]],[],[]],", i * 4 % 4096, i
+    awk -v n="$1" -v barrier="$make_available" 'BEGIN {
+        for (i = 0; i < n; i++) printf "[\"fill\",1,%d,4,%d],%s,", i * 4 % 4096, i, barrier
     }' | fill_and_read 4096 1 0 4
 }
 
-# The first word was last written by the last fill whose number is a multiple of 1,024.
+# The first word is that of the last fill whose number is a multiple of 1,024.
 ordered_fills_answer() {
-    word "$((($1 - 1) / 1024 * 1024))" | sed 's/^/5 /'
-}
-
-# The bytes of a number, little-endian, in hex.
-word() {
-    printf '%02x%02x%02x%02x\n' $(($1 & 255)) $(($1 >> 8 & 255)) $(($1 >> 16 & 255)) $(($1 >> 24 & 255))
+    awk -v n="$1" "$words"' BEGIN { reads(1, hex(int((n - 1) / 1024) * 1024)) }'
 }
 
 # N fills of a word, spread over a buffer of 4 MiB so that no two meet.
 scattered_fills() {
     awk -v n="$1" 'BEGIN {
         printf "[[\"buffer\",1,4194304,3,\"exclusive\",[\"dedicated\",1]],[\"submit\",0,[[[],["
-        for (i = 0; i < n; i++) printf "%s[\"fill\",1,%d,4,%d]", i ? "," : "", i * 7919 % 1048576 * 4, i
+        for (i = 0; i < n; i++)
+            printf "%s[\"fill\",1,%d,4,%d]", i ? "," : "", i * 7919 % 1048576 * 4, i
         printf "],[]]]]]"
     }'
 }
 
-# N fills of 4 MiB with a barrier between each two, and M reads of SIZE bytes from OFFSET on. Fill K, counted from 1, has bytes K.
+# N COUNT OFFSET BYTES: N fills of 4 MiB with a barrier between each two, and COUNT reads. Fill K,
+# counted from 1, has K in each byte.
 whole_fills() {
-    awk -v n="$1" 'BEGIN {
-        for (k = 1; k <= n; k++)
-            printf "%s[\"fill\",1,0,\"whole\",%d],", (k > 1 ? "[\"barrier\",[[4096,4096,4096,4096]],[],[]]," : ""), k * 16843009
+    awk -v n="$1" -v barrier="$make_available" 'BEGIN {
+        for (k = 1; k <= n; k++) {
+            if (k > 1) printf "%s,", barrier
+            printf "[\"fill\",1,0,\"whole\",%d],", k * 16843009
+        }
     }' | fill_and_read 4194304 "$2" "$3" "$4"
 }
 
-# BYTE M WORDS: M reads of so many bytes, in words, each with this value.
+# N COUNT BYTES: what COUNT reads of BYTES bytes, 4 times a power of 2, answer after N such fills.
 whole_fills_answer() {
-    awk -v byte="$1" -v reads="$2" -v words="$3" 'BEGIN {
-        line = sprintf("%02x%02x%02x%02x", byte, byte, byte, byte)
-        for (size = 1; size < words; size *= 2) line = line line
-        for (i = 0; i < reads; i++) print 5 + i, line
+    awk -v n="$1" -v count="$2" -v bytes="$3" "$words"' BEGIN {
+        line = hex(n * 16843009)
+        for (size = 4; size < bytes; size *= 2) line = line line
+        reads(count, line)
     }'
 }
 
@@ -67,19 +87,23 @@ side_by_side() {
 }
 
 side_by_side_answer() {
-    awk -v n="$1" 'BEGIN {
-        for (i = 0; i < n; i++) line = line sprintf("%02x%02x%02x%02x", i % 256, int(i / 256) % 256, 0, 0)
-        for (i = 0; i < n; i++) print 5 + i, line
+    awk -v n="$1" "$words"' BEGIN {
+        for (i = 0; i < n; i++) line = line hex(i)
+        reads(n, line)
     }'
 }
 
 # An array of N objects without a member.
 small_objects() {
-    awk -v n="$1" 'BEGIN { printf "["; for (i = 0; i < n; i++) printf i ? ",{}" : "{}"; print "]" }'
+    awk -v n="$1" 'BEGIN {
+        printf "["
+        for (i = 0; i < n; i++) printf i ? ",{}" : "{}"
+        print "]"
+    }'
 }
 
-# An array of objects nested DEPTH deep, each the only member of the one around it, by the empty name: as many as 16,777,216
-# bytes have room for. No other shape that was tried takes as much memory.
+# An array of objects nested DEPTH deep, each the only member of the one around it, by the empty
+# name: as many as fit into 16,777,216 bytes. Of the shapes that were tried it costs most memory.
 nested_objects() {
     awk -v depth="$1" 'BEGIN {
         for (i = 0; i < depth; i++) { opened = opened "{\"\":"; closed = closed "}" }
@@ -95,16 +119,16 @@ heading
 row first_upload 0 "echo 5 01020304" cat "$top/examples/first_upload.json"
 row semaphores_131072 0 true semaphores 131072
 row semaphores_131073 1 "echo refused 131072 LIMIT" semaphores 131073
-row ordered_fills_10000 0 "ordered_fills_answer 10000" ordered_fills 10000
-row ordered_fills_20000 0 "ordered_fills_answer 20000" ordered_fills 20000
-row ordered_fills_65000 0 "ordered_fills_answer 65000" ordered_fills 65000
+for n in 10000 20000 65000; do
+    row "ordered_fills_$n" 0 "ordered_fills_answer $n" ordered_fills "$n"
+done
 row scattered_fills_131000 0 true scattered_fills 131000
-row fill_of_4_MiB 0 "whole_fills_answer 1 1 1" whole_fills 1 1 4194300 4
-row 16_ordered_fills_of_4_MiB 0 "whole_fills_answer 16 2 1" whole_fills 16 2 4194300 4
-row 50_reads_of_4_MiB 0 "whole_fills_answer 1 50 1048576" whole_fills 1 50 0 4194304
-row side_by_side_1000 0 "side_by_side_answer 1000" side_by_side 1000
-row side_by_side_2000 0 "side_by_side_answer 2000" side_by_side 2000
-row side_by_side_4000 0 "side_by_side_answer 4000" side_by_side 4000
+row fill_of_4_MiB 0 "whole_fills_answer 1 1 4" whole_fills 1 1 4194300 4
+row 16_ordered_fills_of_4_MiB 0 "whole_fills_answer 16 1 4" whole_fills 16 1 4194300 4
+row 50_reads_of_4_MiB 0 "whole_fills_answer 1 50 4194304" whole_fills 1 50 0 4194304
+for n in 1000 2000 4000; do
+    row "side_by_side_$n" 0 "side_by_side_answer $n" side_by_side "$n"
+done
 row a_million_small_objects 2 true small_objects 1000000
 row objects_nested_125_deep 2 true nested_objects 125
 finish
