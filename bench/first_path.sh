@@ -1,69 +1,134 @@
 #!/bin/bash
-# Prints how long the program takes on traces near its limits. It judges nothing: the figures are for a reader.
-set -eu
-top=$(cd "$(dirname "$0")/.." && pwd)
-program=$top/crates/vk_replay/out/vk_replay
-"$top/replay" <"$top/examples/first_upload.json" >/dev/null # builds it where that is due
-folder=$(mktemp -d)
-trap 'rm -rf "$folder"' EXIT
+# Measures the program on traces near its limits: the best time of some runs, and the peak of
+# memory. How long a row takes is for a reader to judge; that it ends as it must, with the right
+# answer, is checked (bench/common.sh).
+. "$(dirname "${BASH_SOURCE[0]}")/common.sh"
 
-# NAME RUNS: the trace $folder/NAME.json, its size, the time of a run, and the first line of the answer.
-measure() {
-    local name=$1 runs=$2 from to
-    from=$(date +%s%N)
-    for _ in $(seq "$runs"); do
-        "$program" <"$folder/$name.json" >"$folder/out" || true
-    done
-    to=$(date +%s%N)
-    awk -v name="$name" -v bytes="$(wc -c <"$folder/$name.json")" -v ns=$((to - from)) -v runs="$runs" \
-        -v told="$(head -c 60 "$folder/out" | head -n 1)" \
-        'BEGIN { printf "%-28s %9d bytes %9.1f ms  %s\n", name, bytes, ns / runs / 1e6, told }'
-}
+make_available='["barrier",[[4096,4096,4096,4096]],[],[]]'
 
+# N semaphores.
 semaphores() {
-    awk -v n="$1" 'BEGIN { printf "["; for (i = 0; i < n; i++) printf "%s[\"semaphore\",%d,0]", i ? "," : "", i; print "]" }'
-}
-
-# N fills of 4 bytes that go round a buffer of 4,096 bytes, with a barrier after each, and a read of the first word.
-fills() {
     awk -v n="$1" 'BEGIN {
-        printf "[[\"buffer\",1,4096,3,\"exclusive\",[\"dedicated\",1]],[\"semaphore\",2,0],[\"submit\",0,[[[],["
-        for (i = 0; i < n; i++)
-            printf "[\"fill\",1,%d,4,%d],[\"barrier\",[[4096,4096,4096,4096]],[],[]],", i * 4 % 4096, i
-        printf "[\"barrier\",[[4096,4096,16384,8192]],[],[]]],[[2,1,65536]]]]],[\"wait\",[[2,1]]],[\"map\",1],[\"read\",1,0,4]]"
+        printf "["
+        for (i = 0; i < n; i++) printf "%s[\"semaphore\",%d,0]", i ? "," : "", i
+        print "]"
     }'
 }
 
-# One fill of a whole buffer.
-large_fill() {
-    echo '[["buffer",1,4194304,3,"exclusive",["dedicated",1]],["semaphore",2,0],
-    ["submit",0,[[[],[["fill",1,0,"whole",67305985],["barrier",[[4096,4096,16384,8192]],[],[]]],[[2,1,65536]]]]],
-    ["wait",[[2,1]]],["map",1],["read",1,4194300,4]]'
+# SIZE COUNT OFFSET BYTES: a trace that submits the commands of standard input, each of which has a
+# comma after it, on a buffer of SIZE bytes, waits, and reads COUNT times so many bytes from there.
+fill_and_read() {
+    printf '[["buffer",1,%d,3,"exclusive",["dedicated",1]],["semaphore",2,0],' "$1"
+    printf '["submit",0,[[[],['
+    cat
+    printf '["barrier",[[4096,4096,16384,8192]],[],[]]],[[2,1,65536]]]]],["wait",[[2,1]]],["map",1]'
+    awk -v count="$2" -v offset="$3" -v bytes="$4" 'BEGIN {
+        for (i = 0; i < count; i++) printf ",[\"read\",1,%d,%d]", offset, bytes
+        print "]"
+    }'
 }
 
-# N fills of 4 bytes, spread over a buffer of 4 MiB so that no two meet.
-scattered() {
+# Helpers of awk: the bytes of a word, little-endian, in hex; and the answers of N reads of a line.
+words='
+    function hex(word) {
+        return sprintf("%02x%02x%02x%02x", word % 256, int(word / 256) % 256,
+            int(word / 65536) % 256, int(word / 16777216))
+    }
+    function reads(n, line, i) { for (i = 0; i < n; i++) print 5 + i, line }
+'
+
+# N fills of a word that go round a buffer of 4,096 bytes, with a barrier after each, and a read of
+# the first word.
+ordered_fills() {
+    awk -v n="$1" -v barrier="$make_available" 'BEGIN {
+        for (i = 0; i < n; i++) printf "[\"fill\",1,%d,4,%d],%s,", i * 4 % 4096, i, barrier
+    }' | fill_and_read 4096 1 0 4
+}
+
+# The first word is that of the last fill whose number is a multiple of 1,024.
+ordered_fills_answer() {
+    awk -v n="$1" "$words"' BEGIN { reads(1, hex(int((n - 1) / 1024) * 1024)) }'
+}
+
+# N fills of a word, spread over a buffer of 4 MiB so that no two meet.
+scattered_fills() {
     awk -v n="$1" 'BEGIN {
         printf "[[\"buffer\",1,4194304,3,\"exclusive\",[\"dedicated\",1]],[\"submit\",0,[[[],["
-        for (i = 0; i < n; i++) printf "%s[\"fill\",1,%d,4,%d]", i ? "," : "", i * 7919 % 1048576 * 4, i
+        for (i = 0; i < n; i++)
+            printf "%s[\"fill\",1,%d,4,%d]", i ? "," : "", i * 7919 % 1048576 * 4, i
         printf "],[]]]]]"
     }'
 }
 
-cp "$top/examples/first_upload.json" "$folder/first_upload.json"
-semaphores 131072 >"$folder/semaphores_131072.json"
-semaphores 131073 >"$folder/semaphores_131073.json"
-fills 10000 >"$folder/ordered_fills_10000.json"
-fills 20000 >"$folder/ordered_fills_20000.json"
-fills 65000 >"$folder/ordered_fills_65000.json"
-scattered 131000 >"$folder/scattered_fills_131000.json"
-large_fill >"$folder/fill_of_4_MiB.json"
+# N COUNT OFFSET BYTES: N fills of 4 MiB with a barrier between each two, and COUNT reads. Fill K,
+# counted from 1, has K in each byte.
+whole_fills() {
+    awk -v n="$1" -v barrier="$make_available" 'BEGIN {
+        for (k = 1; k <= n; k++) {
+            if (k > 1) printf "%s,", barrier
+            printf "[\"fill\",1,0,\"whole\",%d],", k * 16843009
+        }
+    }' | fill_and_read 4194304 "$2" "$3" "$4"
+}
 
-measure first_upload 50
-measure semaphores_131072 3
-measure semaphores_131073 3
-measure ordered_fills_10000 3
-measure ordered_fills_20000 3
-measure ordered_fills_65000 3
-measure scattered_fills_131000 3
-measure fill_of_4_MiB 10
+# N COUNT BYTES: what COUNT reads of BYTES bytes, 4 times a power of 2, answer after N such fills.
+whole_fills_answer() {
+    awk -v n="$1" -v count="$2" -v bytes="$3" "$words"' BEGIN {
+        line = hex(n * 16843009)
+        for (size = 4; size < bytes; size *= 2) line = line line
+        reads(count, line)
+    }'
+}
+
+# N fills of a word side by side, and N reads of all N words.
+side_by_side() {
+    awk -v n="$1" 'BEGIN { for (i = 0; i < n; i++) printf "[\"fill\",1,%d,4,%d],", i * 4, i }' |
+        fill_and_read "$((4 * $1))" "$1" 0 "$((4 * $1))"
+}
+
+side_by_side_answer() {
+    awk -v n="$1" "$words"' BEGIN {
+        for (i = 0; i < n; i++) line = line hex(i)
+        reads(n, line)
+    }'
+}
+
+# An array of N objects without a member.
+small_objects() {
+    awk -v n="$1" 'BEGIN {
+        printf "["
+        for (i = 0; i < n; i++) printf i ? ",{}" : "{}"
+        print "]"
+    }'
+}
+
+# An array of objects nested DEPTH deep, each the only member of the one around it, by the empty
+# name: as many as fit into 16,777,216 bytes. Of the shapes that were tried it costs most memory.
+nested_objects() {
+    awk -v depth="$1" 'BEGIN {
+        for (i = 0; i < depth; i++) { opened = opened "{\"\":"; closed = closed "}" }
+        one = opened "0" closed
+        count = int((16777216 - 2) / (length(one) + 1))
+        printf "["
+        for (i = 0; i < count; i++) printf "%s%s", i ? "," : "", one
+        print "]"
+    }'
+}
+
+heading
+row first_upload 0 "echo 5 01020304" cat "$top/examples/first_upload.json"
+row semaphores_131072 0 true semaphores 131072
+row semaphores_131073 1 "echo refused 131072 LIMIT" semaphores 131073
+for n in 10000 20000 65000; do
+    row "ordered_fills_$n" 0 "ordered_fills_answer $n" ordered_fills "$n"
+done
+row scattered_fills_131000 0 true scattered_fills 131000
+row fill_of_4_MiB 0 "whole_fills_answer 1 1 4" whole_fills 1 1 4194300 4
+row 16_ordered_fills_of_4_MiB 0 "whole_fills_answer 16 1 4" whole_fills 16 1 4194300 4
+row 50_reads_of_4_MiB 0 "whole_fills_answer 1 50 4194304" whole_fills 1 50 0 4194304
+for n in 1000 2000 4000; do
+    row "side_by_side_$n" 0 "side_by_side_answer $n" side_by_side "$n"
+done
+row a_million_small_objects 2 true small_objects 1000000
+row objects_nested_125_deep 2 true nested_objects 125
+finish
