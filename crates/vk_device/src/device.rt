@@ -43,17 +43,6 @@ impl Model for Device {
 /// Buffers are rounded up to this many bytes (profile).
 const BUFFER_UNIT: u64 = 16;
 
-/// How many bytes a fill of a buffer of `size` bytes writes.
-fn fill_size(size: u64, offset: u64, length: Length) -> u64
-    requires { offset ≤ size }
-    ensures { result ≡ fill_size size offset length }
-{
-    match length {
-        Length::Bytes(n) => n,
-        Length::Whole => (size - offset) / 4 * 4,
-    }
-}
-
 impl Device {
     ghost use Rattle.vk_model.specs.Trace.Order.{SubmittedBatch, actions, started};
     ghost use Rattle.vk_model.specs.Trace.Point.{Past, Run};
@@ -90,7 +79,7 @@ impl Device {
     {
         if let Some(buffer) = self.buffers.get(&id) {
             let object = buffer.object;
-            let words = fill_size(buffer.size, offset, size) / 4;
+            let words = size.filled(buffer.size, offset) / 4;
             self.memories.region_mut(object).fill(offset, words, word);
         }
     }

@@ -11,6 +11,22 @@ pub enum Length {
     Whole,
 }
 
+impl Length {
+    ghost use Rattle.std.specs.Prelude.{◌≡◌};
+    ghost use Rattle.vk_model.specs.World.ByteWrites.{fill_size};
+
+    /// How many bytes a fill of this length writes from a byte on, in a buffer of `buffer_size` bytes: to
+    /// the end only whole words (Vulkan, "Filling Buffers").
+    pub fn filled(self, buffer_size: u64, offset: u64) -> u64
+        ensures { result ≡ fill_size buffer_size offset self }
+    {
+        match self {
+            Length::Bytes(bytes) => bytes,
+            Length::Whole => buffer_size.saturating_sub(offset) / 4 * 4,
+        }
+    }
+}
+
 /// A region of a buffer copy, as `VkBufferCopy2`; all in bytes.
 #[derive(Clone, Copy, PartialEq, Eq, Debug)]
 pub struct BufferCopy {

@@ -4,6 +4,7 @@ pub mod BoundLemmas
 pub mod Batches
 pub mod TableLemmas
 pub mod TimelineLemmas
+pub mod Greatest
 pub mod Spans
 pub mod Clears
 pub mod Barriers

@@ -107,7 +107,10 @@ impl<'a> History<'a> {
     fn highest_value(&self, semaphore: u32) -> u64
         ensures { result ≡ fold max 0 (signaled (past self.now) semaphore) }
     {
-        self.tables.highest_values.get(&semaphore).copied().unwrap_or(0)
+        match self.tables.timelines.get(&semaphore) {
+            Some(timeline) => timeline.greatest(),
+            None => 0,
+        }
     }
 
     /// Whether a buffer was mapped.
@@ -134,13 +137,7 @@ impl<'a> History<'a> {
         ensures first { IfSome result (λ span. span.first ≡ offset) }
         ensures last { IfSome result (λ span. span.last ≡ min (offset + (fill_size (buffer_size (past self.now) buffer) offset size - 1)) (2 ^ 64 - 1)) }
     {
-        match size {
-            Length::Bytes(bytes) => Span::new(offset, bytes),
-            Length::Whole => {
-                let rest = self.size(buffer).saturating_sub(offset);
-                Span::new(offset, rest / 4 * 4)
-            }
-        }
+        Span::new(offset, size.filled(self.size(buffer), offset))
     }
 
     /// Whether a byte was written by a command whose write isn't visible to the writes of the next

@@ -1,22 +1,20 @@
 ghost use Rattle.std.specs.Prelude.{◌≡◌, IsTrue};
 ghost use Rattle.std.specs.List.{find};
-ghost use Rattle.vk_model.specs.Trace.Point.{Point};
-ghost use Rattle.vk_model.specs.Rules.Traces.{breaks_limit};
 ghost use Rattle.vk_validate.specs.Supported.{is_supported_action};
 ghost use Rattle.vk_validate.specs.Inner.PointViews.{action_of, point_of, past};
 ghost use Rattle.vk_validate.specs.Inner.Cleared.{tests, first_test};
 
-mod commands;
 mod hazards;
-mod resources;
+mod ids;
+mod mapping;
+mod ranges;
+mod sizes;
 mod synchronization;
+mod traces;
 
 use crate::history::History;
 use crate::steps::Step;
 use vk_model::Rule;
-
-/// How many points a trace may have.
-const MOST_POINTS: usize = 131_072;
 
 /// The rules in the order in which they are tested at a point.
 const RULES: [Rule; 40] = [
@@ -93,31 +91,23 @@ fn breaks(rule: Rule, history: &History<'_>, step: &Step<'_>) -> bool
     ensures { result ≡ tests rule (past history.now) (point_of step.now) }
 {
     match rule {
-        Rule::NewId => resources::breaks_new_id(history, step),
-        Rule::LiveId => resources::breaks_live_id(history, step),
-        Rule::Size => resources::breaks_size(history, step),
-        Rule::Usage => resources::breaks_usage(history, step),
-        Rule::MemoryType => resources::breaks_memory_type(step),
-        Rule::MemorySize => resources::breaks_memory_size(step),
-        Rule::Range => commands::breaks_range(history, step),
-        Rule::Align => commands::breaks_align(step),
+        Rule::NewId => ids::breaks_new_id(history, step),
+        Rule::LiveId => ids::breaks_live_id(history, step),
+        Rule::Size => sizes::breaks_size(history, step),
+        Rule::Usage => sizes::breaks_usage(history, step),
+        Rule::MemoryType => sizes::breaks_memory_type(step),
+        Rule::MemorySize => sizes::breaks_memory_size(step),
+        Rule::Range => ranges::breaks_range(history, step),
+        Rule::Align => ranges::breaks_align(step),
         Rule::Stage => synchronization::breaks_stage(step),
         Rule::SignalValue => synchronization::breaks_signal_value(history, step),
         Rule::WaitNever => synchronization::breaks_wait_never(history, step),
-        Rule::MapState => resources::breaks_map_state(history, step),
-        Rule::HostVisible => resources::breaks_host_visible(history, step),
+        Rule::MapState => mapping::breaks_map_state(history, step),
+        Rule::HostVisible => mapping::breaks_host_visible(history, step),
         Rule::HazardRaw => hazards::breaks_hazard_raw(history, step),
         Rule::HazardWaw => hazards::breaks_hazard_waw(history, step),
         Rule::ReadUndefined => hazards::breaks_read_undefined(history, step),
-        Rule::Limit => breaks_limit(history),
+        Rule::Limit => traces::breaks_limit(history),
         _ => false,
     }
-}
-
-/// LIMIT: the trace has too many points.
-#[tactic(auto, using(crate::proofs::Clears::limits))]
-fn breaks_limit(history: &History<'_>) -> bool
-    ensures { (p : Point) → result ≡ breaks_limit (past history.now) p }
-{
-    history.count() >= MOST_POINTS
 }

@@ -3,6 +3,7 @@ ghost use Rattle.std.specs.Option.{option_map};
 ghost use Rattle.std.specs.Ordering.{nat_cmp};
 ghost use Rattle.std.specs.BTreeMap.{get, IsEmpty};
 ghost use Rattle.vk_model.specs.Trace.Point.{Past, Point};
+ghost use Rattle.vk_validate.specs.declared.writers.LastWriters.{LastWriters};
 ghost use Rattle.vk_validate.specs.Inner.Tabled.{IsTabled};
 ghost use Rattle.vk_validate.specs.Inner.Fits.{Fits};
 ghost use Rattle.vk_validate.specs.Inner.Writers.{IsAssigned};
@@ -23,8 +24,6 @@ pub struct Tables<'a> {
     pub creating_entries: BTreeMap<u32, &'a Entry>,
     /// How often each buffer was mapped.
     pub maps: BTreeMap<u32, u64>,
-    /// The greatest value signaled to each semaphore.
-    pub highest_values: BTreeMap<u32, u64>,
     /// The signals of each semaphore that was signaled.
     pub timelines: BTreeMap<u32, Timeline>,
     /// The last writers of each buffer that was written.
@@ -53,7 +52,6 @@ impl<'a> Tables<'a> {
     pub fn new(alloc: Global) -> Tables<'a>
         ensures creating_entries { IsEmpty result.creating_entries }
         ensures maps { IsEmpty result.maps }
-        ensures highest_values { IsEmpty result.highest_values }
         ensures timelines { IsEmpty result.timelines }
         ensures writers { IsEmpty result.writers }
         ensures order { result.order ≡ start.order }
@@ -61,7 +59,6 @@ impl<'a> Tables<'a> {
         Tables {
             creating_entries: BTreeMap::new(alloc),
             maps: BTreeMap::new(alloc),
-            highest_values: BTreeMap::new(alloc),
             timelines: BTreeMap::new(alloc),
             writers: BTreeMap::new(alloc),
             order: Order::START,
@@ -86,7 +83,6 @@ pub fn note<'a>(
             Ok(())
         }
         Change::Signaled(semaphore, value, clock) => {
-            note_highest_value(&mut tables.highest_values, semaphore, value)?;
             note_signal(alloc, &mut tables.timelines, semaphore, value, clock)?;
             tables.order = tables.order.after_signal(clock);
             Ok(())
@@ -119,15 +115,6 @@ fn note_map(maps: &mut BTreeMap<u32, u64>, buffer: u32) -> Result<(), AllocError
     Ok(())
 }
 
-fn note_highest_value(highest_values: &mut BTreeMap<u32, u64>, semaphore: u32, value: u64) -> Result<(), AllocError>
-    ensures { OnOk result ((other : ℕ) → unwrap_or (get nat_cmp highest_values.new other) 0
-        ≡ (if semaphore == other then max value (unwrap_or (get nat_cmp highest_values.old other) 0) else unwrap_or (get nat_cmp highest_values.old other) 0)) }
-{
-    let highest_value = highest_values.get(&semaphore).copied().unwrap_or(0);
-    highest_values.insert(semaphore, highest_value.max(value))?;
-    Ok(())
-}
-
 fn note_write(
     alloc: Global,
     writers: &mut BTreeMap<u32, LastWriters>,
@@ -139,12 +126,15 @@ fn note_write(
     ensures present { OnOk result (IsSome (get nat_cmp writers.new buffer)) }
     ensures others { OnOk result ((other : ℕ) → other ≢ buffer → get nat_cmp writers.new other ≡ get nat_cmp writers.old other) }
 {
-    let mut of_buffer = match writers.remove(&buffer) {
-        Some(known) => known,
-        None => LastWriters::new(alloc),
-    };
-    of_buffer.assign(span, point)?;
-    writers.insert(buffer, of_buffer)?;
+    let of_buffer = writers.entry(buffer)?.or_insert(LastWriters::new(alloc));
+    assign_in(of_buffer, span, point)
+}
+
+fn assign_in(writers: &mut LastWriters, span: Span, point: usize) -> Result<(), AllocError>
+    ensures { OnOk result ((known : Option LastWriters) (fresh : LastWriters) → IsEmpty fresh.bounds → writers.old ≡ unwrap_or known fresh
+        → IsAssigned known writers.new span.first span.last point) }
+{
+    writers.assign(span, point)?;
     Ok(())
 }
 

@@ -2,7 +2,7 @@ ghost use Rattle.std.specs.Prelude.{◌≡◌, ◌≢◌, ℕ, OnOk, Some, None,
 ghost use Rattle.std.specs.Ordering.{nat_cmp};
 ghost use Rattle.std.specs.BTreeMap.{get, IsEmpty};
 ghost use Rattle.vk_validate.specs.Inner.OrderState.{Signaled};
-ghost use Rattle.vk_validate.specs.Inner.Tabled.{IsLeast};
+ghost use Rattle.vk_validate.specs.Inner.Tabled.{IsLeast, IsGreatest};
 
 use crate::clocks::Clock;
 use std::alloc::{AllocError, Global};
@@ -31,6 +31,16 @@ impl Timeline {
     {
         self.signals.insert(value, clock)?;
         Ok(())
+    }
+
+    /// The greatest value signaled; 0 before the first signal.
+    pub fn greatest(&self) -> u64
+        ensures { (value : ℕ) → IsGreatest (Some self.now) value → result ≡ value }
+    {
+        match self.signals.last_key_value() {
+            Some((value, _)) => *value,
+            None => 0,
+        }
     }
 
     /// The clock of the signal of the least value at or above this one: a wait for the value ends

@@ -8,8 +8,8 @@ ghost use Rattle.vk_validate.specs.Inner.PointViews.{past_of};
 
 use crate::history::History;
 use crate::rules::first_rule;
-use crate::supported::is_supported;
 use crate::steps::{Step, reference_order};
+use crate::supported::is_supported;
 use std::alloc::{AllocError, Global};
 use std::marker::Model;
 use vk_model::{At, Entry, Rule};

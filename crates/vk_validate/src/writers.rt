@@ -78,15 +78,12 @@ impl LastWriters {
         if is_sought(sought, self.at(span.first)) {
             return true;
         }
-        let last = span.last;
-        let mut first = span.first;
-        while let Some(bound) = self.inner_bound(Span { first, last }) {
-            if is_sought(sought, self.at(bound)) {
-                return true;
-            }
-            first = bound;
+        if span.first == span.last {
+            return false;
         }
-        false
+        self.bounds
+            .range(span.first + 1..=span.last)
+            .any(|(_, writer)| is_sought(sought, *writer))
     }
 
     /// Makes the command at a point the last writer of the span. An error changes no byte's writer.

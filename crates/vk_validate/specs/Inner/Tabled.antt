@@ -1,5 +1,5 @@
 -- The tables of a history say what its past does.
-use Rattle.std.specs.Prelude.{◌≡◌, ◌≤◌, List, ℕ, ◌==◌, ◌&&◌, ◌<◌, ◌^◌, [], ◌∷◌, length, false, if◌then◌else◌, Some, None, nat_lt, Bool, max, Option, unwrap_or}
+use Rattle.std.specs.Prelude.{◌≡◌, ◌≤◌, List, ℕ, ◌==◌, ◌&&◌, ◌<◌, ◌^◌, [], ◌∷◌, length, false, if◌then◌else◌, Some, None, nat_lt, Bool, max, Option, IsSome, unwrap_or}
 use Rattle.std.specs.Option.{option_map}
 use Rattle.std.specs.List.{fold, list_any}
 use Rattle.std.specs.Ordering.{nat_cmp}
@@ -32,10 +32,6 @@ was_mapped past b = list_any (λ x. holds (maps x) (λ c. c == b)) (entries past
 abbrev pub Maps : (ℕ → Option ℕ) → Past → Type 0
 Maps counts past = (b : ℕ) → nat_lt 0 (unwrap_or (counts b) 0) ≡ was_mapped past b
 
--- The greatest value signaled to each semaphore.
-abbrev pub HighestValues : (ℕ → Option ℕ) → Past → Type 0
-HighestValues highest_values past = (s : ℕ) → unwrap_or (highest_values s) 0 ≡ fold max 0 (signaled past s)
-
 -- Whether a fill writes byte k of a buffer. No buffer has a byte from 2^64 on.
 abbrev pub fills_byte : Past → Cmd → ℕ → ℕ → Bool
 fills_byte past (cmd.Fill c o n w) b k = c == b && within o (fill_size (buffer_size past c) o n) k && nat_lt k (2 ^ 64)
@@ -65,11 +61,20 @@ IsLeast (Some timeline) v (Some x) = (v ≤ x.value) × (get nat_cmp timeline.si
 abbrev pub TimelinesAre : (ℕ → Option Timeline) → List Signaled → Type 0
 TimelinesAre timelines signals = (s v : ℕ) → IsLeast (timelines s) v (least_signal signals s v)
 
+-- The greatest value signaled in a timeline; 0 where there is none.
+abbrev pub IsGreatest : Option Timeline → ℕ → Type 0
+IsGreatest None n = n ≡ 0
+IsGreatest (Some timeline) n = IsSome (get nat_cmp timeline.signals n) × ((key : ℕ) → n < key → get nat_cmp timeline.signals key ≡ None)
+
+-- The timelines have the greatest value signaled to each semaphore.
+abbrev pub GreatestValues : (ℕ → Option Timeline) → Past → Type 0
+GreatestValues timelines past = (s : ℕ) → IsGreatest (timelines s) (fold max 0 (signaled past s))
+
 -- All tables say what the past does.
 pub record IsTabled (tables : Tables) (past : Past) : Type 0 where
   pub creating_entries_match : CreatingEntries (get nat_cmp tables.creating_entries) past
   pub maps_are : Maps (get nat_cmp tables.maps) past
-  pub highest_values_match : HighestValues (get nat_cmp tables.highest_values) past
   pub writers_are : WritersAre (get nat_cmp tables.writers) past
   pub timelines_are : TimelinesAre (get nat_cmp tables.timelines) (order_state past).signals
+  pub greatest_are : GreatestValues (get nat_cmp tables.timelines) past
   pub order_is : tables.order ≡ (order_state past).order

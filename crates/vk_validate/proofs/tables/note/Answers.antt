@@ -1,8 +1,9 @@
 use Rattle.std.proofs.Common.{◌≡◌, ◌∷◌, refl, sym, ap, ◌∙◌}
 use Rattle.vk_validate.specs.Inner.OrderState.{Signaled, order_state, joined}
 use Rattle.vk_validate.specs.declared.clocks.Order.{Order}
-use Rattle.vk_validate.proofs.TableLemmas.{signaled-some, writers_stay, writers_next}
+use Rattle.vk_validate.proofs.TableLemmas.{writers_stay, writers_next}
 use Rattle.vk_validate.proofs.TimelineLemmas.{timelines_next}
+use Rattle.vk_validate.proofs.Greatest.{greatest_next}
 use Rattle.vk_validate.proofs.tables.note.Goals as goal
 
 pub returns-in_ok-note_signal-in-Signaled : goal.returns-in_ok-note_signal-in-Signaled
@@ -13,9 +14,9 @@ returns-in_ok-note_signal-in-Signaled c = λ past p fits tabled.
     record {
       creating_entries_match = λ i. rw is.is (tabled.creating_entries_match i);
       maps_are = λ i. rw is.is (tabled.maps_are i);
-      highest_values_match = λ i. let e = signaled-some p past c.in-Signaled.semaphore c.in-Signaled.value (rw (is.is, is.semaphore_is, is.value_is) refl) i in let f = c.in_ok-note_highest_value-in-Signaled.ensures i in let g = tabled.highest_values_match i in cc;
       writers_are = writers_stay _ p past (λ b k. rw is.is refl) tabled.writers_are;
       timelines_are = rw (is.is, is.semaphore_is, is.value_is, ← is.clock_is) (timelines_next _ _ _ x tabled.timelines_are signal.present signal.here signal.others);
+      greatest_are = λ s. greatest_next _ _ p past x (rw (is.is, is.semaphore_is, is.value_is) refl) tabled.greatest_are signal.present signal.here signal.others s;
       order_is =
           let signaled : (order_state (p ∷ past)).order ≡ record (order_state past).order { signals = joined (order_state past).order.signals c.in-Signaled.clock } = rw (is.is, is.clock_is) refl in
           c.after_signal-tables.ensures ∙ ap (λ (o : Order). record o { signals = joined o.signals c.in-Signaled.clock }) tabled.order_is ∙ sym signaled;
@@ -28,8 +29,8 @@ returns-in_ok-note_write-in-Written c = λ past p fits tabled.
     record {
       creating_entries_match = λ i. rw fill.is (tabled.creating_entries_match i);
       maps_are = λ i. rw fill.is (tabled.maps_are i);
-      highest_values_match = λ i. rw fill.is (tabled.highest_values_match i);
       writers_are = writers_next _ _ p past c.in-Written.buffer c.in-Written.span.first c.in-Written.span.last c.in-Written.point tabled.writers_are fill is.2 c.in_ok-note_write-in-Written.ensures.present c.in_ok-note_write-in-Written.ensures.here c.in_ok-note_write-in-Written.ensures.others;
       timelines_are = rw fill.is tabled.timelines_are;
+      greatest_are = λ s. rw fill.is (tabled.greatest_are s);
       order_is = rw fill.is tabled.order_is;
     }

@@ -10,8 +10,8 @@ invariant_of-result c = (
     creating_entries_match = λ i. rw c.new.ensures.creating_entries refl;
     maps_are = λ i. rw c.new.ensures.maps refl;
     writers_are = λ b k lt. rw c.new.ensures.writers refl;
-    highest_values_match = λ i. rw c.new.ensures.highest_values refl;
     timelines_are = λ s v. rw c.new.ensures.timelines refl;
+    greatest_are = λ s. rw c.new.ensures.timelines refl;
     order_is = c.new.ensures.order;
   },
 )

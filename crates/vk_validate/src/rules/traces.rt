@@ -1,0 +1,17 @@
+ghost use Rattle.std.specs.Prelude.{◌≡◌};
+ghost use Rattle.vk_model.specs.Trace.Point.{Point};
+ghost use Rattle.vk_model.specs.Rules.Traces.{breaks_limit};
+ghost use Rattle.vk_validate.specs.Inner.PointViews.{past};
+
+use crate::history::History;
+
+/// How many points a trace may have.
+const MOST_POINTS: usize = 131_072;
+
+/// LIMIT: the trace has too many points.
+#[tactic(auto, using(crate::proofs::Clears::limits))]
+pub fn breaks_limit(history: &History<'_>) -> bool
+    ensures { (p : Point) → result ≡ breaks_limit (past history.now) p }
+{
+    history.count() >= MOST_POINTS
+}
