@@ -71,13 +71,20 @@ impl Region {
     }
 }
 
-/// Writes the word, little-endian, over each four bytes.
+/// Writes the word, little-endian, over each four bytes: what is filled so far is copied behind itself,
+/// which doubles it.
 fn fill_words(out: &mut [u8], words: usize, word: u32)
     requires { length out.old ≡ 4 * words }
     ensures { out.new ≡ repeated words (to_le_bytes w32 word) }
 {
-    let bytes = word.to_le_bytes();
-    for i in 0..words {
-        out[4 * i..4 * i + 4].copy_from_slice(&bytes);
+    if words == 0 {
+        return;
+    }
+    out[..4].copy_from_slice(&word.to_le_bytes());
+    let mut filled = 1;
+    while filled < words {
+        let more = filled.min(words - filled);
+        out.copy_within(0..4 * more, 4 * filled);
+        filled += more;
     }
 }
