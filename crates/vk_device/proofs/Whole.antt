@@ -1,7 +1,7 @@
 -- The entries of a trace, one after another.
 use Rattle.std.proofs.Common.{◌≡◌, ◌⊎◌, inr, ℕ, suc, ◌+◌, ◌<◌, List, [], ◌∷◌, ◌++◌, length, take, drop, false, true, refl, ap, sym, ◌∙◌, subst, arith, get_or, append-nil, add-one, drop-cons, Some}
 use Rattle.std.proofs.lemmas.Option.{slice_get-get_or}
-use Rattle.std.proofs.lemmas.Grind.{take_at_read, common_steps}
+use Rattle.std.proofs.lemmas.Grind.{fold-append, take_at_read, common_steps}
 use Rattle.std.specs.Prelude.{IsTrue}
 use Rattle.vk_memory.specs.MemoryState.{MemoryState}
 use Rattle.vk_model.specs.Memory.HeapSizes.{HeapSizes}
@@ -12,7 +12,7 @@ use Rattle.vk_model.specs.World.Effect.{world}
 use Rattle.vk_model.specs.World.Meaning.{Reads, reads, read_in, meaning}
 use Rattle.vk_device.specs.declared.applied.Applied.{Applied}
 use Rattle.vk_device.specs.declared.applied.Applied.TheVariants as applied
-use Rattle.vk_device.specs.Allotted.{allotted, with_asked, finds_no_room, stop_from, first_stop}
+use Rattle.vk_device.specs.Allotted.{Allotted, allotted, with_asked, allotted_by, finds_no_room, stop_from, first_stop}
 use Rattle.vk_device.specs.Held.{Held}
 use Rattle.vk_device.specs.Clean.{IsClean}
 use Rattle.vk_device.specs.Matches.{Matches, next_past, IsNext, Answered, Rooms, Allots}
@@ -27,6 +27,7 @@ pub record Replays (config : HeapSizes) (t : List Entry) (i : ℕ) (reported : R
   pub same : reported ≡ meaning t i
   pub goes_on : stop_from (allotted s.memory) i (drop i t) ≡ first_stop config t
   pub works : s.failed ≡ false
+  pub holds : allotted s.memory ≡ allotted_by config (take i t)
 
 pub replays_start : (config : HeapSizes) (t : List Entry) (s : Held) → Matches [] s → s.memory ≡ record { sizes = config; objects = [] } → s.failed ≡ false → Replays config t 0 [] s
 unfolding meaning first_stop
@@ -35,7 +36,14 @@ replays_start config t s st empty works = record {
   same = refl;
   goes_on = ap (λ (m : MemoryState). stop_from (allotted m) 0 t) empty;
   works = works;
+  holds = ap (λ (m : MemoryState). allotted m) empty;
 }
+
+-- what is allotted after one entry more
+holds_next : (config : HeapSizes) (t : List Entry) (i : ℕ) (x : Entry) → x ≡ get_or t i x → i < length t → allotted_by config (take (i + 1) t) ≡ with_asked (allotted_by config (take i t)) x
+holds_next config t i x is lt =
+    let front : take (i + 1) t ≡ take i t ++ x ∷ [] = (take_at_read t i x lt).1 ∙ ap (λ (y : Entry). take i t ++ y ∷ []) (sym is) in
+    ap (λ (l : List Entry). allotted_by config l) front ∙ fold-append with_asked (record { sizes = config; objects = [] }) (take i t) (x ∷ [])
 
 -- the entries from i on
 entries_from : (t : List Entry) (i : ℕ) (x : Entry) → x ≡ get_or t i x → i < length t → drop i t ≡ x ∷ drop (i + 1) t
@@ -67,6 +75,7 @@ replays_more config t i reported s s' x new fit so_far is lt st gave room allots
   same = ap (λ (r : Reads). r ++ new) so_far.same ∙ ap (λ (r : Reads). meaning t i ++ r) (sym gave) ∙ sym (reads_next i x (plain_order (take i t))) ∙ ap reads (sym (one_more t i x is lt));
   goes_on = sym (stop_later (allotted s.memory) (allotted s'.memory) i x (drop (i + 1) t) room allots) ∙ ap (λ (l : List Entry). stop_from (allotted s.memory) i l) (sym (entries_from t i x is lt)) ∙ so_far.goes_on;
   works = works;
+  holds = allots ∙ ap (λ (a : Allotted). with_asked a x) so_far.holds ∙ sym (holds_next config t i x is lt);
 }
 
 abbrev pub AnsweredAt : Applied → Entry → Held → Held → Type 0
@@ -79,6 +88,11 @@ stops config t i reported s s' x a fit so_far is lt no_room answers rooms =
       (lt, rw same so_far.matches, x, slice_get-get_or t i x lt ∙ ap (λ (y : Entry). Some y) (sym is), rw same full),
       sym (stop_here (allotted s.memory) i x (drop (i + 1) t) full) ∙ ap (λ (l : List Entry). stop_from (allotted s.memory) i l) (sym (entries_from t i x is lt)) ∙ so_far.goes_on,
     )
+
+-- where there is no room, the heaps hold what the entries before ask for
+pub stop_holds : (config : HeapSizes) (t : List Entry) (i : ℕ) (reported : Reads) (s s' : Held) (x : Entry) (a : Applied) → Replays config t i reported s → a ≡ applied.NoRoom → Allots a x s s' → allotted s'.memory ≡ allotted_by config (take i t)
+stop_holds config t i reported s s' x a so_far no_room allots =
+    ap (λ (r : Held). allotted r.memory) (subst (λ (b : Applied). Allots b x s s') no_room allots) ∙ so_far.holds
 
 pub after_done : (config : HeapSizes) (t : List Entry) (i : ℕ) (reported : Reads) (s s' : Held) (x : Entry) (a : Applied) → IsClean (plain_order t) → Replays config t i reported s → x ≡ get_or t i x → i < length t → a ≡ applied.Done → AnsweredAt a x s s' → Rooms a s x → Allots a x s s' → s'.failed ≡ false → Replays config t (i + 1) reported s'
 after_done config t i reported s s' x a fit so_far is lt done answers rooms allots works =

@@ -1,6 +1,6 @@
 -- The memory objects that entries ask for, and the first entry that finds no room.
 use Rattle.std.specs.Prelude.{ℕ, ◌+◌, ◌==◌, List, [], ◌∷◌, ◌++◌, map, length, sum_by, Bool, Option, Some, None, if◌then◌else◌}
-use Rattle.std.specs.List.{list_any, filter_map}
+use Rattle.std.specs.List.{fold, list_any, filter_map}
 use Rattle.vk_memory.specs.declared.memories.Object.{Object}
 use Rattle.vk_memory.specs.MemoryState.{MemoryState}
 use Rattle.vk_model.specs.Memory.HeapSizes.{HeapSizes}
@@ -38,6 +38,10 @@ asked_by _ = []
 -- What is allotted when an entry has got what it asks for.
 abbrev pub with_asked : Allotted → Entry → Allotted
 with_asked a x = record a { objects = a.objects ++ asked_by x }
+
+-- What is allotted when some entries have got what they ask for, on a device with heaps of these sizes.
+abbrev pub allotted_by : HeapSizes → List Entry → Allotted
+allotted_by c t = fold with_asked (record { sizes = c; objects = [] }) t
 
 -- The heaps, each with what the memory objects take of it (Vulkan, "Device Memory").
 abbrev pub heaps_with : Allotted → Heaps

@@ -1,11 +1,11 @@
-ghost use Rattle.std.specs.Prelude.{◌≡◌, length, IfOk, IfErr, MatchOption, None};
+ghost use Rattle.std.specs.Prelude.{◌≡◌, length, IfOk, IfErr, MatchOption, None, false};
 ghost use Rattle.vk_model.specs.Trace.Order.{plain_order};
 ghost use Rattle.vk_model.specs.World.Meaning.{meaning};
 ghost use Rattle.vk_model.specs.Rules.Table.{first_fault};
 ghost use Rattle.vk_device.specs.Clean.{IsClean};
 ghost use Rattle.vk_device.specs.Matches.{Matches};
-ghost use Rattle.vk_device.specs.Allotted.{first_stop};
-ghost use Rattle.vk_device.specs.Replays.{StopsAt};
+ghost use Rattle.vk_device.specs.Allotted.{allotted, allotted_by, first_stop};
+ghost use Rattle.vk_device.specs.Replays.{StopsAt, applied_of};
 ghost use Rattle.vk_device.specs.declared.applied.ApplyError.TheVariants.{NoMemory};
 
 use crate::applied::{Applied, ApplyError};
@@ -42,6 +42,9 @@ pub fn replay<S: Scheduler>(
     // The device matches the entries that were applied.
     ensures stop { IfOk result (λ r. MatchOption r.stop
         (Matches (plain_order accepted.now) r.device) (λ n. StopsAt accepted.now n r.device)) }
+    // The device has not failed, and its heaps hold what the applied entries ask for, and nothing else.
+    ensures works { IfOk result (λ r. r.device.failed ≡ false) }
+    ensures heaps { IfOk result (λ r. allotted r.device.memory ≡ allotted_by config (applied_of accepted.now r.stop)) }
     ensures error { IfErr result (λ f. f ≡ NoMemory) }
     ensures unasked { S.held sched.new ≡ S.held sched.old }
 {
@@ -62,6 +65,8 @@ fn replay_entries<S: Scheduler>(
     ensures first { IfOk result (λ r. r.stop ≡ first_stop config entries.now) }
     ensures stop { IfOk result (λ r. MatchOption r.stop
         (Matches (plain_order entries.now) r.device) (λ n. StopsAt entries.now n r.device)) }
+    ensures works { IfOk result (λ r. r.device.failed ≡ false) }
+    ensures heaps { IfOk result (λ r. allotted r.device.memory ≡ allotted_by config (applied_of entries.now r.stop)) }
     ensures error { IfErr result (λ f. f ≡ NoMemory) }
     ensures unasked { S.held sched.new ≡ S.held sched.old }
 {
