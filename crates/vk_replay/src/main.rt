@@ -21,10 +21,21 @@ fn complain(rt: &impl Eprint, error: RunError) -> u8 {
     exit_status(Err(error))
 }
 
+/// The exit status where the arguments of the command line can't be had: one isn't UTF-8, or there is no
+/// memory for them.
+fn without_arguments<R: Eprint>(rt: &R, error: &io::Error) -> u8 {
+    if error.kind() == io::ErrorKind::OutOfMemory {
+        return complain(rt, RunError::NoMemory);
+    }
+    let _unprinted = eprintln!(rt; "an argument is not UTF-8").is_err();
+    COMMAND_LINE_REFUSED
+}
+
 /// What the arguments of the command line ask for, or the exit status where they don't.
 fn chosen<R: Env + Eprint + AllocGlobal>(rt: &R) -> Result<Options, u8> {
-    let Ok(arguments) = std::env::args(rt) else {
-        return Err(COMMAND_LINE_REFUSED);
+    let arguments = match std::env::args(rt) {
+        Ok(arguments) => arguments,
+        Err(error) => return Err(without_arguments(rt, &error)),
     };
     let Ok(arguments) = arguments.collect::<Vec<String>>(rt.alloc()) else {
         return Err(complain(rt, RunError::NoMemory));

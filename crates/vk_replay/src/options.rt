@@ -6,12 +6,14 @@ use vk_model::Config;
 /// What the command line asks for.
 #[derive(Drop)]
 pub struct Options {
+    /// The sizes of the device's heaps.
     pub config: Config,
 }
 
 /// Why the command line asks for nothing.
 #[derive(Drop)]
 pub enum OptionsError {
+    /// An allocation failed.
     NoMemory,
     /// The arguments are refused, or ask for help; with the text to show.
     Refused(Error),
@@ -58,7 +60,7 @@ fn command<'a>(alloc: Global) -> Result<Command<'a>, AllocError> {
         .help("The size of heap 1, host memory");
     Command::new(alloc, "replay")
         .about(
-            "Replays a trace of Vulkan transfers from standard input, or tells the first rule that it breaks",
+            "Replays a trace of Vulkan transfers from standard input, or reports the first rule that it breaks",
         )
         .arg(order)?
         .arg(heap0)?

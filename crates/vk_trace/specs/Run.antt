@@ -1,5 +1,5 @@
 -- What a run answers to the trace that it reads, and how it ends.
-use Rattle.std.specs.Prelude.{◌≡◌, ℕ, List, length, Some, None}
+use Rattle.std.specs.Prelude.{◌≡◌, ℕ, List, length, Some, None, Result, Ok, Err}
 use Rattle.vk_model.specs.Memory.HeapSizes.{HeapSizes}
 use Rattle.vk_model.specs.declared.entry.Entry.{Entry}
 use Rattle.vk_model.specs.Rules.Table.{first_fault}
@@ -49,10 +49,8 @@ IsOfReading TooLong = Unit {0}
 IsOfReading ReadFault = Unit {0}
 IsOfReading (WriteFault n) = ⊥
 
--- An error between reading and writing.
-abbrev pub IsOfAnswering : RunError → Type 0
-IsOfAnswering NotTrace = Unit {0}
-IsOfAnswering NoMemory = Unit {0}
-IsOfAnswering TooLong = ⊥
-IsOfAnswering ReadFault = ⊥
-IsOfAnswering (WriteFault n) = ⊥
+-- The input was read to its end, and looked at: it was answered, or is no trace.
+abbrev pub IsJudged : Result Status RunError → Type 0
+IsJudged (Ok status) = Unit {0}
+IsJudged (Err NotTrace) = Unit {0}
+IsJudged (Err _) = ⊥

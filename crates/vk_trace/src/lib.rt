@@ -4,17 +4,17 @@
 mod commands;
 mod entries;
 mod errors;
-pub mod text_examples;
 mod members;
 mod printing;
 mod reading;
 mod running;
+pub mod text_examples;
 mod watched;
 
 pub use errors::{ReadTraceError, RunError};
 pub use printing::{Outcome, text};
 pub use reading::read_trace;
-pub use running::{Status, run};
+pub use running::{Answer, Status, answer_of, run};
 pub use watched::Watched;
 
 #[cfg(test)]

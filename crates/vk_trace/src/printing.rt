@@ -83,7 +83,13 @@ fn push_number(out: &mut String, n: usize) -> Result<(), AllocError>
     out.push_str(buffer.format(n))
 }
 
-fn push_batch_item(out: &mut String, e: usize, b: usize, mark: &str, k: usize) -> Result<(), AllocError>
+fn push_batch_item(
+    out: &mut String,
+    e: usize,
+    b: usize,
+    mark: &str,
+    k: usize,
+) -> Result<(), AllocError>
     ensures { OnOk result (string_bytes out.new ≡ string_bytes out.old ++ batch_item_text e b mark.now k) }
 {
     push_number(out, e)?;

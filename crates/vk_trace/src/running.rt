@@ -1,11 +1,12 @@
-ghost use Rattle.std.specs.Prelude.{◌≡◌, ◌↔◌, ◌≤◌, ℕ, List, take, length, IfOk, IfErr, OnOk, IfSome, IsTrue, string_bytes, vec_len, false};
+ghost use Rattle.std.specs.Prelude.{◌≡◌, ◌↔◌, ◌⊎◌, ◌≤◌, ◌<◌, ◌+◌, ℕ, List, take, length, IfOk, IfErr, OnOk, IfSome, IsTrue, string_bytes, vec_len, false};
 ghost use Rattle.std.specs.Io.KnownBytes.{Appends, Keeps};
 ghost use Rattle.vk_model.specs.declared.entry.Entry.{Entry};
 ghost use Rattle.vk_model.specs.Trace.Order.{plain_order};
 ghost use Rattle.vk_validate.specs.Supported.{is_supported};
 ghost use Rattle.vk_trace.specs.declared.printing.Outcome.{Outcome};
 ghost use Rattle.vk_trace.specs.Trace.{IsTrace};
-ghost use Rattle.vk_trace.specs.Run.{Reports, IsAnswer, status_of, IsBeforeWriting, IsOfReading, IsOfAnswering};
+ghost use Rattle.vk_trace.specs.Watching.{counted};
+ghost use Rattle.vk_trace.specs.Run.{Reports, IsAnswer, status_of, IsBeforeWriting, IsOfReading, IsJudged};
 
 use crate::errors::{ReadTraceError, RunError};
 use crate::printing::{Outcome, text};
@@ -26,6 +27,15 @@ pub enum Status {
     Refused,
     /// An entry found no room. Those before it were replayed.
     Stopped,
+}
+
+/// What is answered to an input.
+#[derive(Drop)]
+pub struct Answer {
+    /// How the run went.
+    pub status: Status,
+    /// The text to write: a line for each read, and one for a stop or a refusal.
+    pub text: String,
 }
 
 const MOST_BYTES: usize = 16_777_216;
@@ -65,17 +75,23 @@ pub fn run<R: Read, W: Write, S: Scheduler>(
     ensures read_fault { (result ≡ Err RunError.ReadFault) ↔ IsTrue reader.new.failed }
     ensures write_fault { (n : ℕ) → result ≡ Err (RunError.WriteFault n) → IsTrue writer.new.failed }
     ensures write_failed { IsTrue writer.new.failed → (n : ℕ) × (result ≡ Err (RunError.WriteFault n)) }
-    ensures within { IfOk result (λ _. IfSome (R.remaining reader.old.inner)
-        (λ input. length input ≤ 16777216)) }
-    // Either there are more bytes than that, or each of the reads gave one.
-    ensures too_long { result ≡ Err RunError.TooLong
-        → IfSome (R.remaining reader.old.inner) (λ input. 1048576 ≤ length input) }
+    // Only an input of so many bytes and reads is looked at.
+    ensures within { IsJudged result → IfSome (R.remaining reader.old.inner) (λ input. length input ≤ 16777216) }
+    ensures calls { reader.new.calls ≤ reader.old.calls + 1048576 }
+    // Either there are more bytes than that, or so many reads came to no end.
+    ensures too_long { result ≡ Err RunError.TooLong → (reader.new.calls ≡ counted reader.old.calls 1048576)
+        ⊎ IfSome (R.remaining reader.old.inner) (λ input. 16777216 < length input) }
     ensures view { S.held sched.new ≡ S.held sched.old }
 {
     let input = read_all(alloc, reader)?;
-    let (status, output) = answer(alloc, &input, config, sched)?;
-    write_all(writer, output.as_bytes())?;
-    Ok(status)
+    match answer_of(alloc, &input, config, sched) {
+        Ok(answer) => {
+            write_all(writer, answer.text.as_bytes())?;
+            Ok(answer.status)
+        }
+        Err(ReadTraceError::NotTrace) => Err(RunError::NotTrace),
+        Err(ReadTraceError::NoMemory) => Err(RunError::NoMemory),
+    }
 }
 
 // Apart from its caller, whose goals would otherwise write out all of the zeroes.
@@ -92,8 +108,9 @@ fn read_all<R: Read>(alloc: Global, reader: &mut Watched<R>) -> Result<Vec<u8>, 
     ensures kinds { IfErr result IsOfReading }
     ensures failed { (result ≡ Err RunError.ReadFault) ↔ IsTrue reader.new.failed }
     ensures within { IfOk result (λ v. length v.items ≤ 16777216) }
-    ensures too_long { result ≡ Err RunError.TooLong
-        → IfSome (R.remaining reader.old.inner) (λ input. 1048576 ≤ length input) }
+    ensures calls { reader.new.calls ≤ reader.old.calls + 1048576 }
+    ensures too_long { result ≡ Err RunError.TooLong → (reader.new.calls ≡ counted reader.old.calls 1048576)
+        ⊎ IfSome (R.remaining reader.old.inner) (λ input. 16777216 < length input) }
 {
     let mut input = Vec::new(alloc);
     let mut chunk = zeroes(alloc, CHUNK)?;
@@ -112,27 +129,24 @@ fn read_all<R: Read>(alloc: Global, reader: &mut Watched<R>) -> Result<Vec<u8>, 
     Err(RunError::TooLong)
 }
 
-/// What to write for the bytes of a trace.
-fn answer<S: Scheduler>(
+/// What is answered to the bytes of an input: how the run went, and the text of the answer, which is that
+/// of the trace in the bytes: the bytes that it means, up to the first entry that finds no room in heaps
+/// of these sizes, or a refusal. `NotTrace` is answered only where the bytes are no trace.
+pub fn answer_of<S: Scheduler>(
     alloc: Global,
     input: &[u8],
     config: Config,
     sched: &mut S,
-) -> Result<(Status, String), RunError>
-    ensures ok { IfOk result (λ r. (outcome : Outcome) × Reports config input.now (string_bytes r.1) outcome × (r.0 ≡ status_of outcome)) }
-    ensures kinds { IfErr result IsOfAnswering }
-    ensures no_trace { result ≡ Err RunError.NotTrace → (t : List Entry) → IsTrace input.now t → ⊥ }
+) -> Result<Answer, ReadTraceError>
+    ensures answered { IfOk result (λ a. (outcome : Outcome) × Reports config input.now (string_bytes a.text) outcome × (a.status ≡ status_of outcome)) }
+    ensures no_trace { result ≡ Err ReadTraceError.NotTrace → (t : List Entry) → IsTrace input.now t → ⊥ }
     ensures view { S.held sched.new ≡ S.held sched.old }
 {
-    let entries = match read_trace(alloc, input) {
-        Ok(entries) => entries,
-        Err(ReadTraceError::NotTrace) => return Err(RunError::NotTrace),
-        Err(ReadTraceError::NoMemory) => return Err(RunError::NoMemory),
-    };
+    let entries = read_trace(alloc, input)?;
     let outcome = outcome_of(alloc, &entries, config, sched)?;
     let status = answer_status(&outcome);
-    let output = text(alloc, &outcome)?;
-    Ok((status, output))
+    let text = text(alloc, &outcome)?;
+    Ok(Answer { status, text })
 }
 
 fn answer_status(outcome: &Outcome) -> Status

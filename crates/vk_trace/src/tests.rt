@@ -11,16 +11,19 @@ mod table;
 
 use table::{Ending, FILL_AND_READ, NO_MEMORY, NO_TRACE, NO_TRACES, REFUSED, REPLAYED, TRACES};
 
-const CONFIG: Config = Config {
-    heap0: 4_194_304,
-    heap1: 4_194_304,
-};
+/// Heaps of 4 MiB.
+fn config() -> Config {
+    match Config::new(4_194_304, 4_194_304) {
+        Some(config) => config,
+        None => unreachable!(),
+    }
+}
 
 /// Runs a trace that lies in memory: how that ended, and what was written.
 fn run_bytes(alloc: Global, input: &[u8]) -> (Ending, Vec<u8>) {
     let mut reader = Watched::new(input);
     let mut writer = Watched::new(Vec::new(alloc));
-    let ending = run(alloc, &mut reader, &mut writer, CONFIG, &mut First);
+    let ending = run(alloc, &mut reader, &mut writer, config(), &mut First);
     (ending, writer.into_inner())
 }
 
@@ -142,12 +145,12 @@ fn run_failing_reader(alloc: Global, reads: usize) -> (Ending, bool, Vec<u8>) {
     let bytes = FILL_AND_READ.as_bytes();
     let mut reader = Watched::new(FailingReader { bytes, reads });
     let mut writer = Watched::new(Vec::new(alloc));
-    let ending = run(alloc, &mut reader, &mut writer, CONFIG, &mut First);
+    let ending = run(alloc, &mut reader, &mut writer, config(), &mut First);
     (ending, reader.failed(), writer.into_inner())
 }
 
 /// Expects `ReadFault` where the reader fails, and that nothing is written then.
-fn expect_read_fault(rt: &impl Abort, alloc: Global, reads: usize) {
+fn expect_read_error(rt: &impl Abort, alloc: Global, reads: usize) {
     let (mut ending, mut failed, mut written) = run_failing_reader(alloc, reads);
     if ran_out(ending) {
         assert!(rt; written.is_empty());
@@ -174,12 +177,12 @@ fn run_short_writer(alloc: Global, room: usize, fails: bool) -> (Ending, bool, S
         room,
         fails,
     });
-    let ending = run(alloc, &mut reader, &mut writer, CONFIG, &mut First);
+    let ending = run(alloc, &mut reader, &mut writer, config(), &mut First);
     (ending, writer.failed(), writer.into_inner())
 }
 
 /// Expects `WriteFault` where the writer has no room for the whole text, and that it has its front.
-fn expect_write_fault(rt: &impl Abort, alloc: Global, room: usize, fails: bool) {
+fn expect_write_error(rt: &impl Abort, alloc: Global, room: usize, fails: bool) {
     let output = b"5 01020304\n";
     let (mut ending, mut failed, mut writer) = run_short_writer(alloc, room, fails);
     if ending == NO_MEMORY {
@@ -199,7 +202,7 @@ fn expect_write_fault(rt: &impl Abort, alloc: Global, room: usize, fails: bool) 
 }
 
 /// Expects that a failed flush is kept, and no other.
-fn expect_flush_fault(rt: &impl Abort) {
+fn expect_flush_error(rt: &impl Abort) {
     for fails in [true, false] {
         let mut writer = Watched::new(ShortWriter {
             taken: [0; 16],
@@ -213,16 +216,16 @@ fn expect_flush_fault(rt: &impl Abort) {
 }
 
 #[test]
-fn faults_and_limits(rt: HostRuntime) -> Result<(), Fail> {
+fn errors_and_limits(rt: HostRuntime) -> Result<(), Fail> {
     let alloc = rt.alloc();
     for reads in 0..17 {
-        expect_read_fault(&rt, alloc, reads);
+        expect_read_error(&rt, alloc, reads);
     }
     for room in 0..13 {
-        expect_write_fault(&rt, alloc, room, true);
-        expect_write_fault(&rt, alloc, room, false);
+        expect_write_error(&rt, alloc, room, true);
+        expect_write_error(&rt, alloc, room, false);
     }
-    expect_flush_fault(&rt);
+    expect_flush_error(&rt);
     let refusal = Outcome::Refused(At::Wait(1, 0, 2), Rule::WaitBeforeSignal);
     assert_eq!(rt;
         text(alloc, &refusal)?.as_str(),

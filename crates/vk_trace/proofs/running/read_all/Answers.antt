@@ -1,4 +1,4 @@
-use Rattle.std.proofs.Common.{◌≤◌, ◌++◌, length, take, ap, arith, length-append}
+use Rattle.std.proofs.Common.{◌≤◌, inl, inr, ◌++◌, length, take, ap, arith, length-append}
 use Rattle.std.proofs.lemmas.List.{length-take-le}
 use Rattle.std.proofs.KnownBytes.{Consumes-trans}
 use Rattle.vk_trace.proofs.ByteLemmas.{all_read_at, had_many}
@@ -15,10 +15,10 @@ returns-then-len-n-gt-MOST_BYTES-clause-too_long g c =
     let n = c.in-Ok.n in
     let buf = c.read.new.buf in
     let le : n ≤ length buf = c.in-Ok.ensures.bound.0 in
-    λ _. had_many 1048576 _ _ (c.loop.input.items ++ take n buf)
+    λ _. inr (had_many 16777217 _ _ (c.loop.input.items ++ take n buf)
     (Consumes-trans _ _ _ _ _ c.loop.invariant.read c.in-Ok.ensures.bytes.0)
-    (omega (arith, length-append c.loop.input.items (take n buf), length-take-le n buf le, c.loop.input.ok.0))
+    (omega (arith, length-append c.loop.input.items (take n buf), length-take-le n buf le)))
 
 pub returns-clause-too_long : goal.returns-clause-too_long
 returns-clause-too_long g c =
-    λ _. had_many 1048576 _ _ c.loop.input.items c.loop.invariant.read (omega arith)
+    λ _. inl (omega (arith, c.loop.invariant.calls, c.loop.invariant.known))

@@ -1,5 +1,6 @@
-use Rattle.std.proofs.Common.{◌≡◌, ◌≤◌, length, false}
+use Rattle.std.proofs.Common.{◌≡◌, ◌≤◌, ◌<◌, ◌+◌, ◌^◌, length, false}
 use Rattle.std.specs.Io.KnownBytes.{Consumes}
+use Rattle.vk_trace.specs.Watching.{counted}
 use Rattle.vk_trace.proofs.running.read_all.Given as goal
 
 abbrev pub invariant-loop : goal.invariant-loop
@@ -8,5 +9,8 @@ invariant-loop g l = record {
   within : length l.input.items ≤ 16777216;
   rounds : l.counter ≤ length l.input.items;
   room : length l.chunk.items ≡ 65536;
+  calls : counted l.reader.calls 0 ≡ counted l.fn.reader.calls l.counter;
+  most : l.reader.calls ≤ l.fn.reader.calls + l.counter;
+  known : 0 < l.counter → l.reader.calls < 2 ^ 64;
   whole : l.reader.failed ≡ false;
 }
