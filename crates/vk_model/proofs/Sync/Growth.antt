@@ -1,8 +1,8 @@
 -- A node that comes changes no edge, no order and no visibility among those that were there.
-use Rattle.std.proofs.Common.{◌≡◌, ℕ, zero, suc, ◌<◌, ◌≤◌, List, [], ◌∷◌, ◌++◌, length, Bool, true, false, ◌&&◌, ◌||◌, refl, ap, sym, ◌∙◌, arith, inl, inr, ◌⊎◌}
-use Rattle.std.specs.Prelude.{nat_lt, nat_le, Contains, if◌then◌else◌}
-use Rattle.std.specs.List.{list_any, filter}
-use Rattle.std.proofs.lemmas.Bool.{le-ltb, ne_eqb}
+use Rattle.std.proofs.Common.{◌≡◌, ◌<◌, ◌≤◌, List, [], ◌∷◌, ◌++◌, length, Bool, true, false, ◌&&◌, ◌||◌, refl, ap, ◌∙◌, arith}
+use Rattle.std.specs.Prelude.{nat_lt, Contains, if◌then◌else◌}
+use Rattle.std.specs.List.{list_any}
+use Rattle.std.proofs.lemmas.Bool.{ne_eqb}
 use Rattle.vk_model.specs.World.Bytes.{Byte}
 use Rattle.vk_model.specs.Trace.Point.{Past, Point}
 use Rattle.vk_model.specs.Sync.Node.{Node, Act, nodes, with_acts, acts, same_node}
@@ -11,62 +11,13 @@ use Rattle.vk_model.specs.Sync.Before.{before, reached, IsNumbered}
 use Rattle.vk_model.specs.Laws.{Keeps}
 use Rattle.vk_model.specs.Sync.Seen.{Access, seen, passes, available_by, visible_by}
 use Rattle.vk_model.specs.Sync.Node.{Hosts, Waits, Signals, Runs, Depends}
-
--- ---- members of a list
-
-pub contains-cons : {X : Type 0} (y : X) (ys : List X) (x : X) → Contains (y ∷ ys) x → (y ≡ x) ⊎ Contains ys x
-contains-cons y ys x c = go c.0 c.1 c.2
-  where
-    go : (k : ℕ) → k < length (y ∷ ys) → Rattle.std.specs.Prelude.slice_index_or (y ∷ ys) k x ≡ x → (y ≡ x) ⊎ Contains ys x
-    go zero lt at = inl at
-    go (suc k) lt at = inr (k, omega arith, at)
-
-pub contains-head : {X : Type 0} (y : X) (ys : List X) → Contains (y ∷ ys) y
-contains-head y ys = (0, omega arith, refl)
-
-pub contains-tail : {X : Type 0} (y : X) (ys : List X) (x : X) → Contains ys x → Contains (y ∷ ys) x
-contains-tail y ys x c = (suc c.0, omega (arith, c.1), c.2)
-
--- tests that agree on the members of a list
-pub any_same : {X : Type 0} (f g : X → Bool) (xs : List X) → ((x : X) → Contains xs x → f x ≡ g x) → list_any f xs ≡ list_any g xs
-any_same f g [] same = refl
-any_same f g (x ∷ xs) same = rw (same x (contains-head x xs), any_same f g xs (λ y c. same y (contains-tail x xs y c))) refl
-
-and-false : (a : Bool) → (a && false) ≡ false
-and-false true = refl
-and-false false = refl
-
-none_passes_any : {X : Type 0} (f : X → Bool) (xs : List X) → ((x : X) → Contains xs x → f x ≡ false) → list_any f xs ≡ false
-none_passes_any f [] fails = refl
-none_passes_any f (x ∷ xs) fails = rw (fails x (contains-head x xs), none_passes_any f xs (λ y c. fails y (contains-tail x xs y c))) refl
-
--- ---- numbers of nodes
-
-pub number_below : (ns : List Node) → IsNumbered ns → (m : Node) → Contains ns m → m.number < length ns
-number_below [] numbered m c = absurd (let none : c.0 < 0 = c.1 in omega arith)
-number_below (n ∷ ns) numbered m c = elim (contains-cons n ns m c) [
-  | inl same ↦ let here : m.number ≡ length ns = ap (λ (k : Node). k.number) (sym same) ∙ numbered.0 in omega arith
-  | inr later ↦ let lt = number_below ns numbered.1 m later in omega arith
-]
-
-pub numbered_acts : (p : Point) (more : List Act) (ns : List Node) → IsNumbered ns → IsNumbered (with_acts p more ns)
-numbered_acts p [] ns numbered = numbered
-numbered_acts p (a ∷ more) ns numbered = numbered_acts p more (record { number = length ns; point = p; act = a } ∷ ns) (refl, numbered)
-
-pub numbered : (past : Past) → IsNumbered (nodes past)
-numbered [] = tt
-numbered (p ∷ past) = numbered_acts p (acts p.action) (nodes past) (numbered past)
+use Rattle.vk_model.proofs.Lists.Members.{any_same, none_passes_any}
+use Rattle.vk_model.proofs.Sync.Numbers.{number_below, numbered, not_earlier, edge-older}
+use Rattle.std.proofs.Math.Bool.{and-false}
 
 -- ---- one node more
 
 module _ (n : Node) (ns : List Node) (new : n.number ≡ length ns) where
-  not_earlier : (k : Node) → k.number < length ns → nat_lt n.number k.number ≡ false
-  not_earlier k lt = le-ltb n.number k.number (omega arith)
-
-  pub edge-older : (m k : Node) → k.number < length ns → edge (n ∷ ns) m k ≡ edge ns m k
-  unfolding edge
-  edge-older m k lt = rw (not_earlier k lt) refl
-
   not_same : (y : Node) → y.number < length ns → same_node y n ≡ false
   not_same y lt = ne_eqb y.number n.number (λ e. let bad : y.number ≡ n.number = e in omega arith)
 
@@ -85,7 +36,7 @@ module _ (n : Node) (ns : List Node) (new : n.number ≡ length ns) where
   -- nothing of the old comes after the new node
   before-new : (y : Node) → y.number < length ns → before (n ∷ ns) n y ≡ false
   unfolding before
-  before-new y lt = rw (not_earlier y lt) refl
+  before-new y lt = rw (not_earlier n ns new y lt) refl
 
   module _ (numbers : IsNumbered ns) (cached : Byte → Bool) where
     passes-older : (test : Act → Bool) (m k : Node) → k.number < length ns → passes cached (n ∷ ns) test m k ≡ passes cached ns test m k
@@ -94,14 +45,14 @@ module _ (n : Node) (ns : List Node) (new : n.number ≡ length ns) where
         (any_same _ _ ns (λ f c. let low = number_below ns numbers f c in rw (before-older m f low, before-older f k lt) refl))
 
     available-older : (w p : Node) (act : Act) (b : Byte) → p.number < length ns → available_by cached (n ∷ ns) w act b p ≡ available_by cached ns w act b p
-    available-older w p (Runs c) b lt = rw (edge-older w p lt) refl
+    available-older w p (Runs c) b lt = rw (edge-older n ns new w p lt) refl
     available-older w p (Depends r e) b lt = refl
     available-older w p (Hosts x) b lt = rw (before-older w p lt, passes-older (λ f. Rattle.vk_model.specs.Sync.Seen.flushes f b) w p lt) refl
     available-older w p (Waits s) b lt = refl
     available-older w p (Signals s) b lt = refl
 
     visible-older : (w a q : Node) (act : Act) (k : Access) (b : Byte) → a.number < length ns → visible_by cached (n ∷ ns) w a act k b q ≡ visible_by cached ns w a act k b q
-    visible-older w a q (Runs c) k b lt = rw (edge-older q a lt) refl
+    visible-older w a q (Runs c) k b lt = rw (edge-older n ns new q a lt) refl
     visible-older w a q (Depends r e) k b lt = refl
     visible-older w a q (Hosts x) k b lt = rw (before-older q a lt, passes-older (λ f. Rattle.vk_model.specs.Sync.Seen.invalidates f b) q a lt) refl
     visible-older w a q (Waits s) k b lt = refl

@@ -1,27 +1,16 @@
--- `before` is the relation of paths of edges.
+-- `before` is the relation of paths of edges. Other crates cite it.
 use Rattle.std.proofs.Common.{◌≡◌, ◌<◌, ◌≤◌, List, [], ◌∷◌, length, Bool, true, false, ◌||◌, refl, ap, sym, ◌∙◌, subst, arith, inl, inr, ◌⊎◌, IsTrue}
-use Rattle.std.specs.Prelude.{nat_lt, Contains, if◌then◌else◌}
+use Rattle.std.specs.Prelude.{nat_lt, Contains, if◌then◌else◌, ◌↔◌}
 use Rattle.std.specs.List.{list_any}
-use Rattle.std.proofs.lemmas.Bool.{le-ltb, ne_eqb, eqb-true, eq-eqb, ltb-true, lt-ltb, and_parts}
-use Rattle.vk_model.specs.Sync.Node.{Node, same_node}
+use Rattle.std.proofs.lemmas.Bool.{ne_eqb, eqb-true, eq-eqb, ltb-true, lt-ltb, and_parts}
+use Rattle.vk_model.specs.Trace.Point.{Past}
+use Rattle.vk_model.specs.Sync.Node.{Node, nodes, same_node}
 use Rattle.vk_model.specs.Sync.Edge.{edge}
 use Rattle.vk_model.specs.Sync.Before.{before, reached, Path, direct, longer, IsNumbered}
-use Rattle.vk_validate.proofs.Members.{none_in, contains-cons, contains-head, contains-tail, some_member, member_passes}
-use Rattle.vk_validate.proofs.Truths.{second}
-use Rattle.vk_validate.proofs.Growth.{number_below, edge-older}
+use Rattle.vk_model.proofs.Lists.Members.{none_in, contains-cons, contains-head, contains-tail, some_member, member_passes}
+use Rattle.vk_model.proofs.Sync.Numbers.{number_below, numbered, unique, in_rest, edge-older, edge-new}
 
--- ---- nodes by their numbers
-
--- two nodes with one number are one
-pub unique : (ns : List Node) → IsNumbered ns → (m n : Node) → Contains ns m → Contains ns n → m.number ≡ n.number → m ≡ n
-unique [] numbers m n c d same = absurd (none_in m c)
-unique (k ∷ ns) numbers m n c d same = go (contains-cons k ns m c) (contains-cons k ns n d) (unique ns numbers.1 m n)
-  where
-    go : (k ≡ m) ⊎ Contains ns m → (k ≡ n) ⊎ Contains ns n → (Contains ns m → Contains ns n → m.number ≡ n.number → m ≡ n) → m ≡ n
-    go (inl a) (inl b) next = sym a ∙ b
-    go (inl a) (inr b) next = let lt = number_below ns numbers.1 n b in let here : m.number ≡ length ns = ap (λ (x : Node). x.number) (sym a) ∙ numbers.0 in absurd (omega arith)
-    go (inr a) (inl b) next = let lt = number_below ns numbers.1 m a in let here : n.number ≡ length ns = ap (λ (x : Node). x.number) (sym b) ∙ numbers.0 in absurd (omega arith)
-    go (inr a) (inr b) next = next a b same
+-- ---- edges and paths
 
 -- an edge leads to a greater number
 pub edge_forward : (ns : List Node) (m n : Node) → IsTrue (edge ns m n) → m.number < n.number
@@ -29,11 +18,11 @@ unfolding edge
 edge_forward ns m n e = ltb-true m.number n.number (and_parts _ _ e).0
 
 -- a path leads to a greater number
-forward : (ns : List Node) (m n : Node) → Path ns m n → m.number < n.number
+pub forward : (ns : List Node) (m n : Node) → Path ns m n → m.number < n.number
 forward ns m n (direct c d e) = edge_forward ns m n e
 forward ns m n (longer {k = k} p d e) = let one = forward ns m k p in let two = edge_forward ns k n e in omega arith
 
-source : (ns : List Node) (m n : Node) → Path ns m n → Contains ns m
+pub source : (ns : List Node) (m n : Node) → Path ns m n → Contains ns m
 source ns m n (direct c d e) = c
 source ns m n (longer {k = k} p d e) = source ns m k p
 
@@ -43,19 +32,13 @@ target ns m n (direct c d e) = d
 target ns m n (longer p d e) = d
 
 -- paths join
-pub path_joined : (ns : List Node) (l m n : Node) → Path ns l m → Path ns m n → Path ns l n
-path_joined ns l m n p (direct c d e) = longer p d e
-path_joined ns l m n p (longer {k = k} q d e) = longer (path_joined ns l m k p q) d e
+pub joined : (ns : List Node) (l m n : Node) → Path ns l m → Path ns m n → Path ns l n
+joined ns l m n p (direct c d e) = longer p d e
+joined ns l m n p (longer {k = k} q d e) = longer (joined ns l m k p q) d e
 
 -- ---- one node more
 
 module _ (n : Node) (ns : List Node) (new : n.number ≡ length ns) (numbers : IsNumbered ns) where
-  pub in_rest : (k : Node) → Contains (n ∷ ns) k → k.number < length ns → Contains ns k
-  in_rest k c lt = elim (contains-cons n ns k c) [
-    | inl same ↦ let here : k.number ≡ length ns = ap (λ (x : Node). x.number) (sym same) ∙ new in absurd (omega arith)
-    | inr later ↦ later
-  ]
-
   -- paths among the older nodes are paths
   lifted : (a b : Node) → Path ns a b → Path (n ∷ ns) a b
   lifted a b (direct c d e) = direct (contains-tail n ns a c) (contains-tail n ns b d) (rw (edge-older n ns new a b (number_below ns numbers b d)) e)
@@ -65,15 +48,10 @@ module _ (n : Node) (ns : List Node) (new : n.number ≡ length ns) (numbers : I
   restricted : (a b : Node) → Path (n ∷ ns) a b → b.number < length ns → Path ns a b
   restricted a b (direct c d e) lt =
       let less = edge_forward (n ∷ ns) a b e in
-      direct (in_rest a c (omega arith)) (in_rest b d lt) (rw (edge-older n ns new a b lt) at e)
+      direct (in_rest n ns new a c (omega arith)) (in_rest n ns new b d lt) (rw (edge-older n ns new a b lt) at e)
   restricted a b (longer {k = k} p d e) lt =
       let less = edge_forward (n ∷ ns) k b e in
-      longer (restricted a k p (omega arith)) (in_rest b d lt) (rw (edge-older n ns new k b lt) at e)
-
-  -- edges to the new node don't look at it
-  pub edge-new : (m : Node) → edge (n ∷ ns) m n ≡ edge ns m n
-  unfolding edge
-  edge-new m = rw (le-ltb n.number n.number (omega arith)) refl
+      longer (restricted a k p (omega arith)) (in_rest n ns new b d lt) (rw (edge-older n ns new k b lt) at e)
 
 -- nothing older is reached from a newer node
 reached_none : (ns : List Node) (x : Node) → IsNumbered ns → length ns ≤ x.number → reached x ns ≡ []
@@ -86,7 +64,7 @@ reached_none (n ∷ ns) x numbers le =
 abbrev Reached : List Node → Node → Node → Type 0
 Reached ns x y = (y ≡ x) ⊎ Path ns x y
 
-reached_paths : (ns : List Node) → IsNumbered ns → (x : Node) → Contains ns x → (y : Node) → (Contains (reached x ns) y → Reached ns x y) × (Reached ns x y → Contains (reached x ns) y)
+pub reached_paths : (ns : List Node) → IsNumbered ns → (x : Node) → Contains ns x → (y : Node) → (Contains (reached x ns) y → Reached ns x y) × (Reached ns x y → Contains (reached x ns) y)
 reached_paths [] numbers x c y = absurd (none_in x c)
 reached_paths (n ∷ ns) numbers x c y = elim (contains-cons n ns x c) [
   | inl same ↦ at_head same
@@ -132,8 +110,8 @@ reached_paths (n ∷ ns) numbers x c y = elim (contains-cons n ns x c) [
         lift z (inr p) = inr (lifted n ns new numbers.1 x z p)
 
         by_edge : (m : Node) → Reached ns x m → edge ns m n ≡ true → Path (n ∷ ns) x n
-        by_edge m (inl e) is = direct (contains-tail n ns x older) (contains-head n ns) (rw (edge-new n ns new numbers.1 x) (ap (λ (k : Node). edge ns k n) (sym e) ∙ is))
-        by_edge m (inr p) is = longer (lifted n ns new numbers.1 x m p) (contains-head n ns) (rw (edge-new n ns new numbers.1 m) is)
+        by_edge m (inl e) is = direct (contains-tail n ns x older) (contains-head n ns) (rw (edge-new n ns x) (ap (λ (k : Node). edge ns k n) (sym e) ∙ is))
+        by_edge m (inr p) is = longer (lifted n ns new numbers.1 x m p) (contains-head n ns) (rw (edge-new n ns m) is)
 
         path_to_new : list_any (λ m. edge ns m n) (reached x ns) ≡ true → Path (n ∷ ns) x n
         path_to_new e = let m = some_member (λ m. edge ns m n) (reached x ns) e in by_edge m.0 ((known m.0).0 m.1) m.2
@@ -160,7 +138,7 @@ reached_paths (n ∷ ns) numbers x c y = elim (contains-cons n ns x c) [
         at_new true e good same = subst (λ (z : Node). Contains (n ∷ reached x ns) z) same (contains-head n (reached x ns))
 
         edge_found : (m : Node) → Reached ns x m → edge (n ∷ ns) m n ≡ true → list_any (λ m. edge ns m n) (reached x ns) ≡ true
-        edge_found m r e = member_passes (λ m. edge ns m n) (reached x ns) m ((known m).1 r) (rw (edge-new n ns new numbers.1 m) at e)
+        edge_found m r e = member_passes (λ m. edge ns m n) (reached x ns) m ((known m).1 r) (rw (edge-new n ns m) at e)
 
         last_edge : Path (n ∷ ns) x n → list_any (λ m. edge ns m n) (reached x ns) ≡ true
         last_edge (direct c d e) = edge_found x (inl refl) e
@@ -180,13 +158,14 @@ reached_paths (n ∷ ns) numbers x c y = elim (contains-cons n ns x c) [
 
 -- ---- the laws
 
-before_lt : (ns : List Node) (x y : Node) → IsTrue (before ns x y) → x.number < y.number
+-- what is before a node has a smaller number
+pub leads_on : (ns : List Node) (x y : Node) → IsTrue (before ns x y) → x.number < y.number
 unfolding before
-before_lt ns x y e = ltb-true x.number y.number (and_parts (nat_lt x.number y.number) (list_any (same_node y) (reached x ns)) e).0
+leads_on ns x y e = ltb-true x.number y.number (and_parts (nat_lt x.number y.number) (list_any (same_node y) (reached x ns)) e).0
 
 before_found : (ns : List Node) (x y : Node) → IsTrue (before ns x y) → list_any (same_node y) (reached x ns) ≡ true
 unfolding before
-before_found ns x y e = second (nat_lt x.number y.number) (list_any (same_node y) (reached x ns)) e
+before_found ns x y e = (and_parts (nat_lt x.number y.number) (list_any (same_node y) (reached x ns)) e).1
 
 found_before : (ns : List Node) (x y : Node) → x.number < y.number → list_any (same_node y) (reached x ns) ≡ true → IsTrue (before ns x y)
 unfolding before
@@ -203,7 +182,7 @@ reached_present ns numbers x y c at = present ((reached_paths ns numbers x c y).
 module _ (ns : List Node) (numbers : IsNumbered ns) (x y : Node) (cx : Contains ns x) (cy : Contains ns y) where
   pub path_of_before : IsTrue (before ns x y) → Path ns x y
   path_of_before e =
-      let lt = before_lt ns x y e in
+      let lt = leads_on ns x y e in
       let z = some_member (same_node y) (reached x ns) (before_found ns x y e) in
       let same : y ≡ z.0 = unique ns numbers y z.0 cy (reached_present ns numbers x z.0 cx z.1) (eqb-true y.number z.0.number z.2) in
       elim ((reached_paths ns numbers x cx y).0 (subst (λ (n : Node). Contains (reached x ns) n) (sym same) z.1)) [
@@ -214,3 +193,11 @@ module _ (ns : List Node) (numbers : IsNumbered ns) (x y : Node) (cx : Contains 
   pub before_of_path : Path ns x y → IsTrue (before ns x y)
   before_of_path p =
       found_before ns x y (forward ns x y p) (member_passes (same_node y) (reached x ns) y ((reached_paths ns numbers x cx y).1 (inr p)) (eq-eqb y.number y.number refl))
+
+pub before_path : (past : Past) (x y : Node) → Contains (nodes past) x → Contains (nodes past) y → IsTrue (before (nodes past) x y) ↔ Path (nodes past) x y
+before_path past x y cx cy = (path_of_before (nodes past) (numbered past) x y cx cy, before_of_path (nodes past) (numbered past) x y cx cy)
+
+pub transitive : (past : Past) (x y z : Node) → Contains (nodes past) x → Contains (nodes past) y → Contains (nodes past) z
+    → IsTrue (before (nodes past) x y) → IsTrue (before (nodes past) y z) → IsTrue (before (nodes past) x z)
+transitive past x y z cx cy cz a b =
+    (before_path past x z cx cz).1 (joined (nodes past) x y z ((before_path past x y cx cy).0 a) ((before_path past y z cy cz).0 b))

@@ -1,27 +1,15 @@
--- When two bytes are the same, by where they are.
-use Rattle.std.proofs.Common.{◌≡◌, ℕ, ◌+◌, ◌*◌, ◌<◌, ◌≤◌, Bool, true, false, ◌&&◌, ◌==◌, refl, arith, inl, inr, ◌⊎◌}
+-- When two bytes are the same, by where they are. Other crates cite it.
+use Rattle.std.proofs.Common.{◌≡◌, ℕ, ◌+◌, ◌*◌, ◌<◌, ◌≤◌, true, false, ◌==◌, arith, inl, inr, ◌⊎◌}
 use Rattle.std.proofs.Math.Nat.{mul-le-mul_right}
-use Rattle.std.proofs.lemmas.Bool.{eqb-true, lt-ltb}
+use Rattle.std.proofs.lemmas.Bool.{eqb-true, lt-ltb, and_parts, and_from, false_from_ne_true}
 use Rattle.vk_model.specs.Memory.Suballocation.{ranges_meet}
 use Rattle.vk_model.specs.World.Bytes.{Byte, in_buffer, in_image, same_byte}
-use Rattle.vk_model.proofs.Pairs.{refuted, Less}
-
-pub and_left : (a b : Bool) → (a && b) ≡ true → a ≡ true
-and_left true b e = refl
-and_left false b e = absurd cc
-
-pub and_right : (a b : Bool) → (a && b) ≡ true → b ≡ true
-and_right true b e = e
-and_right false b e = absurd cc
-
-pub and_both : (a b : Bool) → a ≡ true → b ≡ true → (a && b) ≡ true
-and_both true b e f = f
-and_both false b e f = absurd cc
+use Rattle.vk_model.proofs.Lists.Grids.{Less}
 
 -- ---- bytes that are the same
 
 pub buffer_same : (b k c l : ℕ) → same_byte (in_buffer b k) (in_buffer c l) ≡ true → (b ≡ c) × (k ≡ l)
-buffer_same b k c l e = (eqb-true b c (and_left (b == c) (k == l) e), eqb-true k l (and_right (b == c) (k == l) e))
+buffer_same b k c l e = (eqb-true b c (and_parts (b == c) (k == l) e).0, eqb-true k l (and_parts (b == c) (k == l) e).1)
 
 -- the places of two texels in their images
 pub record SamePlace (i a l x y p j c m u v q : ℕ) : Type 0 where
@@ -34,27 +22,23 @@ pub record SamePlace (i a l x y p j c m u v q : ℕ) : Type 0 where
 
 pub image_same : (i a l x y p j c m u v q : ℕ) → same_byte (in_image i a l x y p) (in_image j c m u v q) ≡ true → SamePlace i a l x y p j c m u v q
 image_same i a l x y p j c m u v q e =
-    let e5 = and_left _ (p == q) e in
-    let e4 = and_left _ (y == v) e5 in
-    let e3 = and_left _ (x == u) e4 in
-    let e2 = and_left _ (l == m) e3 in record {
-      image = eqb-true i j (and_left (i == j) (a == c) e2);
-      level = eqb-true a c (and_right (i == j) (a == c) e2);
-      layer = eqb-true l m (and_right _ (l == m) e3);
-      x_is = eqb-true x u (and_right _ (x == u) e4);
-      y_is = eqb-true y v (and_right _ (y == v) e5);
-      part = eqb-true p q (and_right _ (p == q) e);
+    let e5 = (and_parts _ (p == q) e).0 in
+    let e4 = (and_parts _ (y == v) e5).0 in
+    let e3 = (and_parts _ (x == u) e4).0 in
+    let e2 = (and_parts _ (l == m) e3).0 in record {
+      image = eqb-true i j (and_parts (i == j) (a == c) e2).0;
+      level = eqb-true a c (and_parts (i == j) (a == c) e2).1;
+      layer = eqb-true l m (and_parts _ (l == m) e3).1;
+      x_is = eqb-true x u (and_parts _ (x == u) e4).1;
+      y_is = eqb-true y v (and_parts _ (y == v) e5).1;
+      part = eqb-true p q (and_parts _ (p == q) e).1;
     }
 
 -- ---- ranges with a common number meet
 
 pub common_meets : (a n b m v : ℕ) → a ≤ v → v < a + n → b ≤ v → v < b + m → ranges_meet a n b m ≡ true
 common_meets a n b m v la ha lb hb =
-    and_both _ _ (and_both _ _ (and_both _ _ (lt-ltb 0 n (omega arith)) (lt-ltb 0 m (omega arith))) (lt-ltb a (b + m) (omega arith))) (lt-ltb b (a + n) (omega arith))
-
-pub clash : (b : Bool) → b ≡ true → b ≡ false → ⊥
-clash true e f = cc
-clash false e f = cc
+    and_from _ _ (and_from _ _ (and_from _ _ (lt-ltb 0 n (omega arith)) (lt-ltb 0 m (omega arith))) (lt-ltb a (b + m) (omega arith))) (lt-ltb b (a + n) (omega arith))
 
 abbrev pub Differ : Byte → Byte → Type 0
 Differ b c = same_byte b c ≡ false
@@ -88,7 +72,7 @@ module _ (i level : ℕ) (l x0 y0 : ℕ) where
   texel_at z y x k = in_image i level (l + z) (x0 + x) (y0 + y) k
 
   pub texels_differ : (z y x k z' y' x' k' : ℕ) → Less z y x k z' y' x' k' → Differ (texel_at z y x k) (texel_at z' y' x' k')
-  texels_differ z y x k z' y' x' k' less = refuted (same_byte (texel_at z y x k) (texel_at z' y' x' k')) (λ e.
+  texels_differ z y x k z' y' x' k' less = false_from_ne_true (same_byte (texel_at z y x k) (texel_at z' y' x' k')) (λ e.
       let s = image_same i level (l + z) (x0 + x) (y0 + y) k i level (l + z') (x0 + x') (y0 + y') k' e in
       no_less z y x k z' y' x' k' (let h = s.layer in omega arith) (let h = s.y_is in omega arith) (let h = s.x_is in omega arith) s.part less)
 
@@ -126,4 +110,4 @@ module _ (off t height_step width_step : ℕ) where
           deeper a (inr more) = deepest a more.0 more.1
 
 pub less_differs : (b k l : ℕ) → k < l → Differ (in_buffer b k) (in_buffer b l)
-less_differs b k l lt = refuted (same_byte (in_buffer b k) (in_buffer b l)) (λ e. let same = (buffer_same b k b l e).1 in omega arith)
+less_differs b k l lt = false_from_ne_true (same_byte (in_buffer b k) (in_buffer b l)) (λ e. let same = (buffer_same b k b l e).1 in omega arith)

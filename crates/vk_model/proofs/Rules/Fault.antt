@@ -8,9 +8,10 @@ use Rattle.vk_model.specs.Trace.Point.{Past, Point, at_of}
 use Rattle.vk_model.specs.Rules.Table.{breaks, rules, first_rule, fault}
 use Rattle.vk_model.specs.Rules.Fault.{Comes, newest, older, IsSound}
 use Rattle.vk_model.specs.Laws.{IsFirst}
-use Rattle.vk_model.proofs.RuleTable.{place_of, once}
+use Rattle.vk_model.proofs.Rules.Table.{place_of, once}
 use Rattle.vk_model.specs.Trace.Order.{plain_order}
 use Rattle.vk_model.specs.declared.entry.Entry.{Entry}
+use Rattle.std.proofs.lemmas.Bool.{false_from_ne_true}
 
 -- ---- the first item that passes a test
 
@@ -127,16 +128,12 @@ sound_of_none t none before p r broken =
     let unbroken : breaks r before p ≡ false = breaks_none before p r (no_fault-at (plain_order t) before p none broken.0) in
     absurd (let both : breaks r before p ≡ true = broken.1 in cc)
 
-not_true : (b : Bool) → (b ≡ true → ⊥) → b ≡ false
-not_true true refuted = absurd (refuted refl)
-not_true false refuted = refl
-
 none_of_sound : (all : Past) → ((before : Past) (p : Point) (r : Rule) → Comes all before p → IsTrue (breaks r before p) → ⊥) → fault all ≡ None
 none_of_sound [] sound = start
 none_of_sound (q ∷ past) sound =
     no_fault-cons past q
     (none_of_sound past (λ before p r comes broken. sound before p r (older comes) broken))
-    (breaks_all_none past q (λ r. not_true (breaks r past q) (λ broken. sound past q r newest broken)))
+    (breaks_all_none past q (λ r. false_from_ne_true (breaks r past q) (λ broken. sound past q r newest broken)))
 
 pub none_of_sound_trace : (t : List Entry) → IsSound t → fault (plain_order t) ≡ None
 none_of_sound_trace t sound = none_of_sound (plain_order t) (λ before p r comes broken. sound before p r (comes, broken))

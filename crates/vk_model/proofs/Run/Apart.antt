@@ -15,9 +15,9 @@ use Rattle.vk_model.specs.Run.Pieces.{pieces}
 use Rattle.vk_model.specs.Sync.Access.{targets, share, is_in}
 use Rattle.vk_model.specs.Rules.Table.{breaks}
 use Rattle.vk_model.specs.Laws.{together, write_common}
-use Rattle.vk_model.proofs.PieceLaws.{pieces_together}
+use Rattle.vk_model.proofs.Run.Pieces.{pieces_together}
 use Rattle.vk_model.specs.Rules.Ranges.{is_short, regions_of, command_past, command_overlaps, transitions_meet}
-use Rattle.std.proofs.lemmas.Bool.{eqb-true, eq-eqb, ltb-false}
+use Rattle.std.proofs.lemmas.Bool.{eqb-true, eq-eqb, ltb-false, or_parts, or_from, and_from, false_from_ne_true}
 use Rattle.vk_model.specs.Basics.{some_pair, below, grid}
 use Rattle.vk_model.specs.Memory.Suballocation.{ranges_meet}
 use Rattle.vk_model.specs.World.Bytes.{Byte, in_buffer, in_image, same_byte}
@@ -31,8 +31,10 @@ use Rattle.vk_model.specs.declared.command.SubresourceRange.{SubresourceRange}
 use Rattle.vk_model.specs.declared.resource.ImageInfo.{ImageInfo}
 use Rattle.vk_model.specs.Trace.Image.{texel, level_width, level_height}
 use Rattle.vk_model.specs.World.Areas.{Bytes, Rows, Texels, Subresources, Box, areas_meet, boxes_meet, subresources_meet, rows_meet, row_count, row_start, region_box, destination_box, region_rows, areas_written, areas_read}
-use Rattle.vk_model.proofs.Pairs.{refuted, or_left, or_right, or_none, none_at, append_pairs, once_of_pairs, Each, Pairs, Less, At, pairs_map, pairs_of, pairs_range, pairs_flat, pairs_of_once, each_of, each_range, each_map, each_flat, grid_apart, in_grid}
-use Rattle.vk_model.proofs.BytePlaces.{and_both, buffer_same, image_same, common_meets, clash, Differ, digit_first, no_less, texels_differ, place_less, less_differs}
+use Rattle.vk_model.proofs.Lists.Pairs.{none_at, append_pairs, once_of_pairs, Each, Pairs, pairs_map, pairs_of, pairs_range, pairs_flat, pairs_of_once, each_of, each_range, each_map, each_flat}
+use Rattle.vk_model.proofs.World.BytePlaces.{buffer_same, image_same, common_meets, Differ, digit_first, no_less, texels_differ, place_less, less_differs}
+use Rattle.vk_model.proofs.Lists.Grids.{Less, At, grid_apart, in_grid}
+use Rattle.vk_model.proofs.Lists.Truths.{clash}
 
 -- ---- the byte writes of each command
 
@@ -78,11 +80,11 @@ copied_each : (s d : ℕ) (g : BufferCopy) → Each (IsCopied d g) (copy_writes 
 copied_each s d g = each_of (IsCopied d g) _ (below g.size) (each_range _ 0 g.size (λ k low high. (k, omega arith, refl)))
 
 copied_apart : (d : ℕ) (g h : BufferCopy) (m n : ByteWrite) → areas_meet (Bytes d g.destination_offset g.size) (Bytes d h.destination_offset h.size) ≡ false → IsCopied d g m → IsCopied d h n → Apart m n
-copied_apart d g h m n meet at at' = refuted (same_byte m.to n.to) (λ e.
+copied_apart d g h m n meet at at' = false_from_ne_true (same_byte m.to n.to) (λ e.
     let e' : same_byte (in_buffer d (g.destination_offset + at.0)) (in_buffer d (h.destination_offset + at'.0)) ≡ true = rw (at.2, at'.2) at e in
     let same = (buffer_same d (g.destination_offset + at.0) d (h.destination_offset + at'.0) e').1 in
     let together = common_meets g.destination_offset g.size h.destination_offset h.size (g.destination_offset + at.0) (omega arith) (let lt = at.1 in omega arith) (omega arith) (let lt = at'.1 in omega arith) in
-    clash _ (and_both (d == d) (ranges_meet g.destination_offset g.size h.destination_offset h.size) (eq-eqb d d refl) together) meet)
+    clash (and_from (d == d) (ranges_meet g.destination_offset g.size h.destination_offset h.size) (eq-eqb d d refl) together) meet)
 
 copy_apart : (s d : ℕ) (gs : List BufferCopy) → some_pair areas_meet (map (λ g. Bytes d g.destination_offset g.size) gs) ≡ false → Pairs Apart (flat_map (copy_writes s d) gs)
 copy_apart s d gs none =
@@ -104,13 +106,13 @@ pub record InBox (i : ℕ) (k : Box) (b : Byte) : Type 0 where
   pub is : b ≡ in_image i k.level (k.first_layer + z) (k.x + x) (k.y + y) part
 
 boxes_apart : (i : ℕ) (k l : Box) (b c : Byte) → areas_meet (Texels i k) (Texels i l) ≡ false → InBox i k b → InBox i l c → Differ b c
-boxes_apart i k l b c meet at at' = refuted (same_byte b c) (λ e.
+boxes_apart i k l b c meet at at' = false_from_ne_true (same_byte b c) (λ e.
     let e' : same_byte (in_image i k.level (k.first_layer + at.z) (k.x + at.x) (k.y + at.y) at.part) (in_image i l.level (l.first_layer + at'.z) (l.x + at'.x) (l.y + at'.y) at'.part) ≡ true = rw (at.is, at'.is) at e in
     let s = image_same i k.level (k.first_layer + at.z) (k.x + at.x) (k.y + at.y) at.part i l.level (l.first_layer + at'.z) (l.x + at'.x) (l.y + at'.y) at'.part e' in
     let layers = common_meets k.first_layer k.layers l.first_layer l.layers (k.first_layer + at.z) (omega arith) (let h = at.low_z in omega arith) (let h = s.layer in omega arith) (let h = s.layer in let h' = at'.low_z in omega arith) in
     let xs = common_meets k.x k.width l.x l.width (k.x + at.x) (omega arith) (let h = at.low_x in omega arith) (let h = s.x_is in omega arith) (let h = s.x_is in let h' = at'.low_x in omega arith) in
     let ys = common_meets k.y k.height l.y l.height (k.y + at.y) (omega arith) (let h = at.low_y in omega arith) (let h = s.y_is in omega arith) (let h = s.y_is in let h' = at'.low_y in omega arith) in
-    clash _ (and_both (i == i) (boxes_meet k l) (eq-eqb i i refl) (and_both _ _ (and_both _ _ (and_both _ _ (eq-eqb k.level l.level s.level) layers) xs) ys)) meet)
+    clash (and_from (i == i) (boxes_meet k l) (eq-eqb i i refl) (and_from _ _ (and_from _ _ (and_from _ _ (eq-eqb k.level l.level s.level) layers) xs) ys)) meet)
 
 -- a grid of byte writes to the texels of a box
 module _ (i : ℕ) (k : Box) (t : ℕ) (source : ℕ → ℕ → ℕ → ℕ → Source) where
@@ -151,7 +153,7 @@ copy_image_each s d (Some m) g = box_each d (destination_box g) (texel m.format)
 -- ---- clears
 
 plain_differ : (i level l : ℕ) (z y x k z' y' x' k' : ℕ) → Less z y x k z' y' x' k' → Differ (in_image i level (l + z) x y k) (in_image i level (l + z') x' y' k')
-plain_differ i level l z y x k z' y' x' k' less = refuted (same_byte (in_image i level (l + z) x y k) (in_image i level (l + z') x' y' k')) (λ e.
+plain_differ i level l z y x k z' y' x' k' less = false_from_ne_true (same_byte (in_image i level (l + z) x y k) (in_image i level (l + z') x' y' k')) (λ e.
     let s = image_same i level (l + z) x y k i level (l + z') x' y' k' e in
     no_less z y x k z' y' x' k' (let h = s.layer in omega arith) s.y_is s.x_is s.part less)
 
@@ -173,7 +175,7 @@ First p q = Differ p.0 q.0
 
 levels_apart : (i : ℕ) (r s : SubresourceRange) (a c : ℕ) (b d : Byte) → (a ≡ c → (l : ℕ) → r.first_layer ≤ l → l < r.first_layer + r.layers → s.first_layer ≤ l → l < s.first_layer + s.layers → ⊥)
     → InLevel i r a b → InLevel i s c d → Differ b d
-levels_apart i r s a c b d never at at' = refuted (same_byte b d) (λ e.
+levels_apart i r s a c b d never at at' = false_from_ne_true (same_byte b d) (λ e.
     let e' : same_byte (in_image i a (r.first_layer + at.z) at.x at.y at.part) (in_image i c (s.first_layer + at'.z) at'.x at'.y at'.part) ≡ true = rw (at.is, at'.is) at e in
     let h = image_same i a (r.first_layer + at.z) at.x at.y at.part i c (s.first_layer + at'.z) at'.x at'.y at'.part e' in
     let same = h.layer in let low = at.low_z in let low' = at'.low_z in
@@ -217,7 +219,7 @@ ranges_apart i r s b c meet at at' =
     let h : r.first_level + at.step ≡ s.first_level + at'.step = same in
     let levels = common_meets r.first_level r.levels s.first_level s.levels (r.first_level + at.step) (omega arith) (omega arith) (omega arith) (omega arith) in
     let layers = common_meets r.first_layer r.layers s.first_layer s.layers l a1 a2 b1 b2 in
-    clash _ (and_both (i == i) (subresources_meet r s) (eq-eqb i i refl) (and_both _ _ levels layers)) meet)
+    clash (and_from (i == i) (subresources_meet r s) (eq-eqb i i refl) (and_from _ _ levels layers)) meet)
     at.inside at'.inside
 
 clear_apart : (i : ℕ) (color : List ℕ) (o : Option ImageInfo) (rs : List SubresourceRange) → some_pair areas_meet (map (Subresources i) rs) ≡ false → Pairs Apart (flat_map (clear_writes i color o) rs)
@@ -241,8 +243,8 @@ steps given size e = go (given == 0) refl e
 
 is_long : (g : BufferImageCopy) → is_short g ≡ false → IsLong g
 is_long g e = record {
-  rows = steps g.row_length g.width (or_left _ _ e);
-  layers = steps g.image_height g.height (or_right (not (g.row_length == 0) && nat_lt g.row_length g.width) _ e);
+  rows = steps g.row_length g.width (or_parts _ _ e).0;
+  layers = steps g.image_height g.height (or_parts (not (g.row_length == 0) && nat_lt g.row_length g.width) _ e).1;
 }
 
 -- a byte of a region in the buffer
@@ -300,7 +302,7 @@ module _ (t : ℕ) (g : BufferImageCopy) (z y x part : ℕ) (low_z : z < g.layer
       rw row_begins (omega arith)
 
 rows_apart : (b t : ℕ) (g h : BufferImageCopy) (m n : Byte) → areas_meet (Rows b t g) (Rows b t h) ≡ false → InRegion b t g m → InRegion b t h n → Differ m n
-rows_apart b t g h m n meet at at' = refuted (same_byte m n) (λ e.
+rows_apart b t g h m n meet at at' = false_from_ne_true (same_byte m n) (λ e.
     let e' : same_byte (in_buffer b (buffer_texel g t at.z at.y at.x at.part)) (in_buffer b (buffer_texel h t at'.z at'.y at'.x at'.part)) ≡ true = rw (at.is, at'.is) at e in
     let same = (buffer_same b (buffer_texel g t at.z at.y at.x at.part) b (buffer_texel h t at'.z at'.y at'.x at'.part) e').1 in
     let r : ℕ = row_of t g at.z at.y at.x at.part at.low_z at.low_y at.low_x at.low_part in
@@ -314,7 +316,7 @@ rows_apart b t g h m n meet at at' = refuted (same_byte m n) (λ e.
     let u = high_in_row t g at.z at.y at.x at.part at.low_z at.low_y at.low_x at.low_part in
     let l' = low_in_row t h at'.z at'.y at'.x at'.part at'.low_z at'.low_y at'.low_x at'.low_part in
     let u' = high_in_row t h at'.z at'.y at'.x at'.part at'.low_z at'.low_y at'.low_x at'.low_part in
-    clash _ (common_meets (row_start t g r) (g.width * t) (row_start t h s) (h.width * t) (buffer_texel g t at.z at.y at.x at.part) l u (rw same l') (rw same u')) at_s)
+    clash (common_meets (row_start t g r) (g.width * t) (row_start t h s) (h.width * t) (buffer_texel g t at.z at.y at.x at.part) l u (rw same l') (rw same u')) at_s)
   where
     off_diagonal : (a c : Bool) → a ≡ true → (a && c) ≡ false → c ≡ false
     off_diagonal true c e f = f
@@ -342,7 +344,7 @@ no_parts past i b gs long none = go (image past i) refl none
 
 each_long : (gs : List BufferImageCopy) → list_any is_short gs ≡ false → Each IsLong gs
 each_long [] e = tt
-each_long (g ∷ gs) e = (is_long g (or_left (is_short g) (list_any is_short gs) e), each_long gs (or_right (is_short g) (list_any is_short gs) e))
+each_long (g ∷ gs) e = (is_long g (or_parts (is_short g) (list_any is_short gs) e).0, each_long gs (or_parts (is_short g) (list_any is_short gs) e).1)
 
 pub writes_apart : (past : Past) (c : Cmd) → some_pair areas_meet (areas_written past c) ≡ false → list_any is_short (regions_of c) ≡ false → Pairs Apart (byte_writes past c)
 writes_apart past (cmd.Fill b o n w) none short = fill_apart b o (fill_size (buffer_size past b) o n) w
@@ -361,11 +363,11 @@ writes_apart past (cmd.Await v ms) none short = tt
 -- no byte of one list of byte writes is one of the other's
 shares_none : (xs ys : List ByteWrite) → Each (λ m. Each (Apart m) ys) xs → share (targets xs) (targets ys) ≡ false
 shares_none [] ys e = refl
-shares_none (m ∷ xs) ys e = or_none (is_in m.to (targets ys)) (share (targets xs) (targets ys)) (in_none m ys e.0) (shares_none xs ys e.1)
+shares_none (m ∷ xs) ys e = or_from (is_in m.to (targets ys)) (share (targets xs) (targets ys)) (in_none m ys e.0) (shares_none xs ys e.1)
   where
     in_none : (m : ByteWrite) (ys : List ByteWrite) → Each (Apart m) ys → is_in m.to (targets ys) ≡ false
     in_none m [] e = refl
-    in_none m (n ∷ ys) e = or_none (same_byte m.to n.to) (is_in m.to (targets ys)) e.0 (in_none m ys e.1)
+    in_none m (n ∷ ys) e = or_from (same_byte m.to n.to) (is_in m.to (targets ys)) e.0 (in_none m ys e.1)
 
 split_each : {A : Type 0} (P : A → Type 0) (xs ys : List A) → Each P (xs ++ ys) → Each P xs × Each P ys
 split_each P [] ys e = (tt, e)
@@ -386,12 +388,12 @@ overlap_false : (past : Past) (p : Point) (c : Cmd) → p.action ≡ Run c → b
 unfolding breaks
 overlap_false past p c is e =
     let whole : command_overlaps past c ≡ false = rw is at e in
-    or_left _ (list_any (λ w. list_any (areas_meet w) (areas_read past c)) (areas_written past c)) (or_left _ (some_pair transitions_meet (elements_of c)) whole)
+    (or_parts _ (list_any (λ w. list_any (areas_meet w) (areas_read past c)) (areas_written past c)) (or_parts _ (some_pair transitions_meet (elements_of c)) whole).0).0
 
 range_false : (past : Past) (p : Point) (c : Cmd) → p.action ≡ Run c → breaks rule.Range past p ≡ false → list_any is_short (regions_of c) ≡ false
 unfolding breaks
 range_false past p c is e =
-    let whole : command_past past c ≡ false = rw is at e in or_right _ (list_any is_short (regions_of c)) whole
+    let whole : command_past past c ≡ false = rw is at e in (or_parts _ (list_any is_short (regions_of c)) whole).1
 
 pub write_apart : (past : Past) (p : Point) (c : Cmd) → p.action ≡ Run c → breaks rule.Overlap past p ≡ false → breaks rule.Range past p ≡ false → some_pair write_common (pieces past c) ≡ false
 write_apart past p c is overlap range =
