@@ -1,8 +1,8 @@
 -- No task of an act reads or writes what another task of it writes.
-use Rattle.std.proofs.Common.{◌≡◌, ℕ, zero, suc, ◌+◌, ◌<◌, ◌≤◌, List, [], ◌∷◌, Bool, true, IsTrue, Option, Some, None, ap, sym, ◌∙◌, subst, arith, slice_get}
+use Rattle.std.proofs.Common.{◌≡◌, ℕ, zero, suc, ◌+◌, ◌<◌, List, [], ◌∷◌, Bool, IsTrue, Option, Some, None, ap, sym, ◌∙◌, subst, arith, slice_get}
 use Rattle.std.specs.Prelude.{Contains}
 use Rattle.std.specs.List.{list_any, enumerate_from}
-use Rattle.std.proofs.lemmas.Bool.{eq-eqb, lt-ltb, or_left, or_right, and_from}
+use Rattle.std.proofs.lemmas.Bool.{eq-eqb, or_left, or_right, and_from}
 use Rattle.vk_model.specs.declared.command.Cmd.{Cmd}
 use Rattle.vk_model.specs.declared.command.Cmd.TheVariants as cmd
 use Rattle.vk_model.specs.declared.command.BufferCopy.{BufferCopy}
@@ -10,41 +10,23 @@ use Rattle.vk_model.specs.declared.command.BufferImageCopy.{BufferImageCopy}
 use Rattle.vk_model.specs.declared.command.ImageCopy.{ImageCopy}
 use Rattle.vk_model.specs.declared.command.SubresourceRange.{SubresourceRange}
 use Rattle.vk_model.specs.declared.resource.ImageInfo.{ImageInfo}
-use Rattle.vk_model.specs.Basics.{some_pair, below, grid}
+use Rattle.vk_model.specs.Basics.{some_pair, below}
 use Rattle.vk_model.specs.World.Bytes.{Byte, in_buffer, in_image}
 use Rattle.vk_model.specs.Trace.Point.{Past}
 use Rattle.vk_model.specs.Trace.Objects.{image}
 use Rattle.vk_model.specs.Trace.Image.{texel}
 use Rattle.vk_model.specs.World.ByteWrites.{Value, From, ByteWrite, byte_write, byte_writes, copy_writes, copy_in_writes, copy_out_writes, copy_image_writes, clear_writes, clear_write, subresource_bytes, image_texel, buffer_texel}
-use Rattle.vk_model.specs.Memory.Suballocation.{ranges_meet}
 use Rattle.vk_model.specs.World.Areas.{Area, Bytes, Texels, areas_meet, source_box, destination_box, areas_read, areas_written}
 use Rattle.vk_model.specs.Sync.Access.{origin}
 use Rattle.vk_model.specs.Rules.Ranges.{command_overlaps}
-use Rattle.vk_laws.proofs.Members.{member_passes, none_in, mapped_from, flat_from, range_from, place_has, map_has}
+use Rattle.vk_model.proofs.Lists.Members.{member_passes, none_in, mapped_from, flat_from, range_from, place_has, map_has}
+use Rattle.vk_model.proofs.Lists.Grids.{At, grid_from}
+use Rattle.vk_model.proofs.World.BytePlaces.{common_meets}
 
--- ---- what grids are made of
+-- ---- members and pairs of a list
 
 below_from : (n k : ℕ) → Contains (below n) k → k < n
 below_from n k c = let r = range_from 0 n k c in let high = r.1 in omega arith
-
--- an item of a grid, by its place
-pub record InGrid {A : Type 0} (f : ℕ → ℕ → ℕ → ℕ → A) (a b c d : ℕ) (item : A) : Type 0 where
-  pub z : ℕ
-  pub y : ℕ
-  pub x : ℕ
-  pub k : ℕ
-  pub low_z : z < a
-  pub low_y : y < b
-  pub low_x : x < c
-  pub is : f z y x k ≡ item
-
-pub grid_from : {A : Type 0} (f : ℕ → ℕ → ℕ → ℕ → A) (a b c d : ℕ) (item : A) → Contains (grid a b c d f) item → InGrid f a b c d item
-grid_from f a b c d item h =
-    let z = flat_from _ (below a) item h in
-    let y = flat_from _ (below b) item z.2 in
-    let x = flat_from _ (below c) item y.2 in
-    let k = mapped_from _ (below d) item x.2 in
-    record { z = z.0; y = y.0; x = x.0; k = k.0; low_z = below_from a z.0 z.1; low_y = below_from b y.0 y.1; low_x = below_from c x.0 x.1; is = k.2 }
 
 pub pair_of : {X : Type 0} (test : X → X → Bool) (xs : List X) (k l : ℕ) (x y : X) → slice_get xs k ≡ Some x → slice_get xs l ≡ Some y → k < l → IsTrue (test x y) → IsTrue (some_pair test xs)
 pair_of test [] k l x y e f lt h = absurd cc
@@ -55,10 +37,6 @@ pair_of test (z ∷ xs) (suc k) zero x y e f lt h = absurd (omega arith)
 pair_of test (z ∷ xs) (suc k) (suc l) x y e f lt h = or_right _ _ (pair_of test xs k l x y e f (omega arith) h)
 
 -- ---- a command that doesn't overlap reads nothing that it writes
-
-common_meets : (a n b m v : ℕ) → a ≤ v → v < a + n → b ≤ v → v < b + m → ranges_meet a n b m ≡ true
-common_meets a n b m v la ha lb hb =
-    and_from _ _ (and_from _ _ (and_from _ _ (lt-ltb 0 n (omega arith)) (lt-ltb 0 m (omega arith))) (lt-ltb a (b + m) (omega arith))) (lt-ltb b (a + n) (omega arith))
 
 module _ (past : Past) where
   overlapping : (c : Cmd) (w r : Area) → Contains (areas_written past c) w → Contains (areas_read past c) r → IsTrue (areas_meet w r) → IsTrue (command_overlaps past c)
@@ -87,7 +65,7 @@ module _ (past : Past) where
       (and_from _ _ (eq-eqb d s same) (common_meets g.0.destination_offset g.0.size h.0.source_offset h.0.size (g.0.destination_offset + k.0) (omega arith) (omega arith) (omega arith) (omega arith)))
 
   -- the regions of an image copy
-  image_write : (s d : ℕ) (o : Option ImageInfo) (g : ImageCopy) (m : ByteWrite) → Contains (copy_image_writes s d o g) m → (t : ℕ) × InGrid (λ z y x k. byte_write (in_image d g.destination_level (g.destination_first_layer + z) (g.destination_x + x) (g.destination_y + y) k)
+  image_write : (s d : ℕ) (o : Option ImageInfo) (g : ImageCopy) (m : ByteWrite) → Contains (copy_image_writes s d o g) m → (t : ℕ) × At (λ z y x k. byte_write (in_image d g.destination_level (g.destination_first_layer + z) (g.destination_x + x) (g.destination_y + y) k)
       (From (in_image s g.source_level (g.source_first_layer + z) (g.source_x + x) (g.source_y + y) k))) g.layers g.height g.width t m
   image_write s d None g m c = absurd (none_in m c)
   image_write s d (Some i) g m c = (texel i.format, grid_from _ g.layers g.height g.width (texel i.format) m c)
@@ -98,8 +76,8 @@ module _ (past : Past) where
       let h = flat_from (copy_image_writes s d (image past d)) gs r.0 r.1 in
       let at = (image_write s d (image past d) g.0 w.0 g.2).1 in
       let from = (image_write s d (image past d) h.0 r.0 h.2).1 in
-      let to : in_image d g.0.destination_level (g.0.destination_first_layer + at.z) (g.0.destination_x + at.x) (g.0.destination_y + at.y) at.k ≡ b = ap (λ (m : ByteWrite). m.to) at.is ∙ w.2 in
-      let take : Some (in_image s h.0.source_level (h.0.source_first_layer + from.z) (h.0.source_x + from.x) (h.0.source_y + from.y) from.k) ≡ Some b = ap (λ (m : ByteWrite). origin m.source) from.is ∙ r.2 in
+      let to : in_image d g.0.destination_level (g.0.destination_first_layer + at.z) (g.0.destination_x + at.x) (g.0.destination_y + at.y) at.k ≡ b = ap (λ (m : ByteWrite). m.to) (sym at.is) ∙ w.2 in
+      let take : Some (in_image s h.0.source_level (h.0.source_first_layer + from.z) (h.0.source_x + from.x) (h.0.source_y + from.y) from.k) ≡ Some b = ap (λ (m : ByteWrite). origin m.source) (sym from.is) ∙ r.2 in
       let same : d ≡ s = cc in
       let level : g.0.destination_level ≡ h.0.source_level = cc in
       let layer : g.0.destination_first_layer + at.z ≡ h.0.source_first_layer + from.z = cc in
@@ -119,7 +97,7 @@ module _ (past : Past) where
 
   in_clear : (b i : ℕ) (o : Option ImageInfo) (g : BufferImageCopy) (m : ByteWrite) → Contains (copy_in_writes b i o g) m → WritesIn b i g m
   in_clear b i None g m c = absurd (none_in m c)
-  in_clear b i (Some n) g m c = let at = grid_from _ g.layers g.height g.width (texel n.format) m c in (at.z, at.y, at.x, at.k, texel n.format, at.is)
+  in_clear b i (Some n) g m c = let at = grid_from _ g.layers g.height g.width (texel n.format) m c in (at.z, at.y, at.x, at.k, texel n.format, sym at.is)
 
   in_apart : (b i : ℕ) (g h : BufferImageCopy) (m n : ByteWrite) (c : Byte) → WritesIn b i g m → WritesIn b i h n → m.to ≡ c → origin n.source ≡ Some c → ⊥
   in_apart b i g h m n c at of to from =
@@ -131,7 +109,7 @@ module _ (past : Past) where
 
   out_clear : (i b : ℕ) (o : Option ImageInfo) (g : BufferImageCopy) (m : ByteWrite) → Contains (copy_out_writes i b o g) m → WritesOut i b g m
   out_clear i b None g m c = absurd (none_in m c)
-  out_clear i b (Some n) g m c = let at = grid_from _ g.layers g.height g.width (texel n.format) m c in (at.z, at.y, at.x, at.k, texel n.format, at.is)
+  out_clear i b (Some n) g m c = let at = grid_from _ g.layers g.height g.width (texel n.format) m c in (at.z, at.y, at.x, at.k, texel n.format, sym at.is)
 
   out_apart : (i b : ℕ) (g h : BufferImageCopy) (m n : ByteWrite) (c : Byte) → WritesOut i b g m → WritesOut i b h n → m.to ≡ c → origin n.source ≡ Some c → ⊥
   out_apart i b g h m n c at of to from =

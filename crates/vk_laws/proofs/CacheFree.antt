@@ -1,6 +1,6 @@
 -- A trace without a fault has no hazard between its caches.
 use Rattle.std.proofs.Common.{◌≡◌, ◌⊎◌, inl, inr, ℕ, ◌<◌, ◌≤◌, length, List, [], ◌∷◌, ◌++◌, Bool, true, false, ◌&&◌, not, IsTrue, Some, None, refl, ap, sym, ◌∙◌, subst, arith}
-use Rattle.std.specs.Prelude.{Contains, nat_lt, if◌then◌else◌}
+use Rattle.std.specs.Prelude.{Contains, if◌then◌else◌}
 use Rattle.std.proofs.lemmas.List.{append_assoc}
 use Rattle.vk_model.specs.declared.entry.Entry.{Entry}
 use Rattle.vk_model.specs.World.Bytes.{Byte, resource_at}
@@ -16,7 +16,7 @@ use Rattle.vk_model.specs.Laws.{BeforeIsPath, BeforeIsTransitive, GrowthKeeps, P
 use Rattle.vk_laws.specs.Machine.{Task, Writes, Reads}
 use Rattle.vk_laws.specs.Caches.{CacheFree, Seen, Available}
 use Rattle.vk_laws.specs.Trace.{accesses, NoHazardLaw, SeenIsBefore, HostInOrder, CommandsStay}
-use Rattle.vk_laws.specs.Tasks.{task_count, node_at, accesses_of}
+use Rattle.vk_laws.specs.Tasks.{node_at, accesses_of}
 use Rattle.vk_laws.specs.TraceCaches.{caching_of}
 use Rattle.vk_laws.proofs.Steady.{IsNew, made_step, new_ids, live_ids, IsLive, comes_within}
 use Rattle.vk_laws.proofs.Points.{AtPoint, at_point, comes_at, at_point_below}
@@ -28,6 +28,7 @@ use Rattle.vk_laws.proofs.Named.{written_made}
 use Rattle.vk_laws.proofs.TaskAccesses.{writer, reader, is_in_of}
 use Rattle.vk_laws.proofs.Ordered.{judged_has, read_is_seen, write_is_seen}
 use Rattle.vk_laws.proofs.TraceCaches.{agent_is, seen_task, available_task, available_later}
+use Rattle.vk_laws.proofs.TaskNodes.{has_task}
 
 -- whether the host caches what a node writes is the same at any later point
 module _ (all newer low : Past) (whole : all ≡ newer ++ low) (new : IsNew all) (alive : IsLive all) (x : Node) (cx : Contains (nodes low) x) (ax : IsTrue (accesses x.act)) (b : Byte) (judged : Past) (h : Contains (writes judged x) b) where
@@ -104,9 +105,6 @@ module _ (together : PiecesAreByteWrites) (paths : BeforeIsPath) (joins : Before
   abbrev all : Past
   all = plain_order t
 
-  has_task : (u : Task) (n : Node) → node_at all u.node ≡ Some n → IsTrue (nat_lt u.index (task_count all n.act)) → IsTrue ((accesses_of all).has u)
-  has_task u n e h = rw e h
-
   -- two tasks of the host have one agent
   pub same_agent : (w u : Task) (x y : Node) → node_at all w.node ≡ Some x → node_at all u.node ≡ Some y → is_host x.act ≡ true → is_host y.act ≡ true → (caching_of all).agent w ≡ (caching_of all).agent u
   same_agent w u x y e f h k =
@@ -128,7 +126,7 @@ module _ (together : PiecesAreByteWrites) (paths : BeforeIsPath) (joins : Before
       let s : AtPoint all y.node = at_point all y.node y.present in
       let is_seen = read_is_seen stay hazards visibilities hosts keeps t none x.node y.node x.present y.present later x.is_access y.is_access c h (is_in_of together all c _ x.accessed) y.accessed in
       let has_x = judged_has stay hazards visibilities hosts keeps t none x.node y.node x.present y.present later x.is_access y.is_access c h in
-      inr (seen_task paths joins all w u x.node y.node x.at y.at (has_task w x.node x.at x.there) x.present y.present x.is_access y.is_access (λ b. is_cached (s.at ∷ s.past) (resource_at b)) c
+      inr (seen_task paths joins all w u x.node y.node x.at y.at (has_task all w x.node x.at x.there) x.present y.present x.is_access y.is_access (λ b. is_cached (s.at ∷ s.past) (resource_at b)) c
       (λ n cn le.
       same_cached all s.newer (s.at ∷ s.past) s.whole (new_ids t sound) (live_ids t sound) x.node has_x x.is_access c all x.accessed
       ∙ sym (cached_then all (new_ids t sound) (live_ids t sound) x.node x.present x.is_access c all x.accessed n cn le))
@@ -146,7 +144,7 @@ module _ (together : PiecesAreByteWrites) (paths : BeforeIsPath) (joins : Before
       let s : AtPoint all y.node = at_point all y.node y.present in
       let is_seen = write_is_seen stay hazards visibilities hosts keeps t none x.node y.node x.present y.present later x.is_access y.is_access c h (is_in_of together all c _ x.accessed) y.accessed in
       let has_x = judged_has stay hazards visibilities hosts keeps t none x.node y.node x.present y.present later x.is_access y.is_access c h in
-      inr (available_task paths joins all w u x.node y.node x.at y.at (has_task w x.node x.at x.there) x.present y.present x.is_access y.is_access (λ b. is_cached (s.at ∷ s.past) (resource_at b)) c
+      inr (available_task paths joins all w u x.node y.node x.at y.at (has_task all w x.node x.at x.there) x.present y.present x.is_access y.is_access (λ b. is_cached (s.at ∷ s.past) (resource_at b)) c
       (λ n cn le.
       same_cached all s.newer (s.at ∷ s.past) s.whole (new_ids t sound) (live_ids t sound) x.node has_x x.is_access c all x.accessed
       ∙ sym (cached_then all (new_ids t sound) (live_ids t sound) x.node x.present x.is_access c all x.accessed n cn le)) is_seen))

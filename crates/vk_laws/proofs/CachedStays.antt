@@ -12,8 +12,8 @@ use Rattle.vk_model.specs.Trace.Point.{Past, Action, Host, Wait, Run, Signal, ho
 use Rattle.vk_model.specs.Trace.Objects.{made_by, made, live, Resource, resource_in, pool_in, memory_in, type_at, is_cached}
 use Rattle.vk_model.specs.Rules.Ids.{is_dead, asked_by, asked_by_entry, asked_by_place, is_pool, is_memory, judged_in, until}
 use Rattle.vk_model.specs.Rules.Fault.{newest, older}
-use Rattle.vk_laws.proofs.Members.{contains-head, member_passes}
-use Rattle.vk_laws.proofs.Truths.{unless}
+use Rattle.vk_model.proofs.Lists.Members.{contains-head, member_passes}
+use Rattle.vk_model.proofs.Lists.Truths.{unless}
 use Rattle.vk_laws.proofs.Steady.{IsNew, made_step, made_up, live_made, IsLive}
 
 -- the pool or memory object of a resource was made

@@ -23,11 +23,11 @@ use Rattle.vk_laws.specs.Growth.{IsDue, IsEager}
 use Rattle.vk_laws.specs.Trace.{accesses}
 use Rattle.vk_laws.specs.Tasks.{task_count, node_at, by_act, accesses_of}
 use Rattle.vk_laws.specs.DefinedRuns.{is_event, piece_task, entry_task, with_step, done_by, act_happened, has_happened, MayCome, Offers, Enters, Matches, IsOver}
-use Rattle.vk_laws.proofs.TaskNodes.{node_of, same_task}
+use Rattle.vk_laws.proofs.TaskNodes.{node_of, same_task, has_task}
 use Rattle.vk_laws.proofs.Steady.{new_ids, live_ids}
-use Rattle.vk_laws.proofs.Members.{some_member, none_in, mapped_from, flat_from, range_from, map_has, numbers_have, all_passes, filtered, filter_has, each_of, flat_has, member_passes, contains-tail, contains-cons}
-use Rattle.vk_laws.proofs.Truths.{implied, clash, six}
-use Rattle.vk_laws.proofs.NoHazard.{number_below, numbered, edge_before, host_in_order, unique}
+use Rattle.vk_model.proofs.Lists.Members.{some_member, none_in, mapped_from, flat_from, range_from, map_has, numbers_have, all_passes, filtered, filter_has, each_of, flat_has, member_passes, contains-tail, contains-cons}
+use Rattle.vk_model.proofs.Lists.Truths.{implied, contradicted, six, first_of_six}
+use Rattle.vk_laws.proofs.NoHazard.{edge_before, host_in_order}
 use Rattle.vk_laws.proofs.TraceCaches.{node_at_self, submit_host, never_holds}
 use Rattle.vk_laws.proofs.Fresh.{closed}
 use Rattle.vk_laws.proofs.Growth.{may_run}
@@ -35,6 +35,8 @@ use Rattle.vk_laws.proofs.PlainOrder.{Grows, old_or_newer}
 use Rattle.vk_laws.proofs.Prefixes.{is_old, old_has, same_before, same_pieces}
 use Rattle.vk_laws.proofs.Eager.{transitive, due_done, is_eager}
 use Rattle.vk_laws.proofs.Stages.{Placed, start_placed, later, low, next_placed, entry_node, entry_present, entries_then, submitted, whole_past, wait_past}
+use Rattle.vk_model.proofs.Sync.Numbers.{number_below, numbered, unique}
+use Rattle.vk_model.proofs.Sync.Paths.{target}
 
 -- ---- names
 
@@ -89,14 +91,6 @@ edge_to_entry ns m n x act plain h =
         let none : waited_by n.act ≡ [] = ap waited_by act ∙ waits_none x plain in
         never_holds (signaled_by m.act) (rw none at g)
 
-first_of : (a b c d e f : Bool) → IsTrue a → IsTrue (a || b || c || d || e || f)
-first_of true b c d e f h = refl
-first_of false b c d e f h = absurd cc
-
-ends : (ns : List Node) (m n : Node) → Path ns m n → Contains ns n
-ends ns m n (direct c d e) = d
-ends ns m n (longer p d e) = d
-
 -- ---- a trace and its tasks
 
 module _ (paths : BeforeIsPath) (joins : BeforeIsTransitive) (leads : BeforeLeadsOn) (keeps : GrowthKeeps) (orders : OrdersAgree) (t : List Entry) (sound : IsSound t) where
@@ -130,9 +124,6 @@ module _ (paths : BeforeIsPath) (joins : BeforeIsTransitive) (leads : BeforeLead
       go : (o : Option Node) → node_at all v.node ≡ o → IsTrue (by_act false (λ a. nat_lt v.index (task_count all a)) o) → holds o (λ n. not (accesses n.act)) ≡ false → Kind v
       go None at there plain = absurd cc
       go (Some n) at there plain = by_kind n at n.act refl there plain
-
-  has_task : (v : Task) (n : Node) → node_at all v.node ≡ Some n → IsTrue (nat_lt v.index (task_count all n.act)) → IsTrue (tr.has v)
-  has_task v n at h = subst (λ (o : Option Node). IsTrue (by_act false (λ a. nat_lt v.index (task_count all a)) o)) (sym at) h
 
   plain_is : (v : Task) (n : Node) → node_at all v.node ≡ Some n → (a : Act) → n.act ≡ a → not (accesses a) ≡ false → is_event all v ≡ false
   plain_is v n at a act e = ap (λ (o : Option Node). holds o (λ n. not (accesses n.act))) at ∙ ap (λ (a : Act). not (accesses a)) act ∙ e
@@ -292,11 +283,11 @@ module _ (paths : BeforeIsPath) (joins : BeforeIsTransitive) (leads : BeforeLead
         let at = offered_at x o in
         let count : length (pieces all o.command) ≡ length (pieces s.front.past o.command) = ap (λ (ps : List (List ByteWrite)). length ps) (pieces_same _ s.front.past grows o.node o.command o.present o.act) in
         let within = o.index in
-        let there : IsTrue (tr.has (piece_task x)) = has_task (piece_task x) o.node at
+        let there : IsTrue (tr.has (piece_task x)) = has_task all (piece_task x) o.node at
         (subst (λ (a : Act). IsTrue (nat_lt x.1 (task_count all a))) (sym o.act) (lt-ltb x.1 (length (pieces all o.command)) (omega (arith, count, within)))) in
         let small = number_below (nodes s.front.past) (numbered s.front.past) o.node o.present in
         may_run tr (is_event all) i.tasks (piece_task x) (transitive paths joins leads all) i.eager there
-        (λ h. clash (is_done s.done x) (turned (happened_is s (piece_task x) o.node at (Runs o.command) o.act) ((i.happened (piece_task x) there (plain_is (piece_task x) o.node at (Runs o.command) o.act refl)).0 h)) o.fresh)
+        (λ h. contradicted (is_done s.done x) (turned (happened_is s (piece_task x) o.node at (Runs o.command) o.act) ((i.happened (piece_task x) there (plain_is (piece_task x) o.node at (Runs o.command) o.act refl)).0 h)) o.fresh)
         (due (piece_task x) o.node at (omega (arith, small)) (free_in _ s.front.past grows o.node o.present o.free))
 
     -- ---- the entry that comes next
@@ -321,7 +312,7 @@ module _ (paths : BeforeIsPath) (joins : BeforeIsTransitive) (leads : BeforeLead
       here_at = node_at_self paths joins all here here_in_all
 
       here_there : IsTrue (tr.has (entry_task s))
-      here_there = has_task (entry_task s) here here_at refl
+      here_there = has_task all (entry_task s) here here_at refl
 
       -- a piece before it by a host entry was done before that one
       by_path : is_host_wait x ≡ false → (v : Task) (m : Node) (c : Cmd) → IsTrue (tr.has v) → node_at all v.node ≡ Some m → m.act ≡ Runs c → v.index < length (pieces all c) → IsTrue (before (nodes all) m here) → IsIn v i.tasks
@@ -329,7 +320,7 @@ module _ (paths : BeforeIsPath) (joins : BeforeIsTransitive) (leads : BeforeLead
         where
           through : (m k n : Node) → Contains (nodes all) m → node_at all v.node ≡ Some m → n ≡ here → Path (nodes all) m k → Contains (nodes all) n → IsTrue (edge (nodes all) k n) → IsIn v i.tasks
           through m k n cm at same p cn e =
-              let ck = ends (nodes all) m k p in
+              let ck = target (nodes all) m k p in
               let host = edge_to_entry (nodes all) k n x (ap (λ (n : Node). n.act) same) plain e in
               let less = leads (nodes all) k n ((paths all k n ck cn).1 (direct ck cn e)) in
               let size : n.number ≡ length (nodes s.front.past) = ap (λ (n : Node). n.number) same in
@@ -341,7 +332,7 @@ module _ (paths : BeforeIsPath) (joins : BeforeIsTransitive) (leads : BeforeLead
               by_host_act k ck old first (Hosts y) act h =
                   let u : Task = record { node = k.number; index = 0 } in
                   let at_k = node_at_self paths joins all k ck in
-                  let there_k = has_task u k at_k (subst (λ (a : Act). IsTrue (nat_lt 0 (task_count all a))) (sym act) refl) in
+                  let there_k = has_task all u k at_k (subst (λ (a : Act). IsTrue (nat_lt 0 (task_count all a))) (sym act) refl) in
                   closed tr i.tasks i.allowed u v (entry_in u k y there_k at_k act old) (there, turned (sym (before_is v u m k at at_k)) first)
               by_host_act k ck old first (Runs z) act h = absurd cc
               by_host_act k ck old first (Waits z) act h = absurd cc
@@ -473,7 +464,7 @@ module _ (paths : BeforeIsPath) (joins : BeforeIsTransitive) (leads : BeforeLead
             let v : Task = piece_task (m.number, j.0) in
             let at = node_at_self paths joins all m (node_in_all P past g m cm) in
             let count : length (pieces all c) ≡ length (pieces past c) = ap (λ (ps : List (List ByteWrite)). length ps) (pieces_same P past g m c cm act) in
-            let there : IsTrue (tr.has v) = has_task v m at (subst (λ (a : Act). IsTrue (nat_lt j.0 (task_count all a))) (sym act) (lt-ltb j.0 (length (pieces all c)) (omega (arith, within, count)))) in
+            let there : IsTrue (tr.has v) = has_task all v m at (subst (λ (a : Act). IsTrue (nat_lt j.0 (task_count all a))) (sym act) (lt-ltb j.0 (length (pieces all c)) (omega (arith, within, count)))) in
             let present = may.after v (there, turned (sym (before_is v u m n at at_u)) (turned (sym (before_same P past g m n cn)) b)) in
             let ran : IsTrue (is_done s.done (m.number, j.0)) = turned (happened_is s v m at (Runs c) act) ((i.happened v there (plain_is v m at (Runs c) act refl)).0 present) in
             subst (λ (z : Name). IsTrue (is_done s.done z)) j.2 ran)
@@ -497,7 +488,7 @@ module _ (paths : BeforeIsPath) (joins : BeforeIsTransitive) (leads : BeforeLead
     unfolding edge
     submit_first m n cm cn is same lt =
         edge_before paths all m n cm cn (and_from (nat_lt m.number n.number) _ (lt-ltb m.number n.number lt)
-        (first_of (by_host m n) (by_stages m n) (by_signal m n) (by_all_commands m n) (pairs m.act n.act) (by_semaphore (earlier n (nodes all)) m n)
+        (first_of_six (by_host m n) (by_stages m n) (by_signal m n) (by_all_commands m n) (pairs m.act n.act) (by_semaphore (earlier n (nodes all)) m n)
         (or_right (is_host m.act && is_host n.act) (is_submit m.act && m.point.entry == n.point.entry) (and_from (is_submit m.act) (m.point.entry == n.point.entry) is (eq-eqb m.point.entry n.point.entry same)))))
 
     piece_comes : (u : Task) (n : Node) (c : Cmd) → node_at all u.node ≡ Some n → n.act ≡ Runs c → u.index < length (pieces all c) → MayRun tr i.tasks u → MayCome s u
@@ -516,7 +507,7 @@ module _ (paths : BeforeIsPath) (joins : BeforeIsTransitive) (leads : BeforeLead
         by_submit m cm is b same (Hosts x) act is_it =
             let v : Task = record { node = m.number; index = 0 } in
             let at_v = node_at_self paths joins all m cm in
-            let there = has_task v m at_v (subst (λ (a : Act). IsTrue (nat_lt 0 (task_count all a))) (sym act) refl) in
+            let there = has_task all v m at_v (subst (λ (a : Act). IsTrue (nat_lt 0 (task_count all a))) (sym act) refl) in
             let was = host_was v m x there at_v act (may.after v (there, turned (sym (before_is v u m n at_v at)) b)) in
             omega (arith, was, same)
         by_submit m cm is b same (Runs x) act is_it = absurd cc

@@ -24,7 +24,7 @@ use Rattle.vk_laws.specs.Tasks.{task_write, task_read, task_count, node_at, by_a
 use Rattle.vk_laws.specs.TraceBytes.{before_node, value_before}
 use Rattle.vk_laws.specs.TraceCaches.{caching_of}
 use Rattle.vk_laws.specs.Discards.{entry_forgets, forgets, or_unknown, with_discards}
-use Rattle.vk_laws.proofs.TaskNodes.{node_of, same_task}
+use Rattle.vk_laws.proofs.TaskNodes.{node_of, same_task, has_task}
 use Rattle.vk_laws.proofs.Steady.{new_ids, live_ids}
 use Rattle.vk_laws.proofs.Points.{AtPoint, at_point}
 use Rattle.vk_laws.proofs.TaskAccesses.{Accessor, writer, reader, is_in_of}
@@ -228,9 +228,6 @@ module _ (t : List Entry) (given : Given t) where
 
   -- ---- the caches
 
-  there : (u : Task) (n : Node) → node_at all u.node ≡ Some n → IsTrue (nat_lt u.index (task_count all n.act)) → IsTrue ((accesses_of all).has u)
-  there u n e h = rw e h
-
   agents : (s u : Task) (m n : Node) → node_at all s.node ≡ Some m → node_at all u.node ≡ Some n → IsTrue (is_host m.act) → IsTrue (is_host n.act) → (caching_of all).agent s ≡ (caching_of all).agent u
   agents s u m n e f h g = same_agent given.pieces_together given.paths given.joins given.stay given.hazards given.visibilities given.hosts given.keeps t given.sound given.none s u m n e f h g
 
@@ -294,7 +291,7 @@ module _ (t : List Entry) (given : Given t) where
           let same = same_cached all sk.newer (sk.at ∷ sk.past) sk.whole (new_ids t given.sound) (live_ids t given.sound) x.node has_x x.is_access c all x.accessed in
           let then_same = λ (n : Node) (cn : Contains (nodes all) n) (le : x.node.number ≤ n.number). same ∙ sym (cached_then all (new_ids t given.sound) (live_ids t given.sound) x.node x.present x.is_access c all x.accessed n cn le) in
           let at_k = node_at_self given.paths given.joins all k ck in
-          let av = available_task given.paths given.joins all s (record { node = k.number; index = 0 }) x.node k x.at at_k (there s x.node x.at x.there) x.present ck x.is_access refl (λ b. is_cached (sk.at ∷ sk.past) (resource_at b)) c then_same is_seen in
+          let av = available_task given.paths given.joins all s (record { node = k.number; index = 0 }) x.node k x.at at_k (has_task all s x.node x.at x.there) x.present ck x.is_access refl (λ b. is_cached (sk.at ∷ sk.past) (resource_at b)) c then_same is_seen in
           record {
             p = av.p;
             available = av.available;

@@ -14,10 +14,10 @@ use Rattle.vk_laws.specs.Trace.{accesses}
 use Rattle.vk_laws.specs.Tasks.{task_count, node_at, by_act, accesses_of}
 use Rattle.vk_laws.specs.DefinedRuns.{is_event}
 use Rattle.vk_laws.proofs.TaskNodes.{node_of, same_task}
-use Rattle.vk_laws.proofs.Truths.{implies, not_both}
-use Rattle.vk_laws.proofs.Prefixes.{there_below, leads_on}
+use Rattle.vk_model.proofs.Lists.Truths.{implies, clash}
+use Rattle.vk_laws.proofs.Prefixes.{there_below, tasks_lead_on}
 use Rattle.vk_laws.proofs.Runs.{is_done, may_run, may_run_holds, in_order, found_in, in_found}
-use Rattle.vk_laws.proofs.Members.{each_of}
+use Rattle.vk_model.proofs.Lists.Members.{each_of}
 
 module _ (paths : BeforeIsPath) (joins : BeforeIsTransitive) (leads : BeforeLeadsOn) (all : Past) where
   abbrev tr : TraceAccesses
@@ -79,7 +79,7 @@ module _ (paths : BeforeIsPath) (joins : BeforeIsTransitive) (leads : BeforeLead
     where
       go : (s : Task) → Precedes tr s u → (b : Bool) → is_event all s ≡ b → IsIn s g.tasks
       go s p false e = due s e p
-      go s p true e = g.eager s e p.0 (let lt = leads_on all s.node u.node p.1 in omega (arith, lt, at)) (λ r piece q. due r piece (q.0, transitive r.node s.node u.node q.1 p.1))
+      go s p true e = g.eager s e p.0 (let lt = tasks_lead_on all s.node u.node p.1 in omega (arith, lt, at)) (λ r piece q. due r piece (q.0, transitive r.node s.node u.node q.1 p.1))
 
   with_event : (k : ℕ) (done : List Task) (g : Grown k done) (b : Bool) → (is_event all (event k) && may_run leads all size g.tasks (event k)) ≡ b → Grown (suc k) done
   with_event k done g true test = record {
@@ -95,7 +95,7 @@ module _ (paths : BeforeIsPath) (joins : BeforeIsTransitive) (leads : BeforeLead
   }
     where
       older : (u : Task) → is_event all u ≡ false → IsIn u (event k ∷ g.tasks) → IsIn u g.tasks
-      older u plain (inl e) = absurd (not_both (is_event all (event k)) (and_parts _ _ test).0 (subst (λ (t : Task). is_event all t ≡ false) e plain))
+      older u plain (inl e) = absurd (clash {b = is_event all (event k)} (and_parts _ _ test).0 (subst (λ (t : Task). is_event all t ≡ false) e plain))
       older u plain (inr h) = h
   with_event k done g false test = record {
     tasks = g.tasks;
@@ -112,10 +112,10 @@ module _ (paths : BeforeIsPath) (joins : BeforeIsTransitive) (leads : BeforeLead
       here : (u : Task) → is_event all u ≡ true → IsTrue (tr.has u) → u.node ≡ k → IsDue tr (is_event all) g.tasks u → (b : Bool) → is_done leads all u g.tasks ≡ b → IsIn u g.tasks
       here u e there at due true found = found_in leads all u g.tasks found
       here u e there at due false found =
-          let may = due_event k done g u at there due (λ h. not_both (is_done leads all u g.tasks) (in_found leads all u g.tasks h) found) in
+          let may = due_event k done g u at there due (λ h. clash {b = is_done leads all u g.tasks} (in_found leads all u g.tasks h) found) in
           let same : u ≡ event k = same_task u (event k) at (event_part u e there) in
           let passes = subst (λ (t : Task). IsTrue (is_event all t && may_run leads all size g.tasks t)) same (and_from _ _ e (may_run_test g.tasks u may)) in
-          absurd (not_both _ passes test)
+          absurd (clash passes test)
 
   grown : (k : ℕ) (done : List Task) → IsAllowed tr done → Grown k done
   grown zero done ok = record {

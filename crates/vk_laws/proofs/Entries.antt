@@ -1,5 +1,5 @@
 -- Each point of a trace is of an entry of it.
-use Rattle.std.proofs.Common.{◌≡◌, ⊎_elim, ℕ, zero, suc, ◌+◌, List, [], ◌∷◌, ◌++◌, length, Some, refl, ap, ◌∙◌, subst, arith, slice_get, sym}
+use Rattle.std.proofs.Common.{◌≡◌, ℕ, zero, suc, ◌+◌, List, [], ◌∷◌, ◌++◌, length, Some, refl, ap, ◌∙◌, subst, arith, slice_get, sym}
 use Rattle.std.specs.Prelude.{Contains}
 use Rattle.std.specs.List.{fold}
 use Rattle.std.proofs.lemmas.List.{append_assoc, length-append, append-nil}
@@ -8,8 +8,8 @@ use Rattle.vk_model.specs.declared.entry.Entry.{Entry}
 use Rattle.vk_model.specs.declared.entry.Entry.TheVariants as entry
 use Rattle.vk_model.specs.Trace.Point.{Past, Point, Action, Host, Wait, Run, Signal}
 use Rattle.vk_model.specs.Trace.Order.{host, started, batches_of, plain_from, plain_order}
-use Rattle.vk_laws.proofs.PlainOrder.{Each, Grows, Allows, stays, one_more, grows_on, batches_grow}
-use Rattle.vk_laws.proofs.Members.{contains-cons, none_in}
+use Rattle.vk_laws.proofs.PlainOrder.{Grows, Allows, stays, one_more, grows_on, batches_grow}
+use Rattle.vk_model.proofs.Lists.Pairs.{each_has}
 
 -- a host entry is its entry; what a batch does belongs to a submit to its queue
 abbrev pub OfAction : List Entry → Point → Action → Type 0
@@ -20,10 +20,6 @@ OfAction t p (Signal s) = (bs : List Batch) × (slice_get t p.entry ≡ Some (en
 
 abbrev pub OfEntry : List Entry → Point → Type 0
 OfEntry t p = OfAction t p p.action
-
-each_of : (P : Point → Type 0) (past : Past) (p : Point) → Each P past → Contains past p → P p
-each_of P [] p e c = absurd (none_in p c)
-each_of P (q ∷ past) p e c = ⊎_elim (λ same. subst P same e.0) (λ later. each_of P past p e.1 later) (contains-cons q past p c)
 
 module _ (t : List Entry) where
   submitted : (e q : ℕ) (bs : List Batch) → slice_get t e ≡ Some (entry.Submit q bs) → Allows (OfEntry t) e q
@@ -52,4 +48,4 @@ module _ (t : List Entry) where
   pub point_of : (p : Point) → Contains (plain_order t) p → OfEntry t p
   point_of p c =
       let g = plain_of 0 [] [] t refl refl in
-      each_of (OfEntry t) g.newer p g.each (subst (λ (l : Past). Contains l p) (g.whole ∙ append-nil g.newer) c)
+      each_has (OfEntry t) g.newer p g.each (subst (λ (l : Past). Contains l p) (g.whole ∙ append-nil g.newer) c)

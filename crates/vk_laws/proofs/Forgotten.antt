@@ -24,11 +24,10 @@ use Rattle.vk_model.specs.Laws.{BeforeIsPath, BeforeIsTransitive, GrowthKeeps, P
 use Rattle.vk_laws.specs.Trace.{accesses, AccessesInOrder, NoHazardLaw, SeenIsBefore, HostInOrder, CommandsStay}
 use Rattle.vk_laws.specs.Discards.{entry_forgets}
 use Rattle.vk_laws.specs.TraceBytes.{before_node}
-use Rattle.vk_laws.proofs.TraceCaches.{before_number}
 use Rattle.vk_laws.proofs.Prefixes.{old_has, is_old}
-use Rattle.vk_laws.proofs.Members.{contains-head, member_passes, some_member}
-use Rattle.vk_laws.proofs.Truths.{not_both}
-use Rattle.vk_laws.proofs.NoHazard.{number_below, unique, numbered, edge_before, reaches_join, or_before, before_reaches}
+use Rattle.vk_model.proofs.Lists.Members.{contains-head, member_passes, some_member}
+use Rattle.vk_model.proofs.Lists.Truths.{clash}
+use Rattle.vk_laws.proofs.NoHazard.{edge_before, reaches_join, or_before, before_reaches}
 use Rattle.vk_laws.proofs.Steady.{new_ids, live_ids}
 use Rattle.vk_laws.proofs.Points.{AtPoint, at_point, comes_at}
 use Rattle.vk_laws.proofs.TaskAccesses.{host_writes_it, is_in_of}
@@ -36,6 +35,8 @@ use Rattle.vk_laws.proofs.Ordered.{judged_has, read_is_seen, write_is_seen}
 use Rattle.vk_laws.proofs.ModelBytes.{host_action, more_nodes, alone, at_node}
 use Rattle.vk_laws.proofs.CacheFree.{same_cached, cached_then}
 use Rattle.vk_laws.proofs.Dirty.{DirtiedBy, dirtied_by}
+use Rattle.vk_model.proofs.Sync.Numbers.{number_below, unique, numbered}
+use Rattle.vk_model.proofs.Sync.Paths.{leads_on}
 
 -- ---- entries that flush and forget
 
@@ -204,7 +205,7 @@ module _ (t : List Entry) (given : Given t) where
         let one_more : length (nodes (dirtied.at ∷ dirtied.low)) ≡ suc (length (nodes dirtied.low)) = ap (λ (d : Action). length (with_acts dirtied.at (acts d) (nodes dirtied.low))) dirtied.action in
         let no = dirtied.unflushed sg.past sg.at inside (omega (arith, one_more, g0, after)) u.0 u.1 u.2 d u.4 in
         let yes = at_any (sg.newer ++ sg.at ∷ []) sg.past (split g sg) (is_old given.keeps all (sg.newer ++ sg.at ∷ []) sg.past (split g sg) w w_all (omega (arith, g0, after))) ∙ kept in
-        not_both (is_cached sg.past (resource_at c)) yes (ap (is_cached sg.past) (reached_buffer u.0 u.1 u.2 c u.4) ∙ no)
+        clash {b = is_cached sg.past (resource_at c)} yes (ap (is_cached sg.past) (reached_buffer u.0 u.1 u.2 c u.4) ∙ no)
 
     -- ---- a command's accesses of the byte
 
@@ -241,7 +242,7 @@ module _ (t : List Entry) (given : Given t) where
       seen_after k h lt =
           let lt' : w.number < a.number = let e = w_earlier in omega (arith, e, lt) in
           let f = by_flush lt' k h in
-          let later = before_number (nodes all) w f.flush f.later in
+          let later = leads_on (nodes all) w f.flush f.later in
           ⊎_elim
           (λ less. absurd (unflushed f.flush f.present f.reaches_it later less))
           (λ le. ⊎_elim
@@ -267,8 +268,8 @@ module _ (t : List Entry) (given : Given t) where
           (λ same. absurd (no_command (unique (nodes all) (numbered all) w a w_all ca same)))
           (λ more.
           let f = by_flush more k h in
-          let later = before_number (nodes all) w f.flush f.later in
-          let earlier = before_number (nodes all) f.flush a f.earlier in
+          let later = leads_on (nodes all) w f.flush f.later in
+          let earlier = leads_on (nodes all) f.flush a f.earlier in
           absurd (unflushed f.flush f.present f.reaches_it later (omega (arith, earlier, lt))))
           (eq-or-lt_of_le le))
           (cases_lt a.number w.number)

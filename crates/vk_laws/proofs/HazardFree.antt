@@ -23,7 +23,7 @@ use Rattle.vk_laws.specs.Machine.{Task, Put, Puts, Reads, HazardFree}
 use Rattle.vk_laws.specs.Trace.{AccessesInOrder}
 use Rattle.vk_laws.specs.Tasks.{piece_writes, host_value, task_write, task_read, node_at, by_act, accesses_of}
 use Rattle.vk_laws.proofs.TaskNodes.{node_of, same_task}
-use Rattle.vk_laws.proofs.Members.{member_passes, found, map_has, chosen_has, chosen_from}
+use Rattle.vk_model.proofs.Lists.Members.{member_passes, found, map_has, chosen_has, chosen_from}
 use Rattle.vk_laws.proofs.Steady.{kept_writes, kept_pieces, new_ids, live_ids}
 use Rattle.vk_laws.proofs.Points.{AtPoint, at_point, action_of, comes_at}
 use Rattle.vk_laws.proofs.TaskAccesses.{byte_same, piece_write, is_there, is_in_of, ordered}

@@ -1,5 +1,3 @@
-pub mod Truths
-pub mod Members
 pub mod TaskNodes
 pub mod Coherent
 pub mod Fresh

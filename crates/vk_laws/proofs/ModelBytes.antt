@@ -36,11 +36,11 @@ use Rattle.vk_laws.specs.Tasks.{piece_writes, host_value, task_write, task_read,
 use Rattle.vk_laws.specs.TraceBytes.{before_node, value_before}
 use Rattle.vk_laws.proofs.TaskNodes.{node_of}
 use Rattle.vk_laws.proofs.Fresh.{none_unless}
-use Rattle.vk_laws.proofs.Members.{member_passes, mapped_from, only_one}
-use Rattle.vk_laws.proofs.NoHazard.{numbered}
+use Rattle.vk_model.proofs.Lists.Members.{member_passes, mapped_from, only_one}
 use Rattle.vk_laws.proofs.TaskAccesses.{is_there}
 use Rattle.vk_laws.proofs.Points.{AtPoint, at_point, comes_at, at_point_below}
 use Rattle.vk_laws.proofs.HazardFree.{read_act, write_act, value_after, host_put, same_byte_writes, run_once, place, action}
+use Rattle.vk_model.proofs.Sync.Numbers.{numbered}
 
 -- ---- what a byte is after a step it was before, or it's undefined
 

@@ -21,13 +21,13 @@ use Rattle.vk_model.specs.Rules.Ids.{asked_by, asked_by_command, asked_by_entry,
 use Rattle.vk_model.specs.Trace.Point.{Past, Point, Action, host_of}
 use Rattle.vk_model.specs.Sync.Node.{Node, Act, Hosts, Waits, Signals, Runs, Depends, acts}
 use Rattle.vk_laws.specs.Trace.{accesses}
-use Rattle.vk_laws.proofs.Members.{contains-head, contains-tail, member_passes, none_in, mapped_from, flat_from}
-use Rattle.vk_laws.proofs.Truths.{unless}
+use Rattle.vk_model.proofs.Lists.Members.{contains-head, contains-tail, member_passes, none_in, mapped_from, flat_from}
+use Rattle.vk_model.proofs.Lists.Truths.{unless}
 use Rattle.vk_laws.proofs.Steady.{IsNew, live_made, made_until, comes_here, comes_later, IsLive}
-use Rattle.vk_laws.proofs.Apart.{grid_from}
 use Rattle.vk_laws.proofs.Points.{AtPoint, action_of}
 use Rattle.vk_laws.proofs.ModelBytes.{host_action}
 use Rattle.vk_model.specs.Rules.Fault.{Comes, older}
+use Rattle.vk_model.proofs.Lists.Grids.{grid_from}
 
 abbrev Names : List (ℕ × (Entry → Bool)) → Byte → Type 0
 Names asked c = (k : Entry → Bool) × Contains asked (resource_at c, k)
@@ -37,7 +37,7 @@ abbrev Fills : ℕ → List ByteWrite → Type 0
 Fills r ms = (m : ByteWrite) → Contains ms m → resource_at m.to ≡ r
 
 level_fills : (i : ℕ) (n : ImageInfo) (r : SubresourceRange) (l : ℕ) (q : Byte × ℕ) → Contains (level_bytes i n r l) q → resource_at q.0 ≡ i
-level_fills i n r l q c = ap (λ (q : Byte × ℕ). resource_at q.0) (sym (grid_from (λ z y x b. (in_image i l (r.first_layer + z) x y b, b)) r.layers (level_height n l) (level_width n l) (texel n.format) q c).is)
+level_fills i n r l q c = ap (λ (q : Byte × ℕ). resource_at q.0) (grid_from (λ z y x b. (in_image i l (r.first_layer + z) x y b, b)) r.layers (level_height n l) (level_width n l) (texel n.format) q c).is
 
 clear_fills : (i : ℕ) (color : List ℕ) (o : Option ImageInfo) (r : SubresourceRange) → Fills i (clear_writes i color o r)
 clear_fills i color None r m c = absurd (none_in m c)
@@ -48,15 +48,15 @@ clear_fills i color (Some n) r m c =
 
 in_fills : (b i : ℕ) (o : Option ImageInfo) (g : BufferImageCopy) → Fills i (copy_in_writes b i o g)
 in_fills b i None g m c = absurd (none_in m c)
-in_fills b i (Some n) g m c = ap (λ (m : ByteWrite). resource_at m.to) (sym (grid_from _ g.layers g.height g.width (texel n.format) m c).is)
+in_fills b i (Some n) g m c = ap (λ (m : ByteWrite). resource_at m.to) (grid_from _ g.layers g.height g.width (texel n.format) m c).is
 
 out_fills : (i b : ℕ) (o : Option ImageInfo) (g : BufferImageCopy) → Fills b (copy_out_writes i b o g)
 out_fills i b None g m c = absurd (none_in m c)
-out_fills i b (Some n) g m c = ap (λ (m : ByteWrite). resource_at m.to) (sym (grid_from _ g.layers g.height g.width (texel n.format) m c).is)
+out_fills i b (Some n) g m c = ap (λ (m : ByteWrite). resource_at m.to) (grid_from _ g.layers g.height g.width (texel n.format) m c).is
 
 image_fills : (s d : ℕ) (o : Option ImageInfo) (g : ImageCopy) → Fills d (copy_image_writes s d o g)
 image_fills s d None g m c = absurd (none_in m c)
-image_fills s d (Some n) g m c = ap (λ (m : ByteWrite). resource_at m.to) (sym (grid_from _ g.layers g.height g.width (texel n.format) m c).is)
+image_fills s d (Some n) g m c = ap (λ (m : ByteWrite). resource_at m.to) (grid_from _ g.layers g.height g.width (texel n.format) m c).is
 
 all_fill : {G : Type 0} (r : ℕ) (f : G → List ByteWrite) (gs : List G) → ((g : G) → Fills r (f g)) → Fills r (flat_map f gs)
 all_fill r f gs each m c = let g = flat_from f gs m c in each g.0 m g.2

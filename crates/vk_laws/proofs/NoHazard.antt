@@ -7,9 +7,9 @@ use Rattle.std.proofs.lemmas.List.Sorted.{list_any-IsPermutation, IsPermutation-
 use Rattle.vk_model.specs.World.Bytes.{Byte, resource_at}
 use Rattle.vk_model.specs.Trace.Objects.{is_cached}
 use Rattle.vk_model.specs.Trace.Point.{Past, Point}
-use Rattle.vk_model.specs.Sync.Node.{Node, Act, Hosts, Waits, Signals, Runs, Depends, nodes, acts, with_acts, next_nodes, same_node}
+use Rattle.vk_model.specs.Sync.Node.{Node, Act, Hosts, Waits, Signals, Runs, Depends, nodes, next_nodes, same_node}
 use Rattle.vk_model.specs.Sync.Edge.{edge, is_host}
-use Rattle.vk_model.specs.Sync.Before.{before, direct, IsNumbered}
+use Rattle.vk_model.specs.Sync.Before.{before, direct}
 use Rattle.vk_model.specs.Sync.Seen.{Access, Read, Write, seen, available_by, visible_by}
 use Rattle.vk_model.specs.Sync.Access.{reads, writes, is_in, share, precedes, war, raw, waw, hazard}
 use Rattle.vk_model.specs.Rules.Fault.{Comes, newest, older}
@@ -17,35 +17,9 @@ use Rattle.vk_model.specs.Laws.{BeforeIsPath, BeforeIsTransitive, GrowthKeeps, K
 use Rattle.vk_model.specs.declared.entry.Entry.{Entry}
 use Rattle.vk_model.specs.Trace.Order.{plain_order}
 use Rattle.vk_laws.specs.Trace.{HasNoHazard}
-use Rattle.vk_laws.proofs.Members.{contains-cons, member_passes, some_member, any_filter, none_in}
-use Rattle.vk_laws.proofs.Truths.{unless}
-
--- ---- nodes by their numbers
-
-pub number_below : (ns : List Node) → IsNumbered ns → (m : Node) → Contains ns m → m.number < length ns
-number_below [] numbers m c = absurd (none_in m c)
-number_below (n ∷ ns) numbers m c = elim (contains-cons n ns m c) [
-  | inl same ↦ let here : m.number ≡ length ns = ap (λ (k : Node). k.number) (sym same) ∙ numbers.0 in omega arith
-  | inr later ↦ let lt = number_below ns numbers.1 m later in omega arith
-]
-
-numbered_acts : (p : Point) (more : List Act) (ns : List Node) → IsNumbered ns → IsNumbered (with_acts p more ns)
-numbered_acts p [] ns numbers = numbers
-numbered_acts p (a ∷ more) ns numbers = numbered_acts p more (record { number = length ns; point = p; act = a } ∷ ns) (refl, numbers)
-
-pub numbered : (past : Past) → IsNumbered (nodes past)
-numbered [] = tt
-numbered (p ∷ past) = numbered_acts p (acts p.action) (nodes past) (numbered past)
-
-pub unique : (ns : List Node) → IsNumbered ns → (m n : Node) → Contains ns m → Contains ns n → m.number ≡ n.number → m ≡ n
-unique [] numbers m n c d same = absurd (none_in m c)
-unique (k ∷ ns) numbers m n c d same = go (contains-cons k ns m c) (contains-cons k ns n d) (unique ns numbers.1 m n)
-  where
-    go : (k ≡ m) ⊎ Contains ns m → (k ≡ n) ⊎ Contains ns n → (Contains ns m → Contains ns n → m.number ≡ n.number → m ≡ n) → m ≡ n
-    go (inl a) (inl b) next = sym a ∙ b
-    go (inl a) (inr b) next = let lt = number_below ns numbers.1 n b in let here : m.number ≡ length ns = ap (λ (x : Node). x.number) (sym a) ∙ numbers.0 in absurd (omega arith)
-    go (inr a) (inl b) next = let lt = number_below ns numbers.1 m a in let here : n.number ≡ length ns = ap (λ (x : Node). x.number) (sym b) ∙ numbers.0 in absurd (omega arith)
-    go (inr a) (inr b) next = next a b same
+use Rattle.vk_model.proofs.Lists.Members.{member_passes, some_member, any_filter}
+use Rattle.vk_model.proofs.Lists.Truths.{unless}
+use Rattle.vk_model.proofs.Sync.Numbers.{numbered, unique}
 
 -- ---- orders
 

@@ -1,6 +1,6 @@
 -- The plain order grows at its front, by points of the entries that come.
 use Rattle.std.proofs.Common.{◌≡◌, ◌⊎◌, inl, inr, ⊎_elim, ℕ, ◌+◌, ◌<◌, ◌≤◌, List, [], ◌∷◌, ◌++◌, length, None, refl, ap, sym, ◌∙◌, subst, arith}
-use Rattle.std.specs.Prelude.{⊤, Contains}
+use Rattle.std.specs.Prelude.{Contains}
 use Rattle.std.specs.List.{fold}
 use Rattle.std.proofs.lemmas.List.{append_assoc}
 use Rattle.vk_model.specs.declared.entry.Batch.{Batch}
@@ -11,20 +11,9 @@ use Rattle.vk_model.specs.Trace.Order.{SubmittedBatch, host, actions, started, s
 use Rattle.vk_model.specs.Sync.Node.{Node, nodes, acts}
 use Rattle.vk_laws.proofs.Points.{in_acts}
 use Rattle.vk_laws.proofs.ModelBytes.{more_nodes}
+use Rattle.vk_model.proofs.Lists.Pairs.{Each, each_append, each_map}
 
 -- ---- a past that grows by points that pass
-
-abbrev pub Each : (Point → Type 0) → List Point → Type 0
-Each P [] = ⊤
-Each P (p ∷ ps) = P p × Each P ps
-
-each_join : (P : Point → Type 0) (ps qs : List Point) → Each P ps → Each P qs → Each P (ps ++ qs)
-each_join P [] qs h k = k
-each_join P (p ∷ ps) qs h k = (h.0, each_join P ps qs h.1 k)
-
-each_too : (P Q : Point → Type 0) → ((p : Point) → P p → Q p) → (ps : List Point) → Each P ps → Each Q ps
-each_too P Q f [] h = tt
-each_too P Q f (p ∷ ps) h = (f p h.0, each_too P Q f ps h.1)
 
 pub record Grows (P : Point → Type 0) (past all : Past) : Type 0 where
   pub newer : List Point
@@ -41,11 +30,11 @@ pub grows_on : (P : Point → Type 0) (past middle all : Past) → Grows P past 
 grows_on P past middle all g h = record {
   newer = h.newer ++ g.newer;
   whole = h.whole ∙ ap (λ (l : Past). h.newer ++ l) g.whole ∙ sym (append_assoc h.newer g.newer past);
-  each = each_join P h.newer g.newer h.each g.each;
+  each = each_append P h.newer g.newer h.each g.each;
 }
 
 pub grows_too : (P Q : Point → Type 0) → ((p : Point) → P p → Q p) → (past all : Past) → Grows P past all → Grows Q past all
-grows_too P Q f past all g = record { newer = g.newer; whole = g.whole; each = each_too P Q f g.newer g.each }
+grows_too P Q f past all g = record { newer = g.newer; whole = g.whole; each = each_map P Q g.newer f g.each }
 
 -- ---- the points of batches
 
@@ -92,13 +81,6 @@ plain_grows e past (x ∷ xs) =
     (grows_on _ here next _
     (batches_grow (Within e (length (x ∷ xs))) past e x (λ q bs is b k d quiet. (omega arith, omega arith)) here)
     (grows_too _ _ (λ p h. let le = h.0 in let lt = h.1 in (omega (arith, le), omega (arith, lt))) next _ (plain_grows (e + 1) next xs)))
-
-pub plain_splits : (e : ℕ) (past : Past) (xs ys : List Entry) → plain_from e past (xs ++ ys) ≡ plain_from (e + length xs) (plain_from e past xs) ys
-plain_splits e past [] ys = ap (λ (k : ℕ). plain_from k past ys) (let same : e ≡ e + 0 = omega arith in same)
-plain_splits e past (x ∷ xs) ys =
-    let next : Past = fold (λ p t. started t p) (host e x ∷ past) (batches_of past e x) in
-    plain_splits (e + 1) next xs ys
-    ∙ ap (λ (k : ℕ). plain_from k (plain_from (e + 1) next xs) ys) (let same : (e + 1) + length xs ≡ e + length (x ∷ xs) = omega arith in same)
 
 -- ---- the nodes of points
 

@@ -8,10 +8,10 @@ use Rattle.vk_model.specs.declared.command.Cmd.TheVariants as cmd
 use Rattle.vk_model.specs.Trace.Point.{Past, Point, Action, Host, Wait, Run, Signal}
 use Rattle.vk_model.specs.Sync.Node.{Node, Act, Hosts, Waits, Signals, Runs, Depends, nodes, acts, with_acts, Barrier}
 use Rattle.vk_model.specs.Sync.Before.{IsNumbered}
-use Rattle.vk_laws.proofs.NoHazard.{number_below, numbered}
 use Rattle.vk_laws.proofs.Steady.{comes_here}
-use Rattle.vk_laws.proofs.Members.{contains-cons, contains-head, contains-tail, only_one, none_in}
+use Rattle.vk_model.proofs.Lists.Members.{contains-cons, contains-head, contains-tail, only_one, none_in}
 use Rattle.vk_model.specs.Rules.Fault.{Comes}
+use Rattle.vk_model.proofs.Sync.Numbers.{number_below, numbered}
 
 -- ---- the point of a node
 

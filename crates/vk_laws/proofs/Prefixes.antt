@@ -12,16 +12,16 @@ use Rattle.vk_model.specs.Rules.Fault.{Comes}
 use Rattle.vk_model.specs.Laws.{GrowthKeeps}
 use Rattle.vk_laws.specs.Tasks.{node_at, by_act, accesses_of}
 use Rattle.vk_laws.proofs.TaskNodes.{node_of}
-use Rattle.vk_laws.proofs.Members.{right_has}
-use Rattle.vk_laws.proofs.NoHazard.{number_below, numbered}
 use Rattle.vk_laws.proofs.Steady.{IsNew, kept_pieces, IsLive, comes_within}
 use Rattle.vk_laws.proofs.Points.{AtPoint, at_point, action_of, older_node}
-use Rattle.vk_laws.proofs.TraceCaches.{before_number}
+use Rattle.vk_model.proofs.Sync.Numbers.{number_below, numbered}
+use Rattle.vk_model.proofs.Sync.Paths.{leads_on}
+use Rattle.std.proofs.lemmas.List.Elements.{Contains-append_right}
 
 pub has_more : GrowthKeeps → (newer past : Past) (n : Node) → Contains (nodes past) n → Contains (nodes (newer ++ past)) n
 has_more keeps newer past n c =
     let kept = keeps past newer in
-    subst (λ (l : List Node). Contains l n) (sym kept.added.1) (right_has kept.added.0 (nodes past) n c)
+    subst (λ (l : List Node). Contains l n) (sym kept.added.1) (Contains-append_right kept.added.0 (nodes past) n c)
 
 module _ (all : Past) where
   -- the task's node is below the count of nodes
@@ -32,14 +32,14 @@ module _ (all : Past) where
       go None e h = absurd cc
       go (Some n) e h = let at = node_of all k n e in let lt = number_below (nodes all) (numbered all) n at.0 in let same = at.1 in omega (arith, lt, same)
 
-  pub leads_on : (a b : ℕ) → IsTrue ((accesses_of all).before a b) → a < b
-  leads_on a b h = go (node_at all a) (node_at all b) refl refl h
+  pub tasks_lead_on : (a b : ℕ) → IsTrue ((accesses_of all).before a b) → a < b
+  tasks_lead_on a b h = go (node_at all a) (node_at all b) refl refl h
     where
       go : (o u : Option Node) → node_at all a ≡ o → node_at all b ≡ u → IsTrue (holds o (λ m. holds u (λ n. before (nodes all) m n))) → a < b
       go None u e f h = absurd cc
       go (Some m) None e f h = absurd cc
       go (Some m) (Some n) e f h =
-          let lt = before_number (nodes all) m n h in
+          let lt = leads_on (nodes all) m n h in
           let i = (node_of all a m e).1 in
           let j = (node_of all b n f).1 in omega (arith, lt, i, j)
 

@@ -16,9 +16,9 @@ use Rattle.vk_laws.specs.Tasks.{task_count, node_at, by_act, accesses_of}
 use Rattle.vk_laws.specs.Discards.{with_discards}
 use Rattle.vk_laws.specs.DefinedRuns.{stored, bytes_after}
 use Rattle.vk_laws.proofs.TaskNodes.{node_of, same_task}
-use Rattle.vk_laws.proofs.Members.{some_member}
-use Rattle.vk_laws.proofs.Truths.{implied, clash}
-use Rattle.vk_laws.proofs.NoHazard.{number_below, numbered}
+use Rattle.vk_model.proofs.Lists.Members.{some_member}
+use Rattle.vk_model.proofs.Lists.Truths.{implied, contradicted}
+use Rattle.vk_model.proofs.Sync.Numbers.{number_below, numbered}
 
 -- ---- caches that hold nothing
 
@@ -172,7 +172,7 @@ module _ (leads : BeforeLeadsOn) (all : Past) where
   pub may_run_holds : (size : ℕ) (done : List Task) (t : Task) → length (nodes all) ≤ size → IsTrue (may_run size done t) → MayRun tr done t
   may_run_holds size done t le h = record {
     there = (and_parts _ _ (and_parts _ _ h).0).0;
-    fresh = λ i. clash (is_done t done) (in_found t done i) (and_parts _ _ (and_parts _ _ h).0).1;
+    fresh = λ i. contradicted (is_done t done) (in_found t done i) (and_parts _ _ (and_parts _ _ h).0).1;
     after = λ s p. found_in s done (implied (tr.has s && tr.before s.node t.node) (is_done s done) (rw (p.0, p.1) refl)
         (each_in (λ s. not (tr.has s && tr.before s.node t.node) || is_done s done) (in_order size) s (and_parts _ _ h).1 (task_in size s p.0 (below_size s p.0))));
   }
@@ -218,7 +218,7 @@ module _ (leads : BeforeLeadsOn) (all : Past) where
             let g = and_parts _ _ s.2 in
             let p = and_parts _ _ g.0 in
             let earlier_node = earlier s.0 u p in
-            rest s.0 (omega (arith, earlier_node, lt)) p.0 (λ i. clash (is_done s.0 done) (in_found s.0 done i) g.1)
+            rest s.0 (omega (arith, earlier_node, lt)) p.0 (λ i. contradicted (is_done s.0 done) (in_found s.0 done i) g.1)
         go rest false e = (u, record { there = h; fresh = n; after = λ s p. found_in s done (free s p (none_holds u (in_order u.node) s e (task_in u.node s p.0 (earlier s u p)))) })
 
 -- ---- and where invalidations forget

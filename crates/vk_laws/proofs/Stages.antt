@@ -13,13 +13,15 @@ use Rattle.vk_model.specs.Rules.Table.{breaks}
 use Rattle.vk_model.specs.Rules.Fault.{IsSound}
 use Rattle.vk_model.specs.Laws.{GrowthKeeps, NeverAhead, OrdersAgree}
 use Rattle.vk_model.specs.Run.Runs.{Stage, start, applied, past_with, is_host_wait}
-use Rattle.vk_laws.proofs.Members.{contains-cons, contains-head, none_in}
+use Rattle.vk_model.proofs.Lists.Members.{contains-cons, contains-head, none_in}
 use Rattle.vk_laws.proofs.Steady.{comes_within}
 use Rattle.vk_laws.proofs.ModelBytes.{host_action}
-use Rattle.vk_laws.proofs.PlainOrder.{Each, Grows, grows_too, Within, OfBatch, batches_grow, plain_grows, plain_splits, old_or_newer}
+use Rattle.vk_laws.proofs.PlainOrder.{Grows, grows_too, Within, OfBatch, batches_grow, plain_grows, old_or_newer}
 use Rattle.vk_laws.proofs.Prefixes.{has_more}
 use Rattle.std.specs.List.{fold}
 use Rattle.std.proofs.lemmas.List.{append-nil}
+use Rattle.vk_model.proofs.Trace.PlainOrder.{plain_append}
+use Rattle.vk_model.proofs.Lists.Pairs.{Each}
 
 abbrev with_entry : ℕ → Past → Entry → Past
 with_entry e past x = fold (λ p t. started t p) (host e x ∷ past) (batches_of past e x)
@@ -87,7 +89,7 @@ module _ (orders : OrdersAgree) (keeps : GrowthKeeps) (t : List Entry) (sound : 
   rest_grows : (s : Stage) (p : Placed s) → Grows (Within (0 + length p.gone) (length s.left)) (plain_order p.gone) all
   rest_grows s p =
       let g = plain_grows (0 + length p.gone) (plain_order p.gone) s.left in
-      record { newer = g.newer; whole = ap plain_order p.split ∙ plain_splits 0 [] p.gone s.left ∙ g.whole; each = g.each }
+      record { newer = g.newer; whole = ap plain_order p.split ∙ plain_append 0 [] p.gone s.left ∙ g.whole; each = g.each }
 
   never : (s : Stage) (p : Placed s) → NeverAhead p.gone
   never s p b q c =
@@ -132,7 +134,7 @@ module _ (orders : OrdersAgree) (keeps : GrowthKeeps) (t : List Entry) (sound : 
         let g = batches_grow (OfBatch (0 + length p.gone)) (plain_order p.gone) (0 + length p.gone) x (λ q bs is b k d quiet. (refl, quiet)) (host (0 + length p.gone) x ∷ plain_order p.gone) in
         record {
           newer = g.newer;
-          whole = past_is (applied s x xs) next_placed ∙ plain_splits 0 [] p.gone (x ∷ []) ∙ g.whole
+          whole = past_is (applied s x xs) next_placed ∙ plain_append 0 [] p.gone (x ∷ []) ∙ g.whole
               ∙ ap (λ (k : ℕ). g.newer ++ host k x ∷ plain_order p.gone) p.count ∙ ap (λ (l : Past). g.newer ++ host s.count x ∷ l) (sym (past_is s p));
           each = subst (λ (k : ℕ). Each (OfBatch k) g.newer) p.count g.each;
         }
@@ -162,6 +164,6 @@ module _ (orders : OrdersAgree) (keeps : GrowthKeeps) (t : List Entry) (sound : 
   pub wait_past : (s : Stage) → Placed s → (x : Entry) (xs : List Entry) → s.left ≡ x ∷ xs → is_host_wait x ≡ true → past_with s x ≡ host s.count x ∷ s.front.past
   unfolding next_placed
   wait_past s p (entry.Wait ws) xs left waits =
-      past_is (applied s (entry.Wait ws) xs) (next_placed s p (entry.Wait ws) xs left) ∙ plain_splits 0 [] p.gone (entry.Wait ws ∷ [])
+      past_is (applied s (entry.Wait ws) xs) (next_placed s p (entry.Wait ws) xs left) ∙ plain_append 0 [] p.gone (entry.Wait ws ∷ [])
       ∙ ap (λ (k : ℕ). host k (entry.Wait ws) ∷ plain_order p.gone) p.count ∙ ap (λ (l : Past). host s.count (entry.Wait ws) ∷ l) (sym (past_is s p))
   wait_past s p _ xs left waits = absurd cc

@@ -14,7 +14,7 @@ use Rattle.vk_model.specs.World.ByteWrites.{Value, byte_write, byte_writes, fill
 use Rattle.vk_model.specs.Run.Pieces.{cut, row_bytes, clear_pieces, pieces}
 use Rattle.vk_model.specs.Rules.Ids.{breaks_new_id, breaks_live_id, is_dead, asked_by, asked_by_command, until}
 use Rattle.vk_model.specs.Rules.Fault.{Comes, newest, older, IsSound}
-use Rattle.vk_laws.proofs.Truths.{unless}
+use Rattle.vk_model.proofs.Lists.Truths.{unless}
 use Rattle.vk_model.specs.Trace.Order.{plain_order}
 use Rattle.vk_model.specs.Rules.Table.{breaks}
 use Rattle.vk_model.specs.declared.rule.Rule.TheVariants as rule

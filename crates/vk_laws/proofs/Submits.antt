@@ -11,13 +11,14 @@ use Rattle.vk_model.specs.Trace.Order.{plain_order}
 use Rattle.vk_model.specs.Sync.Node.{Node, Act, Hosts, Waits, Signals, Runs, Depends, nodes, acts}
 use Rattle.vk_model.specs.Sync.Edge.{is_submit}
 use Rattle.vk_laws.specs.TraceCaches.{submits_to}
-use Rattle.vk_laws.proofs.Members.{contains-head, right_has}
+use Rattle.vk_model.proofs.Lists.Members.{contains-head}
 use Rattle.vk_laws.proofs.Points.{AtPoint, at_point, action_of}
 use Rattle.vk_laws.proofs.ModelBytes.{host_action}
 use Rattle.vk_laws.proofs.Entries.{OfAction, point_of}
+use Rattle.std.proofs.lemmas.List.Elements.{Contains-append_right}
 
 in_past : (all : Past) (n : Node) (s : AtPoint all n) → Contains all s.at
-in_past all n s = subst (λ (l : Past). Contains l s.at) (sym s.whole) (right_has s.newer (s.at ∷ s.past) s.at (contains-head s.at s.past))
+in_past all n s = subst (λ (l : Past). Contains l s.at) (sym s.whole) (Contains-append_right s.newer (s.at ∷ s.past) s.at (contains-head s.at s.past))
 
 pub submits_there : (t : List Entry) (q y : Node) (c : Cmd) → Contains (nodes (plain_order t)) q → Contains (nodes (plain_order t)) y → IsTrue (is_submit q.act) → y.act ≡ Runs c → q.point.entry ≡ y.point.entry → IsTrue (submits_to q.act y.point.queue)
 submits_there t q y c cq cy submit is_y same = go q.act refl submit

@@ -22,7 +22,7 @@ use Rattle.vk_laws.specs.Machine.{Task, Put, Puts, Writes, Reads, Precedes, Conf
 use Rattle.vk_laws.specs.Trace.{accesses, AccessesInOrder}
 use Rattle.vk_laws.specs.Tasks.{piece_writes, host_value, task_write, task_read, task_count, node_at, by_act, accesses_of}
 use Rattle.vk_laws.proofs.TaskNodes.{node_of}
-use Rattle.vk_laws.proofs.Members.{member_passes, some_member, found, map_has, task_has, chosen_has, chosen_from, numbers_have, none_in}
+use Rattle.vk_model.proofs.Lists.Members.{member_passes, some_member, found, map_has, part_has, chosen_has, chosen_from, numbers_have, none_in}
 use Rattle.vk_laws.proofs.Fresh.{closed}
 
 -- ---- bytes
@@ -54,7 +54,7 @@ module _ (together : PiecesAreByteWrites) (all : Past) where
     where
       go : (o : Option (List ByteWrite)) → slice_get (pieces all x) k ≡ o → Contains (piece_writes o) m → Contains (byte_writes all x) m
       go None e c = absurd (none_in m c)
-      go (Some ms) e c = subst (λ (l : List ByteWrite). Contains l m) (together all x) (task_has (pieces all x) k ms m e c)
+      go (Some ms) e c = subst (λ (l : List ByteWrite). Contains l m) (together all x) (part_has (pieces all x) k ms m e c)
 
   run_writes : (x : Cmd) (k : ℕ) (c : Byte) (w : Put) → task_write all (Runs x) k c ≡ Some w → Contains (targets (byte_writes all x)) c
   run_writes x k c w e = go (find (λ m. same_byte m.to c) (piece_writes (slice_get (pieces all x) k))) refl e

@@ -2,7 +2,7 @@
 use Rattle.std.proofs.Common.{◌≡◌, ◌⊎◌, inl, inr, ⊎_elim, ℕ, suc, ◌<◌, ◌≤◌, List, [], ◌∷◌, length, Bool, true, false, cond, ◌&&◌, ◌||◌, not, IsTrue, Option, Some, None, refl, ap, sym, ◌∙◌, subst, arith}
 use Rattle.std.specs.Prelude.{Contains, ◌==◌, nat_lt, if◌then◌else◌}
 use Rattle.std.specs.List.{find}
-use Rattle.std.proofs.lemmas.Bool.{eqb-true, eq-eqb, ltb-true, or_left, or_right, and_parts, or_cases, and_from}
+use Rattle.std.proofs.lemmas.Bool.{eqb-true, eq-eqb, or_left, or_right, and_parts, or_cases, and_from}
 use Rattle.vk_model.specs.declared.entry.Entry.{Entry}
 use Rattle.vk_model.specs.declared.command.Cmd.{Cmd}
 use Rattle.vk_model.specs.Basics.{holds}
@@ -20,9 +20,11 @@ use Rattle.vk_laws.specs.Trace.{accesses}
 use Rattle.vk_laws.specs.Tasks.{node_at, task_count, accesses_of}
 use Rattle.vk_laws.specs.TraceCaches.{agent_of, submits_to, host_wrote, cached, sends_write, makes_visible_to_host, makes_visible_to, caching_of}
 use Rattle.vk_laws.proofs.TaskNodes.{node_of}
-use Rattle.vk_laws.proofs.Members.{contains-cons, member_passes, some_member, none_in}
-use Rattle.vk_laws.proofs.Truths.{not_both, six}
-use Rattle.vk_laws.proofs.NoHazard.{numbered, number_below, edge_before, Reaches, reaches_join, or_before, reaches_before, before_reaches}
+use Rattle.vk_model.proofs.Lists.Members.{contains-cons, member_passes, some_member, none_in}
+use Rattle.vk_model.proofs.Lists.Truths.{clash, six}
+use Rattle.vk_laws.proofs.NoHazard.{edge_before, Reaches, reaches_join, or_before, reaches_before, before_reaches}
+use Rattle.vk_model.proofs.Sync.Numbers.{numbered, number_below}
+use Rattle.vk_model.proofs.Sync.Paths.{leads_on}
 
 -- ---- kinds of events
 
@@ -122,15 +124,11 @@ edge_to_command ns q y c is h =
     (λ g. absurd (no_semaphore g))
   where
     from_host : IsTrue (is_host q.act && is_host y.act) ⊎ IsTrue (is_submit q.act && q.point.entry == y.point.entry) → (IsTrue (is_submit q.act) × (q.point.entry ≡ y.point.entry)) ⊎ OnQueue q y
-    from_host (inl g) = absurd (not_both (is_host y.act) (and_parts _ _ g).1 (ap is_host is))
+    from_host (inl g) = absurd (clash {b = is_host y.act} (and_parts _ _ g).1 (ap is_host is))
     from_host (inr g) = let k = and_parts _ _ g in inl (k.0, eqb-true q.point.entry y.point.entry k.1)
 
     no_semaphore : IsTrue (by_semaphore (earlier y ns) q y) → ⊥
     no_semaphore h = never_holds (signaled_by q.act) (rw is at h)
-
-pub before_number : (ns : List Node) (x y : Node) → IsTrue (before ns x y) → x.number < y.number
-unfolding before
-before_number ns x y h = ltb-true x.number y.number (and_parts _ _ h).0
 
 module _ (paths : BeforeIsPath) (joins : BeforeIsTransitive) (all : Past) where
   abbrev numbered_task : ℕ → Task
@@ -145,7 +143,7 @@ module _ (paths : BeforeIsPath) (joins : BeforeIsTransitive) (all : Past) where
       step : (k : Node) (ns : List Node) → (k.number ≡ length ns) → (k ≡ n) ⊎ (Contains ns n × (n.number < length ns)) → (Contains ns n → find (λ m. m.number == n.number) ns ≡ Some n) → (b : Bool) → (k.number == n.number) ≡ b
           → cond b (Some k) (find (λ m. m.number == n.number) ns) ≡ Some n
       step k ns size (inl e) rest true same = ap Some e
-      step k ns size (inl e) rest false same = let f = eq-eqb k.number n.number (ap (λ (m : Node). m.number) e) in absurd (not_both (k.number == n.number) f same)
+      step k ns size (inl e) rest false same = let f = eq-eqb k.number n.number (ap (λ (m : Node). m.number) e) in absurd (clash {b = k.number == n.number} f same)
       step k ns size (inr h) rest true same = let f = eqb-true k.number n.number same in let lt = h.1 in absurd (omega arith)
       step k ns size (inr h) rest false same = rest h.0
 
@@ -229,8 +227,8 @@ module _ (paths : BeforeIsPath) (joins : BeforeIsTransitive) (all : Past) where
         where
           by_host' : IsTrue (makes_writes_visible one (nodes all) (command_mask Read) b q q.act || is_wait q.act) ⊎ IsTrue (is_host x.act && is_submit q.act) → IsTrue (host_wrote all q b)
           by_host' (inl k) = ⊎_elim
-              (λ r. absurd (not_both (is_host q.act) (submit_host q.act g.0) (visible_queue one (cached all q.number) (nodes all) b (command_mask Read) q q.act r)))
-              (λ w. absurd (not_both (is_host q.act) (submit_host q.act g.0) (wait_queue q.act w)))
+              (λ r. absurd (clash {b = is_host q.act} (submit_host q.act g.0) (visible_queue one (cached all q.number) (nodes all) b (command_mask Read) q q.act r)))
+              (λ w. absurd (clash {b = is_host q.act} (submit_host q.act g.0) (wait_queue q.act w)))
               (or_cases _ _ k)
           by_host' (inr k) = ready (and_parts _ _ k).0
       by_edge (inr g) h = by_kind (or_cases _ _ h)
@@ -243,7 +241,7 @@ module _ (paths : BeforeIsPath) (joins : BeforeIsTransitive) (all : Past) where
               (λ r. let s = visible_same one (cached all q.number) (nodes all) b (command_mask Read) q q.act r in (at_queue (or_left _ _ s.0), s.1))
               (λ w. (at_queue (or_right _ _ w), wait_event q.act w))
               (or_cases _ _ k)
-          by_kind (inr k) = let s = submit_host q.act (and_parts _ _ k).1 in absurd (not_both (not (is_host q.act)) g.0 (ap not s))
+          by_kind (inr k) = let s = submit_host q.act (and_parts _ _ k).1 in absurd (clash {b = not (is_host q.act)} g.0 (ap not s))
 
   visible_to_host : (one : Byte → Bool) (x q y : Node) (e : Entry) (b : Byte) → ((n : Node) → Contains (nodes all) n → x.number ≤ n.number → one b ≡ cached all n.number b) → Contains (nodes all) x → IsTrue (before (nodes all) x q) → Contains (nodes all) q → y.act ≡ Hosts e → IsTrue (visible_by one (nodes all) x y (Hosts e) Read b q) → MadeVisible q y b
   visible_to_host one x q y e b same cx later cq is h =
@@ -256,7 +254,7 @@ module _ (paths : BeforeIsPath) (joins : BeforeIsTransitive) (all : Past) where
       to_agent f h = subst (λ (k : ℕ). IsTrue (makes_visible_to all f k b)) (sym (ap (λ (a : Act). if is_host a then 0 else suc y.point.queue) is)) h
 
       after : (n : Node) → IsTrue (before (nodes all) x n) → x.number ≤ n.number
-      after n b = let lt = before_number (nodes all) x n b in omega (arith, lt)
+      after n b = let lt = leads_on (nodes all) x n b in omega (arith, lt)
 
       further : (n : Node) → Contains (nodes all) n → IsTrue (before (nodes all) q n) → x.number ≤ n.number
       further n cn b = after n (joins all x q n cx cq cn later b)

@@ -23,13 +23,14 @@ use Rattle.vk_laws.specs.TraceBytes.{before_node}
 use Rattle.vk_laws.specs.Discards.{entry_forgets, forgets, or_unknown, with_discards}
 use Rattle.vk_laws.specs.TraceCaches.{agent_of, submits_to, cached, host_wrote, sends_write, makes_visible_to, caching_of}
 use Rattle.vk_laws.proofs.TaskNodes.{node_of}
-use Rattle.vk_laws.proofs.Prefixes.{old_has, same_pieces, leads_on, there_below}
-use Rattle.vk_laws.proofs.Members.{contains-cons, contains-head, contains-tail, none_in}
-use Rattle.vk_laws.proofs.NoHazard.{number_below, numbered}
+use Rattle.vk_laws.proofs.Prefixes.{old_has, same_pieces, tasks_lead_on, there_below}
+use Rattle.vk_model.proofs.Lists.Members.{contains-cons, contains-head, contains-tail, none_in}
 use Rattle.vk_laws.proofs.Steady.{IsNew, IsLive}
 use Rattle.vk_laws.proofs.Points.{AtPoint, at_point, at_point_below}
 use Rattle.vk_laws.proofs.ModelBytes.{node_there, before_inside}
-use Rattle.vk_laws.proofs.TraceCaches.{node_at_self, before_number, made_of}
+use Rattle.vk_laws.proofs.TraceCaches.{node_at_self, made_of}
+use Rattle.vk_model.proofs.Sync.Numbers.{number_below, numbered}
+use Rattle.vk_model.proofs.Sync.Paths.{leads_on}
 
 -- ---- lists of nodes
 
@@ -148,7 +149,7 @@ module _ (paths : BeforeIsPath) (joins : BeforeIsTransitive) (keeps : GrowthKeep
     not_new v c =
         let high = front_number kept.added.0 (nodes old) v (subst (λ (l : List Node). IsNumbered l) kept.added.1 (numbered whole)) c in
         let low = number_below (nodes old) (numbered old) n cn in
-        false_from_ne_true (before (nodes whole) v n) (λ h. let lt = before_number (nodes whole) v n h in omega (arith, high, low, lt))
+        false_from_ne_true (before (nodes whole) v n) (λ h. let lt = leads_on (nodes whole) v n h in omega (arith, high, low, lt))
 
     over_nodes : (f g : Node → Bool) → ((v : Node) → Contains kept.added.0 v → f v ≡ false) → ((v : Node) → Contains (nodes old) v → f v ≡ g v) → list_any f (nodes whole) ≡ list_any g (nodes old)
     over_nodes f g never same = ap (list_any f) kept.added.1 ∙ grown f g kept.added.0 (nodes old) never same
@@ -193,7 +194,7 @@ module _ (paths : BeforeIsPath) (joins : BeforeIsTransitive) (keeps : GrowthKeep
     none_made : (w : Node) → Contains (nodes whole) w → size ≤ w.number → (c : Byte) → sends_write whole n w c ≡ false
     none_made w cw le c = false_from_ne_true (sends_write whole n w c) (λ h.
         let g = and_parts _ _ h in
-        let lt = before_number (nodes whole) w n (made_of paths joins whole (cached whole w.number) w n c refl cw (raise n cn) g.0 g.1).later in
+        let lt = leads_on (nodes whole) w n (made_of paths joins whole (cached whole w.number) w n c refl cw (raise n cn) g.0 g.1).later in
         let low = number_below (nodes old) (numbered old) n cn in
         omega (arith, le, lt, low))
 
@@ -224,7 +225,7 @@ module _ (paths : BeforeIsPath) (joins : BeforeIsTransitive) (keeps : GrowthKeep
       never : (n : At b) → size ≤ a → (o : Option Node) → node_at whole a ≡ o → holds o (λ m. before (nodes whole) m n.node) ≡ false
       never n le None e = refl
       never n le (Some m) e = false_from_ne_true (before (nodes whole) m n.node) (λ h.
-          let less = before_number (nodes whole) m n.node h in
+          let less = leads_on (nodes whole) m n.node h in
           let f = (node_of whole a m e).1 in
           let g = n.number in
           omega (arith, le, less, f, g, lt))
@@ -268,7 +269,7 @@ module _ (paths : BeforeIsPath) (joins : BeforeIsTransitive) (keeps : GrowthKeep
     has = has_same;
     write_of = write_same;
     before = before_same;
-    forward = leads_on whole;
+    forward = tasks_lead_on whole;
     agent = λ t lt. let n = at t.node lt in ap (λ (o : Option Node). elim o [ None ↦ 0 | Some n ↦ agent_of n ]) n.in_whole ∙ sym (ap (λ (o : Option Node). elim o [ None ↦ 0 | Some n ↦ agent_of n ]) n.in_old);
     makes_available = available_same;
     makes_visible = visible_same;
