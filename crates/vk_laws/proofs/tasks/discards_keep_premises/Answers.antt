@@ -1,8 +1,8 @@
 use Rattle.std.proofs.Common.{◌≡◌, List, None}
 use Rattle.vk_model.specs.declared.entry.Entry.{Entry}
 use Rattle.vk_model.specs.Rules.Table.{first_fault}
-use Rattle.vk_laws.proofs.Forgotten.{Given}
-use Rattle.vk_laws.proofs.Discards.{discards_hazard_free, discards_model}
+use Rattle.vk_laws.proofs.Caching.Forgotten.{Given}
+use Rattle.vk_laws.proofs.Caching.Discards.{discards_hazard_free, discards_model}
 use Rattle.vk_laws.proofs.tasks.discards_keep_premises.Goals as goal
 
 pub returns : goal.returns

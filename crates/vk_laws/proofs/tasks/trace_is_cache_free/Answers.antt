@@ -1,4 +1,4 @@
-use Rattle.vk_laws.proofs.Discards.{discards_cache_free}
+use Rattle.vk_laws.proofs.Caching.Discards.{discards_cache_free}
 use Rattle.vk_laws.proofs.tasks.trace_is_cache_free.Goals as goal
 
 pub returns : goal.returns

@@ -3,9 +3,9 @@ use Rattle.vk_model.specs.Sync.Node.{nodes}
 use Rattle.vk_model.specs.Trace.Order.{plain_order}
 use Rattle.vk_laws.specs.Discards.{with_discards}
 use Rattle.vk_laws.specs.TraceCaches.{caching_of}
-use Rattle.vk_laws.proofs.PlainOrder.{plain_grows}
-use Rattle.vk_laws.proofs.Steady.{new_ids, live_ids}
-use Rattle.vk_laws.proofs.TraceGrowth.{extends}
+use Rattle.vk_laws.proofs.Nodes.PlainOrder.{plain_grows}
+use Rattle.vk_laws.proofs.Nodes.Steady.{new_ids, live_ids}
+use Rattle.vk_laws.proofs.Running.TraceGrowth.{extends}
 use Rattle.vk_laws.proofs.tasks.trace_runs_carry_over.Goals as goal
 use Rattle.vk_model.proofs.Trace.PlainOrder.{plain_append}
 

@@ -1,4 +1,4 @@
-use Rattle.vk_laws.proofs.DefinedRuns.{allowed_too}
+use Rattle.vk_laws.proofs.Running.DefinedRuns.{allowed_too}
 use Rattle.vk_laws.proofs.trace_runs.defined_runs_are_allowed.Goals as goal
 
 pub returns : goal.returns

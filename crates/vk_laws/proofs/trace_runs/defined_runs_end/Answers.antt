@@ -8,13 +8,13 @@ use Rattle.vk_laws.specs.Machine.{Task}
 use Rattle.vk_laws.specs.Tasks.{task_count, accesses_of}
 use Rattle.vk_laws.specs.TraceBytes.{uncached, value_before}
 use Rattle.vk_laws.specs.DefinedRuns.{bytes_after}
-use Rattle.vk_laws.proofs.Coherent.{Settled, Follows}
-use Rattle.vk_laws.proofs.Fresh.{settled_at}
-use Rattle.vk_laws.proofs.Runs.{bare, reached_from}
-use Rattle.vk_laws.proofs.ModelBytes.{before_whole}
-use Rattle.vk_laws.proofs.Prefixes.{there_below}
-use Rattle.vk_laws.proofs.DefinedRuns.{ended}
-use Rattle.vk_laws.proofs.DefinedBytes.{bytes_same, writer_real}
+use Rattle.vk_laws.proofs.EveryOrder.Coherent.{Settled, Follows}
+use Rattle.vk_laws.proofs.EveryOrder.Fresh.{settled_at}
+use Rattle.vk_laws.proofs.Running.Runs.{bare, reached_from}
+use Rattle.vk_laws.proofs.Bytes.ModelBytes.{before_whole}
+use Rattle.vk_laws.proofs.Nodes.Prefixes.{there_below}
+use Rattle.vk_laws.proofs.Running.DefinedRuns.{ended}
+use Rattle.vk_laws.proofs.Running.DefinedBytes.{bytes_same, writer_real}
 use Rattle.vk_laws.proofs.trace_runs.defined_runs_end.Goals as goal
 
 pub returns : goal.returns
