@@ -1,1 +1,3 @@
+pub mod PointSources
+pub mod BeforeNodes
 pub mod ModelBytes

@@ -1,3 +1,5 @@
+pub mod Counts
+pub mod Actions
 pub mod NoHazard
 pub mod Steady
 pub mod Points

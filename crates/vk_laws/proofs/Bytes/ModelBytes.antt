@@ -1,28 +1,18 @@
 -- The world's bytes are a model of a trace's tasks.
-use Rattle.std.proofs.Common.{◌≡◌, ◌⊎◌, ⊎_elim, inl, inr, ℕ, zero, suc, ◌+◌, ◌<◌, ◌≤◌, List, [], ◌∷◌, ◌++◌, length, Bool, true, false, cond, IsTrue, Option, Some, None, refl, ap, sym, ◌∙◌, subst, arith, slice_get, ◌&&◌}
-use Rattle.std.specs.Prelude.{Contains, ◌==◌, ◌&&◌, nat_le, is_none, option_map, if◌then◌else◌}
-use Rattle.std.specs.List.{find, flat_map, fold, enumerate_from}
-use Rattle.std.specs.Option.{option_or}
-use Rattle.std.proofs.lemmas.Bool.{eq-eqb, leb-true, le-leb, cases_lt, and_parts}
-use Rattle.std.proofs.lemmas.List.{append-nil}
+use Rattle.std.proofs.Common.{◌≡◌, ⊎_elim, ℕ, zero, suc, ◌+◌, List, [], ◌∷◌, ◌++◌, length, Bool, true, false, cond, IsTrue, Option, Some, None, refl, ap, sym, ◌∙◌, subst, arith, slice_get}
+use Rattle.std.specs.Prelude.{Contains, ◌==◌, is_none, option_map}
+use Rattle.std.specs.List.{find, flat_map}
+use Rattle.std.proofs.lemmas.Bool.{cases_lt, and_parts}
 use Rattle.vk_model.specs.declared.entry.Entry.{Entry}
 use Rattle.vk_model.specs.declared.entry.Entry.TheVariants as entry
 use Rattle.vk_model.specs.declared.command.Cmd.{Cmd}
-use Rattle.vk_model.specs.declared.command.Cmd.TheVariants as cmd
-use Rattle.vk_model.specs.declared.command.Element.{Element}
-use Rattle.vk_model.specs.declared.command.Element.TheVariants as element
-use Rattle.vk_model.specs.declared.command.BufferElement.{BufferElement}
-use Rattle.vk_model.specs.declared.command.ImageElement.{ImageElement}
-use Rattle.vk_model.specs.World.Bytes.{Byte, in_buffer, World, resource_at, same_byte}
-use Rattle.vk_model.specs.Trace.Objects.{is_exclusive, is_cached}
+use Rattle.vk_model.specs.World.Bytes.{Byte, in_buffer, same_byte}
 use Rattle.vk_model.specs.Trace.Point.{Past, Point, Action, Host, Wait, Run, Signal}
 use Rattle.vk_model.specs.Trace.Order.{plain_order}
-use Rattle.vk_model.specs.World.Ownership.{family_of, uses, elements_of, transfer, Transfer, Stays, Release, Acquire, Neither, is_transition}
-use Rattle.vk_model.specs.World.ByteWrites.{Source, Value, From, ByteWrite, byte_writes}
+use Rattle.vk_model.specs.World.ByteWrites.{Source, Value, ByteWrite, byte_writes}
 use Rattle.vk_model.specs.Run.Pieces.{pieces}
-use Rattle.vk_model.specs.World.Effect.{source_value, value_after as written_to_byte, after_writes, without, is_other, used, in_range, transitioned, after_buffer_element, after_image_element, after_element, after_command, after_host, after_action, written, reaches, world}
-use Rattle.vk_model.specs.Sync.Node.{Node, Act, Hosts, Waits, Signals, Runs, Depends, nodes, acts, command_acts, with_acts, Role, Barrier, SetOf, AwaitOf}
-use Rattle.vk_model.specs.Sync.Before.{IsNumbered}
+use Rattle.vk_model.specs.World.Effect.{source_value, world}
+use Rattle.vk_model.specs.Sync.Node.{Node, Act, Hosts, Waits, Signals, Runs, Depends, nodes, acts, command_acts}
 use Rattle.vk_model.specs.declared.rule.Rule.TheVariants as rule
 use Rattle.vk_model.specs.Basics.{holds, below}
 use Rattle.vk_model.specs.Sync.Edge.{is_host}
@@ -41,208 +31,10 @@ use Rattle.vk_laws.proofs.Accesses.TaskAccesses.{is_there}
 use Rattle.vk_laws.proofs.Nodes.Points.{AtPoint, at_point, comes_at, at_point_below}
 use Rattle.vk_laws.proofs.Accesses.HazardFree.{read_act, write_act, value_after, host_put, same_byte_writes, run_once, place, action}
 use Rattle.vk_model.proofs.Sync.Numbers.{numbered}
-
--- ---- what a byte is after a step it was before, or it's undefined
-
-abbrev Weaker : (new old : Byte → Option ℕ) → Type 0
-Weaker new old = (c : Byte) (v : ℕ) → new c ≡ Some v → old c ≡ Some v
-
-without_weaker : (lost : Byte → Bool) (value : Byte → Option ℕ) → Weaker (without lost value) value
-without_weaker lost value c v h = go (lost c) h
-  where
-    go : (b : Bool) → (if b then None else value c) ≡ Some v → value c ≡ Some v
-    go true h = absurd cc
-    go false h = h
-
-used_weaker : (past : Past) (f r : ℕ) (w : World) → Weaker (used past f r w).value w.value
-used_weaker past f r w c v h = go (is_exclusive past r) (is_other f (w.owner r)) refl refl h
-  where
-    go : (a b : Bool) → is_exclusive past r ≡ a → is_other f (w.owner r) ≡ b → (used past f r w).value c ≡ Some v → w.value c ≡ Some v
-    go true true e g h = without_weaker (λ b. resource_at b == r) w.value c v (rw (e, g) at h)
-    go true false e g h = rw (e, g) at h
-    go false b e g h = rw e at h
-
-transitioned_weaker : (e : ImageElement) (w : World) → Weaker (transitioned e w).value w.value
-transitioned_weaker e w c v h = go (is_transition e) (e.old_layout == 0) refl refl h
-  where
-    go : (a b : Bool) → is_transition e ≡ a → (e.old_layout == 0) ≡ b → (transitioned e w).value c ≡ Some v → w.value c ≡ Some v
-    go true true i g h = without_weaker (in_range e.image e.range) w.value c v (rw (i, g) at h)
-    go true false i g h = rw (i, g) at h
-    go false b i g h = rw i at h
-
-buffer_weaker : (past : Past) (f : ℕ) (e : BufferElement) (t : Transfer) (w : World) → Weaker (after_buffer_element past f e t w).value w.value
-buffer_weaker past f e Release w c v h = used_weaker past f e.buffer w c v h
-buffer_weaker past f e Acquire w c v h = h
-buffer_weaker past f e Stays w c v h = h
-buffer_weaker past f e Neither w c v h = h
-
-image_weaker : (past : Past) (f : ℕ) (e : ImageElement) (t : Transfer) (w : World) → Weaker (after_image_element past f e t w).value w.value
-image_weaker past f e Stays w c v h = go (is_transition e) refl h
-  where
-    go : (a : Bool) → is_transition e ≡ a → (if a then transitioned e (used past f e.image w) else w).value c ≡ Some v → w.value c ≡ Some v
-    go true i h = used_weaker past f e.image w c v (transitioned_weaker e (used past f e.image w) c v h)
-    go false i h = h
-image_weaker past f e Release w c v h = used_weaker past f e.image w c v h
-image_weaker past f e Acquire w c v h = transitioned_weaker e w c v h
-image_weaker past f e Neither w c v h = h
-
-element_weaker : (past : Past) (f : ℕ) (w : World) (e : Element) → Weaker (after_element past f w e).value w.value
-element_weaker past f w (element.Memory d) c v h = h
-element_weaker past f w (element.Buffer e) c v h = buffer_weaker past f e (transfer f e.families) w c v h
-element_weaker past f w (element.Image e) c v h = image_weaker past f e (transfer f e.families) w c v h
-
-fold_weaker : {X : Type 0} (f : World → X → World) → ((w : World) (x : X) → Weaker (f w x).value w.value) → (xs : List X) (w : World) → Weaker (fold f w xs).value w.value
-fold_weaker f step [] w c v h = h
-fold_weaker f step (x ∷ xs) w c v h = step w x c v (fold_weaker f step xs (f w x) c v h)
-
--- ---- what a point writes to a byte
-
-abbrev source_at : Past → Action → Byte → Option Source
-source_at past (Host x) c = option_map Value (host_value x c)
-source_at past (Run x) c = option_map (λ m. m.source) (find (λ m. same_byte m.to c) (byte_writes past x))
-source_at past (Wait s) c = None
-source_at past (Signal s) c = None
-
-abbrev from_source : Option Source → (Byte → Option ℕ) → Byte → Option ℕ
-from_source None value c = value c
-from_source (Some s) value c = source_value value s
-
-source_weaker : (s : Source) (new old : Byte → Option ℕ) (v : ℕ) → Weaker new old → source_value new s ≡ Some v → source_value old s ≡ Some v
-source_weaker (Value n) new old v weak h = h
-source_weaker (From b) new old v weak h = weak b v h
-
-command_source : (past : Past) (f : ℕ) (x : Cmd) (w : World) (c : Byte) (v : ℕ) → (after_command past f x w).value c ≡ Some v → from_source (source_at past (Run x) c) w.value c ≡ Some v
-command_source past f x w c v h =
-    let ready : World = fold (λ v r. used past f r v) w (uses x) in
-    let weak : Weaker ready.value w.value = fold_weaker (λ v r. used past f r v) (λ v r. used_weaker past f r v) (uses x) w in
-    go (find (λ m. same_byte m.to c) (byte_writes past x)) ready.value weak
-    (fold_weaker (after_element past f) (element_weaker past f) (elements_of x) (record ready { value = after_writes (byte_writes past x) ready.value }) c v h)
-  where
-    go : (o : Option ByteWrite) (ready : Byte → Option ℕ) → Weaker ready w.value → written_to_byte ready o c ≡ Some v → from_source (option_map (λ m. m.source) o) w.value c ≡ Some v
-    go None ready weak h = weak c v h
-    go (Some m) ready weak h = source_weaker m.source ready w.value v weak h
-
-host_source : (past : Past) (x : Entry) (w : World) (c : Byte) (v : ℕ) → (after_host past x w).value c ≡ Some v → from_source (source_at past (Host x) c) w.value c ≡ Some v
-host_source past (entry.Write b o bytes) w c v h = go (written b o bytes c) h
-  where
-    go : (o : Option ℕ) → option_or o (w.value c) ≡ Some v → from_source (option_map Value o) w.value c ≡ Some v
-    go None h = h
-    go (Some n) h = h
-host_source past (entry.Flush b o n) w c v h = go (is_cached past b) refl h
-  where
-    go : (a : Bool) → is_cached past b ≡ a → (after_host past (entry.Flush b o n) w).value c ≡ Some v → w.value c ≡ Some v
-    go true e h = rw e at h
-    go false e h = rw e at h
-host_source past (entry.Invalidate b o n) w c v h = go (is_cached past b) refl h
-  where
-    go : (a : Bool) → is_cached past b ≡ a → (after_host past (entry.Invalidate b o n) w).value c ≡ Some v → w.value c ≡ Some v
-    go true e h = without_weaker (λ k. reaches b o n k && w.dirty k) w.value c v (rw e at h)
-    go false e h = rw e at h
-host_source past _ w c v h = h
-
-point_source : (past : Past) (p : Point) (c : Byte) (v : ℕ) → (world (p ∷ past)).value c ≡ Some v → from_source (source_at past p.action c) (world past).value c ≡ Some v
-point_source past p c v h = go p.action h
-  where
-    go : (d : Action) → (after_action past p.queue d (world past)).value c ≡ Some v → from_source (source_at past d c) (world past).value c ≡ Some v
-    go (Host x) h = host_source past x (world past) c v h
-    go (Run x) h = command_source past (family_of p.queue) x (world past) c v h
-    go (Wait s) h = h
-    go (Signal s) h = h
-
--- ---- points and the nodes before a number
-
-pub count_acts : (p : Point) (more : List Act) (ns : List Node) → length (with_acts p more ns) ≡ length more + length ns
-count_acts p [] ns = omega arith
-count_acts p (a ∷ more) ns = let e = count_acts p more (record { number = length ns; point = p; act = a } ∷ ns) in omega (arith, e)
-
-pub more_nodes : (newer past : Past) → length (nodes past) ≤ length (nodes (newer ++ past))
-more_nodes [] past = omega arith
-more_nodes (q ∷ newer) past = let le = more_nodes newer past in let e = count_acts q (acts q.action) (nodes (newer ++ past)) in omega (arith, e)
-
-pub before_whole : (past : Past) (k : ℕ) → length (nodes past) ≤ k → before_node past k ≡ past
-before_whole [] k le = refl
-before_whole (p ∷ past) k le = rw (le-leb (length (nodes (p ∷ past))) k le) refl
-
-before_skips : (q : Point) (past : Past) (k : ℕ) → k < length (nodes (q ∷ past)) → before_node (q ∷ past) k ≡ before_node past k
-before_skips q past k lt = go (nat_le (length (nodes (q ∷ past))) k) refl
-  where
-    go : (b : Bool) → nat_le (length (nodes (q ∷ past))) k ≡ b → (if b then q ∷ past else before_node past k) ≡ before_node past k
-    go true e = let le = leb-true (length (nodes (q ∷ past))) k e in absurd (omega arith)
-    go false e = refl
-
-pub before_inside : (newer past : Past) (p : Point) (k : ℕ) → length (nodes past) ≤ k → k < length (nodes (p ∷ past)) → before_node (newer ++ p ∷ past) k ≡ past
-before_inside [] past p k le lt = before_skips p past k lt ∙ before_whole past k le
-before_inside (q ∷ newer) past p k le lt = let more = more_nodes (q ∷ newer) (p ∷ past) in before_skips q (newer ++ p ∷ past) k (omega arith) ∙ before_inside newer past p k le lt
-
--- a point without nodes writes nothing
-idle_source : (past : Past) (d : Action) (c : Byte) → length (acts d) ≡ 0 → source_at past d c ≡ None
-idle_source past (Host x) c e = absurd (omega (arith, e))
-idle_source past (Wait s) c e = refl
-idle_source past (Signal s) c e = refl
-idle_source past (Run (cmd.Barrier es)) c e = refl
-idle_source past (Run (cmd.Set v ms)) c e = refl
-idle_source past (Run (cmd.Await v ms)) c e = refl
-idle_source past (Run (cmd.Fill b o n w)) c e = absurd (omega (arith, e))
-idle_source past (Run (cmd.Update b o bytes)) c e = absurd (omega (arith, e))
-idle_source past (Run (cmd.Copy s d gs)) c e = absurd (omega (arith, e))
-idle_source past (Run (cmd.Clear i l color rs)) c e = absurd (omega (arith, e))
-idle_source past (Run (cmd.CopyIn b i l gs)) c e = absurd (omega (arith, e))
-idle_source past (Run (cmd.CopyOut i l b gs)) c e = absurd (omega (arith, e))
-idle_source past (Run (cmd.CopyImage s l d m gs)) c e = absurd (omega (arith, e))
-
-kept_by_point : (past : Past) (p : Point) (c : Byte) (v : ℕ) → source_at past p.action c ≡ None → (world (p ∷ past)).value c ≡ Some v → (world past).value c ≡ Some v
-kept_by_point past p c v none h = subst (λ (o : Option Source). from_source o (world past).value c ≡ Some v) none (point_source past p c v h)
-
-idle_points : (newer low : Past) (c : Byte) (v : ℕ) → length (nodes (newer ++ low)) ≤ length (nodes low) → (world (newer ++ low)).value c ≡ Some v → (world low).value c ≡ Some v
-idle_points [] low c v le h = h
-idle_points (q ∷ newer) low c v le h =
-    let e = count_acts q (acts q.action) (nodes (newer ++ low)) in
-    let more = more_nodes newer low in
-    idle_points newer low c v (omega (arith, e)) (kept_by_point (newer ++ low) q c v (idle_source (newer ++ low) q.action c (omega (arith, e))) h)
-
--- right after the nodes of a past its bytes are those of the past
-pub settles : (newer low : Past) (k : ℕ) (c : Byte) (v : ℕ) → length (nodes low) ≡ k → value_before (newer ++ low) k c ≡ Some v → (world low).value c ≡ Some v
-settles [] low k c v same h = subst (λ (l : Past). (world l).value c ≡ Some v) (before_whole low k (omega arith)) h
-settles (q ∷ newer) low k c v same h = go (settles newer low k c v same) (nat_le (length (nodes (q ∷ newer ++ low))) k) refl h
-  where
-    go : (value_before (newer ++ low) k c ≡ Some v → (world low).value c ≡ Some v) → (b : Bool) → nat_le (length (nodes (q ∷ newer ++ low))) k ≡ b
-        → (world (if b then q ∷ newer ++ low else before_node (newer ++ low) k)).value c ≡ Some v → (world low).value c ≡ Some v
-    go rest true e h = let le = leb-true (length (nodes (q ∷ newer ++ low))) k e in idle_points (q ∷ newer) low c v (omega arith) h
-    go rest false e h = rest h
-
-undefined_first : (all : Past) (c : Byte) → value_before all 0 c ≡ None
-undefined_first all c = none_unless (value_before all 0 c) (λ v h. let e = settles all [] 0 c v refl (subst (λ (l : Past). value_before l 0 c ≡ Some v) (sym (append-nil all)) h) in cc)
-
--- ---- the node of a number
-
-pub node_there : (ns : List Node) (k : ℕ) → IsNumbered ns → k < length ns → (n : Node) × (find (λ n. n.number == k) ns ≡ Some n)
-node_there [] k numbers lt = absurd (omega arith)
-node_there (n ∷ ns) k numbers lt = go (node_there ns k numbers.1) (n.number == k) refl
-  where
-    go : (k < length ns → (m : Node) × (find (λ n. n.number == k) ns ≡ Some m)) → (b : Bool) → (n.number == k) ≡ b → (m : Node) × (cond b (Some n) (find (λ n. n.number == k) ns) ≡ Some m)
-    go rest true e = (n, refl)
-    go rest false e = rest (⊎_elim (λ lt. lt) (λ le. absurd (let size = numbers.0 in let same : n.number ≡ k = omega arith in let f = eq-eqb n.number k same in cc)) (cases_lt k (length ns)))
-
--- ---- the actions of nodes
-
--- a command runs as one node, or its nodes are elements and it writes nothing
-pub runs_or_idle : (x : Cmd) (a : Act) → Contains (command_acts x) a → ((a ≡ Runs x) × (length (command_acts x) ≡ 1)) ⊎ ((r : Role) × (e : Element) × (a ≡ Depends r e) × ((past : Past) → byte_writes past x ≡ []))
-runs_or_idle (cmd.Barrier es) a c = let m = mapped_from (Depends Barrier) es a c in inr (Barrier, m.0, sym m.2, λ past. refl)
-runs_or_idle (cmd.Set v ms) a c = let m = mapped_from (λ p. Depends (SetOf v p.0) (element.Memory p.1)) (enumerate_from 0 ms) a c in inr (SetOf v m.0.0, element.Memory m.0.1, sym m.2, λ past. refl)
-runs_or_idle (cmd.Await v ms) a c = let m = mapped_from (λ p. Depends (AwaitOf v p.0) (element.Memory p.1)) (enumerate_from 0 ms) a c in inr (AwaitOf v m.0.0, element.Memory m.0.1, sym m.2, λ past. refl)
-runs_or_idle (cmd.Fill b o n w) a c = inl (sym (only_one _ a c), refl)
-runs_or_idle (cmd.Update b o bytes) a c = inl (sym (only_one _ a c), refl)
-runs_or_idle (cmd.Copy s d gs) a c = inl (sym (only_one _ a c), refl)
-runs_or_idle (cmd.Clear i l color rs) a c = inl (sym (only_one _ a c), refl)
-runs_or_idle (cmd.CopyIn b i l gs) a c = inl (sym (only_one _ a c), refl)
-runs_or_idle (cmd.CopyOut i l b gs) a c = inl (sym (only_one _ a c), refl)
-runs_or_idle (cmd.CopyImage s l d m gs) a c = inl (sym (only_one _ a c), refl)
-
-pub host_action : (d : Action) (x : Entry) → Contains (acts d) (Hosts x) → d ≡ Host x
-host_action (Host y) x c = let e = only_one (Hosts y) (Hosts x) c in let same : y ≡ x = cc in ap Host same
-host_action (Wait s) x c = let e = only_one (Waits s) (Hosts x) c in absurd cc
-host_action (Signal s) x c = let e = only_one (Signals s) (Hosts x) c in absurd cc
-host_action (Run y) x c = ⊎_elim (λ r. let e = r.0 in absurd cc) (λ i. let e = i.2 in absurd cc) (runs_or_idle y (Hosts x) c)
+use Rattle.vk_laws.proofs.Nodes.Counts.{count_acts, node_there}
+use Rattle.vk_laws.proofs.Nodes.Actions.{runs_or_idle, host_action}
+use Rattle.vk_laws.proofs.Bytes.PointSources.{source_at, from_source, point_source}
+use Rattle.vk_laws.proofs.Bytes.BeforeNodes.{before_whole, before_inside, settles, undefined_first}
 
 -- ---- a byte write among those of the pieces
 

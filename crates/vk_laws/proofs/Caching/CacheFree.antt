@@ -22,7 +22,8 @@ use Rattle.vk_laws.proofs.Nodes.Steady.{IsNew, made_step, new_ids, live_ids, IsL
 use Rattle.vk_laws.proofs.Nodes.Points.{AtPoint, at_point, comes_at, at_point_below}
 use Rattle.vk_laws.proofs.Caching.CachedStays.{cached_stays}
 use Rattle.vk_laws.specs.TraceBytes.{before_node}
-use Rattle.vk_laws.proofs.Bytes.ModelBytes.{more_nodes, before_inside}
+use Rattle.vk_laws.proofs.Nodes.Counts.{more_nodes}
+use Rattle.vk_laws.proofs.Bytes.BeforeNodes.{before_inside}
 use Rattle.vk_laws.proofs.Nodes.Submits.{submits_there}
 use Rattle.vk_laws.proofs.Caching.Named.{written_made}
 use Rattle.vk_laws.proofs.Accesses.TaskAccesses.{writer, reader, is_in_of}

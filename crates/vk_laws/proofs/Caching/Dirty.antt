@@ -18,7 +18,7 @@ use Rattle.vk_model.specs.World.ByteWrites.{byte_writes}
 use Rattle.vk_model.specs.World.Effect.{after_writes, used, transitioned, after_buffer_element, after_image_element, after_element, after_command, after_host, after_action, written, reaches, world}
 use Rattle.vk_model.specs.Sync.Node.{nodes}
 use Rattle.vk_model.specs.Rules.Fault.{Comes, newest, older}
-use Rattle.vk_laws.proofs.Bytes.ModelBytes.{more_nodes}
+use Rattle.vk_laws.proofs.Nodes.Counts.{more_nodes}
 
 -- ---- commands make nothing dirty
 

@@ -30,7 +30,8 @@ use Rattle.vk_laws.proofs.Nodes.Points.{AtPoint, at_point}
 use Rattle.vk_laws.proofs.Accesses.TaskAccesses.{Accessor, writer, reader, is_in_of}
 use Rattle.vk_laws.proofs.Nodes.Ordered.{judged_has, write_is_seen}
 use Rattle.vk_laws.proofs.Accesses.HazardFree.{read_act, write_act, host_put, hazard_free}
-use Rattle.vk_laws.proofs.Bytes.ModelBytes.{settles, is_model}
+use Rattle.vk_laws.proofs.Bytes.BeforeNodes.{settles}
+use Rattle.vk_laws.proofs.Bytes.ModelBytes.{is_model}
 use Rattle.vk_laws.proofs.Caching.TraceCaches.{node_at_self, seen_task, available_task, available_later}
 use Rattle.vk_laws.proofs.Caching.CacheFree.{same_agent, same_cached, cached_then, cache_free}
 use Rattle.vk_laws.proofs.Nodes.Submits.{submits_there}

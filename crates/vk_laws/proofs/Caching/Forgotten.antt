@@ -32,7 +32,9 @@ use Rattle.vk_laws.proofs.Nodes.Steady.{new_ids, live_ids}
 use Rattle.vk_laws.proofs.Nodes.Points.{AtPoint, at_point, comes_at}
 use Rattle.vk_laws.proofs.Accesses.TaskAccesses.{host_writes_it, is_in_of}
 use Rattle.vk_laws.proofs.Nodes.Ordered.{judged_has, read_is_seen, write_is_seen}
-use Rattle.vk_laws.proofs.Bytes.ModelBytes.{host_action, more_nodes, alone, at_node}
+use Rattle.vk_laws.proofs.Nodes.Actions.{host_action}
+use Rattle.vk_laws.proofs.Nodes.Counts.{more_nodes}
+use Rattle.vk_laws.proofs.Bytes.ModelBytes.{alone, at_node}
 use Rattle.vk_laws.proofs.Caching.CacheFree.{same_cached, cached_then}
 use Rattle.vk_laws.proofs.Caching.Dirty.{DirtiedBy, dirtied_by}
 use Rattle.vk_model.proofs.Sync.Numbers.{number_below, unique, numbered}

@@ -25,7 +25,7 @@ use Rattle.vk_model.proofs.Lists.Members.{contains-head, contains-tail, member_p
 use Rattle.vk_model.proofs.Lists.Truths.{unless}
 use Rattle.vk_laws.proofs.Nodes.Steady.{IsNew, live_made, made_until, comes_here, comes_later, IsLive}
 use Rattle.vk_laws.proofs.Nodes.Points.{AtPoint, action_of}
-use Rattle.vk_laws.proofs.Bytes.ModelBytes.{host_action}
+use Rattle.vk_laws.proofs.Nodes.Actions.{host_action}
 use Rattle.vk_model.specs.Rules.Fault.{Comes, older}
 use Rattle.vk_model.proofs.Lists.Grids.{grid_from}
 

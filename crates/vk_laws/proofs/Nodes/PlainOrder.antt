@@ -10,7 +10,7 @@ use Rattle.vk_model.specs.Trace.Point.{Point, Past, Action, Wait, Run, Signal, h
 use Rattle.vk_model.specs.Trace.Order.{SubmittedBatch, host, actions, started, submitted_batch, batches_from, batches_of, plain_from}
 use Rattle.vk_model.specs.Sync.Node.{Node, nodes, acts}
 use Rattle.vk_laws.proofs.Nodes.Points.{in_acts}
-use Rattle.vk_laws.proofs.Bytes.ModelBytes.{more_nodes}
+use Rattle.vk_laws.proofs.Nodes.Counts.{more_nodes}
 use Rattle.vk_model.proofs.Lists.Pairs.{Each, each_append, each_map}
 
 -- ---- a past that grows by points that pass

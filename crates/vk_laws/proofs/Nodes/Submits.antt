@@ -13,7 +13,7 @@ use Rattle.vk_model.specs.Sync.Edge.{is_submit}
 use Rattle.vk_laws.specs.TraceCaches.{submits_to}
 use Rattle.vk_model.proofs.Lists.Members.{contains-head}
 use Rattle.vk_laws.proofs.Nodes.Points.{AtPoint, at_point, action_of}
-use Rattle.vk_laws.proofs.Bytes.ModelBytes.{host_action}
+use Rattle.vk_laws.proofs.Nodes.Actions.{host_action}
 use Rattle.vk_laws.proofs.Nodes.Entries.{OfAction, point_of}
 use Rattle.std.proofs.lemmas.List.Elements.{Contains-append_right}
 

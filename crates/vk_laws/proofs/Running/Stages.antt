@@ -15,7 +15,7 @@ use Rattle.vk_model.specs.Laws.{GrowthKeeps, NeverAhead, OrdersAgree}
 use Rattle.vk_model.specs.Run.Runs.{Stage, start, applied, past_with, is_host_wait}
 use Rattle.vk_model.proofs.Lists.Members.{contains-cons, contains-head, none_in}
 use Rattle.vk_laws.proofs.Nodes.Steady.{comes_within}
-use Rattle.vk_laws.proofs.Bytes.ModelBytes.{host_action}
+use Rattle.vk_laws.proofs.Nodes.Actions.{host_action}
 use Rattle.vk_laws.proofs.Nodes.PlainOrder.{Grows, grows_too, Within, OfBatch, batches_grow, plain_grows, old_or_newer}
 use Rattle.vk_laws.proofs.Nodes.Prefixes.{has_more}
 use Rattle.std.specs.List.{fold}

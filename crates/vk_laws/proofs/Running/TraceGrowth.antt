@@ -27,7 +27,8 @@ use Rattle.vk_laws.proofs.Nodes.Prefixes.{old_has, same_pieces, tasks_lead_on, t
 use Rattle.vk_model.proofs.Lists.Members.{contains-cons, contains-head, contains-tail, none_in}
 use Rattle.vk_laws.proofs.Nodes.Steady.{IsNew, IsLive}
 use Rattle.vk_laws.proofs.Nodes.Points.{AtPoint, at_point, at_point_below}
-use Rattle.vk_laws.proofs.Bytes.ModelBytes.{node_there, before_inside}
+use Rattle.vk_laws.proofs.Nodes.Counts.{node_there}
+use Rattle.vk_laws.proofs.Bytes.BeforeNodes.{before_inside}
 use Rattle.vk_laws.proofs.Caching.TraceCaches.{node_at_self, made_of}
 use Rattle.vk_model.proofs.Sync.Numbers.{number_below, numbered}
 use Rattle.vk_model.proofs.Sync.Paths.{leads_on}

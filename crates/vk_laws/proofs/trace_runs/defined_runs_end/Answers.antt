@@ -11,7 +11,7 @@ use Rattle.vk_laws.specs.DefinedRuns.{bytes_after}
 use Rattle.vk_laws.proofs.EveryOrder.Coherent.{Settled, Follows}
 use Rattle.vk_laws.proofs.EveryOrder.Fresh.{settled_at}
 use Rattle.vk_laws.proofs.Running.Runs.{bare, reached_from}
-use Rattle.vk_laws.proofs.Bytes.ModelBytes.{before_whole}
+use Rattle.vk_laws.proofs.Bytes.BeforeNodes.{before_whole}
 use Rattle.vk_laws.proofs.Nodes.Prefixes.{there_below}
 use Rattle.vk_laws.proofs.Running.DefinedRuns.{ended}
 use Rattle.vk_laws.proofs.Running.DefinedBytes.{bytes_same, writer_real}
