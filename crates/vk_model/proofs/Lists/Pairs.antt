@@ -90,13 +90,14 @@ pub pairs_append : {A : Type 0} (R : A → A → Type 0) (xs ys : List A) → Pa
 pairs_append R [] ys p q c = q
 pairs_append R (x ∷ xs) ys p q c = (each_append (R x) xs ys p.0 c.0, pairs_append R xs ys p.1 q c.1)
 
-each_before : {A : Type 0} (P : A → Type 0) (xs ys : List A) → Each P (xs ++ ys) → Each P xs × Each P ys
-each_before P [] ys e = (tt, e)
-each_before P (x ∷ xs) ys e = let rest = each_before P xs ys e.1 in ((e.0, rest.0), rest.1)
+-- what holds of each item of a joined list holds of those of both
+pub split_each : {A : Type 0} (P : A → Type 0) (xs ys : List A) → Each P (xs ++ ys) → Each P xs × Each P ys
+split_each P [] ys e = (tt, e)
+split_each P (x ∷ xs) ys e = let rest = split_each P xs ys e.1 in ((e.0, rest.0), rest.1)
 
 pub append_pairs : {A : Type 0} (R : A → A → Type 0) (xs ys : List A) → Pairs R (xs ++ ys) → Pairs R ys × Each (λ x. Each (R x) ys) xs
 append_pairs R [] ys p = (p, tt)
-append_pairs R (x ∷ xs) ys p = let rest = append_pairs R xs ys p.1 in (rest.0, ((each_before (R x) xs ys p.0).1, rest.1))
+append_pairs R (x ∷ xs) ys p = let rest = append_pairs R xs ys p.1 in (rest.0, ((split_each (R x) xs ys p.0).1, rest.1))
 
 -- what holds of the items of two lists makes each pair of them related
 crossed : {A : Type 0} (R : A → A → Type 0) (P Q : A → Type 0) (xs ys : List A) → ((x y : A) → P x → Q y → R x y) → Each P xs → Each Q ys → Each (λ x. Each (R x) ys) xs

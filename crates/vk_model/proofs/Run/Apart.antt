@@ -31,7 +31,7 @@ use Rattle.vk_model.specs.declared.command.SubresourceRange.{SubresourceRange}
 use Rattle.vk_model.specs.declared.resource.ImageInfo.{ImageInfo}
 use Rattle.vk_model.specs.Trace.Image.{texel, level_width, level_height}
 use Rattle.vk_model.specs.World.Areas.{Bytes, Rows, Texels, Subresources, Box, areas_meet, boxes_meet, subresources_meet, rows_meet, row_count, row_start, region_box, destination_box, region_rows, areas_written, areas_read}
-use Rattle.vk_model.proofs.Lists.Pairs.{none_at, append_pairs, once_of_pairs, Each, Pairs, pairs_map, pairs_of, pairs_range, pairs_flat, pairs_of_once, each_of, each_range, each_map, each_flat}
+use Rattle.vk_model.proofs.Lists.Pairs.{none_at, append_pairs, once_of_pairs, Each, Pairs, pairs_map, pairs_of, pairs_range, pairs_flat, pairs_of_once, each_of, each_range, each_map, each_flat, split_each}
 use Rattle.vk_model.proofs.World.BytePlaces.{buffer_same, image_same, common_meets, Differ, digit_first, no_less, texels_differ, place_less, less_differs}
 use Rattle.vk_model.proofs.Lists.Grids.{Less, At, grid_apart, in_grid}
 use Rattle.vk_model.proofs.Lists.Truths.{clash}
@@ -368,10 +368,6 @@ shares_none (m ∷ xs) ys e = or_from (is_in m.to (targets ys)) (share (targets 
     in_none : (m : ByteWrite) (ys : List ByteWrite) → Each (Apart m) ys → is_in m.to (targets ys) ≡ false
     in_none m [] e = refl
     in_none m (n ∷ ys) e = or_from (same_byte m.to n.to) (is_in m.to (targets ys)) e.0 (in_none m ys e.1)
-
-split_each : {A : Type 0} (P : A → Type 0) (xs ys : List A) → Each P (xs ++ ys) → Each P xs × Each P ys
-split_each P [] ys e = (tt, e)
-split_each P (x ∷ xs) ys e = let rest = split_each P xs ys e.1 in ((e.0, rest.0), rest.1)
 
 one_by_one : (xs : List ByteWrite) (ps : List (List ByteWrite)) → Each (λ m. Each (Apart m) (together ps)) xs → Each (λ p. share (targets xs) (targets p) ≡ false) ps
 one_by_one xs [] e = tt

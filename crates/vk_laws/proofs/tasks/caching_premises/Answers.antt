@@ -2,8 +2,8 @@ use Rattle.std.proofs.Common.{◌≡◌, List, None}
 use Rattle.vk_model.specs.declared.entry.Entry.{Entry}
 use Rattle.vk_model.specs.Rules.Table.{first_fault}
 use Rattle.vk_laws.proofs.Caching.Forgotten.{Given}
-use Rattle.vk_laws.proofs.Caching.Discards.{discards_hazard_free, discards_model}
-use Rattle.vk_laws.proofs.tasks.discards_keep_premises.Goals as goal
+use Rattle.vk_laws.proofs.Caching.Discards.{discards_hazard_free, discards_model, discards_cache_free}
+use Rattle.vk_laws.proofs.tasks.caching_premises.Goals as goal
 
 pub returns : goal.returns
 returns c =
@@ -21,4 +21,8 @@ returns c =
       sound = (c.no_fault_is_sound.ensures t).0 none;
       none = none;
     } in
-    record { hazard_free = λ t none. discards_hazard_free t (given t none); modelled = λ t none. discards_model t (given t none) }
+    record {
+      hazard_free = λ t none. discards_hazard_free t (given t none);
+      modelled = λ t none. discards_model t (given t none);
+      cache_free = λ t none. discards_cache_free t (given t none);
+    }
