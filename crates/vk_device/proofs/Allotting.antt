@@ -2,7 +2,7 @@
 use Rattle.std.proofs.Common.{◌≡◌, ◌⊎◌, inl, inr, ℕ, ◌+◌, List, [], ◌∷◌, ◌++◌, map, length, Bool, true, false, ◌==◌, ◌||◌, refl, ap, sym, ◌∙◌, subst, append-nil, add-zero, zero-add, arith, Option, Some, None}
 use Rattle.std.proofs.Math.Seq.{map-set_same}
 use Rattle.std.proofs.Math.Bool.{or-false}
-use Rattle.std.proofs.lemmas.Bool.{leb-true, ltb-true, lt-ltb, le-leb}
+use Rattle.std.proofs.lemmas.Bool.{leb-true, ltb-true, lt-ltb, le-leb, false_from_ne_true}
 use Rattle.std.specs.Prelude.{if◌then◌else◌, nat_lt, nat_le}
 use Rattle.std.specs.List.{fold, list_any, filter_map}
 use Rattle.vk_memory.specs.declared.memories.Object.{Object}
@@ -115,10 +115,6 @@ module _ (m : MemoryState) where
 
 -- ---- a buffer
 
-not_so : (b : Bool) → (b ≡ true → ⊥) → b ≡ false
-not_so true h = absurd (h refl)
-not_so false h = refl
-
 one_asked : (a : Allotted) (t size : ℕ) → list_any (λ (o : ℕ × ℕ). no_object (heaps_with a) o.0 o.1) ((t, size) ∷ []) ≡ no_object (heaps_with a) t size
 one_asked a t size = or-false (no_object (heaps_with a) t size)
 
@@ -132,7 +128,7 @@ buffer_rooms old new y i t info is there a made = subst (λ (x : Entry). Rooms a
     found = ap (λ (p : Place). list_any (λ (o : ℕ × ℕ). no_object (heaps_with (allotted old.memory)) o.0 o.1) (asked_at p size)) there ∙ one_asked (allotted old.memory) t size
 
     go : (a : Applied) → MadeOr a old new i t info.size → Rooms a old (entry.Buffer i info)
-    go applied.Done made = found ∙ not_so _ (λ h. made.1 (found_full old.memory t size h))
+    go applied.Done made = found ∙ false_from_ne_true _ (λ h. made.1 (found_full old.memory t size h))
     go (applied.Bytes bytes) made = absurd made
     go applied.NoRoom made = found ∙ full_found old.memory t size made.1
 

@@ -1,9 +1,9 @@
 -- What the rules promise of the points of a clean past.
-use Rattle.std.proofs.Common.{◌≡◌, ◌≢◌, ℕ, zero, suc, ◌+◌, ◌-◌, ◌*◌, ◌/◌, ◌%◌, ◌<◌, ◌≤◌, List, [], ◌∷◌, Bool, true, false, not, ◌&&◌, ◌||◌, ◌==◌, nat_lt, nat_le, refl, ap, subst, arith, inl, inr, Option, Some, None}
+use Rattle.std.proofs.Common.{◌≡◌, ◌≢◌, ℕ, ◌+◌, ◌-◌, ◌*◌, ◌/◌, ◌%◌, ◌<◌, ◌≤◌, List, [], ◌∷◌, Bool, true, false, not, ◌||◌, ◌==◌, nat_lt, nat_le, refl, ap, arith, Option, Some, None}
 use Rattle.std.specs.Prelude.{IsSome, is_some, is_none}
-use Rattle.std.specs.List.{fold, list_any, list_all, range_with_len}
+use Rattle.std.specs.List.{fold, list_all}
 use Rattle.vk_model.specs.Trace.Order.{SubmittedBatch, actions, started, batches_of, plain_from, host}
-use Rattle.std.proofs.lemmas.Bool.{ltb-false, leb-false, eqb-false, eqb-true}
+use Rattle.std.proofs.lemmas.Bool.{ltb-false, leb-false, eqb-false, eqb-true, false_from_ne_true, or_parts, and_parts}
 use Rattle.vk_model.specs.declared.rule.Rule.{Rule}
 use Rattle.vk_model.specs.declared.rule.Rule.TheVariants as rule
 use Rattle.vk_model.specs.Trace.Point.{Past, Point, Action, Host, Wait, Run, Signal}
@@ -28,38 +28,24 @@ use Rattle.vk_model.specs.declared.resource.Place.TheVariants as place
 use Rattle.vk_validate.specs.Supported.{is_supported, is_supported_action, is_supported_place, is_memory}
 use Rattle.vk_device.specs.Clean.{IsClean}
 use Rattle.vk_device.specs.Inner.Fits.{FitsFill, FitsCommand, FitsRead, FitsEntry, FitsAction, AllFit, AllMemory, IsOwn}
-use Rattle.std.proofs.Math.Nat.{eq-or-lt_of_le, div-add-mod, div-mul-le_self, mul-div_cancel, mod-lt}
+use Rattle.std.proofs.Math.Nat.{div-add-mod, div-mul-le_self, mul-div_cancel, mod-lt}
 use Rattle.vk_model.specs.declared.command.Cmd.{Cmd}
 use Rattle.vk_model.specs.Trace.Objects.{made, made_by, buffer}
 use Rattle.vk_model.specs.declared.entry.Entry.{Entry}
+use Rattle.vk_model.proofs.Lists.Pairs.{none_at}
 
 -- a point breaks no rule
 abbrev BreaksNone : Past → Point → Type 0
 BreaksNone past p = (r : Rule) → breaks r past p ≡ false
 
 breaks_none : (past : Past) (p : Point) → IsClean (p ∷ past) → BreaksNone past p
-breaks_none past p clean r = go (breaks r past p) (clean.sound past p r newest) where
-  go : (b : Bool) → (b ≡ true → ⊥) → b ≡ false
-  go true refuted = absurd (refuted refl)
-  go false refuted = refl
+breaks_none past p clean r = false_from_ne_true (breaks r past p) (clean.sound past p r newest)
 
 -- ---- what the supported forms get of it
 
 not_some : {A : Type 0} (o : Option A) → is_some o ≡ false → o ≡ None
 not_some None e = refl
 not_some (Some x) e = absurd cc
-
-or-left : (a b : Bool) → (a || b) ≡ false → a ≡ false
-or-left true b e = absurd cc
-or-left false b e = refl
-
-or-right : (a b : Bool) → (a || b) ≡ false → b ≡ false
-or-right true b e = absurd cc
-or-right false b e = e
-
-and-true : (a b : Bool) → (a && b) ≡ true → (a ≡ true) × (b ≡ true)
-and-true true b e = (refl, e)
-and-true false b e = absurd cc
 
 not-false : (b : Bool) → not b ≡ false → b ≡ true
 not-false true e = refl
@@ -88,7 +74,7 @@ module _ (past : Past) (p : Point) (none : BreaksNone past p) where
   unfolding breaks
   entry_size x is =
       let unbroken : breaks_size past p ≡ false = none rule.Size in
-      or-left (bad_entry_size x) false (rw is at unbroken)
+      (or_parts (bad_entry_size x) false (rw is at unbroken)).0
 
   command_size : (c : Cmd) → p.action ≡ Run c → bad_command_size past c ≡ false
   unfolding breaks
@@ -106,7 +92,7 @@ module _ (past : Past) (p : Point) (none : BreaksNone past p) where
   unfolding breaks
   entry_range x is =
       let unbroken : breaks_range past p ≡ false = none rule.Range in
-      or-left (host_past past x) false (rw is at unbroken)
+      (or_parts (host_past past x) false (rw is at unbroken)).0
 
   command_range : (c : Cmd) → p.action ≡ Run c → command_past past c ≡ false
   unfolding breaks
@@ -126,15 +112,6 @@ module _ (past : Past) (p : Point) (none : BreaksNone past p) where
       let unbroken : breaks_read_undefined past p ≡ false = none rule.ReadUndefined in
       rw is at unbroken
 
--- no number of a range passes a test
-none_of : (test : ℕ → Bool) (a n k : ℕ) → list_any test (range_with_len a n) ≡ false → a ≤ k → k < a + n → test k ≡ false
-none_of test a zero k none low high = absurd (omega arith)
-none_of test a (suc n) k none low high =
-    elim (eq-or-lt_of_le low) [
-      | inl same ↦ subst (λ (j : ℕ). test j ≡ false) same (or-left (test a) (list_any test (range_with_len (a + 1) n)) none)
-      | inr later ↦ none_of test (a + 1) n k (or-right (test a) (list_any test (range_with_len (a + 1) n)) none) (omega (arith, later)) (omega arith)
-    ]
-
 some_of : {A : Type 0} (o : Option A) → is_none o ≡ false → IsSome o
 some_of None e = absurd cc
 some_of (Some x) e = refl
@@ -152,7 +129,7 @@ read_fits past b o n some range = go (buffer past b) refl
 read_point : (past : Past) (p : Point) (b o n : ℕ) → p.action ≡ Host (entry.Read b o n) → BreaksNone past p → FitsEntry past (entry.Read b o n)
 read_point past p b o n is none = (
   read_fits past b o n (not_zero n (entry_size past p none (entry.Read b o n) is)) (not_above (buffer_size past b) (o + n) (entry_range past p none (entry.Read b o n) is)),
-  λ k lt. some_of ((world past).value (in_buffer b (o + k))) (none_of (λ k. is_none ((world past).value (in_buffer b (o + k)))) 0 n k (entry_defined past p none (entry.Read b o n) is) (omega arith) (omega arith)),
+  λ k lt. some_of ((world past).value (in_buffer b (o + k))) (none_at (λ k. is_none ((world past).value (in_buffer b (o + k)))) 0 n k (entry_defined past p none (entry.Read b o n) is) (omega arith) (omega arith)),
 )
 
 -- ---- fills
@@ -180,18 +157,18 @@ outside past b o n = nat_lt (buffer_size past b) (o + fill_size (buffer_size pas
 
 fill_point : (past : Past) (p : Point) (b o : ℕ) (n : Length) (w : ℕ) → p.action ≡ Run (cmd.Fill b o n w) → BreaksNone past p → FitsFill (buffer past b) o n
 fill_point past p b o n w is none =
-    go (buffer past b) refl (fill_fits (buffer_size past b) o n (command_size past p none (cmd.Fill b o n w) is) inside (from_end n ranged) (or-right _ _ (command_align past p none (cmd.Fill b o n w) is)))
+    go (buffer past b) refl (fill_fits (buffer_size past b) o n (command_size past p none (cmd.Fill b o n w) is) inside (from_end n ranged) (or_parts _ _ (command_align past p none (cmd.Fill b o n w) is)).1)
   where
     -- the areas and the end, without the elements and regions that a fill hasn't
     ranged : ((outside past b o n || false) || fills_from_end past (cmd.Fill b o n w)) ≡ false
-    ranged = or-left _ false (or-left _ false (command_range past p none (cmd.Fill b o n w) is))
+    ranged = (or_parts _ false (or_parts _ false (command_range past p none (cmd.Fill b o n w) is)).0).0
 
     inside : outside past b o n ≡ false
-    inside = or-left (outside past b o n) false (or-left (outside past b o n || false) (fills_from_end past (cmd.Fill b o n w)) ranged)
+    inside = (or_parts (outside past b o n) false (or_parts (outside past b o n || false) (fills_from_end past (cmd.Fill b o n w)) ranged).0).0
 
     from_end : (n : Length) → ((outside past b o n || false) || fills_from_end past (cmd.Fill b o n w)) ≡ false → ends_at (buffer_size past b) o n ≡ false
     from_end (length_of.Bytes n) e = refl
-    from_end length_of.Whole e = or-right (outside past b o length_of.Whole || false) (nat_le (buffer_size past b) o) e
+    from_end length_of.Whole e = (or_parts (outside past b o length_of.Whole || false) (nat_le (buffer_size past b) o) e).1
 
     go : (x : Option BufferInfo) → buffer past b ≡ x → (o ≤ buffer_size past b) × (o + fill_size (buffer_size past b) o n ≤ buffer_size past b) × (fill_size (buffer_size past b) o n ≡ 4 * (fill_size (buffer_size past b) o n / 4)) × (0 < buffer_size past b) → FitsFill x o n
     go None e f = let pos : 0 < 0 = rw (buffer_size, e) at f.3 in absurd (omega arith)
@@ -270,7 +247,7 @@ clean_older : (past : Past) (p : Point) → IsClean (p ∷ past) → IsClean pas
 unfolding is_supported
 clean_older past p clean = record {
   sound = λ before q r comes. clean.sound before q r (older comes);
-  supported = (and-true (is_supported_action p.action) (list_all (λ q. is_supported_action q.action) past) clean.supported).1;
+  supported = (and_parts (is_supported_action p.action) (list_all (λ q. is_supported_action q.action) past) clean.supported).1;
 }
 
 -- every point of a clean past fits
@@ -278,7 +255,7 @@ pub fits_clean : (past : Past) → IsClean past → AllFit past
 unfolding is_supported
 fits_clean [] clean = tt
 fits_clean (p ∷ past) clean =
-    (fits_action past p p.action refl (and-true (is_supported_action p.action) (list_all (λ q. is_supported_action q.action) past) clean.supported).0 (breaks_none past p clean), fits_clean past (clean_older past p clean))
+    (fits_action past p p.action refl (and_parts (is_supported_action p.action) (list_all (λ q. is_supported_action q.action) past) clean.supported).0 (breaks_none past p clean), fits_clean past (clean_older past p clean))
 
 clean_actions : {A : Type 0} (of : A → Action) (t : SubmittedBatch) (k : ℕ) (xs : List A) (past : Past) → IsClean (actions of t k xs past) → IsClean past
 clean_actions of t k [] past clean = clean

@@ -165,10 +165,6 @@ pub plain_more : (e : ℕ) (past : Past) (xs : List Entry) (y : Entry) → plain
 plain_more e past [] y = ap (λ (n : ℕ). next_past n y past) (omega arith)
 plain_more e past (x ∷ xs) y = plain_more (e + 1) (next_past e x past) xs y ∙ ap (λ (n : ℕ). next_past n y (plain_from (e + 1) (next_past e x past) xs)) (omega arith)
 
-pub plain_append : (e : ℕ) (past : Past) (xs ys : List Entry) → plain_from e past (xs ++ ys) ≡ plain_from (e + length xs) (plain_from e past xs) ys
-plain_append e past [] ys = ap (λ (n : ℕ). plain_from n past ys) (omega arith)
-plain_append e past (x ∷ xs) ys = plain_append (e + 1) (next_past e x past) xs ys ∙ ap (λ (n : ℕ). plain_from n (plain_from (e + 1) (next_past e x past) xs) ys) (omega arith)
-
 pub fill_command : (y : Cmd) (i o : ℕ) (n : Length) (w : ℕ) → y ≡ cmd.Fill i o n w → (e b k q : ℕ) (past : Past) (s new : Held) → IsApart s.memory s.buffers → Matches past s → FitsCommand past y
     → ((p : Placed) → placed s i ≡ Some p → new ≡ record s { memory = with_region s.memory p.object (splice (region_of s.memory p.object) o (repeated (fill_size p.size o n / 4) (to_le_bytes w32 w))) })
     → Matches (run_point e b k q y ∷ past) new

@@ -19,7 +19,8 @@ use Rattle.vk_device.specs.Matches.{Matches, next_past, IsNext, Answered, Rooms,
 use Rattle.vk_device.specs.Replays.{StopsAt}
 use Rattle.vk_device.proofs.Allotting.{stop_here, stop_later}
 use Rattle.vk_device.proofs.Clean.{clean_plain}
-use Rattle.vk_device.proofs.Steps.{plain_more, plain_append, reads_next}
+use Rattle.vk_device.proofs.Steps.{plain_more, reads_next}
+use Rattle.vk_model.proofs.Trace.PlainOrder.{plain_append}
 
 -- what holds after i entries
 pub record Replays (config : HeapSizes) (t : List Entry) (i : ℕ) (reported : Reads) (s : Held) : Type 0 where

@@ -70,11 +70,13 @@ pub fn trace_is_fresh()
     every_order();
 }
 
-/// Where invalidations may forget what the host wrote to cached memory and didn't flush, a trace without a
-/// fault is free of hazards still (`hazard_free`), and modelled (`modelled`).
-pub fn discards_keep_premises()
+/// What the law of the machine asks of a trace without a fault where there are caches: that it is free of
+/// hazards (`hazard_free`) and modelled (`modelled`) also where invalidations forget, and that its caches
+/// are in order (`cache_free`).
+fn caching_premises()
     ensures hazard_free { DiscardsHazardFreeLaw }
     ensures modelled { DiscardsModelLaw }
+    ensures cache_free { TraceCacheFreeLaw }
 {
     no_fault_is_sound();
     pieces_are_byte_writes();
@@ -89,22 +91,21 @@ pub fn discards_keep_premises()
     accesses_in_order();
 }
 
+/// Where invalidations may forget what the host wrote to cached memory and didn't flush, a trace without a
+/// fault is free of hazards still (`hazard_free`), and modelled (`modelled`).
+pub fn discards_keep_premises()
+    ensures hazard_free { DiscardsHazardFreeLaw }
+    ensures modelled { DiscardsModelLaw }
+{
+    caching_premises();
+}
+
 /// In a trace without a fault what one queue or the host wrote another reads only when it was made visible
 /// to it, and overwrites only when it was made available: the premise of the law of the machine on caches.
 pub fn trace_is_cache_free()
     ensures { TraceCacheFreeLaw }
 {
-    no_fault_is_sound();
-    pieces_are_byte_writes();
-    pieces_write_apart();
-    before_is_path();
-    before_is_order();
-    commands_stay();
-    no_hazard();
-    seen_is_before();
-    host_in_order();
-    growth_keeps();
-    accesses_in_order();
+    caching_premises();
 }
 
 /// In every allowed run of a trace without a fault, where the host and each queue have a cache and

@@ -7,17 +7,26 @@ use vk_model::{
     pieces_are_byte_writes,
 };
 
-/// Each run of a trace without a fault that the definitions allow is an allowed run of the machine, with
-/// events between its steps, each as soon as it can happen. And after it just those pieces and entries may
-/// come next that the definitions offer.
-pub fn defined_runs_are_allowed()
-    ensures { DefinedRunsAreAllowed }
+/// The runs of the definitions match runs of the machine: allowed ones are allowed there (`allowed`), and one
+/// after which nothing may come has run everything (`whole`).
+fn defined_runs_match()
+    ensures allowed { DefinedRunsAreAllowed }
+    ensures whole { DefinedRunsEnd }
 {
     no_fault_is_sound();
     growth_keeps();
     before_is_path();
     before_is_order();
     orders_agree();
+}
+
+/// Each run of a trace without a fault that the definitions allow is an allowed run of the machine, with
+/// events between its steps, each as soon as it can happen. And after it just those pieces and entries may
+/// come next that the definitions offer.
+pub fn defined_runs_are_allowed()
+    ensures { DefinedRunsAreAllowed }
+{
+    defined_runs_match();
 }
 
 /// In every run of a trace without a fault that the definitions allow: when a piece is offered or an entry
@@ -42,14 +51,9 @@ pub fn defined_runs_end()
     ensures whole { DefinedRunsEnd }
     ensures meaning { DefinedRunsMeanTheTrace }
 {
-    no_fault_is_sound();
-    growth_keeps();
-    before_is_path();
-    before_is_order();
-    orders_agree();
+    defined_runs_match();
     pieces_are_byte_writes();
     trace_is_hazard_free();
     trace_is_modelled();
     trace_is_fresh();
-    defined_runs_are_allowed();
 }

@@ -1,9 +1,6 @@
-mod RuleTable
-mod FaultLaws
-mod GrowthLaws
-mod PathLaws
-mod PieceLaws
-mod OrderLaws
-mod Pairs
-mod BytePlaces
-mod ApartLaws
+pub mod Lists
+pub mod Trace
+pub mod World
+pub mod Sync
+mod Rules
+mod Run

@@ -17,8 +17,8 @@ use Rattle.vk_model.specs.Sync.Node.{Node, Act, Hosts, Waits, Signals, Runs, Dep
 use Rattle.vk_model.specs.Sync.Edge.{signaled_by, is_host, is_signal}
 use Rattle.vk_model.specs.Rules.Owners.{some_bad_pair, bad_pair, element_in, after_some, breaks_owner_pair}
 use Rattle.vk_validate.specs.Supported.{is_supported, is_supported_action, is_supported_entry, is_memory}
-use Rattle.vk_validate.proofs.Truths.{clash}
-use Rattle.vk_validate.proofs.Members.{none_in, contains-cons, contains-head, contains-tail, all_passes}
+use Rattle.vk_model.proofs.Lists.Truths.{clash}
+use Rattle.vk_model.proofs.Lists.Members.{none_in, contains-cons, contains-head, contains-tail, all_passes}
 use Rattle.vk_validate.proofs.Forms.{entry_cases, command_cases, action_cases}
 use Rattle.vk_validate.proofs.Pasts.{supported-cons}
 use Rattle.vk_validate.proofs.Plain.{IsPlain, Placed, LastSubmit, LastBy, IsSubmitOn}

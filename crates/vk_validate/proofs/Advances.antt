@@ -13,8 +13,8 @@ use Rattle.vk_validate.specs.Inner.OrderState.{joined, Signaled, after_waits, aw
 use Rattle.vk_validate.specs.declared.clocks.Clock.{Clock}
 use Rattle.vk_validate.specs.declared.clocks.Order.{Order}
 use Rattle.vk_validate.proofs.Acts.{is_supported_act}
-use Rattle.vk_validate.proofs.Truths.{no, clash}
-use Rattle.vk_validate.proofs.Growth.{number_below, numbered}
+use Rattle.vk_model.proofs.Lists.Truths.{no, clash}
+use Rattle.vk_model.proofs.Sync.Numbers.{number_below, numbered}
 use Rattle.vk_validate.proofs.Available.{Available, Visible, Via, VisibleVia, leads_to_transfers, leads_to_writes, leads_to_host, leads_to_reads, available_present, visible_present, via_splits, via_stays, via_new, visible_splits, visible_via_stays}
 use Rattle.vk_validate.proofs.Causes.{into_host, into_command}
 use Rattle.vk_validate.proofs.Waits.{IsRising, AnyLinked, waits_join, linked_by, edge_of}

@@ -8,9 +8,9 @@ use Rattle.vk_model.specs.Sync.Edge.{edge}
 use Rattle.vk_model.specs.Sync.Before.{IsNumbered}
 use Rattle.vk_model.specs.Sync.Seen.{Read, Write, command_mask, host_mask}
 use Rattle.vk_validate.specs.Inner.OrderState.{on_transfers, on_host}
-use Rattle.vk_validate.proofs.Members.{contains-cons, contains-tail}
-use Rattle.vk_validate.proofs.Growth.{number_below, edge-older}
-use Rattle.vk_validate.proofs.Paths.{edge_forward, in_rest}
+use Rattle.vk_model.proofs.Lists.Members.{contains-cons, contains-tail}
+use Rattle.vk_model.proofs.Sync.Numbers.{number_below, edge-older, in_rest}
+use Rattle.vk_model.proofs.Sync.Paths.{edge_forward}
 
 -- an act makes earlier commands' writes available
 abbrev pub makes_available : Act → Bool
@@ -94,10 +94,10 @@ module _ (n : Node) (ns : List Node) (new : n.number ≡ length ns) (numbers : I
 
   -- and was so before the new node came
   pub available_was : (m : Node) → Available (n ∷ ns) w m → m.number < length ns → Available ns w m
-  available_was m (MadeHere c e f) lt = MadeHere (in_rest n ns new numbers m c lt) (sym (edge-older n ns new w m lt) ∙ e) f
+  available_was m (MadeHere c e f) lt = MadeHere (in_rest n ns new m c lt) (sym (edge-older n ns new w m lt) ∙ e) f
   available_was m (Passed {m = k} f c e) lt =
       let less = edge_forward (n ∷ ns) k m e in
-      Passed (available_was k f (omega (arith, less, lt))) (in_rest n ns new numbers m c lt) (sym (edge-older n ns new k m lt) ∙ e)
+      Passed (available_was k f (omega (arith, less, lt))) (in_rest n ns new m c lt) (sym (edge-older n ns new k m lt) ∙ e)
 
   pub visible_stays : (m : Node) → Visible ns w m → Visible (n ∷ ns) w m
   visible_stays m (Begun {q = q} f l c e) = Begun (available_stays q f) l (contains-tail n ns m c) (lift_edge q m c e)
@@ -106,10 +106,10 @@ module _ (n : Node) (ns : List Node) (new : n.number ≡ length ns) (numbers : I
   pub visible_was : (m : Node) → Visible (n ∷ ns) w m → m.number < length ns → Visible ns w m
   visible_was m (Begun {q = q} f l c e) lt =
       let less = edge_forward (n ∷ ns) q m e in
-      Begun (available_was q f (omega (arith, less, lt))) l (in_rest n ns new numbers m c lt) (sym (edge-older n ns new q m lt) ∙ e)
+      Begun (available_was q f (omega (arith, less, lt))) l (in_rest n ns new m c lt) (sym (edge-older n ns new q m lt) ∙ e)
   visible_was m (Carried {m = k} s c e) lt =
       let less = edge_forward (n ∷ ns) k m e in
-      Carried (visible_was k s (omega (arith, less, lt))) (in_rest n ns new numbers m c lt) (sym (edge-older n ns new k m lt) ∙ e)
+      Carried (visible_was k s (omega (arith, less, lt))) (in_rest n ns new m c lt) (sym (edge-older n ns new k m lt) ∙ e)
 
   -- the nodes when which the write is available are the older ones, and perhaps the new one
   pub via_splits : (test : Act → Bool) → Via (n ∷ ns) w test → Via ns w test ⊎ ((test n.act ≡ true) × Available (n ∷ ns) w n)

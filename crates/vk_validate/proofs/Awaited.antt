@@ -13,7 +13,7 @@ use Rattle.vk_model.specs.Sync.Node.{Node, Act, Hosts, Waits, Signals, Runs, Dep
 use Rattle.vk_model.specs.Sync.Edge.{signaled_by, values_to, initial_by, is_enough, is_host}
 use Rattle.vk_validate.specs.Inner.Cleared.{IsCleared}
 use Rattle.vk_validate.specs.Supported.{is_supported_action}
-use Rattle.vk_validate.proofs.Members.{none_in, contains-cons, contains-head, contains-tail, all_passes, some_member, member_passes}
+use Rattle.vk_model.proofs.Lists.Members.{none_in, contains-cons, contains-head, contains-tail, all_passes, some_member, member_passes}
 use Rattle.vk_validate.proofs.Acts.{with_member, with_keeps, host_acts, batch_acts}
 use Rattle.vk_validate.proofs.Reach.{kept_made}
 

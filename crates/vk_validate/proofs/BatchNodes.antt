@@ -20,9 +20,9 @@ use Rattle.vk_validate.specs.Inner.OrderState.{on_transfers, on_host, counted, a
 use Rattle.vk_validate.specs.declared.clocks.Clock.{Clock}
 use Rattle.vk_validate.specs.declared.clocks.Order.{Order}
 use Rattle.vk_validate.proofs.Acts.{is_supported_act}
-use Rattle.vk_validate.proofs.Members.{contains-cons, contains-tail}
-use Rattle.vk_validate.proofs.Truths.{no, clash}
-use Rattle.vk_validate.proofs.Growth.{number_below}
+use Rattle.vk_model.proofs.Lists.Members.{contains-cons, contains-tail}
+use Rattle.vk_model.proofs.Lists.Truths.{no, clash}
+use Rattle.vk_model.proofs.Sync.Numbers.{number_below}
 use Rattle.vk_validate.proofs.Ordered.{Submitted, host_edge, hosts_follow, submit_hosts, submit_leads, signal_hosts}
 use Rattle.vk_validate.proofs.Available.{Available, Visible, Via, leads_to_transfers, leads_to_writes, leads_to_host, leads_to_reads, available_present, visible_via, available_stays, available_was, visible_splits, visible_via_stays, Passed}
 use Rattle.vk_validate.proofs.Causes.{meets, meet_transfers, meet_host, into_element, into_signal, IntoElement, FromHost, FromCommand, FromTransfers, FromElement, IntoSignal, FromHosts, FromSignal, FromToHost}

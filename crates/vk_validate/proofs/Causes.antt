@@ -15,7 +15,7 @@ use Rattle.vk_model.specs.Sync.Node.{Node, Act, Hosts, Waits, Signals, Runs, Dep
 use Rattle.vk_model.specs.Sync.Edge.{edge, meet, is_host, is_signal, is_command, is_element, signals_all, waits_for_all, same_queue, siblings, scopes_meet, first_scope, second_scope, by_host, by_stages, by_signal, by_all_commands, pairs, by_semaphore, earlier, transfer_stage, host_stage, all_commands}
 use Rattle.vk_validate.specs.Inner.OrderState.{on_transfers, on_host}
 use Rattle.vk_validate.proofs.Acts.{is_supported_act}
-use Rattle.vk_validate.proofs.Truths.{no, clash, second, six}
+use Rattle.vk_model.proofs.Lists.Truths.{no, clash, six}
 use Rattle.vk_validate.proofs.Available.{leads_to_transfers, leads_to_host}
 
 -- ---- stages
@@ -53,7 +53,7 @@ all_transfers s e = lt-ltb 0 (bit_and s (transfer_stage + all_commands)) (above 
 
 edge_any : (ns : List Node) (m n : Node) → edge ns m n ≡ true → (by_host m n || by_stages m n || by_signal m n || by_all_commands m n || pairs m.act n.act || by_semaphore (earlier n ns) m n) ≡ true
 unfolding edge
-edge_any ns m n e = second (nat_lt m.number n.number) (by_host m n || by_stages m n || by_signal m n || by_all_commands m n || pairs m.act n.act || by_semaphore (earlier n ns) m n) e
+edge_any ns m n e = (and_parts (nat_lt m.number n.number) (by_host m n || by_stages m n || by_signal m n || by_all_commands m n || pairs m.act n.act || by_semaphore (earlier n ns) m n) e).1
 
 by_cause : {R : Type 0} (ns : List Node) (m n : Node) → edge ns m n ≡ true
     → (by_host m n ≡ true → R) → (by_stages m n ≡ true → R) → (by_signal m n ≡ true → R) → (by_all_commands m n ≡ true → R) → (pairs m.act n.act ≡ true → R) → (by_semaphore (earlier n ns) m n ≡ true → R) → R
@@ -74,7 +74,7 @@ signal_parts m n e =
     ((and_parts (same_queue m n) (is_signal n.act) c.0).1, c.1)
 
 all_parts : (m n : Node) → by_all_commands m n ≡ true → (is_element m.act && signals_all n.act || waits_for_all m.act && is_element n.act) ≡ true
-all_parts m n e = second (same_queue m n) (is_element m.act && signals_all n.act || waits_for_all m.act && is_element n.act) e
+all_parts m n e = (and_parts (same_queue m n) (is_element m.act && signals_all n.act || waits_for_all m.act && is_element n.act) e).1
 
 -- into a host entry: from the host's earlier ones, and from a signal that it waits for
 pub into_host : (ns : List Node) (m : Node) (k : ℕ) (p : Point) (x : Entry) → is_supported_act m.act ≡ true → edge ns m (record { number = k; point = p; act = Hosts x }) ≡ true

@@ -8,9 +8,10 @@ use Rattle.vk_model.specs.Sync.Edge.{edge, is_host, is_signal, is_command, by_ho
 use Rattle.vk_model.specs.Sync.Before.{IsNumbered}
 use Rattle.vk_validate.specs.Inner.OrderState.{counted}
 use Rattle.vk_validate.specs.declared.clocks.Order.{Order}
-use Rattle.vk_validate.proofs.Members.{contains-head}
-use Rattle.vk_validate.proofs.Truths.{no, clash, second_of_six, third_of_six, last_of_six}
-use Rattle.vk_validate.proofs.Paths.{edge_forward, edge-new}
+use Rattle.vk_model.proofs.Lists.Members.{contains-head}
+use Rattle.vk_model.proofs.Lists.Truths.{no, clash, second_of_six, third_of_six, last_of_six}
+use Rattle.vk_model.proofs.Sync.Numbers.{edge-new}
+use Rattle.vk_model.proofs.Sync.Paths.{edge_forward}
 use Rattle.vk_validate.proofs.Available.{Available, MadeHere, Passed, Visible, Begun, Carried, Via, VisibleVia, makes_available, leads_to_transfers, leads_to_writes, leads_to_host, leads_to_reads, available_stays, available_was, visible_stays, visible_was, via_splits, via_stays, via_new, visible_splits, visible_via_stays}
 use Rattle.vk_validate.proofs.Waits.{max_iff}
 
@@ -94,29 +95,29 @@ counted_iff j a b false f g splits stays new = (λ c. elim (splits c) [ inl x �
 module _ (n : Node) (ns : List Node) (new : n.number ≡ length ns) (numbers : IsNumbered ns) (w : Node) (j : ℕ) where
   -- where a write comes to a new node from
   pub available_from : Available (n ∷ ns) w n → ((edge ns w n ≡ true) × (makes_available n.act ≡ true)) ⊎ ((m : Node) × Available ns w m × (edge ns m n ≡ true))
-  available_from (MadeHere c e f) = inl (sym (edge-new n ns new numbers w) ∙ e, f)
-  available_from (Passed {m = m} f c e) = let less = edge_forward (n ∷ ns) m n e in inr (m, available_was n ns new numbers w m f (omega (arith, less, new)), sym (edge-new n ns new numbers m) ∙ e)
+  available_from (MadeHere c e f) = inl (sym (edge-new n ns w) ∙ e, f)
+  available_from (Passed {m = m} f c e) = let less = edge_forward (n ∷ ns) m n e in inr (m, available_was n ns new numbers w m f (omega (arith, less, new)), sym (edge-new n ns m) ∙ e)
 
   -- a write comes to a new node from an older one
   pub available_by : (m : Node) → Available ns w m → edge ns m n ≡ true → Available (n ∷ ns) w n
-  available_by m f e = Passed (available_stays n ns new numbers w m f) (contains-head n ns) (edge-new n ns new numbers m ∙ e)
+  available_by m f e = Passed (available_stays n ns new numbers w m f) (contains-head n ns) (edge-new n ns m ∙ e)
 
   -- or from the command itself
   pub available_sent : edge ns w n ≡ true → makes_available n.act ≡ true → Available (n ∷ ns) w n
-  available_sent e f = MadeHere (contains-head n ns) (edge-new n ns new numbers w ∙ e) f
+  available_sent e f = MadeHere (contains-head n ns) (edge-new n ns w ∙ e) f
 
   -- where a write that is visible at a new node comes from
   pub visible_from : Visible (n ∷ ns) w n → ((q : Node) × Available ns w q × (leads_to_reads q.act ≡ true) × (edge ns q n ≡ true)) ⊎ ((m : Node) × Visible ns w m × (edge ns m n ≡ true))
-  visible_from (Begun {q = q} f l c e) = let less = edge_forward (n ∷ ns) q n e in inl (q, available_was n ns new numbers w q f (omega (arith, less, new)), l, sym (edge-new n ns new numbers q) ∙ e)
-  visible_from (Carried {m = m} s c e) = let less = edge_forward (n ∷ ns) m n e in inr (m, visible_was n ns new numbers w m s (omega (arith, less, new)), sym (edge-new n ns new numbers m) ∙ e)
+  visible_from (Begun {q = q} f l c e) = let less = edge_forward (n ∷ ns) q n e in inl (q, available_was n ns new numbers w q f (omega (arith, less, new)), l, sym (edge-new n ns q) ∙ e)
+  visible_from (Carried {m = m} s c e) = let less = edge_forward (n ∷ ns) m n e in inr (m, visible_was n ns new numbers w m s (omega (arith, less, new)), sym (edge-new n ns m) ∙ e)
 
   -- from a node where it is visible
   pub visible_through : (m : Node) → Visible ns w m → edge ns m n ≡ true → Visible (n ∷ ns) w n
-  visible_through m s e = Carried (visible_stays n ns new numbers w m s) (contains-head n ns) (edge-new n ns new numbers m ∙ e)
+  visible_through m s e = Carried (visible_stays n ns new numbers w m s) (contains-head n ns) (edge-new n ns m ∙ e)
 
   -- or from an element that leads to the host's reads
   pub visible_begins : (q : Node) → Available ns w q → leads_to_reads q.act ≡ true → edge ns q n ≡ true → Visible (n ∷ ns) w n
-  visible_begins q f l e = Begun (available_stays n ns new numbers w q f) l (contains-head n ns) (edge-new n ns new numbers q ∙ e)
+  visible_begins q f l e = Begun (available_stays n ns new numbers w q f) l (contains-head n ns) (edge-new n ns q ∙ e)
 
   -- a node that fails a test leaves its threshold
   pub keeps : (test : Act → Bool) (a : ℕ) → test n.act ≡ false → Via ns w test ↔ (j < a) → Via (n ∷ ns) w test ↔ (j < a)

@@ -17,8 +17,8 @@ use Rattle.vk_model.specs.Sync.Access.{writes, is_in, bytes_of, writes_of}
 use Rattle.vk_validate.specs.Inner.Cleared.{IsCleared}
 use Rattle.vk_validate.specs.Supported.{is_supported, is_supported_action}
 use Rattle.vk_validate.specs.Inner.Tabled.{writes_byte, last_writer}
-use Rattle.vk_validate.proofs.Members.{none_in, contains-cons, any_map}
-use Rattle.vk_validate.proofs.Truths.{no}
+use Rattle.vk_model.proofs.Lists.Members.{none_in, contains-cons, any_map}
+use Rattle.vk_model.proofs.Lists.Truths.{no}
 use Rattle.vk_validate.proofs.Forms.{command_cases, action_cases}
 use Rattle.vk_validate.proofs.Pasts.{supported-cons}
 use Rattle.vk_validate.proofs.Acts.{with_member, supported_node, is_supported_act}

@@ -19,7 +19,7 @@ use Rattle.vk_model.specs.Sync.Before.{before}
 use Rattle.vk_model.specs.Sync.Access.{hazard, war, share, reads, writes, precedes, host_writes, writes_of, reads_of, origins, targets, bytes_of}
 use Rattle.vk_model.specs.Rules.Hazards.{breaks_hazard_war}
 use Rattle.vk_validate.specs.Supported.{is_supported, is_supported_action, is_supported_entry}
-use Rattle.vk_validate.proofs.Members.{none_in, contains-cons, contains-head, contains-tail, all_passes, none_passes_any}
+use Rattle.vk_model.proofs.Lists.Members.{none_in, contains-cons, contains-head, contains-tail, all_passes, none_passes_any}
 use Rattle.vk_validate.proofs.Forms.{entry_cases, command_cases, action_cases}
 use Rattle.vk_validate.proofs.Plain.{IsPlain, Placed, LastSubmit}
 use Rattle.vk_validate.proofs.NextNodes.{lined, next_nodes-lined}

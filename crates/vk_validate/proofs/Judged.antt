@@ -19,8 +19,8 @@ use Rattle.vk_model.specs.Rules.Passes.{some_pass, in_pass, breaks_pass_state, b
 use Rattle.vk_validate.specs.Supported.{is_supported, is_supported_action, is_supported_entry}
 use Rattle.vk_validate.specs.Inner.Tests.{is_on_type_0, lacks_usage, reads_unmapped, maps_local}
 use Rattle.vk_validate.specs.Inner.Tabled.{was_mapped}
-use Rattle.vk_validate.proofs.Members.{none_passes_any}
-use Rattle.vk_validate.proofs.Truths.{or-false-false}
+use Rattle.vk_model.proofs.Lists.Members.{none_passes_any}
+use Rattle.vk_model.proofs.Lists.Truths.{or-false-false}
 use Rattle.vk_validate.proofs.Barriers.{memory_any}
 use Rattle.vk_validate.proofs.Forms.{entry_cases, command_cases, action_cases}
 use Rattle.vk_validate.proofs.Pasts.{supported_entries, made_supported, live_made, none_bound, none_moves, maps_itself}

@@ -1,5 +1,3 @@
-pub mod Truths
-pub mod Members
 pub mod BoundLemmas
 pub mod Batches
 pub mod TableLemmas
@@ -14,8 +12,6 @@ pub mod Unbroken
 pub mod Pasts
 pub mod Judged
 pub mod Plain
-pub mod Growth
-pub mod Paths
 pub mod Available
 pub mod Causes
 pub mod Reach

@@ -13,7 +13,7 @@ use Rattle.vk_model.specs.Trace.Objects.{made, live, buffer_in, semaphore_in, in
 use Rattle.vk_model.specs.Rules.Ids.{asked_by_element, is_semaphore, is_dead, breaks_live_id, until}
 use Rattle.vk_validate.specs.Supported.{is_supported, is_supported_action, is_memory}
 use Rattle.vk_validate.specs.Inner.Tests.{names_dead}
-use Rattle.vk_validate.proofs.Truths.{or-false-false}
+use Rattle.vk_model.proofs.Lists.Truths.{or-false-false}
 use Rattle.vk_validate.proofs.Forms.{entry_cases, command_cases, action_cases}
 use Rattle.vk_validate.proofs.Pasts.{supported-cons, live_made}
 use Rattle.vk_validate.proofs.Plain.{LastSubmit, Placed, made_until}

@@ -8,7 +8,7 @@ use Rattle.std.proofs.lemmas.List.Elements.{filter-append}
 use Rattle.vk_model.specs.Trace.Point.{Past, Point}
 use Rattle.vk_model.specs.Sync.Node.{Node, Act, acts, nodes, with_acts, next_nodes}
 use Rattle.vk_model.specs.Sync.Before.{IsNumbered}
-use Rattle.vk_validate.proofs.Growth.{numbered}
+use Rattle.vk_model.proofs.Sync.Numbers.{numbered}
 
 -- acts as nodes of a point, from number k on
 abbrev pub lined : Point → ℕ → List Act → List Node

@@ -16,8 +16,8 @@ use Rattle.vk_model.specs.Sync.Seen.{Read, Write, command_mask, host_mask}
 use Rattle.vk_validate.specs.Inner.OrderState.{OrderState, on_transfers, on_host, counted, available_at, with_dependency, after_elements, Signaled, least_signal, after_waits, awaited, after_wait}
 use Rattle.vk_validate.specs.declared.clocks.Clock.{Clock}
 use Rattle.vk_validate.specs.declared.clocks.Order.{Order}
-use Rattle.vk_validate.proofs.Members.{contains-head, contains-tail}
-use Rattle.vk_validate.proofs.Growth.{number_below}
+use Rattle.vk_model.proofs.Lists.Members.{contains-head, contains-tail}
+use Rattle.vk_model.proofs.Sync.Numbers.{number_below}
 use Rattle.vk_validate.proofs.Acts.{with_keeps}
 use Rattle.vk_validate.proofs.Available.{Available, Visible, available_stays, available_was, visible_stays, visible_was}
 use Rattle.vk_validate.proofs.Waits.{IsRising, Under, least_some}

@@ -20,10 +20,10 @@ use Rattle.vk_validate.specs.Supported.{is_supported_action, is_memory}
 use Rattle.vk_validate.specs.Inner.OrderState.{OrderState, order_state, after_action, on_transfers, available_at, with_dependency, after_elements, signal_at, joined, Signaled, after_waits, awaited, after_wait, after_signal}
 use Rattle.vk_validate.specs.declared.clocks.Clock.{Clock}
 use Rattle.vk_validate.specs.declared.clocks.Order.{Order}
-use Rattle.vk_validate.proofs.Members.{none_in, contains-cons, contains-head, contains-tail}
+use Rattle.vk_model.proofs.Lists.Members.{none_in, contains-cons, contains-head, contains-tail}
 use Rattle.vk_validate.proofs.Forms.{entry_cases, command_cases, action_cases}
 use Rattle.vk_validate.proofs.Plain.{IsPlain, Placed, LastSubmit}
-use Rattle.vk_validate.proofs.Growth.{number_below, numbered}
+use Rattle.vk_model.proofs.Sync.Numbers.{number_below, numbered}
 use Rattle.vk_validate.proofs.Acts.{with_member, with_keeps, on_queue_0, last_queue, is_supported_act, supported_node}
 use Rattle.vk_validate.proofs.Ordered.{Submitted, submitted}
 use Rattle.vk_validate.proofs.Places.{IsApart, IsElsewhere, elsewhere}

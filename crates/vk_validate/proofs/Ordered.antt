@@ -15,13 +15,13 @@ use Rattle.vk_model.specs.Sync.Edge.{edge, signaled_by, is_host, is_signal, is_s
 use Rattle.vk_model.specs.Sync.Before.{before, Path, direct}
 use Rattle.vk_model.specs.Rules.Synchronization.{same_semaphore, breaks_signal_order}
 use Rattle.vk_validate.specs.Supported.{is_supported, is_supported_action}
-use Rattle.vk_validate.proofs.Members.{contains-cons, contains-head, all_passes, none_passes_any}
-use Rattle.vk_validate.proofs.Truths.{first_of_six, third_of_six}
+use Rattle.vk_model.proofs.Lists.Members.{contains-cons, contains-head, all_passes, none_passes_any}
+use Rattle.vk_model.proofs.Lists.Truths.{first_of_six, third_of_six}
 use Rattle.vk_validate.proofs.Forms.{command_cases, action_cases}
 use Rattle.vk_validate.proofs.Pasts.{supported-cons, supported-next}
 use Rattle.vk_validate.proofs.Plain.{IsPlain, LastSubmit, LastBy, IsSubmitOn}
-use Rattle.vk_validate.proofs.Growth.{numbered, number_below}
-use Rattle.vk_validate.proofs.Paths.{before_of_path, path_joined}
+use Rattle.vk_model.proofs.Sync.Numbers.{numbered, number_below}
+use Rattle.vk_model.proofs.Sync.Paths.{before_of_path, joined}
 use Rattle.vk_validate.proofs.NextNodes.{lined, next_nodes-lined}
 use Rattle.vk_validate.proofs.Acts.{with_member, with_keeps, batch_acts, on_queue_0, signals_none, signals_by}
 
@@ -157,5 +157,5 @@ host_before past p y supported last at here cy x cx host =
     let on : Path ns s.node y = direct (kept s.node s.present) cy (host_edge ns s.node y (omega arith) (submit_leads s.node y s.submits (s.entry_is ∙ ap (λ (q : Point). q.entry) (sym at)))) in
     before_of_path ns (numbered (p ∷ past)) x y (kept x cx) cy (elim (s.newest x cx host) [
       | inl same ↦ subst (λ (n : Node). Path ns n y) (sym same) on
-      | inr less ↦ path_joined ns x s.node y (direct (kept x cx) (kept s.node s.present) (host_edge ns x s.node less (hosts_follow x s.node host (submit_hosts s.node.act s.submits)))) on
+      | inr less ↦ joined ns x s.node y (direct (kept x cx) (kept s.node s.present) (host_edge ns x s.node less (hosts_follow x s.node host (submit_hosts s.node.act s.submits)))) on
     ])

@@ -13,7 +13,7 @@ use Rattle.vk_model.specs.Rules.Fault.{Comes, newest, older}
 use Rattle.vk_model.specs.Trace.Order.{SubmittedBatch, actions, started, submitted_batch, batches_from, batches_of, plain_from, plain_order, host}
 use Rattle.vk_model.specs.Sync.Node.{Node, Act, acts, nodes, same_place}
 use Rattle.vk_model.specs.Sync.Edge.{is_element}
-use Rattle.vk_validate.proofs.Members.{none_in, contains-cons}
+use Rattle.vk_model.proofs.Lists.Members.{none_in, contains-cons}
 use Rattle.vk_validate.proofs.Acts.{with_member}
 
 -- a command of an older point is at another place

@@ -25,12 +25,12 @@ use Rattle.vk_validate.specs.Supported.{is_supported, is_supported_action}
 use Rattle.vk_validate.specs.Inner.OrderState.{order_state}
 use Rattle.vk_validate.specs.Inner.Tabled.{last_writer}
 use Rattle.vk_validate.specs.Inner.Tests.{reads_unseen, overwrites_unseen}
-use Rattle.vk_validate.proofs.Members.{none_in, contains-cons, contains-head, contains-tail, all_passes, some_member, member_passes, any_map}
-use Rattle.vk_validate.proofs.Truths.{no, clash, bool_same}
+use Rattle.vk_model.proofs.Lists.Members.{none_in, contains-cons, contains-head, contains-tail, all_passes, some_member, member_passes, any_map}
+use Rattle.vk_model.proofs.Lists.Truths.{no, clash, bool_same}
 use Rattle.vk_validate.proofs.Forms.{entry_cases, command_cases, action_cases}
 use Rattle.vk_validate.proofs.Pasts.{supported-next}
 use Rattle.vk_validate.proofs.Plain.{IsPlain, Placed, LastSubmit}
-use Rattle.vk_validate.proofs.Growth.{number_below, numbered}
+use Rattle.vk_model.proofs.Sync.Numbers.{number_below, numbered}
 use Rattle.vk_validate.proofs.NextNodes.{next_nodes-lined}
 use Rattle.vk_validate.proofs.Acts.{on_queue_0, last_queue, supported_acts, supported_node, is_supported_act, batch_acts}
 use Rattle.vk_validate.proofs.Ordered.{host_edge, hosts_follow}

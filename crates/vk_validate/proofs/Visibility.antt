@@ -19,12 +19,12 @@ use Rattle.vk_model.specs.Sync.Before.{before, Path, direct, longer, IsNumbered}
 use Rattle.vk_model.specs.Sync.Seen.{Access, Read, Write, seen, makes_writes_available, makes_writes_visible, available_by, visible_by, passes, invalidates, command_mask, host_mask, is_wait, to_host}
 use Rattle.vk_validate.specs.Supported.{is_supported, is_memory, is_supported_entry}
 use Rattle.vk_validate.proofs.Acts.{is_supported_act}
-use Rattle.vk_validate.proofs.Members.{some_member, member_passes}
-use Rattle.vk_validate.proofs.Truths.{no, clash}
+use Rattle.vk_model.proofs.Lists.Members.{some_member, member_passes}
+use Rattle.vk_model.proofs.Lists.Truths.{no, clash}
 use Rattle.vk_validate.proofs.Forms.{entry_cases}
 use Rattle.vk_validate.proofs.Pasts.{made_supported}
-use Rattle.vk_validate.proofs.Growth.{numbered}
-use Rattle.vk_validate.proofs.Paths.{path_of_before, before_of_path, target, unique}
+use Rattle.vk_model.proofs.Sync.Numbers.{numbered, unique}
+use Rattle.vk_model.proofs.Sync.Paths.{path_of_before, before_of_path, target}
 use Rattle.vk_validate.proofs.Available.{Available, MadeHere, Passed, Visible, Begun, Carried, Via, makes_available, leads_to_transfers, leads_to_writes, leads_to_reads, available_present}
 use Rattle.vk_validate.proofs.Causes.{into_command}
 use Rattle.vk_validate.proofs.Clocked.{command_hosts}

@@ -14,8 +14,8 @@ use Rattle.vk_validate.specs.Inner.Cleared.{IsCleared}
 use Rattle.vk_validate.specs.Inner.OrderState.{Signaled, least_signal, after_wait, after_waits, joined}
 use Rattle.vk_validate.specs.declared.clocks.Clock.{Clock}
 use Rattle.vk_validate.specs.declared.clocks.Order.{Order}
-use Rattle.vk_validate.proofs.Truths.{clash}
-use Rattle.vk_validate.proofs.Members.{none_in, contains-cons, contains-head, contains-tail}
+use Rattle.vk_model.proofs.Lists.Truths.{clash}
+use Rattle.vk_model.proofs.Lists.Members.{none_in, contains-cons, contains-head, contains-tail}
 use Rattle.vk_validate.proofs.Awaited.{signals_value, value_signaled, enough_is}
 
 -- one clock counts no more than another

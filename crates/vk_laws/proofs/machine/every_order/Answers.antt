@@ -1,5 +1,5 @@
-use Rattle.vk_laws.proofs.Fresh.{earlier_done, later_not_done}
-use Rattle.vk_laws.proofs.Coherence.{allowed, fresh, wrote}
+use Rattle.vk_laws.proofs.EveryOrder.Fresh.{earlier_done, later_not_done}
+use Rattle.vk_laws.proofs.EveryOrder.Coherence.{allowed, fresh, wrote}
 use Rattle.vk_laws.proofs.machine.every_order.Goals as goal
 
 pub returns : goal.returns

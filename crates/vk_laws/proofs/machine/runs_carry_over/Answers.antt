@@ -1,4 +1,4 @@
-use Rattle.vk_laws.proofs.Growth.{reached_too}
+use Rattle.vk_laws.proofs.EveryOrder.Growth.{reached_too}
 use Rattle.vk_laws.proofs.machine.runs_carry_over.Goals as goal
 
 pub returns : goal.returns

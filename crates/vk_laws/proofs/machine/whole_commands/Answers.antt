@@ -1,4 +1,4 @@
-use Rattle.vk_laws.proofs.Commands.{is_model}
+use Rattle.vk_laws.proofs.EveryOrder.Commands.{is_model}
 use Rattle.vk_laws.proofs.machine.whole_commands.Goals as goal
 
 pub returns : goal.returns

@@ -1,5 +1,5 @@
 use Rattle.std.proofs.Common.{sym, ◌∙◌}
-use Rattle.vk_laws.proofs.Fresh.{done_by_number}
+use Rattle.vk_laws.proofs.EveryOrder.Fresh.{done_by_number}
 use Rattle.vk_laws.proofs.reader.is_done.Goals as goal
 
 pub returns : goal.returns

@@ -1,5 +1,5 @@
 use Rattle.std.proofs.Common.{sym, ◌∙◌}
-use Rattle.vk_laws.proofs.Fresh.{done_by_number}
+use Rattle.vk_laws.proofs.EveryOrder.Fresh.{done_by_number}
 use Rattle.vk_laws.proofs.tasks.is_done_before.Goals as goal
 use Rattle.vk_model.specs.Trace.Order.{plain_order}
 use Rattle.vk_laws.specs.Tasks.{accesses_of}

@@ -1,4 +1,4 @@
-use Rattle.vk_laws.proofs.ModelBytes.{read_defined}
+use Rattle.vk_laws.proofs.Bytes.ModelBytes.{read_defined}
 use Rattle.vk_laws.proofs.tasks.reads_are_defined.Goals as goal
 
 pub returns : goal.returns

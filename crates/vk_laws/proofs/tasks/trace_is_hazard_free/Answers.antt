@@ -1,4 +1,4 @@
-use Rattle.vk_laws.proofs.HazardFree.{hazard_free}
+use Rattle.vk_laws.proofs.Accesses.HazardFree.{hazard_free}
 use Rattle.vk_laws.proofs.tasks.trace_is_hazard_free.Goals as goal
 
 pub returns : goal.returns

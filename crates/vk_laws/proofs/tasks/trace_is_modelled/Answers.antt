@@ -1,4 +1,4 @@
-use Rattle.vk_laws.proofs.ModelBytes.{is_model}
+use Rattle.vk_laws.proofs.Bytes.ModelBytes.{is_model}
 use Rattle.vk_laws.proofs.tasks.trace_is_modelled.Goals as goal
 
 pub returns : goal.returns

@@ -1,4 +1,4 @@
-use Rattle.vk_laws.proofs.TaskAccesses.{settled}
+use Rattle.vk_laws.proofs.Accesses.TaskAccesses.{settled}
 use Rattle.vk_laws.proofs.tasks.trace_is_settled.Goals as goal
 
 pub returns : goal.returns

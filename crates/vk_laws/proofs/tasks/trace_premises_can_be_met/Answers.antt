@@ -3,8 +3,8 @@ use Rattle.vk_laws.specs.Example.{task}
 use Rattle.vk_laws.specs.Discards.{with_discards}
 use Rattle.vk_laws.specs.TraceCaches.{caching_of}
 use Rattle.vk_laws.specs.TraceExample.{example, points, run}
-use Rattle.vk_laws.proofs.Runs.{bare, memory_after, reached}
-use Rattle.vk_laws.proofs.TraceExample.{no_fault, forgotten, defined, reads_byte, allowed, next}
+use Rattle.vk_laws.proofs.Running.Runs.{bare, memory_after, reached}
+use Rattle.vk_laws.proofs.Running.TraceExample.{no_fault, forgotten, defined, reads_byte, allowed, next}
 use Rattle.vk_laws.proofs.tasks.trace_premises_can_be_met.Goals as goal
 
 pub returns : goal.returns

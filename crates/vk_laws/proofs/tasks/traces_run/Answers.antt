@@ -1,5 +1,5 @@
 use Rattle.std.proofs.Common.{ℕ, arith}
-use Rattle.vk_laws.proofs.Runs.{bare, memory_after, reached, in_order, in_order_allowed, runs_next, some_next, may_too, allowed_too}
+use Rattle.vk_laws.proofs.Running.Runs.{bare, memory_after, reached, in_order, in_order_allowed, runs_next, some_next, may_too, allowed_too}
 use Rattle.vk_laws.proofs.tasks.traces_run.Goals as goal
 
 pub returns : goal.returns

@@ -1,4 +1,4 @@
-use Rattle.vk_laws.proofs.Ordered.{in_order}
+use Rattle.vk_laws.proofs.Nodes.Ordered.{in_order}
 use Rattle.vk_laws.proofs.trace.accesses_in_order.Goals as goal
 
 pub returns : goal.returns

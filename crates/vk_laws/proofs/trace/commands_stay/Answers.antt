@@ -1,6 +1,6 @@
 use Rattle.vk_model.specs.declared.rule.Rule.TheVariants as rule
 use Rattle.vk_model.specs.Rules.Table.{breaks}
-use Rattle.vk_laws.proofs.Steady.{commands_stay}
+use Rattle.vk_laws.proofs.Nodes.Steady.{commands_stay}
 use Rattle.vk_model.specs.Trace.Order.{plain_order}
 use Rattle.vk_laws.proofs.trace.commands_stay.Goals as goal
 

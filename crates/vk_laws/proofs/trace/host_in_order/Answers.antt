@@ -1,4 +1,4 @@
-use Rattle.vk_laws.proofs.NoHazard.{host_in_order}
+use Rattle.vk_laws.proofs.Nodes.NoHazard.{host_in_order}
 use Rattle.vk_laws.proofs.trace.host_in_order.Goals as goal
 
 pub returns : goal.returns

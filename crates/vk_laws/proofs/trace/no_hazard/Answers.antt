@@ -1,6 +1,6 @@
 use Rattle.vk_model.specs.declared.rule.Rule.TheVariants as rule
 use Rattle.vk_model.specs.Rules.Table.{breaks}
-use Rattle.vk_laws.proofs.NoHazard.{no_hazard}
+use Rattle.vk_laws.proofs.Nodes.NoHazard.{no_hazard}
 use Rattle.vk_laws.proofs.trace.no_hazard.Goals as goal
 
 pub returns : goal.returns

@@ -1,4 +1,4 @@
-use Rattle.vk_laws.proofs.NoHazard.{seen_before}
+use Rattle.vk_laws.proofs.Nodes.NoHazard.{seen_before}
 use Rattle.vk_laws.proofs.trace.seen_is_before.Goals as goal
 
 pub returns : goal.returns

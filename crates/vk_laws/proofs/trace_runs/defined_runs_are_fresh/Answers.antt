@@ -5,8 +5,8 @@ use Rattle.vk_laws.specs.Machine.{Task, latest}
 use Rattle.vk_laws.specs.Tasks.{accesses_of}
 use Rattle.vk_laws.specs.TraceBytes.{uncached}
 use Rattle.vk_laws.specs.DefinedRuns.{has_happened, bytes_after}
-use Rattle.vk_laws.proofs.Runs.{bare, reached_from}
-use Rattle.vk_laws.proofs.DefinedBytes.{bytes_same, latest_same, first_real, second_real}
+use Rattle.vk_laws.proofs.Running.Runs.{bare, reached_from}
+use Rattle.vk_laws.proofs.Running.DefinedBytes.{bytes_same, latest_same, first_real, second_real}
 use Rattle.vk_laws.proofs.trace_runs.defined_runs_are_fresh.Goals as goal
 
 pub returns : goal.returns

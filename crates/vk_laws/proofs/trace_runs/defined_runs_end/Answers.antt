@@ -8,23 +8,21 @@ use Rattle.vk_laws.specs.Machine.{Task}
 use Rattle.vk_laws.specs.Tasks.{task_count, accesses_of}
 use Rattle.vk_laws.specs.TraceBytes.{uncached, value_before}
 use Rattle.vk_laws.specs.DefinedRuns.{bytes_after}
-use Rattle.vk_laws.proofs.Coherent.{Settled, Follows}
-use Rattle.vk_laws.proofs.Fresh.{settled_at}
-use Rattle.vk_laws.proofs.Runs.{bare, reached_from}
-use Rattle.vk_laws.proofs.ModelBytes.{before_whole}
-use Rattle.vk_laws.proofs.Prefixes.{there_below}
-use Rattle.vk_laws.proofs.DefinedRuns.{ended}
-use Rattle.vk_laws.proofs.DefinedBytes.{bytes_same, writer_real}
+use Rattle.vk_laws.proofs.EveryOrder.Coherent.{Settled, Follows}
+use Rattle.vk_laws.proofs.EveryOrder.Fresh.{settled_at}
+use Rattle.vk_laws.proofs.Running.Runs.{bare, reached_from}
+use Rattle.vk_laws.proofs.Bytes.BeforeNodes.{before_whole}
+use Rattle.vk_laws.proofs.Nodes.Prefixes.{there_below}
+use Rattle.vk_laws.proofs.Running.DefinedBytes.{bytes_same, writer_real}
 use Rattle.vk_laws.proofs.trace_runs.defined_runs_end.Goals as goal
 
 pub returns : goal.returns
 returns c = record {
-  whole = λ t part_count steps e run none over.
-      ended c.before_is_path.ensures c.before_is_order.ensures.transitive c.before_is_order.ensures.forward c.growth_keeps.ensures c.orders_agree.ensures t ((c.no_fault_is_sound.ensures t).0 none) part_count steps e run over;
+  whole = λ t part_count steps e run none over. c.defined_runs_match.ensures.whole t part_count steps e run none over;
   meaning = λ t part_count steps e run first b v none over is.
       let all = plain_order t in
-      let d = c.defined_runs_are_allowed.ensures t part_count steps e run none in
-      let ends = ended c.before_is_path.ensures c.before_is_order.ensures.transitive c.before_is_order.ensures.forward c.growth_keeps.ensures c.orders_agree.ensures t ((c.no_fault_is_sound.ensures t).0 none) part_count steps e run over in
+      let d = c.defined_runs_match.ensures.allowed t part_count steps e run none in
+      let ends = c.defined_runs_match.ensures.whole t part_count steps e run none over in
       let settled : Settled (accesses_of all) d.0 b (length (nodes all)) = record {
         earlier = λ u lt w. let real = writer_real all c.pieces_are_byte_writes.ensures u b w in (d.1.happened u real.0 real.1).1 (ends.1 u real.0 real.1);
         later = λ u le w h.

@@ -1,4 +1,4 @@
-use Rattle.vk_model.proofs.PathLaws.{transitive, leads_on}
+use Rattle.vk_model.proofs.Sync.Paths.{transitive, leads_on}
 use Rattle.vk_model.proofs.laws.before_is_order.Goals as goal
 
 pub returns-clause-transitive : goal.returns-clause-transitive

@@ -1,4 +1,4 @@
-use Rattle.vk_model.proofs.RuleTable.{names_apart}
+use Rattle.vk_model.proofs.Rules.Table.{names_apart}
 use Rattle.vk_model.proofs.laws.names_differ.Goals as goal
 
 pub returns : goal.returns

@@ -1,4 +1,4 @@
-use Rattle.vk_model.proofs.OrderLaws.{orders_agree}
+use Rattle.vk_model.proofs.Trace.Orders.{orders_agree}
 use Rattle.vk_model.proofs.laws.orders_agree.Goals as goal
 
 pub returns : goal.returns

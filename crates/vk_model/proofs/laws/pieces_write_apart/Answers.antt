@@ -1,4 +1,4 @@
-use Rattle.vk_model.proofs.ApartLaws.{write_apart}
+use Rattle.vk_model.proofs.Run.Apart.{write_apart}
 use Rattle.vk_model.proofs.laws.pieces_write_apart.Goals as goal
 
 pub returns : goal.returns

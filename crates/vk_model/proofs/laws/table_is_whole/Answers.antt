@@ -1,4 +1,4 @@
-use Rattle.vk_model.proofs.RuleTable.{has_one_place}
+use Rattle.vk_model.proofs.Rules.Table.{has_one_place}
 use Rattle.vk_model.proofs.laws.table_is_whole.Goals as goal
 
 pub returns : goal.returns

@@ -1,8 +1,9 @@
 use Rattle.std.proofs.Common.{◌≡◌, false, ap}
 use Rattle.vk_device.specs.Held.{Held}
 use Rattle.vk_device.proofs.Clean.{fits_clean}
-use Rattle.vk_device.proofs.Next.{if_ok, ready_next}
+use Rattle.vk_device.proofs.Next.{ready_next}
 use Rattle.vk_device.proofs.device.Device.apply.Goals as goal
+use Rattle.std.proofs.lemmas.Result.{IfOk-weaker}
 
 pub apply_entry-applied-requires : goal.apply_entry-applied-requires
 apply_entry-applied-requires g c =
@@ -12,4 +13,4 @@ apply_entry-applied-requires g c =
 
 pub returns-else-is_err-clause-answered : goal.returns-else-is_err-clause-answered
 returns-else-is_err-clause-answered g c =
-    if_ok c.apply_entry-applied.result _ _ (λ a answered. λ e past st clean. answered e past st (fits_clean _ clean)) c.apply_entry-applied.ensures.answered
+    IfOk-weaker c.apply_entry-applied.result _ _ (λ a answered. λ e past st clean. answered e past st (fits_clean _ clean)) c.apply_entry-applied.ensures.answered

@@ -1,21 +1,15 @@
-use Rattle.std.proofs.Common.{Result, Ok, Err, ap}
-use Rattle.std.specs.Prelude.{IfOk}
+use Rattle.std.proofs.Common.{ap}
 use Rattle.vk_model.specs.declared.entry.Entry.{Entry}
 use Rattle.vk_device.proofs.Entries.{map_answered, buffer_answered, read_answered, submit_answered}
-use Rattle.vk_device.specs.declared.applied.Applied.{Applied}
-use Rattle.vk_device.specs.declared.applied.ApplyError.{ApplyError}
 use Rattle.vk_device.specs.Allotted.{asked_by}
 use Rattle.vk_device.specs.Held.{placed}
 use Rattle.vk_device.proofs.Allotting.{buffer_rooms, buffer_allots, map_allots, nothing_allots}
 use Rattle.vk_device.proofs.device.Device.apply_entry.Goals as goal
-
-if_ok : (r : Result Applied ApplyError) (P Q : Applied → Type 0) → ((a : Applied) → P a → Q a) → IfOk r P → IfOk r Q
-if_ok (Ok a) P Q f p = f a p
-if_ok (Err e) P Q f p = p
+use Rattle.std.proofs.lemmas.Result.{IfOk-weaker}
 
 pub returns-in-Dedicated-clause-answered : goal.returns-in-Dedicated-clause-answered
 returns-in-Dedicated-clause-answered c =
-    if_ok c.make_buffer.result _ _ (λ a made. λ e past st fit.
+    IfOk-weaker c.make_buffer.result _ _ (λ a made. λ e past st fit.
     buffer_answered c.args.self.now c.make_buffer.new.self c.args.entry.now c.in-Buffer.id c.in-Dedicated.memory_type c.in-Buffer.info c.in-Buffer.is c.make_buffer.ensures.apart a made e past st fit)
     c.make_buffer.ensures.made
 
@@ -33,11 +27,11 @@ returns-in-Map-clause-answered c = λ e past st fit. map_answered c.args.self.no
 
 pub returns-in-Dedicated-clause-rooms : goal.returns-in-Dedicated-clause-rooms
 returns-in-Dedicated-clause-rooms c =
-    if_ok c.make_buffer.result _ _ (λ a made. buffer_rooms c.args.self.now c.make_buffer.new.self c.args.entry.now c.in-Buffer.id c.in-Dedicated.memory_type c.in-Buffer.info c.in-Buffer.is c.in-Dedicated.is a made) c.make_buffer.ensures.made
+    IfOk-weaker c.make_buffer.result _ _ (λ a made. buffer_rooms c.args.self.now c.make_buffer.new.self c.args.entry.now c.in-Buffer.id c.in-Dedicated.memory_type c.in-Buffer.info c.in-Buffer.is c.in-Dedicated.is a made) c.make_buffer.ensures.made
 
 pub returns-in-Dedicated-clause-allots : goal.returns-in-Dedicated-clause-allots
 returns-in-Dedicated-clause-allots c =
-    if_ok c.make_buffer.result _ _ (λ a made. buffer_allots c.args.self.now c.make_buffer.new.self c.args.entry.now c.in-Buffer.id c.in-Dedicated.memory_type c.in-Buffer.info c.in-Buffer.is c.in-Dedicated.is a made) c.make_buffer.ensures.made
+    IfOk-weaker c.make_buffer.result _ _ (λ a made. buffer_allots c.args.self.now c.make_buffer.new.self c.args.entry.now c.in-Buffer.id c.in-Dedicated.memory_type c.in-Buffer.info c.in-Buffer.is c.in-Dedicated.is a made) c.make_buffer.ensures.made
 
 pub returns-in-Map-clause-allots : goal.returns-in-Map-clause-allots
 returns-in-Map-clause-allots c =

@@ -1,0 +1,4 @@
+pub mod TaskNodes
+pub mod TaskAccesses
+pub mod Apart
+pub mod HazardFree

@@ -1,0 +1,3 @@
+pub mod PointSources
+pub mod BeforeNodes
+pub mod ModelBytes

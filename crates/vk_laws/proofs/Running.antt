@@ -1,0 +1,11 @@
+pub mod Runs
+pub mod TraceExample
+pub mod Eager
+pub mod Stages
+pub mod TraceGrowth
+pub mod StageTasks
+pub mod AtStage
+pub mod StageSteps
+pub mod StageNext
+pub mod DefinedRuns
+pub mod DefinedBytes

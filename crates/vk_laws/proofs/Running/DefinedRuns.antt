@@ -1,0 +1,135 @@
+-- The allowed runs of the definitions are runs of the machine, and those that are over have run each task.
+use Rattle.std.proofs.Common.{◌≡◌, ◌⊎◌, inl, inr, ℕ, ◌<◌, ◌≤◌, List, [], ◌∷◌, length, Bool, true, false, ◌||◌, not, IsTrue, Some, refl, ap, sym, ◌∙◌, subst, arith, suc, zero}
+use Rattle.std.specs.Prelude.{Contains, ◌==◌}
+use Rattle.std.specs.List.{filter, list_all}
+use Rattle.std.proofs.lemmas.Bool.{lt-ltb, or_left, or_right}
+use Rattle.vk_model.specs.declared.command.Cmd.{Cmd}
+use Rattle.vk_model.specs.declared.entry.Entry.{Entry}
+use Rattle.vk_model.specs.Basics.{below}
+use Rattle.vk_model.specs.Trace.Point.{Past}
+use Rattle.vk_model.specs.Trace.Order.{plain_order}
+use Rattle.vk_model.specs.World.ByteWrites.{ByteWrite}
+use Rattle.vk_model.specs.Run.Pieces.{pieces}
+use Rattle.vk_model.specs.Sync.Node.{Node, Act, Hosts, Waits, Signals, Runs, Depends, nodes}
+use Rattle.vk_model.specs.Sync.Before.{before}
+use Rattle.vk_model.specs.Run.Runs.{Name, is_done, node_pieces, is_free, Step, Stage, start, is_host_wait, past_with, may_go, Allowed}
+use Rattle.vk_laws.specs.Machine.{Task, TraceAccesses}
+use Rattle.vk_laws.specs.Tasks.{node_at, accesses_of}
+use Rattle.vk_laws.specs.DefinedRuns.{is_event, piece_task, entry_task, done_by, has_happened, Offers, Enters, Matches, IsOver}
+use Rattle.vk_laws.proofs.Accesses.TaskNodes.{node_of}
+use Rattle.vk_model.proofs.Lists.Members.{mapped_from, range_from, each_of, contains-tail, contains-cons}
+use Rattle.vk_laws.proofs.Running.Stages.{low, whole_past, wait_past}
+use Rattle.vk_model.proofs.Sync.Numbers.{number_below, numbered}
+use Rattle.vk_laws.proofs.Running.StageTasks.{turned, Kind, piece, hosts, kind, happened_is, Known, pieces_same}
+use Rattle.vk_laws.proofs.Running.AtStage.{AtPoint, begins, grows, here, after_grows}
+use Rattle.vk_laws.proofs.Running.StageSteps.{comes_next, all_steps}
+use Rattle.vk_laws.proofs.Running.StageNext.{is_offered, only_next}
+
+module _ {t : List Entry} (known : Known t) where
+  abbrev all : Past
+  all = plain_order t
+
+  abbrev tr : TraceAccesses
+  tr = accesses_of all
+
+  module _ (part_count : Past → ℕ) where
+    pub allowed_too : (steps : List Step) (e : Stage) (run : Allowed part_count (start t) steps e)
+        → (done : List Task) × Matches all e done × (filter (λ u. not (is_event all u)) done ≡ done_by part_count (start t) steps e run [])
+    allowed_too steps e run =
+        let did : List Task = done_by part_count (start t) steps e run [] in
+        let i : AtPoint known e did = all_steps known part_count steps (start t) [] (begins known) e run in (
+          i.tasks,
+          record {
+            allowed = i.allowed;
+            happened = i.happened;
+            eager = i.eager;
+            next = λ u may. comes_next known e did i u may;
+            only = λ u plain may. only_next known e did i u plain may;
+          },
+          i.order,
+        )
+
+  -- ---- where nothing may come next
+
+  module _ (s : Stage) (did : List Task) (i : AtPoint known s did) (over : IsOver s) where
+    abbrev past : Past
+    past = s.front.past
+
+    -- the pieces of the nodes below a number have run
+    abbrev Ran : ℕ → Type 0
+    Ran k = (n : Node) (c : Cmd) (j : ℕ) → Contains (nodes past) n → n.number < k → n.act ≡ Runs c → j < length (pieces past c) → IsTrue (is_done s.done (n.number, j))
+
+    node_ran : (P : Past) (k : ℕ) → Ran k → (m : Node) → Contains (nodes past) m → m.number < k → ((c : Cmd) → m.act ≡ Runs c → length (pieces P c) ≡ length (pieces past c)) → IsTrue (list_all (is_done s.done) (node_pieces P m m.act))
+    node_ran P k ran m cm lt count = go m.act refl
+      where
+        go : (a : Act) → m.act ≡ a → IsTrue (list_all (is_done s.done) (node_pieces P m a))
+        go (Runs c) act = each_of (is_done s.done) (node_pieces P m (Runs c)) (λ y h.
+            let j = mapped_from (λ j. (m.number, j)) (below (length (pieces P c))) y h in
+            let within = (range_from 0 (length (pieces P c)) j.0 j.1).1 in
+            let same = count c act in
+            subst (λ (z : Name). IsTrue (is_done s.done z)) j.2 (ran m c j.0 cm lt act (omega (arith, within, same))))
+        go (Hosts x) act = refl
+        go (Waits x) act = refl
+        go (Signals x) act = refl
+        go (Depends r d) act = refl
+
+    free_next : (k : ℕ) → Ran k → (n : Node) → n.number ≤ k → IsTrue (is_free past s.done n)
+    free_next k ran n le = each_of (λ m. not (before (nodes past) m n) || list_all (is_done s.done) (node_pieces past m m.act)) (nodes past) (λ m cm. go m cm (before (nodes past) m n) refl)
+      where
+        go : (m : Node) → Contains (nodes past) m → (b : Bool) → before (nodes past) m n ≡ b → IsTrue (not b || list_all (is_done s.done) (node_pieces past m m.act))
+        go m cm false e = refl
+        go m cm true e = let lt = known.leads (nodes past) m n e in node_ran past k ran m cm (omega (arith, lt, le)) (λ c act. refl)
+
+    all_ran : (k : ℕ) → Ran k
+    all_ran zero = λ n c j cn lt act less. absurd (omega (arith, lt))
+    all_ran (suc k) = λ n c j cn lt act less. go (all_ran k) n c j cn lt act less (is_done s.done (n.number, j)) refl
+      where
+        go : Ran k → (n : Node) (c : Cmd) (j : ℕ) → Contains (nodes past) n → n.number < suc k → n.act ≡ Runs c → j < length (pieces past c) → (b : Bool) → is_done s.done (n.number, j) ≡ b → IsTrue (is_done s.done (n.number, j))
+        go ran n c j cn lt act less true e = e
+        go ran n c j cn lt act less false e = absurd (over (piece_task (n.number, j)) (Offers (n.number, j) (is_offered known s did i n c j cn act less (free_next k ran n (omega (arith, lt))) e)))
+
+    -- then the next entry may be applied, so there is none
+    entry_goes : (x : Entry) (xs : List Entry) → s.left ≡ x ∷ xs → (b : Bool) → is_host_wait x ≡ b → IsTrue (may_go s x)
+    entry_goes x xs left false e = or_left (not (is_host_wait x)) _ (ap not e)
+    entry_goes x xs left true e = or_right (not (is_host_wait x)) _ (each_of (λ n. not (n.point.entry == s.count) || is_free (past_with s x) s.done n) (nodes (past_with s x)) (λ n cn. or_right (not (n.point.entry == s.count)) _ (free n)))
+      where
+        ran_there : (m : Node) → (here known s did i x xs left ≡ m) ⊎ Contains (nodes past) m → IsTrue (list_all (is_done s.done) (node_pieces (past_with s x) m m.act))
+        ran_there m (inl same) = subst (λ (n : Node). IsTrue (list_all (is_done s.done) (node_pieces (past_with s x) n n.act))) same refl
+        ran_there m (inr old) = node_ran (past_with s x) (length (nodes past)) (all_ran (length (nodes past))) m old (number_below (nodes past) (numbered past) m old)
+            (λ c act. ap (λ (ps : List (List ByteWrite)). length ps)
+            (sym (pieces_same known _ (past_with s x) (after_grows known s did i x xs left) m c (subst (λ (l : Past). Contains (nodes l) m) (sym (wait_past known.orders known.keeps t known.sound s i.placed x xs left e)) (contains-tail (here known s did i x xs left) (nodes past) m old)) act)
+            ∙ pieces_same known _ past (grows known s did i) m c old act))
+
+        free : (n : Node) → IsTrue (is_free (past_with s x) s.done n)
+        free n = each_of (λ m. not (before (nodes (past_with s x)) m n) || list_all (is_done s.done) (node_pieces (past_with s x) m m.act)) (nodes (past_with s x)) (λ m cm.
+            or_right (not (before (nodes (past_with s x)) m n)) _ (ran_there m (contains-cons (here known s did i x xs left) (nodes past) m (subst (λ (l : Past). Contains (nodes l) m) (wait_past known.orders known.keeps t known.sound s i.placed x xs left e) cm))))
+
+    none_left : s.left ≡ []
+    none_left = go s.left refl
+      where
+        go : (left : List Entry) → s.left ≡ left → left ≡ []
+        go [] e = refl
+        go (x ∷ xs) e = absurd (over (entry_task s) (Enters x xs e (entry_goes x xs e (is_host_wait x) refl)))
+
+    all_happened : (u : Task) → IsTrue (tr.has u) → is_event all u ≡ false → IsTrue (has_happened all s u)
+    all_happened u there plain = go (kind all u there plain)
+      where
+        whole : past ≡ all
+        whole = whole_past known.orders known.keeps t known.sound s i.placed none_left
+
+        in_past : (n : Node) → node_at all u.node ≡ Some n → Contains (nodes past) n
+        in_past n at = subst (λ (l : Past). Contains (nodes l) n) (sym whole) (node_of all u.node n at).0
+
+        go : Kind all u → IsTrue (has_happened all s u)
+        go (piece n c at act lt) =
+            let cn = in_past n at in
+            let count : length (pieces past c) ≡ length (pieces all c) = ap (λ (l : Past). length (pieces l c)) whole in
+            let ran = all_ran (length (nodes past)) n c u.index cn (number_below (nodes past) (numbered past) n cn) act (omega (arith, lt, count)) in
+            turned (sym (happened_is all s u n at (Runs c) act)) (subst (λ (k : ℕ). IsTrue (is_done s.done (k, u.index))) (node_of all u.node n at).1 ran)
+        go (hosts n x at act first) = turned (sym (happened_is all s u n at (Hosts x) act)) (lt-ltb n.point.entry s.count (low known.orders known.keeps t known.sound s i.placed n (in_past n at)))
+
+  pub ended : (part_count : Past → ℕ) (steps : List Step) (e : Stage) → Allowed part_count (start t) steps e → IsOver e → (e.left ≡ []) × ((u : Task) → IsTrue (tr.has u) → is_event all u ≡ false → IsTrue (has_happened all e u))
+  ended part_count steps e run over =
+      let did : List Task = done_by part_count (start t) steps e run [] in
+      let i : AtPoint known e did = all_steps known part_count steps (start t) [] (begins known) e run in
+      (none_left e did i over, all_happened e did i over)

@@ -1,0 +1,159 @@
+-- What may come next in the machine may come next at the stage.
+use Rattle.std.proofs.Common.{◌≡◌, ⊎_elim, ℕ, ◌+◌, ◌<◌, ◌≤◌, List, [], ◌∷◌, length, Bool, true, false, ◌&&◌, ◌||◌, not, IsTrue, Some, refl, ap, sym, ◌∙◌, subst, arith, reverse}
+use Rattle.std.specs.Prelude.{Contains, nat_lt, ◌==◌, if◌then◌else◌}
+use Rattle.std.specs.List.{filter, list_all}
+use Rattle.std.proofs.lemmas.Bool.{eq-eqb, ltb-true, lt-ltb, or_left, or_right, and_from, false_from_ne_true, cases_lt, ne_eqb}
+use Rattle.std.proofs.lemmas.List.Sorted.{Contains-permutation, IsPermutation-reverse}
+use Rattle.vk_model.specs.declared.command.Cmd.{Cmd}
+use Rattle.vk_model.specs.declared.entry.Entry.{Entry}
+use Rattle.vk_model.specs.Basics.{below}
+use Rattle.vk_model.specs.Trace.Point.{Past, Point}
+use Rattle.vk_model.specs.Trace.Order.{plain_order}
+use Rattle.vk_model.specs.World.ByteWrites.{ByteWrite}
+use Rattle.vk_model.specs.Run.Pieces.{pieces}
+use Rattle.vk_model.specs.Sync.Node.{Node, Act, Hosts, Waits, Signals, Runs, Depends, nodes}
+use Rattle.vk_model.specs.Sync.Edge.{edge, is_host, is_submit, by_host, by_stages, by_signal, by_all_commands, by_semaphore, pairs, earlier}
+use Rattle.vk_model.specs.Sync.Before.{before}
+use Rattle.vk_model.specs.Run.Runs.{Name, same_name, is_done, node_pieces, is_free, offered, Stage, is_host_wait, past_with, may_go}
+use Rattle.vk_laws.specs.Machine.{IsIn, Task, TraceAccesses, MayRun}
+use Rattle.vk_laws.specs.Tasks.{task_count, node_at, accesses_of}
+use Rattle.vk_laws.specs.DefinedRuns.{is_event, piece_task, entry_task, MayCome, Offers, Enters}
+use Rattle.vk_laws.proofs.Accesses.TaskNodes.{node_of, same_task, has_task}
+use Rattle.vk_model.proofs.Lists.Members.{mapped_from, range_from, map_has, numbers_have, filter_has, each_of, flat_has, member_passes, contains-cons}
+use Rattle.vk_model.proofs.Lists.Truths.{first_of_six}
+use Rattle.vk_laws.proofs.Nodes.NoHazard.{edge_before, host_in_order}
+use Rattle.vk_laws.proofs.Caching.TraceCaches.{node_at_self}
+use Rattle.vk_laws.proofs.Nodes.PlainOrder.{Grows, old_or_newer}
+use Rattle.vk_laws.proofs.Running.Stages.{low, submitted, whole_past, wait_past}
+use Rattle.vk_model.proofs.Sync.Numbers.{numbered, unique}
+use Rattle.vk_laws.proofs.Running.StageTasks.{name_itself, turned, Kind, piece, hosts, kind, plain_is, happened_is, before_is, Known, old_node, node_in_all, pieces_same, before_same}
+use Rattle.vk_laws.proofs.Running.AtStage.{AtPoint, grows, piece_in, entry_in, here, after_grows, here_present, here_in_all, here_at, here_there}
+
+module _ {t : List Entry} (known : Known t) where
+  abbrev all : Past
+  all = plain_order t
+
+  abbrev tr : TraceAccesses
+  tr = accesses_of all
+
+  module _ (s : Stage) (did : List Task) (i : AtPoint known s did) where
+    pub is_offered : (n : Node) (c : Cmd) (j : ℕ) → Contains (nodes s.front.past) n → n.act ≡ Runs c → j < length (pieces s.front.past c) → IsTrue (is_free s.front.past s.done n) → is_done s.done (n.number, j) ≡ false → IsTrue (is_done (offered s.front.past s.done) (n.number, j))
+    is_offered n c j cn act lt free fresh =
+        let each : Node → List Name = λ n. if is_free s.front.past s.done n then filter (λ x. not (is_done s.done x)) (node_pieces s.front.past n n.act) else [] in
+        let among : Contains (node_pieces s.front.past n (Runs c)) (n.number, 0 + j) = map_has (λ j. (n.number, j)) (below (length (pieces s.front.past c))) (0 + j) (numbers_have 0 (length (pieces s.front.past c)) j lt) in
+        let its : Contains (node_pieces s.front.past n n.act) (n.number, j) =
+        subst (λ (a : Act). Contains (node_pieces s.front.past n a) (n.number, j)) (sym act) (subst (λ (k : ℕ). Contains (node_pieces s.front.past n (Runs c)) (n.number, k)) (let same : 0 + j ≡ j = omega arith in same) among) in
+        let kept = filter_has (λ x. not (is_done s.done x)) (node_pieces s.front.past n n.act) (n.number, j) its (ap not fresh) in
+        let here : Contains (each n) (n.number, j) = subst (λ (b : Bool). Contains (if b then filter (λ x. not (is_done s.done x)) (node_pieces s.front.past n n.act) else []) (n.number, j)) (sym free) kept in
+        member_passes (same_name (n.number, j)) (offered s.front.past s.done) (n.number, j)
+        (flat_has each (reverse (nodes s.front.past)) n (n.number, j) (Contains-permutation (nodes s.front.past) (reverse (nodes s.front.past)) n (IsPermutation-reverse (nodes s.front.past)) cn) here)
+        (name_itself (n.number, j))
+
+    -- pieces before a task that may come next have run
+    free_before : (P : Point → Type 0) (past : Past) → Grows P past all → (u : Task) (n : Node) → node_at all u.node ≡ Some n → Contains (nodes past) n → MayRun tr i.tasks u → IsTrue (is_free past s.done n)
+    free_before P past g u n at_u cn may = each_of (λ m. not (before (nodes past) m n) || list_all (is_done s.done) (node_pieces past m m.act)) (nodes past) (λ m cm. go m cm (before (nodes past) m n) refl)
+      where
+        pieces_run : (m : Node) → Contains (nodes past) m → before (nodes past) m n ≡ true → (a : Act) → m.act ≡ a → IsTrue (list_all (is_done s.done) (node_pieces past m a))
+        pieces_run m cm b (Runs c) act = each_of (is_done s.done) (node_pieces past m (Runs c)) (λ y h.
+            let j = mapped_from (λ j. (m.number, j)) (below (length (pieces past c))) y h in
+            let within = (range_from 0 (length (pieces past c)) j.0 j.1).1 in
+            let v : Task = piece_task (m.number, j.0) in
+            let at = node_at_self known.paths known.joins all m (node_in_all known P past g m cm) in
+            let count : length (pieces all c) ≡ length (pieces past c) = ap (λ (ps : List (List ByteWrite)). length ps) (pieces_same known P past g m c cm act) in
+            let there : IsTrue (tr.has v) = has_task all v m at (subst (λ (a : Act). IsTrue (nat_lt j.0 (task_count all a))) (sym act) (lt-ltb j.0 (length (pieces all c)) (omega (arith, within, count)))) in
+            let present = may.after v (there, turned (sym (before_is all v u m n at at_u)) (turned (sym (before_same known P past g m n cn)) b)) in
+            let ran : IsTrue (is_done s.done (m.number, j.0)) = turned (happened_is all s v m at (Runs c) act) ((i.happened v there (plain_is all v m at (Runs c) act refl)).0 present) in
+            subst (λ (z : Name). IsTrue (is_done s.done z)) j.2 ran)
+        pieces_run m cm b (Hosts x) act = refl
+        pieces_run m cm b (Waits x) act = refl
+        pieces_run m cm b (Signals x) act = refl
+        pieces_run m cm b (Depends r d) act = refl
+
+        go : (m : Node) → Contains (nodes past) m → (b : Bool) → before (nodes past) m n ≡ b → IsTrue (not b || list_all (is_done s.done) (node_pieces past m m.act))
+        go m cm false e = refl
+        go m cm true e = pieces_run m cm e m.act refl
+
+    -- a node whose entry was applied is in the past
+    applied_node : (n : Node) → Contains (nodes all) n → n.point.entry < s.count → Contains (nodes s.front.past) n
+    applied_node n c lt = ⊎_elim (λ old. old) (λ new. let le : s.count ≤ n.point.entry = new.0 in absurd (omega (arith, lt, le))) (old_or_newer (λ q. s.count ≤ q.entry) s.front.past all (grows known s did i) n c)
+
+    host_was : (u : Task) (n : Node) (x : Entry) → IsTrue (tr.has u) → node_at all u.node ≡ Some n → n.act ≡ Hosts x → IsIn u i.tasks → n.point.entry < s.count
+    host_was u n x there at act h = ltb-true n.point.entry s.count (turned (happened_is all s u n at (Hosts x) act) ((i.happened u there (plain_is all u n at (Hosts x) act refl)).0 h))
+
+    submit_first : (m n : Node) → Contains (nodes all) m → Contains (nodes all) n → IsTrue (is_submit m.act) → m.point.entry ≡ n.point.entry → m.number < n.number → IsTrue (before (nodes all) m n)
+    unfolding edge
+    submit_first m n cm cn is same lt =
+        edge_before known.paths all m n cm cn (and_from (nat_lt m.number n.number) _ (lt-ltb m.number n.number lt)
+        (first_of_six (by_host m n) (by_stages m n) (by_signal m n) (by_all_commands m n) (pairs m.act n.act) (by_semaphore (earlier n (nodes all)) m n)
+        (or_right (is_host m.act && is_host n.act) (is_submit m.act && m.point.entry == n.point.entry) (and_from (is_submit m.act) (m.point.entry == n.point.entry) is (eq-eqb m.point.entry n.point.entry same)))))
+
+    piece_comes : (u : Task) (n : Node) (c : Cmd) → node_at all u.node ≡ Some n → n.act ≡ Runs c → u.index < length (pieces all c) → MayRun tr i.tasks u → MayCome s u
+    piece_comes u n c at act lt may =
+        let found = node_of all u.node n at in
+        let sub = submitted known.orders known.keeps t known.sound n (ap is_host act) found.0 in
+        let m = sub.submit in
+        let old = applied_node n found.0 (by_submit m sub.present sub.is_it (submit_first m n sub.present found.0 sub.is_it sub.entry sub.earlier) sub.entry m.act refl sub.is_it) in
+        let count : length (pieces all c) ≡ length (pieces s.front.past c) = ap (λ (ps : List (List ByteWrite)). length ps) (pieces_same known _ s.front.past (grows known s did i) n c old act) in
+        let free = free_before _ s.front.past (grows known s did i) u n at old may in
+        let itself : u ≡ piece_task (n.number, u.index) = same_task u (piece_task (n.number, u.index)) (sym found.1) refl in
+        subst (λ (v : Task). MayCome s v) (sym itself)
+        (Offers (n.number, u.index) (is_offered n c u.index old act (omega (arith, lt, count)) free (false_from_ne_true (is_done s.done (n.number, u.index)) (λ h. may.fresh (piece_in known s did i u n c may.there at act (subst (λ (k : ℕ). IsTrue (is_done s.done (k, u.index))) found.1 h))))))
+      where
+        by_submit : (m : Node) → Contains (nodes all) m → IsTrue (is_submit m.act) → IsTrue (before (nodes all) m n) → m.point.entry ≡ n.point.entry → (a : Act) → m.act ≡ a → IsTrue (is_submit a) → n.point.entry < s.count
+        by_submit m cm is b same (Hosts x) act is_it =
+            let v : Task = record { node = m.number; index = 0 } in
+            let at_v = node_at_self known.paths known.joins all m cm in
+            let there = has_task all v m at_v (subst (λ (a : Act). IsTrue (nat_lt 0 (task_count all a))) (sym act) refl) in
+            let was = host_was v m x there at_v act (may.after v (there, turned (sym (before_is all v u m n at_v at)) b)) in
+            omega (arith, was, same)
+        by_submit m cm is b same (Runs x) act is_it = absurd cc
+        by_submit m cm is b same (Waits x) act is_it = absurd cc
+        by_submit m cm is b same (Signals x) act is_it = absurd cc
+        by_submit m cm is b same (Depends r d) act is_it = absurd cc
+
+    entry_comes : (u : Task) (n : Node) (x : Entry) → node_at all u.node ≡ Some n → n.act ≡ Hosts x → u.index ≡ 0 → MayRun tr i.tasks u → MayCome s u
+    entry_comes u n x at act index may = go s.left refl
+      where
+        found : Contains (nodes all) n × (n.number ≡ u.node)
+        found = node_of all u.node n at
+
+        not_old : Contains (nodes s.front.past) n → ⊥
+        not_old old = may.fresh (entry_in known s did i u n x may.there at act old)
+
+        -- the next entry comes before all later ones
+        its_own : (y : Entry) (ys : List Entry) (left : s.left ≡ y ∷ ys) → n ≡ here known s did i y ys left
+        its_own y ys left = ⊎_elim
+            (λ lt. absurd (not_old (old_node known _ s.front.past (grows known s did i) n found.0 lt)))
+            (λ le. ⊎_elim
+            (λ lt.
+            let v : Task = entry_task s in
+            let there = here_there known s did i y ys left in
+            let b = host_in_order known.paths all (here known s did i y ys left) n (here_in_all known s did i y ys left) found.0 refl (ap is_host act) lt in
+            let was = host_was v (here known s did i y ys left) y there (here_at known s did i y ys left) refl (may.after v (there, turned (sym (before_is all v u (here known s did i y ys left) n (here_at known s did i y ys left) at)) b)) in
+            absurd (omega (arith, was)))
+            (λ ge. unique (nodes all) (numbered all) n (here known s did i y ys left) found.0 (here_in_all known s did i y ys left) (omega (arith, le, ge)))
+            (cases_lt (length (nodes s.front.past)) n.number))
+            (cases_lt n.number (length (nodes s.front.past)))
+
+        goes : (y : Entry) (ys : List Entry) (left : s.left ≡ y ∷ ys) → (b : Bool) → is_host_wait y ≡ b → IsTrue (may_go s y)
+        goes y ys left false e = or_left (not (is_host_wait y)) _ (ap not e)
+        goes y ys left true e = or_right (not (is_host_wait y)) _ (each_of (λ m. not (m.point.entry == s.count) || is_free (past_with s y) s.done m) (nodes (past_with s y)) (λ m cm.
+            ⊎_elim
+            (λ same. or_right (not (m.point.entry == s.count)) _ (subst (λ (k : Node). IsTrue (is_free (past_with s y) s.done k)) same
+            (free_before _ (past_with s y) (after_grows known s did i y ys left) u (here known s did i y ys left) (subst (λ (k : Node). node_at all u.node ≡ Some k) (its_own y ys left) at) (here_present known s did i y ys left) may)))
+            (λ old. or_left (not (m.point.entry == s.count)) _ (ap not (ne_eqb m.point.entry s.count (λ same. let lt = low known.orders known.keeps t known.sound s i.placed m old in omega (arith, lt, same)))))
+            (contains-cons (here known s did i y ys left) (nodes s.front.past) m (subst (λ (l : Past). Contains (nodes l) m) (wait_past known.orders known.keeps t known.sound s i.placed y ys left e) cm))))
+
+        go : (left : List Entry) → s.left ≡ left → MayCome s u
+        go [] e = absurd (not_old (subst (λ (l : Past). Contains (nodes l) n) (sym (whole_past known.orders known.keeps t known.sound s i.placed e)) found.0))
+        go (y ∷ ys) e =
+            let number : n.number ≡ length (nodes s.front.past) = ap (λ (k : Node). k.number) (its_own y ys e) in
+            let itself : u ≡ entry_task s = same_task u (entry_task s) (sym found.1 ∙ number) index in
+            subst (λ (v : Task). MayCome s v) (sym itself) (Enters y ys e (goes y ys e (is_host_wait y) refl))
+
+    pub only_next : (u : Task) → is_event all u ≡ false → MayRun tr i.tasks u → MayCome s u
+    only_next u plain may = go (kind all u may.there plain)
+      where
+        go : Kind all u → MayCome s u
+        go (piece n c at act lt) = piece_comes u n c at act lt may
+        go (hosts n x at act first) = entry_comes u n x at act first may

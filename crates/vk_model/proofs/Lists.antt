@@ -1,0 +1,4 @@
+pub mod Truths
+pub mod Members
+pub mod Pairs
+pub mod Grids

@@ -1,0 +1,2 @@
+pub mod PlainOrder
+pub mod Orders
