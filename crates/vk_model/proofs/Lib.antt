@@ -7,3 +7,4 @@ mod OrderLaws
 mod Pairs
 mod BytePlaces
 mod ApartLaws
+mod Memory

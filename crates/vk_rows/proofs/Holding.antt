@@ -4,9 +4,11 @@ use Rattle.std.specs.Prelude.{◌&&◌, ◌==◌, ◌%◌, not, nat_le, All, [],
 use Rattle.std.proofs.lemmas.List.Elements.{All-from_recursion}
 use Rattle.std.specs.List.{list_any, range_with_len}
 use Rattle.std.proofs.lemmas.Bool.{or_parts, and_parts, cases_lt, leb-true}
-use Rattle.vk_model.specs.Memory.Suballocation.{Taken, Request, conflict}
+use Rattle.std.proofs.lemmas.Bool.Decides.{nat_tests}
+use Rattle.vk_model.specs.Memory.Suballocation.{Taken, Request, conflict, is_free}
 use Rattle.vk_model.specs.Basics.{below}
 use Rattle.vk_model.specs.Memory.Room.{fits, CanHold}
+use Rattle.vk_rows.specs.NoRoom.{buffer_at}
 
 differ : ◌≡◌ {A = Bool} false true → ⊥
 differ h = cc
@@ -42,3 +44,7 @@ no_other P x p = All-from_recursion P (x ∷ []) (p, tt)
 
 pub absent : false ≡ true → ⊥
 absent h = differ h
+
+-- of 4,096 bytes with 1,024 taken after each 1,024 free, no more than 1,024 are free in one piece
+pub free_between : (start n : ℕ) → is_free 4096 (buffer_at 3072 1024 ∷ buffer_at 1024 1024 ∷ []) start n ≡ true → n ≤ 1024
+free_between start n free = grind (arith, nat_tests)

@@ -3,17 +3,14 @@ use Rattle.std.specs.Prelude.{ℕ, ◌+◌, List, [], ◌∷◌, ◌++◌, map, 
 use Rattle.std.specs.List.{list_any}
 use Rattle.vk_model.specs.declared.command.Cmd.{Cmd}
 use Rattle.vk_model.specs.declared.command.Cmd.TheVariants as cmd
-use Rattle.vk_model.specs.declared.command.Dependency.{Dependency}
 use Rattle.vk_model.specs.declared.command.Element.{Element}
 use Rattle.vk_model.specs.declared.command.Element.TheVariants as element
 use Rattle.vk_model.specs.declared.command.SubresourceRange.{SubresourceRange}
-use Rattle.vk_model.specs.declared.entry.SemaphoreSubmit.{SemaphoreSubmit}
-use Rattle.vk_model.specs.Basics.{among, below, has_bits, has_some}
-use Rattle.vk_model.specs.Trace.Point.{Past, Point, Action, Host, Wait, Run, Signal, on_command}
+use Rattle.vk_model.specs.Basics.{among, below}
+use Rattle.vk_model.specs.Trace.Point.{Past, Point, on_command}
 use Rattle.vk_model.specs.World.Bytes.{World}
 use Rattle.vk_model.specs.World.Effect.{world}
-use Rattle.vk_model.specs.World.Ownership.{elements_of, dependency_of, is_transition, is_acquire}
-use Rattle.vk_model.specs.Sync.Edge.{transfer_stage, host_stage, all_commands}
+use Rattle.vk_model.specs.World.Ownership.{elements_of, is_transition, is_acquire}
 
 -- ---- LAYOUT
 
