@@ -2,10 +2,10 @@
 use Rattle.std.specs.Prelude.{◌≡◌, ℕ, List, [], ◌∷◌, false, Some}
 use Rattle.vk_model.specs.declared.resource.PoolKind.{PoolKind}
 use Rattle.vk_model.specs.declared.resource.PoolKind.TheVariants as algorithm
-use Rattle.vk_model.specs.Memory.Room.{Stack}
+use Rattle.vk_model.specs.Memory.Room.{Stack, NoRoomInPool}
 use Rattle.vk_model.specs.Memory.MoveTargets.{Numbered, BlockStart, Resident, move_target, reserved, pass_moves}
-use Rattle.vk_model.specs.Memory.Pools.{Pool, empty_pool, pool_with, pool_without, Gives, numbered_blocks, IsByPlace, AreStatistics, rank, rank_sum}
-use Rattle.vk_rows.specs.NoRoom.{buffer_at, buffer_of}
+use Rattle.vk_model.specs.Memory.Pools.{Pool, empty_pool, pool_with, pool_without, state_of, Gives, numbered_blocks, IsAt, IsByPlace, AreStatistics, rank, rank_sum}
+use Rattle.vk_rows.specs.NoRoom.{heaps, buffer_at, buffer_of}
 use Rattle.vk_rows.specs.Places.{linear, resident, move_to}
 
 -- A pool of memory type 1 with blocks of 4,096 bytes: its algorithm and its block limit.
@@ -65,6 +65,10 @@ pub record PoolBlocks : Type 0 where
   -- Two blocks with holes: 2 blocks, 4 allocations of 4,096 bytes together, 8,192 bytes held, 1,024 at most free in one piece.
   pub holes : numbered_blocks holed.blocks ≡ holed_ranges
   pub statistics : AreStatistics (numbered_blocks holed.blocks) (record { blocks = 2; allocations = 4; used = 4096; held = 8192; largest_free = 1024 })
+  -- 2,048 bytes find no room in it, as a third block is over its limit.
+  pub none_for_half : NoRoomInPool (heaps 4194304 4194304 0 8192 2) (state_of holed) (buffer_of 2048) false
+  -- The last buffer is at its place.
+  pub last_at_place : IsAt (numbered_blocks holed.blocks) (resident 17 1 3072)
   -- From the highest place down, and where the first two of these move to.
   pub by_place : IsByPlace left from_above
   pub target_of_last : move_target (numbered_blocks holed.blocks) (resident 17 1 3072) ≡ Some (at_place 0 0)

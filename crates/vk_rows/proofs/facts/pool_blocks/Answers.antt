@@ -1,9 +1,10 @@
-use Rattle.std.specs.Prelude.{ℕ, ◌≤◌, refl, List, [], ◌∷◌, AllPairs, IsTrue}
+use Rattle.std.specs.Prelude.{ℕ, ◌≤◌, refl, List, [], ◌∷◌, AllPairs, IsTrue, false}
 use Rattle.std.proofs.Common.{inl, inr, arith}
 use Rattle.std.proofs.lemmas.List.Elements.{All-from_recursion}
 use Rattle.std.proofs.lemmas.List.Kept.{AllPairs-cons}
 use Rattle.std.proofs.lemmas.List.Sorted.{IsPermutation-reverse}
 use Rattle.vk_model.specs.Memory.Suballocation.{Taken, is_free}
+use Rattle.vk_model.specs.Memory.Room.{Block, General, BlockHolds, CanHold}
 use Rattle.vk_model.specs.Memory.MoveTargets.{Numbered, Resident}
 use Rattle.vk_model.specs.Memory.Pools.{IsHigher, IsLargestIn}
 use Rattle.vk_rows.specs.NoRoom.{buffer_at, buffer_of}
@@ -24,6 +25,8 @@ returns c = record {
     total_bytes = refl;
     longest = longest;
   };
+  none_for_half = record { none_holds = neither Refuses holed_block holed_block small small; no_new = refl };
+  last_at_place = record { block = hole 1; there = (1, omega arith, refl); number = refl; range = (0, omega arith, refl) };
   by_place = record { same = IsPermutation-reverse left; falling = falling };
   target_of_last = refl;
   target_of_third = refl;
@@ -47,6 +50,15 @@ returns c = record {
 
     hole : ℕ → Numbered
     hole n = record { number = n; size = 4096; taken = buffer_at 3072 1024 ∷ buffer_at 1024 1024 ∷ [] }
+
+    holed_block : Block
+    holed_block = General 4096 (hole 0).taken
+
+    Refuses : Block → Type 0
+    Refuses b = BlockHolds b (buffer_of 2048) false → ⊥
+
+    small : CanHold 4096 (hole 0).taken (buffer_of 2048) → ⊥
+    small = nowhere 4096 (hole 0).taken (buffer_of 2048) refl
 
     NoMore : Numbered → Type 0
     NoMore b = (start n : ℕ) → IsTrue (is_free b.size b.taken start n) → n ≤ 1024
