@@ -8,8 +8,8 @@ use vk_model::{
 };
 
 /// In a trace without a fault no node of a point has a hazard with an earlier node, commands and host
-/// accesses alike: what one reads and the other then writes is ordered, and what one writes the other
-/// is visible, among all nodes of the trace.
+/// accesses alike: what one reads and the other then writes is ordered, and what one writes is
+/// visible to the other, among all nodes of the trace.
 pub fn no_hazard()
     ensures { NoHazardLaw }
 {

@@ -4,3 +4,4 @@ pub mod World
 pub mod Sync
 mod Rules
 mod Run
+mod Memory

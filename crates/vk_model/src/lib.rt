@@ -8,11 +8,14 @@ mod entry;
 mod laws;
 mod layout;
 mod masks;
+mod places;
 mod resource;
 mod rule;
 mod scheduler;
 mod sequence;
+mod statistics;
 mod suballoc;
+mod subresource;
 
 pub use command::{
     BufferCopy, BufferElement, BufferImageCopy, Cmd, Dependency, Element, Families, ImageCopy,
@@ -26,10 +29,16 @@ pub use laws::{
 };
 pub use layout::{Format, Layout};
 pub use masks::{Accesses, Stages, Usage};
+pub use places::{
+    blocks_give, linear_frees, linear_stays, linear_takes, pool_stays, putting_is_sound,
+    ranks_fall, subresources_hold, taking_away_is_sound, texels_apart, texels_inside,
+};
 pub use resource::{
     BufferInfo, ImageInfo, Kind, MemoryInfo, Need, Place, PoolInfo, PoolKind, Sharing, Spot,
 };
 pub use rule::{At, Rule};
 pub use scheduler::{First, Scheduler};
 pub use sequence::Sequence;
+pub use statistics::Statistics;
 pub use suballoc::{SubFault, Suballoc};
+pub use subresource::SubresourceLayout;

@@ -4,9 +4,11 @@ use Rattle.std.specs.Prelude.{◌&&◌, ◌==◌, ◌%◌, not, nat_le, All, [],
 use Rattle.std.proofs.lemmas.List.Elements.{All-from_recursion}
 use Rattle.std.specs.List.{list_any, range_with_len}
 use Rattle.std.proofs.lemmas.Bool.{or_parts, and_parts, cases_lt, leb-true}
-use Rattle.vk_model.specs.Memory.Suballocation.{Taken, Request, conflict}
+use Rattle.std.proofs.lemmas.Bool.Decides.{nat_tests}
+use Rattle.vk_model.specs.Memory.Suballocation.{Taken, Request, conflict, is_free}
 use Rattle.vk_model.specs.Basics.{below}
 use Rattle.vk_model.specs.Memory.Room.{fits, CanHold}
+use Rattle.vk_rows.specs.NoRoom.{buffer_at}
 
 differ : ◌≡◌ {A = Bool} false true → ⊥
 differ h = cc
@@ -23,15 +25,15 @@ third : (a b c d : Bool) → (a && b && c && d) ≡ true → c ≡ true
 third a b c d h = (and_parts (a && b) c (and_parts (a && b && c) d h).0).1
 
 -- a place where a request fits ends in the block
-ends_inside : (size : ℕ) (started : List Taken) (r : Request) (start : ℕ) → fits started r 0 size start ≡ true → start + r.size ≤ size
-ends_inside size started r start h = leb-true (start + r.size) size
+ends_inside : (size : ℕ) (taken : List Taken) (r : Request) (start : ℕ) → fits taken r 0 size start ≡ true → start + r.size ≤ size
+ends_inside size taken r start h = leb-true (start + r.size) size
     (third (start % r.align == 0) (nat_le 0 start) (nat_le (start + r.size) size)
-    (not (list_any (λ t. conflict r.kind start r.size t.kind t.start t.size) started)) h)
+    (not (list_any (λ t. conflict r.kind start r.size t.kind t.start t.size) taken)) h)
 
-pub nowhere : (size : ℕ) (started : List Taken) (r : Request) → list_any (fits started r 0 size) (below (suc size)) ≡ false → CanHold size started r → ⊥
-nowhere size started r none held =
-    let ends : held.0 + r.size ≤ size = ends_inside size started r held.0 held.1 in
-    none_between (fits started r 0 size) 0 (suc size) held.0 none (omega arith) (omega arith) held.1
+pub nowhere : (size : ℕ) (taken : List Taken) (r : Request) → list_any (fits taken r 0 size) (below (suc size)) ≡ false → CanHold size taken r → ⊥
+nowhere size taken r none held =
+    let ends : held.0 + r.size ≤ size = ends_inside size taken r held.0 held.1 in
+    none_between (fits taken r 0 size) 0 (suc size) held.0 none (omega arith) (omega arith) held.1
 
 -- what holds of each of two items, and of one, holds of all
 pub neither : {A : Type 0} (P : A → Type 0) (x y : A) → P x → P y → All P (x ∷ y ∷ [])
@@ -42,3 +44,7 @@ no_other P x p = All-from_recursion P (x ∷ []) (p, tt)
 
 pub absent : false ≡ true → ⊥
 absent h = differ h
+
+-- of 4,096 bytes with 1,024 taken after each 1,024 free, no more than 1,024 are free in one piece
+pub free_between : (start n : ℕ) → is_free 4096 (buffer_at 3072 1024 ∷ buffer_at 1024 1024 ∷ []) start n ≡ true → n ≤ 1024
+free_between start n free = grind (arith, nat_tests)

@@ -14,3 +14,6 @@ pub mod NoRoom
 pub mod Places
 pub mod Work
 pub mod Limits
+pub mod Addresses
+pub mod LinearBlocks
+pub mod PoolBlocks

@@ -23,8 +23,8 @@ abbrev pub resident : ℕ → ℕ → ℕ → Resident
 resident id block start = record { id = id; from = record { block = block; start = start }; request = buffer_of 1024 }
 
 -- It goes to this block and this start.
-abbrev pub value_after : ℕ → ℕ → ℕ → Moved
-value_after id block start = record { id = id; to = record { block = block; start = start }; bytes = 1024 }
+abbrev pub move_to : ℕ → ℕ → ℕ → Moved
+move_to id block start = record { id = id; to = record { block = block; start = start }; bytes = 1024 }
 
 -- Two blocks of 4,096 bytes with 1,024 taken after each 1,024 free.
 abbrev pub holed_blocks : List Numbered
@@ -54,8 +54,8 @@ pub record Places : Type 0 where
   pub ring_next : lower_place (linear (buffer_at 2048 2048 ∷ []) (buffer_at 0 1024 ∷ []) []) (buffer_of 1024) ≡ Some 1024
   -- The upper end of an empty block.
   pub upper_end : upper_place (linear [] [] []) (buffer_of 1024) ≡ Some 3072
-  -- A pass without limits fills the first block, and the others then have no lower place.
-  pub whole_pass : pass_moves 0 0 holed_blocks residents ≡ value_after 17 0 0 ∷ value_after 15 0 2048 ∷ []
+  -- A pass without limits fills the first block, and the others then have no move target.
+  pub whole_pass : pass_moves 0 0 holed_blocks residents ≡ move_to 17 0 0 ∷ move_to 15 0 2048 ∷ []
   -- With a limit of 1,024 bytes, or of one move, it ends after the first move.
-  pub byte_limit : pass_moves 1024 0 holed_blocks residents ≡ value_after 17 0 0 ∷ []
-  pub move_limit : pass_moves 0 1 holed_blocks residents ≡ value_after 17 0 0 ∷ []
+  pub byte_limit : pass_moves 1024 0 holed_blocks residents ≡ move_to 17 0 0 ∷ []
+  pub move_limit : pass_moves 0 1 holed_blocks residents ≡ move_to 17 0 0 ∷ []

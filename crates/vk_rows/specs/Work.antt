@@ -132,7 +132,7 @@ pub record Work : Type 0 where
   pub asked_align : option_map (λ r. r.align) (resource (plain_order large_buffer) 1) ≡ Some 16
   -- A fill to the end of 5,000 bytes from byte 2 on writes 4,996.
   pub moves_to_end : length (byte_writes (plain_order large_buffer) (cmd.Fill 1 2 to_end 7)) ≡ 4996
-  -- An order without a memory dependency doesn't mend a write after a write.
+  -- An order without a memory dependency doesn't make a write after a write right.
   pub no_memory_dependency : first_fault ordered_fills ≡ Some (at.Command 1 0 2, rule.HazardWaw)
   -- A fill of 5,000 bytes has a piece of 4,096 and one of 904.
   pub fill_pieces : piece_sizes large_buffer (cmd.Fill 1 0 (bytes 5000) 7) ≡ 4096 ∷ 904 ∷ []

@@ -2,6 +2,9 @@ ghost use Rattle.vk_rows.specs.NoRoom.{NoRoom};
 ghost use Rattle.vk_rows.specs.Places.{Places};
 ghost use Rattle.vk_rows.specs.Work.{Work};
 ghost use Rattle.vk_rows.specs.Limits.{Limits};
+ghost use Rattle.vk_rows.specs.Addresses.{Addresses};
+ghost use Rattle.vk_rows.specs.LinearBlocks.{LinearBlocks};
+ghost use Rattle.vk_rows.specs.PoolBlocks.{PoolBlocks};
 
 /// Allocations that find no room.
 pub fn no_room()
@@ -21,4 +24,19 @@ pub fn work()
 /// The limit on points.
 pub fn limits()
     ensures { Limits }
+{}
+
+/// Where texels lie in images, and what resources need of memory.
+pub fn addresses()
+    ensures { Addresses }
+{}
+
+/// Linear blocks through requests and frees.
+pub fn linear_blocks()
+    ensures { LinearBlocks }
+{}
+
+/// Pools through allocations and frees: blocks, places, statistics and the moves of a pass.
+pub fn pool_blocks()
+    ensures { PoolBlocks }
 {}

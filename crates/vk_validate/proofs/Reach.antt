@@ -121,7 +121,7 @@ fills_low past before q b o n w k cleared comes is h =
 pub kept_made : (past : Past) (p : Point) (i : ℕ) → IsClear past p → is_some (made past i) ≡ true → made (p ∷ past) i ≡ made past i
 kept_made past p i clear present = go (host_of p.action) (new_id past p clear) where
   other : (j : ℕ) → is_some (made past j) ≡ false → (t : Bool) → (i == j) ≡ t → t ≡ false
-  other j fresh true e = let same : i ≡ j = eqb-true i j e in absurd (let stood : is_some (made past j) ≡ true = subst (λ (k : ℕ). is_some (made past k) ≡ true) same present in cc)
+  other j fresh true e = let same : i ≡ j = eqb-true i j e in absurd (let live : is_some (made past j) ≡ true = subst (λ (k : ℕ). is_some (made past k) ≡ true) same present in cc)
   other j fresh false e = refl
 
   by_made : (x : Entry) (o : Option ℕ) → holds o (λ j. is_some (made past j)) ≡ false → cond (holds o (λ j. i == j)) (Some x) (made past i) ≡ made past i

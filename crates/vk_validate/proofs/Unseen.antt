@@ -65,14 +65,14 @@ module _ (past : Past) (cleared : IsCleared past) (plain : IsPlain past) (apart 
   -- a write is visible to a read where the read's number is above that of its point
   read_is_seen : (x : Node) (j : ℕ) (c : Cmd) (byte : Byte) → IsCommandAt past x j → x.act ≡ Runs c → (is_seen (reading ∷ past) x reader Read byte ≡ true) ↔ (j < readable)
   read_is_seen x j c byte at is = (λ e. now.visible_hosts.0 (record { node = reader; passes = refl; made_visible = seen_it.0 e }), λ lt. seen_it.1 (comes (then.visible_hosts.1 lt))) where
-    stood : MatchesOrderState (order_state past) past
-    stood = present past cleared plain apart
+    matched : MatchesOrderState (order_state past) past
+    matched = present past cleared plain apart
 
     then : Means (order_state past).order (nodes past) x j
-    then = stood.means x j at
+    then = matched.means x j at
 
     now : Means (order_state past).order (reader ∷ nodes past) x j
-    now = (after_host past cleared plain (order_state past) stood p (entry.Read b o n) refl [] refl).means x j (inr at)
+    now = (after_host past cleared plain (order_state past) matched p (entry.Read b o n) refl [] refl).means x j (inr at)
 
     h : Contains (nodes past) x × (is_command x.act ≡ true) × (j < length past)
     h = command_present past x j at

@@ -40,9 +40,17 @@ level_height i k = max 1 (i.height / 2 ^ k)
 abbrev pub most_levels : ℕ → ℕ → ℕ
 most_levels w h = sum_by (λ k. if nat_le (2 ^ k) (max w h) then 1 else 0) (below 13)
 
--- The bytes of level k of an optimal image: tiles of 8 by 8 texels, rounded up to 256 bytes (profile).
+-- How many tiles of 8 by 8 texels a row of tiles of level k has; the last one may reach over the edge (profile).
+abbrev pub tiles_across : ImageInfo → ℕ → ℕ
+tiles_across i k = (level_width i k + 7) / 8
+
+-- How many rows of tiles level k has; the last one may reach over the edge (profile).
+abbrev pub tiles_down : ImageInfo → ℕ → ℕ
+tiles_down i k = (level_height i k + 7) / 8
+
+-- The bytes of level k of an optimal image: its tiles, rounded up to 256 bytes (profile).
 abbrev pub level_size : ImageInfo → ℕ → ℕ
-level_size i k = round_up (((level_width i k + 7) / 8) * ((level_height i k + 7) / 8) * 64 * texel i.format) 256
+level_size i k = round_up (tiles_across i k * tiles_down i k * 64 * texel i.format) 256
 
 -- The bytes of a layer of an optimal image: its levels in order (profile).
 abbrev pub layer_size : ImageInfo → ℕ

@@ -1,0 +1,9 @@
+pub mod Addresses
+pub mod AllPairs
+pub mod Taken
+pub mod Ranges
+pub mod Freeing
+pub mod LinearBlocks
+pub mod Giving
+pub mod Pools
+pub mod Ranks
