@@ -23,7 +23,7 @@ abbrev pub forgets : Past → ℕ → Act → Byte → Bool
 forgets all k (Hosts x) c = entry_forgets (before_node all k) x c
 forgets all k _ c = false
 
--- a forgotten byte holds an unknown value then.
+-- A forgotten byte holds an unknown value then.
 abbrev pub or_unknown : Bool → Option Put → Option Put
 or_unknown true w = Some Unknown
 or_unknown false w = w

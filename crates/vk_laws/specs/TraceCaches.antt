@@ -37,8 +37,8 @@ module _ (all : Past) where
   cached n c = is_cached (before_node all n) (resource_at c)
 
   -- Node p makes a command's or host entry's write of a byte available (Vulkan, "Execution and Memory Dependencies", "Semaphore Signaling" and "Host Write Ordering Guarantees").
-  abbrev pub sends_write : Node → Node → Byte → Bool
-  sends_write p w c = accesses w.act && available_by (cached w.number) (nodes all) w w.act c p
+  abbrev pub makes_write_available : Node → Node → Byte → Bool
+  makes_write_available p w c = accesses w.act && available_by (cached w.number) (nodes all) w w.act c p
 
   -- Whether a host entry wrote a byte before node q (Vulkan, "Host Write Ordering Guarantees").
   abbrev pub host_wrote : Node → Byte → Bool
@@ -61,7 +61,7 @@ module _ (all : Past) where
   abbrev pub caching_of : Caching
   caching_of = record {
     agent = λ t. elim (node_at all t.node) [ None ↦ 0 | Some n ↦ agent_of n ];
-    makes_available = λ p w c. (accesses_of all).has w && holds (node_at all p.node) (λ m. holds (node_at all w.node) (λ n. sends_write m n c));
+    makes_available = λ p w c. (accesses_of all).has w && holds (node_at all p.node) (λ m. holds (node_at all w.node) (λ n. makes_write_available m n c));
     makes_visible = λ q a c. holds (node_at all q.node) (λ n. makes_visible_to n a c);
   }
 

@@ -59,13 +59,13 @@ pub available_later : (ns : List Node) (w n : Node) → Available ns w n → w.n
 available_later ns w n (MadeHere c e f) = edge_forward ns w n e
 available_later ns w n (Passed {m = m} f c e) = let a = available_later ns w m f in let b = edge_forward ns m n e in omega (arith, a, b)
 
--- a node that passes a test, when which the write is available
+-- a node that passes a test, after which the write is available
 pub record Via (ns : List Node) (w : Node) (test : Act → Bool) : Type 0 where
   pub node : Node
   pub passes : test node.act ≡ true
   pub made_available : Available ns w node
 
--- and one when which it is visible
+-- and one after which it is visible
 pub record VisibleVia (ns : List Node) (w : Node) (test : Act → Bool) : Type 0 where
   pub node : Node
   pub passes : test node.act ≡ true

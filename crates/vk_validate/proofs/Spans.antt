@@ -38,7 +38,7 @@ module _ (test : ℕ → Bool) (first last n : ℕ) (some : 0 < n) (last_is : la
   found_any : (byte : ℕ) → first ≤ byte → byte < first + n → test byte ≡ true → list_any (λ k. test (first + k)) (below n) ≡ true
   found_any byte low high is = one_of (λ k. test (first + k)) 0 n (byte - first) (omega arith) (omega arith) (let e : first + (byte - first) ≡ byte = omega arith in ap test e ∙ is)
 
-  -- what is reported of the bytes of a span is reported of the range, where no byte past the span passes the test
+  -- what is found in the bytes of a span is found in the range, where no byte past the span passes the test
   pub found_of_span : (found : Bool) → FoundIn found first last test → ((k : ℕ) → last < k → k < first + n → test k ≡ false) → found ≡ list_any (λ k. test (first + k)) (below n)
   found_of_span true is none = let high = is.2 in sym (found_any is.0 is.1 (omega arith) is.3)
   found_of_span false is none = sym (none_of (λ k. test (first + k)) 0 n (λ k low high. by_side k high (cases_lt last (first + k)))) where

@@ -67,7 +67,7 @@ command_dirty past f x w =
     fold_dirty (after_element past f) (element_dirty past f) (elements_of x) (record ready { value = after_writes (byte_writes past x) ready.value })
     ∙ fold_dirty (λ v r. used past f r v) (λ v r. used_dirty past f r v) (uses x) w
 
--- ---- the write that dirty a byte
+-- ---- the write that makes a byte dirty
 
 pub record DirtiedBy (past : Past) (c : Byte) : Type 0 where
   pub newer : Past

@@ -239,7 +239,7 @@ module _ (t : List Entry) (given : Given t) where
         by_flush : (k : Access) → Touches k → Flushed given.paths given.joins all one w a w_all ca cmd is_a write refl c (same_one ∙ kept) k
         by_flush k h = flushed given.paths given.joins all one w a w_all ca cmd is_a write refl c (same_one ∙ kept) k (is_seen k h)
 
-      -- the invalidation is visible to a later one as the write is
+      -- the invalidation comes before a later one as the write does
       pub seen_after : (k : Access) → Touches k → (i.number < a.number) → IsTrue (seen one (nodes all) i a k c)
       seen_after k h lt =
           let lt' : w.number < a.number = let e = w_earlier in omega (arith, e, lt) in

@@ -1,4 +1,4 @@
--- What a trace's accesses see, its caches show them.
+-- What is visible to a trace's accesses, its caches show them.
 use Rattle.std.proofs.Common.{◌≡◌, ◌⊎◌, inl, inr, ⊎_elim, ℕ, suc, ◌<◌, ◌≤◌, List, [], ◌∷◌, length, Bool, true, false, cond, ◌&&◌, ◌||◌, not, IsTrue, Option, Some, None, refl, ap, sym, ◌∙◌, subst, arith}
 use Rattle.std.specs.Prelude.{Contains, ◌==◌, nat_lt, if◌then◌else◌}
 use Rattle.std.specs.List.{find}
@@ -18,7 +18,7 @@ use Rattle.vk_laws.specs.Machine.{Task, Precedes}
 use Rattle.vk_laws.specs.Caches.{Seen, Available}
 use Rattle.vk_laws.specs.Trace.{accesses}
 use Rattle.vk_laws.specs.Tasks.{node_at, task_count, accesses_of}
-use Rattle.vk_laws.specs.TraceCaches.{agent_of, submits_to, host_wrote, cached, sends_write, makes_visible_to_host, makes_visible_to, caching_of}
+use Rattle.vk_laws.specs.TraceCaches.{agent_of, submits_to, host_wrote, cached, makes_write_available, makes_visible_to_host, makes_visible_to, caching_of}
 use Rattle.vk_laws.proofs.Accesses.TaskNodes.{node_of}
 use Rattle.vk_model.proofs.Lists.Members.{contains-cons, member_passes, some_member, none_in}
 use Rattle.vk_model.proofs.Lists.Truths.{clash, six}
@@ -357,7 +357,7 @@ module _ (paths : BeforeIsPath) (joins : BeforeIsTransitive) (all : Past) where
   pub available_later : (p w : Task) (b : Byte) → IsTrue ((caching_of all).makes_available p w b) → Precedes (accesses_of all) w p
   available_later p w b h = go (node_at all p.node) (node_at all w.node) refl refl (and_parts _ _ h).0 (and_parts _ _ h).1
     where
-      go : (o u : Option Node) → node_at all p.node ≡ o → node_at all w.node ≡ u → IsTrue ((accesses_of all).has w) → IsTrue (holds o (λ m. holds u (λ n. sends_write all m n b))) → Precedes (accesses_of all) w p
+      go : (o u : Option Node) → node_at all p.node ≡ o → node_at all w.node ≡ u → IsTrue ((accesses_of all).has w) → IsTrue (holds o (λ m. holds u (λ n. makes_write_available all m n b))) → Precedes (accesses_of all) w p
       go None u e f has h = absurd cc
       go (Some m) None e f has h = absurd cc
       go (Some m) (Some n) e f has h =

@@ -21,7 +21,7 @@ use Rattle.vk_laws.specs.Trace.{accesses}
 use Rattle.vk_laws.specs.Tasks.{piece_writes, task_count, task_write, node_at, by_act, accesses_of}
 use Rattle.vk_laws.specs.TraceBytes.{before_node}
 use Rattle.vk_laws.specs.Discards.{entry_forgets, forgets, or_unknown, with_discards}
-use Rattle.vk_laws.specs.TraceCaches.{agent_of, submits_to, cached, host_wrote, sends_write, makes_visible_to, caching_of}
+use Rattle.vk_laws.specs.TraceCaches.{agent_of, submits_to, cached, host_wrote, makes_write_available, makes_visible_to, caching_of}
 use Rattle.vk_laws.proofs.Accesses.TaskNodes.{node_of}
 use Rattle.vk_laws.proofs.Nodes.Prefixes.{old_has, same_pieces, tasks_lead_on, there_below}
 use Rattle.vk_model.proofs.Lists.Members.{contains-cons, contains-head, contains-tail, none_in}
@@ -178,7 +178,7 @@ module _ (paths : BeforeIsPath) (joins : BeforeIsTransitive) (keeps : GrowthKeep
         ∙ ap (λ (r : Bool). not (is_host n.act) && n.point.queue == k && (makes_writes_visible (cached old n.number) (nodes old) (command_mask Read) c n n.act || is_wait n.act) || submits_to n.act k && r) (same_wrote c)
 
     -- what it makes available of a node's writes
-    same_made : (w : Node) → Contains (nodes old) w → (w_cached : (c : Byte) → cached whole w.number c ≡ cached old w.number c) → (c : Byte) → sends_write whole n w c ≡ sends_write old n w c
+    same_made : (w : Node) → Contains (nodes old) w → (w_cached : (c : Byte) → cached whole w.number c ≡ cached old w.number c) → (c : Byte) → makes_write_available whole n w c ≡ makes_write_available old n w c
     same_made w cw w_cached c = ap (λ (r : Bool). accesses w.act && r) (go w.act)
       where
         go : (a : Act) → available_by (cached whole w.number) (nodes whole) w a c n ≡ available_by (cached old w.number) (nodes old) w a c n
@@ -192,8 +192,8 @@ module _ (paths : BeforeIsPath) (joins : BeforeIsTransitive) (keeps : GrowthKeep
         go (Depends r d) = refl
 
     -- and of a newer node's: nothing
-    none_made : (w : Node) → Contains (nodes whole) w → size ≤ w.number → (c : Byte) → sends_write whole n w c ≡ false
-    none_made w cw le c = false_from_ne_true (sends_write whole n w c) (λ h.
+    none_made : (w : Node) → Contains (nodes whole) w → size ≤ w.number → (c : Byte) → makes_write_available whole n w c ≡ false
+    none_made w cw le c = false_from_ne_true (makes_write_available whole n w c) (λ h.
         let g = and_parts _ _ h in
         let lt = leads_on (nodes whole) w n (made_of paths joins whole (cached whole w.number) w n c refl cw (raise n cn) g.0 g.1).later in
         let low = number_below (nodes old) (numbered old) n cn in
@@ -240,24 +240,24 @@ module _ (paths : BeforeIsPath) (joins : BeforeIsTransitive) (keeps : GrowthKeep
   available_same : (p w : Task) (c : Byte) → p.node < size → (caching_of whole).makes_available p w c ≡ (caching_of old).makes_available p w c
   available_same p w c lt =
       let n = at p.node lt in
-      ap (λ (o : Option Node). (accesses_of whole).has w && holds o (λ m. holds (node_at whole w.node) (λ n. sends_write whole m n c))) n.in_whole
+      ap (λ (o : Option Node). (accesses_of whole).has w && holds o (λ m. holds (node_at whole w.node) (λ n. makes_write_available whole m n c))) n.in_whole
       ∙ by_writer n (cases_lt w.node size)
-      ∙ sym (ap (λ (o : Option Node). (accesses_of old).has w && holds o (λ m. holds (node_at old w.node) (λ n. sends_write old m n c))) n.in_old)
+      ∙ sym (ap (λ (o : Option Node). (accesses_of old).has w && holds o (λ m. holds (node_at old w.node) (λ n. makes_write_available old m n c))) n.in_old)
     where
-      never : (n : At p.node) → size ≤ w.node → (o : Option Node) → node_at whole w.node ≡ o → holds o (λ m. sends_write whole n.node m c) ≡ false
+      never : (n : At p.node) → size ≤ w.node → (o : Option Node) → node_at whole w.node ≡ o → holds o (λ m. makes_write_available whole n.node m c) ≡ false
       never n le None e = refl
       never n le (Some m) e = let f = node_of whole w.node m e in none_made n.node n.present m f.0 (let g = f.1 in omega (arith, le, g)) c
 
-      by_writer : (n : At p.node) → (w.node < size) ⊎ (size ≤ w.node) → ((accesses_of whole).has w && holds (node_at whole w.node) (λ m. sends_write whole n.node m c)) ≡ ((accesses_of old).has w && holds (node_at old w.node) (λ m. sends_write old n.node m c))
+      by_writer : (n : At p.node) → (w.node < size) ⊎ (size ≤ w.node) → ((accesses_of whole).has w && holds (node_at whole w.node) (λ m. makes_write_available whole n.node m c)) ≡ ((accesses_of old).has w && holds (node_at old w.node) (λ m. makes_write_available old n.node m c))
       by_writer n (inl low) =
           let m = at w.node low in
-          ap (λ (b : Bool). b && holds (node_at whole w.node) (λ m. sends_write whole n.node m c)) (has_same w low)
-          ∙ ap (λ (o : Option Node). (accesses_of old).has w && holds o (λ m. sends_write whole n.node m c)) m.in_whole
+          ap (λ (b : Bool). b && holds (node_at whole w.node) (λ m. makes_write_available whole n.node m c)) (has_same w low)
+          ∙ ap (λ (o : Option Node). (accesses_of old).has w && holds o (λ m. makes_write_available whole n.node m c)) m.in_whole
           ∙ ap (λ (b : Bool). (accesses_of old).has w && b) (same_made n.node n.present m.node m.present (same_cached m.node m.present) c)
-          ∙ sym (ap (λ (o : Option Node). (accesses_of old).has w && holds o (λ m. sends_write old n.node m c)) m.in_old)
+          ∙ sym (ap (λ (o : Option Node). (accesses_of old).has w && holds o (λ m. makes_write_available old n.node m c)) m.in_old)
       by_writer n (inr le) =
           and_right ((accesses_of whole).has w) _ (never n le (node_at whole w.node) refl)
-          ∙ sym (and_right ((accesses_of old).has w) _ (ap (λ (o : Option Node). holds o (λ m. sends_write old n.node m c)) (none_old w.node le)))
+          ∙ sym (and_right ((accesses_of old).has w) _ (ap (λ (o : Option Node). holds o (λ m. makes_write_available old n.node m c)) (none_old w.node le)))
 
   visible_same : (q : Task) (a : ℕ) (c : Byte) → q.node < size → (caching_of whole).makes_visible q a c ≡ (caching_of old).makes_visible q a c
   visible_same q a c lt =
