@@ -9,7 +9,9 @@ pub struct Usage(pub u32);
 
 bitflag_items! {
     impl Usage: u32 {
+        /// A source of transfers (`VK_BUFFER_USAGE_TRANSFER_SRC_BIT`, `VK_IMAGE_USAGE_TRANSFER_SRC_BIT`).
         const TRANSFER_SRC = 1;
+        /// A destination of transfers (`VK_BUFFER_USAGE_TRANSFER_DST_BIT`, `VK_IMAGE_USAGE_TRANSFER_DST_BIT`).
         const TRANSFER_DST = 2;
     }
 }
@@ -42,8 +44,11 @@ pub struct Stages(pub u32);
 
 bitflag_items! {
     impl Stages: u32 {
+        /// Transfers, clears among them (`VK_PIPELINE_STAGE_2_ALL_TRANSFER_BIT`).
         const TRANSFER = 4096;
+        /// Accesses of the host (`VK_PIPELINE_STAGE_2_HOST_BIT`).
         const HOST = 16384;
+        /// All commands of a queue (`VK_PIPELINE_STAGE_2_ALL_COMMANDS_BIT`).
         const ALL_COMMANDS = 65536;
     }
 }
@@ -77,11 +82,17 @@ pub struct Accesses(pub u32);
 
 bitflag_items! {
     impl Accesses: u32 {
+        /// Reads of transfers (`VK_ACCESS_2_TRANSFER_READ_BIT`).
         const TRANSFER_READ = 2048;
+        /// Writes of transfers (`VK_ACCESS_2_TRANSFER_WRITE_BIT`).
         const TRANSFER_WRITE = 4096;
+        /// Reads of the host (`VK_ACCESS_2_HOST_READ_BIT`).
         const HOST_READ = 8192;
+        /// Writes of the host (`VK_ACCESS_2_HOST_WRITE_BIT`).
         const HOST_WRITE = 16384;
+        /// All reads (`VK_ACCESS_2_MEMORY_READ_BIT`).
         const MEMORY_READ = 32768;
+        /// All writes (`VK_ACCESS_2_MEMORY_WRITE_BIT`).
         const MEMORY_WRITE = 65536;
     }
 }

@@ -1,0 +1,13 @@
+pub mod ListLemmas
+pub mod TilingLemmas
+pub mod OrderLemmas
+pub mod JoinLemmas
+pub mod PlanLemmas
+pub mod Joining
+pub mod Splitting
+pub mod Carrying
+pub mod Reading
+pub mod PlanMaking
+pub mod Searching
+pub mod PlanEach
+pub mod Rewriting

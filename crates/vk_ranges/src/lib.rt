@@ -1,0 +1,32 @@
+//! One value for each index of a range, kept as runs.
+//!
+//! A `RangeMap<T>` has a value for each of the indices `0..len`, as the bytes of a buffer have
+//! what is remembered of them. Neighbours of one value are one run, so a map costs nothing for its
+//! length, and an operation costs the runs that it touches: a search of the tree and a walk from
+//! there, one search for each run that changes, and a few more at the two ends of the range.
+//!
+//! ```text
+//! let mut map = RangeMap::new(alloc, 10, 0)?;     // 0 0 0 0 0 0 0 0 0 0
+//! map.assign(2, 5, 7)?;                           // 0 0 7 7 7 0 0 0 0 0
+//! map.update(4, 6, |value| Ok(*value + 1))?;      // 0 0 7 7 8 1 0 0 0 0
+//! map.find(0, 10, |value| *value > 7)             // Some(4)
+//! map.overlapping(3, 6)                           // 3..4 has 7, 4..5 has 8, 5..6 has 1
+//! ```
+//!
+//! Contracts see a map as the list of its values, one for each index. Ranges are half open,
+//! `low..high` with `low <= high <= len`. The only error of the map itself is want of memory, after
+//! which it is as it was. What a value must offer is `RangeValue`: a copy that is the value, and a
+//! comparison that keeps values apart.
+#![tactic(auto)]
+
+mod changes;
+mod map;
+mod plan;
+mod planning;
+mod runs;
+mod splits;
+mod value;
+
+pub use map::RangeMap;
+pub use runs::{Overlapping, Run};
+pub use value::RangeValue;

@@ -1,0 +1,217 @@
+ghost use Rattle.std.specs.Prelude.{◌≡◌, ◌≤◌, ◌<◌, ℕ, true, false, Some, Ok, length, slice_get};
+ghost use Rattle.std.specs.Prelude.{IfOk, IfSome, IfNone, OnOk, OnErr};
+ghost use Rattle.std.specs.Option.{IsSomeAnd};
+ghost use Rattle.std.specs.Fn.{FnReturnsAt};
+ghost use Rattle.vk_ranges.specs.Overlaps.{AreRunsOf, pieces_left};
+
+use crate::changes::Change;
+use crate::plan::carry_out;
+use crate::planning::{overlapping, plan_of_each, plan_of_one};
+use crate::runs::Overlapping;
+use crate::splits::runs_after;
+use crate::value::RangeValue;
+use std::alloc::{AllocError, Global};
+use std::collections::BTreeMap;
+use std::marker::Model;
+
+/// One value for each index of `0..len`. Contracts see the list of the values.
+#[derive(Drop)]
+pub struct RangeMap<T> {
+    alloc: Global,
+    len: u64,
+    /// The runs in order, by the index after the last one of each.
+    runs: BTreeMap<u64, T>,
+}
+
+impl<T> Model for RangeMap<T> {
+    ghost use Rattle.std.specs.Prelude.{List};
+    ghost use Rattle.vk_ranges.specs.Runs.{values_from, AreRuns};
+
+    ghost Value = { List T };
+
+    ghost view = { λ m. values_from 0 m.runs.entries };
+
+    ghost invariant = { λ m. AreRuns m.len m.runs.entries };
+}
+
+impl<T: RangeValue> RangeMap<T> {
+    /// A map in which each index has the value. The only error is want of memory.
+    pub fn new(alloc: Global, len: u64, value: T) -> Result<RangeMap<T>, AllocError>
+        ensures len { IfOk result (λ map. length map ≡ len) }
+        ensures values { IfOk result (λ map. (index : ℕ) → index < len
+            → slice_get map index ≡ Some value) }
+    {
+        let mut runs = BTreeMap::new(alloc);
+        if len > 0 {
+            runs.insert(len, value)?;
+        }
+        Ok(RangeMap { alloc, len, runs })
+    }
+
+    /// The number of indices, which never changes.
+    pub fn len(&self) -> u64
+        ensures { result ≡ length self.now }
+    {
+        self.len
+    }
+
+    /// The value of an index.
+    pub fn at(&self, index: u64) -> &T
+        requires { index < length self.now }
+        ensures { slice_get self.now index ≡ Some result.now }
+    {
+        let Some((_, value)) = runs_after(&self.runs, index).next() else {
+            unreachable!()
+        };
+        value
+    }
+
+    /// The runs that overlap `low..high`, in order, each cut to it.
+    pub fn overlapping(&self, low: u64, high: u64) -> Overlapping<'_, T>
+        requires order { low ≤ high }
+        requires within { high ≤ length self.now }
+        ensures { AreRunsOf self.now low high (pieces_left result) }
+    {
+        overlapping(&self.runs, low, high)
+    }
+
+    /// The first index of `low..high` whose value passes the test.
+    pub fn find<F: Fn(&T) -> bool>(&self, low: u64, high: u64, test: F) -> Option<u64>
+        requires callable { F.IsAlwaysCallable test }
+        requires order { low ≤ high }
+        requires within { high ≤ length self.now }
+        ensures within { IfSome result (λ found. (low ≤ found) × (found < high)) }
+        ensures passes { IfSome result (λ found.
+            IsSomeAnd (slice_get self.now found) (λ value. FnReturnsAt F.Fn test value true)) }
+        ensures first { IfSome result (λ found. (index : ℕ) → low ≤ index → index < found
+            → IsSomeAnd (slice_get self.now index) (λ value. FnReturnsAt F.Fn test value false)) }
+        ensures none { IfNone result ((index : ℕ) → low ≤ index → index < high
+            → IsSomeAnd (slice_get self.now index) (λ value. FnReturnsAt F.Fn test value false)) }
+    {
+        for run in self.overlapping(low, high) {
+            if test(run.value) {
+                return Some(run.start);
+            }
+        }
+        None
+    }
+
+    /// Gives the indices `low..high` the value, and keeps all others. The only error is want of
+    /// memory, after which the map is as it was.
+    pub fn assign(&mut self, low: u64, high: u64, value: T) -> Result<(), AllocError>
+        requires order { low ≤ high }
+        requires within { high ≤ length self.old }
+        ensures len { length self.new ≡ length self.old }
+        ensures inside { OnOk result ((index : ℕ) → low ≤ index → index < high
+            → slice_get self.new index ≡ Some value) }
+        ensures before { OnOk result ((index : ℕ) → index < low
+            → slice_get self.new index ≡ slice_get self.old index) }
+        ensures after { OnOk result ((index : ℕ) → high ≤ index
+            → slice_get self.new index ≡ slice_get self.old index) }
+        ensures err { OnErr result (self.new ≡ self.old) }
+    {
+        if low == high {
+            return Ok(());
+        }
+        let plan = plan_of_one(self.alloc, &self.runs, low, high, value)?;
+        carry_out(&mut self.runs, low, high, plan)
+    }
+
+    /// Gives each index of `low..high` what `f` answers for its value, and keeps all others. An
+    /// error, of `f` or for want of memory, leaves the map as it was.
+    pub fn update<F: Fn(&T) -> Result<T, AllocError>>(
+        &mut self,
+        low: u64,
+        high: u64,
+        f: F,
+    ) -> Result<(), AllocError>
+        requires callable { F.IsAlwaysCallable f }
+        requires order { low ≤ high }
+        requires within { high ≤ length self.old }
+        ensures len { length self.new ≡ length self.old }
+        ensures inside { OnOk result ((index : ℕ) → low ≤ index → index < high
+            → IsSomeAnd (slice_get self.old index) (λ before.
+            IsSomeAnd (slice_get self.new index) (λ after.
+            FnReturnsAt F.Fn f before (Ok after)))) }
+        ensures before { OnOk result ((index : ℕ) → index < low
+            → slice_get self.new index ≡ slice_get self.old index) }
+        ensures after { OnOk result ((index : ℕ) → high ≤ index
+            → slice_get self.new index ≡ slice_get self.old index) }
+        ensures err { OnErr result (self.new ≡ self.old) }
+    {
+        if low == high {
+            return Ok(());
+        }
+        let plan = plan_of_each(self.alloc, &self.runs, low, high, f)?;
+        carry_out(&mut self.runs, low, high, plan)
+    }
+}
+
+#[cfg(test)]
+mod tests {
+    use super::*;
+    use std::test::Fail;
+
+    /// What is remembered of a byte.
+    #[derive(Clone, Copy, PartialEq)]
+    struct Mark {
+        is_dirty: bool,
+        writer: Option<usize>,
+    }
+
+    impl RangeValue for Mark {
+        fn duplicate(&self) -> Result<Mark, AllocError> {
+            Ok(*self)
+        }
+
+        fn is_same(&self, other: &Mark) -> bool {
+            *self == *other
+        }
+    }
+
+    /// The runs of a worked map, and the first index whose value passes a test.
+    #[test]
+    fn worked_map(rt: HostRuntime) -> Result<(), Fail> {
+        let mut map = RangeMap::new(rt.alloc(), 10, 0u64)?;
+        map.assign(2, 5, 7)?;
+        map.update(4, 6, |value| Ok(value.wrapping_add(1)))?;
+        let rows = [(0, 2, 0), (2, 4, 7), (4, 5, 8), (5, 6, 1), (6, 10, 0)];
+        let mut row = 0;
+        for run in map.overlapping(0, 10) {
+            assert!(rt; row < rows.len());
+            let (start, end, value) = rows[row];
+            assert_eq!(rt; run.start, start);
+            assert_eq!(rt; run.end, end);
+            assert_eq!(rt; *run.value, value);
+            row += 1;
+        }
+        assert_eq!(rt; row, rows.len());
+        assert_eq!(rt; map.find(0, 10, |value| *value == 8), Some(4));
+        assert_eq!(rt; map.find(5, 10, |value| *value == 8), None);
+        Ok(())
+    }
+
+    /// Equal neighbours are one run again, also where the value is a struct.
+    #[test]
+    fn neighbours_merge(rt: HostRuntime) -> Result<(), Fail> {
+        let clean = Mark {
+            is_dirty: false,
+            writer: None,
+        };
+        let mut map = RangeMap::new(rt.alloc(), u64::MAX, clean)?;
+        map.assign(
+            4,
+            8,
+            Mark {
+                is_dirty: true,
+                writer: Some(3),
+            },
+        )?;
+        map.update(0, 8, |_mark| Ok(clean))?;
+        for run in map.overlapping(0, u64::MAX) {
+            assert_eq!(rt; run.end, u64::MAX);
+            assert!(rt; !run.value.is_dirty);
+        }
+        Ok(())
+    }
+}
