@@ -18,8 +18,9 @@ use Rattle.vk_device.specs.declared.applied.Applied.{Applied}
 use Rattle.vk_device.specs.declared.applied.Applied.TheVariants as applied
 use Rattle.vk_device.specs.declared.device.Placed.{Placed}
 use Rattle.vk_device.specs.Allotted.{Allotted, kind_of, allotted, asked_by, asked_at, with_asked, heaps_with, finds_no_room, stop_from}
-use Rattle.vk_device.specs.Held.{Held, MapsAt}
-use Rattle.vk_device.specs.Matches.{MadeOr, Rooms, Allots}
+use Rattle.vk_device.specs.Held.{Held}
+use Rattle.vk_device.specs.Inner.Steps.{MapsAt, MadeOr}
+use Rattle.vk_device.specs.Matches.{Rooms, Allots}
 
 -- ---- an object keeps its type and its size
 

@@ -24,9 +24,10 @@ use Rattle.vk_model.specs.World.Meaning.{bytes_at, read_in}
 use Rattle.vk_device.specs.declared.applied.Applied.{Applied}
 use Rattle.vk_device.specs.declared.applied.Applied.TheVariants as applied
 use Rattle.vk_device.specs.declared.device.Placed.{Placed}
-use Rattle.vk_device.specs.Held.{Held, IsApart, placed, byte_in, byte_at, MapsAt}
+use Rattle.vk_device.specs.Held.{Held, IsApart, placed, byte_in, byte_at}
+use Rattle.vk_device.specs.Inner.Steps.{MapsAt, batches_past, Makes, MadeOr}
 use Rattle.vk_device.specs.Inner.Fits.{AllFit, FitsEntry, FitsRead}
-use Rattle.vk_device.specs.Matches.{IsThere, Matches, next_past, batches_past, Makes, MadeOr, Answered}
+use Rattle.vk_device.specs.Matches.{IsThere, Matches, next_past, Answered}
 use Rattle.vk_device.proofs.Steps.{there_placed}
 
 -- ---- a new buffer

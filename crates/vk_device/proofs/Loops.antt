@@ -9,7 +9,8 @@ use Rattle.vk_model.specs.Trace.Order.{SubmittedBatch, actions, started, batches
 use Rattle.vk_device.specs.Allotted.{allotted}
 use Rattle.vk_device.specs.Held.{Held}
 use Rattle.vk_device.specs.Inner.Fits.{FitsCommand, AllFit}
-use Rattle.vk_device.specs.Matches.{Matches, run_point, CommandReady, CommandsReady, BatchReady, BatchesReady, batches_past}
+use Rattle.vk_device.specs.Matches.{Matches}
+use Rattle.vk_device.specs.Inner.Steps.{run_point, CommandReady, CommandsReady, BatchReady, BatchesReady, batches_past}
 use Rattle.vk_device.proofs.Steps.{fit_actions, fit_batches, waits_match, signals_match}
 
 rest : {X : Type 0} (xs : List X) (i : ℕ) (x : X) → x ≡ get_or xs i x → i < length xs → drop i xs ≡ x ∷ drop (i + 1) xs

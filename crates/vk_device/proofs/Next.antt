@@ -3,7 +3,8 @@ use Rattle.std.proofs.Common.{◌≡◌, ◌⊎◌, inl, inr, false}
 use Rattle.std.specs.Prelude.{IsTrue}
 use Rattle.vk_model.specs.declared.entry.Entry.{Entry}
 use Rattle.vk_device.specs.Held.{Held}
-use Rattle.vk_device.specs.Matches.{IsNext, Ready}
+use Rattle.vk_device.specs.Matches.{IsNext}
+use Rattle.vk_device.specs.Inner.Steps.{Ready}
 use Rattle.vk_device.proofs.Clean.{fits_clean}
 
 pub ready_next : (s : Held) (x : Entry) → s.failed ≡ false → IsTrue s.failed ⊎ IsNext s x → Ready s x

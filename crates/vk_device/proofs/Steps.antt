@@ -25,7 +25,8 @@ use Rattle.vk_model.specs.World.Meaning.{reads, read_by, read_in}
 use Rattle.vk_device.specs.declared.device.Placed.{Placed}
 use Rattle.vk_device.specs.Held.{Held, IsApart, placed, byte_at}
 use Rattle.vk_device.specs.Inner.Fits.{FitsFill, AllMemory, FitsCommand, AllFit}
-use Rattle.vk_device.specs.Matches.{IsThere, Matches, next_past, run_point}
+use Rattle.vk_device.specs.Matches.{IsThere, Matches, next_past}
+use Rattle.vk_device.specs.Inner.Steps.{run_point}
 use Rattle.vk_device.proofs.Running.{write_to, run_keeps_values, run_there}
 use Rattle.vk_device.proofs.Filling.{fill_write, fill_writes, image_missed, fill_ran, fill_there}
 

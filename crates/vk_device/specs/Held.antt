@@ -1,9 +1,9 @@
 -- What a device holds: its buffers and the memory under them.
-use Rattle.std.specs.Prelude.{◌≡◌, ℕ, ◌≤◌, ◌⊎◌, true, List, length, slice_index, Bool, Option, Some, None, IfSome}
+use Rattle.std.specs.Prelude.{◌≡◌, ℕ, ◌≤◌, List, length, slice_index, Bool, Option, Some, None, IfSome}
 use Rattle.std.specs.Ordering.{nat_cmp}
 use Rattle.std.specs.Map.{lookup}
 use Rattle.std.specs.BTreeMap.{is_at}
-use Rattle.vk_memory.specs.MemoryState.{MemoryState, IsLive, region_of, with_mapped}
+use Rattle.vk_memory.specs.MemoryState.{MemoryState, IsLive, region_of}
 use Rattle.vk_model.specs.World.Bytes.{Byte, in_buffer, in_image}
 use Rattle.vk_device.specs.declared.device.Placed.{Placed}
 
@@ -35,8 +35,3 @@ byte_in memory (Some p) k = slice_index (region_of memory p.object) k
 abbrev pub byte_at : Held → Byte → ℕ
 byte_at s (in_buffer b k) = byte_in s.memory (placed s b) k
 byte_at s (in_image i l a x y p) = 0
-
--- The memory object under a buffer may have been mapped, and nothing else has changed (Vulkan, "Host Access to Device Memory Objects").
-abbrev pub MapsAt : Held → Held → Option Placed → Type 0
-MapsAt old new None = new ≡ old
-MapsAt old new (Some p) = (new ≡ old) ⊎ (IsLive old.memory p.object × (new ≡ record old { memory = with_mapped old.memory p.object true }))

@@ -46,11 +46,12 @@ const BUFFER_UNIT: u64 = 16;
 impl Device {
     ghost use Rattle.vk_model.specs.Trace.Order.{SubmittedBatch, actions, started};
     ghost use Rattle.vk_model.specs.Trace.Point.{Past, Run};
-    ghost use Rattle.vk_device.specs.Held.{placed, IsApart, MapsAt};
+    ghost use Rattle.vk_device.specs.Held.{placed, IsApart};
+    ghost use Rattle.vk_device.specs.Inner.Steps.{MapsAt, run_point, batches_past, CommandReady, CommandsReady, BatchReady, BatchesReady, Ready, MayFill, MayRead, MadeOr};
     ghost use Rattle.vk_device.specs.Allotted.{allotted};
     ghost use Rattle.vk_device.specs.Clean.{IsClean};
     ghost use Rattle.vk_device.specs.Inner.Fits.{AllFit, FitsCommand};
-    ghost use Rattle.vk_device.specs.Matches.{Matches, run_point, batches_past, next_past, CommandReady, CommandsReady, BatchReady, BatchesReady, Ready, IsNext, MayFill, MayRead, MadeOr, Answered, Rooms, Allots};
+    ghost use Rattle.vk_device.specs.Matches.{Matches, next_past, IsNext, Answered, Rooms, Allots};
     ghost use Rattle.vk_device.specs.declared.applied.ApplyError.TheVariants.{NoMemory, Failed};
 
     /// A device with heaps of these sizes, without resources. It takes no memory.
