@@ -17,12 +17,12 @@ comes_of (q ∷ past) p c = ⊎_elim
     (λ same. (past, subst (λ (m : Point). Comes (q ∷ past) past m) same newest))
     (λ old. let h = comes_of past p old in (h.0, older h.1)) (contains-cons q past p c)
 
-was_before : (past before : Past) (p q : Point) → Comes past before p → Contains before q → Contains past q
+pub was_before : (past before : Past) (p q : Point) → Comes past before p → Contains before q → Contains past q
 was_before past before p q newest c = contains-tail p before q c
 was_before past before p q (older {past = rest} {q = r} come) c = contains-tail r rest q (was_before rest before p q come c)
 
 -- of each number there is one host entry
-entry_once : (past : Past) → IsOrdered past → (e : ℕ) (x y : Entry) → Contains past (host e x) → Contains past (host e y) → x ≡ y
+pub entry_once : (past : Past) → IsOrdered past → (e : ℕ) (x y : Entry) → Contains past (host e x) → Contains past (host e y) → x ≡ y
 entry_once [] o e x y c d = absurd (none_in (host e x) c)
 entry_once (p ∷ past) o e x y c d = go (entry_once past o.1 e x y) (contains-cons p past (host e x) c) (contains-cons p past (host e y) d)
   where
