@@ -1,5 +1,5 @@
 ghost use Rattle.std.specs.Prelude.{◌≡◌, length, IfOk, IfErr, MatchOption, None, false};
-ghost use Rattle.vk_model.specs.Trace.Order.{plain_order};
+ghost use Rattle.vk_model.specs.Trace.Order.{plain_order, order};
 ghost use Rattle.vk_model.specs.World.Meaning.{meaning};
 ghost use Rattle.vk_model.specs.Rules.Table.{first_fault};
 ghost use Rattle.vk_device.specs.Clean.{IsClean};
@@ -41,7 +41,7 @@ pub fn replay<S: Scheduler>(
     ensures first { IfOk result (λ r. r.stop ≡ first_stop config accepted.now) }
     // The device matches the entries that were applied.
     ensures stop { IfOk result (λ r. MatchOption r.stop
-        (Matches (plain_order accepted.now) r.device) (λ n. StopsAt accepted.now n r.device)) }
+        (Matches (order accepted.now) r.device) (λ n. StopsAt accepted.now n r.device)) }
     // The device has not failed, and its heaps hold what the applied entries ask for, and nothing else.
     ensures works { IfOk result (λ r. r.device.failed ≡ false) }
     ensures heaps { IfOk result (λ r. allotted r.device.memory ≡ allotted_by config (applied_of accepted.now r.stop)) }
@@ -64,7 +64,7 @@ fn replay_entries<S: Scheduler>(
         (r.reads ≡ meaning entries.now (length entries.now)) (λ n. r.reads ≡ meaning entries.now n)) }
     ensures first { IfOk result (λ r. r.stop ≡ first_stop config entries.now) }
     ensures stop { IfOk result (λ r. MatchOption r.stop
-        (Matches (plain_order entries.now) r.device) (λ n. StopsAt entries.now n r.device)) }
+        (Matches (order entries.now) r.device) (λ n. StopsAt entries.now n r.device)) }
     ensures works { IfOk result (λ r. r.device.failed ≡ false) }
     ensures heaps { IfOk result (λ r. allotted r.device.memory ≡ allotted_by config (applied_of entries.now r.stop)) }
     ensures error { IfErr result (λ f. f ≡ NoMemory) }
