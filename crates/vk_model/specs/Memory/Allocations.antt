@@ -200,3 +200,8 @@ pub record StopsAt (sizes : HeapSizes) (t : List Entry) (n : ℕ) (d : Allocated
   pub stopped : Entry
   pub here : slice_get t n ≡ Some stopped
   pub no_room : FindsNoRoom d stopped
+
+-- A replay of a trace ends on a device: after all entries, each of which found room, or at an entry that finds none (profile).
+abbrev pub EndsOn : HeapSizes → List Entry → Option ℕ → Allocated → Type 0
+EndsOn sizes t None d = Reaches sizes t d
+EndsOn sizes t (Some n) d = StopsAt sizes t n d
