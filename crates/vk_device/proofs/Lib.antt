@@ -1,10 +1,4 @@
-pub mod Clean
-pub mod Running
-pub mod Filling
-pub mod Steps
-pub mod Loops
-pub mod Entries
-pub mod Whole
-pub mod Next
-pub mod Allotting
-pub mod Apart
+pub mod Promises
+pub mod Bytes
+pub mod Points
+pub mod Traces

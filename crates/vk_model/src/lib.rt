@@ -38,7 +38,7 @@ pub use resource::{
     BufferInfo, ImageInfo, Kind, MemoryInfo, Need, Place, PoolInfo, PoolKind, Sharing, Spot,
 };
 pub use rule::{At, Rule};
-pub use scheduler::{First, Scheduler};
+pub use scheduler::{First, Last, Scheduler, Seeded};
 pub use sequence::Sequence;
 pub use statistics::Statistics;
 pub use suballoc::{SubFault, Suballoc};

@@ -6,6 +6,7 @@ pub mod Images
 pub mod Queues
 pub mod Pools
 pub mod Ahead
+pub mod EasilyMistaken
 pub mod RulesOfObjects
 pub mod RulesOfCommands
 pub mod RulesOfOrder

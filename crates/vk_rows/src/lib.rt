@@ -8,6 +8,6 @@ mod traces;
 
 pub use facts::{addresses, limits, linear_blocks, no_room, places, pool_blocks, work};
 pub use traces::{
-    ahead, images, objects, pools, queues, rules_of_access, rules_of_commands, rules_of_objects,
+    ahead, easily_mistaken, images, objects, pools, queues, rules_of_access, rules_of_commands, rules_of_objects,
     rules_of_order, uploads,
 };

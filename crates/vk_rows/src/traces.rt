@@ -4,6 +4,7 @@ ghost use Rattle.vk_rows.specs.Images.{Images};
 ghost use Rattle.vk_rows.specs.Queues.{Queues};
 ghost use Rattle.vk_rows.specs.Pools.{Pools};
 ghost use Rattle.vk_rows.specs.Ahead.{Ahead};
+ghost use Rattle.vk_rows.specs.EasilyMistaken.{EasilyMistaken};
 ghost use Rattle.vk_rows.specs.RulesOfObjects.{RulesOfObjects};
 ghost use Rattle.vk_rows.specs.RulesOfCommands.{RulesOfCommands};
 ghost use Rattle.vk_rows.specs.RulesOfOrder.{RulesOfOrder};
@@ -37,6 +38,11 @@ pub fn pools()
 /// Commands inside a pass, and waits ahead of their signals.
 pub fn ahead()
     ensures { Ahead }
+{}
+
+/// What is easily mistaken in the definitions: a trace for each reading, and its twin.
+pub fn easily_mistaken()
+    ensures { EasilyMistaken }
 {}
 
 /// Each rule on objects, broken alone and corrected.

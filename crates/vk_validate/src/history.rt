@@ -93,7 +93,7 @@ impl<'a> History<'a> {
     }
 
     /// The value of a semaphore after all signals so far; none for what is no semaphore.
-    #[tactic(auto, using(crate::proofs::TableLemmas::counters))]
+    #[tactic(auto, using(crate::proofs::Keeping::TableLemmas::counters))]
     pub fn counter(&self, semaphore: u32) -> Option<u64>
         ensures { result ≡ counter (past self.now) semaphore }
     {

@@ -69,7 +69,7 @@ pub fn first_rule(history: &History<'_>, step: &Step<'_>) -> Option<Rule>
     first_of(&RULES, history, step)
 }
 
-#[tactic(auto, using(crate::proofs::Clears::finds))]
+#[tactic(auto, using(crate::proofs::Judging::Clears::finds))]
 fn first_of(rules: &[Rule], history: &History<'_>, step: &Step<'_>) -> Option<Rule>
     requires { IsTrue (is_supported_action (action_of step.now.action)) }
     ensures { result ≡ find (λ r. tests r (past history.now) (point_of step.now)) rules.now }

@@ -47,7 +47,7 @@ impl<'a> Step<'a> {
 
 /// The points of a trace in the order in which they are judged, the oldest first: each entry of the
 /// host, and after a submit the waits, the commands and the signals of its batches.
-#[tactic(auto, using(crate::proofs::Batches::entries_pushed))]
+#[tactic(auto, using(crate::proofs::Keeping::Batches::entries_pushed))]
 pub fn reference_order<'a>(alloc: Global, entries: &'a [Entry]) -> Result<Vec<Step<'a>>, AllocError>
     ensures { IfOk result (λ points. past_of points.items ≡ plain_order entries.now) }
 {
@@ -80,7 +80,7 @@ fn push_submit<'a>(
     }
 }
 
-#[tactic(auto, using(crate::proofs::Batches::batches_pushed))]
+#[tactic(auto, using(crate::proofs::Keeping::Batches::batches_pushed))]
 fn push_batches<'a>(
     points: &mut Vec<Step<'a>>,
     number: usize,
@@ -110,7 +110,7 @@ fn push_batch<'a>(
     push_signals(points, entry, batch, queue, content.signals.as_slice())
 }
 
-#[tactic(auto, using(crate::proofs::Batches::pushes))]
+#[tactic(auto, using(crate::proofs::Keeping::Batches::pushes))]
 fn push_waits<'a>(
     points: &mut Vec<Step<'a>>,
     entry: usize,
@@ -132,7 +132,7 @@ fn push_waits<'a>(
     Ok(())
 }
 
-#[tactic(auto, using(crate::proofs::Batches::pushes))]
+#[tactic(auto, using(crate::proofs::Keeping::Batches::pushes))]
 fn push_commands<'a>(
     points: &mut Vec<Step<'a>>,
     entry: usize,
@@ -154,7 +154,7 @@ fn push_commands<'a>(
     Ok(())
 }
 
-#[tactic(auto, using(crate::proofs::Batches::pushes))]
+#[tactic(auto, using(crate::proofs::Keeping::Batches::pushes))]
 fn push_signals<'a>(
     points: &mut Vec<Step<'a>>,
     entry: usize,

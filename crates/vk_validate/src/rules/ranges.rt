@@ -26,7 +26,7 @@ pub fn breaks_range(history: &History<'_>, step: &Step<'_>) -> bool
     }
 }
 
-#[tactic(auto, using(crate::proofs::Fills::fill_range))]
+#[tactic(auto, using(crate::proofs::Points::Fills::fill_range))]
 fn ends_past_buffer(history: &History<'_>, command: &Cmd) -> bool
     requires { IsTrue (is_supported_command command.now) }
     ensures { result ≡ ranges.command_past (past history.now) command.now }

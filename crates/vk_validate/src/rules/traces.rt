@@ -9,7 +9,7 @@ use crate::history::History;
 const MOST_POINTS: usize = 131_072;
 
 /// LIMIT: the trace has too many points.
-#[tactic(auto, using(crate::proofs::Clears::limits))]
+#[tactic(auto, using(crate::proofs::Judging::Clears::limits))]
 pub fn breaks_limit(history: &History<'_>) -> bool
     ensures { (p : Point) → result ≡ breaks_limit (past history.now) p }
 {

@@ -1,5 +1,5 @@
 use Rattle.std.proofs.Common.{refl, ◌∙◌}
-use Rattle.vk_device.proofs.Whole.{replays_start, entry_ready, stops, stop_holds, after_done, after_bytes}
+use Rattle.vk_device.proofs.Traces.Whole.{replays_start, entry_ready, stops, stop_holds, after_done, after_bytes}
 use Rattle.vk_device.proofs.replaying.replay_entries.Goals as goal
 use Rattle.vk_device.proofs.replaying.replay_entries.Goals.{in-Done, in-Bytes+in_ok-push-in-Bytes}
 

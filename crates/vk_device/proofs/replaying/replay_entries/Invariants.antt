@@ -1,5 +1,5 @@
 use Rattle.std.proofs.Common.{◌≡◌}
-use Rattle.vk_device.proofs.Whole.{Replays}
+use Rattle.vk_device.proofs.Traces.Whole.{Replays}
 use Rattle.vk_device.proofs.replaying.replay_entries.Given as goal
 
 abbrev pub invariant-loop-index : goal.invariant-loop-index

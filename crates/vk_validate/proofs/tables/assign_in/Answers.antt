@@ -3,7 +3,7 @@ use Rattle.std.specs.Option.{unwrap_or}
 use Rattle.std.specs.BTreeMap.{IsEmpty}
 use Rattle.vk_validate.specs.declared.writers.LastWriters.{LastWriters}
 use Rattle.vk_validate.specs.Inner.Writers.{WasLast, IsLastWriter}
-use Rattle.vk_validate.proofs.BoundLemmas.{was_some, was_none}
+use Rattle.vk_validate.proofs.Keeping.BoundLemmas.{was_some, was_none}
 use Rattle.vk_validate.proofs.tables.assign_in.Goals as goal
 
 was_last : (known : Option LastWriters) (fresh old : LastWriters) → IsEmpty fresh.bounds → old ≡ unwrap_or known fresh → (byte : ℕ) (writer : Option ℕ) → WasLast known byte writer → IsLastWriter old.bounds byte writer

@@ -1,9 +1,9 @@
 use Rattle.std.proofs.Common.{◌≡◌, ◌∷◌, refl, sym, ap, ◌∙◌}
 use Rattle.vk_validate.specs.Inner.OrderState.{Signaled, order_state, joined}
 use Rattle.vk_validate.specs.declared.clocks.Order.{Order}
-use Rattle.vk_validate.proofs.TableLemmas.{writers_stay, writers_next}
-use Rattle.vk_validate.proofs.TimelineLemmas.{timelines_next}
-use Rattle.vk_validate.proofs.Greatest.{greatest_next}
+use Rattle.vk_validate.proofs.Keeping.TableLemmas.{writers_stay, writers_next}
+use Rattle.vk_validate.proofs.Keeping.TimelineLemmas.{timelines_next}
+use Rattle.vk_validate.proofs.Keeping.Greatest.{greatest_next}
 use Rattle.vk_validate.proofs.tables.note.Goals as goal
 
 pub returns-in_ok-note_signal-in-Signaled : goal.returns-in_ok-note_signal-in-Signaled

@@ -5,7 +5,7 @@ use Rattle.vk_model.specs.declared.rule.At.{At}
 use Rattle.vk_model.specs.declared.rule.Rule.TheVariants as rule
 use Rattle.vk_validate.specs.Inner.PointViews.{past, Walk}
 use Rattle.vk_validate.specs.Faults.{tested_rule}
-use Rattle.vk_validate.proofs.Faults.{next, done, found}
+use Rattle.vk_validate.proofs.Judging.Faults.{next, done, found}
 use Rattle.vk_validate.proofs.verdicts.first_fault.Goals as goal
 
 pub loop-step-init : goal.loop-step-init

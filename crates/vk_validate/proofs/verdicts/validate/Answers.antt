@@ -1,6 +1,6 @@
 use Rattle.std.proofs.Common.{◌∙◌, ap, sym}
 use Rattle.vk_validate.specs.Inner.PointViews.{past_of}
-use Rattle.vk_validate.proofs.Faults.{reports, reports_first, accepts}
+use Rattle.vk_validate.proofs.Judging.Faults.{reports, reports_first, accepts}
 use Rattle.vk_validate.proofs.verdicts.validate.Goals as goal
 
 pub returns-in-Some-clause-reported : goal.returns-in-Some-clause-reported

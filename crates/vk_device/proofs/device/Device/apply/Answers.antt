@@ -1,7 +1,7 @@
 use Rattle.std.proofs.Common.{◌≡◌, false, ap}
 use Rattle.vk_device.specs.Held.{Held}
-use Rattle.vk_device.proofs.Clean.{fits_clean}
-use Rattle.vk_device.proofs.Next.{ready_next}
+use Rattle.vk_device.proofs.Promises.Clean.{fits_clean}
+use Rattle.vk_device.proofs.Promises.Next.{ready_next}
 use Rattle.vk_device.proofs.device.Device.apply.Goals as goal
 use Rattle.std.proofs.lemmas.Result.{IfOk-weaker}
 

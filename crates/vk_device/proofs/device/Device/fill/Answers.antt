@@ -6,8 +6,8 @@ use Rattle.vk_memory.specs.MemoryState.{IsLive, region_of}
 use Rattle.vk_device.specs.declared.device.Placed.{Placed}
 use Rattle.vk_device.specs.Allotted.{allotted}
 use Rattle.vk_device.specs.Held.{Held}
-use Rattle.vk_device.proofs.Allotting.{region_allots}
-use Rattle.vk_device.proofs.Apart.{apart_rewritten}
+use Rattle.vk_device.proofs.Traces.Allotting.{region_allots}
+use Rattle.vk_device.proofs.Bytes.Apart.{apart_rewritten}
 use Rattle.vk_device.proofs.device.Device.fill.Goals as goal
 
 pub returns-in-Some-clause-allotted : goal.returns-in-Some-clause-allotted

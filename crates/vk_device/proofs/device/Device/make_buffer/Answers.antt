@@ -5,7 +5,7 @@ use Rattle.std.specs.BTreeMap.{is_at}
 use Rattle.vk_memory.specs.MemoryState.{MemoryState, fresh}
 use Rattle.vk_memory.specs.declared.memories.Object.{Object}
 use Rattle.vk_device.specs.Held.{IsApart, placed_in}
-use Rattle.vk_device.proofs.Apart.{apart_more}
+use Rattle.vk_device.proofs.Bytes.Apart.{apart_more}
 use Rattle.vk_device.proofs.device.Device.make_buffer.Goals as goal
 
 rounded_up : (n : ℕ) → n ≤ (n + 15) / 16 * 16

@@ -1,4 +1,4 @@
-use Rattle.vk_device.proofs.Loops.{batches_start, batch_ready, batch_more, batches_end}
+use Rattle.vk_device.proofs.Points.Loops.{batches_start, batch_ready, batch_more, batches_end}
 use Rattle.vk_device.proofs.device.Device.run_batches.Goals as goal
 
 pub loop-batch-init : goal.loop-batch-init

@@ -1,4 +1,4 @@
-use Rattle.vk_device.proofs.Loops.{commands_start, command_ready, command_more, commands_end}
+use Rattle.vk_device.proofs.Points.Loops.{commands_start, command_ready, command_more, commands_end}
 use Rattle.vk_device.proofs.device.Device.run_commands.Goals as goal
 
 pub loop-command-init : goal.loop-command-init

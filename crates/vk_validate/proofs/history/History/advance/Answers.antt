@@ -2,7 +2,7 @@ use Rattle.std.proofs.Common.{arith, ◌≡◌, Some}
 use Rattle.std.specs.Prelude.{slice_get}
 use Rattle.std.proofs.lemmas.Option.{slice_get_within}
 use Rattle.vk_validate.specs.Inner.PointViews.{point_of}
-use Rattle.vk_validate.proofs.TableLemmas.{past-next}
+use Rattle.vk_validate.proofs.Keeping.TableLemmas.{past-next}
 use Rattle.vk_validate.proofs.history.History.advance.Goals as goal
 
 pub invariant_of-self : goal.invariant_of-self

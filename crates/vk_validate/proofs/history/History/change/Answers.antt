@@ -1,7 +1,7 @@
 use Rattle.std.proofs.Common.{◌≡◌, length, refl, sym, ap}
 use Rattle.vk_validate.specs.Inner.PointViews.{past, action_of}
 use Rattle.vk_validate.specs.Inner.OrderState.{order_state}
-use Rattle.vk_validate.proofs.Clears.{length-past}
+use Rattle.vk_validate.proofs.Judging.Clears.{length-past}
 use Rattle.vk_validate.proofs.history.History.change.Goals as goal
 
 pub returns-in-Signal : goal.returns-in-Signal

@@ -2,7 +2,7 @@ use Rattle.std.proofs.Common.{◌≡◌, length, refl, sym, ap}
 use Rattle.vk_model.specs.Trace.Point.{Run}
 use Rattle.vk_validate.specs.Inner.PointViews.{past}
 use Rattle.vk_validate.specs.Inner.OrderState.{order_state}
-use Rattle.vk_validate.proofs.Clears.{length-past}
+use Rattle.vk_validate.proofs.Judging.Clears.{length-past}
 use Rattle.vk_validate.proofs.history.History.change_by_command.Goals as goal
 
 pub returns-in-Some : goal.returns-in-Some

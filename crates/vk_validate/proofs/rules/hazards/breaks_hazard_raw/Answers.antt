@@ -1,6 +1,6 @@
 use Rattle.std.proofs.Common.{refl}
 use Rattle.vk_validate.specs.Inner.PointViews.{past}
-use Rattle.vk_validate.proofs.Spans.{found_below, no_writer}
+use Rattle.vk_validate.proofs.Keeping.Spans.{found_below, no_writer}
 use Rattle.vk_validate.proofs.rules.hazards.breaks_hazard_raw.Goals as goal
 
 pub returns-in-Some : goal.returns-in-Some

@@ -1,7 +1,7 @@
 use Rattle.std.proofs.Common.{refl}
 use Rattle.vk_model.specs.World.ByteWrites.{buffer_size, fill_size}
 use Rattle.vk_validate.specs.Inner.PointViews.{past}
-use Rattle.vk_validate.proofs.Spans.{found_below, no_writer}
+use Rattle.vk_validate.proofs.Keeping.Spans.{found_below, no_writer}
 use Rattle.vk_validate.proofs.rules.hazards.breaks_hazard_waw.Goals as goal
 
 pub returns-in-Some : goal.returns-in-Some

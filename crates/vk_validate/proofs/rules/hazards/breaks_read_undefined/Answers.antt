@@ -3,7 +3,7 @@ use Rattle.std.specs.Prelude.{is_none, ◌^◌}
 use Rattle.std.proofs.lemmas.Bool.{lt-ltb}
 use Rattle.vk_validate.specs.Inner.PointViews.{past}
 use Rattle.vk_validate.specs.Inner.Tabled.{last_writer}
-use Rattle.vk_validate.proofs.Spans.{found_whole, found_beyond, no_writer}
+use Rattle.vk_validate.proofs.Keeping.Spans.{found_whole, found_beyond, no_writer}
 use Rattle.vk_validate.proofs.rules.hazards.breaks_read_undefined.Goals as goal
 
 pub returns-then-span-size : goal.returns-then-span-size

@@ -1,7 +1,7 @@
 use Rattle.std.proofs.Common.{refl, sym, ap, false, ◌||◌}
 use Rattle.vk_model.specs.Rules.Ranges.{element_past}
 use Rattle.vk_validate.specs.Inner.PointViews.{past}
-use Rattle.vk_validate.proofs.Barriers.{memory_any}
+use Rattle.vk_validate.proofs.Points.Barriers.{memory_any}
 use Rattle.vk_validate.proofs.rules.ranges.ends_past_buffer.Goals as goal
 
 pub returns-in-Barrier : goal.returns-in-Barrier

@@ -1,4 +1,4 @@
-use Rattle.vk_validate.proofs.BoundLemmas.{last_up_to}
+use Rattle.vk_validate.proofs.Keeping.BoundLemmas.{last_up_to}
 use Rattle.vk_validate.proofs.writers.LastWriters.at.Goals as goal
 
 pub returns-in-Some : goal.returns-in-Some

@@ -3,7 +3,7 @@ use Rattle.std.specs.List.{list_any}
 use Rattle.std.proofs.lemmas.Iterator.Search.{any_from_yields_List}
 use Rattle.std.proofs.lemmas.Iterator.Consumers.{YieldsList-from_rest}
 use Rattle.vk_validate.specs.Inner.Seeks.{is_sought}
-use Rattle.vk_validate.proofs.Seeking.{found_in, none_in}
+use Rattle.vk_validate.proofs.Keeping.Seeking.{found_in, none_in}
 use Rattle.vk_validate.proofs.writers.LastWriters.has.Goals as goal
 
 any_is : (c : goal.After-any) → c.any.result ≡ list_any (λ (e : ℕ × Option ℕ). is_sought c.args.sought e.1) c.range.result

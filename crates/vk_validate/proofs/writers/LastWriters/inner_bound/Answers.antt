@@ -3,7 +3,7 @@ use Rattle.std.specs.Prelude.{IfSome, slice_get}
 use Rattle.std.specs.Ordering.{nat_cmp}
 use Rattle.std.specs.BTreeMap.Range.{IsLeBy}
 use Rattle.std.proofs.lemmas.Map.Keys.{le_from_not_gt}
-use Rattle.vk_validate.proofs.BoundLemmas.{none_unless, not_gt}
+use Rattle.vk_validate.proofs.Keeping.BoundLemmas.{none_unless, not_gt}
 use Rattle.vk_validate.proofs.writers.LastWriters.inner_bound.Goals as goal
 
 pub returns-in-Some-clause-least : goal.returns-in-Some-clause-least

@@ -1,4 +1,4 @@
-use Rattle.vk_validate.proofs.BoundLemmas.{keeps_by_key}
+use Rattle.vk_validate.proofs.Keeping.BoundLemmas.{keeps_by_key}
 use Rattle.vk_validate.proofs.writers.LastWriters.split_after.Goals as goal
 
 pub returns-in_ok-set-in-Some-clause-kept : goal.returns-in_ok-set-in-Some-clause-kept

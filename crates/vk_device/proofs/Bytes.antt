@@ -1,0 +1,3 @@
+pub mod Running
+pub mod Filling
+pub mod Apart

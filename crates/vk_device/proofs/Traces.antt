@@ -1,0 +1,2 @@
+pub mod Allotting
+pub mod Whole

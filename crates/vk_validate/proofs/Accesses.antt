@@ -1,0 +1,4 @@
+pub mod Hazards
+pub mod FillWriters
+pub mod Unseen
+pub mod Defined

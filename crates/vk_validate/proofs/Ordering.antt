@@ -1,0 +1,11 @@
+pub mod Ordered
+pub mod Available
+pub mod Causes
+pub mod Awaited
+pub mod Waits
+pub mod Clocked
+pub mod Advances
+pub mod BatchNodes
+pub mod OrderMatches
+pub mod OrderMatchesOn
+pub mod Visibility

@@ -1,0 +1,9 @@
+pub mod Forms
+pub mod Pasts
+pub mod Plain
+pub mod NextNodes
+pub mod Acts
+pub mod Places
+pub mod Barriers
+pub mod Fills
+pub mod Reach
