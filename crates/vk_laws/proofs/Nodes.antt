@@ -5,6 +5,5 @@ pub mod Steady
 pub mod Points
 pub mod Prefixes
 pub mod Ordered
-pub mod PlainOrder
-pub mod Entries
+pub mod Newer
 pub mod Submits

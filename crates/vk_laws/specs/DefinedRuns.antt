@@ -1,14 +1,15 @@
 -- The allowed runs of the definitions as runs of the machine.
-use Rattle.std.specs.Prelude.{◌≡◌, ◌↔◌, ℕ, suc, ◌<◌, List, [], ◌∷◌, length, Bool, false, not, nat_lt, Option, Some, None, IsTrue}
+use Rattle.std.specs.Prelude.{◌≡◌, ◌↔◌, ℕ, suc, ◌<◌, List, [], ◌∷◌, length, Bool, false, not, ◌||◌, nat_lt, Option, Some, None, IsTrue}
 use Rattle.std.specs.List.{filter}
 use Rattle.vk_model.specs.declared.entry.Entry.{Entry}
 use Rattle.vk_model.specs.Basics.{holds}
 use Rattle.vk_model.specs.World.Bytes.{Byte}
 use Rattle.vk_model.specs.World.ByteWrites.{Value, From}
 use Rattle.vk_model.specs.Trace.Point.{Past}
-use Rattle.vk_model.specs.Trace.Order.{plain_order}
+use Rattle.vk_model.specs.Trace.Order.{order}
 use Rattle.vk_model.specs.World.Effect.{world}
 use Rattle.vk_model.specs.Sync.Node.{Node, Act, Hosts, Runs, nodes}
+use Rattle.vk_model.specs.Sync.Edge.{is_host}
 use Rattle.vk_model.specs.Rules.Table.{first_fault}
 use Rattle.vk_model.specs.Run.Runs.{Name, is_done, offered, Step, Apply, RunPiece, CopyPart, Stage, start, may_go, Allowed}
 use Rattle.vk_laws.specs.Machine.{IsIn, Task, Put, Puts, Unknown, TraceAccesses, Reads, Conflict, MayRun, IsAllowed, latest}
@@ -67,13 +68,17 @@ pub data MayCome (s : Stage) : Task → Type 0 where
   Offers : (x : Name) → IsTrue (is_done (offered s.front.past s.done) x) → MayCome s (piece_task x)
   Enters : (x : Entry) (xs : List Entry) → s.left ≡ x ∷ xs → IsTrue (may_go s x) → MayCome s (entry_task s)
 
--- Tasks done in an allowed order, as a stage has them: the pieces that have run, the entries that have been applied, and each event that could happen. What may come next at the stage may come next in the machine, and besides events nothing else may.
+-- Whether a task is a host entry, or a piece of a batch that was started: the pieces of one that waits still aren't asked about.
+abbrev pub has_come : Past → Stage → Task → Bool
+has_come all s u = nat_lt u.node (length (nodes s.front.past)) || holds (node_at all u.node) (λ n. is_host n.act)
+
+-- Tasks done in an allowed order, as a stage has them: the pieces that have run, the entries that have been applied, and each event that could happen. What may come next at the stage may come next in the machine, and of the host entries and the pieces of batches that were started nothing else may.
 pub record Matches (all : Past) (s : Stage) (done : List Task) : Type 0 where
   pub allowed : IsAllowed (accesses_of all) done
   pub happened : (u : Task) → IsTrue ((accesses_of all).has u) → is_event all u ≡ false → IsIn u done ↔ IsTrue (has_happened all s u)
   pub eager : IsEager (accesses_of all) (is_event all) done
   pub next : (u : Task) → MayCome s u → MayRun (accesses_of all) done u
-  pub only : (u : Task) → is_event all u ≡ false → MayRun (accesses_of all) done u → MayCome s u
+  pub only : (u : Task) → is_event all u ≡ false → IsTrue (has_come all s u) → MayRun (accesses_of all) done u → MayCome s u
 
 -- A run from a trace's start to a stage that the definitions allow.
 abbrev pub RunOf : (Past → ℕ) → List Entry → List Step → Stage → Type 0
@@ -87,7 +92,7 @@ tasks_of part_count t steps e run = done_by part_count (start t) steps e run []
 abbrev pub DefinedRunsAreAllowed : Type 0
 DefinedRunsAreAllowed =
     (t : List Entry) (part_count : Past → ℕ) (steps : List Step) (e : Stage) (run : RunOf part_count t steps e) → first_fault t ≡ None
-    → (done : List Task) × Matches (plain_order t) e done × (filter (λ u. not (is_event (plain_order t) u)) done ≡ tasks_of part_count t steps e run)
+    → (done : List Task) × Matches (order t) e done × (filter (λ u. not (is_event (order t) u)) done ≡ tasks_of part_count t steps e run)
 
 -- ---- what the law of the machine says of them
 
@@ -95,21 +100,21 @@ DefinedRunsAreAllowed =
 abbrev pub DefinedRunsAreSettled : Type 0
 DefinedRunsAreSettled =
     (t : List Entry) (part_count : Past → ℕ) (steps : List Step) (e : Stage) (next other : Task) (c : Byte) → RunOf part_count t steps e → first_fault t ≡ None → MayCome e next
-    → (other.node < next.node → Conflict (accesses_of (plain_order t)) other next c → IsTrue (has_happened (plain_order t) e other))
-    × (next.node < other.node → Conflict (accesses_of (plain_order t)) next other c → has_happened (plain_order t) e other ≡ false)
+    → (other.node < next.node → Conflict (accesses_of (order t)) other next c → IsTrue (has_happened (order t) e other))
+    × (next.node < other.node → Conflict (accesses_of (order t)) next other c → has_happened (order t) e other ≡ false)
 
 -- When a piece or host entry may come next, each byte that it reads has the model's value before its node, where the model defines one: the run's pieces and entries took effect one after another on one memory, whatever it held at first.
 abbrev pub DefinedRunsAreFresh : Type 0
 DefinedRunsAreFresh =
     (t : List Entry) (part_count : Past → ℕ) (steps : List Step) (e : Stage) (run : RunOf part_count t steps e) (first : Byte → ℕ) (next : Task) (c : Byte) (v : ℕ) → first_fault t ≡ None → MayCome e next
-    → Reads (accesses_of (plain_order t)) next c → value_before (plain_order t) next.node c ≡ Some v → bytes_after (accesses_of (plain_order t)) first (tasks_of part_count t steps e run) c ≡ v
+    → Reads (accesses_of (order t)) next c → value_before (order t) next.node c ≡ Some v → bytes_after (accesses_of (order t)) first (tasks_of part_count t steps e run) c ≡ v
 
 -- And at any stage each byte that was written has the model's value after the node of its last write, where the model defines one.
 abbrev pub DefinedRunsAreWritten : Type 0
 DefinedRunsAreWritten =
     (t : List Entry) (part_count : Past → ℕ) (steps : List Step) (e : Stage) (run : RunOf part_count t steps e) (first : Byte → ℕ) (writer : Task) (c : Byte) (v : ℕ) → first_fault t ≡ None
-    → latest (accesses_of (plain_order t)) c (tasks_of part_count t steps e run) ≡ Some writer → value_before (plain_order t) (suc writer.node) c ≡ Some v
-    → bytes_after (accesses_of (plain_order t)) first (tasks_of part_count t steps e run) c ≡ v
+    → latest (accesses_of (order t)) c (tasks_of part_count t steps e run) ≡ Some writer → value_before (order t) (suc writer.node) c ≡ Some v
+    → bytes_after (accesses_of (order t)) first (tasks_of part_count t steps e run) c ≡ v
 
 -- ---- the end of a run
 
@@ -121,10 +126,10 @@ IsOver s = (u : Task) → MayCome s u → ⊥
 abbrev pub DefinedRunsEnd : Type 0
 DefinedRunsEnd =
     (t : List Entry) (part_count : Past → ℕ) (steps : List Step) (e : Stage) → RunOf part_count t steps e → first_fault t ≡ None → IsOver e
-    → (e.left ≡ []) × ((u : Task) → IsTrue ((accesses_of (plain_order t)).has u) → is_event (plain_order t) u ≡ false → IsTrue (has_happened (plain_order t) e u))
+    → (e.left ≡ []) × ((u : Task) → IsTrue ((accesses_of (order t)).has u) → is_event (order t) u ≡ false → IsTrue (has_happened (order t) e u))
 
 -- And each byte has the value that the trace leaves in it, where the model defines one.
 abbrev pub DefinedRunsMeanTheTrace : Type 0
 DefinedRunsMeanTheTrace =
     (t : List Entry) (part_count : Past → ℕ) (steps : List Step) (e : Stage) (run : RunOf part_count t steps e) (first : Byte → ℕ) (c : Byte) (v : ℕ) → first_fault t ≡ None → IsOver e
-    → (world (plain_order t)).value c ≡ Some v → bytes_after (accesses_of (plain_order t)) first (tasks_of part_count t steps e run) c ≡ v
+    → (world (order t)).value c ≡ Some v → bytes_after (accesses_of (order t)) first (tasks_of part_count t steps e run) c ≡ v

@@ -1,12 +1,11 @@
 -- Host writes that an invalidation forgets, as writes of the machine.
-use Rattle.std.specs.Prelude.{◌≡◌, ℕ, List, None, Bool, true, false, ◌&&◌, ◌==◌, Option, Some}
+use Rattle.std.specs.Prelude.{◌≡◌, ℕ, None, Bool, true, false, ◌&&◌, ◌==◌, Option, Some}
 use Rattle.vk_model.specs.declared.entry.Entry.{Entry}
 use Rattle.vk_model.specs.declared.entry.Entry.TheVariants as entry
 use Rattle.vk_model.specs.World.Bytes.{Byte}
 use Rattle.vk_model.specs.Trace.Objects.{is_cached}
 use Rattle.vk_model.specs.Trace.Point.{Past}
-use Rattle.vk_model.specs.Trace.Order.{plain_order}
-use Rattle.vk_model.specs.Rules.Table.{first_fault}
+use Rattle.vk_model.specs.Rules.Table.{fault}
 use Rattle.vk_model.specs.Sync.Node.{Act, Hosts}
 use Rattle.vk_model.specs.World.Effect.{reaches, world}
 use Rattle.vk_laws.specs.Machine.{Put, Unknown, TraceAccesses, HazardFree, IsModel}
@@ -28,7 +27,7 @@ abbrev pub or_unknown : Bool → Option Put → Option Put
 or_unknown true w = Some Unknown
 or_unknown false w = w
 
--- A trace as the machine's accesses, in which an invalidation may leave anything in the bytes that it forgets (Vulkan, "Host Access to Device Memory Objects").
+-- A past as the machine's accesses, in which an invalidation may leave anything in the bytes that it forgets (Vulkan, "Host Access to Device Memory Objects").
 abbrev pub with_discards : Past → TraceAccesses
 with_discards all = record {
   has = (accesses_of all).has;
@@ -37,10 +36,10 @@ with_discards all = record {
   before = (accesses_of all).before;
 }
 
--- In a trace without a fault all accesses are in order with the invalidations that forget bytes, too (Vulkan, "Host Access to Device Memory Objects").
+-- In a past without a fault all accesses are in order with the invalidations that forget bytes, too (Vulkan, "Host Access to Device Memory Objects").
 abbrev pub DiscardsHazardFreeLaw : Type 0
-DiscardsHazardFreeLaw = (t : List Entry) → first_fault t ≡ None → HazardFree (with_discards (plain_order t))
+DiscardsHazardFreeLaw = (all : Past) → fault all ≡ None → HazardFree (with_discards all)
 
 -- And the model has no value for what is forgotten (Vulkan, "Host Access to Device Memory Objects").
 abbrev pub DiscardsModelLaw : Type 0
-DiscardsModelLaw = (t : List Entry) → first_fault t ≡ None → IsModel (with_discards (plain_order t)) (value_before (plain_order t))
+DiscardsModelLaw = (all : Past) → fault all ≡ None → IsModel (with_discards all) (value_before all)

@@ -1,4 +1,4 @@
--- The tasks of a trace: its commands' pieces, its host entries and its events, as the machine's accesses.
+-- The tasks of a past: its commands' pieces, its host entries and its events, as the machine's accesses.
 use Rattle.std.specs.Prelude.{◌≡◌, ℕ, List, [], length, Bool, false, ◌&&◌, ◌==◌, nat_lt, Option, Some, None, option_map, slice_get, if◌then◌else◌}
 use Rattle.std.specs.List.{find}
 use Rattle.vk_model.specs.declared.entry.Entry.{Entry}
@@ -6,14 +6,13 @@ use Rattle.vk_model.specs.declared.entry.Entry.TheVariants as entry
 use Rattle.vk_model.specs.Basics.{holds}
 use Rattle.vk_model.specs.World.Bytes.{Byte, same_byte}
 use Rattle.vk_model.specs.Trace.Point.{Past}
-use Rattle.vk_model.specs.Trace.Order.{plain_order}
 use Rattle.vk_model.specs.World.ByteWrites.{Value, ByteWrite}
 use Rattle.vk_model.specs.World.Effect.{written}
 use Rattle.vk_model.specs.Sync.Node.{Node, Act, Hosts, Runs, nodes}
 use Rattle.vk_model.specs.Sync.Before.{before}
 use Rattle.vk_model.specs.Sync.Access.{is_in, origins, host_reads}
 use Rattle.vk_model.specs.Run.Pieces.{pieces}
-use Rattle.vk_model.specs.Rules.Table.{first_fault}
+use Rattle.vk_model.specs.Rules.Table.{fault}
 use Rattle.vk_laws.specs.Machine.{Task, Put, Puts, TraceAccesses, HazardFree, IsAllowed, MayRun}
 use Rattle.vk_laws.specs.EveryOrder.{IsSettled}
 
@@ -53,7 +52,7 @@ abbrev pub by_act : {A : Type 0} → A → (Act → A) → Option Node → A
 by_act nothing f None = nothing
 by_act nothing f (Some n) = f n.act
 
--- A trace as the machine's accesses, with the order of its nodes (Vulkan, "Execution and Memory Dependencies").
+-- A past as the machine's accesses, with the order of its nodes (Vulkan, "Execution and Memory Dependencies").
 abbrev pub accesses_of : Past → TraceAccesses
 accesses_of all = record {
   has = λ t. by_act false (λ a. nat_lt t.index (task_count all a)) (node_at all t.node);
@@ -62,12 +61,12 @@ accesses_of all = record {
   before = λ a b. holds (node_at all a) (λ m. holds (node_at all b) (λ n. before (nodes all) m n));
 }
 
--- In every allowed run of the pieces, host entries and events of a trace without a fault: when a piece or host entry may come next, of those whose accesses meet its own the earlier ones are done, and the later ones aren't.
+-- In every allowed run of the pieces, host entries and events of a past without a fault: when a piece or host entry may come next, of those whose accesses meet its own the earlier ones are done, and the later ones aren't.
 abbrev pub TraceSettledLaw : Type 0
 TraceSettledLaw =
-    (t : List Entry) (done : List Task) (next : Task) → first_fault t ≡ None → IsAllowed (accesses_of (plain_order t)) done → MayRun (accesses_of (plain_order t)) done next
-    → IsSettled (accesses_of (plain_order t)) done next
+    (all : Past) (done : List Task) (next : Task) → fault all ≡ None → IsAllowed (accesses_of all) done → MayRun (accesses_of all) done next
+    → IsSettled (accesses_of all) done next
 
--- In a trace without a fault conflicting accesses of different nodes are ordered, the pieces of one command don't meet, and what a piece copies it reads (Vulkan, "Execution and Memory Dependencies" and "Copy Commands", on overlapping regions).
+-- In a past without a fault conflicting accesses of different nodes are ordered, the pieces of one command don't meet, and what a piece copies it reads (Vulkan, "Execution and Memory Dependencies" and "Copy Commands", on overlapping regions).
 abbrev pub TraceHazardFreeLaw : Type 0
-TraceHazardFreeLaw = (t : List Entry) → first_fault t ≡ None → HazardFree (accesses_of (plain_order t))
+TraceHazardFreeLaw = (all : Past) → fault all ≡ None → HazardFree (accesses_of all)

@@ -1,19 +1,18 @@
--- Caches of a trace: one of the host and one of each queue, and which events make writes available and visible through them.
+-- Caches of a past: one of the host and one of each queue, and which events make writes available and visible through them.
 use Rattle.std.specs.Prelude.{◌≡◌, ℕ, zero, suc, Bool, false, not, ◌&&◌, ◌||◌, ◌==◌, IsTrue, List, Some, None, if◌then◌else◌}
 use Rattle.std.specs.List.{list_any}
-use Rattle.vk_model.specs.declared.entry.Entry.{Entry}
 use Rattle.vk_model.specs.declared.entry.Entry.TheVariants as entry
 use Rattle.vk_model.specs.Basics.{holds}
 use Rattle.vk_model.specs.World.Bytes.{Byte, resource_at}
 use Rattle.vk_model.specs.Trace.Objects.{is_cached}
 use Rattle.vk_model.specs.Trace.Point.{Past}
-use Rattle.vk_model.specs.Trace.Order.{plain_order}
+use Rattle.vk_model.specs.Trace.Structure.{IsOrdered}
 use Rattle.vk_model.specs.Sync.Node.{Node, Act, Hosts, nodes}
 use Rattle.vk_model.specs.Sync.Edge.{is_host}
 use Rattle.vk_model.specs.Sync.Before.{before}
 use Rattle.vk_model.specs.Sync.Access.{is_in, writes}
 use Rattle.vk_model.specs.Sync.Seen.{Read, command_mask, host_mask, available_by, makes_writes_visible, invalidates, is_wait, to_host}
-use Rattle.vk_model.specs.Rules.Table.{first_fault}
+use Rattle.vk_model.specs.Rules.Table.{fault}
 use Rattle.vk_laws.specs.Machine.{Task, Reads, MayRun, latest}
 use Rattle.vk_laws.specs.Caches.{Cell, Caching, CacheFree, Reached, view}
 use Rattle.vk_laws.specs.Trace.{accesses}
@@ -65,33 +64,33 @@ module _ (all : Past) where
     makes_visible = λ q a c. holds (node_at all q.node) (λ n. makes_visible_to n a c);
   }
 
--- In a trace without a fault what one queue or the host wrote another reads only when it was made visible to it, and overwrites only when it was made available (Vulkan, "Execution and Memory Dependencies", on data hazards).
+-- In an ordered past without a fault what one queue or the host wrote another reads only when it was made visible to it, and overwrites only when it was made available (Vulkan, "Execution and Memory Dependencies", on data hazards).
 abbrev pub TraceCacheFreeLaw : Type 0
-TraceCacheFreeLaw = (t : List Entry) → first_fault t ≡ None → CacheFree (with_discards (plain_order t)) (caching_of (plain_order t))
+TraceCacheFreeLaw = (all : Past) → IsOrdered all → fault all ≡ None → CacheFree (with_discards all) (caching_of all)
 
--- ---- the law, of every allowed run of a trace without a fault, through caches of the host and of each queue, where invalidations may forget
+-- ---- the law, of every allowed run of an ordered past without a fault, through caches of the host and of each queue, where invalidations may forget
 
 -- When a piece or host entry may come next, of those whose accesses meet its own the earlier ones are done, and the later ones aren't.
 abbrev pub CachedSettledLaw : Type 0
 CachedSettledLaw =
-    (t : List Entry) (done : List Task) (cells : Byte → Cell) (next : Task) → first_fault t ≡ None → Reached (with_discards (plain_order t)) (caching_of (plain_order t)) done cells
-    → MayRun (with_discards (plain_order t)) done next → IsSettled (with_discards (plain_order t)) done next
+    (all : Past) (done : List Task) (cells : Byte → Cell) (next : Task) → IsOrdered all → fault all ≡ None → Reached (with_discards all) (caching_of all) done cells
+    → MayRun (with_discards all) done next → IsSettled (with_discards all) done next
 
 -- What is visible, of each byte that it reads, to a piece or host entry that may come next is the model's value before its node, where the model defines one.
 abbrev pub CachedFreshLaw : Type 0
 CachedFreshLaw =
-    (t : List Entry) (done : List Task) (cells : Byte → Cell) (next : Task) (c : Byte) (v : ℕ) → first_fault t ≡ None → Reached (with_discards (plain_order t)) (caching_of (plain_order t)) done cells
-    → MayRun (with_discards (plain_order t)) done next → Reads (with_discards (plain_order t)) next c → value_before (plain_order t) next.node c ≡ Some v → view ((caching_of (plain_order t)).agent next) (cells c) ≡ v
+    (all : Past) (done : List Task) (cells : Byte → Cell) (next : Task) (c : Byte) (v : ℕ) → IsOrdered all → fault all ≡ None → Reached (with_discards all) (caching_of all) done cells
+    → MayRun (with_discards all) done next → Reads (with_discards all) next c → value_before all next.node c ≡ Some v → view ((caching_of all).agent next) (cells c) ≡ v
 
 -- After any step the model's value after the node of a byte's last write is visible to the queue or host that wrote it, where the model defines one.
 abbrev pub CachedWrittenLaw : Type 0
 CachedWrittenLaw =
-    (t : List Entry) (done : List Task) (cells : Byte → Cell) (writer : Task) (c : Byte) (v : ℕ) → first_fault t ≡ None → Reached (with_discards (plain_order t)) (caching_of (plain_order t)) done cells
-    → latest (with_discards (plain_order t)) c done ≡ Some writer → value_before (plain_order t) (suc writer.node) c ≡ Some v → view ((caching_of (plain_order t)).agent writer) (cells c) ≡ v
+    (all : Past) (done : List Task) (cells : Byte → Cell) (writer : Task) (c : Byte) (v : ℕ) → IsOrdered all → fault all ≡ None → Reached (with_discards all) (caching_of all) done cells
+    → latest (with_discards all) c done ≡ Some writer → value_before all (suc writer.node) c ≡ Some v → view ((caching_of all).agent writer) (cells c) ≡ v
 
--- So a host read that may come next reads the model's bytes, each of them defined: what the trace means.
+-- So a host read that may come next reads the model's bytes, each of them defined: what a trace of these points means.
 abbrev pub HostReadLaw : Type 0
 HostReadLaw =
-    (t : List Entry) (done : List Task) (cells : Byte → Cell) (next : Task) (c : Byte) → first_fault t ≡ None → Reached (with_discards (plain_order t)) (caching_of (plain_order t)) done cells
-    → MayRun (with_discards (plain_order t)) done next → Reads (with_discards (plain_order t)) next c → IsTrue (holds (node_at (plain_order t) next.node) (λ n. is_host n.act))
-    → value_before (plain_order t) next.node c ≡ Some (view 0 (cells c))
+    (all : Past) (done : List Task) (cells : Byte → Cell) (next : Task) (c : Byte) → IsOrdered all → fault all ≡ None → Reached (with_discards all) (caching_of all) done cells
+    → MayRun (with_discards all) done next → Reads (with_discards all) next c → IsTrue (holds (node_at all next.node) (λ n. is_host n.act))
+    → value_before all next.node c ≡ Some (view 0 (cells c))

@@ -9,7 +9,7 @@ use Rattle.vk_model.specs.declared.command.Element.TheVariants as element
 use Rattle.vk_model.specs.declared.command.Length.TheVariants as length_of
 use Rattle.vk_model.specs.World.Bytes.{Byte, in_buffer}
 use Rattle.vk_model.specs.Trace.Point.{Past}
-use Rattle.vk_model.specs.Trace.Order.{plain_order}
+use Rattle.vk_model.specs.Trace.Order.{order}
 use Rattle.vk_model.specs.Rules.Table.{first_fault}
 use Rattle.vk_laws.specs.Machine.{Task, Unknown, Reads, IsAllowed, MayRun}
 use Rattle.vk_laws.specs.Caches.{Cell, Reached, view}
@@ -40,7 +40,7 @@ example =
 
 -- Its points.
 abbrev pub points : Past
-points = plain_order example
+points = order example
 
 -- All before the read was done, the second fill before the first; the newest comes first.
 abbrev pub run : List Task

@@ -7,9 +7,9 @@ ghost use Rattle.vk_laws.specs.Reader.{cells_of, held_as};
 ghost use Rattle.vk_laws.specs.Discards.{with_discards};
 ghost use Rattle.vk_laws.specs.TraceBytes.{value_before};
 ghost use Rattle.vk_laws.specs.TraceCaches.{caching_of};
-ghost use Rattle.vk_model.specs.declared.entry.Entry.{Entry};
-ghost use Rattle.vk_model.specs.Trace.Order.{plain_order};
-ghost use Rattle.vk_model.specs.Rules.Table.{first_fault};
+ghost use Rattle.vk_model.specs.Trace.Point.{Past};
+ghost use Rattle.vk_model.specs.Trace.Structure.{IsOrdered};
+ghost use Rattle.vk_model.specs.Rules.Table.{fault};
 
 use crate::machine::every_order;
 use crate::tasks::cached_trace_is_fresh;
@@ -68,14 +68,14 @@ impl Memory {
     }
 
     /// What the host reads at a byte, with the first cache as its own: the model's value, when the host's
-    /// read of the byte may come next in a trace without a fault.
+    /// read of the byte may come next in an ordered past without a fault.
     pub fn host_read(&self, at: usize) -> u8
         requires region { at < length self.now.region.items }
         requires first { at < length self.now.first.bytes.items }
         requires second { at < length self.now.second.bytes.items }
-        ensures { (t : List Entry) (done : List Task) (next : Task) (v : ℕ) → first_fault t ≡ None
-            → Reached (with_discards (plain_order t)) (caching_of (plain_order t)) done (cells_of self.now) → MayRun (with_discards (plain_order t)) done next → (caching_of (plain_order t)).agent next ≡ 0
-            → Reads (with_discards (plain_order t)) next (in_buffer 0 at) → value_before (plain_order t) next.node (in_buffer 0 at) ≡ Some v → result ≡ v }
+        ensures { (all : Past) (done : List Task) (next : Task) (v : ℕ) → IsOrdered all → fault all ≡ None
+            → Reached (with_discards all) (caching_of all) done (cells_of self.now) → MayRun (with_discards all) done next → (caching_of all).agent next ≡ 0
+            → Reads (with_discards all) next (in_buffer 0 at) → value_before all next.node (in_buffer 0 at) ≡ Some v → result ≡ v }
     {
         cached_trace_is_fresh();
         value_through(self.first.bytes[at], self.region[at])

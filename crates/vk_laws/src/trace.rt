@@ -3,17 +3,17 @@ ghost use Rattle.vk_laws.specs.Trace.{AccessesInOrder, CommandsStay, HostInOrder
 
 use crate::machine::every_order;
 use vk_model::{
-    before_is_order, before_is_path, growth_keeps, no_fault_is_sound, pieces_are_byte_writes,
+    before_is_order, before_is_path, growth_keeps, no_fault_is_unbroken, pieces_are_byte_writes,
     pieces_write_apart,
 };
 
-/// In a trace without a fault no node of a point has a hazard with an earlier node, commands and host
+/// In a past without a fault no node of a point has a hazard with an earlier node, commands and host
 /// accesses alike: what one reads and the other then writes is ordered, and what one writes is
-/// visible to the other, among all nodes of the trace.
+/// visible to the other, among all nodes of the past.
 pub fn no_hazard()
     ensures { NoHazardLaw }
 {
-    no_fault_is_sound();
+    no_fault_is_unbroken();
     growth_keeps();
 }
 
@@ -32,14 +32,14 @@ pub fn host_in_order()
     before_is_path();
 }
 
-/// What a command of a trace without a fault reads and writes stays as it was at its own point.
+/// What a command of a past without a fault reads and writes stays as it was at its own point.
 pub fn commands_stay()
     ensures { CommandsStay }
 {
-    no_fault_is_sound();
+    no_fault_is_unbroken();
 }
 
-/// In a trace without a fault, of two commands or host entries anywhere in it that access a byte, not both
+/// In a past without a fault, of two commands or host entries anywhere in it that access a byte, not both
 /// only reading, the earlier one comes before the other in every allowed order.
 pub fn accesses_in_order()
     ensures { AccessesInOrder }

@@ -3,8 +3,7 @@ ghost use Rattle.vk_laws.specs.DefinedRuns.{DefinedRunsAreAllowed, DefinedRunsAr
 
 use crate::tasks::{trace_is_fresh, trace_is_hazard_free, trace_is_modelled, trace_is_settled};
 use vk_model::{
-    before_is_order, before_is_path, growth_keeps, no_fault_is_sound, orders_agree,
-    pieces_are_byte_writes,
+    before_is_order, before_is_path, growth_keeps, no_fault_is_sound, pieces_are_byte_writes,
 };
 
 /// The runs of the definitions match runs of the machine: allowed ones are allowed there (`allowed`), and one
@@ -17,7 +16,6 @@ fn defined_runs_match()
     growth_keeps();
     before_is_path();
     before_is_order();
-    orders_agree();
 }
 
 /// Each run of a trace without a fault that the definitions allow is an allowed run of the machine, with

@@ -1,2 +1,5 @@
 pub mod PlainOrder
 pub mod Orders
+pub mod Growing
+pub mod Structure
+pub mod Once

@@ -1,11 +1,12 @@
 -- Laws of the definitions: what they say together.
-use Rattle.std.specs.Prelude.{◌≡◌, ℕ, ◌<◌, ◌++◌, Bool, Contains, List, Some, None, IsTrue, ◌↔◌, false, slice_get}
+use Rattle.std.specs.Prelude.{◌≡◌, ℕ, ◌<◌, ◌++◌, Bool, Contains, List, Some, None, IsTrue, ◌↔◌, false, nat_lt, slice_get, reverse}
 use Rattle.vk_model.specs.declared.entry.Entry.{Entry}
 use Rattle.vk_model.specs.declared.rule.At.{At}
 use Rattle.vk_model.specs.declared.rule.Rule.{Rule}
-use Rattle.vk_model.specs.Trace.Point.{Past, Point, Run, at_of}
+use Rattle.vk_model.specs.Trace.Point.{Past, Point, Action, Wait, Run, at_of, entries}
 use Rattle.vk_model.specs.World.Bytes.{Byte}
-use Rattle.vk_model.specs.Trace.Order.{plain_order, order}
+use Rattle.vk_model.specs.Trace.Order.{counter, plain_order, order}
+use Rattle.vk_model.specs.Trace.Structure.{IsOrdered}
 use Rattle.vk_model.specs.declared.rule.Rule.TheVariants as rule
 use Rattle.vk_model.specs.Sync.Node.{Node, nodes}
 use Rattle.vk_model.specs.Sync.Edge.{edge}
@@ -13,15 +14,19 @@ use Rattle.vk_model.specs.Sync.Before.{before, Path}
 use Rattle.vk_model.specs.Sync.Seen.{Access, seen}
 use Rattle.vk_model.specs.World.ByteWrites.{ByteWrite, byte_writes}
 use Rattle.vk_model.specs.Sync.Access.{targets, share}
-use Rattle.vk_model.specs.Basics.{some_pair}
+use Rattle.vk_model.specs.Basics.{holds, some_pair}
 use Rattle.vk_model.specs.Run.Pieces.{pieces}
 use Rattle.vk_model.specs.declared.command.Cmd.{Cmd}
 use Rattle.std.specs.List.{flat_map}
 use Rattle.vk_model.specs.Rules.Names.{rule_name}
-use Rattle.vk_model.specs.Rules.Table.{breaks, rules, first_fault}
-use Rattle.vk_model.specs.Rules.Fault.{Comes, IsSound}
+use Rattle.vk_model.specs.Rules.Table.{breaks, rules, fault, first_fault}
+use Rattle.vk_model.specs.Rules.Fault.{Comes, IsUnbroken, IsSound}
 
--- The first fault is none exactly where no point breaks any rule.
+-- A past has no fault exactly where no point of it breaks any rule.
+abbrev pub NoFaultIsUnbroken : Type 0
+NoFaultIsUnbroken = (past : Past) → (fault past ≡ None) ↔ IsUnbroken past
+
+-- So the first fault of a trace is none exactly where no point of it breaks any rule.
 abbrev pub NoFaultIsSound : Type 0
 NoFaultIsSound = (t : List Entry) → (first_fault t ≡ None) ↔ IsSound t
 
@@ -29,7 +34,7 @@ NoFaultIsSound = (t : List Entry) → (first_fault t ≡ None) ↔ IsSound t
 pub record IsFirst (t : List Entry) (reported : At) (r : Rule) : Type 0 where
   pub before : Past
   pub point : Point
-  pub comes : Comes (plain_order t) before point
+  pub comes : Comes (order t) before point
   pub is_reported : at_of point ≡ reported
   pub broken : IsTrue (breaks r before point)
   pub earlier_points : (older : Past) (p : Point) (s : Rule) → Comes before older p → IsTrue (breaks s older p) → ⊥
@@ -63,11 +68,32 @@ BeforeIsTransitive = (past : Past) (x y z : Node) → Contains (nodes past) x �
 abbrev pub BeforeLeadsOn : Type 0
 BeforeLeadsOn = (ns : List Node) (x y : Node) → IsTrue (before ns x y) → x.number < y.number
 
--- No batch of the trace waits for a value above the counter at its place in the plain order.
-abbrev pub NeverAhead : List Entry → Type 0
-NeverAhead t = (before : Past) (p : Point) → Comes (plain_order t) before p → breaks rule.WaitBeforeSignal before p ≡ false
+-- Reference order is ordered: host entries one after another, and the points of batches after their submits, each queue's in the order of submission.
+abbrev pub OrderIsOrdered : Type 0
+OrderIsOrdered = (t : List Entry) → IsOrdered (order t)
 
--- Then every batch is started right after its submit, and the two orders are one.
+-- Its host entries are the entries of the trace.
+abbrev pub OrderHasEntries : Type 0
+OrderHasEntries = (t : List Entry) → entries (order t) ≡ reverse t
+
+-- Entries that come add points, and change none.
+abbrev pub OrderGrows : Type 0
+OrderGrows = (t more : List Entry) → (newer : Past) × (order (t ++ more) ≡ newer ++ order t)
+
+-- No two points of an ordered past are reported alike.
+abbrev pub PointsComeOnce : Type 0
+PointsComeOnce = (past before : Past) (p q : Point) → IsOrdered past → Comes past before p → Contains before q → at_of q ≡ at_of p → ⊥
+
+-- Whether a batch waits for a value above the counter (Vulkan, "Semaphore Waiting").
+abbrev pub is_ahead : Past → Action → Bool
+is_ahead past (Wait w) = holds (counter past w.semaphore) (λ c. nat_lt c w.value)
+is_ahead past _ = false
+
+-- No wait of the trace is ahead of its signal: at its place in the plain order the counter has reached its value, or its id is no semaphore's.
+abbrev pub NeverAhead : List Entry → Type 0
+NeverAhead t = (before : Past) (p : Point) → Comes (plain_order t) before p → is_ahead before p.action ≡ false
+
+-- Then every batch is started right after its submit, and reference order is the plain order.
 abbrev pub OrdersAgree : Type 0
 OrdersAgree = (t : List Entry) → NeverAhead t → order t ≡ plain_order t
 

@@ -1,4 +1,5 @@
 pub mod Point
 pub mod Objects
 pub mod Order
+pub mod Structure
 pub mod Image

@@ -1,10 +1,17 @@
 //! Laws of the definitions, each the contract of a function that does nothing.
-ghost use Rattle.vk_model.specs.Laws.{NoFaultIsSound, FaultIsFirst, NamesDiffer, TableIsWhole, GrowthKeeps, BeforeIsPath, BeforeIsTransitive, BeforeLeadsOn, PiecesAreByteWrites, PiecesWriteApart, OrdersAgree};
+ghost use Rattle.vk_model.specs.Laws.{OrderIsOrdered, OrderHasEntries, OrderGrows, PointsComeOnce, NoFaultIsUnbroken, NoFaultIsSound, FaultIsFirst, NamesDiffer, TableIsWhole, GrowthKeeps, BeforeIsPath, BeforeIsTransitive, BeforeLeadsOn, PiecesAreByteWrites, PiecesWriteApart, OrdersAgree};
 
-/// The first fault of a trace is none exactly where no point of it breaks any rule.
+/// A past has no fault exactly where no point of it breaks any rule.
+pub fn no_fault_is_unbroken()
+    ensures { NoFaultIsUnbroken }
+{}
+
+/// So the first fault of a trace is none exactly where no point of it breaks any rule.
 pub fn no_fault_is_sound()
     ensures { NoFaultIsSound }
-{}
+{
+    no_fault_is_unbroken();
+}
 
 /// Where there is a first fault, its point breaks its rule, no earlier point breaks any rule, and the
 /// point breaks no earlier rule of the table.
@@ -43,8 +50,22 @@ pub fn pieces_are_byte_writes()
     ensures { PiecesAreByteWrites }
 {}
 
-/// Where no batch waits for a value above the counter, each is started right after its submit: the order
-/// with waiting batches is the plain order.
+/// Reference order is ordered: host entries one after another, and the points of batches after their
+/// submits, each queue's in the order of submission (`ordered`). Its host entries are the trace's
+/// (`entries`), and entries that come add points and change none (`grows`).
+pub fn order_is_structured()
+    ensures ordered { OrderIsOrdered }
+    ensures entries { OrderHasEntries }
+    ensures grows { OrderGrows }
+{}
+
+/// No two points of an ordered past are reported alike.
+pub fn points_come_once()
+    ensures { PointsComeOnce }
+{}
+
+/// Where no batch waits for a value above the counter, each is started right after its submit: reference
+/// order is the plain order.
 pub fn orders_agree()
     ensures { OrdersAgree }
 {}

@@ -9,12 +9,12 @@ use Rattle.vk_model.specs.declared.resource.PoolKind.TheVariants as algorithm
 use Rattle.vk_model.specs.declared.command.Element.TheVariants as element
 use Rattle.vk_model.specs.declared.command.Cmd.TheVariants as cmd
 use Rattle.vk_rows.specs.Writing.{bytes, dependency, buffer_region, submit_info, semaphore_value, batch, buffer_entry, pool_entry, transfer, host, all_commands, transfer_write, host_read, destination, both}
-use Rattle.vk_rows.specs.Claims.{AcceptsLater, RefusesLater}
+use Rattle.vk_rows.specs.Claims.{Accepts, Refuses}
 
 -- Commands inside a pass, and waits ahead of their signals: what each trace reads, or its first fault.
 pub record Ahead : Type 0 where
   -- A copy from a resource that moves, inside the pass.
-  pub copy_inside_pass : AcceptsLater
+  pub copy_inside_pass : Accepts
       (pool_entry 1 algorithm.Tlsf 1 4096 2
       ∷ buffer_entry 2 16 both sharing.Exclusive (place.Pool 1)
       ∷ buffer_entry 3 16 destination sharing.Exclusive (place.Dedicated 1)
@@ -33,7 +33,7 @@ pub record Ahead : Type 0 where
       ∷ entry.Read 3 0 4
       ∷ []) ((12, 1 ∷ 2 ∷ 3 ∷ 4 ∷ []) ∷ [])
   -- A fill of a resource that moves.
-  pub fill_inside_pass : RefusesLater
+  pub fill_inside_pass : Refuses
       (pool_entry 1 algorithm.Tlsf 1 4096 2
       ∷ buffer_entry 2 16 both sharing.Exclusive (place.Pool 1)
       ∷ buffer_entry 3 16 destination sharing.Exclusive (place.Dedicated 1)
@@ -52,7 +52,7 @@ pub record Ahead : Type 0 where
       ∷ entry.Read 3 0 4
       ∷ []) (at.Command 8 0 0) rule.PassWrite
   -- The pass ends before the copy is known complete.
-  pub pass_ends_early : RefusesLater
+  pub pass_ends_early : Refuses
       (pool_entry 1 algorithm.Tlsf 1 4096 2
       ∷ buffer_entry 2 16 both sharing.Exclusive (place.Pool 1)
       ∷ buffer_entry 3 16 destination sharing.Exclusive (place.Dedicated 1)
@@ -70,7 +70,7 @@ pub record Ahead : Type 0 where
       ∷ entry.Read 3 0 4
       ∷ []) (at.Entry 9) rule.PassBusy
   -- A copy of the last bytes of a resource that moves in two parts.
-  pub copy_of_the_end : AcceptsLater
+  pub copy_of_the_end : Accepts
       (pool_entry 1 algorithm.Tlsf 1 65536 1
       ∷ buffer_entry 9 8192 both sharing.Exclusive (place.Pool 1)
       ∷ buffer_entry 2 8192 both sharing.Exclusive (place.Pool 1)
@@ -92,7 +92,7 @@ pub record Ahead : Type 0 where
       ∷ entry.Read 2 8188 4
       ∷ []) ((14, 1 ∷ 2 ∷ 3 ∷ 4 ∷ []) ∷ (15, 1 ∷ 2 ∷ 3 ∷ 4 ∷ []) ∷ [])
   -- A mapped resource is destroyed inside the pass.
-  pub mapped_inside_pass : RefusesLater
+  pub mapped_inside_pass : Refuses
       (pool_entry 1 algorithm.Tlsf 1 65536 1
       ∷ buffer_entry 9 8192 both sharing.Exclusive (place.Pool 1)
       ∷ buffer_entry 2 8192 both sharing.Exclusive (place.Pool 1)
@@ -114,7 +114,7 @@ pub record Ahead : Type 0 where
       ∷ entry.Read 2 8188 4
       ∷ []) (at.Entry 11) rule.MapState
   -- A resource of the pool is destroyed inside the pass.
-  pub destroyed_inside_pass : RefusesLater
+  pub destroyed_inside_pass : Refuses
       (pool_entry 1 algorithm.Tlsf 1 65536 1
       ∷ buffer_entry 9 8192 both sharing.Exclusive (place.Pool 1)
       ∷ buffer_entry 2 8192 both sharing.Exclusive (place.Pool 1)
@@ -137,7 +137,7 @@ pub record Ahead : Type 0 where
       ∷ entry.Read 2 8188 4
       ∷ []) (at.Entry 12) rule.PassState
   -- A batch that was submitted before the one it waits for is started after it.
-  pub wait_ahead : AcceptsLater
+  pub wait_ahead : Accepts
       (buffer_entry 1 16 both sharing.Concurrent (place.Dedicated 1)
       ∷ buffer_entry 3 16 destination sharing.Concurrent (place.Dedicated 1)
       ∷ entry.Semaphore 2 0
@@ -151,14 +151,14 @@ pub record Ahead : Type 0 where
       ∷ entry.Read 3 0 4
       ∷ []) ((7, 1 ∷ 2 ∷ 3 ∷ 4 ∷ []) ∷ [])
   -- A batch behind a waiting one of its queue isn't started, so its signal never comes.
-  pub queue_held_back : RefusesLater
+  pub queue_held_back : Refuses
       (entry.Semaphore 1 0
       ∷ entry.Semaphore 2 0
       ∷ entry.Submit 0 (batch (submit_info 1 1 all_commands ∷ []) [] [] ∷ batch [] [] (submit_info 2 1 all_commands ∷ []) ∷ [])
       ∷ entry.Wait (semaphore_value 2 1 ∷ [])
       ∷ []) (at.Entry 3) rule.WaitNever
   -- The host's signal releases both.
-  pub queue_released : AcceptsLater
+  pub queue_released : Accepts
       (entry.Semaphore 1 0
       ∷ entry.Semaphore 2 0
       ∷ entry.Submit 0 (batch (submit_info 1 1 all_commands ∷ []) [] [] ∷ batch [] [] (submit_info 2 1 all_commands ∷ []) ∷ [])
@@ -166,28 +166,60 @@ pub record Ahead : Type 0 where
       ∷ entry.Wait (semaphore_value 2 1 ∷ [])
       ∷ []) []
   -- A command of a waiting batch uses its buffer.
-  pub waiting_command : RefusesLater
+  pub waiting_command : Refuses
       (buffer_entry 1 16 both sharing.Exclusive (place.Dedicated 1)
       ∷ entry.Semaphore 2 0
       ∷ entry.Submit 0 (batch (submit_info 2 1 all_commands ∷ []) (cmd.Fill 1 0 (bytes 16) 1 ∷ []) [] ∷ [])
       ∷ entry.Destroy 1
       ∷ []) (at.Entry 3) rule.InUse
   -- A batch that is never started isn't judged.
-  pub never_started : AcceptsLater
+  pub never_started : Accepts
       (buffer_entry 1 16 both sharing.Exclusive (place.Dedicated 1)
       ∷ entry.Semaphore 2 0
       ∷ entry.Submit 0 (batch (submit_info 2 1 all_commands ∷ []) (cmd.Fill 1 0 (bytes 16) 1 ∷ []) [] ∷ [])
       ∷ []) []
   -- A waiting batch is judged when it's started.
-  pub judged_when_started : RefusesLater
+  pub judged_when_started : Refuses
       (buffer_entry 1 16 both sharing.Exclusive (place.Dedicated 1)
       ∷ entry.Semaphore 2 0
       ∷ entry.Submit 0 (batch (submit_info 2 1 all_commands ∷ []) (cmd.Fill 1 0 (bytes 15) 1 ∷ []) [] ∷ [])
       ∷ entry.Signal 2 1
       ∷ []) (at.Command 2 0 0) rule.Align
   -- And never, if it isn't.
-  pub not_judged : AcceptsLater
+  pub not_judged : Accepts
       (buffer_entry 1 16 both sharing.Exclusive (place.Dedicated 1)
       ∷ entry.Semaphore 2 0
       ∷ entry.Submit 0 (batch (submit_info 2 1 all_commands ∷ []) (cmd.Fill 1 0 (bytes 15) 1 ∷ []) [] ∷ [])
+      ∷ []) []
+  -- A waiting batch names an id that only a later entry makes: it keeps that busy, too.
+  pub names_a_later_id : Refuses
+      (entry.Semaphore 2 0
+      ∷ entry.Submit 0 (batch (submit_info 2 1 all_commands ∷ []) (cmd.Fill 1 0 (bytes 16) 1 ∷ []) [] ∷ [])
+      ∷ buffer_entry 1 16 both sharing.Exclusive (place.Dedicated 1)
+      ∷ entry.Destroy 1
+      ∷ []) (at.Entry 3) rule.InUse
+  -- Another id is free.
+  pub names_another_id : Accepts
+      (entry.Semaphore 2 0
+      ∷ entry.Submit 0 (batch (submit_info 2 1 all_commands ∷ []) (cmd.Fill 1 0 (bytes 16) 1 ∷ []) [] ∷ [])
+      ∷ buffer_entry 3 16 both sharing.Exclusive (place.Dedicated 1)
+      ∷ entry.Destroy 3
+      ∷ []) []
+  -- So does it keep the pool of what is made later busy.
+  pub pass_of_a_later_id : Refuses
+      (pool_entry 1 algorithm.Tlsf 1 4096 2
+      ∷ entry.Semaphore 2 0
+      ∷ entry.Defrag 3 1 0 0
+      ∷ entry.Submit 0 (batch (submit_info 2 1 all_commands ∷ []) (cmd.Fill 4 0 (bytes 16) 1 ∷ []) [] ∷ [])
+      ∷ buffer_entry 4 16 both sharing.Exclusive (place.Pool 1)
+      ∷ entry.Pass 3
+      ∷ []) (at.Entry 5) rule.PassBusy
+  -- And no other resource's.
+  pub pass_of_another_id : Accepts
+      (pool_entry 1 algorithm.Tlsf 1 4096 2
+      ∷ entry.Semaphore 2 0
+      ∷ entry.Defrag 3 1 0 0
+      ∷ entry.Submit 0 (batch (submit_info 2 1 all_commands ∷ []) (cmd.Fill 4 0 (bytes 16) 1 ∷ []) [] ∷ [])
+      ∷ buffer_entry 5 16 both sharing.Exclusive (place.Pool 1)
+      ∷ entry.Pass 3
       ∷ []) []

@@ -6,10 +6,8 @@ use Rattle.vk_model.specs.declared.entry.Entry.TheVariants as entry
 use Rattle.vk_model.specs.declared.resource.Sharing.TheVariants as sharing
 use Rattle.vk_model.specs.declared.resource.Place.TheVariants as place
 use Rattle.vk_model.specs.declared.resource.PoolKind.TheVariants as algorithm
-use Rattle.vk_model.specs.declared.command.Element.TheVariants as element
-use Rattle.vk_model.specs.declared.command.Cmd.TheVariants as cmd
-use Rattle.vk_rows.specs.Writing.{bytes, dependency, buffer_region, submit_info, semaphore_value, batch, buffer_entry, pool_entry, transfer, host, all_commands, transfer_write, host_read, source, destination, both}
-use Rattle.vk_rows.specs.Claims.{Accepts, Refuses, ReadsUntil, RefusesNow}
+use Rattle.vk_rows.specs.Writing.{bytes, buffer_entry, pool_entry, source, both}
+use Rattle.vk_rows.specs.Claims.{Accepts, Refuses, ReadsUntil}
 
 -- Pools and their defragmentation: what each trace reads, or its first fault.
 pub record Pools : Type 0 where
@@ -160,47 +158,6 @@ pub record Pools : Type 0 where
       ∷ entry.Invalidate 3 0 (bytes 1)
       ∷ entry.Read 3 0 1
       ∷ []) (at.Entry 10) rule.ReadUndefined
-  -- A submit inside a pass.
-  pub submit_inside : RefusesNow
-      (pool_entry 1 algorithm.Tlsf 1 4096 2
-      ∷ buffer_entry 2 16 both sharing.Exclusive (place.Pool 1)
-      ∷ buffer_entry 3 16 destination sharing.Exclusive (place.Dedicated 1)
-      ∷ entry.Semaphore 4 0
-      ∷ entry.Map 2
-      ∷ entry.Write 2 0 (1 ∷ 2 ∷ 3 ∷ 4 ∷ [])
-      ∷ entry.Defrag 5 1 0 0
-      ∷ entry.Pass 5
-      ∷ entry.Submit 0 (batch []
-      (cmd.Copy 2 3 ((buffer_region 0 0 4) ∷ [])
-      ∷ cmd.Barrier (element.Memory (dependency transfer transfer_write host host_read) ∷ []) ∷ [])
-      (submit_info 4 1 all_commands ∷ []) ∷ [])
-      ∷ entry.Wait (semaphore_value 4 1 ∷ [])
-      ∷ entry.EndPass 5 [] []
-      ∷ entry.Map 3
-      ∷ entry.Read 3 0 4
-      ∷ []) (at.Entry 8) rule.PassState
-  -- The same with a resource of two parts.
-  pub submit_inside_larger : RefusesNow
-      (pool_entry 1 algorithm.Tlsf 1 65536 1
-      ∷ buffer_entry 9 8192 both sharing.Exclusive (place.Pool 1)
-      ∷ buffer_entry 2 8192 both sharing.Exclusive (place.Pool 1)
-      ∷ buffer_entry 3 16 destination sharing.Exclusive (place.Dedicated 1)
-      ∷ entry.Semaphore 4 0
-      ∷ entry.Map 2
-      ∷ entry.Write 2 8188 (1 ∷ 2 ∷ 3 ∷ 4 ∷ [])
-      ∷ entry.Destroy 9
-      ∷ entry.Defrag 5 1 0 0
-      ∷ entry.Pass 5
-      ∷ entry.Submit 0 (batch []
-      (cmd.Copy 2 3 ((buffer_region 8188 0 4) ∷ [])
-      ∷ cmd.Barrier (element.Memory (dependency transfer transfer_write host host_read) ∷ []) ∷ [])
-      (submit_info 4 1 all_commands ∷ []) ∷ [])
-      ∷ entry.Wait (semaphore_value 4 1 ∷ [])
-      ∷ entry.EndPass 5 [] []
-      ∷ entry.Map 3
-      ∷ entry.Read 3 0 4
-      ∷ entry.Read 2 8188 4
-      ∷ []) (at.Entry 10) rule.PassState
   -- A ring: two buffers of half a block, the first goes, two smaller ones take its place. A further one finds no room (below).
   pub ring : ReadsUntil
       (pool_entry 1 algorithm.Linear 1 4096 1

@@ -8,7 +8,7 @@ use Rattle.vk_model.specs.declared.resource.Place.TheVariants as place
 use Rattle.vk_model.specs.declared.command.Element.TheVariants as element
 use Rattle.vk_model.specs.declared.command.Cmd.TheVariants as cmd
 use Rattle.vk_rows.specs.Writing.{bytes, to_end, dependency, buffer_element, buffer_region, submit_info, semaphore_value, batch, buffer_entry, transfer, host, all_commands, transfer_read, transfer_write, host_read, destination, both}
-use Rattle.vk_rows.specs.Claims.{Accepts, Refuses, RefusesNow}
+use Rattle.vk_rows.specs.Claims.{Accepts, Refuses}
 
 -- Queues, semaphores, events and ownership: what each trace reads, or its first fault.
 pub record Queues : Type 0 where
@@ -152,38 +152,10 @@ pub record Queues : Type 0 where
   pub last_queue : Accepts
       (entry.Submit 3 []
       ∷ []) []
-  -- A batch waits for a value that a later batch signals.
-  pub wait_refused : RefusesNow
-      (buffer_entry 1 16 both sharing.Concurrent (place.Dedicated 1)
-      ∷ buffer_entry 3 16 destination sharing.Concurrent (place.Dedicated 1)
-      ∷ entry.Semaphore 2 0
-      ∷ entry.Submit 2 (batch (submit_info 2 1 all_commands ∷ [])
-      (cmd.Copy 1 3 ((buffer_region 0 0 16) ∷ [])
-      ∷ cmd.Barrier (element.Memory (dependency transfer transfer_write host host_read) ∷ []) ∷ [])
-      (submit_info 2 2 all_commands ∷ []) ∷ [])
-      ∷ entry.Submit 0 (batch [] (cmd.Fill 1 0 (bytes 16) 67305985 ∷ []) (submit_info 2 1 all_commands ∷ []) ∷ [])
-      ∷ entry.Wait (semaphore_value 2 2 ∷ [])
-      ∷ entry.Map 3
-      ∷ entry.Read 3 0 4
-      ∷ []) (at.Wait 3 0 0) rule.WaitBeforeSignal
   -- A batch waits for what is no semaphore.
   pub wait_for_nothing : Refuses
       (entry.Submit 0 (batch (submit_info 1 1 all_commands ∷ []) [] [] ∷ [])
       ∷ []) (at.Wait 0 0 0) rule.LiveId
-  -- Nobody has signaled what the first batch waits for.
-  pub first_wait_refused : RefusesNow
-      (entry.Semaphore 1 0
-      ∷ entry.Semaphore 2 0
-      ∷ entry.Submit 0 (batch (submit_info 1 1 all_commands ∷ []) [] [] ∷ batch [] [] (submit_info 2 1 all_commands ∷ []) ∷ [])
-      ∷ entry.Wait (semaphore_value 2 1 ∷ [])
-      ∷ []) (at.Wait 2 0 0) rule.WaitBeforeSignal
-  -- A fill behind such a wait.
-  pub fill_held_back : RefusesNow
-      (buffer_entry 1 16 both sharing.Exclusive (place.Dedicated 1)
-      ∷ entry.Semaphore 2 0
-      ∷ entry.Submit 0 (batch (submit_info 2 1 all_commands ∷ []) (cmd.Fill 1 0 (bytes 16) 1 ∷ []) [] ∷ [])
-      ∷ entry.Destroy 1
-      ∷ []) (at.Wait 2 0 0) rule.WaitBeforeSignal
   -- A semaphore that begins at the greatest value.
   pub greatest_initial_value : Accepts
       (entry.Semaphore 1 18446744073709551615

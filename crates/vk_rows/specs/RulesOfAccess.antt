@@ -9,7 +9,7 @@ use Rattle.vk_model.specs.declared.resource.PoolKind.TheVariants as algorithm
 use Rattle.vk_model.specs.declared.command.Element.TheVariants as element
 use Rattle.vk_model.specs.declared.command.Cmd.TheVariants as cmd
 use Rattle.vk_rows.specs.Writing.{bytes, dependency, buffer_region, submit_info, semaphore_value, batch, buffer_entry, pool_entry, transfer, host, all_commands, transfer_write, host_read, both}
-use Rattle.vk_rows.specs.Claims.{BreaksOnly, BreaksOnlyLater, BreaksNothing, BreaksNothingLater}
+use Rattle.vk_rows.specs.Claims.{BreaksOnly, BreaksNothing}
 
 -- A broken trace and its corrected trace for each rule from MAP_STATE to READ_UNDEFINED: the one breaks just that rule at one point, the other breaks nothing.
 pub record RulesOfAccess : Type 0 where
@@ -76,8 +76,8 @@ pub record RulesOfAccess : Type 0 where
       ∷ entry.Wait (semaphore_value 3 1 ∷ [])
       ∷ entry.Pass 4
       ∷ [])
-  -- The host writes a resource that moves. (Once entries may come inside a pass.)
-  pub pass_write : BreaksOnlyLater
+  -- The host writes a resource that moves.
+  pub pass_write : BreaksOnly
       (pool_entry 1 algorithm.Tlsf 1 4096 2
       ∷ buffer_entry 2 16 both sharing.Exclusive (place.Pool 1)
       ∷ entry.Defrag 3 1 0 0
@@ -86,7 +86,7 @@ pub record RulesOfAccess : Type 0 where
       ∷ entry.Write 2 0 (7 ∷ [])
       ∷ []) (at.Entry 5) rule.PassWrite
   -- After the pass.
-  pub pass_write_corrected : BreaksNothingLater
+  pub pass_write_corrected : BreaksNothing
       (pool_entry 1 algorithm.Tlsf 1 4096 2
       ∷ buffer_entry 2 16 both sharing.Exclusive (place.Pool 1)
       ∷ entry.Defrag 3 1 0 0

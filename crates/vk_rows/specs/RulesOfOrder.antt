@@ -1,13 +1,15 @@
 -- A broken trace and its corrected trace for each rule from EVENT_STATE to WAIT_NEVER.
-use Rattle.std.specs.Prelude.{◌+◌, [], ◌∷◌}
+use Rattle.std.specs.Prelude.{◌≡◌, ◌+◌, [], ◌∷◌, false}
 use Rattle.vk_model.specs.declared.rule.Rule.TheVariants as rule
 use Rattle.vk_model.specs.declared.rule.At.TheVariants as at
 use Rattle.vk_model.specs.declared.entry.Entry.TheVariants as entry
 use Rattle.vk_model.specs.declared.command.Cmd.TheVariants as cmd
 use Rattle.vk_rows.specs.Writing.{dependency, submit_info, semaphore_value, batch, transfer, all_commands, transfer_read, transfer_write}
+use Rattle.vk_model.specs.Trace.Point.{Past, Point}
+use Rattle.vk_model.specs.Rules.Table.{breaks}
 use Rattle.vk_rows.specs.Claims.{BreaksOnly, BreaksNothing}
 
--- A broken trace and its corrected trace for each rule from EVENT_STATE to WAIT_NEVER: the one breaks just that rule at one point, the other breaks nothing.
+-- A broken trace and its corrected trace for each rule from EVENT_STATE to WAIT_NEVER: the one breaks just that rule at one point, the other breaks nothing. Nothing breaks WAIT_BEFORE_SIGNAL.
 pub record RulesOfOrder : Type 0 where
   -- An event is set twice.
   pub event_state : BreaksOnly
@@ -58,15 +60,10 @@ pub record RulesOfOrder : Type 0 where
       ∷ entry.Wait (semaphore_value 1 1 ∷ [])
       ∷ entry.Signal 1 2
       ∷ [])
-  -- A batch waits for a value that nobody has signaled.
-  pub wait_before_signal : BreaksOnly
+  -- No point breaks WAIT_BEFORE_SIGNAL: a batch that waits for a value that nobody has signaled isn't started.
+  pub wait_before_signal : (past : Past) (p : Point) → breaks rule.WaitBeforeSignal past p ≡ false
+  pub wait_before_signal_waits : BreaksNothing
       (entry.Semaphore 1 0
-      ∷ entry.Submit 0 (batch (submit_info 1 1 all_commands ∷ []) [] [] ∷ [])
-      ∷ []) (at.Wait 1 0 0) rule.WaitBeforeSignal
-  -- That the host has.
-  pub wait_before_signal_corrected : BreaksNothing
-      (entry.Semaphore 1 0
-      ∷ entry.Signal 1 1
       ∷ entry.Submit 0 (batch (submit_info 1 1 all_commands ∷ []) [] [] ∷ [])
       ∷ [])
   -- The host waits for a value that nobody has signaled.

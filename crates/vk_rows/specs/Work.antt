@@ -19,7 +19,7 @@ use Rattle.vk_model.specs.Trace.Objects.{resource}
 use Rattle.vk_model.specs.World.ByteWrites.{byte_writes}
 use Rattle.vk_model.specs.Rules.Table.{first_fault}
 use Rattle.vk_model.specs.Trace.Image.{image_size, row_pitch}
-use Rattle.vk_model.specs.Trace.Order.{plain_order}
+use Rattle.vk_model.specs.Trace.Order.{order}
 use Rattle.vk_model.specs.World.Bytes.{in_buffer}
 use Rattle.vk_model.specs.World.Effect.{world}
 use Rattle.vk_model.specs.Sync.Node.{Node, nodes}
@@ -35,7 +35,7 @@ use Rattle.vk_rows.specs.Writing.{bytes, to_end, dependency, levels, image_eleme
 
 -- The sizes of a command's pieces, after some entries.
 abbrev pub piece_sizes : List Entry → Cmd → List ℕ
-piece_sizes t c = map length (pieces (plain_order t) c)
+piece_sizes t c = map length (pieces (order t) c)
 
 -- A buffer of 5,000 bytes.
 abbrev pub large_buffer : List Entry
@@ -68,7 +68,7 @@ to_host = cmd.Barrier (element.Memory (dependency transfer transfer_write host h
 -- Whether nodes of these numbers are related so, among the nodes of a trace.
 abbrev pub related : (List Node → Node → Node → Bool) → List Entry → ℕ → ℕ → Bool
 related test t m n =
-    let ns = nodes (plain_order t) in
+    let ns = nodes (order t) in
     holds (slice_get (reverse ns) m) (λ x. holds (slice_get (reverse ns) n) (test ns x))
 
 -- Whether the read of byte 0 of buffer 1 by one node has seen the write by another.
@@ -88,7 +88,7 @@ three_fills = buffer_entry 1 16 both sharing.Exclusive (place.Dedicated 1) ∷ b
 
 -- The pieces that are offered when some have run.
 abbrev pub offers : List Name → List Name
-offers done = offered (plain_order three_fills) done
+offers done = offered (order three_fills) done
 
 -- ---- what a scheduler is asked
 
@@ -125,20 +125,20 @@ ordered_fills = buffer_entry 1 16 both sharing.Exclusive (place.Dedicated 1)
 -- Pieces, order, what may run next, and picks.
 pub record Work : Type 0 where
   -- The points of a fill, a barrier, a signal, a wait, a map and a read, in order.
-  pub points : map at_of (reverse (plain_order (upload to_host)))
+  pub points : map at_of (reverse (order (upload to_host)))
       ≡ at.Entry 0 ∷ at.Entry 1 ∷ at.Entry 2 ∷ at.Command 2 0 0 ∷ at.Command 2 0 1 ∷ at.Signal 2 0 0 ∷ at.Entry 3 ∷ at.Entry 4 ∷ at.Entry 5 ∷ []
   -- A buffer of 5,000 bytes asks for 5,008, at a multiple of 16.
-  pub asked_size : option_map (λ r. r.size) (resource (plain_order large_buffer) 1) ≡ Some 5008
-  pub asked_align : option_map (λ r. r.align) (resource (plain_order large_buffer) 1) ≡ Some 16
+  pub asked_size : option_map (λ r. r.size) (resource (order large_buffer) 1) ≡ Some 5008
+  pub asked_align : option_map (λ r. r.align) (resource (order large_buffer) 1) ≡ Some 16
   -- A fill to the end of 5,000 bytes from byte 2 on writes 4,996.
-  pub moves_to_end : length (byte_writes (plain_order large_buffer) (cmd.Fill 1 2 to_end 7)) ≡ 4996
+  pub moves_to_end : length (byte_writes (order large_buffer) (cmd.Fill 1 2 to_end 7)) ≡ 4996
   -- An order without a memory dependency doesn't make a write after a write right.
   pub no_memory_dependency : first_fault ordered_fills ≡ Some (at.Command 1 0 2, rule.HazardWaw)
   -- A fill of 5,000 bytes has a piece of 4,096 and one of 904.
   pub fill_pieces : piece_sizes large_buffer (cmd.Fill 1 0 (bytes 5000) 7) ≡ 4096 ∷ 904 ∷ []
   -- After the transition level 0 is in TRANSFER_DST_OPTIMAL, level 1 in UNDEFINED.
-  pub level_0 : (world (plain_order two_levels)).layout 1 0 0 ≡ destination_optimal
-  pub level_1 : (world (plain_order two_levels)).layout 1 1 0 ≡ undefined
+  pub level_0 : (world (order two_levels)).layout 1 0 0 ≡ destination_optimal
+  pub level_1 : (world (order two_levels)).layout 1 1 0 ≡ undefined
   -- An image of 9 by 5 texels of two bytes takes 256 bytes in tiles, and 320 in rows of 64.
   pub tiled_size : image_size (nine_by_five kind.Optimal) kind.Optimal ≡ 256
   pub linear_size : image_size (nine_by_five kind.Linear) kind.Linear ≡ 320

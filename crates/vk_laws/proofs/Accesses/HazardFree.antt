@@ -10,14 +10,13 @@ use Rattle.vk_model.specs.declared.rule.Rule.TheVariants as rule
 use Rattle.vk_model.specs.Basics.{holds, some_pair}
 use Rattle.vk_model.specs.World.Bytes.{Byte, same_byte}
 use Rattle.vk_model.specs.Trace.Point.{Past, Action, Run, host_of, command_of}
-use Rattle.vk_model.specs.Trace.Order.{plain_order}
 use Rattle.vk_model.specs.World.ByteWrites.{Value, From, ByteWrite, byte_writes}
 use Rattle.vk_model.specs.Run.Pieces.{pieces}
 use Rattle.vk_model.specs.Sync.Node.{Node, Act, Hosts, Waits, Signals, Runs, Depends, nodes, acts}
 use Rattle.vk_model.specs.Sync.Access.{is_in, origin, origins, targets, host_reads}
 use Rattle.vk_model.specs.Rules.Ranges.{command_overlaps, lists_twice}
-use Rattle.vk_model.specs.Rules.Table.{breaks, first_fault}
-use Rattle.vk_model.specs.Rules.Fault.{Comes, IsSound}
+use Rattle.vk_model.specs.Rules.Table.{breaks, fault}
+use Rattle.vk_model.specs.Rules.Fault.{Comes, IsUnbroken}
 use Rattle.vk_model.specs.Laws.{PiecesAreByteWrites, PiecesWriteApart, write_common}
 use Rattle.vk_laws.specs.Machine.{Task, Put, Puts, Reads, HazardFree}
 use Rattle.vk_laws.specs.Trace.{AccessesInOrder}
@@ -88,10 +87,7 @@ host_apart : (x : Entry) (c : Byte) (v : ℕ) → host_value x c ≡ Some v → 
 host_apart (entry.Write b o bytes) c v h r = cc
 host_apart _ c v h r = cc
 
-module _ (together : PiecesAreByteWrites) (apart : PiecesWriteApart) (t : List Entry) (sound : IsSound t) where
-  abbrev all : Past
-  all = plain_order t
-
+module _ (together : PiecesAreByteWrites) (apart : PiecesWriteApart) (all : Past) (sound : IsUnbroken all) where
   -- ---- a command of the trace
 
   module _ (n : Node) (cn : Contains (nodes all) n) (x : Cmd) (act : n.act ≡ Runs x) where
@@ -105,10 +101,10 @@ module _ (together : PiecesAreByteWrites) (apart : PiecesWriteApart) (t : List E
     comes = comes_at _ _ place
 
     pub same_byte_writes : byte_writes all x ≡ byte_writes place.past x
-    same_byte_writes = kept_writes all place.newer place.past place.at x place.whole action (new_ids t sound) (live_ids t sound)
+    same_byte_writes = kept_writes all place.newer place.past place.at x place.whole action (new_ids all sound) (live_ids all sound)
 
     same_pieces : pieces all x ≡ pieces place.past x
-    same_pieces = kept_pieces all place.newer place.past place.at x place.whole action (new_ids t sound) (live_ids t sound)
+    same_pieces = kept_pieces all place.newer place.past place.at x place.whole action (new_ids all sound) (live_ids all sound)
 
     no_overlaps : IsTrue (command_overlaps place.past x) → ⊥
     unfolding breaks
@@ -188,9 +184,9 @@ module _ (together : PiecesAreByteWrites) (apart : PiecesWriteApart) (t : List E
   same_node_act : (k l : ℕ) (m n : Node) → k ≡ l → node_at all k ≡ Some m → node_at all l ≡ Some n → m ≡ n
   same_node_act k l m n e f g = let h : node_at all k ≡ node_at all l = ap (node_at all) e in cc
 
-  pub hazard_free : AccessesInOrder → first_fault t ≡ None → HazardFree (accesses_of all)
+  pub hazard_free : AccessesInOrder → fault all ≡ None → HazardFree (accesses_of all)
   hazard_free order none = record {
-    ordered = ordered together order t none;
+    ordered = ordered together order all none;
     apart = λ s u c same w r.
         let a = write_act all s c w.0 w.1 in
         let b = read_act all u c r in

@@ -14,8 +14,7 @@ use Rattle.vk_model.specs.Run.Pieces.{pieces}
 use Rattle.vk_model.specs.Sync.Node.{Node, Act, Hosts, Waits, Signals, Runs, Depends, nodes}
 use Rattle.vk_model.specs.Sync.Access.{is_in, origin, origins, targets, bytes_of, host_reads, host_writes, reads_of, writes_of, reads, writes}
 use Rattle.vk_model.specs.Laws.{PiecesAreByteWrites}
-use Rattle.vk_model.specs.Trace.Order.{plain_order}
-use Rattle.vk_model.specs.Rules.Table.{first_fault}
+use Rattle.vk_model.specs.Rules.Table.{fault}
 use Rattle.vk_model.specs.Sync.Before.{before}
 use Rattle.vk_laws.specs.EveryOrder.{IsSettled}
 use Rattle.vk_laws.specs.Machine.{Task, Put, Puts, Writes, Reads, Precedes, Conflict, MayRun, IsAllowed}
@@ -177,22 +176,19 @@ module _ (together : PiecesAreByteWrites) (all : Past) where
 
 -- ---- the law
 
-module _ (together : PiecesAreByteWrites) (order : AccessesInOrder) (t : List Entry) (none : first_fault t ≡ None) where
-  abbrev all : Past
-  all = plain_order t
-
+module _ (together : PiecesAreByteWrites) (order : AccessesInOrder) (all : Past) (none : fault all ≡ None) where
   by_nodes : (s u : Task) (m n : Node) → node_at all s.node ≡ Some m → node_at all u.node ≡ Some n → IsTrue (nat_lt s.index (task_count all m.act)) → IsTrue (before (nodes all) m n) → Precedes (accesses_of all) s u
   by_nodes s u m n e f there b = (rw e there, rw (e, f) b)
 
   pub ordered : (s u : Task) (c : Byte) → s.node < u.node → Conflict (accesses_of all) s u c → Precedes (accesses_of all) s u
   ordered s u c lt meet = ⊎_elim
       (λ wr. let x = writer together all s c wr.0 in let y = reader together all u c wr.1 in
-      by_nodes s u x.node y.node x.at y.at x.there (order t x.node y.node c none x.present y.present (let e = x.number in let f = y.number in omega arith) x.is_access y.is_access (inl (is_in_of together all c _ x.accessed, y.accessed))))
+      by_nodes s u x.node y.node x.at y.at x.there (order all x.node y.node c none x.present y.present (let e = x.number in let f = y.number in omega arith) x.is_access y.is_access (inl (is_in_of together all c _ x.accessed, y.accessed))))
       (λ rest. ⊎_elim
       (λ rw'. let x = reader together all s c rw'.0 in let y = writer together all u c rw'.1 in
-      by_nodes s u x.node y.node x.at y.at x.there (order t x.node y.node c none x.present y.present (let e = x.number in let f = y.number in omega arith) x.is_access y.is_access (inr (inl (x.accessed, is_in_of together all c _ y.accessed)))))
+      by_nodes s u x.node y.node x.at y.at x.there (order all x.node y.node c none x.present y.present (let e = x.number in let f = y.number in omega arith) x.is_access y.is_access (inr (inl (x.accessed, is_in_of together all c _ y.accessed)))))
       (λ ww. let x = writer together all s c ww.0 in let y = writer together all u c ww.1 in
-      by_nodes s u x.node y.node x.at y.at x.there (order t x.node y.node c none x.present y.present (let e = x.number in let f = y.number in omega arith) x.is_access y.is_access (inr (inr (is_in_of together all c _ x.accessed, y.accessed)))))
+      by_nodes s u x.node y.node x.at y.at x.there (order all x.node y.node c none x.present y.present (let e = x.number in let f = y.number in omega arith) x.is_access y.is_access (inr (inr (is_in_of together all c _ x.accessed, y.accessed)))))
       rest)
       meet
 

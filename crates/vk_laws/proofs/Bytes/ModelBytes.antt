@@ -8,7 +8,6 @@ use Rattle.vk_model.specs.declared.entry.Entry.TheVariants as entry
 use Rattle.vk_model.specs.declared.command.Cmd.{Cmd}
 use Rattle.vk_model.specs.World.Bytes.{Byte, in_buffer, same_byte}
 use Rattle.vk_model.specs.Trace.Point.{Past, Point, Action, Host, Wait, Run, Signal}
-use Rattle.vk_model.specs.Trace.Order.{plain_order}
 use Rattle.vk_model.specs.World.ByteWrites.{Source, Value, ByteWrite, byte_writes}
 use Rattle.vk_model.specs.Run.Pieces.{pieces}
 use Rattle.vk_model.specs.World.Effect.{source_value, world}
@@ -19,7 +18,7 @@ use Rattle.vk_model.specs.Sync.Edge.{is_host}
 use Rattle.vk_model.specs.Sync.Access.{bytes_of, host_reads, is_in}
 use Rattle.vk_model.specs.Rules.Hazards.{reads_undefined}
 use Rattle.vk_model.specs.Rules.Table.{breaks}
-use Rattle.vk_model.specs.Rules.Fault.{IsSound}
+use Rattle.vk_model.specs.Rules.Fault.{IsUnbroken}
 use Rattle.vk_model.specs.Laws.{PiecesAreByteWrites, PiecesWriteApart}
 use Rattle.vk_laws.specs.Machine.{Task, Reads, Put, Puts, put_value, IsModel}
 use Rattle.vk_laws.specs.Tasks.{piece_writes, host_value, task_write, task_read, node_at, by_act, accesses_of}
@@ -68,10 +67,7 @@ find_nowhere f (p ∷ parts) none = find_past f p (flat_map (λ p. p) parts) (no
 
 -- ---- the model
 
-module _ (together : PiecesAreByteWrites) (apart : PiecesWriteApart) (t : List Entry) (sound : IsSound t) where
-  abbrev all : Past
-  all = plain_order t
-
+module _ (together : PiecesAreByteWrites) (apart : PiecesWriteApart) (all : Past) (sound : IsUnbroken all) where
   -- a node's act is all that its point does, where it isn't an element
   pub alone : (n : Node) (s : AtPoint all n) → length (acts s.at.action) ≡ 1 → (length (nodes s.past) ≡ n.number) × (length (nodes (s.at ∷ s.past)) ≡ suc n.number)
   alone n s one =
@@ -90,14 +86,14 @@ module _ (together : PiecesAreByteWrites) (apart : PiecesWriteApart) (t : List E
   after_point n s c v end h =
       point_source s.past s.at c v (settles s.newer (s.at ∷ s.past) (suc n.number) c v end (subst (λ (l : Past). value_before l (suc n.number) c ≡ Some v) s.whole h))
 
-  run_source : (n : Node) (cn : Contains (nodes all) n) (x : Cmd) (act : n.act ≡ Runs x) (k : ℕ) (c : Byte) (w : Put) → task_write all (Runs x) k c ≡ Some w → (s : Source) × (w ≡ Puts s) × (source_at (place together apart t sound n cn x act).past (Run x) c ≡ Some s)
+  run_source : (n : Node) (cn : Contains (nodes all) n) (x : Cmd) (act : n.act ≡ Runs x) (k : ℕ) (c : Byte) (w : Put) → task_write all (Runs x) k c ≡ Some w → (s : Source) × (w ≡ Puts s) × (source_at (place together apart all sound n cn x act).past (Run x) c ≡ Some s)
   run_source n cn x act k c w h =
       let m = value_after all x k c w h in
       let f : ByteWrite → Bool = λ m. same_byte m.to c in
       let whole : find f (byte_writes all x) ≡ Some m.byte_writer =
       ap (find f) (sym (together all x)) ∙ find_index f (pieces all x) k m.piece m.byte_writer m.at m.first
-      (λ l q y at' g. run_once together apart t sound n cn x act l k c (Puts y.source) w (task_puts l q y at' g) h) in
-      (m.byte_writer.source, sym m.put, ap (option_map (λ (m : ByteWrite). m.source)) (ap (find f) (sym (same_byte_writes together apart t sound n cn x act)) ∙ whole))
+      (λ l q y at' g. run_once together apart all sound n cn x act l k c (Puts y.source) w (task_puts l q y at' g) h) in
+      (m.byte_writer.source, sym m.put, ap (option_map (λ (m : ByteWrite). m.source)) (ap (find f) (sym (same_byte_writes together apart all sound n cn x act)) ∙ whole))
     where
       task_puts : (l : ℕ) (q : List ByteWrite) (y : ByteWrite) → slice_get (pieces all x) l ≡ Some q → find (λ m. same_byte m.to c) q ≡ Some y → task_write all (Runs x) l c ≡ Some (Puts y.source)
       task_puts l q y at e = rw at (rw e refl)
@@ -116,7 +112,7 @@ module _ (together : PiecesAreByteWrites) (apart : PiecesWriteApart) (t : List E
 
       go : (a : Act) → n.act ≡ a → task_write all a k c ≡ Some w → put_value w (value_before all n.number) ≡ Some v
       go (Runs x) act h =
-          let d : s.at.action ≡ Run x = action together apart t sound n cn x act in
+          let d : s.at.action ≡ Run x = action together apart all sound n cn x act in
           let r = run_source n cn x act k c w h in
           let here : Contains (command_acts x) (Runs x) = subst (λ (d : Action). Contains (acts d) (Runs x)) d (subst (λ (a : Act). Contains (acts s.at.action) a) act s.acted) in
           let one : length (command_acts x) ≡ 1 = ⊎_elim (λ o. o.1) (λ i. let e = i.2 in absurd cc) (runs_or_idle x (Runs x) here) in
@@ -148,7 +144,7 @@ module _ (together : PiecesAreByteWrites) (apart : PiecesWriteApart) (t : List E
           let f : ByteWrite → Bool = λ m. same_byte m.to c in
           let nowhere = find_nowhere f (pieces all x) (λ l q at. unmapped (λ (m : ByteWrite). Puts m.source) (find f q)
           (ap (λ (o : Option (List ByteWrite)). option_map (λ (m : ByteWrite). Puts m.source) (find f (piece_writes o))) (sym at) ∙ subst (λ (a : Act). task_write all a l c ≡ None) act (none l))) in
-          ap (option_map (λ (m : ByteWrite). m.source)) (ap (find f) (sym (same_byte_writes together apart t sound n cn x act)) ∙ ap (find f) (sym (together all x)) ∙ nowhere)
+          ap (option_map (λ (m : ByteWrite). m.source)) (ap (find f) (sym (same_byte_writes together apart all sound n cn x act)) ∙ ap (find f) (sym (together all x)) ∙ nowhere)
 
       go : (d : Action) → s.at.action ≡ d → source_at s.past d c ≡ None
       go (Host x) e =

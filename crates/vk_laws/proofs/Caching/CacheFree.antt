@@ -1,17 +1,16 @@
 -- A trace without a fault has no hazard between its caches.
-use Rattle.std.proofs.Common.{◌≡◌, ◌⊎◌, inl, inr, ℕ, ◌<◌, ◌≤◌, length, List, [], ◌∷◌, ◌++◌, Bool, true, false, ◌&&◌, not, IsTrue, Some, None, refl, ap, sym, ◌∙◌, subst, arith}
+use Rattle.std.proofs.Common.{◌≡◌, ◌⊎◌, inl, inr, ℕ, ◌<◌, ◌≤◌, length, [], ◌∷◌, ◌++◌, Bool, true, false, ◌&&◌, not, IsTrue, Some, None, refl, ap, sym, ◌∙◌, subst, arith}
 use Rattle.std.specs.Prelude.{Contains, if◌then◌else◌}
 use Rattle.std.proofs.lemmas.List.{append_assoc}
-use Rattle.vk_model.specs.declared.entry.Entry.{Entry}
 use Rattle.vk_model.specs.World.Bytes.{Byte, resource_at}
 use Rattle.vk_model.specs.Trace.Objects.{is_cached}
+use Rattle.vk_model.specs.Trace.Structure.{IsOrdered}
 use Rattle.vk_model.specs.Trace.Point.{Past, Point}
-use Rattle.vk_model.specs.Trace.Order.{plain_order}
 use Rattle.vk_model.specs.Sync.Node.{Node, nodes}
 use Rattle.vk_model.specs.Sync.Edge.{is_host}
 use Rattle.vk_model.specs.Sync.Access.{writes}
-use Rattle.vk_model.specs.Rules.Table.{first_fault}
-use Rattle.vk_model.specs.Rules.Fault.{Comes, older, IsSound}
+use Rattle.vk_model.specs.Rules.Table.{fault}
+use Rattle.vk_model.specs.Rules.Fault.{Comes, older, IsUnbroken}
 use Rattle.vk_model.specs.Laws.{BeforeIsPath, BeforeIsTransitive, GrowthKeeps, PiecesAreByteWrites}
 use Rattle.vk_laws.specs.Machine.{Task, Writes, Reads}
 use Rattle.vk_laws.specs.Caches.{CacheFree, Seen, Available}
@@ -102,15 +101,12 @@ cached_then all new alive x cx ax b judged h n cn le =
         let long = more_nodes m.0 (sn.at ∷ sn.past) in
         absurd (omega (arith, le, low, lt, size, long))
 
-module _ (together : PiecesAreByteWrites) (paths : BeforeIsPath) (joins : BeforeIsTransitive) (stay : CommandsStay) (hazards : NoHazardLaw) (visibilities : SeenIsBefore) (hosts : HostInOrder) (keeps : GrowthKeeps) (t : List Entry) (sound : IsSound t) (none : first_fault t ≡ None) where
-  abbrev all : Past
-  all = plain_order t
+-- two tasks of the host have one agent
+pub same_agent : BeforeIsPath → BeforeIsTransitive → (all : Past) (w u : Task) (x y : Node) → node_at all w.node ≡ Some x → node_at all u.node ≡ Some y → is_host x.act ≡ true → is_host y.act ≡ true → (caching_of all).agent w ≡ (caching_of all).agent u
+same_agent paths joins all w u x y e f h k =
+    agent_is paths joins all w x e ∙ ap (λ (b : Bool). if b then 0 else ℕ.suc x.point.queue) h ∙ sym (ap (λ (b : Bool). if b then 0 else ℕ.suc y.point.queue) k) ∙ sym (agent_is paths joins all u y f)
 
-  -- two tasks of the host have one agent
-  pub same_agent : (w u : Task) (x y : Node) → node_at all w.node ≡ Some x → node_at all u.node ≡ Some y → is_host x.act ≡ true → is_host y.act ≡ true → (caching_of all).agent w ≡ (caching_of all).agent u
-  same_agent w u x y e f h k =
-      agent_is paths joins all w x e ∙ ap (λ (b : Bool). if b then 0 else ℕ.suc x.point.queue) h ∙ sym (ap (λ (b : Bool). if b then 0 else ℕ.suc y.point.queue) k) ∙ sym (agent_is paths joins all u y f)
-
+module _ (together : PiecesAreByteWrites) (paths : BeforeIsPath) (joins : BeforeIsTransitive) (stay : CommandsStay) (hazards : NoHazardLaw) (visibilities : SeenIsBefore) (hosts : HostInOrder) (keeps : GrowthKeeps) (all : Past) (ordered : IsOrdered all) (sound : IsUnbroken all) (none : fault all ≡ None) where
   by_agents : {P : Type 0} (a b : Bool) → (a ≡ true → b ≡ true → P) → (IsTrue (not (a && b)) → P) → P
   by_agents true true f g = f refl refl
   by_agents true false f g = g refl
@@ -122,16 +118,16 @@ module _ (together : PiecesAreByteWrites) (paths : BeforeIsPath) (joins : Before
       let y = reader together all u c r in
       let later : x.node.number < y.node.number = (let e = x.number in let f = y.number in omega arith) in
       by_agents (is_host x.node.act) (is_host y.node.act)
-      (λ h k. inl (same_agent w u x.node y.node x.at y.at h k))
+      (λ h k. inl (same_agent paths joins all w u x.node y.node x.at y.at h k))
       (λ h.
       let s : AtPoint all y.node = at_point all y.node y.present in
-      let is_seen = read_is_seen stay hazards visibilities hosts keeps t none x.node y.node x.present y.present later x.is_access y.is_access c h (is_in_of together all c _ x.accessed) y.accessed in
-      let has_x = judged_has stay hazards visibilities hosts keeps t none x.node y.node x.present y.present later x.is_access y.is_access c h in
+      let is_seen = read_is_seen stay hazards visibilities hosts keeps all none x.node y.node x.present y.present later x.is_access y.is_access c h (is_in_of together all c _ x.accessed) y.accessed in
+      let has_x = judged_has stay hazards visibilities hosts keeps all none x.node y.node x.present y.present later x.is_access y.is_access c h in
       inr (seen_task paths joins all w u x.node y.node x.at y.at (has_task all w x.node x.at x.there) x.present y.present x.is_access y.is_access (λ b. is_cached (s.at ∷ s.past) (resource_at b)) c
       (λ n cn le.
-      same_cached all s.newer (s.at ∷ s.past) s.whole (new_ids t sound) (live_ids t sound) x.node has_x x.is_access c all x.accessed
-      ∙ sym (cached_then all (new_ids t sound) (live_ids t sound) x.node x.present x.is_access c all x.accessed n cn le))
-      (submits_there t)
+      same_cached all s.newer (s.at ∷ s.past) s.whole (new_ids all sound) (live_ids all sound) x.node has_x x.is_access c all x.accessed
+      ∙ sym (cached_then all (new_ids all sound) (live_ids all sound) x.node x.present x.is_access c all x.accessed n cn le))
+      (submits_there all ordered)
       (λ host. record { by = x.node; present = x.present; host = host; wrote = is_in_of together all c _ x.accessed; order = inl refl }) is_seen))
 
   written_after : (w u : Task) (c : Byte) → w.node < u.node → Writes (accesses_of all) w c → Writes (accesses_of all) u c → ((caching_of all).agent w ≡ (caching_of all).agent u) ⊎ Available (accesses_of all) (caching_of all) w u c
@@ -140,15 +136,15 @@ module _ (together : PiecesAreByteWrites) (paths : BeforeIsPath) (joins : Before
       let y = writer together all u c r in
       let later : x.node.number < y.node.number = (let e = x.number in let f = y.number in omega arith) in
       by_agents (is_host x.node.act) (is_host y.node.act)
-      (λ h k. inl (same_agent w u x.node y.node x.at y.at h k))
+      (λ h k. inl (same_agent paths joins all w u x.node y.node x.at y.at h k))
       (λ h.
       let s : AtPoint all y.node = at_point all y.node y.present in
-      let is_seen = write_is_seen stay hazards visibilities hosts keeps t none x.node y.node x.present y.present later x.is_access y.is_access c h (is_in_of together all c _ x.accessed) y.accessed in
-      let has_x = judged_has stay hazards visibilities hosts keeps t none x.node y.node x.present y.present later x.is_access y.is_access c h in
+      let is_seen = write_is_seen stay hazards visibilities hosts keeps all none x.node y.node x.present y.present later x.is_access y.is_access c h (is_in_of together all c _ x.accessed) y.accessed in
+      let has_x = judged_has stay hazards visibilities hosts keeps all none x.node y.node x.present y.present later x.is_access y.is_access c h in
       inr (available_task paths joins all w u x.node y.node x.at y.at (has_task all w x.node x.at x.there) x.present y.present x.is_access y.is_access (λ b. is_cached (s.at ∷ s.past) (resource_at b)) c
       (λ n cn le.
-      same_cached all s.newer (s.at ∷ s.past) s.whole (new_ids t sound) (live_ids t sound) x.node has_x x.is_access c all x.accessed
-      ∙ sym (cached_then all (new_ids t sound) (live_ids t sound) x.node x.present x.is_access c all x.accessed n cn le)) is_seen))
+      same_cached all s.newer (s.at ∷ s.past) s.whole (new_ids all sound) (live_ids all sound) x.node has_x x.is_access c all x.accessed
+      ∙ sym (cached_then all (new_ids all sound) (live_ids all sound) x.node x.present x.is_access c all x.accessed n cn le)) is_seen))
 
   pub cache_free : CacheFree (accesses_of all) (caching_of all)
   cache_free = record {

@@ -1,5 +1,5 @@
 -- The premises of the law where invalidations forget what was not flushed.
-use Rattle.std.proofs.Common.{◌≡◌, ◌⊎◌, inl, inr, ⊎_elim, ℕ, suc, ◌<◌, ◌≤◌, List, ◌∷◌, Bool, true, false, ◌&&◌, not, IsTrue, Option, Some, None, refl, ap, sym, ◌∙◌, subst, arith}
+use Rattle.std.proofs.Common.{◌≡◌, ◌⊎◌, inl, inr, ⊎_elim, ℕ, suc, ◌<◌, ◌≤◌, ◌∷◌, Bool, true, false, ◌&&◌, not, IsTrue, Option, Some, None, refl, ap, sym, ◌∙◌, subst, arith}
 use Rattle.std.specs.Prelude.{Contains, ◌==◌, nat_lt}
 use Rattle.std.proofs.lemmas.Bool.{eqb-true, and_parts}
 use Rattle.vk_model.specs.declared.entry.Entry.{Entry}
@@ -8,8 +8,8 @@ use Rattle.vk_model.specs.declared.command.Cmd.{Cmd}
 use Rattle.vk_model.specs.Basics.{holds}
 use Rattle.vk_model.specs.World.Bytes.{Byte, resource_at}
 use Rattle.vk_model.specs.Trace.Objects.{is_cached}
+use Rattle.vk_model.specs.Trace.Structure.{IsOrdered}
 use Rattle.vk_model.specs.Trace.Point.{Past, Action}
-use Rattle.vk_model.specs.Trace.Order.{plain_order}
 use Rattle.vk_model.specs.World.Effect.{after_action, after_host, reaches, world}
 use Rattle.vk_model.specs.Sync.Node.{Node, Act, Hosts, Waits, Signals, Runs, Depends, nodes}
 use Rattle.vk_model.specs.Sync.Edge.{is_host}
@@ -123,18 +123,15 @@ module _ (all : Past) where
   available_too : (w t : Task) (c : Byte) → Available (accesses_of all) (caching_of all) w t c → Available (with_discards all) (caching_of all) w t c
   available_too w t c s = record { p = s.p; available = s.available; before = s.before }
 
-module _ (t : List Entry) (given : Given t) where
-  abbrev all : Past
-  all = plain_order t
-
+module _ (all : Past) (given : Given all) where
   base_free : HazardFree (accesses_of all)
-  base_free = hazard_free given.pieces_together given.apart t given.sound given.order given.none
+  base_free = hazard_free given.pieces_together given.apart all given.sound given.order given.none
 
   base_model : IsModel (accesses_of all) (value_before all)
-  base_model = is_model given.pieces_together given.apart t given.sound
+  base_model = is_model given.pieces_together given.apart all given.sound
 
-  base_caches : CacheFree (accesses_of all) (caching_of all)
-  base_caches = cache_free given.pieces_together given.paths given.joins given.stay given.hazards given.visibilities given.hosts given.keeps t given.sound given.none
+  base_caches : IsOrdered all → CacheFree (accesses_of all) (caching_of all)
+  base_caches ordered = cache_free given.pieces_together given.paths given.joins given.stay given.hazards given.visibilities given.hosts given.keeps all ordered given.sound given.none
 
   -- what a node has of a byte
   abbrev Has : Access → Node → Byte → Type 0
@@ -157,8 +154,8 @@ module _ (t : List Entry) (given : Given t) where
       (as_command n.act ac))
     where
       seen_it : (k : Access) (cmd : Cmd) (is_n : n.act ≡ Runs cmd) → Has k n c → IsTrue (seen (λ b. is_cached ((at_point all n cn).at ∷ (at_point all n cn).past) (resource_at b)) (nodes all) f.node n k c)
-      seen_it Read cmd is_n h = seen_after t given f.node f.present f.entry f.act c f.lost n cn cmd is_n Read h (lower s u f.node n f.number num lt)
-      seen_it Write cmd is_n h = seen_after t given f.node f.present f.entry f.act c f.lost n cn cmd is_n Write h (lower s u f.node n f.number num lt)
+      seen_it Read cmd is_n h = seen_after all given f.node f.present f.entry f.act c f.lost n cn cmd is_n Read h (lower s u f.node n f.number num lt)
+      seen_it Write cmd is_n h = seen_after all given f.node f.present f.entry f.act c f.lost n cn cmd is_n Write h (lower s u f.node n f.number num lt)
 
   forgot_last : (s u : Task) (c : Byte) (f : Forgot all u c) (m : Node) → node_at all s.node ≡ Some m → Contains (nodes all) m → m.number ≡ s.node → IsTrue (nat_lt s.index (task_count all m.act)) → IsTrue (accesses m.act) → (k : Access) → Has k m c → s.node < u.node
       → Precedes (accesses_of all) s u
@@ -170,8 +167,8 @@ module _ (t : List Entry) (given : Given t) where
       (as_command m.act ac))
     where
       earlier : (k : Access) (cmd : Cmd) (is_m : m.act ≡ Runs cmd) → Has k m c → IsTrue (before (nodes all) m f.node)
-      earlier Read cmd is_m h = before_it t given f.node f.present f.entry f.act c f.lost m cm cmd is_m Read h (lower s u m f.node num f.number lt)
-      earlier Write cmd is_m h = before_it t given f.node f.present f.entry f.act c f.lost m cm cmd is_m Write h (lower s u m f.node num f.number lt)
+      earlier Read cmd is_m h = before_it all given f.node f.present f.entry f.act c f.lost m cm cmd is_m Read h (lower s u m f.node num f.number lt)
+      earlier Write cmd is_m h = before_it all given f.node f.present f.entry f.act c f.lost m cm cmd is_m Write h (lower s u m f.node num f.number lt)
 
   ordered : (s u : Task) (c : Byte) → s.node < u.node → Conflict (with_discards all) s u c → Precedes (with_discards all) s u
   ordered s u c lt meet = ⊎_elim
@@ -209,9 +206,9 @@ module _ (t : List Entry) (given : Given t) where
   lost_value : (u : Task) (c : Byte) (v : ℕ) → Forgot all u c → value_before all (suc u.node) c ≡ Some v → ⊥
   lost_value u c v f h =
       let s : AtPoint all f.node = at_point all f.node f.present in
-      let l = forget t given f.node f.present f.entry f.act c f.lost in
-      let e = ends t given f.node f.present f.entry f.act c f.lost in
-      let d = action t given f.node f.present f.entry f.act c f.lost in
+      let l = forget all given f.node f.present f.entry f.act c f.lost in
+      let e = ends all given f.node f.present f.entry f.act c f.lost in
+      let d = action all given f.node f.present f.entry f.act c f.lost in
       let here = subst (λ (k : ℕ). value_before all (suc k) c ≡ Some v) (sym f.number) h in
       let after = settles s.newer (s.at ∷ s.past) (suc f.node.number) c v e.1 (subst (λ (l : Past). value_before l (suc f.node.number) c ≡ Some v) s.whole here) in
       gone s.past l.buffer l.offset l.size l.kept_buffer l.reached l.dirty
@@ -230,26 +227,26 @@ module _ (t : List Entry) (given : Given t) where
   -- ---- the caches
 
   agents : (s u : Task) (m n : Node) → node_at all s.node ≡ Some m → node_at all u.node ≡ Some n → IsTrue (is_host m.act) → IsTrue (is_host n.act) → (caching_of all).agent s ≡ (caching_of all).agent u
-  agents s u m n e f h g = same_agent given.pieces_together given.paths given.joins given.stay given.hazards given.visibilities given.hosts given.keeps t given.sound given.none s u m n e f h g
+  agents s u m n e f h g = same_agent given.paths given.joins all s u m n e f h g
 
   -- a read and a write after an invalidation
-  forgot_read : (s u : Task) (c : Byte) (f : Forgot all s c) (y : Accessor given.pieces_together all u (λ n. Contains (reads all n) c)) → s.node < u.node → ((caching_of all).agent s ≡ (caching_of all).agent u) ⊎ Seen (accesses_of all) (caching_of all) s u c
-  forgot_read s u c f y lt = ⊎_elim
+  forgot_read : IsOrdered all → (s u : Task) (c : Byte) (f : Forgot all s c) (y : Accessor given.pieces_together all u (λ n. Contains (reads all n) c)) → s.node < u.node → ((caching_of all).agent s ≡ (caching_of all).agent u) ⊎ Seen (accesses_of all) (caching_of all) s u c
+  forgot_read ordered s u c f y lt = ⊎_elim
       (λ host. inl (agents s u f.node y.node f.at y.at (forgot_host s c f) host))
       (λ cmd.
       let low = lower s u f.node y.node f.number y.number lt in
-      let earlier = w_earlier t given f.node f.present f.entry f.act c f.lost in
+      let earlier = w_earlier all given f.node f.present f.entry f.act c f.lost in
       inr (seen_task given.paths given.joins all s u f.node y.node f.at y.at (forgot_has all s c f) f.present y.present (rw f.act refl) y.is_access (λ b. is_cached ((at_point all y.node y.present).at ∷ (at_point all y.node y.present).past) (resource_at b)) c
-      (λ n cn le. same_one t given f.node f.present f.entry f.act c f.lost y.node y.present cmd.0 cmd.1 (omega (arith, earlier, low)) ∙ sym (kept_then t given f.node f.present f.entry f.act c f.lost n cn (omega (arith, earlier, le))))
-      (submits_there t)
+      (λ n cn le. same_one all given f.node f.present f.entry f.act c f.lost y.node y.present cmd.0 cmd.1 (omega (arith, earlier, low)) ∙ sym (kept_then all given f.node f.present f.entry f.act c f.lost n cn (omega (arith, earlier, le))))
+      (submits_there all ordered)
       (λ host. record {
-        by = w t given f.node f.present f.entry f.act c f.lost;
-        present = w_all t given f.node f.present f.entry f.act c f.lost;
+        by = w all given f.node f.present f.entry f.act c f.lost;
+        present = w_all all given f.node f.present f.entry f.act c f.lost;
         host = refl;
-        wrote = is_in_of given.pieces_together all c _ (w_writes t given f.node f.present f.entry f.act c f.lost);
-        order = inr (given.hosts all (w t given f.node f.present f.entry f.act c f.lost) f.node (w_all t given f.node f.present f.entry f.act c f.lost) f.present refl (forgot_host s c f) earlier);
+        wrote = is_in_of given.pieces_together all c _ (w_writes all given f.node f.present f.entry f.act c f.lost);
+        order = inr (given.hosts all (w all given f.node f.present f.entry f.act c f.lost) f.node (w_all all given f.node f.present f.entry f.act c f.lost) f.present refl (forgot_host s c f) earlier);
       })
-      (seen_after t given f.node f.present f.entry f.act c f.lost y.node y.present cmd.0 cmd.1 Read y.accessed low)))
+      (seen_after all given f.node f.present f.entry f.act c f.lost y.node y.present cmd.0 cmd.1 Read y.accessed low)))
       (as_command y.node.act y.is_access)
 
   forgot_write : (s u : Task) (c : Byte) (f : Forgot all s c) (y : Accessor given.pieces_together all u (λ n. Contains (writes all n) c)) → s.node < u.node → ((caching_of all).agent s ≡ (caching_of all).agent u) ⊎ Available (accesses_of all) (caching_of all) s u c
@@ -257,10 +254,10 @@ module _ (t : List Entry) (given : Given t) where
       (λ host. inl (agents s u f.node y.node f.at y.at (forgot_host s c f) host))
       (λ cmd.
       let low = lower s u f.node y.node f.number y.number lt in
-      let earlier = w_earlier t given f.node f.present f.entry f.act c f.lost in
+      let earlier = w_earlier all given f.node f.present f.entry f.act c f.lost in
       inr (available_task given.paths given.joins all s u f.node y.node f.at y.at (forgot_has all s c f) f.present y.present (rw f.act refl) y.is_access (λ b. is_cached ((at_point all y.node y.present).at ∷ (at_point all y.node y.present).past) (resource_at b)) c
-      (λ n cn le. same_one t given f.node f.present f.entry f.act c f.lost y.node y.present cmd.0 cmd.1 (omega (arith, earlier, low)) ∙ sym (kept_then t given f.node f.present f.entry f.act c f.lost n cn (omega (arith, earlier, le))))
-      (seen_after t given f.node f.present f.entry f.act c f.lost y.node y.present cmd.0 cmd.1 Write y.accessed low)))
+      (λ n cn le. same_one all given f.node f.present f.entry f.act c f.lost y.node y.present cmd.0 cmd.1 (omega (arith, earlier, low)) ∙ sym (kept_then all given f.node f.present f.entry f.act c f.lost n cn (omega (arith, earlier, le))))
+      (seen_after all given f.node f.present f.entry f.act c f.lost y.node y.present cmd.0 cmd.1 Write y.accessed low)))
       (as_command y.node.act y.is_access)
 
   -- what comes before a node comes before what that is before
@@ -280,17 +277,17 @@ module _ (t : List Entry) (given : Given t) where
     where
       by_write : (cmd : Cmd) → x.node.act ≡ Runs cmd → Available (accesses_of all) (caching_of all) s u c
       by_write cmd is_x =
-          let k : Node = w t given f.node f.present f.entry f.act c f.lost in
-          let ck = w_all t given f.node f.present f.entry f.act c f.lost in
-          let wk = w_writes t given f.node f.present f.entry f.act c f.lost in
-          let earlier = w_earlier t given f.node f.present f.entry f.act c f.lost in
-          let first = before_write t given f.node f.present f.entry f.act c f.lost x.node x.present cmd is_x Write x.accessed (lower s u x.node f.node x.number f.number lt) in
+          let k : Node = w all given f.node f.present f.entry f.act c f.lost in
+          let ck = w_all all given f.node f.present f.entry f.act c f.lost in
+          let wk = w_writes all given f.node f.present f.entry f.act c f.lost in
+          let earlier = w_earlier all given f.node f.present f.entry f.act c f.lost in
+          let first = before_write all given f.node f.present f.entry f.act c f.lost x.node x.present cmd is_x Write x.accessed (lower s u x.node f.node x.number f.number lt) in
           let sk : AtPoint all k = at_point all k ck in
           let apart_hosts : IsTrue (not (is_host x.node.act && is_host k.act)) = rw is_x refl in
-          let is_seen = write_is_seen given.stay given.hazards given.visibilities given.hosts given.keeps t given.none x.node k x.present ck first.0 x.is_access refl c apart_hosts (is_in_of given.pieces_together all c (writes all x.node) x.accessed) wk in
-          let has_x = judged_has given.stay given.hazards given.visibilities given.hosts given.keeps t given.none x.node k x.present ck first.0 x.is_access refl c apart_hosts in
-          let same = same_cached all sk.newer (sk.at ∷ sk.past) sk.whole (new_ids t given.sound) (live_ids t given.sound) x.node has_x x.is_access c all x.accessed in
-          let then_same = λ (n : Node) (cn : Contains (nodes all) n) (le : x.node.number ≤ n.number). same ∙ sym (cached_then all (new_ids t given.sound) (live_ids t given.sound) x.node x.present x.is_access c all x.accessed n cn le) in
+          let is_seen = write_is_seen given.stay given.hazards given.visibilities given.hosts given.keeps all given.none x.node k x.present ck first.0 x.is_access refl c apart_hosts (is_in_of given.pieces_together all c (writes all x.node) x.accessed) wk in
+          let has_x = judged_has given.stay given.hazards given.visibilities given.hosts given.keeps all given.none x.node k x.present ck first.0 x.is_access refl c apart_hosts in
+          let same = same_cached all sk.newer (sk.at ∷ sk.past) sk.whole (new_ids all given.sound) (live_ids all given.sound) x.node has_x x.is_access c all x.accessed in
+          let then_same = λ (n : Node) (cn : Contains (nodes all) n) (le : x.node.number ≤ n.number). same ∙ sym (cached_then all (new_ids all given.sound) (live_ids all given.sound) x.node x.present x.is_access c all x.accessed n cn le) in
           let at_k = node_at_self given.paths given.joins all k ck in
           let av = available_task given.paths given.joins all s (record { node = k.number; index = 0 }) x.node k x.at at_k (has_task all s x.node x.at x.there) x.present ck x.is_access refl (λ b. is_cached (sk.at ∷ sk.past) (resource_at b)) c then_same is_seen in
           record {
@@ -299,11 +296,11 @@ module _ (t : List Entry) (given : Given t) where
             before = precedes_on av.p (record { node = k.number; index = 0 }) u k f.node at_k f.at ck f.present (given.hosts all k f.node ck f.present refl (forgot_host u c f) earlier) av.before;
           }
 
-  pub discards_cache_free : CacheFree (with_discards all) (caching_of all)
-  discards_cache_free = record {
+  pub discards_cache_free : IsOrdered all → CacheFree (with_discards all) (caching_of all)
+  discards_cache_free ordered = record {
     seen_read = λ s u c lt wr r. ⊎_elim
-        (λ f. ⊎_elim (λ e. inl e) (λ v. inr (seen_too all s u c v)) (forgot_read s u c f (reader given.pieces_together all u c r) lt))
-        (λ b. ⊎_elim (λ e. inl e) (λ v. inr (seen_too all s u c v)) (base_caches.seen_read s u c lt b r))
+        (λ f. ⊎_elim (λ e. inl e) (λ v. inr (seen_too all s u c v)) (forgot_read ordered s u c f (reader given.pieces_together all u c r) lt))
+        (λ b. ⊎_elim (λ e. inl e) (λ v. inr (seen_too all s u c v)) ((base_caches ordered).seen_read s u c lt b r))
         (write_kind all s c wr);
     seen_write = λ s u c lt a b. ⊎_elim (λ e. inl e) (λ v. inr (available_too all s u c v)) (two_writes s u c lt (write_kind all s c a) (write_kind all u c b));
     available_later = λ p u c h. available_later given.paths given.joins all p u c h;
@@ -313,4 +310,4 @@ module _ (t : List Entry) (given : Given t) where
       two_writes s u c lt (inl f) (inl g) = inl (agents s u f.node g.node f.at g.at (forgot_host s c f) (forgot_host u c g))
       two_writes s u c lt (inl f) (inr b) = forgot_write s u c f (writer given.pieces_together all u c b) lt
       two_writes s u c lt (inr a) (inl g) = write_forgot s u c g (writer given.pieces_together all s c a) lt
-      two_writes s u c lt (inr a) (inr b) = base_caches.seen_write s u c lt a b
+      two_writes s u c lt (inr a) (inr b) = (base_caches ordered).seen_write s u c lt a b

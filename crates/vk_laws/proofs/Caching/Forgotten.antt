@@ -1,5 +1,5 @@
 -- What an invalidation forgets was written before it and not flushed in between, so all accesses are in order with it.
-use Rattle.std.proofs.Common.{◌≡◌, inl, inr, ⊎_elim, ℕ, suc, ◌<◌, ◌≤◌, List, [], ◌∷◌, ◌++◌, length, Bool, true, ◌&&◌, ◌||◌, not, IsTrue, None, refl, ap, sym, ◌∙◌, subst, arith, eq-or-lt_of_le}
+use Rattle.std.proofs.Common.{◌≡◌, inl, inr, ⊎_elim, ℕ, suc, ◌<◌, ◌≤◌, [], ◌∷◌, ◌++◌, length, Bool, true, ◌&&◌, ◌||◌, not, IsTrue, None, refl, ap, sym, ◌∙◌, subst, arith, eq-or-lt_of_le}
 use Rattle.std.specs.Prelude.{Contains, ◌==◌}
 use Rattle.std.proofs.lemmas.Bool.{eqb-true, cases_lt, or_right, and_parts, and_from}
 use Rattle.std.proofs.lemmas.List.{append_assoc}
@@ -11,15 +11,14 @@ use Rattle.vk_model.specs.declared.command.Length.{Length}
 use Rattle.vk_model.specs.World.Bytes.{Byte, in_buffer, in_image, resource_at}
 use Rattle.vk_model.specs.Trace.Objects.{is_cached}
 use Rattle.vk_model.specs.Trace.Point.{Past, Point, Action, Host}
-use Rattle.vk_model.specs.Trace.Order.{plain_order}
 use Rattle.vk_model.specs.World.Effect.{reaches, in_atoms, world}
 use Rattle.vk_model.specs.Sync.Node.{Node, Act, Hosts, Runs, nodes, acts, with_acts, same_node}
 use Rattle.vk_model.specs.Sync.Edge.{edge, is_host, is_submit}
 use Rattle.vk_model.specs.Sync.Before.{before}
 use Rattle.vk_model.specs.Sync.Seen.{Access, Read, Write, command_mask, seen, available_by, visible_by, makes_writes_visible, flushes, is_wait}
 use Rattle.vk_model.specs.Sync.Access.{reads, writes}
-use Rattle.vk_model.specs.Rules.Table.{first_fault}
-use Rattle.vk_model.specs.Rules.Fault.{Comes, newest, older, IsSound}
+use Rattle.vk_model.specs.Rules.Table.{fault}
+use Rattle.vk_model.specs.Rules.Fault.{Comes, newest, older, IsUnbroken}
 use Rattle.vk_model.specs.Laws.{BeforeIsPath, BeforeIsTransitive, GrowthKeeps, PiecesAreByteWrites, PiecesWriteApart}
 use Rattle.vk_laws.specs.Trace.{accesses, AccessesInOrder, NoHazardLaw, SeenIsBefore, HostInOrder, CommandsStay}
 use Rattle.vk_laws.specs.Discards.{entry_forgets}
@@ -130,7 +129,7 @@ module _ (paths : BeforeIsPath) (joins : BeforeIsTransitive) (all : Past) (one :
 -- ---- the write that an invalidation forgets
 
 -- what the laws of nodes and pieces give, for a trace that breaks no rule
-pub record Given (t : List Entry) : Type 0 where
+pub record Given (all : Past) : Type 0 where
   pub pieces_together : PiecesAreByteWrites
   pub apart : PiecesWriteApart
   pub paths : BeforeIsPath
@@ -141,19 +140,16 @@ pub record Given (t : List Entry) : Type 0 where
   pub hosts : HostInOrder
   pub keeps : GrowthKeeps
   pub order : AccessesInOrder
-  pub sound : IsSound t
-  pub none : first_fault t ≡ None
+  pub sound : IsUnbroken all
+  pub none : fault all ≡ None
 
-module _ (t : List Entry) (given : Given t) where
-  abbrev all : Past
-  all = plain_order t
-
+module _ (all : Past) (given : Given all) where
   module _ (i : Node) (ci : Contains (nodes all) i) (y : Entry) (is_i : i.act ≡ Hosts y) (c : Byte) (lost : IsTrue (entry_forgets (before_node all i.number) y c)) where
     abbrev pub s : AtPoint all i
     s = at_point all i ci
 
     pub forget : Forgets s.past y c
-    forget = forgets_of s.past y c (subst (λ (l : Past). IsTrue (entry_forgets l y c)) (at_node given.pieces_together given.apart t given.sound i s) lost)
+    forget = forgets_of s.past y c (subst (λ (l : Past). IsTrue (entry_forgets l y c)) (at_node given.pieces_together given.apart all given.sound i s) lost)
 
     pub dirtied : DirtiedBy s.past c
     dirtied = dirtied_by s.past c forget.dirty
@@ -162,7 +158,7 @@ module _ (t : List Entry) (given : Given t) where
     action = host_action s.at.action y (subst (λ (a : Act). Contains (acts s.at.action) a) is_i s.acted)
 
     pub ends : (length (nodes s.past) ≡ i.number) × (length (nodes (s.at ∷ s.past)) ≡ suc i.number)
-    ends = alone given.pieces_together given.apart t given.sound i s (ap (λ (d : Action). length (acts d)) action)
+    ends = alone given.pieces_together given.apart all given.sound i s (ap (λ (d : Action). length (acts d)) action)
 
     split : (n : Node) (sn : AtPoint all n) → all ≡ (sn.newer ++ sn.at ∷ []) ++ sn.past
     split n sn = sn.whole ∙ sym (append_assoc sn.newer (sn.at ∷ []) sn.past)
@@ -186,21 +182,21 @@ module _ (t : List Entry) (given : Given t) where
     w_writes = host_writes_it given.pieces_together all write c dirtied.value dirtied.is
 
     at_any : (newer low : Past) → all ≡ newer ++ low → Contains (nodes low) w → is_cached low (resource_at c) ≡ is_cached all (resource_at c)
-    at_any newer low whole cw = same_cached all newer low whole (new_ids t given.sound) (live_ids t given.sound) w cw refl c all w_writes
+    at_any newer low whole cw = same_cached all newer low whole (new_ids all given.sound) (live_ids all given.sound) w cw refl c all w_writes
 
     pub kept : is_cached all (resource_at c) ≡ true
     kept = sym (at_any (s.newer ++ s.at ∷ []) s.past (split i s) w_past) ∙ forget.kept
 
     -- as it was when a later node came
     pub kept_then : (n : Node) → Contains (nodes all) n → w.number ≤ n.number → is_cached (before_node all n.number) (resource_at c) ≡ is_cached all (resource_at c)
-    kept_then n cn le = cached_then all (new_ids t given.sound) (live_ids t given.sound) w w_all refl c all w_writes n cn le
+    kept_then n cn le = cached_then all (new_ids all given.sound) (live_ids all given.sound) w w_all refl c all w_writes n cn le
 
     pub unflushed : (g : Node) → Contains (nodes all) g → IsTrue (flushes g.act c) → w.number < g.number → g.number < i.number → ⊥
     unflushed g cg h after before_it =
         let u = flush_of g.act c h in
         let sg = at_point all g cg in
         let d = host_action sg.at.action (entry.Flush u.0 u.1 u.2) (subst (λ (a : Act). Contains (acts sg.at.action) a) u.3 sg.acted) in
-        let ends_g = alone given.pieces_together given.apart t given.sound g sg (ap (λ (d : Action). length (acts d)) d) in
+        let ends_g = alone given.pieces_together given.apart all given.sound g sg (ap (λ (d : Action). length (acts d)) d) in
         let come : Comes all sg.past sg.at = comes_at _ _ sg in
         let e0 = ends.0 in let e1 = ends.1 in let g0 = ends_g.0 in let g1 = ends_g.1 in
         let inside = comes_in s.newer s.past s.at sg.past sg.at (subst (λ (l : Past). Comes l sg.past sg.at) s.whole come) (omega (arith, e0, g1, before_it)) (omega (arith, e0, e1)) in
@@ -230,11 +226,11 @@ module _ (t : List Entry) (given : Given t) where
 
       module _ (lt : w.number < a.number) where
         pub same_one : one c ≡ is_cached all (resource_at c)
-        same_one = at_any point.newer (point.at ∷ point.past) point.whole (judged_has given.stay given.hazards given.visibilities given.hosts given.keeps t given.none w a w_all ca lt refl accesses_it c not_hosts)
+        same_one = at_any point.newer (point.at ∷ point.past) point.whole (judged_has given.stay given.hazards given.visibilities given.hosts given.keeps all given.none w a w_all ca lt refl accesses_it c not_hosts)
 
         is_seen : (k : Access) → Touches k → IsTrue (seen one (nodes all) w a k c)
-        is_seen Read h = read_is_seen given.stay given.hazards given.visibilities given.hosts given.keeps t given.none w a w_all ca lt refl accesses_it c not_hosts (is_in_of given.pieces_together all c (writes all w) w_writes) h
-        is_seen Write h = write_is_seen given.stay given.hazards given.visibilities given.hosts given.keeps t given.none w a w_all ca lt refl accesses_it c not_hosts (is_in_of given.pieces_together all c (writes all w) w_writes) h
+        is_seen Read h = read_is_seen given.stay given.hazards given.visibilities given.hosts given.keeps all given.none w a w_all ca lt refl accesses_it c not_hosts (is_in_of given.pieces_together all c (writes all w) w_writes) h
+        is_seen Write h = write_is_seen given.stay given.hazards given.visibilities given.hosts given.keeps all given.none w a w_all ca lt refl accesses_it c not_hosts (is_in_of given.pieces_together all c (writes all w) w_writes) h
 
         by_flush : (k : Access) → Touches k → Flushed given.paths given.joins all one w a w_all ca cmd is_a write refl c (same_one ∙ kept) k
         by_flush k h = flushed given.paths given.joins all one w a w_all ca cmd is_a write refl c (same_one ∙ kept) k (is_seen k h)
@@ -265,7 +261,7 @@ module _ (t : List Entry) (given : Given t) where
       -- an earlier one comes before the write, and so before the invalidation
       pub before_write : (k : Access) → Touches k → a.number < i.number → (a.number < w.number) × IsTrue (before (nodes all) a w)
       before_write k h lt = ⊎_elim
-          (λ less. (less, given.order t a w c given.none ca w_all less accesses_it refl (meets k h)))
+          (λ less. (less, given.order all a w c given.none ca w_all less accesses_it refl (meets k h)))
           (λ le. ⊎_elim
           (λ same. absurd (no_command (unique (nodes all) (numbered all) w a w_all ca same)))
           (λ more.

@@ -1,5 +1,5 @@
 -- A trace without a fault has no hazard between two nodes, and what is seen is before.
-use Rattle.std.proofs.Common.{◌≡◌, ◌⊎◌, inl, inr, ⊎_elim, ◌<◌, ◌≤◌, List, [], ◌∷◌, ◌++◌, length, Bool, ◌&&◌, ◌||◌, not, IsTrue, refl, ap, sym, ◌∙◌, subst, arith, reverse}
+use Rattle.std.proofs.Common.{◌≡◌, ◌⊎◌, inl, inr, ⊎_elim, ◌<◌, ◌≤◌, [], ◌∷◌, ◌++◌, length, Bool, ◌&&◌, ◌||◌, not, IsTrue, refl, ap, sym, ◌∙◌, subst, arith, reverse}
 use Rattle.std.specs.Prelude.{nat_le, Contains}
 use Rattle.std.specs.List.{list_any, filter}
 use Rattle.std.proofs.lemmas.Bool.{lt-ltb, le-leb, eqb-true, and_parts, or_cases, and_from}
@@ -14,8 +14,6 @@ use Rattle.vk_model.specs.Sync.Seen.{Access, Read, Write, seen, available_by, vi
 use Rattle.vk_model.specs.Sync.Access.{reads, writes, is_in, share, precedes, war, raw, waw, hazard}
 use Rattle.vk_model.specs.Rules.Fault.{Comes, newest, older}
 use Rattle.vk_model.specs.Laws.{BeforeIsPath, BeforeIsTransitive, GrowthKeeps, Keeps}
-use Rattle.vk_model.specs.declared.entry.Entry.{Entry}
-use Rattle.vk_model.specs.Trace.Order.{plain_order}
 use Rattle.vk_laws.specs.Trace.{HasNoHazard}
 use Rattle.vk_model.proofs.Lists.Members.{member_passes, some_member, any_filter}
 use Rattle.vk_model.proofs.Lists.Truths.{unless}
@@ -110,19 +108,19 @@ module _ (past : Past) (p : Point) (x y : Node) (cx : Contains (nodes (p ∷ pas
       found_new (λ y. list_any (λ x. precedes x y && kind (p ∷ past) x y) (nodes (p ∷ past))) past p y cy new
       (member_passes (λ x. precedes x y && kind (p ∷ past) x y) (nodes (p ∷ past)) x cx (and_from (precedes x y) (kind (p ∷ past) x y) first h))
 
-module _ (keeps : GrowthKeeps) (t : List Entry) (past : Past) (p : Point) (comes : Comes (plain_order t) past p) (x y : Node) (cx : Contains (nodes (p ∷ past)) x) (cy : Contains (nodes (p ∷ past)) y) (new : length (nodes past) ≤ y.number) (first : IsTrue (precedes x y)) where
+module _ (keeps : GrowthKeeps) (all : Past) (past : Past) (p : Point) (comes : Comes all past p) (x y : Node) (cx : Contains (nodes (p ∷ past)) x) (cy : Contains (nodes (p ∷ past)) y) (new : length (nodes past) ≤ y.number) (first : IsTrue (precedes x y)) where
   abbrev now_seen : Access → Byte → Bool
   now_seen k b = seen (λ c. is_cached (p ∷ past) (resource_at c)) (nodes (p ∷ past)) x y k b
 
-  pub no_hazard : (IsTrue (hazard war past p) → ⊥) → (IsTrue (hazard raw past p) → ⊥) → (IsTrue (hazard waw past p) → ⊥) → HasNoHazard t (p ∷ past) x y
+  pub no_hazard : (IsTrue (hazard war past p) → ⊥) → (IsTrue (hazard raw past p) → ⊥) → (IsTrue (hazard waw past p) → ⊥) → HasNoHazard all (p ∷ past) x y
   no_hazard no_war no_raw no_waw = record {
-    read_first = λ b hb cb. before_in_all keeps (plain_order t) past p comes x y cy
+    read_first = λ b hb cb. before_in_all keeps all past p comes x y cy
         (unless (before (nodes (p ∷ past)) x y) (λ n. no_war (found_hazard past p x y cx cy new first war
         (and_from (share (reads (p ∷ past) x) (writes (p ∷ past) y)) (not (before (nodes (p ∷ past)) x y)) (member_passes (λ d. is_in d (writes (p ∷ past) y)) (reads (p ∷ past) x) b cb hb) n))));
-    read_after = λ b hb cb. seen_in_all keeps (plain_order t) past p comes (λ c. is_cached (p ∷ past) (resource_at c)) x y Read b cy
+    read_after = λ b hb cb. seen_in_all keeps all past p comes (λ c. is_cached (p ∷ past) (resource_at c)) x y Read b cy
         (unless (now_seen Read b) (λ n. no_raw (found_hazard past p x y cx cy new first raw
         (member_passes (λ d. is_in d (writes (p ∷ past) x) && not (now_seen Read d)) (reads (p ∷ past) y) b cb (and_from _ _ hb n)))));
-    written_after = λ b hb cb. seen_in_all keeps (plain_order t) past p comes (λ c. is_cached (p ∷ past) (resource_at c)) x y Write b cy
+    written_after = λ b hb cb. seen_in_all keeps all past p comes (λ c. is_cached (p ∷ past) (resource_at c)) x y Write b cy
         (unless (now_seen Write b) (λ n. no_waw (found_hazard past p x y cx cy new first waw
         (member_passes (λ d. is_in d (writes (p ∷ past) x) && not (now_seen Write d)) (writes (p ∷ past) y) b cb (and_from _ _ hb n)))));
   }

@@ -1,5 +1,5 @@
 -- What a command reads and writes stays as it was when its point came, since ids are never made twice and are alive when they're named.
-use Rattle.std.proofs.Common.{◌≡◌, ℕ, [], ◌∷◌, ◌++◌, map, Bool, true, false, cond, ◌&&◌, IsTrue, Option, Some, None, refl, ap, sym, ◌∙◌, subst, List}
+use Rattle.std.proofs.Common.{◌≡◌, ℕ, [], ◌∷◌, ◌++◌, map, Bool, true, false, cond, ◌&&◌, IsTrue, Option, Some, None, refl, ap, sym, ◌∙◌, subst}
 use Rattle.std.specs.Prelude.{◌==◌, ◌%◌, ◌+◌, is_some, option_and_then, if◌then◌else◌}
 use Rattle.std.specs.List.{list_any, find, cons_option, flat_map}
 use Rattle.std.proofs.lemmas.Bool.{eqb-true, or_left, or_right}
@@ -13,9 +13,8 @@ use Rattle.vk_model.specs.Trace.Objects.{made_by, made, ended, live, buffer_in, 
 use Rattle.vk_model.specs.World.ByteWrites.{Value, byte_write, byte_writes, fill_size, clear_writes, copy_in_writes, copy_out_writes, copy_image_writes}
 use Rattle.vk_model.specs.Run.Pieces.{cut, row_bytes, clear_pieces, pieces}
 use Rattle.vk_model.specs.Rules.Ids.{breaks_new_id, breaks_live_id, is_dead, asked_by, asked_by_command, until}
-use Rattle.vk_model.specs.Rules.Fault.{Comes, newest, older, IsSound}
+use Rattle.vk_model.specs.Rules.Fault.{Comes, newest, older, IsUnbroken}
 use Rattle.vk_model.proofs.Lists.Truths.{unless}
-use Rattle.vk_model.specs.Trace.Order.{plain_order}
 use Rattle.vk_model.specs.Rules.Table.{breaks}
 use Rattle.vk_model.specs.declared.rule.Rule.TheVariants as rule
 
@@ -45,13 +44,13 @@ IsNew all = (b : Past) (q : Point) → Comes all b q → IsTrue (breaks_new_id b
 abbrev pub IsLive : Past → Type 0
 IsLive all = (b : Past) (q : Point) → Comes all b q → IsTrue (breaks_live_id b q) → ⊥
 
-pub new_ids : (t : List Entry) → IsSound t → IsNew (plain_order t)
+pub new_ids : (all : Past) → IsUnbroken all → IsNew all
 unfolding breaks
-new_ids t sound b q c h = sound b q rule.NewId (c, h)
+new_ids all sound b q c h = sound b q rule.NewId (c, h)
 
-pub live_ids : (t : List Entry) → IsSound t → IsLive (plain_order t)
+pub live_ids : (all : Past) → IsUnbroken all → IsLive all
 unfolding breaks
-live_ids t sound b q c h = sound b q rule.LiveId (c, h)
+live_ids all sound b q c h = sound b q rule.LiveId (c, h)
 
 pub made_up : (more past : Past) (i : ℕ) (x : Entry) → IsNew (more ++ past) → made past i ≡ Some x → made (more ++ past) i ≡ Some x
 made_up [] past i x new is = is

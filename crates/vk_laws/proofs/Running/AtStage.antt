@@ -8,7 +8,7 @@ use Rattle.vk_model.specs.declared.command.Cmd.{Cmd}
 use Rattle.vk_model.specs.declared.entry.Entry.{Entry}
 use Rattle.vk_model.specs.Basics.{below}
 use Rattle.vk_model.specs.Trace.Point.{Past, Point}
-use Rattle.vk_model.specs.Trace.Order.{plain_order}
+use Rattle.vk_model.specs.Trace.Order.{order}
 use Rattle.vk_model.specs.World.ByteWrites.{ByteWrite}
 use Rattle.vk_model.specs.Run.Pieces.{pieces}
 use Rattle.vk_model.specs.Sync.Node.{Node, Act, Hosts, Waits, Signals, Runs, Depends, nodes}
@@ -20,30 +20,30 @@ use Rattle.vk_laws.specs.Growth.{IsDue, IsEager}
 use Rattle.vk_laws.specs.Tasks.{task_count, node_at, accesses_of}
 use Rattle.vk_laws.specs.DefinedRuns.{is_event, piece_task, entry_task, has_happened}
 use Rattle.vk_laws.proofs.Accesses.TaskNodes.{node_of, has_task}
-use Rattle.vk_model.proofs.Lists.Members.{some_member, none_in, mapped_from, flat_from, range_from, all_passes, filtered}
+use Rattle.vk_model.proofs.Lists.Members.{some_member, none_in, contains-tail, mapped_from, flat_from, range_from, all_passes, filtered}
 use Rattle.vk_model.proofs.Lists.Truths.{implied, contradicted}
 use Rattle.vk_laws.proofs.Caching.TraceCaches.{node_at_self}
 use Rattle.vk_laws.proofs.EveryOrder.Fresh.{closed}
 use Rattle.vk_laws.proofs.EveryOrder.Growth.{may_run}
-use Rattle.vk_laws.proofs.Nodes.PlainOrder.{Grows}
+use Rattle.vk_model.proofs.Trace.Growing.{Grows}
 use Rattle.vk_laws.proofs.Running.Eager.{transitive, due_done, is_eager}
-use Rattle.vk_laws.proofs.Running.Stages.{Placed, start_placed, later, low, next_placed, entry_node, entry_present}
+use Rattle.vk_laws.proofs.Running.Stages.{From, Placed, start_placed, later, low, next_placed, entry_node, entry_present, still_there, wait_alone}
 use Rattle.vk_model.proofs.Sync.Numbers.{number_below, numbered}
 use Rattle.vk_model.proofs.Sync.Paths.{target}
 use Rattle.vk_laws.proofs.Running.StageTasks.{names_same, edge_to_entry, turned, Kind, piece, hosts, kind, plain_is, happened_is, before_is, Known, old_node, node_in_all, pieces_same, free_done}
 
 module _ {t : List Entry} (known : Known t) where
   abbrev all : Past
-  all = plain_order t
+  all = order t
 
   abbrev tr : TraceAccesses
   tr = accesses_of all
 
   abbrev Place : Stage → Type 0
-  Place s = Placed known.orders known.keeps t known.sound s
+  Place s = Placed known.keeps t s
 
   abbrev Front : Stage → Type 0
-  Front s = Grows (λ q. s.count ≤ q.entry) s.front.past all
+  Front s = Grows (From s.count) s.front.past all
 
   -- ---- tasks that match a stage
 
@@ -71,7 +71,7 @@ module _ {t : List Entry} (known : Known t) where
       }
 
   pub begins : AtPoint (start t) []
-  begins = settle (start t) [] (start_placed known.orders known.keeps t known.sound) [] tt (λ u there plain. (λ h. absurd h, λ h. absurd (nothing u there plain h))) refl
+  begins = settle (start t) [] (start_placed known.keeps t) [] tt (λ u there plain. (λ h. absurd h, λ h. absurd (nothing u there plain h))) refl
     where
       nothing : (u : Task) → IsTrue (tr.has u) → is_event all u ≡ false → IsTrue (has_happened all (start t) u) → ⊥
       nothing u there plain h = go (kind all u there plain)
@@ -82,14 +82,14 @@ module _ {t : List Entry} (known : Known t) where
 
   module _ (s : Stage) (did : List Task) (i : AtPoint s did) where
     pub grows : Front s
-    grows = later known.orders known.keeps t known.sound s i.placed
+    grows = later known.keeps t s i.placed
 
     pub piece_in : (v : Task) (m : Node) (c : Cmd) → IsTrue (tr.has v) → node_at all v.node ≡ Some m → m.act ≡ Runs c → IsTrue (is_done s.done (v.node, v.index)) → IsIn v i.tasks
     piece_in v m c there at act h = (i.happened v there (plain_is all v m at (Runs c) act refl)).1 (turned (sym (happened_is all s v m at (Runs c) act)) h)
 
     pub entry_in : (v : Task) (m : Node) (x : Entry) → IsTrue (tr.has v) → node_at all v.node ≡ Some m → m.act ≡ Hosts x → Contains (nodes s.front.past) m → IsIn v i.tasks
     entry_in v m x there at act c =
-        (i.happened v there (plain_is all v m at (Hosts x) act refl)).1 (turned (sym (happened_is all s v m at (Hosts x) act)) (lt-ltb m.point.entry s.count (low known.orders known.keeps t known.sound s i.placed m c)))
+        (i.happened v there (plain_is all v m at (Hosts x) act refl)).1 (turned (sym (happened_is all s v m at (Hosts x) act)) (lt-ltb m.point.entry s.count (low known.keeps t s i.placed m c)))
 
     -- where the pieces before a next task are done, it is due
     due : (u : Task) (n : Node) → node_at all u.node ≡ Some n → n.number ≤ length (nodes s.front.past)
@@ -174,16 +174,22 @@ module _ {t : List Entry} (known : Known t) where
 
     module _ (x : Entry) (xs : List Entry) (left : s.left ≡ x ∷ xs) where
       abbrev pub here : Node
-      here = entry_node known.orders known.keeps t known.sound s i.placed x xs left
+      here = entry_node known.keeps t s i.placed x xs left
 
       abbrev after : Place (applied s x xs)
-      after = next_placed known.orders known.keeps t known.sound s i.placed x xs left
+      after = next_placed known.keeps t s i.placed x xs left
 
       pub after_grows : Front (applied s x xs)
-      after_grows = later known.orders known.keeps t known.sound (applied s x xs) after
+      after_grows = later known.keeps t (applied s x xs) after
+
+      pub there_before : (n : Node) → Contains (nodes s.front.past) n → Contains (nodes (past_with s x)) n
+      there_before n c = still_there known.keeps t s i.placed x xs left n (contains-tail here (nodes s.front.past) n c)
+
+      pub only_here : is_host_wait x ≡ true → (m : Node) → Contains (nodes (past_with s x)) m → m.point.entry ≡ s.count → here ≡ m
+      only_here = wait_alone known.keeps t s i.placed x xs left
 
       pub here_present : Contains (nodes (past_with s x)) here
-      here_present = entry_present known.orders known.keeps t known.sound s i.placed x xs left
+      here_present = entry_present known.keeps t s i.placed x xs left
 
       pub here_in_all : Contains (nodes all) here
       here_in_all = node_in_all known _ (past_with s x) after_grows here here_present

@@ -1,37 +1,36 @@
 -- What may come next in the machine may come next at the stage.
-use Rattle.std.proofs.Common.{◌≡◌, ⊎_elim, ℕ, ◌+◌, ◌<◌, ◌≤◌, List, [], ◌∷◌, length, Bool, true, false, ◌&&◌, ◌||◌, not, IsTrue, Some, refl, ap, sym, ◌∙◌, subst, arith, reverse}
+use Rattle.std.proofs.Common.{◌≡◌, ⊎_elim, ℕ, ◌+◌, ◌<◌, List, [], ◌∷◌, length, Bool, true, false, ◌||◌, not, IsTrue, Option, Some, refl, ap, sym, ◌∙◌, subst, arith, reverse}
 use Rattle.std.specs.Prelude.{Contains, nat_lt, ◌==◌, if◌then◌else◌}
 use Rattle.std.specs.List.{filter, list_all}
-use Rattle.std.proofs.lemmas.Bool.{eq-eqb, ltb-true, lt-ltb, or_left, or_right, and_from, false_from_ne_true, cases_lt, ne_eqb}
+use Rattle.std.proofs.lemmas.Bool.{eqb-true, or_cases, ltb-true, lt-ltb, or_left, or_right, false_from_ne_true, cases_lt}
 use Rattle.std.proofs.lemmas.List.Sorted.{Contains-permutation, IsPermutation-reverse}
 use Rattle.vk_model.specs.declared.command.Cmd.{Cmd}
 use Rattle.vk_model.specs.declared.entry.Entry.{Entry}
-use Rattle.vk_model.specs.Basics.{below}
+use Rattle.vk_model.specs.Basics.{below, holds}
 use Rattle.vk_model.specs.Trace.Point.{Past, Point}
-use Rattle.vk_model.specs.Trace.Order.{plain_order}
+use Rattle.vk_model.specs.Trace.Order.{order}
 use Rattle.vk_model.specs.World.ByteWrites.{ByteWrite}
 use Rattle.vk_model.specs.Run.Pieces.{pieces}
 use Rattle.vk_model.specs.Sync.Node.{Node, Act, Hosts, Waits, Signals, Runs, Depends, nodes}
-use Rattle.vk_model.specs.Sync.Edge.{edge, is_host, is_submit, by_host, by_stages, by_signal, by_all_commands, by_semaphore, pairs, earlier}
+use Rattle.vk_model.specs.Sync.Edge.{is_host}
 use Rattle.vk_model.specs.Sync.Before.{before}
 use Rattle.vk_model.specs.Run.Runs.{Name, same_name, is_done, node_pieces, is_free, offered, Stage, is_host_wait, past_with, may_go}
 use Rattle.vk_laws.specs.Machine.{IsIn, Task, TraceAccesses, MayRun}
 use Rattle.vk_laws.specs.Tasks.{task_count, node_at, accesses_of}
-use Rattle.vk_laws.specs.DefinedRuns.{is_event, piece_task, entry_task, MayCome, Offers, Enters}
+use Rattle.vk_laws.specs.DefinedRuns.{is_event, piece_task, entry_task, has_come, MayCome, Offers, Enters}
 use Rattle.vk_laws.proofs.Accesses.TaskNodes.{node_of, same_task, has_task}
-use Rattle.vk_model.proofs.Lists.Members.{mapped_from, range_from, map_has, numbers_have, filter_has, each_of, flat_has, member_passes, contains-cons}
-use Rattle.vk_model.proofs.Lists.Truths.{first_of_six}
-use Rattle.vk_laws.proofs.Nodes.NoHazard.{edge_before, host_in_order}
+use Rattle.vk_model.proofs.Lists.Members.{mapped_from, range_from, map_has, numbers_have, filter_has, each_of, flat_has, member_passes}
+use Rattle.vk_laws.proofs.Nodes.NoHazard.{host_in_order}
 use Rattle.vk_laws.proofs.Caching.TraceCaches.{node_at_self}
-use Rattle.vk_laws.proofs.Nodes.PlainOrder.{Grows, old_or_newer}
-use Rattle.vk_laws.proofs.Running.Stages.{low, submitted, whole_past, wait_past}
+use Rattle.vk_model.proofs.Trace.Growing.{Grows}
+use Rattle.vk_laws.proofs.Running.Stages.{whole_past}
 use Rattle.vk_model.proofs.Sync.Numbers.{numbered, unique}
 use Rattle.vk_laws.proofs.Running.StageTasks.{name_itself, turned, Kind, piece, hosts, kind, plain_is, happened_is, before_is, Known, old_node, node_in_all, pieces_same, before_same}
-use Rattle.vk_laws.proofs.Running.AtStage.{AtPoint, grows, piece_in, entry_in, here, after_grows, here_present, here_in_all, here_at, here_there}
+use Rattle.vk_laws.proofs.Running.AtStage.{AtPoint, grows, piece_in, entry_in, here, after_grows, here_present, only_here, here_in_all, here_at, here_there}
 
 module _ {t : List Entry} (known : Known t) where
   abbrev all : Past
-  all = plain_order t
+  all = order t
 
   abbrev tr : TraceAccesses
   tr = accesses_of all
@@ -73,43 +72,31 @@ module _ {t : List Entry} (known : Known t) where
         go m cm false e = refl
         go m cm true e = pieces_run m cm e m.act refl
 
-    -- a node whose entry was applied is in the past
-    applied_node : (n : Node) → Contains (nodes all) n → n.point.entry < s.count → Contains (nodes s.front.past) n
-    applied_node n c lt = ⊎_elim (λ old. old) (λ new. let le : s.count ≤ n.point.entry = new.0 in absurd (omega (arith, lt, le))) (old_or_newer (λ q. s.count ≤ q.entry) s.front.past all (grows known s did i) n c)
-
     host_was : (u : Task) (n : Node) (x : Entry) → IsTrue (tr.has u) → node_at all u.node ≡ Some n → n.act ≡ Hosts x → IsIn u i.tasks → n.point.entry < s.count
     host_was u n x there at act h = ltb-true n.point.entry s.count (turned (happened_is all s u n at (Hosts x) act) ((i.happened u there (plain_is all u n at (Hosts x) act refl)).0 h))
 
-    submit_first : (m n : Node) → Contains (nodes all) m → Contains (nodes all) n → IsTrue (is_submit m.act) → m.point.entry ≡ n.point.entry → m.number < n.number → IsTrue (before (nodes all) m n)
-    unfolding edge
-    submit_first m n cm cn is same lt =
-        edge_before known.paths all m n cm cn (and_from (nat_lt m.number n.number) _ (lt-ltb m.number n.number lt)
-        (first_of_six (by_host m n) (by_stages m n) (by_signal m n) (by_all_commands m n) (pairs m.act n.act) (by_semaphore (earlier n (nodes all)) m n)
-        (or_right (is_host m.act && is_host n.act) (is_submit m.act && m.point.entry == n.point.entry) (and_from (is_submit m.act) (m.point.entry == n.point.entry) is (eq-eqb m.point.entry n.point.entry same)))))
-
-    piece_comes : (u : Task) (n : Node) (c : Cmd) → node_at all u.node ≡ Some n → n.act ≡ Runs c → u.index < length (pieces all c) → MayRun tr i.tasks u → MayCome s u
-    piece_comes u n c at act lt may =
+    piece_comes : (u : Task) (n : Node) (c : Cmd) → node_at all u.node ≡ Some n → n.act ≡ Runs c → u.index < length (pieces all c) → IsTrue (has_come all s u) → MayRun tr i.tasks u → MayCome s u
+    piece_comes u n c at act lt come may =
         let found = node_of all u.node n at in
-        let sub = submitted known.orders known.keeps t known.sound n (ap is_host act) found.0 in
-        let m = sub.submit in
-        let old = applied_node n found.0 (by_submit m sub.present sub.is_it (submit_first m n sub.present found.0 sub.is_it sub.entry sub.earlier) sub.entry m.act refl sub.is_it) in
         let count : length (pieces all c) ≡ length (pieces s.front.past c) = ap (λ (ps : List (List ByteWrite)). length ps) (pieces_same known _ s.front.past (grows known s did i) n c old act) in
         let free = free_before _ s.front.past (grows known s did i) u n at old may in
         let itself : u ≡ piece_task (n.number, u.index) = same_task u (piece_task (n.number, u.index)) (sym found.1) refl in
         subst (λ (v : Task). MayCome s v) (sym itself)
         (Offers (n.number, u.index) (is_offered n c u.index old act (omega (arith, lt, count)) free (false_from_ne_true (is_done s.done (n.number, u.index)) (λ h. may.fresh (piece_in known s did i u n c may.there at act (subst (λ (k : ℕ). IsTrue (is_done s.done (k, u.index))) found.1 h))))))
       where
-        by_submit : (m : Node) → Contains (nodes all) m → IsTrue (is_submit m.act) → IsTrue (before (nodes all) m n) → m.point.entry ≡ n.point.entry → (a : Act) → m.act ≡ a → IsTrue (is_submit a) → n.point.entry < s.count
-        by_submit m cm is b same (Hosts x) act is_it =
-            let v : Task = record { node = m.number; index = 0 } in
-            let at_v = node_at_self known.paths known.joins all m cm in
-            let there = has_task all v m at_v (subst (λ (a : Act). IsTrue (nat_lt 0 (task_count all a))) (sym act) refl) in
-            let was = host_was v m x there at_v act (may.after v (there, turned (sym (before_is all v u m n at_v at)) b)) in
-            omega (arith, was, same)
-        by_submit m cm is b same (Runs x) act is_it = absurd cc
-        by_submit m cm is b same (Waits x) act is_it = absurd cc
-        by_submit m cm is b same (Signals x) act is_it = absurd cc
-        by_submit m cm is b same (Depends r d) act is_it = absurd cc
+        no_entry : IsTrue (holds (node_at all u.node) (λ n. is_host n.act)) → ⊥
+        no_entry h =
+            let is : holds (node_at all u.node) (λ n. is_host n.act) ≡ is_host n.act = ap (λ (o : Option Node). holds o (λ n. is_host n.act)) at in
+            let run : is_host n.act ≡ false = ap is_host act in
+            cc
+
+        old : Contains (nodes s.front.past) n
+        old =
+            let found = node_of all u.node n at in
+            let same = found.1 in
+            ⊎_elim
+            (λ low. let lt = ltb-true u.node (length (nodes s.front.past)) low in old_node known _ s.front.past (grows known s did i) n found.0 (omega (arith, lt, same)))
+            (λ entry. absurd (no_entry entry)) (or_cases _ _ come)
 
     entry_comes : (u : Task) (n : Node) (x : Entry) → node_at all u.node ≡ Some n → n.act ≡ Hosts x → u.index ≡ 0 → MayRun tr i.tasks u → MayCome s u
     entry_comes u n x at act index may = go s.left refl
@@ -137,23 +124,23 @@ module _ {t : List Entry} (known : Known t) where
 
         goes : (y : Entry) (ys : List Entry) (left : s.left ≡ y ∷ ys) → (b : Bool) → is_host_wait y ≡ b → IsTrue (may_go s y)
         goes y ys left false e = or_left (not (is_host_wait y)) _ (ap not e)
-        goes y ys left true e = or_right (not (is_host_wait y)) _ (each_of (λ m. not (m.point.entry == s.count) || is_free (past_with s y) s.done m) (nodes (past_with s y)) (λ m cm.
-            ⊎_elim
-            (λ same. or_right (not (m.point.entry == s.count)) _ (subst (λ (k : Node). IsTrue (is_free (past_with s y) s.done k)) same
-            (free_before _ (past_with s y) (after_grows known s did i y ys left) u (here known s did i y ys left) (subst (λ (k : Node). node_at all u.node ≡ Some k) (its_own y ys left) at) (here_present known s did i y ys left) may)))
-            (λ old. or_left (not (m.point.entry == s.count)) _ (ap not (ne_eqb m.point.entry s.count (λ same. let lt = low known.orders known.keeps t known.sound s i.placed m old in omega (arith, lt, same)))))
-            (contains-cons (here known s did i y ys left) (nodes s.front.past) m (subst (λ (l : Past). Contains (nodes l) m) (wait_past known.orders known.keeps t known.sound s i.placed y ys left e) cm))))
+        goes y ys left true e = or_right (not (is_host_wait y)) _ (each_of (λ m. not (m.point.entry == s.count) || is_free (past_with s y) s.done m) (nodes (past_with s y)) (λ m cm. one m cm (m.point.entry == s.count) refl))
+          where
+            one : (m : Node) → Contains (nodes (past_with s y)) m → (b : Bool) → (m.point.entry == s.count) ≡ b → IsTrue (not b || is_free (past_with s y) s.done m)
+            one m cm false is = refl
+            one m cm true is = subst (λ (k : Node). IsTrue (is_free (past_with s y) s.done k)) (only_here known s did i y ys left e m cm (eqb-true m.point.entry s.count is))
+                (free_before _ (past_with s y) (after_grows known s did i y ys left) u (here known s did i y ys left) (subst (λ (k : Node). node_at all u.node ≡ Some k) (its_own y ys left) at) (here_present known s did i y ys left) may)
 
         go : (left : List Entry) → s.left ≡ left → MayCome s u
-        go [] e = absurd (not_old (subst (λ (l : Past). Contains (nodes l) n) (sym (whole_past known.orders known.keeps t known.sound s i.placed e)) found.0))
+        go [] e = absurd (not_old (subst (λ (l : Past). Contains (nodes l) n) (sym (whole_past known.keeps t s i.placed e)) found.0))
         go (y ∷ ys) e =
             let number : n.number ≡ length (nodes s.front.past) = ap (λ (k : Node). k.number) (its_own y ys e) in
             let itself : u ≡ entry_task s = same_task u (entry_task s) (sym found.1 ∙ number) index in
             subst (λ (v : Task). MayCome s v) (sym itself) (Enters y ys e (goes y ys e (is_host_wait y) refl))
 
-    pub only_next : (u : Task) → is_event all u ≡ false → MayRun tr i.tasks u → MayCome s u
-    only_next u plain may = go (kind all u may.there plain)
+    pub only_next : (u : Task) → is_event all u ≡ false → IsTrue (has_come all s u) → MayRun tr i.tasks u → MayCome s u
+    only_next u plain come may = go (kind all u may.there plain)
       where
         go : Kind all u → MayCome s u
-        go (piece n c at act lt) = piece_comes u n c at act lt may
+        go (piece n c at act lt) = piece_comes u n c at act lt come may
         go (hosts n x at act first) = entry_comes u n x at act first may

@@ -3,7 +3,7 @@ use Rattle.std.proofs.Common.{◌≡◌, inl, inr, ⊎_elim, ℕ, ◌+◌, List,
 use Rattle.std.proofs.lemmas.Bool.{ltb-true, lt-ltb, or_cases, or_left, or_right}
 use Rattle.vk_model.specs.declared.entry.Entry.{Entry}
 use Rattle.vk_model.specs.Trace.Point.{Past}
-use Rattle.vk_model.specs.Trace.Order.{plain_order}
+use Rattle.vk_model.specs.Trace.Order.{order}
 use Rattle.vk_model.specs.Sync.Node.{Node, Hosts, Runs}
 use Rattle.vk_model.specs.Run.Runs.{Name, same_name, is_done, Step, Apply, RunPiece, CopyPart, Stage, may_go, applied, Applies, Next, Allowed}
 use Rattle.vk_laws.specs.Machine.{IsIn, Task, TraceAccesses, MayRun}
@@ -16,13 +16,13 @@ use Rattle.vk_laws.proofs.Running.AtStage.{AtPoint, settle, piece_in, entry_in, 
 
 module _ {t : List Entry} (known : Known t) where
   abbrev all : Past
-  all = plain_order t
+  all = order t
 
   abbrev tr : TraceAccesses
   tr = accesses_of all
 
   apply_step : (s : Stage) (did : List Task) (i : AtPoint known s did) (x : Entry) (xs : List Entry) → s.left ≡ x ∷ xs → IsTrue (may_go s x) → AtPoint known (applied s x xs) (entry_task s ∷ did)
-  apply_step s did i x xs left may = settle known (applied s x xs) (entry_task s ∷ did) (next_placed known.orders known.keeps t known.sound s i.placed x xs left) (entry_task s ∷ i.tasks) (entry_may known s did i x xs left may, i.allowed)
+  apply_step s did i x xs left may = settle known (applied s x xs) (entry_task s ∷ did) (next_placed known.keeps t s i.placed x xs left) (entry_task s ∷ i.tasks) (entry_may known s did i x xs left may, i.allowed)
       (λ u there plain. (forward u there plain, backward u there plain)) (rw mine (ap (λ (us : List Task). entry_task s ∷ us) i.order))
     where
       at : node_at all (entry_task s).node ≡ Some (here known s did i x xs left)
@@ -52,7 +52,7 @@ module _ {t : List Entry} (known : Known t) where
               ⊎_elim
               (λ same. inl (same_task u (entry_task s) (sym found.1 ∙ sym (ap (λ (m : Node). m.number) same)) first))
               (λ old. inr (entry_in known s did i u n y there at act old))
-              (entries_then known.orders known.keeps t known.sound s i.placed x xs left n y found.0 act (ltb-true n.point.entry (s.count + 1) (turned (happened_is all (applied s x xs) u n at (Hosts y) act) h)))
+              (entries_then known.keeps t s i.placed x xs left n y found.0 act (ltb-true n.point.entry (s.count + 1) (turned (happened_is all (applied s x xs) u n at (Hosts y) act) h)))
 
   abbrev ran : Stage → Name → Stage
   ran s x = record s { done = x ∷ s.done }

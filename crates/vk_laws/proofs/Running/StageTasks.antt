@@ -8,14 +8,14 @@ use Rattle.vk_model.specs.declared.entry.Entry.{Entry}
 use Rattle.vk_model.specs.declared.entry.Entry.TheVariants as entry
 use Rattle.vk_model.specs.Basics.{holds, below}
 use Rattle.vk_model.specs.Trace.Point.{Past, Point}
-use Rattle.vk_model.specs.Trace.Order.{plain_order}
+use Rattle.vk_model.specs.Trace.Order.{order}
 use Rattle.vk_model.specs.World.ByteWrites.{ByteWrite}
 use Rattle.vk_model.specs.Run.Pieces.{pieces}
 use Rattle.vk_model.specs.Sync.Node.{Node, Act, Hosts, Waits, Signals, Runs, Depends, Barrier, SetOf, AwaitOf, nodes}
 use Rattle.vk_model.specs.Sync.Edge.{edge, is_host, is_submit, same_queue, by_host, by_stages, by_signal, by_all_commands, by_semaphore, pairs, signaled_by, waited_by, host_waits, earlier}
 use Rattle.vk_model.specs.Sync.Before.{before}
 use Rattle.vk_model.specs.Rules.Fault.{IsSound}
-use Rattle.vk_model.specs.Laws.{BeforeIsPath, BeforeIsTransitive, BeforeLeadsOn, GrowthKeeps, OrdersAgree}
+use Rattle.vk_model.specs.Laws.{BeforeIsPath, BeforeIsTransitive, BeforeLeadsOn, GrowthKeeps}
 use Rattle.vk_model.specs.Run.Runs.{Name, same_name, is_done, node_pieces, is_free, Stage, is_host_wait}
 use Rattle.vk_laws.specs.Machine.{Task}
 use Rattle.vk_laws.specs.Trace.{accesses}
@@ -25,7 +25,7 @@ use Rattle.vk_laws.proofs.Nodes.Steady.{new_ids, live_ids}
 use Rattle.vk_model.proofs.Lists.Members.{map_has, numbers_have, all_passes}
 use Rattle.vk_model.proofs.Lists.Truths.{implied, six}
 use Rattle.vk_laws.proofs.Caching.TraceCaches.{submit_host, never_holds}
-use Rattle.vk_laws.proofs.Nodes.PlainOrder.{Grows}
+use Rattle.vk_model.proofs.Trace.Growing.{Grows}
 use Rattle.vk_laws.proofs.Nodes.Prefixes.{is_old, old_has, same_before, same_pieces}
 use Rattle.vk_model.proofs.Sync.Numbers.{number_below, numbered}
 
@@ -126,12 +126,11 @@ pub record Known (t : List Entry) : Type 0 where
   pub joins : BeforeIsTransitive
   pub leads : BeforeLeadsOn
   pub keeps : GrowthKeeps
-  pub orders : OrdersAgree
   pub sound : IsSound t
 
 module _ {t : List Entry} (known : Known t) where
   abbrev all : Past
-  all = plain_order t
+  all = order t
 
   pub old_node : (P : Point → Type 0) (past : Past) → Grows P past all → (n : Node) → Contains (nodes all) n → n.number < length (nodes past) → Contains (nodes past) n
   old_node P past g n c lt = is_old known.keeps all g.newer past g.whole n c lt
@@ -140,7 +139,7 @@ module _ {t : List Entry} (known : Known t) where
   node_in_all P past g n c = old_has known.keeps all g.newer past g.whole n c
 
   pub pieces_same : (P : Point → Type 0) (past : Past) → Grows P past all → (n : Node) (c : Cmd) → Contains (nodes past) n → n.act ≡ Runs c → pieces all c ≡ pieces past c
-  pieces_same P past g n c cn act = same_pieces all g.newer past g.whole (new_ids t known.sound) (live_ids t known.sound) n c cn act
+  pieces_same P past g n c cn act = same_pieces all g.newer past g.whole (new_ids all known.sound) (live_ids all known.sound) n c cn act
 
   pub before_same : (P : Point → Type 0) (past : Past) → Grows P past all → (m n : Node) → Contains (nodes past) n → before (nodes all) m n ≡ before (nodes past) m n
   before_same P past g m n cn = same_before known.keeps all g.newer past g.whole m n cn

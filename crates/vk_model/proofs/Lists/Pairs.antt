@@ -1,11 +1,11 @@
 -- Lists no two items of which pass a test together. Other crates cite it.
-use Rattle.std.proofs.Common.{◌≡◌, ℕ, zero, suc, ◌+◌, ◌<◌, ◌≤◌, List, [], ◌∷◌, ◌++◌, map, Bool, false, refl, ap, sym, ◌∙◌, arith, inl, inr, subst}
+use Rattle.std.proofs.Common.{◌≡◌, ℕ, zero, suc, ◌+◌, ◌<◌, ◌≤◌, List, [], ◌∷◌, ◌++◌, map, Bool, true, false, cond, refl, ap, sym, ◌∙◌, arith, inl, inr, subst}
 use Rattle.std.specs.Prelude.{⊤, Contains}
-use Rattle.std.specs.List.{list_any, flat_map, range_with_len}
+use Rattle.std.specs.List.{list_any, filter, flat_map, range_with_len}
 use Rattle.std.proofs.Math.Nat.{eq-or-lt_of_le}
 use Rattle.vk_model.specs.Basics.{some_pair}
 use Rattle.std.proofs.lemmas.Bool.{or_parts, or_from}
-use Rattle.vk_model.proofs.Lists.Members.{none_in, contains-cons}
+use Rattle.vk_model.proofs.Lists.Members.{none_in, contains-cons, contains-head, contains-tail, filtered}
 
 -- ---- each item, and each item with each later one
 
@@ -64,6 +64,20 @@ none_at test a (suc n) i none low high = elim (eq-or-lt_of_le low) [
   | inl same ↦ ap test (sym same) ∙ (or_parts (test a) (list_any test (range_with_len (a + 1) n)) none).0
   | inr later ↦ none_at test (a + 1) n i (or_parts (test a) (list_any test (range_with_len (a + 1) n)) none).1 (omega (arith, later)) (omega arith)
 ]
+
+-- what holds of each member holds of each
+pub each_from : {A : Type 0} (P : A → Type 0) (xs : List A) → ((x : A) → Contains xs x → P x) → Each P xs
+each_from P [] f = tt
+each_from P (x ∷ xs) f = (f x (contains-head x xs), each_from P xs (λ y c. f y (contains-tail x xs y c)))
+
+-- items that are left are related as before
+pub pairs_filter : {A : Type 0} (R : A → A → Type 0) (test : A → Bool) (xs : List A) → Pairs R xs → Pairs R (filter test xs)
+pairs_filter R test [] p = tt
+pairs_filter R test (x ∷ xs) p = go (test x) (pairs_filter R test xs p.1)
+  where
+    go : (b : Bool) → Pairs R (filter test xs) → Pairs R (cond b (x ∷ filter test xs) (filter test xs))
+    go false rest = rest
+    go true rest = (each_from (R x) (filter test xs) (λ y c. each_has (R x) xs y p.0 (filtered test xs y c).0), rest)
 
 -- ---- tests and relations
 

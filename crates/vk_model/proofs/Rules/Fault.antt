@@ -6,10 +6,10 @@ use Rattle.vk_model.specs.declared.rule.Rule.{Rule}
 use Rattle.vk_model.specs.Basics.{first_that}
 use Rattle.vk_model.specs.Trace.Point.{Past, Point, at_of}
 use Rattle.vk_model.specs.Rules.Table.{breaks, rules, first_rule, fault}
-use Rattle.vk_model.specs.Rules.Fault.{Comes, newest, older, IsSound}
+use Rattle.vk_model.specs.Rules.Fault.{Comes, newest, older, IsUnbroken}
 use Rattle.vk_model.specs.Laws.{IsFirst}
 use Rattle.vk_model.proofs.Rules.Table.{place_of, once}
-use Rattle.vk_model.specs.Trace.Order.{plain_order}
+use Rattle.vk_model.specs.Trace.Order.{order}
 use Rattle.vk_model.specs.declared.entry.Entry.{Entry}
 use Rattle.std.proofs.lemmas.Bool.{false_from_ne_true}
 
@@ -123,20 +123,17 @@ earlier_fails {A} test x y (z ∷ zs) i j some passes at_i at_j lt once = go i j
 
 -- ---- the laws
 
-pub sound_of_none : (t : List Entry) → fault (plain_order t) ≡ None → IsSound t
-sound_of_none t none before p r broken =
-    let unbroken : breaks r before p ≡ false = breaks_none before p r (no_fault-at (plain_order t) before p none broken.0) in
+pub unbroken_of_none : (all : Past) → fault all ≡ None → IsUnbroken all
+unbroken_of_none all none before p r broken =
+    let unbroken : breaks r before p ≡ false = breaks_none before p r (no_fault-at all before p none broken.0) in
     absurd (let both : breaks r before p ≡ true = broken.1 in cc)
 
-none_of_sound : (all : Past) → ((before : Past) (p : Point) (r : Rule) → Comes all before p → IsTrue (breaks r before p) → ⊥) → fault all ≡ None
-none_of_sound [] sound = start
-none_of_sound (q ∷ past) sound =
+pub none_of_unbroken : (all : Past) → IsUnbroken all → fault all ≡ None
+none_of_unbroken [] sound = start
+none_of_unbroken (q ∷ past) sound =
     no_fault-cons past q
-    (none_of_sound past (λ before p r comes broken. sound before p r (older comes) broken))
-    (breaks_all_none past q (λ r. false_from_ne_true (breaks r past q) (λ broken. sound past q r newest broken)))
-
-pub none_of_sound_trace : (t : List Entry) → IsSound t → fault (plain_order t) ≡ None
-none_of_sound_trace t sound = none_of_sound (plain_order t) (λ before p r comes broken. sound before p r (comes, broken))
+    (none_of_unbroken past (λ before p r broken. sound before p r (older broken.0, broken.1)))
+    (breaks_all_none past q (λ r. false_from_ne_true (breaks r past q) (λ broken. sound past q r (newest, broken))))
 
 -- the point of the first fault, in the past that has it
 pub record IsFault (all : Past) (reported : At) (r : Rule) : Type 0 where
@@ -154,10 +151,10 @@ fault_at (q ∷ past) reported r some = elim (fault-cons_some past q reported r 
   | inr here ↦ record { before = past; point = q; comes = newest; is_reported = here.2; first = here.1; clean = here.0 }
 ]
 
-pub first_of_fault : (t : List Entry) (reported : At) (r : Rule) → fault (plain_order t) ≡ Some (reported, r) → IsFirst t reported r
+pub first_of_fault : (t : List Entry) (reported : At) (r : Rule) → fault (order t) ≡ Some (reported, r) → IsFirst t reported r
 unfolding first_rule
 first_of_fault t reported r some =
-    let f = fault_at (plain_order t) reported r some in record {
+    let f = fault_at (order t) reported r some in record {
       before = f.before;
       point = f.point;
       comes = f.comes;

@@ -7,24 +7,21 @@ use Rattle.vk_model.specs.declared.entry.Batch.{Batch}
 use Rattle.vk_model.specs.declared.entry.Entry.{Entry}
 use Rattle.vk_model.specs.declared.entry.Entry.TheVariants as entry
 use Rattle.vk_model.specs.declared.entry.SemaphoreSubmit.{SemaphoreSubmit}
-use Rattle.vk_model.specs.declared.rule.Rule.TheVariants as rule
 use Rattle.vk_model.specs.Basics.{holds}
 use Rattle.vk_model.specs.Trace.Point.{Point, Past, Action, Host, Wait, Run, Signal}
 use Rattle.vk_model.specs.Trace.Objects.{live, made, ended, initial, semaphore_in}
 use Rattle.vk_model.specs.Trace.Order.{SubmittedBatch, Front, host, actions, started, submitted_batch, batches_from, batches_of, plain_from, plain_order, counter, is_met, same_batch, next_batch, start_batch, settled, after_entry, order_from, order}
-use Rattle.vk_model.specs.Rules.Table.{breaks}
-use Rattle.vk_model.specs.Rules.Synchronization.{waits_early}
 use Rattle.vk_model.specs.Rules.Fault.{Comes, newest, older}
-use Rattle.vk_model.specs.Laws.{NeverAhead}
+use Rattle.vk_model.specs.Laws.{NeverAhead, is_ahead}
 
 -- ---- no wait of a past is ahead
 
 AllMet : Past → Type 0
 AllMet [] = ⊤
-AllMet (p ∷ past) = (waits_early past p.action ≡ false) × AllMet past
+AllMet (p ∷ past) = (is_ahead past p.action ≡ false) × AllMet past
 
-all_met : (past : Past) → ((before : Past) (p : Point) → Comes past before p → breaks rule.WaitBeforeSignal before p ≡ false) → AllMet past
-unfolding AllMet breaks
+all_met : (past : Past) → ((before : Past) (p : Point) → Comes past before p → is_ahead before p.action ≡ false) → AllMet past
+unfolding AllMet
 all_met [] never = tt
 all_met (p ∷ past) never = (never past p newest, all_met past (λ before q c. never before q (older c)))
 
@@ -48,7 +45,7 @@ older_plain e (x ∷ xs) past met = (older_batches (batches_of past e x) (host e
 -- ---- the waits of a batch are met
 
 -- a wait for a semaphore that isn't ahead is met
-is_met_there : (now : Past) (w : SemaphoreSubmit) → is_some (initial now w.semaphore) ≡ true → waits_early now (Wait w) ≡ false → is_met now w ≡ true
+is_met_there : (now : Past) (w : SemaphoreSubmit) → is_some (initial now w.semaphore) ≡ true → is_ahead now (Wait w) ≡ false → is_met now w ≡ true
 is_met_there now w known early = go (initial now w.semaphore) refl known early
   where
     go : (o : Option ℕ) → initial now w.semaphore ≡ o → is_some o ≡ true
@@ -73,15 +70,15 @@ abbrev is_kept : Past → SemaphoreSubmit → Bool
 is_kept past w = is_some (option_and_then semaphore_in (live past w.semaphore))
 
 waits_met : (past now : Past) (same : (s : ℕ) → initial now s ≡ initial past s) (t : SubmittedBatch) (k : ℕ) (ws : List SemaphoreSubmit) (here : Past)
-    → ((w : SemaphoreSubmit) → waits_early here (Wait w) ≡ waits_early now (Wait w)) → AllMet (actions Wait t k ws here) → list_all (is_met now) (filter (is_kept past) ws) ≡ true
+    → ((w : SemaphoreSubmit) → is_ahead here (Wait w) ≡ is_ahead now (Wait w)) → AllMet (actions Wait t k ws here) → list_all (is_met now) (filter (is_kept past) ws) ≡ true
 unfolding AllMet
 waits_met past now same t k [] here counts met = refl
 waits_met past now same t k (w ∷ ws) here counts met =
     let point : Point = record { entry = t.entry; batch = t.batch; place = k; queue = t.queue; action = Wait w } in
-    let first : waits_early here (Wait w) ≡ false = (older_actions Wait t (k + 1) ws (point ∷ here) met).0 in
+    let first : is_ahead here (Wait w) ≡ false = (older_actions Wait t (k + 1) ws (point ∷ here) met).0 in
     go (is_kept past w) refl (sym (counts w) ∙ first) (waits_met past now same t (k + 1) ws (point ∷ here) counts met)
   where
-    go : (b : Bool) → is_kept past w ≡ b → waits_early now (Wait w) ≡ false → list_all (is_met now) (filter (is_kept past) ws) ≡ true → list_all (is_met now) (if b then w ∷ filter (is_kept past) ws else filter (is_kept past) ws) ≡ true
+    go : (b : Bool) → is_kept past w ≡ b → is_ahead now (Wait w) ≡ false → list_all (is_met now) (filter (is_kept past) ws) ≡ true → list_all (is_met now) (if b then w ∷ filter (is_kept past) ws else filter (is_kept past) ws) ≡ true
     go false is early rest = rest
     go true is early rest = rw (is_met_there now w (ap is_some (same w.semaphore) ∙ live_known past w.semaphore is) early) rest
 
@@ -101,7 +98,7 @@ started_initial t past s = ap (λ (xs : List Entry). option_and_then semaphore_i
 -- ---- batches that can all be started
 
 -- the batch at hand is the one that is started
-its_own : (t : SubmittedBatch) → same_batch t t ≡ true
+pub its_own : (t : SubmittedBatch) → same_batch t t ≡ true
 its_own t = rw (eq-eqb t.entry t.entry refl, eq-eqb t.batch t.batch refl) refl
 
 others_wait : (past : Past) (e q k j : ℕ) (b : Batch) (bs : List Batch) → k < j → filter (λ u. not (same_batch (submitted_batch past e q k b) u)) (batches_from past e q j bs) ≡ batches_from past e q j bs

@@ -1,5 +1,5 @@
 -- The rules on pools and their defragmentation: POOL_KIND, PASS_STATE, PASS_BUSY, PASS_WRITE.
-use Rattle.std.specs.Prelude.{ℕ, List, Bool, true, false, not, ◌&&◌, ◌||◌, ◌==◌, nat_lt, Option, Some, None, is_some, option_and_then, count_by}
+use Rattle.std.specs.Prelude.{ℕ, List, Bool, true, false, not, ◌&&◌, ◌==◌, nat_lt, Option, Some, None, option_and_then, count_by}
 use Rattle.std.specs.List.{list_any}
 use Rattle.vk_model.specs.declared.entry.Entry.{Entry}
 use Rattle.vk_model.specs.declared.entry.Entry.TheVariants as entry
@@ -99,13 +99,9 @@ bad_pass past (entry.EndPass d kept lost) = not (in_pass past d)
 bad_pass past (entry.Destroy r) = moves_now past r
 bad_pass past _ = false
 
--- Whether an entry comes inside a pass and doesn't end it.
-abbrev pub interrupts : Past → Entry → Bool
-interrupts past x = some_pass past && not (is_some (finishes x))
-
--- PASS_STATE: an entry that doesn't fit the passes that are open (VMA, "Defragmentation"); or, while passes are closed, any other entry inside one (profile).
+-- PASS_STATE: an entry that doesn't fit the passes that are open (VMA, "Defragmentation"). Other entries may come inside a pass.
 abbrev pub breaks_pass_state : Past → Point → Bool
-breaks_pass_state past p = on_host (λ x. bad_pass past x || interrupts past x) p
+breaks_pass_state past p = on_host (bad_pass past) p
 
 -- ---- PASS_BUSY and PASS_WRITE
 

@@ -121,14 +121,9 @@ breaks_signal_order past p = list_any (λ n. list_any (λ m. same_semaphore m n 
 
 -- ---- WAIT_BEFORE_SIGNAL and WAIT_NEVER
 
--- Whether a batch waits for a value above the counter.
-abbrev pub waits_early : Past → Action → Bool
-waits_early past (Wait s) = holds (counter past s.semaphore) (λ c. nat_lt c s.value)
-waits_early past _ = false
-
--- WAIT_BEFORE_SIGNAL: a batch waits for a value above the counter (profile, while no wait may come before its signal; where batches are started once their waits are met, no point breaks it).
+-- WAIT_BEFORE_SIGNAL: no point breaks it, since a batch waits for a signal that comes later (Vulkan, "Semaphore Waiting"); the rule keeps its name and its place in the table (profile).
 abbrev pub breaks_wait_before_signal : Past → Point → Bool
-breaks_wait_before_signal past p = waits_early past p.action
+breaks_wait_before_signal past p = false
 
 -- Whether the host waits for a value above a counter.
 abbrev pub waits_for_more : Past → Entry → Bool

@@ -6,7 +6,7 @@ use Rattle.vk_model.specs.declared.rule.Rule.{Rule}
 use Rattle.vk_model.specs.declared.rule.Rule.TheVariants as rule
 use Rattle.vk_model.specs.Basics.{first_that}
 use Rattle.vk_model.specs.Trace.Point.{Past, Point, at_of}
-use Rattle.vk_model.specs.Trace.Order.{plain_order}
+use Rattle.vk_model.specs.Trace.Order.{order}
 use Rattle.vk_model.specs.Rules.Ids.{breaks_new_id, breaks_live_id, breaks_queue, breaks_queue_kind}
 use Rattle.vk_model.specs.Rules.Sizes.{breaks_size, breaks_usage, breaks_memory_type, breaks_memory_size, breaks_pool_size}
 use Rattle.vk_model.specs.Rules.Binding.{breaks_bind_range, breaks_bind_align, breaks_aliased}
@@ -81,4 +81,4 @@ fault (p ∷ past) = elim (fault past) [ Some f ↦ Some f | None ↦ option_map
 
 -- The first fault of a trace: its first point in reference order that breaks a rule, with the first rule that it breaks (profile).
 unfoldable pub first_fault : List Entry → Option (At × Rule)
-first_fault t = fault (plain_order t)
+first_fault t = fault (order t)

@@ -53,7 +53,7 @@ abbrev pub plain_from : ℕ → Past → List Entry → Past
 plain_from e past [] = past
 plain_from e past (x ∷ xs) = plain_from (e + 1) (fold (λ p t. started t p) (host e x ∷ past) (batches_of past e x)) xs
 
--- The points of a trace in plain order, the newest first: each batch right after its submit (profile, while no wait may come before its signal).
+-- The points of a trace in plain order, the newest first: each batch right after its submit. It is reference order where no wait is ahead of its signal (profile).
 abbrev pub plain_order : List Entry → Past
 plain_order t = plain_from 0 [] t
 

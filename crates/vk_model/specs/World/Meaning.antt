@@ -6,7 +6,7 @@ use Rattle.vk_model.specs.Basics.{below}
 use Rattle.vk_model.specs.Trace.Point.{Past, Action, Host}
 use Rattle.vk_model.specs.World.Bytes.{World, in_buffer}
 use Rattle.vk_model.specs.World.Effect.{world}
-use Rattle.vk_model.specs.Trace.Order.{plain_order}
+use Rattle.vk_model.specs.Trace.Order.{order}
 
 -- The bytes that the host reads in a buffer. 0 is put for an undefined one, which no trace without a broken rule reads (profile).
 abbrev pub bytes_at : World → ℕ → ℕ → ℕ → List ℕ
@@ -31,6 +31,6 @@ abbrev pub reads : Past → Reads
 reads [] = []
 reads (p ∷ past) = reads past ++ read_by (world past) p.entry p.action
 
--- The reads among the first n entries of a trace: each resource has bytes of its own, and commands take effect one at a time in the order of submission (profile).
+-- The reads among the first n entries of a trace: each resource has bytes of its own, and commands take effect one at a time in reference order (profile).
 unfoldable pub meaning : List Entry → ℕ → Reads
-meaning t n = reads (plain_order (take n t))
+meaning t n = reads (order (take n t))

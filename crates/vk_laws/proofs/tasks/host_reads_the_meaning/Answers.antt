@@ -3,7 +3,6 @@ use Rattle.vk_model.specs.Basics.{holds}
 use Rattle.vk_model.specs.Trace.Point.{Past}
 use Rattle.vk_model.specs.Sync.Node.{Node}
 use Rattle.vk_model.specs.Sync.Edge.{is_host}
-use Rattle.vk_model.specs.Trace.Order.{plain_order}
 use Rattle.vk_laws.specs.Machine.{Task}
 use Rattle.vk_laws.specs.Caches.{view}
 use Rattle.vk_laws.specs.Tasks.{node_at}
@@ -18,8 +17,8 @@ host_agent all next h = go (node_at all next.node) h
     go (Some n) h = rw h refl
 
 pub returns : goal.returns
-returns c = λ t done cells next b none r may reads host.
-    let d = c.reads_are_defined.ensures t next b none reads host in
-    let is_seen = c.cached_trace_is_fresh.ensures.fresh t done cells next b d.0 none r may reads d.1 in
-    let here : view 0 (cells b) ≡ d.0 = subst (λ (a : ℕ). view a (cells b) ≡ d.0) (host_agent (plain_order t) next host) is_seen in
+returns c = λ all done cells next b ordered none r may reads host.
+    let d = c.reads_are_defined.ensures all next b none reads host in
+    let is_seen = c.cached_trace_is_fresh.ensures.fresh all done cells next b d.0 ordered none r may reads d.1 in
+    let here : view 0 (cells b) ≡ d.0 = subst (λ (a : ℕ). view a (cells b) ≡ d.0) (host_agent all next host) is_seen in
     d.1 ∙ ap Some (sym here)

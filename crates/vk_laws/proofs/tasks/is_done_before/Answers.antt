@@ -1,9 +1,8 @@
 use Rattle.std.proofs.Common.{sym, ◌∙◌}
 use Rattle.vk_laws.proofs.EveryOrder.Fresh.{done_by_number}
 use Rattle.vk_laws.proofs.tasks.is_done_before.Goals as goal
-use Rattle.vk_model.specs.Trace.Order.{plain_order}
 use Rattle.vk_laws.specs.Tasks.{accesses_of}
 
 pub returns : goal.returns
-returns c = λ t done s n b none ok may es en ne meet back.
-    rw (sym es, sym en) (done_by_number (accesses_of (plain_order t)) done s n b (c.trace_is_settled.ensures t done n none ok may) (λ e. ne (sym es ∙ e ∙ en)) meet back)
+returns c = λ all done s n b none ok may es en ne meet back.
+    rw (sym es, sym en) (done_by_number (accesses_of all) done s n b (c.trace_is_settled.ensures all done n none ok may) (λ e. ne (sym es ∙ e ∙ en)) meet back)

@@ -1,5 +1,4 @@
 use Rattle.std.proofs.Common.{inl, refl}
-use Rattle.vk_model.specs.Trace.Order.{plain_order}
 use Rattle.vk_laws.specs.Machine.{TraceAccesses}
 use Rattle.vk_laws.specs.Caches.{CacheFree}
 use Rattle.vk_laws.specs.TraceBytes.{uncached, value_before}
@@ -11,10 +10,8 @@ one_agent tr = record { seen_read = λ w t b lt wr r. inl refl; seen_write = λ 
 
 pub returns : goal.returns
 returns c = record {
-  fresh = λ t done cells next b v none r may reads h.
-      let all = plain_order t in
-      c.every_order.ensures.fresh (accesses_of all) uncached (value_before all) done cells next b v (c.trace_is_hazard_free.ensures t none) (one_agent (accesses_of all)) (c.trace_is_modelled.ensures t none) r may reads h;
-  written = λ t done cells w b v none r is h.
-      let all = plain_order t in
-      c.every_order.ensures.written (accesses_of all) uncached (value_before all) done cells w b v (c.trace_is_hazard_free.ensures t none) (one_agent (accesses_of all)) (c.trace_is_modelled.ensures t none) r is h;
+  fresh = λ all done cells next b v none r may reads h.
+      c.every_order.ensures.fresh (accesses_of all) uncached (value_before all) done cells next b v (c.trace_is_hazard_free.ensures all none) (one_agent (accesses_of all)) (c.trace_is_modelled.ensures all none) r may reads h;
+  written = λ all done cells w b v none r is h.
+      c.every_order.ensures.written (accesses_of all) uncached (value_before all) done cells w b v (c.trace_is_hazard_free.ensures all none) (one_agent (accesses_of all)) (c.trace_is_modelled.ensures all none) r is h;
 }

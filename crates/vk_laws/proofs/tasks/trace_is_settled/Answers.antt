@@ -2,4 +2,4 @@ use Rattle.vk_laws.proofs.Accesses.TaskAccesses.{settled}
 use Rattle.vk_laws.proofs.tasks.trace_is_settled.Goals as goal
 
 pub returns : goal.returns
-returns c = λ t done next none ok may. settled c.pieces_are_byte_writes.ensures c.accesses_in_order.ensures t none done next ok may
+returns c = λ all done next none ok may. settled c.pieces_are_byte_writes.ensures c.accesses_in_order.ensures all none done next ok may

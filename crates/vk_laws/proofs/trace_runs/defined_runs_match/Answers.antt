@@ -12,7 +12,6 @@ returns c =
       joins = c.before_is_order.ensures.transitive;
       leads = c.before_is_order.ensures.forward;
       keeps = c.growth_keeps.ensures;
-      orders = c.orders_agree.ensures;
       sound = (c.no_fault_is_sound.ensures t).0 none;
     } in
     record {

@@ -5,13 +5,13 @@ use Rattle.vk_rows.proofs.traces.images.Goals as goal
 pub returns : goal.returns
 unfolding on_rows
 returns c = record {
-  partial_tiles = (refl, refl, (refl, refl));
-  cleared_then_discarded = (refl, refl);
-  cleared = (refl, refl, (refl, refl));
-  wrong_old_layout = (refl, refl);
-  equal_layouts = (refl, refl);
-  clear_undefined = (refl, refl);
-  clear_on_transfer_queue = (refl, refl);
-  image_to_image = (refl, refl, (refl, refl));
-  other_texels = (refl, refl);
+  partial_tiles = (refl, refl);
+  cleared_then_discarded = refl;
+  cleared = (refl, refl);
+  wrong_old_layout = refl;
+  equal_layouts = refl;
+  clear_undefined = refl;
+  clear_on_transfer_queue = refl;
+  image_to_image = (refl, refl);
+  other_texels = refl;
 }

@@ -13,8 +13,8 @@ returns c = record {
   signal_value_corrected = refl;
   signal_order = refl;
   signal_order_corrected = refl;
-  wait_before_signal = refl;
-  wait_before_signal_corrected = refl;
+  wait_before_signal = λ past p. refl;
+  wait_before_signal_waits = refl;
   wait_never = refl;
   wait_never_corrected = refl;
 }
