@@ -1,2 +1,3 @@
 pub mod Allotting
+pub mod Allocating
 pub mod Whole

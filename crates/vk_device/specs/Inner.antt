@@ -1,2 +1,3 @@
+pub mod Allotted
 pub mod Fits
 pub mod Steps

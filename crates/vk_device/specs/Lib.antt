@@ -1,5 +1,5 @@
 pub mod Held
-pub mod Allotted
+pub mod Allocating
 pub mod Clean
 pub mod Inner
 pub mod Matches

@@ -1,5 +1,5 @@
 -- How a device matches what has happened, and what it answers to what comes next.
-use Rattle.std.specs.Prelude.{◌≡◌, ℕ, [], ◌∷◌, true, false, Some, IsSome, option_map}
+use Rattle.std.specs.Prelude.{◌≡◌, ℕ, [], ◌∷◌, Some, IsSome, option_map}
 use Rattle.std.specs.List.{fold}
 use Rattle.vk_model.specs.declared.entry.Entry.{Entry}
 use Rattle.vk_model.specs.Trace.Point.{Past}
@@ -11,7 +11,8 @@ use Rattle.vk_model.specs.World.Meaning.{read_in}
 use Rattle.vk_device.specs.declared.applied.Applied.{Applied}
 use Rattle.vk_device.specs.declared.applied.Applied.TheVariants as applied
 use Rattle.vk_device.specs.Held.{Held, placed, byte_at}
-use Rattle.vk_device.specs.Allotted.{allotted, with_asked, finds_no_room}
+use Rattle.vk_model.specs.Memory.Allocations.{Allocated, FindsNoRoom, Changes}
+use Rattle.vk_device.specs.Allocating.{IsAllocated}
 use Rattle.vk_device.specs.Clean.{IsClean}
 
 -- A byte of a resource has a place in memory.
@@ -34,15 +35,15 @@ next_past e x past = fold (λ p t. started t p) (host e x ∷ past) (batches_of 
 abbrev pub IsNext : Held → Entry → Type 0
 IsNext s x = (e : ℕ) × (past : Past) × Matches past s × IsClean (next_past e x past)
 
--- No room is answered exactly where the entry finds none in the device as it was.
+-- No room is answered exactly where the entry finds none on the device as it was (Vulkan, "Device Memory").
 abbrev pub Rooms : Applied → Held → Entry → Type 0
-Rooms applied.NoRoom s x = finds_no_room (allotted s.memory) x ≡ true
-Rooms _ s x = finds_no_room (allotted s.memory) x ≡ false
+Rooms applied.NoRoom s x = (d : Allocated) → IsAllocated s.memory d → FindsNoRoom d x
+Rooms _ s x = (d : Allocated) → IsAllocated s.memory d → FindsNoRoom d x → ⊥
 
--- An entry that is applied gets the memory objects that it asks for, and no others are made.
+-- An entry that is applied changes what is allocated as it is to, and no more; where there was no room the device is as it was.
 abbrev pub Allots : Applied → Entry → Held → Held → Type 0
 Allots applied.NoRoom x old new = new ≡ old
-Allots _ x old new = allotted new.memory ≡ with_asked (allotted old.memory) x
+Allots _ x old new = (d : Allocated) → IsAllocated old.memory d → (e : Allocated) × Changes d x e × IsAllocated new.memory e
 
 -- What an entry is answered: the bytes that it means, if it reads. Then the device matches the past with the entry; where there was no room it is as it was.
 abbrev pub Answered : Applied → ℕ → Entry → Past → Held → Held → Type 0

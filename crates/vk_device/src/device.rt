@@ -48,7 +48,7 @@ impl Device {
     ghost use Rattle.vk_model.specs.Trace.Point.{Past, Run};
     ghost use Rattle.vk_device.specs.Held.{placed, IsApart};
     ghost use Rattle.vk_device.specs.Inner.Steps.{MapsAt, run_point, batches_past, CommandReady, CommandsReady, BatchReady, BatchesReady, Ready, MayFill, MayRead, MadeOr};
-    ghost use Rattle.vk_device.specs.Allotted.{allotted};
+    ghost use Rattle.vk_device.specs.Inner.Allotted.{allotted, FoundRoom, GotAsked};
     ghost use Rattle.vk_device.specs.Clean.{IsClean};
     ghost use Rattle.vk_device.specs.Inner.Fits.{AllFit, FitsCommand};
     ghost use Rattle.vk_device.specs.Matches.{Matches, next_past, IsNext, Answered, Rooms, Allots};
@@ -183,8 +183,8 @@ impl Device {
     fn apply_entry(&mut self, entry: &Entry) -> Result<Applied, ApplyError>
         requires { Ready self.old entry.now }
         ensures answered { IfOk result (λ a. (e : ℕ) (past : Past) → Matches past self.old → AllFit (next_past e entry.now past) → Answered a e entry.now past self.old self.new) }
-        ensures rooms { IfOk result (λ a. Rooms a self.old entry.now) }
-        ensures allots { IfOk result (λ a. Allots a entry.now self.old self.new) }
+        ensures rooms { IfOk result (λ a. FoundRoom a self.old entry.now) }
+        ensures allots { IfOk result (λ a. GotAsked a entry.now self.old self.new) }
         ensures failed { self.new.failed ≡ self.old.failed }
         ensures error { IfErr result (λ f. f ≡ NoMemory) }
     {

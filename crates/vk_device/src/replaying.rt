@@ -1,11 +1,9 @@
 ghost use Rattle.std.specs.Prelude.{◌≡◌, length, IfOk, IfErr, MatchOption, None, false};
-ghost use Rattle.vk_model.specs.Trace.Order.{plain_order, order};
+ghost use Rattle.vk_model.specs.Trace.Order.{plain_order};
 ghost use Rattle.vk_model.specs.World.Meaning.{meaning};
 ghost use Rattle.vk_model.specs.Rules.Table.{first_fault};
 ghost use Rattle.vk_device.specs.Clean.{IsClean};
-ghost use Rattle.vk_device.specs.Matches.{Matches};
-ghost use Rattle.vk_device.specs.Allotted.{allotted, allotted_by, first_stop};
-ghost use Rattle.vk_device.specs.Replays.{StopsAt, applied_of};
+ghost use Rattle.vk_device.specs.Replays.{Ends};
 ghost use Rattle.vk_device.specs.declared.applied.ApplyError.TheVariants.{NoMemory};
 
 use crate::applied::{Applied, ApplyError};
@@ -37,14 +35,11 @@ pub fn replay<S: Scheduler>(
     // The reads are what the trace means, up to the stop where there is one.
     ensures meaning { IfOk result (λ r. MatchOption r.stop
         (r.reads ≡ meaning accepted.now (length accepted.now)) (λ n. r.reads ≡ meaning accepted.now n)) }
-    // It stops at the first entry that finds no room, and nowhere else.
-    ensures first { IfOk result (λ r. r.stop ≡ first_stop config accepted.now) }
-    // The device matches the entries that were applied.
-    ensures stop { IfOk result (λ r. MatchOption r.stop
-        (Matches (order accepted.now) r.device) (λ n. StopsAt accepted.now n r.device)) }
-    // The device has not failed, and its heaps hold what the applied entries ask for, and nothing else.
+    // The device matches the entries that were applied, and has what they allocate; it stops where the
+    // next entry finds no room there, and nowhere else.
+    ensures stop { IfOk result (λ r. Ends config accepted.now r.stop r.device) }
+    // The device has not failed.
     ensures works { IfOk result (λ r. r.device.failed ≡ false) }
-    ensures heaps { IfOk result (λ r. allotted r.device.memory ≡ allotted_by config (applied_of accepted.now r.stop)) }
     ensures error { IfErr result (λ f. f ≡ NoMemory) }
     ensures unasked { S.held sched.new ≡ S.held sched.old }
 {
@@ -62,11 +57,8 @@ fn replay_entries<S: Scheduler>(
     requires { IsClean (plain_order entries.now) }
     ensures meaning { IfOk result (λ r. MatchOption r.stop
         (r.reads ≡ meaning entries.now (length entries.now)) (λ n. r.reads ≡ meaning entries.now n)) }
-    ensures first { IfOk result (λ r. r.stop ≡ first_stop config entries.now) }
-    ensures stop { IfOk result (λ r. MatchOption r.stop
-        (Matches (order entries.now) r.device) (λ n. StopsAt entries.now n r.device)) }
+    ensures stop { IfOk result (λ r. Ends config entries.now r.stop r.device) }
     ensures works { IfOk result (λ r. r.device.failed ≡ false) }
-    ensures heaps { IfOk result (λ r. allotted r.device.memory ≡ allotted_by config (applied_of entries.now r.stop)) }
     ensures error { IfErr result (λ f. f ≡ NoMemory) }
     ensures unasked { S.held sched.new ≡ S.held sched.old }
 {

@@ -71,8 +71,11 @@ impl Region {
     }
 }
 
-/// Writes the word, little-endian, over each four bytes: what is filled so far is copied behind itself,
-/// which doubles it.
+/// How many words are copied at once, 8 KiB of them: what is copied stays in a processor's first cache.
+const MOST_COPIED: usize = 2048;
+
+/// Writes the word, little-endian, over each four bytes: what is filled so far, or a front of it, is
+/// copied behind itself.
 fn fill_words(out: &mut [u8], words: usize, word: u32)
     requires { length out.old ≡ 4 * words }
     ensures { out.new ≡ repeated words (to_le_bytes w32 word) }
@@ -83,7 +86,7 @@ fn fill_words(out: &mut [u8], words: usize, word: u32)
     out[..4].copy_from_slice(&word.to_le_bytes());
     let mut filled = 1;
     while filled < words {
-        let more = filled.min(words - filled);
+        let more = filled.min(words - filled).min(MOST_COPIED);
         out.copy_within(0..4 * more, 4 * filled);
         filled += more;
     }

@@ -5,4 +5,5 @@ pub mod Room
 pub mod LinearBlocks
 pub mod MoveTargets
 pub mod Pools
+pub mod Allocations
 pub mod PlaceLaws

@@ -1,13 +1,13 @@
 -- A block of which no start is free for a request doesn't hold it.
 use Rattle.std.proofs.Common.{◌≡◌, ℕ, zero, suc, ◌+◌, ◌<◌, ◌≤◌, inl, inr, List, Bool, true, false, sym, ◌∙◌, ap, arith}
-use Rattle.std.specs.Prelude.{◌&&◌, ◌==◌, ◌%◌, not, nat_le, All, [], ◌∷◌}
-use Rattle.std.proofs.lemmas.List.Elements.{All-from_recursion}
+use Rattle.std.specs.Prelude.{◌&&◌, ◌==◌, ◌%◌, ◌||◌, not, nat_le, length, All, [], ◌∷◌}
+use Rattle.std.proofs.lemmas.List.Elements.{All-from_recursion, All-head, All-same}
 use Rattle.std.specs.List.{list_any, range_with_len}
 use Rattle.std.proofs.lemmas.Bool.{or_parts, and_parts, cases_lt, leb-true}
 use Rattle.std.proofs.lemmas.Bool.Decides.{nat_tests}
 use Rattle.vk_model.specs.Memory.Suballocation.{Taken, Request, conflict, is_free}
 use Rattle.vk_model.specs.Basics.{below}
-use Rattle.vk_model.specs.Memory.Room.{fits, CanHold}
+use Rattle.vk_model.specs.Memory.Room.{fits, CanHold, Heaps, PoolState, Block, BlockHolds, NoRoomInPool, no_object}
 use Rattle.vk_rows.specs.NoRoom.{buffer_at}
 
 differ : ◌≡◌ {A = Bool} false true → ⊥
@@ -48,3 +48,11 @@ absent h = differ h
 -- of 4,096 bytes with 1,024 taken after each 1,024 free, no more than 1,024 are free in one piece
 pub free_between : (start n : ℕ) → is_free 4096 (buffer_at 3072 1024 ∷ buffer_at 1024 1024 ∷ []) start n ≡ true → n ≤ 1024
 free_between start n free = grind (arith, nat_tests)
+
+-- where a pool may have a new block there is room
+pub may_grow : (h : Heaps) (p : PoolState) (r : Request) (upper : Bool) → (nat_le p.info.block_limit (length p.blocks) || no_object h p.info.memory_type p.info.block_size) ≡ false → NoRoomInPool h p r upper → ⊥
+may_grow h p r upper more full = absent (sym more ∙ full.no_new)
+
+-- and where its first block holds the request
+pub first_holds : (h : Heaps) (p : PoolState) (r : Request) (upper : Bool) (b : Block) (bs : List Block) → p.blocks ≡ b ∷ bs → BlockHolds b r upper → NoRoomInPool h p r upper → ⊥
+first_holds h p r upper b bs same held full = All-head (λ k. BlockHolds k r upper → ⊥) b bs (All-same (λ k. BlockHolds k r upper → ⊥) (b ∷ bs) p.blocks (sym same) full.none_holds) held

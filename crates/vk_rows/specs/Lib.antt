@@ -18,3 +18,4 @@ pub mod Limits
 pub mod Addresses
 pub mod LinearBlocks
 pub mod PoolBlocks
+pub mod Stops

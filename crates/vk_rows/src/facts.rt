@@ -5,6 +5,7 @@ ghost use Rattle.vk_rows.specs.Limits.{Limits};
 ghost use Rattle.vk_rows.specs.Addresses.{Addresses};
 ghost use Rattle.vk_rows.specs.LinearBlocks.{LinearBlocks};
 ghost use Rattle.vk_rows.specs.PoolBlocks.{PoolBlocks};
+ghost use Rattle.vk_rows.specs.Stops.{Stopping};
 
 /// Allocations that find no room.
 pub fn no_room()
@@ -39,4 +40,9 @@ pub fn linear_blocks()
 /// Pools through allocations and frees: blocks, places, statistics and the moves of a pass.
 pub fn pool_blocks()
     ensures { PoolBlocks }
+{}
+
+/// Where traces stop on a device, and how far others come.
+pub fn stopping()
+    ensures { Stopping }
 {}

@@ -1,10 +1,10 @@
 -- What a run answers to the trace that it reads, and how it ends.
-use Rattle.std.specs.Prelude.{◌≡◌, ℕ, List, length, Some, None, Result, Ok, Err}
+use Rattle.std.specs.Prelude.{◌≡◌, ℕ, List, length, Option, Some, None, Result, Ok, Err}
 use Rattle.vk_model.specs.Memory.HeapSizes.{HeapSizes}
 use Rattle.vk_model.specs.declared.entry.Entry.{Entry}
 use Rattle.vk_model.specs.Rules.Table.{first_fault}
 use Rattle.vk_model.specs.World.Meaning.{meaning}
-use Rattle.vk_device.specs.Allotted.{first_stop}
+use Rattle.vk_model.specs.Memory.Allocations.{Allocated, EndsOn}
 use Rattle.vk_trace.specs.declared.printing.Outcome.{Outcome}
 use Rattle.vk_trace.specs.declared.printing.Outcome.TheVariants.{Reads, Refused}
 use Rattle.vk_trace.specs.declared.running.Status.{Status}
@@ -20,11 +20,15 @@ status_of (Reads reads None) = status.Replayed
 status_of (Reads reads (Some e)) = status.Stopped
 status_of (Refused at rule) = status.Refused
 
--- What is reported of a trace. It is refused by its first fault; or it has none, and then reported are the bytes that it means: all of them where each entry finds room in heaps of these sizes, else those of the entries before the first one that finds none.
+-- A replay of the trace ends there on some device with heaps of these sizes.
+abbrev pub Ends : HeapSizes → List Entry → Option ℕ → Type 0
+Ends config t stop = (d : Allocated) × EndsOn config t stop d
+
+-- What is reported of a trace. It is refused by its first fault; or it has none, and then reported are the bytes that it means: all of them where each entry finds room on a device with heaps of these sizes, else those of the entries before the first one that finds none.
 abbrev pub IsAnswer : HeapSizes → List Entry → Outcome → Type 0
 IsAnswer config t (Refused at rule) = first_fault t ≡ Some (at, rule)
-IsAnswer config t (Reads reads None) = (first_fault t ≡ None) × (first_stop config t ≡ None) × (reads ≡ meaning t (length t))
-IsAnswer config t (Reads reads (Some n)) = (first_fault t ≡ None) × (first_stop config t ≡ Some n) × (reads ≡ meaning t n)
+IsAnswer config t (Reads reads None) = (first_fault t ≡ None) × Ends config t None × (reads ≡ meaning t (length t))
+IsAnswer config t (Reads reads (Some n)) = (first_fault t ≡ None) × Ends config t (Some n) × (reads ≡ meaning t n)
 
 -- The input is a trace, the outcome is the answer to it, and the text is that of the outcome.
 pub record Reports (config : HeapSizes) (input text : List ℕ) (outcome : Outcome) : Type 0 where

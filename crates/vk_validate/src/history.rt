@@ -18,7 +18,7 @@ ghost use Rattle.vk_model.specs.Basics.{holds};
 use crate::clocks::{Clock, Order};
 use crate::steps::{Action, Step};
 use crate::tables::{Change, Tables, note};
-use crate::writers::{Sought, Span};
+use crate::writers::{ReadBytes, Sought, Span};
 use std::alloc::{AllocError, Global};
 use std::marker::Model;
 use vk_model::{BufferInfo, Cmd, Entry, Length, SemaphoreValue};
@@ -151,26 +151,17 @@ impl<'a> History<'a> {
         }
     }
 
-    /// Whether a byte was written by a command whose write isn't visible to reads of the host.
-    pub fn has_unseen_by_host_read(&self, buffer: u32, span: Span) -> bool
-        ensures { FoundIn result span.first span.last (λ k. holds (last_writer (past self.now) buffer k) (nat_le (order_state (past self.now)).order.host.readable)) }
+    /// What a read by the host finds of the bytes of a span.
+    pub fn read(&self, buffer: u32, span: Span) -> ReadBytes
+        ensures unseen { FoundIn result.unseen span.first span.last (λ k. holds (last_writer (past self.now) buffer k) (nat_le (order_state (past self.now)).order.host.readable)) }
+        ensures undefined { FoundIn result.undefined span.first span.last (λ k. is_none (last_writer (past self.now) buffer k)) }
     {
         match self.tables.writers.get(&buffer) {
-            Some(writers) => writers.has(
-                span,
-                Sought::Since(self.tables.order.seen_by_host_read()),
-            ),
-            None => false,
-        }
-    }
-
-    /// Whether a byte was never written, so that its value is undefined.
-    pub fn has_undefined(&self, buffer: u32, span: Span) -> bool
-        ensures { FoundIn result span.first span.last (λ k. is_none (last_writer (past self.now) buffer k)) }
-    {
-        match self.tables.writers.get(&buffer) {
-            Some(writers) => writers.has(span, Sought::Nothing),
-            None => true,
+            Some(writers) => writers.read(span, self.tables.order.seen_by_host_read()),
+            None => ReadBytes {
+                unseen: false,
+                undefined: true,
+            },
         }
     }
 

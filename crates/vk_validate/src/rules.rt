@@ -3,6 +3,7 @@ ghost use Rattle.std.specs.List.{find};
 ghost use Rattle.vk_validate.specs.Supported.{is_supported_action};
 ghost use Rattle.vk_validate.specs.Inner.PointViews.{action_of, point_of, past};
 ghost use Rattle.vk_validate.specs.Inner.Cleared.{tests, first_test};
+ghost use Rattle.vk_validate.specs.Inner.Tests.{reads_unseen, reads_unwritten};
 
 mod hazards;
 mod ids;
@@ -14,6 +15,7 @@ mod traces;
 
 use crate::history::History;
 use crate::steps::Step;
+use crate::writers::ReadBytes;
 use vk_model::Rule;
 
 /// The rules in the order in which they are tested at a point.
@@ -66,16 +68,18 @@ pub fn first_rule(history: &History<'_>, step: &Step<'_>) -> Option<Rule>
     requires { IsTrue (is_supported_action (action_of step.now.action)) }
     ensures { result ≡ first_test (past history.now) (point_of step.now) }
 {
-    first_of(&RULES, history, step)
+    first_of(&RULES, history, step, hazards::read_bytes(history, step))
 }
 
 #[tactic(auto, using(crate::proofs::Judging::Clears::finds))]
-fn first_of(rules: &[Rule], history: &History<'_>, step: &Step<'_>) -> Option<Rule>
-    requires { IsTrue (is_supported_action (action_of step.now.action)) }
+fn first_of(rules: &[Rule], history: &History<'_>, step: &Step<'_>, read: ReadBytes) -> Option<Rule>
+    requires supported { IsTrue (is_supported_action (action_of step.now.action)) }
+    requires unseen { read.unseen ≡ reads_unseen (past history.now) (action_of step.now.action) }
+    requires undefined { read.undefined ≡ reads_unwritten (past history.now) (action_of step.now.action) }
     ensures { result ≡ find (λ r. tests r (past history.now) (point_of step.now)) rules.now }
 {
     for rule in rules {
-        if breaks(*rule, history, step) {
+        if breaks(*rule, history, step, read) {
             return Some(*rule);
         }
     }
@@ -86,8 +90,10 @@ fn first_of(rules: &[Rule], history: &History<'_>, step: &Step<'_>) -> Option<Ru
 // pools, memory objects, events, other queues, waits of batches, reads by commands, or of what is unmapped
 // or destroyed; and the signals of one queue, or a read of the host and a later batch, are always in order.
 #[tactic(auto, unfolding(crate::specs::Inner::Cleared::tests))]
-fn breaks(rule: Rule, history: &History<'_>, step: &Step<'_>) -> bool
-    requires { IsTrue (is_supported_action (action_of step.now.action)) }
+fn breaks(rule: Rule, history: &History<'_>, step: &Step<'_>, read: ReadBytes) -> bool
+    requires supported { IsTrue (is_supported_action (action_of step.now.action)) }
+    requires unseen { read.unseen ≡ reads_unseen (past history.now) (action_of step.now.action) }
+    requires undefined { read.undefined ≡ reads_unwritten (past history.now) (action_of step.now.action) }
     ensures { result ≡ tests rule (past history.now) (point_of step.now) }
 {
     match rule {
@@ -104,9 +110,9 @@ fn breaks(rule: Rule, history: &History<'_>, step: &Step<'_>) -> bool
         Rule::WaitNever => synchronization::breaks_wait_never(history, step),
         Rule::MapState => mapping::breaks_map_state(history, step),
         Rule::HostVisible => mapping::breaks_host_visible(history, step),
-        Rule::HazardRaw => hazards::breaks_hazard_raw(history, step),
+        Rule::HazardRaw => read.unseen,
         Rule::HazardWaw => hazards::breaks_hazard_waw(history, step),
-        Rule::ReadUndefined => hazards::breaks_read_undefined(history, step),
+        Rule::ReadUndefined => read.undefined,
         Rule::Limit => traces::breaks_limit(history),
         _ => false,
     }

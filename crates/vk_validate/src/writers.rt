@@ -2,7 +2,7 @@ ghost use Rattle.std.specs.Prelude.{◌≡◌, Option, Some, true, false, ◌<�
 ghost use Rattle.std.specs.Ordering.{nat_cmp};
 ghost use Rattle.std.specs.BTreeMap.{get, IsEmpty};
 ghost use Rattle.vk_validate.specs.Inner.Writers.{IsLastWriter, Keeps};
-ghost use Rattle.vk_validate.specs.Inner.Seeks.{is_sought, HasSought};
+ghost use Rattle.vk_validate.specs.Inner.Seeks.{is_sought, HasSought, IsAnswer, found_with};
 
 use std::alloc::{AllocError, Global};
 use std::collections::BTreeMap;
@@ -38,6 +38,33 @@ pub enum Sought {
     Since(usize),
     /// That there is none: the byte was never written.
     Nothing,
+}
+
+/// What a read by the host finds of the last writers of its bytes.
+#[derive(Clone, Copy)]
+pub struct ReadBytes {
+    /// Whether one was written by a command whose write isn't visible to reads of the host.
+    pub unseen: bool,
+    /// Whether one was never written.
+    pub undefined: bool,
+}
+
+impl ReadBytes {
+    /// Nothing, as without a byte.
+    pub const NONE: ReadBytes = ReadBytes {
+        unseen: false,
+        undefined: false,
+    };
+
+    /// What is found with one byte more, where writes are unseen from a point on.
+    fn with(self, writer: Option<usize>, since: usize) -> ReadBytes
+        ensures { result ≡ found_with since self writer }
+    {
+        ReadBytes {
+            unseen: self.unseen || is_sought(Sought::Since(since), writer),
+            undefined: self.undefined || is_sought(Sought::Nothing, writer),
+        }
+    }
 }
 
 /// The command that last wrote each byte of a buffer, by the number of its point.
@@ -84,6 +111,20 @@ impl LastWriters {
         self.bounds
             .range(span.first + 1..=span.last)
             .any(|(_, writer)| is_sought(sought, *writer))
+    }
+
+    /// What a read of the span finds, where writes are unseen from a point on: one walk for both.
+    pub fn read(&self, span: Span, since: usize) -> ReadBytes
+        ensures unseen { IsAnswer self.now.bounds (Sought.Since since) span.first span.last result.unseen }
+        ensures undefined { IsAnswer self.now.bounds Sought.Nothing span.first span.last result.undefined }
+    {
+        let at_first = ReadBytes::NONE.with(self.at(span.first), since);
+        if span.first == span.last {
+            return at_first;
+        }
+        self.bounds
+            .range(span.first + 1..=span.last)
+            .fold(at_first, |found, (_, writer)| found.with(*writer, since))
     }
 
     /// Makes the command at a point the last writer of the span. An error changes no byte's writer.

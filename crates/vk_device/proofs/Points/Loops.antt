@@ -6,7 +6,7 @@ use Rattle.vk_model.specs.declared.command.Cmd.{Cmd}
 use Rattle.vk_model.specs.declared.entry.Batch.{Batch}
 use Rattle.vk_model.specs.Trace.Point.{Past, Run}
 use Rattle.vk_model.specs.Trace.Order.{SubmittedBatch, actions, started, batches_from, submitted_batch}
-use Rattle.vk_device.specs.Allotted.{allotted}
+use Rattle.vk_device.specs.Inner.Allotted.{allotted}
 use Rattle.vk_device.specs.Held.{Held}
 use Rattle.vk_device.specs.Inner.Fits.{FitsCommand, AllFit}
 use Rattle.vk_device.specs.Matches.{Matches}

@@ -1,4 +1,4 @@
--- Which memory objects are live after each step, and which entry finds no room for its own.
+-- Which memory objects are live after each step, and whether an entry finds room for its own.
 use Rattle.std.proofs.Common.{◌≡◌, ◌⊎◌, inl, inr, ℕ, ◌+◌, List, [], ◌∷◌, ◌++◌, map, length, Bool, true, false, ◌==◌, ◌||◌, refl, ap, sym, ◌∙◌, subst, append-nil, add-zero, zero-add, arith, Option, Some, None}
 use Rattle.std.proofs.Math.Seq.{map-set_same}
 use Rattle.std.proofs.Math.Bool.{or-false}
@@ -17,10 +17,10 @@ use Rattle.vk_model.specs.Memory.Room.{heap_of, no_object}
 use Rattle.vk_device.specs.declared.applied.Applied.{Applied}
 use Rattle.vk_device.specs.declared.applied.Applied.TheVariants as applied
 use Rattle.vk_device.specs.declared.device.Placed.{Placed}
-use Rattle.vk_device.specs.Allotted.{Allotted, kind_of, allotted, asked_by, asked_at, with_asked, heaps_with, finds_no_room, stop_from}
+use Rattle.vk_device.specs.Allocating.{kind_of}
+use Rattle.vk_device.specs.Inner.Allotted.{Allotted, allotted, asked_by, asked_at, with_asked, heaps_with, finds_no_room, FoundRoom, GotAsked}
 use Rattle.vk_device.specs.Held.{Held}
 use Rattle.vk_device.specs.Inner.Steps.{MapsAt, MadeOr}
-use Rattle.vk_device.specs.Matches.{Rooms, Allots}
 
 -- ---- an object keeps its type and its size
 
@@ -119,8 +119,8 @@ module _ (m : MemoryState) where
 one_asked : (a : Allotted) (t size : ℕ) → list_any (λ (o : ℕ × ℕ). no_object (heaps_with a) o.0 o.1) ((t, size) ∷ []) ≡ no_object (heaps_with a) t size
 one_asked a t size = or-false (no_object (heaps_with a) t size)
 
-pub buffer_rooms : (old new : Held) (y : Entry) (i t : ℕ) (info : BufferInfo) → y ≡ entry.Buffer i info → info.place ≡ place.Dedicated t → (a : Applied) → MadeOr a old new i t info.size → Rooms a old y
-buffer_rooms old new y i t info is there a made = subst (λ (x : Entry). Rooms a old x) (sym is) (go a made)
+pub buffer_rooms : (old new : Held) (y : Entry) (i t : ℕ) (info : BufferInfo) → y ≡ entry.Buffer i info → info.place ≡ place.Dedicated t → (a : Applied) → MadeOr a old new i t info.size → FoundRoom a old y
+buffer_rooms old new y i t info is there a made = subst (λ (x : Entry). FoundRoom a old x) (sym is) (go a made)
   where
     size : ℕ
     size = round_up info.size 16
@@ -128,7 +128,7 @@ buffer_rooms old new y i t info is there a made = subst (λ (x : Entry). Rooms a
     found : finds_no_room (allotted old.memory) (entry.Buffer i info) ≡ no_object (heaps_with (allotted old.memory)) t size
     found = ap (λ (p : Place). list_any (λ (o : ℕ × ℕ). no_object (heaps_with (allotted old.memory)) o.0 o.1) (asked_at p size)) there ∙ one_asked (allotted old.memory) t size
 
-    go : (a : Applied) → MadeOr a old new i t info.size → Rooms a old (entry.Buffer i info)
+    go : (a : Applied) → MadeOr a old new i t info.size → FoundRoom a old (entry.Buffer i info)
     go applied.Done made = found ∙ false_from_ne_true _ (λ h. made.1 (found_full old.memory t size h))
     go (applied.Bytes bytes) made = absurd made
     go applied.NoRoom made = found ∙ full_found old.memory t size made.1
@@ -140,24 +140,16 @@ kinds_more [] o = refl
 kinds_more (None ∷ os) o = kinds_more os o
 kinds_more (Some p ∷ os) o = ap (λ (l : List (ℕ × ℕ)). (p.memory_type, p.size) ∷ l) (kinds_more os o)
 
-pub buffer_allots : (old new : Held) (y : Entry) (i t : ℕ) (info : BufferInfo) → y ≡ entry.Buffer i info → info.place ≡ place.Dedicated t → (a : Applied) → MadeOr a old new i t info.size → Allots a y old new
-buffer_allots old new y i t info is there a made = subst (λ (x : Entry). Allots a x old new) (sym is) (go a made)
+pub buffer_allots : (old new : Held) (y : Entry) (i t : ℕ) (info : BufferInfo) → y ≡ entry.Buffer i info → info.place ≡ place.Dedicated t → (a : Applied) → MadeOr a old new i t info.size → GotAsked a y old new
+buffer_allots old new y i t info is there a made = subst (λ (x : Entry). GotAsked a x old new) (sym is) (go a made)
   where
     asked : asked_by (entry.Buffer i info) ≡ (t, round_up info.size 16) ∷ []
     asked = ap (λ (p : Place). asked_at p (round_up info.size 16)) there
 
-    go : (a : Applied) → MadeOr a old new i t info.size → Allots a (entry.Buffer i info) old new
+    go : (a : Applied) → MadeOr a old new i t info.size → GotAsked a (entry.Buffer i info) old new
     go applied.Done made =
         ap (λ (m : MemoryState). allotted m) made.0.memory
         ∙ ap (λ (l : List (ℕ × ℕ)). record (allotted old.memory) { objects = l }) (kinds_more old.memory.objects (fresh t (round_up info.size 16)))
         ∙ ap (λ (l : List (ℕ × ℕ)). record (allotted old.memory) { objects = (allotted old.memory).objects ++ l }) (sym asked)
     go (applied.Bytes bytes) made = absurd made
     go applied.NoRoom made = made.0
-
--- ---- entries one after another
-
-pub stop_here : (a : Allotted) (e : ℕ) (x : Entry) (xs : List Entry) → finds_no_room a x ≡ true → stop_from a e (x ∷ xs) ≡ Some e
-stop_here a e x xs found = rw found refl
-
-pub stop_later : (a b : Allotted) (e : ℕ) (x : Entry) (xs : List Entry) → finds_no_room a x ≡ false → b ≡ with_asked a x → stop_from a e (x ∷ xs) ≡ stop_from b (e + 1) xs
-stop_later a b e x xs found more = rw (found, more) refl

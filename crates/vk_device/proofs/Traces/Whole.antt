@@ -1,7 +1,7 @@
 -- The entries of a trace, one after another.
-use Rattle.std.proofs.Common.{◌≡◌, ◌⊎◌, inr, ℕ, suc, ◌+◌, ◌<◌, List, [], ◌∷◌, ◌++◌, length, take, drop, false, true, refl, ap, sym, ◌∙◌, subst, arith, get_or, append-nil, add-one, drop-cons, Some}
+use Rattle.std.proofs.Common.{◌≡◌, ◌⊎◌, inr, ℕ, ◌+◌, ◌<◌, ◌≤◌, List, [], ◌∷◌, ◌++◌, length, take, drop, false, refl, ap, sym, ◌∙◌, subst, arith, get_or, append-nil, Some, None}
 use Rattle.std.proofs.lemmas.Option.{slice_get-get_or}
-use Rattle.std.proofs.lemmas.Grind.{fold-append, take_at_read, common_steps}
+use Rattle.std.proofs.lemmas.Grind.{take_at_read, common_steps}
 use Rattle.std.specs.Prelude.{IsTrue}
 use Rattle.vk_memory.specs.MemoryState.{MemoryState}
 use Rattle.vk_model.specs.Memory.HeapSizes.{HeapSizes}
@@ -12,12 +12,13 @@ use Rattle.vk_model.specs.World.Effect.{world}
 use Rattle.vk_model.specs.World.Meaning.{Reads, reads, read_in, meaning}
 use Rattle.vk_device.specs.declared.applied.Applied.{Applied}
 use Rattle.vk_device.specs.declared.applied.Applied.TheVariants as applied
-use Rattle.vk_device.specs.Allotted.{Allotted, allotted, with_asked, allotted_by, finds_no_room, stop_from, first_stop}
+use Rattle.vk_model.specs.Memory.Allocations.{Allocated, Reaches, FindsNoRoom, Changes, nothing_allocated}
+use Rattle.vk_device.specs.Allocating.{IsAllocated}
 use Rattle.vk_device.specs.Held.{Held}
 use Rattle.vk_device.specs.Clean.{IsClean}
 use Rattle.vk_device.specs.Matches.{Matches, next_past, IsNext, Answered, Rooms, Allots}
-use Rattle.vk_device.specs.Replays.{StopsAt}
-use Rattle.vk_device.proofs.Traces.Allotting.{stop_here, stop_later}
+use Rattle.vk_device.specs.Replays.{Ends}
+use Rattle.vk_device.proofs.Traces.Allocating.{applied_more}
 use Rattle.vk_device.proofs.Promises.Clean.{clean_plain}
 use Rattle.vk_device.proofs.Points.Steps.{plain_more, reads_next}
 use Rattle.vk_model.proofs.Trace.PlainOrder.{plain_append}
@@ -27,29 +28,25 @@ use Rattle.vk_validate.proofs.Points.Orders.{supported_order}
 pub record Replays (config : HeapSizes) (t : List Entry) (i : ℕ) (reported : Reads) (s : Held) : Type 0 where
   pub matches : Matches (order (take i t)) s
   pub same : reported ≡ meaning t i
-  pub goes_on : stop_from (allotted s.memory) i (drop i t) ≡ first_stop config t
   pub works : s.failed ≡ false
-  pub holds : allotted s.memory ≡ allotted_by config (take i t)
+  pub allocated : Allocated
+  pub held : IsAllocated s.memory allocated
+  pub reached : Reaches config (take i t) allocated
 
 pub replays_start : (config : HeapSizes) (t : List Entry) (s : Held) → Matches [] s → s.memory ≡ record { sizes = config; objects = [] } → s.failed ≡ false → Replays config t 0 [] s
-unfolding meaning first_stop
+unfolding meaning
 replays_start config t s st empty works = record {
   matches = st;
   same = refl;
-  goes_on = ap (λ (m : MemoryState). stop_from (allotted m) 0 t) empty;
   works = works;
-  holds = ap (λ (m : MemoryState). allotted m) empty;
+  allocated = nothing_allocated config;
+  held = subst (λ (m : MemoryState). IsAllocated m (nothing_allocated config)) (sym empty) (record { sizes = refl; objects = refl; no_pools = refl });
+  reached = refl;
 }
 
--- what is allotted after one entry more
-holds_next : (config : HeapSizes) (t : List Entry) (i : ℕ) (x : Entry) → x ≡ get_or t i x → i < length t → allotted_by config (take (i + 1) t) ≡ with_asked (allotted_by config (take i t)) x
-holds_next config t i x is lt =
-    let front : take (i + 1) t ≡ take i t ++ x ∷ [] = (take_at_read t i x lt).1 ∙ ap (λ (y : Entry). take i t ++ y ∷ []) (sym is) in
-    ap (λ (l : List Entry). allotted_by config l) front ∙ fold-append with_asked (record { sizes = config; objects = [] }) (take i t) (x ∷ [])
-
--- the entries from i on
-entries_from : (t : List Entry) (i : ℕ) (x : Entry) → x ≡ get_or t i x → i < length t → drop i t ≡ x ∷ drop (i + 1) t
-entries_from t i x is lt = rw add-one (drop-cons t i x lt ∙ ap (λ (y : Entry). y ∷ drop (suc i) t) (sym is))
+-- the entries with one more
+front_more : (t : List Entry) (i : ℕ) (x : Entry) → x ≡ get_or t i x → i < length t → take (i + 1) t ≡ take i t ++ x ∷ []
+front_more t i x is lt = (take_at_read t i x lt).1 ∙ ap (λ (y : Entry). take i t ++ y ∷ []) (sym is)
 
 -- ---- the past so far, which has no batch that waits
 
@@ -65,8 +62,7 @@ in_plain_order t i fit = supported_order (take i t) (plain_front t i fit).suppor
 pub one_more : (t : List Entry) (i : ℕ) (x : Entry) → IsClean (plain_order t) → x ≡ get_or t i x → i < length t → order (take (i + 1) t) ≡ next_past i x (order (take i t))
 one_more t i x fit is lt =
     let long : length (take i t) ≡ i = grind (arith, common_steps) in
-    let front : take (i + 1) t ≡ take i t ++ x ∷ [] = (take_at_read t i x lt).1 ∙ ap (λ (y : Entry). take i t ++ y ∷ []) (sym is) in
-    in_plain_order t (i + 1) fit ∙ ap (λ (l : List Entry). plain_order l) front ∙ plain_more 0 [] (take i t) x
+    in_plain_order t (i + 1) fit ∙ ap (λ (l : List Entry). plain_order l) (front_more t i x is lt) ∙ plain_more 0 [] (take i t) x
     ∙ ap (λ (n : ℕ). next_past n x (plain_order (take i t))) (omega arith) ∙ ap (λ (l : Past). next_past i x l) (sym (in_plain_order t i fit))
 
 next_fits : (t : List Entry) (i : ℕ) (x : Entry) → IsClean (plain_order t) → x ≡ get_or t i x → i < length t → IsClean (next_past i x (order (take i t)))
@@ -76,31 +72,46 @@ pub entry_ready : (config : HeapSizes) (t : List Entry) (i : ℕ) (reported : Re
 entry_ready config t i reported s x fit so_far is lt = inr (i, order (take i t), so_far.matches, next_fits t i x fit is lt)
 
 replays_more : (config : HeapSizes) (t : List Entry) (i : ℕ) (reported : Reads) (s s' : Held) (x : Entry) (new : Reads) → IsClean (plain_order t) → Replays config t i reported s → x ≡ get_or t i x → i < length t
-    → Matches (next_past i x (order (take i t))) s' → read_in (world (order (take i t))) i x ≡ new → finds_no_room (allotted s.memory) x ≡ false → allotted s'.memory ≡ with_asked (allotted s.memory) x → s'.failed ≡ false → Replays config t (i + 1) (reported ++ new) s'
+    → Matches (next_past i x (order (take i t))) s' → read_in (world (order (take i t))) i x ≡ new → ((d : Allocated) → IsAllocated s.memory d → FindsNoRoom d x → ⊥) → ((d : Allocated) → IsAllocated s.memory d → (e : Allocated) × Changes d x e × IsAllocated s'.memory e) → s'.failed ≡ false → Replays config t (i + 1) (reported ++ new) s'
 unfolding meaning
 replays_more config t i reported s s' x new fit so_far is lt st gave room allots works = record {
   matches = subst (λ (p : Past). Matches p s') (sym (one_more t i x fit is lt)) st;
   same = ap (λ (r : Reads). r ++ new) so_far.same ∙ ap (λ (r : Reads). meaning t i ++ r) (sym gave) ∙ sym (reads_next i x (order (take i t))) ∙ ap reads (sym (one_more t i x fit is lt));
-  goes_on = sym (stop_later (allotted s.memory) (allotted s'.memory) i x (drop (i + 1) t) room allots) ∙ ap (λ (l : List Entry). stop_from (allotted s.memory) i l) (sym (entries_from t i x is lt)) ∙ so_far.goes_on;
   works = works;
-  holds = allots ∙ ap (λ (a : Allotted). with_asked a x) so_far.holds ∙ sym (holds_next config t i x is lt);
+  allocated = (allots so_far.allocated so_far.held).0;
+  held = (allots so_far.allocated so_far.held).2;
+  reached = subst (λ (l : List Entry). Reaches config l (allots so_far.allocated so_far.held).0) (sym (front_more t i x is lt))
+      (applied_more _ so_far.allocated _ (take i t) x so_far.reached (room so_far.allocated so_far.held) (allots so_far.allocated so_far.held).1);
 }
 
 abbrev pub AnsweredAt : Applied → Entry → Held → Held → Type 0
 AnsweredAt a x s s' = (e : ℕ) (past : Past) → Matches past s → IsClean (next_past e x past) → Answered a e x past s s'
 
-pub stops : (config : HeapSizes) (t : List Entry) (i : ℕ) (reported : Reads) (s s' : Held) (x : Entry) (a : Applied) → IsClean (plain_order t) → Replays config t i reported s → x ≡ get_or t i x → i < length t → a ≡ applied.NoRoom → AnsweredAt a x s s' → Rooms a s x → StopsAt t i s' × (Some i ≡ first_stop config t)
+pub stops : (config : HeapSizes) (t : List Entry) (i : ℕ) (reported : Reads) (s s' : Held) (x : Entry) (a : Applied) → IsClean (plain_order t) → Replays config t i reported s → x ≡ get_or t i x → i < length t → a ≡ applied.NoRoom → AnsweredAt a x s s' → Rooms a s x → Ends config t (Some i) s'
 stops config t i reported s s' x a fit so_far is lt no_room answers rooms =
     let same : s' ≡ s = subst (λ (b : Applied). AnsweredAt b x s s') no_room answers i (order (take i t)) so_far.matches (next_fits t i x fit is lt) in
-    let full : finds_no_room (allotted s.memory) x ≡ true = subst (λ (b : Applied). Rooms b s x) no_room rooms in (
-      (lt, rw same so_far.matches, x, slice_get-get_or t i x lt ∙ ap (λ (y : Entry). Some y) (sym is), rw same full),
-      sym (stop_here (allotted s.memory) i x (drop (i + 1) t) full) ∙ ap (λ (l : List Entry). stop_from (allotted s.memory) i l) (sym (entries_from t i x is lt)) ∙ so_far.goes_on,
-    )
+    record {
+      matches = rw same so_far.matches;
+      allocated = so_far.allocated;
+      held = rw same so_far.held;
+      ends = record {
+        reached = so_far.reached;
+        stopped = x;
+        here = slice_get-get_or t i x lt ∙ ap (λ (y : Entry). Some y) (sym is);
+        no_room = subst (λ (b : Applied). Rooms b s x) no_room rooms so_far.allocated so_far.held;
+      };
+    }
 
--- where there is no room, the heaps hold what the entries before ask for
-pub stop_holds : (config : HeapSizes) (t : List Entry) (i : ℕ) (reported : Reads) (s s' : Held) (x : Entry) (a : Applied) → Replays config t i reported s → a ≡ applied.NoRoom → Allots a x s s' → allotted s'.memory ≡ allotted_by config (take i t)
-stop_holds config t i reported s s' x a so_far no_room allots =
-    ap (λ (r : Held). allotted r.memory) (subst (λ (b : Applied). Allots b x s s') no_room allots) ∙ so_far.holds
+-- and at the end of the trace
+pub ends : (config : HeapSizes) (t : List Entry) (i : ℕ) (reported : Reads) (s : Held) → Replays config t i reported s → length t ≤ i → Ends config t None s
+ends config t i reported s so_far done =
+    let whole : take i t ≡ t = grind (arith, common_steps) in
+    record {
+      matches = subst (λ (l : List Entry). Matches (order l) s) whole so_far.matches;
+      allocated = so_far.allocated;
+      held = so_far.held;
+      ends = subst (λ (l : List Entry). Reaches config l so_far.allocated) whole so_far.reached;
+    }
 
 pub after_done : (config : HeapSizes) (t : List Entry) (i : ℕ) (reported : Reads) (s s' : Held) (x : Entry) (a : Applied) → IsClean (plain_order t) → Replays config t i reported s → x ≡ get_or t i x → i < length t → a ≡ applied.Done → AnsweredAt a x s s' → Rooms a s x → Allots a x s s' → s'.failed ≡ false → Replays config t (i + 1) reported s'
 after_done config t i reported s s' x a fit so_far is lt done answers rooms allots works =

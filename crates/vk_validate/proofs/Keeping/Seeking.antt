@@ -1,12 +1,14 @@
 -- Going through the bounds of a range.
 use Rattle.std.proofs.Common.{◌≡◌, ℕ, ◌+◌, ◌<◌, ◌≤◌, List, [], ◌∷◌, refl, sym, ◌∙◌, ap, Option, Some, None, Bool, true, false, ◌||◌, inl, inr, ◌⊎◌, arith}
-use Rattle.std.specs.List.{All, list_any}
+use Rattle.std.specs.Prelude.{◌^◌}
+use Rattle.std.specs.List.{All, list_any, fold}
 use Rattle.std.specs.Ordering.{nat_cmp, is_eq}
 use Rattle.std.specs.BTreeMap.{get, is_at}
 use Rattle.std.specs.BTreeMap.Range.{IsEntryInRange, range_contains, entries_between}
 use Rattle.std.specs.Map.{lookup}
 use Rattle.std.specs.declared.ops.Bound.TheVariants.{Included}
 use Rattle.std.proofs.lemmas.Bool.{cases_lt, cases_order}
+use Rattle.std.proofs.Math.Bool.{or-false, or_assoc}
 use Rattle.std.proofs.lemmas.Grind.{common_steps}
 use Rattle.std.specs.Cmp.{nat_cmp_is}
 use Rattle.std.specs.declared.cmp.Ordering.TheVariants.{Less, Greater}
@@ -15,7 +17,9 @@ use Rattle.std.proofs.lemmas.List.Elements.{All-tail}
 use Rattle.std.specs.declared.ops.Bound.{Bound}
 use Rattle.vk_validate.specs.declared.writers.Sought.{Sought}
 use Rattle.vk_validate.specs.Inner.Writers.{Bounds, IsLastWriter, IsFrom}
-use Rattle.vk_validate.specs.Inner.Seeks.{is_sought, HasSought}
+use Rattle.vk_validate.specs.declared.writers.ReadBytes.{ReadBytes}
+use Rattle.vk_validate.specs.declared.writers.Sought.TheVariants as sought
+use Rattle.vk_validate.specs.Inner.Seeks.{is_sought, HasSought, IsAnswer, FoundIn, found_with}
 use Rattle.vk_validate.proofs.Keeping.BoundLemmas.{same_writer, writer_before}
 
 or_false : (a b : Bool) → (a || b) ≡ false → a ≡ false
@@ -98,3 +102,35 @@ module _ (bounds : Bounds) (s : Sought) (first last : ℕ) where
     by_writer : IsLastWriter bounds byte w → is_sought s w ≡ false
     by_writer (inl from) = by_key from (cases_lt first from.key)
     by_writer (inr unwritten) = from_first (λ key above upto. unwritten.free key upto)
+
+  -- the answer for a span, from its first byte's writer and the bounds within it
+  pub answers : (at_first : Option ℕ) → IsLastWriter bounds first at_first → (r : List (ℕ × Option ℕ)) → All IsBound r → r ≡ entries_between nat_cmp (Included (first + 1)) (Included last) bounds.entries → first ≤ last
+      → IsAnswer bounds s first last (is_sought s at_first || list_any test r)
+  answers at_first is r all between ordered = go (is_sought s at_first) refl where
+    go : (t : Bool) → is_sought s at_first ≡ t → IsAnswer bounds s first last (t || list_any test r)
+    go true sought = record { none = λ e. absurd cc; some = λ e. record { byte = first; writer = at_first; low = omega arith; high = ordered; is = is; sought = sought } }
+    go false sought = record {
+      none = λ e. none_in at_first is sought (sym (ap (list_any test) between) ∙ e);
+      some = λ e. found_in r all e;
+    }
+
+  -- what an answer says of each byte's writer
+  pub found_of_answer : (answer : Bool) → IsAnswer bounds s first last answer → (writer : ℕ → Option ℕ) → ((k : ℕ) → k < 2 ^ 64 → IsLastWriter bounds k (writer k)) → last < 2 ^ 64
+      → (passes : Option ℕ → Bool) → ((w : Option ℕ) → passes w ≡ is_sought s w) → FoundIn answer first last (λ k. passes (writer k))
+  found_of_answer true answer writer is fits passes same =
+      let found = answer.some refl in
+      let high : found.byte < 2 ^ 64 = let upto : found.byte ≤ last = found.high in omega arith in
+      (found.byte, found.low, found.high, same (writer found.byte) ∙ ap (λ (w : Option ℕ). is_sought s w) (same_writer bounds found.byte (writer found.byte) found.writer (is found.byte high) found.is) ∙ found.sought)
+  found_of_answer false answer writer is fits passes same = λ byte low high. same (writer byte) ∙ answer.none refl byte (writer byte) low high (is byte (omega arith))
+
+-- both answers at once
+pub found_by_fold : (since : ℕ) (found : ReadBytes) (r : List (ℕ × Option ℕ)) → fold (λ a e. found_with since a e.1) found r
+    ≡ record { unseen = found.unseen || list_any (λ e. is_sought (sought.Since since) e.1) r; undefined = found.undefined || list_any (λ e. is_sought sought.Nothing e.1) r }
+found_by_fold since found [] = both (sym (or-false found.unseen)) (sym (or-false found.undefined)) where
+  both : {a b c d : Bool} → a ≡ b → c ≡ d → (let x : ReadBytes = record { unseen = a; undefined = c } in x) ≡ record { unseen = b; undefined = d }
+  both p q = cc
+found_by_fold since found (e ∷ r) =
+    found_by_fold since (found_with since found e.1) r
+    ∙ both (or_assoc found.unseen (is_sought (sought.Since since) e.1) (list_any (λ x. is_sought (sought.Since since) x.1) r)) (or_assoc found.undefined (is_sought sought.Nothing e.1) (list_any (λ x. is_sought sought.Nothing x.1) r)) where
+      both : {a b c d : Bool} → a ≡ b → c ≡ d → (let x : ReadBytes = record { unseen = a; undefined = c } in x) ≡ record { unseen = b; undefined = d }
+      both p q = cc

@@ -1,9 +1,9 @@
 -- A test of the bytes of a span, and of the bytes of a range.
 use Rattle.std.proofs.Common.{◌⊎◌, inl, inr, ◌≡◌, ◌≤◌, ◌<◌, ◌+◌, ◌-◌, min, ℕ, zero, suc, [], ◌∷◌, refl, sym, ◌∙◌, ap, None, Bool, true, false, arith}
-use Rattle.std.specs.Prelude.{◌^◌, ◌||◌}
+use Rattle.std.specs.Prelude.{◌^◌, ◌||◌, nat_lt}
 use Rattle.std.specs.List.{list_any, range_with_len}
-use Rattle.std.proofs.lemmas.Bool.{le-ltb, cases_lt}
-use Rattle.std.proofs.Math.Bool.{or-true, and-false}
+use Rattle.std.proofs.lemmas.Bool.{le-ltb, ltb-true, ltb-false, cases_lt}
+use Rattle.std.proofs.Math.Bool.{or-true, or-false, and-false}
 use Rattle.vk_model.specs.Basics.{below}
 use Rattle.vk_model.specs.declared.command.Cmd.{Cmd}
 use Rattle.vk_model.specs.declared.command.Cmd.TheVariants as cmd
@@ -51,12 +51,19 @@ module _ (test : ℕ → Bool) (first last n : ℕ) (some : 0 < n) (last_is : la
   found_below found is none = found_of_span found is (λ k above inside. none k (omega arith))
 
   -- also where the span has all of the range
-  pub found_whole : (found : Bool) → FoundIn found first last test → n - 1 ≤ last - first → first ≤ last → found ≡ list_any (λ k. test (first + k)) (below n)
+  found_whole : (found : Bool) → FoundIn found first last test → n - 1 ≤ last - first → first ≤ last → found ≡ list_any (λ k. test (first + k)) (below n)
   found_whole found is whole ordered = found_of_span found is (λ k above inside. absurd (omega arith))
 
   -- a range with more bytes than the span reaches 2^64
-  pub found_beyond : last - first < n - 1 → first ≤ last → test (2 ^ 64) ≡ true → true ≡ list_any (λ k. test (first + k)) (below n)
+  found_beyond : last - first < n - 1 → first ≤ last → test (2 ^ 64) ≡ true → true ≡ list_any (λ k. test (first + k)) (below n)
   found_beyond more ordered is = sym (found_any (2 ^ 64) (omega arith) (omega arith) is)
+
+  -- what the span has, and whether the range has more bytes than it
+  pub found_or_beyond : (found : Bool) → FoundIn found first last test → first ≤ last → test (2 ^ 64) ≡ true → (found || nat_lt (last - first) (n - 1)) ≡ list_any (λ k. test (first + k)) (below n)
+  found_or_beyond found is ordered there = by_size (nat_lt (last - first) (n - 1)) refl where
+    by_size : (t : Bool) → nat_lt (last - first) (n - 1) ≡ t → (found || t) ≡ list_any (λ k. test (first + k)) (below n)
+    by_size true more = or-true found ∙ found_beyond (ltb-true _ _ more) ordered there
+    by_size false more = or-false found ∙ found_whole found is (ltb-false _ _ more) ordered
 
 -- ---- no byte from 2^64 on has a writer
 

@@ -4,12 +4,14 @@ ghost use Rattle.vk_validate.specs.Inner.Tests.{reads_unseen, overwrites_unseen,
 
 use crate::history::History;
 use crate::steps::{Action, Step};
-use crate::writers::Span;
+use crate::writers::{ReadBytes, Span};
 use vk_model::{Cmd, Entry};
 
-/// HAZARD_RAW: a read of the host without a memory dependency on an earlier write of the byte.
-pub fn breaks_hazard_raw(history: &History<'_>, step: &Step<'_>) -> bool
-    ensures { result ≡ reads_unseen (past history.now) (action_of step.now.action) }
+/// HAZARD_RAW, a read of the host without a memory dependency on an earlier write of the byte, and
+/// READ_UNDEFINED, a read of a byte that was never written: which of them a point breaks.
+pub fn read_bytes(history: &History<'_>, step: &Step<'_>) -> ReadBytes
+    ensures unseen { result.unseen ≡ reads_unseen (past history.now) (action_of step.now.action) }
+    ensures undefined { result.undefined ≡ reads_unwritten (past history.now) (action_of step.now.action) }
 {
     match step.action {
         Action::Host(
@@ -19,10 +21,16 @@ pub fn breaks_hazard_raw(history: &History<'_>, step: &Step<'_>) -> bool
                 size,
             },
         ) => match Span::new(*offset, *size) {
-            Some(span) => history.has_unseen_by_host_read(*buffer, span),
-            None => false,
+            Some(span) => {
+                let found = history.read(*buffer, span);
+                ReadBytes {
+                    unseen: found.unseen,
+                    undefined: found.undefined || span.last - span.first < *size - 1,
+                }
+            }
+            None => ReadBytes::NONE,
         },
-        _ => false,
+        _ => ReadBytes::NONE,
     }
 }
 
@@ -40,27 +48,6 @@ pub fn breaks_hazard_waw(history: &History<'_>, step: &Step<'_>) -> bool
             },
         ) => match history.filled(*buffer, *offset, *size) {
             Some(span) => history.has_unseen_by_write(*buffer, span),
-            None => false,
-        },
-        _ => false,
-    }
-}
-
-/// READ_UNDEFINED: a read of a byte that was never written.
-pub fn breaks_read_undefined(history: &History<'_>, step: &Step<'_>) -> bool
-    ensures { result ≡ reads_unwritten (past history.now) (action_of step.now.action) }
-{
-    match step.action {
-        Action::Host(
-            Entry::Read {
-                buffer,
-                offset,
-                size,
-            },
-        ) => match Span::new(*offset, *size) {
-            Some(span) => {
-                span.last - span.first < *size - 1 || history.has_undefined(*buffer, span)
-            }
             None => false,
         },
         _ => false,

@@ -1,5 +1,5 @@
 use Rattle.std.proofs.Common.{refl, ◌∙◌}
-use Rattle.vk_device.proofs.Traces.Whole.{replays_start, entry_ready, stops, stop_holds, after_done, after_bytes}
+use Rattle.vk_device.proofs.Traces.Whole.{replays_start, entry_ready, stops, after_done, after_bytes}
 use Rattle.vk_device.proofs.replaying.replay_entries.Goals as goal
 use Rattle.vk_device.proofs.replaying.replay_entries.Goals.{in-Done, in-Bytes+in_ok-push-in-Bytes}
 
@@ -8,15 +8,7 @@ apply-requires g c = entry_ready c.args.config c.args.entries.now c.loop-index.i
 
 pub returns-in-NoRoom-clause-stop : goal.returns-in-NoRoom-clause-stop
 returns-in-NoRoom-clause-stop g c =
-    (stops c.args.config c.args.entries.now c.loop-index.index c.loop-index.reads.items c.loop-index.device c.apply.new.self c.index-entries-index.result c.in_ok-apply.field-0 c.requires c.loop-index.invariant.0 c.index-entries-index.is c.loop-index-test.true c.in-NoRoom.is c.in_ok-apply.ensures.answered c.in_ok-apply.ensures.rooms).0
-
-pub returns-in-NoRoom-clause-first : goal.returns-in-NoRoom-clause-first
-returns-in-NoRoom-clause-first g c =
-    (stops c.args.config c.args.entries.now c.loop-index.index c.loop-index.reads.items c.loop-index.device c.apply.new.self c.index-entries-index.result c.in_ok-apply.field-0 c.requires c.loop-index.invariant.0 c.index-entries-index.is c.loop-index-test.true c.in-NoRoom.is c.in_ok-apply.ensures.answered c.in_ok-apply.ensures.rooms).1
-
-pub returns-in-NoRoom-clause-heaps : goal.returns-in-NoRoom-clause-heaps
-returns-in-NoRoom-clause-heaps g c =
-    stop_holds c.args.config c.args.entries.now c.loop-index.index c.loop-index.reads.items c.loop-index.device c.apply.new.self c.index-entries-index.result c.in_ok-apply.field-0 c.loop-index.invariant.0 c.in-NoRoom.is c.in_ok-apply.ensures.allots
+    stops c.args.config c.args.entries.now c.loop-index.index c.loop-index.reads.items c.loop-index.device c.apply.new.self c.index-entries-index.result c.in_ok-apply.field-0 c.requires c.loop-index.invariant.0 c.index-entries-index.is c.loop-index-test.true c.in-NoRoom.is c.in_ok-apply.ensures.answered c.in_ok-apply.ensures.rooms
 
 pub loop-index-preserved : goal.loop-index-preserved
 loop-index-preserved g c = (

@@ -1,7 +1,7 @@
 use Rattle.std.proofs.Common.{ap}
 use Rattle.vk_model.specs.declared.entry.Entry.{Entry}
 use Rattle.vk_device.proofs.Points.Entries.{map_answered, buffer_answered, read_answered, submit_answered}
-use Rattle.vk_device.specs.Allotted.{asked_by}
+use Rattle.vk_device.specs.Inner.Allotted.{asked_by}
 use Rattle.vk_device.specs.Held.{placed}
 use Rattle.vk_device.proofs.Traces.Allotting.{buffer_rooms, buffer_allots, map_allots, nothing_allots}
 use Rattle.vk_device.proofs.device.Device.apply_entry.Goals as goal

@@ -4,7 +4,7 @@ use Rattle.std.specs.Prelude.{IfSome}
 use Rattle.vk_heap.proofs.RegionLemmas.{length-repeated}
 use Rattle.vk_memory.specs.MemoryState.{IsLive, region_of}
 use Rattle.vk_device.specs.declared.device.Placed.{Placed}
-use Rattle.vk_device.specs.Allotted.{allotted}
+use Rattle.vk_device.specs.Inner.Allotted.{allotted}
 use Rattle.vk_device.specs.Held.{Held}
 use Rattle.vk_device.proofs.Traces.Allotting.{region_allots}
 use Rattle.vk_device.proofs.Bytes.Apart.{apart_rewritten}
