@@ -191,21 +191,7 @@ pub record Ahead : Type 0 where
       ∷ entry.Semaphore 2 0
       ∷ entry.Submit 0 (batch (submit_info 2 1 all_commands ∷ []) (cmd.Fill 1 0 (bytes 15) 1 ∷ []) [] ∷ [])
       ∷ []) []
-  -- A waiting batch names an id that only a later entry makes: it keeps that busy, too.
-  pub names_a_later_id : Refuses
-      (entry.Semaphore 2 0
-      ∷ entry.Submit 0 (batch (submit_info 2 1 all_commands ∷ []) (cmd.Fill 1 0 (bytes 16) 1 ∷ []) [] ∷ [])
-      ∷ buffer_entry 1 16 both sharing.Exclusive (place.Dedicated 1)
-      ∷ entry.Destroy 1
-      ∷ []) (at.Entry 3) rule.InUse
-  -- Another id is free.
-  pub names_another_id : Accepts
-      (entry.Semaphore 2 0
-      ∷ entry.Submit 0 (batch (submit_info 2 1 all_commands ∷ []) (cmd.Fill 1 0 (bytes 16) 1 ∷ []) [] ∷ [])
-      ∷ buffer_entry 3 16 both sharing.Exclusive (place.Dedicated 1)
-      ∷ entry.Destroy 3
-      ∷ []) []
-  -- So does it keep the pool of what is made later busy.
+  -- A waiting batch names a buffer that only a later entry makes: it keeps that one's pool busy, too.
   pub pass_of_a_later_id : Refuses
       (pool_entry 1 algorithm.Tlsf 1 4096 2
       ∷ entry.Semaphore 2 0
@@ -214,7 +200,7 @@ pub record Ahead : Type 0 where
       ∷ buffer_entry 4 16 both sharing.Exclusive (place.Pool 1)
       ∷ entry.Pass 3
       ∷ []) (at.Entry 5) rule.PassBusy
-  -- And no other resource's.
+  -- And no other buffer's.
   pub pass_of_another_id : Accepts
       (pool_entry 1 algorithm.Tlsf 1 4096 2
       ∷ entry.Semaphore 2 0

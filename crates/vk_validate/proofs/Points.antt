@@ -1,6 +1,7 @@
 pub mod Forms
 pub mod Pasts
 pub mod Plain
+pub mod Orders
 pub mod NextNodes
 pub mod Acts
 pub mod Places

@@ -10,7 +10,7 @@ use Rattle.vk_validate.specs.Supported.{is_supported, is_supported_action}
 use Rattle.vk_validate.specs.Inner.Cleared.{tests, first_test, IsCleared}
 use Rattle.vk_validate.proofs.Points.Plain.{IsPlain}
 use Rattle.vk_validate.proofs.Judging.Unbroken as unbroken
-use Rattle.vk_validate.proofs.Judging.Judged.{usage_is, map_state_is, host_visible_is, no_pass_state, no_pass_write}
+use Rattle.vk_validate.proofs.Judging.Judged.{usage_is, map_state_is, host_visible_is, no_pass_write}
 use Rattle.vk_validate.proofs.Judging.Named.{live_id_is}
 use Rattle.vk_validate.proofs.Points.Acts.{no_owner_pair}
 use Rattle.vk_validate.proofs.Ordering.Ordered.{no_signal_order}
@@ -61,12 +61,12 @@ module _ (past : Past) (p : Point) (cleared : IsCleared past) (now : is_supporte
   exact_is rule.EventDependency = unbroken.no_event_dependency past p now
   exact_is rule.SignalValue = refl
   exact_is rule.SignalOrder = no_signal_order past p supported now plain
-  exact_is rule.WaitBeforeSignal = unbroken.no_wait_before_signal past p now
+  exact_is rule.WaitBeforeSignal = refl
   exact_is rule.WaitNever = refl
   exact_is rule.MapState = map_state_is past supported p now
   exact_is rule.HostVisible = host_visible_is past supported p now
   exact_is rule.PoolKind = unbroken.no_pool_kind past p now
-  exact_is rule.PassState = no_pass_state past supported p now
+  exact_is rule.PassState = unbroken.no_pass_state past p now
   exact_is rule.PassBusy = unbroken.no_pass_busy past p now
   exact_is rule.PassWrite = no_pass_write past supported p now
   exact_is rule.HazardWar = no_hazard_war past p supported now plain

@@ -20,6 +20,7 @@ use Rattle.vk_validate.specs.Acceptable.{IsAcceptable}
 use Rattle.vk_validate.proofs.Judging.Exact.{first_test_is}
 use Rattle.vk_validate.proofs.Points.Pasts.{supported-cons}
 use Rattle.vk_validate.proofs.Points.Plain.{IsPlain, plain_order_plain}
+use Rattle.vk_validate.proofs.Points.Orders.{supported_order}
 use Rattle.vk_validate.proofs.Points.Places.{IsApart, plain_order_apart}
 use Rattle.vk_validate.proofs.Points.Reach.{supported_of}
 use Rattle.vk_validate.proofs.Keeping.TableLemmas.{past-next}
@@ -77,7 +78,7 @@ supported_is (p ∷ past) supported =
 
 reported_supported : (xs : List Entry) → is_supported (plain_order xs) ≡ true → reported_fault (plain_order xs) ≡ first_fault xs
 unfolding reported_fault first_fault
-reported_supported xs supported = supported_is (plain_order xs) supported
+reported_supported xs supported = supported_is (plain_order xs) supported ∙ ap fault (sym (supported_order xs supported))
 
 -- what no test finds is accepted
 acceptable : (xs : List Entry) → tested_fault (plain_order xs) ≡ None → IsAcceptable xs

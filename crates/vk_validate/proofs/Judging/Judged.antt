@@ -1,7 +1,7 @@
 -- Rules that need what a past of supported forms has made.
 use Rattle.std.proofs.Common.{◌≡◌, ◌+◌, ℕ, List, [], ◌∷◌, Bool, true, false, not, ◌||◌, ◌==◌, nat_lt, cond, refl, ap, ◌∙◌, arith, Option, Some, None}
-use Rattle.std.specs.Prelude.{is_some, option_and_then, count_by}
-use Rattle.std.specs.List.{list_any, list_all, filter, filter_map}
+use Rattle.std.specs.Prelude.{option_and_then, count_by}
+use Rattle.std.specs.List.{list_any, list_all}
 use Rattle.std.proofs.lemmas.Bool.Decides.{nat_tests}
 use Rattle.std.proofs.lemmas.List.Sums.{sum_by-cons}
 use Rattle.std.proofs.lemmas.Bool.{and_parts}
@@ -12,10 +12,10 @@ use Rattle.vk_model.specs.World.Bytes.{resource_at}
 use Rattle.vk_model.specs.Sync.Node.{acts}
 use Rattle.vk_model.specs.Sync.Access.{writes_of}
 use Rattle.vk_model.specs.Trace.Point.{Past, Point, Action, Host, Run, entries}
-use Rattle.vk_model.specs.Trace.Objects.{made, made_by, live, buffer, buffer_in, resource_in, type_at, is_of_type, defrag_in}
+use Rattle.vk_model.specs.Trace.Objects.{made, buffer, buffer_in, resource_in, type_at, is_of_type}
 use Rattle.vk_model.specs.Rules.Sizes.{lacks, layout_lacks, breaks_usage}
 use Rattle.vk_model.specs.Rules.Mapping.{mapping, maps, unmaps, count_for, is_mapped, breaks_map_state, breaks_host_visible}
-use Rattle.vk_model.specs.Rules.Passes.{some_pass, in_pass, breaks_pass_state, breaks_pass_write}
+use Rattle.vk_model.specs.Rules.Passes.{breaks_pass_write}
 use Rattle.vk_validate.specs.Supported.{is_supported, is_supported_action, is_supported_entry}
 use Rattle.vk_validate.specs.Inner.Tests.{is_on_type_0, lacks_usage, reads_unmapped, maps_local}
 use Rattle.vk_validate.specs.Inner.Tabled.{was_mapped}
@@ -23,11 +23,7 @@ use Rattle.vk_model.proofs.Lists.Members.{none_passes_any}
 use Rattle.vk_model.proofs.Lists.Truths.{or-false-false}
 use Rattle.vk_validate.proofs.Points.Barriers.{memory_any}
 use Rattle.vk_validate.proofs.Points.Forms.{entry_cases, command_cases, action_cases}
-use Rattle.vk_validate.proofs.Points.Pasts.{supported_entries, made_supported, live_made, none_bound, none_moves, maps_itself}
-
-filter_none : {A : Type 0} (f : A → Bool) → ((x : A) → f x ≡ false) → (xs : List A) → filter f xs ≡ []
-filter_none f none [] = refl
-filter_none f none (x ∷ xs) = rw (none x) (filter_none f none xs)
+use Rattle.vk_validate.proofs.Points.Pasts.{supported_entries, made_supported, none_bound, none_moves, maps_itself}
 
 -- a count is above 0 where some entry passes
 count_any : (f g : Entry → Bool) → ((x : Entry) → f x ≡ g x) → (xs : List Entry) → nat_lt 0 (count_by f xs) ≡ list_any g xs
@@ -51,15 +47,6 @@ module _ (past : Past) (supported : is_supported past ≡ true) where
       same : (o : Option ℕ) → holds o (λ c. mapping past c == mapping past b) ≡ holds o (λ c. c == b)
       same None = refl
       same (Some c) = rw (maps_itself past supported c, maps_itself past supported b) refl
-
-  no_pass_open : some_pass past ≡ false
-  no_pass_open = ap (list_any (in_pass past)) (filter_none _ none (filter_map made_by (entries past))) where
-    by_made : (i : ℕ) (o : Option Entry) → made past i ≡ o → is_some (option_and_then defrag_in o) ≡ false
-    by_made i None e = refl
-    by_made i (Some x) e = let P : Entry → Type 0 = λ x. is_some (defrag_in x) ≡ false in entry_cases P (λ i b t is other. refl) (λ b. refl) (λ b o n. refl) (λ i v. refl) (λ ws. refl) (λ bs. refl) x (made_supported past supported i x e)
-
-    none : (i : ℕ) → is_some (option_and_then defrag_in (live past i)) ≡ false
-    none i = rw (live_made past supported i) (by_made i (made past i) refl)
 
   -- what has a type is a buffer
   on_type_0 : (b : ℕ) → is_of_type past 0 b ≡ holds (buffer past b) (λ i. is_on_type_0 i.place)
@@ -97,12 +84,6 @@ module _ (past : Past) (supported : is_supported past ≡ true) where
     host_visible_is =
         let P : Action → Type 0 = λ d. breaks_host_visible past (record p { action = d }) ≡ maps_local past d in
         action_cases P (entry_cases (λ x. P (Host x)) (λ i b t is other. refl) (λ b. on_type_0 b) (λ b o n. refl) (λ i v. refl) (λ ws. refl) (λ bs. refl))
-        (command_cases (λ c. P (Run c)) (λ b o n w. refl) (λ es all. refl)) (λ s. refl) p.action now
-
-    pub no_pass_state : breaks_pass_state past p ≡ false
-    no_pass_state =
-        let P : Action → Type 0 = λ d. breaks_pass_state past (record p { action = d }) ≡ false in
-        action_cases P (entry_cases (λ x. P (Host x)) (λ i b t is other. rw no_pass_open refl) (λ b. rw no_pass_open refl) (λ b o n. rw no_pass_open refl) (λ i v. rw no_pass_open refl) (λ ws. rw no_pass_open refl) (λ bs. rw no_pass_open refl))
         (command_cases (λ c. P (Run c)) (λ b o n w. refl) (λ es all. refl)) (λ s. refl) p.action now
 
     pub no_pass_write : breaks_pass_write past p ≡ false

@@ -12,8 +12,8 @@ use Rattle.vk_model.specs.Rules.Binding.{breaks_bind_range, breaks_bind_align, b
 use Rattle.vk_model.specs.Rules.Ranges.{breaks_overlap, breaks_format, breaks_subresource, bad_element, transitions_meet}
 use Rattle.vk_model.specs.Rules.Layouts.{breaks_layout, breaks_old_layout, bad_transition, bad_old_layout}
 use Rattle.vk_model.specs.Rules.Owners.{breaks_owner_whole, is_partial_transfer}
-use Rattle.vk_model.specs.Rules.Synchronization.{breaks_event_state, breaks_event_dependency, breaks_wait_before_signal}
-use Rattle.vk_model.specs.Rules.Passes.{breaks_pool_kind, breaks_pass_busy}
+use Rattle.vk_model.specs.Rules.Synchronization.{breaks_event_state, breaks_event_dependency}
+use Rattle.vk_model.specs.Rules.Passes.{breaks_pool_kind, breaks_pass_state, breaks_pass_busy}
 use Rattle.vk_model.specs.Rules.Hazards.{breaks_in_use}
 use Rattle.vk_validate.specs.Supported.{is_supported_action, is_memory}
 use Rattle.vk_validate.proofs.Points.Barriers.{memory_any}
@@ -97,15 +97,15 @@ module _ (past : Past) (p : Point) (supported : is_supported_action p.action ≡
       let P : Action → Type 0 = λ d. breaks_event_dependency past (record p { action = d }) ≡ false in
       action_cases P (entry_cases (λ x. P (Host x)) (λ i b t is other. refl) (λ b. refl) (λ b o n. refl) (λ i v. refl) (λ ws. refl) (λ bs. refl)) (command_cases (λ c. P (Run c)) (λ b o n w. refl) (λ es all. refl)) (λ s. refl) p.action supported
 
-  pub no_wait_before_signal : breaks_wait_before_signal past p ≡ false
-  no_wait_before_signal =
-      let P : Action → Type 0 = λ d. breaks_wait_before_signal past (record p { action = d }) ≡ false in
-      action_cases P (entry_cases (λ x. P (Host x)) (λ i b t is other. refl) (λ b. refl) (λ b o n. refl) (λ i v. refl) (λ ws. refl) (λ bs. refl)) (command_cases (λ c. P (Run c)) (λ b o n w. refl) (λ es all. refl)) (λ s. refl) p.action supported
-
   pub no_pool_kind : breaks_pool_kind past p ≡ false
   no_pool_kind =
       let P : Action → Type 0 = λ d. breaks_pool_kind past (record p { action = d }) ≡ false in
       action_cases P (entry_cases (λ x. P (Host x)) (λ i b t is other. rw is refl) (λ b. refl) (λ b o n. refl) (λ i v. refl) (λ ws. refl) (λ bs. refl)) (command_cases (λ c. P (Run c)) (λ b o n w. refl) (λ es all. refl)) (λ s. refl) p.action supported
+
+  pub no_pass_state : breaks_pass_state past p ≡ false
+  no_pass_state =
+      let P : Action → Type 0 = λ d. breaks_pass_state past (record p { action = d }) ≡ false in
+      action_cases P (entry_cases (λ x. P (Host x)) (λ i b t is other. refl) (λ b. refl) (λ b o n. refl) (λ i v. refl) (λ ws. refl) (λ bs. refl)) (command_cases (λ c. P (Run c)) (λ b o n w. refl) (λ es all. refl)) (λ s. refl) p.action supported
 
   pub no_pass_busy : breaks_pass_busy past p ≡ false
   no_pass_busy =

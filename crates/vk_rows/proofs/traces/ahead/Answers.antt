@@ -18,8 +18,6 @@ returns c = record {
   never_started = (refl, refl);
   judged_when_started = refl;
   not_judged = (refl, refl);
-  names_a_later_id = refl;
-  names_another_id = (refl, refl);
   pass_of_a_later_id = refl;
   pass_of_another_id = (refl, refl);
 }
