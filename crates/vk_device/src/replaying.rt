@@ -1,5 +1,5 @@
 ghost use Rattle.std.specs.Prelude.{◌≡◌, length, IfOk, IfErr, MatchOption, None, false};
-ghost use Rattle.vk_model.specs.Trace.Order.{plain_order, order};
+ghost use Rattle.vk_model.specs.Trace.Order.{plain_order};
 ghost use Rattle.vk_model.specs.World.Meaning.{meaning};
 ghost use Rattle.vk_model.specs.Rules.Table.{first_fault};
 ghost use Rattle.vk_device.specs.Clean.{IsClean};
