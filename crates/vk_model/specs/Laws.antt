@@ -30,19 +30,23 @@ NoFaultIsUnbroken = (past : Past) → (fault past ≡ None) ↔ IsUnbroken past
 abbrev pub NoFaultIsSound : Type 0
 NoFaultIsSound = (t : List Entry) → (first_fault t ≡ None) ↔ IsSound t
 
--- A point of a trace is reported with a rule that it breaks; no earlier point breaks any, and the point breaks no earlier rule of the table.
-pub record IsFirst (t : List Entry) (reported : At) (r : Rule) : Type 0 where
+-- A point of a past is reported with a rule that it breaks; no earlier point breaks any, and the point breaks no earlier rule of the table.
+pub record IsFirst (past : Past) (reported : At) (r : Rule) : Type 0 where
   pub before : Past
   pub point : Point
-  pub comes : Comes (order t) before point
+  pub comes : Comes past before point
   pub is_reported : at_of point ≡ reported
   pub broken : IsTrue (breaks r before point)
   pub earlier_points : (older : Past) (p : Point) (s : Rule) → Comes before older p → IsTrue (breaks s older p) → ⊥
   pub earlier_rules : (i j : ℕ) (s : Rule) → slice_get rules i ≡ Some s → slice_get rules j ≡ Some r → i < j → breaks s before point ≡ false
 
--- The first fault of a trace is first among its points, and first among the rules there.
+-- The fault of a past is first among its points, and first among the rules there.
+abbrev pub FaultOfPastIsFirst : Type 0
+FaultOfPastIsFirst = (past : Past) (reported : At) (r : Rule) → fault past ≡ Some (reported, r) → IsFirst past reported r
+
+-- So is the first fault of a trace, in reference order.
 abbrev pub FaultIsFirst : Type 0
-FaultIsFirst = (t : List Entry) (reported : At) (r : Rule) → first_fault t ≡ Some (reported, r) → IsFirst t reported r
+FaultIsFirst = (t : List Entry) (reported : At) (r : Rule) → first_fault t ≡ Some (reported, r) → IsFirst (order t) reported r
 
 -- Among the old nodes every edge, order and visibility is as it was when these were all.
 pub record Keeps (old new : List Node) : Type 0 where

@@ -1,5 +1,5 @@
 //! Laws of the definitions, each the contract of a function that does nothing.
-ghost use Rattle.vk_model.specs.Laws.{OrderIsOrdered, OrderHasEntries, OrderGrows, PointsComeOnce, NoFaultIsUnbroken, NoFaultIsSound, FaultIsFirst, NamesDiffer, TableIsWhole, GrowthKeeps, BeforeIsPath, BeforeIsTransitive, BeforeLeadsOn, PiecesAreByteWrites, PiecesWriteApart, OrdersAgree};
+ghost use Rattle.vk_model.specs.Laws.{OrderIsOrdered, OrderHasEntries, OrderGrows, PointsComeOnce, NoFaultIsUnbroken, NoFaultIsSound, FaultOfPastIsFirst, FaultIsFirst, NamesDiffer, TableIsWhole, GrowthKeeps, BeforeIsPath, BeforeIsTransitive, BeforeLeadsOn, PiecesAreByteWrites, PiecesWriteApart, OrdersAgree};
 
 /// A past has no fault exactly where no point of it breaks any rule.
 pub fn no_fault_is_unbroken()
@@ -13,11 +13,18 @@ pub fn no_fault_is_sound()
     no_fault_is_unbroken();
 }
 
-/// Where there is a first fault, its point breaks its rule, no earlier point breaks any rule, and the
-/// point breaks no earlier rule of the table.
+/// Where a past has a fault, its point breaks its rule, no earlier point breaks any rule, and the point
+/// breaks no earlier rule of the table.
+pub fn fault_of_past_is_first()
+    ensures { FaultOfPastIsFirst }
+{}
+
+/// So it is of the first fault of a trace, in reference order.
 pub fn fault_is_first()
     ensures { FaultIsFirst }
-{}
+{
+    fault_of_past_is_first();
+}
 
 /// Rules that are printed alike are the same rule.
 pub fn names_differ()

@@ -24,9 +24,9 @@ pub use command::{
 pub use config::Config;
 pub use entry::{Batch, Entry, SemaphoreSubmit, SemaphoreValue};
 pub use laws::{
-    before_is_order, before_is_path, fault_is_first, growth_keeps, names_differ, no_fault_is_sound,
-    no_fault_is_unbroken, order_is_structured, orders_agree, pieces_are_byte_writes,
-    pieces_write_apart, points_come_once, table_is_whole,
+    before_is_order, before_is_path, fault_is_first, fault_of_past_is_first, growth_keeps,
+    names_differ, no_fault_is_sound, no_fault_is_unbroken, order_is_structured, orders_agree,
+    pieces_are_byte_writes, pieces_write_apart, points_come_once, table_is_whole,
 };
 pub use layout::{Format, Layout};
 pub use masks::{Accesses, Stages, Usage};

@@ -9,8 +9,6 @@ use Rattle.vk_model.specs.Rules.Table.{breaks, rules, first_rule, fault}
 use Rattle.vk_model.specs.Rules.Fault.{Comes, newest, older, IsUnbroken}
 use Rattle.vk_model.specs.Laws.{IsFirst}
 use Rattle.vk_model.proofs.Rules.Table.{place_of, once}
-use Rattle.vk_model.specs.Trace.Order.{order}
-use Rattle.vk_model.specs.declared.entry.Entry.{Entry}
 use Rattle.std.proofs.lemmas.Bool.{false_from_ne_true}
 
 -- ---- the first item that passes a test
@@ -151,10 +149,10 @@ fault_at (q ∷ past) reported r some = elim (fault-cons_some past q reported r 
   | inr here ↦ record { before = past; point = q; comes = newest; is_reported = here.2; first = here.1; clean = here.0 }
 ]
 
-pub first_of_fault : (t : List Entry) (reported : At) (r : Rule) → fault (order t) ≡ Some (reported, r) → IsFirst t reported r
+pub first_of_fault : (all : Past) (reported : At) (r : Rule) → fault all ≡ Some (reported, r) → IsFirst all reported r
 unfolding first_rule
-first_of_fault t reported r some =
-    let f = fault_at (order t) reported r some in record {
+first_of_fault all reported r some =
+    let f = fault_at all reported r some in record {
       before = f.before;
       point = f.point;
       comes = f.comes;

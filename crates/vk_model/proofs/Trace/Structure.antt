@@ -167,18 +167,18 @@ record Stands (e : ℕ) (f : Front) : Type 0 where
   pub lined : Pairs IsSooner f.waiting
 
 -- the batch that is started is the first of its queue
-record IsFirst (queues : List ℕ) (t : SubmittedBatch) (ts : List SubmittedBatch) : Type 0 where
+record IsFirstOfQueue (queues : List ℕ) (t : SubmittedBatch) (ts : List SubmittedBatch) : Type 0 where
   pub front : List SubmittedBatch
   pub rest : List SubmittedBatch
   pub split : ts ≡ front ++ t ∷ rest
   pub others : Each (λ u. u.queue ≡ t.queue → ⊥) front
   pub free : among t.queue queues ≡ false
 
-next_is_first : (past : Past) (queues : List ℕ) (ts : List SubmittedBatch) (t : SubmittedBatch) → next_batch past queues ts ≡ Some t → IsFirst queues t ts
+next_is_first : (past : Past) (queues : List ℕ) (ts : List SubmittedBatch) (t : SubmittedBatch) → next_batch past queues ts ≡ Some t → IsFirstOfQueue queues t ts
 next_is_first past queues [] t e = absurd cc
 next_is_first past queues (u ∷ us) t e = go (among u.queue queues) (list_all (is_met past) u.waits) refl e (next_is_first past (u.queue ∷ queues) us t)
   where
-    apart : IsFirst (u.queue ∷ queues) t us → IsFirst queues t (u ∷ us)
+    apart : IsFirstOfQueue (u.queue ∷ queues) t us → IsFirstOfQueue queues t (u ∷ us)
     apart f =
         let parts = or_parts (t.queue == u.queue) (among t.queue queues) f.free in
         record {
@@ -190,7 +190,7 @@ next_is_first past queues (u ∷ us) t e = go (among u.queue queues) (list_all (
         }
 
     go : (a b : Bool) → among u.queue queues ≡ a → (if not a && b then Some u else next_batch past (u.queue ∷ queues) us) ≡ Some t
-        → (next_batch past (u.queue ∷ queues) us ≡ Some t → IsFirst (u.queue ∷ queues) t us) → IsFirst queues t (u ∷ us)
+        → (next_batch past (u.queue ∷ queues) us ≡ Some t → IsFirstOfQueue (u.queue ∷ queues) t us) → IsFirstOfQueue queues t (u ∷ us)
     go false true is e rest = let same : u ≡ t = cc in record {
       front = [];
       rest = us;
@@ -202,7 +202,7 @@ next_is_first past queues (u ∷ us) t e = go (among u.queue queues) (list_all (
     go true b is e rest = apart (rest e)
 
 module _ (e : ℕ) (f : Front) (s : Stands e f) (t : SubmittedBatch) (next : next_batch f.past [] f.waiting ≡ Some t) where
-  first : IsFirst [] t f.waiting
+  first : IsFirstOfQueue [] t f.waiting
   first = next_is_first f.past [] f.waiting t next
 
   its_waits : Waits f.past t

@@ -1,13 +1,12 @@
 -- What a device has allocated, entry by entry, and which entries find no room.
-use Rattle.std.specs.Prelude.{◌≡◌, ℕ, ◌+◌, ◌*◌, ◌<◌, ◌==◌, List, [], ◌∷◌, ◌++◌, map, take, length, sum_by, Bool, true, false, not, if◌then◌else◌, Option, Some, None, option_map, slice_get, IsTrue}
+use Rattle.std.specs.Prelude.{◌≡◌, ℕ, ◌+◌, ◌*◌, ◌==◌, List, [], ◌∷◌, ◌++◌, map, take, length, sum_by, Bool, true, false, not, if◌then◌else◌, Option, Some, None, slice_get, IsTrue}
 use Rattle.std.specs.List.{fold, filter, find}
 use Rattle.vk_model.specs.declared.entry.Entry.{Entry}
 use Rattle.vk_model.specs.declared.entry.Entry.TheVariants as entry
 use Rattle.vk_model.specs.declared.resource.Place.{Place}
 use Rattle.vk_model.specs.declared.resource.Place.TheVariants as place
-use Rattle.vk_model.specs.declared.resource.PoolInfo.{PoolInfo}
 use Rattle.vk_model.specs.Basics.{among}
-use Rattle.vk_model.specs.Trace.Objects.{Resource, of_buffer, of_image, resource_in}
+use Rattle.vk_model.specs.Trace.Objects.{Resource, of_buffer, of_image}
 use Rattle.vk_model.specs.Memory.HeapSizes.{HeapSizes}
 use Rattle.vk_model.specs.Memory.Suballocation.{Request}
 use Rattle.vk_model.specs.Memory.Room.{Heaps, heap_of, no_object, request_of, NoRoomInPool}
