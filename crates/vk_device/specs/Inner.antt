@@ -1,3 +1,4 @@
 pub mod Allotted
 pub mod Fits
+pub mod Made
 pub mod Steps

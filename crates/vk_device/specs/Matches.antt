@@ -1,11 +1,12 @@
 -- How a device matches what has happened, and what it answers to what comes next.
-use Rattle.std.specs.Prelude.{◌≡◌, ℕ, [], ◌∷◌, Some, IsSome, option_map}
+use Rattle.std.specs.Prelude.{◌≡◌, ℕ, [], ◌∷◌, false, Option, Some, IsSome, option_map, option_and_then}
 use Rattle.std.specs.List.{fold}
 use Rattle.vk_model.specs.declared.entry.Entry.{Entry}
 use Rattle.vk_model.specs.Trace.Point.{Past}
-use Rattle.vk_model.specs.Trace.Objects.{buffer}
+use Rattle.vk_model.specs.Trace.Objects.{live, ended, buffer_in}
+use Rattle.vk_model.specs.declared.resource.BufferInfo.{BufferInfo}
 use Rattle.vk_model.specs.Trace.Order.{started, batches_of, host}
-use Rattle.vk_model.specs.World.Bytes.{Byte, in_buffer, in_image}
+use Rattle.vk_model.specs.World.Bytes.{Byte, in_buffer, in_image, resource_at}
 use Rattle.vk_model.specs.World.Effect.{world}
 use Rattle.vk_model.specs.World.Meaning.{read_in}
 use Rattle.vk_device.specs.declared.applied.Applied.{Applied}
@@ -20,12 +21,16 @@ abbrev pub IsThere : Held → Byte → Type 0
 IsThere s (in_buffer b k) = IsSome (placed s b)
 IsThere s (in_image i l a x y p) = ⊥
 
--- A device holds what a past means: the buffers that were made, and the value of each byte that is defined.
+-- The buffer of an id that is live (Vulkan, "Object Lifetime").
+abbrev pub live_buffer : Past → ℕ → Option BufferInfo
+live_buffer past b = option_and_then buffer_in (live past b)
+
+-- A device holds what a past means of what is live: its buffers, and the value of each of their bytes that is defined. Of what has ended it owes nothing.
 pub record Matches (past : Past) (s : Held) : Type 0 where
-  -- the buffers are those that were made
-  pub sizes : (b : ℕ) → option_map (λ p. p.size) (placed s b) ≡ option_map (λ i. i.size) (buffer past b)
-  -- a byte that is defined is there, with its value
-  pub values : (c : Byte) (v : ℕ) → (world past).value c ≡ Some v → IsThere s c × (byte_at s c ≡ v)
+  -- the buffers are those that are live
+  pub sizes : (b : ℕ) → option_map (λ p. p.size) (placed s b) ≡ option_map (λ i. i.size) (live_buffer past b)
+  -- a byte that is defined, of a resource that hasn't ended, is there with its value
+  pub values : (c : Byte) (v : ℕ) → ended past (resource_at c) ≡ false → (world past).value c ≡ Some v → IsThere s c × (byte_at s c ≡ v)
 
 -- The past after an entry with its batches, as in plain order.
 abbrev pub next_past : ℕ → Entry → Past → Past

@@ -51,6 +51,7 @@ impl Device {
     ghost use Rattle.vk_device.specs.Inner.Allotted.{allotted, FoundRoom, GotAsked};
     ghost use Rattle.vk_device.specs.Clean.{IsClean};
     ghost use Rattle.vk_device.specs.Inner.Fits.{AllFit, FitsCommand};
+    ghost use Rattle.vk_device.specs.Inner.Made.{MatchesMade, AnsweredMade};
     ghost use Rattle.vk_device.specs.Matches.{Matches, next_past, IsNext, Answered, Rooms, Allots};
     ghost use Rattle.vk_device.specs.declared.applied.ApplyError.TheVariants.{NoMemory, Failed};
 
@@ -88,7 +89,7 @@ impl Device {
     /// Runs a fill; a barrier has nothing to do, since each command has ended before the next begins.
     fn run_command(&mut self, command: &Cmd)
         requires { CommandReady self.old command.now }
-        ensures matches { (e b k q : ℕ) (past : Past) → Matches past self.old → FitsCommand past command.now → Matches (run_point e b k q command.now ∷ past) self.new }
+        ensures matches { (e b k q : ℕ) (past : Past) → MatchesMade past self.old → FitsCommand past command.now → MatchesMade (run_point e b k q command.now ∷ past) self.new }
         ensures allotted { allotted self.new.memory ≡ allotted self.old.memory }
         ensures failed { self.new.failed ≡ self.old.failed }
     {
@@ -105,7 +106,7 @@ impl Device {
 
     fn run_commands(&mut self, commands: &[Cmd])
         requires { CommandsReady self.old commands.now }
-        ensures matches { (t : SubmittedBatch) (past : Past) → Matches past self.old → AllFit (actions Run t 0 commands.now past) → Matches (actions Run t 0 commands.now past) self.new }
+        ensures matches { (t : SubmittedBatch) (past : Past) → MatchesMade past self.old → AllFit (actions Run t 0 commands.now past) → MatchesMade (actions Run t 0 commands.now past) self.new }
         ensures allotted { allotted self.new.memory ≡ allotted self.old.memory }
         ensures failed { self.new.failed ≡ self.old.failed }
     {
@@ -116,7 +117,7 @@ impl Device {
 
     fn run_batch(&mut self, batch: &Batch)
         requires { BatchReady self.old batch.now }
-        ensures matches { (t : SubmittedBatch) (past : Past) → t.content ≡ batch.now → Matches past self.old → AllFit (started t past) → Matches (started t past) self.new }
+        ensures matches { (t : SubmittedBatch) (past : Past) → t.content ≡ batch.now → MatchesMade past self.old → AllFit (started t past) → MatchesMade (started t past) self.new }
         ensures allotted { allotted self.new.memory ≡ allotted self.old.memory }
         ensures failed { self.new.failed ≡ self.old.failed }
     {
@@ -125,7 +126,7 @@ impl Device {
 
     fn run_batches(&mut self, batches: &[Batch])
         requires { BatchesReady self.old batches.now }
-        ensures matches { (at : Past) (e q : ℕ) (past : Past) → Matches past self.old → AllFit (batches_past at e q 0 batches.now past) → Matches (batches_past at e q 0 batches.now past) self.new }
+        ensures matches { (at : Past) (e q : ℕ) (past : Past) → MatchesMade past self.old → AllFit (batches_past at e q 0 batches.now past) → MatchesMade (batches_past at e q 0 batches.now past) self.new }
         ensures allotted { allotted self.new.memory ≡ allotted self.old.memory }
         ensures failed { self.new.failed ≡ self.old.failed }
     {
@@ -182,7 +183,7 @@ impl Device {
     /// Applies an entry, and leaves it to the caller to keep that it failed.
     fn apply_entry(&mut self, entry: &Entry) -> Result<Applied, ApplyError>
         requires { Ready self.old entry.now }
-        ensures answered { IfOk result (λ a. (e : ℕ) (past : Past) → Matches past self.old → AllFit (next_past e entry.now past) → Answered a e entry.now past self.old self.new) }
+        ensures answered { IfOk result (λ a. (e : ℕ) (past : Past) → MatchesMade past self.old → AllFit (next_past e entry.now past) → AnsweredMade a e entry.now past self.old self.new) }
         ensures rooms { IfOk result (λ a. FoundRoom a self.old entry.now) }
         ensures allots { IfOk result (λ a. GotAsked a entry.now self.old self.new) }
         ensures failed { self.new.failed ≡ self.old.failed }

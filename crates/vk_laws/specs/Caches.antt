@@ -2,27 +2,8 @@
 use Rattle.std.specs.Prelude.{◌≡◌, ◌⊎◌, ℕ, ◌<◌, Bool, IsTrue, List, [], ◌∷◌, Option, Some, None}
 use Rattle.vk_model.specs.World.Bytes.{Byte}
 use Rattle.vk_model.specs.World.ByteWrites.{Value, From}
+use Rattle.vk_model.specs.Run.Caches.{Clean, Dirty, Cell, view}
 use Rattle.vk_laws.specs.Machine.{Task, Put, Puts, Unknown, TraceAccesses, Writes, Reads, Precedes, MayRun, latest}
-
--- What a cache holds of a byte: a copy, or a write that hasn't reached the region (Vulkan, "Execution and Memory Dependencies", on availability and visibility).
-pub data Held : Type 0 where
-  Clean : (value : ℕ) → Held
-  Dirty : (value : ℕ) → Held
-
--- A byte in its region of memory, and what each agent's cache holds of it.
-pub record Cell : Type 0 where
-  pub region : ℕ
-  pub held : ℕ → Option Held
-
--- The value of a byte through a cache that holds this of it.
-abbrev pub value_through : Option Held → ℕ → ℕ
-value_through None region = region
-value_through (Some (Clean value)) region = value
-value_through (Some (Dirty value)) region = value
-
--- The byte as it is visible to an agent.
-abbrev pub view : ℕ → Cell → ℕ
-view a cell = value_through (cell.held a) cell.region
 
 -- ---- what happens to a byte
 

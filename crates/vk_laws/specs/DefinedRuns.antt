@@ -32,14 +32,14 @@ entry_task s = record { node = length (nodes s.front.past); index = 0 }
 
 -- The tasks after a step, the newest first: a part of a pass that is copied is none.
 abbrev pub with_step : Stage → Step → List Task → List Task
-with_step s (Apply atoms) done = entry_task s ∷ done
+with_step s (Apply atoms parts) done = entry_task s ∷ done
 with_step s (RunPiece x) done = piece_task x ∷ done
 with_step s (CopyPart k) done = done
 
 -- The pieces and host entries that an allowed run has done after others, the newest first.
-abbrev pub done_by : (part_count : Past → ℕ) (s : Stage) (steps : List Step) (e : Stage) → Allowed part_count s steps e → List Task → List Task
-done_by part_count s [] e run done = done
-done_by part_count s (step ∷ steps) e run done = done_by part_count run.0 steps e run.2 (with_step s step done)
+abbrev pub done_by : (s : Stage) (steps : List Step) (e : Stage) → Allowed s steps e → List Task → List Task
+done_by s [] e run done = done
+done_by s (step ∷ steps) e run done = done_by run.0 steps e run.2 (with_step s step done)
 
 -- The value of a byte after a write of this to it, if any, from the values before it; for a write of an unknown value, 0.
 abbrev pub stored : Option Put → (Byte → ℕ) → Byte → ℕ
@@ -81,40 +81,40 @@ pub record Matches (all : Past) (s : Stage) (done : List Task) : Type 0 where
   pub only : (u : Task) → is_event all u ≡ false → IsTrue (has_come all s u) → MayRun (accesses_of all) done u → MayCome s u
 
 -- A run from a trace's start to a stage that the definitions allow.
-abbrev pub RunOf : (Past → ℕ) → List Entry → List Step → Stage → Type 0
-RunOf part_count t steps e = Allowed part_count (start t) steps e
+abbrev pub RunOf : List Entry → List Step → Stage → Type 0
+RunOf t steps e = Allowed (start t) steps e
 
 -- The pieces and host entries of a run, the newest first.
-abbrev pub tasks_of : (part_count : Past → ℕ) (t : List Entry) (steps : List Step) (e : Stage) → RunOf part_count t steps e → List Task
-tasks_of part_count t steps e run = done_by part_count (start t) steps e run []
+abbrev pub tasks_of : (t : List Entry) (steps : List Step) (e : Stage) → RunOf t steps e → List Task
+tasks_of t steps e run = done_by (start t) steps e run []
 
 -- Each allowed run of a trace without a fault is an allowed run of the machine, with events between its steps: without them these are its pieces and entries in their order.
 abbrev pub DefinedRunsAreAllowed : Type 0
 DefinedRunsAreAllowed =
-    (t : List Entry) (part_count : Past → ℕ) (steps : List Step) (e : Stage) (run : RunOf part_count t steps e) → first_fault t ≡ None
-    → (done : List Task) × Matches (order t) e done × (filter (λ u. not (is_event (order t) u)) done ≡ tasks_of part_count t steps e run)
+    (t : List Entry) (steps : List Step) (e : Stage) (run : RunOf t steps e) → first_fault t ≡ None
+    → (done : List Task) × Matches (order t) e done × (filter (λ u. not (is_event (order t) u)) done ≡ tasks_of t steps e run)
 
 -- ---- what the law of the machine says of them
 
 -- When a piece or host entry may come next, of those whose accesses conflict with its own the earlier ones have happened, and the later ones haven't.
 abbrev pub DefinedRunsAreSettled : Type 0
 DefinedRunsAreSettled =
-    (t : List Entry) (part_count : Past → ℕ) (steps : List Step) (e : Stage) (next other : Task) (c : Byte) → RunOf part_count t steps e → first_fault t ≡ None → MayCome e next
+    (t : List Entry) (steps : List Step) (e : Stage) (next other : Task) (c : Byte) → RunOf t steps e → first_fault t ≡ None → MayCome e next
     → (other.node < next.node → Conflict (accesses_of (order t)) other next c → IsTrue (has_happened (order t) e other))
     × (next.node < other.node → Conflict (accesses_of (order t)) next other c → has_happened (order t) e other ≡ false)
 
 -- When a piece or host entry may come next, each byte that it reads has the model's value before its node, where the model defines one: the run's pieces and entries took effect one after another on one memory, whatever it held at first.
 abbrev pub DefinedRunsAreFresh : Type 0
 DefinedRunsAreFresh =
-    (t : List Entry) (part_count : Past → ℕ) (steps : List Step) (e : Stage) (run : RunOf part_count t steps e) (first : Byte → ℕ) (next : Task) (c : Byte) (v : ℕ) → first_fault t ≡ None → MayCome e next
-    → Reads (accesses_of (order t)) next c → value_before (order t) next.node c ≡ Some v → bytes_after (accesses_of (order t)) first (tasks_of part_count t steps e run) c ≡ v
+    (t : List Entry) (steps : List Step) (e : Stage) (run : RunOf t steps e) (first : Byte → ℕ) (next : Task) (c : Byte) (v : ℕ) → first_fault t ≡ None → MayCome e next
+    → Reads (accesses_of (order t)) next c → value_before (order t) next.node c ≡ Some v → bytes_after (accesses_of (order t)) first (tasks_of t steps e run) c ≡ v
 
 -- And at any stage each byte that was written has the model's value after the node of its last write, where the model defines one.
 abbrev pub DefinedRunsAreWritten : Type 0
 DefinedRunsAreWritten =
-    (t : List Entry) (part_count : Past → ℕ) (steps : List Step) (e : Stage) (run : RunOf part_count t steps e) (first : Byte → ℕ) (writer : Task) (c : Byte) (v : ℕ) → first_fault t ≡ None
-    → latest (accesses_of (order t)) c (tasks_of part_count t steps e run) ≡ Some writer → value_before (order t) (suc writer.node) c ≡ Some v
-    → bytes_after (accesses_of (order t)) first (tasks_of part_count t steps e run) c ≡ v
+    (t : List Entry) (steps : List Step) (e : Stage) (run : RunOf t steps e) (first : Byte → ℕ) (writer : Task) (c : Byte) (v : ℕ) → first_fault t ≡ None
+    → latest (accesses_of (order t)) c (tasks_of t steps e run) ≡ Some writer → value_before (order t) (suc writer.node) c ≡ Some v
+    → bytes_after (accesses_of (order t)) first (tasks_of t steps e run) c ≡ v
 
 -- ---- the end of a run
 
@@ -125,11 +125,11 @@ IsOver s = (u : Task) → MayCome s u → ⊥
 -- A run of a trace without a fault is never stuck: where nothing may come next, no entry is left, and each piece and host entry of the trace has happened.
 abbrev pub DefinedRunsEnd : Type 0
 DefinedRunsEnd =
-    (t : List Entry) (part_count : Past → ℕ) (steps : List Step) (e : Stage) → RunOf part_count t steps e → first_fault t ≡ None → IsOver e
+    (t : List Entry) (steps : List Step) (e : Stage) → RunOf t steps e → first_fault t ≡ None → IsOver e
     → (e.left ≡ []) × ((u : Task) → IsTrue ((accesses_of (order t)).has u) → is_event (order t) u ≡ false → IsTrue (has_happened (order t) e u))
 
 -- And each byte has the value that the trace leaves in it, where the model defines one.
 abbrev pub DefinedRunsMeanTheTrace : Type 0
 DefinedRunsMeanTheTrace =
-    (t : List Entry) (part_count : Past → ℕ) (steps : List Step) (e : Stage) (run : RunOf part_count t steps e) (first : Byte → ℕ) (c : Byte) (v : ℕ) → first_fault t ≡ None → IsOver e
-    → (world (order t)).value c ≡ Some v → bytes_after (accesses_of (order t)) first (tasks_of part_count t steps e run) c ≡ v
+    (t : List Entry) (steps : List Step) (e : Stage) (run : RunOf t steps e) (first : Byte → ℕ) (c : Byte) (v : ℕ) → first_fault t ≡ None → IsOver e
+    → (world (order t)).value c ≡ Some v → bytes_after (accesses_of (order t)) first (tasks_of t steps e run) c ≡ v

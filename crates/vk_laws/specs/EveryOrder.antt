@@ -2,7 +2,8 @@
 use Rattle.std.specs.Prelude.{◌≡◌, ℕ, suc, ◌<◌, List, Option, Some}
 use Rattle.vk_model.specs.World.Bytes.{Byte}
 use Rattle.vk_laws.specs.Machine.{IsIn, Task, TraceAccesses, Reads, Conflict, HazardFree, MayRun, IsModel, latest}
-use Rattle.vk_laws.specs.Caches.{Cell, Caching, CacheFree, Reached, view}
+use Rattle.vk_model.specs.Run.Caches.{Cell, view}
+use Rattle.vk_laws.specs.Caches.{Caching, CacheFree, Reached}
 use Rattle.vk_laws.specs.Commands.{Effects, meaning, IsCut}
 
 -- Of the tasks whose accesses conflict with one's own: those of earlier nodes are done, and those of later nodes aren't.

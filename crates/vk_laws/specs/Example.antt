@@ -3,7 +3,8 @@ use Rattle.std.specs.Prelude.{◌≡◌, ℕ, zero, suc, Bool, true, false, ◌&
 use Rattle.vk_model.specs.World.Bytes.{Byte, in_buffer}
 use Rattle.vk_model.specs.World.ByteWrites.{Value, From}
 use Rattle.vk_laws.specs.Machine.{Task, Put, Puts, TraceAccesses, Reads, HazardFree, MayRun, IsModel}
-use Rattle.vk_laws.specs.Caches.{Held, Clean, Dirty, Cell, Caching, CacheFree, Reached, view}
+use Rattle.vk_model.specs.Run.Caches.{Held, Clean, Dirty, Cell, view}
+use Rattle.vk_laws.specs.Caches.{Caching, CacheFree, Reached}
 use Rattle.vk_laws.specs.Commands.{Effects, meaning}
 
 -- The tasks: the first fill is node 0, its queue's signal node 1, the other queue's wait node 2, the copy node 3, and the other fill node 4.

@@ -2,7 +2,8 @@
 use Rattle.std.specs.Prelude.{◌≡◌, ℕ, ◌<◌, Bool, true, false, IsTrue, List}
 use Rattle.vk_model.specs.World.Bytes.{Byte}
 use Rattle.vk_laws.specs.Machine.{IsIn, Task, TraceAccesses, Precedes, MayRun}
-use Rattle.vk_laws.specs.Caches.{Cell, Caching, Reached}
+use Rattle.vk_model.specs.Run.Caches.{Cell}
+use Rattle.vk_laws.specs.Caches.{Caching, Reached}
 
 -- A trace begins as a shorter one whose nodes are those below `size`: with its tasks, accesses, order and caches. More nodes come before none of these (profile; by the definition of the order of nodes it is so).
 pub record Extends (size : ℕ) (tr : TraceAccesses) (ca : Caching) (tr' : TraceAccesses) (ca' : Caching) : Type 0 where

@@ -1,7 +1,7 @@
 -- The small memory as the machine's bytes.
 use Rattle.std.specs.Prelude.{ℕ, zero, suc, slice_index, slice_get, Option, Some, None}
 use Rattle.vk_model.specs.World.Bytes.{Byte, in_buffer}
-use Rattle.vk_laws.specs.Caches.{Held, Clean, Dirty, Cell}
+use Rattle.vk_model.specs.Run.Caches.{Held, Clean, Dirty, Cell}
 use Rattle.vk_laws.specs.declared.reader.Copied.{Copied}
 use Rattle.vk_laws.specs.declared.reader.Copied.TheVariants as copied
 use Rattle.vk_laws.specs.declared.reader.Memory.{Memory}

@@ -8,7 +8,8 @@ use Rattle.vk_model.specs.Basics.{holds}
 use Rattle.vk_model.specs.World.Effect.{world}
 use Rattle.vk_model.specs.Rules.Table.{fault}
 use Rattle.vk_laws.specs.Machine.{Task, Reads, MayRun, IsModel, latest}
-use Rattle.vk_laws.specs.Caches.{Cell, Caching, Reached, view}
+use Rattle.vk_model.specs.Run.Caches.{Cell, view}
+use Rattle.vk_laws.specs.Caches.{Caching, Reached}
 use Rattle.vk_laws.specs.Tasks.{node_at, accesses_of}
 
 -- What has happened before node k: the points whose nodes all come earlier. A command's elements share what came before it, and take effect after the last of them (profile).

@@ -14,16 +14,13 @@ use Rattle.vk_model.specs.Sync.Access.{is_in, writes}
 use Rattle.vk_model.specs.Sync.Seen.{Read, command_mask, host_mask, available_by, makes_writes_visible, invalidates, is_wait, to_host}
 use Rattle.vk_model.specs.Rules.Table.{fault}
 use Rattle.vk_laws.specs.Machine.{Task, Reads, MayRun, latest}
-use Rattle.vk_laws.specs.Caches.{Cell, Caching, CacheFree, Reached, view}
+use Rattle.vk_model.specs.Run.Caches.{Cell, agent_of, view}
+use Rattle.vk_laws.specs.Caches.{Caching, CacheFree, Reached}
 use Rattle.vk_laws.specs.Trace.{accesses}
 use Rattle.vk_laws.specs.Tasks.{node_at, accesses_of}
 use Rattle.vk_laws.specs.TraceBytes.{before_node, value_before}
 use Rattle.vk_laws.specs.Discards.{with_discards}
 use Rattle.vk_laws.specs.EveryOrder.{IsSettled}
-
--- The host is agent 0, and queue k agent k + 1 (profile).
-abbrev pub agent_of : Node → ℕ
-agent_of n = if is_host n.act then 0 else suc n.point.queue
 
 -- Whether an act is a submit to queue k (Vulkan, "Queue Submission").
 abbrev pub submits_to : Act → ℕ → Bool

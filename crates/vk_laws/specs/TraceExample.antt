@@ -12,7 +12,8 @@ use Rattle.vk_model.specs.Trace.Point.{Past}
 use Rattle.vk_model.specs.Trace.Order.{order}
 use Rattle.vk_model.specs.Rules.Table.{first_fault}
 use Rattle.vk_laws.specs.Machine.{Task, Unknown, Reads, IsAllowed, MayRun}
-use Rattle.vk_laws.specs.Caches.{Cell, Reached, view}
+use Rattle.vk_model.specs.Run.Caches.{Cell, view}
+use Rattle.vk_laws.specs.Caches.{Reached}
 use Rattle.vk_laws.specs.Discards.{with_discards}
 use Rattle.vk_laws.specs.TraceBytes.{value_before}
 use Rattle.vk_laws.specs.TraceCaches.{caching_of}

@@ -4,7 +4,8 @@ use Rattle.vk_model.specs.Rules.Table.{fault}
 use Rattle.vk_model.specs.World.Bytes.{Byte}
 use Rattle.vk_model.specs.Trace.Point.{Past}
 use Rattle.vk_laws.specs.Machine.{IsIn, Task, TraceAccesses, IsAllowed, MayRun}
-use Rattle.vk_laws.specs.Caches.{Cell, Caching, Reached}
+use Rattle.vk_model.specs.Run.Caches.{Cell}
+use Rattle.vk_laws.specs.Caches.{Caching, Reached}
 use Rattle.vk_laws.specs.Discards.{with_discards}
 use Rattle.vk_laws.specs.TraceCaches.{caching_of}
 

@@ -2,7 +2,8 @@
 ghost use Rattle.std.specs.Prelude.{◌≡◌, ℕ, ◌<◌, List, length, Option, Some, None, IsTrue, ◌↔◌};
 ghost use Rattle.vk_model.specs.World.Bytes.{Byte, in_buffer};
 ghost use Rattle.vk_laws.specs.Machine.{Conflict, HazardFree, IsIn, IsModel, MayRun, Reads, Task, TraceAccesses};
-ghost use Rattle.vk_laws.specs.Caches.{CacheFree, Caching, Cell, Reached, value_through};
+ghost use Rattle.vk_model.specs.Run.Caches.{Cell, value_through};
+ghost use Rattle.vk_laws.specs.Caches.{CacheFree, Caching, Reached};
 ghost use Rattle.vk_laws.specs.Reader.{cells_of, held_as};
 ghost use Rattle.vk_laws.specs.Discards.{with_discards};
 ghost use Rattle.vk_laws.specs.TraceBytes.{value_before};

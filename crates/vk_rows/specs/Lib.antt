@@ -14,6 +14,7 @@ pub mod RulesOfAccess
 pub mod NoRoom
 pub mod Places
 pub mod Work
+pub mod QueueCaches
 pub mod Limits
 pub mod Addresses
 pub mod LinearBlocks

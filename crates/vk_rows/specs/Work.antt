@@ -1,5 +1,5 @@
 -- Pieces of commands, the order of nodes, what may run next, and what a scheduler is asked.
-use Rattle.std.specs.Prelude.{Some, option_map, ◌≡◌, ℕ, ◌-◌, List, [], ◌∷◌, map, reverse, length, Bool, true, false, slice_get}
+use Rattle.std.specs.Prelude.{Some, None, option_map, ◌≡◌, ℕ, ◌-◌, List, [], ◌∷◌, ◌++◌, map, take, reverse, length, Bool, true, false, ◌==◌, if◌then◌else◌, slice_get}
 use Rattle.vk_model.specs.declared.command.Cmd.{Cmd}
 use Rattle.vk_model.specs.declared.command.Cmd.TheVariants as cmd
 use Rattle.vk_model.specs.declared.command.Element.TheVariants as element
@@ -10,6 +10,7 @@ use Rattle.vk_model.specs.declared.resource.ImageInfo.{ImageInfo}
 use Rattle.vk_model.specs.declared.resource.Kind.{Kind}
 use Rattle.vk_model.specs.declared.resource.Kind.TheVariants as kind
 use Rattle.vk_model.specs.declared.resource.Place.TheVariants as place
+use Rattle.vk_model.specs.declared.resource.PoolKind.TheVariants as algorithm
 use Rattle.vk_model.specs.declared.resource.Sharing.TheVariants as sharing
 use Rattle.vk_model.specs.declared.rule.At.TheVariants as at
 use Rattle.vk_model.specs.declared.rule.Rule.TheVariants as rule
@@ -27,9 +28,9 @@ use Rattle.vk_model.specs.Sync.Edge.{edge}
 use Rattle.vk_model.specs.Sync.Before.{before}
 use Rattle.vk_model.specs.Sync.Seen.{Read, seen}
 use Rattle.vk_model.specs.Run.Pieces.{pieces}
-use Rattle.vk_model.specs.Run.Runs.{Name, Apply, RunPiece, offered, start, Allowed}
+use Rattle.vk_model.specs.Run.Runs.{Name, Apply, RunPiece, CopyPart, Stage, offered, start, Allowed}
 use Rattle.vk_model.specs.Run.Picks.{Picked, trace_picks}
-use Rattle.vk_rows.specs.Writing.{bytes, to_end, dependency, levels, image_element, submit_info, semaphore_value, batch, buffer_entry, image_entry, transfer, host, all_commands, transfer_write, host_read, both, undefined, destination_optimal, ignored}
+use Rattle.vk_rows.specs.Writing.{bytes, to_end, dependency, levels, image_element, submit_info, semaphore_value, batch, buffer_entry, image_entry, pool_entry, transfer, host, all_commands, transfer_write, host_read, both, undefined, destination_optimal, ignored}
 
 -- ---- pieces, layouts and sizes
 
@@ -100,7 +101,15 @@ two_fills = buffer_entry 1 16 both sharing.Exclusive (place.Dedicated 1) ∷ ent
 
 -- A scheduler that answers by the number of options, and holds those numbers, the newest first.
 abbrev pub picked : (ℕ → ℕ) → List Entry → Picked
-picked answer t = trace_picks (λ past. 0) (λ held n. answer n) (λ held n. n ∷ held) (start t) [] t
+picked answer t = trace_picks (λ held n. answer n) (λ held n. n ∷ held) (λ e. 0) None (start t) [] t
+
+-- The same on a device where this entry finds no room.
+abbrev pub picked_until : ℕ → (ℕ → ℕ) → List Entry → Picked
+picked_until n answer t = trace_picks (λ held n. answer n) (λ held n. n ∷ held) (λ e. 0) (Some n) (start t) [] t
+
+-- The same on a device where the pass that begins at entry 3 has this many parts.
+abbrev pub picked_with_parts : ℕ → (ℕ → ℕ) → List Entry → Picked
+picked_with_parts parts answer t = trace_picks (λ held n. answer n) (λ held n. n ∷ held) (λ e. if e == 3 then parts else 0) None (start t) [] t
 
 -- The first option.
 abbrev pub the_first : ℕ → ℕ
@@ -109,6 +118,14 @@ the_first n = 0
 -- The last option.
 abbrev pub the_last : ℕ → ℕ
 the_last n = n - 1
+
+-- Two fills, and then a buffer of a whole heap.
+abbrev pub fills_and_buffer : List Entry
+fills_and_buffer = take 3 two_fills ++ buffer_entry 3 4194304 both sharing.Exclusive (place.Dedicated 1) ∷ []
+
+-- A pass of a pool with one buffer.
+abbrev pub small_pass : List Entry
+small_pass = pool_entry 1 algorithm.Tlsf 1 4096 1 ∷ buffer_entry 2 16 both sharing.Exclusive (place.Pool 1) ∷ entry.Defrag 3 1 0 0 ∷ entry.Pass 3 ∷ entry.EndPass 3 [] [] ∷ []
 
 -- A buffer in cached memory that the host writes and invalidates.
 abbrev pub cached_write : List Entry
@@ -156,11 +173,21 @@ pub record Work : Type 0 where
   pub then_the_second : offers ((3, 0) ∷ []) ≡ (5, 0) ∷ (7, 0) ∷ []
   -- Before the wait both fills are two options once; after that one is left, and then the wait.
   pub asked_once : (picked the_first two_fills).held ≡ 2 ∷ []
-  pub in_order : (picked the_first two_fills).steps ≡ Apply [] ∷ Apply [] ∷ Apply [] ∷ RunPiece (3, 0) ∷ RunPiece (4, 0) ∷ Apply [] ∷ []
-  pub last_first : (picked the_last two_fills).steps ≡ Apply [] ∷ Apply [] ∷ Apply [] ∷ RunPiece (4, 0) ∷ RunPiece (3, 0) ∷ Apply [] ∷ []
+  pub in_order : (picked the_first two_fills).steps ≡ Apply [] 0 ∷ Apply [] 0 ∷ Apply [] 0 ∷ RunPiece (3, 0) ∷ RunPiece (4, 0) ∷ Apply [] 0 ∷ []
+  pub last_first : (picked the_last two_fills).steps ≡ Apply [] 0 ∷ Apply [] 0 ∷ Apply [] 0 ∷ RunPiece (4, 0) ∷ RunPiece (3, 0) ∷ Apply [] 0 ∷ []
   -- Both orders of the fills are allowed runs.
-  pub runs_in_order : Allowed (λ past. 0) (start two_fills) (Apply [] ∷ Apply [] ∷ Apply [] ∷ RunPiece (3, 0) ∷ RunPiece (4, 0) ∷ Apply [] ∷ []) (picked the_first two_fills).stage
-  pub runs_last_first : Allowed (λ past. 0) (start two_fills) (Apply [] ∷ Apply [] ∷ Apply [] ∷ RunPiece (4, 0) ∷ RunPiece (3, 0) ∷ Apply [] ∷ []) (picked the_last two_fills).stage
+  pub runs_in_order : Allowed (start two_fills) (Apply [] 0 ∷ Apply [] 0 ∷ Apply [] 0 ∷ RunPiece (3, 0) ∷ RunPiece (4, 0) ∷ Apply [] 0 ∷ []) (picked the_first two_fills).stage
+  pub runs_last_first : Allowed (start two_fills) (Apply [] 0 ∷ Apply [] 0 ∷ Apply [] 0 ∷ RunPiece (4, 0) ∷ RunPiece (3, 0) ∷ Apply [] 0 ∷ []) (picked the_last two_fills).stage
   -- Both atoms are touched at each host access by the last answer, and none by the first.
-  pub atoms_touched : (picked the_last cached_write).steps ≡ Apply [] ∷ Apply [] ∷ Apply (0 ∷ 1 ∷ []) ∷ Apply (0 ∷ 1 ∷ []) ∷ []
-  pub no_atom_touched : (picked the_first cached_write).steps ≡ Apply [] ∷ Apply [] ∷ Apply [] ∷ Apply [] ∷ []
+  pub atoms_touched : (picked the_last cached_write).steps ≡ Apply [] 0 ∷ Apply [] 0 ∷ Apply (0 ∷ 1 ∷ []) 0 ∷ Apply (0 ∷ 1 ∷ []) 0 ∷ []
+  pub no_atom_touched : (picked the_first cached_write).steps ≡ Apply [] 0 ∷ Apply [] 0 ∷ Apply [] 0 ∷ Apply [] 0 ∷ []
+  -- Where the buffer finds no room the scheduler has picked it all the same: last by the first answer, at once by the last.
+  pub picked_then_stopped : (picked_until 3 the_first fills_and_buffer).steps ≡ Apply [] 0 ∷ Apply [] 0 ∷ Apply [] 0 ∷ RunPiece (3, 0) ∷ RunPiece (4, 0) ∷ []
+  pub stopped_at_once : (picked_until 3 the_last fills_and_buffer).steps ≡ Apply [] 0 ∷ Apply [] 0 ∷ Apply [] 0 ∷ []
+  pub asked_of_three : (picked_until 3 the_last fills_and_buffer).held ≡ 3 ∷ []
+  -- A pass may have two parts to copy, in any order, until it ends.
+  pub copied_in_order : (e : Stage) × Allowed (start small_pass) (Apply [] 0 ∷ Apply [] 0 ∷ Apply [] 0 ∷ Apply [] 2 ∷ CopyPart 0 ∷ CopyPart 1 ∷ Apply [] 0 ∷ []) e
+  pub copied_last_first : (e : Stage) × Allowed (start small_pass) (Apply [] 0 ∷ Apply [] 0 ∷ Apply [] 0 ∷ Apply [] 2 ∷ CopyPart 1 ∷ CopyPart 0 ∷ Apply [] 0 ∷ []) e
+  -- Of two parts both are offered, and the end of the pass.
+  pub parts_offered : (picked_with_parts 2 the_first small_pass).steps ≡ Apply [] 0 ∷ Apply [] 0 ∷ Apply [] 0 ∷ Apply [] 2 ∷ CopyPart 0 ∷ CopyPart 1 ∷ Apply [] 0 ∷ []
+  pub asked_of_parts : (picked_with_parts 2 the_first small_pass).held ≡ 2 ∷ 3 ∷ []

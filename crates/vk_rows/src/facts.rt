@@ -2,6 +2,7 @@ ghost use Rattle.vk_rows.specs.NoRoom.{NoRoom};
 ghost use Rattle.vk_rows.specs.Places.{Places};
 ghost use Rattle.vk_rows.specs.Work.{Work};
 ghost use Rattle.vk_rows.specs.Limits.{Limits};
+ghost use Rattle.vk_rows.specs.QueueCaches.{QueueCaches};
 ghost use Rattle.vk_rows.specs.Addresses.{Addresses};
 ghost use Rattle.vk_rows.specs.LinearBlocks.{LinearBlocks};
 ghost use Rattle.vk_rows.specs.PoolBlocks.{PoolBlocks};
@@ -45,4 +46,9 @@ pub fn pool_blocks()
 /// Where traces stop on a device, and how far others come.
 pub fn stopping()
     ensures { Stopping }
+{}
+
+/// Runs through caches: what memory and caches hold of a byte, step by step.
+pub fn queue_caches()
+    ensures { QueueCaches }
 {}

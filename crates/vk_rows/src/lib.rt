@@ -6,7 +6,9 @@
 mod facts;
 mod traces;
 
-pub use facts::{addresses, limits, linear_blocks, no_room, places, pool_blocks, stopping, work};
+pub use facts::{
+    addresses, limits, linear_blocks, no_room, places, pool_blocks, queue_caches, stopping, work,
+};
 pub use traces::{
     ahead, easily_mistaken, images, objects, pools, queues, rules_of_access, rules_of_commands,
     rules_of_objects, rules_of_order, uploads,

@@ -27,13 +27,14 @@ use Rattle.vk_device.specs.declared.device.Placed.{Placed}
 use Rattle.vk_device.specs.Held.{Held, IsApart, placed, byte_in, byte_at}
 use Rattle.vk_device.specs.Inner.Steps.{MapsAt, batches_past, Makes, MadeOr}
 use Rattle.vk_device.specs.Inner.Fits.{AllFit, FitsEntry, FitsRead}
-use Rattle.vk_device.specs.Matches.{IsThere, Matches, next_past, Answered}
+use Rattle.vk_device.specs.Matches.{IsThere, next_past}
+use Rattle.vk_device.specs.Inner.Made.{MatchesMade, AnsweredMade}
 use Rattle.vk_device.proofs.Points.Steps.{there_placed}
 
 -- ---- a new buffer
 
 -- what was not made is not placed
-not_placed : (past : Past) (s : Held) (i : ℕ) → Matches past s → made past i ≡ None → placed s i ≡ None
+not_placed : (past : Past) (s : Held) (i : ℕ) → MatchesMade past s → made past i ≡ None → placed s i ≡ None
 not_placed past s i st no_entry = go (placed s i) refl
   where
     go : (o : Option Placed) → placed s i ≡ o → o ≡ None
@@ -43,7 +44,7 @@ not_placed past s i st no_entry = go (placed s i) refl
         ∙ ap (λ (o : Option Entry). option_map (λ (i : BufferInfo). i.size) (Rattle.std.specs.Prelude.option_and_then buffer_in o)) no_entry in
         absurd cc
 
-module _ (old new : Held) (apart : IsApart old.memory old.buffers) (i t : ℕ) (info : BufferInfo) (makes : Makes old new i t info.size) (past : Past) (st : Matches past old) (fresh_id : made past i ≡ None) where
+module _ (old new : Held) (apart : IsApart old.memory old.buffers) (i t : ℕ) (info : BufferInfo) (makes : Makes old new i t info.size) (past : Past) (st : MatchesMade past old) (fresh_id : made past i ≡ None) where
   new_sizes : (e b : ℕ) (c : Bool) → (b == i) ≡ c → option_map (λ (p : Placed). p.size) (placed new b) ≡ option_map (λ (i : BufferInfo). i.size) (Rattle.std.specs.Prelude.option_and_then buffer_in (cond c (Some (entry.Buffer i info)) (made past b)))
   new_sizes e b true h =
       let same : b ≡ i = eqb-true b i h in
@@ -63,7 +64,7 @@ module _ (old new : Held) (apart : IsApart old.memory old.buffers) (i t : ℕ) (
       clash : placed old i ≡ Some p → placed old i ≡ None → ⊥
       clash a b = let both : Some p ≡ None = sym a ∙ b in absurd cc
 
-  pub buffer_matches : (e : ℕ) → Matches (host e (entry.Buffer i info) ∷ past) new
+  pub buffer_matches : (e : ℕ) → MatchesMade (host e (entry.Buffer i info) ∷ past) new
   buffer_matches e = record {
     sizes = λ b. new_sizes e b (b == i) refl;
     values = λ c v h. go c v (st.values c v h);
@@ -75,11 +76,11 @@ module _ (old new : Held) (apart : IsApart old.memory old.buffers) (i t : ℕ) (
           (rw kept.0 was.0, rw kept.0 kept.1)
       go (in_image j l a x y p) v was = absurd was.0
 
-pub buffer_answered : (old new : Held) (y : Entry) (i t : ℕ) (info : BufferInfo) → y ≡ entry.Buffer i info → IsApart old.memory old.buffers → (a : Applied) → MadeOr a old new i t info.size → (e : ℕ) (past : Past) → Matches past old → AllFit (next_past e y past) → Answered a e y past old new
+pub buffer_answered : (old new : Held) (y : Entry) (i t : ℕ) (info : BufferInfo) → y ≡ entry.Buffer i info → IsApart old.memory old.buffers → (a : Applied) → MadeOr a old new i t info.size → (e : ℕ) (past : Past) → MatchesMade past old → AllFit (next_past e y past) → AnsweredMade a e y past old new
 buffer_answered old new y i t info is apart a made e past st fit =
-    subst (λ (x : Entry). Answered a e x past old new) (sym is) (go a made (subst (λ (x : Entry). AllFit (next_past e x past)) is fit))
+    subst (λ (x : Entry). AnsweredMade a e x past old new) (sym is) (go a made (subst (λ (x : Entry). AllFit (next_past e x past)) is fit))
   where
-    go : (a : Applied) → MadeOr a old new i t info.size → AllFit (next_past e (entry.Buffer i info) past) → Answered a e (entry.Buffer i info) past old new
+    go : (a : Applied) → MadeOr a old new i t info.size → AllFit (next_past e (entry.Buffer i info) past) → AnsweredMade a e (entry.Buffer i info) past old new
     go applied.Done made f = (buffer_matches old new apart i t info made.0 past st f.0.0 e, refl)
     go (applied.Bytes bytes) made f = absurd made
     go applied.NoRoom made f = made.0
@@ -92,7 +93,7 @@ piece_at region o n i lt le = grind (arith, elements)
 length-piece : (region : List ℕ) (o n : ℕ) → o + n ≤ length region → length (piece region o n) ≡ n
 length-piece region o n le = grind (arith, common_steps)
 
-module _ (past : Past) (s : Held) (st : Matches past s) (b o n : ℕ) (p : Placed) (here : placed s b ≡ Some p) (room : o + n ≤ length (region_of s.memory p.object)) (defined : (k : ℕ) → k < n → IsSome ((world past).value (in_buffer b (o + k)))) where
+module _ (past : Past) (s : Held) (st : MatchesMade past s) (b o n : ℕ) (p : Placed) (here : placed s b ≡ Some p) (room : o + n ≤ length (region_of s.memory p.object)) (defined : (k : ℕ) → k < n → IsSome ((world past).value (in_buffer b (o + k)))) where
   byte_read : (i : ℕ) → i < n → unwrap_or ((world past).value (in_buffer b (o + i))) 0 ≡ get_or (region_of s.memory p.object) (o + i) 0
   byte_read i lt = go ((world past).value (in_buffer b (o + i))) refl (defined i lt)
     where
@@ -108,11 +109,11 @@ module _ (past : Past) (s : Held) (st : Matches past s) (b o n : ℕ) (p : Place
       (λ i lt. let lt' : i < n = omega arith in get_or-map-range_with_len f 0 n i i 0 lt' (omega arith) ∙ byte_read i lt' ∙ sym (piece_at (region_of s.memory p.object) o n i lt' room))
 
 pub read_answered : (s : Held) (y : Entry) (b o n : ℕ) (bytes : List ℕ) → y ≡ entry.Read b o n → IsApart s.memory s.buffers → ((p : Placed) → placed s b ≡ Some p → bytes ≡ piece (region_of s.memory p.object) o n)
-    → (e : ℕ) (past : Past) → Matches past s → AllFit (next_past e y past) → Answered (applied.Bytes bytes) e y past s s
+    → (e : ℕ) (past : Past) → MatchesMade past s → AllFit (next_past e y past) → AnsweredMade (applied.Bytes bytes) e y past s s
 read_answered s y b o n bytes is apart got e past st fit =
-    subst (λ (x : Entry). Answered (applied.Bytes bytes) e x past s s) (sym is) (go (buffer past b) refl (subst (λ (x : Entry). AllFit (next_past e x past)) is fit).0)
+    subst (λ (x : Entry). AnsweredMade (applied.Bytes bytes) e x past s s) (sym is) (go (buffer past b) refl (subst (λ (x : Entry). AllFit (next_past e x past)) is fit).0)
   where
-    go : (x : Option BufferInfo) → buffer past b ≡ x → FitsEntry past (entry.Read b o n) → Answered (applied.Bytes bytes) e (entry.Read b o n) past s s
+    go : (x : Option BufferInfo) → buffer past b ≡ x → FitsEntry past (entry.Read b o n) → AnsweredMade (applied.Bytes bytes) e (entry.Read b o n) past s s
     go None e' f = absurd (subst (λ (x : Option BufferInfo). FitsRead x o n) e' f.0)
     go (Some info) e' f =
         let at = there_placed past s b info st e' in
@@ -140,7 +141,7 @@ region_of-mapped m o p live = go (eqb p o) refl
         (ap bytes_of (get_or-set_same m.objects o (remapped true (object_at m o)) None (live_below m o live)) ∙ remapped_bytes (object_at m o) true)
     go false e = ap bytes_of (get_or-set_other m.objects o p (remapped true (object_at m o)) None (eqb-false p o e))
 
-mapped_matches : (past : Past) (s : Held) (o : ℕ) → IsLive s.memory o → Matches past s → Matches past (record s { memory = with_mapped s.memory o true })
+mapped_matches : (past : Past) (s : Held) (o : ℕ) → IsLive s.memory o → MatchesMade past s → MatchesMade past (record s { memory = with_mapped s.memory o true })
 mapped_matches past s o lt st = record {
   sizes = st.sizes;
   values = λ c v h. go c v (st.values c v h);
@@ -154,22 +155,22 @@ mapped_matches past s o lt st = record {
     go (in_buffer b k) v was = (was.0, byte (placed s b) k ∙ was.1)
     go (in_image j l a x y p) v was = absurd was.0
 
-pub map_answered : (s s' : Held) (y : Entry) (b : ℕ) (o : Option Placed) → y ≡ entry.Map b → MapsAt s s' o → (e : ℕ) (past : Past) → Matches past s → Matches (next_past e y past) s' × (read_in (world past) e y ≡ [])
+pub map_answered : (s s' : Held) (y : Entry) (b : ℕ) (o : Option Placed) → y ≡ entry.Map b → MapsAt s s' o → (e : ℕ) (past : Past) → MatchesMade past s → MatchesMade (next_past e y past) s' × (read_in (world past) e y ≡ [])
 map_answered s s' y b o is maps e past st =
-    subst (λ (x : Entry). Matches (next_past e x past) s' × (read_in (world past) e x ≡ [])) (sym is) (mapped o maps, refl)
+    subst (λ (x : Entry). MatchesMade (next_past e x past) s' × (read_in (world past) e x ≡ [])) (sym is) (mapped o maps, refl)
   where
-    here : Matches (next_past e (entry.Map b) past) s
+    here : MatchesMade (next_past e (entry.Map b) past) s
     here = record { sizes = st.sizes; values = st.values }
 
-    mapped : (o : Option Placed) → MapsAt s s' o → Matches (next_past e (entry.Map b) past) s'
-    mapped None same = subst (λ (r : Held). Matches (next_past e (entry.Map b) past) r) (sym same) here
-    mapped (Some p) (inl same) = subst (λ (r : Held). Matches (next_past e (entry.Map b) past) r) (sym same) here
-    mapped (Some p) (inr now) = subst (λ (r : Held). Matches (next_past e (entry.Map b) past) r) (sym now.1) (mapped_matches (next_past e (entry.Map b) past) s p.object now.0 here)
+    mapped : (o : Option Placed) → MapsAt s s' o → MatchesMade (next_past e (entry.Map b) past) s'
+    mapped None same = subst (λ (r : Held). MatchesMade (next_past e (entry.Map b) past) r) (sym same) here
+    mapped (Some p) (inl same) = subst (λ (r : Held). MatchesMade (next_past e (entry.Map b) past) r) (sym same) here
+    mapped (Some p) (inr now) = subst (λ (r : Held). MatchesMade (next_past e (entry.Map b) past) r) (sym now.1) (mapped_matches (next_past e (entry.Map b) past) s p.object now.0 here)
 
 -- ---- a submit
 
-pub submit_answered : (s s' : Held) (y : Entry) (q : ℕ) (bs : List Batch) → y ≡ entry.Submit q bs → ((at : Past) (e r : ℕ) (past : Past) → Matches past s → AllFit (batches_past at e r 0 bs past) → Matches (batches_past at e r 0 bs past) s')
-    → (e : ℕ) (past : Past) → Matches past s → AllFit (next_past e y past) → Answered applied.Done e y past s s'
+pub submit_answered : (s s' : Held) (y : Entry) (q : ℕ) (bs : List Batch) → y ≡ entry.Submit q bs → ((at : Past) (e r : ℕ) (past : Past) → MatchesMade past s → AllFit (batches_past at e r 0 bs past) → MatchesMade (batches_past at e r 0 bs past) s')
+    → (e : ℕ) (past : Past) → MatchesMade past s → AllFit (next_past e y past) → AnsweredMade applied.Done e y past s s'
 submit_answered s s' y q bs is ran e past st fit =
-    subst (λ (x : Entry). Answered applied.Done e x past s s') (sym is)
+    subst (λ (x : Entry). AnsweredMade applied.Done e x past s s') (sym is)
     (ran past e q (host e (entry.Submit q bs) ∷ past) (record { sizes = st.sizes; values = st.values }) (subst (λ (x : Entry). AllFit (next_past e x past)) is fit), refl)

@@ -9,7 +9,7 @@ use Rattle.vk_model.specs.Trace.Order.{SubmittedBatch, actions, started, batches
 use Rattle.vk_device.specs.Inner.Allotted.{allotted}
 use Rattle.vk_device.specs.Held.{Held}
 use Rattle.vk_device.specs.Inner.Fits.{FitsCommand, AllFit}
-use Rattle.vk_device.specs.Matches.{Matches}
+use Rattle.vk_device.specs.Inner.Made.{MatchesMade}
 use Rattle.vk_device.specs.Inner.Steps.{run_point, CommandReady, CommandsReady, BatchReady, BatchesReady, batches_past}
 use Rattle.vk_device.proofs.Points.Steps.{fit_actions, fit_batches, waits_match, signals_match}
 
@@ -19,7 +19,7 @@ rest xs i x is lt = rw add-one (drop-cons xs i x lt ∙ ap (λ y. y ∷ drop (su
 -- ---- commands
 
 pub record CommandsDone (old : Held) (cs : List Cmd) (i : ℕ) (s : Held) : Type 0 where
-  pub so_far : (t : SubmittedBatch) (past : Past) → Matches past old → AllFit (actions Run t 0 cs past) → (p : Past) × Matches p s × (actions Run t i (drop i cs) p ≡ actions Run t 0 cs past)
+  pub so_far : (t : SubmittedBatch) (past : Past) → MatchesMade past old → AllFit (actions Run t 0 cs past) → (p : Past) × MatchesMade p s × (actions Run t i (drop i cs) p ≡ actions Run t 0 cs past)
   pub allotted : allotted s.memory ≡ allotted old.memory
   pub failed : s.failed ≡ old.failed
 
@@ -37,7 +37,7 @@ command_ready old cs i s x ready done is lt =
     (now.0, now.1, command_fits ready.0 i cs x now.0 ready.1 (rest cs i x is lt) now.2 ready.3)
 
 pub record RunsCommand (s s' : Held) (x : Cmd) : Type 0 where
-  pub matches : (e b k q : ℕ) (past : Past) → Matches past s → FitsCommand past x → Matches (run_point e b k q x ∷ past) s'
+  pub matches : (e b k q : ℕ) (past : Past) → MatchesMade past s → FitsCommand past x → MatchesMade (run_point e b k q x ∷ past) s'
   pub allotted : allotted s'.memory ≡ allotted s.memory
   pub failed : s'.failed ≡ s.failed
 
@@ -52,21 +52,21 @@ command_more old cs i s s' x ready done is lt ran = record {
   failed = ran.failed ∙ done.failed;
 }
 
-pub commands_end : (old : Held) (cs : List Cmd) (i : ℕ) (s : Held) → CommandsDone old cs i s → length cs ≤ i → (t : SubmittedBatch) (past : Past) → Matches past old → AllFit (actions Run t 0 cs past) → Matches (actions Run t 0 cs past) s
+pub commands_end : (old : Held) (cs : List Cmd) (i : ℕ) (s : Held) → CommandsDone old cs i s → length cs ≤ i → (t : SubmittedBatch) (past : Past) → MatchesMade past old → AllFit (actions Run t 0 cs past) → MatchesMade (actions Run t 0 cs past) s
 commands_end old cs i s done le t past st fit =
     let now = done.so_far t past st fit in
     let same : now.0 ≡ actions Run t 0 cs past = sym (ap (λ (l : List Cmd). actions Run t i l now.0) (drop_all i cs le)) ∙ now.2 in
-    subst (λ (p : Past). Matches p s) same now.1
+    subst (λ (p : Past). MatchesMade p s) same now.1
 
 -- ---- batches
 
 pub record BatchesDone (old : Held) (bs : List Batch) (i : ℕ) (s : Held) : Type 0 where
-  pub so_far : (at : Past) (e q : ℕ) (past : Past) → Matches past old → AllFit (batches_past at e q 0 bs past) → (p : Past) × Matches p s × (batches_past at e q i (drop i bs) p ≡ batches_past at e q 0 bs past)
+  pub so_far : (at : Past) (e q : ℕ) (past : Past) → MatchesMade past old → AllFit (batches_past at e q 0 bs past) → (p : Past) × MatchesMade p s × (batches_past at e q i (drop i bs) p ≡ batches_past at e q 0 bs past)
   pub allotted : allotted s.memory ≡ allotted old.memory
   pub failed : s.failed ≡ old.failed
 
 pub record RunsBatch (s s' : Held) (x : Batch) : Type 0 where
-  pub matches : (t : SubmittedBatch) (past : Past) → t.content ≡ x → Matches past s → AllFit (started t past) → Matches (started t past) s'
+  pub matches : (t : SubmittedBatch) (past : Past) → t.content ≡ x → MatchesMade past s → AllFit (started t past) → MatchesMade (started t past) s'
   pub allotted : allotted s'.memory ≡ allotted s.memory
   pub failed : s'.failed ≡ s.failed
 
@@ -94,11 +94,11 @@ batch_more old bs i s s' x done is lt ran = record {
   failed = ran.failed ∙ done.failed;
 }
 
-pub batches_end : (old : Held) (bs : List Batch) (i : ℕ) (s : Held) → BatchesDone old bs i s → length bs ≤ i → (at : Past) (e q : ℕ) (past : Past) → Matches past old → AllFit (batches_past at e q 0 bs past) → Matches (batches_past at e q 0 bs past) s
+pub batches_end : (old : Held) (bs : List Batch) (i : ℕ) (s : Held) → BatchesDone old bs i s → length bs ≤ i → (at : Past) (e q : ℕ) (past : Past) → MatchesMade past old → AllFit (batches_past at e q 0 bs past) → MatchesMade (batches_past at e q 0 bs past) s
 batches_end old bs i s done le at e q past st fit =
     let now = done.so_far at e q past st fit in
     let same : now.0 ≡ batches_past at e q 0 bs past = sym (ap (λ (l : List Batch). batches_past at e q i l now.0) (drop_all i bs le)) ∙ now.2 in
-    subst (λ (p : Past). Matches p s) same now.1
+    subst (λ (p : Past). MatchesMade p s) same now.1
 
 -- a batch's commands are asked for
 pub of_batch : (s : Held) (x : Batch) → BatchReady s x → CommandsReady s x.commands
@@ -111,9 +111,9 @@ of_batch s x ready =
       subst (λ (b : Batch). AllFit (actions Run t 0 b.commands (actions Rattle.vk_model.specs.Trace.Point.Wait t 0 t.content.waits ready.1))) ready.3 fit,
     )
 
-pub batch_runs : (s s' : Held) (x : Batch) → ((t : SubmittedBatch) (past : Past) → Matches past s → AllFit (actions Run t 0 x.commands past) → Matches (actions Run t 0 x.commands past) s') → (t : SubmittedBatch) (past : Past) → t.content ≡ x → Matches past s → AllFit (started t past) → Matches (started t past) s'
+pub batch_runs : (s s' : Held) (x : Batch) → ((t : SubmittedBatch) (past : Past) → MatchesMade past s → AllFit (actions Run t 0 x.commands past) → MatchesMade (actions Run t 0 x.commands past) s') → (t : SubmittedBatch) (past : Past) → t.content ≡ x → MatchesMade past s → AllFit (started t past) → MatchesMade (started t past) s'
 batch_runs s s' x ran t past is st fit =
     let waited : Past = actions Rattle.vk_model.specs.Trace.Point.Wait t 0 t.content.waits past in
     let fit' : AllFit (actions Run t 0 t.content.commands waited) = fit_actions Rattle.vk_model.specs.Trace.Point.Signal t 0 t.content.signals _ fit in
-    let ran' : Matches (actions Run t 0 t.content.commands waited) s' = subst (λ (b : Batch). Matches (actions Run t 0 b.commands waited) s') (sym is) (ran t waited (waits_match t 0 t.content.waits past s st) (subst (λ (b : Batch). AllFit (actions Run t 0 b.commands waited)) is fit')) in
+    let ran' : MatchesMade (actions Run t 0 t.content.commands waited) s' = subst (λ (b : Batch). MatchesMade (actions Run t 0 b.commands waited) s') (sym is) (ran t waited (waits_match t 0 t.content.waits past s st) (subst (λ (b : Batch). AllFit (actions Run t 0 b.commands waited)) is fit')) in
     signals_match t 0 t.content.signals _ s' ran'

@@ -25,7 +25,8 @@ use Rattle.vk_model.specs.World.Meaning.{reads, read_by, read_in}
 use Rattle.vk_device.specs.declared.device.Placed.{Placed}
 use Rattle.vk_device.specs.Held.{Held, IsApart, placed, byte_at}
 use Rattle.vk_device.specs.Inner.Fits.{FitsFill, AllMemory, FitsCommand, AllFit}
-use Rattle.vk_device.specs.Matches.{IsThere, Matches, next_past}
+use Rattle.vk_device.specs.Matches.{IsThere, next_past}
+use Rattle.vk_device.specs.Inner.Made.{MatchesMade}
 use Rattle.vk_device.specs.Inner.Steps.{run_point}
 use Rattle.vk_device.proofs.Bytes.Running.{write_to, run_keeps_values, run_there}
 use Rattle.vk_device.proofs.Bytes.Filling.{fill_write, fill_writes, image_missed, fill_ran, fill_there}
@@ -53,7 +54,7 @@ memory_only past f (element.Memory d ∷ es) w m = memory_only past f es w m
 memory_only past f (element.Buffer e ∷ es) w m = absurd m
 memory_only past f (element.Image e ∷ es) w m = absurd m
 
-barrier_matches : (e b k q : ℕ) (es : List Element) (past : Past) (s : Held) → AllMemory es → Matches past s → Matches (run_point e b k q (cmd.Barrier es) ∷ past) s
+barrier_matches : (e b k q : ℕ) (es : List Element) (past : Past) (s : Held) → AllMemory es → MatchesMade past s → MatchesMade (run_point e b k q (cmd.Barrier es) ∷ past) s
 barrier_matches e b k q es past s m old = record {
   sizes = old.sizes;
   values = λ c v h. old.values c v (subst (λ (w : World). w.value c ≡ Some v) (memory_only past (family_of q) es (record (world past) { value = after_writes [] (world past).value }) m) h);
@@ -61,11 +62,11 @@ barrier_matches e b k q es past s m old = record {
 
 -- ---- a fill
 
-same_size : (past : Past) (s : Held) (i : ℕ) (x : Option Placed) (y : Option BufferInfo) → Matches past s → placed s i ≡ x → buffer past i ≡ y → option_map (λ (p : Placed). p.size) x ≡ option_map (λ (i : BufferInfo). i.size) y
+same_size : (past : Past) (s : Held) (i : ℕ) (x : Option Placed) (y : Option BufferInfo) → MatchesMade past s → placed s i ≡ x → buffer past i ≡ y → option_map (λ (p : Placed). p.size) x ≡ option_map (λ (i : BufferInfo). i.size) y
 same_size past s i x y st here is = sym (ap (λ (o : Option Placed). option_map (λ (p : Placed). p.size) o) here) ∙ st.sizes i ∙ ap (λ (o : Option BufferInfo). option_map (λ (i : BufferInfo). i.size) o) is
 
 -- the size of a placed buffer is the one that was asked for
-known_size : (past : Past) (s : Held) (i : ℕ) (p : Placed) → Matches past s → placed s i ≡ Some p → buffer_size past i ≡ p.size
+known_size : (past : Past) (s : Held) (i : ℕ) (p : Placed) → MatchesMade past s → placed s i ≡ Some p → buffer_size past i ≡ p.size
 known_size past s i p st here = go (buffer past i) refl
   where
     go : (o : Option BufferInfo) → buffer past i ≡ o → buffer_size past i ≡ p.size
@@ -73,7 +74,7 @@ known_size past s i p st here = go (buffer past i) refl
     go (Some info) e = let same : option_map (λ (p : Placed). p.size) (Some p) ≡ option_map (λ (i : BufferInfo). i.size) (Some info) = same_size past s i (Some p) (Some info) st here e in rw (e, buffer_size) cc
 
 -- a buffer that was made is placed
-pub there_placed : (past : Past) (s : Held) (i : ℕ) (info : BufferInfo) → Matches past s → buffer past i ≡ Some info → (p : Placed) × (placed s i ≡ Some p) × (p.size ≡ info.size)
+pub there_placed : (past : Past) (s : Held) (i : ℕ) (info : BufferInfo) → MatchesMade past s → buffer past i ≡ Some info → (p : Placed) × (placed s i ≡ Some p) × (p.size ≡ info.size)
 there_placed past s i info st is = go (placed s i) refl
   where
     go : (o : Option Placed) → placed s i ≡ o → (p : Placed) × (placed s i ≡ Some p) × (p.size ≡ info.size)
@@ -81,7 +82,7 @@ there_placed past s i info st is = go (placed s i) refl
     go (Some p) e = let same : option_map (λ (p : Placed). p.size) (Some p) ≡ option_map (λ (i : BufferInfo). i.size) (Some info) = same_size past s i (Some p) (Some info) st e is in (p, e, cc)
 
 -- what a fitting fill asks, by the size of the placed buffer
-pub fill_fits : (past : Past) (s : Held) (i : ℕ) (p : Placed) (o : ℕ) (n : Length) → Matches past s → placed s i ≡ Some p → FitsFill (buffer past i) o n → (o ≤ p.size) × (o + fill_size p.size o n ≤ p.size) × (fill_size p.size o n ≡ 4 * (fill_size p.size o n / 4))
+pub fill_fits : (past : Past) (s : Held) (i : ℕ) (p : Placed) (o : ℕ) (n : Length) → MatchesMade past s → placed s i ≡ Some p → FitsFill (buffer past i) o n → (o ≤ p.size) × (o + fill_size p.size o n ≤ p.size) × (fill_size p.size o n ≡ 4 * (fill_size p.size o n / 4))
 fill_fits past s i p o n st here fits = go (buffer past i) refl fits
   where
     go : (x : Option BufferInfo) → buffer past i ≡ x → FitsFill x o n → (o ≤ p.size) × (o + fill_size p.size o n ≤ p.size) × (fill_size p.size o n ≡ 4 * (fill_size p.size o n / 4))
@@ -91,8 +92,8 @@ fill_fits past s i p o n st here fits = go (buffer past i) refl fits
         let size : info.size ≡ p.size = cc in
         subst (λ (z : ℕ). (o ≤ z) × (o + fill_size z o n ≤ z) × (fill_size z o n ≡ 4 * (fill_size z o n / 4))) size f
 
-pub fill_matches : (e b k q i o : ℕ) (n : Length) (w : ℕ) (past : Past) (s : Held) (p : Placed) (apart : IsApart s.memory s.buffers) (here : placed s i ≡ Some p) → Matches past s → FitsFill (buffer past i) o n
-    → Matches (run_point e b k q (cmd.Fill i o n w) ∷ past) (record s { memory = with_region s.memory p.object (splice (region_of s.memory p.object) o (repeated (fill_size p.size o n / 4) (to_le_bytes w32 w))) })
+pub fill_matches : (e b k q i o : ℕ) (n : Length) (w : ℕ) (past : Past) (s : Held) (p : Placed) (apart : IsApart s.memory s.buffers) (here : placed s i ≡ Some p) → MatchesMade past s → FitsFill (buffer past i) o n
+    → MatchesMade (run_point e b k q (cmd.Fill i o n w) ∷ past) (record s { memory = with_region s.memory p.object (splice (region_of s.memory p.object) o (repeated (fill_size p.size o n / 4) (to_le_bytes w32 w))) })
 fill_matches e b k q i o n w past s p apart here st fits =
     let words : ℕ = fill_size p.size o n / 4 in
     let asked = fill_fits past s i p o n st here fits in
@@ -121,11 +122,11 @@ fill_matches e b k q i o n w past s p apart here st fits =
 -- ---- batches
 
 -- waits and signals change no byte
-pub waits_match : (t : SubmittedBatch) (k : ℕ) (xs : List SemaphoreSubmit) (past : Past) (s : Held) → Matches past s → Matches (actions Wait t k xs past) s
+pub waits_match : (t : SubmittedBatch) (k : ℕ) (xs : List SemaphoreSubmit) (past : Past) (s : Held) → MatchesMade past s → MatchesMade (actions Wait t k xs past) s
 waits_match t k [] past s st = st
 waits_match t k (x ∷ xs) past s st = waits_match t (k + 1) xs _ s (record { sizes = st.sizes; values = st.values })
 
-pub signals_match : (t : SubmittedBatch) (k : ℕ) (xs : List SemaphoreSubmit) (past : Past) (s : Held) → Matches past s → Matches (actions Signal t k xs past) s
+pub signals_match : (t : SubmittedBatch) (k : ℕ) (xs : List SemaphoreSubmit) (past : Past) (s : Held) → MatchesMade past s → MatchesMade (actions Signal t k xs past) s
 signals_match t k [] past s st = st
 signals_match t k (x ∷ xs) past s st = signals_match t (k + 1) xs _ s (record { sizes = st.sizes; values = st.values })
 
@@ -166,20 +167,20 @@ pub plain_more : (e : ℕ) (past : Past) (xs : List Entry) (y : Entry) → plain
 plain_more e past [] y = ap (λ (n : ℕ). next_past n y past) (omega arith)
 plain_more e past (x ∷ xs) y = plain_more (e + 1) (next_past e x past) xs y ∙ ap (λ (n : ℕ). next_past n y (plain_from (e + 1) (next_past e x past) xs)) (omega arith)
 
-pub fill_command : (y : Cmd) (i o : ℕ) (n : Length) (w : ℕ) → y ≡ cmd.Fill i o n w → (e b k q : ℕ) (past : Past) (s new : Held) → IsApart s.memory s.buffers → Matches past s → FitsCommand past y
+pub fill_command : (y : Cmd) (i o : ℕ) (n : Length) (w : ℕ) → y ≡ cmd.Fill i o n w → (e b k q : ℕ) (past : Past) (s new : Held) → IsApart s.memory s.buffers → MatchesMade past s → FitsCommand past y
     → ((p : Placed) → placed s i ≡ Some p → new ≡ record s { memory = with_region s.memory p.object (splice (region_of s.memory p.object) o (repeated (fill_size p.size o n / 4) (to_le_bytes w32 w))) })
-    → Matches (run_point e b k q y ∷ past) new
+    → MatchesMade (run_point e b k q y ∷ past) new
 fill_command y i o n w is e b k q past s new apart st fits ran =
-    subst (λ (x : Cmd). Matches (run_point e b k q x ∷ past) new) (sym is) (go (buffer past i) refl (subst (λ (x : Cmd). FitsCommand past x) is fits))
+    subst (λ (x : Cmd). MatchesMade (run_point e b k q x ∷ past) new) (sym is) (go (buffer past i) refl (subst (λ (x : Cmd). FitsCommand past x) is fits))
   where
-    go : (x : Option BufferInfo) → buffer past i ≡ x → FitsFill (buffer past i) o n → Matches (run_point e b k q (cmd.Fill i o n w) ∷ past) new
+    go : (x : Option BufferInfo) → buffer past i ≡ x → FitsFill (buffer past i) o n → MatchesMade (run_point e b k q (cmd.Fill i o n w) ∷ past) new
     go None made f = absurd (subst (λ (x : Option BufferInfo). FitsFill x o n) made f)
     go (Some info) made f =
         let at = there_placed past s i info st made in
-        subst (λ (x : Held). Matches (run_point e b k q (cmd.Fill i o n w) ∷ past) x) (sym (ran at.0 at.1)) (fill_matches e b k q i o n w past s at.0 apart at.1 st f)
+        subst (λ (x : Held). MatchesMade (run_point e b k q (cmd.Fill i o n w) ∷ past) x) (sym (ran at.0 at.1)) (fill_matches e b k q i o n w past s at.0 apart at.1 st f)
 
 -- a command that is no fill
-pub other_command : (y : Cmd) → ((i o : ℕ) (n : Length) (w : ℕ) → y ≡ cmd.Fill i o n w → ⊥) → (e b k q : ℕ) (past : Past) (s : Held) → Matches past s → FitsCommand past y → Matches (run_point e b k q y ∷ past) s
+pub other_command : (y : Cmd) → ((i o : ℕ) (n : Length) (w : ℕ) → y ≡ cmd.Fill i o n w → ⊥) → (e b k q : ℕ) (past : Past) (s : Held) → MatchesMade past s → FitsCommand past y → MatchesMade (run_point e b k q y ∷ past) s
 other_command (cmd.Fill i o n w) none e b k q past s st fits = absurd (none i o n w refl)
 other_command (cmd.Barrier es) none e b k q past s st fits = barrier_matches e b k q es past s fits st
 other_command (cmd.Update i o bytes) none e b k q past s st fits = absurd fits

@@ -27,6 +27,7 @@ use Rattle.vk_model.specs.declared.resource.Place.{Place}
 use Rattle.vk_model.specs.declared.resource.Place.TheVariants as place
 use Rattle.vk_validate.specs.Supported.{is_supported, is_supported_action, is_supported_place, is_memory}
 use Rattle.vk_device.specs.Clean.{IsClean}
+use Rattle.vk_device.specs.Matches.{next_past}
 use Rattle.vk_device.specs.Inner.Fits.{FitsFill, FitsCommand, FitsRead, FitsEntry, FitsAction, AllFit, AllMemory, IsOwn}
 use Rattle.std.proofs.Math.Nat.{div-add-mod, div-mul-le_self, mul-div_cancel, mod-lt}
 use Rattle.vk_model.specs.declared.command.Cmd.{Cmd}
@@ -271,3 +272,6 @@ clean_batches (t ∷ ts) past clean = clean_started t past (clean_batches ts (st
 pub clean_plain : (e : ℕ) (xs : List Entry) (past : Past) → IsClean (plain_from e past xs) → IsClean past
 clean_plain e [] past clean = clean
 clean_plain e (x ∷ xs) past clean = clean_older past (host e x) (clean_batches (batches_of past e x) (host e x ∷ past) (clean_plain (e + 1) xs _ clean))
+
+pub clean_next : (e : ℕ) (x : Entry) (past : Past) → IsClean (next_past e x past) → IsClean past
+clean_next e x past clean = clean_older past (host e x) (clean_batches (batches_of past e x) (host e x ∷ past) clean)

@@ -15,7 +15,8 @@ use Rattle.vk_device.specs.declared.applied.Applied.TheVariants as applied
 use Rattle.vk_device.specs.declared.device.Placed.{Placed}
 use Rattle.vk_device.specs.Held.{Held, placed}
 use Rattle.vk_device.specs.Inner.Fits.{FitsCommand, AllFit}
-use Rattle.vk_device.specs.Matches.{Matches, next_past}
+use Rattle.vk_device.specs.Matches.{next_past}
+use Rattle.vk_device.specs.Inner.Made.{MatchesMade}
 
 -- The past after batches that run at once, from batch k of entry e on.
 abbrev pub batches_past : Past → ℕ → ℕ → ℕ → List Batch → Past → Past
@@ -27,23 +28,23 @@ run_point e b k q c = record { entry = e; batch = b; place = k; queue = q; actio
 
 -- A device matches some past in which the command that comes next fits.
 abbrev pub CommandReady : Held → Cmd → Type 0
-CommandReady s c = (past : Past) × Matches past s × FitsCommand past c
+CommandReady s c = (past : Past) × MatchesMade past s × FitsCommand past c
 
 -- The same for the commands of a batch.
 abbrev pub CommandsReady : Held → List Cmd → Type 0
-CommandsReady s cs = (t : SubmittedBatch) × (past : Past) × Matches past s × AllFit (actions Run t 0 cs past)
+CommandsReady s cs = (t : SubmittedBatch) × (past : Past) × MatchesMade past s × AllFit (actions Run t 0 cs past)
 
 -- The same for a batch.
 abbrev pub BatchReady : Held → Batch → Type 0
-BatchReady s b = (t : SubmittedBatch) × (past : Past) × Matches past s × (t.content ≡ b) × AllFit (started t past)
+BatchReady s b = (t : SubmittedBatch) × (past : Past) × MatchesMade past s × (t.content ≡ b) × AllFit (started t past)
 
 -- The same for the batches of a submit.
 abbrev pub BatchesReady : Held → List Batch → Type 0
-BatchesReady s bs = (at : Past) × (e : ℕ) × (q : ℕ) × (past : Past) × Matches past s × AllFit (batches_past at e q 0 bs past)
+BatchesReady s bs = (at : Past) × (e : ℕ) × (q : ℕ) × (past : Past) × MatchesMade past s × AllFit (batches_past at e q 0 bs past)
 
 -- The same for an entry.
 abbrev pub Ready : Held → Entry → Type 0
-Ready s x = (e : ℕ) × (past : Past) × Matches past s × AllFit (next_past e x past)
+Ready s x = (e : ℕ) × (past : Past) × MatchesMade past s × AllFit (next_past e x past)
 
 -- A fill lies in the buffer, where there is one.
 abbrev pub MayFill : Option Placed → ℕ → Length → Type 0

@@ -1,6 +1,6 @@
 -- What a cache shows.
 use Rattle.std.proofs.Common.{◌≡◌, ℕ, Option, Some, sym, ap, ◌∙◌}
-use Rattle.vk_laws.specs.Caches.{value_through}
+use Rattle.vk_model.specs.Run.Caches.{value_through}
 use Rattle.vk_laws.specs.Reader.{held_as, held_of}
 use Rattle.vk_laws.specs.declared.reader.Copied.{Copied}
 

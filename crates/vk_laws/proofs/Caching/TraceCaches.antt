@@ -18,7 +18,8 @@ use Rattle.vk_laws.specs.Machine.{Task, Precedes}
 use Rattle.vk_laws.specs.Caches.{Seen, Available}
 use Rattle.vk_laws.specs.Trace.{accesses}
 use Rattle.vk_laws.specs.Tasks.{node_at, task_count, accesses_of}
-use Rattle.vk_laws.specs.TraceCaches.{agent_of, submits_to, host_wrote, cached, makes_write_available, makes_visible_to_host, makes_visible_to, caching_of}
+use Rattle.vk_model.specs.Run.Caches.{agent_of}
+use Rattle.vk_laws.specs.TraceCaches.{submits_to, host_wrote, cached, makes_write_available, makes_visible_to_host, makes_visible_to, caching_of}
 use Rattle.vk_laws.proofs.Accesses.TaskNodes.{node_of}
 use Rattle.vk_model.proofs.Lists.Members.{contains-cons, member_passes, some_member, none_in}
 use Rattle.vk_model.proofs.Lists.Truths.{clash, six}

@@ -2,7 +2,8 @@
 use Rattle.std.proofs.Common.{◌≡◌, ◌⊎◌, inl, inr, ⊎_elim, ℕ, Option, Some, None, refl, sym, ap, ◌∙◌, subst, arith, eq-or-lt_of_le}
 use Rattle.std.specs.Prelude.{⊤}
 use Rattle.std.proofs.lemmas.Bool.{cases_lt}
-use Rattle.vk_laws.specs.Caches.{Held, Clean, Dirty, Cell, value_through, view, Others, Touched, Dropped, WrittenBack, Loaded, Wrote}
+use Rattle.vk_model.specs.Run.Caches.{Held, Clean, Dirty, Cell, value_through, view}
+use Rattle.vk_laws.specs.Caches.{Others, Touched, Dropped, WrittenBack, Loaded, Wrote}
 use Rattle.vk_laws.proofs.EveryOrder.Coherent.{CellOk}
 
 same_or_not : (a b : ℕ) → (b ≡ a) ⊎ (b ≡ a → ⊥)

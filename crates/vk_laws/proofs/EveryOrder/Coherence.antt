@@ -4,7 +4,8 @@ use Rattle.std.proofs.lemmas.Bool.{cases_lt}
 use Rattle.vk_model.specs.World.Bytes.{Byte}
 use Rattle.vk_model.specs.World.ByteWrites.{Value, From}
 use Rattle.vk_laws.specs.Machine.{IsIn, Task, Put, Puts, Unknown, TraceAccesses, Writes, Reads, Precedes, HazardFree, MayRun, IsAllowed, IsModel, newest, latest}
-use Rattle.vk_laws.specs.Caches.{Dirty, Cell, view, Wrote, CellRan, Caching, CacheFree, Guard, Reached, Start, Touch, Run}
+use Rattle.vk_model.specs.Run.Caches.{Dirty, Cell, view}
+use Rattle.vk_laws.specs.Caches.{Wrote, CellRan, Caching, CacheFree, Guard, Reached, Start, Touch, Run}
 use Rattle.vk_laws.proofs.EveryOrder.Coherent.{Stores, Follows, CellOk, owner_of, MadeAvailable, MadeVisible, Coherent}
 use Rattle.vk_laws.proofs.EveryOrder.Fresh.{closed, later_not_done, latest_in, fresh_at, follows_step}
 use Rattle.vk_laws.proofs.EveryOrder.Cells.{view_ok, touched_ok, left_ok, written_ok, event_ok, first_ok}

@@ -4,7 +4,8 @@ use Rattle.std.specs.Prelude.{⊤}
 use Rattle.vk_model.specs.World.Bytes.{Byte}
 use Rattle.vk_model.specs.World.ByteWrites.{Value, From}
 use Rattle.vk_laws.specs.Machine.{IsIn, Task, Put, Puts, Unknown, TraceAccesses, Writes, Precedes, latest}
-use Rattle.vk_laws.specs.Caches.{Clean, Dirty, Cell, Caching}
+use Rattle.vk_model.specs.Run.Caches.{Clean, Dirty, Cell}
+use Rattle.vk_laws.specs.Caches.{Caching}
 
 -- A byte before and after a task that writes this to it, by the bytes before.
 abbrev pub Stores : Option Put → (Byte → ℕ) → ℕ → ℕ → Type 0

@@ -5,7 +5,8 @@ use Rattle.std.proofs.lemmas.Bool.{eqb-true}
 use Rattle.vk_model.specs.World.Bytes.{Byte, in_buffer, in_image}
 use Rattle.vk_model.specs.World.ByteWrites.{From}
 use Rattle.vk_laws.specs.Machine.{IsIn, Task, Put, Puts, Writes, Reads, HazardFree, MayRun}
-use Rattle.vk_laws.specs.Caches.{Clean, Dirty, Cell, Touched, Dropped, WrittenBack, Loaded, CellRan, CacheFree, Seen, Reached, Start, Touch, Run}
+use Rattle.vk_model.specs.Run.Caches.{Clean, Dirty, Cell}
+use Rattle.vk_laws.specs.Caches.{Touched, Dropped, WrittenBack, Loaded, CellRan, CacheFree, Seen, Reached, Start, Touch, Run}
 use Rattle.vk_laws.specs.Commands.{IsCut}
 use Rattle.vk_laws.specs.Example.{task, writes, reads, only_index, accesses, caching, effects, holding, with_original, when_filled, when_copied, MeetsPremises}
 use Rattle.vk_laws.proofs.Accesses.TaskNodes.{same_task}

@@ -2,7 +2,8 @@
 use Rattle.std.proofs.Common.{◌≡◌, inl, inr, ℕ, ◌<◌, IsTrue, Bool, List, [], ◌∷◌, Option, Some, None, refl, sym, ◌∙◌, subst, true, false, arith}
 use Rattle.vk_model.specs.World.Bytes.{Byte}
 use Rattle.vk_laws.specs.Machine.{IsIn, Task, Put, TraceAccesses, Precedes, MayRun, newest, latest}
-use Rattle.vk_laws.specs.Caches.{Dirty, Cell, CellRan, Caching, Guard, Reached, Start, Touch, Run}
+use Rattle.vk_model.specs.Run.Caches.{Dirty, Cell}
+use Rattle.vk_laws.specs.Caches.{CellRan, Caching, Guard, Reached, Start, Touch, Run}
 use Rattle.vk_laws.specs.Growth.{Extends, IsTransitive, IsDue, IsEager}
 
 module _ (size : ℕ) (tr : TraceAccesses) (ca : Caching) (tr' : TraceAccesses) (ca' : Caching) (ext : Extends size tr ca tr' ca') where

@@ -14,7 +14,7 @@ use Rattle.vk_model.specs.Run.Pieces.{pieces}
 use Rattle.vk_model.specs.Sync.Node.{Node, Act, Hosts, Waits, Signals, Runs, Depends, nodes}
 use Rattle.vk_model.specs.Sync.Edge.{edge, is_host}
 use Rattle.vk_model.specs.Sync.Before.{before, Path, direct, longer}
-use Rattle.vk_model.specs.Run.Runs.{Name, same_name, is_done, node_pieces, is_free, offered, Stage, start, is_host_wait, past_with, may_go, applied}
+use Rattle.vk_model.specs.Run.Runs.{Name, same_name, is_done, node_pieces, is_free, offered, Stage, start, is_host_wait, past_with, may_go, entered}
 use Rattle.vk_laws.specs.Machine.{IsIn, Task, TraceAccesses, MayRun, IsAllowed}
 use Rattle.vk_laws.specs.Growth.{IsDue, IsEager}
 use Rattle.vk_laws.specs.Tasks.{task_count, node_at, accesses_of}
@@ -176,11 +176,11 @@ module _ {t : List Entry} (known : Known t) where
       abbrev pub here : Node
       here = entry_node known.keeps t s i.placed x xs left
 
-      abbrev after : Place (applied s x xs)
+      abbrev after : Place (entered s x xs)
       after = next_placed known.keeps t s i.placed x xs left
 
-      pub after_grows : Front (applied s x xs)
-      after_grows = later known.keeps t (applied s x xs) after
+      pub after_grows : Front (entered s x xs)
+      after_grows = later known.keeps t (entered s x xs) after
 
       pub there_before : (n : Node) → Contains (nodes s.front.past) n → Contains (nodes (past_with s x)) n
       there_before n c = still_there known.keeps t s i.placed x xs left n (contains-tail here (nodes s.front.past) n c)

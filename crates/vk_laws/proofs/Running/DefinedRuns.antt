@@ -32,22 +32,21 @@ module _ {t : List Entry} (known : Known t) where
   abbrev tr : TraceAccesses
   tr = accesses_of all
 
-  module _ (part_count : Past → ℕ) where
-    pub allowed_too : (steps : List Step) (e : Stage) (run : Allowed part_count (start t) steps e)
-        → (done : List Task) × Matches all e done × (filter (λ u. not (is_event all u)) done ≡ done_by part_count (start t) steps e run [])
-    allowed_too steps e run =
-        let did : List Task = done_by part_count (start t) steps e run [] in
-        let i : AtPoint known e did = all_steps known part_count steps (start t) [] (begins known) e run in (
-          i.tasks,
-          record {
-            allowed = i.allowed;
-            happened = i.happened;
-            eager = i.eager;
-            next = λ u may. comes_next known e did i u may;
-            only = λ u plain come may. only_next known e did i u plain come may;
-          },
-          i.order,
-        )
+  pub allowed_too : (steps : List Step) (e : Stage) (run : Allowed (start t) steps e)
+      → (done : List Task) × Matches all e done × (filter (λ u. not (is_event all u)) done ≡ done_by (start t) steps e run [])
+  allowed_too steps e run =
+      let did : List Task = done_by (start t) steps e run [] in
+      let i : AtPoint known e did = all_steps known steps (start t) [] (begins known) e run in (
+        i.tasks,
+        record {
+          allowed = i.allowed;
+          happened = i.happened;
+          eager = i.eager;
+          next = λ u may. comes_next known e did i u may;
+          only = λ u plain come may. only_next known e did i u plain come may;
+        },
+        i.order,
+      )
 
   -- ---- where nothing may come next
 
@@ -88,7 +87,7 @@ module _ {t : List Entry} (known : Known t) where
         go ran n c j cn lt act less true e = e
         go ran n c j cn lt act less false e = absurd (over (piece_task (n.number, j)) (Offers (n.number, j) (is_offered known s did i n c j cn act less (free_next k ran n (omega (arith, lt))) e)))
 
-    -- then the next entry may be applied, so there is none
+    -- then the next entry may be entered, so there is none
     entry_goes : (x : Entry) (xs : List Entry) → s.left ≡ x ∷ xs → (b : Bool) → is_host_wait x ≡ b → IsTrue (may_go s x)
     entry_goes x xs left false e = or_left (not (is_host_wait x)) _ (ap not e)
     entry_goes x xs left true e = or_right (not (is_host_wait x)) _ (each_of (λ n. not (n.point.entry == s.count) || is_free (past_with s x) s.done n) (nodes (past_with s x)) (λ n cn. one n cn (n.point.entry == s.count) refl))
@@ -139,8 +138,8 @@ module _ {t : List Entry} (known : Known t) where
             turned (sym (happened_is all s u n at (Runs c) act)) (subst (λ (k : ℕ). IsTrue (is_done s.done (k, u.index))) (node_of all u.node n at).1 ran)
         go (hosts n x at act first) = turned (sym (happened_is all s u n at (Hosts x) act)) (lt-ltb n.point.entry s.count (low known.keeps t s i.placed n (in_past n at)))
 
-  pub ended : (part_count : Past → ℕ) (steps : List Step) (e : Stage) → Allowed part_count (start t) steps e → IsOver e → (e.left ≡ []) × ((u : Task) → IsTrue (tr.has u) → is_event all u ≡ false → IsTrue (has_happened all e u))
-  ended part_count steps e run over =
-      let did : List Task = done_by part_count (start t) steps e run [] in
-      let i : AtPoint known e did = all_steps known part_count steps (start t) [] (begins known) e run in
+  pub ended : (steps : List Step) (e : Stage) → Allowed (start t) steps e → IsOver e → (e.left ≡ []) × ((u : Task) → IsTrue (tr.has u) → is_event all u ≡ false → IsTrue (has_happened all e u))
+  ended steps e run over =
+      let did : List Task = done_by (start t) steps e run [] in
+      let i : AtPoint known e did = all_steps known steps (start t) [] (begins known) e run in
       (none_left e did i over, all_happened e did i over)

@@ -11,7 +11,8 @@ use Rattle.vk_model.specs.Sync.Node.{Node, nodes}
 use Rattle.vk_model.specs.Sync.Before.{before}
 use Rattle.vk_model.specs.Laws.{BeforeLeadsOn}
 use Rattle.vk_laws.specs.Machine.{IsIn, Task, Put, Puts, Unknown, TraceAccesses, Precedes, MayRun, IsAllowed}
-use Rattle.vk_laws.specs.Caches.{Cell, Caching, CellRan, Reached, Start, Run}
+use Rattle.vk_model.specs.Run.Caches.{Cell}
+use Rattle.vk_laws.specs.Caches.{Caching, CellRan, Reached, Start, Run}
 use Rattle.vk_laws.specs.Tasks.{task_count, node_at, by_act, accesses_of}
 use Rattle.vk_laws.specs.Discards.{with_discards}
 use Rattle.vk_laws.specs.DefinedRuns.{stored, bytes_after}

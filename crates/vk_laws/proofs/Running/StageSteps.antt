@@ -2,10 +2,11 @@
 use Rattle.std.proofs.Common.{◌≡◌, inl, inr, ⊎_elim, ℕ, ◌+◌, List, [], ◌∷◌, false, IsTrue, Some, refl, ap, sym, ◌∙◌, subst, arith}
 use Rattle.std.proofs.lemmas.Bool.{ltb-true, lt-ltb, or_cases, or_left, or_right}
 use Rattle.vk_model.specs.declared.entry.Entry.{Entry}
+use Rattle.vk_model.specs.declared.entry.Entry.TheVariants as entry
 use Rattle.vk_model.specs.Trace.Point.{Past}
 use Rattle.vk_model.specs.Trace.Order.{order}
 use Rattle.vk_model.specs.Sync.Node.{Node, Hosts, Runs}
-use Rattle.vk_model.specs.Run.Runs.{Name, same_name, is_done, Step, Apply, RunPiece, CopyPart, Stage, may_go, applied, Applies, Next, Allowed}
+use Rattle.vk_model.specs.Run.Runs.{Name, same_name, is_done, Step, Apply, RunPiece, CopyPart, Stage, may_go, entered, with_parts, Applies, Next, Allowed}
 use Rattle.vk_laws.specs.Machine.{IsIn, Task, TraceAccesses, MayRun}
 use Rattle.vk_laws.specs.Tasks.{node_at, accesses_of}
 use Rattle.vk_laws.specs.DefinedRuns.{is_event, piece_task, entry_task, with_step, done_by, has_happened, MayCome, Offers, Enters}
@@ -21,8 +22,8 @@ module _ {t : List Entry} (known : Known t) where
   abbrev tr : TraceAccesses
   tr = accesses_of all
 
-  apply_step : (s : Stage) (did : List Task) (i : AtPoint known s did) (x : Entry) (xs : List Entry) → s.left ≡ x ∷ xs → IsTrue (may_go s x) → AtPoint known (applied s x xs) (entry_task s ∷ did)
-  apply_step s did i x xs left may = settle known (applied s x xs) (entry_task s ∷ did) (next_placed known.keeps t s i.placed x xs left) (entry_task s ∷ i.tasks) (entry_may known s did i x xs left may, i.allowed)
+  apply_step : (s : Stage) (did : List Task) (i : AtPoint known s did) (x : Entry) (xs : List Entry) → s.left ≡ x ∷ xs → IsTrue (may_go s x) → AtPoint known (entered s x xs) (entry_task s ∷ did)
+  apply_step s did i x xs left may = settle known (entered s x xs) (entry_task s ∷ did) (next_placed known.keeps t s i.placed x xs left) (entry_task s ∷ i.tasks) (entry_may known s did i x xs left may, i.allowed)
       (λ u there plain. (forward u there plain, backward u there plain)) (rw mine (ap (λ (us : List Task). entry_task s ∷ us) i.order))
     where
       at : node_at all (entry_task s).node ≡ Some (here known s did i x xs left)
@@ -31,28 +32,28 @@ module _ {t : List Entry} (known : Known t) where
       mine : is_event all (entry_task s) ≡ false
       mine = plain_is all (entry_task s) (here known s did i x xs left) at (Hosts x) refl refl
 
-      forward : (u : Task) → IsTrue (tr.has u) → is_event all u ≡ false → IsIn u (entry_task s ∷ i.tasks) → IsTrue (has_happened all (applied s x xs) u)
+      forward : (u : Task) → IsTrue (tr.has u) → is_event all u ≡ false → IsIn u (entry_task s ∷ i.tasks) → IsTrue (has_happened all (entered s x xs) u)
       forward u there plain (inl e) =
-          subst (λ (v : Task). IsTrue (has_happened all (applied s x xs) v)) (sym e) (turned (sym (happened_is all (applied s x xs) (entry_task s) (here known s did i x xs left) at (Hosts x) refl)) (lt-ltb s.count (s.count + 1) (omega arith)))
+          subst (λ (v : Task). IsTrue (has_happened all (entered s x xs) v)) (sym e) (turned (sym (happened_is all (entered s x xs) (entry_task s) (here known s did i x xs left) at (Hosts x) refl)) (lt-ltb s.count (s.count + 1) (omega arith)))
       forward u there plain (inr h) = go (kind all u there plain) ((i.happened u there plain).0 h)
         where
-          go : Kind all u → IsTrue (has_happened all s u) → IsTrue (has_happened all (applied s x xs) u)
-          go (piece n c at act lt) h = turned (sym (happened_is all (applied s x xs) u n at (Runs c) act)) (turned (happened_is all s u n at (Runs c) act) h)
+          go : Kind all u → IsTrue (has_happened all s u) → IsTrue (has_happened all (entered s x xs) u)
+          go (piece n c at act lt) h = turned (sym (happened_is all (entered s x xs) u n at (Runs c) act)) (turned (happened_is all s u n at (Runs c) act) h)
           go (hosts n y at act first) h =
               let lt = ltb-true n.point.entry s.count (turned (happened_is all s u n at (Hosts y) act) h) in
-              turned (sym (happened_is all (applied s x xs) u n at (Hosts y) act)) (lt-ltb n.point.entry (s.count + 1) (omega (arith, lt)))
+              turned (sym (happened_is all (entered s x xs) u n at (Hosts y) act)) (lt-ltb n.point.entry (s.count + 1) (omega (arith, lt)))
 
-      backward : (u : Task) → IsTrue (tr.has u) → is_event all u ≡ false → IsTrue (has_happened all (applied s x xs) u) → IsIn u (entry_task s ∷ i.tasks)
+      backward : (u : Task) → IsTrue (tr.has u) → is_event all u ≡ false → IsTrue (has_happened all (entered s x xs) u) → IsIn u (entry_task s ∷ i.tasks)
       backward u there plain h = go (kind all u there plain)
         where
           go : Kind all u → IsIn u (entry_task s ∷ i.tasks)
-          go (piece n c at act lt) = inr (piece_in known s did i u n c there at act (turned (happened_is all (applied s x xs) u n at (Runs c) act) h))
+          go (piece n c at act lt) = inr (piece_in known s did i u n c there at act (turned (happened_is all (entered s x xs) u n at (Runs c) act) h))
           go (hosts n y at act first) =
               let found = node_of all u.node n at in
               ⊎_elim
               (λ same. inl (same_task u (entry_task s) (sym found.1 ∙ sym (ap (λ (m : Node). m.number) same)) first))
               (λ old. inr (entry_in known s did i u n y there at act old))
-              (entries_then known.keeps t s i.placed x xs left n y found.0 act (ltb-true n.point.entry (s.count + 1) (turned (happened_is all (applied s x xs) u n at (Hosts y) act) h)))
+              (entries_then known.keeps t s i.placed x xs left n y found.0 act (ltb-true n.point.entry (s.count + 1) (turned (happened_is all (entered s x xs) u n at (Hosts y) act) h)))
 
   abbrev ran : Stage → Name → Stage
   ran s x = record s { done = x ∷ s.done }
@@ -88,8 +89,8 @@ module _ {t : List Entry} (known : Known t) where
               (or_cases (same_name (u.node, u.index) x) (is_done s.done (u.node, u.index)) (turned (happened_is all (ran s x) u n at (Runs c) act) h))
           go (hosts n y at act first) = inr ((i.happened u there plain).1 (turned (sym (happened_is all s u n at (Hosts y) act)) (turned (happened_is all (ran s x) u n at (Hosts y) act) h)))
 
-  copy_step : (s : Stage) (did : List Task) (k : ℕ) → AtPoint known s did → AtPoint known (record s { copied = k ∷ s.copied }) did
-  copy_step s did k i = record {
+  parts_step : (s : Stage) (did : List Task) (parts : ℕ) (copied : List ℕ) → AtPoint known s did → AtPoint known (record s { parts = parts; copied = copied }) did
+  parts_step s did parts copied i = record {
     placed = record { gone = i.placed.gone; split = i.placed.split; count = i.placed.count; front = i.placed.front };
     tasks = i.tasks;
     allowed = i.allowed;
@@ -98,20 +99,24 @@ module _ {t : List Entry} (known : Known t) where
     order = i.order;
   }
 
+  entry_parts : (s : Stage) (did : List Task) (parts : ℕ) (x : Entry) → AtPoint known s did → AtPoint known (with_parts parts x s) did
+  entry_parts s did parts (entry.Pass d) i = parts_step s did parts [] i
+  entry_parts s did parts (entry.EndPass d kept lost) i = parts_step s did 0 [] i
+  entry_parts s did parts _ i = i
+
   pub comes_next : (s : Stage) (did : List Task) (i : AtPoint known s did) (u : Task) → MayCome s u → MayRun tr i.tasks u
   comes_next s did i _ (Offers x h) = piece_may known s did i x (offered_of known s did i x h)
   comes_next s did i _ (Enters x xs left may) = entry_may known s did i x xs left may
 
-  module _ (part_count : Past → ℕ) where
-    one_step : (s : Stage) (did : List Task) → AtPoint known s did → (step : Step) (e : Stage) → Next part_count s step e → AtPoint known e (with_step s step did)
-    one_step s did i (Apply atoms) e next = go s.left refl next
-      where
-        go : (left : List Entry) → s.left ≡ left → Applies s atoms left e → AtPoint known e (entry_task s ∷ did)
-        go [] left next = absurd next
-        go (x ∷ xs) left next = subst (λ (m : Stage). AtPoint known m (entry_task s ∷ did)) (sym next.2) (apply_step s did i x xs left next.0)
-    one_step s did i (RunPiece x) e next = subst (λ (m : Stage). AtPoint known m (piece_task x ∷ did)) (sym next.1) (run_step s did i x (offered_of known s did i x next.0))
-    one_step s did i (CopyPart k) e next = subst (λ (m : Stage). AtPoint known m did) (sym next.1) (copy_step s did k i)
+  one_step : (s : Stage) (did : List Task) → AtPoint known s did → (step : Step) (e : Stage) → Next s step e → AtPoint known e (with_step s step did)
+  one_step s did i (Apply atoms parts) e next = go s.left refl next
+    where
+      go : (left : List Entry) → s.left ≡ left → Applies s atoms parts left e → AtPoint known e (entry_task s ∷ did)
+      go [] left next = absurd next
+      go (x ∷ xs) left next = subst (λ (m : Stage). AtPoint known m (entry_task s ∷ did)) (sym next.2) (entry_parts (entered s x xs) (entry_task s ∷ did) parts x (apply_step s did i x xs left next.0))
+  one_step s did i (RunPiece x) e next = subst (λ (m : Stage). AtPoint known m (piece_task x ∷ did)) (sym next.1) (run_step s did i x (offered_of known s did i x next.0))
+  one_step s did i (CopyPart k) e next = subst (λ (m : Stage). AtPoint known m did) (sym next.1) (parts_step s did s.parts (k ∷ s.copied) i)
 
-    pub all_steps : (steps : List Step) (s : Stage) (did : List Task) → AtPoint known s did → (e : Stage) (run : Allowed part_count s steps e) → AtPoint known e (done_by part_count s steps e run did)
-    all_steps [] s did i e run = subst (λ (m : Stage). AtPoint known m did) (sym run) i
-    all_steps (step ∷ steps) s did i e run = all_steps steps run.0 (with_step s step did) (one_step s did i step run.0 run.1) e run.2
+  pub all_steps : (steps : List Step) (s : Stage) (did : List Task) → AtPoint known s did → (e : Stage) (run : Allowed s steps e) → AtPoint known e (done_by s steps e run did)
+  all_steps [] s did i e run = subst (λ (m : Stage). AtPoint known m did) (sym run) i
+  all_steps (step ∷ steps) s did i e run = all_steps steps run.0 (with_step s step did) (one_step s did i step run.0 run.1) e run.2

@@ -9,7 +9,7 @@ use Rattle.vk_model.specs.Trace.Order.{Front, host, after_entry, order_from, ord
 use Rattle.vk_model.specs.Trace.Structure.{IsOfBatch, Follows, IsOrdered}
 use Rattle.vk_model.specs.Sync.Node.{Node, Act, Hosts, nodes, acts}
 use Rattle.vk_model.specs.Laws.{GrowthKeeps}
-use Rattle.vk_model.specs.Run.Runs.{Stage, start, applied, past_with, is_host_wait}
+use Rattle.vk_model.specs.Run.Runs.{Stage, start, entered, past_with, is_host_wait}
 use Rattle.vk_model.proofs.Lists.Members.{contains-cons, contains-head}
 use Rattle.vk_model.proofs.Lists.Pairs.{Each}
 use Rattle.vk_model.proofs.Trace.Growing.{Grows, Quiet, entry_grows, order_grows, order_append, still_has}
@@ -48,7 +48,7 @@ module _ (keeps : GrowthKeeps) (t : List Entry) where
   abbrev empty : Front
   empty = record { past = []; waiting = [] }
 
-  -- the entries that were applied, and those to come, are the trace
+  -- the entries that were entered, and those to come, are the trace
   pub record Placed (s : Stage) : Type 0 where
     pub gone : List Entry
     pub split : t ≡ gone ++ s.left
@@ -96,7 +96,7 @@ module _ (keeps : GrowthKeeps) (t : List Entry) where
   whole_past s p left = past_is s p ∙ ap order (sym (p.split ∙ ap (λ (l : List Entry). p.gone ++ l) left ∙ append-nil p.gone))
 
   module _ (s : Stage) (p : Placed s) (x : Entry) (xs : List Entry) (left : s.left ≡ x ∷ xs) where
-    pub next_placed : Placed (applied s x xs)
+    pub next_placed : Placed (entered s x xs)
     next_placed = record {
       gone = p.gone ++ x ∷ [];
       split = p.split ∙ ap (λ (l : List Entry). p.gone ++ l) left ∙ sym (append_assoc p.gone (x ∷ []) xs);
@@ -127,7 +127,7 @@ module _ (keeps : GrowthKeeps) (t : List Entry) where
         (λ h. absurd (let some : host_of m.point.action ≡ Some y = ap host_of (is_entry h.1) in let none = h.0 in cc))
         (old_or_newer Quiet (host s.count x ∷ s.front.past) (past_with s x) batches m here))
         (λ h. let le : s.count + 1 ≤ m.point.entry = h.0 y (is_entry h.1) in absurd (omega (arith, lt, le)))
-        (old_or_newer (From (s.count + 1)) (past_with s x) all (later (applied s x xs) next_placed) m c)
+        (old_or_newer (From (s.count + 1)) (past_with s x) all (later (entered s x xs) next_placed) m c)
       where
         is_entry : Contains (acts m.point.action) m.act → m.point.action ≡ Host y
         is_entry h = host_action m.point.action y (subst (λ (a : Act). Contains (acts m.point.action) a) act h)
@@ -145,7 +145,7 @@ module _ (keeps : GrowthKeeps) (t : List Entry) where
         now = past_with s x
 
         ordered : IsOrdered now
-        ordered = ordered_past (applied s x xs) next_placed
+        ordered = ordered_past (entered s x xs) next_placed
 
         a : AtPoint now m
         a = at_point now m c

@@ -21,7 +21,8 @@ use Rattle.vk_laws.specs.Trace.{accesses}
 use Rattle.vk_laws.specs.Tasks.{piece_writes, task_count, task_write, node_at, by_act, accesses_of}
 use Rattle.vk_laws.specs.TraceBytes.{before_node}
 use Rattle.vk_laws.specs.Discards.{entry_forgets, forgets, or_unknown, with_discards}
-use Rattle.vk_laws.specs.TraceCaches.{agent_of, submits_to, cached, host_wrote, makes_write_available, makes_visible_to, caching_of}
+use Rattle.vk_model.specs.Run.Caches.{agent_of}
+use Rattle.vk_laws.specs.TraceCaches.{submits_to, cached, host_wrote, makes_write_available, makes_visible_to, caching_of}
 use Rattle.vk_laws.proofs.Accesses.TaskNodes.{node_of}
 use Rattle.vk_laws.proofs.Nodes.Prefixes.{old_has, same_pieces, tasks_lead_on, there_below}
 use Rattle.vk_model.proofs.Lists.Members.{contains-cons, contains-head, contains-tail, none_in}

@@ -11,7 +11,6 @@ use Rattle.vk_model.specs.World.ByteWrites.{buffer_size}
 use Rattle.vk_model.specs.Sync.Node.{Node, Act, Runs, nodes}
 use Rattle.vk_model.specs.Sync.Before.{before}
 use Rattle.vk_model.specs.Run.Pieces.{pieces}
-use Rattle.vk_model.specs.Rules.Passes.{some_pass}
 
 -- A piece, by the number of its command's node and its place among the command's pieces.
 abbrev pub Name : Type 0
@@ -38,23 +37,24 @@ is_free past done n = list_all (λ m. not (before (nodes past) m n) || list_all 
 abbrev pub offered : Past → List Name → List Name
 offered past done = flat_map (λ n. if is_free past done n then filter (λ x. not (is_done done x)) (node_pieces past n n.act) else []) (reverse (nodes past))
 
--- A step of a run: the next entry, with the atoms of its buffer that the host's cache writes back, drops or loads just before; a piece; or, inside a pass, part k of what it moves (Vulkan, "Host Access to Device Memory Objects"; VMA, "Defragmentation").
+-- A step of a run: the next entry, with the atoms of its buffer that the host's cache writes back, drops or loads just before, and, where it begins a pass, how many parts of what moves are to be copied; a piece; or, inside a pass, part k of what moves (Vulkan, "Host Access to Device Memory Objects"; VMA, "Defragmentation").
 pub data Step : Type 0 where
-  Apply : (atoms : List ℕ) → Step
+  Apply : (atoms : List ℕ) (parts : ℕ) → Step
   RunPiece : Name → Step
   CopyPart : ℕ → Step
 
--- The stage of a run: the batches started and those that wait, the pieces that have run, the parts of the open pass that are copied, the entries to come, and how many have been applied.
+-- The stage of a run: the batches started and those that wait, the pieces that have run, how many parts the open pass has, 0 where none is open, and which of them are copied, the entries to come, and how many have been applied.
 pub record Stage : Type 0 where
   pub front : Front
   pub done : List Name
+  pub parts : ℕ
   pub copied : List ℕ
   pub left : List Entry
   pub count : ℕ
 
 -- Where a run of a trace begins.
 abbrev pub start : List Entry → Stage
-start t = record { front = record { past = []; waiting = [] }; done = []; copied = []; left = t; count = 0 }
+start t = record { front = record { past = []; waiting = [] }; done = []; parts = 0; copied = []; left = t; count = 0 }
 
 -- Whether an entry is a wait of the host.
 abbrev pub is_host_wait : Entry → Bool
@@ -85,35 +85,38 @@ atom_count past x = elim (touched_by x) [ None ↦ 0 | Some b ↦ if is_cached p
 abbrev pub are_atoms : Past → Entry → List ℕ → Bool
 are_atoms past x atoms = list_all (λ k. nat_lt k (atom_count past x)) atoms
 
--- Whether an entry begins or ends a pass: its parts are counted anew.
-abbrev pub is_pass_entry : Entry → Bool
-is_pass_entry (entry.Pass d) = true
-is_pass_entry (entry.EndPass d kept lost) = true
-is_pass_entry _ = false
+-- The stage when an entry has come, with the batches that could be started then.
+abbrev pub entered : Stage → Entry → List Entry → Stage
+entered s x xs = record s { front = after_entry s.count x s.front; left = xs; count = s.count + 1 }
+
+-- The parts to copy after an entry: so many when a pass begins, none when it has ended (VMA, "Defragmentation").
+abbrev pub with_parts : ℕ → Entry → Stage → Stage
+with_parts n (entry.Pass d) s = record s { parts = n; copied = [] }
+with_parts n (entry.EndPass d kept lost) s = record s { parts = 0; copied = [] }
+with_parts n x s = s
 
 -- The stage of a run when an entry has been applied.
-abbrev pub applied : Stage → Entry → List Entry → Stage
-applied s x xs = record s { front = after_entry s.count x s.front; copied = if is_pass_entry x then [] else s.copied; left = xs; count = s.count + 1 }
+abbrev pub applied : Stage → ℕ → Entry → List Entry → Stage
+applied s parts x xs = with_parts parts x (entered s x xs)
 
--- The next entry may be applied, with these atoms touched, and leads to a stage.
-abbrev pub Applies : Stage → List ℕ → List Entry → Stage → Type 0
-Applies s atoms [] e = ⊥
-Applies s atoms (x ∷ xs) e = IsTrue (may_go s x) × IsTrue (are_atoms s.front.past x atoms) × (e ≡ applied s x xs)
+-- The next entry may be applied, with these atoms touched and so many parts where it begins a pass, and leads to a stage; how many parts there are depends on where the resources of the pool are.
+abbrev pub Applies : Stage → List ℕ → ℕ → List Entry → Stage → Type 0
+Applies s atoms parts [] e = ⊥
+Applies s atoms parts (x ∷ xs) e = IsTrue (may_go s x) × IsTrue (are_atoms s.front.past x atoms) × (e ≡ applied s parts x xs)
 
--- ---- runs, when the pass that is open in a past has so many parts to copy
+-- ---- runs
 
-module _ (part_count : Past → ℕ) where
-  -- The parts of the open pass that aren't copied; none outside a pass (VMA, "Defragmentation"; parts of 4,096 bytes: profile).
-  abbrev pub parts_left : Stage → List ℕ
-  parts_left s = if some_pass s.front.past then filter (λ k. not (among k s.copied)) (below (part_count s.front.past)) else []
+-- The parts of the open pass that aren't copied; none outside a pass (VMA, "Defragmentation"; parts of 4,096 bytes: profile).
+abbrev pub parts_left : Stage → List ℕ
+parts_left s = filter (λ k. not (among k s.copied)) (below s.parts)
 
-  -- A step that is allowed at a stage, and where it leads.
-  abbrev pub Next : Stage → Step → Stage → Type 0
-  Next s (Apply atoms) e = Applies s atoms s.left e
-  Next s (RunPiece n) e = IsTrue (is_done (offered s.front.past s.done) n) × (e ≡ record s { done = n ∷ s.done })
-  Next s (CopyPart k) e = IsTrue (among k (parts_left s)) × (e ≡ record s { copied = k ∷ s.copied })
+-- A step that is allowed at a stage, and where it leads.
+abbrev pub Next : Stage → Step → Stage → Type 0
+Next s (Apply atoms parts) e = Applies s atoms parts s.left e
+Next s (RunPiece n) e = IsTrue (is_done (offered s.front.past s.done) n) × (e ≡ record s { done = n ∷ s.done })
+Next s (CopyPart k) e = IsTrue (among k (parts_left s)) × (e ≡ record s { copied = k ∷ s.copied })
 
-  -- An allowed run from a stage to a stage, step by step (Vulkan, "Execution and Memory Dependencies").
-  abbrev pub Allowed : Stage → List Step → Stage → Type 0
-  Allowed s [] e = e ≡ s
-  Allowed s (step ∷ steps) e = (mid : Stage) × Next s step mid × Allowed mid steps e
+-- An allowed run from a stage to a stage, step by step (Vulkan, "Execution and Memory Dependencies").
+abbrev pub Allowed : Stage → List Step → Stage → Type 0
+Allowed s [] e = e ≡ s
+Allowed s (step ∷ steps) e = (mid : Stage) × Next s step mid × Allowed mid steps e

@@ -4,9 +4,10 @@ use Rattle.vk_model.specs.Trace.Point.{Past}
 use Rattle.vk_model.specs.Sync.Node.{Node}
 use Rattle.vk_model.specs.Sync.Edge.{is_host}
 use Rattle.vk_laws.specs.Machine.{Task}
-use Rattle.vk_laws.specs.Caches.{view}
+use Rattle.vk_model.specs.Run.Caches.{view}
 use Rattle.vk_laws.specs.Tasks.{node_at}
-use Rattle.vk_laws.specs.TraceCaches.{agent_of, caching_of}
+use Rattle.vk_model.specs.Run.Caches.{agent_of}
+use Rattle.vk_laws.specs.TraceCaches.{caching_of}
 use Rattle.vk_laws.proofs.tasks.host_reads_the_meaning.Goals as goal
 
 host_agent : (all : Past) (next : Task) → IsTrue (holds (node_at all next.node) (λ n. is_host n.act)) → (caching_of all).agent next ≡ 0

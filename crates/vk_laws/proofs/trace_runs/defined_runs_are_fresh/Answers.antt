@@ -14,21 +14,21 @@ use Rattle.vk_laws.proofs.trace_runs.defined_runs_are_fresh.Goals as goal
 pub returns : goal.returns
 unfolding first_fault
 returns c = record {
-  settled = λ t part_count steps e next other b run none may.
+  settled = λ t steps e next other b run none may.
       let all : Past = order t in
-      let d = c.defined_runs_are_allowed.ensures t part_count steps e run none in
+      let d = c.defined_runs_are_allowed.ensures t steps e run none in
       let settled = c.trace_is_settled.ensures all d.0 next none d.1.allowed (d.1.next next may) in (
         λ lt meet. let real = first_real all c.pieces_are_byte_writes.ensures other next b meet in (d.1.happened other real.0 real.1).0 (settled.earlier other b lt meet),
         λ lt meet. let real = second_real all c.pieces_are_byte_writes.ensures next other b meet in false_from_ne_true (has_happened all e other) (λ h. settled.later other b lt meet ((d.1.happened other real.0 real.1).1 h)),
       );
-  fresh = λ t part_count steps e run first next b v none may reads is.
+  fresh = λ t steps e run first next b v none may reads is.
       let all : Past = order t in
-      let d = c.defined_runs_are_allowed.ensures t part_count steps e run none in
+      let d = c.defined_runs_are_allowed.ensures t steps e run none in
       let is_seen = c.trace_is_fresh.ensures.fresh all d.0 (bare (bytes_after (accesses_of all) first d.0)) next b v none (reached_from (accesses_of all) uncached first d.0 d.1.allowed) (d.1.next next may) reads is in
       ap (λ (done : List Task). bytes_after (accesses_of all) first done b) (sym d.2) ∙ sym (bytes_same all first d.0 b) ∙ is_seen;
-  written = λ t part_count steps e run first writer b v none last is.
+  written = λ t steps e run first writer b v none last is.
       let all : Past = order t in
-      let d = c.defined_runs_are_allowed.ensures t part_count steps e run none in
+      let d = c.defined_runs_are_allowed.ensures t steps e run none in
       let newest = latest_same all b d.0 ∙ ap (λ (done : List Task). latest (accesses_of all) b done) d.2 ∙ last in
       let is_seen = c.trace_is_fresh.ensures.written all d.0 (bare (bytes_after (accesses_of all) first d.0)) writer b v none (reached_from (accesses_of all) uncached first d.0 d.1.allowed) newest is in
       ap (λ (done : List Task). bytes_after (accesses_of all) first done b) (sym d.2) ∙ sym (bytes_same all first d.0 b) ∙ is_seen;

@@ -20,11 +20,11 @@ use Rattle.vk_laws.proofs.trace_runs.defined_runs_end.Goals as goal
 pub returns : goal.returns
 unfolding first_fault
 returns c = record {
-  whole = λ t part_count steps e run none over. c.defined_runs_match.ensures.whole t part_count steps e run none over;
-  meaning = λ t part_count steps e run first b v none over is.
+  whole = λ t steps e run none over. c.defined_runs_match.ensures.whole t steps e run none over;
+  meaning = λ t steps e run first b v none over is.
       let all : Past = order t in
-      let d = c.defined_runs_match.ensures.allowed t part_count steps e run none in
-      let ends = c.defined_runs_match.ensures.whole t part_count steps e run none over in
+      let d = c.defined_runs_match.ensures.allowed t steps e run none in
+      let ends = c.defined_runs_match.ensures.whole t steps e run none over in
       let settled : Settled (accesses_of all) d.0 b (length (nodes all)) = record {
         earlier = λ u lt w. let real = writer_real all c.pieces_are_byte_writes.ensures u b w in (d.1.happened u real.0 real.1).1 (ends.1 u real.0 real.1);
         later = λ u le w h.

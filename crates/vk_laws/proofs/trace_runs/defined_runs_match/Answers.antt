@@ -15,6 +15,6 @@ returns c =
       sound = (c.no_fault_is_sound.ensures t).0 none;
     } in
     record {
-      allowed = λ t part_count steps e run none. allowed_too (known t none) part_count steps e run;
-      whole = λ t part_count steps e run none over. ended (known t none) part_count steps e run over;
+      allowed = λ t steps e run none. allowed_too (known t none) steps e run;
+      whole = λ t steps e run none over. ended (known t none) steps e run over;
     }

@@ -30,4 +30,11 @@ returns c = record {
   runs_last_first = (_, (refl, refl, refl), (_, (refl, refl, refl), (_, (refl, refl, refl), (_, (refl, refl), (_, (refl, refl), (_, (refl, refl, refl), refl))))));
   atoms_touched = refl;
   no_atom_touched = refl;
+  picked_then_stopped = refl;
+  stopped_at_once = refl;
+  asked_of_three = refl;
+  copied_in_order = (_, (_, (refl, refl, refl), (_, (refl, refl, refl), (_, (refl, refl, refl), (_, (refl, refl, refl), (_, (refl, refl), (_, (refl, refl), (_, (refl, refl, refl), refl))))))));
+  copied_last_first = (_, (_, (refl, refl, refl), (_, (refl, refl, refl), (_, (refl, refl, refl), (_, (refl, refl, refl), (_, (refl, refl), (_, (refl, refl), (_, (refl, refl, refl), refl))))))));
+  parts_offered = refl;
+  asked_of_parts = refl;
 }

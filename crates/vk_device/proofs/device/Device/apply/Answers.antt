@@ -1,6 +1,7 @@
 use Rattle.std.proofs.Common.{◌≡◌, false, ap}
 use Rattle.vk_device.specs.Held.{Held}
-use Rattle.vk_device.proofs.Promises.Clean.{fits_clean}
+use Rattle.vk_device.proofs.Promises.Clean.{fits_clean, clean_next}
+use Rattle.vk_device.proofs.Promises.Living.{matches_made, answered_live}
 use Rattle.vk_device.proofs.Promises.Next.{ready_next}
 use Rattle.vk_device.proofs.Traces.Allocating.{rooms_of, allots_of}
 use Rattle.vk_device.proofs.device.Device.apply.Goals as goal
@@ -14,7 +15,8 @@ apply_entry-applied-requires g c =
 
 pub returns-else-is_err-clause-answered : goal.returns-else-is_err-clause-answered
 returns-else-is_err-clause-answered g c =
-    IfOk-weaker c.apply_entry-applied.result _ _ (λ a answered. λ e past st clean. answered e past st (fits_clean _ clean)) c.apply_entry-applied.ensures.answered
+    IfOk-weaker c.apply_entry-applied.result _ _ (λ a answered. λ e past st clean.
+    answered_live a e c.args.entry.now past c.args.self.now c.apply_entry-applied.new.self (fits_clean _ clean) (answered e past (matches_made past (fits_clean past (clean_next e c.args.entry.now past clean)) c.args.self.now st) (fits_clean _ clean))) c.apply_entry-applied.ensures.answered
 
 pub returns-else-is_err-clause-rooms : goal.returns-else-is_err-clause-rooms
 returns-else-is_err-clause-rooms g c =

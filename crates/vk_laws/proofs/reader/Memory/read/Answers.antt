@@ -2,7 +2,7 @@ use Rattle.std.proofs.Common.{◌≡◌, ℕ, Some, sym, ap, ◌∙◌, subst, s
 use Rattle.std.proofs.lemmas.Option.{slice_get-get_or}
 use Rattle.std.proofs.lemmas.Grind.{get_or_default_zero}
 use Rattle.vk_model.specs.World.Bytes.{in_buffer}
-use Rattle.vk_laws.specs.Caches.{view}
+use Rattle.vk_model.specs.Run.Caches.{view}
 use Rattle.vk_laws.specs.Reader.{cells_of}
 use Rattle.vk_laws.proofs.Caching.CacheView.{same_view}
 use Rattle.vk_laws.proofs.reader.Memory.read.Goals as goal
