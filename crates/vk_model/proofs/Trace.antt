@@ -3,3 +3,4 @@ pub mod Orders
 pub mod Growing
 pub mod Structure
 pub mod Once
+pub mod PlainStructure

@@ -76,7 +76,11 @@ BeforeLeadsOn = (ns : List Node) (x y : Node) → IsTrue (before ns x y) → x.n
 abbrev pub OrderIsOrdered : Type 0
 OrderIsOrdered = (t : List Entry) → IsOrdered (order t)
 
--- Its host entries are the entries of the trace.
+-- So is the plain order.
+abbrev pub PlainOrderIsOrdered : Type 0
+PlainOrderIsOrdered = (t : List Entry) → IsOrdered (plain_order t)
+
+-- The host entries of reference order are the entries of the trace.
 abbrev pub OrderHasEntries : Type 0
 OrderHasEntries = (t : List Entry) → entries (order t) ≡ reverse t
 

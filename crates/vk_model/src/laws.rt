@@ -1,5 +1,5 @@
 //! Laws of the definitions, each the contract of a function that does nothing.
-ghost use Rattle.vk_model.specs.Laws.{OrderIsOrdered, OrderHasEntries, OrderGrows, PointsComeOnce, NoFaultIsUnbroken, NoFaultIsSound, FaultOfPastIsFirst, FaultIsFirst, NamesDiffer, TableIsWhole, GrowthKeeps, BeforeIsPath, BeforeIsTransitive, BeforeLeadsOn, PiecesAreByteWrites, PiecesWriteApart, OrdersAgree};
+ghost use Rattle.vk_model.specs.Laws.{OrderIsOrdered, PlainOrderIsOrdered, OrderHasEntries, OrderGrows, PointsComeOnce, NoFaultIsUnbroken, NoFaultIsSound, FaultOfPastIsFirst, FaultIsFirst, NamesDiffer, TableIsWhole, GrowthKeeps, BeforeIsPath, BeforeIsTransitive, BeforeLeadsOn, PiecesAreByteWrites, PiecesWriteApart, OrdersAgree};
 
 /// A past has no fault exactly where no point of it breaks any rule.
 pub fn no_fault_is_unbroken()
@@ -58,10 +58,11 @@ pub fn pieces_are_byte_writes()
 {}
 
 /// Reference order is ordered: host entries one after another, and the points of batches after their
-/// submits, each queue's in the order of submission (`ordered`). Its host entries are the trace's
-/// (`entries`), and entries that come add points and change none (`grows`).
+/// submits, each queue's in the order of submission (`ordered`), and so is the plain order (`plain`). Its
+/// host entries are the trace's (`entries`), and entries that come add points and change none (`grows`).
 pub fn order_is_structured()
     ensures ordered { OrderIsOrdered }
+    ensures plain { PlainOrderIsOrdered }
     ensures entries { OrderHasEntries }
     ensures grows { OrderGrows }
 {}

@@ -57,7 +57,7 @@ is_of_batch past p _ quiet f = f
 -- ---- a batch that is started
 
 -- a point comes before place k of turn r of batch b of entry e
-data Low (q : Point) (e b r k : ℕ) : Type 0 where
+pub data Low (q : Point) (e b r k : ℕ) : Type 0 where
   entry_low : q.entry < e → Low q e b r k
   batch_low : q.entry ≡ e → q.batch < b → Low q e b r k
   turn_low : q.entry ≡ e → q.batch ≡ b → turn q.action < r → Low q e b r k
@@ -82,7 +82,7 @@ next_turn q e b r k (turn_low x y z) = turn_low x y (omega (arith, z))
 next_turn q e b r k (place_low x y z w) = turn_low x y (omega (arith, z))
 
 -- the points of the batch's queue so far come before place k of turn r of it
-record Reaches (t : SubmittedBatch) (past : Past) (r k : ℕ) : Type 0 where
+pub record Reaches (t : SubmittedBatch) (past : Past) (r k : ℕ) : Type 0 where
   pub ordered : IsOrdered past
   pub batches : List Batch
   pub submitted : Contains past (host t.entry (entry.Submit t.queue batches))
@@ -130,7 +130,7 @@ turned t past r k reach = record {
   low = λ q c h on. next_turn q t.entry t.batch r k (reach.low q c h on);
 }
 
-started_reach : (t : SubmittedBatch) (past : Past) → Reaches t past 0 0 → Reaches t (started t past) 2 (0 + length t.content.signals)
+pub started_reach : (t : SubmittedBatch) (past : Past) → Reaches t past 0 0 → Reaches t (started t past) 2 (0 + length t.content.signals)
 started_reach t past reach =
     let waits = actions_reach Wait (λ x. refl) 0 (λ x. refl) t 0 t.content.waits past (λ j x e. subst (λ (n : ℕ). slice_get t.content.waits n ≡ Some x) (let same : j ≡ 0 + j = omega arith in same) e) reach in
     let commands = actions_reach Run (λ x. refl) 1 (λ x. refl) t 0 t.content.commands _ (λ j x e. subst (λ (n : ℕ). slice_get t.content.commands n ≡ Some x) (let same : j ≡ 0 + j = omega arith in same) e) (turned t _ 0 _ waits) in
@@ -263,8 +263,9 @@ module _ (past : Past) (ordered : IsOrdered past) (e q : ℕ) (count : length (e
   abbrev with_submit : Past
   with_submit = host e (entry.Submit q all) ∷ past
 
-  new_low : (r : ℕ) (k : ℕ) (p : Point) → Contains with_submit p → Quiet p → Low p e k 0 0
-  new_low r k p c quiet = ⊎_elim
+  -- no point before it is of it
+  pub new_low : (k : ℕ) (p : Point) → Contains with_submit p → Quiet p → Low p e k 0 0
+  new_low k p c quiet = ⊎_elim
       (λ same. absurd (let none : host_of (host e (entry.Submit q all)).action ≡ None = ap (λ (m : Point). host_of m.action) same ∙ quiet in cc))
       (λ old. let lt = entry_below past ordered p old in entry_low (omega (arith, lt, count)))
       (contains-cons (host e (entry.Submit q all)) past p c)
@@ -276,7 +277,7 @@ module _ (past : Past) (ordered : IsOrdered past) (e q : ℕ) (count : length (e
       batches = all;
       submitted = contains-head (host e (entry.Submit q all)) past;
       listed = subst (λ (n : ℕ). slice_get all n ≡ Some b) (let same : k + 0 ≡ k = omega arith in same) (has 0 b refl);
-      low = λ p c quiet on. new_low q k p c quiet;
+      low = λ p c quiet on. new_low k p c quiet;
     },
     new_waits (k + 1) bs (λ j c h. subst (λ (n : ℕ). slice_get all n ≡ Some c) (let same : k + suc j ≡ (k + 1) + j = omega arith in same) (has (suc j) c h)),
   )
