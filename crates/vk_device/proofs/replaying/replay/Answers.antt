@@ -5,3 +5,6 @@ replay_entries-requires g c = rw c.entries.ensures.same (record {
   sound = λ before p r comes broken. (c.no_fault_is_sound.ensures c.args.accepted.now).0 c.entries.ensures.faultless before p r (comes, broken);
   supported = c.entries.ensures.supported;
 })
+
+pub returns-clause-unasked : goal.returns-clause-unasked
+returns-clause-unasked g c = c.replay_entries.ensures.unasked
