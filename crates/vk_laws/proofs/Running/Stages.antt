@@ -13,7 +13,7 @@ use Rattle.vk_model.specs.Run.Runs.{Stage, start, entered, past_with, is_host_wa
 use Rattle.vk_model.proofs.Lists.Members.{contains-cons, contains-head}
 use Rattle.vk_model.proofs.Lists.Pairs.{Each}
 use Rattle.vk_model.proofs.Trace.Growing.{Grows, Quiet, entry_grows, order_grows, order_append, still_has}
-use Rattle.vk_model.proofs.Trace.Structure.{entry_below, follows_at, is_of_batch, order_ordered, order_has_entries}
+use Rattle.vk_model.proofs.Trace.Structure.{more_entries, entry_below, follows_at, is_of_batch, order_ordered, order_has_entries}
 use Rattle.vk_model.proofs.Trace.Once.{entry_once, was_before}
 use Rattle.vk_laws.proofs.Nodes.Actions.{host_action}
 use Rattle.vk_laws.proofs.Nodes.Newer.{old_or_newer}
@@ -25,13 +25,9 @@ use Rattle.vk_laws.proofs.Nodes.Prefixes.{has_more}
 abbrev pub From : ℕ → Point → Type 0
 From k p = (x : Entry) → p.action ≡ Host x → k ≤ p.entry
 
-more_entries : (newer past : Past) → length (entries past) ≤ length (entries (newer ++ past))
-more_entries [] past = omega arith
-more_entries (p ∷ newer) past = let le = more_entries newer past in let more = one_more p.action (newer ++ past) in omega (arith, le, more)
-  where
-    one_more : (d : Action) (all : Past) → length (entries all) ≤ length (Rattle.std.specs.List.cons_option (host_of d) (entries all))
-    one_more (Host x) all = omega arith
-    one_more _ all = omega arith
+entries_grow : (newer past : Past) → length (entries past) ≤ length (entries (newer ++ past))
+entries_grow [] past = omega arith
+entries_grow (p ∷ newer) past = let le = entries_grow newer past in let more = more_entries (newer ++ past) p.action in omega (arith, le, more)
 
 -- host entries that come have later numbers
 newer_from : (newer past : Past) → IsOrdered (newer ++ past) → Each (From (length (entries past))) newer
@@ -40,7 +36,7 @@ newer_from (p ∷ newer) past ordered = (
   λ x is.
       let f : p ≡ host (length (entries (newer ++ past))) x = subst (λ (d : Action). Follows (newer ++ past) p d) is ordered.0 in
       let number : p.entry ≡ length (entries (newer ++ past)) = ap (λ (q : Point). q.entry) f in
-      let le = more_entries newer past in
+      let le = entries_grow newer past in
       omega (arith, number, le),
   newer_from newer past ordered.1,
 )

@@ -8,11 +8,12 @@ use Rattle.vk_model.specs.declared.entry.Entry.{Entry}
 use Rattle.vk_model.specs.declared.entry.Entry.TheVariants as entry
 use Rattle.vk_model.specs.declared.entry.SemaphoreSubmit.{SemaphoreSubmit}
 use Rattle.vk_model.specs.Basics.{holds}
-use Rattle.vk_model.specs.Trace.Point.{Point, Past, Action, Host, Wait, Run, Signal}
+use Rattle.vk_model.specs.Trace.Point.{Point, Past, Action, Wait, Run, Signal}
 use Rattle.vk_model.specs.Trace.Objects.{live, made, ended, initial, semaphore_in}
 use Rattle.vk_model.specs.Trace.Order.{SubmittedBatch, Front, host, actions, started, submitted_batch, batches_from, batches_of, plain_from, plain_order, counter, is_met, same_batch, next_batch, start_batch, settled, after_entry, order_from, order}
 use Rattle.vk_model.specs.Rules.Fault.{Comes, newest, older}
 use Rattle.vk_model.specs.Laws.{NeverAhead, is_ahead}
+use Rattle.vk_model.proofs.Trace.Growing.{Quiet, On, grows_too, same_entries, started_grows}
 
 -- ---- no wait of a past is ahead
 
@@ -84,16 +85,8 @@ waits_met past now same t k (w ∷ ws) here counts met =
 
 -- ---- a batch changes no object
 
-kept_entries : {A : Type 0} (of : A → Action) → ((x : A) → Rattle.vk_model.specs.Trace.Point.host_of (of x) ≡ None) → (t : SubmittedBatch) (k : ℕ) (xs : List A) (past : Past) → Rattle.vk_model.specs.Trace.Point.entries (actions of t k xs past) ≡ Rattle.vk_model.specs.Trace.Point.entries past
-kept_entries of mute t k [] past = refl
-kept_entries of mute t k (x ∷ xs) past = kept_entries of mute t (k + 1) xs (record { entry = t.entry; batch = t.batch; place = k; queue = t.queue; action = of x } ∷ past) ∙ rw (mute x) refl
-
-started_entries : (t : SubmittedBatch) (past : Past) → Rattle.vk_model.specs.Trace.Point.entries (started t past) ≡ Rattle.vk_model.specs.Trace.Point.entries past
-started_entries t past =
-    kept_entries Signal (λ x. refl) t 0 t.content.signals _ ∙ kept_entries Run (λ x. refl) t 0 t.content.commands _ ∙ kept_entries Wait (λ x. refl) t 0 t.content.waits past
-
 started_initial : (t : SubmittedBatch) (past : Past) (s : ℕ) → initial (started t past) s ≡ initial past s
-started_initial t past s = ap (λ (xs : List Entry). option_and_then semaphore_in (Rattle.std.specs.List.find (λ x. holds (Rattle.vk_model.specs.Trace.Objects.made_by x) (λ j. s == j)) xs)) (started_entries t past)
+started_initial t past s = ap (λ (xs : List Entry). option_and_then semaphore_in (Rattle.std.specs.List.find (λ x. holds (Rattle.vk_model.specs.Trace.Objects.made_by x) (λ j. s == j)) xs)) (same_entries past (started t past) (grows_too (On t.queue) Quiet (λ p h. h.0) past (started t past) (started_grows t past)))
 
 -- ---- batches that can all be started
 

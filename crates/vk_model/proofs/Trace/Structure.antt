@@ -21,7 +21,8 @@ use Rattle.vk_model.proofs.Trace.Growing.{Grows, grows_too, old_or_new, Quiet, O
 
 -- ---- the points of an ordered past
 
-more_entries : (past : Past) (d : Action) → length (entries past) ≤ length (cons_option (host_of d) (entries past))
+-- a point adds an entry, or none
+pub more_entries : (past : Past) (d : Action) → length (entries past) ≤ length (cons_option (host_of d) (entries past))
 more_entries past (Host x) = omega arith
 more_entries past _ = omega arith
 
