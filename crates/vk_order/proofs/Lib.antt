@@ -1,0 +1,7 @@
+mod Arrange
+mod LinePrefixes
+mod NodeEdges
+mod ByEdges
+mod ElementPlaces
+mod Visibility
+mod LastWriter

@@ -1,0 +1,5 @@
+pub mod Lines
+pub mod Places
+pub mod Prefixes
+pub mod Visibility
+pub mod Counterexamples

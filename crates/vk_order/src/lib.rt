@@ -1,0 +1,9 @@
+//! What comes before what, and what is seen by what.
+#![tactic(auto)]
+
+mod laws;
+
+pub use laws::{
+    commands_seen, counterexamples, elements_are_together, host_seen, last_write_seen, prefixes,
+    seen_through,
+};
