@@ -59,7 +59,7 @@ module _ (n : Node) (ns : List Node) (numbers : IsNumbered (n ∷ ns)) where
     (λ (k, there, is, way). by_edge m c (k, there, same k there ∙ is, way)),
   )
 
-  all_earlier : earlier n ns ≡ ns
+  pub all_earlier : earlier n ns ≡ ns
   all_earlier = go ns (λ k c. let lt = low k c in let at = numbers.0 in omega arith)
     where
       go : (ks : List Node) → ((k : Node) → Contains ks k → k.number < n.number) → earlier n ks ≡ ks

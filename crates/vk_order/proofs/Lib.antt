@@ -5,3 +5,7 @@ mod ByEdges
 mod ElementPlaces
 mod Visibility
 mod LastWriter
+mod ActLemmas
+mod RowLemmas
+mod AwaitingLemmas
+mod EdgeLemmas
