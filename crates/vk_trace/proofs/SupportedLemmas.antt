@@ -14,17 +14,15 @@ use Rattle.vk_model.specs.declared.entry.Entry.TheVariants as entry
 use Rattle.vk_model.specs.declared.entry.SemaphoreSubmit.{SemaphoreSubmit}
 use Rattle.vk_model.specs.declared.resource.Place.{Place}
 use Rattle.vk_model.specs.declared.resource.Place.TheVariants as place
-use Rattle.vk_model.specs.Trace.Point.{Past, Point, Action, Wait, Run, Signal}
+use Rattle.vk_model.specs.Trace.Point.{Past, Action, Wait, Run, Signal}
 use Rattle.vk_model.specs.Trace.Order.{SubmittedBatch, host, actions, started, batches_from, batches_of, plain_from, plain_order}
 use Rattle.vk_validate.specs.Supported.{is_supported, is_supported_action, is_supported_entry, is_supported_command, is_supported_place, is_memory}
+use Rattle.vk_model.proofs.Lists.Pairs.{Each}
+use Rattle.vk_validate.proofs.Points.Pasts.{supported-next}
 use Rattle.vk_trace.specs.Members.{Reader, Row, ◌>>=◌, array_members, first_member, no_member, from, ◌<*>◌, only, members, at_word, after_word, word_and_members, tagged, each_member, list_of, empty_list, u32_value, u64_value}
 use Rattle.vk_trace.specs.Trace.{memory_element, dependency_value, command_rows, command_value, semaphore_submit, batch_value, semaphore_value, queue_value, memory_type_value, place_rows, place_value, sharing_value, length_or_whole, buffer, entry_rows, entry_value, IsTrace}
 
 -- ---- what holds of all that a reader gives
-
-abbrev pub Each : {A : Type 0} → (A → Type 0) → List A → Type 0
-Each P [] = ⊤
-Each P (x ∷ xs) = P x × Each P xs
 
 abbrev Makes : {A : Type 0} → (A → Type 0) → Reader A → Type 0
 Makes {A} P read = (d : Data) (x : A) → read d ≡ Some x → P x
@@ -204,13 +202,9 @@ entry_makes = tagged_makes IsSupportedEntry entry_rows (
 
 -- ---- every point of a trace
 
-point_supported : (p : Point) (past : Past) → is_supported_action p.action ≡ true → is_supported past ≡ true → is_supported (p ∷ past) ≡ true
-unfolding is_supported
-point_supported p past here before = rw (here, before) refl
-
 actions_supported : {A : Type 0} (of : A → Action) (t : SubmittedBatch) (k : ℕ) (xs : List A) (past : Past) → Each (λ x. is_supported_action (of x) ≡ true) xs → is_supported past ≡ true → is_supported (actions of t k xs past) ≡ true
 actions_supported of t k [] past each before = before
-actions_supported of t k (x ∷ xs) past each before = actions_supported of t (k + 1) xs _ each.1 (point_supported (record { entry = t.entry; batch = t.batch; place = k; queue = t.queue; action = of x }) past each.0 before)
+actions_supported of t k (x ∷ xs) past each before = actions_supported of t (k + 1) xs _ each.1 (supported-next (record { entry = t.entry; batch = t.batch; place = k; queue = t.queue; action = of x }) past each.0 before)
 
 signals : (xs : List SemaphoreSubmit) → Each (λ x. is_supported_action (Signal x) ≡ true) xs
 signals [] = tt
@@ -228,7 +222,7 @@ batches_supported (t ∷ ts) past each before = batches_supported ts (started t 
 plain_supported : (e : ℕ) (past : Past) (xs : List Entry) → Each IsSupportedEntry xs → is_supported past ≡ true → is_supported (plain_from e past xs) ≡ true
 plain_supported e past [] each before = before
 plain_supported e past (x ∷ xs) each before =
-    plain_supported (e + 1) _ xs each.1 (batches_supported (batches_of past e x) (host e x ∷ past) (each.0.batches past e) (point_supported (host e x) past each.0.host before))
+    plain_supported (e + 1) _ xs each.1 (batches_supported (batches_of past e x) (host e x ∷ past) (each.0.batches past e) (supported-next (host e x) past each.0.host before))
 
 nothing_supported : is_supported [] ≡ true
 unfolding is_supported

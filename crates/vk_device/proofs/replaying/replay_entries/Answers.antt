@@ -6,6 +6,9 @@ use Rattle.vk_device.proofs.replaying.replay_entries.Goals.{in-Done, in-Bytes+in
 pub apply-requires : goal.apply-requires
 apply-requires g c = entry_ready c.args.config c.args.entries.now c.loop-index.index c.loop-index.reads.items c.loop-index.device c.index-entries-index.result c.requires c.loop-index.invariant.0 c.index-entries-index.is c.loop-index-test.true
 
+pub returns-in-NoRoom-clause-meaning : goal.returns-in-NoRoom-clause-meaning
+returns-in-NoRoom-clause-meaning g c = c.new.ensures ∙ c.loop-index.invariant.0.same
+
 pub returns-in-NoRoom-clause-stop : goal.returns-in-NoRoom-clause-stop
 returns-in-NoRoom-clause-stop g c =
     stops c.args.config c.args.entries.now c.loop-index.index c.loop-index.reads.items c.loop-index.device c.apply.new.self c.index-entries-index.result c.in_ok-apply.field-0 c.requires c.loop-index.invariant.0 c.index-entries-index.is c.loop-index-test.true c.in-NoRoom.is c.in_ok-apply.ensures.answered c.in_ok-apply.ensures.rooms

@@ -1,5 +1,5 @@
 use Rattle.std.proofs.Common.{◌≤◌, ◌-◌, length, take, drop, arith, inl, inr, length-drop}
-use Rattle.std.proofs.lemmas.List.{length-take}
+use Rattle.std.proofs.lemmas.List.{length-take, take_all}
 use Rattle.vk_trace.proofs.ByteLemmas.{written_more, not_true}
 use Rattle.vk_trace.proofs.running.write_all.Goals as goal
 
@@ -14,3 +14,6 @@ loop-preserved g c =
       within = omega (arith, bound, length-take (length bytes - sent) (drop sent bytes), length-drop sent bytes);
       whole = not_true _ (λ h. elim (c.in-Ok.ensures.failed.0 h) [ inl a ↦ cc (c.loop.invariant.whole, a) | inr (inl b) ↦ cc b | inr (inr d) ↦ some (cc d) ]);
     }
+
+pub returns-then-sent-bytes-clause-ok : goal.returns-then-sent-bytes-clause-ok
+returns-then-sent-bytes-clause-ok g c = rw (take_all c.loop.sent c.args.bytes.now c.if-sent-bytes.true) at c.loop.invariant.written

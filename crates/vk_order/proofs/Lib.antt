@@ -1,0 +1,11 @@
+mod Arrange
+mod LinePrefixes
+mod NodeEdges
+mod ByEdges
+mod ElementPlaces
+mod Visibility
+mod LastWriter
+mod ActLemmas
+mod RowLemmas
+mod AwaitingLemmas
+mod EdgeLemmas

@@ -1,0 +1,35 @@
+-- Nodes of rows, one after another.
+use Rattle.std.proofs.Common.{◌≡◌, ℕ, ◌+◌, ◌<◌, ◌≤◌, List, [], ◌∷◌, ◌++◌, map, length, drop, get_or, add-one, drop-cons, refl, arith}
+use Rattle.std.proofs.lemmas.List.{drop_all}
+use Rattle.vk_model.specs.Trace.Point as spec
+use Rattle.vk_model.specs.Sync.Node as sync
+use Rattle.vk_model.specs.Sync.Before.{IsNumbered}
+use Rattle.vk_order.specs.declared.point.Act.{Act}
+use Rattle.vk_order.specs.declared.acts.Row.{Row}
+use Rattle.vk_order.specs.PointViews.{act_of, point_of, node_of, nodes_after}
+
+pub nodes_after-append : (ns : List sync.Node) (xs ys : List Row) → nodes_after ns (xs ++ ys) ≡ nodes_after (nodes_after ns xs) ys
+nodes_after-append ns [] ys = refl
+nodes_after-append ns (x ∷ xs) ys = nodes_after-append (node_of (length ns) x ∷ ns) xs ys
+
+pub length-nodes_after : (ns : List sync.Node) (xs : List Row) → length (nodes_after ns xs) ≡ length ns + length xs
+length-nodes_after ns [] = omega arith
+length-nodes_after ns (x ∷ xs) = let e = length-nodes_after (node_of (length ns) x ∷ ns) xs in omega arith
+
+pub numbered_after : (ns : List sync.Node) (xs : List Row) → IsNumbered ns → IsNumbered (nodes_after ns xs)
+numbered_after ns [] numbers = numbers
+numbered_after ns (x ∷ xs) numbers = numbered_after (node_of (length ns) x ∷ ns) xs (refl, numbers)
+
+-- what is left of the acts of a point
+pub rows-step : (p : spec.Point) (acts : List Act) (k : ℕ) (d : Act) (ns : List sync.Node) (rows : List Row) (r : Row) → k < length acts → point_of r.point ≡ p → r.act ≡ get_or acts k d
+    → sync.with_acts p (map act_of (drop (k + 1) acts)) (nodes_after ns (rows ++ r ∷ [])) ≡ sync.with_acts p (map act_of (drop k acts)) (nodes_after ns rows)
+rows-step p acts k d ns rows r lt at is =
+    let e : drop k acts ≡ get_or acts k d ∷ drop (k + 1) acts = rw (add-one, drop-cons acts k d) refl in
+    rw (nodes_after-append ns rows (r ∷ []), e, at, is) refl
+
+pub rows-end : (p : spec.Point) (acts : List Act) (k : ℕ) (ns : List sync.Node) → length acts ≤ k → sync.with_acts p (map act_of (drop k acts)) ns ≡ ns
+rows-end p acts k ns le = rw (drop_all k acts le) refl
+
+pub ruleset rows_pushed = (rows-step, rows-end)
+
+pub ruleset appended = (nodes_after-append, length-nodes_after)

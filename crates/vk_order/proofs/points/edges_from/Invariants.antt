@@ -1,0 +1,6 @@
+use Rattle.vk_order.specs.PointViews.{node_of}
+use Rattle.vk_order.proofs.EdgeLemmas.{IsWalked}
+use Rattle.vk_order.proofs.points.edges_from.Given as goal
+
+abbrev pub invariant-loop-number : goal.invariant-loop-number
+invariant-loop-number l = IsWalked l.rows (node_of l.node l.from) l.later.items l.reach l.number

@@ -1,0 +1,53 @@
+//! Laws of order and visibility, each the contract of a function that does nothing.
+ghost use Rattle.vk_order.specs.Prefixes.{HostPrefix, WaitPrefix, SignalPrefix, CommandPrefix, BarrierPrefix, SetPrefix, AwaitPrefix, LinePrefix};
+ghost use Rattle.vk_order.specs.Places.{ApartIsPlaced};
+ghost use Rattle.vk_order.specs.Visibility.{CommandsSeen, HostSeen, SeenThrough, LastWriteSeen};
+ghost use Rattle.vk_order.specs.Counterexamples.{Counterexamples};
+
+use vk_model::growth_keeps;
+
+/// What is before a node of each kind, by what is before earlier nodes; and that of the nodes of one
+/// line the first ones are before a node.
+pub fn prefixes()
+    ensures host { HostPrefix }
+    ensures wait { WaitPrefix }
+    ensures signal { SignalPrefix }
+    ensures command { CommandPrefix }
+    ensures barrier { BarrierPrefix }
+    ensures set { SetPrefix }
+    ensures awaited { AwaitPrefix }
+    ensures line { LinePrefix }
+{}
+
+/// Where no two commands are at one place, the elements of one command are together.
+pub fn elements_are_together()
+    ensures { ApartIsPlaced }
+{}
+
+/// An access that sees the later of two commands' writes on a queue sees the earlier one's.
+pub fn commands_seen()
+    ensures { CommandsSeen }
+{}
+
+/// An access that sees the later of two host writes sees the earlier one.
+pub fn host_seen()
+    ensures { HostSeen }
+{}
+
+/// An access that sees a write that isn't the host's sees each write that this one sees.
+pub fn seen_through()
+    ensures { SeenThrough }
+{}
+
+/// Where no point has a write after write, an access that sees the last write by a command or a
+/// transition sees each write of the byte before it.
+pub fn last_write_seen()
+    ensures { LastWriteSeen }
+{
+    growth_keeps();
+}
+
+/// Premises and parts of lines without which the laws would be false.
+pub fn counterexamples()
+    ensures { Counterexamples }
+{}

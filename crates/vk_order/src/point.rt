@@ -1,0 +1,125 @@
+ghost use Rattle.std.specs.Prelude.{◌≡◌, ◌∷◌, [], IfOk, map};
+ghost use Rattle.vk_model.specs.Sync.Node.{acts, command_acts, event_acts, Depends, Barrier, SetOf, AwaitOf};
+ghost use Rattle.vk_order.specs.PointViews.{action_of, act_of};
+
+use std::alloc::{AllocError, Global};
+use vk_model::{Cmd, Dependency, Element, Entry, SemaphoreSubmit};
+
+/// What happens at a point.
+#[derive(Clone, Copy)]
+pub enum Action<'a> {
+    /// An entry of the host, a submit too.
+    Host(&'a Entry),
+    /// A wait of a batch.
+    Wait(&'a SemaphoreSubmit),
+    /// A command of a batch.
+    Run(&'a Cmd),
+    /// A signal of a batch.
+    Signal(&'a SemaphoreSubmit),
+}
+
+/// A point: one thing that happens.
+#[derive(Clone, Copy)]
+pub struct Point<'a> {
+    /// The number of its entry.
+    pub entry: usize,
+    /// The number of its batch in the submit.
+    pub batch: usize,
+    /// Its index in the batch's list of waits, commands or signals.
+    pub place: usize,
+    /// The number of its queue.
+    pub queue: u32,
+    /// What happens.
+    pub action: Action<'a>,
+}
+
+/// What a node does.
+#[derive(Clone, Copy)]
+pub enum Act<'a> {
+    /// An entry of the host.
+    Hosts(&'a Entry),
+    /// A wait of a batch.
+    Waits(&'a SemaphoreSubmit),
+    /// A signal of a batch.
+    Signals(&'a SemaphoreSubmit),
+    /// A clear or copy command.
+    Runs(&'a Cmd),
+    /// An element of a barrier.
+    Barrier(&'a Element),
+    /// The element of a set that has this index, of the event of this id.
+    Set(u32, usize, &'a Dependency),
+    /// The element of an await that has this index, of the event of this id.
+    Await(u32, usize, &'a Dependency),
+}
+
+/// The acts of a point, in order.
+pub fn acts_of<'a>(alloc: Global, action: Action<'a>) -> Result<Vec<Act<'a>>, AllocError>
+    ensures { IfOk result (λ all. map act_of all.items ≡ acts (action_of action.entry)) }
+{
+    match action {
+        Action::Host(entry) => one(alloc, Act::Hosts(entry)),
+        Action::Wait(wait) => one(alloc, Act::Waits(wait)),
+        Action::Signal(signal) => one(alloc, Act::Signals(signal)),
+        Action::Run(command) => acts_of_command(alloc, command),
+    }
+}
+
+fn one<'a>(alloc: Global, act: Act<'a>) -> Result<Vec<Act<'a>>, AllocError>
+    ensures { IfOk result (λ all. all.items ≡ act.entry ∷ []) }
+{
+    let mut all = Vec::new(alloc);
+    all.push(act)?;
+    Ok(all)
+}
+
+fn acts_of_command<'a>(alloc: Global, command: &'a Cmd) -> Result<Vec<Act<'a>>, AllocError>
+    ensures { IfOk result (λ all. map act_of all.items ≡ command_acts command.now) }
+{
+    match command {
+        Cmd::Barrier { elements } => acts_of_barrier(alloc, elements.as_slice()),
+        Cmd::Set { event, elements } => acts_of_set(alloc, *event, elements.as_slice()),
+        Cmd::Await { event, elements } => acts_of_await(alloc, *event, elements.as_slice()),
+        _ => one(alloc, Act::Runs(command)),
+    }
+}
+
+#[tactic(auto, using(crate::proofs::ActLemmas::elements_pushed))]
+fn acts_of_barrier<'a>(alloc: Global, elements: &'a [Element]) -> Result<Vec<Act<'a>>, AllocError>
+    ensures { IfOk result (λ all. map act_of all.items ≡ map (Depends Barrier) elements.now) }
+{
+    let mut all = Vec::new(alloc);
+    for element in elements {
+        all.push(Act::Barrier(element))?;
+    }
+    Ok(all)
+}
+
+#[tactic(auto, using(crate::proofs::ActLemmas::dependencies_pushed))]
+fn acts_of_set<'a>(
+    alloc: Global,
+    event: u32,
+    elements: &'a [Dependency],
+) -> Result<Vec<Act<'a>>, AllocError>
+    ensures { IfOk result (λ all. map act_of all.items ≡ event_acts (SetOf event) elements.now) }
+{
+    let mut all = Vec::new(alloc);
+    for (k, element) in elements.iter().enumerate() {
+        all.push(Act::Set(event, k, element))?;
+    }
+    Ok(all)
+}
+
+#[tactic(auto, using(crate::proofs::ActLemmas::dependencies_pushed))]
+fn acts_of_await<'a>(
+    alloc: Global,
+    event: u32,
+    elements: &'a [Dependency],
+) -> Result<Vec<Act<'a>>, AllocError>
+    ensures { IfOk result (λ all. map act_of all.items ≡ event_acts (AwaitOf event) elements.now) }
+{
+    let mut all = Vec::new(alloc);
+    for (k, element) in elements.iter().enumerate() {
+        all.push(Act::Await(event, k, element))?;
+    }
+    Ok(all)
+}
