@@ -17,7 +17,9 @@ use Rattle.vk_order.specs.declared.point.Point.{Point}
 use Rattle.vk_order.specs.PointViews.{act_of, action_of, point_of, node_of, nodes_after}
 use Rattle.vk_order.specs.Queries.{IsNew}
 use Rattle.vk_order.specs.Inner.Kept.{CanCome}
+use Rattle.vk_model.proofs.Lists.Members.{place_has}
 use Rattle.vk_order.proofs.Arrange.{holds-false}
+use Rattle.vk_order.proofs.ElementPlaces.{element_of}
 
 -- ---- acts of one point
 
@@ -100,13 +102,14 @@ module _ (rows fresh : List Row) (p : Point) (points : (i : ℕ) (r : Row) → s
   act_at i r e = ap (λ (l : List Act). slice_get l i) (sym are) ∙ slice_get-map (λ r. act_of r.act) fresh i ∙ ap (option_map (λ r. act_of r.act)) e
 
   apart : (i : ℕ) (r : Row) → slice_get fresh i ≡ Some r → (k : Node) → Contains (nodes_after [] rows) k → siblings k (node_of (length rows + i) r) ≡ false
-  apart i r e k c = go (is_element k.act) refl
+  apart i r e k c = go (is_element k.act) (is_element (act_of r.act)) refl refl
     where
-      go : (b : Bool) → is_element k.act ≡ b → (b && is_element (act_of r.act) && same_place k.point (point_of r.point)) ≡ false
-      go false f = refl
-      go true f =
-          let off : same_place k.point (point_of r.point) ≡ false = ap (λ (x : Point). same_place k.point (point_of x)) (points i r e) ∙ new k c f in
-          rw off (and-false (is_element (act_of r.act)))
+      go : (b d : Bool) → is_element k.act ≡ b → is_element (act_of r.act) ≡ d → (b && d && same_place k.point (point_of r.point)) ≡ false
+      go false d f g = refl
+      go true false f g = refl
+      go true true f g =
+          let of = element_of (action_of p.action) (act_of r.act) (place_has (acts (action_of p.action)) i (act_of r.act) (act_at i r e)) g in
+          ap (λ (x : Point). same_place k.point (point_of x)) (points i r e) ∙ new of.0 of.1 k c f
 
   quiet : (i j : ℕ) (q r : Row) → slice_get fresh i ≡ Some q → slice_get fresh j ≡ Some r → i < j → (ns : List Node) → edge ns (node_of (length rows + i) q) (node_of (length rows + j) r) ≡ false
   quiet i j q r e f lt ns =

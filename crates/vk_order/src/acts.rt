@@ -1,4 +1,4 @@
-ghost use Rattle.std.specs.Prelude.{◌≡◌, ℕ, option_map};
+ghost use Rattle.std.specs.Prelude.{◌≡◌, [], false, option_map};
 ghost use Rattle.vk_model.specs.Basics.{holds, has_some};
 ghost use Rattle.vk_model.specs.World.Ownership.{dependency_of};
 ghost use Rattle.vk_model.specs.Sync.Edge as edge;
@@ -61,6 +61,13 @@ impl Act<'_> {
             Act::Signals(signal) => signal.stages.contains(Stages::ALL_COMMANDS),
             _ => false,
         }
+    }
+
+    /// Whether it waits for semaphores.
+    pub fn waits(&self) -> bool
+        ensures { result ≡ false → edge.waited_by (act_of self.now) ≡ [] }
+    {
+        matches!(self, Act::Waits(_) | Act::Hosts(Entry::Wait { .. }))
     }
 
     /// The stages of what comes before, where there are any.

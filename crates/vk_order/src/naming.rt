@@ -38,6 +38,9 @@ fn leads_by_name(rows: &[Row<'_>], row: &Row<'_>, next: &Row<'_>) -> bool
     if row.act.pairs_with(&next.act) {
         return true;
     }
+    if !next.act.waits() {
+        return false;
+    }
     is_awaited(reach_over(rows, &row.act), &next.act)
 }
 
@@ -46,6 +49,9 @@ fn reach_over(rows: &[Row<'_>], act: &Act<'_>) -> Option<Reach>
     ensures { (m : Node) → m.act ≡ act_of act.now → Reaches (nodes_after [] rows.now) m result }
 {
     let mut reach = reach_of(act);
+    if reach.is_none() {
+        return None;
+    }
     for row in rows {
         reach = passed(reach, &row.act);
     }

@@ -7,6 +7,7 @@ ghost use Rattle.vk_order.specs.declared.acts.Row.{Row as AnyRow};
 ghost use Rattle.vk_order.specs.Inner.Links.{unsignaled};
 ghost use Rattle.vk_order.specs.Inner.Reaches.{Reaches};
 ghost use Rattle.vk_order.specs.Queries.{led_to, IsNew};
+ghost use Rattle.vk_order.specs.declared.point.Action.TheVariants.{Host};
 
 use crate::acts::Row;
 use crate::adding::{Added, list_lines, stamped};
@@ -156,4 +157,50 @@ fn rows_of<'a>(alloc: Global, point: Point<'a>) -> Result<Vec<Row<'a>>, AllocErr
         rows.push(Row { point, act: *act })?;
     }
     Ok(rows)
+}
+
+#[cfg(test)]
+mod tests {
+    use super::*;
+    use crate::point::Action;
+    use std::test::Fail;
+    use vk_model::{Entry, SemaphoreValue, Sequence};
+
+    fn by_host<'a>(number: usize, entry: &'a Entry) -> Point<'a>
+        ensures { result ≡ record { entry = number; batch = 0; place = 0; queue = 0; action = Host entry.entry } }
+    {
+        Point {
+            entry: number,
+            batch: 0,
+            place: 0,
+            queue: 0,
+            action: Action::Host(entry),
+        }
+    }
+
+    #[test]
+    fn a_wait_comes_after_its_signal(rt: HostRuntime) -> Result<(), Fail> {
+        let mut waits = Vec::new(rt.alloc());
+        waits.push(SemaphoreValue {
+            semaphore: 1,
+            value: 5,
+        })?;
+        let semaphore = Entry::Semaphore { id: 1, initial: 0 };
+        let signal = Entry::Signal {
+            semaphore: 1,
+            value: 7,
+        };
+        let wait = Entry::Wait {
+            waits: Sequence::new(waits),
+        };
+        let mut points = Points::new(rt.alloc());
+        points.add(by_host(0, &semaphore))?;
+        points.add(by_host(1, &signal))?;
+        points.add(by_host(2, &wait))?;
+        assert_eq!(rt; points.len(), 3);
+        assert!(rt; points.before(1, 2));
+        assert!(rt; !points.before(2, 1));
+        assert_eq!(rt; points.edges(1)?.as_slice(), [2].as_slice());
+        Ok(())
+    }
 }

@@ -1,6 +1,7 @@
-use Rattle.std.proofs.Common.{◌≡◌, ◌+◌, ◌∷◌, List, refl, sym, ap, subst, get_or}
+use Rattle.std.proofs.Common.{None, Option, [], rules, ◌≡◌, ◌+◌, ◌∷◌, List, refl, sym, ap, subst, get_or}
 use Rattle.vk_model.specs.Sync.Node.{Node}
 use Rattle.vk_order.specs.PointViews.{node_of}
+use Rattle.vk_order.specs.declared.awaiting.Reach.{Reach}
 use Rattle.vk_order.specs.Inner.Reaches.{Reaches}
 use Rattle.vk_order.proofs.EdgeLemmas.{first_nodes, first-step, first-all}
 use Rattle.vk_order.proofs.naming.reach_over.Goals as goal
@@ -18,3 +19,8 @@ loop-row-preserved c = λ m is.
 
 pub returns : goal.returns
 returns c = λ m is. subst (λ (l : List Node). Reaches l m c.loop-row.reach) (first-all c.loop-row.row-index c.args.rows.now c.loop-row-test.false) (c.loop-row.invariant m is)
+
+pub returns-then-is_none : goal.returns-then-is_none
+returns-then-is_none c = λ m is.
+    let none : c.reach_of-reach.result ≡ None = search rules in
+    subst (λ (o : Option Reach). Reaches [] m o) none (c.reach_of-reach.ensures m is)

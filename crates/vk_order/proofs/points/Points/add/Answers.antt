@@ -1,4 +1,5 @@
-use Rattle.std.proofs.Common.{◌≡◌, ◌+◌, ◌<◌, ◌^◌, ◌++◌, [], List, ap, subst, length, arith, rules}
+use Rattle.vk_model.specs.Sync.Node.{Node}
+use Rattle.std.proofs.Common.{sym, ◌≡◌, ◌+◌, ◌<◌, ◌^◌, ◌++◌, [], List, ap, subst, length, arith, rules}
 use Rattle.vk_order.specs.declared.acts.Row.{Row}
 use Rattle.vk_order.specs.declared.clocks.Stamp.{Stamp}
 use Rattle.vk_order.specs.declared.clocks.Tally.{Tally}
@@ -15,7 +16,7 @@ invariant_of-self-2 c =
     let fresh = c.in_ok-rows.rows.items in
     let tallies = c.list_lines.new.tallies.items in
     let made = c.in_ok-stamps.field-0 in
-    let new : IsNew (point_of c.args.point) (nodes_after [] rows) = search (rules, c.requires) in
+    let new : IsNew (point_of c.args.point) (nodes_after [] rows) = subst (λ (l : List Node). IsNew (point_of c.args.point) l) (sym c.self.view_is) c.requires in
     let few : length rows + length fresh + 1 < 2 ^ 63 =
     (let a = ap length c.as_slice-2.ensures.value in let b = ap length c.as_slice-5.ensures.value in let d = c.as_slice-2.type_inv in let e = c.as_slice-5.type_inv in omega arith) in
     let come : CanCome rows fresh = can_come rows fresh c.args.point c.in_ok-rows.ensures.points c.in_ok-rows.ensures.acts new few in
