@@ -35,7 +35,7 @@ member_point (p ∷ past) m c = elim (with_member p (acts p.action) (nodes past)
 ]
 
 -- elements are of commands
-element_of : (d : Action) (a : Act) → Contains (acts d) a → is_element a ≡ true → (c : Cmd) × (d ≡ Run c)
+pub element_of : (d : Action) (a : Act) → Contains (acts d) a → is_element a ≡ true → (c : Cmd) × (d ≡ Run c)
 element_of (Run c) a at is = (c, refl)
 element_of (Host x) a at is = elim (contains-cons _ [] a at) [ inl same ↦ absurd (let bad : is_element a ≡ false = ap is_element (sym same) in cc) | inr later ↦ absurd (none_in a later) ]
 element_of (Wait s) a at is = elim (contains-cons _ [] a at) [ inl same ↦ absurd (let bad : is_element a ≡ false = ap is_element (sym same) in cc) | inr later ↦ absurd (none_in a later) ]

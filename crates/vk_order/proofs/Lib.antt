@@ -9,3 +9,15 @@ mod ActLemmas
 mod RowLemmas
 mod AwaitingLemmas
 mod EdgeLemmas
+mod ClockLemmas
+mod LineTests
+mod KeptLemmas
+mod NamedLemmas
+mod StampLemmas
+mod ListLemmas
+mod NamingLemmas
+mod ComingLemmas
+mod CopyLemmas
+mod PointLemmas
+mod BeforeLemmas
+mod SetLemmas

@@ -12,7 +12,9 @@ use Rattle.vk_model.specs.Trace.Point.{Point}
 use Rattle.vk_model.specs.Sync.Node.{Node, Act, Role, Hosts, Waits, Signals, Runs, Depends, Barrier, SetOf, AwaitOf, same_place}
 use Rattle.vk_model.specs.Sync.Edge.{edge, earlier, by_host, by_stages, by_signal, by_all_commands, pairs, by_semaphore, meet, first_scope, is_host, is_element, is_signal, signals_all, siblings, all_commands}
 use Rattle.vk_model.specs.Sync.Before.{before, Path, direct, longer, IsNumbered}
-use Rattle.vk_order.specs.Lines.{Line, OfHost, OfCommands, OfSignals, OfElements, OfWaits, has_transfer, has_host, line_on, line_of, IsPlaced}
+use Rattle.vk_order.specs.declared.lines.Line.{Line}
+use Rattle.vk_order.specs.declared.lines.Line.TheVariants.{Host as OfHost, Commands as OfCommands, Signals as OfSignals, Elements as OfElements, Sets as OfSets, Waits as OfWaits}
+use Rattle.vk_order.specs.Lines.{has_transfer, has_host, line_on, line_of, IsPlaced}
 use Rattle.vk_model.proofs.Lists.Truths.{no, third_of_six}
 use Rattle.vk_model.proofs.Sync.Paths.{path_of_before, before_of_path, joined, edge_forward}
 
@@ -157,6 +159,15 @@ element_line q r t h (Depends Barrier x) e = (Barrier, x, refl, cc, cc, cc)
 element_line q r t h (Depends (SetOf v k) x) e = absurd cc
 element_line q r t h (Depends (AwaitOf v k) x) e = (AwaitOf v k, x, refl, cc, cc, cc)
 
+pub no_set_line : (q r : ℕ) (a : Act) → line_on q a ≡ Some (OfSets r) → ⊥
+no_set_line q r (Hosts x) e = cc
+no_set_line q r (Waits s) e = cc
+no_set_line q r (Signals s) e = cc
+no_set_line q r (Runs c) e = cc
+no_set_line q r (Depends Barrier x) e = cc
+no_set_line q r (Depends (SetOf v k) x) e = cc
+no_set_line q r (Depends (AwaitOf v k) x) e = cc
+
 -- ---- paths
 
 module _ (ns : List Node) (numbers : IsNumbered ns) (c d n : Node) (cc' : Contains ns c) (cd : Contains ns d) (cn : Contains ns n) where
@@ -239,6 +250,7 @@ module _ (ns : List Node) (c d n : Node) (numbers : IsNumbered ns) (placed : IsT
       let a = element_line c.point.queue q t h c.act lc in
       let b = element_line d.point.queue q t h d.act ld in
       by_edges ns numbers c d n hc hd hn (λ k hk. element_edges ns c d lt a.0 b.0 a.1 b.1 (OfElements q t h) a.2 b.2 lc ld (a.3 ∙ sym b.3) (a.4 ∙ sym b.4) (a.5 ∙ sym b.5) (placed (rw a.2 refl)) hc hd k hk)
+  prefix (OfSets q) lc ld = absurd (no_set_line c.point.queue q c.act lc)
   prefix (OfWaits q t h all) lc ld =
       let a = wait_line c.point.queue q t h all c.act lc in
       let b = wait_line d.point.queue q t h all d.act ld in

@@ -33,7 +33,7 @@ module _ (ns : List Node) (k : Node) (j : ℕ) (q : Point) (r : Role) (e : Eleme
 
 -- ---- pairs of a set and its await
 
-pairs-barrier : (a : Act) (e : Element) → pairs a (Depends Barrier e) ≡ false
+pub pairs-barrier : (a : Act) (e : Element) → pairs a (Depends Barrier e) ≡ false
 pairs-barrier (Hosts x) e = refl
 pairs-barrier (Waits t) e = refl
 pairs-barrier (Signals t) e = refl
@@ -42,7 +42,7 @@ pairs-barrier (Depends Barrier d) e = refl
 pairs-barrier (Depends (SetOf v k) d) e = refl
 pairs-barrier (Depends (AwaitOf v k) d) e = refl
 
-pairs-set : (a : Act) (u l : ℕ) (e : Element) → pairs a (Depends (SetOf u l) e) ≡ false
+pub pairs-set : (a : Act) (u l : ℕ) (e : Element) → pairs a (Depends (SetOf u l) e) ≡ false
 pairs-set (Hosts x) u l e = refl
 pairs-set (Waits t) u l e = refl
 pairs-set (Signals t) u l e = refl
@@ -70,6 +70,15 @@ into_await ns k j q v i e = into_element ns k j q (AwaitOf v i) e
 
 -- ---- commands
 
+pub pairs-command : (a : Act) (x : Cmd) → pairs a (Runs x) ≡ false
+pairs-command (Hosts y) x = refl
+pairs-command (Waits t) x = refl
+pairs-command (Signals t) x = refl
+pairs-command (Runs c) x = refl
+pairs-command (Depends Barrier d) x = refl
+pairs-command (Depends (SetOf v k) d) x = refl
+pairs-command (Depends (AwaitOf v k) d) x = refl
+
 pub into_command : (ns : List Node) (i j : ℕ) (p q : Point) (a : Act) (x : Cmd) → linked ns (node i p a) (node j q (Runs x)) ≡ (submits q.entry (node i p a) || to_commands q.queue (node i p a))
 unfolding meet
 into_command ns i j p q (Hosts y) x = simp (and-true, and-false, or-false, holds-false)
@@ -82,7 +91,7 @@ into_command ns i j p q (Depends (AwaitOf v k) e) x = simp (and-true, and-false,
 
 -- ---- signals, waits and host entries
 
-pairs-signal : (a : Act) (s : SemaphoreSubmit) → pairs a (Signals s) ≡ false
+pub pairs-signal : (a : Act) (s : SemaphoreSubmit) → pairs a (Signals s) ≡ false
 pairs-signal (Hosts x) s = refl
 pairs-signal (Waits t) s = refl
 pairs-signal (Signals t) s = refl
@@ -91,7 +100,7 @@ pairs-signal (Depends Barrier e) s = refl
 pairs-signal (Depends (SetOf v k) e) s = refl
 pairs-signal (Depends (AwaitOf v k) e) s = refl
 
-pairs-wait : (a : Act) (s : SemaphoreSubmit) → pairs a (Waits s) ≡ false
+pub pairs-wait : (a : Act) (s : SemaphoreSubmit) → pairs a (Waits s) ≡ false
 pairs-wait (Hosts x) s = refl
 pairs-wait (Waits t) s = refl
 pairs-wait (Signals t) s = refl
@@ -100,7 +109,7 @@ pairs-wait (Depends Barrier e) s = refl
 pairs-wait (Depends (SetOf v k) e) s = refl
 pairs-wait (Depends (AwaitOf v k) e) s = refl
 
-pairs-host : (a : Act) (x : Entry) → pairs a (Hosts x) ≡ false
+pub pairs-host : (a : Act) (x : Entry) → pairs a (Hosts x) ≡ false
 pairs-host (Hosts y) x = refl
 pairs-host (Waits t) x = refl
 pairs-host (Signals t) x = refl

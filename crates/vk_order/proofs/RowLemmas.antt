@@ -1,6 +1,6 @@
 -- Nodes of rows, one after another.
-use Rattle.std.proofs.Common.{◌≡◌, ℕ, ◌+◌, ◌<◌, ◌≤◌, List, [], ◌∷◌, ◌++◌, map, length, drop, get_or, add-one, drop-cons, refl, arith}
-use Rattle.std.proofs.lemmas.List.{drop_all}
+use Rattle.std.proofs.Common.{◌≡◌, ℕ, ◌+◌, ◌<◌, ◌≤◌, List, [], ◌∷◌, ◌++◌, map, length, drop, get_or, add-one, drop-cons, refl, arith, append_assoc, zero, suc, ap, sym, ◌∙◌}
+use Rattle.std.proofs.lemmas.List.{drop_all, map-append, append-nil}
 use Rattle.vk_model.specs.Trace.Point as spec
 use Rattle.vk_model.specs.Sync.Node as sync
 use Rattle.vk_model.specs.Sync.Before.{IsNumbered}
@@ -30,6 +30,24 @@ rows-step p acts k d ns rows r lt at is =
 pub rows-end : (p : spec.Point) (acts : List Act) (k : ℕ) (ns : List sync.Node) → length acts ≤ k → sync.with_acts p (map act_of (drop k acts)) ns ≡ ns
 rows-end p acts k ns le = rw (drop_all k acts le) refl
 
-pub ruleset rows_pushed = (rows-step, rows-end)
-
 pub ruleset appended = (nodes_after-append, length-nodes_after)
+
+-- the acts of the rows, and what is left
+pub row_acts-step : (acts : List Act) (k : ℕ) (d : Act) (rows : List Row) (r : Row) → k < length acts → r.act ≡ get_or acts k d
+    → map (λ (x : Row). act_of x.act) (rows ++ r ∷ []) ++ map act_of (drop (k + 1) acts) ≡ map (λ (x : Row). act_of x.act) rows ++ map act_of (drop k acts)
+row_acts-step acts k d rows r lt is =
+    let e : drop k acts ≡ get_or acts k d ∷ drop (k + 1) acts = rw (add-one, drop-cons acts k d) refl in
+    rw (map-append (λ (x : Row). act_of x.act) rows (r ∷ []), e, is) (append_assoc (map (λ (x : Row). act_of x.act) rows) _ _)
+
+pub row_acts-end : (acts : List Act) (k : ℕ) (rows : List Row) → length acts ≤ k → map (λ (x : Row). act_of x.act) rows ++ map act_of (drop k acts) ≡ map (λ (x : Row). act_of x.act) rows
+row_acts-end acts k rows le = rw (drop_all k acts le) (append-nil (map (λ (x : Row). act_of x.act) rows))
+
+-- what holds of each item of a list, and of one more
+pub row_push : (p : Rattle.vk_order.specs.declared.point.Point.Point) (rows : List Row) (r : Row) → ((i : ℕ) (x : Row) → Rattle.std.specs.Prelude.slice_get rows i ≡ Rattle.std.proofs.Common.Some x → x.point ≡ p) → r.point ≡ p
+    → (i : ℕ) (x : Row) → Rattle.std.specs.Prelude.slice_get (rows ++ r ∷ []) i ≡ Rattle.std.proofs.Common.Some x → x.point ≡ p
+row_push p [] r all is zero x e = let same : r ≡ x = cc in ap (λ (y : Row). y.point) (sym same) ∙ is
+row_push p [] r all is (suc i) x e = absurd cc
+row_push p (y ∷ rows) r all is zero x e = all zero x e
+row_push p (y ∷ rows) r all is (suc i) x e = row_push p rows r (λ j z f. all (suc j) z f) is i x e
+
+pub ruleset rows_pushed = (rows-step, rows-end, row_acts-step, row_acts-end, row_push)

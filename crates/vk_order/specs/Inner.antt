@@ -1,2 +1,5 @@
 pub mod Links
 pub mod Reaches
+pub mod Clocks
+pub mod Leads
+pub mod Kept

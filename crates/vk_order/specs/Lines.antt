@@ -1,17 +1,11 @@
 -- Lines of nodes: of the nodes of one line those that are before another node are the first ones.
 use Rattle.std.specs.Prelude.{ℕ, ◌+◌, ◌<◌, Bool, List, IsTrue, Contains, Option, Some, None}
+use Rattle.vk_order.specs.declared.lines.Line.{Line}
+use Rattle.vk_order.specs.declared.lines.Line.TheVariants.{Host as OfHost, Commands as OfCommands, Signals as OfSignals, Elements as OfElements, Sets as OfSets, Waits as OfWaits}
 use Rattle.vk_model.specs.Basics.{has_some, has_bits}
 use Rattle.vk_model.specs.World.Ownership.{dependency_of}
 use Rattle.vk_model.specs.Sync.Node.{Node, Act, Hosts, Waits, Signals, Runs, Depends, SetOf}
 use Rattle.vk_model.specs.Sync.Edge.{transfer_stage, host_stage, all_commands, is_element, siblings}
-
--- A line: the host's entries, and of each queue its commands, its signals, its elements of barriers and awaits by what their second scope has, and its waits by what theirs has (Vulkan, "Execution and Memory Dependencies").
-pub data Line : Type 0 where
-  OfHost : Line
-  OfCommands : (queue : ℕ) → Line
-  OfSignals : (queue : ℕ) → Line
-  OfElements : (queue : ℕ) (transfer host : Bool) → Line
-  OfWaits : (queue : ℕ) (transfer host all : Bool) → Line
 
 -- Whether stages have the one of clears and copies (Vulkan, "Pipeline Stages").
 abbrev pub has_transfer : ℕ → Bool
@@ -21,14 +15,27 @@ has_transfer stages = has_some stages (transfer_stage + all_commands)
 abbrev pub has_host : ℕ → Bool
 has_host stages = has_some stages host_stage
 
--- The line of an act on a queue. An element of a set has none: it leads to its own await alone (Vulkan, "Events").
+-- The line of an element of a barrier or an await, by the stages of its second scope.
+abbrev pub element_class : ℕ → ℕ → Line
+element_class q stages = OfElements q (has_transfer stages) (has_host stages)
+
+-- The line of an act on a queue; that of a set's element stands for it, but is no line.
+abbrev pub class_on : ℕ → Act → Line
+class_on q (Hosts x) = OfHost
+class_on q (Waits s) = OfWaits q (has_transfer s.stages.0) (has_host s.stages.0) (has_bits s.stages.0 all_commands)
+class_on q (Signals s) = OfSignals q
+class_on q (Runs c) = OfCommands q
+class_on q (Depends (SetOf v k) e) = OfSets q
+class_on q (Depends r e) = element_class q (dependency_of e).destination_stages.0
+
+-- The line of an act on a queue: the host's entries, and of each queue its commands, its signals, its elements of barriers and awaits by what their second scope has, and its waits by what theirs has. An element of a set has none: it leads to its own await alone (Vulkan, "Execution and Memory Dependencies" and "Events").
 abbrev pub line_on : ℕ → Act → Option Line
-line_on q (Hosts x) = Some OfHost
-line_on q (Waits s) = Some (OfWaits q (has_transfer s.stages.0) (has_host s.stages.0) (has_bits s.stages.0 all_commands))
-line_on q (Signals s) = Some (OfSignals q)
-line_on q (Runs c) = Some (OfCommands q)
 line_on q (Depends (SetOf v k) e) = None
-line_on q (Depends r e) = Some (OfElements q (has_transfer (dependency_of e).destination_stages.0) (has_host (dependency_of e).destination_stages.0))
+line_on q a = Some (class_on q a)
+
+-- The line of a node, also of one of a set.
+abbrev pub class_of : Node → Line
+class_of n = class_on n.point.queue n.act
 
 -- The line of a node.
 abbrev pub line_of : Node → Option Line

@@ -8,7 +8,8 @@ use Rattle.vk_model.specs.Basics.{holds}
 use Rattle.vk_model.specs.Sync.Node.{Node, Act, Hosts, Waits, Signals, Runs, Depends, Barrier, SetOf, AwaitOf}
 use Rattle.vk_model.specs.Sync.Edge.{is_host, is_submit, is_command, is_element, is_signal, waits_for_all, signals_all, siblings, pairs, by_semaphore, first_scope, second_scope}
 use Rattle.vk_model.specs.Sync.Before.{before, IsNumbered}
-use Rattle.vk_order.specs.Lines.{Line, line_of, has_transfer, has_host, IsPlaced}
+use Rattle.vk_order.specs.declared.lines.Line.{Line}
+use Rattle.vk_order.specs.Lines.{line_of, has_transfer, has_host, IsPlaced}
 
 -- ---- which nodes lead to others
 

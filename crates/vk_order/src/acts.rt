@@ -1,9 +1,10 @@
-ghost use Rattle.std.specs.Prelude.{◌≡◌, ℕ, option_map};
+ghost use Rattle.std.specs.Prelude.{◌≡◌, [], false, option_map};
 ghost use Rattle.vk_model.specs.Basics.{holds, has_some};
 ghost use Rattle.vk_model.specs.World.Ownership.{dependency_of};
 ghost use Rattle.vk_model.specs.Sync.Edge as edge;
 ghost use Rattle.vk_model.specs.Sync.Edge.{by_host, by_stages, by_signal, by_all_commands, pairs};
 ghost use Rattle.vk_order.specs.PointViews.{act_of, node_of};
+ghost use Rattle.vk_order.specs.Prefixes.{submits};
 ghost use Rattle.vk_order.specs.Inner.Links.{unsignaled};
 
 use crate::point::{Act, Point};
@@ -11,7 +12,7 @@ use bitflags::Flags;
 use vk_model::{Element, Entry, Stages};
 
 /// The stages of clears and copies: ALL_COMMANDS has TRANSFER.
-const TRANSFERS: Stages = Stages(Stages::TRANSFER.0 | Stages::ALL_COMMANDS.0);
+pub const TRANSFERS: Stages = Stages(Stages::TRANSFER.0 | Stages::ALL_COMMANDS.0);
 
 impl Act<'_> {
     fn is_host(&self) -> bool
@@ -62,6 +63,13 @@ impl Act<'_> {
         }
     }
 
+    /// Whether it waits for semaphores.
+    pub fn waits(&self) -> bool
+        ensures { result ≡ false → edge.waited_by (act_of self.now) ≡ [] }
+    {
+        matches!(self, Act::Waits(_) | Act::Hosts(Entry::Wait { .. }))
+    }
+
     /// The stages of what comes before, where there are any.
     fn first_scope(&self) -> Option<Stages>
         ensures { option_map (λ s. s.0) result ≡ edge.first_scope (act_of self.now) }
@@ -89,7 +97,7 @@ impl Act<'_> {
     }
 
     /// Whether this is an element of a set, and the other one that of its await.
-    fn pairs_with(&self, other: &Act<'_>) -> bool
+    pub fn pairs_with(&self, other: &Act<'_>) -> bool
         ensures { result ≡ pairs (act_of self.now) (act_of other.now) }
     {
         match (self, other) {
@@ -99,7 +107,7 @@ impl Act<'_> {
     }
 }
 
-fn source_stages(element: &Element) -> Stages
+pub fn source_stages(element: &Element) -> Stages
     ensures { result.0 ≡ (dependency_of element.now).source_stages.0 }
 {
     match element {
@@ -109,7 +117,7 @@ fn source_stages(element: &Element) -> Stages
     }
 }
 
-fn destination_stages(element: &Element) -> Stages
+pub fn destination_stages(element: &Element) -> Stages
     ensures { result.0 ≡ (dependency_of element.now).destination_stages.0 }
 {
     match element {
@@ -154,6 +162,13 @@ impl Row<'_> {
     {
         self.act.is_host() && other.act.is_host()
             || self.act.is_submit() && self.point.entry == other.point.entry
+    }
+
+    /// Whether this is the submit of the other.
+    pub fn submits(&self, other: &Row<'_>) -> bool
+        ensures { result ≡ submits other.now.point.entry (node_of 0 self.now) }
+    {
+        self.act.is_submit() && self.point.entry == other.point.entry
     }
 
     fn on_queue_of(&self, other: &Row<'_>) -> bool

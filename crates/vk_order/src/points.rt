@@ -1,13 +1,19 @@
-ghost use Rattle.std.specs.Prelude.{◌≡◌, ◌<◌, ◌||◌, [], ℕ, IfOk, OnOk, OnErr, List, Contains, length};
+ghost use Rattle.std.specs.Prelude.{◌≡◌, ◌<◌, ◌||◌, [], ℕ, IfOk, OnOk, OnErr, List, Contains, Some, length, map, slice_get};
 ghost use Rattle.vk_model.specs.Sync.Node.{Node, acts, with_acts};
+ghost use Rattle.vk_model.specs.Sync.Before.{before};
 ghost use Rattle.vk_model.specs.Sync.Edge.{by_semaphore};
-ghost use Rattle.vk_order.specs.PointViews.{action_of, point_of, node_of, nodes_after};
+ghost use Rattle.vk_order.specs.PointViews.{action_of, act_of, point_of, node_of, nodes_after};
+ghost use Rattle.vk_order.specs.declared.acts.Row.{Row as AnyRow};
 ghost use Rattle.vk_order.specs.Inner.Links.{unsignaled};
 ghost use Rattle.vk_order.specs.Inner.Reaches.{Reaches};
-ghost use Rattle.vk_order.specs.Queries.{led_to};
+ghost use Rattle.vk_order.specs.Queries.{led_to, IsNew};
+ghost use Rattle.vk_order.specs.declared.point.Action.TheVariants.{Host};
 
 use crate::acts::Row;
+use crate::adding::{Added, list_lines, stamped};
 use crate::awaiting::{Reach, is_awaited, passed, reach_of};
+use crate::before::is_before;
+use crate::clocks::{Stamp, Tally};
 use crate::point::{Point, acts_of};
 use std::alloc::{AllocError, Global};
 use std::marker::Model;
@@ -21,6 +27,8 @@ use std::marker::Model;
 pub struct Points<'a> {
     alloc: Global,
     rows: Vec<Row<'a>>,
+    stamps: Vec<Stamp>,
+    tallies: Vec<Tally>,
 }
 
 impl<'a> Model for Points<'a> {
@@ -31,6 +39,10 @@ impl<'a> Model for Points<'a> {
     ghost Value = { List Node };
 
     ghost view = { λ p. nodes_after [] p.rows.items };
+
+    ghost use Rattle.vk_order.specs.Inner.Kept.{IsKept};
+
+    ghost invariant = { λ p. IsKept p.rows.items p.stamps.items p.tallies.items };
 }
 
 #[tactic(auto, using(crate::proofs::RowLemmas::appended))]
@@ -42,6 +54,8 @@ impl<'a> Points<'a> {
         Points {
             alloc,
             rows: Vec::new(alloc),
+            stamps: Vec::new(alloc),
+            tallies: Vec::new(alloc),
         }
     }
 
@@ -55,11 +69,45 @@ impl<'a> Points<'a> {
     /// Adds the nodes of a point that comes next. The only error is want of memory, which leaves the
     /// points as they were.
     pub fn add(&mut self, point: Point<'a>) -> Result<(), AllocError>
+        requires { IsNew (point_of point) self.old }
         ensures ok { OnOk result (self.new ≡ with_acts (point_of point.entry) (acts (action_of point.entry.action)) self.old) }
         ensures err { OnErr result (self.new ≡ self.old) }
     {
         let mut rows = rows_of(self.alloc, point)?;
-        self.rows.append(&mut rows)
+        list_lines(self.alloc, &mut self.tallies, rows.as_slice())?;
+        let Added {
+            mut stamps,
+            tallies,
+        } = stamped(
+            self.alloc,
+            self.rows.as_slice(),
+            self.stamps.as_slice(),
+            self.tallies.as_slice(),
+            rows.as_slice(),
+        )?;
+        let count = self.stamps.len();
+        self.stamps.append(&mut stamps)?;
+        if let Err(error) = self.rows.append(&mut rows) {
+            self.stamps.truncate(count);
+            return Err(error);
+        }
+        self.tallies = tallies;
+        Ok(())
+    }
+
+    /// Whether one node comes before another in every allowed order.
+    pub fn before(&self, first: usize, second: usize) -> bool
+        requires first { first < length self.now }
+        requires second { second < length self.now }
+        ensures { (m n : Node) → Contains self.now m → Contains self.now n → m.number ≡ first → n.number ≡ second → result ≡ before self.now m n }
+    {
+        is_before(
+            self.rows.as_slice(),
+            self.stamps.as_slice(),
+            self.tallies.as_slice(),
+            first,
+            second,
+        )
     }
 
     /// The nodes to which a node leads by one edge, in order.
@@ -99,7 +147,9 @@ fn leads_to_next(from: &Row<'_>, reach: Option<Reach>, next: &Row<'_>) -> bool
 
 #[tactic(auto, using(crate::proofs::RowLemmas::rows_pushed))]
 fn rows_of<'a>(alloc: Global, point: Point<'a>) -> Result<Vec<Row<'a>>, AllocError>
-    ensures { IfOk result (λ rows. (ns : List Node) → nodes_after ns rows.items ≡ with_acts (point_of point.entry) (acts (action_of point.entry.action)) ns) }
+    ensures points { IfOk result (λ rows. (i : ℕ) (r : AnyRow) → slice_get rows.items i ≡ Some r → r.point ≡ point.entry) }
+    ensures acts { IfOk result (λ rows. map (λ r. act_of r.act) rows.items ≡ acts (action_of point.entry.action)) }
+    ensures nodes { IfOk result (λ rows. (ns : List Node) → nodes_after ns rows.items ≡ with_acts (point_of point.entry) (acts (action_of point.entry.action)) ns) }
 {
     let acts = acts_of(alloc, point.action)?;
     let mut rows = Vec::new(alloc);
@@ -107,4 +157,50 @@ fn rows_of<'a>(alloc: Global, point: Point<'a>) -> Result<Vec<Row<'a>>, AllocErr
         rows.push(Row { point, act: *act })?;
     }
     Ok(rows)
+}
+
+#[cfg(test)]
+mod tests {
+    use super::*;
+    use crate::point::Action;
+    use std::test::Fail;
+    use vk_model::{Entry, SemaphoreValue, Sequence};
+
+    fn by_host<'a>(number: usize, entry: &'a Entry) -> Point<'a>
+        ensures { result ≡ record { entry = number; batch = 0; place = 0; queue = 0; action = Host entry.entry } }
+    {
+        Point {
+            entry: number,
+            batch: 0,
+            place: 0,
+            queue: 0,
+            action: Action::Host(entry),
+        }
+    }
+
+    #[test]
+    fn a_wait_comes_after_its_signal(rt: HostRuntime) -> Result<(), Fail> {
+        let mut waits = Vec::new(rt.alloc());
+        waits.push(SemaphoreValue {
+            semaphore: 1,
+            value: 5,
+        })?;
+        let semaphore = Entry::Semaphore { id: 1, initial: 0 };
+        let signal = Entry::Signal {
+            semaphore: 1,
+            value: 7,
+        };
+        let wait = Entry::Wait {
+            waits: Sequence::new(waits),
+        };
+        let mut points = Points::new(rt.alloc());
+        points.add(by_host(0, &semaphore))?;
+        points.add(by_host(1, &signal))?;
+        points.add(by_host(2, &wait))?;
+        assert_eq!(rt; points.len(), 3);
+        assert!(rt; points.before(1, 2));
+        assert!(rt; !points.before(2, 1));
+        assert_eq!(rt; points.edges(1)?.as_slice(), [2].as_slice());
+        Ok(())
+    }
 }

@@ -1,0 +1,246 @@
+-- Kept clocks, and the joins that they are made of.
+use Rattle.std.proofs.Common.{◌≡◌, ◌⊎◌, inl, inr, ⊎_elim, ℕ, zero, suc, ◌+◌, ◌<◌, ◌≤◌, ◌^◌, ◌-◌, List, [], ◌∷◌, ◌++◌, length, take, get_or, add-one, Bool, true, false, ◌&&◌, ◌||◌, IsTrue, Option, Some, None, refl, ap, sym, ◌∙◌, subst, arith}
+use Rattle.std.specs.Prelude.{◌==◌, Contains, ◌↔◌, max, min, slice_get, slice_index_or, position, is_some, if◌then◌else◌}
+use Rattle.std.specs.Option.{option_map_or}
+use Rattle.std.specs.List.{list_any}
+use Rattle.std.proofs.lemmas.Bool.{eq-eqb, eqb-true, ne_eqb}
+use Rattle.std.proofs.lemmas.List.{take_all}
+use Rattle.std.proofs.lemmas.List.Folds.{list_any-append}
+use Rattle.std.proofs.lemmas.List.Quantifiers.{position-Some}
+use Rattle.std.proofs.lemmas.Option.{slice_get_within, slice_get-get_or, get_or_from_slice_get}
+use Rattle.std.proofs.Math.Seq.{take-suc}
+use Rattle.vk_model.specs.Basics.{holds}
+use Rattle.vk_model.specs.Sync.Node.{Node, Hosts, Waits, Signals, Runs, Depends, Barrier, SetOf, AwaitOf}
+use Rattle.vk_model.proofs.Lists.Members.{none_in, member_passes, some_member, any_same}
+use Rattle.vk_model.proofs.Lists.Truths.{no, bool_same}
+use Rattle.vk_order.specs.declared.acts.Row.{Row}
+use Rattle.vk_order.specs.declared.clocks.Stamp.{Stamp}
+use Rattle.vk_order.specs.declared.clocks.Tally.{Tally}
+use Rattle.vk_order.specs.declared.lines.Line.{Line}
+use Rattle.vk_order.specs.PointViews.{nodes_after}
+use Rattle.vk_order.specs.Lines.{line_of, class_of}
+use Rattle.vk_order.specs.Inner.Leads.{is_of_sets}
+use Rattle.vk_order.specs.Inner.Clocks.{same_line, on_line, place, Clock, IsClock, IsJoin, joined, itself}
+use Rattle.vk_order.specs.Inner.Kept.{names, index_in, clock_at, IsStamp, IsKeptJoin, IsKept, IsOwn}
+use Rattle.vk_order.proofs.ClockLemmas.{line_itself, line_same, is_on, of_on, joins_meet, join_same}
+
+-- ---- equal clocks
+
+pub join_as : (ns : List Node) (test : Node → Bool) (f g : Clock) → ((l : Line) → f l ≡ g l) → IsJoin ns test f → IsJoin ns test g
+join_as ns test f g same j = record {
+  counts = λ l m c on. ((λ h. let lt = (j.counts l m c on).0 h in let e = same l in omega arith), (λ lt. (j.counts l m c on).1 (let e = same l in omega arith)));
+  bounded = λ l. let le = j.bounded l in let e = same l in omega arith;
+}
+
+pub clock_as : (ns : List Node) (n : Node) (f g : Clock) → ((l : Line) → f l ≡ g l) → IsClock ns n f → IsClock ns n g
+clock_as ns n f g same j = record {
+  counts = λ l m c on. ((λ h. let lt = (j.counts l m c on).0 h in let e = same l in omega arith), (λ lt. (j.counts l m c on).1 (let e = same l in omega arith)));
+  bounded = λ l. let le = j.bounded l in let e = same l in omega arith;
+}
+
+-- ---- where a line is
+
+pub at_max : (ls : List Line) (both first second : List ℕ) → ((i : ℕ) → slice_index_or both i 0 ≡ max (slice_index_or first i 0) (slice_index_or second i 0)) → (l : Line) → clock_at ls both l ≡ joined (clock_at ls first) (clock_at ls second) l
+at_max ls both first second counts l = go (index_in ls l)
+  where
+    go : (o : Option ℕ) → option_map_or (λ i. slice_index_or both i 0) o 0 ≡ max (option_map_or (λ i. slice_index_or first i 0) o 0) (option_map_or (λ i. slice_index_or second i 0) o 0)
+    go None = omega arith
+    go (Some i) = counts i
+
+-- a line that is found is the one that is there
+pub found_line : (ls : List Line) (l : Line) (i : ℕ) → index_in ls l ≡ Some i → slice_get ls i ≡ Some l
+found_line ls l i e =
+    let r = position-Some (λ m. same_line m l) ls i l e in
+    slice_get-get_or ls i l r.0 ∙ ap Some (line_same (get_or ls i l) l r.1)
+
+abbrev no_counts : List ℕ
+no_counts = []
+
+nil : (i : ℕ) → slice_index_or no_counts i 0 ≡ 0
+nil zero = refl
+nil (suc i) = refl
+
+pub none_of : (ls : List Line) (l : Line) → clock_at ls [] l ≡ 0
+none_of ls l = go (index_in ls l)
+  where
+    go : (o : Option ℕ) → option_map_or (λ i. slice_index_or no_counts i 0) o 0 ≡ 0
+    go None = refl
+    go (Some i) = nil i
+
+-- the join over no node
+pub join_none : (ns : List Node) (ls : List Line) → IsKeptJoin ns ls (λ k. false) []
+join_none ns ls = record {
+  join = record {
+    counts = λ l m c on. ((λ (k, there, is, way). no is), (λ lt. absurd (let e = none_of ls l in omega arith)));
+    bounded = λ l. let e = none_of ls l in omega arith;
+  };
+  short = omega arith;
+}
+
+pub joins_kept : (ns : List Node) (ls : List Line) (f g : Node → Bool) (first second both : List ℕ) → ((i : ℕ) → slice_index_or both i 0 ≡ max (slice_index_or first i 0) (slice_index_or second i 0))
+    → length both ≡ max (length first) (length second) → IsKeptJoin ns ls f first → IsKeptJoin ns ls g second → IsKeptJoin ns ls (λ k. f k || g k) both
+joins_kept ns ls f g first second both counts len i j = record {
+  join = join_as ns (λ k. f k || g k) (joined (clock_at ls first) (clock_at ls second)) (clock_at ls both) (λ l. sym (at_max ls both first second counts l)) (joins_meet ns f g (clock_at ls first) (clock_at ls second) i.join j.join);
+  short = let a = i.short in let b = j.short in omega arith;
+}
+
+pub same_kept : (ns : List Node) (ls : List Line) (f g : Node → Bool) (clock : List ℕ) → ((k : Node) → Contains ns k → f k ≡ g k) → IsKeptJoin ns ls f clock → IsKeptJoin ns ls g clock
+same_kept ns ls f g clock same j = record { join = join_same ns f g (clock_at ls clock) same j.join; short = j.short }
+
+-- ---- lists
+
+pub push_cases : {A : Type 0} (xs : List A) (x y : A) (i : ℕ) → slice_get (xs ++ x ∷ []) i ≡ Some y → (slice_get xs i ≡ Some y) ⊎ ((i ≡ length xs) × (x ≡ y))
+push_cases [] x y zero e = inr (refl, cc)
+push_cases [] x y (suc i) e = absurd cc
+push_cases (z ∷ xs) x y zero e = inl e
+push_cases (z ∷ xs) x y (suc i) e = ⊎_elim (λ h. inl h) (λ h. inr (let at = h.0 in omega arith, h.1)) (push_cases xs x y i e)
+
+pub any-step : {A : Type 0} (f : A → Bool) (xs : List A) (i : ℕ) (d : A) → i < length xs → list_any f (take (i + 1) xs) ≡ (list_any f (take i xs) || f (get_or xs i d))
+any-step f xs i d lt = rw (add-one, take-suc xs i d lt, list_any-append f (take i xs) (get_or xs i d ∷ [])) (ap (λ (t : Bool). list_any f (take i xs) || t) (last (f (get_or xs i d))))
+  where
+    last : (t : Bool) → (t || false) ≡ t
+    last true = refl
+    last false = refl
+
+-- ---- the joins of the lines that pass a test
+
+-- the nodes of the first lines, of those that pass
+abbrev pub of_first : (Line → Bool) → List Tally → ℕ → Node → Bool
+of_first passes ts i k = list_any (λ t. passes t.line && same_line t.line (class_of k)) (take i ts)
+
+module _ (rows : List Row) (stamps : List Stamp) (ts : List Tally) (kept : IsKept rows stamps ts) (passes : Line → Bool) where
+  abbrev all : List Node
+  all = nodes_after [] rows
+
+  pub lines-on : (i : ℕ) (d : Tally) (clock both : List ℕ) → i < length ts → passes (get_or ts i d).line ≡ true
+      → ((j : ℕ) → slice_index_or both j 0 ≡ max (slice_index_or clock j 0) (slice_index_or (get_or ts i d).join.items j 0)) → length both ≡ max (length clock) (length (get_or ts i d).join.items)
+      → IsKeptJoin all (names ts) (of_first passes ts i) clock → IsKeptJoin all (names ts) (of_first passes ts (i + 1)) both
+  lines-on i d clock both lt is counts len j =
+      let t : Tally = get_or ts i d in
+      same_kept all (names ts) (λ k. of_first passes ts i k || same_line t.line (class_of k)) (of_first passes ts (i + 1)) both
+      (λ k c. sym (any-step (λ t. passes t.line && same_line t.line (class_of k)) ts i d lt ∙ ap (λ (b : Bool). of_first passes ts i k || (b && same_line t.line (class_of k))) is))
+      (joins_kept all (names ts) (of_first passes ts i) (λ k. same_line t.line (class_of k)) clock t.join.items both counts len j (kept.tallied i t (slice_get-get_or ts i d lt)).join)
+
+  pub lines-past : (i : ℕ) (d : Tally) (clock : List ℕ) → i < length ts → passes (get_or ts i d).line ≡ false
+      → IsKeptJoin all (names ts) (of_first passes ts i) clock → IsKeptJoin all (names ts) (of_first passes ts (i + 1)) clock
+  lines-past i d clock lt is j =
+      same_kept all (names ts) (of_first passes ts i) (of_first passes ts (i + 1)) clock
+      (λ k c. sym (any-step (λ t. passes t.line && same_line t.line (class_of k)) ts i d lt ∙ ap (λ (b : Bool). of_first passes ts i k || (b && same_line (get_or ts i d).line (class_of k))) is ∙ or-last (of_first passes ts i k))) j
+    where
+      or-last : (t : Bool) → (t || false) ≡ t
+      or-last true = refl
+      or-last false = refl
+
+  -- the line of a node has a tally
+  tally_of : (k : Node) → Contains all k → (t : Tally) × Contains ts t × (t.line ≡ class_of k)
+  tally_of k c = go (index_in (names ts) (class_of k)) refl (kept.listed k c)
+    where
+      go : (o : Option ℕ) → index_in (names ts) (class_of k) ≡ o → IsTrue (is_some o) → (t : Tally) × Contains ts t × (t.line ≡ class_of k)
+      go None e is = no is
+      go (Some i) e is = from i (slice_get ts i) refl (sym (Rattle.std.proofs.lemmas.Option.slice_get-map (λ t. t.line) ts i) ∙ found_line (names ts) (class_of k) i e)
+        where
+          from : (i : ℕ) (o : Option Tally) → slice_get ts i ≡ o → Rattle.std.specs.Prelude.option_map (λ t. t.line) o ≡ Some (class_of k) → (t : Tally) × Contains ts t × (t.line ≡ class_of k)
+          from i None e is = absurd cc
+          from i (Some t) e is = (t, Rattle.vk_model.proofs.Lists.Members.place_has ts i t e, cc)
+
+  pub lines-all : (i : ℕ) (clock : List ℕ) → length ts ≤ i → IsKeptJoin all (names ts) (of_first passes ts i) clock → IsKeptJoin all (names ts) (λ k. passes (class_of k)) clock
+  lines-all i clock le j =
+      same_kept all (names ts) (of_first passes ts i) (λ k. passes (class_of k)) clock same j
+    where
+      same : (k : Node) → Contains all k → of_first passes ts i k ≡ passes (class_of k)
+      same k c =
+          ap (list_any (λ t. passes t.line && same_line t.line (class_of k))) (take_all i ts le)
+          ∙ bool_same _ _
+          (λ h. let r = some_member _ ts h in let both = Rattle.std.proofs.lemmas.Bool.and_parts (passes r.0.line) (same_line r.0.line (class_of k)) r.2 in ap passes (sym (line_same r.0.line (class_of k) both.1)) ∙ both.0)
+          (λ h. let r = tally_of k c in member_passes _ ts r.0 r.1 (Rattle.std.proofs.lemmas.Bool.and_from (passes r.0.line) (same_line r.0.line (class_of k)) (ap passes r.2 ∙ h) (ap (λ (l : Line). same_line l (class_of k)) r.2 ∙ line_itself (class_of k))))
+
+-- ---- a node by itself
+
+pub own_line : (ns : List Node) (ls : List Line) (n : Node) (clock own : List ℕ) (at : ℕ) (line : Line) → index_in ls line ≡ Some at → line_of n ≡ Some line
+    → ((i : ℕ) → slice_index_or own i 0 ≡ (if i == at then place ns line n.number + 1 else slice_index_or clock i 0)) → length own ≡ max (length clock) (at + 1) → length clock ≤ length ls → IsOwn ns ls n clock own
+own_line ns ls n clock own at line is on counts len short = record { counts = each; short = let lt = slice_get_within ls at line (found_line ls line at is) in omega arith }
+  where
+    each : (l : Line) → clock_at ls own l ≡ itself ns n (clock_at ls clock) l
+    each l = go (index_in ls l) refl (on_line l n) refl
+      where
+        same : (t : Bool) → on_line l n ≡ t → t ≡ true → line ≡ l
+        same t e f = let r = of_on l n (e ∙ f) in cc
+
+        differ : (i : ℕ) → index_in ls l ≡ Some i → on_line l n ≡ false → (i == at) ≡ false
+        differ i e off = ne_eqb i at (λ h. no (sym off ∙ is_on l n (on ∙ ap Some (other i e h))))
+          where
+            other : (i : ℕ) → index_in ls l ≡ Some i → i ≡ at → line ≡ l
+            other i e h = let a = found_line ls l i e in let b = found_line ls line at is in let c : slice_get ls i ≡ slice_get ls at = ap (slice_get ls) h in cc
+
+        go : (o : Option ℕ) → index_in ls l ≡ o → (t : Bool) → on_line l n ≡ t → option_map_or (λ i. slice_index_or own i 0) o 0 ≡ (if t then place ns l n.number + 1 else option_map_or (λ i. slice_index_or clock i 0) o 0)
+        go None e true f = absurd (let r = same true f refl in let b : index_in ls l ≡ Some at = ap (index_in ls) (sym r) ∙ is in cc)
+        go None e false f = refl
+        go (Some i) e true f =
+            let r = same true f refl in
+            let b : index_in ls l ≡ Some at = ap (index_in ls) (sym r) ∙ is in
+            let here : i ≡ at = cc in
+            counts i ∙ rw (eq-eqb i at here) (ap (λ (m : Line). place ns m n.number + 1) r)
+        go (Some i) e false f = counts i ∙ rw (differ i e f) refl
+
+-- one that is on no line
+pub own_none : (ns : List Node) (ls : List Line) (n : Node) (clock : List ℕ) → line_of n ≡ None → length clock ≤ length ls → IsOwn ns ls n clock clock
+own_none ns ls n clock off short = record { counts = λ l. go l (line_of n) off; short = short }
+  where
+    go : (l : Line) (o : Option Line) → o ≡ None → clock_at ls clock l ≡ (if holds o (same_line l) then place ns l n.number + 1 else clock_at ls clock l)
+    go l None e = refl
+    go l (Some m) e = absurd cc
+
+pub place_within : (ns : List Node) (l : Line) (k : ℕ) → place ns l k ≤ length ns
+place_within [] l k = omega arith
+place_within (n ∷ ns) l k = let le = place_within ns l k in elim (Rattle.std.specs.Prelude.nat_lt n.number k && on_line l n) as (λ t. (if t then place ns l k + 1 else place ns l k) ≤ length (n ∷ ns)) [ true ↦ omega arith | false ↦ omega arith ]
+
+set_line : (q : ℕ) (a : Rattle.vk_model.specs.Sync.Node.Act) → is_of_sets (Rattle.vk_order.specs.Lines.class_on q a) ≡ true → Rattle.vk_order.specs.Lines.line_on q a ≡ None
+set_line q (Hosts x) e = no e
+set_line q (Waits s) e = no e
+set_line q (Signals s) e = no e
+set_line q (Runs c) e = no e
+set_line q (Depends Barrier x) e = no e
+set_line q (Depends (SetOf v k) x) e = refl
+set_line q (Depends (AwaitOf v k) x) e = no e
+
+true_line : (q : ℕ) (a : Rattle.vk_model.specs.Sync.Node.Act) → is_of_sets (Rattle.vk_order.specs.Lines.class_on q a) ≡ false → Rattle.vk_order.specs.Lines.line_on q a ≡ Some (Rattle.vk_order.specs.Lines.class_on q a)
+true_line q (Hosts x) e = refl
+true_line q (Waits s) e = refl
+true_line q (Signals s) e = refl
+true_line q (Runs c) e = refl
+true_line q (Depends Barrier x) e = refl
+true_line q (Depends (SetOf v k) x) e = no (sym e)
+true_line q (Depends (AwaitOf v k) x) e = refl
+
+pub no_line_of : (n : Node) (line : Line) → class_of n ≡ line → is_of_sets line ≡ true → line_of n ≡ None
+no_line_of n line is e = set_line n.point.queue n.act (ap is_of_sets is ∙ e)
+
+pub its_line : (n : Node) (line : Line) → class_of n ≡ line → is_of_sets line ≡ false → line_of n ≡ Some line
+its_line n line is e = true_line n.point.queue n.act (ap is_of_sets is ∙ e) ∙ ap Some is
+
+-- what comes after a node of a set
+pub own_of_set : (ns : List Node) (ls : List Line) (n : Node) (s : Stamp) (line : Line) (own : List ℕ) → IsStamp ns ls n s → class_of n ≡ line → is_of_sets line ≡ true → own ≡ s.clock.items → IsOwn ns ls n s.clock.items own
+own_of_set ns ls n s line own stamp is e same = subst (λ (c : List ℕ). IsOwn ns ls n s.clock.items c) (sym same) (own_none ns ls n s.clock.items (no_line_of n line is e) stamp.short)
+
+-- and after a node of a line
+pub own_of_line : (ns : List Node) (ls : List Line) (n : Node) (s : Stamp) (line : Line) (at : ℕ) (own : List ℕ) → IsStamp ns ls n s → class_of n ≡ line → is_of_sets line ≡ false → index_in ls line ≡ Some at → length ns < 2 ^ 63
+    → ((i : ℕ) → slice_index_or own i 0 ≡ (if i == at then min (s.place + 1) (2 ^ 64 - 1) else slice_index_or s.clock.items i 0)) → length own ≡ max (length s.clock.items) (at + 1) → IsOwn ns ls n s.clock.items own
+own_of_line ns ls n s line at own stamp is e found small counts len =
+    let on = its_line n line is e in
+    let here : s.place ≡ place ns line n.number = stamp.place line on in
+    let low = place_within ns line n.number in
+    let next : min (s.place + 1) (2 ^ 64 - 1) ≡ place ns line n.number + 1 = omega arith in
+    own_line ns ls n s.clock.items own at line found on (λ i. counts i ∙ ap (λ (m : ℕ). if i == at then m else slice_index_or s.clock.items i 0) next) len stamp.short
+
+class_is : (q : ℕ) (a : Rattle.vk_model.specs.Sync.Node.Act) (l : Line) → Rattle.vk_order.specs.Lines.line_on q a ≡ Some l → Rattle.vk_order.specs.Lines.class_on q a ≡ l
+class_is q (Hosts x) l e = cc
+class_is q (Waits s) l e = cc
+class_is q (Signals s) l e = cc
+class_is q (Runs c) l e = cc
+class_is q (Depends Barrier x) l e = cc
+class_is q (Depends (SetOf v k) x) l e = absurd cc
+class_is q (Depends (AwaitOf v k) x) l e = cc
+
+-- the line of a node
+pub line_class : (n : Node) (l : Line) → line_of n ≡ Some l → class_of n ≡ l
+line_class n l e = class_is n.point.queue n.act l e
