@@ -7,7 +7,7 @@ use Rattle.std.specs.BTreeMap.{get, is_at}
 use Rattle.std.specs.BTreeMap.Range.{IsEntryInRange, range_contains, entries_between}
 use Rattle.std.specs.Map.{lookup}
 use Rattle.std.specs.declared.ops.Bound.TheVariants.{Included}
-use Rattle.std.proofs.lemmas.Bool.{cases_lt, cases_order}
+use Rattle.std.proofs.lemmas.Bool.{cases_lt, cases_order, or_parts}
 use Rattle.std.proofs.Math.Bool.{or-false, or_assoc}
 use Rattle.std.proofs.lemmas.Grind.{common_steps}
 use Rattle.std.specs.Cmp.{nat_cmp_is}
@@ -21,14 +21,6 @@ use Rattle.vk_validate.specs.declared.writers.ReadBytes.{ReadBytes}
 use Rattle.vk_validate.specs.declared.writers.Sought.TheVariants as sought
 use Rattle.vk_validate.specs.Inner.Seeks.{is_sought, HasSought, IsAnswer, FoundIn, found_with}
 use Rattle.vk_validate.proofs.Keeping.BoundLemmas.{same_writer, writer_before}
-
-or_false : (a b : Bool) → (a || b) ≡ false → a ≡ false
-or_false false b e = refl
-or_false true b e = absurd cc
-
-or_false_right : (a b : Bool) → (a || b) ≡ false → b ≡ false
-or_false_right false b e = e
-or_false_right true b e = absurd cc
 
 -- a key that compares as equal is the same
 key_same : (key k : ℕ) → is_at (nat_cmp key) k ≡ true → key ≡ k
@@ -81,11 +73,11 @@ module _ (bounds : Bounds) (s : Sought) (first last : ℕ) where
         let value : Some e.1 ≡ Some w = rw here at is in
         let same : e.1 ≡ w = cc in
         let first : (test e || list_any test (entries_between nat_cmp lo hi es)) ≡ false = rw there at none in
-        ap (λ (v : Option ℕ). is_sought s v) (sym same) ∙ or_false (test e) _ first
+        ap (λ (v : Option ℕ). is_sought s v) (sym same) ∙ (or_parts (test e) _ first).0
     by_key true here false there later =
         let same : key ≡ e.0 = key_same key e.0 here in
         absurd (let both : true ≡ false = sym inside ∙ ap (λ (k : ℕ). range_contains nat_cmp lo hi k) same ∙ there in cc)
-    by_key false other true there later = later (or_false_right (test e) _ (rw there at none)) key w (rw other at is) inside
+    by_key false other true there later = later (or_parts (test e) _ (rw there at none)).1 key w (rw other at is) inside
     by_key false other false there later = later (rw there at none) key w (rw other at is) inside
 
   -- no byte from the first to the last has what is sought
@@ -123,14 +115,13 @@ module _ (bounds : Bounds) (s : Sought) (first last : ℕ) where
       (found.byte, found.low, found.high, same (writer found.byte) ∙ ap (λ (w : Option ℕ). is_sought s w) (same_writer bounds found.byte (writer found.byte) found.writer (is found.byte high) found.is) ∙ found.sought)
   found_of_answer false answer writer is fits passes same = λ byte low high. same (writer byte) ∙ answer.none refl byte (writer byte) low high (is byte (omega arith))
 
+two_same : {a b c d : Bool} → a ≡ b → c ≡ d → (let x : ReadBytes = record { unseen = a; undefined = c } in x) ≡ record { unseen = b; undefined = d }
+two_same p q = cc
+
 -- both answers at once
 pub found_by_fold : (since : ℕ) (found : ReadBytes) (r : List (ℕ × Option ℕ)) → fold (λ a e. found_with since a e.1) found r
     ≡ record { unseen = found.unseen || list_any (λ e. is_sought (sought.Since since) e.1) r; undefined = found.undefined || list_any (λ e. is_sought sought.Nothing e.1) r }
-found_by_fold since found [] = both (sym (or-false found.unseen)) (sym (or-false found.undefined)) where
-  both : {a b c d : Bool} → a ≡ b → c ≡ d → (let x : ReadBytes = record { unseen = a; undefined = c } in x) ≡ record { unseen = b; undefined = d }
-  both p q = cc
+found_by_fold since found [] = two_same (sym (or-false found.unseen)) (sym (or-false found.undefined))
 found_by_fold since found (e ∷ r) =
     found_by_fold since (found_with since found e.1) r
-    ∙ both (or_assoc found.unseen (is_sought (sought.Since since) e.1) (list_any (λ x. is_sought (sought.Since since) x.1) r)) (or_assoc found.undefined (is_sought sought.Nothing e.1) (list_any (λ x. is_sought sought.Nothing x.1) r)) where
-      both : {a b c d : Bool} → a ≡ b → c ≡ d → (let x : ReadBytes = record { unseen = a; undefined = c } in x) ≡ record { unseen = b; undefined = d }
-      both p q = cc
+    ∙ two_same (or_assoc found.unseen (is_sought (sought.Since since) e.1) (list_any (λ x. is_sought (sought.Since since) x.1) r)) (or_assoc found.undefined (is_sought sought.Nothing e.1) (list_any (λ x. is_sought sought.Nothing x.1) r))
