@@ -244,3 +244,5 @@ class_is q (Depends (AwaitOf v k) x) l e = cc
 -- the line of a node
 pub line_class : (n : Node) (l : Line) → line_of n ≡ Some l → class_of n ≡ l
 line_class n l e = class_is n.point.queue n.act l e
+
+pub ruleset own_clocks = (own_of_set, own_of_line)

@@ -162,3 +162,5 @@ listed_now ts t none = rw (map-append (λ (x : Tally). x.line) ts (t ∷ [])) (a
 
 pub listed_still : (ts : List Tally) (t : Tally) (l : Line) → IsTrue (is_some (index_in (names ts) l)) → IsTrue (is_some (index_in (names (ts ++ t ∷ [])) l))
 listed_still ts t l h = rw (map-append (λ (x : Tally). x.line) ts (t ∷ [])) (still_listed (names ts) t.line l h)
+
+pub ruleset listings = (listing, listed_now, listed_still)

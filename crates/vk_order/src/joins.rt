@@ -34,7 +34,7 @@ pub fn join_of_lines(
 }
 
 /// The clock of what comes after a node of a line: it counts the node too.
-#[tactic(auto, using(crate::proofs::KeptLemmas::own_of_set, crate::proofs::KeptLemmas::own_of_line))]
+#[tactic(auto, using(crate::proofs::KeptLemmas::own_clocks))]
 pub fn own_clock(
     alloc: Global,
     tallies: &[Tally],
@@ -78,8 +78,8 @@ pub fn join_of_named(
 }
 
 #[tactic(auto, using(crate::proofs::KeptLemmas::joins_kept))]
-/// The clock of a node that comes next, from those that lead to it by their lines, and those that do
-/// by their names.
+/// The clock of a node that comes next, from those that lead to it by their lines, and those that
+/// do by their names.
 pub fn clock_of(
     alloc: Global,
     rows: &[Row<'_>],

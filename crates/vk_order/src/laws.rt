@@ -6,8 +6,8 @@ ghost use Rattle.vk_order.specs.Counterexamples.{Counterexamples};
 
 use vk_model::growth_keeps;
 
-/// What is before a node of each kind, by what is before earlier nodes; and that of the nodes of one
-/// line the first ones are before a node.
+/// What is before a node of each kind, by what is before earlier nodes; and that of the nodes of
+/// one line the first ones are before a node.
 pub fn prefixes()
     ensures host { HostPrefix }
     ensures wait { WaitPrefix }

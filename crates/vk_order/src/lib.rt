@@ -1,4 +1,4 @@
-//! What comes before what, and what is seen by what.
+//! What comes before what: the laws of order and visibility, and the order of points.
 #![tactic(auto)]
 
 mod acts;

@@ -12,8 +12,8 @@ use crate::awaiting::{Reach, is_awaited, passed, reach_of};
 use crate::point::Act;
 use std::alloc::{AllocError, Global};
 
-/// The nodes that lead to one that comes next by a name: its submit, the set's element of an await's,
-/// and the signals that it waits for.
+/// The nodes that lead to one that comes next by a name: its submit, the set's element of an
+/// await's, and the signals that it waits for. It walks over all rows.
 pub fn named(alloc: Global, rows: &[Row<'_>], next: &Row<'_>) -> Result<Vec<usize>, AllocError>
     ensures within { IfOk result (λ named. All (λ i. i < length rows.now) named.items) }
     ensures alone { IfOk result (λ named. AreAlone rows.now named.items) }

@@ -18,11 +18,11 @@ use crate::point::{Point, acts_of};
 use std::alloc::{AllocError, Global};
 use std::marker::Model;
 
-/// The points so far, and the order of their nodes: what comes before what, and what is seen by what.
+/// The points so far, and the order of their nodes: which node comes before which.
 ///
-/// A node is a host entry, a wait or a signal of a batch, a clear or copy command, or one element of a
-/// barrier, a set or an await; nodes are known by their numbers, from 0 on, in the order in which they
-/// came. Contracts see the nodes, the newest first.
+/// A node is a host entry, a wait or a signal of a batch, a clear or copy command, or one element of
+/// a barrier, a set or an await. Nodes are known by their numbers, from 0 on, in the order in which
+/// they came. Contracts see the nodes, the newest first.
 #[derive(Drop)]
 pub struct Points<'a> {
     alloc: Global,
@@ -66,8 +66,8 @@ impl<'a> Points<'a> {
         self.rows.len()
     }
 
-    /// Adds the nodes of a point that comes next. The only error is want of memory, which leaves the
-    /// points as they were.
+    /// Adds the nodes of a point that comes next. The only error is want of memory, which leaves
+    /// the points as they were. It walks over the earlier nodes, for what leads to it by a name.
     pub fn add(&mut self, point: Point<'a>) -> Result<(), AllocError>
         requires { IsNew (point_of point) self.old }
         ensures ok { OnOk result (self.new ≡ with_acts (point_of point.entry) (acts (action_of point.entry.action)) self.old) }
@@ -95,7 +95,8 @@ impl<'a> Points<'a> {
         Ok(())
     }
 
-    /// Whether one node comes before another in every allowed order.
+    /// Whether one node comes before another in every allowed order. It compares two numbers; where
+    /// the first is an element of a set, it walks over the nodes between.
     pub fn before(&self, first: usize, second: usize) -> bool
         requires first { first < length self.now }
         requires second { second < length self.now }

@@ -41,7 +41,7 @@ pub fn stamp(
 }
 
 /// Lists a line, if it isn't yet.
-#[tactic(auto, using(crate::proofs::ListLemmas::listing, crate::proofs::ListLemmas::listed_now, crate::proofs::ListLemmas::listed_still))]
+#[tactic(auto, using(crate::proofs::ListLemmas::listings))]
 pub fn list_line(alloc: Global, tallies: &mut Vec<Tally>, line: Line) -> Result<(), AllocError>
     ensures listed { OnOk result (IsTrue (is_some (index_in (names tallies.new.items) line))) }
     ensures others { (l : Line) → IsTrue (is_some (index_in (names tallies.old.items) l)) → IsTrue (is_some (index_in (names tallies.new.items) l)) }
