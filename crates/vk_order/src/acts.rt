@@ -107,6 +107,7 @@ impl Act<'_> {
     }
 }
 
+/// The source stages of a dependency element.
 pub fn source_stages(element: &Element) -> Stages
     ensures { result.0 ≡ (dependency_of element.now).source_stages.0 }
 {
@@ -117,6 +118,7 @@ pub fn source_stages(element: &Element) -> Stages
     }
 }
 
+/// The destination stages of a dependency element.
 pub fn destination_stages(element: &Element) -> Stages
     ensures { result.0 ≡ (dependency_of element.now).destination_stages.0 }
 {
