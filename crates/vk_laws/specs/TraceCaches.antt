@@ -1,10 +1,10 @@
 -- Caches of a past: one of the host and one of each queue, and which events make writes available and visible through them.
-use Rattle.std.specs.Prelude.{◌≡◌, ℕ, zero, suc, Bool, false, not, ◌&&◌, ◌||◌, ◌==◌, IsTrue, List, Some, None, if◌then◌else◌}
+use Rattle.std.specs.Prelude.{◌≡◌, ℕ, zero, suc, Bool, false, not, ◌&&◌, ◌||◌, ◌==◌, IsTrue, List, Some, None, is_some, if◌then◌else◌}
 use Rattle.std.specs.List.{list_any}
 use Rattle.vk_model.specs.declared.entry.Entry.TheVariants as entry
 use Rattle.vk_model.specs.Basics.{holds}
 use Rattle.vk_model.specs.World.Bytes.{Byte, resource_at}
-use Rattle.vk_model.specs.Trace.Objects.{is_cached}
+use Rattle.vk_model.specs.Trace.Objects.{made, is_cached}
 use Rattle.vk_model.specs.Trace.Point.{Past}
 use Rattle.vk_model.specs.Trace.Structure.{IsOrdered}
 use Rattle.vk_model.specs.Sync.Node.{Node, Act, Hosts, nodes}
@@ -32,6 +32,10 @@ module _ (all : Past) where
   abbrev pub cached : ℕ → Byte → Bool
   cached n c = is_cached (before_node all n) (resource_at c)
 
+  -- Whether the resource of a byte was made before node n (Vulkan, "Object Lifetime").
+  abbrev pub was_made : ℕ → Byte → Bool
+  was_made n c = is_some (made (before_node all n) (resource_at c))
+
   -- Node p makes a command's or host entry's write of a byte available (Vulkan, "Execution and Memory Dependencies", "Semaphore Signaling" and "Host Write Ordering Guarantees").
   abbrev pub makes_write_available : Node → Node → Byte → Bool
   makes_write_available p w c = accesses w.act && available_by (cached w.number) (nodes all) w w.act c p
@@ -44,9 +48,9 @@ module _ (all : Past) where
   abbrev pub makes_visible_to_queue : Node → ℕ → Byte → Bool
   makes_visible_to_queue q k c = not (is_host q.act) && q.point.queue == k && (makes_writes_visible (cached q.number) (nodes all) (command_mask Read) c q q.act || is_wait q.act) || submits_to q.act k && host_wrote q c
 
-  -- Node q makes a byte visible to the host's reads: an invalidation where the memory is cached, and else a dependency to the host (Vulkan, "Host Access to Device Memory Objects" and "Execution and Memory Dependencies").
+  -- Node q makes a byte visible to the host's reads: an invalidation where the memory is cached, and else a dependency to the host; no byte of a resource that is made later (Vulkan, "Host Access to Device Memory Objects" and "Execution and Memory Dependencies").
   abbrev pub makes_visible_to_host : Node → Byte → Bool
-  makes_visible_to_host q c = if cached q.number c then invalidates q.act c else to_host q.act && makes_writes_visible (cached q.number) (nodes all) (host_mask Read) c q q.act
+  makes_visible_to_host q c = if cached q.number c then invalidates q.act c else to_host q.act && makes_writes_visible (cached q.number) (nodes all) (host_mask Read) c q q.act && was_made q.number c
 
   -- And to an agent.
   abbrev pub makes_visible_to : Node → ℕ → Byte → Bool

@@ -1,9 +1,10 @@
 -- A trace without a fault has no hazard between its caches.
-use Rattle.std.proofs.Common.{◌≡◌, ◌⊎◌, inl, inr, ℕ, ◌<◌, ◌≤◌, length, [], ◌∷◌, ◌++◌, Bool, true, false, ◌&&◌, not, IsTrue, Some, None, refl, ap, sym, ◌∙◌, subst, arith}
-use Rattle.std.specs.Prelude.{Contains, if◌then◌else◌}
+use Rattle.std.proofs.Common.{◌≡◌, ◌⊎◌, inl, inr, ℕ, ◌<◌, ◌≤◌, length, [], ◌∷◌, ◌++◌, Bool, true, false, ◌&&◌, not, IsTrue, Option, Some, None, refl, ap, sym, ◌∙◌, subst, arith}
+use Rattle.std.specs.Prelude.{Contains, is_some, if◌then◌else◌}
 use Rattle.std.proofs.lemmas.List.{append_assoc}
 use Rattle.vk_model.specs.World.Bytes.{Byte, resource_at}
-use Rattle.vk_model.specs.Trace.Objects.{is_cached}
+use Rattle.vk_model.specs.declared.entry.Entry.{Entry}
+use Rattle.vk_model.specs.Trace.Objects.{made, is_cached}
 use Rattle.vk_model.specs.Trace.Structure.{IsOrdered}
 use Rattle.vk_model.specs.Trace.Point.{Past, Point}
 use Rattle.vk_model.specs.Sync.Node.{Node, nodes}
@@ -16,8 +17,8 @@ use Rattle.vk_laws.specs.Machine.{Task, Writes, Reads}
 use Rattle.vk_laws.specs.Caches.{CacheFree, Seen, Available}
 use Rattle.vk_laws.specs.Trace.{accesses, NoHazardLaw, SeenIsBefore, HostInOrder, CommandsStay}
 use Rattle.vk_laws.specs.Tasks.{node_at, accesses_of}
-use Rattle.vk_laws.specs.TraceCaches.{caching_of}
-use Rattle.vk_laws.proofs.Nodes.Steady.{IsNew, made_step, new_ids, live_ids, IsLive, comes_within}
+use Rattle.vk_laws.specs.TraceCaches.{was_made, caching_of}
+use Rattle.vk_laws.proofs.Nodes.Steady.{IsNew, made_step, made_up, new_ids, live_ids, IsLive, comes_within}
 use Rattle.vk_laws.proofs.Nodes.Points.{AtPoint, at_point, comes_at, at_point_below}
 use Rattle.vk_laws.proofs.Caching.CachedStays.{cached_stays}
 use Rattle.vk_laws.specs.TraceBytes.{before_node}
@@ -67,39 +68,48 @@ compare [] (r ∷ b) p q l m e = inl (b ++ q ∷ [], (let f : l ≡ b ++ q ∷ m
 compare (r ∷ a) [] p q l m e = inr (a, let f : m ≡ a ++ p ∷ l = cc in f)
 compare (r ∷ a) (s ∷ b) p q l m e = compare a b p q l m (let f : a ++ p ∷ l ≡ b ++ q ∷ m = cc in f)
 
--- and as it was when any later node came
-pub cached_then : (all : Past) → IsNew all → IsLive all → (x : Node) → Contains (nodes all) x → IsTrue (accesses x.act) → (b : Byte) (judged : Past) → Contains (writes judged x) b → (n : Node) → Contains (nodes all) n → x.number ≤ n.number
-    → is_cached (before_node all n.number) (resource_at b) ≡ is_cached all (resource_at b)
-cached_then all new alive x cx ax b judged h n cn le =
-    let low = sn.new in
-    let lt = at_point_below _ _ sn in
-    let at : before_node all n.number ≡ sn.past = ap (λ (l : Past). before_node l n.number) sn.whole ∙ before_inside sn.newer sn.past sn.at n.number low lt in
-    let m = written_made all x sx b new alive ax judged x.point.queue h in
-    let more = further (compare sn.newer sx.newer sn.at sx.at sn.past sx.past (sym sn.whole ∙ sx.whole)) in
-    let new_n : IsNew (more.0 ++ sx.past) = subst (λ (l : Past). IsNew l) more.1 (λ c q k. new c q (come sn.newer sn.at sn.past sn.whole c q k)) in
-    let new_x : IsNew sx.past = λ c q k. new c q (come sx.newer sx.at sx.past sx.whole c q k) in
-    let live_x : IsLive sx.past = λ c q k. alive c q (come sx.newer sx.at sx.past sx.whole c q k) in
-    let whole = sx.whole ∙ sym (append_assoc sx.newer (sx.at ∷ []) sx.past) in
-    ap (λ (l : Past). is_cached l (resource_at b)) (at ∙ more.1) ∙ cached_stays more.0 sx.past new_n live_x new_x (resource_at b) m.0 m.1
-    ∙ sym (cached_stays (sx.newer ++ sx.at ∷ []) sx.past (subst (λ (l : Past). IsNew l) whole new) live_x new_x (resource_at b) m.0 m.1) ∙ sym (ap (λ (l : Past). is_cached l (resource_at b)) whole)
-  where
-    sx : AtPoint all x
-    sx = at_point all x cx
+-- and as it was when any later node came, by which the resource was made
+module _ (all : Past) (new : IsNew all) (alive : IsLive all) (x : Node) (cx : Contains (nodes all) x) (ax : IsTrue (accesses x.act)) (b : Byte) (judged : Past) (h : Contains (writes judged x) b) (n : Node) (cn : Contains (nodes all) n) (le : x.number ≤ n.number) where
+  sx : AtPoint all x
+  sx = at_point all x cx
 
-    sn : AtPoint all n
-    sn = at_point all n cn
+  sn : AtPoint all n
+  sn = at_point all n cn
 
-    come : (newer : Past) (p : Point) (past : Past) → all ≡ newer ++ p ∷ past → (c : Past) (q : Point) → Comes past c q → Comes all c q
-    come newer p past whole c q k = comes_within _ newer (p ∷ past) whole c q (older k)
+  come_to : (newer : Past) (p : Point) (past : Past) → all ≡ newer ++ p ∷ past → (c : Past) (q : Point) → Comes past c q → Comes all c q
+  come_to newer p past whole c q k = comes_within _ newer (p ∷ past) whole c q (older k)
 
-    further : ((more : Past) × (sn.past ≡ more ++ sx.past)) ⊎ ((more : Past) × (sx.past ≡ more ++ sn.at ∷ sn.past)) → (more : Past) × (sn.past ≡ more ++ sx.past)
-    further (inl m) = m
-    further (inr m) =
-        let low = sx.new in
-        let lt = at_point_below _ _ sn in
-        let size : length (nodes sx.past) ≡ length (nodes (m.0 ++ sn.at ∷ sn.past)) = ap (λ (l : Past). length (nodes l)) m.1 in
-        let long = more_nodes m.0 (sn.at ∷ sn.past) in
-        absurd (omega (arith, le, low, lt, size, long))
+  further : ((more : Past) × (sn.past ≡ more ++ sx.past)) ⊎ ((more : Past) × (sx.past ≡ more ++ sn.at ∷ sn.past)) → (more : Past) × (sn.past ≡ more ++ sx.past)
+  further (inl m) = m
+  further (inr m) =
+      let low = sx.new in
+      let lt = at_point_below _ _ sn in
+      let size : length (nodes sx.past) ≡ length (nodes (m.0 ++ sn.at ∷ sn.past)) = ap (λ (l : Past). length (nodes l)) m.1 in
+      let long = more_nodes m.0 (sn.at ∷ sn.past) in
+      absurd (omega (arith, le, low, lt, size, long))
+
+  before_it : before_node all n.number ≡ sn.past
+  before_it = ap (λ (l : Past). before_node l n.number) sn.whole ∙ before_inside sn.newer sn.past sn.at n.number sn.new (at_point_below _ _ sn)
+
+  object : (y : Entry) × (made sx.past (resource_at b) ≡ Some y)
+  object = written_made all x sx b new alive ax judged x.point.queue h
+
+  more : (more : Past) × (sn.past ≡ more ++ sx.past)
+  more = further (compare sn.newer sx.newer sn.at sx.at sn.past sx.past (sym sn.whole ∙ sx.whole))
+
+  new_n : IsNew (more.0 ++ sx.past)
+  new_n = subst (λ (l : Past). IsNew l) more.1 (λ c q k. new c q (come_to sn.newer sn.at sn.past sn.whole c q k))
+
+  pub cached_then : is_cached (before_node all n.number) (resource_at b) ≡ is_cached all (resource_at b)
+  cached_then =
+      let new_x : IsNew sx.past = λ c q k. new c q (come_to sx.newer sx.at sx.past sx.whole c q k) in
+      let live_x : IsLive sx.past = λ c q k. alive c q (come_to sx.newer sx.at sx.past sx.whole c q k) in
+      let whole = sx.whole ∙ sym (append_assoc sx.newer (sx.at ∷ []) sx.past) in
+      ap (λ (l : Past). is_cached l (resource_at b)) (before_it ∙ more.1) ∙ cached_stays more.0 sx.past new_n live_x new_x (resource_at b) object.0 object.1
+      ∙ sym (cached_stays (sx.newer ++ sx.at ∷ []) sx.past (subst (λ (l : Past). IsNew l) whole new) live_x new_x (resource_at b) object.0 object.1) ∙ sym (ap (λ (l : Past). is_cached l (resource_at b)) whole)
+
+  pub made_then : IsTrue (was_made all n.number b)
+  made_then = ap (λ (o : Option Entry). is_some o) (ap (λ (l : Past). made l (resource_at b)) (before_it ∙ more.1) ∙ made_up more.0 sx.past (resource_at b) object.0 new_n object.1)
 
 -- two tasks of the host have one agent
 pub same_agent : BeforeIsPath → BeforeIsTransitive → (all : Past) (w u : Task) (x y : Node) → node_at all w.node ≡ Some x → node_at all u.node ≡ Some y → is_host x.act ≡ true → is_host y.act ≡ true → (caching_of all).agent w ≡ (caching_of all).agent u
@@ -128,6 +138,7 @@ module _ (together : PiecesAreByteWrites) (paths : BeforeIsPath) (joins : Before
       same_cached all s.newer (s.at ∷ s.past) s.whole (new_ids all sound) (live_ids all sound) x.node has_x x.is_access c all x.accessed
       ∙ sym (cached_then all (new_ids all sound) (live_ids all sound) x.node x.present x.is_access c all x.accessed n cn le))
       (submits_there all ordered)
+      (λ n cn le. made_then all (new_ids all sound) (live_ids all sound) x.node x.present x.is_access c all x.accessed n cn le)
       (λ host. record { by = x.node; present = x.present; host = host; wrote = is_in_of together all c _ x.accessed; order = inl refl }) is_seen))
 
   written_after : (w u : Task) (c : Byte) → w.node < u.node → Writes (accesses_of all) w c → Writes (accesses_of all) u c → ((caching_of all).agent w ≡ (caching_of all).agent u) ⊎ Available (accesses_of all) (caching_of all) w u c

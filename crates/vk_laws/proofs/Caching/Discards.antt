@@ -35,7 +35,7 @@ use Rattle.vk_laws.proofs.Bytes.ModelBytes.{is_model}
 use Rattle.vk_laws.proofs.Caching.TraceCaches.{node_at_self, seen_task, available_task, available_later}
 use Rattle.vk_laws.proofs.Caching.CacheFree.{same_agent, same_cached, cached_then, cache_free}
 use Rattle.vk_laws.proofs.Nodes.Submits.{submits_there}
-use Rattle.vk_laws.proofs.Caching.Forgotten.{Given, forget, forgets_of, action, ends, w, w_all, w_earlier, w_writes, same_one, kept_then, seen_after, before_write, before_it}
+use Rattle.vk_laws.proofs.Caching.Forgotten.{Given, forget, forgets_of, action, ends, w, w_all, w_earlier, w_writes, same_one, kept_then, there_then, seen_after, before_write, before_it}
 use Rattle.vk_model.specs.declared.command.Length.{Length}
 
 as_command : (a : Act) → IsTrue (accesses a) → IsTrue (is_host a) ⊎ ((c : Cmd) × (a ≡ Runs c))
@@ -239,6 +239,7 @@ module _ (all : Past) (given : Given all) where
       inr (seen_task given.paths given.joins all s u f.node y.node f.at y.at (forgot_has all s c f) f.present y.present (rw f.act refl) y.is_access (λ b. is_cached ((at_point all y.node y.present).at ∷ (at_point all y.node y.present).past) (resource_at b)) c
       (λ n cn le. same_one all given f.node f.present f.entry f.act c f.lost y.node y.present cmd.0 cmd.1 (omega (arith, earlier, low)) ∙ sym (kept_then all given f.node f.present f.entry f.act c f.lost n cn (omega (arith, earlier, le))))
       (submits_there all ordered)
+      (λ n cn le. there_then all given f.node f.present f.entry f.act c f.lost n cn (omega (arith, earlier, le)))
       (λ host. record {
         by = w all given f.node f.present f.entry f.act c f.lost;
         present = w_all all given f.node f.present f.entry f.act c f.lost;

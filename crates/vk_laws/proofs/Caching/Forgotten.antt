@@ -23,6 +23,7 @@ use Rattle.vk_model.specs.Laws.{BeforeIsPath, BeforeIsTransitive, GrowthKeeps, P
 use Rattle.vk_laws.specs.Trace.{accesses, AccessesInOrder, NoHazardLaw, SeenIsBefore, HostInOrder, CommandsStay}
 use Rattle.vk_laws.specs.Discards.{entry_forgets}
 use Rattle.vk_laws.specs.TraceBytes.{before_node}
+use Rattle.vk_laws.specs.TraceCaches.{was_made}
 use Rattle.vk_laws.proofs.Nodes.Prefixes.{old_has, is_old}
 use Rattle.vk_model.proofs.Lists.Members.{contains-head, member_passes, some_member}
 use Rattle.vk_model.proofs.Lists.Truths.{clash}
@@ -34,7 +35,7 @@ use Rattle.vk_laws.proofs.Nodes.Ordered.{judged_has, read_is_seen, write_is_seen
 use Rattle.vk_laws.proofs.Nodes.Actions.{host_action}
 use Rattle.vk_laws.proofs.Nodes.Counts.{more_nodes}
 use Rattle.vk_laws.proofs.Bytes.ModelBytes.{alone, at_node}
-use Rattle.vk_laws.proofs.Caching.CacheFree.{same_cached, cached_then}
+use Rattle.vk_laws.proofs.Caching.CacheFree.{same_cached, cached_then, made_then}
 use Rattle.vk_laws.proofs.Caching.Dirty.{DirtiedBy, dirtied_by}
 use Rattle.vk_model.proofs.Sync.Numbers.{number_below, unique, numbered}
 use Rattle.vk_model.proofs.Sync.Paths.{leads_on}
@@ -190,6 +191,9 @@ module _ (all : Past) (given : Given all) where
     -- as it was when a later node came
     pub kept_then : (n : Node) → Contains (nodes all) n → w.number ≤ n.number → is_cached (before_node all n.number) (resource_at c) ≡ is_cached all (resource_at c)
     kept_then n cn le = cached_then all (new_ids all given.sound) (live_ids all given.sound) w w_all refl c all w_writes n cn le
+
+    pub there_then : (n : Node) → Contains (nodes all) n → w.number ≤ n.number → IsTrue (was_made all n.number c)
+    there_then n cn le = made_then all (new_ids all given.sound) (live_ids all given.sound) w w_all refl c all w_writes n cn le
 
     pub unflushed : (g : Node) → Contains (nodes all) g → IsTrue (flushes g.act c) → w.number < g.number → g.number < i.number → ⊥
     unflushed g cg h after before_it =

@@ -19,7 +19,7 @@ use Rattle.vk_laws.specs.Caches.{Seen, Available}
 use Rattle.vk_laws.specs.Trace.{accesses}
 use Rattle.vk_laws.specs.Tasks.{node_at, task_count, accesses_of}
 use Rattle.vk_model.specs.Run.Caches.{agent_of}
-use Rattle.vk_laws.specs.TraceCaches.{submits_to, host_wrote, cached, makes_write_available, makes_visible_to_host, makes_visible_to, caching_of}
+use Rattle.vk_laws.specs.TraceCaches.{submits_to, host_wrote, cached, was_made, makes_write_available, makes_visible_to_host, makes_visible_to, caching_of}
 use Rattle.vk_laws.proofs.Accesses.TaskNodes.{node_of}
 use Rattle.vk_model.proofs.Lists.Members.{contains-cons, member_passes, some_member, none_in}
 use Rattle.vk_model.proofs.Lists.Truths.{clash, six}
@@ -244,8 +244,8 @@ module _ (paths : BeforeIsPath) (joins : BeforeIsTransitive) (all : Past) where
               (or_cases _ _ k)
           by_kind (inr k) = let s = submit_host q.act (and_parts _ _ k).1 in absurd (clash {b = not (is_host q.act)} g.0 (ap not s))
 
-  visible_to_host : (one : Byte → Bool) (x q y : Node) (e : Entry) (b : Byte) → ((n : Node) → Contains (nodes all) n → x.number ≤ n.number → one b ≡ cached all n.number b) → Contains (nodes all) x → IsTrue (before (nodes all) x q) → Contains (nodes all) q → y.act ≡ Hosts e → IsTrue (visible_by one (nodes all) x y (Hosts e) Read b q) → MadeVisible q y b
-  visible_to_host one x q y e b same cx later cq is h =
+  visible_to_host : (one : Byte → Bool) (x q y : Node) (e : Entry) (b : Byte) → ((n : Node) → Contains (nodes all) n → x.number ≤ n.number → one b ≡ cached all n.number b) → ((n : Node) → Contains (nodes all) n → x.number ≤ n.number → IsTrue (was_made all n.number b)) → Contains (nodes all) x → IsTrue (before (nodes all) x q) → Contains (nodes all) q → y.act ≡ Hosts e → IsTrue (visible_by one (nodes all) x y (Hosts e) Read b q) → MadeVisible q y b
+  visible_to_host one x q y e b same there cx later cq is h =
       let g = and_parts _ _ h in
       let k = and_parts _ _ g.0 in
       let l = and_parts _ _ k.0 in
@@ -268,7 +268,7 @@ module _ (paths : BeforeIsPath) (joins : BeforeIsTransitive) (all : Past) where
           record { by = f.0; present = f.1; order = inr l.1; made_visible = to_agent f.0 (rw (sym (same f.0 f.1 (further f.0 f.1 l.1)) ∙ c) l.0); quiet = invalidate_event f.0.act b l.0; earlier = k.1 }
       go false c earlier to r p =
           let s = visible_same one (cached all q.number) (nodes all) b (host_mask Read) q q.act r in
-          record { by = q; present = cq; order = inl refl; made_visible = to_agent q (rw (sym (same q cq (after q later)) ∙ c) (and_from _ _ to s.0)); quiet = host_event q.act to; earlier = earlier }
+          record { by = q; present = cq; order = inl refl; made_visible = to_agent q (rw (sym (same q cq (after q later)) ∙ c) (and_from _ _ (and_from _ _ to s.0) (there q cq (after q later)))); quiet = host_event q.act to; earlier = earlier }
 
   -- ---- accesses that see a write
 
@@ -295,12 +295,16 @@ module _ (paths : BeforeIsPath) (joins : BeforeIsTransitive) (all : Past) where
     host_first : HostSource x b → (q : Node) → Contains (nodes all) q → IsTrue (before (nodes all) x q) → IsTrue (host_wrote all q b)
     host_first v q cq later = member_passes (λ v. is_host v.act && is_in b (writes all v) && before (nodes all) v q) (nodes all) v.by v.present (and_from _ _ (and_from _ _ v.host v.wrote) (reaches_before paths all joins v.by x q v.present cx cq v.order later))
 
-    visible_of : Submits → (q : Node) → Contains (nodes all) q → IsTrue (before (nodes all) x q) → (is_host x.act ≡ true → IsTrue (host_wrote all q b)) → IsTrue (visible_by one (nodes all) x y y.act Read b q) → MadeVisible q y b
-    visible_of submits q cq later ready h = go y.act refl ay h
+    -- the byte's resource was made by then
+    abbrev IsThere : Type 0
+    IsThere = (n : Node) → Contains (nodes all) n → x.number ≤ n.number → IsTrue (was_made all n.number b)
+
+    visible_of : Submits → IsThere → (q : Node) → Contains (nodes all) q → IsTrue (before (nodes all) x q) → (is_host x.act ≡ true → IsTrue (host_wrote all q b)) → IsTrue (visible_by one (nodes all) x y y.act Read b q) → MadeVisible q y b
+    visible_of submits there q cq later ready h = go y.act refl ay h
       where
         go : (a : Act) → y.act ≡ a → IsTrue (accesses a) → IsTrue (visible_by one (nodes all) x y a Read b q) → MadeVisible q y b
         go (Runs c) e access h = visible_to_queue submits one x q y c b cq cy e ready h
-        go (Hosts z) e access h = visible_to_host one x q y z b same cx later cq e h
+        go (Hosts z) e access h = visible_to_host one x q y z b same there cx later cq e h
         go (Waits s) e access h = absurd cc
         go (Signals s) e access h = absurd cc
         go (Depends r d) e access h = absurd cc
@@ -326,16 +330,16 @@ module _ (paths : BeforeIsPath) (joins : BeforeIsTransitive) (all : Past) where
       before = precedes made_visible.by y made_visible.present made_visible.quiet made_visible.earlier t at_t;
     }
 
-    pub seen_task : Submits → (is_host x.act ≡ true → HostSource x b) → IsTrue (seen one (nodes all) x y Read b) → Seen (accesses_of all) (caching_of all) w t b
+    pub seen_task : Submits → IsThere → (is_host x.act ≡ true → HostSource x b) → IsTrue (seen one (nodes all) x y Read b) → Seen (accesses_of all) (caching_of all) w t b
     unfolding seen
-    seen_task submits source h =
+    seen_task submits there source h =
         let p = some_member _ (nodes all) h in
         let first = and_parts _ _ p.2 in
         let q = some_member _ (nodes all) first.1 in
         let second = and_parts _ _ (and_parts _ _ q.2).0 in
         let is_made = made_of one x p.0 b at_writer cx p.1 ax first.0 in
         let last = before_reaches paths all joins x p.0 q.0 cx p.1 q.1 is_made.later (or_before paths all joins one p.0 q.0 second.0) in
-        let made_visible = visible_of submits q.0 q.1 last (λ host. host_first (source host) q.0 q.1 last) second.1 in
+        let made_visible = visible_of submits there q.0 q.1 last (λ host. host_first (source host) q.0 q.1 last) second.1 in
         let order = reaches_join paths all joins p.0 q.0 made_visible.by p.1 q.1 made_visible.present (or_before paths all joins one p.0 q.0 second.0) made_visible.order in
         seen_by p.0 q.0 p.1 is_made made_visible order
 

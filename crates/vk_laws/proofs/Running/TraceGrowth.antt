@@ -1,12 +1,12 @@
 -- A longer trace's tasks extend a shorter one's.
 use Rattle.std.proofs.Common.{◌≡◌, ◌⊎◌, inl, inr, ⊎_elim, ℕ, zero, suc, ◌<◌, ◌≤◌, List, [], ◌∷◌, ◌++◌, length, Bool, false, ◌&&◌, ◌||◌, not, Option, Some, None, refl, ap, sym, ◌∙◌, subst, arith}
-use Rattle.std.specs.Prelude.{Contains, ◌==◌, nat_lt, option_map, slice_get, if◌then◌else◌}
+use Rattle.std.specs.Prelude.{Contains, ◌==◌, nat_lt, option_map, is_some, slice_get, if◌then◌else◌}
 use Rattle.std.specs.List.{list_any, find}
 use Rattle.std.proofs.lemmas.Bool.{cases_lt, and_parts, false_from_ne_true, and_right}
 use Rattle.std.proofs.lemmas.List.{append_assoc, length-append}
 use Rattle.vk_model.specs.Basics.{holds}
 use Rattle.vk_model.specs.World.Bytes.{Byte, same_byte, resource_at}
-use Rattle.vk_model.specs.Trace.Objects.{is_cached}
+use Rattle.vk_model.specs.Trace.Objects.{made, is_cached}
 use Rattle.vk_model.specs.Trace.Point.{Past}
 use Rattle.vk_model.specs.World.ByteWrites.{ByteWrite}
 use Rattle.vk_model.specs.Sync.Node.{Node, Act, Hosts, Waits, Signals, Runs, Depends, nodes}
@@ -22,7 +22,7 @@ use Rattle.vk_laws.specs.Tasks.{piece_writes, task_count, task_write, node_at, b
 use Rattle.vk_laws.specs.TraceBytes.{before_node}
 use Rattle.vk_laws.specs.Discards.{entry_forgets, forgets, or_unknown, with_discards}
 use Rattle.vk_model.specs.Run.Caches.{agent_of}
-use Rattle.vk_laws.specs.TraceCaches.{submits_to, cached, host_wrote, makes_write_available, makes_visible_to, caching_of}
+use Rattle.vk_laws.specs.TraceCaches.{submits_to, cached, was_made, host_wrote, makes_write_available, makes_visible_to, caching_of}
 use Rattle.vk_laws.proofs.Accesses.TaskNodes.{node_of}
 use Rattle.vk_laws.proofs.Nodes.Prefixes.{old_has, same_pieces, tasks_lead_on, there_below}
 use Rattle.vk_model.proofs.Lists.Members.{contains-cons, contains-head, contains-tail, none_in}
@@ -172,8 +172,9 @@ module _ (paths : BeforeIsPath) (joins : BeforeIsTransitive) (keeps : GrowthKeep
 
     same_visible : (a : ℕ) (c : Byte) → makes_visible_to whole n a c ≡ makes_visible_to old n a c
     same_visible zero c =
-        ap (λ (z : Bool). if z then invalidates n.act c else to_host n.act && makes_writes_visible (cached whole n.number) (nodes whole) (host_mask Read) c n n.act) (same_cached c)
-        ∙ ap (λ (r : Bool). if cached old n.number c then invalidates n.act c else to_host n.act && r) (visible_eq (cached whole n.number) (cached old n.number) (nodes whole) (nodes old) (host_mask Read) c n n.act)
+        ap (λ (z : Bool). if z then invalidates n.act c else to_host n.act && makes_writes_visible (cached whole n.number) (nodes whole) (host_mask Read) c n n.act && was_made whole n.number c) (same_cached c)
+        ∙ ap (λ (l : Past). if cached old n.number c then invalidates n.act c else to_host n.act && makes_writes_visible (cached whole n.number) (nodes whole) (host_mask Read) c n n.act && is_some (made l (resource_at c))) same_before
+        ∙ ap (λ (r : Bool). if cached old n.number c then invalidates n.act c else to_host n.act && r && was_made old n.number c) (visible_eq (cached whole n.number) (cached old n.number) (nodes whole) (nodes old) (host_mask Read) c n n.act)
     same_visible (suc k) c =
         ap (λ (r : Bool). not (is_host n.act) && n.point.queue == k && (r || is_wait n.act) || submits_to n.act k && host_wrote whole n c) (visible_eq (cached whole n.number) (cached old n.number) (nodes whole) (nodes old) (command_mask Read) c n n.act)
         ∙ ap (λ (r : Bool). not (is_host n.act) && n.point.queue == k && (makes_writes_visible (cached old n.number) (nodes old) (command_mask Read) c n n.act || is_wait n.act) || submits_to n.act k && r) (same_wrote c)
