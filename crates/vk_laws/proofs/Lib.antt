@@ -4,3 +4,4 @@ pub mod Accesses
 pub mod Bytes
 pub mod Caching
 pub mod Running
+pub mod CachedRunning

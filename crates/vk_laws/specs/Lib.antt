@@ -13,3 +13,4 @@ pub mod TraceCaches
 pub mod TraceRuns
 pub mod TraceExample
 pub mod DefinedRuns
+pub mod CachedRuns

@@ -1,12 +1,14 @@
 //! The law that every allowed order of a trace's pieces gives the model's bytes.
 #![tactic(auto)]
 
+mod cached_runs;
 mod machine;
 mod reader;
 mod tasks;
 mod trace;
 mod trace_runs;
 
+pub use cached_runs::{cached_runs_are_fresh, cached_runs_are_reached};
 pub use machine::{
     every_order, pieces_suffice, premises_can_be_met, runs_carry_over, whole_commands,
 };

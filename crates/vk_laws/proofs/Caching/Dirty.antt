@@ -61,7 +61,7 @@ fold_dirty : {X : Type 0} (f : World → X → World) → ((w : World) (x : X) �
 fold_dirty f step [] w = refl
 fold_dirty f step (x ∷ xs) w = fold_dirty f step xs (f w x) ∙ step w x
 
-command_dirty : (past : Past) (f : ℕ) (x : Cmd) (w : World) → (after_command past f x w).dirty ≡ w.dirty
+pub command_dirty : (past : Past) (f : ℕ) (x : Cmd) (w : World) → (after_command past f x w).dirty ≡ w.dirty
 command_dirty past f x w =
     let ready : World = fold (λ v r. used past f r v) w (uses x) in
     fold_dirty (after_element past f) (element_dirty past f) (elements_of x) (record ready { value = after_writes (byte_writes past x) ready.value })

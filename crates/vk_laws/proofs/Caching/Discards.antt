@@ -78,7 +78,7 @@ module _ (all : Past) where
       go true e h = inl (let same : Unknown ≡ x = cc in sym same, forgot_of u c e)
       go false e h = inr h
 
-  write_kind : (u : Task) (c : Byte) → Writes (with_discards all) u c → Forgot u c ⊎ Writes (accesses_of all) u c
+  pub write_kind : (u : Task) (c : Byte) → Writes (with_discards all) u c → Forgot u c ⊎ Writes (accesses_of all) u c
   write_kind u c w = ⊎_elim (λ f. inl f.1) (λ b. inr (w.0, b)) (how u c w.0 w.1)
 
   quiet_base : (u : Task) (c : Byte) → (with_discards all).write_of u c ≡ None → (accesses_of all).write_of u c ≡ None

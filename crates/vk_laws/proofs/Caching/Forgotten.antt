@@ -46,7 +46,7 @@ pub flush_of : (a : Act) (c : Byte) → IsTrue (flushes a c) → (b o : ℕ) × 
 flush_of (Hosts (entry.Flush b o n)) c h = (b, o, n, refl, h)
 flush_of _ c h = absurd cc
 
-reached_buffer : (b o : ℕ) (n : Length) (c : Byte) → IsTrue (reaches b o n c) → resource_at c ≡ b
+pub reached_buffer : (b o : ℕ) (n : Length) (c : Byte) → IsTrue (reaches b o n c) → resource_at c ≡ b
 reached_buffer b o n (in_buffer d k) h = sym (eqb-true b d (and_parts (b == d) (in_atoms o n k) h).0)
 reached_buffer b o n (in_image i l m x y p) h = absurd cc
 

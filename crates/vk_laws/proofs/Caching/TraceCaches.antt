@@ -72,7 +72,7 @@ invalidate_event (Signals s) b h = refl
 invalidate_event (Depends r e) b h = refl
 
 module _ (one other : Byte → Bool) (ns : List Node) (b : Byte) where
-  available_same : (p : Node) (a : Act) → IsTrue (makes_writes_available one ns p b a) → IsTrue (makes_writes_available other ns p b a) × (is_command a ≡ false)
+  pub available_same : (p : Node) (a : Act) → IsTrue (makes_writes_available one ns p b a) → IsTrue (makes_writes_available other ns p b a) × (is_command a ≡ false)
   available_same p (Runs c) h = absurd cc
   available_same p (Hosts x) h = absurd cc
   available_same p (Waits s) h = absurd cc
@@ -86,7 +86,7 @@ module _ (one other : Byte → Bool) (ns : List Node) (b : Byte) where
   visible_queue mask q (Signals s) h = absurd cc
   visible_queue mask q (Depends r e) h = refl
 
-  visible_same : (mask : ℕ) (q : Node) (a : Act) → IsTrue (makes_writes_visible one ns mask b q a) → IsTrue (makes_writes_visible other ns mask b q a) × (is_command a ≡ false)
+  pub visible_same : (mask : ℕ) (q : Node) (a : Act) → IsTrue (makes_writes_visible one ns mask b q a) → IsTrue (makes_writes_visible other ns mask b q a) × (is_command a ≡ false)
   visible_same mask q (Runs c) h = absurd cc
   visible_same mask q (Hosts x) h = absurd cc
   visible_same mask q (Waits s) h = absurd cc
@@ -107,10 +107,10 @@ no_pair_run (Depends Barrier e) c h = cc
 no_pair_run (Depends (SetOf v k) e) c h = cc
 no_pair_run (Depends (AwaitOf v k) e) c h = cc
 
-abbrev OnQueue : Node → Node → Type 0
+abbrev pub OnQueue : Node → Node → Type 0
 OnQueue q y = IsTrue (not (is_host q.act)) × (q.point.queue ≡ y.point.queue)
 
-on_queue : (q y : Node) → IsTrue (same_queue q y) → OnQueue q y
+pub on_queue : (q y : Node) → IsTrue (same_queue q y) → OnQueue q y
 on_queue q y h = let g = and_parts _ _ h in ((and_parts _ _ g.0).0, eqb-true q.point.queue y.point.queue g.1)
 
 edge_to_command : (ns : List Node) (q y : Node) (c : Cmd) → y.act ≡ Runs c → IsTrue (edge ns q y) → (IsTrue (is_submit q.act) × (q.point.entry ≡ y.point.entry)) ⊎ OnQueue q y

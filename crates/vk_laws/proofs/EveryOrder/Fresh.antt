@@ -53,7 +53,7 @@ module _ (tr : TraceAccesses) (free : HazardFree tr) where
   }
 
   -- the last write in the run is the last of those done in reference order
-  latest_most : (done : List Task) (c : Byte) (w s : Task) → IsAllowed tr done → latest tr c done ≡ Some w → IsIn s done → Writes tr s c → s.node ≤ w.node
+  pub latest_most : (done : List Task) (c : Byte) (w s : Task) → IsAllowed tr done → latest tr c done ≡ Some w → IsIn s done → Writes tr s c → s.node ≤ w.node
   latest_most [] c w s ok e h wr = absurd h
   latest_most (t ∷ done) c w s ok e h wr = go (latest_most done c w s ok.1) (tr.write_of t c) refl e
     where

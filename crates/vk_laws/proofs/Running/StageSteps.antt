@@ -1,5 +1,6 @@
 -- Each step of the definitions keeps tasks that match the stage.
-use Rattle.std.proofs.Common.{◌≡◌, inl, inr, ⊎_elim, ℕ, ◌+◌, List, [], ◌∷◌, false, IsTrue, Some, refl, ap, sym, ◌∙◌, subst, arith}
+use Rattle.std.proofs.Common.{◌≡◌, ◌⊎◌, inl, inr, ⊎_elim, ℕ, ◌+◌, List, [], ◌∷◌, false, IsTrue, Some, refl, ap, sym, ◌∙◌, subst, arith}
+use Rattle.std.specs.Prelude.{◌↔◌}
 use Rattle.std.proofs.lemmas.Bool.{ltb-true, lt-ltb, or_cases, or_left, or_right}
 use Rattle.vk_model.specs.declared.entry.Entry.{Entry}
 use Rattle.vk_model.specs.declared.entry.Entry.TheVariants as entry
@@ -11,9 +12,9 @@ use Rattle.vk_laws.specs.Machine.{IsIn, Task, TraceAccesses, MayRun}
 use Rattle.vk_laws.specs.Tasks.{node_at, accesses_of}
 use Rattle.vk_laws.specs.DefinedRuns.{is_event, piece_task, entry_task, with_step, done_by, has_happened, MayCome, Offers, Enters}
 use Rattle.vk_laws.proofs.Accesses.TaskNodes.{node_of, same_task}
-use Rattle.vk_laws.proofs.Running.Stages.{next_placed, entries_then}
+use Rattle.vk_laws.proofs.Running.Stages.{low, next_placed, entries_then}
 use Rattle.vk_laws.proofs.Running.StageTasks.{names_same, name_itself, turned, Kind, piece, hosts, kind, plain_is, happened_is, Known}
-use Rattle.vk_laws.proofs.Running.AtStage.{AtPoint, settle, piece_in, entry_in, Offered, offered_of, offered_at, piece_may, here, here_at, entry_may}
+use Rattle.vk_laws.proofs.Running.AtStage.{AtPoint, settle, Offered, offered_of, offered_at, piece_may, here, here_at, entry_may}
 
 module _ {t : List Entry} (known : Known t) where
   abbrev all : Past
@@ -22,72 +23,89 @@ module _ {t : List Entry} (known : Known t) where
   abbrev tr : TraceAccesses
   tr = accesses_of all
 
-  apply_step : (s : Stage) (did : List Task) (i : AtPoint known s did) (x : Entry) (xs : List Entry) → s.left ≡ x ∷ xs → IsTrue (may_go s x) → AtPoint known (entered s x xs) (entry_task s ∷ did)
-  apply_step s did i x xs left may = settle known (entered s x xs) (entry_task s ∷ did) (next_placed known.keeps t s i.placed x xs left) (entry_task s ∷ i.tasks) (entry_may known s did i x xs left may, i.allowed)
-      (λ u there plain. (forward u there plain, backward u there plain)) (rw mine (ap (λ (us : List Task). entry_task s ∷ us) i.order))
-    where
-      at : node_at all (entry_task s).node ≡ Some (here known s did i x xs left)
-      at = here_at known s did i x xs left
+  -- what has happened before a step, and its own task
+  pub with_task : (s e : Stage) (v : Task) (tasks : List Task) → ((u : Task) → IsTrue (tr.has u) → is_event all u ≡ false → IsIn u tasks ↔ IsTrue (has_happened all s u))
+      → ((u : Task) → IsTrue (tr.has u) → is_event all u ≡ false → IsTrue (has_happened all e u) ↔ ((u ≡ v) ⊎ IsTrue (has_happened all s u)))
+      → (u : Task) → IsTrue (tr.has u) → is_event all u ≡ false → IsIn u (v ∷ tasks) ↔ IsTrue (has_happened all e u)
+  with_task s e v tasks old step u there plain = (
+    λ h. (step u there plain).1 (⊎_elim (λ same. inl same) (λ g. inr ((old u there plain).0 g)) h),
+    λ h. ⊎_elim (λ same. inl same) (λ g. inr ((old u there plain).1 g)) ((step u there plain).0 h),
+  )
 
-      mine : is_event all (entry_task s) ≡ false
-      mine = plain_is all (entry_task s) (here known s did i x xs left) at (Hosts x) refl refl
+  module _ (s : Stage) (did : List Task) (i : AtPoint known s did) (x : Entry) (xs : List Entry) (left : s.left ≡ x ∷ xs) where
+    entry_at : node_at all (entry_task s).node ≡ Some (here known s did i x xs left)
+    entry_at = here_at known s did i x xs left
 
-      forward : (u : Task) → IsTrue (tr.has u) → is_event all u ≡ false → IsIn u (entry_task s ∷ i.tasks) → IsTrue (has_happened all (entered s x xs) u)
-      forward u there plain (inl e) =
-          subst (λ (v : Task). IsTrue (has_happened all (entered s x xs) v)) (sym e) (turned (sym (happened_is all (entered s x xs) (entry_task s) (here known s did i x xs left) at (Hosts x) refl)) (lt-ltb s.count (s.count + 1) (omega arith)))
-      forward u there plain (inr h) = go (kind all u there plain) ((i.happened u there plain).0 h)
-        where
-          go : Kind all u → IsTrue (has_happened all s u) → IsTrue (has_happened all (entered s x xs) u)
-          go (piece n c at act lt) h = turned (sym (happened_is all (entered s x xs) u n at (Runs c) act)) (turned (happened_is all s u n at (Runs c) act) h)
-          go (hosts n y at act first) h =
-              let lt = ltb-true n.point.entry s.count (turned (happened_is all s u n at (Hosts y) act) h) in
-              turned (sym (happened_is all (entered s x xs) u n at (Hosts y) act)) (lt-ltb n.point.entry (s.count + 1) (omega (arith, lt)))
+    pub entry_plain : is_event all (entry_task s) ≡ false
+    entry_plain = plain_is all (entry_task s) (here known s did i x xs left) entry_at (Hosts x) refl refl
 
-      backward : (u : Task) → IsTrue (tr.has u) → is_event all u ≡ false → IsTrue (has_happened all (entered s x xs) u) → IsIn u (entry_task s ∷ i.tasks)
-      backward u there plain h = go (kind all u there plain)
-        where
-          go : Kind all u → IsIn u (entry_task s ∷ i.tasks)
-          go (piece n c at act lt) = inr (piece_in known s did i u n c there at act (turned (happened_is all (entered s x xs) u n at (Runs c) act) h))
-          go (hosts n y at act first) =
-              let found = node_of all u.node n at in
-              ⊎_elim
-              (λ same. inl (same_task u (entry_task s) (sym found.1 ∙ sym (ap (λ (m : Node). m.number) same)) first))
-              (λ old. inr (entry_in known s did i u n y there at act old))
-              (entries_then known.keeps t s i.placed x xs left n y found.0 act (ltb-true n.point.entry (s.count + 1) (turned (happened_is all (entered s x xs) u n at (Hosts y) act) h)))
+    pub entered_happened : (u : Task) → IsTrue (tr.has u) → is_event all u ≡ false → IsTrue (has_happened all (entered s x xs) u) ↔ ((u ≡ entry_task s) ⊎ IsTrue (has_happened all s u))
+    entered_happened u there plain = (backward, forward)
+      where
+        forward : (u ≡ entry_task s) ⊎ IsTrue (has_happened all s u) → IsTrue (has_happened all (entered s x xs) u)
+        forward (inl e) =
+            subst (λ (v : Task). IsTrue (has_happened all (entered s x xs) v)) (sym e) (turned (sym (happened_is all (entered s x xs) (entry_task s) (here known s did i x xs left) entry_at (Hosts x) refl)) (lt-ltb s.count (s.count + 1) (omega arith)))
+        forward (inr h) = go (kind all u there plain) h
+          where
+            go : Kind all u → IsTrue (has_happened all s u) → IsTrue (has_happened all (entered s x xs) u)
+            go (piece n c at act lt) h = turned (sym (happened_is all (entered s x xs) u n at (Runs c) act)) (turned (happened_is all s u n at (Runs c) act) h)
+            go (hosts n y at act first) h =
+                let lt = ltb-true n.point.entry s.count (turned (happened_is all s u n at (Hosts y) act) h) in
+                turned (sym (happened_is all (entered s x xs) u n at (Hosts y) act)) (lt-ltb n.point.entry (s.count + 1) (omega (arith, lt)))
 
-  abbrev ran : Stage → Name → Stage
+        backward : IsTrue (has_happened all (entered s x xs) u) → (u ≡ entry_task s) ⊎ IsTrue (has_happened all s u)
+        backward h = go (kind all u there plain)
+          where
+            go : Kind all u → (u ≡ entry_task s) ⊎ IsTrue (has_happened all s u)
+            go (piece n c at act lt) = inr (turned (sym (happened_is all s u n at (Runs c) act)) (turned (happened_is all (entered s x xs) u n at (Runs c) act) h))
+            go (hosts n y at act first) =
+                let found = node_of all u.node n at in
+                ⊎_elim
+                (λ same. inl (same_task u (entry_task s) (sym found.1 ∙ sym (ap (λ (m : Node). m.number) same)) first))
+                (λ old. inr (turned (sym (happened_is all s u n at (Hosts y) act)) (lt-ltb n.point.entry s.count (low known.keeps t s i.placed n old))))
+                (entries_then known.keeps t s i.placed x xs left n y found.0 act (ltb-true n.point.entry (s.count + 1) (turned (happened_is all (entered s x xs) u n at (Hosts y) act) h)))
+
+    apply_step : IsTrue (may_go s x) → AtPoint known (entered s x xs) (entry_task s ∷ did)
+    apply_step may = settle known (entered s x xs) (entry_task s ∷ did) (next_placed known.keeps t s i.placed x xs left) (entry_task s ∷ i.tasks) (entry_may known s did i x xs left may, i.allowed)
+        (with_task s (entered s x xs) (entry_task s) i.tasks i.happened entered_happened) (rw entry_plain (ap (λ (us : List Task). entry_task s ∷ us) i.order))
+
+  abbrev pub ran : Stage → Name → Stage
   ran s x = record s { done = x ∷ s.done }
 
-  run_step : (s : Stage) (did : List Task) (i : AtPoint known s did) (x : Name) → Offered known s did i x → AtPoint known (ran s x) (piece_task x ∷ did)
-  run_step s did i x o = settle known (ran s x) (piece_task x ∷ did) (record { gone = i.placed.gone; split = i.placed.split; count = i.placed.count; front = i.placed.front })
-      (piece_task x ∷ i.tasks) (piece_may known s did i x o, i.allowed)
-      (λ u there plain. (forward u there plain, backward u there plain)) (rw mine (ap (λ (us : List Task). piece_task x ∷ us) i.order))
-    where
-      at : node_at all (piece_task x).node ≡ Some o.node
-      at = offered_at known s did i x o
+  module _ (s : Stage) (did : List Task) (i : AtPoint known s did) (x : Name) (o : Offered known s did i x) where
+    piece_at : node_at all (piece_task x).node ≡ Some o.node
+    piece_at = offered_at known s did i x o
 
-      mine : is_event all (piece_task x) ≡ false
-      mine = plain_is all (piece_task x) o.node at (Runs o.command) o.act refl
+    pub piece_plain : is_event all (piece_task x) ≡ false
+    piece_plain = plain_is all (piece_task x) o.node piece_at (Runs o.command) o.act refl
 
-      forward : (u : Task) → IsTrue (tr.has u) → is_event all u ≡ false → IsIn u (piece_task x ∷ i.tasks) → IsTrue (has_happened all (ran s x) u)
-      forward u there plain (inl e) =
-          subst (λ (v : Task). IsTrue (has_happened all (ran s x) v)) (sym e) (turned (sym (happened_is all (ran s x) (piece_task x) o.node at (Runs o.command) o.act)) (or_left (same_name x x) (is_done s.done x) (name_itself x)))
-      forward u there plain (inr h) = go (kind all u there plain) ((i.happened u there plain).0 h)
-        where
-          go : Kind all u → IsTrue (has_happened all s u) → IsTrue (has_happened all (ran s x) u)
-          go (piece n c at act lt) h = turned (sym (happened_is all (ran s x) u n at (Runs c) act)) (or_right (same_name (u.node, u.index) x) (is_done s.done (u.node, u.index)) (turned (happened_is all s u n at (Runs c) act) h))
-          go (hosts n y at act first) h = turned (sym (happened_is all (ran s x) u n at (Hosts y) act)) (turned (happened_is all s u n at (Hosts y) act) h)
+    pub ran_happened : (u : Task) → IsTrue (tr.has u) → is_event all u ≡ false → IsTrue (has_happened all (ran s x) u) ↔ ((u ≡ piece_task x) ⊎ IsTrue (has_happened all s u))
+    ran_happened u there plain = (backward, forward)
+      where
+        forward : (u ≡ piece_task x) ⊎ IsTrue (has_happened all s u) → IsTrue (has_happened all (ran s x) u)
+        forward (inl e) =
+            subst (λ (v : Task). IsTrue (has_happened all (ran s x) v)) (sym e) (turned (sym (happened_is all (ran s x) (piece_task x) o.node piece_at (Runs o.command) o.act)) (or_left (same_name x x) (is_done s.done x) (name_itself x)))
+        forward (inr h) = go (kind all u there plain) h
+          where
+            go : Kind all u → IsTrue (has_happened all s u) → IsTrue (has_happened all (ran s x) u)
+            go (piece n c at act lt) h = turned (sym (happened_is all (ran s x) u n at (Runs c) act)) (or_right (same_name (u.node, u.index) x) (is_done s.done (u.node, u.index)) (turned (happened_is all s u n at (Runs c) act) h))
+            go (hosts n y at act first) h = turned (sym (happened_is all (ran s x) u n at (Hosts y) act)) (turned (happened_is all s u n at (Hosts y) act) h)
 
-      backward : (u : Task) → IsTrue (tr.has u) → is_event all u ≡ false → IsTrue (has_happened all (ran s x) u) → IsIn u (piece_task x ∷ i.tasks)
-      backward u there plain h = go (kind all u there plain)
-        where
-          go : Kind all u → IsIn u (piece_task x ∷ i.tasks)
-          go (piece n c at act lt) =
-              ⊎_elim
-              (λ same. let e = names_same (u.node, u.index) x same in inl (same_task u (piece_task x) (ap (λ (z : Name). z.0) e) (ap (λ (z : Name). z.1) e)))
-              (λ ran. inr (piece_in known s did i u n c there at act ran))
-              (or_cases (same_name (u.node, u.index) x) (is_done s.done (u.node, u.index)) (turned (happened_is all (ran s x) u n at (Runs c) act) h))
-          go (hosts n y at act first) = inr ((i.happened u there plain).1 (turned (sym (happened_is all s u n at (Hosts y) act)) (turned (happened_is all (ran s x) u n at (Hosts y) act) h)))
+        backward : IsTrue (has_happened all (ran s x) u) → (u ≡ piece_task x) ⊎ IsTrue (has_happened all s u)
+        backward h = go (kind all u there plain)
+          where
+            go : Kind all u → (u ≡ piece_task x) ⊎ IsTrue (has_happened all s u)
+            go (piece n c at act lt) =
+                ⊎_elim
+                (λ same. let e = names_same (u.node, u.index) x same in inl (same_task u (piece_task x) (ap (λ (z : Name). z.0) e) (ap (λ (z : Name). z.1) e)))
+                (λ ran. inr (turned (sym (happened_is all s u n at (Runs c) act)) ran))
+                (or_cases (same_name (u.node, u.index) x) (is_done s.done (u.node, u.index)) (turned (happened_is all (ran s x) u n at (Runs c) act) h))
+            go (hosts n y at act first) = inr (turned (sym (happened_is all s u n at (Hosts y) act)) (turned (happened_is all (ran s x) u n at (Hosts y) act) h))
+
+    run_step : AtPoint known (ran s x) (piece_task x ∷ did)
+    run_step = settle known (ran s x) (piece_task x ∷ did) (record { gone = i.placed.gone; split = i.placed.split; count = i.placed.count; front = i.placed.front })
+        (piece_task x ∷ i.tasks) (piece_may known s did i x o, i.allowed)
+        (with_task s (ran s x) (piece_task x) i.tasks i.happened ran_happened) (rw piece_plain (ap (λ (us : List Task). piece_task x ∷ us) i.order))
 
   parts_step : (s : Stage) (did : List Task) (parts : ℕ) (copied : List ℕ) → AtPoint known s did → AtPoint known (record s { parts = parts; copied = copied }) did
   parts_step s did parts copied i = record {

@@ -1,0 +1,10 @@
+pub mod Touches
+pub mod NodesHappened
+pub mod LastWriters
+pub mod HostCaches
+pub mod Happening
+pub mod EventsInTurn
+pub mod EntryCells
+pub mod HostEntries
+pub mod CachedPieces
+pub mod CachedSteps

@@ -1,0 +1,45 @@
+-- The runs of the definitions through caches as runs of the machine.
+use Rattle.std.specs.Prelude.{◌≡◌, ℕ, List, ◌∷◌, Some, None, IsTrue, false, ◌↔◌}
+use Rattle.vk_model.specs.declared.entry.Entry.{Entry}
+use Rattle.vk_model.specs.World.Bytes.{Byte}
+use Rattle.vk_model.specs.Trace.Point.{Past}
+use Rattle.vk_model.specs.Trace.Order.{order}
+use Rattle.vk_model.specs.Rules.Table.{first_fault}
+use Rattle.vk_model.specs.Run.Runs.{may_go}
+use Rattle.vk_model.specs.Run.Caches.{view}
+use Rattle.vk_model.specs.Run.CachedRuns.{CachedStep, CachedStage, CachedAllowed, cached_start, after_atoms}
+use Rattle.vk_laws.specs.Machine.{Task, IsIn, MayRun, Reads}
+use Rattle.vk_laws.specs.Caches.{Reached}
+use Rattle.vk_laws.specs.Discards.{with_discards}
+use Rattle.vk_laws.specs.TraceBytes.{value_before}
+use Rattle.vk_laws.specs.TraceCaches.{caching_of}
+use Rattle.vk_laws.specs.DefinedRuns.{is_event, entry_task, has_happened, MayCome}
+
+-- A run of a trace through caches, from memory that holds these values, to a stage that the definitions allow.
+abbrev pub CachedRunOf : List Entry → (Byte → ℕ) → List CachedStep → CachedStage → Type 0
+CachedRunOf t region steps e = CachedAllowed (cached_start t region) steps e
+
+-- Tasks with which the machine has reached the bytes of a stage: the pieces that have run, the entries that have been applied, and what has happened with them; what may come next at the stage may come next in the machine.
+pub record HasReached (all : Past) (s : CachedStage) (done : List Task) : Type 0 where
+  pub reached : Reached (with_discards all) (caching_of all) done s.cells
+  pub happened : (u : Task) → IsTrue ((with_discards all).has u) → is_event all u ≡ false → IsIn u done ↔ IsTrue (has_happened all s.stage u)
+  pub next : (u : Task) → MayCome s.stage u → MayRun (with_discards all) done u
+
+-- Each allowed run through caches of a trace without a fault has reached its bytes in the machine (Vulkan, "Execution and Memory Dependencies").
+abbrev pub CachedRunsAreReached : Type 0
+CachedRunsAreReached =
+    (t : List Entry) (region : Byte → ℕ) (steps : List CachedStep) (e : CachedStage) → CachedRunOf t region steps e → first_fault t ≡ None
+    → (done : List Task) × HasReached (order t) e done
+
+-- So a piece or host entry that may come next sees, through the cache of its queue or of the host, the model's value of each byte that it reads, where the model defines one.
+abbrev pub CachedRunsAreFresh : Type 0
+CachedRunsAreFresh =
+    (t : List Entry) (region : Byte → ℕ) (steps : List CachedStep) (e : CachedStage) (next : Task) (c : Byte) (v : ℕ) → CachedRunOf t region steps e → first_fault t ≡ None → MayCome e.stage next
+    → Reads (with_discards (order t)) next c → value_before (order t) next.node c ≡ Some v → view ((caching_of (order t)).agent next) (e.cells c) ≡ v
+
+-- And the bytes that a host read sees, whichever atoms its cache takes up or gives back just before, are what the trace means, each of them defined.
+abbrev pub CachedHostReads : Type 0
+CachedHostReads =
+    (t : List Entry) (region : Byte → ℕ) (steps : List CachedStep) (e : CachedStage) (x : Entry) (xs : List Entry) (atoms : List ℕ) (c : Byte) → CachedRunOf t region steps e → first_fault t ≡ None
+    → e.stage.left ≡ x ∷ xs → IsTrue (may_go e.stage x) → Reads (with_discards (order t)) (entry_task e.stage) c
+    → value_before (order t) (entry_task e.stage).node c ≡ Some (view 0 (after_atoms x atoms e.cells c))
