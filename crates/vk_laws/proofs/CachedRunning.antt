@@ -8,3 +8,4 @@ pub mod EntryCells
 pub mod HostEntries
 pub mod CachedPieces
 pub mod CachedSteps
+pub mod CachedEnd

@@ -1,23 +1,34 @@
 -- The runs of the definitions through caches as runs of the machine.
-use Rattle.std.specs.Prelude.{◌≡◌, ℕ, List, ◌∷◌, Some, None, IsTrue, false, ◌↔◌}
+use Rattle.std.specs.Prelude.{◌≡◌, ◌⊎◌, ℕ, List, [], ◌∷◌, Some, None, IsTrue, false, ◌↔◌}
 use Rattle.vk_model.specs.declared.entry.Entry.{Entry}
 use Rattle.vk_model.specs.World.Bytes.{Byte}
 use Rattle.vk_model.specs.Trace.Point.{Past}
 use Rattle.vk_model.specs.Trace.Order.{order}
 use Rattle.vk_model.specs.Rules.Table.{first_fault}
-use Rattle.vk_model.specs.Run.Runs.{may_go}
-use Rattle.vk_model.specs.Run.Caches.{view}
-use Rattle.vk_model.specs.Run.CachedRuns.{CachedStep, CachedStage, CachedAllowed, cached_start, after_atoms}
+use Rattle.vk_model.specs.World.Effect.{world}
+use Rattle.vk_model.specs.Run.Runs.{Step, may_go}
+use Rattle.vk_model.specs.Run.Caches.{Dirty, view}
+use Rattle.vk_model.specs.Run.CachedRuns.{CachedStep, Does, Touches, CachedStage, CachedAllowed, cached_start, after_atoms}
 use Rattle.vk_laws.specs.Machine.{Task, IsIn, MayRun, Reads}
 use Rattle.vk_laws.specs.Caches.{Reached}
 use Rattle.vk_laws.specs.Discards.{with_discards}
 use Rattle.vk_laws.specs.TraceBytes.{value_before}
 use Rattle.vk_laws.specs.TraceCaches.{caching_of}
-use Rattle.vk_laws.specs.DefinedRuns.{is_event, entry_task, has_happened, MayCome}
+use Rattle.vk_laws.specs.DefinedRuns.{is_event, entry_task, has_happened, MayCome, RunOf, IsOver}
 
 -- A run of a trace through caches, from memory that holds these values, to a stage that the definitions allow.
 abbrev pub CachedRunOf : List Entry → (Byte → ℕ) → List CachedStep → CachedStage → Type 0
 CachedRunOf t region steps e = CachedAllowed (cached_start t region) steps e
+
+-- Its steps without what the caches do.
+abbrev pub steps_of : List CachedStep → List Step
+steps_of [] = []
+steps_of (Does step moved ∷ steps) = step ∷ steps_of steps
+steps_of (Touches touch queue test ∷ steps) = steps_of steps
+
+-- Each allowed run through caches is, without them, an allowed run: so what is known of those its stage has.
+abbrev pub CachedRunsAreRuns : Type 0
+CachedRunsAreRuns = (t : List Entry) (region : Byte → ℕ) (steps : List CachedStep) (e : CachedStage) → CachedRunOf t region steps e → RunOf t (steps_of steps) e.stage
 
 -- Tasks with which the machine has reached the bytes of a stage: the pieces that have run, the entries that have been applied, and what has happened with them; what may come next at the stage may come next in the machine.
 pub record HasReached (all : Past) (s : CachedStage) (done : List Task) : Type 0 where
@@ -43,3 +54,9 @@ CachedHostReads =
     (t : List Entry) (region : Byte → ℕ) (steps : List CachedStep) (e : CachedStage) (x : Entry) (xs : List Entry) (atoms : List ℕ) (c : Byte) → CachedRunOf t region steps e → first_fault t ≡ None
     → e.stage.left ≡ x ∷ xs → IsTrue (may_go e.stage x) → Reads (with_discards (order t)) (entry_task e.stage) c
     → value_before (order t) (entry_task e.stage).node c ≡ Some (view 0 (after_atoms x atoms e.cells c))
+
+-- Where nothing may come next, each byte has the value that the trace leaves in it, where the model defines one: in memory, or still dirty in a cache.
+abbrev pub CachedRunsMeanTheTrace : Type 0
+CachedRunsMeanTheTrace =
+    (t : List Entry) (region : Byte → ℕ) (steps : List CachedStep) (e : CachedStage) (c : Byte) (v : ℕ) → CachedRunOf t region steps e → first_fault t ≡ None → IsOver e.stage → (world (order t)).value c ≡ Some v
+    → ((e.cells c).region ≡ v) ⊎ (a : ℕ) × ((e.cells c).held a ≡ Some (Dirty v))

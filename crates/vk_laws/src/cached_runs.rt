@@ -1,16 +1,21 @@
 //! The allowed runs of the definitions through caches are runs of the machine, so the law speaks of them.
-ghost use Rattle.vk_laws.specs.CachedRuns.{CachedHostReads, CachedRunsAreFresh, CachedRunsAreReached};
+ghost use Rattle.vk_laws.specs.CachedRuns.{CachedHostReads, CachedRunsAreFresh, CachedRunsAreReached, CachedRunsAreRuns, CachedRunsMeanTheTrace};
 
-use crate::tasks::{cached_trace_is_fresh, discards_keep_premises, host_reads_the_meaning};
+use crate::tasks::{
+    cached_trace_is_fresh, discards_keep_premises, host_reads_the_meaning, trace_is_cache_free,
+};
+use crate::trace_runs::defined_runs_end;
 use vk_model::{
     before_is_order, before_is_path, growth_keeps, no_fault_is_sound, order_is_structured,
     pieces_are_byte_writes,
 };
 
-/// Each run of a trace without a fault through caches that the definitions allow has reached its bytes in
-/// the machine: so all that the law says of reached bytes it says of them.
+/// Each run through caches that the definitions allow is a run without them (`runs`). And if the trace has
+/// no fault it has reached its bytes in the machine (`reached`): all that the law says of reached bytes it
+/// says of them.
 pub fn cached_runs_are_reached()
-    ensures { CachedRunsAreReached }
+    ensures runs { CachedRunsAreRuns }
+    ensures reached { CachedRunsAreReached }
 {
     no_fault_is_sound();
     growth_keeps();
@@ -35,5 +40,18 @@ pub fn cached_runs_are_fresh()
     order_is_structured();
     cached_trace_is_fresh();
     host_reads_the_meaning();
+    cached_runs_are_reached();
+}
+
+/// Where nothing may come next in such a run, each byte has the value that the trace leaves in it, where
+/// the model defines one: in memory, or still dirty in a cache.
+pub fn cached_runs_end()
+    ensures { CachedRunsMeanTheTrace }
+{
+    pieces_are_byte_writes();
+    order_is_structured();
+    discards_keep_premises();
+    trace_is_cache_free();
+    defined_runs_end();
     cached_runs_are_reached();
 }

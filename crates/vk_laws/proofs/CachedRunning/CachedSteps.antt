@@ -21,7 +21,7 @@ use Rattle.vk_laws.specs.Tasks.{node_at, accesses_of}
 use Rattle.vk_laws.specs.Discards.{with_discards}
 use Rattle.vk_laws.specs.TraceCaches.{caching_of}
 use Rattle.vk_laws.specs.DefinedRuns.{is_event, piece_task, entry_task, has_happened, MayCome, Offers, Enters}
-use Rattle.vk_laws.specs.CachedRuns.{HasReached}
+use Rattle.vk_laws.specs.CachedRuns.{steps_of, HasReached}
 use Rattle.vk_model.proofs.Lists.Members.{none_in, contains-cons}
 use Rattle.vk_model.proofs.Lists.Truths.{clash}
 use Rattle.vk_model.proofs.Sync.Numbers.{number_below, numbered}
@@ -242,13 +242,7 @@ module _ {t : List Entry} (known : Known t) (together : PiecesAreByteWrites) (fr
 
 -- ---- the run without its caches
 
-pub steps_of : List CachedStep → List Step
-steps_of [] = []
-steps_of (Does step moved ∷ steps) = step ∷ steps_of steps
-steps_of (Touches touch queue test ∷ steps) = steps_of steps
-
 pub plain_run : (steps : List CachedStep) (s e : CachedStage) → CachedAllowed s steps e → Allowed s.stage (steps_of steps) e.stage
-unfolding steps_of
 plain_run [] s e run = ap (λ (m : CachedStage). m.stage) run
 plain_run (Does step moved ∷ steps) s e run = (run.0.stage, run.1.0, plain_run steps run.0 e run.2)
 plain_run (Touches touch queue test ∷ steps) s e run = subst (λ (m : Stage). Allowed m (steps_of steps) e.stage) run.1.0 (plain_run steps run.0 e run.2)

@@ -88,7 +88,7 @@ module _ (all : Past) where
       go true h = absurd cc
       go false h = h
 
-  forgot_has : (u : Task) (c : Byte) (f : Forgot u c) → IsTrue ((accesses_of all).has u)
+  pub forgot_has : (u : Task) (c : Byte) (f : Forgot u c) → IsTrue ((accesses_of all).has u)
   forgot_has u c f = rw f.at (rw f.act (rw f.only refl))
 
   by_nodes : (s u : Task) (m n : Node) → node_at all s.node ≡ Some m → node_at all u.node ≡ Some n → IsTrue ((accesses_of all).has s) → IsTrue (before (nodes all) m n) → Precedes (accesses_of all) s u

@@ -15,7 +15,8 @@ use Rattle.vk_model.specs.Sync.Node.{Node, Act, Hosts, Waits, Signals, Runs, Dep
 use Rattle.vk_model.specs.Sync.Edge.{edge, is_host, is_submit, same_queue, by_host, by_stages, by_signal, by_all_commands, by_semaphore, pairs, signaled_by, waited_by, host_waits, earlier}
 use Rattle.vk_model.specs.Sync.Before.{before}
 use Rattle.vk_model.specs.Rules.Fault.{IsSound}
-use Rattle.vk_model.specs.Laws.{BeforeIsPath, BeforeIsTransitive, BeforeLeadsOn, GrowthKeeps}
+use Rattle.vk_model.specs.Rules.Table.{first_fault}
+use Rattle.vk_model.specs.Laws.{BeforeIsPath, BeforeIsTransitive, BeforeLeadsOn, GrowthKeeps, NoFaultIsSound}
 use Rattle.vk_model.specs.Run.Runs.{Name, same_name, is_done, node_pieces, is_free, Stage, is_host_wait}
 use Rattle.vk_laws.specs.Machine.{Task}
 use Rattle.vk_laws.specs.Trace.{accesses}
@@ -127,6 +128,9 @@ pub record Known (t : List Entry) : Type 0 where
   pub leads : BeforeLeadsOn
   pub keeps : GrowthKeeps
   pub sound : IsSound t
+
+pub known_of : BeforeIsPath → BeforeIsTransitive → BeforeLeadsOn → GrowthKeeps → NoFaultIsSound → (t : List Entry) → first_fault t ≡ None → Known t
+known_of paths joins leads keeps sound t none = record { paths = paths; joins = joins; leads = leads; keeps = keeps; sound = (sound t).0 none }
 
 module _ {t : List Entry} (known : Known t) where
   abbrev all : Past
