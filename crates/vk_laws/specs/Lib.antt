@@ -14,3 +14,4 @@ pub mod TraceRuns
 pub mod TraceExample
 pub mod DefinedRuns
 pub mod CachedRuns
+pub mod CachedExample

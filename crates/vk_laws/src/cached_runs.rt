@@ -1,4 +1,5 @@
 //! The allowed runs of the definitions through caches are runs of the machine, so the law speaks of them.
+ghost use Rattle.vk_laws.specs.CachedExample.{CachedRunsMeetPremises};
 ghost use Rattle.vk_laws.specs.CachedRuns.{CachedHostReads, CachedRunsAreFresh, CachedRunsAreReached, CachedRunsAreRuns, CachedRunsMeanTheTrace};
 
 use crate::tasks::{
@@ -55,3 +56,9 @@ pub fn cached_runs_end()
     defined_runs_end();
     cached_runs_are_reached();
 }
+
+/// There is a trace that breaks no rule, and a run of it through caches in which the host's cache holds an
+/// old copy of a byte until an invalidation; then a read may be applied, and sees what a fill wrote.
+pub fn cached_premises_can_be_met()
+    ensures { CachedRunsMeetPremises }
+{}

@@ -8,7 +8,9 @@ mod tasks;
 mod trace;
 mod trace_runs;
 
-pub use cached_runs::{cached_runs_are_fresh, cached_runs_are_reached, cached_runs_end};
+pub use cached_runs::{
+    cached_premises_can_be_met, cached_runs_are_fresh, cached_runs_are_reached, cached_runs_end,
+};
 pub use machine::{
     every_order, pieces_suffice, premises_can_be_met, runs_carry_over, whole_commands,
 };
