@@ -1,6 +1,6 @@
 //! The allowed runs of the definitions through caches are runs of the machine, so the law speaks of them.
 ghost use Rattle.vk_laws.specs.CachedExample.{CachedRunsMeetPremises};
-ghost use Rattle.vk_laws.specs.CachedRuns.{CachedHostReads, CachedRunsAreFresh, CachedRunsAreReached, CachedRunsAreRuns, CachedRunsMeanTheTrace};
+ghost use Rattle.vk_laws.specs.CachedRuns.{CachedHostReads, CachedRunsAreFresh, CachedRunsAreReached, CachedRunsAreRuns, CachedRunsAreWritten, CachedRunsMeanTheTrace};
 
 use crate::tasks::{
     cached_trace_is_fresh, discards_keep_premises, host_reads_the_meaning, trace_is_cache_free,
@@ -12,8 +12,8 @@ use vk_model::{
 };
 
 /// Each run through caches that the definitions allow is a run without them (`runs`). And if the trace has
-/// no fault it has reached its bytes in the machine (`reached`): all that the law says of reached bytes it
-/// says of them.
+/// no fault it has reached its bytes in the machine (`reached`), by the same pieces and entries in the same
+/// order, with events between its steps: all that the law says of reached bytes it says of them.
 pub fn cached_runs_are_reached()
     ensures runs { CachedRunsAreRuns }
     ensures reached { CachedRunsAreReached }
@@ -28,10 +28,12 @@ pub fn cached_runs_are_reached()
 
 /// In every run of a trace without a fault through caches that the definitions allow: a piece that is
 /// offered, or an entry that may be applied, sees the model's value of each byte that it reads, through the
-/// cache of its queue or of the host (`fresh`); and what a host read reads is what the trace means,
-/// whatever its cache takes up or gives back just before (`host_reads`).
+/// cache of its queue or of the host (`fresh`); what was written last is the model's to the queue or host
+/// that wrote it (`written`); and what a host read reads is what the trace means, whatever its cache takes
+/// up or gives back just before (`host_reads`).
 pub fn cached_runs_are_fresh()
     ensures fresh { CachedRunsAreFresh }
+    ensures written { CachedRunsAreWritten }
     ensures host_reads { CachedHostReads }
 {
     no_fault_is_sound();

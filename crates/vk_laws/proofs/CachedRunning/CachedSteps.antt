@@ -1,6 +1,7 @@
 -- Each step of a run through caches keeps tasks with which the machine has reached the bytes.
-use Rattle.std.proofs.Common.{◌≡◌, inl, inr, ⊎_elim, ℕ, ◌≤◌, List, [], ◌∷◌, length, Bool, true, false, IsTrue, Option, refl, ap, sym, subst, arith}
+use Rattle.std.proofs.Common.{◌≡◌, inl, inr, ⊎_elim, ℕ, ◌≤◌, List, [], ◌∷◌, length, Bool, true, false, not, IsTrue, Option, refl, ap, sym, subst, arith}
 use Rattle.std.specs.Prelude.{⊤, if◌then◌else◌}
+use Rattle.std.specs.List.{filter}
 use Rattle.std.proofs.lemmas.Bool.{ltb-true, and_parts, or_right}
 use Rattle.vk_model.specs.declared.entry.Entry.{Entry}
 use Rattle.vk_model.specs.declared.entry.Entry.TheVariants as entry
@@ -10,7 +11,7 @@ use Rattle.vk_model.specs.Trace.Order.{host, order}
 use Rattle.vk_model.specs.Trace.Point.{Past}
 use Rattle.vk_model.specs.Run.Caches.{Cell, queue_agent}
 use Rattle.vk_model.specs.Run.Runs.{Name, same_name, is_done, Step, Apply, RunPiece, CopyPart, Stage, start, may_go, are_atoms, offered, entered, with_parts, past_with, Applies, Next, Allowed}
-use Rattle.vk_model.specs.Run.CachedRuns.{Cells, node_happened, after_atoms, after_host, after_next, after_step, after_nodes, Touch, WriteBack, Drop, Load, touched, CachedStep, Does, Touches, CachedStage, CachedNext, CachedAllowed, cached_start}
+use Rattle.vk_model.specs.Run.CachedRuns.{Cells, node_happened, after_atoms, after_host, after_next, after_step, after_nodes, Touch, WriteBack, Drop, Load, touched, CachedStep, Does, Touches, CachedStage, CachedAllowed, cached_start}
 use Rattle.vk_model.specs.Sync.Node.{Node, Hosts, Runs, nodes}
 use Rattle.vk_model.specs.Sync.Edge.{is_host}
 use Rattle.vk_model.specs.Basics.{holds}
@@ -20,8 +21,8 @@ use Rattle.vk_laws.specs.Caches.{Caching, Reached, Start}
 use Rattle.vk_laws.specs.Tasks.{node_at, accesses_of}
 use Rattle.vk_laws.specs.Discards.{with_discards}
 use Rattle.vk_laws.specs.TraceCaches.{caching_of}
-use Rattle.vk_laws.specs.DefinedRuns.{is_event, piece_task, entry_task, has_happened, MayCome, Offers, Enters}
-use Rattle.vk_laws.specs.CachedRuns.{steps_of, HasReached}
+use Rattle.vk_laws.specs.DefinedRuns.{is_event, piece_task, entry_task, with_step, has_happened, MayCome, Offers, Enters}
+use Rattle.vk_laws.specs.CachedRuns.{steps_of, done_through, HasReached}
 use Rattle.vk_model.proofs.Lists.Members.{none_in, contains-cons}
 use Rattle.vk_model.proofs.Lists.Truths.{clash}
 use Rattle.vk_model.proofs.Sync.Numbers.{number_below, numbered}
@@ -52,37 +53,37 @@ module _ {t : List Entry} (known : Known t) (together : PiecesAreByteWrites) (fr
   ca = caching_of all
 
   -- tasks with which the machine has reached the bytes of a stage
-  pub record AtCached (s : Stage) (cells : Cells) : Type 0 where
-    pub did : List Task
+  pub record AtCached (s : Stage) (did : List Task) (cells : Cells) : Type 0 where
     pub at : AtPoint known s did
     pub done : List Task
     pub reached : Reached tr ca done cells
     pub plain : Plain known s done
+    pub order : filter (λ u. not (is_event all u)) done ≡ did
     pub events : Events known s done
     pub named : Named known s
     pub last : Last all s.done done
     pub host : HostOk known s.front.past cells
 
-  finish : (s : Stage) (did : List Task) (at : AtPoint known s did) (named : Named known s) (cells : Cells) → Whole known s at.placed named cells → AtCached s cells
+  finish : (s : Stage) (did : List Task) (at : AtPoint known s did) (named : Named known s) (cells : Cells) → Whole known s at.placed named did cells → AtCached s did cells
   finish s did at named cells whole = record {
-    did = did;
     at = at;
     done = whole.done;
     reached = whole.part.reached;
     plain = whole.part.plain;
+    order = whole.part.order;
     events = λ m cm kind. (λ h. ((whole.part.events m cm kind).0 h).0, λ h. (whole.part.events m cm kind).1 (h, λ c. none_in m c));
     named = named;
     last = whole.part.last;
     host = whole.part.host;
   }
 
-  cached_begins : (region : Byte → ℕ) → AtCached (start t) (cached_start t region).cells
+  cached_begins : (region : Byte → ℕ) → AtCached (start t) [] (cached_start t region).cells
   cached_begins region = record {
-    did = [];
     at = begins known;
     done = [];
     reached = Start _ (λ c a. refl);
     plain = λ u there own. (λ h. absurd h, λ h. nothing u h (kind all u there own));
+    order = refl;
     events = λ n cn kind. (λ h. absurd h, λ h. let lt = ltb-true n.number 0 (and_parts _ _ h).0 in omega (arith, lt));
     named = λ y c. absurd (none_in y c);
     last = last_start all;
@@ -93,19 +94,19 @@ module _ {t : List Entry} (known : Known t) (together : PiecesAreByteWrites) (fr
       nothing u h (piece n c at act lt) = let no = turned (happened_is all (start t) u n at (Runs c) act) h in cc
       nothing u h (hosts n x at act first) = let lt = ltb-true n.point.entry 0 (turned (happened_is all (start t) u n at (Hosts x) act) h) in omega (arith, lt)
 
-  module _ (s : Stage) (cells : Cells) (i : AtCached s cells) where
+  module _ (s : Stage) (did : List Task) (cells : Cells) (i : AtCached s did cells) where
     -- what may come next at the stage may come next in the machine
     next_may : (u : Task) → MayCome s u → MayRun (accesses_of all) i.done u
-    next_may u may = by_kind u may (comes_next known s i.did i.at u may)
+    next_may u may = by_kind u may (comes_next known s did i.at u may)
       where
         by_kind : (u : Task) → MayCome s u → MayRun (accesses_of all) i.at.tasks u → MayRun (accesses_of all) i.done u
         by_kind _ (Offers y h) run =
-            let o = offered_of known s i.did i.at y h in
+            let o = offered_of known s did i.at y h in
             let small = number_below (nodes s.front.past) (numbered s.front.past) o.node o.present in
             let number = o.number in
-            may_come known s i.did i.at i.done i.plain i.events (piece_task y) o.node (offered_at known s i.did i.at y o) (piece_plain known s i.did i.at y o) (omega (arith, small, number)) run
+            may_come known s did i.at i.done i.plain i.events (piece_task y) o.node (offered_at known s did i.at y o) (piece_plain known s did i.at y o) (omega (arith, small, number)) run
         by_kind _ (Enters x xs left go) run =
-            may_come known s i.did i.at i.done i.plain i.events (entry_task s) (here known s i.did i.at x xs left) (here_at known s i.did i.at x xs left) (entry_plain known s i.did i.at x xs left) (omega arith) run
+            may_come known s did i.at i.done i.plain i.events (entry_task s) (here known s did i.at x xs left) (here_at known s did i.at x xs left) (entry_plain known s did i.at x xs left) (omega arith) run
 
     pub has_reached : HasReached all (record { stage = s; cells = cells }) i.done
     has_reached = record { reached = i.reached; happened = i.plain; next = λ u may. may_too all i.done u (next_may u may) }
@@ -133,56 +134,58 @@ module _ {t : List Entry} (known : Known t) (together : PiecesAreByteWrites) (fr
       further : length (nodes s.front.past) ≤ length (nodes (past_with s x))
       further = subst (λ (l : Past). length (nodes s.front.past) ≤ length (nodes l)) (sym grown.whole) (more_nodes grown.newer s.front.past)
 
-      at_entered : (atoms : List ℕ) → IsTrue (may_go s x) → IsTrue (are_atoms s.front.past x atoms) → (moved : List ℕ) (did : List Task) → AtPoint known then_stage did
-          → AtCached then_stage (after_nodes s then_stage (λ c. after_host s.front.past moved x c (after_atoms x atoms cells c)))
-      at_entered atoms may are moved did at' = finish then_stage did at' named' _
-          (all_happen known then_stage at'.placed named' s i.at.placed further (λ y h. h) (entry_task s ∷ i.done) (λ c. after_host s.front.past moved x c (after_atoms x atoms cells c))
-          (entry_done known together s i.did i.at x xs left free i.done i.plain (allowed tr ca i.done cells i.reached) moved (after_atoms x atoms cells) turned_ok (atoms_reached tr ca i.done cells i.reached x atoms) (next_may (entry_task s) (Enters x xs left may)))
-          (with_task known s then_stage (entry_task s) i.done i.plain (entered_happened known s i.did i.at x xs left))
-          (events_keep (entry_task s) (entry_plain known s i.did i.at x xs left))
-          (last_other all s.done i.done (entry_task s) (here known s i.did i.at x xs left) i.last (here_at known s i.did i.at x xs left) (λ y e. cc))
+      at_entered : (atoms : List ℕ) → IsTrue (may_go s x) → IsTrue (are_atoms s.front.past x atoms) → (moved : List ℕ) → AtPoint known then_stage (entry_task s ∷ did)
+          → AtCached then_stage (entry_task s ∷ did) (after_nodes s then_stage (λ c. after_host s.front.past moved x c (after_atoms x atoms cells c)))
+      at_entered atoms may are moved at' = finish then_stage (entry_task s ∷ did) at' named' _
+          (all_happen known then_stage at'.placed named' (entry_task s ∷ did) s i.at.placed further (λ y h. h) (entry_task s ∷ i.done) (λ c. after_host s.front.past moved x c (after_atoms x atoms cells c))
+          (entry_done known together s did i.at x xs left free i.done i.plain (allowed tr ca i.done cells i.reached) moved (after_atoms x atoms cells) turned_ok (atoms_reached tr ca i.done cells i.reached x atoms) (next_may (entry_task s) (Enters x xs left may)))
+          (with_task known s then_stage (entry_task s) i.done i.plain (entered_happened known s did i.at x xs left))
+          (rw (entry_plain known s did i.at x xs left) (ap (λ (us : List Task). entry_task s ∷ us) i.order))
+          (events_keep (entry_task s) (entry_plain known s did i.at x xs left))
+          (last_other all s.done i.done (entry_task s) (here known s did i.at x xs left) i.last (here_at known s did i.at x xs left) (λ y e. cc))
           (host_batches known (host s.count x ∷ s.front.past) (past_with s x) _ batches
-          (λ c. entry_ok known s.front.past moved c (after_atoms x atoms cells c) (turned_ok c) s.count x (λ b o bytes v is w. stays known together s i.did i.at x xs left c b o bytes v is w))))
+          (λ c. entry_ok known s.front.past moved c (after_atoms x atoms cells c) (turned_ok c) s.count x (λ b o bytes v is w. stays known together s did i.at x xs left c b o bytes v is w))))
         where
           turned_ok : HostOk known s.front.past (after_atoms x atoms cells)
-          turned_ok = atoms_ok known _ s.front.past (grows known s i.did i.at) x atoms are cells i.host
+          turned_ok = atoms_ok known _ s.front.past (grows known s did i.at) x atoms are cells i.host
 
           named' : Named known then_stage
           named' y c = named_later known _ s.front.past (past_with s x) grown y (i.named y c)
 
     -- ---- a piece runs
 
-    at_ran : (y : Name) → IsTrue (is_done (offered s.front.past s.done) y) → (moved : List ℕ) (did : List Task) → AtPoint known (ran known s y) did
-        → AtCached (ran known s y) (after_nodes s (ran known s y) (after_step s (RunPiece y) moved cells))
-    at_ran y h moved did at' = finish (ran known s y) did at' named' _
-        (all_happen known (ran known s y) at'.placed named' s i.at.placed (omega arith) (λ z g. or_right (same_name z y) (is_done s.done z) g) (piece_task y ∷ i.done) (after_step s (RunPiece y) moved cells)
-        (piece_done known s i.did i.at y o i.done cells i.reached (next_may (piece_task y) (Offers y h)))
-        (with_task known s (ran known s y) (piece_task y) i.done i.plain (ran_happened known s i.did i.at y o))
-        (events_keep (piece_task y) (piece_plain known s i.did i.at y o))
-        (last_piece all s.done i.done y o.node o.command i.last (offered_at known s i.did i.at y o) o.act)
-        (piece_host known s i.did i.at y o cells i.host))
+    at_ran : (y : Name) → IsTrue (is_done (offered s.front.past s.done) y) → (moved : List ℕ) → AtPoint known (ran known s y) (piece_task y ∷ did)
+        → AtCached (ran known s y) (piece_task y ∷ did) (after_nodes s (ran known s y) (after_step s (RunPiece y) moved cells))
+    at_ran y h moved at' = finish (ran known s y) (piece_task y ∷ did) at' named' _
+        (all_happen known (ran known s y) at'.placed named' (piece_task y ∷ did) s i.at.placed (omega arith) (λ z g. or_right (same_name z y) (is_done s.done z) g) (piece_task y ∷ i.done) (after_step s (RunPiece y) moved cells)
+        (piece_done known s did i.at y o i.done cells i.reached (next_may (piece_task y) (Offers y h)))
+        (with_task known s (ran known s y) (piece_task y) i.done i.plain (ran_happened known s did i.at y o))
+        (rw (piece_plain known s did i.at y o) (ap (λ (us : List Task). piece_task y ∷ us) i.order))
+        (events_keep (piece_task y) (piece_plain known s did i.at y o))
+        (last_piece all s.done i.done y o.node o.command i.last (offered_at known s did i.at y o) o.act)
+        (piece_host known s did i.at y o cells i.host))
       where
-        o : Offered known s i.did i.at y
-        o = offered_of known s i.did i.at y h
+        o : Offered known s did i.at y
+        o = offered_of known s did i.at y h
 
         named' : Named known (ran known s y)
-        named' z c = ⊎_elim (λ same. subst (λ (w : Name). IsNamed known s.front.past w) same (offered_named known s i.did i.at y o)) (λ old. i.named z old) (contains-cons y s.done z c)
+        named' z c = ⊎_elim (λ same. subst (λ (w : Name). IsNamed known s.front.past w) same (offered_named known s did i.at y o)) (λ old. i.named z old) (contains-cons y s.done z c)
 
     -- ---- a part of a pass is copied
 
-    at_part : (copied : List ℕ) (did : List Task) → AtPoint known (record s { copied = copied }) did → AtCached (record s { copied = copied }) (after_nodes s (record s { copied = copied }) cells)
-    at_part copied did at' = finish (record s { copied = copied }) did at' i.named _
-        (all_happen known (record s { copied = copied }) at'.placed i.named s i.at.placed (omega arith) (λ y h. h) i.done cells i.reached i.plain i.events i.last i.host)
+    at_part : (copied : List ℕ) → AtPoint known (record s { copied = copied }) did → AtCached (record s { copied = copied }) did (after_nodes s (record s { copied = copied }) cells)
+    at_part copied at' = finish (record s { copied = copied }) did at' i.named _
+        (all_happen known (record s { copied = copied }) at'.placed i.named did s i.at.placed (omega arith) (λ y h. h) i.done cells i.reached i.plain i.order i.events i.last i.host)
 
     -- ---- a queue's cache touches bytes
 
-    at_touched : (touch : Touch) (queue : ℕ) (test : Byte → Bool) → AtCached s (λ c. if test c then touched touch (queue_agent queue) (cells c) else cells c)
+    at_touched : (touch : Touch) (queue : ℕ) (test : Byte → Bool) → AtCached s did (λ c. if test c then touched touch (queue_agent queue) (cells c) else cells c)
     at_touched touch queue test = record {
-      did = i.did;
       at = i.at;
       done = i.done;
       reached = where_told tr ca i.done cells i.reached test (touched touch (queue_agent queue)) (any_touches touch (queue_agent queue));
       plain = i.plain;
+      order = i.order;
       events = i.events;
       named = i.named;
       last = i.last;
@@ -200,45 +203,46 @@ module _ {t : List Entry} (known : Known t) (together : PiecesAreByteWrites) (fr
 
     -- ---- any step
 
-    applied_at : (x : Entry) (xs : List Entry) → s.left ≡ x ∷ xs → (atoms : List ℕ) (parts : ℕ) → IsTrue (may_go s x) → IsTrue (are_atoms s.front.past x atoms) → (moved : List ℕ) (did : List Task) → AtPoint known (with_parts parts x (entered s x xs)) did
-        → AtCached (with_parts parts x (entered s x xs)) (after_nodes s (with_parts parts x (entered s x xs)) (λ c. after_host s.front.past moved x c (after_atoms x atoms cells c)))
-    applied_at (entry.Pass d) xs left atoms parts may are moved did at' = at_entered (entry.Pass d) xs left parts [] atoms may are moved did at'
-    applied_at (entry.EndPass d kept lost) xs left atoms parts may are moved did at' = at_entered (entry.EndPass d kept lost) xs left 0 [] atoms may are moved did at'
-    applied_at x xs left atoms parts may are moved did at' = at_entered x xs left s.parts s.copied atoms may are moved did at'
+    applied_at : (x : Entry) (xs : List Entry) → s.left ≡ x ∷ xs → (atoms : List ℕ) (parts : ℕ) → IsTrue (may_go s x) → IsTrue (are_atoms s.front.past x atoms) → (moved : List ℕ) → AtPoint known (with_parts parts x (entered s x xs)) (entry_task s ∷ did)
+        → AtCached (with_parts parts x (entered s x xs)) (entry_task s ∷ did) (after_nodes s (with_parts parts x (entered s x xs)) (λ c. after_host s.front.past moved x c (after_atoms x atoms cells c)))
+    applied_at (entry.Pass d) xs left atoms parts may are moved at' = at_entered (entry.Pass d) xs left parts [] atoms may are moved at'
+    applied_at (entry.EndPass d kept lost) xs left atoms parts may are moved at' = at_entered (entry.EndPass d kept lost) xs left 0 [] atoms may are moved at'
+    applied_at x xs left atoms parts may are moved at' = at_entered x xs left s.parts s.copied atoms may are moved at'
 
-    does : (step : Step) (moved : List ℕ) (e : Stage) → Next s step e → AtCached e (after_nodes s e (after_step s step moved cells))
+    does : (step : Step) (moved : List ℕ) (e : Stage) → Next s step e → AtCached e (with_step s step did) (after_nodes s e (after_step s step moved cells))
     does (Apply atoms parts) moved e next = go s.left refl next
       where
-        go : (left : List Entry) → s.left ≡ left → Applies s atoms parts left e → AtCached e (after_nodes s e (after_next s atoms moved left cells))
+        go : (left : List Entry) → s.left ≡ left → Applies s atoms parts left e → AtCached e (entry_task s ∷ did) (after_nodes s e (after_next s atoms moved left cells))
         go [] left next = absurd next
         go (x ∷ xs) left next =
             let e' : Stage = with_parts parts x (entered s x xs) in
             let goes : Next s (Apply atoms parts) e' = subst (λ (l : List Entry). Applies s atoms parts l e') (sym left) (next.0, next.1, refl) in
-            subst (λ (m : Stage). AtCached m (after_nodes s m (λ c. after_host s.front.past moved x c (after_atoms x atoms cells c)))) (sym next.2)
-            (applied_at x xs left atoms parts next.0 next.1 moved _ (all_steps known (Apply atoms parts ∷ []) s i.did i.at e' (e', goes, refl)))
+            subst (λ (m : Stage). AtCached m (entry_task s ∷ did) (after_nodes s m (λ c. after_host s.front.past moved x c (after_atoms x atoms cells c)))) (sym next.2)
+            (applied_at x xs left atoms parts next.0 next.1 moved (all_steps known (Apply atoms parts ∷ []) s did i.at e' (e', goes, refl)))
     does (RunPiece y) moved e next =
         let e' : Stage = ran known s y in
-        subst (λ (m : Stage). AtCached m (after_nodes s m (after_step s (RunPiece y) moved cells))) (sym next.1)
-        (at_ran y next.0 moved _ (all_steps known (RunPiece y ∷ []) s i.did i.at e' (e', (next.0, refl), refl)))
+        subst (λ (m : Stage). AtCached m (piece_task y ∷ did) (after_nodes s m (after_step s (RunPiece y) moved cells))) (sym next.1)
+        (at_ran y next.0 moved (all_steps known (RunPiece y ∷ []) s did i.at e' (e', (next.0, refl), refl)))
     does (CopyPart k) moved e next =
         let e' : Stage = record s { copied = k ∷ s.copied } in
-        subst (λ (m : Stage). AtCached m (after_nodes s m cells)) (sym next.1)
-        (at_part (k ∷ s.copied) _ (all_steps known (CopyPart k ∷ []) s i.did i.at e' (e', (next.0, refl), refl)))
+        subst (λ (m : Stage). AtCached m did (after_nodes s m cells)) (sym next.1)
+        (at_part (k ∷ s.copied) (all_steps known (CopyPart k ∷ []) s did i.at e' (e', (next.0, refl), refl)))
 
-  cached_step : (s : CachedStage) → AtCached s.stage s.cells → (step : CachedStep) (e : CachedStage) → CachedNext s step e → AtCached e.stage e.cells
-  cached_step s i (Does step moved) e next = subst (λ (cs : Cells). AtCached e.stage cs) (sym next.1) (does s.stage s.cells i step moved e.stage next.0)
-  cached_step s i (Touches touch queue test) e next =
-      subst (λ (cs : Cells). AtCached e.stage cs) (sym next.1) (subst (λ (m : Stage). AtCached m (λ c. if test c then touched touch (queue_agent queue) (s.cells c) else s.cells c)) (sym next.0) (at_touched s.stage s.cells i touch queue test))
+  cached_steps : (steps : List CachedStep) (s : CachedStage) (did : List Task) → AtCached s.stage did s.cells → (e : CachedStage) (run : CachedAllowed s steps e) → AtCached e.stage (done_through s steps e run did) e.cells
+  cached_steps [] s did i e run = subst (λ (m : CachedStage). AtCached m.stage did m.cells) (sym run) i
+  cached_steps (Does step moved ∷ steps) s did i e run = cached_steps steps run.0 (with_step s.stage step did)
+      (subst (λ (cs : Cells). AtCached run.0.stage (with_step s.stage step did) cs) (sym run.1.1) (does s.stage did s.cells i step moved run.0.stage run.1.0)) e run.2
+  cached_steps (Touches touch queue test ∷ steps) s did i e run = cached_steps steps run.0 did
+      (subst (λ (cs : Cells). AtCached run.0.stage did cs) (sym run.1.1)
+      (subst (λ (m : Stage). AtCached m did (λ c. if test c then touched touch (queue_agent queue) (s.cells c) else s.cells c)) (sym run.1.0) (at_touched s.stage did s.cells i touch queue test))) e run.2
 
-  cached_steps : (steps : List CachedStep) (s : CachedStage) → AtCached s.stage s.cells → (e : CachedStage) → CachedAllowed s steps e → AtCached e.stage e.cells
-  cached_steps [] s i e run = subst (λ (m : CachedStage). AtCached m.stage m.cells) (sym run) i
-  cached_steps (step ∷ steps) s i e run = cached_steps steps run.0 (cached_step s i step run.0 run.1) e run.2
-
-  -- so each run through caches has reached its bytes
-  pub runs_reached : (region : Byte → ℕ) (steps : List CachedStep) (e : CachedStage) → CachedAllowed (cached_start t region) steps e → (done : List Task) × HasReached all e done
+  -- so each run through caches has reached its bytes, by its tasks in their order
+  pub runs_reached : (region : Byte → ℕ) (steps : List CachedStep) (e : CachedStage) (run : CachedAllowed (cached_start t region) steps e)
+      → (done : List Task) × HasReached all e done × (filter (λ u. not (is_event all u)) done ≡ done_through (cached_start t region) steps e run [])
   runs_reached region steps e run =
-      let i : AtCached e.stage e.cells = cached_steps steps (cached_start t region) (cached_begins region) e run in
-      (i.done, has_reached e.stage e.cells i)
+      let did : List Task = done_through (cached_start t region) steps e run [] in
+      let i : AtCached e.stage did e.cells = cached_steps steps (cached_start t region) [] (cached_begins region) e run in
+      (i.done, has_reached e.stage did e.cells i, i.order)
 
 -- ---- the run without its caches
 

@@ -1,7 +1,7 @@
 -- All dependencies, waits and signals that happen after a step are events of the machine, one after another.
 use Rattle.std.proofs.Common.{◌≡◌, inl, inr, ⊎_elim, ℕ, ◌<◌, ◌≤◌, List, [], ◌∷◌, length, Bool, true, false, ◌&&◌, not, IsTrue, refl, ap, sym, subst, arith, reverse}
 use Rattle.std.specs.Prelude.{Contains, ◌==◌, ◌↔◌}
-use Rattle.std.specs.List.{fold}
+use Rattle.std.specs.List.{filter, fold}
 use Rattle.std.proofs.lemmas.Bool.{eqb-true, eq-eqb, and_parts, and_from}
 use Rattle.std.proofs.lemmas.List.{reverse-append}
 use Rattle.std.proofs.lemmas.List.Sorted.{Contains-permutation, IsPermutation-reverse, IsPermutation-sym}
@@ -52,7 +52,7 @@ module _ {t : List Entry} (known : Known t) where
   abbrev pub Named : Stage → Type 0
   Named s = (y : Name) → Contains s.done y → IsNamed known s.front.past y
 
-  module _ (e : Stage) (p : Placed known.keeps t e) (named : Named e) where
+  module _ (e : Stage) (p : Placed known.keeps t e) (named : Named e) (did : List Task) where
     abbrev past : Past
     past = e.front.past
 
@@ -69,6 +69,7 @@ module _ {t : List Entry} (known : Known t) where
     pub record Part (xs : List Node) (done : List Task) (cells : Cells) : Type 0 where
       pub reached : Reached tr (caching_of all) done cells
       pub plain : Plain known e done
+      pub order : filter (λ u. not (is_event all u)) done ≡ did
       pub events : (m : Node) → Contains (nodes all) m → is_synchronization m.act ≡ true → IsIn (event_task m) done ↔ (IsTrue (node_happened e m) × (Contains xs m → ⊥))
       pub last : Last all e.done done
       pub host : HostOk known past cells
@@ -78,6 +79,7 @@ module _ {t : List Entry} (known : Known t) where
       reached = event_done known e p n due.present due.kind done cells named i.last i.host i.reached
           (event_may known e p done i.plain n here due.kind due.happened (λ h. ((i.events n here due.kind).0 h).1 (contains-head n xs)) earlier);
       plain = λ u there own. (λ h. (i.plain u there own).0 (older u own h), λ h. inr ((i.plain u there own).1 h));
+      order = let is : is_event all (event_task n) ≡ true = event_is known n here due.kind in rw is i.order;
       events = λ m cm kind. (forward m cm kind, λ h. backward m cm kind h.0 h.1 (m.number == n.number) refl);
       last = last_other all e.done done (event_task n) n i.last (event_at known n here) (no_run n.act due.kind);
       host = host_after known e p n due.present due.kind done cells named i.last i.host;
@@ -156,12 +158,13 @@ module _ {t : List Entry} (known : Known t) where
           filter_has test (reverse (nodes past)) n (Contains-permutation (nodes past) (reverse (nodes past)) n (IsPermutation-reverse (nodes past)) old)
           (and_from _ _ (and_from _ _ kind h) (ap not not_yet))
 
-      pub all_happen : (done : List Task) (cells : Cells) → Reached tr (caching_of all) done cells → Plain known e done → Events known s done → Last all e.done done → HostOk known past cells → Whole (after_nodes s e cells)
-      all_happen done cells reached plain events last host =
+      pub all_happen : (done : List Task) (cells : Cells) → Reached tr (caching_of all) done cells → Plain known e done → filter (λ u. not (is_event all u)) done ≡ did → Events known s done → Last all e.done done → HostOk known past cells → Whole (after_nodes s e cells)
+      all_happen done cells reached plain order events last host =
           all_parts (happening s e) done cells (each_from Due (happening s e) (λ n c. (parts_of n c).0)) (pairs_filter Rises test (reverse (nodes past)) (rising (nodes past) (numbered past)))
           (record {
             reached = reached;
             plain = plain;
+            order = order;
             events = λ m cm kind. (
               λ h. let was = (events m cm kind).0 h in (still m cm was, λ c. contradicted (node_happened s m) was (parts_of m c).1),
               λ h. (events m cm kind).1 (yet m cm kind h.0 h.1 (node_happened s m) refl),

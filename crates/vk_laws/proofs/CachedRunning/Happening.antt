@@ -32,9 +32,10 @@ use Rattle.vk_laws.proofs.Caching.TraceCaches.{on_queue, available_same, visible
 use Rattle.vk_laws.proofs.Running.Stages.{From, Placed, later}
 use Rattle.vk_laws.proofs.Running.StageTasks.{Known, node_in_all}
 use Rattle.vk_laws.proofs.Running.Runs.{may_too}
+use Rattle.vk_laws.proofs.Running.DefinedBytes.{silent_too}
 use Rattle.vk_laws.proofs.CachedRunning.Touches.{unchanged, back_touches, drop_touches, within_joins, back_within, drop_within, back_clean, drop_gone}
-use Rattle.vk_laws.proofs.CachedRunning.NodesHappened.{event_task, event_at}
-use Rattle.vk_laws.proofs.CachedRunning.LastWriters.{event_write, Last, IsNamed, writer_found}
+use Rattle.vk_laws.proofs.CachedRunning.NodesHappened.{event_task, event_at, event_is}
+use Rattle.vk_laws.proofs.CachedRunning.LastWriters.{Last, IsNamed, writer_found}
 use Rattle.vk_laws.proofs.CachedRunning.HostCaches.{HostByte, HostOk, byte_within}
 
 -- ---- kinds of nodes
@@ -256,4 +257,4 @@ module _ {t : List Entry} (known : Known t) where
           (Touch done half after (Touch done cells half r (λ c. back_touched (cells c) (makes_last_available past e.done n c))) (λ c. show_touched (half c) (makes_byte_visible past n c)))
           (may_too all done (event_task n) may)
           (record { written_back = λ c w u is h held. back_done c w u is h held; dropped = λ c b u h held. drop_done c b u h held })
-          (λ c. subst (λ (o : Option Put). CellRan o ((caching_of all).agent (event_task n)) after (after c) (after c)) (sym (event_write all (event_task n) n c (event_at known n here) kind)) (refl, λ b. refl))
+          (λ c. subst (λ (o : Option Put). CellRan o ((caching_of all).agent (event_task n)) after (after c) (after c)) (sym (silent_too all (event_task n) c (event_is known n here kind))) (refl, λ b. refl))

@@ -12,8 +12,8 @@ use Rattle.vk_model.specs.Trace.Order.{order}
 use Rattle.vk_model.specs.World.ByteWrites.{ByteWrite}
 use Rattle.vk_model.specs.Run.Pieces.{pieces}
 use Rattle.vk_model.specs.Run.Runs.{Name}
-use Rattle.vk_model.specs.Run.CachedRuns.{numbered, piece_of, named_piece, write_to, last_writer, is_synchronization}
-use Rattle.vk_model.specs.Sync.Node.{Node, Act, Hosts, Waits, Signals, Runs, Depends, nodes}
+use Rattle.vk_model.specs.Run.CachedRuns.{numbered, piece_of, named_piece, write_to, last_writer}
+use Rattle.vk_model.specs.Sync.Node.{Node, Act, Runs, nodes}
 use Rattle.vk_laws.specs.Machine.{Task, Put, Puts, TraceAccesses, newest, latest}
 use Rattle.vk_laws.specs.Tasks.{piece_writes, task_write, node_at, by_act}
 use Rattle.vk_laws.specs.Discards.{forgets, or_unknown, with_discards}
@@ -60,24 +60,6 @@ module _ (all : Past) where
       plain_write (piece_task y) n c at (run_quiet (piece_task y) n.act x act)
       ∙ ap (λ (a : Act). task_write all a y.1 c) act
       ∙ ap (λ (ms : List ByteWrite). option_map (λ m. Puts m.source) (write_to c ms)) (sym (piece_is all y n x at act))
-
-  -- an event writes nothing
-  pub event_write : (u : Task) (n : Node) (c : Byte) → node_at all u.node ≡ Some n → is_synchronization n.act ≡ true → tr.write_of u c ≡ None
-  event_write u n c at kind = plain_write u n c at (λ b. quiet n.act kind b) ∙ none n.act kind
-    where
-      quiet : (a : Act) → is_synchronization a ≡ true → (b : Byte) → forgets all u.node a b ≡ false
-      quiet (Runs x) e b = absurd cc
-      quiet (Hosts x) e b = absurd cc
-      quiet (Waits s) e b = refl
-      quiet (Signals s) e b = refl
-      quiet (Depends r d) e b = refl
-
-      none : (a : Act) → is_synchronization a ≡ true → task_write all a u.index c ≡ None
-      none (Runs x) e = absurd cc
-      none (Hosts x) e = absurd cc
-      none (Waits s) e = refl
-      none (Signals s) e = refl
-      none (Depends r d) e = refl
 
   abbrev pub writes_to : Byte → Name → Bool
   writes_to c y = holds (write_to c (named_piece all y)) (λ m. true)

@@ -7,12 +7,25 @@ use Rattle.vk_model.specs.World.ByteWrites.{Value, From}
 use Rattle.vk_model.specs.Trace.Point.{Past}
 use Rattle.vk_model.specs.Sync.Node.{Node, Act, Hosts, Waits, Signals, Runs, Depends}
 use Rattle.vk_model.specs.Laws.{PiecesAreByteWrites}
-use Rattle.std.specs.Prelude.{nat_lt}
+use Rattle.std.specs.Prelude.{nat_lt, ◌==◌}
+use Rattle.std.proofs.lemmas.Bool.{and_right}
+use Rattle.vk_laws.specs.Discards.{forgets, or_unknown, with_discards}
 use Rattle.vk_laws.specs.Machine.{Task, Put, Puts, Unknown, TraceAccesses, Writes, Reads, Conflict, newest, latest}
 use Rattle.vk_laws.specs.Trace.{accesses}
 use Rattle.vk_laws.specs.Tasks.{task_write, task_count, node_at, by_act, accesses_of}
 use Rattle.vk_laws.specs.DefinedRuns.{is_event, stored, bytes_after}
 use Rattle.vk_laws.proofs.Accesses.TaskAccesses.{Accessor, writer, reader}
+
+-- where some tasks write nothing, the last write is the same without them
+module _ (tr : TraceAccesses) (quiet : Task → Bool) (silent : (u : Task) (c : Byte) → quiet u ≡ true → tr.write_of u c ≡ None) where
+  pub latest_without : (c : Byte) (done : List Task) → latest tr c done ≡ latest tr c (filter (λ u. not (quiet u)) done)
+  latest_without c [] = refl
+  latest_without c (u ∷ done) = go (quiet u) refl (latest_without c done)
+    where
+      go : (b : Bool) → quiet u ≡ b → latest tr c done ≡ latest tr c (filter (λ u. not (quiet u)) done)
+          → newest (tr.write_of u c) u (latest tr c done) ≡ latest tr c (cond (not b) (u ∷ filter (λ u. not (quiet u)) done) (filter (λ u. not (quiet u)) done))
+      go true e rest = ap (λ (o : Option Put). newest o u (latest tr c done)) (silent u c e) ∙ rest
+      go false e rest = ap (newest (tr.write_of u c) u) rest
 
 module _ (all : Past) where
   abbrev tr : TraceAccesses
@@ -52,12 +65,26 @@ module _ (all : Past) where
       go false e rest = stored_same (tr.write_of u c) (bytes_after tr first done) (bytes_after tr first (without_events done)) rest c
 
   pub latest_same : (c : Byte) (done : List Task) → latest tr c done ≡ latest tr c (without_events done)
-  latest_same c [] = refl
-  latest_same c (u ∷ done) = go (is_event all u) refl (latest_same c done)
+  latest_same = latest_without tr (is_event all) silent
+
+  -- nor does one forget a byte
+  pub silent_too : (u : Task) (c : Byte) → is_event all u ≡ true → (with_discards all).write_of u c ≡ None
+  silent_too u c e =
+      ap (λ (b : Bool). or_unknown b (tr.write_of u c)) (and_right (u.index == 0) (by_act false (λ a. forgets all u.node a c) (node_at all u.node)) (go (node_at all u.node) e)) ∙ silent u c e
     where
-      go : (b : Bool) → is_event all u ≡ b → latest tr c done ≡ latest tr c (without_events done) → newest (tr.write_of u c) u (latest tr c done) ≡ latest tr c (cond (not b) (u ∷ without_events done) (without_events done))
-      go true e rest = ap (λ (o : Option Put). newest o u (latest tr c done)) (silent u c e) ∙ rest
-      go false e rest = ap (newest (tr.write_of u c) u) rest
+      by_kind : (a : Act) → not (accesses a) ≡ true → forgets all u.node a c ≡ false
+      by_kind (Runs x) e = absurd cc
+      by_kind (Hosts x) e = absurd cc
+      by_kind (Waits s) e = refl
+      by_kind (Signals s) e = refl
+      by_kind (Depends r d) e = refl
+
+      go : (o : Option Node) → holds o (λ n. not (accesses n.act)) ≡ true → by_act false (λ a. forgets all u.node a c) o ≡ false
+      go None e = refl
+      go (Some n) e = by_kind n.act e
+
+  pub latest_too : (c : Byte) (done : List Task) → latest (with_discards all) c done ≡ latest (with_discards all) c (without_events done)
+  latest_too = latest_without (with_discards all) (is_event all) silent_too
 
   -- a task that accesses a byte is there, and no event
   module _ (and_from : PiecesAreByteWrites) where
