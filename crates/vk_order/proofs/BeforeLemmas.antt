@@ -13,7 +13,8 @@ use Rattle.vk_order.specs.declared.clocks.Tally.{Tally}
 use Rattle.vk_order.specs.declared.lines.Line.{Line}
 use Rattle.vk_order.specs.PointViews.{node_of, nodes_after}
 use Rattle.vk_order.specs.Lines.{line_of}
-use Rattle.vk_order.specs.Inner.Kept.{names, index_in, clock_at, IsKept}
+use Rattle.vk_order.specs.Inner.Kept.{names, clock_at, IsKept}
+use Rattle.vk_order.specs.Inner.Places.{index_in}
 use Rattle.std.proofs.lemmas.Option.{slice_get-get_or, get_or_from_slice_get}
 use Rattle.vk_model.proofs.Sync.Numbers.{number_below}
 use Rattle.vk_order.proofs.RowLemmas.{numbered_after, length-nodes_after}

@@ -30,13 +30,13 @@ join_front (y ∷ ys) ns numbers test clock join fails =
     join_front ys (node_of (length ns) y ∷ ns) (refl, numbers) test clock (join_stays ns test (node_of (length ns) y) clock (refl, numbers) join off)
     (λ j z e. let at : length (node_of (length ns) y ∷ ns) + j ≡ length ns + suc j = omega arith in ap (λ (i : ℕ). test (node_of i z)) at ∙ fails (suc j) z e)
 
-take_get : {A : Type 0} (i : ℕ) (xs : List A) (j : ℕ) (x : A) → slice_get (take i xs) j ≡ Some x → (j < i) × (slice_get xs j ≡ Some x)
+pub take_get : {A : Type 0} (i : ℕ) (xs : List A) (j : ℕ) (x : A) → slice_get (take i xs) j ≡ Some x → (j < i) × (slice_get xs j ≡ Some x)
 take_get zero xs j x e = absurd cc
 take_get (suc i) [] j x e = absurd cc
 take_get (suc i) (y ∷ xs) zero x e = (omega arith, e)
 take_get (suc i) (y ∷ xs) (suc j) x e = let r = take_get i xs j x e in (let lt = r.0 in omega arith, r.1)
 
-take_long : {A : Type 0} (i : ℕ) (xs : List A) → i ≤ length xs → length (take i xs) ≡ i
+pub take_long : {A : Type 0} (i : ℕ) (xs : List A) → i ≤ length xs → length (take i xs) ≡ i
 take_long zero xs le = refl
 take_long (suc i) [] le = absurd (omega arith)
 take_long (suc i) (y ∷ xs) le = let e = take_long i xs (omega arith) in omega arith

@@ -10,7 +10,8 @@ use Rattle.vk_order.specs.declared.lines.Line.{Line}
 use Rattle.vk_order.specs.PointViews.{nodes_after}
 use Rattle.vk_order.specs.Lines.{class_of}
 use Rattle.vk_order.specs.Inner.Clocks.{same_line, place}
-use Rattle.vk_order.specs.Inner.Kept.{names, index_in, tally_view, IsKeptJoin, IsTally, IsKept}
+use Rattle.vk_order.specs.Inner.Kept.{names, tally_view, IsKeptJoin, IsTally, IsKept}
+use Rattle.vk_order.specs.Inner.Places.{index_in}
 
 pub copy-step : (ts : List Tally) (k : ℕ) (d : Tally) (us : List Tally) (u : Tally) → k < length ts → tally_view u ≡ tally_view (get_or ts k d)
     → map tally_view (us ++ u ∷ []) ++ map tally_view (drop (k + 1) ts) ≡ map tally_view us ++ map tally_view (drop k ts)

@@ -21,7 +21,8 @@ use Rattle.vk_order.specs.PointViews.{nodes_after}
 use Rattle.vk_order.specs.Lines.{line_of, class_of}
 use Rattle.vk_order.specs.Inner.Leads.{is_of_sets}
 use Rattle.vk_order.specs.Inner.Clocks.{same_line, on_line, place, Clock, IsClock, IsJoin, joined, itself}
-use Rattle.vk_order.specs.Inner.Kept.{names, index_in, clock_at, IsStamp, IsKeptJoin, IsKept, IsOwn}
+use Rattle.vk_order.specs.Inner.Kept.{names, clock_at, IsStamp, IsKeptJoin, IsKept, IsOwn}
+use Rattle.vk_order.specs.Inner.Places.{index_in}
 use Rattle.vk_order.proofs.ClockLemmas.{line_itself, line_same, is_on, of_on, joins_meet, join_same}
 
 -- ---- equal clocks

@@ -21,3 +21,11 @@ mod CopyLemmas
 mod PointLemmas
 mod BeforeLemmas
 mod SetLemmas
+mod RowJoins
+mod FrontLemmas
+mod NameLemmas
+mod WaitLemmas
+mod OwnLemmas
+mod TallyLemmas
+mod SightLemmas
+mod FollowLemmas

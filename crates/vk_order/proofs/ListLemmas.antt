@@ -15,7 +15,8 @@ use Rattle.vk_order.specs.declared.lines.Line.{Line}
 use Rattle.vk_order.specs.PointViews.{node_of, nodes_after}
 use Rattle.vk_order.specs.Lines.{class_of}
 use Rattle.vk_order.specs.Inner.Clocks.{same_line, on_line, place}
-use Rattle.vk_order.specs.Inner.Kept.{names, index_in, clock_at, IsStamp, IsKeptJoin, IsTally, IsKept}
+use Rattle.vk_order.specs.Inner.Kept.{names, clock_at, IsStamp, IsKeptJoin, IsTally, IsKept}
+use Rattle.vk_order.specs.Inner.Places.{index_in}
 use Rattle.vk_order.proofs.ClockLemmas.{line_itself, line_same, of_on}
 use Rattle.vk_order.proofs.StampLemmas.{names_length}
 use Rattle.vk_order.proofs.KeptLemmas.{join_as, clock_as, join_none, same_kept, push_cases, line_class}
@@ -76,24 +77,24 @@ past : (clock : List ℕ) (i : ℕ) → length clock ≤ i → slice_index_or cl
 past clock i le = get_or_past clock i 0 le
 
 -- a clock that is short enough counts as before
-clock_push : (ls : List Line) (m : Line) (clock : List ℕ) → length clock ≤ length ls → (l : Line) → clock_at ls clock l ≡ clock_at (ls ++ m ∷ []) clock l
+pub clock_push : (ls : List Line) (m : Line) (clock : List ℕ) → length clock ≤ length ls → (l : Line) → clock_at ls clock l ≡ clock_at (ls ++ m ∷ []) clock l
 clock_push ls m clock short l = ⊎_elim
     (λ e. sym (ap (λ (o : Option ℕ). option_map_or (λ i. slice_index_or clock i 0) o 0) e))
     (λ r. rw (r.0, r.1) (sym (past clock (length ls) short)))
     (index_push ls m l)
 
-still_listed : (ls : List Line) (m l : Line) → IsTrue (is_some (index_in ls l)) → IsTrue (is_some (index_in (ls ++ m ∷ []) l))
+pub still_listed : (ls : List Line) (m l : Line) → IsTrue (is_some (index_in ls l)) → IsTrue (is_some (index_in (ls ++ m ∷ []) l))
 still_listed ls m l h = ⊎_elim (λ e. ap is_some e ∙ h) (λ r. ap is_some r.1) (index_push ls m l)
 
-index_same : (ls : List Line) (m l : Line) (i : ℕ) → index_in ls l ≡ Some i → index_in (ls ++ m ∷ []) l ≡ Some i
+pub index_same : (ls : List Line) (m l : Line) (i : ℕ) → index_in ls l ≡ Some i → index_in (ls ++ m ∷ []) l ≡ Some i
 index_same ls m l i h = ⊎_elim (λ e. e ∙ h) (λ r. absurd (let bad : None ≡ Some i = sym r.0 ∙ h in cc)) (index_push ls m l)
 
-now_listed : (ls : List Line) (m : Line) → index_in ls m ≡ None → index_in (ls ++ m ∷ []) m ≡ Some (length ls)
+pub now_listed : (ls : List Line) (m : Line) → index_in ls m ≡ None → index_in (ls ++ m ∷ []) m ≡ Some (length ls)
 now_listed ls m none = ⊎_elim (λ e. absurd (no (sym (ap is_some (e ∙ none)) ∙ in_last ls m))) (λ r. r.1) (index_push ls m m)
 
 -- ---- no node is of a line that isn't listed
 
-place-none : (ns : List Node) (l : Line) (k : ℕ) → ((n : Node) → Contains ns n → on_line l n ≡ false) → place ns l k ≡ 0
+pub place-none : (ns : List Node) (l : Line) (k : ℕ) → ((n : Node) → Contains ns n → on_line l n ≡ false) → place ns l k ≡ 0
 place-none [] l k off = refl
 place-none (n ∷ ns) l k off = rw (off n (contains-head n ns), Rattle.std.proofs.Math.Bool.and-false (nat_lt n.number k)) (place-none ns l k (λ m c. off m (contains-tail n ns m c)))
 

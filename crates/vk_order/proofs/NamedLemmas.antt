@@ -16,7 +16,8 @@ use Rattle.vk_order.specs.declared.lines.Line.{Line}
 use Rattle.vk_order.specs.PointViews.{act_of, node_of, nodes_after}
 use Rattle.vk_order.specs.Lines.{line_of, line_on, class_of}
 use Rattle.vk_order.specs.Inner.Clocks.{itself}
-use Rattle.vk_order.specs.Inner.Kept.{names, index_in, clock_at, is_alone, IsStamp, IsKeptJoin, IsKept, IsOwn}
+use Rattle.vk_order.specs.Inner.Kept.{names, clock_at, is_alone, IsStamp, IsKeptJoin, IsKept, IsOwn}
+use Rattle.vk_order.specs.Inner.Places.{index_in}
 use Rattle.vk_order.proofs.LinePrefixes.{host_line, signal_line, host_edge, signal_edge}
 use Rattle.vk_order.proofs.RowLemmas.{numbered_after, length-nodes_after}
 use Rattle.vk_order.proofs.EdgeLemmas.{row_there}
@@ -26,7 +27,7 @@ use Rattle.vk_order.proofs.KeptLemmas.{join_as, joins_kept, same_kept, any-step}
 -- ---- nodes that are known by themselves come after all earlier ones of their line
 
 module _ (ns : List Node) (n : Node) (numbers : IsNumbered ns) (hn : Contains ns n) (c : Node) (hc : Contains ns c) (lt : c.number < n.number) where
-  after_earlier : (a : Act) (l : Line) → n.act ≡ a → IsTrue (is_alone a) → line_of c ≡ Some l → line_on n.point.queue a ≡ Some l → IsTrue (before ns c n)
+  pub after_earlier : (a : Act) (l : Line) → n.act ≡ a → IsTrue (is_alone a) → line_of c ≡ Some l → line_on n.point.queue a ≡ Some l → IsTrue (before ns c n)
   after_earlier (Hosts x) l is h lc ln =
       let first = host_line c.point.queue c.act (lc ∙ sym ln) in
       before_of_path ns numbers c n hc hn (direct hc hn (host_edge ns c n lt (ap is_host first.1) (ap is_host is)))

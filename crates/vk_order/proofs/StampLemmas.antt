@@ -16,13 +16,14 @@ use Rattle.vk_order.specs.PointViews.{node_of, nodes_after}
 use Rattle.vk_order.specs.Lines.{line_of, class_of}
 use Rattle.vk_order.specs.Inner.Leads.{is_of_sets}
 use Rattle.vk_order.specs.Inner.Clocks.{same_line, on_line, place, IsJoin, IsWhole, itself, extended}
-use Rattle.vk_order.specs.Inner.Kept.{names, index_in, clock_at, IsStamp, IsTally, IsKept, IsOwn, CanStamp}
+use Rattle.vk_order.specs.Inner.Kept.{names, clock_at, IsStamp, IsTally, IsKept, IsOwn, CanStamp}
+use Rattle.vk_order.specs.Inner.Places.{index_in}
 use Rattle.vk_order.proofs.RowLemmas.{nodes_after-append, length-nodes_after, numbered_after}
 use Rattle.vk_order.proofs.ClockLemmas.{line_itself, line_same, is_on, of_on, clock_stays, join_stays, join_grows, lines_whole, place-older, place-own}
 use Rattle.vk_order.proofs.KeptLemmas.{join_as, at_max, found_line, push_cases, its_line, no_line_of, line_class, place_within}
 use Rattle.vk_order.proofs.NamedLemmas.{node_there}
 
-set_cases : {A : Type 0} (xs : List A) (i : ℕ) (y z : A) (j : ℕ) → slice_get (slice_set xs i y) j ≡ Some z → ((j ≡ i) × (y ≡ z)) ⊎ ((j ≢ i) × (slice_get xs j ≡ Some z))
+pub set_cases : {A : Type 0} (xs : List A) (i : ℕ) (y z : A) (j : ℕ) → slice_get (slice_set xs i y) j ≡ Some z → ((j ≡ i) × (y ≡ z)) ⊎ ((j ≢ i) × (slice_get xs j ≡ Some z))
 set_cases [] i y z j e = absurd cc
 set_cases (x ∷ xs) zero y z zero e = inl (refl, cc)
 set_cases (x ∷ xs) zero y z (suc j) e = inr ((λ h. omega arith), e)

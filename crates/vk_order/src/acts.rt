@@ -15,7 +15,8 @@ use vk_model::{Element, Entry, Stages};
 pub const TRANSFERS: Stages = Stages(Stages::TRANSFER.0 | Stages::ALL_COMMANDS.0);
 
 impl Act<'_> {
-    fn is_host(&self) -> bool
+    /// Whether it is an entry of the host.
+    pub fn is_host(&self) -> bool
         ensures { result ≡ edge.is_host (act_of self.now) }
     {
         matches!(self, Act::Hosts(_))
@@ -164,6 +165,13 @@ impl Row<'_> {
     {
         self.act.is_host() && other.act.is_host()
             || self.act.is_submit() && self.point.entry == other.point.entry
+    }
+
+    /// Whether it is a submit.
+    pub fn is_submit(&self) -> bool
+        ensures { result ≡ edge.is_submit (act_of self.now.act) }
+    {
+        self.act.is_submit()
     }
 
     /// Whether this is the submit of the other.

@@ -4,7 +4,8 @@ ghost use Rattle.vk_order.specs.declared.acts.Row.{Row as AnyRow};
 ghost use Rattle.vk_order.specs.declared.clocks.Stamp.{Stamp as AnyStamp};
 ghost use Rattle.vk_order.specs.PointViews.{act_of};
 ghost use Rattle.vk_order.specs.Lines.{class_on};
-ghost use Rattle.vk_order.specs.Inner.Kept.{names, index_in, tally_view, IsKept, CanCome, AreListed};
+ghost use Rattle.vk_order.specs.Inner.Kept.{names, tally_view, IsKept, CanCome, AreListed};
+ghost use Rattle.vk_order.specs.Inner.Places.{index_in};
 
 use crate::acts::Row;
 use crate::clocks::{Stamp, Tally};

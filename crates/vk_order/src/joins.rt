@@ -6,7 +6,8 @@ ghost use Rattle.vk_order.specs.declared.clocks.Stamp.{Stamp as AnyStamp};
 ghost use Rattle.vk_order.specs.PointViews.{act_of, nodes_after};
 ghost use Rattle.vk_order.specs.Lines.{class_of};
 ghost use Rattle.vk_order.specs.Inner.Leads.{line_leads};
-ghost use Rattle.vk_order.specs.Inner.Kept.{names, index_in, IsStamp, IsKept, IsKeptJoin, IsOwn, AreAlone};
+ghost use Rattle.vk_order.specs.Inner.Kept.{names, IsStamp, IsKept, IsKeptJoin, IsOwn, AreAlone};
+ghost use Rattle.vk_order.specs.Inner.Places.{index_in};
 
 use crate::acts::Row;
 use crate::clocks::{Stamp, Tally, index_of, joined, with_count};

@@ -14,7 +14,8 @@ use crate::adding::{Added, list_lines, stamped};
 use crate::awaiting::{Reach, is_awaited, passed, reach_of};
 use crate::before::is_before;
 use crate::clocks::{Stamp, Tally};
-use crate::point::{Point, acts_of};
+use crate::point::Point;
+use crate::rows::rows_of;
 use std::alloc::{AllocError, Global};
 use std::marker::Model;
 
@@ -144,20 +145,6 @@ fn leads_to_next(from: &Row<'_>, reach: Option<Reach>, next: &Row<'_>) -> bool
         → result ≡ (unsignaled (node_of i from.now) (node_of j next.now) || by_semaphore ns (node_of i from.now) (node_of j next.now)) }
 {
     from.leads_to(next) || is_awaited(reach, &next.act)
-}
-
-#[tactic(auto, using(crate::proofs::RowLemmas::rows_pushed))]
-fn rows_of<'a>(alloc: Global, point: Point<'a>) -> Result<Vec<Row<'a>>, AllocError>
-    ensures points { IfOk result (λ rows. (i : ℕ) (r : AnyRow) → slice_get rows.items i ≡ Some r → r.point ≡ point.entry) }
-    ensures acts { IfOk result (λ rows. map (λ r. act_of r.act) rows.items ≡ acts (action_of point.entry.action)) }
-    ensures nodes { IfOk result (λ rows. (ns : List Node) → nodes_after ns rows.items ≡ with_acts (point_of point.entry) (acts (action_of point.entry.action)) ns) }
-{
-    let acts = acts_of(alloc, point.action)?;
-    let mut rows = Vec::new(alloc);
-    for act in &acts {
-        rows.push(Row { point, act: *act })?;
-    }
-    Ok(rows)
 }
 
 #[cfg(test)]

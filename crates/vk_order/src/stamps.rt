@@ -5,7 +5,8 @@ ghost use Rattle.vk_order.specs.declared.clocks.Stamp.{Stamp as AnyStamp};
 ghost use Rattle.vk_order.specs.PointViews.{node_of, nodes_after};
 ghost use Rattle.vk_order.specs.Lines.{class_of};
 ghost use Rattle.vk_order.specs.Inner.Clocks.{IsClock};
-ghost use Rattle.vk_order.specs.Inner.Kept.{names, index_in, clock_at, IsKept, CanStamp};
+ghost use Rattle.vk_order.specs.Inner.Kept.{names, clock_at, IsKept, CanStamp};
+ghost use Rattle.vk_order.specs.Inner.Places.{index_in};
 
 use crate::clocks::{Stamp, Tally, index_of, joined};
 use crate::joins::own_clock;

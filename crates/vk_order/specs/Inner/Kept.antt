@@ -1,5 +1,5 @@
 -- What clocks and tallies say of nodes: a clock counts, line by line, exactly the nodes before a node.
-use Rattle.std.specs.Prelude.{◌≡◌, ◌≤◌, ◌<◌, ◌+◌, ◌^◌, ◌∷◌, ℕ, Bool, false, List, [], map, length, position, slice_get, slice_index_or, Option, Some, IsTrue, true, is_some, Contains}
+use Rattle.std.specs.Prelude.{◌≡◌, ◌≤◌, ◌<◌, ◌+◌, ◌^◌, ◌∷◌, ℕ, Bool, false, List, [], map, length, slice_get, slice_index_or, Some, IsTrue, true, is_some, Contains}
 use Rattle.std.specs.Option.{option_map_or}
 use Rattle.vk_model.specs.declared.command.Element.{Element}
 use Rattle.vk_model.specs.Sync.Node.{Node, Act, Hosts, Signals, Depends, SetOf}
@@ -10,15 +10,12 @@ use Rattle.vk_order.specs.declared.lines.Line.{Line}
 use Rattle.vk_order.specs.PointViews.{act_of, node_of, nodes_after}
 use Rattle.vk_model.specs.Sync.Edge.{edge, siblings, waited_by}
 use Rattle.vk_order.specs.Lines.{line_of, class_of, class_on}
+use Rattle.vk_order.specs.Inner.Places.{index_in}
 use Rattle.vk_order.specs.Inner.Clocks.{same_line, place, Clock, IsClock, IsJoin, itself}
 
 -- The lines of tallies.
 abbrev pub names : List Tally → List Line
 names ts = map (λ t. t.line) ts
-
--- Where a line is among others.
-abbrev pub index_in : List Line → Line → Option ℕ
-index_in ls l = position (λ m. same_line m l) ls
 
 -- The count that a kept clock has for a line.
 abbrev pub clock_at : List Line → List ℕ → Clock

@@ -6,7 +6,8 @@ use Rattle.vk_order.specs.declared.acts.Row.{Row}
 use Rattle.vk_order.specs.declared.lines.Line.{Line}
 use Rattle.vk_order.specs.PointViews.{act_of}
 use Rattle.vk_order.specs.Lines.{class_on}
-use Rattle.vk_order.specs.Inner.Kept.{names, index_in}
+use Rattle.vk_order.specs.Inner.Kept.{names}
+use Rattle.vk_order.specs.Inner.Places.{index_in}
 use Rattle.vk_order.proofs.adding.list_lines.Goals as goal
 
 abbrev row_line : Row → Line

@@ -4,7 +4,8 @@ use Rattle.vk_order.specs.declared.acts.Row.{Row}
 use Rattle.vk_order.specs.declared.clocks.Stamp.{Stamp}
 use Rattle.vk_order.specs.PointViews.{act_of}
 use Rattle.vk_order.specs.Lines.{class_on}
-use Rattle.vk_order.specs.Inner.Kept.{names, index_in, IsKept}
+use Rattle.vk_order.specs.Inner.Kept.{names, IsKept}
+use Rattle.vk_order.specs.Inner.Places.{index_in}
 use Rattle.vk_order.proofs.adding.list_lines.Given as goal
 
 abbrev pub invariant-loop-row : goal.invariant-loop-row

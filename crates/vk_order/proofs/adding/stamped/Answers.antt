@@ -8,7 +8,8 @@ use Rattle.vk_order.specs.declared.lines.Line.{Line}
 use Rattle.vk_order.specs.PointViews.{act_of, nodes_after}
 use Rattle.vk_order.specs.Lines.{class_of, class_on}
 use Rattle.vk_order.specs.Inner.Leads.{line_leads}
-use Rattle.vk_order.specs.Inner.Kept.{names, index_in, IsKeptJoin, CanStamp, AreAlone}
+use Rattle.vk_order.specs.Inner.Kept.{names, IsKeptJoin, CanStamp, AreAlone}
+use Rattle.vk_order.specs.Inner.Places.{index_in}
 use Rattle.vk_order.proofs.CopyLemmas.{names_copied, kept_copy}
 use Rattle.vk_order.proofs.ComingLemmas.{can_stamp}
 use Rattle.vk_order.proofs.adding.stamped.Goals as goal

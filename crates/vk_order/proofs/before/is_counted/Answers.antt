@@ -2,7 +2,8 @@ use Rattle.std.proofs.Common.{◌≡◌, ◌<◌, ◌∷◌, [], List, arith, �
 use Rattle.std.specs.Prelude.{nat_lt, slice_get, slice_index_or}
 use Rattle.std.proofs.lemmas.Option.{slice_get-get_or}
 use Rattle.vk_order.specs.declared.clocks.Stamp.{Stamp}
-use Rattle.vk_order.specs.Inner.Kept.{names, index_in}
+use Rattle.vk_order.specs.Inner.Kept.{names}
+use Rattle.vk_order.specs.Inner.Places.{index_in}
 use Rattle.vk_order.proofs.BeforeLemmas.{counted_at, uncounted}
 use Rattle.vk_order.proofs.before.is_counted.Goals as goal
 

@@ -5,7 +5,8 @@ use Rattle.vk_model.proofs.Lists.Members.{place_has}
 use Rattle.vk_order.specs.declared.acts.Row.{Row}
 use Rattle.vk_order.specs.declared.lines.Line.{Line}
 use Rattle.vk_order.specs.PointViews.{act_of, nodes_after}
-use Rattle.vk_order.specs.Inner.Kept.{names, index_in, is_alone, IsKeptJoin}
+use Rattle.vk_order.specs.Inner.Kept.{names, is_alone, IsKeptJoin}
+use Rattle.vk_order.specs.Inner.Places.{index_in}
 use Rattle.vk_order.proofs.KeptLemmas.{join_none}
 use Rattle.vk_order.proofs.NamedLemmas.{named-on, named-all}
 use Rattle.vk_order.proofs.joins.join_of_named.Goals as goal

@@ -1,6 +1,7 @@
 use Rattle.std.proofs.Common.{◌≡◌, ◌∷◌, ◌++◌, [], List, None, refl, sym, subst, rules}
 use Rattle.vk_order.specs.declared.clocks.Tally.{Tally}
-use Rattle.vk_order.specs.Inner.Kept.{names, index_in, IsKept}
+use Rattle.vk_order.specs.Inner.Kept.{names, IsKept}
+use Rattle.vk_order.specs.Inner.Places.{index_in}
 use Rattle.vk_order.proofs.ListLemmas.{listing}
 use Rattle.vk_order.proofs.stamps.list_line.Goals as goal
 

@@ -9,7 +9,8 @@ use Rattle.vk_order.specs.PointViews.{node_of, nodes_after}
 use Rattle.vk_order.specs.Lines.{line_of, class_of}
 use Rattle.vk_order.specs.Inner.Leads.{is_of_sets}
 use Rattle.vk_order.specs.Inner.Clocks.{place}
-use Rattle.vk_order.specs.Inner.Kept.{names, index_in, IsStamp, IsOwn}
+use Rattle.vk_order.specs.Inner.Kept.{names, IsStamp, IsOwn}
+use Rattle.vk_order.specs.Inner.Places.{index_in}
 use Rattle.vk_order.proofs.RowLemmas.{length-nodes_after}
 use Rattle.vk_order.proofs.KeptLemmas.{line_class}
 use Rattle.vk_order.proofs.StampLemmas.{index_within, names-set, tally_line, new_stamp, stamped}

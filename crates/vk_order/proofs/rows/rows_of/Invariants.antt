@@ -3,7 +3,7 @@ use Rattle.std.specs.Prelude.{slice_get}
 use Rattle.vk_model.specs.Sync.Node.{Node, with_acts}
 use Rattle.vk_order.specs.declared.acts.Row.{Row}
 use Rattle.vk_order.specs.PointViews.{act_of, point_of, nodes_after}
-use Rattle.vk_order.proofs.points.rows_of.Given as goal
+use Rattle.vk_order.proofs.rows.rows_of.Given as goal
 
 abbrev pub invariant-loop-act : goal.invariant-loop-act
 invariant-loop-act l = record {

@@ -3,7 +3,7 @@ use Rattle.vk_order.specs.declared.acts.Row.{Row}
 use Rattle.vk_order.specs.PointViews.{act_of, point_of, nodes_after}
 use Rattle.vk_model.specs.Sync.Node.{with_acts}
 use Rattle.vk_order.proofs.RowLemmas.{rows-step, row_acts-step, row_push}
-use Rattle.vk_order.proofs.points.rows_of.Goals as goal
+use Rattle.vk_order.proofs.rows.rows_of.Goals as goal
 
 pub loop-act-preserved : goal.loop-act-preserved
 loop-act-preserved c =

@@ -1,0 +1,17 @@
+use Rattle.std.proofs.Common.{List, ⊎_elim, subst, sym}
+use Rattle.vk_order.specs.declared.lines.Line.{Line}
+use Rattle.vk_order.specs.Inner.Names.{IsNames}
+use Rattle.vk_order.specs.Inner.Tallies.{lines_of}
+use Rattle.vk_order.proofs.TallyLemmas.{names_listed}
+use Rattle.vk_order.proofs.frontier.Frontier.list_line.Goals as goal
+
+pub returns-clause-kept : goal.returns-clause-kept
+returns-clause-kept c = λ ns is. record {
+  numbers = is.numbers;
+  total = is.total;
+  tallied = c.in_ok-list_line.ensures.kept ns is.tallied;
+  names = ⊎_elim
+      (λ e. subst (λ (ls : List Line). IsNames ns ls c.args.self.now.names) (sym e) is.names)
+      (λ e. subst (λ (ls : List Line). IsNames ns ls c.args.self.now.names) (sym e) (names_listed ns (lines_of c.args.self.now.tallies.items) c.args.line c.args.self.now.names is.names))
+      c.in_ok-list_line.ensures.grown;
+}
