@@ -1,5 +1,5 @@
 -- Rows of one point that come next, and what comes after each.
-use Rattle.std.proofs.Common.{◌≡◌, ℕ, zero, suc, ◌+◌, ◌<◌, List, [], ◌∷◌, length, take, get_or, add-one, Bool, false, ◌||◌, Some, refl, ap, sym, ◌∙◌, arith}
+use Rattle.std.proofs.Common.{◌≡◌, ℕ, zero, suc, ◌+◌, ◌<◌, List, [], ◌∷◌, length, take, get_or, add-one, Bool, false, ◌||◌, Some, refl, ap, sym, ◌∙◌, arith, ◌≤◌}
 use Rattle.std.specs.Prelude.{Contains, slice_get}
 use Rattle.std.proofs.lemmas.Option.{slice_get_within}
 use Rattle.std.proofs.Math.Seq.{take-suc}
@@ -19,9 +19,19 @@ use Rattle.vk_order.specs.Inner.Tallies.{CanFollow}
 use Rattle.vk_order.proofs.RowLemmas.{nodes_after-append, length-nodes_after, numbered_after}
 use Rattle.vk_order.proofs.EdgeLemmas.{older_there}
 use Rattle.vk_order.proofs.LineTests.{edge_split}
-use Rattle.vk_order.proofs.ComingLemmas.{take_get, take_long}
 use Rattle.vk_order.proofs.WaitLemmas.{no_wait}
 use Rattle.vk_order.proofs.FrontLemmas.{front_same, front_stays}
+
+take_get : {A : Type 0} (i : ℕ) (xs : List A) (j : ℕ) (x : A) → slice_get (take i xs) j ≡ Some x → (j < i) × (slice_get xs j ≡ Some x)
+take_get zero xs j x e = absurd cc
+take_get (suc i) [] j x e = absurd cc
+take_get (suc i) (y ∷ xs) zero x e = (omega arith, e)
+take_get (suc i) (y ∷ xs) (suc j) x e = let r = take_get i xs j x e in (let lt = r.0 in omega arith, r.1)
+
+take_long : {A : Type 0} (i : ℕ) (xs : List A) → i ≤ length xs → length (take i xs) ≡ i
+take_long zero xs le = refl
+take_long (suc i) [] le = absurd (omega arith)
+take_long (suc i) (y ∷ xs) le = let e = take_long i xs (omega arith) in omega arith
 
 -- a front over old nodes is one when nodes come that fail its test
 front_after : (ys : List Row) (ns : List Node) (ls : List Line) → IsNumbered ns → (test : Node → Bool) (x : Front) → IsFront ns ls test x → ((j : ℕ) (y : Row) → slice_get ys j ≡ Some y → test (node_of (length ns + j) y) ≡ false) → IsFront (nodes_after ns ys) ls test x

@@ -13,11 +13,7 @@ mod ClockLemmas
 mod LineTests
 mod KeptLemmas
 mod NamedLemmas
-mod StampLemmas
 mod ListLemmas
-mod NamingLemmas
-mod ComingLemmas
-mod CopyLemmas
 mod PointLemmas
 mod BeforeLemmas
 mod SetLemmas
@@ -29,3 +25,4 @@ mod OwnLemmas
 mod TallyLemmas
 mod SightLemmas
 mod FollowLemmas
+mod StampedLemmas

@@ -1,5 +1,5 @@
 -- The rows of a point can come next.
-use Rattle.std.proofs.Common.{◌≡◌, ℕ, zero, suc, ◌+◌, ◌<◌, ◌^◌, List, [], ◌∷◌, length, map, Bool, true, false, ◌&&◌, Some, refl, ap, sym, ◌∙◌, subst, arith}
+use Rattle.std.proofs.Common.{◌≡◌, ℕ, zero, suc, ◌+◌, ◌<◌, List, [], ◌∷◌, length, map, Bool, true, false, ◌&&◌, Some, refl, ap, sym, ◌∙◌, arith}
 use Rattle.std.specs.Prelude.{Contains, slice_get, option_map}
 use Rattle.std.specs.List.{enumerate_from}
 use Rattle.std.proofs.lemmas.Bool.{eq-eqb}
@@ -14,11 +14,9 @@ use Rattle.vk_model.specs.Sync.Node.{Node, Act, Role, Hosts, Waits, Signals, Run
 use Rattle.vk_model.specs.Sync.Edge.{edge, siblings, is_element, waited_by, pairs}
 use Rattle.vk_order.specs.declared.acts.Row.{Row}
 use Rattle.vk_order.specs.declared.point.Point.{Point}
-use Rattle.vk_order.specs.PointViews.{act_of, action_of, point_of, node_of, nodes_after}
+use Rattle.vk_order.specs.PointViews.{act_of, action_of, point_of, node_of}
 use Rattle.vk_order.specs.Queries.{IsNew}
-use Rattle.vk_order.specs.Inner.Kept.{CanCome}
 use Rattle.vk_order.specs.Inner.Tallies.{CanFollow}
-use Rattle.vk_order.proofs.RowLemmas.{length-nodes_after}
 use Rattle.vk_model.proofs.Lists.Members.{place_has}
 use Rattle.vk_order.proofs.Arrange.{holds-false}
 use Rattle.vk_order.proofs.ElementPlaces.{element_of}
@@ -131,13 +129,3 @@ module _ (ns : List Node) (fresh : List Row) (p : Point) (points : (i : ℕ) (r 
 
   pub can_follow : CanFollow ns fresh
   can_follow = record { apart = apart; quiet = quiet; later = later }
-
-pub can_come : (rows fresh : List Row) (p : Point) → ((i : ℕ) (r : Row) → slice_get fresh i ≡ Some r → r.point ≡ p) → map (λ r. act_of r.act) fresh ≡ acts (action_of p.action) → IsNew (point_of p) (nodes_after [] rows) → length rows + length fresh + 1 < 2 ^ 63 → CanCome rows fresh
-can_come rows fresh p points are new few =
-    let count : length (nodes_after [] rows) ≡ length rows = (let e = length-nodes_after [] rows in omega arith) in
-    let can = can_follow (nodes_after [] rows) fresh p points are new in record {
-      few = few;
-      apart = can.apart;
-      quiet = λ i j q r e f lt all. subst (λ (m : ℕ). edge all (node_of (m + i) q) (node_of (m + j) r) ≡ false) count (can.quiet i j q r e f lt all);
-      later = can.later;
-    }

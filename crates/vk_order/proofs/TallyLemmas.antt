@@ -1,14 +1,15 @@
 -- Tallies of lines: their joins, one line more, one node more.
-use Rattle.std.proofs.Common.{◌≡◌, ◌≢◌, ◌⊎◌, inl, inr, ⊎_elim, ℕ, ◌+◌, ◌-◌, ◌<◌, ◌≤◌, ◌^◌, List, [], ◌∷◌, ◌++◌, length, length-append, take, get_or, Bool, true, false, ◌&&◌, ◌||◌, IsTrue, Option, Some, None, refl, ap, sym, ◌∙◌, subst, arith}
+use Rattle.std.proofs.Common.{◌≡◌, ◌≢◌, ◌⊎◌, inl, inr, ⊎_elim, ℕ, ◌+◌, ◌-◌, ◌<◌, ◌≤◌, ◌^◌, List, [], ◌∷◌, ◌++◌, length, length-append, take, get_or, Bool, true, false, ◌&&◌, ◌||◌, IsTrue, Option, Some, None, refl, ap, sym, ◌∙◌, subst, arith, zero, suc}
 use Rattle.std.specs.Prelude.{nat_lt, Contains, min, slice_get, slice_set, is_some, if◌then◌else◌}
 use Rattle.std.specs.Option.{option_map}
 use Rattle.std.specs.List.{list_any}
-use Rattle.std.proofs.lemmas.Bool.{and_parts, and_from}
+use Rattle.std.proofs.lemmas.Bool.{lt-ltb, and_parts, and_from}
 use Rattle.std.proofs.lemmas.List.{take_all, map-append}
 use Rattle.std.proofs.lemmas.Option.{slice_get-get_or, slice_get-map}
 use Rattle.std.proofs.Math.Seq.{map-set_same}
 use Rattle.vk_model.specs.Basics.{holds}
 use Rattle.vk_model.specs.Sync.Node.{Node}
+use Rattle.vk_model.specs.Sync.Before.{IsNumbered}
 use Rattle.vk_model.proofs.Lists.Members.{contains-cons, place_has, member_passes, some_member}
 use Rattle.vk_model.proofs.Lists.Truths.{no, bool_same}
 use Rattle.vk_order.specs.declared.acts.Row.{Row}
@@ -27,7 +28,6 @@ use Rattle.vk_order.specs.Inner.Tallies.{lines_of, IsLineTally, IsTallied, IsCom
 use Rattle.vk_order.proofs.Arrange.{or-false, and-false}
 use Rattle.vk_order.proofs.ClockLemmas.{line_itself, line_same, is_on, of_on, lines_whole, place-own}
 use Rattle.vk_order.proofs.KeptLemmas.{join_as, any-step, push_cases, found_line, line_class, its_line, no_line_of, place_within}
-use Rattle.vk_order.proofs.StampLemmas.{place-top, set_cases}
 use Rattle.vk_order.proofs.ListLemmas.{clock_push, index_same, now_listed, still_listed}
 use Rattle.vk_order.proofs.RowJoins.{rows_as}
 use Rattle.vk_order.proofs.FrontLemmas.{front_same, front_stays}
@@ -126,6 +126,23 @@ pub now_there : (ts : List LineTally) (t : LineTally) → index_in (lines_of ts)
 now_there ts t none = rw (map-append (λ (x : LineTally). x.line) ts (t ∷ [])) (ap is_some (now_listed (lines_of ts) t.line none))
 
 -- ---- one node more
+
+set_cases : {A : Type 0} (xs : List A) (i : ℕ) (y z : A) (j : ℕ) → slice_get (slice_set xs i y) j ≡ Some z → ((j ≡ i) × (y ≡ z)) ⊎ ((j ≢ i) × (slice_get xs j ≡ Some z))
+set_cases [] i y z j e = absurd cc
+set_cases (x ∷ xs) zero y z zero e = inl (refl, cc)
+set_cases (x ∷ xs) zero y z (suc j) e = inr ((λ h. omega arith), e)
+set_cases (x ∷ xs) (suc i) y z zero e = inr ((λ h. omega arith), e)
+set_cases (x ∷ xs) (suc i) y z (suc j) e = ⊎_elim (λ h. inl (let a = h.0 in omega arith, h.1)) (λ h. inr ((λ g. h.0 (omega arith)), h.1)) (set_cases xs i y z j e)
+
+-- no node has a number above the count
+place-top : (ns : List Node) → IsNumbered ns → (l : Line) (k : ℕ) → length ns ≤ k → place ns l k ≡ place ns l (length ns)
+place-top [] numbers l k le = refl
+place-top (n ∷ ns) numbers l k le =
+    let a : nat_lt n.number k ≡ true = lt-ltb n.number k (let at = numbers.0 in omega arith) in
+    let b : nat_lt n.number (length (n ∷ ns)) ≡ true = lt-ltb n.number (length (n ∷ ns)) (let at = numbers.0 in omega arith) in
+    let c = place-top ns numbers.1 l k (omega arith) in
+    let d = place-top ns numbers.1 l (length (n ∷ ns)) (omega arith) in
+    rw (a, b, c, d) refl
 
 pub lines-set : (ts : List LineTally) (line : Line) (at : ℕ) (u : LineTally) → index_in (lines_of ts) line ≡ Some at → u.line ≡ line → lines_of (slice_set ts at u) ≡ lines_of ts
 lines-set ts line at u found is =

@@ -9,3 +9,4 @@ pub mod Keyed
 pub mod Names
 pub mod Tallies
 pub mod Places
+pub mod Ready

@@ -1,7 +1,5 @@
 ghost use Rattle.std.specs.Prelude.{◌≡◌, ◌≤◌, ◌<◌, ◌+◌, ◌^◌, ◌==◌, [], ℕ, List, IfOk, OnOk, Some, max, map, length, position, slice_get, slice_set, slice_index_or, if◌then◌else◌, vec_len};
-ghost use Rattle.vk_order.specs.Inner.Clocks.{same_line};
 
-use crate::lines::Line;
 use std::alloc::{AllocError, Global};
 
 /// Where a node is in the order.
@@ -12,27 +10,6 @@ pub struct Stamp {
     /// How many nodes of each line are before it, in the order of the lines; none of those that are
     /// left out.
     pub clock: Vec<usize>,
-}
-
-/// What is known of a line.
-#[derive(Drop)]
-pub struct Tally {
-    /// The line.
-    pub line: Line,
-    /// How many nodes it has.
-    pub count: usize,
-    /// The clock of what comes after all of them.
-    pub join: Vec<usize>,
-}
-
-/// The index of a line.
-pub fn index_of(tallies: &[Tally], line: Line) -> Option<usize>
-    ensures { result ≡ position (λ m. same_line m line) (map (λ t. t.line) tallies.now) }
-{
-    tallies
-        .iter()
-        .map(|tally| tally.line)
-        .position(|own| own.is(line))
 }
 
 /// The count at an index.

@@ -11,6 +11,7 @@ ghost use Rattle.vk_order.specs.Inner.Leads.{line_leads};
 ghost use Rattle.vk_order.specs.Inner.Links.{by_name};
 ghost use Rattle.vk_order.specs.Inner.Places.{index_in};
 ghost use Rattle.vk_order.specs.Inner.Fronts.{IsFront};
+ghost use Rattle.vk_order.specs.Inner.Kept.{IsLonger};
 ghost use Rattle.vk_order.specs.Inner.Tallies.{lines_of, CanFollow, AreOnLines, AreFronts};
 ghost use Rattle.vk_order.specs.Frontiers.{IsFrontier, IsSight};
 
@@ -67,8 +68,16 @@ impl Frontier {
             act: *act,
         };
         let front = self.front_of(&row)?;
-        let lines = lines_copied(self.alloc, self.tallies.as_slice())?;
+        let lines = self.lines()?;
         Ok(Sight::new(lines, front, act.is_host()))
+    }
+
+    /// The lines so far.
+    pub(crate) fn lines(&self) -> Result<Vec<Line>, AllocError>
+        ensures { IfOk result (λ lines. lines.items ≡ lines_of self.now.tallies.items) }
+    {
+        let lines = lines_copied(self.alloc, self.tallies.as_slice())?;
+        Ok(lines)
     }
 
     /// What comes after the nodes that lead to a row that comes next.
@@ -94,9 +103,10 @@ impl Frontier {
     }
 
     /// Lists the lines of rows.
-    fn list(&mut self, rows: &[Row<'_>]) -> Result<(), AllocError>
+    pub(crate) fn list(&mut self, rows: &[Row<'_>]) -> Result<(), AllocError>
         ensures listed { OnOk result (AreOnLines (lines_of self.new.tallies.items) rows.now) }
         ensures kept { OnOk result ((ns : List Node) → IsFrontier self.old ns → IsFrontier self.new ns) }
+        ensures longer { OnOk result (IsLonger (lines_of self.old.tallies.items) (lines_of self.new.tallies.items)) }
     {
         for row in rows {
             self.list_line(Line::of(row.point.queue, &row.act))?;
@@ -108,13 +118,14 @@ impl Frontier {
         ensures listed { OnOk result (IsTrue (is_some (index_in (lines_of self.new.tallies.items) line))) }
         ensures others { OnOk result ((l : AnyLine) → IsTrue (is_some (index_in (lines_of self.old.tallies.items) l)) → IsTrue (is_some (index_in (lines_of self.new.tallies.items) l))) }
         ensures kept { OnOk result ((ns : List Node) → IsFrontier self.old ns → IsFrontier self.new ns) }
+        ensures longer { OnOk result (IsLonger (lines_of self.old.tallies.items) (lines_of self.new.tallies.items)) }
     {
         list_line(self.alloc, &mut self.tallies, line)?;
         Ok(())
     }
 
     /// What comes after the nodes that lead to rows that come next, each by itself.
-    fn fronts_of(&self, rows: &[Row<'_>]) -> Result<Vec<Front>, AllocError>
+    pub(crate) fn fronts_of(&self, rows: &[Row<'_>]) -> Result<Vec<Front>, AllocError>
         ensures lengths { IfOk result (λ fronts. length fronts.items ≡ length rows.now) }
         ensures fronts { IfOk result (λ fronts. (ns : List Node) → IsFrontier self.now ns → AreFronts ns (lines_of self.now.tallies.items) rows.now fronts.items) }
     {
@@ -139,7 +150,7 @@ impl Frontier {
     }
 
     /// Adds a row that comes next, with what it comes after.
-    fn add(&mut self, row: &Row<'_>, front: &Front) -> Result<(), AllocError>
+    pub(crate) fn add(&mut self, row: &Row<'_>, front: &Front) -> Result<(), AllocError>
         requires { IsTrue (is_some (index_in (lines_of self.old.tallies.items) (class_on row.now.point.queue (act_of row.now.act)))) }
         ensures lines { OnOk result (lines_of self.new.tallies.items ≡ lines_of self.old.tallies.items) }
         ensures kept { OnOk result ((ns : List Node) (n : Node) → n ≡ node_of (length ns) row.now → IsFront ns (lines_of self.old.tallies.items) (λ k. edge ns k n) front.now → IsFrontier self.old ns → IsFrontier self.new (n ∷ ns)) }

@@ -9,18 +9,15 @@ mod before;
 mod clocks;
 mod frontier;
 mod fronts;
-mod joins;
 mod keyed;
 mod laws;
 mod lines;
 mod names;
-mod naming;
 mod owning;
 mod point;
 mod points;
 mod rows;
 mod sights;
-mod stamps;
 mod tallies;
 
 pub use access::Access;

@@ -8,6 +8,7 @@ use Rattle.vk_order.specs.PointViews.{act_of}
 use Rattle.vk_order.specs.Lines.{class_on}
 use Rattle.vk_order.specs.Inner.Places.{index_in}
 use Rattle.vk_order.specs.Inner.Tallies.{lines_of}
+use Rattle.vk_order.proofs.ListLemmas.{longer_same, longer_both}
 use Rattle.vk_order.proofs.frontier.Frontier.list.Goals as goal
 
 abbrev row_line : Row → Line
@@ -17,7 +18,7 @@ same_line_of : (r s : Row) → Some r ≡ Some s → row_line r ≡ row_line s
 same_line_of r s e = let same : r ≡ s = cc in ap row_line same
 
 pub loop-row-init : goal.loop-row-init
-loop-row-init c = record { listed = λ i r lt e. absurd (omega (arith, lt)); kept = λ ns is. is }
+loop-row-init c = record { listed = λ i r lt e. absurd (omega (arith, lt)); kept = λ ns is. is; longer = longer_same (lines_of c.args.self.now.tallies.items) (lines_of c.args.self.now.tallies.items) refl }
 
 pub loop-row-preserved : goal.loop-row-preserved
 loop-row-preserved c =
@@ -33,6 +34,7 @@ loop-row-preserved c =
           (λ high. let same : k ≡ i = omega arith in subst (λ (l : Line). IsTrue (is_some (index_in now l))) (same_line_of row r (sym at ∙ ap (slice_get rows) same ∙ e)) here)
           (cases_lt i k);
       kept = λ ns is. c.in_ok-list_line.ensures.kept ns (c.loop-row.invariant.kept ns is);
+      longer = longer_both (lines_of c.args.self.now.tallies.items) (lines_of c.loop-row.self.tallies.items) now c.loop-row.invariant.longer c.in_ok-list_line.ensures.longer;
     }
 
 pub returns-clause-listed : goal.returns-clause-listed
@@ -40,3 +42,6 @@ returns-clause-listed c = λ i r e. c.loop-row.invariant.listed i r (let lt = sl
 
 pub returns-clause-kept : goal.returns-clause-kept
 returns-clause-kept c = c.loop-row.invariant.kept
+
+pub returns-clause-longer : goal.returns-clause-longer
+returns-clause-longer c = c.loop-row.invariant.longer

@@ -20,7 +20,7 @@ pub returns : goal.returns
 returns c = λ ns n is node apart.
     let row : Row = record { point = c.args.point.now; act = c.args.act.now } in
     let numbers : IsNumbered (n ∷ ns) = (ap (λ (m : Node). m.number) node, is.numbers) in
-    let lines : c.in_ok-lines.lines.items ≡ lines_of c.args.self.now.tallies.items = c.in_ok-lines.ensures ∙ ap lines_of c.as_slice.ensures.value in
+    let lines : c.in_ok-lines.lines.items ≡ lines_of c.args.self.now.tallies.items = c.in_ok-lines.ensures in
     let known = c.in_ok-front.ensures ns (length ns) is in
     let front : IsFront ns c.in_ok-lines.lines.items (λ k. edge ns k n) c.in_ok-front.front =
     subst (λ (ls : List Line). IsFront ns ls (λ k. edge ns k n) c.in_ok-front.front) (sym lines)
