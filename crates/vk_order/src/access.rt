@@ -26,8 +26,8 @@ impl Access {
         ensures { result.0 ≡ command_mask (access_of self) }
     {
         match self {
-            Access::Read => { Accesses(Accesses::TRANSFER_READ.0 | Accesses::MEMORY_READ.0) }
-            Access::Write => { Accesses(Accesses::TRANSFER_WRITE.0 | Accesses::MEMORY_WRITE.0) }
+            Access::Read => Accesses(Accesses::TRANSFER_READ.0 | Accesses::MEMORY_READ.0),
+            Access::Write => Accesses(Accesses::TRANSFER_WRITE.0 | Accesses::MEMORY_WRITE.0),
         }
     }
 

@@ -27,8 +27,9 @@ pub fn joined(alloc: Global, first: &[usize], second: &[usize]) -> Result<Vec<us
     ensures counts { IfOk result (λ both. (i : ℕ) → slice_index_or both.items i 0 ≡ max (slice_index_or first.now i 0) (slice_index_or second.now i 0)) }
     ensures len { IfOk result (λ both. vec_len both ≡ max (length first.now) (length second.now)) }
 {
-    let mut both = Vec::new(alloc);
-    for index in 0..first.len().max(second.len()) {
+    let length = first.len().max(second.len());
+    let mut both = Vec::with_capacity(alloc, length)?;
+    for index in 0..length {
         both.push(count_at(first, index).max(count_at(second, index)))?;
     }
     Ok(both)
@@ -45,8 +46,9 @@ pub fn with_count(
     ensures counts { IfOk result (λ new. (i : ℕ) → slice_index_or new.items i 0 ≡ (if i == at then count else slice_index_or clock.now i 0)) }
     ensures len { IfOk result (λ new. vec_len new ≡ max (length clock.now) (at + 1)) }
 {
-    let mut new = Vec::new(alloc);
-    for index in 0..clock.len().max(at + 1) {
+    let length = clock.len().max(at + 1);
+    let mut new = Vec::with_capacity(alloc, length)?;
+    for index in 0..length {
         new.push(if index == at {
             count
         } else {
