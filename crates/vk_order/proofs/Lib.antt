@@ -26,3 +26,4 @@ mod TallyLemmas
 mod SightLemmas
 mod FollowLemmas
 mod StampedLemmas
+pub mod PlaceLemmas

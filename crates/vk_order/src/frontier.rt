@@ -25,9 +25,9 @@ use crate::sights::Sight;
 use crate::tallies::{LineTally, join_of, line_index, lines_copied, list_line, tally};
 use std::alloc::{AllocError, Global};
 
-/// What is known of the nodes so far, for those that come next: of each line how many there are, and
-/// what comes after all of them; and what comes after submits, signals and elements of sets, each by
-/// its name. Its size grows with the names and the lines, and not with the nodes.
+/// What is known of the nodes so far, for those that come next: of each line how many there are,
+/// and what comes after all of them; and what comes after submits, signals and elements of sets, by
+/// their names. Its size grows with the names and the lines, and not with the nodes.
 #[derive(Drop)]
 pub struct Frontier {
     alloc: Global,

@@ -52,8 +52,8 @@ pub fn own_front(
     })
 }
 
-/// The clock of what comes after a node of a line, from its own clock, the index of the line and how
-/// many nodes of the line came earlier: it counts the node too.
+/// The clock of what comes after a node of a line, from its own clock, the index of the line and
+/// how many nodes of the line came earlier: it counts the node too.
 fn own_clock(
     alloc: Global,
     clock: &[usize],

@@ -23,9 +23,9 @@ use std::marker::Model;
 
 /// The points so far, and the order of their nodes: which node comes before which.
 ///
-/// A node is a host entry, a wait or a signal of a batch, a clear or copy command, or one element of
-/// a barrier, a set or an await. Nodes are known by their numbers, from 0 on, in the order in which
-/// they came. Contracts see the nodes, the newest first.
+/// A node is a host entry, a wait or a signal of a batch, a clear or copy command, or one element
+/// of a barrier, a set or an await. Nodes are known by their numbers, from 0 on, in the order in
+/// which they came. Contracts see the nodes, the newest first.
 #[derive(Drop)]
 pub struct Points<'a> {
     alloc: Global,
