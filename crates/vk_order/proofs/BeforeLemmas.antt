@@ -9,11 +9,11 @@ use Rattle.vk_model.proofs.Lists.Truths.{bool_same}
 use Rattle.vk_model.proofs.Sync.Paths.{path_of_before, before_of_path, source, target}
 use Rattle.vk_order.specs.declared.acts.Row.{Row}
 use Rattle.vk_order.specs.declared.clocks.Stamp.{Stamp}
-use Rattle.vk_order.specs.declared.clocks.Tally.{Tally}
 use Rattle.vk_order.specs.declared.lines.Line.{Line}
 use Rattle.vk_order.specs.PointViews.{node_of, nodes_after}
 use Rattle.vk_order.specs.Lines.{line_of}
-use Rattle.vk_order.specs.Inner.Kept.{names, index_in, clock_at, IsKept}
+use Rattle.vk_order.specs.Inner.Kept.{clock_at, IsStamped}
+use Rattle.vk_order.specs.Inner.Places.{index_in}
 use Rattle.std.proofs.lemmas.Option.{slice_get-get_or, get_or_from_slice_get}
 use Rattle.vk_model.proofs.Sync.Numbers.{number_below}
 use Rattle.vk_order.proofs.RowLemmas.{numbered_after, length-nodes_after}
@@ -21,25 +21,25 @@ use Rattle.vk_order.proofs.EdgeLemmas.{row_is}
 use Rattle.vk_order.proofs.NamedLemmas.{node_there}
 
 -- the place of one against the clock of the other
-pub counted : (rows : List Row) (stamps : List Stamp) (ts : List Tally) (i j : ℕ) (q r : Row) (s t : Stamp) (l : Line) → IsKept rows stamps ts → slice_get rows i ≡ Some q → slice_get rows j ≡ Some r → slice_get stamps i ≡ Some s → slice_get stamps j ≡ Some t
-    → line_of (node_of i q) ≡ Some l → nat_lt s.place (clock_at (names ts) t.clock.items l) ≡ before (nodes_after [] rows) (node_of i q) (node_of j r)
+pub counted : (rows : List Row) (stamps : List Stamp) (ts : List Line) (i j : ℕ) (q r : Row) (s t : Stamp) (l : Line) → IsStamped rows stamps ts → slice_get rows i ≡ Some q → slice_get rows j ≡ Some r → slice_get stamps i ≡ Some s → slice_get stamps j ≡ Some t
+    → line_of (node_of i q) ≡ Some l → nat_lt s.place (clock_at (ts) t.clock.items l) ≡ before (nodes_after [] rows) (node_of i q) (node_of j r)
 counted rows stamps ts i j q r s t l kept at_i at_j stamp_i stamp_j on =
     let one = kept.stamped i q s at_i stamp_i in
     let two = kept.stamped j r t at_j stamp_j in
     let iff = two.clock.counts l (node_of i q) (node_there rows i q at_i) on in
     let place = one.place l on in
     bool_same _ _
-    (λ h. iff.1 (let lt = ltb-true s.place (clock_at (names ts) t.clock.items l) h in omega arith))
-    (λ h. lt-ltb s.place (clock_at (names ts) t.clock.items l) (let lt = iff.0 h in omega arith))
+    (λ h. iff.1 (let lt = ltb-true s.place (clock_at (ts) t.clock.items l) h in omega arith))
+    (λ h. lt-ltb s.place (clock_at (ts) t.clock.items l) (let lt = iff.0 h in omega arith))
 
-pub counted_at : (rows : List Row) (stamps : List Stamp) (ts : List Tally) (i j at : ℕ) (q r : Row) (s t : Stamp) (l : Line) → IsKept rows stamps ts → slice_get rows i ≡ Some q → slice_get rows j ≡ Some r → slice_get stamps i ≡ Some s → slice_get stamps j ≡ Some t
-    → line_of (node_of i q) ≡ Some l → index_in (names ts) l ≡ Some at → nat_lt s.place (slice_index_or t.clock.items at 0) ≡ before (nodes_after [] rows) (node_of i q) (node_of j r)
+pub counted_at : (rows : List Row) (stamps : List Stamp) (ts : List Line) (i j at : ℕ) (q r : Row) (s t : Stamp) (l : Line) → IsStamped rows stamps ts → slice_get rows i ≡ Some q → slice_get rows j ≡ Some r → slice_get stamps i ≡ Some s → slice_get stamps j ≡ Some t
+    → line_of (node_of i q) ≡ Some l → index_in (ts) l ≡ Some at → nat_lt s.place (slice_index_or t.clock.items at 0) ≡ before (nodes_after [] rows) (node_of i q) (node_of j r)
 counted_at rows stamps ts i j at q r s t l kept at_i at_j stamp_i stamp_j on found =
     ap (λ (o : Option ℕ). nat_lt s.place (Rattle.std.specs.Option.option_map_or (λ k. slice_index_or t.clock.items k 0) o 0)) (sym found)
     ∙ counted rows stamps ts i j q r s t l kept at_i at_j stamp_i stamp_j on
 
-pub uncounted : (rows : List Row) (stamps : List Stamp) (ts : List Tally) (i j : ℕ) (q r : Row) (s t : Stamp) (l : Line) → IsKept rows stamps ts → slice_get rows i ≡ Some q → slice_get rows j ≡ Some r → slice_get stamps i ≡ Some s → slice_get stamps j ≡ Some t
-    → line_of (node_of i q) ≡ Some l → index_in (names ts) l ≡ None → false ≡ before (nodes_after [] rows) (node_of i q) (node_of j r)
+pub uncounted : (rows : List Row) (stamps : List Stamp) (ts : List Line) (i j : ℕ) (q r : Row) (s t : Stamp) (l : Line) → IsStamped rows stamps ts → slice_get rows i ≡ Some q → slice_get rows j ≡ Some r → slice_get stamps i ≡ Some s → slice_get stamps j ≡ Some t
+    → line_of (node_of i q) ≡ Some l → index_in (ts) l ≡ None → false ≡ before (nodes_after [] rows) (node_of i q) (node_of j r)
 uncounted rows stamps ts i j q r s t l kept at_i at_j stamp_i stamp_j on none =
     sym (rw none (zero_least s.place)) ∙ counted rows stamps ts i j q r s t l kept at_i at_j stamp_i stamp_j on
   where

@@ -1,28 +1,23 @@
--- Kept clocks, and the joins that they are made of.
-use Rattle.std.proofs.Common.{◌≡◌, ◌⊎◌, inl, inr, ⊎_elim, ℕ, zero, suc, ◌+◌, ◌<◌, ◌≤◌, ◌^◌, ◌-◌, List, [], ◌∷◌, ◌++◌, length, take, get_or, add-one, Bool, true, false, ◌&&◌, ◌||◌, IsTrue, Option, Some, None, refl, ap, sym, ◌∙◌, subst, arith}
+-- Kept clocks, and the joins that they are made of: lists of counts by the index of a line.
+use Rattle.std.proofs.Common.{◌≡◌, ◌⊎◌, inl, inr, ⊎_elim, ℕ, zero, suc, ◌+◌, ◌<◌, ◌≤◌, List, [], ◌∷◌, ◌++◌, length, take, get_or, add-one, Bool, true, false, ◌&&◌, ◌||◌, Option, Some, None, refl, ap, sym, ◌∙◌, arith}
 use Rattle.std.specs.Prelude.{◌==◌, Contains, ◌↔◌, max, min, slice_get, slice_index_or, position, is_some, if◌then◌else◌}
 use Rattle.std.specs.Option.{option_map_or}
 use Rattle.std.specs.List.{list_any}
-use Rattle.std.proofs.lemmas.Bool.{eq-eqb, eqb-true, ne_eqb}
-use Rattle.std.proofs.lemmas.List.{take_all}
+use Rattle.std.proofs.lemmas.Bool.{eq-eqb, ne_eqb}
 use Rattle.std.proofs.lemmas.List.Folds.{list_any-append}
 use Rattle.std.proofs.lemmas.List.Quantifiers.{position-Some}
-use Rattle.std.proofs.lemmas.Option.{slice_get_within, slice_get-get_or, get_or_from_slice_get}
+use Rattle.std.proofs.lemmas.Option.{slice_get_within, slice_get-get_or}
 use Rattle.std.proofs.Math.Seq.{take-suc}
 use Rattle.vk_model.specs.Basics.{holds}
 use Rattle.vk_model.specs.Sync.Node.{Node, Hosts, Waits, Signals, Runs, Depends, Barrier, SetOf, AwaitOf}
-use Rattle.vk_model.proofs.Lists.Members.{none_in, member_passes, some_member, any_same}
-use Rattle.vk_model.proofs.Lists.Truths.{no, bool_same}
-use Rattle.vk_order.specs.declared.acts.Row.{Row}
-use Rattle.vk_order.specs.declared.clocks.Stamp.{Stamp}
-use Rattle.vk_order.specs.declared.clocks.Tally.{Tally}
+use Rattle.vk_model.proofs.Lists.Truths.{no}
 use Rattle.vk_order.specs.declared.lines.Line.{Line}
-use Rattle.vk_order.specs.PointViews.{nodes_after}
 use Rattle.vk_order.specs.Lines.{line_of, class_of}
 use Rattle.vk_order.specs.Inner.Leads.{is_of_sets}
 use Rattle.vk_order.specs.Inner.Clocks.{same_line, on_line, place, Clock, IsClock, IsJoin, joined, itself}
-use Rattle.vk_order.specs.Inner.Kept.{names, index_in, clock_at, IsStamp, IsKeptJoin, IsKept, IsOwn}
-use Rattle.vk_order.proofs.ClockLemmas.{line_itself, line_same, is_on, of_on, joins_meet, join_same}
+use Rattle.vk_order.specs.Inner.Kept.{clock_at, IsKeptJoin, IsOwn}
+use Rattle.vk_order.specs.Inner.Places.{index_in}
+use Rattle.vk_order.proofs.ClockLemmas.{line_same, is_on, of_on, joins_meet, join_same}
 
 -- ---- equal clocks
 
@@ -102,58 +97,6 @@ any-step f xs i d lt = rw (add-one, take-suc xs i d lt, list_any-append f (take 
     last true = refl
     last false = refl
 
--- ---- the joins of the lines that pass a test
-
--- the nodes of the first lines, of those that pass
-abbrev pub of_first : (Line → Bool) → List Tally → ℕ → Node → Bool
-of_first passes ts i k = list_any (λ t. passes t.line && same_line t.line (class_of k)) (take i ts)
-
-module _ (rows : List Row) (stamps : List Stamp) (ts : List Tally) (kept : IsKept rows stamps ts) (passes : Line → Bool) where
-  abbrev all : List Node
-  all = nodes_after [] rows
-
-  pub lines-on : (i : ℕ) (d : Tally) (clock both : List ℕ) → i < length ts → passes (get_or ts i d).line ≡ true
-      → ((j : ℕ) → slice_index_or both j 0 ≡ max (slice_index_or clock j 0) (slice_index_or (get_or ts i d).join.items j 0)) → length both ≡ max (length clock) (length (get_or ts i d).join.items)
-      → IsKeptJoin all (names ts) (of_first passes ts i) clock → IsKeptJoin all (names ts) (of_first passes ts (i + 1)) both
-  lines-on i d clock both lt is counts len j =
-      let t : Tally = get_or ts i d in
-      same_kept all (names ts) (λ k. of_first passes ts i k || same_line t.line (class_of k)) (of_first passes ts (i + 1)) both
-      (λ k c. sym (any-step (λ t. passes t.line && same_line t.line (class_of k)) ts i d lt ∙ ap (λ (b : Bool). of_first passes ts i k || (b && same_line t.line (class_of k))) is))
-      (joins_kept all (names ts) (of_first passes ts i) (λ k. same_line t.line (class_of k)) clock t.join.items both counts len j (kept.tallied i t (slice_get-get_or ts i d lt)).join)
-
-  pub lines-past : (i : ℕ) (d : Tally) (clock : List ℕ) → i < length ts → passes (get_or ts i d).line ≡ false
-      → IsKeptJoin all (names ts) (of_first passes ts i) clock → IsKeptJoin all (names ts) (of_first passes ts (i + 1)) clock
-  lines-past i d clock lt is j =
-      same_kept all (names ts) (of_first passes ts i) (of_first passes ts (i + 1)) clock
-      (λ k c. sym (any-step (λ t. passes t.line && same_line t.line (class_of k)) ts i d lt ∙ ap (λ (b : Bool). of_first passes ts i k || (b && same_line (get_or ts i d).line (class_of k))) is ∙ or-last (of_first passes ts i k))) j
-    where
-      or-last : (t : Bool) → (t || false) ≡ t
-      or-last true = refl
-      or-last false = refl
-
-  -- the line of a node has a tally
-  tally_of : (k : Node) → Contains all k → (t : Tally) × Contains ts t × (t.line ≡ class_of k)
-  tally_of k c = go (index_in (names ts) (class_of k)) refl (kept.listed k c)
-    where
-      go : (o : Option ℕ) → index_in (names ts) (class_of k) ≡ o → IsTrue (is_some o) → (t : Tally) × Contains ts t × (t.line ≡ class_of k)
-      go None e is = no is
-      go (Some i) e is = from i (slice_get ts i) refl (sym (Rattle.std.proofs.lemmas.Option.slice_get-map (λ t. t.line) ts i) ∙ found_line (names ts) (class_of k) i e)
-        where
-          from : (i : ℕ) (o : Option Tally) → slice_get ts i ≡ o → Rattle.std.specs.Prelude.option_map (λ t. t.line) o ≡ Some (class_of k) → (t : Tally) × Contains ts t × (t.line ≡ class_of k)
-          from i None e is = absurd cc
-          from i (Some t) e is = (t, Rattle.vk_model.proofs.Lists.Members.place_has ts i t e, cc)
-
-  pub lines-all : (i : ℕ) (clock : List ℕ) → length ts ≤ i → IsKeptJoin all (names ts) (of_first passes ts i) clock → IsKeptJoin all (names ts) (λ k. passes (class_of k)) clock
-  lines-all i clock le j =
-      same_kept all (names ts) (of_first passes ts i) (λ k. passes (class_of k)) clock same j
-    where
-      same : (k : Node) → Contains all k → of_first passes ts i k ≡ passes (class_of k)
-      same k c =
-          ap (list_any (λ t. passes t.line && same_line t.line (class_of k))) (take_all i ts le)
-          ∙ bool_same _ _
-          (λ h. let r = some_member _ ts h in let both = Rattle.std.proofs.lemmas.Bool.and_parts (passes r.0.line) (same_line r.0.line (class_of k)) r.2 in ap passes (sym (line_same r.0.line (class_of k) both.1)) ∙ both.0)
-          (λ h. let r = tally_of k c in member_passes _ ts r.0 r.1 (Rattle.std.proofs.lemmas.Bool.and_from (passes r.0.line) (same_line r.0.line (class_of k)) (ap passes r.2 ∙ h) (ap (λ (l : Line). same_line l (class_of k)) r.2 ∙ line_itself (class_of k))))
-
 -- ---- a node by itself
 
 pub own_line : (ns : List Node) (ls : List Line) (n : Node) (clock own : List ℕ) (at : ℕ) (line : Line) → index_in ls line ≡ Some at → line_of n ≡ Some line
@@ -218,20 +161,6 @@ no_line_of n line is e = set_line n.point.queue n.act (ap is_of_sets is ∙ e)
 pub its_line : (n : Node) (line : Line) → class_of n ≡ line → is_of_sets line ≡ false → line_of n ≡ Some line
 its_line n line is e = true_line n.point.queue n.act (ap is_of_sets is ∙ e) ∙ ap Some is
 
--- what comes after a node of a set
-pub own_of_set : (ns : List Node) (ls : List Line) (n : Node) (s : Stamp) (line : Line) (own : List ℕ) → IsStamp ns ls n s → class_of n ≡ line → is_of_sets line ≡ true → own ≡ s.clock.items → IsOwn ns ls n s.clock.items own
-own_of_set ns ls n s line own stamp is e same = subst (λ (c : List ℕ). IsOwn ns ls n s.clock.items c) (sym same) (own_none ns ls n s.clock.items (no_line_of n line is e) stamp.short)
-
--- and after a node of a line
-pub own_of_line : (ns : List Node) (ls : List Line) (n : Node) (s : Stamp) (line : Line) (at : ℕ) (own : List ℕ) → IsStamp ns ls n s → class_of n ≡ line → is_of_sets line ≡ false → index_in ls line ≡ Some at → length ns < 2 ^ 63
-    → ((i : ℕ) → slice_index_or own i 0 ≡ (if i == at then min (s.place + 1) (2 ^ 64 - 1) else slice_index_or s.clock.items i 0)) → length own ≡ max (length s.clock.items) (at + 1) → IsOwn ns ls n s.clock.items own
-own_of_line ns ls n s line at own stamp is e found small counts len =
-    let on = its_line n line is e in
-    let here : s.place ≡ place ns line n.number = stamp.place line on in
-    let low = place_within ns line n.number in
-    let next : min (s.place + 1) (2 ^ 64 - 1) ≡ place ns line n.number + 1 = omega arith in
-    own_line ns ls n s.clock.items own at line found on (λ i. counts i ∙ ap (λ (m : ℕ). if i == at then m else slice_index_or s.clock.items i 0) next) len stamp.short
-
 class_is : (q : ℕ) (a : Rattle.vk_model.specs.Sync.Node.Act) (l : Line) → Rattle.vk_order.specs.Lines.line_on q a ≡ Some l → Rattle.vk_order.specs.Lines.class_on q a ≡ l
 class_is q (Hosts x) l e = cc
 class_is q (Waits s) l e = cc
@@ -244,5 +173,3 @@ class_is q (Depends (AwaitOf v k) x) l e = cc
 -- the line of a node
 pub line_class : (n : Node) (l : Line) → line_of n ≡ Some l → class_of n ≡ l
 line_class n l e = class_is n.point.queue n.act l e
-
-pub ruleset own_clocks = (own_of_set, own_of_line)

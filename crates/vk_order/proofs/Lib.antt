@@ -13,11 +13,17 @@ mod ClockLemmas
 mod LineTests
 mod KeptLemmas
 mod NamedLemmas
-mod StampLemmas
 mod ListLemmas
-mod NamingLemmas
-mod ComingLemmas
-mod CopyLemmas
 mod PointLemmas
 mod BeforeLemmas
 mod SetLemmas
+mod RowJoins
+mod FrontLemmas
+mod NameLemmas
+mod WaitLemmas
+mod OwnLemmas
+mod TallyLemmas
+mod SightLemmas
+mod FollowLemmas
+mod StampedLemmas
+pub mod PlaceLemmas

@@ -1,5 +1,5 @@
 -- The rows of a point can come next.
-use Rattle.std.proofs.Common.{◌≡◌, ℕ, zero, suc, ◌+◌, ◌<◌, ◌^◌, List, [], ◌∷◌, length, map, Bool, true, false, ◌&&◌, Some, refl, ap, sym, ◌∙◌, arith}
+use Rattle.std.proofs.Common.{◌≡◌, ℕ, zero, suc, ◌+◌, ◌<◌, List, [], ◌∷◌, length, map, Bool, true, false, ◌&&◌, Some, refl, ap, sym, ◌∙◌, arith}
 use Rattle.std.specs.Prelude.{Contains, slice_get, option_map}
 use Rattle.std.specs.List.{enumerate_from}
 use Rattle.std.proofs.lemmas.Bool.{eq-eqb}
@@ -14,9 +14,9 @@ use Rattle.vk_model.specs.Sync.Node.{Node, Act, Role, Hosts, Waits, Signals, Run
 use Rattle.vk_model.specs.Sync.Edge.{edge, siblings, is_element, waited_by, pairs}
 use Rattle.vk_order.specs.declared.acts.Row.{Row}
 use Rattle.vk_order.specs.declared.point.Point.{Point}
-use Rattle.vk_order.specs.PointViews.{act_of, action_of, point_of, node_of, nodes_after}
+use Rattle.vk_order.specs.PointViews.{act_of, action_of, point_of, node_of}
 use Rattle.vk_order.specs.Queries.{IsNew}
-use Rattle.vk_order.specs.Inner.Kept.{CanCome}
+use Rattle.vk_order.specs.Inner.Tallies.{CanFollow}
 use Rattle.vk_model.proofs.Lists.Members.{place_has}
 use Rattle.vk_order.proofs.Arrange.{holds-false}
 use Rattle.vk_order.proofs.ElementPlaces.{element_of}
@@ -96,12 +96,12 @@ no_links ns i j p (Depends r x) (Runs y) quiet = absurd (let h = quiet.second in
 
 -- ---- the rows of a point
 
-module _ (rows fresh : List Row) (p : Point) (points : (i : ℕ) (r : Row) → slice_get fresh i ≡ Some r → r.point ≡ p) (are : map (λ r. act_of r.act) fresh ≡ acts (action_of p.action))
-    (new : IsNew (point_of p) (nodes_after [] rows)) (few : length rows + length fresh + 1 < 2 ^ 63) where
+module _ (ns : List Node) (fresh : List Row) (p : Point) (points : (i : ℕ) (r : Row) → slice_get fresh i ≡ Some r → r.point ≡ p) (are : map (λ r. act_of r.act) fresh ≡ acts (action_of p.action))
+    (new : IsNew (point_of p) ns) where
   act_at : (i : ℕ) (r : Row) → slice_get fresh i ≡ Some r → slice_get (acts (action_of p.action)) i ≡ Some (act_of r.act)
   act_at i r e = ap (λ (l : List Act). slice_get l i) (sym are) ∙ slice_get-map (λ r. act_of r.act) fresh i ∙ ap (option_map (λ r. act_of r.act)) e
 
-  apart : (i : ℕ) (r : Row) → slice_get fresh i ≡ Some r → (k : Node) → Contains (nodes_after [] rows) k → siblings k (node_of (length rows + i) r) ≡ false
+  apart : (i : ℕ) (r : Row) → slice_get fresh i ≡ Some r → (k : Node) → Contains ns k → siblings k (node_of (length ns + i) r) ≡ false
   apart i r e k c = go (is_element k.act) (is_element (act_of r.act)) refl refl
     where
       go : (b d : Bool) → is_element k.act ≡ b → is_element (act_of r.act) ≡ d → (b && d && same_place k.point (point_of r.point)) ≡ false
@@ -111,12 +111,12 @@ module _ (rows fresh : List Row) (p : Point) (points : (i : ℕ) (r : Row) → s
           let of = element_of (action_of p.action) (act_of r.act) (place_has (acts (action_of p.action)) i (act_of r.act) (act_at i r e)) g in
           ap (λ (x : Point). same_place k.point (point_of x)) (points i r e) ∙ new of.0 of.1 k c f
 
-  quiet : (i j : ℕ) (q r : Row) → slice_get fresh i ≡ Some q → slice_get fresh j ≡ Some r → i < j → (ns : List Node) → edge ns (node_of (length rows + i) q) (node_of (length rows + j) r) ≡ false
-  quiet i j q r e f lt ns =
+  quiet : (i j : ℕ) (q r : Row) → slice_get fresh i ≡ Some q → slice_get fresh j ≡ Some r → i < j → (all : List Node) → edge all (node_of (length ns + i) q) (node_of (length ns + j) r) ≡ false
+  quiet i j q r e f lt all =
       let both = of_action (action_of p.action) i j (act_of q.act) (act_of r.act) lt (act_at i q e) (act_at j r f) in
-      ap (λ (x : Point). edge ns (record { number = length rows + i; point = point_of x; act = act_of q.act }) (record { number = length rows + j; point = point_of r.point; act = act_of r.act })) (points i q e)
-      ∙ ap (λ (x : Point). edge ns (record { number = length rows + i; point = point_of p; act = act_of q.act }) (record { number = length rows + j; point = point_of x; act = act_of r.act })) (points j r f)
-      ∙ no_links ns (length rows + i) (length rows + j) (point_of p) (act_of q.act) (act_of r.act) both
+      ap (λ (x : Point). edge all (record { number = length ns + i; point = point_of x; act = act_of q.act }) (record { number = length ns + j; point = point_of r.point; act = act_of r.act })) (points i q e)
+      ∙ ap (λ (x : Point). edge all (record { number = length ns + i; point = point_of p; act = act_of q.act }) (record { number = length ns + j; point = point_of x; act = act_of r.act })) (points j r f)
+      ∙ no_links all (length ns + i) (length ns + j) (point_of p) (act_of q.act) (act_of r.act) both
 
   first_act : (l : List Act) (j : ℕ) (b : Act) → 0 < j → slice_get l j ≡ Some b → (a : Act) × (slice_get l 0 ≡ Some a)
   first_act [] j b lt e = absurd cc
@@ -127,5 +127,5 @@ module _ (rows fresh : List Row) (p : Point) (points : (i : ℕ) (r : Row) → s
       let first = first_act (acts (action_of p.action)) j (act_of r.act) lt (act_at j r e) in
       element_waits (act_of r.act) (of_action (action_of p.action) 0 j first.0 (act_of r.act) lt first.1 (act_at j r e)).second
 
-  pub can_come : CanCome rows fresh
-  can_come = record { few = few; apart = apart; quiet = quiet; later = later }
+  pub can_follow : CanFollow ns fresh
+  can_follow = record { apart = apart; quiet = quiet; later = later }

@@ -3,3 +3,10 @@ pub mod Reaches
 pub mod Clocks
 pub mod Leads
 pub mod Kept
+pub mod Rows
+pub mod Fronts
+pub mod Keyed
+pub mod Names
+pub mod Tallies
+pub mod Places
+pub mod Ready

@@ -1,5 +1,7 @@
 pub mod PointViews
 pub mod Queries
+pub mod Wide
+pub mod Frontiers
 pub mod Lines
 pub mod Places
 pub mod Prefixes

@@ -1,10 +1,9 @@
-ghost use Rattle.std.specs.Prelude.{◌≡◌, [], false, option_map};
+ghost use Rattle.std.specs.Prelude.{◌≡◌, option_map};
 ghost use Rattle.vk_model.specs.Basics.{holds, has_some};
 ghost use Rattle.vk_model.specs.World.Ownership.{dependency_of};
 ghost use Rattle.vk_model.specs.Sync.Edge as edge;
 ghost use Rattle.vk_model.specs.Sync.Edge.{by_host, by_stages, by_signal, by_all_commands, pairs};
 ghost use Rattle.vk_order.specs.PointViews.{act_of, node_of};
-ghost use Rattle.vk_order.specs.Prefixes.{submits};
 ghost use Rattle.vk_order.specs.Inner.Links.{unsignaled};
 
 use crate::point::{Act, Point};
@@ -15,7 +14,8 @@ use vk_model::{Element, Entry, Stages};
 pub const TRANSFERS: Stages = Stages(Stages::TRANSFER.0 | Stages::ALL_COMMANDS.0);
 
 impl Act<'_> {
-    fn is_host(&self) -> bool
+    /// Whether it is an entry of the host.
+    pub fn is_host(&self) -> bool
         ensures { result ≡ edge.is_host (act_of self.now) }
     {
         matches!(self, Act::Hosts(_))
@@ -61,13 +61,6 @@ impl Act<'_> {
             Act::Signals(signal) => signal.stages.contains(Stages::ALL_COMMANDS),
             _ => false,
         }
-    }
-
-    /// Whether it waits for semaphores.
-    pub fn waits(&self) -> bool
-        ensures { result ≡ false → edge.waited_by (act_of self.now) ≡ [] }
-    {
-        matches!(self, Act::Waits(_) | Act::Hosts(Entry::Wait { .. }))
     }
 
     /// The stages of what comes before, where there are any.
@@ -166,11 +159,11 @@ impl Row<'_> {
             || self.act.is_submit() && self.point.entry == other.point.entry
     }
 
-    /// Whether this is the submit of the other.
-    pub fn submits(&self, other: &Row<'_>) -> bool
-        ensures { result ≡ submits other.now.point.entry (node_of 0 self.now) }
+    /// Whether it is a submit.
+    pub fn is_submit(&self) -> bool
+        ensures { result ≡ edge.is_submit (act_of self.now.act) }
     {
-        self.act.is_submit() && self.point.entry == other.point.entry
+        self.act.is_submit()
     }
 
     fn on_queue_of(&self, other: &Row<'_>) -> bool

@@ -1,83 +1,53 @@
-ghost use Rattle.std.specs.Prelude.{◌≡◌, ◌++◌, [], ◌<◌, ℕ, IfOk, OnOk, Some, IsTrue, is_some, length, map, slice_get};
-ghost use Rattle.std.specs.Prelude.{List};
+ghost use Rattle.std.specs.Prelude.{◌≡◌, ◌++◌, [], List, IfOk, OnOk, length};
 ghost use Rattle.vk_order.specs.declared.acts.Row.{Row as AnyRow};
 ghost use Rattle.vk_order.specs.declared.clocks.Stamp.{Stamp as AnyStamp};
-ghost use Rattle.vk_order.specs.PointViews.{act_of};
-ghost use Rattle.vk_order.specs.Lines.{class_on};
-ghost use Rattle.vk_order.specs.Inner.Kept.{names, index_in, tally_view, IsKept, CanCome, AreListed};
+ghost use Rattle.vk_order.specs.PointViews.{nodes_after};
+ghost use Rattle.vk_order.specs.Inner.Kept.{IsStamped};
+ghost use Rattle.vk_order.specs.Inner.Tallies.{lines_of, CanFollow, AreOnLines, AreFronts};
+ghost use Rattle.vk_order.specs.Frontiers.{IsFrontier};
 
 use crate::acts::Row;
-use crate::clocks::{Stamp, Tally};
-use crate::joins::clock_of;
+use crate::clocks::Stamp;
+use crate::frontier::Frontier;
+use crate::fronts::Front;
 use crate::lines::Line;
-use crate::naming::named;
-use crate::stamps::{list_line, stamp};
 use std::alloc::{AllocError, Global};
 
-/// What rows add: their stamps, and the tallies with them.
-#[derive(Drop)]
-pub struct Added {
-    /// Their stamps, in order.
-    pub stamps: Vec<Stamp>,
-    /// All tallies.
-    pub tallies: Vec<Tally>,
-}
-
-#[tactic(auto, using(crate::proofs::CopyLemmas::copies))]
-fn copied(alloc: Global, tallies: &[Tally]) -> Result<Vec<Tally>, AllocError>
-    ensures { IfOk result (λ copies. map tally_view copies.items ≡ map tally_view tallies.now) }
-{
-    let mut copies = Vec::new(alloc);
-    for tally in tallies {
-        let join = Vec::from_slice(alloc, tally.join.as_slice())?;
-        copies.push(Tally {
-            line: tally.line,
-            count: tally.count,
-            join,
-        })?;
-    }
-    Ok(copies)
-}
-
-/// Lists the lines of rows.
-pub fn list_lines(
-    alloc: Global,
-    tallies: &mut Vec<Tally>,
-    rows: &[Row<'_>],
-) -> Result<(), AllocError>
-    ensures listed { OnOk result (AreListed (names tallies.new.items) rows.now) }
-    ensures kept { (old : List AnyRow) (stamps : List AnyStamp) → IsKept old stamps tallies.old.items → IsKept old stamps tallies.new.items }
-{
-    for row in rows {
-        list_line(alloc, tallies, Line::of(row.point.queue, &row.act))?;
-    }
-    Ok(())
-}
-
-/// Stamps rows that come next.
+/// Adds rows that come next. Answers their stamps.
 pub fn stamped(
     alloc: Global,
+    frontier: &mut Frontier,
     rows: &[Row<'_>],
-    stamps: &[Stamp],
-    tallies: &[Tally],
-    fresh: &[Row<'_>],
-) -> Result<Added, AllocError>
-    requires lengths { length stamps.now ≡ length rows.now }
-    requires listed { AreListed (names tallies.now) fresh.now }
-    ensures { IfOk result (λ more. IsKept rows.now stamps.now tallies.now → CanCome rows.now fresh.now
-        → IsKept (rows.now ++ fresh.now) (stamps.now ++ more.stamps.items) more.tallies.items) }
+) -> Result<Vec<Stamp>, AllocError>
+    ensures { IfOk result (λ more. (old : List AnyRow) (stamps : List AnyStamp) → IsStamped old stamps (lines_of frontier.old.tallies.items) → IsFrontier frontier.old (nodes_after [] old) → CanFollow (nodes_after [] old) rows.now
+        → IsStamped (old ++ rows.now) (stamps ++ more.items) (lines_of frontier.new.tallies.items) × IsFrontier frontier.new (nodes_after [] (old ++ rows.now))) }
 {
-    let mut grown = copied(alloc, tallies)?;
+    frontier.list(rows)?;
+    let fronts = frontier.fronts_of(rows)?;
+    let more = stamps_of(alloc, frontier, rows, fronts.as_slice())?;
+    Ok(more)
+}
+
+/// Adds rows that come next, whose lines are listed, with what each comes after.
+fn stamps_of(
+    alloc: Global,
+    frontier: &mut Frontier,
+    rows: &[Row<'_>],
+    fronts: &[Front],
+) -> Result<Vec<Stamp>, AllocError>
+    requires lengths { length fronts.now ≡ length rows.now }
+    requires listed { AreOnLines (lines_of frontier.old.tallies.items) rows.now }
+    ensures { IfOk result (λ more. (old : List AnyRow) (stamps : List AnyStamp) → IsStamped old stamps (lines_of frontier.old.tallies.items) → IsFrontier frontier.old (nodes_after [] old) → CanFollow (nodes_after [] old) rows.now
+        → AreFronts (nodes_after [] old) (lines_of frontier.old.tallies.items) rows.now fronts.now
+        → IsStamped (old ++ rows.now) (stamps ++ more.items) (lines_of frontier.new.tallies.items) × IsFrontier frontier.new (nodes_after [] (old ++ rows.now))) }
+{
     let mut more = Vec::new(alloc);
-    for row in fresh {
-        let named = named(alloc, rows, row)?;
-        let clock = clock_of(alloc, rows, stamps, tallies, named.as_slice(), row)?;
-        let line = Line::of(row.point.queue, &row.act);
-        let stamp = stamp(alloc, &mut grown, line, clock)?;
-        more.push(stamp)?;
+    for (index, row) in rows.iter().enumerate() {
+        let place = frontier.count(Line::of(row.point.queue, &row.act));
+        let front = &fronts[index];
+        let clock = Vec::from_slice(alloc, front.clock.as_slice())?;
+        frontier.add(row, front)?;
+        more.push(Stamp { place, clock })?;
     }
-    Ok(Added {
-        stamps: more,
-        tallies: grown,
-    })
+    Ok(more)
 }

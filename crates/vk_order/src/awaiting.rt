@@ -22,7 +22,7 @@ pub struct Reach {
 }
 
 /// What a node signals.
-fn signal_of(act: &Act<'_>) -> Option<SemaphoreValue>
+pub fn signal_of(act: &Act<'_>) -> Option<SemaphoreValue>
     ensures { option_map (λ x. (x.semaphore, x.value)) result ≡ signaled_by (act_of act.now) }
 {
     match act {

@@ -1,7 +1,5 @@
 ghost use Rattle.std.specs.Prelude.{◌≡◌, ◌≤◌, ◌<◌, ◌+◌, ◌^◌, ◌==◌, [], ℕ, List, IfOk, OnOk, Some, max, map, length, position, slice_get, slice_set, slice_index_or, if◌then◌else◌, vec_len};
-ghost use Rattle.vk_order.specs.Inner.Clocks.{same_line};
 
-use crate::lines::Line;
 use std::alloc::{AllocError, Global};
 
 /// Where a node is in the order.
@@ -12,27 +10,6 @@ pub struct Stamp {
     /// How many nodes of each line are before it, in the order of the lines; none of those that are
     /// left out.
     pub clock: Vec<usize>,
-}
-
-/// What is known of a line.
-#[derive(Drop)]
-pub struct Tally {
-    /// The line.
-    pub line: Line,
-    /// How many nodes it has.
-    pub count: usize,
-    /// The clock of what comes after all of them.
-    pub join: Vec<usize>,
-}
-
-/// The index of a line.
-pub fn index_of(tallies: &[Tally], line: Line) -> Option<usize>
-    ensures { result ≡ position (λ m. same_line m line) (map (λ t. t.line) tallies.now) }
-{
-    tallies
-        .iter()
-        .map(|tally| tally.line)
-        .position(|own| own.is(line))
 }
 
 /// The count at an index.
@@ -50,8 +27,9 @@ pub fn joined(alloc: Global, first: &[usize], second: &[usize]) -> Result<Vec<us
     ensures counts { IfOk result (λ both. (i : ℕ) → slice_index_or both.items i 0 ≡ max (slice_index_or first.now i 0) (slice_index_or second.now i 0)) }
     ensures len { IfOk result (λ both. vec_len both ≡ max (length first.now) (length second.now)) }
 {
-    let mut both = Vec::new(alloc);
-    for index in 0..first.len().max(second.len()) {
+    let length = first.len().max(second.len());
+    let mut both = Vec::with_capacity(alloc, length)?;
+    for index in 0..length {
         both.push(count_at(first, index).max(count_at(second, index)))?;
     }
     Ok(both)
@@ -68,8 +46,9 @@ pub fn with_count(
     ensures counts { IfOk result (λ new. (i : ℕ) → slice_index_or new.items i 0 ≡ (if i == at then count else slice_index_or clock.now i 0)) }
     ensures len { IfOk result (λ new. vec_len new ≡ max (length clock.now) (at + 1)) }
 {
-    let mut new = Vec::new(alloc);
-    for index in 0..clock.len().max(at + 1) {
+    let length = clock.len().max(at + 1);
+    let mut new = Vec::with_capacity(alloc, length)?;
+    for index in 0..length {
         new.push(if index == at {
             count
         } else {

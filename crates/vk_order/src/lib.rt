@@ -1,22 +1,32 @@
 //! What comes before what: the laws of order and visibility, and the order of points.
 #![tactic(auto)]
 
+mod access;
 mod acts;
 mod adding;
 mod awaiting;
 mod before;
 mod clocks;
-mod joins;
+mod frontier;
+mod fronts;
+mod keyed;
 mod laws;
 mod lines;
-mod naming;
+mod names;
+mod owning;
 mod point;
 mod points;
-mod stamps;
+mod rows;
+mod sights;
+mod tallies;
 
+pub use access::Access;
+pub use frontier::Frontier;
 pub use laws::{
     commands_seen, counterexamples, elements_are_together, host_seen, last_write_seen, prefixes,
     seen_through,
 };
-pub use point::{Action, Point};
+pub use lines::Line;
+pub use point::{Act, Action, Point};
 pub use points::Points;
+pub use sights::Sight;

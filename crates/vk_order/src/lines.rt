@@ -3,6 +3,7 @@ ghost use Rattle.vk_order.specs.PointViews.{act_of};
 ghost use Rattle.vk_order.specs.Lines.{class_on, element_class};
 ghost use Rattle.vk_order.specs.Inner.Clocks.{same_line};
 ghost use Rattle.vk_order.specs.Inner.Leads as leads;
+ghost use Rattle.vk_order.specs.Inner.Places.{index_in};
 
 use crate::acts::{TRANSFERS, destination_stages, source_stages};
 use crate::point::Act;
@@ -183,4 +184,11 @@ impl Line {
             _ => false,
         }
     }
+}
+
+/// The index of a line among others.
+pub fn index_among(lines: &[Line], line: Line) -> Option<usize>
+    ensures { result ≡ index_in lines.now line }
+{
+    lines.iter().map(|own| *own).position(|own| own.is(line))
 }

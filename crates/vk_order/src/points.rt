@@ -10,25 +10,30 @@ ghost use Rattle.vk_order.specs.Queries.{led_to, IsNew};
 ghost use Rattle.vk_order.specs.declared.point.Action.TheVariants.{Host};
 
 use crate::acts::Row;
-use crate::adding::{Added, list_lines, stamped};
+use crate::adding::stamped;
 use crate::awaiting::{Reach, is_awaited, passed, reach_of};
 use crate::before::is_before;
-use crate::clocks::{Stamp, Tally};
-use crate::point::{Point, acts_of};
+use crate::clocks::Stamp;
+use crate::frontier::Frontier;
+use crate::lines::Line;
+use crate::point::Point;
+use crate::rows::rows_of;
 use std::alloc::{AllocError, Global};
 use std::marker::Model;
 
 /// The points so far, and the order of their nodes: which node comes before which.
 ///
-/// A node is a host entry, a wait or a signal of a batch, a clear or copy command, or one element of
-/// a barrier, a set or an await. Nodes are known by their numbers, from 0 on, in the order in which
-/// they came. Contracts see the nodes, the newest first.
+/// A node is a host entry, a wait or a signal of a batch, a clear or copy command, or one element
+/// of a barrier, a set or an await. Nodes are known by their numbers, from 0 on, in the order in
+/// which they came. Contracts see the nodes, the newest first.
 #[derive(Drop)]
 pub struct Points<'a> {
     alloc: Global,
     rows: Vec<Row<'a>>,
     stamps: Vec<Stamp>,
-    tallies: Vec<Tally>,
+    lines: Vec<Line>,
+    /// There is none once memory was wanting.
+    frontier: Option<Frontier>,
 }
 
 impl<'a> Model for Points<'a> {
@@ -40,9 +45,9 @@ impl<'a> Model for Points<'a> {
 
     ghost view = { λ p. nodes_after [] p.rows.items };
 
-    ghost use Rattle.vk_order.specs.Inner.Kept.{IsKept};
+    ghost use Rattle.vk_order.specs.Inner.Ready.{IsReady};
 
-    ghost invariant = { λ p. IsKept p.rows.items p.stamps.items p.tallies.items };
+    ghost invariant = { λ p. IsReady p.rows.items p.stamps.items p.lines.items p.frontier };
 }
 
 #[tactic(auto, using(crate::proofs::RowLemmas::appended))]
@@ -55,7 +60,8 @@ impl<'a> Points<'a> {
             alloc,
             rows: Vec::new(alloc),
             stamps: Vec::new(alloc),
-            tallies: Vec::new(alloc),
+            lines: Vec::new(alloc),
+            frontier: Some(Frontier::new(alloc)),
         }
     }
 
@@ -67,31 +73,26 @@ impl<'a> Points<'a> {
     }
 
     /// Adds the nodes of a point that comes next. The only error is want of memory, which leaves
-    /// the points as they were. It walks over the earlier nodes, for what leads to it by a name.
+    /// the points as they were; after it each further one is refused in the same way.
     pub fn add(&mut self, point: Point<'a>) -> Result<(), AllocError>
         requires { IsNew (point_of point) self.old }
         ensures ok { OnOk result (self.new ≡ with_acts (point_of point.entry) (acts (action_of point.entry.action)) self.old) }
         ensures err { OnErr result (self.new ≡ self.old) }
     {
+        let Some(mut frontier) = self.frontier.take() else {
+            return Err(AllocError);
+        };
         let mut rows = rows_of(self.alloc, point)?;
-        list_lines(self.alloc, &mut self.tallies, rows.as_slice())?;
-        let Added {
-            mut stamps,
-            tallies,
-        } = stamped(
-            self.alloc,
-            self.rows.as_slice(),
-            self.stamps.as_slice(),
-            self.tallies.as_slice(),
-            rows.as_slice(),
-        )?;
+        let mut stamps = stamped(self.alloc, &mut frontier, rows.as_slice())?;
+        let lines = frontier.lines()?;
         let count = self.stamps.len();
         self.stamps.append(&mut stamps)?;
         if let Err(error) = self.rows.append(&mut rows) {
             self.stamps.truncate(count);
             return Err(error);
         }
-        self.tallies = tallies;
+        self.lines = lines;
+        self.frontier = Some(frontier);
         Ok(())
     }
 
@@ -105,7 +106,7 @@ impl<'a> Points<'a> {
         is_before(
             self.rows.as_slice(),
             self.stamps.as_slice(),
-            self.tallies.as_slice(),
+            self.lines.as_slice(),
             first,
             second,
         )
@@ -144,20 +145,6 @@ fn leads_to_next(from: &Row<'_>, reach: Option<Reach>, next: &Row<'_>) -> bool
         → result ≡ (unsignaled (node_of i from.now) (node_of j next.now) || by_semaphore ns (node_of i from.now) (node_of j next.now)) }
 {
     from.leads_to(next) || is_awaited(reach, &next.act)
-}
-
-#[tactic(auto, using(crate::proofs::RowLemmas::rows_pushed))]
-fn rows_of<'a>(alloc: Global, point: Point<'a>) -> Result<Vec<Row<'a>>, AllocError>
-    ensures points { IfOk result (λ rows. (i : ℕ) (r : AnyRow) → slice_get rows.items i ≡ Some r → r.point ≡ point.entry) }
-    ensures acts { IfOk result (λ rows. map (λ r. act_of r.act) rows.items ≡ acts (action_of point.entry.action)) }
-    ensures nodes { IfOk result (λ rows. (ns : List Node) → nodes_after ns rows.items ≡ with_acts (point_of point.entry) (acts (action_of point.entry.action)) ns) }
-{
-    let acts = acts_of(alloc, point.action)?;
-    let mut rows = Vec::new(alloc);
-    for act in &acts {
-        rows.push(Row { point, act: *act })?;
-    }
-    Ok(rows)
 }
 
 #[cfg(test)]

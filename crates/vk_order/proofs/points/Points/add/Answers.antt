@@ -1,12 +1,16 @@
+use Rattle.std.proofs.Common.{◌≡◌, ◌++◌, [], List, Option, Some, refl, sym, subst, rules}
 use Rattle.vk_model.specs.Sync.Node.{Node}
-use Rattle.std.proofs.Common.{sym, ◌≡◌, ◌+◌, ◌<◌, ◌^◌, ◌++◌, [], List, ap, subst, length, arith, rules}
 use Rattle.vk_order.specs.declared.acts.Row.{Row}
-use Rattle.vk_order.specs.declared.clocks.Stamp.{Stamp}
-use Rattle.vk_order.specs.declared.clocks.Tally.{Tally}
+use Rattle.vk_order.specs.declared.frontier.Frontier.{Frontier}
 use Rattle.vk_order.specs.PointViews.{point_of, nodes_after}
 use Rattle.vk_order.specs.Queries.{IsNew}
-use Rattle.vk_order.specs.Inner.Kept.{IsKept, CanCome}
-use Rattle.vk_order.proofs.PointLemmas.{can_come}
+use Rattle.vk_order.specs.Inner.Kept.{IsStamped}
+use Rattle.vk_order.specs.Inner.Ready.{IsOf}
+use Rattle.vk_order.specs.Inner.Tallies.{lines_of, CanFollow}
+use Rattle.vk_order.specs.Frontiers.{IsFrontier}
+use Rattle.vk_order.proofs.ListLemmas.{longer_same}
+use Rattle.vk_order.proofs.PointLemmas.{can_follow}
+use Rattle.vk_order.proofs.StampedLemmas.{stamped_longer}
 use Rattle.vk_order.proofs.points.Points.add.Goals as goal
 
 pub invariant_of-self-2 : goal.invariant_of-self-2
@@ -14,19 +18,17 @@ invariant_of-self-2 c =
     let rows = c.self.inside.rows.items in
     let stamps = c.self.inside.stamps.items in
     let fresh = c.in_ok-rows.rows.items in
-    let tallies = c.list_lines.new.tallies.items in
-    let made = c.in_ok-stamps.field-0 in
+    let more = c.in_ok-stamps.stamps.items in
+    let f : Frontier = c.in-Some.frontier in
+    let g : Frontier = c.stamped.new.frontier in
+    let old : IsOf (Some f) rows c.self.inside.lines.items = subst (λ (o : Option Frontier). IsOf o rows c.self.inside.lines.items) (sym c.in-Some.ensures.value) c.self.invariant.next in
     let new : IsNew (point_of c.args.point) (nodes_after [] rows) = subst (λ (l : List Node). IsNew (point_of c.args.point) l) (sym c.self.view_is) c.requires in
-    let few : length rows + length fresh + 1 < 2 ^ 63 =
-    (let a = ap length c.as_slice-2.ensures.value in let b = ap length c.as_slice-5.ensures.value in let d = c.as_slice-2.type_inv in let e = c.as_slice-5.type_inv in omega arith) in
-    let come : CanCome rows fresh = can_come rows fresh c.args.point c.in_ok-rows.ensures.points c.in_ok-rows.ensures.acts new few in
-    let kept : IsKept rows stamps tallies = c.in_ok-list_lines.ensures.kept rows stamps c.self.invariant in
-    let known : IsKept rows stamps tallies → CanCome rows fresh → IsKept (rows ++ fresh) (stamps ++ made.stamps.items) made.tallies.items =
-    subst (λ (l : List Row). IsKept l stamps tallies → CanCome l fresh → IsKept (l ++ fresh) (stamps ++ made.stamps.items) made.tallies.items) c.as_slice-2.ensures.value
-    (subst (λ (l : List Stamp). IsKept c.as_slice-2.result.now l tallies → CanCome c.as_slice-2.result.now fresh → IsKept (c.as_slice-2.result.now ++ fresh) (l ++ made.stamps.items) made.tallies.items) c.as_slice-3.ensures.value
-    (subst (λ (l : List Tally). IsKept c.as_slice-2.result.now c.as_slice-3.result.now l → CanCome c.as_slice-2.result.now fresh → IsKept (c.as_slice-2.result.now ++ fresh) (c.as_slice-3.result.now ++ made.stamps.items) made.tallies.items) c.as_slice-4.ensures.value
-    (subst (λ (l : List Row). IsKept c.as_slice-2.result.now c.as_slice-3.result.now c.as_slice-4.result.now → CanCome c.as_slice-2.result.now l → IsKept (c.as_slice-2.result.now ++ l) (c.as_slice-3.result.now ++ made.stamps.items) made.tallies.items) c.as_slice-5.ensures.value
-    c.in_ok-stamps.ensures))) in
+    let can : CanFollow (nodes_after [] rows) fresh = can_follow (nodes_after [] rows) fresh c.args.point c.in_ok-rows.ensures.points c.in_ok-rows.ensures.acts new in
+    let was : IsStamped rows stamps (lines_of f.tallies.items) = stamped_longer rows stamps c.self.inside.lines.items (lines_of f.tallies.items) old.1 c.self.invariant.stamped in
+    let known : CanFollow (nodes_after [] rows) fresh → IsStamped (rows ++ fresh) (stamps ++ more) (lines_of g.tallies.items) × IsFrontier g (nodes_after [] (rows ++ fresh)) =
+    subst (λ (l : List Row). CanFollow (nodes_after [] rows) l → IsStamped (rows ++ l) (stamps ++ more) (lines_of g.tallies.items) × IsFrontier g (nodes_after [] (rows ++ l))) c.as_slice.ensures.value
+    (c.in_ok-stamps.ensures rows stamps was old.0) in
     let more_rows : c.append-2.new.self.items ≡ rows ++ fresh = search rules in
-    let more_stamps : c.append.new.self.items ≡ stamps ++ made.stamps.items = search rules in
-    rw (more_rows, more_stamps) (known kept come)
+    let more_stamps : c.append.new.self.items ≡ stamps ++ more = search rules in
+    let lines : c.in_ok-lines.lines.items ≡ lines_of g.tallies.items = c.in_ok-lines.ensures in
+    rw (more_rows, more_stamps, lines) (record { stamped = (known can).0; next = ((known can).1, longer_same (lines_of g.tallies.items) (lines_of g.tallies.items) refl) })

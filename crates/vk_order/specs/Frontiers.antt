@@ -1,0 +1,23 @@
+-- What is known of the nodes so far, for those that come next.
+use Rattle.std.specs.Prelude.{◌≡◌, ◌∷◌, List, length}
+use Rattle.vk_model.specs.Sync.Node.{Node}
+use Rattle.vk_model.specs.Sync.Edge.{edge, is_host}
+use Rattle.vk_model.specs.Sync.Before.{IsNumbered}
+use Rattle.vk_order.specs.declared.frontier.Frontier.{Frontier}
+use Rattle.vk_order.specs.declared.sights.Sight.{Sight}
+use Rattle.vk_order.specs.Inner.Fronts.{IsFront}
+use Rattle.vk_order.specs.Inner.Tallies.{lines_of, IsTallied}
+use Rattle.vk_order.specs.Inner.Names.{IsNames}
+
+-- A frontier is that of the nodes so far, the newest first.
+pub record IsFrontier (f : Frontier) (ns : List Node) : Type 0 where
+  pub numbers : IsNumbered ns
+  pub total : f.nodes ≡ length ns
+  pub tallied : IsTallied ns f.tallies.items
+  pub names : IsNames ns (lines_of f.tallies.items) f.names
+
+-- A sight is that of node n, which comes next after the nodes so far: what is before it, and what it sees.
+pub record IsSight (ns : List Node) (n : Node) (s : Sight) : Type 0 where
+  pub numbers : IsNumbered (n ∷ ns)
+  pub front : IsFront ns s.lines.items (λ k. edge ns k n) s.front
+  pub is_host : s.is_host ≡ is_host n.act

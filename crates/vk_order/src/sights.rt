@@ -1,0 +1,78 @@
+ghost use Rattle.std.specs.Prelude.{◌≡◌, ◌∷◌, ◌<◌, ℕ, Bool, List, IsTrue, Contains, Some, if◌then◌else◌};
+ghost use Rattle.vk_model.specs.World.Bytes.{Byte};
+ghost use Rattle.vk_model.specs.Sync.Node.{Node};
+ghost use Rattle.vk_model.specs.Sync.Before.{before};
+ghost use Rattle.vk_model.specs.Sync.Seen.{seen};
+ghost use Rattle.vk_order.specs.declared.lines.Line.TheVariants.{Commands as OfCommands};
+ghost use Rattle.vk_order.specs.Lines.{line_of};
+ghost use Rattle.vk_order.specs.Wide.{access_of, AreWide, is_answered};
+ghost use Rattle.vk_order.specs.Inner.Clocks.{place};
+ghost use Rattle.vk_order.specs.Inner.Kept.{clock_at};
+ghost use Rattle.vk_order.specs.Inner.Rows.{Visible, OnHost};
+ghost use Rattle.vk_order.specs.Inner.Fronts.{row_in};
+ghost use Rattle.vk_order.specs.Frontiers.{IsSight};
+
+use crate::access::Access;
+use crate::clocks::count_at;
+use crate::fronts::Front;
+use crate::lines::{Line, index_among};
+
+/// What a node that comes next has before it, and what it sees.
+#[derive(Drop)]
+pub struct Sight {
+    is_host: bool,
+    lines: Vec<Line>,
+    front: Front,
+}
+
+impl Sight {
+    /// The sight of a node from the lines so far and its front.
+    pub(crate) fn new(lines: Vec<Line>, front: Front, is_host: bool) -> Sight
+        ensures { result ≡ record { is_host = is_host; lines = lines; front = front } }
+    {
+        Sight {
+            is_host,
+            lines,
+            front,
+        }
+    }
+
+    /// Whether the node comes after the one of a line before which this many came in it.
+    pub fn follows(&self, line: Line, earlier: usize) -> bool
+        ensures { (ns : List Node) (n m : Node) → IsSight ns n self.now → Contains ns m → line_of m ≡ Some line → place ns line m.number ≡ earlier → result ≡ before (n ∷ ns) m n }
+    {
+        earlier < self.count(self.front.clock.as_slice(), line)
+    }
+
+    /// Whether an access of this kind by the node sees the writes of the command of a queue before
+    /// which this many came on it. It is asked where all dependencies are on all memory.
+    pub fn sees(&self, queue: u32, earlier: usize, access: Access) -> bool
+        ensures { (ns : List Node) (n m : Node) (cached : Byte → Bool) (b : Byte) → IsSight ns n self.now → Contains ns m → line_of m ≡ Some (OfCommands queue) → place ns (OfCommands queue) m.number ≡ earlier
+            → AreWide (n ∷ ns) → IsTrue (is_answered cached n.act (access_of access) b) → result ≡ seen cached (n ∷ ns) m n (access_of access) b }
+    {
+        earlier < self.count(self.row(access), Line::Commands(queue))
+    }
+
+    /// The row that answers for an access.
+    fn row(&self, access: Access) -> &[usize]
+        ensures { result.now ≡ row_in (if self.now.is_host then OnHost (access_of access) else Visible (access_of access)) self.now.front }
+    {
+        let front = &self.front;
+        match (self.is_host, access) {
+            (false, Access::Read) => front.reads.as_slice(),
+            (false, Access::Write) => front.writes.as_slice(),
+            (true, Access::Read) => front.host_reads.as_slice(),
+            (true, Access::Write) => front.host_writes.as_slice(),
+        }
+    }
+
+    /// The count that a list has for a line.
+    fn count(&self, counts: &[usize], line: Line) -> usize
+        ensures { result ≡ clock_at self.now.lines.items counts.now line }
+    {
+        match index_among(self.lines.as_slice(), line) {
+            Some(at) => count_at(counts, at),
+            None => 0,
+        }
+    }
+}
