@@ -1,0 +1,3 @@
+pub mod PointViews
+pub mod Inner
+pub mod IsWaiting

@@ -1,0 +1,10 @@
+//! Reference order: where each point of a trace comes, and which batches wait.
+#![tactic(auto)]
+
+mod lines;
+mod submitted;
+mod tallies;
+mod waiting;
+
+pub use submitted::Submitted;
+pub use waiting::Waiting;
