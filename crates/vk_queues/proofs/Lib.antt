@@ -1,5 +1,5 @@
 pub mod Lists
-pub mod Choosing
+pub mod NextBatch
 pub mod Lining
 pub mod Counting
 mod Submitting

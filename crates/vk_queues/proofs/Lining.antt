@@ -4,6 +4,7 @@ use Rattle.std.specs.Prelude.{Contains, ◌==◌, if◌then◌else◌}
 use Rattle.std.specs.List.{filter, list_all}
 use Rattle.std.proofs.lemmas.Bool.{eqb-true, eqb-false, eq-eqb, ne_eqb}
 use Rattle.std.proofs.lemmas.List.Elements.{filter-append, Contains-append_cases}
+use Rattle.std.proofs.lemmas.List.{map-append}
 use Rattle.std.proofs.lemmas.Option.{slice_get-map}
 use Rattle.vk_model.specs.declared.entry.Batch.{Batch}
 use Rattle.vk_model.specs.declared.entry.SemaphoreSubmit.{SemaphoreSubmit}
@@ -11,10 +12,11 @@ use Rattle.vk_model.specs.Trace.Point.{Past}
 use Rattle.vk_model.specs.Trace.Order.{SubmittedBatch, is_met, next_batch, same_batch, batches_from, submitted_batch}
 use Rattle.vk_model.proofs.Lists.Members.{none_in, contains-cons, contains-head, contains-tail, filtered}
 use Rattle.vk_queues.specs.declared.lines.Turn.{Turn}
+use Rattle.vk_queues.specs.declared.lines.Line.{Line}
 use Rattle.vk_queues.specs.declared.lines.Candidate.{Candidate}
-use Rattle.vk_queues.specs.Inner.Lined.{Precedes, turn_of, IsRising, ready_turn, Queued, IsLined, IsBest, AreFirstMet}
+use Rattle.vk_queues.specs.Inner.Lined.{Precedes, turn_of, IsRising, ready_turn, Queued, IsLined, IsBest, AreFirstMet, AreMet, AreAllMet, batches_on, queued, turns}
 use Rattle.vk_queues.proofs.Lists.{set_cases, set_here, set_there, push_cases, push_old, get_below, filter_none, filter_each, filter_wider, filter_swap, list_all_wider}
-use Rattle.vk_queues.proofs.Choosing.{on, without, without_first, none_next, some_next, rising_filter, one_of_turn}
+use Rattle.vk_queues.proofs.NextBatch.{on, without, without_first, none_next, some_next, rising_filter, one_of_turn}
 
 -- ---- one line changes
 
@@ -128,10 +130,7 @@ lined_submit lines k v w waiting past e bs there queue lined is =
 
 -- ---- the line that is next
 
-abbrev pub turns : Past → List Queued → List (Option Turn)
-turns past lines = map (λ v. ready_turn past v.batches) lines
-
-turn_at : (past : Past) (lines : List Queued) (k : ℕ) (v : Queued) → slice_get lines k ≡ Some v → slice_get (turns past lines) k ≡ Some (ready_turn past v.batches)
+pub turn_at : (past : Past) (lines : List Queued) (k : ℕ) (v : Queued) → slice_get lines k ≡ Some v → slice_get (turns past lines) k ≡ Some (ready_turn past v.batches)
 turn_at past lines k v at = slice_get-map (λ (x : Queued). ready_turn past x.batches) lines k ∙ ap (Rattle.std.specs.Option.option_map (λ (x : Queued). ready_turn past x.batches)) at
 
 -- the queue of a batch that is ready has a line, whose turn it is
@@ -184,3 +183,36 @@ none_met past (t ∷ ts) = refl
 pub met_submit : (past : Past) (met : ℕ) (ts us : List SubmittedBatch) → AreFirstMet past met ts → AreFirstMet past met (ts ++ us)
 met_submit past met [] us h = subst (λ (n : ℕ). AreFirstMet past n us) (sym h) (none_met past us)
 met_submit past met (t ∷ ts) us h = h
+
+-- ---- the lines of the code
+
+pub met_set : (past : Past) (lines : List Line) (k : ℕ) (new : Line) → AreAllMet past lines → AreMet past new → AreAllMet past (set lines k new)
+met_set past lines k new old met = λ j l at. elim (set_cases lines k j new l at) [
+  | inl same ↦ subst (AreMet past) (sym same.1) met
+  | inr other ↦ old j l other.1
+]
+
+pub met_push : (past : Past) (lines : List Line) (new : Line) → AreAllMet past lines → new.met ≡ 0 → AreAllMet past (lines ++ new ∷ [])
+met_push past lines new old met = λ j l at. elim (push_cases lines j new l at) [
+  | inl early ↦ old j l early
+  | inr late ↦ subst (AreMet past) (sym late.1) (subst (λ (n : ℕ). AreFirstMet past n (batches_on new)) (sym met) (none_met past (batches_on new)))
+]
+
+-- where no line knows anything
+pub met_nowhere : (past : Past) (lines : List Line) → ((k : ℕ) (l : Line) → k < length lines → slice_get lines k ≡ Some l → l.met ≡ 0) → AreAllMet past lines
+met_nowhere past lines none = λ k l at. subst (λ (n : ℕ). AreFirstMet past n (batches_on l)) (sym (none k l (get_below lines k l at) at)) (none_met past (batches_on l))
+
+pub queued_at : (lines : List Line) (k : ℕ) (l : Line) → slice_get lines k ≡ Some l → slice_get (map queued lines) k ≡ Some (queued l)
+queued_at lines k l at = slice_get-map queued lines k ∙ ap (Rattle.std.specs.Option.option_map queued) at
+
+pub lined_line : (lines : List Line) (new : Line) (q : ℕ) (waiting : List SubmittedBatch) → ((k : ℕ) (l : Line) → slice_get lines k ≡ Some l → l.queue ≢ q) → new.queue ≡ q → batches_on new ≡ []
+    → IsLined (map queued lines) waiting → IsLined (map queued (lines ++ new ∷ [])) waiting
+lined_line lines new q waiting free queue batches lined =
+    let e : Queued = record { queue = q; batches = [] } in
+    let is : queued new ≡ e = rw (queue, batches) refl in
+    subst (λ (l : List Queued). IsLined l waiting) (sym (map-append queued lines (new ∷ []) ∙ ap (λ (v : Queued). map queued lines ++ v ∷ []) is))
+    (lined_push (map queued lines) q waiting lined (λ k v at. go k v at (slice_get lines k) refl))
+  where
+    go : (k : ℕ) (v : Queued) → slice_get (map queued lines) k ≡ Some v → (o : Option Line) → slice_get lines k ≡ o → v.queue ≢ q
+    go k v at None e = absurd (let bad : None ≡ Some v = sym (slice_get-map queued lines k ∙ ap (Rattle.std.specs.Option.option_map queued) e) ∙ at in cc)
+    go k v at (Some l) e = λ same. free k l e (let is : queued l ≡ v = (let s : Some (queued l) ≡ Some v = sym (queued_at lines k l e) ∙ at in cc) in ap (λ (x : Queued). x.queue) is ∙ same)

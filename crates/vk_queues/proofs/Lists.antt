@@ -42,6 +42,10 @@ push_old [] j x y e = absurd cc
 push_old (z ∷ zs) zero x y e = e
 push_old (z ∷ zs) (suc j) x y e = push_old zs j x y e
 
+pub push_new : {X : Type 0} (xs : List X) (x : X) → slice_get (xs ++ x ∷ []) (length xs) ≡ Some x
+push_new [] x = refl
+push_new (z ∷ zs) x = push_new zs x
+
 pub get_below : {X : Type 0} (xs : List X) (j : ℕ) (y : X) → slice_get xs j ≡ Some y → j < length xs
 get_below [] j y e = absurd cc
 get_below (z ∷ zs) zero y e = omega arith

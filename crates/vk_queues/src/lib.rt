@@ -1,6 +1,7 @@
 //! Reference order: where each point of a trace comes, and which batches wait.
 #![tactic(auto)]
 
+mod choosing;
 mod lines;
 mod submitted;
 mod tallies;

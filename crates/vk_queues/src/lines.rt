@@ -1,4 +1,4 @@
-ghost use Rattle.std.specs.Prelude.{◌≡◌, ◌+◌, ◌++◌, ◌<◌, ◌≤◌, [], ℕ, OnOk, IsTrue, ◌↔◌, false, true, length, map, take, List, Option, option_map, slice_get, Some};
+ghost use Rattle.std.specs.Prelude.{◌≡◌, ◌+◌, ◌++◌, ◌<◌, ◌≤◌, [], ℕ, OnOk, IfSome, IsTrue, ◌↔◌, false, true, length, map, take, List, Option, option_map, slice_get, Some};
 ghost use Rattle.std.specs.List.{list_all};
 ghost use Rattle.std.specs.Option.{option_to_list};
 ghost use Rattle.vk_model.specs.Trace.Point.{Past};
@@ -40,7 +40,8 @@ pub struct Candidate {
 
 /// The best candidate, with one line more.
 pub fn better(best: Option<Candidate>, line: usize, turn: Option<Turn>) -> Option<Candidate>
-    ensures { (turns : List (Option AnyTurn)) → slice_get turns line ≡ Some turn → IsBest turns line best → IsBest turns (line + 1) result }
+    ensures within { IfSome best (λ c. c.line < line) → IfSome result (λ c. c.line < line + 1) }
+    ensures best { (turns : List (Option AnyTurn)) → slice_get turns line ≡ Some turn → IsBest turns line best → IsBest turns (line + 1) result }
 {
     let Some(turn) = turn else { return best };
     match best {

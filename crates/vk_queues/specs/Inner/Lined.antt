@@ -43,6 +43,10 @@ AreFirstMet past met (t ∷ ts) = list_all (is_met past) (take met t.waits) ≡ 
 abbrev pub AreMet : Past → Line → Type 0
 AreMet past l = AreFirstMet past l.met (batches_on l)
 
+-- What each line knows to be met is met.
+abbrev pub AreAllMet : Past → List Line → Type 0
+AreAllMet past lines = (k : ℕ) (l : Line) → slice_get lines k ≡ Some l → AreMet past l
+
 -- ---- the lines of all queues
 
 -- The batches of a queue.
@@ -60,7 +64,15 @@ pub record IsLined (lines : List Queued) (waiting : List SubmittedBatch) : Type 
   pub all : (t : SubmittedBatch) → Contains waiting t → (k : ℕ) × (v : Queued) × (slice_get lines k ≡ Some v) × (v.queue ≡ t.queue)
   pub apart : (j k : ℕ) (v w : Queued) → slice_get lines j ≡ Some v → slice_get lines k ≡ Some w → v.queue ≡ w.queue → j ≡ k
 
+-- The line of a queue is at an index.
+abbrev pub HasLine : ℕ → ℕ → List Line → Type 0
+HasLine queue k lines = (l : Line) × (slice_get lines k ≡ Some l) × (l.queue ≡ queue)
+
 -- ---- which line is next
+
+-- The turns of the lines whose first batch can be started.
+abbrev pub turns : Past → List Queued → List (Option Turn)
+turns past lines = map (λ v. ready_turn past v.batches) lines
 
 -- Of the first lines, which one has the first turn; none where none has a turn.
 abbrev pub IsBest : List (Option Turn) → ℕ → Option Candidate → Type 0
