@@ -82,7 +82,7 @@ pub tally_of_host : (past : Past) (e : ℕ) (x : Entry) (id : ℕ) → tally_of 
 tally_of_host past e x id =
     signaled_next (option_and_then (value_for id) (signal_in x)) (signaled past id) (initial (host e x ∷ past) id) (ended (host e x ∷ past) id)
     ∙ ap (λ (o : Option ℕ). with_signal (option_and_then (value_for id) (signal_in x)) (let t : Tally = record { initial = o; signaled = fold max 0 (signaled past id); is_ended = among id (ended_by x) || ended past id } in t))
-        (go (holds (made_by x) (λ j. id == j)))
+    (go (holds (made_by x) (λ j. id == j)))
   where
     go : (b : Bool) → option_and_then semaphore_in (if b then Some x else made past id) ≡ (if b then semaphore_in x else initial past id)
     go true = refl

@@ -1,5 +1,6 @@
 pub mod Lists
+pub mod Counting
 pub mod NextBatch
 pub mod Lining
-pub mod Counting
+pub mod Fronts
 mod Submitting

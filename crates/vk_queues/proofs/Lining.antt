@@ -123,9 +123,9 @@ lined_submit lines k v w waiting past e bs there queue lined is =
     let more : List SubmittedBatch = batches_from past e v.queue 0 bs in
     lined_set lines k v w waiting (waiting ++ more) there queue lined
     (filter-append (on v.queue) waiting more ∙ ap (λ (l : List SubmittedBatch). l ++ filter (on v.queue) more) (lined.each k v there)
-        ∙ ap (λ (l : List SubmittedBatch). v.batches ++ l) (filter_each (on v.queue) more (λ u c. eq-eqb u.queue v.queue (from_batches past e v.queue 0 bs u c).1)) ∙ sym is)
+    ∙ ap (λ (l : List SubmittedBatch). v.batches ++ l) (filter_each (on v.queue) more (λ u c. eq-eqb u.queue v.queue (from_batches past e v.queue 0 bs u c).1)) ∙ sym is)
     (λ q ne. filter-append (on q) waiting more ∙ ap (λ (l : List SubmittedBatch). filter (on q) waiting ++ l) (filter_none (on q) more (λ u c. ne_eqb u.queue q (λ same. ne (sym same ∙ (from_batches past e v.queue 0 bs u c).1))))
-        ∙ append-nil (filter (on q) waiting))
+    ∙ append-nil (filter (on q) waiting))
     (λ t c. ⊎_elim (λ old. inl old) (λ new. inr (from_batches past e v.queue 0 bs t new).1) (Contains-append_cases waiting more t c))
 
 -- ---- the line that is next
@@ -165,10 +165,14 @@ module _ (past : Past) (lines : List Queued) (waiting : List SubmittedBatch) (li
         ready false met bad = absurd cc
         ready true met same_turn =
             let same : turn_of t ≡ c.turn = cc in
-            let queue : t.queue ≡ v.queue = its_queue lines c.line v waiting t rest there is lined rising in
-            (t, rest, is, some_next past [] waiting t rest rising refl (ap (λ (q : ℕ). filter (on q) waiting) queue ∙ lined.each c.line v there ∙ is) met
-                (λ q u free turn before. let x = ready_line q u turn in
-                    best.1 x.0 u (get_below lines x.0 x.1 x.2) (turn_at past lines x.0 x.1 x.2 ∙ ap Some x.3) (subst (Precedes u) same before)))
+            let queue : t.queue ≡ v.queue = its_queue lines c.line v waiting t rest there is lined rising in (
+              t,
+              rest,
+              is,
+              some_next past [] waiting t rest rising refl (ap (λ (q : ℕ). filter (on q) waiting) queue ∙ lined.each c.line v there ∙ is) met
+                  (λ q u free turn before. let x = ready_line q u turn in
+                  best.1 x.0 u (get_below lines x.0 x.1 x.2) (turn_at past lines x.0 x.1 x.2 ∙ ap Some x.3) (subst (Precedes u) same before)),
+            )
 
 -- ---- what is known to be met
 

@@ -96,7 +96,7 @@ some_next past queues (u ∷ us) t rest rising free is met least = by_queue (u.q
 
     by_queue : (b : Bool) → (u.queue == t.queue) ≡ b → cond b (u ∷ filter (on t.queue) us) (filter (on t.queue) us) ≡ t ∷ rest
         → (among t.queue (u.queue ∷ queues) ≡ false → filter (on t.queue) us ≡ t ∷ rest → list_all (is_met past) t.waits ≡ true
-            → ((q : ℕ) (v : Turn) → among q (u.queue ∷ queues) ≡ false → ready_turn past (filter (on q) us) ≡ Some v → Precedes v (turn_of t) → ⊥) → next_batch past (u.queue ∷ queues) us ≡ Some t)
+        → ((q : ℕ) (v : Turn) → among q (u.queue ∷ queues) ≡ false → ready_turn past (filter (on q) us) ≡ Some v → Precedes v (turn_of t) → ⊥) → next_batch past (u.queue ∷ queues) us ≡ Some t)
         → next_batch past queues (u ∷ us) ≡ Some t
     by_queue true e here next =
         let same : u ≡ t = cc in

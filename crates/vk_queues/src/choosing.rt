@@ -49,11 +49,7 @@ fn find_line(lines: &[Line<'_>], queue: u32) -> Option<usize>
 }
 
 /// The index of a queue's line, with a line for a queue that has none.
-pub fn line_of(
-    alloc: Global,
-    lines: &mut Vec<Line<'_>>,
-    queue: u32,
-) -> Result<usize, AllocError>
+pub fn line_of(alloc: Global, lines: &mut Vec<Line<'_>>, queue: u32) -> Result<usize, AllocError>
     ensures within { IfOk result (λ k. k < length lines.new.items) }
     ensures here { IfOk result (λ k. HasLine queue k lines.new.items) }
     ensures lined { OnOk result ((waiting : List SubmittedBatch) → IsLined (map queued lines.old.items) waiting → IsLined (map queued lines.new.items) waiting) }

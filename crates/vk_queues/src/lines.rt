@@ -1,6 +1,5 @@
-ghost use Rattle.std.specs.Prelude.{◌≡◌, ◌+◌, ◌++◌, ◌<◌, ◌≤◌, [], ℕ, OnOk, IfSome, IsTrue, ◌↔◌, false, true, length, map, take, List, Option, option_map, slice_get, Some};
+ghost use Rattle.std.specs.Prelude.{◌≡◌, ◌+◌, ◌++◌, ◌<◌, ◌≤◌, ◌∷◌, [], ℕ, MatchOption, OnOk, IfSome, IsTrue, ◌↔◌, false, true, length, map, take, List, Option, slice_get, Some};
 ghost use Rattle.std.specs.List.{list_all};
-ghost use Rattle.std.specs.Option.{option_to_list};
 ghost use Rattle.vk_model.specs.Trace.Point.{Past};
 ghost use Rattle.vk_model.specs.Trace.Order.{is_met, batches_from};
 ghost use Rattle.vk_queues.specs.Inner.Tallied.{IsTallied};
@@ -137,7 +136,7 @@ impl<'a> Line<'a> {
     pub fn take_first(&mut self) -> Option<Submitted<'a>>
         ensures queue { self.new.queue ≡ self.old.queue }
         ensures met { self.new.met ≡ 0 }
-        ensures batches { batches_on self.old ≡ option_to_list (option_map batch_of result) ++ batches_on self.new }
+        ensures batches { MatchOption result (batches_on self.old ≡ []) (λ t. batches_on self.old ≡ batch_of t ∷ batches_on self.new) }
     {
         self.met = 0;
         self.batches.pop_front()

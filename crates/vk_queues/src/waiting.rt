@@ -1,9 +1,10 @@
-ghost use Rattle.std.specs.Prelude.{◌≡◌, ◌+◌, ◌++◌, ◌∷◌, [], ℕ, IfOk, OnOk, is_some, option_map};
+ghost use Rattle.std.specs.Prelude.{◌≡◌, ◌+◌, ◌++◌, ◌∷◌, ◌<◌, [], ℕ, IfOk, IfSome, OnOk, is_some, map, option_map};
 ghost use Rattle.vk_model.specs.Basics.{holds};
 ghost use Rattle.vk_model.specs.Trace.Objects.{made_by};
 ghost use Rattle.vk_model.specs.Trace.Order.{Front, host, batches_of, batches_from, next_batch, start_batch};
 ghost use Rattle.vk_queues.specs.PointViews.{batch_of};
 ghost use Rattle.vk_queues.specs.Inner.Tallied.{tally_at};
+ghost use Rattle.vk_queues.specs.Inner.Lined.{queued, count_of};
 ghost use Rattle.vk_queues.specs.IsWaiting.{IsWaiting};
 
 use crate::choosing::{forget, line_of, next_line};
@@ -42,7 +43,8 @@ impl<'a> Waiting<'a> {
         if self.is_made_again(entry) {
             forget(&mut self.lines);
         }
-        self.tallies.enter(entry)
+        self.tallies.enter(entry)?;
+        Ok(())
     }
 
     fn is_made_again(&self, entry: &Entry) -> bool
@@ -77,12 +79,14 @@ impl<'a> Waiting<'a> {
     {
         let k = line_of(self.alloc, &mut self.lines, queue)?;
         let line = &mut self.lines[k];
-        line.submit(self.alloc, &self.tallies, number, batches)
+        line.submit(self.alloc, &self.tallies, number, batches)?;
+        Ok(())
     }
 
     /// Starts the batch that is next: it is taken out, and its signals are counted.
     pub fn start(&mut self) -> Result<Option<Submitted<'a>>, AllocError>
-        ensures { IfOk result (λ found. (count : ℕ) (f : Front) → IsWaiting self.old count f
+        ensures fewer { IfOk result (λ found. IfSome found (λ _. count_of (map queued self.new.lines.items) < count_of (map queued self.old.lines.items))) }
+        ensures next { IfOk result (λ found. (count : ℕ) (f : Front) → IsWaiting self.old count f
             → (option_map batch_of found ≡ next_batch f.past [] f.waiting) × IsWaiting self.new count (start_batch (next_batch f.past [] f.waiting) f)) }
     {
         let Some(next) = next_line(&mut self.lines, &self.tallies) else {

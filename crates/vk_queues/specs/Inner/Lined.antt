@@ -1,5 +1,5 @@
 -- Batches that wait, by their queues.
-use Rattle.std.specs.Prelude.{◌≡◌, ⊤, ◌<◌, ◌⊎◌, ℕ, List, [], ◌∷◌, map, take, length, ◌==◌, true, if◌then◌else◌, Option, Some, None, option_map, Contains, slice_get}
+use Rattle.std.specs.Prelude.{◌≡◌, ⊤, ◌+◌, ◌<◌, ◌⊎◌, ℕ, List, [], ◌∷◌, map, take, length, ◌==◌, true, if◌then◌else◌, Option, Some, None, option_map, Contains, slice_get}
 use Rattle.std.specs.List.{list_all, filter}
 use Rattle.vk_model.specs.Trace.Point.{Past}
 use Rattle.vk_model.specs.Trace.Order.{SubmittedBatch, is_met}
@@ -57,6 +57,11 @@ pub record Queued : Type 0 where
 -- What a line has.
 abbrev pub queued : Line → Queued
 queued l = record { queue = l.queue; batches = batches_on l }
+
+-- How many batches wait.
+abbrev pub count_of : List Queued → ℕ
+count_of [] = 0
+count_of (v ∷ vs) = length v.batches + count_of vs
 
 -- Each queue has one line, with its batches that wait.
 pub record IsLined (lines : List Queued) (waiting : List SubmittedBatch) : Type 0 where
