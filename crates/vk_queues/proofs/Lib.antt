@@ -3,4 +3,5 @@ pub mod Counting
 pub mod NextBatch
 pub mod Lining
 pub mod Fronts
+pub mod Laying
 mod Submitting

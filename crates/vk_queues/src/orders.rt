@@ -1,0 +1,66 @@
+ghost use Rattle.std.specs.Prelude.{◌≡◌, ◌+◌, IfOk, OnOk};
+ghost use Rattle.vk_model.specs.Trace.Point.{Past};
+ghost use Rattle.vk_model.specs.Trace.Order.{Front, after_entry, order};
+ghost use Rattle.vk_queues.specs.PointViews.{past_after, past_of};
+ghost use Rattle.vk_queues.specs.IsWaiting.{IsWaiting};
+
+use crate::pushing::push_batch;
+use crate::waiting::Waiting;
+use std::alloc::{AllocError, Global};
+use vk_model::Entry;
+use vk_order::{Action, Point};
+
+/// The points of a trace in reference order, the oldest first. A batch that is never started has
+/// none. It keeps what it needs to know of each id and of the batches that wait.
+pub fn reference_order<'a>(
+    alloc: Global,
+    entries: &'a [Entry],
+) -> Result<Vec<Point<'a>>, AllocError>
+    ensures { IfOk result (λ points. past_of points.items ≡ order entries.now) }
+{
+    let mut points = Vec::new(alloc);
+    let mut waiting = Waiting::new(alloc);
+    for (number, entry) in entries.iter().enumerate() {
+        push_points(&mut points, &mut waiting, number, entry)?;
+    }
+    Ok(points)
+}
+
+/// The points that come with an entry of the host, in order: its own, and those of the batches that
+/// are started then.
+pub fn points_after<'a>(
+    alloc: Global,
+    waiting: &mut Waiting<'a>,
+    number: usize,
+    entry: &'a Entry,
+) -> Result<Vec<Point<'a>>, AllocError>
+    ensures { IfOk result (λ points. (f : Front) → IsWaiting waiting.old number f
+        → (past_after f.past points.items ≡ (after_entry number entry.now f).past) × IsWaiting waiting.new (number + 1) (after_entry number entry.now f)) }
+{
+    let mut points = Vec::new(alloc);
+    push_points(&mut points, waiting, number, entry)?;
+    Ok(points)
+}
+
+fn push_points<'a>(
+    points: &mut Vec<Point<'a>>,
+    waiting: &mut Waiting<'a>,
+    number: usize,
+    entry: &'a Entry,
+) -> Result<(), AllocError>
+    ensures { OnOk result ((before : Past) (f : Front) → IsWaiting waiting.old number f → past_after before points.old.items ≡ f.past
+        → (past_after before points.new.items ≡ (after_entry number entry.now f).past) × IsWaiting waiting.new (number + 1) (after_entry number entry.now f)) }
+{
+    waiting.enter(number, entry)?;
+    points.push(Point {
+        entry: number,
+        batch: 0,
+        place: 0,
+        queue: 0,
+        action: Action::Host(entry),
+    })?;
+    while let Some(batch) = waiting.start()? {
+        push_batch(points, &batch)?;
+    }
+    Ok(())
+}
