@@ -1,7 +1,7 @@
-pub mod Lists
-pub mod Counting
-pub mod NextBatch
-pub mod Lining
-pub mod Fronts
-pub mod Laying
-mod Submitting
+mod Lists
+mod Counting
+mod NextBatch
+mod Lining
+mod Fronts
+mod Laying
+pub mod NewPoints

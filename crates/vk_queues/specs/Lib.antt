@@ -1,3 +1,4 @@
 pub mod PointViews
-pub mod Inner
 pub mod IsWaiting
+pub mod Laws
+pub mod Inner
