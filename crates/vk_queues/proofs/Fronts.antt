@@ -1,5 +1,5 @@
 -- The batches that wait, through submits, entries and starts.
-use Rattle.std.proofs.Common.{◌≡◌, ◌⊎◌, inl, inr, ⊎_elim, ℕ, suc, ◌+◌, ◌<◌, ◌≤◌, length, List, [], ◌∷◌, ◌++◌, map, set, take, drop, Bool, true, false, refl, ap, sym, ◌∙◌, subst, arith, Option, Some, None, slice_get, append-nil, zero}
+use Rattle.std.proofs.Common.{◌≡◌, inl, ⊎_elim, ℕ, suc, ◌+◌, ◌<◌, length, List, [], ◌∷◌, ◌++◌, map, set, take, drop, false, refl, ap, sym, ◌∙◌, subst, arith, Option, Some, None, slice_get, zero}
 use Rattle.std.specs.Prelude.{is_some, Contains}
 use Rattle.std.proofs.lemmas.List.{map-set, length-map}
 use Rattle.std.proofs.lemmas.List.Elements.{Contains-append_cases}
@@ -15,8 +15,8 @@ use Rattle.vk_queues.specs.declared.lines.Line.{Line}
 use Rattle.vk_queues.specs.declared.lines.Candidate.{Candidate}
 use Rattle.vk_queues.specs.declared.tallies.Tally.{Tally}
 use Rattle.vk_queues.specs.declared.tallies.Tallies.{Tallies}
-use Rattle.vk_queues.specs.Inner.Tallied.{IsTallied, tally_at, tally_of, after_entry}
-use Rattle.vk_queues.specs.Inner.Lined.{Queued, queued, batches_on, turns, count_of, IsLined, IsBest, AreAllMet, AreMet, AreFirstMet, IsRising}
+use Rattle.vk_queues.specs.Inner.Tallied.{IsTallied, tally_at, after_entry}
+use Rattle.vk_queues.specs.Inner.Lined.{Queued, queued, batches_on, turns, count_of, IsLined, IsBest, AreAllMet, AreFirstMet}
 use Rattle.vk_queues.specs.Inner.AreWaiting.{AreWaiting}
 use Rattle.vk_queues.proofs.Counting.{after_signals, tally_of_host, tally_of_started, met_once_started, met_after_host, makes_again}
 use Rattle.vk_queues.proofs.NextBatch.{without, rising_filter, rising_append}

@@ -1,11 +1,10 @@
 -- Points that are laid out one after another make the past of their batches.
-use Rattle.std.proofs.Common.{◌≡◌, ◌≤◌, ◌<◌, ◌+◌, ℕ, suc, zero, List, [], ◌∷◌, ◌++◌, refl, ap, sym, ◌∙◌, drop, length, get_or, add-one, drop-cons, Option, Some, None, arith}
-use Rattle.std.specs.List.{fold}
+use Rattle.std.proofs.Common.{◌≡◌, ◌≤◌, ◌<◌, ◌+◌, ℕ, suc, zero, List, [], ◌∷◌, ◌++◌, refl, ap, sym, ◌∙◌, drop, length, get_or, add-one, drop-cons, Option, Some, None}
 use Rattle.std.proofs.lemmas.List.{drop_all}
 use Rattle.std.proofs.lemmas.List.Sums.{fold-append}
 use Rattle.vk_model.specs.declared.entry.Entry.{Entry}
 use Rattle.vk_model.specs.Trace.Point.{Past, Action}
-use Rattle.vk_model.specs.Trace.Order.{SubmittedBatch, Front, actions, next_batch, start_batch, settled, after_entry, order_from, order}
+use Rattle.vk_model.specs.Trace.Order.{SubmittedBatch, Front, actions, next_batch, start_batch, settled, after_entry, order_from}
 use Rattle.vk_order.specs.declared.point.Point.{Point}
 use Rattle.vk_order.specs.PointViews.{point_of}
 use Rattle.vk_queues.specs.PointViews.{past_after, add}

@@ -1,5 +1,5 @@
 -- The lines of all queues: when a batch is taken out, and when batches come.
-use Rattle.std.proofs.Common.{◌≡◌, ◌≢◌, ◌⊎◌, inl, inr, ⊎_elim, ℕ, ◌+◌, ◌<◌, ◌≤◌, length, List, [], ◌∷◌, ◌++◌, map, set, Bool, true, false, cond, not, refl, ap, sym, ◌∙◌, subst, arith, Option, Some, None, slice_get, take, append-nil}
+use Rattle.std.proofs.Common.{◌≡◌, ◌≢◌, ◌⊎◌, inl, inr, ⊎_elim, ℕ, ◌+◌, ◌<◌, ◌≤◌, length, List, [], ◌∷◌, ◌++◌, map, set, Bool, true, false, not, refl, ap, sym, ◌∙◌, subst, arith, Option, Some, None, slice_get, take, append-nil}
 use Rattle.std.specs.Prelude.{Contains, ◌==◌, if◌then◌else◌}
 use Rattle.std.specs.List.{filter, list_all}
 use Rattle.std.proofs.lemmas.Bool.{eqb-true, eqb-false, eq-eqb, ne_eqb}
@@ -10,7 +10,7 @@ use Rattle.vk_model.specs.declared.entry.Batch.{Batch}
 use Rattle.vk_model.specs.declared.entry.SemaphoreSubmit.{SemaphoreSubmit}
 use Rattle.vk_model.specs.Trace.Point.{Past}
 use Rattle.vk_model.specs.Trace.Order.{SubmittedBatch, is_met, next_batch, same_batch, batches_from, submitted_batch}
-use Rattle.vk_model.proofs.Lists.Members.{none_in, contains-cons, contains-head, contains-tail, filtered}
+use Rattle.vk_model.proofs.Lists.Members.{none_in, contains-cons, contains-head, filtered}
 use Rattle.vk_queues.specs.declared.lines.Turn.{Turn}
 use Rattle.vk_queues.specs.declared.lines.Line.{Line}
 use Rattle.vk_queues.specs.declared.lines.Candidate.{Candidate}

@@ -1,12 +1,10 @@
 -- In an ordered past no two commands are at one place. Other crates cite it.
-use Rattle.std.proofs.Common.{◌≡◌, List, [], ◌∷◌, Bool, true, false, refl, ap, sym, ◌∙◌}
-use Rattle.std.specs.Prelude.{Contains, ◌&&◌, ◌==◌, IsTrue}
+use Rattle.std.proofs.Common.{◌≡◌, List, [], ◌∷◌, Bool, true, false, refl}
+use Rattle.std.specs.Prelude.{Contains, ◌&&◌, ◌==◌}
 use Rattle.std.proofs.lemmas.Bool.{and_parts, eqb-true}
 use Rattle.vk_model.specs.declared.command.Cmd.{Cmd}
 use Rattle.vk_model.specs.declared.entry.Entry.{Entry}
-use Rattle.vk_model.specs.declared.rule.At.{At}
-use Rattle.vk_model.specs.declared.rule.At.TheVariants as at
-use Rattle.vk_model.specs.Trace.Point.{Past, Point, Run, at_of, label}
+use Rattle.vk_model.specs.Trace.Point.{Past, Point, Run, at_of}
 use Rattle.vk_model.specs.Trace.Order.{order}
 use Rattle.vk_model.specs.Trace.Structure.{IsOrdered}
 use Rattle.vk_model.specs.Sync.Node.{nodes, same_place}

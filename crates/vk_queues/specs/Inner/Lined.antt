@@ -1,5 +1,5 @@
 -- Batches that wait, by their queues.
-use Rattle.std.specs.Prelude.{◌≡◌, ⊤, ◌+◌, ◌<◌, ◌⊎◌, ℕ, List, [], ◌∷◌, map, take, length, ◌==◌, true, if◌then◌else◌, Option, Some, None, option_map, Contains, slice_get}
+use Rattle.std.specs.Prelude.{◌≡◌, ⊤, ◌+◌, ◌<◌, ◌⊎◌, ℕ, List, [], ◌∷◌, map, take, length, ◌==◌, true, if◌then◌else◌, Option, Some, None, Contains, slice_get}
 use Rattle.std.specs.List.{list_all, filter}
 use Rattle.vk_model.specs.Trace.Point.{Past}
 use Rattle.vk_model.specs.Trace.Order.{SubmittedBatch, is_met}

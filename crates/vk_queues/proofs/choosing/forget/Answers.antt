@@ -1,4 +1,4 @@
-use Rattle.std.proofs.Common.{inl, inr, ◌<◌, ◌∙◌, refl, ap, arith}
+use Rattle.std.proofs.Common.{inl, inr, ◌∙◌, refl, ap, arith}
 use Rattle.std.proofs.Math.Seq.{map-set_same}
 use Rattle.vk_queues.specs.declared.lines.Line.{Line}
 use Rattle.vk_queues.specs.Inner.Lined.{queued}

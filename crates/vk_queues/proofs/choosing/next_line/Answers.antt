@@ -1,9 +1,8 @@
-use Rattle.std.proofs.Common.{◌≡◌, ◌∙◌, ◌<◌, sym, refl, ap, map, Some, List, Option, slice_get, get_or, length, arith}
+use Rattle.std.proofs.Common.{◌≡◌, ◌∙◌, sym, refl, ap, map, Some, List, slice_get, get_or, arith}
 use Rattle.std.proofs.Math.Seq.{map-set_same}
 use Rattle.std.proofs.lemmas.Option.{slice_get-get_or}
-use Rattle.vk_queues.specs.declared.lines.Turn.{Turn}
 use Rattle.vk_queues.specs.declared.lines.Line.{Line}
-use Rattle.vk_queues.specs.Inner.Lined.{queued, Queued, batches_on, ready_turn, turns}
+use Rattle.vk_queues.specs.Inner.Lined.{queued, Queued, turns}
 use Rattle.vk_queues.proofs.Lining.{met_set, turn_at, queued_at}
 use Rattle.vk_queues.proofs.choosing.next_line.Goals as goal
 

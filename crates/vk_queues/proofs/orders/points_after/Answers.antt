@@ -1,5 +1,4 @@
-use Rattle.std.proofs.Common.{◌≡◌, ap, List}
-use Rattle.vk_order.specs.declared.point.Point.{Point}
+use Rattle.std.proofs.Common.{ap}
 use Rattle.vk_queues.specs.PointViews.{past_after}
 use Rattle.vk_queues.proofs.orders.points_after.Goals as goal
 

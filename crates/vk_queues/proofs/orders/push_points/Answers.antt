@@ -1,11 +1,9 @@
-use Rattle.std.proofs.Common.{◌≡◌, ◌∙◌, sym, ap, subst, refl, List, [], ◌++◌, ◌∷◌, ℕ, ◌+◌, Option, Some, None, length}
+use Rattle.std.proofs.Common.{◌≡◌, ◌∙◌, sym, ap, subst, [], ◌+◌, Option, Some, None, length}
 use Rattle.std.specs.Prelude.{option_map}
-use Rattle.vk_model.specs.Trace.Point.{Past}
-use Rattle.vk_model.specs.Trace.Order.{Front, SubmittedBatch, host, batches_of, started, next_batch, start_batch, settled, after_entry}
-use Rattle.vk_queues.specs.declared.submitted.Submitted.{Submitted}
-use Rattle.vk_queues.specs.PointViews.{batch_of, past_after}
+use Rattle.vk_model.specs.Trace.Order.{Front, SubmittedBatch, started, next_batch, start_batch, after_entry}
+use Rattle.vk_queues.specs.PointViews.{batch_of}
 use Rattle.vk_queues.specs.IsWaiting.{IsWaiting}
-use Rattle.vk_queues.proofs.Laying.{past_after-push, settled_none, settled_some}
+use Rattle.vk_queues.proofs.Laying.{settled_none, settled_some}
 use Rattle.vk_queues.proofs.orders.push_points.Goals as goal
 
 pub loop-batch-preserved : goal.loop-batch-preserved

@@ -1,4 +1,4 @@
-use Rattle.std.proofs.Common.{◌≡◌, ◌∙◌, ◌+◌, sym, ap, drop, List, [], ℕ}
+use Rattle.std.proofs.Common.{◌∙◌, ◌+◌, sym, ap, drop, List, [], ℕ}
 use Rattle.vk_model.specs.declared.entry.Entry.{Entry}
 use Rattle.vk_model.specs.Trace.Order.{Front, after_entry, order_from}
 use Rattle.vk_queues.proofs.Laying.{order_from-drop}

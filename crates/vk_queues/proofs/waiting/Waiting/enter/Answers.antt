@@ -1,5 +1,5 @@
-use Rattle.std.proofs.Common.{◌≡◌, ◌+◌, ◌++◌, ◌∷◌, ◌∙◌, sym, ap, subst, List, ℕ, map, length, take, drop}
-use Rattle.vk_model.specs.Trace.Order.{Front, SubmittedBatch, batches_of, host}
+use Rattle.std.proofs.Common.{◌≡◌, ◌+◌, ◌++◌, ◌∷◌, ◌∙◌, sym, ap, subst, List, ℕ, map, length}
+use Rattle.vk_model.specs.Trace.Order.{Front, batches_of, host}
 use Rattle.vk_queues.specs.declared.lines.Line.{Line}
 use Rattle.vk_queues.specs.declared.waiting.Waiting.{Waiting}
 use Rattle.vk_queues.specs.declared.tallies.Tallies.{Tallies}

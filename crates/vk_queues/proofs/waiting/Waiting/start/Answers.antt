@@ -1,7 +1,7 @@
-use Rattle.std.proofs.Common.{◌≡◌, ◌++◌, ◌∙◌, sym, ap, subst, List, [], ℕ, Option, Some, None, slice_get, get_or, set, map, length, take, drop, ◌<◌, arith}
+use Rattle.std.proofs.Common.{◌≡◌, ◌++◌, ◌∙◌, sym, ap, subst, List, [], ℕ, Some, None, slice_get, get_or, set, map, length, take, drop, ◌<◌}
 use Rattle.std.proofs.lemmas.Option.{slice_get-get_or}
 use Rattle.std.proofs.lemmas.List.{map-set}
-use Rattle.vk_model.specs.Trace.Order.{Front, SubmittedBatch, next_batch, start_batch}
+use Rattle.vk_model.specs.Trace.Order.{next_batch, start_batch}
 use Rattle.vk_queues.specs.declared.lines.Line.{Line}
 use Rattle.vk_queues.specs.PointViews.{batch_of}
 use Rattle.vk_queues.specs.Inner.Lined.{Queued, queued, count_of}

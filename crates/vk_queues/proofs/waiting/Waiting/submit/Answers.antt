@@ -1,5 +1,5 @@
 use Rattle.std.proofs.Common.{◌≡◌, ◌+◌, ◌++◌, ◌∙◌, sym, ap, subst, List, append-nil}
-use Rattle.vk_model.specs.Trace.Order.{Front, SubmittedBatch, batches_of}
+use Rattle.vk_model.specs.Trace.Order.{SubmittedBatch, batches_of}
 use Rattle.vk_queues.specs.Inner.AreWaiting.{AreWaiting}
 use Rattle.vk_queues.proofs.Fronts.{nothing_submitted, no_batches}
 use Rattle.vk_queues.proofs.waiting.Waiting.submit.Goals as goal

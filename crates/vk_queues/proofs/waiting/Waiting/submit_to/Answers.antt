@@ -1,6 +1,6 @@
 use Rattle.std.proofs.Common.{◌≡◌, ◌+◌, ◌++◌, ◌∙◌, sym, ap, subst, List, ℕ, Some, slice_get, set}
 use Rattle.std.proofs.lemmas.Option.{get_or_from_slice_get}
-use Rattle.vk_model.specs.Trace.Order.{Front, SubmittedBatch, batches_from}
+use Rattle.vk_model.specs.Trace.Order.{batches_from}
 use Rattle.vk_queues.specs.declared.lines.Line.{Line}
 use Rattle.vk_queues.specs.Inner.AreWaiting.{AreWaiting}
 use Rattle.vk_queues.proofs.Fronts.{other_lines, submitted_waiting}
