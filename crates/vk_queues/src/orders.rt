@@ -11,7 +11,7 @@ use vk_model::Entry;
 use vk_order::{Action, Point};
 
 /// The points of a trace in reference order, the oldest first. A batch that is never started has
-/// none. It keeps what it needs to know of each id and of the batches that wait.
+/// none. The only error is want of memory.
 pub fn reference_order<'a>(
     alloc: Global,
     entries: &'a [Entry],
@@ -27,7 +27,7 @@ pub fn reference_order<'a>(
 }
 
 /// The points that come with an entry of the host, in order: its own, and those of the batches that
-/// are started then.
+/// are started then. The only error is want of memory, after which nothing is known of the batches.
 pub fn points_after<'a>(
     alloc: Global,
     waiting: &mut Waiting<'a>,

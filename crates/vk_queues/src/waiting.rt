@@ -15,6 +15,11 @@ use std::alloc::{AllocError, Global};
 use vk_model::{Batch, Entry};
 
 /// The batches that wait, and what decides when each is started.
+///
+/// Batches of a queue are started in the order of their submission, so the first one of each queue
+/// alone is looked at, and of those whose waits are met the one that was submitted first is started.
+/// Counters rise, so a wait that was met isn't looked at again, until an entry makes a semaphore's id
+/// once more. The only error is want of memory, after which nothing is known of the batches.
 #[derive(Drop)]
 pub struct Waiting<'a> {
     alloc: Global,
@@ -34,7 +39,8 @@ impl<'a> Waiting<'a> {
         }
     }
 
-    /// The host entry of this number has come, with the batches that it submits. Numbers rise.
+    /// The host entry of this number has come, with the batches that it submits. Numbers rise: `count`
+    /// of `IsWaiting` is above those of the entries so far. It costs what the entry names.
     pub fn enter(&mut self, number: usize, entry: &'a Entry) -> Result<(), AllocError>
         ensures { OnOk result ((f : Front) → IsWaiting self.old number f
             → IsWaiting self.new (number + 1) (record { past = host number entry.now ∷ f.past; waiting = f.waiting ++ batches_of f.past number entry.now })) }
@@ -83,7 +89,8 @@ impl<'a> Waiting<'a> {
         Ok(())
     }
 
-    /// Starts the batch that is next: it is taken out, and its signals are counted.
+    /// Starts the batch that is next: it is taken out, and its signals are counted. It costs the
+    /// number of queues with batches so far, and the waits and signals of the batch.
     pub fn start(&mut self) -> Result<Option<Submitted<'a>>, AllocError>
         ensures fewer { IfOk result (λ found. IfSome found (λ _. count_of (map queued self.new.lines.items) < count_of (map queued self.old.lines.items))) }
         ensures next { IfOk result (λ found. (count : ℕ) (f : Front) → IsWaiting self.old count f
