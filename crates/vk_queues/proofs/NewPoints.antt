@@ -1,5 +1,5 @@
 -- In an ordered past no two commands are at one place. Other crates cite it.
-use Rattle.std.proofs.Common.{◌≡◌, List, [], ◌∷◌, Bool, true, false, refl}
+use Rattle.std.proofs.Common.{◌≡◌, ℕ, zero, suc, List, [], ◌∷◌, Bool, true, false, Some, refl, subst, take, slice_get}
 use Rattle.std.specs.Prelude.{Contains, ◌&&◌, ◌==◌}
 use Rattle.std.proofs.lemmas.Bool.{and_parts, eqb-true}
 use Rattle.vk_model.specs.declared.command.Cmd.{Cmd}
@@ -12,9 +12,12 @@ use Rattle.vk_model.specs.Rules.Fault.{Comes, newest, older}
 use Rattle.vk_model.proofs.Lists.Members.{contains-head, contains-tail}
 use Rattle.vk_model.proofs.Trace.Once.{come_once}
 use Rattle.vk_model.proofs.Trace.Structure.{order_ordered}
+use Rattle.vk_order.specs.declared.point.Point.{Point as Given}
+use Rattle.vk_order.specs.PointViews.{point_of}
 use Rattle.vk_order.specs.Queries.{IsNew}
 use Rattle.vk_order.specs.Places.{IsElsewhere, IsApart}
 use Rattle.vk_order.proofs.ElementPlaces.{elsewhere}
+use Rattle.vk_queues.specs.PointViews.{past_after, past_of}
 
 pub comes_in : (past before : Past) (p : Point) → Comes past before p → Contains past p
 comes_in past before p newest = contains-head p before
@@ -46,3 +49,19 @@ order_new t before p come = ordered_new (order t) before p (order_ordered t) com
 
 pub order_apart : (t : List Entry) → IsApart (order t)
 order_apart t = ordered_apart (order t) (order_ordered t)
+
+-- ---- points in their order
+
+still_comes : (past before : Past) (p : Point) (ps : List Given) → Comes past before p → Comes (past_after past ps) before p
+still_comes past before p [] come = come
+still_comes past before p (q ∷ qs) come = still_comes (point_of q ∷ past) before p qs (older come)
+
+-- each of some points comes after the ones before it
+pub comes_at : (past : Past) (ps : List Given) (k : ℕ) (p : Given) → slice_get ps k ≡ Some p → Comes (past_after past ps) (past_after past (take k ps)) (point_of p)
+comes_at past [] k p at = absurd cc
+comes_at past (q ∷ qs) zero p at = let same : q ≡ p = cc in still_comes (point_of q ∷ past) past (point_of p) qs (subst (λ (r : Given). Comes (point_of q ∷ past) past (point_of r)) same newest)
+comes_at past (q ∷ qs) (suc k) p at = comes_at (point_of q ∷ past) qs k p at
+
+-- so each point of reference order is new after the ones before it
+pub new_at : (t : List Entry) (ps : List Given) (k : ℕ) (p : Given) → past_of ps ≡ order t → slice_get ps k ≡ Some p → IsNew (point_of p) (nodes (past_of (take k ps)))
+new_at t ps k p is at = order_new t (past_of (take k ps)) (point_of p) (subst (λ (past : Past). Comes past (past_of (take k ps)) (point_of p)) is (comes_at [] ps k p at))

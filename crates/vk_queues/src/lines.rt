@@ -62,7 +62,8 @@ pub struct Line<'a> {
 
 /// How many of the first waits are met, where so many are known to be.
 fn count_met(tallies: &Tallies, waits: &[SemaphoreSubmit], known: usize) -> usize
-    ensures { (past : Past) → IsTallied tallies.now past → list_all (is_met past) (take known waits.now) ≡ true
+    ensures kept { known ≤ result }
+    ensures met { (past : Past) → IsTallied tallies.now past → list_all (is_met past) (take known waits.now) ≡ true
         → (list_all (is_met past) (take result waits.now) ≡ true) × (result < length waits.now → list_all (is_met past) waits.now ≡ false) }
 {
     let mut met = known;
@@ -90,6 +91,7 @@ impl<'a> Line<'a> {
     pub fn ready_turn(&mut self, tallies: &Tallies) -> Option<Turn>
         ensures queue { self.new.queue ≡ self.old.queue }
         ensures batches { self.new.batches ≡ self.old.batches }
+        ensures kept { self.old.met ≤ self.new.met }
         ensures turn { (past : Past) → IsTallied tallies.now past → AreMet past self.old
             → AreMet past self.new × (result ≡ ready_turn past (batches_on self.old)) }
     {

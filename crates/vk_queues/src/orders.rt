@@ -1,6 +1,10 @@
-ghost use Rattle.std.specs.Prelude.{◌≡◌, ◌+◌, IfOk, OnOk};
+ghost use Rattle.std.specs.Prelude.{◌≡◌, ◌+◌, ℕ, IfOk, OnOk, Some, slice_get, take};
 ghost use Rattle.vk_model.specs.Trace.Point.{Past};
 ghost use Rattle.vk_model.specs.Trace.Order.{Front, after_entry, order};
+ghost use Rattle.vk_model.specs.Sync.Node.{nodes};
+ghost use Rattle.vk_order.specs.declared.point.Point.{Point as AnyPoint};
+ghost use Rattle.vk_order.specs.PointViews.{point_of};
+ghost use Rattle.vk_order.specs.Queries.{IsNew};
 ghost use Rattle.vk_queues.specs.PointViews.{past_after, past_of};
 ghost use Rattle.vk_queues.specs.IsWaiting.{IsWaiting};
 
@@ -11,12 +15,14 @@ use vk_model::Entry;
 use vk_order::{Action, Point};
 
 /// The points of a trace in reference order, the oldest first. A batch that is never started has
-/// none. The only error is want of memory.
+/// none. Each point is new after the ones before it, so that it can be added to `vk_order::Points`.
+/// The only error is want of memory.
 pub fn reference_order<'a>(
     alloc: Global,
     entries: &'a [Entry],
 ) -> Result<Vec<Point<'a>>, AllocError>
-    ensures { IfOk result (λ points. past_of points.items ≡ order entries.now) }
+    ensures order { IfOk result (λ points. past_of points.items ≡ order entries.now) }
+    ensures new { IfOk result (λ points. (k : ℕ) (p : AnyPoint) → slice_get points.items k ≡ Some p → IsNew (point_of p) (nodes (past_of (take k points.items)))) }
 {
     let mut points = Vec::new(alloc);
     let mut waiting = Waiting::new(alloc);
