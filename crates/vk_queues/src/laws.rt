@@ -1,7 +1,8 @@
 //! Laws of orders, each the contract of a function that does nothing.
 ghost use Rattle.vk_queues.specs.Laws.{OrderedIsApart, OrderIsApart, OrderedIsNew, OrderIsNew};
 
-/// No two commands of an ordered past are at one place (`ordered`), nor of reference order (`order`).
+/// No two commands of an ordered past are at one place (`ordered`), nor of reference order
+/// (`order`).
 pub fn commands_are_apart()
     ensures ordered { OrderedIsApart }
     ensures order { OrderIsApart }

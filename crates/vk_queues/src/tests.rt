@@ -34,7 +34,7 @@ fn submit_to(
     })
 }
 
-/// A host signal that two queues wait for, of which the first submitted one waits for the other too.
+/// A host signal that two queues wait for, and a third queue that waits for one of these.
 fn signaled(alloc: Global) -> Result<Vec<Entry>, AllocError> {
     let mut entries = Vec::new(alloc);
     entries.push(Entry::Semaphore { id: 1, initial: 0 })?;

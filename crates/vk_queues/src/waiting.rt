@@ -1,11 +1,10 @@
-ghost use Rattle.std.specs.Prelude.{◌≡◌, ◌+◌, ◌++◌, ◌∷◌, ◌<◌, [], ℕ, IfOk, IfSome, OnOk, is_some, map, option_map};
+ghost use Rattle.std.specs.Prelude.{◌≡◌, ◌+◌, ◌++◌, ◌∷◌, ◌<◌, [], ℕ, IfOk, IfSome, OnOk, is_some, option_map};
 ghost use Rattle.vk_model.specs.Basics.{holds};
 ghost use Rattle.vk_model.specs.Trace.Objects.{made_by};
 ghost use Rattle.vk_model.specs.Trace.Order.{Front, host, batches_of, batches_from, next_batch, start_batch};
 ghost use Rattle.vk_queues.specs.PointViews.{batch_of};
 ghost use Rattle.vk_queues.specs.Inner.Tallied.{tally_at};
-ghost use Rattle.vk_queues.specs.Inner.Lined.{queued, count_of};
-ghost use Rattle.vk_queues.specs.IsWaiting.{IsWaiting};
+ghost use Rattle.vk_queues.specs.IsWaiting.{IsWaiting, waiting_count};
 
 use crate::choosing::{forget, line_of, next_line};
 use crate::lines::Line;
@@ -16,10 +15,11 @@ use vk_model::{Batch, Entry};
 
 /// The batches that wait, and what decides when each is started.
 ///
-/// Batches of a queue are started in the order of their submission, so the first one of each queue
-/// alone is looked at, and of those whose waits are met the one that was submitted first is started.
-/// Counters rise, so a wait that was met isn't looked at again, until an entry makes a semaphore's id
-/// once more. The only error is want of memory, after which nothing is known of the batches.
+/// Batches of a queue are started in the order of their submission. So the first one of each queue
+/// alone is looked at, and of those whose waits are met the one that was submitted first is
+/// started. Counters rise, so a wait that was met isn't looked at again, until an entry makes a
+/// semaphore's id once more. The only error is want of memory, after which nothing is known of the
+/// batches.
 #[derive(Drop)]
 pub struct Waiting<'a> {
     alloc: Global,
@@ -39,8 +39,8 @@ impl<'a> Waiting<'a> {
         }
     }
 
-    /// The host entry of this number has come, with the batches that it submits. Numbers rise: `count`
-    /// of `IsWaiting` is above those of the entries so far. It costs what the entry names.
+    /// The host entry of this number has come, with the batches that it submits. Numbers rise: the
+    /// count of `IsWaiting` is above those of the entries so far. It costs what the entry names.
     pub fn enter(&mut self, number: usize, entry: &'a Entry) -> Result<(), AllocError>
         ensures { OnOk result ((f : Front) → IsWaiting self.old number f
             → IsWaiting self.new (number + 1) (record { past = host number entry.now ∷ f.past; waiting = f.waiting ++ batches_of f.past number entry.now })) }
@@ -92,7 +92,7 @@ impl<'a> Waiting<'a> {
     /// Starts the batch that is next: it is taken out, and its signals are counted. It costs the
     /// number of queues with batches so far, and the waits and signals of the batch.
     pub fn start(&mut self) -> Result<Option<Submitted<'a>>, AllocError>
-        ensures fewer { IfOk result (λ found. IfSome found (λ _. count_of (map queued self.new.lines.items) < count_of (map queued self.old.lines.items))) }
+        ensures fewer { IfOk result (λ found. IfSome found (λ _. waiting_count self.new < waiting_count self.old)) }
         ensures next { IfOk result (λ found. (count : ℕ) (f : Front) → IsWaiting self.old count f
             → (option_map batch_of found ≡ next_batch f.past [] f.waiting) × IsWaiting self.new count (start_batch (next_batch f.past [] f.waiting) f)) }
     {
