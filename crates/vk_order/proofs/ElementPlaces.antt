@@ -1,4 +1,4 @@
--- The elements of one command are together, where no two commands are at one place.
+-- The elements of one command are together, where no two commands are at one place. Other crates cite it.
 use Rattle.std.proofs.Common.{◌≡◌, ◌<◌, List, [], ◌∷◌, true, false, ◌&&◌, ◌≤◌, length, IsTrue, refl, ap, sym, ◌∙◌, subst, arith, inl, inr, ◌⊎◌}
 use Rattle.std.specs.Prelude.{Contains}
 use Rattle.std.proofs.lemmas.Bool.{eq-eqb, and_parts, and_from}

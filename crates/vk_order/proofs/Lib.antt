@@ -2,7 +2,7 @@ mod Arrange
 mod LinePrefixes
 mod NodeEdges
 mod ByEdges
-mod ElementPlaces
+pub mod ElementPlaces
 mod Visibility
 mod LastWriter
 mod ActLemmas

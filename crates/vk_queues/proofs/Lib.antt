@@ -1,0 +1,7 @@
+mod Lists
+mod Counting
+mod NextBatch
+mod Lining
+mod Fronts
+mod Laying
+pub mod NewPoints

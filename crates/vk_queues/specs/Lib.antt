@@ -1,0 +1,4 @@
+pub mod PointViews
+pub mod IsWaiting
+pub mod Laws
+pub mod Inner
