@@ -2,6 +2,6 @@ pub mod Lists
 pub mod Trace
 pub mod World
 pub mod Sync
-mod Rules
+pub mod Rules
 mod Run
 mod Memory

@@ -4,7 +4,7 @@ mod NodeEdges
 mod ByEdges
 pub mod ElementPlaces
 mod Visibility
-mod LastWriter
+pub mod LastWriter
 mod ActLemmas
 mod RowLemmas
 mod AwaitingLemmas
