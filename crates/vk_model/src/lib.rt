@@ -7,6 +7,7 @@ mod copying;
 mod entry;
 mod laws;
 mod layout;
+mod making;
 mod masks;
 mod places;
 mod resource;

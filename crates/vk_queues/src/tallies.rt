@@ -102,7 +102,7 @@ impl Tallies {
         ensures { OnOk result ((other : ℕ) → let t = tally_at self.old other in
             tally_at self.new other ≡ record t { initial = if holds (made_by entry.now) (λ j. other == j) then semaphore_in entry.now else t.initial }) }
     {
-        let Some(id) = made_by(entry) else {
+        let Some(id) = entry.made_id() else {
             return Ok(());
         };
         let tally = self.at(id);
@@ -163,22 +163,6 @@ impl Tallies {
             self.signal(*semaphore, *value)?;
         }
         Ok(())
-    }
-}
-
-/// The id that an entry makes.
-pub fn made_by(entry: &Entry) -> Option<u32>
-    ensures { result ≡ made_by entry.now }
-{
-    match entry {
-        Entry::Pool { id, .. }
-        | Entry::Buffer { id, .. }
-        | Entry::Image { id, .. }
-        | Entry::Memory { id, .. }
-        | Entry::Semaphore { id, .. }
-        | Entry::Event { id }
-        | Entry::Defrag { id, .. } => Some(*id),
-        _ => None,
     }
 }
 

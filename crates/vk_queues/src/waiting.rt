@@ -9,7 +9,7 @@ ghost use Rattle.vk_queues.specs.IsWaiting.{IsWaiting, waiting_count};
 use crate::choosing::{forget, line_of, next_line};
 use crate::lines::Line;
 use crate::submitted::Submitted;
-use crate::tallies::{Tallies, made_by};
+use crate::tallies::Tallies;
 use std::alloc::{AllocError, Global};
 use vk_model::{Batch, Entry};
 
@@ -56,7 +56,7 @@ impl<'a> Waiting<'a> {
     fn is_made_again(&self, entry: &Entry) -> bool
         ensures { result ≡ holds (made_by entry.now) (λ id. is_some (tally_at self.now.tallies id).initial) }
     {
-        match made_by(entry) {
+        match entry.made_id() {
             Some(id) => self.tallies.at(id).initial.is_some(),
             None => false,
         }
