@@ -1,3 +1,4 @@
 pub mod Steps
 pub mod Loops
 pub mod Entries
+pub mod Advancing

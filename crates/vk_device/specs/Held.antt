@@ -1,23 +1,22 @@
 -- What a device holds: its buffers and the memory under them.
-use Rattle.std.specs.Prelude.{◌≡◌, ℕ, ◌≤◌, List, length, slice_index, Bool, Option, Some, None, IfSome}
+use Rattle.std.specs.Prelude.{◌≡◌, ℕ, ◌≤◌, List, length, slice_index, Option, Some, None, IfSome}
 use Rattle.std.specs.Ordering.{nat_cmp}
 use Rattle.std.specs.Map.{lookup}
 use Rattle.std.specs.BTreeMap.{is_at}
 use Rattle.vk_memory.specs.MemoryState.{MemoryState, IsLive, region_of}
 use Rattle.vk_model.specs.World.Bytes.{Byte, in_buffer, in_image}
-use Rattle.vk_device.specs.declared.device.Placed.{Placed}
+use Rattle.vk_device.specs.declared.resources.Placed.{Placed}
 
--- What is seen of a device: its memory objects, where each buffer lies, by its id, and whether an earlier entry has failed.
+-- What is seen of a device's resources: its memory objects, and where each buffer lies, by its id.
 pub record Held : Type 0 where
   pub memory : MemoryState
   pub buffers : List (ℕ × Placed)
-  pub failed : Bool
 
 -- Where the buffer of an id lies; none where there is no such buffer.
 abbrev pub placed_in : List (ℕ × Placed) → ℕ → Option Placed
 placed_in buffers id = lookup (is_at (nat_cmp id)) buffers
 
--- The same in a device.
+-- The same among what is held.
 abbrev pub placed : Held → ℕ → Option Placed
 placed s id = placed_in s.buffers id
 

@@ -1,4 +1,5 @@
 pub mod Allotted
 pub mod Fits
 pub mod Made
+pub mod Ready
 pub mod Steps

@@ -4,6 +4,7 @@
 mod applied;
 mod device;
 mod replaying;
+mod resources;
 
 pub use applied::{Applied, ApplyError};
 pub use device::Device;

@@ -1,5 +1,5 @@
 ghost use Rattle.std.specs.Prelude.{◌≡◌, length, IfOk, IfErr, MatchOption, None, false};
-ghost use Rattle.vk_model.specs.Trace.Order.{plain_order};
+ghost use Rattle.vk_model.specs.Trace.Order.{order};
 ghost use Rattle.vk_model.specs.World.Meaning.{meaning};
 ghost use Rattle.vk_model.specs.Rules.Table.{first_fault};
 ghost use Rattle.vk_device.specs.Clean.{IsClean};
@@ -14,23 +14,23 @@ use vk_validate::Accepted;
 
 /// What a trace gave.
 #[derive(Drop)]
-pub struct Replayed {
+pub struct Replayed<'a> {
     /// For each entry that read, in order, its number and the bytes.
     pub reads: Sequence<(usize, Sequence<u8>)>,
     /// The entry whose allocation found no room, where one did; the entries from it on were not applied.
     pub stop: Option<usize>,
     /// The device after the entries that were applied.
-    pub device: Device,
+    pub device: Device<'a>,
 }
 
 /// Applies the entries of an accepted trace to a new device, up to the first that finds no room. The only
 /// error is `NoMemory`.
-pub fn replay<S: Scheduler>(
+pub fn replay<'a, S: Scheduler>(
     alloc: Global,
-    accepted: &Accepted<'_>,
+    accepted: &Accepted<'a>,
     config: Config,
     sched: &mut S,
-) -> Result<Replayed, ApplyError>
+) -> Result<Replayed<'a>, ApplyError>
     ensures sound { IfOk result (λ _. first_fault accepted.now ≡ None) }
     // The reads are what the trace means, up to the stop where there is one.
     ensures meaning { IfOk result (λ r. MatchOption r.stop
@@ -48,13 +48,13 @@ pub fn replay<S: Scheduler>(
 }
 
 /// The same for entries that break no rule.
-fn replay_entries<S: Scheduler>(
+fn replay_entries<'a, S: Scheduler>(
     alloc: Global,
-    entries: &[Entry],
+    entries: &'a [Entry],
     config: Config,
     sched: &mut S,
-) -> Result<Replayed, ApplyError>
-    requires { IsClean (plain_order entries.now) }
+) -> Result<Replayed<'a>, ApplyError>
+    requires { IsClean (order entries.now) }
     ensures meaning { IfOk result (λ r. MatchOption r.stop
         (r.reads ≡ meaning entries.now (length entries.now)) (λ n. r.reads ≡ meaning entries.now n)) }
     ensures stop { IfOk result (λ r. Ends config entries.now r.stop r.device) }

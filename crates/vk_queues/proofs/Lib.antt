@@ -3,5 +3,5 @@ mod Counting
 mod NextBatch
 mod Lining
 mod Fronts
-mod Laying
+pub mod Laying
 pub mod NewPoints

@@ -1,7 +1,7 @@
 -- Whatever is a trace has only supported forms.
-use Rattle.std.proofs.Common.{◌≡◌, ℕ, ◌+◌, List, [], ◌∷◌, Bool, true, false, not, ◌==◌, refl, ap, sym, subst, Option, Some, None, IsTrue}
+use Rattle.std.proofs.Common.{◌≡◌, ℕ, zero, suc, ◌+◌, ◌&&◌, ◌++◌, length, List, [], ◌∷◌, Bool, true, false, not, ◌==◌, refl, ap, subst, Option, Some, None, IsTrue}
 use Rattle.std.specs.Prelude.{⊤, bytes_eq, if◌then◌else◌, unwrap_or, option_map}
-use Rattle.std.specs.List.{fold, list_all}
+use Rattle.std.specs.List.{list_all, filter}
 use Rattle.serde_json.specs.Data.{Data}
 use Rattle.vk_model.specs.declared.command.Cmd.{Cmd}
 use Rattle.vk_model.specs.declared.command.Cmd.TheVariants as cmd
@@ -15,12 +15,14 @@ use Rattle.vk_model.specs.declared.entry.SemaphoreSubmit.{SemaphoreSubmit}
 use Rattle.vk_model.specs.declared.resource.Place.{Place}
 use Rattle.vk_model.specs.declared.resource.Place.TheVariants as place
 use Rattle.vk_model.specs.Trace.Point.{Past, Action, Wait, Run, Signal}
-use Rattle.vk_model.specs.Trace.Order.{SubmittedBatch, host, actions, started, batches_from, batches_of, plain_from, plain_order}
+use Rattle.vk_model.specs.Trace.Order.{SubmittedBatch, Front, host, actions, started, batches_from, batches_of, is_met, same_batch, next_batch, start_batch, settled, after_entry, order_from, order}
 use Rattle.vk_validate.specs.Supported.{is_supported, is_supported_action, is_supported_entry, is_supported_command, is_supported_place, is_memory}
-use Rattle.vk_model.proofs.Lists.Pairs.{Each}
+use Rattle.vk_model.specs.Basics.{among}
+use Rattle.vk_model.proofs.Lists.Pairs.{Each, each_append, each_from, each_has}
+use Rattle.vk_model.proofs.Lists.Members.{filtered}
 use Rattle.vk_validate.proofs.Points.Pasts.{supported-next}
 use Rattle.vk_trace.specs.Members.{Reader, Row, ◌>>=◌, array_members, first_member, no_member, from, ◌<*>◌, only, members, at_word, after_word, word_and_members, tagged, each_member, list_of, empty_list, u32_value, u64_value}
-use Rattle.vk_trace.specs.Trace.{memory_element, dependency_value, command_rows, command_value, semaphore_submit, batch_value, semaphore_value, queue_value, memory_type_value, place_rows, place_value, sharing_value, length_or_whole, buffer, entry_rows, entry_value, IsTrace}
+use Rattle.vk_trace.specs.Trace.{memory_element, dependency_value, command_rows, command_value, semaphore_submit, batch_value, semaphore_value, memory_type_value, place_rows, place_value, sharing_value, length_or_whole, buffer, entry_rows, entry_value, IsTrace}
 
 -- ---- what holds of all that a reader gives
 
@@ -127,19 +129,21 @@ command_makes = tagged_makes IsSupportedCommand command_rows (
   any_makes IsSupportedCommand _ u32_value (any_makes _ _ length_or_whole (any_makes _ _ u64_value (any_makes _ _ u32_value (from_makes _ cmd.Fill (λ b o n w. refl))))),
   (
     any_makes IsSupportedCommand _ empty_list (any_makes _ _ empty_list (more_makes _ (Each (λ (e : Element). is_memory e ≡ true)) _ (list_of memory_element) (from_makes _ _ (λ es each _ _. all_pass is_memory es each)) (list_makes _ memory_element memory_makes))),
-    tt,
+    (
+      any_makes IsSupportedCommand _ (list_of dependency_value) (any_makes _ _ u32_value (from_makes _ cmd.Set (λ v ms. refl))),
+      (any_makes IsSupportedCommand _ (list_of dependency_value) (any_makes _ _ u32_value (from_makes _ cmd.Await (λ v ms. refl))), tt),
+    ),
   ),
 )
 
--- a batch without waits, of commands that are supported
-pub record IsSupportedBatch (b : Batch) : Type 0 where
-  pub waits : b.waits ≡ []
-  pub commands : Each IsSupportedCommand b.commands
+-- a batch of commands that are supported
+abbrev pub IsSupportedBatch : Batch → Type 0
+IsSupportedBatch b = Each IsSupportedCommand b.commands
 
 batch_makes : Makes IsSupportedBatch batch_value
 unfolding batch_value
 batch_makes = members_make IsSupportedBatch _ (
-    any_makes IsSupportedBatch _ (list_of semaphore_submit) (more_makes _ (Each IsSupportedCommand) _ (list_of command_value) (any_makes _ _ empty_list (from_makes _ _ (λ _ cs each ss. record { waits = refl; commands = each }))) (list_makes _ command_value command_makes))
+    any_makes IsSupportedBatch _ (list_of semaphore_submit) (more_makes _ (Each IsSupportedCommand) _ (list_of command_value) (any_makes _ _ _ (from_makes _ _ (λ ws cs each ss. each))) (list_makes _ command_value command_makes))
     )
 
 abbrev IsSupportedPlace : Place → Type 0
@@ -158,16 +162,6 @@ type_makes d x h =
 place_makes : Makes IsSupportedPlace place_value
 unfolding place_value place_rows
 place_makes = tagged_makes IsSupportedPlace place_rows (more_makes IsSupportedPlace (λ (t : ℕ). not (t == 2) ≡ true) _ memory_type_value (from_makes _ place.Dedicated (λ t other. other)) type_makes, tt)
-
-queue_makes : Makes (λ (q : ℕ). (q == 0) ≡ true) queue_value
-unfolding queue_value
-queue_makes d x h =
-    let read = went_on (u32_value d) (λ (n : ℕ). if n == 0 then Some n else None) x h in
-    go read.0 (read.0 == 0) refl read.2
-  where
-    go : (n : ℕ) (b : Bool) → (n == 0) ≡ b → (if b then Some n else None) ≡ Some x → (x == 0) ≡ true
-    go n false is e = absurd cc
-    go n true is e = let same : n ≡ x = cc in subst (λ (m : ℕ). (m == 0) ≡ true) same is
 
 -- an entry, and the batches that it submits
 pub record IsSupportedEntry (x : Entry) : Type 0 where
@@ -189,10 +183,16 @@ entry_makes = tagged_makes IsSupportedEntry entry_rows (
       (
         any_makes IsSupportedEntry _ u64_value (any_makes _ _ u32_value (from_makes _ entry.Semaphore (λ i v. record { host = refl; batches = λ past e. tt }))),
         (
-          any_makes IsSupportedEntry _ (list_of semaphore_value) (from_makes _ entry.Wait (λ ws. record { host = refl; batches = λ past e. tt })),
+          any_makes IsSupportedEntry _ u32_value (from_makes _ entry.Event (λ i. record { host = refl; batches = λ past e. tt })),
           (
-            more_makes IsSupportedEntry (Each IsSupportedBatch) _ (list_of batch_value) (more_makes _ (λ (q : ℕ). (q == 0) ≡ true) _ queue_value (from_makes _ entry.Submit (λ q first bs each. record { host = first; batches = λ past e. of_batches past e q 0 bs each })) queue_makes) (list_makes _ batch_value batch_makes),
-            tt,
+            any_makes IsSupportedEntry _ u64_value (any_makes _ _ u32_value (from_makes _ entry.Signal (λ v n. record { host = refl; batches = λ past e. tt }))),
+            (
+              any_makes IsSupportedEntry _ (list_of semaphore_value) (from_makes _ entry.Wait (λ ws. record { host = refl; batches = λ past e. tt })),
+              (
+                more_makes IsSupportedEntry (Each IsSupportedBatch) _ (list_of batch_value) (any_makes _ _ _ (from_makes _ entry.Submit (λ q bs each. record { host = refl; batches = λ past e. of_batches past e q 0 bs each }))) (list_makes _ batch_value batch_makes),
+                tt,
+              ),
+            ),
           ),
         ),
       ),
@@ -206,27 +206,55 @@ actions_supported : {A : Type 0} (of : A → Action) (t : SubmittedBatch) (k : �
 actions_supported of t k [] past each before = before
 actions_supported of t k (x ∷ xs) past each before = actions_supported of t (k + 1) xs _ each.1 (supported-next (record { entry = t.entry; batch = t.batch; place = k; queue = t.queue; action = of x }) past each.0 before)
 
-signals : (xs : List SemaphoreSubmit) → Each (λ x. is_supported_action (Signal x) ≡ true) xs
-signals [] = tt
-signals (x ∷ xs) = (refl, signals xs)
+submits : (of : SemaphoreSubmit → Action) → ((x : SemaphoreSubmit) → is_supported_action (of x) ≡ true) → (xs : List SemaphoreSubmit) → Each (λ x. is_supported_action (of x) ≡ true) xs
+submits of each [] = tt
+submits of each (x ∷ xs) = (each x, submits of each xs)
 
 started_supported : (t : SubmittedBatch) (past : Past) → IsSupportedBatch t.content → is_supported past ≡ true → is_supported (started t past) ≡ true
 started_supported t past batch before =
-    let waited : is_supported (actions Wait t 0 t.content.waits past) ≡ true = subst (λ (ws : List SemaphoreSubmit). is_supported (actions Wait t 0 ws past) ≡ true) (sym batch.waits) before in
-    actions_supported Signal t 0 t.content.signals _ (signals t.content.signals) (actions_supported Run t 0 t.content.commands _ batch.commands waited)
+    actions_supported Signal t 0 t.content.signals _ (submits Signal (λ x. refl) t.content.signals)
+    (actions_supported Run t 0 t.content.commands _ batch (actions_supported Wait t 0 t.content.waits past (submits Wait (λ x. refl) t.content.waits) before))
 
-batches_supported : (ts : List SubmittedBatch) (past : Past) → Each (λ (t : SubmittedBatch). IsSupportedBatch t.content) ts → is_supported past ≡ true → is_supported (fold (λ p t. started t p) past ts) ≡ true
-batches_supported [] past each before = before
-batches_supported (t ∷ ts) past each before = batches_supported ts (started t past) each.1 (started_supported t past each.0 before)
+abbrev Content : SubmittedBatch → Type 0
+Content t = IsSupportedBatch t.content
 
-plain_supported : (e : ℕ) (past : Past) (xs : List Entry) → Each IsSupportedEntry xs → is_supported past ≡ true → is_supported (plain_from e past xs) ≡ true
-plain_supported e past [] each before = before
-plain_supported e past (x ∷ xs) each before =
-    plain_supported (e + 1) _ xs each.1 (batches_supported (batches_of past e x) (host e x ∷ past) (each.0.batches past e) (supported-next (host e x) past each.0.host before))
+-- what has happened is supported, and so is what waits
+record IsSupportedFront (f : Front) : Type 0 where
+  past : is_supported f.past ≡ true
+  waiting : Each Content f.waiting
+
+next_supported : (past : Past) (queues : List ℕ) (ts : List SubmittedBatch) (t : SubmittedBatch) → Each Content ts → next_batch past queues ts ≡ Some t → IsSupportedBatch t.content
+next_supported past queues [] t each h = absurd cc
+next_supported past queues (u ∷ ts) t each h = go (not (among u.queue queues) && list_all (is_met past) u.waits) (next_supported past (u.queue ∷ queues) ts t each.1) h
+  where
+    go : (b : Bool) → (next_batch past (u.queue ∷ queues) ts ≡ Some t → IsSupportedBatch t.content) → (if b then Some u else next_batch past (u.queue ∷ queues) ts) ≡ Some t → IsSupportedBatch t.content
+    go true later e = let same : u ≡ t = cc in subst (λ (v : SubmittedBatch). IsSupportedBatch v.content) same each.0
+    go false later e = later e
+
+start_supported : (o : Option SubmittedBatch) (f : Front) → ((t : SubmittedBatch) → o ≡ Some t → IsSupportedBatch t.content) → IsSupportedFront f → IsSupportedFront (start_batch o f)
+start_supported None f batch before = before
+start_supported (Some t) f batch before = record {
+  past = started_supported t f.past (batch t refl) before.past;
+  waiting = each_from Content (filter (λ u. not (same_batch t u)) f.waiting) (λ u c. each_has Content f.waiting u before.waiting (filtered (λ v. not (same_batch t v)) f.waiting u c).0);
+}
+
+settled_supported : (n : ℕ) (f : Front) → IsSupportedFront f → IsSupportedFront (settled n f)
+settled_supported zero f before = before
+settled_supported (suc n) f before =
+    settled_supported n _ (start_supported (next_batch f.past [] f.waiting) f (λ t is. next_supported f.past [] f.waiting t before.waiting is) before)
+
+order_supported : (e : ℕ) (f : Front) (xs : List Entry) → Each IsSupportedEntry xs → IsSupportedFront f → IsSupportedFront (order_from e f xs)
+order_supported e f [] each before = before
+order_supported e f (x ∷ xs) each before =
+    let now : Front = record { past = host e x ∷ f.past; waiting = f.waiting ++ batches_of f.past e x } in
+    order_supported (e + 1) (after_entry e x f) xs each.1 (settled_supported (length now.waiting) now (record {
+      past = supported-next (host e x) f.past each.0.host before.past;
+      waiting = each_append Content f.waiting (batches_of f.past e x) before.waiting (each.0.batches f.past e);
+    }))
 
 nothing_supported : is_supported [] ≡ true
 unfolding is_supported
 nothing_supported = refl
 
-pub trace_supported : (bytes : List ℕ) (t : List Entry) → IsTrace bytes t → IsTrue (is_supported (plain_order t))
-trace_supported bytes t is = plain_supported 0 [] t (list_makes IsSupportedEntry entry_value entry_makes is.value t is.means) nothing_supported
+pub trace_supported : (bytes : List ℕ) (t : List Entry) → IsTrace bytes t → IsTrue (is_supported (order t))
+trace_supported bytes t is = (order_supported 0 (record { past = []; waiting = [] }) t (list_makes IsSupportedEntry entry_value entry_makes is.value t is.means) (record { past = nothing_supported; waiting = tt })).past

@@ -4,6 +4,7 @@ use Rattle.serde_json.specs.Read.{read}
 use Rattle.vk_model.specs.declared.resource.Sharing.TheVariants as sharing
 use Rattle.vk_model.specs.declared.resource.Place.TheVariants as place
 use Rattle.vk_model.specs.declared.command.Length.TheVariants as length_of
+use Rattle.vk_model.specs.declared.command.Dependency.{Dependency}
 use Rattle.vk_model.specs.declared.command.Element.TheVariants as element
 use Rattle.vk_model.specs.declared.command.Cmd.TheVariants as cmd
 use Rattle.vk_model.specs.declared.entry.Entry.{Entry}
@@ -40,9 +41,33 @@ first_upload =
     ∷ entry.Read 1 0 4
     ∷ []
 
+-- A batch on another queue waits for a value that the host signals later; it sets an event and awaits it.
+abbrev pub ahead_of_signal : List Entry
+ahead_of_signal =
+    entry.Semaphore 2 0
+    ∷ entry.Event 3
+    ∷ entry.Submit 1 (record {
+      waits = record { semaphore = 2; value = 5; stages = record { 0 = 4096 } } ∷ [];
+      commands = cmd.Set 3 (transfers ∷ []) ∷ cmd.Await 3 (transfers ∷ []) ∷ [];
+      signals = [];
+    } ∷ [])
+    ∷ entry.Signal 2 5
+    ∷ []
+  where
+    transfers : Dependency
+    transfers = record {
+      source_stages = record { 0 = 4096 };
+      source_accesses = record { 0 = 4096 };
+      destination_stages = record { 0 = 4096 };
+      destination_accesses = record { 0 = 2048 };
+    }
+
 -- Texts that are traces.
 pub record Traces : Type 0 where
   pub upload : meant_by (codes "[[\"buffer\",1,16,3,\"exclusive\",[\"dedicated\",1]],[\"semaphore\",2,0],[\"submit\",0,[[[],[[\"fill\",1,0,16,67305985],[\"barrier\",[[4096,4096,16384,8192]],[],[]]],[[2,1,65536]]]]],[\"wait\",[[2,1]]],[\"map\",1],[\"read\",1,0,4]]") ≡ Some first_upload
+  pub ahead : meant_by (codes "[[\"semaphore\",2,0],[\"event\",3],[\"submit\",1,[[[[2,5,4096]],[[\"set\",3,[[4096,4096,4096,2048]]],[\"await\",3,[[4096,4096,4096,2048]]]],[]]]],[\"signal\",2,5]]") ≡ Some ahead_of_signal
+  -- which queues there are is for a rule to say
+  pub greatest_queue : meant_by (codes "[[\"submit\",4294967295,[]]]") ≡ Some (entry.Submit 4294967295 [] ∷ [])
   pub nothing : meant_by (codes " [ ] ") ≡ Some []
   -- a word written with escapes is that word
   pub escapes : meant_by (codes "[[\"\\u006dap\",1]]") ≡ Some (entry.Map 1 ∷ [])
@@ -76,7 +101,6 @@ pub record NoTraces : Type 0 where
   -- bytes in hex with half a byte; no entry with such bytes is supported yet
   pub odd_hex : meant_by (codes "[[\"write\",1,0,\"abc\"]]") ≡ None
   -- forms that are not supported yet
-  pub other_queue : meant_by (codes "[[\"submit\",1,[]]]") ≡ None
   pub cached_memory : meant_by (codes "[[\"buffer\",1,16,3,\"exclusive\",[\"dedicated\",2]]]") ≡ None
 
 -- The texts of answers.

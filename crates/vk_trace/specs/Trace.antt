@@ -14,12 +14,12 @@ use Rattle.vk_model.specs.declared.command.Dependency.{Dependency}
 use Rattle.vk_model.specs.declared.command.Element.{Element}
 use Rattle.vk_model.specs.declared.command.Element.TheVariants.{Memory}
 use Rattle.vk_model.specs.declared.command.Cmd.{Cmd}
-use Rattle.vk_model.specs.declared.command.Cmd.TheVariants.{Fill, Barrier}
+use Rattle.vk_model.specs.declared.command.Cmd.TheVariants.{Fill, Barrier, Set, Await}
 use Rattle.vk_model.specs.declared.entry.SemaphoreValue.{SemaphoreValue}
 use Rattle.vk_model.specs.declared.entry.SemaphoreSubmit.{SemaphoreSubmit}
 use Rattle.vk_model.specs.declared.entry.Batch.{Batch}
 use Rattle.vk_model.specs.declared.entry.Entry.{Entry}
-use Rattle.vk_model.specs.declared.entry.Entry.TheVariants.{Buffer, Map, Read, Semaphore, Wait, Submit}
+use Rattle.vk_model.specs.declared.entry.Entry.TheVariants.{Buffer, Map, Read, Semaphore, Event, Signal, Wait, Submit}
 use Rattle.vk_trace.specs.Members.{Reader, Row, ◌>>=◌, from, ◌<*>◌, members, at_word, one_word, tagged, list_of, empty_list, u64_value, u32_value}
 
 -- A number of bytes, or the word that means all to the end (`VK_WHOLE_SIZE`) (profile).
@@ -48,6 +48,10 @@ command_rows
     = (codes "fill", from Fill <*> u32_value <*> u64_value <*> length_or_whole <*> u32_value)
     -- elements of memory, of buffers, of images
     ∷ (codes "barrier", from (λ elements _ _. Barrier elements) <*> list_of memory_element <*> empty_list <*> empty_list)
+    -- event, elements
+    ∷ (codes "set", from Set <*> u32_value <*> list_of dependency_value)
+    -- event, elements
+    ∷ (codes "await", from Await <*> u32_value <*> list_of dependency_value)
     ∷ []
 
 -- A command is a word and its members (profile).
@@ -61,18 +65,14 @@ semaphore_submit = members (from submit <*> u32_value <*> u64_value <*> u32_valu
     submit : ℕ → ℕ → ℕ → SemaphoreSubmit
     submit semaphore value stages = record { semaphore = semaphore; value = value; stages = record { 0 = stages } }
 
--- Waits, commands, signals, as in `VkSubmitInfo2`; waits are not supported yet (profile).
+-- Waits, commands, signals, as in `VkSubmitInfo2` (profile).
 unfoldable pub batch_value : Reader Batch
-batch_value = members (from (λ _ commands signals. record { waits = []; commands = commands; signals = signals })
-    <*> empty_list <*> list_of command_value <*> list_of semaphore_submit)
+batch_value = members (from (λ waits commands signals. record { waits = waits; commands = commands; signals = signals })
+    <*> list_of semaphore_submit <*> list_of command_value <*> list_of semaphore_submit)
 
 -- Semaphore, value (profile).
 unfoldable pub semaphore_value : Reader SemaphoreValue
 semaphore_value = members (from (λ semaphore value. record { semaphore = semaphore; value = value }) <*> u32_value <*> u64_value)
-
--- The number of a queue; only 0 is supported yet (profile).
-unfoldable pub queue_value : Reader ℕ
-queue_value d = u32_value d >>= λ n. if n == 0 then Some n else None
 
 -- The number of a memory type; 2 is not supported yet (profile).
 unfoldable pub memory_type_value : Reader ℕ
@@ -108,10 +108,14 @@ entry_rows
     ∷ (codes "read", from Read <*> u32_value <*> u64_value <*> u64_value)
     -- id, initial value
     ∷ (codes "semaphore", from Semaphore <*> u32_value <*> u64_value)
+    -- id
+    ∷ (codes "event", from Event <*> u32_value)
+    -- semaphore, value
+    ∷ (codes "signal", from Signal <*> u32_value <*> u64_value)
     -- the values that the host waits for
     ∷ (codes "wait", from Wait <*> list_of semaphore_value)
     -- queue, batches
-    ∷ (codes "submit", from Submit <*> queue_value <*> list_of batch_value)
+    ∷ (codes "submit", from Submit <*> u32_value <*> list_of batch_value)
     ∷ []
 
 -- An entry is a word and its members (profile).

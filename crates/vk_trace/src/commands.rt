@@ -63,6 +63,8 @@ impl Member for Cmd {
         match word {
             "fill" => fill_of(alloc, rest),
             "barrier" => barrier_of(alloc, rest),
+            "set" => set_of(alloc, rest),
+            "await" => await_of(alloc, rest),
             _ => Err(ReadTraceError::NotTrace),
         }
     }
@@ -94,4 +96,24 @@ fn barrier_of(alloc: Global, rest: &[Value]) -> Reading<Cmd>
     let ((), rest) = first::<()>(alloc, rest)?;
     end(rest)?;
     Ok(Cmd::Barrier { elements })
+}
+
+#[tactic(auto, unfolding(crate::specs::Trace::command_rows))]
+fn set_of(alloc: Global, rest: &[Value]) -> Reading<Cmd>
+    ensures { Gives (λ x. x) result (after_word command_rows (codes "set") (map view rest.now)) }
+{
+    let (event, rest) = first::<u32>(alloc, rest)?;
+    let (elements, rest) = first(alloc, rest)?;
+    end(rest)?;
+    Ok(Cmd::Set { event, elements })
+}
+
+#[tactic(auto, unfolding(crate::specs::Trace::command_rows))]
+fn await_of(alloc: Global, rest: &[Value]) -> Reading<Cmd>
+    ensures { Gives (λ x. x) result (after_word command_rows (codes "await") (map view rest.now)) }
+{
+    let (event, rest) = first::<u32>(alloc, rest)?;
+    let (elements, rest) = first(alloc, rest)?;
+    end(rest)?;
+    Ok(Cmd::Await { event, elements })
 }

@@ -1,7 +1,7 @@
 ghost use Rattle.std.specs.Prelude.{map, codes};
 ghost use Rattle.serde_json.specs.View.{view};
 ghost use Rattle.vk_trace.specs.Members.{after_word};
-ghost use Rattle.vk_trace.specs.Trace.{sharing_value, memory_type_value, place_rows, place_value, semaphore_value, semaphore_submit, batch_value, queue_value, entry_rows, entry_value};
+ghost use Rattle.vk_trace.specs.Trace.{sharing_value, memory_type_value, place_rows, place_value, semaphore_value, semaphore_submit, batch_value, entry_rows, entry_value};
 ghost use Rattle.vk_trace.specs.Inner.Gives.{Gives};
 
 use crate::errors::ReadTraceError;
@@ -10,8 +10,7 @@ use bitflags::Flags;
 use serde_json::Value;
 use std::alloc::Global;
 use vk_model::{
-    Batch, BufferInfo, Entry, Place, SemaphoreSubmit, SemaphoreValue, Sequence, Sharing, Stages,
-    Usage,
+    Batch, BufferInfo, Entry, Place, SemaphoreSubmit, SemaphoreValue, Sharing, Stages, Usage,
 };
 
 impl Member for Sharing {
@@ -101,12 +100,12 @@ impl Member for Batch {
     #[tactic(auto, unfolding(crate::specs::Trace::batch_value))]
     fn member(alloc: Global, value: &Value) -> Reading<Batch> {
         let rest = list_members(value)?;
-        let ((), rest) = first::<()>(alloc, rest)?;
+        let (waits, rest) = first(alloc, rest)?;
         let (commands, rest) = first(alloc, rest)?;
         let (signals, rest) = first(alloc, rest)?;
         end(rest)?;
         Ok(Batch {
-            waits: Sequence::new(Vec::new(alloc)),
+            waits,
             commands,
             signals,
         })
@@ -123,6 +122,8 @@ impl Member for Entry {
             "buffer" => buffer_of(alloc, rest),
             "semaphore" => semaphore_of(alloc, rest),
             "submit" => submit_of(alloc, rest),
+            "event" => event_of(alloc, rest),
+            "signal" => signal_of(alloc, rest),
             "wait" => wait_of(alloc, rest),
             "map" => map_of(alloc, rest),
             "read" => read_of(alloc, rest),
@@ -161,28 +162,32 @@ fn semaphore_of(alloc: Global, rest: &[Value]) -> Reading<Entry>
 }
 
 #[tactic(auto, unfolding(crate::specs::Trace::entry_rows))]
+fn event_of(alloc: Global, rest: &[Value]) -> Reading<Entry>
+    ensures { Gives (λ x. x) result (after_word entry_rows (codes "event") (map view rest.now)) }
+{
+    let (id, rest) = first::<u32>(alloc, rest)?;
+    end(rest)?;
+    Ok(Entry::Event { id })
+}
+
+#[tactic(auto, unfolding(crate::specs::Trace::entry_rows))]
+fn signal_of(alloc: Global, rest: &[Value]) -> Reading<Entry>
+    ensures { Gives (λ x. x) result (after_word entry_rows (codes "signal") (map view rest.now)) }
+{
+    let (semaphore, rest) = first::<u32>(alloc, rest)?;
+    let (value, rest) = first::<u64>(alloc, rest)?;
+    end(rest)?;
+    Ok(Entry::Signal { semaphore, value })
+}
+
+#[tactic(auto, unfolding(crate::specs::Trace::entry_rows))]
 fn submit_of(alloc: Global, rest: &[Value]) -> Reading<Entry>
     ensures { Gives (λ x. x) result (after_word entry_rows (codes "submit") (map view rest.now)) }
 {
-    match rest {
-        [] => Err(ReadTraceError::NotTrace),
-        [queue, rest @ ..] => {
-            let queue = queue_of(alloc, queue)?;
-            let (batches, rest) = first(alloc, rest)?;
-            end(rest)?;
-            Ok(Entry::Submit { queue, batches })
-        }
-    }
-}
-
-#[tactic(auto, unfolding(crate::specs::Trace::queue_value))]
-fn queue_of(alloc: Global, value: &Value) -> Reading<u32>
-    ensures { Gives (λ x. x) result (queue_value (view value.now)) }
-{
-    match u32::member(alloc, value)? {
-        0 => Ok(0),
-        _ => Err(ReadTraceError::NotTrace),
-    }
+    let (queue, rest) = first::<u32>(alloc, rest)?;
+    let (batches, rest) = first(alloc, rest)?;
+    end(rest)?;
+    Ok(Entry::Submit { queue, batches })
 }
 
 #[tactic(auto, unfolding(crate::specs::Trace::entry_rows))]

@@ -1,7 +1,7 @@
 ghost use Rattle.std.specs.Prelude.{◌≡◌, ◌↔◌, ◌⊎◌, ◌≤◌, ◌<◌, ◌+◌, ℕ, List, take, length, IfOk, IfErr, OnOk, IfSome, IsTrue, string_bytes, vec_len, false};
 ghost use Rattle.std.specs.Io.KnownBytes.{Appends, Keeps};
 ghost use Rattle.vk_model.specs.declared.entry.Entry.{Entry};
-ghost use Rattle.vk_model.specs.Trace.Order.{plain_order};
+ghost use Rattle.vk_model.specs.Trace.Order.{order};
 ghost use Rattle.vk_validate.specs.Supported.{is_supported};
 ghost use Rattle.vk_trace.specs.declared.printing.Outcome.{Outcome};
 ghost use Rattle.vk_trace.specs.Trace.{IsTrace};
@@ -166,7 +166,7 @@ fn outcome_of<S: Scheduler>(
     config: Config,
     sched: &mut S,
 ) -> Result<Outcome, AllocError>
-    requires { IsTrue (is_supported (plain_order entries.now)) }
+    requires { IsTrue (is_supported (order entries.now)) }
     ensures answer { IfOk result (IsAnswer config entries.now) }
     ensures view { S.held sched.new ≡ S.held sched.old }
 {

@@ -1,6 +1,9 @@
-pub mod Clears
-pub mod Unbroken
 pub mod Judged
+pub mod Unbroken
 pub mod Named
-pub mod Exact
+pub mod Conflicting
+pub mod Quiet
+pub mod Conflicts
+pub mod Pairs
+pub mod Rules
 pub mod Faults

@@ -1,5 +1,5 @@
-pub mod Keeping
 pub mod Points
-pub mod Ordering
-pub mod Accesses
+pub mod Making
+pub mod Touching
+pub mod Kept
 pub mod Judging

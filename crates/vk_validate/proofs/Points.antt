@@ -1,10 +1,6 @@
 pub mod Forms
-pub mod Pasts
-pub mod Plain
-pub mod Orders
-pub mod NextNodes
-pub mod Acts
-pub mod Places
 pub mod Barriers
 pub mod Fills
-pub mod Reach
+pub mod Pasts
+pub mod Ranges
+pub mod SupportedNodes

@@ -1,4 +1,4 @@
--- The forms that are supported so far: buffers in memory of their own, fills, memory barriers, signals and host waits on queue 0.
+-- The forms that are supported so far: buffers in memory of their own, fills, dependencies on all memory by barriers and events, and semaphores, on all queues.
 use Rattle.std.specs.Prelude.{Bool, true, false, not, ◌==◌}
 use Rattle.std.specs.List.{list_all}
 use Rattle.vk_model.specs.declared.command.Cmd.{Cmd}
@@ -21,10 +21,12 @@ abbrev pub is_memory : Element → Bool
 is_memory (element.Memory d) = true
 is_memory _ = false
 
--- Whether a command is of a supported form: a fill, or a barrier on all memory (profile).
+-- Whether a command is of a supported form: a fill, a barrier on all memory, a set or an await (profile).
 abbrev pub is_supported_command : Cmd → Bool
 is_supported_command (cmd.Fill b o n w) = true
 is_supported_command (cmd.Barrier es) = list_all is_memory es
+is_supported_command (cmd.Set v ms) = true
+is_supported_command (cmd.Await v ms) = true
 is_supported_command _ = false
 
 -- Whether an entry is of a supported form; what a submit carries is judged point by point.
@@ -33,14 +35,16 @@ is_supported_entry (entry.Buffer i b) = is_supported_place b.place
 is_supported_entry (entry.Map b) = true
 is_supported_entry (entry.Read b o n) = true
 is_supported_entry (entry.Semaphore i v) = true
+is_supported_entry (entry.Event i) = true
+is_supported_entry (entry.Signal s v) = true
 is_supported_entry (entry.Wait ws) = true
-is_supported_entry (entry.Submit q bs) = q == 0
+is_supported_entry (entry.Submit q bs) = true
 is_supported_entry _ = false
 
--- Whether what happens at a point is of a supported form; a batch's wait is not (profile).
+-- Whether what happens at a point is of a supported form (profile).
 abbrev pub is_supported_action : Action → Bool
 is_supported_action (Host x) = is_supported_entry x
-is_supported_action (Wait s) = false
+is_supported_action (Wait s) = true
 is_supported_action (Run c) = is_supported_command c
 is_supported_action (Signal s) = true
 

@@ -1,52 +1,61 @@
-ghost use Rattle.std.specs.Prelude.{◌≡◌, ◌≤◌, ◌<◌, ◌+◌, ◌∷◌, ℕ, length, slice_get, Option, Some, None, IfOk, OnOk, IfSome, IfNone, IsTrue, unwrap_or, is_none, nat_le, max, min, false, ◌-◌, ◌^◌, if◌then◌else◌};
+ghost use Rattle.std.specs.Prelude.{◌≡◌, ◌≤◌, ◌<◌, ◌+◌, ◌∷◌, ℕ, length, slice_get, not, Option, Some, None, IfOk, OnOk, IsTrue, max, is_some, option_and_then};
 ghost use Rattle.std.specs.Option.{option_map};
 ghost use Rattle.std.specs.List.{fold};
-ghost use Rattle.std.specs.Ordering.{nat_cmp};
-ghost use Rattle.std.specs.BTreeMap.{get};
-ghost use Rattle.vk_model.specs.Trace.Point.{Past, Host, Run};
+ghost use Rattle.vk_model.specs.Basics.{holds};
+ghost use Rattle.vk_model.specs.Trace.Point.{Past, host_of};
 ghost use Rattle.vk_model.specs.Trace.Objects.{made, buffer, initial};
 ghost use Rattle.vk_model.specs.Trace.Order.{counter, signaled};
-ghost use Rattle.vk_model.specs.World.ByteWrites.{buffer_size, fill_size};
-ghost use Rattle.vk_validate.specs.Supported.{is_supported_action, is_supported_entry, is_supported_command};
-ghost use Rattle.vk_validate.specs.Inner.PointViews.{action_of, point_of, past};
-ghost use Rattle.vk_validate.specs.Inner.Tabled.{was_mapped, last_writer};
-ghost use Rattle.vk_validate.specs.Inner.Fits.{Fits};
-ghost use Rattle.vk_validate.specs.Inner.Seeks.{FoundIn};
-ghost use Rattle.vk_validate.specs.Inner.OrderState.{order_state, after_waits, awaited};
-ghost use Rattle.vk_model.specs.Basics.{holds};
+ghost use Rattle.vk_model.specs.Trace.Structure.{IsOrdered};
+ghost use Rattle.vk_model.specs.World.ByteWrites.{buffer_size};
+ghost use Rattle.vk_model.specs.Rules.Ids.{judged_in};
+ghost use Rattle.vk_model.specs.Rules.Mapping.{is_mapped};
+ghost use Rattle.vk_model.specs.Sync.Node.{nodes, acts};
+ghost use Rattle.vk_order.specs.PointViews.{point_of, act_of, action_of};
+ghost use Rattle.vk_order.specs.Frontiers.{IsSight};
+ghost use Rattle.vk_order.specs.Wide.{IsApartFrom};
+ghost use Rattle.vk_validate.specs.Inner.PointViews.{past};
+ghost use Rattle.vk_validate.specs.Inner.Judged.{IsJudged};
+ghost use Rattle.vk_validate.specs.Inner.Made.{last_maker, last_set, earlier_than};
+ghost use Rattle.vk_validate.specs.Inner.Touched.{last_signaler, signal_spot, next_node, act_next};
+ghost use Rattle.vk_validate.specs.Inner.Contents.{AreContentsIn};
+ghost use Rattle.vk_validate.specs.Inner.Tabled.{spot_view, set_view, maker_view};
 
-use crate::clocks::{Clock, Order};
-use crate::steps::{Action, Step};
-use crate::tables::{Change, Tables, note};
-use crate::writers::{ReadBytes, Sought, Span};
+use crate::contents::BufferContents;
+use crate::events::EventSet;
+use crate::objects::Maker;
+use crate::semaphores::Signals;
+use crate::tables::{Tables, note};
 use std::alloc::{AllocError, Global};
 use std::marker::Model;
-use vk_model::{BufferInfo, Cmd, Entry, Length, SemaphoreValue};
+use vk_model::{BufferInfo, Entry};
+use vk_order::{Act, Action, Point, Sight};
 
-/// What has happened: the first `count` of the points. What the rules ask of it is kept in tables.
+/// What has happened: the first `count` of the points, which break no rule. What the rules ask of it
+/// is kept in tables.
 #[derive(Drop)]
 pub struct History<'a> {
     alloc: Global,
-    points: &'a [Step<'a>],
+    points: &'a [Point<'a>],
     count: usize,
     tables: Tables<'a>,
 }
 
 impl<'a> Model for History<'a> {
-    ghost use Rattle.std.specs.Prelude.{◌≡◌, ◌≤◌, ℕ, Option, List, length};
+    ghost use Rattle.std.specs.Prelude.{◌≤◌, length};
     ghost use Rattle.vk_validate.specs.Inner.PointViews.{Walk, past};
+    ghost use Rattle.vk_validate.specs.Inner.Judged.{IsJudged};
     ghost use Rattle.vk_validate.specs.Inner.Tabled.{IsTabled};
 
     ghost Value = { Walk };
 
     ghost view = { λ h. record { points = h.points.now; count = h.count } };
 
-    ghost invariant = { λ h. (h.count ≤ length h.points.now) × IsTabled h.tables (past (record { points = h.points.now; count = h.count })) };
+    ghost invariant = { λ h. (h.count ≤ length h.points.now) × IsTabled h.tables (past (record { points = h.points.now; count = h.count })) × IsJudged (past (record { points = h.points.now; count = h.count })) };
 }
 
 impl<'a> History<'a> {
     /// Before the first point.
-    pub fn new(alloc: Global, points: &'a [Step<'a>]) -> History<'a>
+    pub fn new(alloc: Global, points: &'a [Point<'a>]) -> History<'a>
         ensures { result ≡ record { points = points.now; count = 0 } }
     {
         History {
@@ -65,11 +74,53 @@ impl<'a> History<'a> {
         self.count
     }
 
+    /// What has happened was judged.
+    pub fn is_judged(&self)
+        ensures { IsJudged (past self.now) }
+    {
+        let _count: usize = self.count;
+    }
+
+    /// The last entry that made an id.
+    fn maker(&self, id: u32) -> Option<Maker<'a>>
+        ensures { option_map maker_view result ≡ last_maker (past self.now) id }
+    {
+        self.tables.objects.maker(id)
+    }
+
     /// The entry that made an object.
     pub fn made(&self, id: u32) -> Option<&'a Entry>
         ensures { option_map (λ x. x.now) result ≡ made (past self.now) id }
     {
-        self.tables.creating_entries.get(&id).copied()
+        match self.maker(id) {
+            Some(maker) => Some(maker.entry),
+            None => None,
+        }
+    }
+
+    /// The entry that made an object, as the ids of a point are judged: those of a batch's points by
+    /// the entries before its submit.
+    pub fn made_for(&self, point: &Point<'_>, id: u32) -> Option<&'a Entry>
+        requires { IsOrdered (point_of point.now ∷ past self.now) }
+        ensures { option_map (λ x. x.now) result ≡ made (judged_in (past self.now) (point_of point.now)) id }
+    {
+        match point.action {
+            Action::Host(_) => self.made(id),
+            _ => {
+                self.is_judged();
+                self.made_before(point.entry, id)
+            }
+        }
+    }
+
+    /// The entry below a number that made an object.
+    fn made_before(&self, number: usize, id: u32) -> Option<&'a Entry>
+        ensures { option_map (λ x. x.now) result ≡ option_and_then (earlier_than number) (last_maker (past self.now) id) }
+    {
+        match self.maker(id) {
+            Some(maker) if maker.number < number => Some(maker.entry),
+            _ => None,
+        }
     }
 
     /// What a buffer was made with.
@@ -83,7 +134,7 @@ impl<'a> History<'a> {
     }
 
     /// The initial value of a semaphore.
-    pub fn initial(&self, id: u32) -> Option<u64>
+    fn initial(&self, id: u32) -> Option<u64>
         ensures { result ≡ initial (past self.now) id }
     {
         match self.made(id) {
@@ -93,7 +144,7 @@ impl<'a> History<'a> {
     }
 
     /// The value of a semaphore after all signals so far; none for what is no semaphore.
-    #[tactic(auto, using(crate::proofs::Keeping::TableLemmas::counters))]
+    #[tactic(auto, using(crate::proofs::Kept::PastLemmas::counters))]
     pub fn counter(&self, semaphore: u32) -> Option<u64>
         ensures { result ≡ counter (past self.now) semaphore }
     {
@@ -107,17 +158,28 @@ impl<'a> History<'a> {
     fn highest_value(&self, semaphore: u32) -> u64
         ensures { result ≡ fold max 0 (signaled (past self.now) semaphore) }
     {
-        match self.tables.timelines.get(&semaphore) {
-            Some(timeline) => timeline.greatest(),
-            None => 0,
-        }
+        self.tables.semaphores.greatest(semaphore)
     }
 
-    /// Whether a buffer was mapped.
-    pub fn is_mapped(&self, buffer: u32) -> bool
-        ensures { result ≡ was_mapped (past self.now) buffer }
+    /// The last signal of a semaphore.
+    pub fn last_signal(&self, semaphore: u32) -> Option<Signals>
+        ensures { option_map spot_view result ≡ option_map (signal_spot (past self.now)) (last_signaler (past self.now) semaphore) }
     {
-        self.tables.maps.get(&buffer).copied().unwrap_or(0) > 0
+        self.tables.semaphores.last(semaphore)
+    }
+
+    /// How an event was set last.
+    pub fn last_set(&self, event: u32) -> Option<EventSet<'a>>
+        ensures { option_map set_view result ≡ last_set (past self.now) event }
+    {
+        self.tables.events.last_set(event)
+    }
+
+    /// Whether a buffer is mapped.
+    pub fn is_mapped(&self, buffer: u32) -> bool
+        ensures { result ≡ is_mapped (past self.now) buffer }
+    {
+        self.tables.mappings.was_mapped(buffer)
     }
 
     /// The size of a buffer in bytes; 0 for what is no buffer.
@@ -130,50 +192,29 @@ impl<'a> History<'a> {
         }
     }
 
-    /// The bytes that a fill writes.
-    pub fn filled(&self, buffer: u32, offset: u64, size: Length) -> Option<Span>
-        ensures none { IfNone result (fill_size (buffer_size (past self.now) buffer) offset size ≡ 0) }
-        ensures some { IfSome result (λ span. 0 < fill_size (buffer_size (past self.now) buffer) offset size) }
-        ensures first { IfSome result (λ span. span.first ≡ offset) }
-        ensures last { IfSome result (λ span. span.last ≡ min (offset + (fill_size (buffer_size (past self.now) buffer) offset size - 1)) (2 ^ 64 - 1)) }
+    /// What is known of the bytes of a buffer.
+    pub fn contents(&self, buffer: u32) -> Option<&BufferContents>
+        ensures { AreContentsIn (option_map (λ c. c.now) result) (past self.now) buffer }
     {
-        Span::new(offset, size.filled(self.size(buffer), offset))
+        self.tables.contents.of(buffer)
     }
 
-    /// Whether a byte was written by a command whose write isn't visible to the writes of the next
-    /// command.
-    pub fn has_unseen_by_write(&self, buffer: u32, span: Span) -> bool
-        ensures { FoundIn result span.first span.last (λ k. holds (last_writer (past self.now) buffer k) (nat_le (order_state (past self.now)).order.to_writes)) }
+    /// What the node of a point that comes next has before it, and what it sees.
+    pub fn sight(&self, point: &Point<'_>) -> Result<Sight, AllocError>
+        ensures { IfOk result (λ s. IsApartFrom (nodes (past self.now)) (next_node (past self.now) (point_of point.now) (act_next (action_of point.now.action)))
+            → IsSight (nodes (past self.now)) (next_node (past self.now) (point_of point.now) (act_next (action_of point.now.action))) s) }
     {
-        match self.tables.writers.get(&buffer) {
-            Some(writers) => writers.has(span, Sought::Since(self.tables.order.seen_by_write())),
-            None => false,
-        }
+        self.tables.frontier.sight(point, &act_of(point))
     }
 
-    /// What a read by the host finds of the bytes of a span.
-    pub fn read(&self, buffer: u32, span: Span) -> ReadBytes
-        ensures unseen { FoundIn result.unseen span.first span.last (λ k. holds (last_writer (past self.now) buffer k) (nat_le (order_state (past self.now)).order.host.readable)) }
-        ensures undefined { FoundIn result.undefined span.first span.last (λ k. is_none (last_writer (past self.now) buffer k)) }
-    {
-        match self.tables.writers.get(&buffer) {
-            Some(writers) => writers.read(span, self.tables.order.seen_by_host_read()),
-            None => ReadBytes {
-                unseen: false,
-                undefined: true,
-            },
-        }
-    }
-
-    /// Takes the next point, which is of a supported form. After an error the history begins anew.
-    pub fn advance(&mut self, step: &Step<'a>) -> Result<(), AllocError>
-        requires here { slice_get self.old.points self.old.count ≡ Some step.now }
-        requires supported { IsTrue (is_supported_action (action_of step.now.action)) }
+    /// Takes the next point, which breaks no rule. After an error the history begins anew.
+    pub fn advance(&mut self, point: &Point<'a>) -> Result<(), AllocError>
+        requires here { slice_get self.old.points self.old.count ≡ Some point.now }
+        requires judged { IsJudged (point_of point.now ∷ past self.old) }
         ensures { OnOk result (self.new ≡ record self.old { count = self.old.count + 1 }) }
     {
         let points = self.points;
-        let change = self.change(step);
-        match note(self.alloc, &mut self.tables, change) {
+        match note(&mut self.tables, point) {
             Ok(()) => {
                 self.count += 1;
                 Ok(())
@@ -184,80 +225,16 @@ impl<'a> History<'a> {
             }
         }
     }
+}
 
-    /// What the next point changes.
-    fn change(&self, step: &Step<'a>) -> Change<'a>
-        requires { IsTrue (is_supported_action (action_of step.now.action)) }
-        ensures { Fits result (past self.now) (action_of step.now.action) }
-    {
-        match step.action {
-            Action::Host(entry) => self.change_by_entry(entry),
-            Action::Wait(_) => Change::Nothing,
-            Action::Run(command) => self.change_by_command(command),
-            Action::Signal(signal) => {
-                let clock = self.tables.order.signal_at(signal.stages, self.count);
-                Change::Signaled(signal.semaphore, signal.value, clock)
-            }
-        }
-    }
-
-    fn change_by_entry(&self, entry: &'a Entry) -> Change<'a>
-        requires { IsTrue (is_supported_entry entry.now) }
-        ensures { Fits result (past self.now) (Host entry.now) }
-    {
-        match entry {
-            Entry::Buffer { id, .. } | Entry::Semaphore { id, .. } => Change::Made(*id, entry),
-            Entry::Map { buffer } => Change::Mapped(*buffer),
-            Entry::Wait { waits } => Change::Ordered(self.after_waits(waits.as_slice())),
-            _ => Change::Nothing,
-        }
-    }
-
-    fn change_by_command(&self, command: &Cmd) -> Change<'a>
-        requires { IsTrue (is_supported_command command.now) }
-        ensures { Fits result (past self.now) (Run command.now) }
-    {
-        match command {
-            Cmd::Fill {
-                buffer,
-                offset,
-                size,
-                ..
-            } => match self.filled(*buffer, *offset, *size) {
-                Some(span) => Change::Written(*buffer, span, self.count),
-                None => Change::Nothing,
-            },
-            Cmd::Barrier { elements } => {
-                let order = self.tables.order;
-                Change::Ordered(order.after_barrier(elements.as_slice(), self.count))
-            }
-            _ => Change::Nothing,
-        }
-    }
-
-    fn after_waits(&self, waits: &[SemaphoreValue]) -> Order
-        ensures { result ≡ after_waits (past self.now) (order_state (past self.now)).signals waits.now (order_state (past self.now)).order }
-    {
-        let mut order = self.tables.order;
-        for wait in waits {
-            if let Some(clock) = self.awaited(wait) {
-                order = order.after_wait(clock);
-            }
-        }
-        order
-    }
-
-    /// The signal that a wait comes after; none where the initial value is enough.
-    fn awaited(&self, wait: &SemaphoreValue) -> Option<Clock>
-        ensures { result ≡ awaited (past self.now) (order_state (past self.now)).signals wait.now }
-    {
-        if self
-            .initial(wait.semaphore)
-            .is_some_and(|initial| wait.value <= initial)
-        {
-            return None;
-        }
-        let timeline = self.tables.timelines.get(&wait.semaphore)?;
-        timeline.least_from(wait.value)
+/// The act of a point that has a single one.
+fn act_of<'a>(point: &Point<'a>) -> Act<'a>
+    ensures { act_of result ≡ act_next (action_of point.now.action) }
+{
+    match point.action {
+        Action::Host(entry) => Act::Hosts(entry),
+        Action::Wait(wait) => Act::Waits(wait),
+        Action::Run(command) => Act::Runs(command),
+        Action::Signal(signal) => Act::Signals(signal),
     }
 }

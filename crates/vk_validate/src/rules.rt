@@ -1,9 +1,14 @@
-ghost use Rattle.std.specs.Prelude.{◌≡◌, IsTrue};
+ghost use Rattle.std.specs.Prelude.{◌≡◌, ◌∷◌, IfOk, IsTrue, None};
 ghost use Rattle.std.specs.List.{find};
+ghost use Rattle.vk_model.specs.Trace.Structure.{IsOrdered};
+ghost use Rattle.vk_model.specs.Rules.Table as table;
+ghost use Rattle.vk_model.specs.Rules.Synchronization as sync;
+ghost use Rattle.vk_order.specs.PointViews.{action_of, point_of};
 ghost use Rattle.vk_validate.specs.Supported.{is_supported_action};
-ghost use Rattle.vk_validate.specs.Inner.PointViews.{action_of, point_of, past};
-ghost use Rattle.vk_validate.specs.Inner.Cleared.{tests, first_test};
-ghost use Rattle.vk_validate.specs.Inner.Tests.{reads_unseen, reads_unwritten};
+ghost use Rattle.vk_validate.specs.Inner.PointViews.{past};
+ghost use Rattle.vk_validate.specs.Inner.Judged.{early_rules, late_rules, first_among};
+ghost use Rattle.vk_validate.specs.Inner.Early.{breaks_early};
+ghost use Rattle.vk_validate.specs.Inner.Conflicts.{AreConflicts};
 
 mod hazards;
 mod ids;
@@ -13,13 +18,14 @@ mod sizes;
 mod synchronization;
 mod traces;
 
+use crate::found::Conflicts;
 use crate::history::History;
-use crate::steps::Step;
-use crate::writers::ReadBytes;
+use std::alloc::AllocError;
 use vk_model::Rule;
+use vk_order::Point;
 
-/// The rules in the order in which they are tested at a point.
-const RULES: [Rule; 40] = [
+/// The rules that are judged before the accesses of a point, in the order of their tests.
+const EARLY: [Rule; 34] = [
     Rule::NewId,
     Rule::LiveId,
     Rule::Queue,
@@ -54,32 +60,45 @@ const RULES: [Rule; 40] = [
     Rule::PassState,
     Rule::PassBusy,
     Rule::PassWrite,
-    Rule::HazardWar,
-    Rule::HazardRaw,
-    Rule::HazardWaw,
-    Rule::InUse,
-    Rule::ReadUndefined,
-    Rule::Limit,
 ];
 
-/// The first rule of the table that a point breaks.
-#[tactic(auto, unfolding(crate::specs::Inner::Cleared::first_test))]
-pub fn first_rule(history: &History<'_>, step: &Step<'_>) -> Option<Rule>
-    requires { IsTrue (is_supported_action (action_of step.now.action)) }
-    ensures { result ≡ first_test (past history.now) (point_of step.now) }
+/// The first rule of the table that a point breaks. The only error is want of memory.
+pub fn first_rule(history: &History<'_>, point: &Point<'_>) -> Result<Option<Rule>, AllocError>
+    requires supported { IsTrue (is_supported_action (action_of point.now.action)) }
+    requires ordered { IsOrdered (point_of point.now ∷ past history.now) }
+    ensures { IfOk result (λ r. r ≡ table.first_rule (past history.now) (point_of point.now)) }
 {
-    first_of(&RULES, history, step, hazards::read_bytes(history, step))
+    let is_unordered = synchronization::breaks_signal_order(history, point)?;
+    if let Some(rule) = first_early(history, point, is_unordered) {
+        return Ok(Some(rule));
+    }
+    let found = hazards::conflicts(history, point)?;
+    Ok(first_late(history, point, found))
 }
 
-#[tactic(auto, using(crate::proofs::Judging::Clears::finds))]
-fn first_of(rules: &[Rule], history: &History<'_>, step: &Step<'_>, read: ReadBytes) -> Option<Rule>
-    requires supported { IsTrue (is_supported_action (action_of step.now.action)) }
-    requires unseen { read.unseen ≡ reads_unseen (past history.now) (action_of step.now.action) }
-    requires undefined { read.undefined ≡ reads_unwritten (past history.now) (action_of step.now.action) }
-    ensures { result ≡ find (λ r. tests r (past history.now) (point_of step.now)) rules.now }
+fn first_early(history: &History<'_>, point: &Point<'_>, is_unordered: bool) -> Option<Rule>
+    requires supported { IsTrue (is_supported_action (action_of point.now.action)) }
+    requires ordered { IsOrdered (point_of point.now ∷ past history.now) }
+    requires unordered { is_unordered ≡ sync.breaks_signal_order (past history.now) (point_of point.now) }
+    ensures { result ≡ first_among early_rules (past history.now) (point_of point.now) }
+{
+    first_of(&EARLY, history, point, is_unordered)
+}
+
+#[tactic(auto, using(crate::proofs::Judging::Rules::finds))]
+fn first_of(
+    rules: &[Rule],
+    history: &History<'_>,
+    point: &Point<'_>,
+    is_unordered: bool,
+) -> Option<Rule>
+    requires supported { IsTrue (is_supported_action (action_of point.now.action)) }
+    requires ordered { IsOrdered (point_of point.now ∷ past history.now) }
+    requires unordered { is_unordered ≡ sync.breaks_signal_order (past history.now) (point_of point.now) }
+    ensures { result ≡ find (λ r. breaks_early r (past history.now) (point_of point.now)) rules.now }
 {
     for rule in rules {
-        if breaks(*rule, history, step, read) {
+        if breaks_early(*rule, history, point, is_unordered) {
             return Some(*rule);
         }
     }
@@ -87,33 +106,55 @@ fn first_of(rules: &[Rule], history: &History<'_>, step: &Step<'_>, read: ReadBy
 }
 
 // Points of the supported forms can't break the rules that aren't listed. Those speak of images,
-// pools, memory objects, events, other queues, waits of batches, reads by commands, or of what is unmapped
-// or destroyed; and the signals of one queue, or a read of the host and a later batch, are always in order.
-#[tactic(auto, unfolding(crate::specs::Inner::Cleared::tests))]
-fn breaks(rule: Rule, history: &History<'_>, step: &Step<'_>, read: ReadBytes) -> bool
-    requires supported { IsTrue (is_supported_action (action_of step.now.action)) }
-    requires unseen { read.unseen ≡ reads_unseen (past history.now) (action_of step.now.action) }
-    requires undefined { read.undefined ≡ reads_unwritten (past history.now) (action_of step.now.action) }
-    ensures { result ≡ tests rule (past history.now) (point_of step.now) }
+// pools, memory objects or ownership; and a batch is started only once its waits are met.
+fn breaks_early(rule: Rule, history: &History<'_>, point: &Point<'_>, is_unordered: bool) -> bool
+    requires supported { IsTrue (is_supported_action (action_of point.now.action)) }
+    requires ordered { IsOrdered (point_of point.now ∷ past history.now) }
+    requires unordered { is_unordered ≡ sync.breaks_signal_order (past history.now) (point_of point.now) }
+    ensures { result ≡ breaks_early rule (past history.now) (point_of point.now) }
 {
+    history.is_judged();
     match rule {
-        Rule::NewId => ids::breaks_new_id(history, step),
-        Rule::LiveId => ids::breaks_live_id(history, step),
-        Rule::Size => sizes::breaks_size(history, step),
-        Rule::Usage => sizes::breaks_usage(history, step),
-        Rule::MemoryType => sizes::breaks_memory_type(step),
-        Rule::MemorySize => sizes::breaks_memory_size(step),
-        Rule::Range => ranges::breaks_range(history, step),
-        Rule::Align => ranges::breaks_align(step),
-        Rule::Stage => synchronization::breaks_stage(step),
-        Rule::SignalValue => synchronization::breaks_signal_value(history, step),
-        Rule::WaitNever => synchronization::breaks_wait_never(history, step),
-        Rule::MapState => mapping::breaks_map_state(history, step),
-        Rule::HostVisible => mapping::breaks_host_visible(history, step),
-        Rule::HazardRaw => read.unseen,
-        Rule::HazardWaw => hazards::breaks_hazard_waw(history, step),
-        Rule::ReadUndefined => read.undefined,
-        Rule::Limit => traces::breaks_limit(history),
+        Rule::NewId => ids::breaks_new_id(history, point),
+        Rule::LiveId => ids::breaks_live_id(history, point),
+        Rule::Queue => ids::breaks_queue(point),
+        Rule::QueueKind => ids::breaks_queue_kind(point),
+        Rule::Size => sizes::breaks_size(history, point),
+        Rule::Usage => sizes::breaks_usage(history, point),
+        Rule::MemoryType => sizes::breaks_memory_type(point),
+        Rule::MemorySize => sizes::breaks_memory_size(point),
+        Rule::Range => ranges::breaks_range(history, point),
+        Rule::Align => ranges::breaks_align(point),
+        Rule::Stage => synchronization::breaks_stage(point),
+        Rule::EventState => synchronization::breaks_event_state(history, point),
+        Rule::EventDependency => synchronization::breaks_event_dependency(history, point),
+        Rule::SignalValue => synchronization::breaks_signal_value(history, point),
+        Rule::SignalOrder => is_unordered,
+        Rule::WaitNever => synchronization::breaks_wait_never(history, point),
+        Rule::MapState => mapping::breaks_map_state(history, point),
+        Rule::HostVisible => mapping::breaks_host_visible(history, point),
         _ => false,
+    }
+}
+
+// No point of a supported form breaks IN_USE.
+fn first_late(history: &History<'_>, point: &Point<'_>, found: Conflicts) -> Option<Rule>
+    requires supported { IsTrue (is_supported_action (action_of point.now.action)) }
+    requires found { AreConflicts found (past history.now) (point_of point.now) }
+    ensures { result ≡ first_among late_rules (past history.now) (point_of point.now) }
+{
+    let is_over = traces::breaks_limit(history);
+    if found.war {
+        Some(Rule::HazardWar)
+    } else if found.raw {
+        Some(Rule::HazardRaw)
+    } else if found.waw {
+        Some(Rule::HazardWaw)
+    } else if found.undefined {
+        Some(Rule::ReadUndefined)
+    } else if is_over {
+        Some(Rule::Limit)
+    } else {
+        None
     }
 }

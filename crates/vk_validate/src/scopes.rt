@@ -1,4 +1,4 @@
-//! Sets of stages and accesses, as the rules and the order ask for them.
+//! Sets of stages and accesses, as the rules ask for them.
 use vk_model::{Accesses, Stages};
 
 /// The stages of transfer commands: ALL_COMMANDS has TRANSFER.
@@ -8,14 +8,6 @@ pub const TRANSFERS: Stages = Stages(Stages::TRANSFER.0 | Stages::ALL_COMMANDS.0
 pub const KNOWN_STAGES: Stages = Stages(
     Stages::TRANSFER.0 | Stages::HOST.0 | Stages::ALL_COMMANDS.0,
 );
-
-/// The accesses that name the writes of transfer commands.
-pub const TRANSFER_WRITES: Accesses = Accesses(
-    Accesses::TRANSFER_WRITE.0 | Accesses::MEMORY_WRITE.0,
-);
-
-/// The accesses that name the reads of the host.
-pub const HOST_READS: Accesses = Accesses(Accesses::HOST_READ.0 | Accesses::MEMORY_READ.0);
 
 /// The accesses that only transfer commands make.
 pub const BY_TRANSFERS: Accesses = Accesses(Accesses::TRANSFER_READ.0 | Accesses::TRANSFER_WRITE.0);

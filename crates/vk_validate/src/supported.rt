@@ -1,21 +1,20 @@
 ghost use Rattle.std.specs.Prelude.{◌≡◌};
 ghost use Rattle.std.specs.List.{list_all};
 ghost use Rattle.vk_validate.specs.Supported as supported;
-ghost use Rattle.vk_validate.specs.Inner.PointViews.{action_of};
+ghost use Rattle.vk_order.specs.PointViews.{action_of};
 
-use crate::steps::{Action, Step};
 use vk_model::{Cmd, Element, Entry, Place};
+use vk_order::{Action, Point};
 
 /// Whether the rules of this crate cover the point's form. The others have rules that are not written
 /// yet.
-pub fn is_supported(step: &Step<'_>) -> bool
-    ensures { result ≡ supported.is_supported_action (action_of step.now.action) }
+pub fn is_supported(point: &Point<'_>) -> bool
+    ensures { result ≡ supported.is_supported_action (action_of point.now.action) }
 {
-    match step.action {
+    match point.action {
         Action::Host(entry) => is_supported_entry(entry),
-        Action::Wait(_) => false,
         Action::Run(command) => is_supported_command(command),
-        Action::Signal(_) => true,
+        Action::Wait(_) | Action::Signal(_) => true,
     }
 }
 
@@ -24,10 +23,13 @@ fn is_supported_entry(entry: &Entry) -> bool
 {
     match entry {
         Entry::Buffer { info, .. } => is_supported_place(info.place),
-        Entry::Map { .. } | Entry::Read { .. } | Entry::Semaphore { .. } | Entry::Wait { .. } => {
-            true
-        }
-        Entry::Submit { queue, .. } => *queue == 0,
+        Entry::Map { .. }
+        | Entry::Read { .. }
+        | Entry::Semaphore { .. }
+        | Entry::Event { .. }
+        | Entry::Signal { .. }
+        | Entry::Wait { .. }
+        | Entry::Submit { .. } => true,
         _ => false,
     }
 }
@@ -46,7 +48,7 @@ fn is_supported_command(command: &Cmd) -> bool
     ensures { result ≡ supported.is_supported_command command.now }
 {
     match command {
-        Cmd::Fill { .. } => true,
+        Cmd::Fill { .. } | Cmd::Set { .. } | Cmd::Await { .. } => true,
         Cmd::Barrier { elements } => are_memory(elements.as_slice()),
         _ => false,
     }

@@ -1,20 +1,25 @@
 ghost use Rattle.std.specs.Prelude.{◌≡◌, IfOk, IsTrue, None};
-ghost use Rattle.vk_model.specs.Trace.Order.{plain_order};
+ghost use Rattle.vk_model.specs.Trace.Point as spec;
+ghost use Rattle.vk_model.specs.Trace.Order.{order};
+ghost use Rattle.vk_model.specs.Trace.Structure.{IsOrdered};
 ghost use Rattle.vk_model.specs.Rules.Table.{first_fault};
 ghost use Rattle.vk_validate.specs.Supported.{is_supported};
-ghost use Rattle.vk_validate.specs.Faults.{reported_fault, tested_fault};
+ghost use Rattle.vk_validate.specs.Faults.{reported_fault};
 ghost use Rattle.vk_validate.specs.Verdicts.{reported, IsAbout};
-ghost use Rattle.vk_validate.specs.Inner.PointViews.{past_of};
+ghost use Rattle.vk_order.specs.PointViews.{point_of};
+ghost use Rattle.vk_queues.specs.PointViews.{past_of};
 
 use crate::history::History;
 use crate::rules::first_rule;
-use crate::steps::{Step, reference_order};
 use crate::supported::is_supported;
 use std::alloc::{AllocError, Global};
 use std::marker::Model;
 use vk_model::{At, Entry, Rule};
+use vk_order::{Action, Point};
+use vk_queues::reference_order;
 
-/// The entries of a trace that breaks no rule. Only `validate` makes one. Contracts see the entries.
+/// The entries of a trace that breaks no rule. Only `validate` makes one. Contracts see the
+/// entries.
 #[derive(Drop)]
 pub struct Accepted<'a> {
     entries: &'a [Entry],
@@ -37,7 +42,7 @@ impl<'a> Accepted<'a> {
     /// The entries.
     pub fn entries(&self) -> &'a [Entry]
         ensures same { result.now ≡ self.now }
-        ensures supported { IsTrue (is_supported (plain_order self.now)) }
+        ensures supported { IsTrue (is_supported (order self.now)) }
         ensures faultless { first_fault self.now ≡ None }
     {
         self.entries
@@ -49,19 +54,21 @@ impl<'a> Accepted<'a> {
 pub enum Verdict<'a> {
     /// It breaks no rule.
     Accepted(Accepted<'a>),
-    /// The first point that breaks a rule, and the first rule in the order of `Rule` that it breaks.
+    /// The first point that breaks a rule, and the first in the order of `Rule` that it breaks.
     Refused(At, Rule),
 }
 
 /// Says whether a trace breaks a rule, and which it breaks first. It fails only for want of memory.
 ///
-/// The points of a trace are its entries, in order, and after a submit the waits, the commands and the
-/// signals of its batches. The forms that are supported so far: dedicated buffers on memory types other
-/// than 2, semaphores, submits on queue 0, maps, reads and waits of the host; fills and barriers with
-/// memory elements alone; signals of batches. A point of any other form is refused by `Rule::LiveId`.
+/// The points of a trace are its entries, in order, and the waits, the commands and the signals of
+/// the batches of its submits, each batch where its waits are met. The forms that are supported so
+/// far: dedicated buffers on memory types other than 2, semaphores and events, submits on all
+/// queues, maps and reads of the host, its signals and waits; fills, and barriers, sets and awaits
+/// with memory elements alone; waits and signals of batches. A point of any other form is refused
+/// by `Rule::LiveId`.
 pub fn validate<'a>(alloc: Global, entries: &'a [Entry]) -> Result<Verdict<'a>, AllocError>
-    ensures reported { IfOk result (λ v. reported v ≡ reported_fault (plain_order entries.now)) }
-    ensures exact { IfOk result (λ v. IsTrue (is_supported (plain_order entries.now)) → reported v ≡ first_fault entries.now) }
+    ensures reported { IfOk result (λ v. reported v ≡ reported_fault (order entries.now)) }
+    ensures exact { IfOk result (λ v. IsTrue (is_supported (order entries.now)) → reported v ≡ first_fault entries.now) }
     ensures same { IfOk result (IsAbout entries.now) }
 {
     let points = reference_order(alloc, entries)?;
@@ -72,18 +79,33 @@ pub fn validate<'a>(alloc: Global, entries: &'a [Entry]) -> Result<Verdict<'a>, 
 }
 
 /// The first of the points that breaks a rule, with its first rule.
-fn first_fault<'a>(alloc: Global, points: &'a [Step<'a>]) -> Result<Option<(At, Rule)>, AllocError>
-    ensures { IfOk result (λ fault. fault ≡ tested_fault (past_of points.now)) }
+fn first_fault<'a>(alloc: Global, points: &'a [Point<'a>]) -> Result<Option<(At, Rule)>, AllocError>
+    requires { IsOrdered (past_of points.now) }
+    ensures { IfOk result (λ fault. fault ≡ reported_fault (past_of points.now)) }
 {
     let mut history = History::new(alloc, points);
-    for step in points {
-        if !is_supported(step) {
-            return Ok(Some((step.at(), Rule::LiveId)));
+    for point in points {
+        history.is_judged();
+        if !is_supported(point) {
+            return Ok(Some((at_of(point), Rule::LiveId)));
         }
-        if let Some(rule) = first_rule(&history, step) {
-            return Ok(Some((step.at(), rule)));
+        if let Some(rule) = first_rule(&history, point)? {
+            return Ok(Some((at_of(point), rule)));
         }
-        history.advance(step)?;
+        history.advance(point)?;
     }
+    history.is_judged();
     Ok(None)
+}
+
+/// How a point is reported.
+fn at_of(point: &Point<'_>) -> At
+    ensures { result ≡ spec.at_of (point_of point.now) }
+{
+    match point.action {
+        Action::Host(_) => At::Entry(point.entry),
+        Action::Wait(_) => At::Wait(point.entry, point.batch, point.place),
+        Action::Run(_) => At::Command(point.entry, point.batch, point.place),
+        Action::Signal(_) => At::Signal(point.entry, point.batch, point.place),
+    }
 }

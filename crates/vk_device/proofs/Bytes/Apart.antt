@@ -6,7 +6,7 @@ use Rattle.std.proofs.lemmas.List.{get_or_append_left}
 use Rattle.std.specs.Prelude.{IsSome, IfSome}
 use Rattle.vk_memory.specs.declared.memories.Object.{Object}
 use Rattle.vk_memory.specs.MemoryState.{MemoryState, IsLive, object_at, region_of, bytes_of, rewritten, with_region}
-use Rattle.vk_device.specs.declared.device.Placed.{Placed}
+use Rattle.vk_device.specs.declared.resources.Placed.{Placed}
 use Rattle.vk_device.specs.Held.{IsApart, placed_in}
 use Rattle.vk_device.proofs.Bytes.Filling.{live_below, region_of-same, region_of-other}
 

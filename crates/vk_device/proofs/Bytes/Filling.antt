@@ -14,7 +14,7 @@ use Rattle.vk_memory.specs.declared.memories.Object.{Object}
 use Rattle.vk_model.specs.Basics.{below, byte_of}
 use Rattle.vk_model.specs.World.Bytes.{in_buffer, in_image, same_byte}
 use Rattle.vk_model.specs.World.ByteWrites.{Value, ByteWrite, byte_write}
-use Rattle.vk_device.specs.declared.device.Placed.{Placed}
+use Rattle.vk_device.specs.declared.resources.Placed.{Placed}
 use Rattle.vk_device.specs.Held.{Held, IsApart, placed, byte_in, byte_at}
 use Rattle.vk_device.proofs.Bytes.Running.{stored, write_to, HaveRun}
 

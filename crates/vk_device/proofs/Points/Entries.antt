@@ -10,7 +10,6 @@ use Rattle.vk_heap.specs.Region.{piece}
 use Rattle.vk_memory.specs.MemoryState.{MemoryState, IsLive, region_of, bytes_of, fresh, object_at, remapped, with_mapped}
 use Rattle.vk_memory.specs.declared.memories.Object.{Object}
 use Rattle.vk_device.proofs.Bytes.Filling.{live_below}
-use Rattle.vk_model.specs.declared.entry.Batch.{Batch}
 use Rattle.vk_model.specs.declared.entry.Entry.{Entry}
 use Rattle.vk_model.specs.declared.entry.Entry.TheVariants as entry
 use Rattle.vk_model.specs.declared.resource.BufferInfo.{BufferInfo}
@@ -23,11 +22,11 @@ use Rattle.vk_model.specs.World.Effect.{world}
 use Rattle.vk_model.specs.World.Meaning.{bytes_at, read_in}
 use Rattle.vk_device.specs.declared.applied.Applied.{Applied}
 use Rattle.vk_device.specs.declared.applied.Applied.TheVariants as applied
-use Rattle.vk_device.specs.declared.device.Placed.{Placed}
+use Rattle.vk_device.specs.declared.resources.Placed.{Placed}
 use Rattle.vk_device.specs.Held.{Held, IsApart, placed, byte_in, byte_at}
-use Rattle.vk_device.specs.Inner.Steps.{MapsAt, batches_past, Makes, MadeOr}
-use Rattle.vk_device.specs.Inner.Fits.{AllFit, FitsEntry, FitsRead}
-use Rattle.vk_device.specs.Matches.{IsThere, next_past}
+use Rattle.vk_device.specs.Inner.Steps.{MapsAt, Makes, MadeOr}
+use Rattle.vk_device.specs.Inner.Fits.{FitsEntry, FitsRead}
+use Rattle.vk_device.specs.Matches.{IsThere}
 use Rattle.vk_device.specs.Inner.Made.{MatchesMade, AnsweredMade}
 use Rattle.vk_device.proofs.Points.Steps.{there_placed}
 
@@ -76,12 +75,12 @@ module _ (old new : Held) (apart : IsApart old.memory old.buffers) (i t : ℕ) (
           (rw kept.0 was.0, rw kept.0 kept.1)
       go (in_image j l a x y p) v was = absurd was.0
 
-pub buffer_answered : (old new : Held) (y : Entry) (i t : ℕ) (info : BufferInfo) → y ≡ entry.Buffer i info → IsApart old.memory old.buffers → (a : Applied) → MadeOr a old new i t info.size → (e : ℕ) (past : Past) → MatchesMade past old → AllFit (next_past e y past) → AnsweredMade a e y past old new
+pub buffer_answered : (old new : Held) (y : Entry) (i t : ℕ) (info : BufferInfo) → y ≡ entry.Buffer i info → IsApart old.memory old.buffers → (a : Applied) → MadeOr a old new i t info.size → (e : ℕ) (past : Past) → MatchesMade past old → FitsEntry past y → AnsweredMade a e y past old new
 buffer_answered old new y i t info is apart a made e past st fit =
-    subst (λ (x : Entry). AnsweredMade a e x past old new) (sym is) (go a made (subst (λ (x : Entry). AllFit (next_past e x past)) is fit))
+    subst (λ (x : Entry). AnsweredMade a e x past old new) (sym is) (go a made (subst (λ (x : Entry). FitsEntry past x) is fit))
   where
-    go : (a : Applied) → MadeOr a old new i t info.size → AllFit (next_past e (entry.Buffer i info) past) → AnsweredMade a e (entry.Buffer i info) past old new
-    go applied.Done made f = (buffer_matches old new apart i t info made.0 past st f.0.0 e, refl)
+    go : (a : Applied) → MadeOr a old new i t info.size → FitsEntry past (entry.Buffer i info) → AnsweredMade a e (entry.Buffer i info) past old new
+    go applied.Done made f = (buffer_matches old new apart i t info made.0 past st f.0 e, refl)
     go (applied.Bytes bytes) made f = absurd made
     go applied.NoRoom made f = made.0
 
@@ -109,9 +108,9 @@ module _ (past : Past) (s : Held) (st : MatchesMade past s) (b o n : ℕ) (p : P
       (λ i lt. let lt' : i < n = omega arith in get_or-map-range_with_len f 0 n i i 0 lt' (omega arith) ∙ byte_read i lt' ∙ sym (piece_at (region_of s.memory p.object) o n i lt' room))
 
 pub read_answered : (s : Held) (y : Entry) (b o n : ℕ) (bytes : List ℕ) → y ≡ entry.Read b o n → IsApart s.memory s.buffers → ((p : Placed) → placed s b ≡ Some p → bytes ≡ piece (region_of s.memory p.object) o n)
-    → (e : ℕ) (past : Past) → MatchesMade past s → AllFit (next_past e y past) → AnsweredMade (applied.Bytes bytes) e y past s s
+    → (e : ℕ) (past : Past) → MatchesMade past s → FitsEntry past y → AnsweredMade (applied.Bytes bytes) e y past s s
 read_answered s y b o n bytes is apart got e past st fit =
-    subst (λ (x : Entry). AnsweredMade (applied.Bytes bytes) e x past s s) (sym is) (go (buffer past b) refl (subst (λ (x : Entry). AllFit (next_past e x past)) is fit).0)
+    subst (λ (x : Entry). AnsweredMade (applied.Bytes bytes) e x past s s) (sym is) (go (buffer past b) refl (subst (λ (x : Entry). FitsEntry past x) is fit))
   where
     go : (x : Option BufferInfo) → buffer past b ≡ x → FitsEntry past (entry.Read b o n) → AnsweredMade (applied.Bytes bytes) e (entry.Read b o n) past s s
     go None e' f = absurd (subst (λ (x : Option BufferInfo). FitsRead x o n) e' f.0)
@@ -155,22 +154,35 @@ mapped_matches past s o lt st = record {
     go (in_buffer b k) v was = (was.0, byte (placed s b) k ∙ was.1)
     go (in_image j l a x y p) v was = absurd was.0
 
-pub map_answered : (s s' : Held) (y : Entry) (b : ℕ) (o : Option Placed) → y ≡ entry.Map b → MapsAt s s' o → (e : ℕ) (past : Past) → MatchesMade past s → MatchesMade (next_past e y past) s' × (read_in (world past) e y ≡ [])
+pub map_answered : (s s' : Held) (y : Entry) (b : ℕ) (o : Option Placed) → y ≡ entry.Map b → MapsAt s s' o → (e : ℕ) (past : Past) → MatchesMade past s → MatchesMade (host e y ∷ past) s' × (read_in (world past) e y ≡ [])
 map_answered s s' y b o is maps e past st =
-    subst (λ (x : Entry). MatchesMade (next_past e x past) s' × (read_in (world past) e x ≡ [])) (sym is) (mapped o maps, refl)
+    subst (λ (x : Entry). MatchesMade (host e x ∷ past) s' × (read_in (world past) e x ≡ [])) (sym is) (mapped o maps, refl)
   where
-    here : MatchesMade (next_past e (entry.Map b) past) s
+    here : MatchesMade (host e (entry.Map b) ∷ past) s
     here = record { sizes = st.sizes; values = st.values }
 
-    mapped : (o : Option Placed) → MapsAt s s' o → MatchesMade (next_past e (entry.Map b) past) s'
-    mapped None same = subst (λ (r : Held). MatchesMade (next_past e (entry.Map b) past) r) (sym same) here
-    mapped (Some p) (inl same) = subst (λ (r : Held). MatchesMade (next_past e (entry.Map b) past) r) (sym same) here
-    mapped (Some p) (inr now) = subst (λ (r : Held). MatchesMade (next_past e (entry.Map b) past) r) (sym now.1) (mapped_matches (next_past e (entry.Map b) past) s p.object now.0 here)
+    mapped : (o : Option Placed) → MapsAt s s' o → MatchesMade (host e (entry.Map b) ∷ past) s'
+    mapped None same = subst (λ (r : Held). MatchesMade (host e (entry.Map b) ∷ past) r) (sym same) here
+    mapped (Some p) (inl same) = subst (λ (r : Held). MatchesMade (host e (entry.Map b) ∷ past) r) (sym same) here
+    mapped (Some p) (inr now) = subst (λ (r : Held). MatchesMade (host e (entry.Map b) ∷ past) r) (sym now.1) (mapped_matches (host e (entry.Map b) ∷ past) s p.object now.0 here)
 
--- ---- a submit
+-- ---- an entry that asks for nothing by itself
 
-pub submit_answered : (s s' : Held) (y : Entry) (q : ℕ) (bs : List Batch) → y ≡ entry.Submit q bs → ((at : Past) (e r : ℕ) (past : Past) → MatchesMade past s → AllFit (batches_past at e r 0 bs past) → MatchesMade (batches_past at e r 0 bs past) s')
-    → (e : ℕ) (past : Past) → MatchesMade past s → AllFit (next_past e y past) → AnsweredMade applied.Done e y past s s'
-submit_answered s s' y q bs is ran e past st fit =
-    subst (λ (x : Entry). AnsweredMade applied.Done e x past s s') (sym is)
-    (ran past e q (host e (entry.Submit q bs) ∷ past) (record { sizes = st.sizes; values = st.values }) (subst (λ (x : Entry). AllFit (next_past e x past)) is fit), refl)
+-- an id that is no buffer's
+other_sizes : (past : Past) (s : Held) (i : ℕ) (x : Entry) → buffer_in x ≡ None → MatchesMade past s → made past i ≡ None → (b : ℕ) (c : Bool) → (b == i) ≡ c
+    → option_map (λ (p : Placed). p.size) (placed s b) ≡ option_map (λ (i : BufferInfo). i.size) (Rattle.std.specs.Prelude.option_and_then buffer_in (cond c (Some x) (made past b)))
+other_sizes past s i x none st fresh_id b true h =
+    ap (λ (k : ℕ). option_map (λ (p : Placed). p.size) (placed s k)) (eqb-true b i h) ∙ ap (λ (o : Option Placed). option_map (λ (p : Placed). p.size) o) (not_placed past s i st fresh_id)
+    ∙ sym (ap (λ (o : Option BufferInfo). option_map (λ (i : BufferInfo). i.size) o) none)
+other_sizes past s i x none st fresh_id b false h = st.sizes b
+
+pub other_answered : (s : Held) (y : Entry) → ((i : ℕ) (info : BufferInfo) → y ≡ entry.Buffer i info → ⊥) → ((b o n : ℕ) → y ≡ entry.Read b o n → ⊥) → (e : ℕ) (past : Past) → MatchesMade past s → FitsEntry past y → AnsweredMade applied.Done e y past s s
+other_answered s (entry.Buffer i info) no_buffer no_read e past st fit = absurd (no_buffer i info refl)
+other_answered s (entry.Read b o n) no_buffer no_read e past st fit = absurd (no_read b o n refl)
+other_answered s (entry.Semaphore i v) no_buffer no_read e past st fit = (record { sizes = λ b. other_sizes past s i (entry.Semaphore i v) refl st fit b (b == i) refl; values = st.values }, refl)
+other_answered s (entry.Event i) no_buffer no_read e past st fit = (record { sizes = λ b. other_sizes past s i (entry.Event i) refl st fit b (b == i) refl; values = st.values }, refl)
+other_answered s (entry.Map b) no_buffer no_read e past st fit = (record { sizes = st.sizes; values = st.values }, refl)
+other_answered s (entry.Signal v n) no_buffer no_read e past st fit = (record { sizes = st.sizes; values = st.values }, refl)
+other_answered s (entry.Wait ws) no_buffer no_read e past st fit = (record { sizes = st.sizes; values = st.values }, refl)
+other_answered s (entry.Submit q bs) no_buffer no_read e past st fit = (record { sizes = st.sizes; values = st.values }, refl)
+other_answered s _ no_buffer no_read e past st fit = absurd fit

@@ -1,5 +1,5 @@
 -- Each point keeps what a device shows.
-use Rattle.std.proofs.Common.{◌≡◌, ℕ, ◌+◌, ◌*◌, ◌/◌, ◌≤◌, List, [], ◌∷◌, ◌++◌, map, length, Bool, true, false, ◌==◌, refl, ap, sym, ◌∙◌, subst, arith, cond, append-nil, Option, Some, None}
+use Rattle.std.proofs.Common.{◌≡◌, ℕ, ◌+◌, ◌*◌, ◌/◌, ◌≤◌, List, [], ◌∷◌, ◌++◌, map, Bool, true, false, ◌==◌, refl, ap, sym, ◌∙◌, subst, arith, cond, append-nil, Option, Some, None}
 use Rattle.std.specs.Prelude.{IsSome, option_map}
 use Rattle.std.specs.List.{fold}
 use Rattle.std.specs.Int.{to_le_bytes, w32}
@@ -14,18 +14,20 @@ use Rattle.vk_model.specs.declared.entry.Entry.{Entry}
 use Rattle.vk_model.specs.declared.entry.SemaphoreSubmit.{SemaphoreSubmit}
 use Rattle.vk_model.specs.declared.resource.BufferInfo.{BufferInfo}
 use Rattle.vk_model.specs.Basics.{below}
-use Rattle.vk_model.specs.Trace.Point.{Past, Action, Wait, Run, Signal}
+use Rattle.vk_model.specs.Trace.Point.{Past, Point, Action, Host, Wait, Run, Signal, host_of}
 use Rattle.vk_model.specs.Trace.Objects.{made, buffer, is_exclusive}
-use Rattle.vk_model.specs.Trace.Order.{SubmittedBatch, actions, started, batches_of, plain_from, host}
+use Rattle.vk_model.specs.Trace.Order.{SubmittedBatch, Front, actions, settled, after_entry, host}
+use Rattle.vk_model.proofs.Trace.Growing.{Grows, Quiet, settled_grows, entry_grows}
+use Rattle.vk_model.proofs.Lists.Pairs.{Each}
 use Rattle.vk_model.specs.World.Bytes.{Byte, in_buffer, in_image, resource_at, World}
 use Rattle.vk_model.specs.World.ByteWrites.{ByteWrite, byte_writes, buffer_size, fill_size}
 use Rattle.vk_model.specs.World.Effect.{used, without, is_other, after_element, after_writes, world}
 use Rattle.vk_model.specs.World.Ownership.{family_of}
-use Rattle.vk_model.specs.World.Meaning.{reads, read_by, read_in}
-use Rattle.vk_device.specs.declared.device.Placed.{Placed}
+use Rattle.vk_model.specs.World.Meaning.{Reads, reads, read_by, read_in}
+use Rattle.vk_device.specs.declared.resources.Placed.{Placed}
 use Rattle.vk_device.specs.Held.{Held, IsApart, placed, byte_at}
 use Rattle.vk_device.specs.Inner.Fits.{FitsFill, AllMemory, FitsCommand, AllFit}
-use Rattle.vk_device.specs.Matches.{IsThere, next_past}
+use Rattle.vk_device.specs.Matches.{IsThere}
 use Rattle.vk_device.specs.Inner.Made.{MatchesMade}
 use Rattle.vk_device.specs.Inner.Steps.{run_point}
 use Rattle.vk_device.proofs.Bytes.Running.{write_to, run_keeps_values, run_there}
@@ -130,42 +132,43 @@ pub signals_match : (t : SubmittedBatch) (k : ℕ) (xs : List SemaphoreSubmit) (
 signals_match t k [] past s st = st
 signals_match t k (x ∷ xs) past s st = signals_match t (k + 1) xs _ s (record { sizes = st.sizes; values = st.values })
 
+-- ---- what is older
+
 -- what is older fits too
+pub fit_older : (newer past : Past) → AllFit (newer ++ past) → AllFit past
+fit_older [] past f = f
+fit_older (p ∷ newer) past f = fit_older newer past f.1
+
 pub fit_actions : {A : Type 0} (of : A → Action) (t : SubmittedBatch) (k : ℕ) (xs : List A) (past : Past) → AllFit (actions of t k xs past) → AllFit past
 fit_actions of t k [] past f = f
 fit_actions of t k (x ∷ xs) past f = (fit_actions of t (k + 1) xs _ f).1
 
-pub fit_started : (t : SubmittedBatch) (past : Past) → AllFit (started t past) → AllFit past
-fit_started t past f = fit_actions Wait t 0 t.content.waits past (fit_actions Run t 0 t.content.commands _ (fit_actions Signal t 0 t.content.signals _ f))
+fit_grown : (P : Point → Type 0) (past all : Past) → Grows P past all → AllFit all → AllFit past
+fit_grown P past all g f = fit_older g.newer past (subst AllFit g.whole f)
 
-pub fit_batches : (ts : List SubmittedBatch) (past : Past) → AllFit (fold (λ p t. started t p) past ts) → AllFit past
-fit_batches [] past f = f
-fit_batches (t ∷ ts) past f = fit_started t past (fit_batches ts (started t past) f)
+-- also before batches are started
+pub fit_settled : (n : ℕ) (f : Front) → AllFit (settled n f).past → AllFit f.past
+fit_settled n f fit = fit_grown Quiet f.past (settled n f).past (settled_grows n f) fit
 
-pub fit_plain : (e : ℕ) (xs : List Entry) (past : Past) → AllFit (plain_from e past xs) → AllFit past
-fit_plain e [] past f = f
-fit_plain e (x ∷ xs) past f = (fit_batches (batches_of past e x) (host e x ∷ past) (fit_plain (e + 1) xs _ f)).1
+pub fit_entry : (e : ℕ) (x : Entry) (f : Front) → AllFit (after_entry e x f).past → AllFit (host e x ∷ f.past)
+fit_entry e x f fit = fit_grown Quiet (host e x ∷ f.past) (after_entry e x f).past (entry_grows e x f) fit
 
 -- only host entries read
-reads_actions : {A : Type 0} (of : A → Action) (mute : (w : World) (e : ℕ) (x : A) → read_by w e (of x) ≡ []) (t : SubmittedBatch) (k : ℕ) (xs : List A) (past : Past) → reads (actions of t k xs past) ≡ reads past
-reads_actions of mute t k [] past = refl
-reads_actions of mute t k (x ∷ xs) past = reads_actions of mute t (k + 1) xs _ ∙ ap (λ r. reads past ++ r) (mute (world past) t.entry x) ∙ append-nil (reads past)
-
-pub reads_started : (t : SubmittedBatch) (past : Past) → reads (started t past) ≡ reads past
-reads_started t past = reads_actions Signal (λ w e x. refl) t 0 t.content.signals _ ∙ reads_actions Run (λ w e x. refl) t 0 t.content.commands _ ∙ reads_actions Wait (λ w e x. refl) t 0 t.content.waits past
-
-pub reads_batches : (ts : List SubmittedBatch) (past : Past) → reads (fold (λ p t. started t p) past ts) ≡ reads past
-reads_batches [] past = refl
-reads_batches (t ∷ ts) past = reads_batches ts (started t past) ∙ reads_started t past
+quiet_reads : (newer past : Past) → Each Quiet newer → reads (newer ++ past) ≡ reads past
+quiet_reads [] past each = refl
+quiet_reads (p ∷ newer) past each = ap (λ (r : Reads). reads (newer ++ past) ++ r) (mute p.action each.0) ∙ append-nil (reads (newer ++ past)) ∙ quiet_reads newer past each.1
+  where
+    mute : (a : Action) → host_of a ≡ None → read_by (world (newer ++ past)) p.entry a ≡ []
+    mute (Host x) none = absurd cc
+    mute (Wait w) none = refl
+    mute (Run c) none = refl
+    mute (Signal w) none = refl
 
 -- the reads after one entry more
-pub reads_next : (e : ℕ) (x : Entry) (past : Past) → reads (next_past e x past) ≡ reads past ++ read_in (world past) e x
-reads_next e x past = reads_batches (batches_of past e x) (host e x ∷ past)
+pub reads_next : (e : ℕ) (x : Entry) (f : Front) → reads (after_entry e x f).past ≡ reads f.past ++ read_in (world f.past) e x
+reads_next e x f = let g = entry_grows e x f in ap reads g.whole ∙ quiet_reads g.newer (host e x ∷ f.past) g.each
 
--- one entry more
-pub plain_more : (e : ℕ) (past : Past) (xs : List Entry) (y : Entry) → plain_from e past (xs ++ y ∷ []) ≡ next_past (e + length xs) y (plain_from e past xs)
-plain_more e past [] y = ap (λ (n : ℕ). next_past n y past) (omega arith)
-plain_more e past (x ∷ xs) y = plain_more (e + 1) (next_past e x past) xs y ∙ ap (λ (n : ℕ). next_past n y (plain_from (e + 1) (next_past e x past) xs)) (omega arith)
+-- ---- one command
 
 pub fill_command : (y : Cmd) (i o : ℕ) (n : Length) (w : ℕ) → y ≡ cmd.Fill i o n w → (e b k q : ℕ) (past : Past) (s new : Held) → IsApart s.memory s.buffers → MatchesMade past s → FitsCommand past y
     → ((p : Placed) → placed s i ≡ Some p → new ≡ record s { memory = with_region s.memory p.object (splice (region_of s.memory p.object) o (repeated (fill_size p.size o n / 4) (to_le_bytes w32 w))) })
@@ -189,5 +192,5 @@ other_command (cmd.Clear i l color rs) none e b k q past s st fits = absurd fits
 other_command (cmd.CopyIn d i l gs) none e b k q past s st fits = absurd fits
 other_command (cmd.CopyOut i l d gs) none e b k q past s st fits = absurd fits
 other_command (cmd.CopyImage i l d m gs) none e b k q past s st fits = absurd fits
-other_command (cmd.Set v ms) none e b k q past s st fits = absurd fits
-other_command (cmd.Await v ms) none e b k q past s st fits = absurd fits
+other_command (cmd.Set v ms) none e b k q past s st fits = record { sizes = st.sizes; values = st.values }
+other_command (cmd.Await v ms) none e b k q past s st fits = record { sizes = st.sizes; values = st.values }

@@ -1,17 +1,19 @@
 -- What the rules promise of the points of a clean past.
-use Rattle.std.proofs.Common.{◌≡◌, ◌≢◌, ℕ, ◌+◌, ◌-◌, ◌*◌, ◌/◌, ◌%◌, ◌<◌, ◌≤◌, List, [], ◌∷◌, Bool, true, false, not, ◌||◌, ◌==◌, nat_lt, nat_le, refl, ap, arith, Option, Some, None}
+use Rattle.std.proofs.Common.{◌≡◌, ◌≢◌, ℕ, suc, length, ◌++◌, subst, ◌+◌, ◌-◌, ◌*◌, ◌/◌, ◌%◌, ◌<◌, ◌≤◌, List, [], ◌∷◌, Bool, true, false, not, ◌||◌, ◌==◌, nat_lt, nat_le, refl, ap, arith, Option, Some, None}
 use Rattle.std.specs.Prelude.{IsSome, is_some, is_none}
-use Rattle.std.specs.List.{fold, list_all}
-use Rattle.vk_model.specs.Trace.Order.{SubmittedBatch, actions, started, batches_of, plain_from, host}
+use Rattle.std.specs.List.{list_all, cons_option}
+use Rattle.vk_model.specs.Trace.Order.{Front, after_entry, order_from, host}
+use Rattle.vk_model.proofs.Trace.Growing.{entry_grows, order_grows}
 use Rattle.std.proofs.lemmas.Bool.{ltb-false, leb-false, eqb-false, eqb-true, false_from_ne_true, or_parts, and_parts}
 use Rattle.vk_model.specs.declared.rule.Rule.{Rule}
 use Rattle.vk_model.specs.declared.rule.Rule.TheVariants as rule
-use Rattle.vk_model.specs.Trace.Point.{Past, Point, Action, Host, Wait, Run, Signal}
+use Rattle.vk_model.specs.Trace.Point.{Past, Point, Action, Host, Wait, Run, Signal, host_of, entries}
 use Rattle.vk_model.specs.Rules.Table.{breaks}
 use Rattle.vk_model.specs.Rules.Fault.{newest, older}
 use Rattle.vk_model.specs.Rules.Ids.{breaks_new_id}
 use Rattle.vk_model.specs.Rules.Sizes.{breaks_size, bad_entry_size, bad_command_size, fills_none, breaks_memory_size, bad_memory_size}
 use Rattle.vk_model.specs.Rules.Ranges.{breaks_range, host_past, command_past, fills_from_end, breaks_align, misaligned, off_4_length}
+use Rattle.vk_model.specs.Rules.Traces.{breaks_limit}
 use Rattle.vk_model.specs.Rules.Hazards.{breaks_read_undefined, reads_undefined}
 use Rattle.vk_model.specs.World.Effect.{world}
 use Rattle.vk_model.specs.World.ByteWrites.{buffer_size, fill_size}
@@ -27,7 +29,6 @@ use Rattle.vk_model.specs.declared.resource.Place.{Place}
 use Rattle.vk_model.specs.declared.resource.Place.TheVariants as place
 use Rattle.vk_validate.specs.Supported.{is_supported, is_supported_action, is_supported_place, is_memory}
 use Rattle.vk_device.specs.Clean.{IsClean}
-use Rattle.vk_device.specs.Matches.{next_past}
 use Rattle.vk_device.specs.Inner.Fits.{FitsFill, FitsCommand, FitsRead, FitsEntry, FitsAction, AllFit, AllMemory, IsOwn}
 use Rattle.std.proofs.Math.Nat.{div-add-mod, div-mul-le_self, mul-div_cancel, mod-lt}
 use Rattle.vk_model.specs.declared.command.Cmd.{Cmd}
@@ -217,8 +218,8 @@ fits_entry past p (entry.Unmap b) is supported none = absurd cc
 fits_entry past p (entry.Write b o bytes) is supported none = absurd cc
 fits_entry past p (entry.Flush b o n) is supported none = absurd cc
 fits_entry past p (entry.Invalidate b o n) is supported none = absurd cc
-fits_entry past p (entry.Event i) is supported none = absurd cc
-fits_entry past p (entry.Signal s v) is supported none = absurd cc
+fits_entry past p (entry.Event i) is supported none = new_made past p none (entry.Event i) i is refl
+fits_entry past p (entry.Signal s v) is supported none = tt
 fits_entry past p (entry.Defrag i q n m) is supported none = absurd cc
 fits_entry past p (entry.Pass d) is supported none = absurd cc
 fits_entry past p (entry.EndPass d kept lost) is supported none = absurd cc
@@ -233,8 +234,8 @@ fits_command past p (cmd.Clear i l color rs) is supported none = absurd cc
 fits_command past p (cmd.CopyIn b i l gs) is supported none = absurd cc
 fits_command past p (cmd.CopyOut i l b gs) is supported none = absurd cc
 fits_command past p (cmd.CopyImage a l b m gs) is supported none = absurd cc
-fits_command past p (cmd.Set v ms) is supported none = absurd cc
-fits_command past p (cmd.Await v ms) is supported none = absurd cc
+fits_command past p (cmd.Set v ms) is supported none = tt
+fits_command past p (cmd.Await v ms) is supported none = tt
 
 fits_action : (past : Past) (p : Point) (d : Action) → p.action ≡ d → is_supported_action d ≡ true → BreaksNone past p → FitsAction past d
 fits_action past p (Host x) is supported none = fits_entry past p x is supported none
@@ -258,20 +259,37 @@ fits_clean [] clean = tt
 fits_clean (p ∷ past) clean =
     (fits_action past p p.action refl (and_parts (is_supported_action p.action) (list_all (λ q. is_supported_action q.action) past) clean.supported).0 (breaks_none past p clean), fits_clean past (clean_older past p clean))
 
-clean_actions : {A : Type 0} (of : A → Action) (t : SubmittedBatch) (k : ℕ) (xs : List A) (past : Past) → IsClean (actions of t k xs past) → IsClean past
-clean_actions of t k [] past clean = clean
-clean_actions of t k (x ∷ xs) past clean = clean_older past _ (clean_actions of t (k + 1) xs _ clean)
+-- what comes before others, which may be batches that are started
+clean_newer : (newer past : Past) → IsClean (newer ++ past) → IsClean past
+clean_newer [] past clean = clean
+clean_newer (p ∷ newer) past clean = clean_newer newer past (clean_older (newer ++ past) p clean)
 
-clean_started : (t : SubmittedBatch) (past : Past) → IsClean (started t past) → IsClean past
-clean_started t past clean = clean_actions Wait t 0 t.content.waits past (clean_actions Run t 0 t.content.commands _ (clean_actions Signal t 0 t.content.signals _ clean))
+pub clean_entry : (e : ℕ) (x : Entry) (f : Front) → IsClean (after_entry e x f).past → IsClean (host e x ∷ f.past)
+clean_entry e x f clean = let g = entry_grows e x f in clean_newer g.newer (host e x ∷ f.past) (subst IsClean g.whole clean)
 
-clean_batches : (ts : List SubmittedBatch) (past : Past) → IsClean (fold (λ p t. started t p) past ts) → IsClean past
-clean_batches [] past clean = clean
-clean_batches (t ∷ ts) past clean = clean_started t past (clean_batches ts (started t past) clean)
+pub clean_before : (e : ℕ) (x : Entry) (f : Front) → IsClean (after_entry e x f).past → IsClean f.past
+clean_before e x f clean = clean_older f.past (host e x) (clean_entry e x f clean)
 
-pub clean_plain : (e : ℕ) (xs : List Entry) (past : Past) → IsClean (plain_from e past xs) → IsClean past
-clean_plain e [] past clean = clean
-clean_plain e (x ∷ xs) past clean = clean_older past (host e x) (clean_batches (batches_of past e x) (host e x ∷ past) (clean_plain (e + 1) xs _ clean))
+pub clean_order : (e : ℕ) (f : Front) (xs : List Entry) → IsClean (order_from e f xs).past → IsClean f.past
+clean_order e f xs clean = let g = order_grows e f xs in clean_newer g.0 f.past (subst IsClean g.1 clean)
 
-pub clean_next : (e : ℕ) (x : Entry) (past : Past) → IsClean (next_past e x past) → IsClean past
-clean_next e x past clean = clean_older past (host e x) (clean_batches (batches_of past e x) (host e x ∷ past) clean)
+-- ---- the limit on points
+
+entry_count : (past : Past) → length (entries past) ≤ length past
+entry_count [] = omega arith
+entry_count (p ∷ past) = go p.action (entry_count past)
+  where
+    go : (a : Action) → length (entries past) ≤ length past → length (cons_option (host_of a) (entries past)) ≤ suc (length past)
+    go (Host x) le = omega arith
+    go (Wait w) le = omega arith
+    go (Run c) le = omega arith
+    go (Signal w) le = omega arith
+
+-- the number of an entry that breaks no rule is below the limit
+pub below_limit : (e : ℕ) (x : Entry) (f : Front) → IsClean (after_entry e x f).past → length (entries f.past) < 131072
+unfolding breaks
+below_limit e x f clean =
+    let unbroken : breaks_limit f.past (host e x) ≡ false = breaks_none f.past (host e x) (clean_entry e x f clean) rule.Limit in
+    let some : length f.past < 131072 = leb-false 131072 (length f.past) unbroken in
+    let most = entry_count f.past in
+    omega arith

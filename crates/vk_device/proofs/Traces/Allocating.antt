@@ -15,11 +15,12 @@ use Rattle.vk_model.specs.Memory.HeapSizes.{HeapSizes}
 use Rattle.vk_model.specs.Memory.Allocations.{Allocated, OwnMemory, PoolMemory, heaps_of, pool_bytes, with_object, FindsNoRoom, FindsNoneAt, Gets, Changes, Applied as AppliedAll}
 use Rattle.vk_device.specs.declared.applied.Applied.{Applied}
 use Rattle.vk_device.specs.declared.applied.Applied.TheVariants as applied
+use Rattle.vk_device.specs.declared.device.Device.{Device}
 use Rattle.vk_device.specs.Held.{Held}
 use Rattle.vk_device.specs.Allocating.{kinds_of, IsAllocated}
-use Rattle.vk_device.specs.Inner.Allotted.{Allotted, allotted, asked_at, with_asked, heaps_with, finds_no_room, FoundRoom, GotAsked}
-use Rattle.vk_device.specs.Matches.{next_past, Rooms, Allots}
-use Rattle.vk_device.specs.Inner.Fits.{AllFit, IsOwn}
+use Rattle.vk_device.specs.Inner.Allotted.{Allotted, allotted, asked_at, with_asked, heaps_with, finds_no_room, FoundRoom, GotAskedBy}
+use Rattle.vk_device.specs.Matches.{Rooms, Allots}
+use Rattle.vk_device.specs.Inner.Fits.{FitsEntry, IsOwn}
 
 -- ---- the heaps
 
@@ -73,25 +74,25 @@ module _ (m : MemoryState) (d : Allocated) (is : IsAllocated m d) where
       absurd cc
   some_at _ r own h found = absurd own
 
-module _ (s : Held) (e : ℕ) (past : Past) where
-  found_none : (x : Entry) → AllFit (next_past e x past) → finds_no_room (allotted s.memory) x ≡ true → (d : Allocated) → IsAllocated s.memory d → FindsNoRoom d x
-  found_none (entry.Buffer i b) fit h d is = none_at s.memory d is b.place (of_buffer b) fit.0.3 h
+module _ (s : Held) (past : Past) where
+  found_none : (x : Entry) → FitsEntry past x → finds_no_room (allotted s.memory) x ≡ true → (d : Allocated) → IsAllocated s.memory d → FindsNoRoom d x
+  found_none (entry.Buffer i b) fit h d is = none_at s.memory d is b.place (of_buffer b) fit.3 h
   found_none _ fit h d is = absurd cc
 
-  found_some : (x : Entry) → AllFit (next_past e x past) → finds_no_room (allotted s.memory) x ≡ false → (d : Allocated) → IsAllocated s.memory d → FindsNoRoom d x → ⊥
-  found_some (entry.Buffer i b) fit h d is none = some_at s.memory d is b.place (of_buffer b) fit.0.3 h none
-  found_some (entry.Memory i m) fit h d is none = absurd fit.0
-  found_some (entry.Image i m) fit h d is none = absurd fit.0
+  found_some : (x : Entry) → FitsEntry past x → finds_no_room (allotted s.memory) x ≡ false → (d : Allocated) → IsAllocated s.memory d → FindsNoRoom d x → ⊥
+  found_some (entry.Buffer i b) fit h d is none = some_at s.memory d is b.place (of_buffer b) fit.3 h none
+  found_some (entry.Memory i m) fit h d is none = absurd fit
+  found_some (entry.Image i m) fit h d is none = absurd fit
   found_some _ fit h d is none = none
 
-  pub rooms_of : (x : Entry) → AllFit (next_past e x past) → (a : Applied) → FoundRoom a s x → Rooms a s x
-  rooms_of x fit applied.NoRoom h = found_none x fit h
-  rooms_of x fit applied.Done h = found_some x fit h
-  rooms_of x fit (applied.Bytes bytes) h = found_some x fit h
+pub rooms_of : (d : Device) (past : Past) (x : Entry) → FitsEntry past x → (a : Applied) → FoundRoom a d.resources x → Rooms a d x
+rooms_of d past x fit applied.NoRoom h = found_none d.resources past x fit h
+rooms_of d past x fit applied.Done h = found_some d.resources past x fit h
+rooms_of d past x fit (applied.Bytes bytes) h = found_some d.resources past x fit h
 
 -- ---- what an entry has got
 
-module _ (old new : Held) (e : ℕ) (past : Past) where
+module _ (old new : Held) (past : Past) where
   abbrev pub Got : Entry → Type 0
   Got x = (d : Allocated) → IsAllocated old.memory d → (f : Allocated) × Changes d x f × IsAllocated new.memory f
 
@@ -115,19 +116,21 @@ module _ (old new : Held) (e : ℕ) (past : Past) where
   )
   got_at i r _ own asked d is = absurd own
 
-  got : (x : Entry) → AllFit (next_past e x past) → allotted new.memory ≡ with_asked (allotted old.memory) x → Got x
-  got (entry.Buffer i b) fit asked = got_at i (of_buffer b) b.place fit.0.3 asked
+  got : (x : Entry) → FitsEntry past x → allotted new.memory ≡ with_asked (allotted old.memory) x → Got x
+  got (entry.Buffer i b) fit asked = got_at i (of_buffer b) b.place fit.3 asked
+  got (entry.Event i) fit asked = λ d is. (d, refl, same_got asked d is)
+  got (entry.Signal i v) fit asked = λ d is. (d, refl, same_got asked d is)
   got (entry.Map b) fit asked = λ d is. (d, refl, same_got asked d is)
   got (entry.Read b o n) fit asked = λ d is. (d, refl, same_got asked d is)
   got (entry.Semaphore i v) fit asked = λ d is. (d, refl, same_got asked d is)
   got (entry.Wait ws) fit asked = λ d is. (d, refl, same_got asked d is)
   got (entry.Submit q bs) fit asked = λ d is. (d, refl, same_got asked d is)
-  got _ fit asked = absurd fit.0
+  got _ fit asked = absurd fit
 
-  pub allots_of : (x : Entry) → AllFit (next_past e x past) → (a : Applied) → GotAsked a x old new → Allots a x old new
-  allots_of x fit applied.NoRoom same = same
-  allots_of x fit applied.Done asked = got x fit asked
-  allots_of x fit (applied.Bytes bytes) asked = got x fit asked
+pub allots_of : (old new : Device) (past : Past) (x : Entry) → FitsEntry past x → (a : Applied) → GotAskedBy a x old new → Allots a x old new
+allots_of old new past x fit applied.NoRoom same = same
+allots_of old new past x fit applied.Done asked = got old.resources new.resources past x fit asked
+allots_of old new past x fit (applied.Bytes bytes) asked = got old.resources new.resources past x fit asked
 
 -- ---- entries one after another
 

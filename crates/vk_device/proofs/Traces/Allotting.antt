@@ -16,7 +16,7 @@ use Rattle.vk_model.specs.Basics.{round_up}
 use Rattle.vk_model.specs.Memory.Room.{heap_of, no_object}
 use Rattle.vk_device.specs.declared.applied.Applied.{Applied}
 use Rattle.vk_device.specs.declared.applied.Applied.TheVariants as applied
-use Rattle.vk_device.specs.declared.device.Placed.{Placed}
+use Rattle.vk_device.specs.declared.resources.Placed.{Placed}
 use Rattle.vk_device.specs.Allocating.{kind_of}
 use Rattle.vk_device.specs.Inner.Allotted.{Allotted, allotted, asked_by, asked_at, with_asked, heaps_with, finds_no_room, FoundRoom, GotAsked}
 use Rattle.vk_device.specs.Held.{Held}
@@ -47,6 +47,14 @@ map_allots old new (Some p) (inr now) = ap (λ (s : Held). allotted s.memory) no
 
 pub nothing_allots : (x : Entry) (old new : Held) → asked_by x ≡ [] → allotted new.memory ≡ allotted old.memory → allotted new.memory ≡ with_asked (allotted old.memory) x
 nothing_allots x old new none same = same ∙ rw none (ap (λ (l : List (ℕ × ℕ)). record (allotted old.memory) { objects = l }) (sym (append-nil (allotted old.memory).objects)))
+
+-- what makes no buffer asks for nothing
+pub asked_none : (x : Entry) → ((i : ℕ) (info : BufferInfo) → x ≡ entry.Buffer i info → ⊥) → asked_by x ≡ []
+asked_none (entry.Buffer i info) other = absurd (other i info refl)
+asked_none _ other = refl
+
+pub nothing_rooms : (x : Entry) (s : Held) → asked_by x ≡ [] → finds_no_room (allotted s.memory) x ≡ false
+nothing_rooms x s none = ap (λ (l : List (ℕ × ℕ)). list_any (λ (o : ℕ × ℕ). no_object (heaps_with (allotted s.memory)) o.0 o.1) l) none
 
 -- ---- room for an object, by the heaps
 

@@ -10,6 +10,7 @@ use Rattle.vk_model.specs.declared.resource.Place.TheVariants as place
 use Rattle.vk_model.specs.Trace.Objects.{of_buffer}
 use Rattle.vk_model.specs.Memory.Room.{Heaps, heap_of, no_object}
 use Rattle.vk_device.specs.Allocating.{kinds_in}
+use Rattle.vk_device.specs.declared.device.Device.{Device}
 use Rattle.vk_device.specs.Held.{Held}
 use Rattle.vk_device.specs.declared.applied.Applied.{Applied}
 use Rattle.vk_device.specs.declared.applied.Applied.TheVariants as applied
@@ -58,3 +59,8 @@ FoundRoom _ s x = finds_no_room (allotted s.memory) x ≡ false
 abbrev pub GotAsked : Applied → Entry → Held → Held → Type 0
 GotAsked applied.NoRoom x old new = new ≡ old
 GotAsked _ x old new = allotted new.memory ≡ with_asked (allotted old.memory) x
+
+-- The same for a device; where there was no room all of it is as it was.
+abbrev pub GotAskedBy : Applied → Entry → Device → Device → Type 0
+GotAskedBy applied.NoRoom x old new = new ≡ old
+GotAskedBy _ x old new = allotted new.resources.memory ≡ with_asked (allotted old.resources.memory) x

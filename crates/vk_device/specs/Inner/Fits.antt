@@ -28,10 +28,12 @@ AllMemory (element.Memory d ∷ es) = AllMemory es
 AllMemory (element.Buffer e ∷ es) = ⊥
 AllMemory (element.Image e ∷ es) = ⊥
 
--- A command is a fill that fits, or a barrier on all memory.
+-- A command is a fill that fits, a barrier on all memory, or a set or an await of an event, which ask nothing (Vulkan, "Events").
 abbrev pub FitsCommand : Past → Cmd → Type 0
 FitsCommand past (cmd.Fill b o n w) = FitsFill (buffer past b) o n
 FitsCommand past (cmd.Barrier es) = AllMemory es
+FitsCommand past (cmd.Set v ms) = ⊤
+FitsCommand past (cmd.Await v ms) = ⊤
 FitsCommand past _ = ⊥
 
 -- A resource is placed in an allocation of its own (VMA, "Choosing memory type", on dedicated allocations).
@@ -49,7 +51,9 @@ abbrev pub FitsEntry : Past → Entry → Type 0
 FitsEntry past (entry.Buffer i info) = (made past i ≡ None) × (0 < info.size) × (info.size ≤ 67108864) × IsOwn info.place
 FitsEntry past (entry.Read b o n) = FitsRead (buffer past b) o n × ((k : ℕ) → k < n → IsSome ((world past).value (in_buffer b (o + k))))
 FitsEntry past (entry.Semaphore i v) = made past i ≡ None
+FitsEntry past (entry.Event i) = made past i ≡ None
 FitsEntry past (entry.Map b) = ⊤
+FitsEntry past (entry.Signal s v) = ⊤
 FitsEntry past (entry.Wait ws) = ⊤
 FitsEntry past (entry.Submit q bs) = ⊤
 FitsEntry past _ = ⊥

@@ -1,6 +1,5 @@
--- What each step of a device asks of it, and what it changes.
+-- What each step of a device asks of its resources, and what it changes there.
 use Rattle.std.specs.Prelude.{◌≡◌, ◌⊎◌, ℕ, ◌+◌, ◌≤◌, List, [], ◌∷◌, ◌++◌, length, true, Option, Some, None, ⊤}
-use Rattle.std.specs.List.{fold}
 use Rattle.vk_memory.specs.MemoryState.{IsFull, IsLive, fresh, with_mapped}
 use Rattle.vk_model.specs.declared.command.Cmd.{Cmd}
 use Rattle.vk_model.specs.declared.command.Length.{Length}
@@ -8,25 +7,20 @@ use Rattle.vk_model.specs.declared.entry.Batch.{Batch}
 use Rattle.vk_model.specs.declared.entry.Entry.{Entry}
 use Rattle.vk_model.specs.Trace.Point.{Past, Point, Run}
 use Rattle.vk_model.specs.Basics.{round_up}
-use Rattle.vk_model.specs.Trace.Order.{SubmittedBatch, actions, started, batches_from}
+use Rattle.vk_model.specs.Trace.Order.{SubmittedBatch, actions, started}
 use Rattle.vk_model.specs.World.ByteWrites.{fill_size}
 use Rattle.vk_device.specs.declared.applied.Applied.{Applied}
 use Rattle.vk_device.specs.declared.applied.Applied.TheVariants as applied
-use Rattle.vk_device.specs.declared.device.Placed.{Placed}
+use Rattle.vk_device.specs.declared.resources.Placed.{Placed}
 use Rattle.vk_device.specs.Held.{Held, placed}
-use Rattle.vk_device.specs.Inner.Fits.{FitsCommand, AllFit}
-use Rattle.vk_device.specs.Matches.{next_past}
+use Rattle.vk_device.specs.Inner.Fits.{FitsCommand, FitsEntry, AllFit}
 use Rattle.vk_device.specs.Inner.Made.{MatchesMade}
-
--- The past after batches that run at once, from batch k of entry e on.
-abbrev pub batches_past : Past → ℕ → ℕ → ℕ → List Batch → Past → Past
-batches_past at e q k bs past = fold (λ p t. started t p) past (batches_from at e q k bs)
 
 -- The point of command k of batch b of entry e, on queue q.
 abbrev pub run_point : ℕ → ℕ → ℕ → ℕ → Cmd → Point
 run_point e b k q c = record { entry = e; batch = b; place = k; queue = q; action = Run c }
 
--- A device matches some past in which the command that comes next fits.
+-- Resources match some past in which the command that comes next fits.
 abbrev pub CommandReady : Held → Cmd → Type 0
 CommandReady s c = (past : Past) × MatchesMade past s × FitsCommand past c
 
@@ -38,13 +32,9 @@ CommandsReady s cs = (t : SubmittedBatch) × (past : Past) × MatchesMade past s
 abbrev pub BatchReady : Held → Batch → Type 0
 BatchReady s b = (t : SubmittedBatch) × (past : Past) × MatchesMade past s × (t.content ≡ b) × AllFit (started t past)
 
--- The same for the batches of a submit.
-abbrev pub BatchesReady : Held → List Batch → Type 0
-BatchesReady s bs = (at : Past) × (e : ℕ) × (q : ℕ) × (past : Past) × MatchesMade past s × AllFit (batches_past at e q 0 bs past)
-
--- The same for an entry.
-abbrev pub Ready : Held → Entry → Type 0
-Ready s x = (e : ℕ) × (past : Past) × MatchesMade past s × AllFit (next_past e x past)
+-- The same for what an entry does by itself.
+abbrev pub HostReady : Held → Entry → Type 0
+HostReady s x = (past : Past) × MatchesMade past s × FitsEntry past x
 
 -- A fill lies in the buffer, where there is one.
 abbrev pub MayFill : Option Placed → ℕ → Length → Type 0
@@ -61,7 +51,6 @@ pub record Makes (old new : Held) (id t size : ℕ) : Type 0 where
   pub memory : new.memory ≡ record old.memory { objects = old.memory.objects ++ Some (fresh t (round_up size 16)) ∷ [] }
   pub here : placed new id ≡ Some (record { size = size; object = length old.memory.objects })
   pub others : (q : ℕ) → (q ≡ id → ⊥) → placed new q ≡ placed old q
-  pub failed : new.failed ≡ old.failed
 
 -- A buffer was made; or nothing has changed, exactly where there is no room for its memory object.
 abbrev pub MadeOr : Applied → Held → Held → ℕ → ℕ → ℕ → Type 0

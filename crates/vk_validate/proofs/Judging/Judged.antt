@@ -5,25 +5,21 @@ use Rattle.std.specs.List.{list_any, list_all}
 use Rattle.std.proofs.lemmas.Bool.Decides.{nat_tests}
 use Rattle.std.proofs.lemmas.List.Sums.{sum_by-cons}
 use Rattle.std.proofs.lemmas.Bool.{and_parts}
-use Rattle.std.proofs.Math.Bool.{or-false}
 use Rattle.vk_model.specs.declared.entry.Entry.{Entry}
 use Rattle.vk_model.specs.Basics.{holds, has_bits}
 use Rattle.vk_model.specs.World.Bytes.{resource_at}
 use Rattle.vk_model.specs.Sync.Node.{acts}
 use Rattle.vk_model.specs.Sync.Access.{writes_of}
-use Rattle.vk_model.specs.Trace.Point.{Past, Point, Action, Host, Run, entries}
+use Rattle.vk_model.specs.Trace.Point.{Past, Point, entries}
 use Rattle.vk_model.specs.Trace.Objects.{made, buffer, buffer_in, resource_in, type_at, is_of_type}
-use Rattle.vk_model.specs.Rules.Sizes.{lacks, layout_lacks, breaks_usage}
-use Rattle.vk_model.specs.Rules.Mapping.{mapping, maps, unmaps, count_for, is_mapped, breaks_map_state, breaks_host_visible}
+use Rattle.vk_model.specs.Rules.Sizes.{lacks}
+use Rattle.vk_model.specs.Rules.Mapping.{mapping, maps, unmaps, count_for, is_mapped}
 use Rattle.vk_model.specs.Rules.Passes.{breaks_pass_write}
-use Rattle.vk_validate.specs.Supported.{is_supported, is_supported_action, is_supported_entry}
-use Rattle.vk_validate.specs.Inner.Tests.{is_on_type_0, lacks_usage, reads_unmapped, maps_local}
-use Rattle.vk_validate.specs.Inner.Tabled.{was_mapped}
+use Rattle.vk_validate.specs.Supported.{is_supported, is_supported_entry}
+use Rattle.vk_validate.specs.Inner.Tabled.{was_mapped, is_on_type_0}
 use Rattle.vk_model.proofs.Lists.Members.{none_passes_any}
-use Rattle.vk_model.proofs.Lists.Truths.{or-false-false}
-use Rattle.vk_validate.proofs.Points.Barriers.{memory_any}
-use Rattle.vk_validate.proofs.Points.Forms.{entry_cases, command_cases, action_cases}
-use Rattle.vk_validate.proofs.Points.Pasts.{supported_entries, made_supported, none_bound, none_moves, maps_itself}
+use Rattle.vk_validate.proofs.Points.Forms.{entry_cases}
+use Rattle.vk_validate.proofs.Points.Pasts.{supported_entries, made_supported, none_moves, maps_itself}
 
 -- a count is above 0 where some entry passes
 count_any : (f g : Entry → Bool) → ((x : Entry) → f x ≡ g x) → (xs : List Entry) → nat_lt 0 (count_by f xs) ≡ list_any g xs
@@ -39,9 +35,9 @@ count_none f none (x ∷ xs) all = let h = and_parts (is_supported_entry x) (lis
 
 module _ (past : Past) (supported : is_supported past ≡ true) where
   -- a supported past's mapping counts only the maps
-  mapped_once : (b : ℕ) → is_mapped past b ≡ was_mapped past b
+  pub mapped_once : (b : ℕ) → is_mapped past b ≡ was_mapped past b
   mapped_once b =
-      let none : count_for past b unmaps ≡ 0 = count_none (λ x. holds (unmaps x) (λ c. mapping past c == mapping past b)) (let P : Entry → Type 0 = λ x. holds (unmaps x) (λ c. mapping past c == mapping past b) ≡ false in entry_cases P (λ i b t is other. refl) (λ b. refl) (λ b o n. refl) (λ i v. refl) (λ ws. refl) (λ bs. refl)) (entries past) (supported_entries past supported) in
+      let none : count_for past b unmaps ≡ 0 = count_none (λ x. holds (unmaps x) (λ c. mapping past c == mapping past b)) (let P : Entry → Type 0 = λ x. holds (unmaps x) (λ c. mapping past c == mapping past b) ≡ false in entry_cases P (λ i b t is other. refl) (λ b. refl) (λ b o n. refl) (λ i v. refl) (λ i. refl) (λ s v. refl) (λ ws. refl) (λ q bs. refl)) (entries past) (supported_entries past supported) in
       rw none (count_any _ _ (λ x. same (maps x)) (entries past))
     where
       same : (o : Option ℕ) → holds o (λ c. mapping past c == mapping past b) ≡ holds o (λ c. c == b)
@@ -49,42 +45,24 @@ module _ (past : Past) (supported : is_supported past ≡ true) where
       same (Some c) = rw (maps_itself past supported c, maps_itself past supported b) refl
 
   -- what has a type is a buffer
-  on_type_0 : (b : ℕ) → is_of_type past 0 b ≡ holds (buffer past b) (λ i. is_on_type_0 i.place)
+  pub on_type_0 : (b : ℕ) → is_of_type past 0 b ≡ holds (buffer past b) (λ i. is_on_type_0 i.place)
   on_type_0 b = go (made past b) refl where
     by_form : (x : Entry) → is_supported_entry x ≡ true → holds (option_and_then (λ r. type_at past r.place) (resource_in x)) (λ u. u == 0) ≡ holds (buffer_in x) (λ i. is_on_type_0 i.place)
-    by_form = let P : Entry → Type 0 = λ x. holds (option_and_then (λ r. type_at past r.place) (resource_in x)) (λ u. u == 0) ≡ holds (buffer_in x) (λ i. is_on_type_0 i.place) in entry_cases P (λ i b t is other. rw is refl) (λ b. refl) (λ b o n. refl) (λ i v. refl) (λ ws. refl) (λ bs. refl)
+    by_form = let P : Entry → Type 0 = λ x. holds (option_and_then (λ r. type_at past r.place) (resource_in x)) (λ u. u == 0) ≡ holds (buffer_in x) (λ i. is_on_type_0 i.place) in entry_cases P (λ i b t is other. rw is refl) (λ b. refl) (λ b o n. refl) (λ i v. refl) (λ i. refl) (λ s v. refl) (λ ws. refl) (λ q bs. refl)
 
     go : (o : Option Entry) → made past b ≡ o → holds (option_and_then (λ r. type_at past r.place) (option_and_then resource_in o)) (λ u. u == 0) ≡ holds (option_and_then buffer_in o) (λ i. is_on_type_0 i.place)
     go None e = refl
     go (Some x) e = by_form x (made_supported past supported b x e)
 
-  lacks_destination : (b : ℕ) → lacks past 2 b ≡ not (holds (buffer past b) (λ i. has_bits i.usage.0 2))
+  pub lacks_destination : (b : ℕ) → lacks past 2 b ≡ not (holds (buffer past b) (λ i. has_bits i.usage.0 2))
   lacks_destination b = go (made past b) refl where
     by_form : (x : Entry) → is_supported_entry x ≡ true → not (holds (resource_in x) (λ r. has_bits r.usage 2)) ≡ not (holds (buffer_in x) (λ i. has_bits i.usage.0 2))
-    by_form = let P : Entry → Type 0 = λ x. not (holds (resource_in x) (λ r. has_bits r.usage 2)) ≡ not (holds (buffer_in x) (λ i. has_bits i.usage.0 2)) in entry_cases P (λ i b t is other. refl) (λ b. refl) (λ b o n. refl) (λ i v. refl) (λ ws. refl) (λ bs. refl)
+    by_form = let P : Entry → Type 0 = λ x. not (holds (resource_in x) (λ r. has_bits r.usage 2)) ≡ not (holds (buffer_in x) (λ i. has_bits i.usage.0 2)) in entry_cases P (λ i b t is other. refl) (λ b. refl) (λ b o n. refl) (λ i v. refl) (λ i. refl) (λ s v. refl) (λ ws. refl) (λ q bs. refl)
 
     go : (o : Option Entry) → made past b ≡ o → not (holds (option_and_then resource_in o) (λ r. has_bits r.usage 2)) ≡ not (holds (option_and_then buffer_in o) (λ i. has_bits i.usage.0 2))
     go None e = refl
     go (Some x) e = by_form x (made_supported past supported b x e)
 
-  module _ (p : Point) (now : is_supported_action p.action ≡ true) where
-    pub usage_is : breaks_usage past p ≡ lacks_usage past p.action
-    usage_is =
-        let P : Action → Type 0 = λ d. breaks_usage past (record p { action = d }) ≡ lacks_usage past d in
-        action_cases P (entry_cases (λ x. P (Host x)) (λ i b t is other. or-false _) (λ b. refl) (λ b o n. refl) (λ i v. refl) (λ ws. refl) (λ bs. refl))
-        (command_cases (λ c. P (Run c)) (λ b o n w. rw (lacks_destination b) (or-false-false _)) (λ es all. memory_any (layout_lacks past) (λ d. refl) es all)) (λ s. refl) p.action now
-
-    pub map_state_is : breaks_map_state past p ≡ reads_unmapped past p.action
-    map_state_is =
-        let P : Action → Type 0 = λ d. breaks_map_state past (record p { action = d }) ≡ reads_unmapped past d in
-        action_cases P (entry_cases (λ x. P (Host x)) (λ i b t is other. refl) (λ b. rw (none_bound past supported b) refl) (λ b o n. ap not (mapped_once b)) (λ i v. refl) (λ ws. refl) (λ bs. refl))
-        (command_cases (λ c. P (Run c)) (λ b o n w. refl) (λ es all. refl)) (λ s. refl) p.action now
-
-    pub host_visible_is : breaks_host_visible past p ≡ maps_local past p.action
-    host_visible_is =
-        let P : Action → Type 0 = λ d. breaks_host_visible past (record p { action = d }) ≡ maps_local past d in
-        action_cases P (entry_cases (λ x. P (Host x)) (λ i b t is other. refl) (λ b. on_type_0 b) (λ b o n. refl) (λ i v. refl) (λ ws. refl) (λ bs. refl))
-        (command_cases (λ c. P (Run c)) (λ b o n w. refl) (λ es all. refl)) (λ s. refl) p.action now
-
+  module _ (p : Point) where
     pub no_pass_write : breaks_pass_write past p ≡ false
     no_pass_write = none_passes_any _ (acts p.action) (λ a c. none_passes_any _ (writes_of past p.queue a) (λ b d. none_moves past supported (resource_at b)))

@@ -6,13 +6,11 @@ use Rattle.vk_model.specs.declared.command.Element.TheVariants as element
 use Rattle.vk_model.specs.Basics.{some_pair}
 use Rattle.vk_model.specs.Trace.Point.{Past, Point, Action, Host, Run}
 use Rattle.vk_model.specs.World.Effect.{world}
-use Rattle.vk_model.specs.Rules.Ids.{breaks_queue, breaks_queue_kind}
 use Rattle.vk_model.specs.Rules.Sizes.{breaks_pool_size}
 use Rattle.vk_model.specs.Rules.Binding.{breaks_bind_range, breaks_bind_align, breaks_aliased}
 use Rattle.vk_model.specs.Rules.Ranges.{breaks_overlap, breaks_format, breaks_subresource, bad_element, transitions_meet}
 use Rattle.vk_model.specs.Rules.Layouts.{breaks_layout, breaks_old_layout, bad_transition, bad_old_layout}
 use Rattle.vk_model.specs.Rules.Owners.{breaks_owner_whole, is_partial_transfer}
-use Rattle.vk_model.specs.Rules.Synchronization.{breaks_event_state, breaks_event_dependency}
 use Rattle.vk_model.specs.Rules.Passes.{breaks_pool_kind, breaks_pass_state, breaks_pass_busy}
 use Rattle.vk_model.specs.Rules.Hazards.{breaks_in_use}
 use Rattle.vk_validate.specs.Supported.{is_supported_action, is_memory}
@@ -27,92 +25,72 @@ memory_pairs (element.Buffer e ∷ es) all = absurd cc
 memory_pairs (element.Image e ∷ es) all = absurd cc
 
 module _ (past : Past) (p : Point) (supported : is_supported_action p.action ≡ true) where
-  pub no_queue : breaks_queue past p ≡ false
-  no_queue =
-      let P : Action → Type 0 = λ d. breaks_queue past (record p { action = d }) ≡ false in
-      action_cases P (entry_cases (λ x. P (Host x)) (λ i b t is other. refl) (λ b. refl) (λ b o n. refl) (λ i v. refl) (λ ws. refl) (λ bs. refl)) (command_cases (λ c. P (Run c)) (λ b o n w. refl) (λ es all. refl)) (λ s. refl) p.action supported
-
-  pub no_queue_kind : breaks_queue_kind past p ≡ false
-  no_queue_kind =
-      let P : Action → Type 0 = λ d. breaks_queue_kind past (record p { action = d }) ≡ false in
-      action_cases P (entry_cases (λ x. P (Host x)) (λ i b t is other. refl) (λ b. refl) (λ b o n. refl) (λ i v. refl) (λ ws. refl) (λ bs. refl)) (command_cases (λ c. P (Run c)) (λ b o n w. refl) (λ es all. refl)) (λ s. refl) p.action supported
-
   pub no_pool_size : breaks_pool_size past p ≡ false
   no_pool_size =
       let P : Action → Type 0 = λ d. breaks_pool_size past (record p { action = d }) ≡ false in
-      action_cases P (entry_cases (λ x. P (Host x)) (λ i b t is other. rw is refl) (λ b. refl) (λ b o n. refl) (λ i v. refl) (λ ws. refl) (λ bs. refl)) (command_cases (λ c. P (Run c)) (λ b o n w. refl) (λ es all. refl)) (λ s. refl) p.action supported
+      action_cases P (entry_cases (λ x. P (Host x)) (λ i b t is other. rw is refl) (λ b. refl) (λ b o n. refl) (λ i v. refl) (λ i. refl) (λ s v. refl) (λ ws. refl) (λ q bs. refl)) (λ w. refl) (command_cases (λ c. P (Run c)) (λ b o n w. refl) (λ es all. refl) (λ v ms. refl) (λ v ms. refl)) (λ s. refl) p.action supported
 
   pub no_bind_range : breaks_bind_range past p ≡ false
   no_bind_range =
       let P : Action → Type 0 = λ d. breaks_bind_range past (record p { action = d }) ≡ false in
-      action_cases P (entry_cases (λ x. P (Host x)) (λ i b t is other. rw is refl) (λ b. refl) (λ b o n. refl) (λ i v. refl) (λ ws. refl) (λ bs. refl)) (command_cases (λ c. P (Run c)) (λ b o n w. refl) (λ es all. refl)) (λ s. refl) p.action supported
+      action_cases P (entry_cases (λ x. P (Host x)) (λ i b t is other. rw is refl) (λ b. refl) (λ b o n. refl) (λ i v. refl) (λ i. refl) (λ s v. refl) (λ ws. refl) (λ q bs. refl)) (λ w. refl) (command_cases (λ c. P (Run c)) (λ b o n w. refl) (λ es all. refl) (λ v ms. refl) (λ v ms. refl)) (λ s. refl) p.action supported
 
   pub no_bind_align : breaks_bind_align past p ≡ false
   no_bind_align =
       let P : Action → Type 0 = λ d. breaks_bind_align past (record p { action = d }) ≡ false in
-      action_cases P (entry_cases (λ x. P (Host x)) (λ i b t is other. rw is refl) (λ b. refl) (λ b o n. refl) (λ i v. refl) (λ ws. refl) (λ bs. refl)) (command_cases (λ c. P (Run c)) (λ b o n w. refl) (λ es all. refl)) (λ s. refl) p.action supported
+      action_cases P (entry_cases (λ x. P (Host x)) (λ i b t is other. rw is refl) (λ b. refl) (λ b o n. refl) (λ i v. refl) (λ i. refl) (λ s v. refl) (λ ws. refl) (λ q bs. refl)) (λ w. refl) (command_cases (λ c. P (Run c)) (λ b o n w. refl) (λ es all. refl) (λ v ms. refl) (λ v ms. refl)) (λ s. refl) p.action supported
 
   pub no_aliased : breaks_aliased past p ≡ false
   no_aliased =
       let P : Action → Type 0 = λ d. breaks_aliased past (record p { action = d }) ≡ false in
-      action_cases P (entry_cases (λ x. P (Host x)) (λ i b t is other. rw is refl) (λ b. refl) (λ b o n. refl) (λ i v. refl) (λ ws. refl) (λ bs. refl)) (command_cases (λ c. P (Run c)) (λ b o n w. refl) (λ es all. refl)) (λ s. refl) p.action supported
+      action_cases P (entry_cases (λ x. P (Host x)) (λ i b t is other. rw is refl) (λ b. refl) (λ b o n. refl) (λ i v. refl) (λ i. refl) (λ s v. refl) (λ ws. refl) (λ q bs. refl)) (λ w. refl) (command_cases (λ c. P (Run c)) (λ b o n w. refl) (λ es all. refl) (λ v ms. refl) (λ v ms. refl)) (λ s. refl) p.action supported
 
   pub no_overlap : breaks_overlap past p ≡ false
   no_overlap =
       let P : Action → Type 0 = λ d. breaks_overlap past (record p { action = d }) ≡ false in
-      action_cases P (entry_cases (λ x. P (Host x)) (λ i b t is other. refl) (λ b. refl) (λ b o n. refl) (λ i v. refl) (λ ws. refl) (λ bs. refl)) (command_cases (λ c. P (Run c)) (λ b o n w. refl) (λ es all. memory_pairs es all)) (λ s. refl) p.action supported
+      action_cases P (entry_cases (λ x. P (Host x)) (λ i b t is other. refl) (λ b. refl) (λ b o n. refl) (λ i v. refl) (λ i. refl) (λ s v. refl) (λ ws. refl) (λ q bs. refl)) (λ w. refl) (command_cases (λ c. P (Run c)) (λ b o n w. refl) (λ es all. memory_pairs es all) (λ v ms. refl) (λ v ms. refl)) (λ s. refl) p.action supported
 
   pub no_format : breaks_format past p ≡ false
   no_format =
       let P : Action → Type 0 = λ d. breaks_format past (record p { action = d }) ≡ false in
-      action_cases P (entry_cases (λ x. P (Host x)) (λ i b t is other. refl) (λ b. refl) (λ b o n. refl) (λ i v. refl) (λ ws. refl) (λ bs. refl)) (command_cases (λ c. P (Run c)) (λ b o n w. refl) (λ es all. refl)) (λ s. refl) p.action supported
+      action_cases P (entry_cases (λ x. P (Host x)) (λ i b t is other. refl) (λ b. refl) (λ b o n. refl) (λ i v. refl) (λ i. refl) (λ s v. refl) (λ ws. refl) (λ q bs. refl)) (λ w. refl) (command_cases (λ c. P (Run c)) (λ b o n w. refl) (λ es all. refl) (λ v ms. refl) (λ v ms. refl)) (λ s. refl) p.action supported
 
   pub no_subresource : breaks_subresource past p ≡ false
   no_subresource =
       let P : Action → Type 0 = λ d. breaks_subresource past (record p { action = d }) ≡ false in
-      action_cases P (entry_cases (λ x. P (Host x)) (λ i b t is other. refl) (λ b. refl) (λ b o n. refl) (λ i v. refl) (λ ws. refl) (λ bs. refl)) (command_cases (λ c. P (Run c)) (λ b o n w. refl) (λ es all. memory_any (bad_element past) (λ d. refl) es all)) (λ s. refl) p.action supported
+      action_cases P (entry_cases (λ x. P (Host x)) (λ i b t is other. refl) (λ b. refl) (λ b o n. refl) (λ i v. refl) (λ i. refl) (λ s v. refl) (λ ws. refl) (λ q bs. refl)) (λ w. refl) (command_cases (λ c. P (Run c)) (λ b o n w. refl) (λ es all. memory_any (bad_element past) (λ d. refl) es all) (λ v ms. refl) (λ v ms. refl)) (λ s. refl) p.action supported
 
   pub no_layout : breaks_layout past p ≡ false
   no_layout =
       let P : Action → Type 0 = λ d. breaks_layout past (record p { action = d }) ≡ false in
-      action_cases P (entry_cases (λ x. P (Host x)) (λ i b t is other. refl) (λ b. refl) (λ b o n. refl) (λ i v. refl) (λ ws. refl) (λ bs. refl)) (command_cases (λ c. P (Run c)) (λ b o n w. refl) (λ es all. memory_any bad_transition (λ d. refl) es all)) (λ s. refl) p.action supported
+      action_cases P (entry_cases (λ x. P (Host x)) (λ i b t is other. refl) (λ b. refl) (λ b o n. refl) (λ i v. refl) (λ i. refl) (λ s v. refl) (λ ws. refl) (λ q bs. refl)) (λ w. refl) (command_cases (λ c. P (Run c)) (λ b o n w. refl) (λ es all. memory_any bad_transition (λ d. refl) es all) (λ v ms. refl) (λ v ms. refl)) (λ s. refl) p.action supported
 
   pub no_old_layout : breaks_old_layout past p ≡ false
   no_old_layout =
       let P : Action → Type 0 = λ d. breaks_old_layout past (record p { action = d }) ≡ false in
-      action_cases P (entry_cases (λ x. P (Host x)) (λ i b t is other. refl) (λ b. refl) (λ b o n. refl) (λ i v. refl) (λ ws. refl) (λ bs. refl)) (command_cases (λ c. P (Run c)) (λ b o n w. refl) (λ es all. memory_any (bad_old_layout (world past) p.queue) (λ d. refl) es all)) (λ s. refl) p.action supported
+      action_cases P (entry_cases (λ x. P (Host x)) (λ i b t is other. refl) (λ b. refl) (λ b o n. refl) (λ i v. refl) (λ i. refl) (λ s v. refl) (λ ws. refl) (λ q bs. refl)) (λ w. refl) (command_cases (λ c. P (Run c)) (λ b o n w. refl) (λ es all. memory_any (bad_old_layout (world past) p.queue) (λ d. refl) es all) (λ v ms. refl) (λ v ms. refl)) (λ s. refl) p.action supported
 
   pub no_owner_whole : breaks_owner_whole past p ≡ false
   no_owner_whole =
       let P : Action → Type 0 = λ d. breaks_owner_whole past (record p { action = d }) ≡ false in
-      action_cases P (entry_cases (λ x. P (Host x)) (λ i b t is other. refl) (λ b. refl) (λ b o n. refl) (λ i v. refl) (λ ws. refl) (λ bs. refl)) (command_cases (λ c. P (Run c)) (λ b o n w. refl) (λ es all. memory_any (is_partial_transfer past) (λ d. refl) es all)) (λ s. refl) p.action supported
-
-  pub no_event_state : breaks_event_state past p ≡ false
-  no_event_state =
-      let P : Action → Type 0 = λ d. breaks_event_state past (record p { action = d }) ≡ false in
-      action_cases P (entry_cases (λ x. P (Host x)) (λ i b t is other. refl) (λ b. refl) (λ b o n. refl) (λ i v. refl) (λ ws. refl) (λ bs. refl)) (command_cases (λ c. P (Run c)) (λ b o n w. refl) (λ es all. refl)) (λ s. refl) p.action supported
-
-  pub no_event_dependency : breaks_event_dependency past p ≡ false
-  no_event_dependency =
-      let P : Action → Type 0 = λ d. breaks_event_dependency past (record p { action = d }) ≡ false in
-      action_cases P (entry_cases (λ x. P (Host x)) (λ i b t is other. refl) (λ b. refl) (λ b o n. refl) (λ i v. refl) (λ ws. refl) (λ bs. refl)) (command_cases (λ c. P (Run c)) (λ b o n w. refl) (λ es all. refl)) (λ s. refl) p.action supported
+      action_cases P (entry_cases (λ x. P (Host x)) (λ i b t is other. refl) (λ b. refl) (λ b o n. refl) (λ i v. refl) (λ i. refl) (λ s v. refl) (λ ws. refl) (λ q bs. refl)) (λ w. refl) (command_cases (λ c. P (Run c)) (λ b o n w. refl) (λ es all. memory_any (is_partial_transfer past) (λ d. refl) es all) (λ v ms. refl) (λ v ms. refl)) (λ s. refl) p.action supported
 
   pub no_pool_kind : breaks_pool_kind past p ≡ false
   no_pool_kind =
       let P : Action → Type 0 = λ d. breaks_pool_kind past (record p { action = d }) ≡ false in
-      action_cases P (entry_cases (λ x. P (Host x)) (λ i b t is other. rw is refl) (λ b. refl) (λ b o n. refl) (λ i v. refl) (λ ws. refl) (λ bs. refl)) (command_cases (λ c. P (Run c)) (λ b o n w. refl) (λ es all. refl)) (λ s. refl) p.action supported
+      action_cases P (entry_cases (λ x. P (Host x)) (λ i b t is other. rw is refl) (λ b. refl) (λ b o n. refl) (λ i v. refl) (λ i. refl) (λ s v. refl) (λ ws. refl) (λ q bs. refl)) (λ w. refl) (command_cases (λ c. P (Run c)) (λ b o n w. refl) (λ es all. refl) (λ v ms. refl) (λ v ms. refl)) (λ s. refl) p.action supported
 
   pub no_pass_state : breaks_pass_state past p ≡ false
   no_pass_state =
       let P : Action → Type 0 = λ d. breaks_pass_state past (record p { action = d }) ≡ false in
-      action_cases P (entry_cases (λ x. P (Host x)) (λ i b t is other. refl) (λ b. refl) (λ b o n. refl) (λ i v. refl) (λ ws. refl) (λ bs. refl)) (command_cases (λ c. P (Run c)) (λ b o n w. refl) (λ es all. refl)) (λ s. refl) p.action supported
+      action_cases P (entry_cases (λ x. P (Host x)) (λ i b t is other. refl) (λ b. refl) (λ b o n. refl) (λ i v. refl) (λ i. refl) (λ s v. refl) (λ ws. refl) (λ q bs. refl)) (λ w. refl) (command_cases (λ c. P (Run c)) (λ b o n w. refl) (λ es all. refl) (λ v ms. refl) (λ v ms. refl)) (λ s. refl) p.action supported
 
   pub no_pass_busy : breaks_pass_busy past p ≡ false
   no_pass_busy =
       let P : Action → Type 0 = λ d. breaks_pass_busy past (record p { action = d }) ≡ false in
-      action_cases P (entry_cases (λ x. P (Host x)) (λ i b t is other. refl) (λ b. refl) (λ b o n. refl) (λ i v. refl) (λ ws. refl) (λ bs. refl)) (command_cases (λ c. P (Run c)) (λ b o n w. refl) (λ es all. refl)) (λ s. refl) p.action supported
+      action_cases P (entry_cases (λ x. P (Host x)) (λ i b t is other. refl) (λ b. refl) (λ b o n. refl) (λ i v. refl) (λ i. refl) (λ s v. refl) (λ ws. refl) (λ q bs. refl)) (λ w. refl) (command_cases (λ c. P (Run c)) (λ b o n w. refl) (λ es all. refl) (λ v ms. refl) (λ v ms. refl)) (λ s. refl) p.action supported
 
   pub no_in_use : breaks_in_use past p ≡ false
   no_in_use =
       let P : Action → Type 0 = λ d. breaks_in_use past (record p { action = d }) ≡ false in
-      action_cases P (entry_cases (λ x. P (Host x)) (λ i b t is other. refl) (λ b. refl) (λ b o n. refl) (λ i v. refl) (λ ws. refl) (λ bs. refl)) (command_cases (λ c. P (Run c)) (λ b o n w. refl) (λ es all. refl)) (λ s. refl) p.action supported
+      action_cases P (entry_cases (λ x. P (Host x)) (λ i b t is other. refl) (λ b. refl) (λ b o n. refl) (λ i v. refl) (λ i. refl) (λ s v. refl) (λ ws. refl) (λ q bs. refl)) (λ w. refl) (command_cases (λ c. P (Run c)) (λ b o n w. refl) (λ es all. refl) (λ v ms. refl) (λ v ms. refl)) (λ s. refl) p.action supported

@@ -1,9 +1,10 @@
 -- The forms of points that are supported, one by one.
-use Rattle.std.proofs.Common.{◌≡◌, ℕ, List, true, false, ◌==◌, refl, sym, subst}
+use Rattle.std.proofs.Common.{◌≡◌, ℕ, List, true, false, ◌==◌, refl}
 use Rattle.std.specs.List.{list_all}
-use Rattle.std.proofs.lemmas.Bool.{eqb-true, not-true}
+use Rattle.std.proofs.lemmas.Bool.{not-true}
 use Rattle.vk_model.specs.declared.command.Cmd.{Cmd}
 use Rattle.vk_model.specs.declared.command.Cmd.TheVariants as cmd
+use Rattle.vk_model.specs.declared.command.Dependency.{Dependency}
 use Rattle.vk_model.specs.declared.command.Element.{Element}
 use Rattle.vk_model.specs.declared.command.Length.{Length}
 use Rattle.vk_model.specs.declared.entry.Batch.{Batch}
@@ -22,8 +23,10 @@ module _ (P : Entry → Type 0)
     (map : (b : ℕ) → P (entry.Map b))
     (read : (b o n : ℕ) → P (entry.Read b o n))
     (semaphore : (i v : ℕ) → P (entry.Semaphore i v))
+    (event : (i : ℕ) → P (entry.Event i))
+    (signal : (s v : ℕ) → P (entry.Signal s v))
     (wait : (ws : List SemaphoreValue) → P (entry.Wait ws))
-    (submit : (bs : List Batch) → P (entry.Submit 0 bs)) where
+    (submit : (q : ℕ) (bs : List Batch) → P (entry.Submit q bs)) where
   placed : (i : ℕ) (b : BufferInfo) (q : Place) → b.place ≡ q → is_supported_place q ≡ true → P (entry.Buffer i b)
   placed i b (place.Dedicated t) is e = buffer i b t is (not-true (t == 2) e)
   placed i b (place.Pool q) is e = absurd cc
@@ -37,7 +40,7 @@ module _ (P : Entry → Type 0)
   entry_cases (entry.Read b o n) e = read b o n
   entry_cases (entry.Semaphore i v) e = semaphore i v
   entry_cases (entry.Wait ws) e = wait ws
-  entry_cases (entry.Submit q bs) e = subst (λ (r : ℕ). P (entry.Submit r bs)) (sym (eqb-true q 0 e)) (submit bs)
+  entry_cases (entry.Submit q bs) e = submit q bs
   entry_cases (entry.Pool i x) e = absurd cc
   entry_cases (entry.Image i x) e = absurd cc
   entry_cases (entry.Memory i x) e = absurd cc
@@ -48,8 +51,8 @@ module _ (P : Entry → Type 0)
   entry_cases (entry.Write b o bytes) e = absurd cc
   entry_cases (entry.Flush b o n) e = absurd cc
   entry_cases (entry.Invalidate b o n) e = absurd cc
-  entry_cases (entry.Event i) e = absurd cc
-  entry_cases (entry.Signal s v) e = absurd cc
+  entry_cases (entry.Event i) e = event i
+  entry_cases (entry.Signal s v) e = signal s v
   entry_cases (entry.Defrag i q n m) e = absurd cc
   entry_cases (entry.Pass d) e = absurd cc
   entry_cases (entry.EndPass d kept lost) e = absurd cc
@@ -57,7 +60,9 @@ module _ (P : Entry → Type 0)
 
 module _ (P : Cmd → Type 0)
     (fill : (b o : ℕ) (n : Length) (w : ℕ) → P (cmd.Fill b o n w))
-    (barrier : (es : List Element) → list_all is_memory es ≡ true → P (cmd.Barrier es)) where
+    (barrier : (es : List Element) → list_all is_memory es ≡ true → P (cmd.Barrier es))
+    (set : (v : ℕ) (ms : List Dependency) → P (cmd.Set v ms))
+    (await : (v : ℕ) (ms : List Dependency) → P (cmd.Await v ms)) where
   -- and so of commands
   pub command_cases : (c : Cmd) → is_supported_command c ≡ true → P c
   command_cases (cmd.Fill b o n w) e = fill b o n w
@@ -68,16 +73,17 @@ module _ (P : Cmd → Type 0)
   command_cases (cmd.CopyIn b i l gs) e = absurd cc
   command_cases (cmd.CopyOut i l b gs) e = absurd cc
   command_cases (cmd.CopyImage a l b m gs) e = absurd cc
-  command_cases (cmd.Set v ms) e = absurd cc
-  command_cases (cmd.Await v ms) e = absurd cc
+  command_cases (cmd.Set v ms) e = set v ms
+  command_cases (cmd.Await v ms) e = await v ms
 
 module _ (P : Action → Type 0)
     (host : (x : Entry) → is_supported_entry x ≡ true → P (Host x))
+    (wait : (s : SemaphoreSubmit) → P (Wait s))
     (run : (c : Cmd) → is_supported_command c ≡ true → P (Run c))
     (signal : (s : SemaphoreSubmit) → P (Signal s)) where
   -- and of actions
   pub action_cases : (d : Action) → is_supported_action d ≡ true → P d
   action_cases (Host x) e = host x e
-  action_cases (Wait s) e = absurd cc
+  action_cases (Wait s) e = wait s
   action_cases (Run c) e = run c e
   action_cases (Signal s) e = signal s

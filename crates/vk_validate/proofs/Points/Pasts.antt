@@ -47,7 +47,7 @@ no_entry_passes test none [] all = refl
 no_entry_passes test none (x ∷ xs) all = let h = and_parts (is_supported_entry x) (list_all is_supported_entry xs) all in rw (none x h.0) (no_entry_passes test none xs h.1)
 
 none_ends : (i : ℕ) (x : Entry) → is_supported_entry x ≡ true → among i (ended_by x) ≡ false
-none_ends i = let P : Entry → Type 0 = λ x. among i (ended_by x) ≡ false in entry_cases P (λ i b t is other. refl) (λ b. refl) (λ b o n. refl) (λ i v. refl) (λ ws. refl) (λ bs. refl)
+none_ends i = let P : Entry → Type 0 = λ x. among i (ended_by x) ≡ false in entry_cases P (λ i b t is other. refl) (λ b. refl) (λ b o n. refl) (λ i v. refl) (λ i. refl) (λ s v. refl) (λ ws. refl) (λ q bs. refl)
 
 module _ (past : Past) (supported : is_supported past ≡ true) where
   pub made_supported : (i : ℕ) (x : Entry) → made past i ≡ Some x → is_supported_entry x ≡ true
@@ -69,7 +69,7 @@ module _ (past : Past) (supported : is_supported past ≡ true) where
     go (Some x) e h = by_form x (made_supported i x e) h where
       by_form : (x : Entry) → is_supported_entry x ≡ true → resource_in x ≡ Some r → (t : ℕ) × (b : BufferInfo) × (r.place ≡ place.Dedicated t) × (buffer_in x ≡ Some b) × (r ≡ of_buffer b)
       by_form = let P : Entry → Type 0 = λ x. resource_in x ≡ Some r → (t : ℕ) × (b : BufferInfo) × (r.place ≡ place.Dedicated t) × (buffer_in x ≡ Some b) × (r ≡ of_buffer b) in
-          entry_cases P (λ i b t is other h. let same : of_buffer b ≡ r = cc in (t, b, ap (λ (q : Resource). q.place) (sym same) ∙ is, refl, sym same)) (λ b h. absurd cc) (λ b o n h. absurd cc) (λ i v h. absurd cc) (λ ws h. absurd cc) (λ bs h. absurd cc)
+          entry_cases P (λ i b t is other h. let same : of_buffer b ≡ r = cc in (t, b, ap (λ (q : Resource). q.place) (sym same) ∙ is, refl, sym same)) (λ b h. absurd cc) (λ b o n h. absurd cc) (λ i v h. absurd cc) (λ i h. absurd cc) (λ s v h. absurd cc) (λ ws h. absurd cc) (λ q bs h. absurd cc)
 
   -- so it's in no pool, and bound to no memory object
   pub none_bound : (i : ℕ) → memory_of past i ≡ None

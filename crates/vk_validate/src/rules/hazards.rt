@@ -1,55 +1,51 @@
-ghost use Rattle.std.specs.Prelude.{◌≡◌};
-ghost use Rattle.vk_validate.specs.Inner.PointViews.{action_of, past};
-ghost use Rattle.vk_validate.specs.Inner.Tests.{reads_unseen, overwrites_unseen, reads_unwritten};
+ghost use Rattle.std.specs.Prelude.{◌≡◌, ◌∷◌, IfOk, IsTrue, None};
+ghost use Rattle.vk_model.specs.Trace.Structure.{IsOrdered};
+ghost use Rattle.vk_order.specs.PointViews.{action_of, point_of};
+ghost use Rattle.vk_validate.specs.Supported.{is_supported_action};
+ghost use Rattle.vk_validate.specs.Inner.PointViews.{past};
+ghost use Rattle.vk_validate.specs.Inner.Judged.{early_rules, first_among};
+ghost use Rattle.vk_validate.specs.Inner.Conflicts.{AreConflicts};
 
+use crate::contents::{Change, change_by};
+use crate::found::Conflicts;
 use crate::history::History;
-use crate::steps::{Action, Step};
-use crate::writers::{ReadBytes, Span};
-use vk_model::{Cmd, Entry};
+use std::alloc::AllocError;
+use vk_order::{Access, Point};
 
-/// HAZARD_RAW, a read of the host without a memory dependency on an earlier write of the byte, and
-/// READ_UNDEFINED, a read of a byte that was never written: which of them a point breaks.
-pub fn read_bytes(history: &History<'_>, step: &Step<'_>) -> ReadBytes
-    ensures unseen { result.unseen ≡ reads_unseen (past history.now) (action_of step.now.action) }
-    ensures undefined { result.undefined ≡ reads_unwritten (past history.now) (action_of step.now.action) }
+/// What a point that breaks no rule before those on accesses finds wrong with the bytes that it
+/// accesses: HAZARD_WAR, HAZARD_RAW, HAZARD_WAW and READ_UNDEFINED. The only error is want of memory.
+pub fn conflicts(history: &History<'_>, point: &Point<'_>) -> Result<Conflicts, AllocError>
+    requires supported { IsTrue (is_supported_action (action_of point.now.action)) }
+    requires ordered { IsOrdered (point_of point.now ∷ past history.now) }
+    requires early { first_among early_rules (past history.now) (point_of point.now) ≡ None }
+    ensures { IfOk result (λ found. AreConflicts found (past history.now) (point_of point.now)) }
 {
-    match step.action {
-        Action::Host(
-            Entry::Read {
-                buffer,
-                offset,
-                size,
-            },
-        ) => match Span::new(*offset, *size) {
-            Some(span) => {
-                let found = history.read(*buffer, span);
-                ReadBytes {
-                    unseen: found.unseen,
-                    undefined: found.undefined || span.last - span.first < *size - 1,
-                }
+    history.is_judged();
+    match change_by(point) {
+        Change::Nothing => Ok(Conflicts::NONE),
+        Change::Made(_, _) => Ok(Conflicts::NONE),
+        Change::Read(buffer, offset, size) => match history.contents(buffer) {
+            Some(contents) => {
+                let sight = history.sight(point)?;
+                Ok(Conflicts {
+                    raw: contents.has_missed(offset, size, &sight, Access::Read),
+                    undefined: contents.has_undefined(offset, size),
+                    ..Conflicts::NONE
+                })
             }
-            None => ReadBytes::NONE,
+            None => Ok(Conflicts::NONE),
         },
-        _ => ReadBytes::NONE,
-    }
-}
-
-/// HAZARD_WAW: a write without a memory dependency on an earlier write of the byte.
-pub fn breaks_hazard_waw(history: &History<'_>, step: &Step<'_>) -> bool
-    ensures { result ≡ overwrites_unseen (past history.now) (action_of step.now.action) }
-{
-    match step.action {
-        Action::Run(
-            Cmd::Fill {
-                buffer,
-                offset,
-                size,
-                ..
-            },
-        ) => match history.filled(*buffer, *offset, *size) {
-            Some(span) => history.has_unseen_by_write(*buffer, span),
-            None => false,
+        Change::Filled(buffer, offset, size) => match history.contents(buffer) {
+            Some(contents) => {
+                let bytes = size.filled(contents.touches.len(), offset);
+                let sight = history.sight(point)?;
+                Ok(Conflicts {
+                    war: contents.has_early(offset, bytes, &sight),
+                    waw: contents.has_missed(offset, bytes, &sight, Access::Write),
+                    ..Conflicts::NONE
+                })
+            }
+            None => Ok(Conflicts::NONE),
         },
-        _ => false,
     }
 }

@@ -2,18 +2,19 @@ ghost use Rattle.std.specs.Prelude.{◌≡◌, ◌%◌, ◌==◌, not, IsTrue, �
 ghost use Rattle.vk_model.specs.Trace.Point.{Past};
 ghost use Rattle.vk_model.specs.Rules.Ranges as ranges;
 ghost use Rattle.vk_validate.specs.Supported.{is_supported_action, is_supported_command};
-ghost use Rattle.vk_validate.specs.Inner.PointViews.{action_of, point_of, past};
+ghost use Rattle.vk_order.specs.PointViews.{action_of, point_of};
+ghost use Rattle.vk_validate.specs.Inner.PointViews.{past};
 
 use crate::history::History;
-use crate::steps::{Action, Step};
 use vk_model::{Cmd, Entry, Length};
+use vk_order::{Action, Point};
 
 /// RANGE: bytes outside the buffer, or to the end from the end or past it.
-pub fn breaks_range(history: &History<'_>, step: &Step<'_>) -> bool
-    requires { IsTrue (is_supported_action (action_of step.now.action)) }
-    ensures { result ≡ ranges.breaks_range (past history.now) (point_of step.now) }
+pub fn breaks_range(history: &History<'_>, point: &Point<'_>) -> bool
+    requires { IsTrue (is_supported_action (action_of point.now.action)) }
+    ensures { result ≡ ranges.breaks_range (past history.now) (point_of point.now) }
 {
-    match step.action {
+    match point.action {
         Action::Host(
             Entry::Read {
                 buffer,
@@ -53,11 +54,11 @@ fn ends_past(buffer_size: u64, offset: u64, size: Length) -> bool
 }
 
 /// ALIGN: a fill whose offset or size isn't a multiple of 4.
-pub fn breaks_align(step: &Step<'_>) -> bool
-    requires { IsTrue (is_supported_action (action_of step.now.action)) }
-    ensures { (past : Past) → result ≡ ranges.breaks_align past (point_of step.now) }
+pub fn breaks_align(point: &Point<'_>) -> bool
+    requires { IsTrue (is_supported_action (action_of point.now.action)) }
+    ensures { (past : Past) → result ≡ ranges.breaks_align past (point_of point.now) }
 {
-    match step.action {
+    match point.action {
         Action::Run(Cmd::Fill { offset, size, .. }) => is_off_4(*offset) || has_rest(*size),
         _ => false,
     }

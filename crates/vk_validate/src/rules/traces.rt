@@ -1,6 +1,7 @@
 ghost use Rattle.std.specs.Prelude.{◌≡◌};
 ghost use Rattle.vk_model.specs.Trace.Point.{Point};
 ghost use Rattle.vk_model.specs.Rules.Traces.{breaks_limit};
+ghost use Rattle.vk_order.specs.PointViews.{action_of, point_of};
 ghost use Rattle.vk_validate.specs.Inner.PointViews.{past};
 
 use crate::history::History;
@@ -9,7 +10,7 @@ use crate::history::History;
 const MOST_POINTS: usize = 131_072;
 
 /// LIMIT: the trace has too many points.
-#[tactic(auto, using(crate::proofs::Judging::Clears::limits))]
+#[tactic(auto, using(crate::proofs::Kept::PastLemmas::limits))]
 pub fn breaks_limit(history: &History<'_>) -> bool
     ensures { (p : Point) → result ≡ breaks_limit (past history.now) p }
 {

@@ -11,13 +11,13 @@ returns-in-NoRoom-clause-meaning g c = c.new.ensures ∙ c.loop-index.invariant.
 
 pub returns-in-NoRoom-clause-stop : goal.returns-in-NoRoom-clause-stop
 returns-in-NoRoom-clause-stop g c =
-    stops c.args.config c.args.entries.now c.loop-index.index c.loop-index.reads.items c.loop-index.device c.apply.new.self c.index-entries-index.result c.in_ok-apply.field-0 c.requires c.loop-index.invariant.0 c.index-entries-index.is c.loop-index-test.true c.in-NoRoom.is c.in_ok-apply.ensures.answered c.in_ok-apply.ensures.rooms
+    stops c.args.config c.args.entries.now c.loop-index.index c.loop-index.reads.items c.loop-index.device c.index-entries-index.result c.requires c.loop-index.invariant.0 c.index-entries-index.is c.loop-index-test.true c.apply.new.self c.in_ok-apply.field-0 c.in-NoRoom.is c.in_ok-apply.ensures.answered c.in_ok-apply.ensures.rooms
 
 pub loop-index-preserved : goal.loop-index-preserved
 loop-index-preserved g c = (
   elim c.match-branch-2.branch [
-    | in-Done w ↦ rw w.reads-is (after_done c.args.config c.args.entries.now c.loop-index.index c.loop-index.reads.items c.loop-index.device c.apply.new.self c.index-entries-index.result c.in_ok-apply.field-0 c.requires c.loop-index.invariant.0 c.index-entries-index.is c.loop-index-test.true w.in-Done.is c.in_ok-apply.ensures.answered c.in_ok-apply.ensures.rooms c.in_ok-apply.ensures.allots c.in_ok-apply.ensures.works.1)
-    | in-Bytes+in_ok-push-in-Bytes w ↦ rw (w.reads-is, w.in_ok-push-in-Bytes.ensures.items) (after_bytes c.args.config c.args.entries.now c.loop-index.index c.loop-index.reads.items c.loop-index.device c.apply.new.self c.index-entries-index.result c.in_ok-apply.field-0 w.in-Bytes.bytes c.requires c.loop-index.invariant.0 c.index-entries-index.is c.loop-index-test.true w.in-Bytes.is c.in_ok-apply.ensures.answered c.in_ok-apply.ensures.rooms c.in_ok-apply.ensures.allots c.in_ok-apply.ensures.works.1)
+    | in-Done w ↦ rw w.reads-is (after_done c.args.config c.args.entries.now c.loop-index.index c.loop-index.reads.items c.loop-index.device c.index-entries-index.result c.requires c.loop-index.invariant.0 c.index-entries-index.is c.loop-index-test.true c.apply.new.self c.in_ok-apply.field-0 w.in-Done.is c.in_ok-apply.ensures.answered c.in_ok-apply.ensures.rooms c.in_ok-apply.ensures.allots c.in_ok-apply.ensures.works.1)
+    | in-Bytes+in_ok-push-in-Bytes w ↦ rw (w.reads-is, w.in_ok-push-in-Bytes.ensures.items) (after_bytes c.args.config c.args.entries.now c.loop-index.index c.loop-index.reads.items c.loop-index.device c.index-entries-index.result c.requires c.loop-index.invariant.0 c.index-entries-index.is c.loop-index-test.true c.apply.new.self c.in_ok-apply.field-0 w.in-Bytes.bytes w.in-Bytes.is c.in_ok-apply.ensures.answered c.in_ok-apply.ensures.rooms c.in_ok-apply.ensures.allots c.in_ok-apply.ensures.works.1)
   ],
   c.apply.ensures.unasked ∙ c.loop-index.invariant.1,
 )

@@ -1,36 +1,21 @@
-use Rattle.std.proofs.Common.{◌≡◌, ◌∷◌, refl, sym, ap, ◌∙◌}
-use Rattle.vk_validate.specs.Inner.OrderState.{Signaled, order_state, joined}
-use Rattle.vk_validate.specs.declared.clocks.Order.{Order}
-use Rattle.vk_validate.proofs.Keeping.TableLemmas.{writers_stay, writers_next}
-use Rattle.vk_validate.proofs.Keeping.TimelineLemmas.{timelines_next}
-use Rattle.vk_validate.proofs.Keeping.Greatest.{greatest_next}
+use Rattle.std.proofs.Common.{◌≡◌, ◌∷◌, ◌∙◌, ap}
+use Rattle.vk_model.specs.Rules.Fault.{newest}
+use Rattle.vk_model.specs.Sync.Node.{nodes}
+use Rattle.vk_order.specs.PointViews.{point_of}
+use Rattle.vk_queues.proofs.NewPoints.{ordered_new}
+use Rattle.vk_validate.specs.Inner.Touched.{next_place}
 use Rattle.vk_validate.proofs.tables.note.Goals as goal
 
-pub returns-in_ok-note_signal-in-Signaled : goal.returns-in_ok-note_signal-in-Signaled
-returns-in_ok-note_signal-in-Signaled c = λ past p fits tabled.
-    let is = rw c.in-Signaled.is at fits in
-    let signal = c.in_ok-note_signal-in-Signaled.ensures in
-    let x : Signaled = record { semaphore = c.in-Signaled.semaphore; value = c.in-Signaled.value; clock = c.in-Signaled.clock } in
+pub returns : goal.returns
+returns c = λ past judged tabled.
+    let p = point_of c.args.point.now in
+    let line_is = c.line_of-line.ensures in
+    let place_is : c.count-place.result ≡ next_place past c.line_of-line.result = c.count-place.ensures (nodes past) tabled.frontier in
     record {
-      creating_entries_match = λ i. rw is.is (tabled.creating_entries_match i);
-      maps_are = λ i. rw is.is (tabled.maps_are i);
-      writers_are = writers_stay _ p past (λ b k. rw is.is refl) tabled.writers_are;
-      timelines_are = rw (is.is, is.semaphore_is, is.value_is, ← is.clock_is) (timelines_next _ _ _ x tabled.timelines_are signal.present signal.here signal.others);
-      greatest_are = λ s. greatest_next _ _ p past x (rw (is.is, is.semaphore_is, is.value_is) refl) tabled.greatest_are signal.present signal.here signal.others s;
-      order_is =
-          let signaled : (order_state (p ∷ past)).order ≡ record (order_state past).order { signals = joined (order_state past).order.signals c.in-Signaled.clock } = rw (is.is, is.clock_is) refl in
-          c.after_signal-tables.ensures ∙ ap (λ (o : Order). record o { signals = joined o.signals c.in-Signaled.clock }) tabled.order_is ∙ sym signaled;
-    }
-
-pub returns-in_ok-note_write-in-Written : goal.returns-in_ok-note_write-in-Written
-returns-in_ok-note_write-in-Written c = λ past p fits tabled.
-    let is = rw c.in-Written.is at fits in
-    let fill = is.1 in
-    record {
-      creating_entries_match = λ i. rw fill.is (tabled.creating_entries_match i);
-      maps_are = λ i. rw fill.is (tabled.maps_are i);
-      writers_are = writers_next _ _ p past c.in-Written.buffer c.in-Written.span.first c.in-Written.span.last c.in-Written.point tabled.writers_are fill is.2 c.in_ok-note_write-in-Written.ensures.present c.in_ok-note_write-in-Written.ensures.here c.in_ok-note_write-in-Written.ensures.others;
-      timelines_are = rw fill.is tabled.timelines_are;
-      greatest_are = λ s. rw fill.is (tabled.greatest_are s);
-      order_is = rw fill.is tabled.order_is;
+      objects = c.in_ok-note.ensures past tabled.objects;
+      mappings = c.in_ok-note-2.ensures past tabled.mappings;
+      semaphores = c.in_ok-note-4.ensures past line_is place_is tabled.semaphores;
+      events = c.in_ok-note-3.ensures past tabled.events;
+      contents = c.in_ok-note-5.ensures past judged (place_is ∙ ap (next_place past) line_is) tabled.contents;
+      frontier = c.in_ok-advance.ensures (nodes past) (ordered_new (p ∷ past) past p judged.ordered newest) tabled.frontier;
     }

@@ -1,4 +1,0 @@
-pub mod Hazards
-pub mod FillWriters
-pub mod Unseen
-pub mod Defined

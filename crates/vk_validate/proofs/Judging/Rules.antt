@@ -1,0 +1,139 @@
+-- The table of rules, in two parts, of which the second needs the accesses of a point.
+use Rattle.std.proofs.Common.{◌≡◌, ◌≤◌, ◌<◌, ◌+◌, ℕ, List, [], ◌∷◌, ◌++◌, Bool, true, false, refl, sym, ◌∙◌, ap, drop, length, get_or, Option, Some, None, add-one, drop-cons, cond}
+use Rattle.std.specs.List.{find}
+use Rattle.std.proofs.lemmas.List.{drop_all}
+use Rattle.vk_model.specs.declared.rule.Rule.{Rule}
+use Rattle.vk_model.specs.declared.rule.Rule.TheVariants as rule
+use Rattle.vk_model.specs.Basics.{first_that}
+use Rattle.vk_model.specs.Trace.Point.{Past, Point}
+use Rattle.vk_model.specs.Rules.Table.{breaks, first_rule}
+use Rattle.vk_model.specs.Rules.Hazards.{breaks_hazard_war, breaks_hazard_raw, breaks_hazard_waw, breaks_in_use, breaks_read_undefined}
+use Rattle.vk_model.specs.Rules.Traces.{breaks_limit}
+use Rattle.vk_validate.specs.Supported.{is_supported, is_supported_action}
+use Rattle.vk_validate.specs.Inner.Judged.{early_rules, late_rules, first_among}
+use Rattle.vk_validate.specs.Inner.Early.{breaks_early}
+use Rattle.vk_validate.proofs.Judging.Unbroken as unbroken
+use Rattle.vk_validate.proofs.Judging.Judged.{no_pass_write}
+use Rattle.vk_validate.proofs.Judging.Pairs.{no_owner_pair}
+
+pub find-drop : {X : Type 0} (p : X → Bool) (xs : List X) (i : ℕ) (d : X) → i < length xs → find p (drop i xs) ≡ cond (p (get_or xs i d)) (Some (get_or xs i d)) (find p (drop (i + 1) xs))
+find-drop p xs i d lt = rw (add-one, drop-cons xs i d) refl
+
+pub find-all : {X : Type 0} (p : X → Bool) (xs : List X) (i : ℕ) → length xs ≤ i → find p (drop i xs) ≡ None
+find-all p xs i le = rw (drop_all i xs le) refl
+
+-- what the loop over the rules goes by
+pub ruleset finds = (find-drop, find-all)
+
+-- what is found in two lists is found in the first, or else in the second
+found_first : {A : Type 0} (f : A → Bool) (xs ys : List A) (x : A) → find f xs ≡ Some x → Some x ≡ first_that f (xs ++ ys)
+found_first f [] ys x e = absurd cc
+found_first {A} f (y ∷ xs) ys x e = go (f y) e (found_first f xs ys x) where
+  go : (b : Bool) → cond b (Some y) (find f xs) ≡ Some x → (find f xs ≡ Some x → Some x ≡ first_that f (xs ++ ys)) → Some x ≡ (let o : Option A = elim b [ true ↦ Some y | false ↦ first_that f (xs ++ ys) ] in o)
+  go true e rest = sym e
+  go false e rest = rest e
+
+found_second : {A : Type 0} (f : A → Bool) (xs ys : List A) → find f xs ≡ None → find f ys ≡ first_that f (xs ++ ys)
+found_second f [] [] e = refl
+found_second {A} f [] (y ∷ ys) e = go (f y) (found_second f [] ys refl) where
+  go : (b : Bool) → find f ys ≡ first_that f ys → cond b (Some y) (find f ys) ≡ (let o : Option A = elim b [ true ↦ Some y | false ↦ first_that f ys ] in o)
+  go true same = refl
+  go false same = same
+found_second {A} f (x ∷ xs) ys e = go (f x) e (found_second f xs ys) where
+  go : (b : Bool) → cond b (Some x) (find f xs) ≡ None → (find f xs ≡ None → find f ys ≡ first_that f (xs ++ ys)) → find f ys ≡ (let o : Option A = elim b [ true ↦ Some x | false ↦ first_that f (xs ++ ys) ] in o)
+  go true e rest = absurd cc
+  go false e rest = rest e
+
+module _ (past : Past) (p : Point) where
+  pub early_are : find (λ r. breaks_early r past p) early_rules ≡ first_among early_rules past p
+  unfolding breaks_early
+  early_are = refl
+
+  pub first_is_early : (r : Rule) → first_among early_rules past p ≡ Some r → Some r ≡ first_rule past p
+  unfolding first_rule
+  first_is_early r e = found_first (λ r. breaks r past p) early_rules late_rules r e
+
+  pub first_is_late : first_among early_rules past p ≡ None → first_among late_rules past p ≡ first_rule past p
+  unfolding first_rule
+  first_is_late e = found_second (λ r. breaks r past p) early_rules late_rules e
+
+-- a rule isn't one of those that points of supported forms can break before their accesses
+pub record IsUntested (r : Rule) : Type 0 where
+  pub new_id : r ≡ rule.NewId → ⊥
+  pub live_id : r ≡ rule.LiveId → ⊥
+  pub queue : r ≡ rule.Queue → ⊥
+  pub queue_kind : r ≡ rule.QueueKind → ⊥
+  pub size : r ≡ rule.Size → ⊥
+  pub usage : r ≡ rule.Usage → ⊥
+  pub memory_type : r ≡ rule.MemoryType → ⊥
+  pub memory_size : r ≡ rule.MemorySize → ⊥
+  pub range : r ≡ rule.Range → ⊥
+  pub align : r ≡ rule.Align → ⊥
+  pub stage : r ≡ rule.Stage → ⊥
+  pub event_state : r ≡ rule.EventState → ⊥
+  pub event_dependency : r ≡ rule.EventDependency → ⊥
+  pub signal_value : r ≡ rule.SignalValue → ⊥
+  pub signal_order : r ≡ rule.SignalOrder → ⊥
+  pub wait_never : r ≡ rule.WaitNever → ⊥
+  pub map_state : r ≡ rule.MapState → ⊥
+  pub host_visible : r ≡ rule.HostVisible → ⊥
+
+module _ (past : Past) (supported : is_supported past ≡ true) (p : Point) (now : is_supported_action p.action ≡ true) where
+  pub rest_unbroken : (r : Rule) → IsUntested r → false ≡ breaks_early r past p
+  unfolding breaks_early breaks
+  rest_unbroken rule.NewId u = absurd (u.new_id refl)
+  rest_unbroken rule.LiveId u = absurd (u.live_id refl)
+  rest_unbroken rule.Queue u = absurd (u.queue refl)
+  rest_unbroken rule.QueueKind u = absurd (u.queue_kind refl)
+  rest_unbroken rule.Size u = absurd (u.size refl)
+  rest_unbroken rule.Usage u = absurd (u.usage refl)
+  rest_unbroken rule.MemoryType u = absurd (u.memory_type refl)
+  rest_unbroken rule.MemorySize u = absurd (u.memory_size refl)
+  rest_unbroken rule.PoolSize u = sym (unbroken.no_pool_size past p now)
+  rest_unbroken rule.BindRange u = sym (unbroken.no_bind_range past p now)
+  rest_unbroken rule.BindAlign u = sym (unbroken.no_bind_align past p now)
+  rest_unbroken rule.Aliased u = sym (unbroken.no_aliased past p now)
+  rest_unbroken rule.Range u = absurd (u.range refl)
+  rest_unbroken rule.Align u = absurd (u.align refl)
+  rest_unbroken rule.Overlap u = sym (unbroken.no_overlap past p now)
+  rest_unbroken rule.Format u = sym (unbroken.no_format past p now)
+  rest_unbroken rule.Subresource u = sym (unbroken.no_subresource past p now)
+  rest_unbroken rule.Stage u = absurd (u.stage refl)
+  rest_unbroken rule.Layout u = sym (unbroken.no_layout past p now)
+  rest_unbroken rule.OldLayout u = sym (unbroken.no_old_layout past p now)
+  rest_unbroken rule.OwnerWhole u = sym (unbroken.no_owner_whole past p now)
+  rest_unbroken rule.OwnerPair u = sym (no_owner_pair past p now)
+  rest_unbroken rule.EventState u = absurd (u.event_state refl)
+  rest_unbroken rule.EventDependency u = absurd (u.event_dependency refl)
+  rest_unbroken rule.SignalValue u = absurd (u.signal_value refl)
+  rest_unbroken rule.SignalOrder u = absurd (u.signal_order refl)
+  rest_unbroken rule.WaitBeforeSignal u = refl
+  rest_unbroken rule.WaitNever u = absurd (u.wait_never refl)
+  rest_unbroken rule.MapState u = absurd (u.map_state refl)
+  rest_unbroken rule.HostVisible u = absurd (u.host_visible refl)
+  rest_unbroken rule.PoolKind u = sym (unbroken.no_pool_kind past p now)
+  rest_unbroken rule.PassState u = sym (unbroken.no_pass_state past p now)
+  rest_unbroken rule.PassBusy u = sym (unbroken.no_pass_busy past p now)
+  rest_unbroken rule.PassWrite u = sym (no_pass_write past supported p)
+  rest_unbroken rule.HazardWar u = refl
+  rest_unbroken rule.HazardRaw u = refl
+  rest_unbroken rule.HazardWaw u = refl
+  rest_unbroken rule.InUse u = refl
+  rest_unbroken rule.ReadUndefined u = refl
+  rest_unbroken rule.Limit u = refl
+
+module _ (past : Past) (p : Point) (now : is_supported_action p.action ≡ true) where
+  -- the late rules, by what is known of the accesses
+  abbrev pub late : (war raw waw used undefined over : Bool) → Option Rule
+  late war raw waw used undefined over = cond war (Some rule.HazardWar) (cond raw (Some rule.HazardRaw) (cond waw (Some rule.HazardWaw) (cond used (Some rule.InUse) (cond undefined (Some rule.ReadUndefined) (cond over (Some rule.Limit) None)))))
+
+  pub found_late : (war raw waw undefined over : Bool) → war ≡ breaks_hazard_war past p → raw ≡ breaks_hazard_raw past p → waw ≡ breaks_hazard_waw past p → undefined ≡ breaks_read_undefined past p → over ≡ breaks_limit past p
+      → late war raw waw false undefined over ≡ first_among late_rules past p
+  unfolding breaks
+  found_late war raw waw undefined over a b c d e =
+      ap (λ x. late x raw waw false undefined over) a
+      ∙ ap (λ x. late (breaks_hazard_war past p) x waw false undefined over) b
+      ∙ ap (λ x. late (breaks_hazard_war past p) (breaks_hazard_raw past p) x false undefined over) c
+      ∙ ap (λ x. late (breaks_hazard_war past p) (breaks_hazard_raw past p) (breaks_hazard_waw past p) x undefined over) (sym (unbroken.no_in_use past p now))
+      ∙ ap (λ x. late (breaks_hazard_war past p) (breaks_hazard_raw past p) (breaks_hazard_waw past p) (breaks_in_use past p) x over) d
+      ∙ ap (λ x. late (breaks_hazard_war past p) (breaks_hazard_raw past p) (breaks_hazard_waw past p) (breaks_in_use past p) (breaks_read_undefined past p) x) e

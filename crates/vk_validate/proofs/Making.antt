@@ -1,0 +1,5 @@
+pub mod JudgedIds
+pub mod EventSets
+pub mod Worlds
+pub mod Signaling
+pub mod SameElements

@@ -1,0 +1,102 @@
+use Rattle.vk_model.specs.Rules.Table.{breaks}
+use Rattle.vk_order.specs.PointViews.{point_of}
+use Rattle.vk_validate.specs.Inner.PointViews.{past}
+use Rattle.vk_validate.specs.Inner.Early.{breaks_early}
+use Rattle.vk_validate.proofs.Judging.Rules.{rest_unbroken}
+use Rattle.vk_validate.proofs.rules.breaks_early.Goals as goal
+
+pub returns-in-NewId : goal.returns-in-NewId
+unfolding breaks_early breaks
+returns-in-NewId c = rw c.in-NewId.is c.breaks_new_id.ensures
+
+pub returns-in-LiveId : goal.returns-in-LiveId
+unfolding breaks_early breaks
+returns-in-LiveId c = rw c.in-LiveId.is c.breaks_live_id.ensures
+
+pub returns-in-Queue : goal.returns-in-Queue
+unfolding breaks_early breaks
+returns-in-Queue c = rw c.in-Queue.is (c.breaks_queue.ensures (past c.args.history.now))
+
+pub returns-in-QueueKind : goal.returns-in-QueueKind
+unfolding breaks_early breaks
+returns-in-QueueKind c = rw c.in-QueueKind.is (c.breaks_queue_kind.ensures (past c.args.history.now))
+
+pub returns-in-Size : goal.returns-in-Size
+unfolding breaks_early breaks
+returns-in-Size c = rw c.in-Size.is c.breaks_size.ensures
+
+pub returns-in-Usage : goal.returns-in-Usage
+unfolding breaks_early breaks
+returns-in-Usage c = rw c.in-Usage.is c.breaks_usage.ensures
+
+pub returns-in-MemoryType : goal.returns-in-MemoryType
+unfolding breaks_early breaks
+returns-in-MemoryType c = rw c.in-MemoryType.is (c.breaks_memory_type.ensures (past c.args.history.now))
+
+pub returns-in-MemorySize : goal.returns-in-MemorySize
+unfolding breaks_early breaks
+returns-in-MemorySize c = rw c.in-MemorySize.is (c.breaks_memory_size.ensures (past c.args.history.now))
+
+pub returns-in-Range : goal.returns-in-Range
+unfolding breaks_early breaks
+returns-in-Range c = rw c.in-Range.is c.breaks_range.ensures
+
+pub returns-in-Align : goal.returns-in-Align
+unfolding breaks_early breaks
+returns-in-Align c = rw c.in-Align.is (c.breaks_align.ensures (past c.args.history.now))
+
+pub returns-in-Stage : goal.returns-in-Stage
+unfolding breaks_early breaks
+returns-in-Stage c = rw c.in-Stage.is c.breaks_stage.ensures
+
+pub returns-in-EventState : goal.returns-in-EventState
+unfolding breaks_early breaks
+returns-in-EventState c = rw c.in-EventState.is c.breaks_event_state.ensures
+
+pub returns-in-EventDependency : goal.returns-in-EventDependency
+unfolding breaks_early breaks
+returns-in-EventDependency c = rw c.in-EventDependency.is c.breaks_event_dependency.ensures
+
+pub returns-in-SignalValue : goal.returns-in-SignalValue
+unfolding breaks_early breaks
+returns-in-SignalValue c = rw c.in-SignalValue.is c.breaks_signal_value.ensures
+
+pub returns-in-SignalOrder : goal.returns-in-SignalOrder
+unfolding breaks_early breaks
+returns-in-SignalOrder c = rw c.in-SignalOrder.is c.requires.unordered
+
+pub returns-in-WaitNever : goal.returns-in-WaitNever
+unfolding breaks_early breaks
+returns-in-WaitNever c = rw c.in-WaitNever.is c.breaks_wait_never.ensures
+
+pub returns-in-MapState : goal.returns-in-MapState
+unfolding breaks_early breaks
+returns-in-MapState c = rw c.in-MapState.is c.breaks_map_state.ensures
+
+pub returns-in-HostVisible : goal.returns-in-HostVisible
+unfolding breaks_early breaks
+returns-in-HostVisible c = rw c.in-HostVisible.is c.breaks_host_visible.ensures
+
+pub returns-in_default : goal.returns-in_default
+returns-in_default c =
+    let d = c.in_default in
+    rest_unbroken (past c.args.history.now) c.is_judged.ensures.supported (point_of c.args.point.now) c.requires.supported c.args.rule (record {
+      new_id = d.not-NewId;
+      live_id = d.not-LiveId;
+      queue = d.not-Queue;
+      queue_kind = d.not-QueueKind;
+      size = d.not-Size;
+      usage = d.not-Usage;
+      memory_type = d.not-MemoryType;
+      memory_size = d.not-MemorySize;
+      range = d.not-Range;
+      align = d.not-Align;
+      stage = d.not-Stage;
+      event_state = d.not-EventState;
+      event_dependency = d.not-EventDependency;
+      signal_value = d.not-SignalValue;
+      signal_order = d.not-SignalOrder;
+      wait_never = d.not-WaitNever;
+      map_state = d.not-MapState;
+      host_visible = d.not-HostVisible;
+    })

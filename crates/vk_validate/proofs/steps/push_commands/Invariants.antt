@@ -1,9 +1,0 @@
-use Rattle.std.proofs.Common.{◌≡◌, drop}
-use Rattle.vk_model.specs.Trace.Point.{Run}
-use Rattle.vk_model.specs.Trace.Order.{actions}
-use Rattle.vk_validate.specs.Inner.PointViews.{past_of}
-use Rattle.vk_validate.specs.Inner.Laid.{batch_at}
-use Rattle.vk_validate.proofs.steps.push_commands.Given as goal
-
-abbrev pub invariant-loop-place : goal.invariant-loop-place
-invariant-loop-place l = actions Run (batch_at l.entry l.batch l.queue) l.place (drop l.place l.commands) (past_of l.points.items) ≡ actions Run (batch_at l.entry l.batch l.queue) 0 l.commands (past_of l.fn.points.items)

@@ -1,0 +1,20 @@
+-- The rules that are judged before the accesses of a point.
+use Rattle.std.specs.Prelude.{Bool, true, false, if◌then◌else◌}
+use Rattle.vk_model.specs.declared.rule.Rule.{Rule}
+use Rattle.vk_model.specs.declared.rule.Rule.TheVariants as rule
+use Rattle.vk_model.specs.Trace.Point.{Past, Point}
+use Rattle.vk_model.specs.Rules.Table.{breaks}
+
+-- Whether a rule is on accesses, or comes after those.
+abbrev pub is_late : Rule → Bool
+is_late rule.HazardWar = true
+is_late rule.HazardRaw = true
+is_late rule.HazardWaw = true
+is_late rule.InUse = true
+is_late rule.ReadUndefined = true
+is_late rule.Limit = true
+is_late _ = false
+
+-- Whether a point breaks a rule that is judged before its accesses.
+unfoldable pub breaks_early : Rule → Past → Point → Bool
+breaks_early r past p = if is_late r then false else breaks r past p

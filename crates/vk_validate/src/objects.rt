@@ -1,0 +1,71 @@
+ghost use Rattle.std.specs.Prelude.{◌≡◌, ◌==◌, ◌∷◌, [], ℕ, OnOk, if◌then◌else◌, Some};
+ghost use Rattle.std.specs.Option.{option_map};
+ghost use Rattle.std.specs.Ordering.{nat_cmp};
+ghost use Rattle.std.specs.BTreeMap.{get};
+ghost use Rattle.vk_model.specs.Trace.Point.{Past};
+ghost use Rattle.vk_order.specs.PointViews.{point_of};
+ghost use Rattle.vk_validate.specs.Inner.Made.{last_maker};
+ghost use Rattle.vk_validate.specs.Inner.Tabled.{AreObjects, maker_view};
+
+use std::alloc::{AllocError, Global};
+use std::collections::BTreeMap;
+use vk_model::Entry;
+use vk_order::{Action, Point};
+
+/// An entry that made an object, with its number.
+#[derive(Clone, Copy)]
+pub struct Maker<'a> {
+    pub entry: &'a Entry,
+    pub number: usize,
+}
+
+/// Which entry made each object.
+#[derive(Drop)]
+pub struct Objects<'a> {
+    makers: BTreeMap<u32, Maker<'a>>,
+}
+
+impl<'a> Objects<'a> {
+    /// Before the first point.
+    pub fn new(alloc: Global) -> Objects<'a>
+        ensures { AreObjects result [] }
+    {
+        Objects {
+            makers: BTreeMap::new(alloc),
+        }
+    }
+
+    /// The last entry that made an id.
+    pub fn maker(&self, id: u32) -> Option<Maker<'a>>
+        ensures { (past : Past) → AreObjects self.now past → option_map maker_view result ≡ last_maker past id }
+    {
+        self.makers.get(&id).copied()
+    }
+
+    /// Takes the next point.
+    pub fn note(&mut self, point: &Point<'a>) -> Result<(), AllocError>
+        ensures { OnOk result ((past : Past) → AreObjects self.old past → AreObjects self.new (point_of point.now ∷ past)) }
+    {
+        match point.action {
+            Action::Host(entry) => match entry.made_id() {
+                Some(id) => self.set(
+                    id,
+                    Maker {
+                        entry,
+                        number: point.entry,
+                    },
+                ),
+                None => Ok(()),
+            },
+            _ => Ok(()),
+        }
+    }
+
+    fn set(&mut self, id: u32, maker: Maker<'a>) -> Result<(), AllocError>
+        ensures { OnOk result ((other : ℕ) → option_map maker_view (get nat_cmp self.new.makers other)
+            ≡ (if other == id then Some (maker_view maker.entry) else option_map maker_view (get nat_cmp self.old.makers other))) }
+    {
+        self.makers.insert(id, maker)?;
+        Ok(())
+    }
+}
