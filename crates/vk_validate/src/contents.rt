@@ -8,11 +8,11 @@ ghost use Rattle.vk_model.specs.World.Ownership.{family_of};
 ghost use Rattle.vk_order.specs.PointViews.{point_of, action_of};
 ghost use Rattle.vk_validate.specs.Inner.Judged.{IsJudged};
 ghost use Rattle.vk_validate.specs.Inner.Touched.{class_next, next_place};
-ghost use Rattle.vk_validate.specs.Inner.Contents.{AreContents, IsMade, IsRead, IsFilled, IsTaken, ReadIn, FilledIn, IsPart};
+ghost use Rattle.vk_validate.specs.Inner.Contents.{AreContents, IsMade, IsRead, IsFilled, IsTaken, ReadIn, FilledIn, LiesIn};
 ghost use Rattle.vk_validate.specs.Inner.Changes.{Fits};
 
 use crate::parts::Part;
-use crate::touches::{Touch, Writer};
+use crate::writer::Writer;
 use std::alloc::{AllocError, Global};
 use std::collections::BTreeMap;
 use vk_model::{BufferInfo, Cmd, Entry, Length, Sharing};
@@ -24,8 +24,10 @@ use vk_ranges::RangeMap;
 pub struct BufferContents {
     /// Whether each byte is defined.
     pub defined: RangeMap<bool>,
-    /// Who accessed each byte last.
-    pub touches: RangeMap<Touch>,
+    /// The command that wrote each byte last.
+    pub writers: RangeMap<Option<Writer>>,
+    /// The host entry that read each byte last, by how many came before it.
+    pub readers: RangeMap<Option<usize>>,
     /// Whether one queue family at a time owns it.
     pub is_exclusive: bool,
     /// The queue family that owns it, if one does.
@@ -39,7 +41,8 @@ impl BufferContents {
     {
         Ok(BufferContents {
             defined: RangeMap::new(alloc, info.size, false)?,
-            touches: RangeMap::new(alloc, info.size, Touch::NONE)?,
+            writers: RangeMap::new(alloc, info.size, None)?,
+            readers: RangeMap::new(alloc, info.size, None)?,
             is_exclusive: matches!(info.sharing, Sharing::Exclusive),
             owner: None,
         })
@@ -48,13 +51,15 @@ impl BufferContents {
     /// The part of a range that lies in the buffer.
     pub fn part(&self, offset: u64, size: u64) -> Part
         ensures defined { result.high ≤ length self.now.defined }
-        ensures touches { result.high ≤ length self.now.touches }
-        ensures all { IsPart result offset size (length self.now.defined) (length self.now.touches) }
+        ensures writers { result.high ≤ length self.now.writers }
+        ensures readers { result.high ≤ length self.now.readers }
+        ensures inside { LiesIn self.now offset size → (result.low ≡ offset) × (result.high ≡ offset + size) }
     {
         let high = offset
             .saturating_add(size)
             .min(self.defined.len())
-            .min(self.touches.len());
+            .min(self.writers.len())
+            .min(self.readers.len());
         Part {
             low: offset.min(high),
             high,
@@ -66,12 +71,7 @@ impl BufferContents {
         ensures { OnOk result (IsRead self.old self.new offset size place) }
     {
         let part = self.part(offset, size);
-        self.touches.update(part.low, part.high, |touch| {
-            Ok(Touch {
-                writer: touch.writer,
-                reader: Some(place),
-            })
-        })
+        self.readers.assign(part.low, part.high, Some(place))
     }
 
     /// After a command has filled bytes on a queue of a family.
@@ -87,12 +87,7 @@ impl BufferContents {
         self.take_over(family)?;
         let part = self.part(offset, size);
         self.defined.assign(part.low, part.high, true)?;
-        self.touches.update(part.low, part.high, |touch| {
-            Ok(Touch {
-                writer: Some(writer),
-                reader: touch.reader,
-            })
-        })
+        self.writers.assign(part.low, part.high, Some(writer))
     }
 
     /// A use by a queue family: of an exclusive buffer that another one owns all is lost, and the
@@ -233,9 +228,9 @@ fn fill_all(
     size: Length,
     writer: Writer,
 ) -> Result<(), AllocError>
-    ensures { OnOk result (IsFilled contents.old contents.new offset (fill_size (length contents.old.touches) offset size) (family_of writer.queue) writer) }
+    ensures { OnOk result (IsFilled contents.old contents.new offset (fill_size (length contents.old.defined) offset size) (family_of writer.queue) writer) }
 {
-    let bytes = size.filled(contents.touches.len(), offset);
+    let bytes = size.filled(contents.defined.len(), offset);
     contents.fill(offset, bytes, family_of(writer.queue), writer)
 }
 

@@ -18,7 +18,7 @@ mod searches;
 mod semaphores;
 mod supported;
 mod tables;
-mod touches;
 mod verdicts;
+mod writer;
 
 pub use verdicts::{Accepted, Verdict, validate};

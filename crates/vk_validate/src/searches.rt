@@ -1,37 +1,35 @@
-ghost use Rattle.std.specs.Prelude.{◌≡◌, ◌≤◌, ◌+◌, length, Bool, not};
+ghost use Rattle.std.specs.Prelude.{◌≡◌, ◌+◌, not};
+ghost use Rattle.vk_validate.specs.Inner.Contents.{LiesIn};
 ghost use Rattle.vk_validate.specs.Inner.Conflicts.{Misses, IsEarly, FoundIn};
 
 use crate::contents::BufferContents;
-use crate::touches::Touch;
+use crate::writer::Writer;
 use vk_order::{Access, Line, Sight};
 
 impl BufferContents {
     /// Whether a byte of a range has a last write that an access doesn't see.
     pub fn has_missed(&self, offset: u64, size: u64, sight: &Sight, access: Access) -> bool
-        ensures { offset + size ≤ length self.now.defined → offset + size ≤ length self.now.touches
-            → FoundIn (λ r t. Misses r sight.now access t) result self.now.touches offset (offset + size) }
+        ensures { LiesIn self.now offset size → FoundIn (λ r w. Misses r sight.now access w) result self.now.writers offset (offset + size) }
     {
         let part = self.part(offset, size);
-        self.touches
-            .find(part.low, part.high, |touch| misses(touch, sight, access))
+        self.writers
+            .find(part.low, part.high, |writer| misses(*writer, sight, access))
             .is_some()
     }
 
     /// Whether a byte of a range has a last read that doesn't come before.
     pub fn has_early(&self, offset: u64, size: u64, sight: &Sight) -> bool
-        ensures { offset + size ≤ length self.now.defined → offset + size ≤ length self.now.touches
-            → FoundIn (λ r t. IsEarly r sight.now t) result self.now.touches offset (offset + size) }
+        ensures { LiesIn self.now offset size → FoundIn (λ r e. IsEarly r sight.now e) result self.now.readers offset (offset + size) }
     {
         let part = self.part(offset, size);
-        self.touches
-            .find(part.low, part.high, |touch| is_early(touch, sight))
+        self.readers
+            .find(part.low, part.high, |reader| is_early(*reader, sight))
             .is_some()
     }
 
     /// Whether a byte of a range is undefined.
     pub fn has_undefined(&self, offset: u64, size: u64) -> bool
-        ensures { offset + size ≤ length self.now.defined → offset + size ≤ length self.now.touches
-            → FoundIn (λ r d. r ≡ not d) result self.now.defined offset (offset + size) }
+        ensures { LiesIn self.now offset size → FoundIn (λ r d. r ≡ not d) result self.now.defined offset (offset + size) }
     {
         let part = self.part(offset, size);
         self.defined
@@ -40,19 +38,19 @@ impl BufferContents {
     }
 }
 
-fn misses(touch: &Touch, sight: &Sight, access: Access) -> bool
-    ensures { Misses result sight.now access touch.now }
+fn misses(writer: Option<Writer>, sight: &Sight, access: Access) -> bool
+    ensures { Misses result sight.now access writer }
 {
-    match touch.writer {
+    match writer {
         Some(writer) => !sight.sees(writer.queue, writer.place, access),
         None => false,
     }
 }
 
-fn is_early(touch: &Touch, sight: &Sight) -> bool
-    ensures { IsEarly result sight.now touch.now }
+fn is_early(reader: Option<usize>, sight: &Sight) -> bool
+    ensures { IsEarly result sight.now reader }
 {
-    match touch.reader {
+    match reader {
         Some(place) => !sight.follows(Line::Host, place),
         None => false,
     }

@@ -28,11 +28,11 @@ use Rattle.vk_order.specs.declared.access.Access.{Access}
 use Rattle.vk_order.specs.declared.access.Access.TheVariants as access
 use Rattle.vk_order.specs.declared.lines.Line.TheVariants.{Host as OfHost, Commands as OfCommands}
 use Rattle.vk_order.specs.declared.sights.Sight.{Sight}
-use Rattle.vk_validate.specs.declared.touches.Touch.{Touch}
 use Rattle.vk_validate.specs.declared.contents.BufferContents.{BufferContents}
+use Rattle.vk_validate.specs.declared.writer.Writer.{Writer}
 use Rattle.vk_validate.specs.Supported.{is_supported, is_supported_action}
 use Rattle.vk_validate.specs.Inner.Judged.{IsJudged}
-use Rattle.vk_validate.specs.Inner.Touched.{next_node, act_next, last_writer, last_reader, writer_spot, reader_spot, touch_at}
+use Rattle.vk_validate.specs.Inner.Touched.{next_node, act_next, last_writer, last_reader, writer_spot, reader_spot, byte_writer, byte_reader}
 use Rattle.vk_validate.specs.Inner.Contents.{AreContentsOf, is_defined}
 use Rattle.vk_validate.specs.Inner.Conflicts.{Misses, IsEarly, FoundIn, SaysSeen}
 use Rattle.vk_validate.proofs.Points.Pasts.{supported-next}
@@ -82,7 +82,7 @@ module _ (past : Past) (judged : IsJudged past) (p : Point) (now : is_supported_
     -- a byte whose last write isn't seen
     module _ (steady : (c : Cmd) → byte_writes (p ∷ past) c ≡ byte_writes past c) (b : ℕ) where
       missed_is : (a : Access) → ((byte : Byte) → IsTrue (is_answered (λ c. is_cached (p ∷ past) (resource_at c)) (act_next p.action) (access_of a) byte))
-          → (k : ℕ) (r : Bool) → Misses r s a (touch_at past b k) → holds (last_writer past (in_buffer b k)) (λ v. not (is_seen (p ∷ past) v y (access_of a) (in_buffer b k))) ≡ r
+          → (k : ℕ) (r : Bool) → Misses r s a (byte_writer past b k) → holds (last_writer past (in_buffer b k)) (λ v. not (is_seen (p ∷ past) v y (access_of a) (in_buffer b k))) ≡ r
       missed_is a answered k r misses = go (last_writer past (in_buffer b k)) refl where
         go : (o : Option Node) → last_writer past (in_buffer b k) ≡ o → holds o (λ v. not (is_seen (p ∷ past) v y (access_of a) (in_buffer b k))) ≡ r
         go None e = sym (misses.none (ap (option_map (writer_spot past)) e))
@@ -98,7 +98,7 @@ module _ (past : Past) (judged : IsJudged past) (p : Point) (now : is_supported_
             twice false = refl
 
     -- a byte whose last read doesn't come before
-    early_is : (b k : ℕ) (r : Bool) → IsEarly r s (touch_at past b k) → holds (last_reader past (in_buffer b k)) (λ v. not (before (nodes (p ∷ past)) v y)) ≡ r
+    early_is : (b k : ℕ) (r : Bool) → IsEarly r s (byte_reader past b k) → holds (last_reader past (in_buffer b k)) (λ v. not (before (nodes (p ∷ past)) v y)) ≡ r
     early_is b k r early = go (last_reader past (in_buffer b k)) refl where
       go : (o : Option Node) → last_reader past (in_buffer b k) ≡ o → holds o (λ v. not (before (nodes (p ∷ past)) v y)) ≡ r
       go None e = sym (early.none (ap (option_map (reader_spot past)) e))
@@ -128,14 +128,14 @@ module _ (past : Past) (judged : IsJudged past) (p : Point) (b o n : ℕ) (is : 
   read_bytes = ap (λ (d : Action). reads_of (p ∷ past) p.queue (act_next d)) is
 
   module _ (c : BufferContents) (are : AreContentsOf c past b) (fits : o + n ≤ buffer_size past b) where
-    in_touches : (k : ℕ) → k < o + n → (t : Touch) → slice_get c.touches k ≡ Some t → t ≡ touch_at past b k
-    in_touches k high t at = let same : Some t ≡ Some (touch_at past b k) = sym at ∙ are.touches k (omega (arith, high, fits)) in cc
+    read_writer : (k : ℕ) → k < o + n → (w : Option Writer) → slice_get c.writers k ≡ Some w → w ≡ byte_writer past b k
+    read_writer k high w at = let same : Some w ≡ Some (byte_writer past b k) = sym at ∙ are.writers k (omega (arith, high, fits)) in cc
 
-    pub read_raw : (s : Sight) → IsSight (nodes past) (next_node past p (act_next p.action)) s → (r : Bool) → FoundIn (λ r t. Misses r s access.Read t) r c.touches o (o + n) → r ≡ breaks_hazard_raw past p
+    pub read_raw : (s : Sight) → IsSight (nodes past) (next_node past p (act_next p.action)) s → (r : Bool) → FoundIn (λ r w. Misses r s access.Read w) r c.writers o (o + n) → r ≡ breaks_hazard_raw past p
     read_raw s sights r found = sym (
         raw_is past judged.faultless p read_steady (act_next p.action) read_alone (commands past judged p read_now) (still past judged p read_now)
         ∙ ap (list_any test) read_bytes ∙ any_map test (λ k. in_buffer b (o + k)) (below n)
-        ∙ any_found (λ r t. Misses r s access.Read t) c.touches o n r (λ k. test (in_buffer b k)) found (λ k low high q t at misses. missed_is past judged p read_now s read_alone sights read_steady b access.Read answered k q (subst (λ (u : Touch). Misses q s access.Read u) (in_touches k high t at) misses)))
+        ∙ any_found (λ r w. Misses r s access.Read w) c.writers o n r (λ k. test (in_buffer b k)) found (λ k low high q w at misses. missed_is past judged p read_now s read_alone sights read_steady b access.Read answered k q (subst (λ (u : Option Writer). Misses q s access.Read u) (read_writer k high w at) misses)))
       where
         test : Byte → Bool
         test byte = holds (last_writer past byte) (λ v. not (is_seen (p ∷ past) v (next_node past p (act_next p.action)) Read byte))
@@ -175,14 +175,17 @@ module _ (past : Past) (judged : IsJudged past) (p : Point) (b o : ℕ) (l : Len
   fill_bytes = ap (λ (d : Action). writes_of (p ∷ past) p.queue (act_next d)) is ∙ ap targets (fill_steady (cmd.Fill b o l word)) ∙ fill-targets past b o l word
 
   module _ (c : BufferContents) (are : AreContentsOf c past b) (fits : o + n ≤ buffer_size past b) (s : Sight) (sights : IsSight (nodes past) (next_node past p (act_next p.action)) s) where
-    fill_touches : (k : ℕ) → k < o + n → (t : Touch) → slice_get c.touches k ≡ Some t → t ≡ touch_at past b k
-    fill_touches k high t at = let same : Some t ≡ Some (touch_at past b k) = sym at ∙ are.touches k (omega (arith, high, fits)) in cc
+    fill_writer : (k : ℕ) → k < o + n → (w : Option Writer) → slice_get c.writers k ≡ Some w → w ≡ byte_writer past b k
+    fill_writer k high w at = let same : Some w ≡ Some (byte_writer past b k) = sym at ∙ are.writers k (omega (arith, high, fits)) in cc
 
-    pub fill_waw : (r : Bool) → FoundIn (λ r t. Misses r s access.Write t) r c.touches o (o + n) → r ≡ breaks_hazard_waw past p
+    fill_reader : (k : ℕ) → k < o + n → (e : Option ℕ) → slice_get c.readers k ≡ Some e → e ≡ byte_reader past b k
+    fill_reader k high e at = let same : Some e ≡ Some (byte_reader past b k) = sym at ∙ are.readers k (omega (arith, high, fits)) in cc
+
+    pub fill_waw : (r : Bool) → FoundIn (λ r w. Misses r s access.Write w) r c.writers o (o + n) → r ≡ breaks_hazard_waw past p
     fill_waw r found = sym (
         waw_is past judged.faultless p fill_steady (act_next p.action) fill_alone (commands past judged p fill_now) (still past judged p fill_now)
         ∙ ap (list_any test) fill_bytes ∙ any_map test (λ k. in_buffer b (o + k)) (below n)
-        ∙ any_found (λ r t. Misses r s access.Write t) c.touches o n r (λ k. test (in_buffer b k)) found (λ k low high q t at misses. missed_is past judged p fill_now s fill_alone sights fill_steady b access.Write answered k q (subst (λ (u : Touch). Misses q s access.Write u) (fill_touches k high t at) misses)))
+        ∙ any_found (λ r w. Misses r s access.Write w) c.writers o n r (λ k. test (in_buffer b k)) found (λ k low high q w at misses. missed_is past judged p fill_now s fill_alone sights fill_steady b access.Write answered k q (subst (λ (u : Option Writer). Misses q s access.Write u) (fill_writer k high w at) misses)))
       where
         test : Byte → Bool
         test byte = holds (last_writer past byte) (λ v. not (is_seen (p ∷ past) v (next_node past p (act_next p.action)) Write byte))
@@ -190,11 +193,11 @@ module _ (past : Past) (judged : IsJudged past) (p : Point) (b o : ℕ) (l : Len
         answered : (byte : Byte) → IsTrue (is_answered (λ c. is_cached (p ∷ past) (resource_at c)) (act_next p.action) (access_of access.Write) byte)
         answered byte = rw is refl
 
-    pub fill_war : (r : Bool) → FoundIn (λ r t. IsEarly r s t) r c.touches o (o + n) → r ≡ breaks_hazard_war past p
+    pub fill_war : (r : Bool) → FoundIn (λ r e. IsEarly r s e) r c.readers o (o + n) → r ≡ breaks_hazard_war past p
     fill_war r found = sym (
         war_is past judged.faultless p fill_steady (act_next p.action) fill_alone (hosts past judged p fill_now) (ap (λ (d : Action). is_host (act_next d)) is)
         ∙ ap (list_any test) fill_bytes ∙ any_map test (λ k. in_buffer b (o + k)) (below n)
-        ∙ any_found (λ r t. IsEarly r s t) c.touches o n r (λ k. test (in_buffer b k)) found (λ k low high q t at early. early_is past judged p fill_now s fill_alone sights b k q (subst (λ (u : Touch). IsEarly q s u) (fill_touches k high t at) early)))
+        ∙ any_found (λ r e. IsEarly r s e) c.readers o n r (λ k. test (in_buffer b k)) found (λ k low high q e at early. early_is past judged p fill_now s fill_alone sights b k q (subst (λ (u : Option ℕ). IsEarly q s u) (fill_reader k high e at) early)))
       where
         test : Byte → Bool
         test byte = holds (last_reader past byte) (λ v. not (before (nodes (p ∷ past)) v (next_node past p (act_next p.action))))

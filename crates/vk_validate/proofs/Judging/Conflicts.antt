@@ -86,7 +86,7 @@ module _ (past : Past) (p : Point) (now : is_supported_action p.action ≡ true)
 -- ---- a read, and a fill
 
 pub read_conflicts : (past : Past) → IsJudged past → (p : Point) (b o n : ℕ) (is : p.action ≡ Host (entry.Read b o n)) (c : BufferContents) → AreContentsOf c past b → o + n ≤ buffer_size past b
-    → (s : Sight) → IsSight (nodes past) (next_node past p (act_next p.action)) s → (raw undefined : Bool) → FoundIn (λ r t. Misses r s access.Read t) raw c.touches o (o + n) → FoundIn (λ r d. r ≡ not d) undefined c.defined o (o + n)
+    → (s : Sight) → IsSight (nodes past) (next_node past p (act_next p.action)) s → (raw undefined : Bool) → FoundIn (λ r w. Misses r s access.Read w) raw c.writers o (o + n) → FoundIn (λ r d. r ≡ not d) undefined c.defined o (o + n)
     → AreConflicts (record { war = false; raw = raw; waw = false; undefined = undefined }) past p
 read_conflicts past judged p b o n is c are fits s sights raw undefined missed unknown = record {
   war = sym (no_war past p (λ a m q. no_writes a m q));
@@ -99,7 +99,7 @@ read_conflicts past judged p b o n is c are fits s sights raw undefined missed u
 
 pub fill_conflicts : (past : Past) → IsJudged past → (p : Point) (b o : ℕ) (l : Length) (word : ℕ) (is : p.action ≡ Run (cmd.Fill b o l word)) (c : BufferContents) → AreContentsOf c past b → o + fill_size (buffer_size past b) o l ≤ buffer_size past b
     → (s : Sight) → IsSight (nodes past) (next_node past p (act_next p.action)) s → (war waw : Bool)
-    → FoundIn (λ r t. IsEarly r s t) war c.touches o (o + fill_size (buffer_size past b) o l) → FoundIn (λ r t. Misses r s access.Write t) waw c.touches o (o + fill_size (buffer_size past b) o l)
+    → FoundIn (λ r e. IsEarly r s e) war c.readers o (o + fill_size (buffer_size past b) o l) → FoundIn (λ r w. Misses r s access.Write w) waw c.writers o (o + fill_size (buffer_size past b) o l)
     → AreConflicts (record { war = war; raw = false; waw = waw; undefined = false }) past p
 fill_conflicts past judged p b o l word is c are fits s sights war waw early missed = record {
   war = fill_war past judged p b o l word is c are fits s sights war early;

@@ -26,12 +26,11 @@ use Rattle.vk_model.proofs.Lists.Truths.{clash, bool_same}
 use Rattle.vk_order.specs.declared.lines.Line.TheVariants.{Host as OfHost, Commands as OfCommands}
 use Rattle.vk_validate.specs.declared.contents.BufferContents.{BufferContents}
 use Rattle.vk_validate.specs.declared.contents.Contents.{Contents}
-use Rattle.vk_validate.specs.declared.touches.Touch.{Touch}
-use Rattle.vk_validate.specs.declared.touches.Writer.{Writer}
+use Rattle.vk_validate.specs.declared.writer.Writer.{Writer}
 use Rattle.vk_validate.specs.Supported.{is_supported_action, is_supported_entry, is_memory}
 use Rattle.vk_validate.specs.Inner.Judged.{IsJudged}
-use Rattle.vk_validate.specs.Inner.Touched.{next_node, next_place, writer_next, reader_next, writer_spot, reader_spot, touch_at}
-use Rattle.vk_validate.specs.Inner.Contents.{AreContents, AreContentsIn, AreContentsOf, IsFresh, IsMade, IsFilled, ReadIn, FilledIn, is_lost, owner_of, is_defined}
+use Rattle.vk_validate.specs.Inner.Touched.{next_node, next_place, writer_next, reader_next, writer_spot, reader_spot, byte_writer, byte_reader}
+use Rattle.vk_validate.specs.Inner.Contents.{AreContents, AreContentsIn, AreContentsOf, IsFresh, IsMade, IsFilled, LiesIn, ReadIn, FilledIn, is_lost, owner_of, is_defined}
 use Rattle.vk_validate.specs.Inner.Changes.{is_quiet}
 use Rattle.vk_validate.proofs.Points.Forms.{entry_cases, command_cases, action_cases}
 use Rattle.vk_validate.proofs.Points.Pasts.{supported-cons}
@@ -40,11 +39,9 @@ use Rattle.vk_validate.proofs.Making.Worlds.{fill_owner, fill_leaves, memory_doe
 use Rattle.vk_validate.proofs.Touching.Spots.{same_writer, same_reader, new_writer, new_reader}
 use Rattle.vk_validate.proofs.Kept.NextPoint.{made_kept, was_unmade, read_buffer, read_inside, fill_buffer, fill_inside}
 
-abbrev touch : Option Writer → Option ℕ → Touch
-touch w r = record { writer = w; reader = r }
-
-touch_of : (w v : Option Writer) (r s : Option ℕ) → w ≡ v → r ≡ s → touch w r ≡ touch v s
-touch_of w v r s e f = ap (λ (x : Option Writer). touch x r) e ∙ ap (λ (x : Option ℕ). touch v x) f
+-- a range in a buffer lies in all that is kept of it
+pub lies : (past : Past) (b : ℕ) (c : BufferContents) → AreContentsOf c past b → (o n : ℕ) → o + n ≤ buffer_size past b → LiesIn c o n
+lies past b c are o n fits = record { defined = rw are.defined_size fits; writers = rw are.writers_size fits; readers = rw are.readers_size fits }
 
 module _ (past : Past) (p : Point) (j : IsJudged (p ∷ past)) where
   -- ---- a buffer that is there stays what it is
@@ -70,19 +67,22 @@ module _ (past : Past) (p : Point) (j : IsJudged (p ∷ past)) where
   -- ---- contents that a point leaves, or changes
 
   -- of a buffer, by what is new of it
-  next_of : (b : ℕ) (old new : BufferContents) → AreContentsOf old past b → length new.defined ≡ length old.defined → length new.touches ≡ length old.touches → new.is_exclusive ≡ old.is_exclusive
+  next_of : (b : ℕ) (old new : BufferContents) → AreContentsOf old past b → length new.defined ≡ length old.defined → length new.writers ≡ length old.writers → length new.readers ≡ length old.readers → new.is_exclusive ≡ old.is_exclusive
       → owner_of new.owner ≡ (world (p ∷ past)).owner b
       → ((k : ℕ) → k < buffer_size past b → slice_get new.defined k ≡ Some (is_defined (p ∷ past) b k))
-      → ((k : ℕ) → k < buffer_size past b → slice_get new.touches k ≡ Some (touch_at (p ∷ past) b k))
+      → ((k : ℕ) → k < buffer_size past b → slice_get new.writers k ≡ Some (byte_writer (p ∷ past) b k))
+      → ((k : ℕ) → k < buffer_size past b → slice_get new.readers k ≡ Some (byte_reader (p ∷ past) b k))
       → AreContentsOf new (p ∷ past) b
-  next_of b old new are one two mode owner defined touches = record {
+  next_of b old new are one two three mode owner defined writers readers = record {
     made = ap is_some (same_buffer b are.made) ∙ are.made;
     defined_size = one ∙ are.defined_size ∙ sym (same_size b are.made);
-    touches_size = two ∙ are.touches_size ∙ sym (same_size b are.made);
+    writers_size = two ∙ are.writers_size ∙ sym (same_size b are.made);
+    readers_size = three ∙ are.readers_size ∙ sym (same_size b are.made);
     mode = mode ∙ are.mode ∙ sym (same_mode b are.made);
     owner = owner;
     defined = λ k lt. defined k (rw (← same_size b are.made) lt);
-    touches = λ k lt. touches k (rw (← same_size b are.made) lt);
+    writers = λ k lt. writers k (rw (← same_size b are.made) lt);
+    readers = λ k lt. readers k (rw (← same_size b are.made) lt);
   }
 
   -- whether the point touches bytes of a buffer
@@ -92,8 +92,11 @@ module _ (past : Past) (p : Point) (j : IsJudged (p ∷ past)) where
     unwritten : (k : ℕ) → writer_next (in_buffer b k) past p p.action ≡ None
     unread : (k : ℕ) → reader_next (in_buffer b k) past p p.action ≡ None
 
-  same_touch : (b k : ℕ) → IsUntouched b → touch_at (p ∷ past) b k ≡ touch_at past b k
-  same_touch b k un = touch_of _ _ _ _ (same_writer past p (in_buffer b k) (un.unwritten k)) (same_reader past p (in_buffer b k) (un.unread k))
+  same_written : (b k : ℕ) → IsUntouched b → byte_writer (p ∷ past) b k ≡ byte_writer past b k
+  same_written b k un = same_writer past p (in_buffer b k) (un.unwritten k)
+
+  same_read : (b k : ℕ) → IsUntouched b → byte_reader (p ∷ past) b k ≡ byte_reader past b k
+  same_read b k un = same_reader past p (in_buffer b k) (un.unread k)
 
   -- what isn't touched stays
   untouched : (o : Option BufferContents) (b : ℕ) → (is_some (buffer past b) ≡ false → is_some (buffer (p ∷ past) b) ≡ false) → IsUntouched b → AreContentsIn o past b → AreContentsIn o (p ∷ past) b
@@ -104,7 +107,7 @@ module _ (past : Past) (p : Point) (j : IsJudged (p ∷ past)) where
     unwritten = λ k. rw (un.unwritten k) (fresh.unwritten k);
     unread = λ k. rw (un.unread k) (fresh.unread k);
   }
-  untouched (Some c) b unmade un are = next_of b c c are refl refl refl (are.owner ∙ sym un.owner) (λ k lt. are.defined k lt ∙ ap Some (sym (un.defined k))) (λ k lt. are.touches k lt ∙ ap Some (sym (same_touch b k un)))
+  untouched (Some c) b unmade un are = next_of b c c are refl refl refl refl (are.owner ∙ sym un.owner) (λ k lt. are.defined k lt ∙ ap Some (sym (un.defined k))) (λ k lt. are.writers k lt ∙ ap Some (sym (same_written b k un))) (λ k lt. are.readers k lt ∙ ap Some (sym (same_read b k un)))
 
   -- what makes no buffer leaves what is none
   other_made : (b : ℕ) → (x : Entry) → p.action ≡ Host x → buffer_in x ≡ None → is_some (buffer past b) ≡ false → is_some (buffer (p ∷ past) b) ≡ false
@@ -188,11 +191,13 @@ module _ (past : Past) (p : Point) (j : IsJudged (p ∷ past)) where
     new_one (Some c) some made = record {
       made = ap is_some made_now;
       defined_size = made.defined_size ∙ sym size_now;
-      touches_size = made.touches_size ∙ sym size_now;
+      writers_size = made.writers_size ∙ sym size_now;
+      readers_size = made.readers_size ∙ sym size_now;
       mode = made.mode ∙ sym (ap (λ (o : Option Entry). holds (option_and_then resource_in o) (λ r. is_exclusive_mode r.sharing)) entry_now);
       owner = ap owner_of made.nobody ∙ sym ((un i).owner ∙ fresh.owner);
       defined = λ k lt. made.undefined k (rw (← size_now) lt) ∙ ap Some (sym ((un i).defined k ∙ fresh.undefined k));
-      touches = λ k lt. made.untouched k (rw (← size_now) lt) ∙ ap Some (sym (same_touch i k (un i) ∙ touch_of _ _ _ _ (ap (option_map (writer_spot past)) (fresh.unwritten k)) (ap (option_map (reader_spot past)) (fresh.unread k))));
+      writers = λ k lt. made.unwritten k (rw (← size_now) lt) ∙ ap Some (sym (same_written i k (un i) ∙ ap (option_map (writer_spot past)) (fresh.unwritten k)));
+      readers = λ k lt. made.unread k (rw (← size_now) lt) ∙ ap Some (sym (same_read i k (un i) ∙ ap (option_map (reader_spot past)) (fresh.unread k)));
     }
 
     other_kept : (b : ℕ) → (b == i) ≡ false → buffer (p ∷ past) b ≡ buffer past b
@@ -220,9 +225,9 @@ module _ (past : Past) (p : Point) (j : IsJudged (p ∷ past)) where
     unwrites : (c k : ℕ) → writer_next (in_buffer c k) past p p.action ≡ None
     unwrites c k = ap (λ (e : Action). writer_next (in_buffer c k) past p e) is
 
-    read_touch : (k : ℕ) (t : Bool) → within o n k ≡ t → (if t then record (touch_at past b k) { reader = Some (next_place past OfHost) } else touch_at past b k) ≡ touch_at (p ∷ past) b k
-    read_touch k true e = sym (touch_of _ _ _ _ (same_writer past p (in_buffer b k) (unwrites b k)) (new_reader past p (in_buffer b k) (Hosts (entry.Read b o n)) (reads b k ∙ rw (eq-eqb b b refl, e) refl)))
-    read_touch k false e = sym (touch_of _ _ _ _ (same_writer past p (in_buffer b k) (unwrites b k)) (same_reader past p (in_buffer b k) (reads b k ∙ rw (eq-eqb b b refl, e) refl)))
+    read_reader : (k : ℕ) (t : Bool) → within o n k ≡ t → (if t then Some (next_place past OfHost) else byte_reader past b k) ≡ byte_reader (p ∷ past) b k
+    read_reader k true e = sym (new_reader past p (in_buffer b k) (Hosts (entry.Read b o n)) (reads b k ∙ rw (eq-eqb b b refl, e) refl))
+    read_reader k false e = sym (same_reader past p (in_buffer b k) (reads b k ∙ rw (eq-eqb b b refl, e) refl))
 
     pub read_step : (place : ℕ) → place ≡ next_place past OfHost → (old new : Contents) → ReadIn (get nat_cmp old.buffers b) (get nat_cmp new.buffers b) o n place
         → ((other : ℕ) → other ≢ b → get nat_cmp new.buffers other ≡ get nat_cmp old.buffers other) → AreContents old past → AreContents new (p ∷ past)
@@ -232,9 +237,10 @@ module _ (past : Past) (p : Point) (j : IsJudged (p ∷ past)) where
       known (Some u) None h a = absurd h
       known (Some u) (Some v) h a =
           let fits : o + n ≤ buffer_size past b = read_inside past p j b o n is in
-          next_of b u v a h.stays.defined_size h.stays.touches_size h.stays.mode (ap owner_of h.owner ∙ a.owner ∙ sym (read_world b))
+          next_of b u v a h.stays.defined_size h.stays.writers_size h.stays.readers_size h.stays.mode (ap owner_of h.owner ∙ a.owner ∙ sym (read_world b))
           (λ k lt. ap (λ (ds : List Bool). slice_get ds k) h.defined ∙ a.defined k lt ∙ ap Some (sym (read_defined b k)))
-          (λ k lt. h.touches (rw a.defined_size fits) (rw a.touches_size fits) k ∙ ap (option_map (λ (t : Touch). if within o n k then record t { reader = Some place } else t)) (a.touches k lt) ∙ ap Some (rw place_is (read_touch k (within o n k) refl)))
+          (λ k lt. ap (λ (ws : List (Option Writer)). slice_get ws k) h.writers ∙ a.writers k lt ∙ ap Some (sym (same_writer past p (in_buffer b k) (unwrites b k))))
+          (λ k lt. h.readers (lies past b u a o n fits) k ∙ ap (option_map (λ (r : Option ℕ). if within o n k then Some place else r)) (a.readers k lt) ∙ ap Some (rw place_is (read_reader k (within o n k) refl)))
 
       at : (t : Bool) → (c == b) ≡ t → AreContentsIn (get nat_cmp new.buffers c) (p ∷ past) c
       at true e = subst (λ (x : ℕ). AreContentsIn (get nat_cmp new.buffers x) (p ∷ past) x) (sym (eqb-true c b e)) (known (get nat_cmp old.buffers b) (get nat_cmp new.buffers b) here (are b))
@@ -271,9 +277,9 @@ module _ (past : Past) (p : Point) (j : IsJudged (p ∷ past)) where
     abbrev writer : Writer
     writer = record { queue = p.queue; place = next_place past (OfCommands p.queue) }
 
-    fill_touch : (k : ℕ) (t : Bool) → within o size k ≡ t → (if t then record (touch_at past b k) { writer = Some writer } else touch_at past b k) ≡ touch_at (p ∷ past) b k
-    fill_touch k true e = sym (touch_of _ _ _ _ (new_writer past p (in_buffer b k) (Runs (cmd.Fill b o n word)) (fills b k ∙ rw (eq-eqb b b refl, e) refl)) (same_reader past p (in_buffer b k) (unreads b k)))
-    fill_touch k false e = sym (touch_of _ _ _ _ (same_writer past p (in_buffer b k) (fills b k ∙ rw (eq-eqb b b refl, e) refl)) (same_reader past p (in_buffer b k) (unreads b k)))
+    fill_writer : (k : ℕ) (t : Bool) → within o size k ≡ t → (if t then Some writer else byte_writer past b k) ≡ byte_writer (p ∷ past) b k
+    fill_writer k true e = sym (new_writer past p (in_buffer b k) (Runs (cmd.Fill b o n word)) (fills b k ∙ rw (eq-eqb b b refl, e) refl))
+    fill_writer k false e = sym (same_writer past p (in_buffer b k) (fills b k ∙ rw (eq-eqb b b refl, e) refl))
 
     swapped : (x y : ℕ) → (x == y) ≡ (y == x)
     swapped x y = bool_same (x == y) (y == x) (λ h. eq-eqb y x (sym (eqb-true x y h))) (λ h. eq-eqb x y (sym (eqb-true y x h)))
@@ -302,14 +308,15 @@ module _ (past : Past) (p : Point) (j : IsJudged (p ∷ past)) where
       filled : (u v : BufferContents) → AreContentsOf u past b → IsFilled u v o size family writer → AreContentsOf v (p ∷ past) b
       filled u v a h =
           let fits : o + size ≤ buffer_size past b = fill_inside past p j b o n word is in
-          next_of b u v a h.stays.defined_size h.stays.touches_size h.stays.mode (taken u v a h.owner)
-          (λ k lt. h.defined (rw a.defined_size fits) (rw a.touches_size fits) k ∙ ap (option_map (λ (d : Bool). if within o size k then true else if is_lost u family then false else d)) (a.defined k lt) ∙ ap Some (rw (lost_is u a) (left k (within o size k) (loses past family b (world past)) refl refl)))
-          (λ k lt. h.touches (rw a.defined_size fits) (rw a.touches_size fits) k ∙ ap (option_map (λ (t : Touch). if within o size k then record t { writer = Some writer } else t)) (a.touches k lt) ∙ ap Some (fill_touch k (within o size k) refl))
+          next_of b u v a h.stays.defined_size h.stays.writers_size h.stays.readers_size h.stays.mode (taken u v a h.owner)
+          (λ k lt. h.defined (lies past b u a o size fits) k ∙ ap (option_map (λ (d : Bool). if within o size k then true else if is_lost u family then false else d)) (a.defined k lt) ∙ ap Some (rw (lost_is u a) (left k (within o size k) (loses past family b (world past)) refl refl)))
+          (λ k lt. h.writers (lies past b u a o size fits) k ∙ ap (option_map (λ (w : Option Writer). if within o size k then Some writer else w)) (a.writers k lt) ∙ ap Some (fill_writer k (within o size k) refl))
+          (λ k lt. ap (λ (rs : List (Option ℕ)). slice_get rs k) h.readers ∙ a.readers k lt ∙ ap Some (sym (same_reader past p (in_buffer b k) (unreads b k))))
 
       known : (u v : Option BufferContents) → FilledIn u v o n w → AreContentsIn u past b → AreContentsIn v (p ∷ past) b
       known None v h fresh = clash (fill_buffer past p j b o n word is) fresh.unmade
       known (Some u) None h a = absurd h
-      known (Some u) (Some v) h a = filled u v a (subst (λ (m : ℕ). IsFilled u v o (fill_size m o n) family writer) a.touches_size (subst (λ (x : Writer). IsFilled u v o (fill_size (length u.touches) o n) (family_of x.queue) x) w_is h))
+      known (Some u) (Some v) h a = filled u v a (subst (λ (m : ℕ). IsFilled u v o (fill_size m o n) family writer) a.defined_size (subst (λ (x : Writer). IsFilled u v o (fill_size (length u.defined) o n) (family_of x.queue) x) w_is h))
 
       at : (t : Bool) → (c == b) ≡ t → AreContentsIn (get nat_cmp new.buffers c) (p ∷ past) c
       at true e = subst (λ (x : ℕ). AreContentsIn (get nat_cmp new.buffers x) (p ∷ past) x) (sym (eqb-true c b e)) (known (get nat_cmp old.buffers b) (get nat_cmp new.buffers b) here (are b))

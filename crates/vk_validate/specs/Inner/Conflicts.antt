@@ -1,5 +1,5 @@
 -- What is found wrong with the bytes that a point accesses.
-use Rattle.std.specs.Prelude.{◌≡◌, ◌≤◌, ◌<◌, ◌∷◌, ℕ, List, Bool, true, false, not, IsTrue, Contains, slice_get, Some, None}
+use Rattle.std.specs.Prelude.{◌≡◌, ◌≤◌, ◌<◌, ◌∷◌, ℕ, List, Bool, true, false, not, IsTrue, Contains, slice_get, Option, Some, None}
 use Rattle.vk_model.specs.World.Bytes.{Byte}
 use Rattle.vk_model.specs.Trace.Point.{Past, Point}
 use Rattle.vk_model.specs.Sync.Node.{Node}
@@ -14,8 +14,7 @@ use Rattle.vk_order.specs.declared.access.Access.{Access}
 use Rattle.vk_order.specs.declared.lines.Line.TheVariants.{Host as OfHost, Commands as OfCommands}
 use Rattle.vk_order.specs.declared.sights.Sight.{Sight}
 use Rattle.vk_validate.specs.declared.found.Conflicts.{Conflicts}
-use Rattle.vk_validate.specs.declared.touches.Touch.{Touch}
-use Rattle.vk_validate.specs.declared.touches.Writer.{Writer}
+use Rattle.vk_validate.specs.declared.writer.Writer.{Writer}
 
 -- What a sight says of the write by a command.
 abbrev pub SaysSeen : Bool → Sight → Writer → Access → Type 0
@@ -26,15 +25,15 @@ SaysSeen answer s w access = (ns : List Node) (n m : Node) (cached : Byte → Bo
 abbrev pub SaysFollows : Bool → Sight → ℕ → Type 0
 SaysFollows answer s spot = (ns : List Node) (n m : Node) → IsSight ns n s → Contains ns m → line_of m ≡ Some OfHost → place ns OfHost m.number ≡ spot → answer ≡ before (n ∷ ns) m n
 
--- Whether the write of a byte isn't seen, by who touched it last.
-pub record Misses (answer : Bool) (s : Sight) (access : Access) (t : Touch) : Type 0 where
-  pub none : t.writer ≡ None → answer ≡ false
-  pub some : (w : Writer) → t.writer ≡ Some w → SaysSeen (not answer) s w access
+-- Whether the last write of a byte isn't seen.
+pub record Misses (answer : Bool) (s : Sight) (access : Access) (writer : Option Writer) : Type 0 where
+  pub none : writer ≡ None → answer ≡ false
+  pub some : (w : Writer) → writer ≡ Some w → SaysSeen (not answer) s w access
 
--- Whether a read of a byte doesn't come before, by who touched it last.
-pub record IsEarly (answer : Bool) (s : Sight) (t : Touch) : Type 0 where
-  pub none : t.reader ≡ None → answer ≡ false
-  pub some : (spot : ℕ) → t.reader ≡ Some spot → SaysFollows (not answer) s spot
+-- Whether the last read of a byte doesn't come before.
+pub record IsEarly (answer : Bool) (s : Sight) (reader : Option ℕ) : Type 0 where
+  pub none : reader ≡ None → answer ≡ false
+  pub some : (spot : ℕ) → reader ≡ Some spot → SaysFollows (not answer) s spot
 
 -- Whether some item of a part is such, or none is.
 abbrev pub FoundIn : {A : Type 0} → (Bool → A → Type 0) → Bool → List A → ℕ → ℕ → Type 0

@@ -14,31 +14,33 @@ use Rattle.vk_model.specs.Trace.Objects.{buffer, is_exclusive, is_exclusive_mode
 use Rattle.vk_model.specs.Trace.Point.{Past}
 use Rattle.vk_validate.specs.declared.contents.BufferContents.{BufferContents}
 use Rattle.vk_validate.specs.declared.contents.Contents.{Contents}
-use Rattle.vk_validate.specs.declared.parts.Part.{Part}
-use Rattle.vk_validate.specs.declared.touches.Writer.{Writer}
-use Rattle.vk_validate.specs.Inner.Touched.{touch_at, last_writer, last_reader}
+use Rattle.vk_validate.specs.declared.writer.Writer.{Writer}
+use Rattle.vk_validate.specs.Inner.Touched.{byte_writer, byte_reader, last_writer, last_reader}
 
 -- ---- changes
 
--- The part of a range in a buffer is the range, where it lies in it.
-pub record IsPart (part : Part) (o n one other : ℕ) : Type 0 where
-  pub inside : o + n ≤ one → o + n ≤ other → (part.low ≡ o) × (part.high ≡ o + n)
-  pub first : part.high ≤ one
-  pub second : part.high ≤ other
+-- A range lies in all that is kept of a buffer's bytes.
+pub record LiesIn (c : BufferContents) (o n : ℕ) : Type 0 where
+  pub defined : o + n ≤ length c.defined
+  pub writers : o + n ≤ length c.writers
+  pub readers : o + n ≤ length c.readers
 
 -- The contents of a buffer that was just made.
 pub record IsMade (c : BufferContents) (info : BufferInfo) : Type 0 where
   pub defined_size : length c.defined ≡ info.size
-  pub touches_size : length c.touches ≡ info.size
+  pub writers_size : length c.writers ≡ info.size
+  pub readers_size : length c.readers ≡ info.size
   pub undefined : (k : ℕ) → k < info.size → slice_get c.defined k ≡ Some false
-  pub untouched : (k : ℕ) → k < info.size → slice_get c.touches k ≡ Some (record { writer = None; reader = None })
+  pub unwritten : (k : ℕ) → k < info.size → slice_get c.writers k ≡ Some None
+  pub unread : (k : ℕ) → k < info.size → slice_get c.readers k ≡ Some None
   pub mode : c.is_exclusive ≡ is_exclusive_mode info.sharing
   pub nobody : c.owner ≡ None
 
 -- Sizes and sharing stay.
 pub record Stays (old new : BufferContents) : Type 0 where
   pub defined_size : length new.defined ≡ length old.defined
-  pub touches_size : length new.touches ≡ length old.touches
+  pub writers_size : length new.writers ≡ length old.writers
+  pub readers_size : length new.readers ≡ length old.readers
   pub mode : new.is_exclusive ≡ old.is_exclusive
 
 -- After a read of a range, at a place among the entries of the host.
@@ -46,8 +48,8 @@ pub record IsRead (old new : BufferContents) (o n place : ℕ) : Type 0 where
   pub stays : Stays old new
   pub defined : new.defined ≡ old.defined
   pub owner : new.owner ≡ old.owner
-  pub touches : o + n ≤ length old.defined → o + n ≤ length old.touches
-      → (k : ℕ) → slice_get new.touches k ≡ option_map (λ t. if within o n k then record t { reader = Some place } else t) (slice_get old.touches k)
+  pub writers : new.writers ≡ old.writers
+  pub readers : LiesIn old o n → (k : ℕ) → slice_get new.readers k ≡ option_map (λ r. if within o n k then Some place else r) (slice_get old.readers k)
 
 -- Whether a use by a family loses all.
 abbrev pub is_lost : BufferContents → ℕ → Bool
@@ -57,17 +59,19 @@ is_lost c family = c.is_exclusive && holds c.owner (λ o. not (o == family))
 pub record IsTaken (old new : BufferContents) (family : ℕ) : Type 0 where
   pub stays : Stays old new
   pub defined : (k : ℕ) → slice_get new.defined k ≡ option_map (λ d. if is_lost old family then false else d) (slice_get old.defined k)
-  pub touches : new.touches ≡ old.touches
+  pub writers : new.writers ≡ old.writers
+  pub readers : new.readers ≡ old.readers
   pub owner : new.owner ≡ (if old.is_exclusive then Some family else old.owner)
 
 -- After a fill of a range by a family.
 pub record IsFilled (old new : BufferContents) (o n family : ℕ) (w : Writer) : Type 0 where
   pub stays : Stays old new
   pub owner : new.owner ≡ (if old.is_exclusive then Some family else old.owner)
-  pub defined : o + n ≤ length old.defined → o + n ≤ length old.touches
+  pub defined : LiesIn old o n
       → (k : ℕ) → slice_get new.defined k ≡ option_map (λ d. if within o n k then true else if is_lost old family then false else d) (slice_get old.defined k)
-  pub touches : o + n ≤ length old.defined → o + n ≤ length old.touches
-      → (k : ℕ) → slice_get new.touches k ≡ option_map (λ t. if within o n k then record t { writer = Some w } else t) (slice_get old.touches k)
+  pub writers : LiesIn old o n
+      → (k : ℕ) → slice_get new.writers k ≡ option_map (λ v. if within o n k then Some w else v) (slice_get old.writers k)
+  pub readers : new.readers ≡ old.readers
 
 -- The same of a buffer that may not be there.
 abbrev pub ReadIn : Option BufferContents → Option BufferContents → ℕ → ℕ → ℕ → Type 0
@@ -78,7 +82,7 @@ ReadIn (Some old) (Some new) o n place = IsRead old new o n place
 abbrev pub FilledIn : Option BufferContents → Option BufferContents → ℕ → Length → Writer → Type 0
 FilledIn None new o n w = new ≡ None
 FilledIn (Some old) None o n w = ⊥
-FilledIn (Some old) (Some new) o n w = IsFilled old new o (fill_size (length old.touches) o n) (family_of w.queue) w
+FilledIn (Some old) (Some new) o n w = IsFilled old new o (fill_size (length old.defined) o n) (family_of w.queue) w
 
 -- ---- what it says of a past
 
@@ -95,11 +99,13 @@ is_defined past b k = not (is_none ((world past).value (in_buffer b k)))
 pub record AreContentsOf (c : BufferContents) (past : Past) (b : ℕ) : Type 0 where
   pub made : is_some (buffer past b) ≡ true
   pub defined_size : length c.defined ≡ buffer_size past b
-  pub touches_size : length c.touches ≡ buffer_size past b
+  pub writers_size : length c.writers ≡ buffer_size past b
+  pub readers_size : length c.readers ≡ buffer_size past b
   pub mode : c.is_exclusive ≡ is_exclusive past b
   pub owner : owner_of c.owner ≡ (world past).owner b
   pub defined : (k : ℕ) → k < buffer_size past b → slice_get c.defined k ≡ Some (is_defined past b k)
-  pub touches : (k : ℕ) → k < buffer_size past b → slice_get c.touches k ≡ Some (touch_at past b k)
+  pub writers : (k : ℕ) → k < buffer_size past b → slice_get c.writers k ≡ Some (byte_writer past b k)
+  pub readers : (k : ℕ) → k < buffer_size past b → slice_get c.readers k ≡ Some (byte_reader past b k)
 
 -- What is no buffer has no owner, and nobody accessed it.
 pub record IsFresh (past : Past) (b : ℕ) : Type 0 where

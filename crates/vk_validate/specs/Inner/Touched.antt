@@ -12,8 +12,7 @@ use Rattle.vk_order.specs.Lines.{class_of}
 use Rattle.vk_order.specs.Inner.Clocks.{place}
 use Rattle.vk_order.specs.declared.lines.Line.{Line}
 use Rattle.vk_order.specs.declared.lines.Line.TheVariants.{Host as OfHost, Commands as OfCommands, Signals as OfSignals}
-use Rattle.vk_validate.specs.declared.touches.Touch.{Touch}
-use Rattle.vk_validate.specs.declared.touches.Writer.{Writer}
+use Rattle.vk_validate.specs.declared.writer.Writer.{Writer}
 
 -- The node of a point that comes next and has one act.
 abbrev pub next_node : Past → Point → Act → Node
@@ -95,6 +94,10 @@ reader_spot past v = place (nodes past) OfHost v.number
 abbrev pub signal_spot : Past → Node → Line × ℕ
 signal_spot past v = (class_of v, place (nodes past) (class_of v) v.number)
 
--- Who accessed byte k of a buffer last.
-abbrev pub touch_at : Past → ℕ → ℕ → Touch
-touch_at past b k = record { writer = option_map (writer_spot past) (last_writer past (in_buffer b k)); reader = option_map (reader_spot past) (last_reader past (in_buffer b k)) }
+-- Which command wrote byte k of a buffer last.
+abbrev pub byte_writer : Past → ℕ → ℕ → Option Writer
+byte_writer past b k = option_map (writer_spot past) (last_writer past (in_buffer b k))
+
+-- Which host entry read it last.
+abbrev pub byte_reader : Past → ℕ → ℕ → Option ℕ
+byte_reader past b k = option_map (reader_spot past) (last_reader past (in_buffer b k))

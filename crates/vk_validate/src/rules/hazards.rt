@@ -37,7 +37,7 @@ pub fn conflicts(history: &History<'_>, point: &Point<'_>) -> Result<Conflicts, 
         },
         Change::Filled(buffer, offset, size) => match history.contents(buffer) {
             Some(contents) => {
-                let bytes = size.filled(contents.touches.len(), offset);
+                let bytes = size.filled(contents.defined.len(), offset);
                 let sight = history.sight(point)?;
                 Ok(Conflicts {
                     war: contents.has_early(offset, bytes, &sight),
