@@ -18,7 +18,7 @@ pub const FILL_AND_READ: &str =
     r#"[["buffer",1,16,3,"exclusive",["dedicated",1]],["semaphore",2,0],["submit",0,[[[],[["fill",1,0,16,67305985],["barrier",[[4096,4096,16384,8192]],[],[]]],[[2,1,65536]]]]],["wait",[[2,1]]],["map",1],["read",1,0,4]]"#;
 
 /// Traces, with what is written for them and how the run ends.
-pub const TRACES: [(&str, &str, Ending); 26] = [
+pub const TRACES: [(&str, &str, Ending); 36] = [
     ("[]", "", REPLAYED),
     (
         r#"[["buffer",1,16,3,"exclusive",["dedicated",1]],["semaphore",2,0],["submit",0,[[[],[["fill",1,0,16,67305985],["barrier",[[4096,4096,16384,8192]],[],[]]],[[2,1,65536]]]]],["wait",[[2,1]]],["map",1],["read",1,0,4]]"#,
@@ -129,21 +129,58 @@ pub const TRACES: [(&str, &str, Ending); 26] = [
         "refused 1 NEW_ID\n",
         REFUSED,
     ),
+    (
+        r#"[["event",1],["submit",0,[[[],[["set",1,[[4096,4096,4096,2048]]],["await",1,[[4096,4096,4096,6144]]]],[]]]]]"#,
+        "refused 1.0.1 EVENT_DEPENDENCY\n",
+        REFUSED,
+    ),
+    (
+        r#"[["semaphore",1,5],["signal",1,5]]"#,
+        "refused 1 SIGNAL_VALUE\n",
+        REFUSED,
+    ),
+    (r#"[["submit",3,[]]]"#, "", REPLAYED),
+    (r#"[["submit",4,[]]]"#, "refused 0 QUEUE\n", REFUSED),
+    (
+        r#"[["semaphore",1,0],["submit",0,[[[],[],[[1,1,65536]]]]],["submit",1,[[[],[],[[1,2,65536]]]]]]"#,
+        "refused 2.0.s0 SIGNAL_ORDER\n",
+        REFUSED,
+    ),
+    (
+        r#"[["semaphore",1,0],["semaphore",2,0],["submit",0,[[[[1,1,65536]],[],[]],[[],[],[[2,1,65536]]]]],["wait",[[2,1]]]]"#,
+        "refused 3 WAIT_NEVER\n",
+        REFUSED,
+    ),
+    (
+        r#"[["submit",0,[[[[1,1,65536]],[],[]]]]]"#,
+        "refused 0.0.w0 LIVE_ID\n",
+        REFUSED,
+    ),
+    (
+        r#"[["buffer",1,16,3,"exclusive",["dedicated",1]],["semaphore",2,0],["submit",0,[[[[2,1,65536]],[["fill",1,0,15,1]],[]]]],["signal",2,1]]"#,
+        "refused 2.0.0 ALIGN\n",
+        REFUSED,
+    ),
+    (
+        r#"[["buffer",1,16,3,"exclusive",["dedicated",1]],["semaphore",2,0],["submit",0,[[[[2,1,65536]],[["fill",1,0,15,1]],[]]]]]"#,
+        "",
+        REPLAYED,
+    ),
+    (
+        r#"[["buffer",1,16,3,"exclusive",["dedicated",1]],["semaphore",2,0],["submit",1,[[[[2,1,4096]],[["fill",1,4,8,134678021],["barrier",[[4096,4096,16384,8192]],[],[]]],[[2,2,65536]]]]],["submit",0,[[[],[["fill",1,0,16,67305985]],[[2,1,4096]]]]],["wait",[[2,2]]],["map",1],["read",1,0,16]]"#,
+        "6 01020304050607080506070801020304\n",
+        REPLAYED,
+    ),
 ];
 
 /// Texts that are no trace, or none yet.
-pub const NO_TRACES: [&str; 64] = [
+pub const NO_TRACES: [&str; 58] = [
     r#"[["buffer",1,128,1,"exclusive",["dedicated",2]],["map",1],["write",1,0,"aa"],["write",1,64,"bb"],["invalidate",1,0,1],["read",1,64,1]]"#,
-    r#"[["event",1],["submit",0,[[[],[["set",1,[[4096,4096,4096,2048]]],["await",1,[[4096,4096,4096,6144]]]],[]]]]]"#,
     r#"[["pool",1,"linear",1,4096,1],["defrag",2,1,0,0]]"#,
     r#"[["memory",1,0,4096],["image",2,"R8_UINT",8,8,1,1,"optimal",3,"exclusive",["memory",1,0]],["buffer",3,16,3,"exclusive",["memory",1,256]]]"#,
-    r#"[["semaphore",1,5],["signal",1,5]]"#,
     r#"[["image",1,"R8_UINT",8,8,1,1,"optimal",3,"exclusive",["dedicated",0]],["submit",2,[[[],[["clear",1,7,[0,0,0,0],[[0,1,0,1]]]],[]]]]]"#,
     r#"[["memory",1,2,4096],["buffer",2,16,3,"exclusive",["memory",1,16]]]"#,
     r#"[["pool",1,"tlsf",1,4096,2],["buffer",2,2064,3,"exclusive",["pool",1]]]"#,
-    r#"[["submit",4,[]]]"#,
-    r#"[["submit",3,[]]]"#,
-    r#"[["submit",0,[[[[1,1,65536]],[],[]]]]]"#,
     r#"[["memory",1,1,64],["buffer",2,16,3,"exclusive",["memory",1,0]],["map",2],["map",2]]"#,
     r#"[["pool",1,"tlsf",2,4096,2],["buffer",2,64,1,"exclusive",["pool",1]],["buffer",3,64,1,"exclusive",["pool",1]],["map",3],["write",3,0,"aa"],["destroy",2],["defrag",4,1,0,0],["pass",4],["end_pass",4,[],[]],["read",3,0,1]]"#,
     r#"[["memory",1,1,65536],["memory",2,1,1]]"#,
@@ -178,7 +215,6 @@ pub const NO_TRACES: [&str; 64] = [
     r#"[["wait"]]"#,
     r#"[["submit",0,[[[],[]]]]]"#,
     r#"[["submit",0,[[[],[],[[1,1]]]]]]"#,
-    r#"[["submit",1,[]]]"#,
     r#"[["submit",0,[[[],[["fill",1,0,"Whole",1]],[]]]]]"#,
     r#"[["submit",0,[[[],[["fill",1,0,-1,1]],[]]]]]"#,
     r#"[["submit",0,[[[],[["fill",1,0,4,4294967296]],[]]]]]"#,
