@@ -27,3 +27,7 @@ mod SightLemmas
 mod FollowLemmas
 mod StampedLemmas
 pub mod PlaceLemmas
+mod SubmissionLemmas
+mod SendingLemmas
+mod AfterLemmas
+mod SeenLemmas

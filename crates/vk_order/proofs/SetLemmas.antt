@@ -50,7 +50,7 @@ module _ (rows : List Row) (first : ℕ) (q : Row) (at : slice_get rows first �
   numbers : IsNumbered (nodes_after [] rows)
   numbers = numbered_after [] rows tt
 
-  set_edge : (k : ℕ) (x : Row) → slice_get rows k ≡ Some x → edge all m (node_of k x) ≡ (nat_lt first k && unsignaled m (node_of k x))
+  pub set_edge : (k : ℕ) (x : Row) → slice_get rows k ≡ Some x → edge all m (node_of k x) ≡ (nat_lt first k && unsignaled m (node_of k x))
   set_edge k x e =
       let lt = slice_get_within rows k x e in
       let here : get_or rows k x ≡ x = get_or_from_slice_get rows k x x e in

@@ -10,3 +10,4 @@ pub mod Names
 pub mod Tallies
 pub mod Places
 pub mod Ready
+pub mod Sending

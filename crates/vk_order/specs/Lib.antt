@@ -1,10 +1,12 @@
 pub mod PointViews
+pub mod Bytes
 pub mod Queries
 pub mod Wide
 pub mod Frontiers
 pub mod Lines
 pub mod Places
 pub mod Prefixes
+pub mod Submission
 pub mod Visibility
 pub mod Counterexamples
 pub mod Inner

@@ -22,7 +22,7 @@ pub enum Access {
 
 impl Access {
     /// The accesses of commands that are such.
-    fn of_commands(self) -> Accesses
+    pub(crate) fn of_commands(self) -> Accesses
         ensures { result.0 ≡ command_mask (access_of self) }
     {
         match self {
@@ -32,7 +32,7 @@ impl Access {
     }
 
     /// The host's accesses that are such.
-    fn of_host(self) -> Accesses
+    pub(crate) fn of_host(self) -> Accesses
         ensures { result.0 ≡ host_mask (access_of self) }
     {
         match self {

@@ -54,7 +54,8 @@ impl Act<'_> {
         }
     }
 
-    fn signals_all(&self) -> bool
+    /// Whether it is a signal with ALL_COMMANDS.
+    pub fn signals_all(&self) -> bool
         ensures { result ≡ edge.signals_all (act_of self.now) }
     {
         match self {

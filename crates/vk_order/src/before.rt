@@ -34,7 +34,7 @@ pub fn is_before(
 }
 
 /// Whether the clock of a node counts another one, which is of this line.
-fn is_counted(stamps: &[Stamp], lines: &[Line], line: Line, first: usize, second: usize) -> bool
+pub fn is_counted(stamps: &[Stamp], lines: &[Line], line: Line, first: usize, second: usize) -> bool
     requires first { first < length stamps.now }
     requires second { second < length stamps.now }
     ensures { (rows : List AnyRow) (q r : AnyRow) → slice_get rows first ≡ Some q → slice_get rows second ≡ Some r → line_of (node_of first q) ≡ Some line → IsStamped rows stamps.now lines.now

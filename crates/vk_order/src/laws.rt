@@ -1,10 +1,11 @@
 //! Laws of order and visibility, each the contract of a function that does nothing.
 ghost use Rattle.vk_order.specs.Prefixes.{HostPrefix, WaitPrefix, SignalPrefix, CommandPrefix, BarrierPrefix, SetPrefix, AwaitPrefix, LinePrefix};
 ghost use Rattle.vk_order.specs.Places.{ApartIsPlaced};
+ghost use Rattle.vk_order.specs.Submission.{CommandsFollow, OrderedAreSubmitted, OrderIsSubmitted};
 ghost use Rattle.vk_order.specs.Visibility.{CommandsSeen, HostSeen, SeenThrough, LastWriteSeen};
 ghost use Rattle.vk_order.specs.Counterexamples.{Counterexamples};
 
-use vk_model::growth_keeps;
+use vk_model::{growth_keeps, order_is_structured};
 
 /// What is before a node of each kind, by what is before earlier nodes; and that of the nodes of
 /// one line the first ones are before a node.
@@ -23,6 +24,17 @@ pub fn prefixes()
 pub fn elements_are_together()
     ensures { ApartIsPlaced }
 {}
+
+/// What is before a command is before each later command of its queue (`commands`), where commands
+/// come after their submits; those of an ordered past do (`ordered`), and those of reference order
+/// (`order`).
+pub fn commands_follow()
+    ensures commands { CommandsFollow }
+    ensures ordered { OrderedAreSubmitted }
+    ensures order { OrderIsSubmitted }
+{
+    order_is_structured();
+}
 
 /// An access that sees the later of two commands' writes on a queue sees the earlier one's.
 pub fn commands_seen()

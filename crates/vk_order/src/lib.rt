@@ -6,6 +6,7 @@ mod acts;
 mod adding;
 mod awaiting;
 mod before;
+mod bytes;
 mod clocks;
 mod frontier;
 mod fronts;
@@ -16,15 +17,19 @@ mod names;
 mod owning;
 mod point;
 mod points;
+mod reads;
 mod rows;
+mod seen;
 mod sights;
 mod tallies;
+mod writes;
 
 pub use access::Access;
+pub use bytes::{Byte, ByteAccess};
 pub use frontier::Frontier;
 pub use laws::{
-    commands_seen, counterexamples, elements_are_together, host_seen, last_write_seen, prefixes,
-    seen_through,
+    commands_follow, commands_seen, counterexamples, elements_are_together, host_seen,
+    last_write_seen, prefixes, seen_through,
 };
 pub use lines::Line;
 pub use point::{Act, Action, Point};

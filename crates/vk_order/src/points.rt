@@ -1,8 +1,12 @@
-ghost use Rattle.std.specs.Prelude.{◌≡◌, ◌<◌, ◌||◌, [], ℕ, IfOk, OnOk, OnErr, List, Contains, Some, length, map, slice_get};
+ghost use Rattle.std.specs.Prelude.{◌≡◌, ◌<◌, ◌||◌, [], ℕ, Bool, IfOk, OnOk, OnErr, List, Contains, Some, length, map, slice_get};
 ghost use Rattle.vk_model.specs.Sync.Node.{Node, acts, with_acts};
 ghost use Rattle.vk_model.specs.Sync.Before.{before};
 ghost use Rattle.vk_model.specs.Sync.Edge.{by_semaphore};
+ghost use Rattle.vk_model.specs.Sync.Seen.{seen};
+ghost use Rattle.vk_model.specs.World.Bytes as world;
 ghost use Rattle.vk_order.specs.PointViews.{action_of, act_of, point_of, node_of, nodes_after};
+ghost use Rattle.vk_order.specs.Bytes.{byte_of};
+ghost use Rattle.vk_order.specs.Wide.{access_of};
 ghost use Rattle.vk_order.specs.declared.acts.Row.{Row as AnyRow};
 ghost use Rattle.vk_order.specs.Inner.Links.{unsignaled};
 ghost use Rattle.vk_order.specs.Inner.Reaches.{Reaches};
@@ -13,11 +17,13 @@ use crate::acts::Row;
 use crate::adding::stamped;
 use crate::awaiting::{Reach, is_awaited, passed, reach_of};
 use crate::before::is_before;
+use crate::bytes::ByteAccess;
 use crate::clocks::Stamp;
 use crate::frontier::Frontier;
 use crate::lines::Line;
 use crate::point::Point;
 use crate::rows::rows_of;
+use crate::seen::is_seen;
 use std::alloc::{AllocError, Global};
 use std::marker::Model;
 
@@ -110,6 +116,29 @@ impl<'a> Points<'a> {
             first,
             second,
         )
+    }
+
+    /// Whether an access of a byte by one node sees the write of it by another one: the write was
+    /// made available, and then visible to it. The caller says whether the byte's memory is cached.
+    /// It walks a few times over the nodes; where elements of sets make the write available, an
+    /// element of an await and a signal with ALL_COMMANDS look at each of these. The only error is
+    /// want of memory.
+    pub fn seen(&self, writer: usize, reader: usize, access: ByteAccess) -> Result<bool, AllocError>
+        requires writer { writer < length self.now }
+        requires reader { reader < length self.now }
+        ensures { IfOk result (λ sees. (cached : world.Byte → Bool) (w a : Node) → Contains self.now w → Contains self.now a → w.number ≡ writer → a.number ≡ reader → cached (byte_of access.byte) ≡ access.is_cached
+            → sees ≡ seen cached self.now w a (access_of access.access) (byte_of access.byte)) }
+    {
+        let sees = is_seen(
+            self.alloc,
+            self.rows.as_slice(),
+            self.stamps.as_slice(),
+            self.lines.as_slice(),
+            writer,
+            reader,
+            access,
+        )?;
+        Ok(sees)
     }
 
     /// The nodes to which a node leads by one edge, in order.

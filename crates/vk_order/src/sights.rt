@@ -1,4 +1,4 @@
-ghost use Rattle.std.specs.Prelude.{◌≡◌, ◌∷◌, ◌<◌, ℕ, Bool, List, IsTrue, Contains, Some, if◌then◌else◌};
+ghost use Rattle.std.specs.Prelude.{◌≡◌, ◌∷◌, ◌<◌, ◌≤◌, ℕ, Bool, List, IsTrue, Contains, Some, if◌then◌else◌, length, nat_lt};
 ghost use Rattle.vk_model.specs.World.Bytes.{Byte};
 ghost use Rattle.vk_model.specs.Sync.Node.{Node};
 ghost use Rattle.vk_model.specs.Sync.Before.{before};
@@ -42,6 +42,14 @@ impl Sight {
         ensures { (ns : List Node) (n m : Node) → IsSight ns n self.now → Contains ns m → line_of m ≡ Some line → place ns line m.number ≡ earlier → result ≡ before (n ∷ ns) m n }
     {
         earlier < self.count(self.front.clock.as_slice(), line)
+    }
+
+    /// How many commands of a queue are before the node: the first ones of the queue.
+    pub fn commands_before(&self, queue: u32) -> usize
+        ensures first { (ns : List Node) (n m : Node) → IsSight ns n self.now → Contains ns m → line_of m ≡ Some (OfCommands queue) → before (n ∷ ns) m n ≡ nat_lt (place ns (OfCommands queue) m.number) result }
+        ensures there { (ns : List Node) (n : Node) → IsSight ns n self.now → result ≤ place ns (OfCommands queue) (length ns) }
+    {
+        self.count(self.front.clock.as_slice(), Line::Commands(queue))
     }
 
     /// Whether an access of this kind by the node sees the writes of the command of a queue before
