@@ -5,3 +5,4 @@ pub mod Bytes
 pub mod Caching
 pub mod Running
 pub mod CachedRunning
+pub mod DirectRuns

@@ -4,8 +4,12 @@ pub mod Eager
 pub mod Stages
 pub mod TraceGrowth
 pub mod StageTasks
+pub mod OfferedPieces
 pub mod AtStage
 pub mod StageSteps
 pub mod StageNext
 pub mod DefinedRuns
 pub mod DefinedBytes
+pub mod Standing
+pub mod PickedSteps
+pub mod PickedRuns

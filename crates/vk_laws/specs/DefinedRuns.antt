@@ -1,16 +1,20 @@
 -- The allowed runs of the definitions as runs of the machine.
-use Rattle.std.specs.Prelude.{◌≡◌, ◌↔◌, ℕ, suc, ◌<◌, List, [], ◌∷◌, length, Bool, false, not, ◌||◌, nat_lt, Option, Some, None, IsTrue}
-use Rattle.std.specs.List.{filter}
+use Rattle.std.specs.Prelude.{◌≡◌, ◌⊎◌, ◌↔◌, ℕ, suc, ◌<◌, List, [], ◌∷◌, ◌++◌, length, Bool, true, false, not, ◌||◌, nat_lt, Option, Some, None, IsTrue, Contains, slice_get}
+use Rattle.std.specs.List.{filter, list_any}
+use Rattle.vk_model.specs.declared.command.Cmd.{Cmd}
 use Rattle.vk_model.specs.declared.entry.Entry.{Entry}
+use Rattle.vk_model.specs.declared.entry.Entry.TheVariants as entry
 use Rattle.vk_model.specs.Basics.{holds}
 use Rattle.vk_model.specs.World.Bytes.{Byte}
 use Rattle.vk_model.specs.World.ByteWrites.{Value, From}
 use Rattle.vk_model.specs.Trace.Point.{Past}
-use Rattle.vk_model.specs.Trace.Order.{order}
+use Rattle.vk_model.specs.Trace.Order.{order_from, order}
 use Rattle.vk_model.specs.World.Effect.{world}
 use Rattle.vk_model.specs.Sync.Node.{Node, Act, Hosts, Runs, nodes}
 use Rattle.vk_model.specs.Sync.Edge.{is_host}
 use Rattle.vk_model.specs.Rules.Table.{first_fault}
+use Rattle.vk_model.specs.Run.Pieces.{pieces}
+use Rattle.vk_model.specs.Run.CachedRuns.{numbered, named_piece}
 use Rattle.vk_model.specs.Run.Runs.{Name, is_done, offered, Step, Apply, RunPiece, CopyPart, Stage, start, may_go, Allowed}
 use Rattle.vk_laws.specs.Machine.{IsIn, Task, Put, Puts, Unknown, TraceAccesses, Reads, Conflict, MayRun, IsAllowed, latest}
 use Rattle.vk_laws.specs.Growth.{IsEager}
@@ -133,3 +137,52 @@ abbrev pub DefinedRunsMeanTheTrace : Type 0
 DefinedRunsMeanTheTrace =
     (t : List Entry) (steps : List Step) (e : Stage) (run : RunOf t steps e) (first : Byte → ℕ) (c : Byte) (v : ℕ) → first_fault t ≡ None → IsOver e
     → (world (order t)).value c ≡ Some v → bytes_after (accesses_of (order t)) first (tasks_of t steps e run) c ≡ v
+
+-- ---- where a run stands
+
+-- Whether an entry begins a pass (VMA, "Defragmentation").
+abbrev pub begins_pass : Entry → Bool
+begins_pass (entry.Pass d) = true
+begins_pass _ = false
+
+-- A stage stands in its trace after entries that were applied and before those that are left: it has what those applied lead to in reference order, and where none of them began a pass, none is open.
+pub record StandsIn (t : List Entry) (s : Stage) : Type 0 where
+  pub gone : List Entry
+  pub whole : t ≡ gone ++ s.left
+  pub counted : s.count ≡ length gone
+  pub front : s.front ≡ order_from 0 (record { past = []; waiting = [] }) gone
+  pub no_pass : list_any begins_pass gone ≡ false → (s.parts ≡ 0) × (s.copied ≡ [])
+
+-- The stage of each allowed run does.
+abbrev pub DefinedRunsStand : Type 0
+DefinedRunsStand = (t : List Entry) (steps : List Step) (s : Stage) → RunOf t steps s → StandsIn t s
+
+-- In a run of a trace without a fault, while an entry is left it may be applied, or some piece is offered.
+abbrev pub DefinedRunsGoOn : Type 0
+DefinedRunsGoOn =
+    (t : List Entry) (steps : List Step) (s : Stage) (x : Entry) (xs : List Entry) → RunOf t steps s → first_fault t ≡ None → s.left ≡ x ∷ xs
+    → IsTrue (may_go s x) ⊎ (y : Name) × IsTrue (is_done (offered s.front.past s.done) y)
+
+-- ---- what is offered
+
+-- A name of a piece of a command of a past, and so a list of byte writes.
+pub record IsPiece (past : Past) (x : Name) : Type 0 where
+  pub node : Node
+  pub command : Cmd
+  pub present : numbered past x.0 ≡ Some node
+  pub act : node.act ≡ Runs command
+  pub content : slice_get (pieces past command) x.1 ≡ Some (named_piece past x)
+
+-- What is offered is one, and hasn't run.
+abbrev pub OfferedArePieces : Type 0
+OfferedArePieces = (past : Past) (done : List Name) (x : Name) → IsTrue (is_done (offered past done) x) → IsPiece past x × (is_done done x ≡ false)
+
+-- The pieces of the nodes of a past below a number have run.
+abbrev pub HaveRun : Past → List Name → ℕ → Type 0
+HaveRun past done k = (n : Node) (c : Cmd) (j : ℕ) → Contains (nodes past) n → n.number < k → n.act ≡ Runs c → j < length (pieces past c) → IsTrue (is_done done (n.number, j))
+
+-- Where those before its node have run, a piece that hasn't is offered: so pieces may run in reference order.
+abbrev pub EarliestAreOffered : Type 0
+EarliestAreOffered =
+    (past : Past) (done : List Name) (n : Node) (c : Cmd) (j : ℕ) → Contains (nodes past) n → n.act ≡ Runs c → j < length (pieces past c) → HaveRun past done n.number
+    → is_done done (n.number, j) ≡ false → IsTrue (is_done (offered past done) (n.number, j))

@@ -15,3 +15,5 @@ pub mod TraceExample
 pub mod DefinedRuns
 pub mod CachedRuns
 pub mod CachedExample
+pub mod PickedRuns
+pub mod DirectRuns

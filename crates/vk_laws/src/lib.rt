@@ -2,7 +2,9 @@
 #![tactic(auto)]
 
 mod cached_runs;
+mod direct_runs;
 mod machine;
+mod picked_runs;
 mod reader;
 mod tasks;
 mod trace;
@@ -11,9 +13,14 @@ mod trace_runs;
 pub use cached_runs::{
     cached_premises_can_be_met, cached_runs_are_fresh, cached_runs_are_reached, cached_runs_end,
 };
+pub use direct_runs::{
+    direct_runs_are_fresh, direct_runs_are_runs, direct_runs_go_on, new_memory_holds_anything,
+    pieces_stay_inside,
+};
 pub use machine::{
     every_order, pieces_suffice, premises_can_be_met, runs_carry_over, whole_commands,
 };
+pub use picked_runs::picks_are_runs;
 pub use reader::{Cache, Copied, Memory, is_done};
 pub use tasks::{
     cached_trace_is_fresh, discards_keep_premises, host_reads_the_meaning, is_done_before,
@@ -22,4 +29,7 @@ pub use tasks::{
     traces_run,
 };
 pub use trace::{accesses_in_order, commands_stay, host_in_order, no_hazard, seen_is_before};
-pub use trace_runs::{defined_runs_are_allowed, defined_runs_are_fresh, defined_runs_end};
+pub use trace_runs::{
+    defined_runs_are_allowed, defined_runs_are_fresh, defined_runs_end, defined_runs_go_on,
+    defined_runs_stand, offered_are_pieces,
+};

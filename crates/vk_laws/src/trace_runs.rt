@@ -1,5 +1,5 @@
 //! The allowed runs of the definitions are runs of the machine, so the law speaks of them.
-ghost use Rattle.vk_laws.specs.DefinedRuns.{DefinedRunsAreAllowed, DefinedRunsAreFresh, DefinedRunsAreSettled, DefinedRunsAreWritten, DefinedRunsEnd, DefinedRunsMeanTheTrace};
+ghost use Rattle.vk_laws.specs.DefinedRuns.{DefinedRunsAreAllowed, DefinedRunsAreFresh, DefinedRunsAreSettled, DefinedRunsAreWritten, DefinedRunsEnd, DefinedRunsGoOn, DefinedRunsMeanTheTrace, DefinedRunsStand, EarliestAreOffered, OfferedArePieces};
 
 use crate::tasks::{trace_is_fresh, trace_is_hazard_free, trace_is_modelled, trace_is_settled};
 use vk_model::{
@@ -54,4 +54,31 @@ pub fn defined_runs_end()
     trace_is_hazard_free();
     trace_is_modelled();
     trace_is_fresh();
+}
+
+/// The stage of each allowed run stands in its trace: some entries were applied, in reference
+/// order, and the others are left; it has counted those applied, and where none of them began a
+/// pass, no pass is open.
+pub fn defined_runs_stand()
+    ensures { DefinedRunsStand }
+{
+    growth_keeps();
+}
+
+/// While an entry is left in an allowed run of a trace without a fault, it may be applied, or some
+/// piece is offered.
+pub fn defined_runs_go_on()
+    ensures { DefinedRunsGoOn }
+{
+    defined_runs_end();
+}
+
+/// A piece that is offered is one of a command that has come, and hasn't run: its node and its byte
+/// writes are there (`pieces`). And one that hasn't run, of the earliest node that has such pieces,
+/// is offered (`earliest`).
+pub fn offered_are_pieces()
+    ensures pieces { OfferedArePieces }
+    ensures earliest { EarliestAreOffered }
+{
+    before_is_order();
 }

@@ -25,7 +25,8 @@ use Rattle.vk_laws.specs.TraceCaches.{cached, makes_write_available, makes_visib
 use Rattle.vk_laws.specs.DefinedRuns.{piece_task}
 use Rattle.vk_laws.proofs.Caching.TraceCaches.{agent_is}
 use Rattle.vk_laws.proofs.Running.StageTasks.{Known}
-use Rattle.vk_laws.proofs.Running.AtStage.{AtPoint, grows, Offered}
+use Rattle.vk_laws.proofs.Running.OfferedPieces.{Offered}
+use Rattle.vk_laws.proofs.Running.AtStage.{AtPoint, grows}
 use Rattle.vk_laws.proofs.Running.Runs.{may_too}
 use Rattle.vk_laws.proofs.CachedRunning.Touches.{held_elsewhere, within_same, keeps_write}
 use Rattle.vk_laws.proofs.CachedRunning.LastWriters.{piece_write, IsNamed, named_at, named_at_past, named_same}
@@ -95,7 +96,7 @@ module _ {t : List Entry} (known : Known t) where
   after_held a cells c None b other = refl
   after_held a cells c (Some m) b other = held_elsewhere a (Some (Dirty (source_through a cells m.source))) (cells c) b other
 
-  module _ (s : Stage) (did : List Task) (i : AtPoint known s did) (y : Name) (o : Offered known s did i y) where
+  module _ (s : Stage) (did : List Task) (i : AtPoint known s did) (y : Name) (o : Offered s.front.past s.done y) where
     abbrev past : Past
     past = s.front.past
 
@@ -114,10 +115,13 @@ module _ {t : List Entry} (known : Known t) where
     its_agent : ca.agent (piece_task y) ≡ agent
     its_agent = agent_is known.paths known.joins all (piece_task y) o.node at ∙ ap (λ (d : Act). if is_host d then 0 else queue_agent o.node.point.queue) o.act ∙ sym agent_in
 
+    pub agent_is_queue : ca.agent (piece_task y) ≡ queue_agent o.node.point.queue
+    agent_is_queue = its_agent ∙ agent_in
+
     abbrev after : Cells → Cells
     after cells = after_piece agent (named_piece past y) cells
 
-    its_write : (c : Byte) → tr.write_of (piece_task y) c ≡ option_map (λ m. Puts m.source) (write_to c (named_piece past y))
+    pub its_write : (c : Byte) → tr.write_of (piece_task y) c ≡ option_map (λ m. Puts m.source) (write_to c (named_piece past y))
     its_write c = piece_write all y o.node o.command c at o.act ∙ ap (λ (ms : List ByteWrite). option_map (λ m. Puts m.source) (write_to c ms)) (sym (named_same known _ past (grows known s did i) y offered_named))
 
     pub piece_done : (done : List Task) (cells : Cells) → Reached tr ca done cells → MayRun (accesses_of all) done (piece_task y) → Reached tr ca (piece_task y ∷ done) (after cells)

@@ -31,7 +31,8 @@ use Rattle.vk_laws.proofs.EveryOrder.Coherence.{allowed}
 use Rattle.vk_laws.proofs.Nodes.Counts.{more_nodes}
 use Rattle.vk_laws.proofs.Running.Runs.{may_too}
 use Rattle.vk_laws.proofs.Running.StageTasks.{Kind, piece, hosts, kind, happened_is, turned, Known}
-use Rattle.vk_laws.proofs.Running.AtStage.{AtPoint, begins, grows, Offered, offered_of, offered_at, here, here_at}
+use Rattle.vk_laws.proofs.Running.OfferedPieces.{Offered, offered_of}
+use Rattle.vk_laws.proofs.Running.AtStage.{AtPoint, begins, grows, offered_at, here, here_at}
 use Rattle.vk_laws.proofs.Running.StageSteps.{with_task, entry_plain, entered_happened, ran, piece_plain, ran_happened, comes_next, all_steps}
 use Rattle.vk_laws.proofs.CachedRunning.Touches.{any_touches, Within, within_same, back_within, drop_within, load_elsewhere}
 use Rattle.vk_laws.proofs.CachedRunning.NodesHappened.{event_task, event_is, Plain, Events, may_come}
@@ -101,7 +102,7 @@ module _ {t : List Entry} (known : Known t) (together : PiecesAreByteWrites) (fr
       where
         by_kind : (u : Task) → MayCome s u → MayRun (accesses_of all) i.at.tasks u → MayRun (accesses_of all) i.done u
         by_kind _ (Offers y h) run =
-            let o = offered_of known s did i.at y h in
+            let o = offered_of s.front.past s.done y h in
             let small = number_below (nodes s.front.past) (numbered s.front.past) o.node o.present in
             let number = o.number in
             may_come known s did i.at i.done i.plain i.events (piece_task y) o.node (offered_at known s did i.at y o) (piece_plain known s did i.at y o) (omega (arith, small, number)) run
@@ -165,8 +166,8 @@ module _ {t : List Entry} (known : Known t) (together : PiecesAreByteWrites) (fr
         (last_piece all s.done i.done y o.node o.command i.last (offered_at known s did i.at y o) o.act)
         (piece_host known s did i.at y o cells i.host))
       where
-        o : Offered known s did i.at y
-        o = offered_of known s did i.at y h
+        o : Offered s.front.past s.done y
+        o = offered_of s.front.past s.done y h
 
         named' : Named known (ran known s y)
         named' z c = ⊎_elim (λ same. subst (λ (w : Name). IsNamed known s.front.past w) same (offered_named known s did i.at y o)) (λ old. i.named z old) (contains-cons y s.done z c)

@@ -28,7 +28,7 @@ use Rattle.vk_laws.proofs.CachedRunning.Touches.{held_there, Within, within_join
 
 -- ---- what is cached
 
-made_where : (past : Past) (i : ℕ) → is_cached past i ≡ true → (x : Entry) × (made past i ≡ Some x)
+pub made_where : (past : Past) (i : ℕ) → is_cached past i ≡ true → (x : Entry) × (made past i ≡ Some x)
 made_where past i e = go (made past i) refl e
   where
     go : (o : Option Entry) → made past i ≡ o → holds (option_and_then (λ r. type_at past r.place) (option_and_then resource_in o)) (λ u. u == 2) ≡ true → (x : Entry) × (made past i ≡ Some x)
@@ -71,6 +71,28 @@ all_within change each cell =
     let four = change 3 three in
     within_joins _ _ _ (each 0 cell 0) (within_joins _ _ _ (each 1 one 0) (within_joins _ _ _ (each 2 two 0) (within_joins _ _ _ (each 3 three 0) (each 4 four 0))))
 
+-- the host's cache has atoms of cached memory alone
+pub atoms_cached : (past : Past) (x : Entry) (atoms : List ℕ) → IsTrue (are_atoms past x atoms) → (c : Byte) → in_atoms (touched_by x) atoms c ≡ true → is_cached past (resource_at c) ≡ true
+atoms_cached past x atoms are c e = go (touched_by x) refl c e
+  where
+    by_buffer : (b i : ℕ) (y : ℕ) → touched_by x ≡ Some b → Contains atoms y → IsTrue (b == i) → (k : Bool) → is_cached past b ≡ k → is_cached past i ≡ true
+    by_buffer b i y is c same true e = subst (λ (j : ℕ). is_cached past j ≡ true) (eqb-true b i same) e
+    by_buffer b i y is c same false e =
+        let lt = all_passes (λ k. nat_lt k (atom_count past x)) atoms y are c in
+        let none : atom_count past x ≡ 0 =
+        ap (λ (o : Option ℕ). elim o [ None ↦ 0 | Some b ↦ if is_cached past b then (buffer_size past b + 63) / 64 else 0 ]) is
+        ∙ ap (λ (k : Bool). if k then (buffer_size past b + 63) / 64 else 0) e in
+        let less = ltb-true y (atom_count past x) lt in
+        absurd (omega (arith, none, less))
+
+    go : (o : Option ℕ) → touched_by x ≡ o → (c : Byte) → in_atoms o atoms c ≡ true → is_cached past (resource_at c) ≡ true
+    go None is c e = absurd cc
+    go (Some b) is (in_image i l m x y p) e = absurd cc
+    go (Some b) is (in_buffer i k) e =
+        let h = and_parts (b == i) (among (k / 64) atoms) e in
+        let y = some_member (λ y. k / 64 == y) atoms h.1 in
+        by_buffer b i y.0 is y.1 h.0 (is_cached past b) refl
+
 module _ {t : List Entry} (known : Known t) where
   abbrev all : Past
   all = order t
@@ -107,25 +129,7 @@ module _ {t : List Entry} (known : Known t) where
 
   module _ (P : Point → Type 0) (past : Past) (g : Grows P past all) (x : Entry) (atoms : List ℕ) (are : IsTrue (are_atoms past x atoms)) where
     cached_in : (c : Byte) → in_atoms (touched_by x) atoms c ≡ true → is_cached all (resource_at c) ≡ true
-    cached_in c e = go (touched_by x) refl c e
-      where
-        by_buffer : (b i : ℕ) (y : ℕ) → touched_by x ≡ Some b → Contains atoms y → IsTrue (b == i) → (k : Bool) → is_cached past b ≡ k → is_cached all i ≡ true
-        by_buffer b i y is c same true e = subst (λ (j : ℕ). is_cached all j ≡ true) (eqb-true b i same) (cached_up P past g b e)
-        by_buffer b i y is c same false e =
-            let lt = all_passes (λ k. nat_lt k (atom_count past x)) atoms y are c in
-            let none : atom_count past x ≡ 0 =
-            ap (λ (o : Option ℕ). elim o [ None ↦ 0 | Some b ↦ if is_cached past b then (buffer_size past b + 63) / 64 else 0 ]) is
-            ∙ ap (λ (k : Bool). if k then (buffer_size past b + 63) / 64 else 0) e in
-            let less = ltb-true y (atom_count past x) lt in
-            absurd (omega (arith, none, less))
-
-        go : (o : Option ℕ) → touched_by x ≡ o → (c : Byte) → in_atoms o atoms c ≡ true → is_cached all (resource_at c) ≡ true
-        go None is c e = absurd cc
-        go (Some b) is (in_image i l m x y p) e = absurd cc
-        go (Some b) is (in_buffer i k) e =
-            let h = and_parts (b == i) (among (k / 64) atoms) e in
-            let y = some_member (λ y. k / 64 == y) atoms h.1 in
-            by_buffer b i y.0 is y.1 h.0 (is_cached past b) refl
+    cached_in c e = cached_up P past g (resource_at c) (atoms_cached past x atoms are c e)
 
     turn_ok : (c : Byte) (may : Bool) (cell : Cell) → is_cached all (resource_at c) ≡ true → HostByte c may cell → HostByte c may (turned_over cell)
     turn_ok c may cell cached ok = go (cell.held 0) refl

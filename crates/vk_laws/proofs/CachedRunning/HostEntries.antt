@@ -100,7 +100,7 @@ module _ {t : List Entry} (known : Known t) (together : PiecesAreByteWrites) whe
     self_at : node_at all self.number ≡ Some self
     self_at = here_at known s did i x xs left
 
-    split : (newer : Past) × (all ≡ newer ++ host s.count x ∷ past)
+    pub split : (newer : Past) × (all ≡ newer ++ host s.count x ∷ past)
     split =
         let g = after_grows known s did i x xs left in
         let b : Grows Quiet (host s.count x ∷ past) (past_with s x) = entry_grows s.count x s.front in

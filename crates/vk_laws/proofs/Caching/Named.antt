@@ -29,7 +29,7 @@ use Rattle.vk_laws.proofs.Nodes.Actions.{host_action}
 use Rattle.vk_model.specs.Rules.Fault.{Comes, older}
 use Rattle.vk_model.proofs.Lists.Grids.{grid_from}
 
-abbrev Names : List (ℕ × (Entry → Bool)) → Byte → Type 0
+abbrev pub Names : List (ℕ × (Entry → Bool)) → Byte → Type 0
 Names asked c = (k : Entry → Bool) × Contains asked (resource_at c, k)
 
 -- each byte write of a list is to this resource
@@ -61,13 +61,13 @@ image_fills s d (Some n) g m c = ap (λ (m : ByteWrite). resource_at m.to) (grid
 all_fill : {G : Type 0} (r : ℕ) (f : G → List ByteWrite) (gs : List G) → ((g : G) → Fills r (f g)) → Fills r (flat_map f gs)
 all_fill r f gs each m c = let g = flat_from f gs m c in each g.0 m g.2
 
-first_named : (r : ℕ) (k : Entry → Bool) (rest : List (ℕ × (Entry → Bool))) (c : Byte) → resource_at c ≡ r → Names ((r, k) ∷ rest) c
+pub first_named : (r : ℕ) (k : Entry → Bool) (rest : List (ℕ × (Entry → Bool))) (c : Byte) → resource_at c ≡ r → Names ((r, k) ∷ rest) c
 first_named r k rest c same = (k, subst (λ (i : ℕ). Contains ((r, k) ∷ rest) (i, k)) (sym same) (contains-head (r, k) rest))
 
 second_named : (p : ℕ × (Entry → Bool)) (r : ℕ) (k : Entry → Bool) (c : Byte) → resource_at c ≡ r → Names (p ∷ (r, k) ∷ []) c
 second_named p r k c same = (k, subst (λ (i : ℕ). Contains (p ∷ (r, k) ∷ []) (i, k)) (sym same) (contains-tail p ((r, k) ∷ []) (r, k) (contains-head (r, k) [])))
 
-command_names : (past : Past) (x : Cmd) (m : ByteWrite) → Contains (byte_writes past x) m → Names (asked_by_command x) m.to
+pub command_names : (past : Past) (x : Cmd) (m : ByteWrite) → Contains (byte_writes past x) m → Names (asked_by_command x) m.to
 command_names past (cmd.Fill b o n w) m c = let k = mapped_from _ _ m c in first_named b is_buffer [] m.to (ap (λ (m : ByteWrite). resource_at m.to) (sym k.2))
 command_names past (cmd.Update b o bytes) m c = let k = mapped_from _ (enumerate_from 0 bytes) m c in first_named b is_buffer [] m.to (ap (λ (m : ByteWrite). resource_at m.to) (sym k.2))
 command_names past (cmd.Copy s d gs) m c =
@@ -82,12 +82,12 @@ command_names past (cmd.Barrier es) m c = absurd (none_in m c)
 command_names past (cmd.Set v ms) m c = absurd (none_in m c)
 command_names past (cmd.Await v ms) m c = absurd (none_in m c)
 
-host_names : (x : Entry) (c : Byte) → Contains (host_writes x) c → Names (asked_by_entry x) c
+pub host_names : (x : Entry) (c : Byte) → Contains (host_writes x) c → Names (asked_by_entry x) c
 host_names (entry.Write b o bytes) c h = let k = mapped_from (λ k. in_buffer b (o + k)) (below (length bytes)) c h in first_named b is_buffer [] c (ap resource_at (sym k.2))
 host_names _ c h = absurd (none_in c h)
 
 -- what a point names was made before it
-named_made : (all newer past : Past) (p : Point) (c : Byte) → all ≡ newer ++ p ∷ past → IsNew all → IsLive all → Names (asked_by p.action) c → (x : Entry) × (made past (resource_at c) ≡ Some x)
+pub named_made : (all newer past : Past) (p : Point) (c : Byte) → all ≡ newer ++ p ∷ past → IsNew all → IsLive all → Names (asked_by p.action) c → (x : Entry) × (made past (resource_at c) ≡ Some x)
 named_made all newer past p c whole new alive names = go (is_some (host_of p.action)) refl
   where
     come : (b : Past) (q : Point) → Comes (newer ++ p ∷ past) b q → Comes all b q

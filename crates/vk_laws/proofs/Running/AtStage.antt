@@ -1,12 +1,10 @@
 -- The tasks of the machine that match a stage of the definitions, and that what the stage offers may run.
-use Rattle.std.proofs.Common.{◌≡◌, ℕ, ◌<◌, ◌≤◌, List, [], ◌∷◌, length, Bool, true, false, ◌||◌, not, IsTrue, Some, refl, ap, sym, ◌∙◌, subst, arith, reverse}
-use Rattle.std.specs.Prelude.{Contains, nat_lt, ◌==◌, ◌↔◌, if◌then◌else◌}
+use Rattle.std.proofs.Common.{◌≡◌, ℕ, ◌<◌, ◌≤◌, List, [], ◌∷◌, length, Bool, true, false, ◌||◌, not, IsTrue, Some, refl, ap, sym, ◌∙◌, subst, arith}
+use Rattle.std.specs.Prelude.{Contains, nat_lt, ◌==◌, ◌↔◌}
 use Rattle.std.specs.List.{filter}
 use Rattle.std.proofs.lemmas.Bool.{eq-eqb, ltb-true, lt-ltb}
-use Rattle.std.proofs.lemmas.List.Sorted.{Contains-permutation, IsPermutation-reverse, IsPermutation-sym}
 use Rattle.vk_model.specs.declared.command.Cmd.{Cmd}
 use Rattle.vk_model.specs.declared.entry.Entry.{Entry}
-use Rattle.vk_model.specs.Basics.{below}
 use Rattle.vk_model.specs.Trace.Point.{Past, Point}
 use Rattle.vk_model.specs.Trace.Order.{order}
 use Rattle.vk_model.specs.World.ByteWrites.{ByteWrite}
@@ -14,13 +12,13 @@ use Rattle.vk_model.specs.Run.Pieces.{pieces}
 use Rattle.vk_model.specs.Sync.Node.{Node, Act, Hosts, Waits, Signals, Runs, Depends, nodes}
 use Rattle.vk_model.specs.Sync.Edge.{edge, is_host}
 use Rattle.vk_model.specs.Sync.Before.{before, Path, direct, longer}
-use Rattle.vk_model.specs.Run.Runs.{Name, same_name, is_done, node_pieces, is_free, offered, Stage, start, is_host_wait, past_with, may_go, entered}
+use Rattle.vk_model.specs.Run.Runs.{Name, is_done, is_free, Stage, start, is_host_wait, past_with, may_go, entered}
 use Rattle.vk_laws.specs.Machine.{IsIn, Task, TraceAccesses, MayRun, IsAllowed}
 use Rattle.vk_laws.specs.Growth.{IsDue, IsEager}
 use Rattle.vk_laws.specs.Tasks.{task_count, node_at, accesses_of}
 use Rattle.vk_laws.specs.DefinedRuns.{is_event, piece_task, entry_task, has_happened}
 use Rattle.vk_laws.proofs.Accesses.TaskNodes.{node_of, has_task}
-use Rattle.vk_model.proofs.Lists.Members.{some_member, none_in, contains-tail, mapped_from, flat_from, range_from, all_passes, filtered}
+use Rattle.vk_model.proofs.Lists.Members.{contains-tail, all_passes}
 use Rattle.vk_model.proofs.Lists.Truths.{implied, contradicted}
 use Rattle.vk_laws.proofs.Caching.TraceCaches.{node_at_self}
 use Rattle.vk_laws.proofs.EveryOrder.Fresh.{closed}
@@ -30,7 +28,8 @@ use Rattle.vk_laws.proofs.Running.Eager.{transitive, due_done, is_eager}
 use Rattle.vk_laws.proofs.Running.Stages.{From, Placed, start_placed, later, low, next_placed, entry_node, entry_present, still_there, wait_alone}
 use Rattle.vk_model.proofs.Sync.Numbers.{number_below, numbered}
 use Rattle.vk_model.proofs.Sync.Paths.{target}
-use Rattle.vk_laws.proofs.Running.StageTasks.{names_same, edge_to_entry, turned, Kind, piece, hosts, kind, plain_is, happened_is, before_is, Known, old_node, node_in_all, pieces_same, free_done}
+use Rattle.vk_laws.proofs.Running.OfferedPieces.{Offered}
+use Rattle.vk_laws.proofs.Running.StageTasks.{edge_to_entry, turned, Kind, piece, hosts, kind, plain_is, happened_is, before_is, Known, old_node, node_in_all, pieces_same, free_done}
 
 module _ {t : List Entry} (known : Known t) where
   abbrev all : Past
@@ -112,53 +111,10 @@ module _ {t : List Entry} (known : Known t) where
 
     -- ---- a piece that is offered
 
-    pub record Offered (x : Name) : Type 0 where
-      pub node : Node
-      pub command : Cmd
-      pub present : Contains (nodes s.front.past) node
-      pub act : node.act ≡ Runs command
-      pub number : node.number ≡ x.0
-      pub index : x.1 < length (pieces s.front.past command)
-      pub free : IsTrue (is_free s.front.past s.done node)
-      pub fresh : IsTrue (not (is_done s.done x))
-
-    pub offered_of : (x : Name) → IsTrue (is_done (offered s.front.past s.done) x) → Offered x
-    offered_of x h =
-        let y = some_member (same_name x) (offered s.front.past s.done) h in
-        let n = flat_from (λ n. if is_free s.front.past s.done n then filter (λ x. not (is_done s.done x)) (node_pieces s.front.past n n.act) else []) (reverse (nodes s.front.past)) y.0 y.1 in
-        by_free n.0 (Contains-permutation (reverse (nodes s.front.past)) (nodes s.front.past) n.0 (IsPermutation-sym (nodes s.front.past) (reverse (nodes s.front.past)) (IsPermutation-reverse (nodes s.front.past))) n.1)
-        y.0 (names_same x y.0 y.2) (is_free s.front.past s.done n.0) refl n.2
-      where
-        by_kind : (n : Node) → Contains (nodes s.front.past) n → (y : Name) → x ≡ y → IsTrue (is_free s.front.past s.done n) → IsTrue (not (is_done s.done y)) → (a : Act) → n.act ≡ a → Contains (node_pieces s.front.past n a) y → Offered x
-        by_kind n cn y same free fresh (Runs c) act h =
-            let k = mapped_from (λ k. (n.number, k)) (below (length (pieces s.front.past c))) y h in
-            let whole : (n.number, k.0) ≡ x = k.2 ∙ sym same in
-            let is_part : k.0 ≡ x.1 = ap (λ (z : Name). z.1) whole in
-            let within = (range_from 0 (length (pieces s.front.past c)) k.0 k.1).1 in
-            record {
-              node = n;
-              command = c;
-              present = cn;
-              act = act;
-              number = ap (λ (z : Name). z.0) whole;
-              index = omega (arith, is_part, within);
-              free = free;
-              fresh = subst (λ (z : Name). IsTrue (not (is_done s.done z))) (sym same) fresh;
-            }
-        by_kind n cn y same free fresh (Hosts z) act h = absurd (none_in y h)
-        by_kind n cn y same free fresh (Waits z) act h = absurd (none_in y h)
-        by_kind n cn y same free fresh (Signals z) act h = absurd (none_in y h)
-        by_kind n cn y same free fresh (Depends r d) act h = absurd (none_in y h)
-
-        by_free : (n : Node) → Contains (nodes s.front.past) n → (y : Name) → x ≡ y → (b : Bool) → is_free s.front.past s.done n ≡ b
-            → Contains (if b then filter (λ x. not (is_done s.done x)) (node_pieces s.front.past n n.act) else []) y → Offered x
-        by_free n cn y same false e h = absurd (none_in y h)
-        by_free n cn y same true e h = let f = filtered (λ x. not (is_done s.done x)) (node_pieces s.front.past n n.act) y h in by_kind n cn y same e f.1 n.act refl f.0
-
-    pub offered_at : (x : Name) (o : Offered x) → node_at all x.0 ≡ Some o.node
+    pub offered_at : (x : Name) (o : Offered s.front.past s.done x) → node_at all x.0 ≡ Some o.node
     offered_at x o = subst (λ (k : ℕ). node_at all k ≡ Some o.node) o.number (node_at_self known.paths known.joins all o.node (node_in_all known _ s.front.past grows o.node o.present))
 
-    pub piece_may : (x : Name) → Offered x → MayRun tr i.tasks (piece_task x)
+    pub piece_may : (x : Name) → Offered s.front.past s.done x → MayRun tr i.tasks (piece_task x)
     piece_may x o =
         let at = offered_at x o in
         let count : length (pieces all o.command) ≡ length (pieces s.front.past o.command) = ap (λ (ps : List (List ByteWrite)). length ps) (pieces_same known _ s.front.past grows o.node o.command o.present o.act) in

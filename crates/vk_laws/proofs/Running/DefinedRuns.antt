@@ -1,29 +1,29 @@
 -- The allowed runs of the definitions are runs of the machine, and those that are over have run each task.
-use Rattle.std.proofs.Common.{◌≡◌, ℕ, ◌<◌, ◌≤◌, List, [], ◌∷◌, length, Bool, true, false, ◌||◌, not, IsTrue, Some, refl, ap, sym, ◌∙◌, subst, arith, suc, zero}
+use Rattle.std.proofs.Common.{◌≡◌, ℕ, ◌<◌, List, [], ◌∷◌, length, Bool, true, false, ◌||◌, not, IsTrue, Some, refl, ap, sym, ◌∙◌, subst, arith, suc, zero}
 use Rattle.std.specs.Prelude.{Contains, ◌==◌}
 use Rattle.std.specs.List.{filter, list_all}
 use Rattle.std.proofs.lemmas.Bool.{eqb-true, lt-ltb, or_left, or_right}
 use Rattle.vk_model.specs.declared.command.Cmd.{Cmd}
 use Rattle.vk_model.specs.declared.entry.Entry.{Entry}
-use Rattle.vk_model.specs.Basics.{below}
 use Rattle.vk_model.specs.Trace.Point.{Past}
 use Rattle.vk_model.specs.Trace.Order.{order}
 use Rattle.vk_model.specs.World.ByteWrites.{ByteWrite}
 use Rattle.vk_model.specs.Run.Pieces.{pieces}
-use Rattle.vk_model.specs.Sync.Node.{Node, Act, Hosts, Waits, Signals, Runs, Depends, nodes}
+use Rattle.vk_model.specs.Sync.Node.{Node, Hosts, Runs, nodes}
 use Rattle.vk_model.specs.Sync.Before.{before}
-use Rattle.vk_model.specs.Run.Runs.{Name, is_done, node_pieces, is_free, Step, Stage, start, is_host_wait, past_with, may_go, Allowed}
+use Rattle.vk_model.specs.Run.Runs.{is_done, node_pieces, is_free, Step, Stage, start, is_host_wait, past_with, may_go, Allowed}
 use Rattle.vk_laws.specs.Machine.{Task, TraceAccesses}
 use Rattle.vk_laws.specs.Tasks.{node_at, accesses_of}
-use Rattle.vk_laws.specs.DefinedRuns.{is_event, piece_task, entry_task, done_by, has_happened, Offers, Enters, Matches, IsOver}
+use Rattle.vk_laws.specs.DefinedRuns.{is_event, piece_task, entry_task, done_by, has_happened, Offers, Enters, Matches, IsOver, HaveRun}
 use Rattle.vk_laws.proofs.Accesses.TaskNodes.{node_of}
-use Rattle.vk_model.proofs.Lists.Members.{mapped_from, range_from, each_of}
+use Rattle.vk_model.proofs.Lists.Members.{each_of}
 use Rattle.vk_laws.proofs.Running.Stages.{low, whole_past}
 use Rattle.vk_model.proofs.Sync.Numbers.{number_below, numbered}
 use Rattle.vk_laws.proofs.Running.StageTasks.{turned, Kind, piece, hosts, kind, happened_is, Known, old_node, node_in_all, pieces_same}
 use Rattle.vk_laws.proofs.Running.AtStage.{AtPoint, begins, grows, here, after_grows, there_before, only_here}
 use Rattle.vk_laws.proofs.Running.StageSteps.{comes_next, all_steps}
-use Rattle.vk_laws.proofs.Running.StageNext.{is_offered, only_next}
+use Rattle.vk_laws.proofs.Running.OfferedPieces.{is_offered, node_ran, free_next}
+use Rattle.vk_laws.proofs.Running.StageNext.{only_next}
 
 module _ {t : List Entry} (known : Known t) where
   abbrev all : Past
@@ -54,38 +54,13 @@ module _ {t : List Entry} (known : Known t) where
     abbrev past : Past
     past = s.front.past
 
-    -- the pieces of the nodes below a number have run
-    abbrev Ran : ℕ → Type 0
-    Ran k = (n : Node) (c : Cmd) (j : ℕ) → Contains (nodes past) n → n.number < k → n.act ≡ Runs c → j < length (pieces past c) → IsTrue (is_done s.done (n.number, j))
-
-    node_ran : (P : Past) (k : ℕ) → Ran k → (m : Node) → Contains (nodes past) m → m.number < k → ((c : Cmd) → m.act ≡ Runs c → length (pieces P c) ≡ length (pieces past c)) → IsTrue (list_all (is_done s.done) (node_pieces P m m.act))
-    node_ran P k ran m cm lt count = go m.act refl
-      where
-        go : (a : Act) → m.act ≡ a → IsTrue (list_all (is_done s.done) (node_pieces P m a))
-        go (Runs c) act = each_of (is_done s.done) (node_pieces P m (Runs c)) (λ y h.
-            let j = mapped_from (λ j. (m.number, j)) (below (length (pieces P c))) y h in
-            let within = (range_from 0 (length (pieces P c)) j.0 j.1).1 in
-            let same = count c act in
-            subst (λ (z : Name). IsTrue (is_done s.done z)) j.2 (ran m c j.0 cm lt act (omega (arith, within, same))))
-        go (Hosts x) act = refl
-        go (Waits x) act = refl
-        go (Signals x) act = refl
-        go (Depends r d) act = refl
-
-    free_next : (k : ℕ) → Ran k → (n : Node) → n.number ≤ k → IsTrue (is_free past s.done n)
-    free_next k ran n le = each_of (λ m. not (before (nodes past) m n) || list_all (is_done s.done) (node_pieces past m m.act)) (nodes past) (λ m cm. go m cm (before (nodes past) m n) refl)
-      where
-        go : (m : Node) → Contains (nodes past) m → (b : Bool) → before (nodes past) m n ≡ b → IsTrue (not b || list_all (is_done s.done) (node_pieces past m m.act))
-        go m cm false e = refl
-        go m cm true e = let lt = known.leads (nodes past) m n e in node_ran past k ran m cm (omega (arith, lt, le)) (λ c act. refl)
-
-    all_ran : (k : ℕ) → Ran k
+    all_ran : (k : ℕ) → HaveRun past s.done k
     all_ran zero = λ n c j cn lt act less. absurd (omega (arith, lt))
     all_ran (suc k) = λ n c j cn lt act less. go (all_ran k) n c j cn lt act less (is_done s.done (n.number, j)) refl
       where
-        go : Ran k → (n : Node) (c : Cmd) (j : ℕ) → Contains (nodes past) n → n.number < suc k → n.act ≡ Runs c → j < length (pieces past c) → (b : Bool) → is_done s.done (n.number, j) ≡ b → IsTrue (is_done s.done (n.number, j))
+        go : HaveRun past s.done k → (n : Node) (c : Cmd) (j : ℕ) → Contains (nodes past) n → n.number < suc k → n.act ≡ Runs c → j < length (pieces past c) → (b : Bool) → is_done s.done (n.number, j) ≡ b → IsTrue (is_done s.done (n.number, j))
         go ran n c j cn lt act less true e = e
-        go ran n c j cn lt act less false e = absurd (over (piece_task (n.number, j)) (Offers (n.number, j) (is_offered known s did i n c j cn act less (free_next k ran n (omega (arith, lt))) e)))
+        go ran n c j cn lt act less false e = absurd (over (piece_task (n.number, j)) (Offers (n.number, j) (is_offered past s.done n c j cn act less (free_next past s.done known.leads k ran n (omega (arith, lt))) e)))
 
     -- then the next entry may be entered, so there is none
     entry_goes : (x : Entry) (xs : List Entry) → s.left ≡ x ∷ xs → (b : Bool) → is_host_wait x ≡ b → IsTrue (may_go s x)
@@ -96,7 +71,7 @@ module _ {t : List Entry} (known : Known t) where
         own = here known s did i x xs left
 
         ran_there : (m : Node) → Contains (nodes past) m → IsTrue (list_all (is_done s.done) (node_pieces (past_with s x) m m.act))
-        ran_there m old = node_ran (past_with s x) (length (nodes past)) (all_ran (length (nodes past))) m old (number_below (nodes past) (numbered past) m old)
+        ran_there m old = node_ran past s.done (past_with s x) (length (nodes past)) (all_ran (length (nodes past))) m old (number_below (nodes past) (numbered past) m old)
             (λ c act. ap (λ (ps : List (List ByteWrite)). length ps)
             (sym (pieces_same known _ (past_with s x) (after_grows known s did i x xs left) m c (there_before known s did i x xs left m old) act)
             ∙ pieces_same known _ past (grows known s did i) m c old act))

@@ -1,9 +1,8 @@
 -- What may come next in the machine may come next at the stage.
-use Rattle.std.proofs.Common.{◌≡◌, ⊎_elim, ℕ, ◌+◌, ◌<◌, List, [], ◌∷◌, length, Bool, true, false, ◌||◌, not, IsTrue, Option, Some, refl, ap, sym, ◌∙◌, subst, arith, reverse}
-use Rattle.std.specs.Prelude.{Contains, nat_lt, ◌==◌, if◌then◌else◌}
-use Rattle.std.specs.List.{filter, list_all}
+use Rattle.std.proofs.Common.{◌≡◌, ⊎_elim, ℕ, ◌<◌, List, [], ◌∷◌, length, Bool, true, false, ◌||◌, not, IsTrue, Option, Some, refl, ap, sym, ◌∙◌, subst, arith}
+use Rattle.std.specs.Prelude.{Contains, nat_lt, ◌==◌}
+use Rattle.std.specs.List.{list_all}
 use Rattle.std.proofs.lemmas.Bool.{eqb-true, or_cases, ltb-true, lt-ltb, or_left, or_right, false_from_ne_true, cases_lt}
-use Rattle.std.proofs.lemmas.List.Sorted.{Contains-permutation, IsPermutation-reverse}
 use Rattle.vk_model.specs.declared.command.Cmd.{Cmd}
 use Rattle.vk_model.specs.declared.entry.Entry.{Entry}
 use Rattle.vk_model.specs.Basics.{below, holds}
@@ -14,18 +13,19 @@ use Rattle.vk_model.specs.Run.Pieces.{pieces}
 use Rattle.vk_model.specs.Sync.Node.{Node, Act, Hosts, Waits, Signals, Runs, Depends, nodes}
 use Rattle.vk_model.specs.Sync.Edge.{is_host}
 use Rattle.vk_model.specs.Sync.Before.{before}
-use Rattle.vk_model.specs.Run.Runs.{Name, same_name, is_done, node_pieces, is_free, offered, Stage, is_host_wait, past_with, may_go}
+use Rattle.vk_model.specs.Run.Runs.{Name, is_done, node_pieces, is_free, Stage, is_host_wait, past_with, may_go}
 use Rattle.vk_laws.specs.Machine.{IsIn, Task, TraceAccesses, MayRun}
 use Rattle.vk_laws.specs.Tasks.{task_count, node_at, accesses_of}
 use Rattle.vk_laws.specs.DefinedRuns.{is_event, piece_task, entry_task, has_come, MayCome, Offers, Enters}
 use Rattle.vk_laws.proofs.Accesses.TaskNodes.{node_of, same_task, has_task}
-use Rattle.vk_model.proofs.Lists.Members.{mapped_from, range_from, map_has, numbers_have, filter_has, each_of, flat_has, member_passes}
+use Rattle.vk_model.proofs.Lists.Members.{mapped_from, range_from, each_of}
 use Rattle.vk_laws.proofs.Nodes.NoHazard.{host_in_order}
 use Rattle.vk_laws.proofs.Caching.TraceCaches.{node_at_self}
 use Rattle.vk_model.proofs.Trace.Growing.{Grows}
 use Rattle.vk_laws.proofs.Running.Stages.{whole_past}
 use Rattle.vk_model.proofs.Sync.Numbers.{numbered, unique}
-use Rattle.vk_laws.proofs.Running.StageTasks.{name_itself, turned, Kind, piece, hosts, kind, plain_is, happened_is, before_is, Known, old_node, node_in_all, pieces_same, before_same}
+use Rattle.vk_laws.proofs.Running.OfferedPieces.{is_offered}
+use Rattle.vk_laws.proofs.Running.StageTasks.{turned, Kind, piece, hosts, kind, plain_is, happened_is, before_is, Known, old_node, node_in_all, pieces_same, before_same}
 use Rattle.vk_laws.proofs.Running.AtStage.{AtPoint, grows, piece_in, entry_in, here, after_grows, here_present, only_here, here_in_all, here_at, here_there}
 
 module _ {t : List Entry} (known : Known t) where
@@ -36,18 +36,6 @@ module _ {t : List Entry} (known : Known t) where
   tr = accesses_of all
 
   module _ (s : Stage) (did : List Task) (i : AtPoint known s did) where
-    pub is_offered : (n : Node) (c : Cmd) (j : ℕ) → Contains (nodes s.front.past) n → n.act ≡ Runs c → j < length (pieces s.front.past c) → IsTrue (is_free s.front.past s.done n) → is_done s.done (n.number, j) ≡ false → IsTrue (is_done (offered s.front.past s.done) (n.number, j))
-    is_offered n c j cn act lt free fresh =
-        let each : Node → List Name = λ n. if is_free s.front.past s.done n then filter (λ x. not (is_done s.done x)) (node_pieces s.front.past n n.act) else [] in
-        let among : Contains (node_pieces s.front.past n (Runs c)) (n.number, 0 + j) = map_has (λ j. (n.number, j)) (below (length (pieces s.front.past c))) (0 + j) (numbers_have 0 (length (pieces s.front.past c)) j lt) in
-        let its : Contains (node_pieces s.front.past n n.act) (n.number, j) =
-        subst (λ (a : Act). Contains (node_pieces s.front.past n a) (n.number, j)) (sym act) (subst (λ (k : ℕ). Contains (node_pieces s.front.past n (Runs c)) (n.number, k)) (let same : 0 + j ≡ j = omega arith in same) among) in
-        let kept = filter_has (λ x. not (is_done s.done x)) (node_pieces s.front.past n n.act) (n.number, j) its (ap not fresh) in
-        let here : Contains (each n) (n.number, j) = subst (λ (b : Bool). Contains (if b then filter (λ x. not (is_done s.done x)) (node_pieces s.front.past n n.act) else []) (n.number, j)) (sym free) kept in
-        member_passes (same_name (n.number, j)) (offered s.front.past s.done) (n.number, j)
-        (flat_has each (reverse (nodes s.front.past)) n (n.number, j) (Contains-permutation (nodes s.front.past) (reverse (nodes s.front.past)) n (IsPermutation-reverse (nodes s.front.past)) cn) here)
-        (name_itself (n.number, j))
-
     -- pieces before a task that may come next have run
     free_before : (P : Point → Type 0) (past : Past) → Grows P past all → (u : Task) (n : Node) → node_at all u.node ≡ Some n → Contains (nodes past) n → MayRun tr i.tasks u → IsTrue (is_free past s.done n)
     free_before P past g u n at_u cn may = each_of (λ m. not (before (nodes past) m n) || list_all (is_done s.done) (node_pieces past m m.act)) (nodes past) (λ m cm. go m cm (before (nodes past) m n) refl)
@@ -82,7 +70,7 @@ module _ {t : List Entry} (known : Known t) where
         let free = free_before _ s.front.past (grows known s did i) u n at old may in
         let itself : u ≡ piece_task (n.number, u.index) = same_task u (piece_task (n.number, u.index)) (sym found.1) refl in
         subst (λ (v : Task). MayCome s v) (sym itself)
-        (Offers (n.number, u.index) (is_offered n c u.index old act (omega (arith, lt, count)) free (false_from_ne_true (is_done s.done (n.number, u.index)) (λ h. may.fresh (piece_in known s did i u n c may.there at act (subst (λ (k : ℕ). IsTrue (is_done s.done (k, u.index))) found.1 h))))))
+        (Offers (n.number, u.index) (is_offered s.front.past s.done n c u.index old act (omega (arith, lt, count)) free (false_from_ne_true (is_done s.done (n.number, u.index)) (λ h. may.fresh (piece_in known s did i u n c may.there at act (subst (λ (k : ℕ). IsTrue (is_done s.done (k, u.index))) found.1 h))))))
       where
         no_entry : IsTrue (holds (node_at all u.node) (λ n. is_host n.act)) → ⊥
         no_entry h =

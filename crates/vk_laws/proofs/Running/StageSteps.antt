@@ -14,7 +14,8 @@ use Rattle.vk_laws.specs.DefinedRuns.{is_event, piece_task, entry_task, with_ste
 use Rattle.vk_laws.proofs.Accesses.TaskNodes.{node_of, same_task}
 use Rattle.vk_laws.proofs.Running.Stages.{low, next_placed, entries_then}
 use Rattle.vk_laws.proofs.Running.StageTasks.{names_same, name_itself, turned, Kind, piece, hosts, kind, plain_is, happened_is, Known}
-use Rattle.vk_laws.proofs.Running.AtStage.{AtPoint, settle, Offered, offered_of, offered_at, piece_may, here, here_at, entry_may}
+use Rattle.vk_laws.proofs.Running.OfferedPieces.{Offered, offered_of}
+use Rattle.vk_laws.proofs.Running.AtStage.{AtPoint, settle, offered_at, piece_may, here, here_at, entry_may}
 
 module _ {t : List Entry} (known : Known t) where
   abbrev all : Past
@@ -72,7 +73,7 @@ module _ {t : List Entry} (known : Known t) where
   abbrev pub ran : Stage → Name → Stage
   ran s x = record s { done = x ∷ s.done }
 
-  module _ (s : Stage) (did : List Task) (i : AtPoint known s did) (x : Name) (o : Offered known s did i x) where
+  module _ (s : Stage) (did : List Task) (i : AtPoint known s did) (x : Name) (o : Offered s.front.past s.done x) where
     piece_at : node_at all (piece_task x).node ≡ Some o.node
     piece_at = offered_at known s did i x o
 
@@ -123,7 +124,7 @@ module _ {t : List Entry} (known : Known t) where
   entry_parts s did parts _ i = i
 
   pub comes_next : (s : Stage) (did : List Task) (i : AtPoint known s did) (u : Task) → MayCome s u → MayRun tr i.tasks u
-  comes_next s did i _ (Offers x h) = piece_may known s did i x (offered_of known s did i x h)
+  comes_next s did i _ (Offers x h) = piece_may known s did i x (offered_of s.front.past s.done x h)
   comes_next s did i _ (Enters x xs left may) = entry_may known s did i x xs left may
 
   one_step : (s : Stage) (did : List Task) → AtPoint known s did → (step : Step) (e : Stage) → Next s step e → AtPoint known e (with_step s step did)
@@ -132,7 +133,7 @@ module _ {t : List Entry} (known : Known t) where
       go : (left : List Entry) → s.left ≡ left → Applies s atoms parts left e → AtPoint known e (entry_task s ∷ did)
       go [] left next = absurd next
       go (x ∷ xs) left next = subst (λ (m : Stage). AtPoint known m (entry_task s ∷ did)) (sym next.2) (entry_parts (entered s x xs) (entry_task s ∷ did) parts x (apply_step s did i x xs left next.0))
-  one_step s did i (RunPiece x) e next = subst (λ (m : Stage). AtPoint known m (piece_task x ∷ did)) (sym next.1) (run_step s did i x (offered_of known s did i x next.0))
+  one_step s did i (RunPiece x) e next = subst (λ (m : Stage). AtPoint known m (piece_task x ∷ did)) (sym next.1) (run_step s did i x (offered_of s.front.past s.done x next.0))
   one_step s did i (CopyPart k) e next = subst (λ (m : Stage). AtPoint known m did) (sym next.1) (parts_step s did s.parts (k ∷ s.copied) i)
 
   pub all_steps : (steps : List Step) (s : Stage) (did : List Task) → AtPoint known s did → (e : Stage) (run : Allowed s steps e) → AtPoint known e (done_by s steps e run did)

@@ -96,7 +96,7 @@ module _ (keeps : GrowthKeeps) (t : List Entry) where
   whole_past s p left = past_is s p ∙ ap order (sym (p.split ∙ ap (λ (l : List Entry). p.gone ++ l) left ∙ append-nil p.gone))
 
   module _ (s : Stage) (p : Placed s) (x : Entry) (xs : List Entry) (left : s.left ≡ x ∷ xs) where
-    pub next_placed : Placed (entered s x xs)
+    unfoldable pub next_placed : Placed (entered s x xs)
     next_placed = record {
       gone = p.gone ++ x ∷ [];
       split = p.split ∙ ap (λ (l : List Entry). p.gone ++ l) left ∙ sym (append_assoc p.gone (x ∷ []) xs);
