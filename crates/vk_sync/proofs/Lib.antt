@@ -1,0 +1,9 @@
+pub mod SumLemmas
+pub mod PlaceLemmas
+pub mod LeftLemmas
+pub mod FrontLemmas
+pub mod MovingLemmas
+pub mod ChangeLemmas
+pub mod PushLemmas
+pub mod RunLemmas
+pub mod ReadyLemmas

@@ -1,0 +1,270 @@
+ghost use Rattle.std.specs.Prelude.{◌≡◌, ◌<◌, ◌≤◌, ◌↔◌, ◌++◌, ◌∷◌, [], ℕ};
+ghost use Rattle.std.specs.Prelude.{IfOk, OnOk, OnErr, IsTrue};
+ghost use Rattle.std.specs.Prelude.{Some, Contains, length, slice_get, slice_index};
+ghost use Rattle.std.specs.List.{range_with_len};
+ghost use Rattle.vk_sync.specs.Ready.{MayCome, count_on, is_met, ready, after_piece};
+
+use crate::board::{Board, Command, is_within};
+use crate::left::PieceSet;
+use crate::line::Line;
+use crate::tree::SumTree;
+use std::alloc::{AllocError, Global};
+use std::marker::Model;
+
+/// A piece: its command, by its number in the order of adding, and its place among the command's
+/// pieces.
+#[derive(Clone, Copy, Debug, PartialEq, Eq)]
+pub struct Piece {
+    /// The number of its command.
+    pub command: usize,
+    /// Its place among the command's pieces.
+    pub index: u64,
+}
+
+/// Commands, of which the pieces that may run next are known. Contracts see the list of the
+/// commands, in the order of adding.
+///
+/// An operation costs the logarithm of the number of commands and of pieces, near enough: a search
+/// goes past at most 64 sums by 64 and by 4,096 each, and past one sum for each 4,096 commands or
+/// 262,144 pieces. A command is passed once when it is finished, and once when it waits for nothing
+/// more.
+#[derive(Drop)]
+pub struct Ready {
+    alloc: Global,
+    board: Board,
+    /// How many pieces all commands were added with.
+    pieces: u64,
+}
+
+impl Model for Ready {
+    ghost use Rattle.std.specs.Prelude.{List, length, ◌≤◌};
+    ghost use Rattle.std.specs.List.{sum_by};
+    ghost use Rattle.vk_sync.specs.declared.board.Command.{Command};
+    ghost use Rattle.vk_sync.specs.Inner.Boards.{IsBoard};
+
+    ghost Value = { List Command };
+
+    ghost view = { λ r. r.board.commands.items };
+
+    ghost invariant = { λ r. IsBoard r.board
+        × (sum_by (λ c. length c.left) r.board.commands.items ≤ r.pieces) };
+}
+
+impl Ready {
+    /// No commands.
+    pub fn new(alloc: Global) -> Ready
+        ensures { result ≡ [] }
+    {
+        let board = Board {
+            commands: Vec::new(alloc),
+            lines: [
+                Line::new(alloc),
+                Line::new(alloc),
+                Line::new(alloc),
+                Line::new(alloc),
+            ],
+            done: [0; 4],
+            free: [0; 4],
+            counts: SumTree::new(alloc),
+        };
+        Ready {
+            alloc,
+            board,
+            pieces: 0,
+        }
+    }
+
+    /// Whether a command may come next, on a queue and after so many of each.
+    pub fn may_come(&self, queue: u32, before: [usize; 4]) -> bool
+        ensures { IsTrue result ↔ MayCome self.now queue before }
+    {
+        self.board.may_come(queue, &before)
+    }
+
+    /// Appends a command with all its pieces left. It stands on a queue and waits for commands
+    /// before it: of each queue, for the first so many. The only error is want of memory, or of
+    /// numbers where all commands have 2^64 pieces and more; it leaves all as it was.
+    pub fn add(&mut self, queue: u32, before: [usize; 4], pieces: u64) -> Result<(), AllocError>
+        requires { MayCome self.old queue before }
+        ensures ok { OnOk result (self.new ≡ self.old
+            ++ record { queue = queue; before = before; left = range_with_len 0 pieces } ∷ []) }
+        ensures err { OnErr result (self.new ≡ self.old) }
+    {
+        let Some(all) = self.pieces.checked_add(pieces) else {
+            return Err(AllocError);
+        };
+        let left = PieceSet::all(self.alloc, pieces)?;
+        let command = Command {
+            queue,
+            before,
+            left,
+        };
+        self.board.push(command)?;
+        self.board.settle(queue as usize);
+        self.pieces = all;
+        Ok(())
+    }
+
+    /// How many pieces are ready.
+    pub fn count(&self) -> u64
+        ensures { result ≡ length (ready self.now) }
+    {
+        self.board.counts.total()
+    }
+
+    /// A ready piece, by its place in reference order.
+    pub fn nth(&self, place: u64) -> Piece
+        requires { place < length (ready self.now) }
+        ensures piece { slice_get (ready self.now) place ≡ Some result }
+        ensures among { Contains (ready self.now) result }
+    {
+        let found = self.board.counts.find(place);
+        let command = found.leaf;
+        let index = self.board.commands[command].left.nth(found.rest);
+        Piece { command, index }
+    }
+
+    /// All ready pieces, in reference order. The only error is want of memory.
+    pub fn ready(&self) -> Result<Vec<Piece>, AllocError>
+        ensures { IfOk result (λ pieces. pieces.items ≡ ready self.now) }
+    {
+        let mut pieces = Vec::new(self.alloc);
+        for place in 0..self.count() {
+            pieces.push(self.nth(place))?;
+        }
+        Ok(pieces)
+    }
+
+    /// Whether all pieces of the first so many commands of each queue have run.
+    pub fn is_met(&self, before: [usize; 4]) -> bool
+        requires { (q : ℕ) → q < 4 → slice_index before q ≤ count_on q self.now }
+        ensures { result ≡ is_met before self.now }
+    {
+        is_within(&before, &self.board.done)
+    }
+
+    /// A ready piece has run: it is left no more, and all else stays. It takes no memory.
+    pub fn finish(&mut self, piece: Piece)
+        requires { Contains (ready self.old) piece }
+        ensures { self.new ≡ after_piece piece self.old }
+    {
+        self.board.finish(piece);
+    }
+}
+
+#[cfg(test)]
+mod tests {
+    use super::*;
+    use std::test::Fail;
+
+    /// Adds a command that may come next.
+    fn add(
+        rt: &impl std::process::Abort,
+        ready: &mut Ready,
+        queue: u32,
+        before: [usize; 4],
+        pieces: u64,
+    ) -> Result<(), AllocError> {
+        assert!(rt; ready.may_come(queue, before));
+        ready.add(queue, before, pieces)
+    }
+
+    /// Runs a ready piece, which has to be this one.
+    fn run(
+        rt: &impl std::process::Abort,
+        ready: &mut Ready,
+        place: u64,
+        command: usize,
+        index: u64,
+    ) {
+        assert!(rt; place < ready.count());
+        let piece = ready.nth(place);
+        assert_eq!(rt; piece, Piece { command, index });
+        ready.finish(piece);
+    }
+
+    /// Two queues with waits across, and a command in two pieces.
+    #[test]
+    fn waits_across(rt: HostRuntime) -> Result<(), Fail> {
+        let mut ready = Ready::new(rt.alloc());
+        add(&rt, &mut ready, 0, [0, 0, 0, 0], 2)?;
+        add(&rt, &mut ready, 1, [1, 0, 0, 0], 1)?;
+        add(&rt, &mut ready, 1, [1, 1, 0, 0], 1)?;
+        add(&rt, &mut ready, 0, [1, 2, 0, 0], 1)?;
+        assert!(rt; !ready.may_come(0, [1, 1, 0, 0]));
+        assert!(rt; !ready.may_come(1, [3, 1, 0, 0]));
+        assert_eq!(rt; ready.count(), 2);
+        run(&rt, &mut ready, 1, 0, 1);
+        assert_eq!(rt; ready.count(), 1);
+        run(&rt, &mut ready, 0, 0, 0);
+        assert_eq!(rt; ready.count(), 1);
+        run(&rt, &mut ready, 0, 1, 0);
+        run(&rt, &mut ready, 0, 2, 0);
+        assert!(rt; ready.may_come(0, [1, 2, 0, 0]));
+        assert!(rt; ready.is_met([1, 2, 0, 0]));
+        assert!(rt; ready.may_come(0, [2, 2, 0, 0]));
+        assert!(rt; !ready.is_met([2, 2, 0, 0]));
+        run(&rt, &mut ready, 0, 3, 0);
+        assert_eq!(rt; ready.count(), 0);
+        Ok(())
+    }
+
+    /// A command of 200 pieces, run from the last, the first and between, with one behind it.
+    #[test]
+    fn many_pieces(rt: HostRuntime) -> Result<(), Fail> {
+        let mut ready = Ready::new(rt.alloc());
+        add(&rt, &mut ready, 2, [0, 0, 0, 0], 200)?;
+        add(&rt, &mut ready, 2, [0, 0, 1, 0], 1)?;
+        run(&rt, &mut ready, 199, 0, 199);
+        run(&rt, &mut ready, 0, 0, 0);
+        run(&rt, &mut ready, 99, 0, 100);
+        assert_eq!(rt; ready.count(), 197);
+        run(&rt, &mut ready, 98, 0, 99);
+        run(&rt, &mut ready, 98, 0, 101);
+        for _ in 0..195 {
+            let count = ready.count();
+            assert!(rt; count > 0);
+            ready.finish(ready.nth(count / 2));
+        }
+        run(&rt, &mut ready, 0, 1, 0);
+        assert_eq!(rt; ready.count(), 0);
+        Ok(())
+    }
+
+    /// The ready pieces of two queues are in reference order.
+    #[test]
+    fn all_in_order(rt: HostRuntime) -> Result<(), Fail> {
+        let mut ready = Ready::new(rt.alloc());
+        add(&rt, &mut ready, 3, [0, 0, 0, 0], 1)?;
+        add(&rt, &mut ready, 0, [0, 0, 0, 1], 1)?;
+        add(&rt, &mut ready, 3, [0, 0, 0, 0], 2)?;
+        let rows = [(0, 0), (2, 0), (2, 1)];
+        let pieces = ready.ready()?;
+        assert_eq!(rt; pieces.len(), rows.len());
+        for (piece, (command, index)) in pieces.iter().zip(rows) {
+            assert_eq!(rt; *piece, Piece { command, index });
+        }
+        Ok(())
+    }
+
+    /// Many commands, none waiting for another, picked first, last and between.
+    #[test]
+    fn many_commands(rt: HostRuntime) -> Result<(), Fail> {
+        let mut ready = Ready::new(rt.alloc());
+        for _ in 0..100_000 {
+            add(&rt, &mut ready, 0, [0, 0, 0, 0], 1)?;
+        }
+        for turn in 0..100_000u64 {
+            let count = ready.count();
+            assert!(rt; count > 0);
+            let place = match turn % 3 {
+                0 => 0,
+                1 => count - 1,
+                _ => turn % count,
+            };
+            ready.finish(ready.nth(place));
+        }
+        assert_eq!(rt; ready.count(), 0);
+        Ok(())
+    }
+}
