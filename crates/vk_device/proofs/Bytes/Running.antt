@@ -5,24 +5,11 @@ use Rattle.std.specs.List.{find}
 use Rattle.vk_model.specs.World.Bytes.{Byte, same_byte}
 use Rattle.vk_model.specs.World.ByteWrites.{Source, Value, From, ByteWrite}
 use Rattle.vk_model.specs.World.Effect.{source_value, value_after, after_writes}
-
--- what a source gives, by the bytes before
-abbrev pub given : Source → (Byte → ℕ) → ℕ
-given (Value n) bytes = n
-given (From d) bytes = bytes d
-
--- what a byte holds after the write to it, if there is one
-abbrev pub stored : Option ByteWrite → (Byte → ℕ) → Byte → ℕ
-stored None bytes c = bytes c
-stored (Some m) bytes c = given m.source bytes
+use Rattle.vk_transfer.specs.Ran.{given, stored, HaveRun}
 
 -- the write of a byte
 abbrev pub write_to : List ByteWrite → Byte → Option ByteWrite
 write_to ms c = find (λ m. same_byte m.to c) ms
-
--- the byte writes have been made, and nothing else has changed
-abbrev pub HaveRun : List ByteWrite → (Byte → ℕ) → (Byte → ℕ) → Type 0
-HaveRun ms old new = (c : Byte) → new c ≡ stored (write_to ms c) old c
 
 -- one byte: what the definition gives to it is what was stored
 kept : (o : Option ByteWrite) (value : Byte → Option ℕ) (old : Byte → ℕ) (c : Byte) (v : ℕ) → ((d : Byte) (u : ℕ) → value d ≡ Some u → old d ≡ u) → value_after value o c ≡ Some v → stored o old c ≡ v
