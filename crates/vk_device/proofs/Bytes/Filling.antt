@@ -1,11 +1,8 @@
 -- A fill's byte writes, and the bytes of a region after a fill.
-use Rattle.std.proofs.Common.{◌≡◌, ◌⊎◌, inl, inr, ℕ, zero, suc, ◌+◌, ◌-◌, ◌*◌, ◌%◌, ◌<◌, ◌≤◌, List, map, length, Bool, true, false, ◌&&◌, eq-eqb, eqb, refl, ap, sym, ◌∙◌, subst, arith, cond, get_or, slice_index, get_or-set_same, get_or-set_other, Option, Some, None}
+use Rattle.std.proofs.Common.{◌≡◌, ◌⊎◌, inl, inr, ℕ, ◌+◌, ◌-◌, ◌*◌, ◌%◌, ◌<◌, ◌≤◌, List, map, length, Bool, true, false, ◌&&◌, eq-eqb, eqb, refl, ap, sym, ◌∙◌, subst, arith, slice_index, get_or-set_same, get_or-set_other, Option, Some, None}
 use Rattle.std.proofs.lemmas.Bool.{eqb-false, eqb-true}
-use Rattle.std.proofs.lemmas.Grind.{elements}
 use Rattle.std.proofs.lemmas.List.{get_or_past}
-use Rattle.std.proofs.Math.Nat.{add-mod_left}
 use Rattle.std.specs.Prelude.{IsSome, IfSome}
-use Rattle.std.specs.List.{find, range_with_len}
 use Rattle.std.specs.Int.{to_le_bytes, w32}
 use Rattle.vk_heap.specs.Region.{splice, repeated}
 use Rattle.vk_heap.proofs.RegionLemmas.{length-repeated}

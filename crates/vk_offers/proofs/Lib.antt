@@ -1,0 +1,8 @@
+mod Commands
+mod Offering
+mod Growing
+mod Finishing
+mod Steps
+mod Coming
+mod Waiting
+pub mod PiecesLeft

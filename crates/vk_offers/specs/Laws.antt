@@ -1,0 +1,21 @@
+-- Laws of what is offered: points of an order come one after another, and what the host waits for.
+use Rattle.std.specs.Prelude.{◌≡◌, ℕ, true, List, ◌∷◌, ◌++◌, length}
+use Rattle.vk_model.specs.declared.command.Cmd.{Cmd}
+use Rattle.vk_model.specs.declared.entry.Entry.TheVariants as entry
+use Rattle.vk_model.specs.declared.entry.SemaphoreValue.{SemaphoreValue}
+use Rattle.vk_model.specs.Trace.Point.{Past, Point, Run, entries}
+use Rattle.vk_model.specs.Trace.Structure.{IsOrdered}
+use Rattle.vk_model.specs.Rules.Fault.{IsUnbroken}
+use Rattle.vk_model.specs.Run.Pieces.{pieces}
+use Rattle.vk_model.specs.Run.Runs.{Stage, past_with, may_go}
+use Rattle.vk_offers.specs.IsOffers.{is_run, ComesNext, host_node, is_free_next}
+
+-- Each point of an ordered past without a fault may come next after those before it.
+abbrev pub OrderComesNext : Type 0
+OrderComesNext = (all newer past : Past) (p : Point) (count : ℕ) → IsUnbroken all → IsOrdered all → all ≡ newer ++ p ∷ past
+    → ((c : Cmd) → p.action ≡ Run c → is_run c ≡ true → count ≡ length (pieces (p ∷ past) c)) → ComesNext past p count
+
+-- A wait of the host may be applied exactly where all pieces of commands before it have run, seen from the points before it alone (Vulkan, "Semaphores", on `vkWaitSemaphores`).
+abbrev pub WaitsMayGo : Type 0
+WaitsMayGo = (s : Stage) (ws : List SemaphoreValue) → IsUnbroken (past_with s (entry.Wait ws)) → IsOrdered (past_with s (entry.Wait ws)) → s.count ≡ length (entries s.front.past)
+    → may_go s (entry.Wait ws) ≡ is_free_next s.front.past s.done (host_node s.front.past s.count (entry.Wait ws))

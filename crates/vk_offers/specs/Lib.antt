@@ -1,0 +1,3 @@
+pub mod IsOffers
+pub mod Laws
+pub mod Inner
