@@ -14,8 +14,8 @@ use vk_model::{Cmd, Entry, before_is_order, growth_keeps};
 use vk_order::{Act, Action, Frontier, Point, Sight, commands_follow};
 use vk_sync::{Piece, Ready};
 
-/// The points so far, as far as they decide what may run next: the commands that were started, which
-/// of their pieces have run, and what is before what.
+/// The points so far, as far as they decide what may run next: the commands that were started,
+/// which of their pieces have run, and what is before what.
 #[derive(Drop)]
 pub struct Offers<'a> {
     alloc: Global,

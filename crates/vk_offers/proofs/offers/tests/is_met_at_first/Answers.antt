@@ -1,4 +1,4 @@
-use Rattle.std.proofs.Common.{refl, zero, [], ◌≡◌}
+use Rattle.std.proofs.Common.{refl, []}
 use Rattle.vk_offers.specs.IsOffers.{host_node}
 use Rattle.vk_offers.proofs.offers.tests.is_met_at_first.Goals as goal
 
