@@ -24,10 +24,9 @@ pub struct Piece {
 /// Commands, of which the pieces that may run next are known. Contracts see the list of the
 /// commands, in the order of adding.
 ///
-/// An operation costs the logarithm of the number of commands and of pieces, near enough: a search
-/// goes past at most 64 sums by 64 and by 4,096 each, and past one sum for each 4,096 commands or
-/// 262,144 pieces. A command is passed once when it is finished, and once when it waits for nothing
-/// more.
+/// A search for a piece goes past at most 64 counts, 64 sums of 64 counts, and one sum for each
+/// 4,096 commands; and in the same way past the pieces of its command. A command is passed once
+/// when it is finished, and once when it waits for nothing more.
 #[derive(Drop)]
 pub struct Ready {
     alloc: Global,
