@@ -1,4 +1,8 @@
-pub mod Promises
-pub mod Bytes
-pub mod Points
-pub mod Traces
+mod Clean
+mod Standing
+mod Running
+mod Picking
+mod Coming
+mod Entering
+mod Allocating
+mod WholeTraces

@@ -1,5 +1,4 @@
-pub mod Allotted
+-- What only the contracts within the crate cite.
+pub mod Clean
 pub mod Fits
-pub mod Made
 pub mod Ready
-pub mod Steps

@@ -1,6 +1,3 @@
-pub mod Held
-pub mod Allocating
-pub mod Clean
-pub mod Inner
-pub mod Matches
+pub mod Led
 pub mod Replays
+pub mod Inner

@@ -1,17 +1,5 @@
 use std::alloc::{AllocError, AllocFailed};
 use thiserror::Error;
-use vk_model::Sequence;
-
-/// What an entry gave.
-#[derive(Debug, Drop)]
-pub enum Applied {
-    /// It was applied, and read nothing.
-    Done,
-    /// The bytes that the host read.
-    Bytes(Sequence<u8>),
-    /// Its allocation found no room. The device is as it was.
-    NoRoom,
-}
 
 /// Why an entry was not applied.
 #[derive(Clone, Copy, Debug, Drop, PartialEq, Eq, Error)]

@@ -1,19 +1,39 @@
-ghost use Rattle.std.specs.Prelude.{◌≡◌, ◌⊎◌, ◌+◌, [], length, true, false, IfOk, IsTrue, OnErr, OnOk, IfErr, if◌then◌else◌};
+ghost use Rattle.std.specs.Prelude.{◌≡◌, ◌⊎◌, ◌++◌, ◌∷◌, ◌+◌, ◌≤◌, [], List, length, map, option_map, true, false, IfOk, IfErr, IsTrue, OnErr, OnOk, if◌then◌else◌};
+ghost use Rattle.vk_model.specs.Trace.Point.{Past};
+ghost use Rattle.vk_model.specs.Run.Runs.{Step, Stage, Apply, applied, offered};
+ghost use Rattle.vk_memory.specs.MemoryState.{IsLive, region_of};
+ghost use Rattle.vk_heap.specs.Region.{piece};
+ghost use Rattle.vk_resources.specs.Held.{placed, spot_of};
+ghost use Rattle.vk_resources.specs.Inner.Allotted.{FoundRoom};
+ghost use Rattle.vk_offers.specs.IsOffers.{name_of};
+ghost use Rattle.vk_order.specs.PointViews.{point_of};
+ghost use Rattle.std.specs.Prelude.{◌<◌};
+ghost use Rattle.vk_model.specs.Run.Picks.{pick_of, held_after};
+ghost use Rattle.vk_device.specs.Inner.Ready.{option_count};
 
-use crate::applied::{Applied, ApplyError};
-use crate::resources::Resources;
-use std::alloc::Global;
-use vk_model::{Config, Entry, Scheduler};
-use vk_queues::Waiting;
+use crate::applied::ApplyError;
+use std::alloc::{AllocError, Global};
+use vk_laws::{
+    defined_runs_stand, direct_runs_are_fresh, direct_runs_are_runs, direct_runs_go_on,
+    new_memory_holds_anything, offered_are_pieces, picks_are_runs,
+};
+use vk_model::{Config, Entry, Scheduler, no_fault_is_sound, order_is_structured};
+use vk_offers::{Offers, Piece, points_come_next, waits_go};
+use vk_order::{Action, Point};
+use vk_queues::{Waiting, points_after};
+use vk_resources::{Applied, Resources, Spot};
 
-/// A device with its memory and its queues. A batch waits for its semaphores, and its commands are
-/// run when it is started: with the entry that submits it, or with the one that sets it free.
+/// A device with its memory and its queues. A batch waits for its semaphores; the commands of one
+/// that was started run in pieces, in any order that the rules allow: a scheduler picks it.
 #[derive(Drop)]
 pub struct Device<'a> {
+    alloc: Global,
     /// Its buffers and their memory.
     resources: Resources,
     /// The batches that were submitted and not started.
     waiting: Waiting<'a>,
+    /// The commands that were started, and which of their pieces have run.
+    offers: Offers<'a>,
     /// How many entries were applied.
     count: usize,
     /// Whether an entry has met `NoMemory`.
@@ -21,68 +41,168 @@ pub struct Device<'a> {
 }
 
 impl<'a> Device<'a> {
-    ghost use Rattle.vk_model.specs.Trace.Order.{Front, settled, after_entry};
-    ghost use Rattle.vk_device.specs.Clean.{IsClean};
-    ghost use Rattle.vk_device.specs.Matches.{Matches, IsNext, Answered, Rooms, Allots};
-    ghost use Rattle.vk_device.specs.Inner.Allotted.{allotted, FoundRoom, GotAskedBy};
-    ghost use Rattle.vk_device.specs.Inner.Fits.{AllFit};
-    ghost use Rattle.vk_device.specs.Inner.Made.{MatchesFront, AnsweredFront};
-    ghost use Rattle.vk_device.specs.Inner.Ready.{StartsReady, HostDone, AdvanceReady, Ready};
+    ghost use Rattle.vk_model.specs.Run.Runs.{start};
+    ghost use Rattle.vk_device.specs.Led.{Led, IsBefore, IsNext, MayRun, HasRun, HasWritten, Applies, Reads, Rooms, Allots};
+    ghost use Rattle.vk_device.specs.Inner.Ready.{PointFits, HasPieces, Waited, MayAsk, Goes, Picks, HostDone, AdvanceReady, GotAskedBy};
+    ghost use Rattle.vk_resources.specs.Inner.Allotted.{allotted};
     ghost use Rattle.vk_device.specs.declared.applied.ApplyError.TheVariants.{NoMemory, Failed};
 
     /// A device with heaps of these sizes, without resources. It takes no memory.
     pub fn new(alloc: Global, config: Config) -> Device<'a>
-        ensures matches { Matches (record { past = []; waiting = [] }) result }
+        ensures led { (t : List Entry) → Led t [] (start t) result }
         ensures empty { result.resources.memory ≡ record { sizes = config; objects = [] } }
         ensures works { result.failed ≡ false }
     {
+        direct_runs_go_on();
         Device {
+            alloc,
             resources: Resources::new(alloc, config),
             waiting: Waiting::new(alloc),
+            offers: Offers::new(alloc),
             count: 0,
             failed: false,
         }
     }
 
-    /// Starts the batches that can be, one after another, and runs their commands.
-    fn start_batches(&mut self) -> Result<(), ApplyError>
-        requires { StartsReady self.old }
-        ensures matches { OnOk result ((f : Front) → MatchesFront f self.old → AllFit (settled (length f.waiting) f).past → MatchesFront (settled (length f.waiting) f) self.new) }
+    /// Runs a piece that may run next.
+    fn run(&mut self, piece: Piece)
+        requires { MayRun self.old piece }
+        ensures ran { HasRun self.old self.new piece }
+        ensures written { HasWritten self.old self.new piece }
         ensures allotted { allotted self.new.resources.memory ≡ allotted self.old.resources.memory }
-        ensures count { self.new.count ≡ self.old.count }
         ensures failed { self.new.failed ≡ self.old.failed }
-        ensures error { IfErr result (λ f. f ≡ NoMemory) }
     {
-        while let Some(batch) = self.waiting.start()? {
-            self.resources.run_batch(batch.content);
+        direct_runs_go_on();
+        direct_runs_are_runs();
+        direct_runs_are_fresh();
+        defined_runs_stand();
+        offered_are_pieces();
+        no_fault_is_sound();
+        self.resources
+            .run_piece(self.offers.command(piece), piece.index);
+        self.offers.finish(piece);
+    }
+
+    /// How many pieces a point is run in; only a clear or a copy has any.
+    fn pieces(&self, point: &Point<'_>) -> u64
+        ensures { (past : Past) → PointFits past (point_of point.now) self.now.resources → HasPieces past (point_of point.now) result }
+    {
+        match point.action {
+            Action::Run(command) => self.resources.pieces(command),
+            _ => 0,
         }
+    }
+
+    /// The commands that an entry waits for: of each queue the first so many. Only a wait of the host
+    /// waits for any.
+    fn waited(&self, entry: &'a Entry) -> Result<Option<[usize; 4]>, AllocError>
+        requires { IsNext self.now entry.now }
+        ensures { IfOk result (λ counts. Waited self.now entry.now counts) }
+    {
+        waits_go();
+        defined_runs_stand();
+        direct_runs_are_runs();
+        order_is_structured();
+        no_fault_is_sound();
+        match entry {
+            Entry::Wait { .. } => {
+                let before = self.offers.before(self.count, entry)?;
+                Ok(Some(before))
+            }
+            _ => Ok(None),
+        }
+    }
+
+    /// Whether the next entry may be applied: at once, or a wait of the host when all commands before
+    /// it have run.
+    fn may_go(&self, commands: Option<[usize; 4]>) -> bool
+        requires { MayAsk self.now commands }
+        ensures { Goes self.now commands result }
+    {
+        match commands {
+            Some(before) => self.offers.is_met(before),
+            None => true,
+        }
+    }
+
+    /// Runs pieces as the scheduler picks them, until it picks the entry that comes next. It is asked
+    /// where it has a choice. The only error is want of memory, or of numbers where 2^64 - 1 pieces
+    /// may run.
+    fn run_picked<S: Scheduler>(
+        &mut self,
+        entry: &'a Entry,
+        sched: &mut S,
+    ) -> Result<(), AllocError>
+        requires { IsNext self.old entry.now }
+        ensures picked { OnOk result ((t : List Entry) (steps : List Step) (s : Stage) (xs : List Entry) → IsBefore t steps s entry.now xs self.old
+            → Picks S.answer S.next t steps s (S.held sched.old) entry.now self.new (S.held sched.new)) }
+        ensures allotted { allotted self.new.resources.memory ≡ allotted self.old.resources.memory }
+        ensures failed { self.new.failed ≡ self.old.failed }
+    {
+        picks_are_runs();
+        direct_runs_are_runs();
+        let commands = self.waited(entry)?;
+        loop {
+            let pieces = self.offers.count();
+            if pieces == u64::MAX {
+                return Err(AllocError);
+            }
+            let goes = self.may_go(commands);
+            let picked = pick(pieces, goes, sched);
+            if picked >= pieces {
+                return Ok(());
+            }
+            let piece = self.offers.nth(picked);
+            self.run(piece);
+        }
+    }
+
+    /// The points that come with an entry have come: its own, and those of the batches that are
+    /// started then.
+    fn advance(&mut self, entry: &'a Entry) -> Result<(), AllocError>
+        requires { AdvanceReady self.old entry.now }
+        ensures advanced { OnOk result ((t : List Entry) (steps : List Step) (s : Stage) (xs : List Entry) → HostDone t steps s entry.now xs self.old
+            → Led t (steps ++ Apply [] 0 ∷ []) (applied s 0 entry.now xs) self.new) }
+        ensures allotted { allotted self.new.resources.memory ≡ allotted self.old.resources.memory }
+        ensures failed { self.new.failed ≡ self.old.failed }
+    {
+        points_come_next();
+        order_is_structured();
+        no_fault_is_sound();
+        direct_runs_are_runs();
+        defined_runs_stand();
+        let points = points_after(self.alloc, &mut self.waiting, self.count, entry)?;
+        for point in points.as_slice() {
+            let pieces = self.pieces(point);
+            self.offers.add(point, pieces)?;
+        }
+        self.count += 1;
         Ok(())
     }
 
-    /// An entry has been done: its batches are submitted, it is counted, and the batches that can
-    /// be started then are.
-    fn advance(&mut self, entry: &'a Entry) -> Result<(), ApplyError>
-        requires { AdvanceReady self.old entry.now }
-        ensures matches { OnOk result ((f : Front) → HostDone self.old entry.now f → MatchesFront (after_entry self.old.count entry.now f) self.new) }
-        ensures allotted { allotted self.new.resources.memory ≡ allotted self.old.resources.memory }
-        ensures count { OnOk result (self.new.count ≡ self.old.count + 1) }
-        ensures failed { self.new.failed ≡ self.old.failed }
-        ensures error { IfErr result (λ f. f ≡ NoMemory) }
-    {
-        self.waiting.enter(self.count, entry)?;
-        self.count += 1;
-        self.start_batches()
-    }
-
     /// Applies an entry, and leaves it to the caller to keep that it failed.
-    fn apply_entry(&mut self, entry: &'a Entry) -> Result<Applied, ApplyError>
-        requires { Ready self.old entry.now }
-        ensures answered { IfOk result (λ a. (f : Front) → MatchesFront f self.old → AllFit (after_entry self.old.count entry.now f).past → AnsweredFront a entry.now f self.old self.new) }
+    fn apply_entry<S: Scheduler>(
+        &mut self,
+        entry: &'a Entry,
+        sched: &mut S,
+    ) -> Result<Applied, ApplyError>
+        requires { IsNext self.old entry.now }
+        ensures applied { IfOk result (λ a. (t : List Entry) (steps : List Step) (s : Stage) (xs : List Entry) → IsBefore t steps s entry.now xs self.old
+            → Applies S.answer S.next a t steps s (S.held sched.old) entry.now xs self.new (S.held sched.new)) }
+        ensures reads { IfOk result (λ a. (t : List Entry) (steps : List Step) (s : Stage) (xs : List Entry) → IsBefore t steps s entry.now xs self.old → Reads a s entry.now) }
         ensures rooms { IfOk result (λ a. FoundRoom a self.old.resources entry.now) }
-        ensures allots { IfOk result (λ a. GotAskedBy a entry.now self.old self.new) }
+        ensures allots { IfOk result (λ a. GotAskedBy a entry.now self.old.resources self.new.resources) }
         ensures failed { self.new.failed ≡ self.old.failed }
         ensures error { IfErr result (λ f. f ≡ NoMemory) }
     {
+        direct_runs_go_on();
+        direct_runs_are_fresh();
+        new_memory_holds_anything();
+        picks_are_runs();
+        no_fault_is_sound();
+        direct_runs_are_runs();
+        defined_runs_stand();
+        self.run_picked(entry, sched)?;
         match self.resources.apply(entry)? {
             Applied::NoRoom => Ok(Applied::NoRoom),
             applied => {
@@ -92,33 +212,92 @@ impl<'a> Device<'a> {
         }
     }
 
-    /// Applies one entry: what it allocates is placed, what it reads is answered, and the batches
-    /// that can be started with it are run: those that it submits, and those that a signal of the
-    /// host or of a batch sets free. The entries so far with this one are to break no rule.
-    /// `NoRoom` comes exactly where the memory object that the entry asks for cannot be made.
-    /// After `NoMemory` it only answers `Failed`.
+    /// Applies one entry. First pieces run, as the scheduler picks them, until it picks the entry: it
+    /// is asked where it has two options or more, which are the pieces that may run next, in reference
+    /// order, and then the entry, where it may be applied. What the entry allocates is placed, what it
+    /// reads is answered, and the batches that can be started with it are. The entries so far with
+    /// this one are to break no rule. `NoRoom` comes exactly where the memory object that the entry
+    /// asks for cannot be made. After `NoMemory` it only answers `Failed`.
     pub fn apply<S: Scheduler>(
         &mut self,
         entry: &'a Entry,
         sched: &mut S,
     ) -> Result<Applied, ApplyError>
         requires { IsTrue self.old.failed ⊎ IsNext self.old entry.now }
-        ensures answered { IfOk result (λ a. (f : Front) → Matches f self.old → IsClean (after_entry self.old.count entry.now f).past → Answered a entry.now f self.old self.new) }
+        ensures applied { IfOk result (λ a. (t : List Entry) (steps : List Step) (s : Stage) (xs : List Entry) → IsBefore t steps s entry.now xs self.old
+            → Applies S.answer S.next a t steps s (S.held sched.old) entry.now xs self.new (S.held sched.new)) }
+        ensures reads { IfOk result (λ a. (t : List Entry) (steps : List Step) (s : Stage) (xs : List Entry) → IsBefore t steps s entry.now xs self.old → Reads a s entry.now) }
         ensures rooms { IfOk result (λ a. Rooms a self.old entry.now) }
         ensures allots { IfOk result (λ a. Allots a entry.now self.old self.new) }
         ensures works { IfOk result (λ a. (self.old.failed ≡ false) × (self.new.failed ≡ false)) }
         ensures error { IfErr result (λ f. f ≡ (if self.old.failed then Failed else NoMemory)) }
         ensures failed { OnErr result (self.new.failed ≡ true) }
-        ensures unasked { S.held sched.new ≡ S.held sched.old }
     {
-        let _unasked: &S = sched;
+        no_fault_is_sound();
+        direct_runs_are_runs();
+        defined_runs_stand();
         if self.failed {
             return Err(ApplyError::Failed);
         }
-        let applied = self.apply_entry(entry);
+        let applied = self.apply_entry(entry, sched);
         if applied.is_err() {
             self.failed = true;
         }
         applied
+    }
+
+    /// The pieces that may run next, in reference order. The only error is want of memory.
+    pub fn offered(&self) -> Result<Vec<Piece>, AllocError>
+        ensures { IfOk result (λ pieces. (t : List Entry) (steps : List Step) (s : Stage) → Led t steps s self.now → map (name_of s.front.past) pieces.items ≡ offered s.front.past s.done) }
+    {
+        self.offers.offered()
+    }
+
+    /// Runs a piece that may run next, and no other: each byte that it has written holds what the trace
+    /// means there after the piece's command, where that is defined. It takes no memory. After `NoMemory` in `apply`
+    /// it only answers `Failed`.
+    pub fn step(&mut self, piece: Piece) -> Result<(), ApplyError>
+        requires { IsTrue self.old.failed ⊎ MayRun self.old piece }
+        ensures ran { OnOk result (HasRun self.old self.new piece) }
+        ensures written { OnOk result (HasWritten self.old self.new piece) }
+        ensures allotted { allotted self.new.resources.memory ≡ allotted self.old.resources.memory }
+        ensures error { IfErr result (λ f. (f ≡ Failed) × IsTrue self.old.failed) }
+    {
+        if self.failed {
+            return Err(ApplyError::Failed);
+        }
+        self.run(piece);
+        Ok(())
+    }
+
+    /// Where a resource lies, by its id; none where there is no such resource.
+    pub fn spot(&self, resource: u32) -> Option<Spot>
+        ensures { result ≡ option_map spot_of (placed self.now.resources resource) }
+    {
+        self.resources.spot(resource)
+    }
+
+    /// Copies the bytes of a memory object from byte `at` on into `out`.
+    pub fn peek(&self, memory: u64, at: u64, out: &mut [u8])
+        requires live { IsLive self.now.resources.memory memory }
+        requires inside { at + length out.old ≤ length (region_of self.now.resources.memory memory) }
+        ensures { out.new ≡ piece (region_of self.now.resources.memory memory) at (length out.old) }
+    {
+        self.resources.peek(memory, at, out);
+    }
+}
+
+/// Which of the options is picked: so many pieces, and then the entry, where it may be applied. The
+/// scheduler is asked where there are two or more, and its answer counts modulo their number.
+fn pick<S: Scheduler>(pieces: u64, goes: bool, sched: &mut S) -> u64
+    requires { pieces < 18446744073709551615 }
+    ensures picked { result ≡ pick_of S.answer S.next (S.held sched.old) (option_count pieces goes) }
+    ensures held { S.held sched.new ≡ held_after S.answer S.next (S.held sched.old) (option_count pieces goes) }
+{
+    let options = pieces + u64::from(goes);
+    if options >= 2 {
+        sched.pick(options) % options
+    } else {
+        0
     }
 }

@@ -1,11 +1,13 @@
-//! The device: it runs the entries of a trace on regions of memory.
+//! The device: it runs the entries of a trace on regions of memory, and pieces of commands in any
+//! order that the rules allow.
 #![tactic(auto)]
 
 mod applied;
 mod device;
 mod replaying;
-mod resources;
 
-pub use applied::{Applied, ApplyError};
+pub use applied::ApplyError;
 pub use device::Device;
 pub use replaying::{Replayed, replay};
+pub use vk_offers::Piece;
+pub use vk_resources::{Applied, Spot};

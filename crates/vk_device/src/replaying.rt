@@ -1,15 +1,16 @@
 ghost use Rattle.std.specs.Prelude.{◌≡◌, length, IfOk, IfErr, MatchOption, None, false};
-ghost use Rattle.vk_model.specs.Trace.Order.{order};
 ghost use Rattle.vk_model.specs.World.Meaning.{meaning};
 ghost use Rattle.vk_model.specs.Rules.Table.{first_fault};
-ghost use Rattle.vk_device.specs.Clean.{IsClean};
-ghost use Rattle.vk_device.specs.Replays.{Ends};
+ghost use Rattle.vk_device.specs.Led.{IsSoundTrace};
+ghost use Rattle.vk_device.specs.Replays.{Ends, LedByPicks};
 ghost use Rattle.vk_device.specs.declared.applied.ApplyError.TheVariants.{NoMemory};
 
-use crate::applied::{Applied, ApplyError};
+use crate::applied::ApplyError;
 use crate::device::Device;
 use std::alloc::Global;
-use vk_model::{Config, Entry, Scheduler, Sequence, no_fault_is_sound};
+use vk_laws::{defined_runs_stand, direct_runs_are_runs, picks_are_runs};
+use vk_model::{Config, Entry, Scheduler, Sequence};
+use vk_resources::Applied;
 use vk_validate::Accepted;
 
 /// What a trace gave.
@@ -35,15 +36,15 @@ pub fn replay<'a, S: Scheduler>(
     // The reads are what the trace means, up to the stop where there is one.
     ensures meaning { IfOk result (λ r. MatchOption r.stop
         (r.reads ≡ meaning accepted.now (length accepted.now)) (λ n. r.reads ≡ meaning accepted.now n)) }
-    // The device matches the entries that were applied, and has what they allocate; it stops where the
-    // next entry finds no room there, and nowhere else.
+    // What the scheduler picked has led to the device.
+    ensures led { IfOk result (λ r. LedByPicks S.answer S.next accepted.now r.stop (S.held sched.old) r.device (S.held sched.new)) }
+    // The device has what the entries that were applied allocate; it stops where the next entry finds
+    // no room there, and nowhere else.
     ensures stop { IfOk result (λ r. Ends config accepted.now r.stop r.device) }
     // The device has not failed.
     ensures works { IfOk result (λ r. r.device.failed ≡ false) }
     ensures error { IfErr result (λ f. f ≡ NoMemory) }
-    ensures unasked { S.held sched.new ≡ S.held sched.old }
 {
-    no_fault_is_sound();
     replay_entries(alloc, accepted.entries(), config, sched)
 }
 
@@ -54,14 +55,17 @@ fn replay_entries<'a, S: Scheduler>(
     config: Config,
     sched: &mut S,
 ) -> Result<Replayed<'a>, ApplyError>
-    requires { IsClean (order entries.now) }
+    requires { IsSoundTrace entries.now }
     ensures meaning { IfOk result (λ r. MatchOption r.stop
         (r.reads ≡ meaning entries.now (length entries.now)) (λ n. r.reads ≡ meaning entries.now n)) }
+    ensures led { IfOk result (λ r. LedByPicks S.answer S.next entries.now r.stop (S.held sched.old) r.device (S.held sched.new)) }
     ensures stop { IfOk result (λ r. Ends config entries.now r.stop r.device) }
     ensures works { IfOk result (λ r. r.device.failed ≡ false) }
     ensures error { IfErr result (λ f. f ≡ NoMemory) }
-    ensures unasked { S.held sched.new ≡ S.held sched.old }
 {
+    defined_runs_stand();
+    direct_runs_are_runs();
+    picks_are_runs();
     let mut device = Device::new(alloc, config);
     let mut reads = Vec::new(alloc);
     for (index, entry) in entries.iter().enumerate() {

@@ -1,5 +1,5 @@
-mod Commands
-mod Offering
+pub mod Commands
+pub mod Offering
 mod Growing
 mod Finishing
 mod Steps

@@ -104,7 +104,7 @@ enumerated {X} k (y ∷ ys) x c = elim (contains-cons (k, y) (enumerate_from (k 
 ]
 
 -- a ready piece is left of its command
-ready_has : (cs : List Command) (piece : Piece) → Contains (ready cs) piece → (c : Command) × (slice_get cs piece.command ≡ Some c) × Contains c.left piece.index
+pub ready_has : (cs : List Command) (piece : Piece) → Contains (ready cs) piece → (c : Command) × (slice_get cs piece.command ≡ Some c) × Contains c.left piece.index
 ready_has cs piece at =
     let from = flat_from (pieces_of cs) (enumerate_from 0 cs) piece at in
     let place = enumerated 0 cs from.0 from.1 in

@@ -1,24 +1,75 @@
--- What each step of a device asks of it.
-use Rattle.std.specs.Prelude.{◌<◌, ◌∷◌, length}
+-- What each step of a device asks of it, and gives.
+use Rattle.std.specs.Prelude.{◌≡◌, ℕ, ◌+◌, List, [], ◌∷◌, ◌++◌, length, Option, Some, None, Bool, true, false, IsTrue}
 use Rattle.vk_model.specs.declared.entry.Entry.{Entry}
-use Rattle.vk_model.specs.Trace.Order.{Front, host, settled, after_entry}
+use Rattle.vk_model.specs.declared.command.Cmd.{Cmd}
+use Rattle.vk_model.specs.Trace.Point.{Past, Point, Run}
+use Rattle.vk_model.specs.Trace.Order.{host}
+use Rattle.vk_model.specs.Run.Pieces.{pieces}
+use Rattle.vk_model.specs.Run.Runs.{Name, Step, Stage, RunPiece, Apply, may_go}
+use Rattle.vk_model.specs.Run.Runs as runs
+use Rattle.vk_model.specs.Run.Picks.{before_entry}
+use Rattle.vk_model.specs.Sync.Node.{Node, nodes}
+use Rattle.vk_laws.specs.DirectRuns.{DirectRun, bare_memory}
 use Rattle.vk_queues.specs.IsWaiting.{IsWaiting}
+use Rattle.vk_offers.specs.IsOffers.{IsOffers, CountsBefore, host_node, is_free_next}
+use Rattle.vk_resources.specs.Held.{Held, MatchesSizes, byte_at}
+use Rattle.vk_resources.specs.declared.applied.Applied.{Applied}
+use Rattle.vk_resources.specs.declared.applied.Applied.TheVariants as applied
+use Rattle.vk_resources.specs.Fits.{FitsCommand}
+use Rattle.vk_resources.specs.Inner.Allotted.{allotted, with_asked}
 use Rattle.vk_device.specs.declared.device.Device.{Device}
-use Rattle.vk_device.specs.Inner.Fits.{AllFit}
-use Rattle.vk_device.specs.Inner.Made.{MatchesMade, MatchesFront}
+use Rattle.vk_device.specs.Led.{Led, IsBefore, IsSoundTrace}
 
--- A device matches what has happened, and the batches that can be started fit.
-abbrev pub StartsReady : Device → Type 0
-StartsReady d = (f : Front) × MatchesFront f d × AllFit (settled (length f.waiting) f).past
+-- The commands before an entry that waits for them: how many of each queue; none where it waits for none. When it may be applied goes by them, whichever pieces have run then.
+abbrev pub Waited : Device → Entry → Option (List ℕ) → Type 0
+Waited d x None = (s : Stage) → may_go s x ≡ true
+Waited d x (Some counts) = (t : List Entry) (steps : List Step) (s : Stage) (xs : List Entry) → IsBefore t steps s x xs d → CountsBefore (host_node s.front.past s.count x ∷ nodes s.front.past) (host_node s.front.past s.count x) counts
+    × ((done : List Name) → may_go (record s { done = done }) x ≡ is_free_next s.front.past done (host_node s.front.past s.count x))
 
--- An entry has been done by itself, and the batches that can be started then fit.
-abbrev pub HostDone : Device → Entry → Front → Type 0
-HostDone d x f = MatchesMade (host d.count x ∷ f.past) d.resources × IsWaiting d.waiting d.count f × AllFit (after_entry d.count x f).past
+-- An entry has been done by itself: the run has come to its stage, and its points haven't come to the device.
+pub record HostDone (t : List Entry) (steps : List Step) (s : Stage) (x : Entry) (xs : List Entry) (d : Device) : Type 0 where
+  pub run : DirectRun t (steps ++ Apply [] 0 ∷ []) (runs.applied s 0 x xs) (bare_memory (byte_at d.resources))
+  pub sizes : MatchesSizes (host s.count x ∷ s.front.past) d.resources
+  pub waits : IsWaiting d.waiting d.count s.front
+  pub counts : d.count ≡ s.count
+  pub offers : IsOffers d.offers s.front.past s.done
+  pub no_parts : s.parts ≡ 0
+  pub sound : IsSoundTrace t
 
--- That of an entry whose number is below the limit on points (profile).
 abbrev pub AdvanceReady : Device → Entry → Type 0
-AdvanceReady d x = (f : Front) × HostDone d x f × (d.count < 131072)
+AdvanceReady d x = (t : List Entry) × (steps : List Step) × (s : Stage) × (xs : List Entry) × HostDone t steps s x xs d
 
--- A device matches what has happened, and the entry that comes next fits, with the batches that are started then.
-abbrev pub Ready : Device → Entry → Type 0
-Ready d x = (f : Front) × MatchesFront f d × (d.count < 131072) × AllFit (after_entry d.count x f).past
+-- A point that comes fits what the resources are.
+pub record PointFits (past : Past) (p : Point) (resources : Held) : Type 0 where
+  pub sizes : MatchesSizes past resources
+  pub fits : (c : Cmd) → p.action ≡ Run c → FitsCommand past c
+
+-- It is run in so many pieces.
+abbrev pub HasPieces : Past → Point → ℕ → Type 0
+HasPieces past p count = (c : Cmd) → p.action ≡ Run c → count ≡ length (pieces past c)
+
+-- It may be asked whether so many commands of each queue have run.
+abbrev pub MayAsk : Device → Option (List ℕ) → Type 0
+MayAsk d None = Unit {0}
+MayAsk d (Some counts) = (past : Past) × (done : List Name) × (h : Node) × IsOffers d.offers past done × (h.number ≡ length (nodes past)) × CountsBefore (h ∷ nodes past) h counts
+
+-- It is answered so.
+abbrev pub Goes : Device → Option (List ℕ) → Bool → Type 0
+Goes d None goes = goes ≡ true
+Goes d (Some counts) goes = (past : Past) (done : List Name) (h : Node) → IsOffers d.offers past done → h.number ≡ length (nodes past) → CountsBefore (h ∷ nodes past) h counts → goes ≡ is_free_next past done h
+
+-- What was picked before an entry has led here, and the entry may be applied.
+abbrev pub Picks : (List ℕ → ℕ → ℕ) → (List ℕ → ℕ → List ℕ) → List Entry → List Step → Stage → List ℕ → Entry → Device → List ℕ → Type 0
+Picks answer next t steps s held x new after =
+    let p = before_entry answer next s held x in
+    Led t (steps ++ p.steps) p.stage new × (after ≡ p.held) × IsTrue (may_go p.stage x)
+
+-- An entry that is applied gets the memory objects that it asks for, and no others are made.
+abbrev pub GotAskedBy : Applied → Entry → Held → Held → Type 0
+GotAskedBy applied.NoRoom x old new = allotted new.memory ≡ allotted old.memory
+GotAskedBy _ x old new = allotted new.memory ≡ with_asked (allotted old.memory) x
+
+-- How many options there are before an entry: so many pieces, and the entry where it may be applied (profile).
+abbrev pub option_count : ℕ → Bool → ℕ
+option_count pieces true = pieces + 1
+option_count pieces false = pieces

@@ -1,26 +1,34 @@
-use Rattle.std.proofs.Common.{refl, ◌∙◌}
-use Rattle.vk_device.proofs.Traces.Whole.{replays_start, entry_ready, stops, after_done, after_bytes}
+use Rattle.std.proofs.Common.{◌∙◌}
+use Rattle.vk_device.proofs.WholeTraces.{replays_start, entry_ready, stops, after_done, after_bytes}
 use Rattle.vk_device.proofs.replaying.replay_entries.Goals as goal
 use Rattle.vk_device.proofs.replaying.replay_entries.Goals.{in-Done, in-Bytes+in_ok-push-in-Bytes}
 
 pub apply-requires : goal.apply-requires
-apply-requires g c = entry_ready c.args.config c.args.entries.now c.loop-index.index c.loop-index.reads.items c.loop-index.device c.index-entries-index.result c.requires c.loop-index.invariant.0 c.index-entries-index.is c.loop-index-test.true
+apply-requires g c = entry_ready g.S.Scheduler.answer g.S.Scheduler.next c.args.config c.args.entries.now (g.S.Scheduler.held c.args.sched.now) c.loop-index.index c.loop-index.reads.items c.loop-index.device (g.S.Scheduler.held c.loop-index.sched) c.index-entries-index.result c.loop-index.invariant c.index-entries-index.is c.loop-index-test.true c.requires
 
 pub returns-in-NoRoom-clause-meaning : goal.returns-in-NoRoom-clause-meaning
-returns-in-NoRoom-clause-meaning g c = c.new.ensures ∙ c.loop-index.invariant.0.same
+returns-in-NoRoom-clause-meaning g c = c.new.ensures ∙ c.loop-index.invariant.same
 
 pub returns-in-NoRoom-clause-stop : goal.returns-in-NoRoom-clause-stop
 returns-in-NoRoom-clause-stop g c =
-    stops c.args.config c.args.entries.now c.loop-index.index c.loop-index.reads.items c.loop-index.device c.index-entries-index.result c.requires c.loop-index.invariant.0 c.index-entries-index.is c.loop-index-test.true c.apply.new.self c.in_ok-apply.field-0 c.in-NoRoom.is c.in_ok-apply.ensures.answered c.in_ok-apply.ensures.rooms
+    (stops g.S.Scheduler.answer g.S.Scheduler.next c.args.config c.args.entries.now (g.S.Scheduler.held c.args.sched.now) c.loop-index.index c.loop-index.reads.items c.loop-index.device (g.S.Scheduler.held c.loop-index.sched) c.index-entries-index.result c.loop-index.invariant c.index-entries-index.is c.loop-index-test.true c.requires
+    c.apply.new.self (g.S.Scheduler.held c.apply.new.sched) c.in_ok-apply.field-0 c.in-NoRoom.is c.in_ok-apply.ensures.applied c.in_ok-apply.ensures.rooms c.in_ok-apply.ensures.allots).0
+
+pub returns-in-NoRoom-clause-led : goal.returns-in-NoRoom-clause-led
+returns-in-NoRoom-clause-led g c =
+    (stops g.S.Scheduler.answer g.S.Scheduler.next c.args.config c.args.entries.now (g.S.Scheduler.held c.args.sched.now) c.loop-index.index c.loop-index.reads.items c.loop-index.device (g.S.Scheduler.held c.loop-index.sched) c.index-entries-index.result c.loop-index.invariant c.index-entries-index.is c.loop-index-test.true c.requires
+    c.apply.new.self (g.S.Scheduler.held c.apply.new.sched) c.in_ok-apply.field-0 c.in-NoRoom.is c.in_ok-apply.ensures.applied c.in_ok-apply.ensures.rooms c.in_ok-apply.ensures.allots).1
 
 pub loop-index-preserved : goal.loop-index-preserved
-loop-index-preserved g c = (
-  elim c.match-branch-2.branch [
-    | in-Done w ↦ rw w.reads-is (after_done c.args.config c.args.entries.now c.loop-index.index c.loop-index.reads.items c.loop-index.device c.index-entries-index.result c.requires c.loop-index.invariant.0 c.index-entries-index.is c.loop-index-test.true c.apply.new.self c.in_ok-apply.field-0 w.in-Done.is c.in_ok-apply.ensures.answered c.in_ok-apply.ensures.rooms c.in_ok-apply.ensures.allots c.in_ok-apply.ensures.works.1)
-    | in-Bytes+in_ok-push-in-Bytes w ↦ rw (w.reads-is, w.in_ok-push-in-Bytes.ensures.items) (after_bytes c.args.config c.args.entries.now c.loop-index.index c.loop-index.reads.items c.loop-index.device c.index-entries-index.result c.requires c.loop-index.invariant.0 c.index-entries-index.is c.loop-index-test.true c.apply.new.self c.in_ok-apply.field-0 w.in-Bytes.bytes w.in-Bytes.is c.in_ok-apply.ensures.answered c.in_ok-apply.ensures.rooms c.in_ok-apply.ensures.allots c.in_ok-apply.ensures.works.1)
-  ],
-  c.apply.ensures.unasked ∙ c.loop-index.invariant.1,
-)
+loop-index-preserved g c =
+    let run = c.direct_runs_are_runs.ensures c.args.entries.now c.loop-index.invariant.steps c.loop-index.invariant.stage _ c.loop-index.invariant.led.run in
+    let st = c.defined_runs_stand.ensures c.args.entries.now c.loop-index.invariant.steps c.loop-index.invariant.stage run in
+    elim c.match-branch-2.branch [
+      | in-Done w ↦ rw w.reads-is (after_done g.S.Scheduler.answer g.S.Scheduler.next c.args.config c.args.entries.now (g.S.Scheduler.held c.args.sched.now) c.loop-index.index c.loop-index.reads.items c.loop-index.device (g.S.Scheduler.held c.loop-index.sched) c.index-entries-index.result c.loop-index.invariant c.index-entries-index.is c.loop-index-test.true c.requires
+          c.picks_are_runs.ensures.lead_on run st c.apply.new.self (g.S.Scheduler.held c.apply.new.sched) c.in_ok-apply.field-0 w.in-Done.is c.in_ok-apply.ensures.applied c.in_ok-apply.ensures.reads c.in_ok-apply.ensures.rooms c.in_ok-apply.ensures.allots c.in_ok-apply.ensures.works.1)
+      | in-Bytes+in_ok-push-in-Bytes w ↦ rw (w.reads-is, w.in_ok-push-in-Bytes.ensures.items) (after_bytes g.S.Scheduler.answer g.S.Scheduler.next c.args.config c.args.entries.now (g.S.Scheduler.held c.args.sched.now) c.loop-index.index c.loop-index.reads.items c.loop-index.device (g.S.Scheduler.held c.loop-index.sched) c.index-entries-index.result c.loop-index.invariant c.index-entries-index.is c.loop-index-test.true c.requires
+          c.picks_are_runs.ensures.lead_on run st c.apply.new.self (g.S.Scheduler.held c.apply.new.sched) c.in_ok-apply.field-0 w.in-Bytes.bytes w.in-Bytes.is c.in_ok-apply.ensures.applied c.in_ok-apply.ensures.reads c.in_ok-apply.ensures.rooms c.in_ok-apply.ensures.allots c.in_ok-apply.ensures.works.1)
+    ]
 
 pub loop-index-init : goal.loop-index-init
-loop-index-init g c = (rw c.new-reads.ensures.items (replays_start c.args.config c.args.entries.now c.new-device.result c.new-device.ensures.matches c.new-device.ensures.empty c.new-device.ensures.works), refl)
+loop-index-init g c = rw c.new-reads.ensures.items (replays_start g.S.Scheduler.answer g.S.Scheduler.next c.args.config c.args.entries.now (g.S.Scheduler.held c.args.sched.now) c.new-device.result (c.new-device.ensures.led c.args.entries.now) c.new-device.ensures.empty c.new-device.ensures.works)

@@ -1,0 +1,296 @@
+-- What the rules promise of the points of a clean past.
+use Rattle.std.proofs.Common.{◌≡◌, ◌≢◌, ℕ, suc, length, ◌++◌, subst, ◌+◌, ◌-◌, ◌*◌, ◌/◌, ◌%◌, ◌<◌, ◌≤◌, List, [], ◌∷◌, Bool, true, false, not, ◌||◌, ◌==◌, nat_lt, nat_le, refl, ap, arith, Option, Some, None}
+use Rattle.std.specs.Prelude.{IsSome, is_some, is_none}
+use Rattle.std.specs.List.{list_all, cons_option}
+use Rattle.vk_model.specs.Trace.Order.{Front, after_entry, order_from, host}
+use Rattle.vk_model.proofs.Trace.Growing.{entry_grows, order_grows}
+use Rattle.std.proofs.lemmas.Bool.{ltb-false, leb-false, eqb-false, eqb-true, false_from_ne_true, or_parts, and_parts}
+use Rattle.vk_model.specs.declared.rule.Rule.{Rule}
+use Rattle.vk_model.specs.declared.rule.Rule.TheVariants as rule
+use Rattle.vk_model.specs.Trace.Point.{Past, Point, Action, Host, Wait, Run, Signal, host_of, entries}
+use Rattle.vk_model.specs.Rules.Table.{breaks}
+use Rattle.vk_model.specs.Rules.Fault.{newest, older}
+use Rattle.vk_model.specs.Rules.Ids.{breaks_new_id}
+use Rattle.vk_model.specs.Rules.Sizes.{breaks_size, bad_entry_size, bad_command_size, fills_none, breaks_memory_size, bad_memory_size}
+use Rattle.vk_model.specs.Rules.Ranges.{breaks_range, host_past, command_past, fills_from_end, breaks_align, misaligned, off_4_length}
+use Rattle.vk_model.specs.Rules.Traces.{breaks_limit}
+use Rattle.vk_model.specs.Rules.Hazards.{breaks_read_undefined, reads_undefined}
+use Rattle.vk_model.specs.World.Effect.{world}
+use Rattle.vk_model.specs.World.ByteWrites.{buffer_size, fill_size}
+use Rattle.vk_model.specs.World.Bytes.{in_buffer}
+use Rattle.vk_model.specs.declared.command.Length.{Length}
+use Rattle.vk_model.specs.declared.command.Length.TheVariants as length_of
+use Rattle.vk_model.specs.declared.command.Cmd.TheVariants as cmd
+use Rattle.vk_model.specs.declared.command.Element.{Element}
+use Rattle.vk_model.specs.declared.command.Element.TheVariants as element
+use Rattle.vk_model.specs.declared.entry.Entry.TheVariants as entry
+use Rattle.vk_model.specs.declared.resource.BufferInfo.{BufferInfo}
+use Rattle.vk_model.specs.declared.resource.Place.{Place}
+use Rattle.vk_model.specs.declared.resource.Place.TheVariants as place
+use Rattle.vk_validate.specs.Supported.{is_supported, is_supported_action, is_supported_place, is_memory}
+use Rattle.vk_device.specs.Inner.Clean.{IsClean}
+use Rattle.vk_device.specs.Inner.Fits.{FitsAction, AllFit}
+use Rattle.vk_resources.specs.Fits.{FitsFill, AllMemory, FitsCommand, IsOwn, FitsRead, FitsEntry}
+use Rattle.std.proofs.Math.Nat.{div-add-mod, div-mul-le_self, mul-div_cancel, mod-lt}
+use Rattle.vk_model.specs.declared.command.Cmd.{Cmd}
+use Rattle.vk_model.specs.Trace.Objects.{made, made_by, buffer}
+use Rattle.vk_model.specs.declared.entry.Entry.{Entry}
+use Rattle.vk_model.proofs.Lists.Pairs.{none_at}
+
+-- a point breaks no rule
+abbrev BreaksNone : Past → Point → Type 0
+BreaksNone past p = (r : Rule) → breaks r past p ≡ false
+
+breaks_none : (past : Past) (p : Point) → IsClean (p ∷ past) → BreaksNone past p
+breaks_none past p clean r = false_from_ne_true (breaks r past p) (clean.sound past p r newest)
+
+-- ---- what the supported forms get of it
+
+not_some : {A : Type 0} (o : Option A) → is_some o ≡ false → o ≡ None
+not_some None e = refl
+not_some (Some x) e = absurd cc
+
+not-false : (b : Bool) → not b ≡ false → b ≡ true
+not-false true e = refl
+not-false false e = absurd cc
+
+-- a test that is false of a sum says that it doesn't pass the bound
+not_above : (n m : ℕ) → nat_lt n m ≡ false → m ≤ n
+not_above n m e = ltb-false n m e
+
+not_zero : (n : ℕ) → (n == 0) ≡ false → 0 < n
+not_zero n e = let apart : n ≢ 0 = eqb-false n 0 e in omega arith
+
+-- Whether a fill to the end begins at the end or past it.
+abbrev ends_at : ℕ → ℕ → Length → Bool
+ends_at size o (length_of.Bytes n) = false
+ends_at size o length_of.Whole = nat_le size o
+
+module _ (past : Past) (p : Point) (none : BreaksNone past p) where
+  new_made : (x : Entry) (i : ℕ) → p.action ≡ Host x → made_by x ≡ Some i → made past i ≡ None
+  unfolding breaks
+  new_made x i is makes =
+      let unbroken : breaks_new_id past p ≡ false = none rule.NewId in
+      not_some (made past i) (rw (is, makes) at unbroken)
+
+  entry_size : (x : Entry) → p.action ≡ Host x → bad_entry_size x ≡ false
+  unfolding breaks
+  entry_size x is =
+      let unbroken : breaks_size past p ≡ false = none rule.Size in
+      (or_parts (bad_entry_size x) false (rw is at unbroken)).0
+
+  command_size : (c : Cmd) → p.action ≡ Run c → bad_command_size past c ≡ false
+  unfolding breaks
+  command_size c is =
+      let unbroken : breaks_size past p ≡ false = none rule.Size in
+      rw is at unbroken
+
+  memory_size : (x : Entry) → p.action ≡ Host x → bad_memory_size x ≡ false
+  unfolding breaks
+  memory_size x is =
+      let unbroken : breaks_memory_size past p ≡ false = none rule.MemorySize in
+      rw is at unbroken
+
+  entry_range : (x : Entry) → p.action ≡ Host x → host_past past x ≡ false
+  unfolding breaks
+  entry_range x is =
+      let unbroken : breaks_range past p ≡ false = none rule.Range in
+      (or_parts (host_past past x) false (rw is at unbroken)).0
+
+  command_range : (c : Cmd) → p.action ≡ Run c → command_past past c ≡ false
+  unfolding breaks
+  command_range c is =
+      let unbroken : breaks_range past p ≡ false = none rule.Range in
+      rw is at unbroken
+
+  command_align : (c : Cmd) → p.action ≡ Run c → misaligned past p.queue c ≡ false
+  unfolding breaks
+  command_align c is =
+      let unbroken : breaks_align past p ≡ false = none rule.Align in
+      rw is at unbroken
+
+  entry_defined : (x : Entry) → p.action ≡ Host x → reads_undefined (world past) x ≡ false
+  unfolding breaks
+  entry_defined x is =
+      let unbroken : breaks_read_undefined past p ≡ false = none rule.ReadUndefined in
+      rw is at unbroken
+
+some_of : {A : Type 0} (o : Option A) → is_none o ≡ false → IsSome o
+some_of None e = absurd cc
+some_of (Some x) e = refl
+
+-- ---- reads
+
+-- a read of some bytes within what is no buffer
+read_fits : (past : Past) (b o n : ℕ) → 0 < n → o + n ≤ buffer_size past b → FitsRead (buffer past b) o n
+read_fits past b o n some range = go (buffer past b) refl
+  where
+    go : (x : Option BufferInfo) → buffer past b ≡ x → FitsRead x o n
+    go None is = let le : o + n ≤ 0 = rw (buffer_size, is) at range in absurd (omega arith)
+    go (Some i) is = rw (buffer_size, is) at range
+
+read_point : (past : Past) (p : Point) (b o n : ℕ) → p.action ≡ Host (entry.Read b o n) → BreaksNone past p → FitsEntry past (entry.Read b o n)
+read_point past p b o n is none = (
+  read_fits past b o n (not_zero n (entry_size past p none (entry.Read b o n) is)) (not_above (buffer_size past b) (o + n) (entry_range past p none (entry.Read b o n) is)),
+  λ k lt. some_of ((world past).value (in_buffer b (o + k))) (none_at (λ k. is_none ((world past).value (in_buffer b (o + k)))) 0 n k (entry_defined past p none (entry.Read b o n) is) (omega arith) (omega arith)),
+)
+
+-- ---- fills
+
+fill_fits : (size o : ℕ) (n : Length) → fills_none size o n ≡ false → nat_lt size (o + fill_size size o n) ≡ false → ends_at size o n ≡ false → off_4_length n ≡ false
+    → (o ≤ size) × (o + fill_size size o n ≤ size) × (fill_size size o n ≡ 4 * (fill_size size o n / 4)) × (0 < size)
+fill_fits size o (length_of.Bytes n) some inside here whole =
+    let le : o + n ≤ size = not_above size (o + n) inside in
+    let pos : 0 < n = not_zero n some in
+    let rest : n % 4 ≡ 0 = eqb-true (n % 4) 0 (not-false (n % 4 == 0) whole) in
+    let parts : 4 * (n / 4) + n % 4 ≡ n = div-add-mod n 4 in
+    (omega arith, le, omega arith, omega arith)
+fill_fits size o length_of.Whole some inside here whole =
+    let lt : o < size = below_end size o here in
+    let words : ℕ = (size - o) / 4 in
+    let parts : words * 4 ≤ size - o = div-mul-le_self (size - o) 4 in
+    let again : words * 4 / 4 ≡ words = mul-div_cancel words (omega arith) in
+    (omega arith, omega arith, omega (arith, ap (λ (k : ℕ). 4 * k) again), omega arith)
+  where
+    below_end : (size o : ℕ) → nat_le size o ≡ false → o < size
+    below_end size o e = leb-false size o e
+
+abbrev outside : Past → ℕ → ℕ → Length → Bool
+outside past b o n = nat_lt (buffer_size past b) (o + fill_size (buffer_size past b) o n)
+
+fill_point : (past : Past) (p : Point) (b o : ℕ) (n : Length) (w : ℕ) → p.action ≡ Run (cmd.Fill b o n w) → BreaksNone past p → FitsFill (buffer past b) o n
+fill_point past p b o n w is none =
+    go (buffer past b) refl (fill_fits (buffer_size past b) o n (command_size past p none (cmd.Fill b o n w) is) inside (from_end n ranged) (or_parts _ _ (command_align past p none (cmd.Fill b o n w) is)).1)
+  where
+    -- the areas and the end, without the elements and regions that a fill hasn't
+    ranged : ((outside past b o n || false) || fills_from_end past (cmd.Fill b o n w)) ≡ false
+    ranged = (or_parts _ false (or_parts _ false (command_range past p none (cmd.Fill b o n w) is)).0).0
+
+    inside : outside past b o n ≡ false
+    inside = (or_parts (outside past b o n) false (or_parts (outside past b o n || false) (fills_from_end past (cmd.Fill b o n w)) ranged).0).0
+
+    from_end : (n : Length) → ((outside past b o n || false) || fills_from_end past (cmd.Fill b o n w)) ≡ false → ends_at (buffer_size past b) o n ≡ false
+    from_end (length_of.Bytes n) e = refl
+    from_end length_of.Whole e = (or_parts (outside past b o length_of.Whole || false) (nat_le (buffer_size past b) o) e).1
+
+    go : (x : Option BufferInfo) → buffer past b ≡ x → (o ≤ buffer_size past b) × (o + fill_size (buffer_size past b) o n ≤ buffer_size past b) × (fill_size (buffer_size past b) o n ≡ 4 * (fill_size (buffer_size past b) o n / 4)) × (0 < buffer_size past b) → FitsFill x o n
+    go None e f = let pos : 0 < 0 = rw (buffer_size, e) at f.3 in absurd (omega arith)
+    go (Some i) e f = let f' = rw (buffer_size, e) at f in (f'.0, f'.1, f'.2)
+
+-- ---- the other forms
+
+all_memory : (es : List Element) → list_all is_memory es ≡ true → AllMemory es
+all_memory [] e = tt
+all_memory (element.Memory d ∷ es) e = all_memory es e
+all_memory (element.Buffer b ∷ es) e = absurd cc
+all_memory (element.Image b ∷ es) e = absurd cc
+
+own_place : (q : Place) → is_supported_place q ≡ true → IsOwn q
+own_place (place.Dedicated t) e = tt
+own_place (place.Pool q) e = absurd cc
+own_place (place.PoolUpper q) e = absurd cc
+own_place (place.Memory m o) e = absurd cc
+
+rounded_bound : (size : ℕ) → (size + 15) / 16 * 16 ≤ 67108864 → size ≤ 67108864
+rounded_bound size le = let parts = div-add-mod (size + 15) 16 in let rest : (size + 15) % 16 < 16 = mod-lt (size + 15) (omega arith) in omega arith
+
+buffer_point : (past : Past) (p : Point) (i : ℕ) (b : BufferInfo) → p.action ≡ Host (entry.Buffer i b) → is_supported_place b.place ≡ true → BreaksNone past p → FitsEntry past (entry.Buffer i b)
+buffer_point past p i b is supported none = (
+  new_made past p none (entry.Buffer i b) i is refl,
+  not_zero b.size (entry_size past p none (entry.Buffer i b) is),
+  rounded_bound b.size (not_above 67108864 ((b.size + 15) / 16 * 16) (memory_size past p none (entry.Buffer i b) is)),
+  own_place b.place supported,
+)
+
+fits_entry : (past : Past) (p : Point) (x : Entry) → p.action ≡ Host x → is_supported_action (Host x) ≡ true → BreaksNone past p → FitsEntry past x
+fits_entry past p (entry.Buffer i b) is supported none = buffer_point past p i b is supported none
+fits_entry past p (entry.Map b) is supported none = tt
+fits_entry past p (entry.Read b o n) is supported none = read_point past p b o n is none
+fits_entry past p (entry.Semaphore i v) is supported none = new_made past p none (entry.Semaphore i v) i is refl
+fits_entry past p (entry.Wait ws) is supported none = tt
+fits_entry past p (entry.Submit q bs) is supported none = tt
+fits_entry past p (entry.Pool i x) is supported none = absurd cc
+fits_entry past p (entry.Image i x) is supported none = absurd cc
+fits_entry past p (entry.Memory i x) is supported none = absurd cc
+fits_entry past p (entry.Free m) is supported none = absurd cc
+fits_entry past p (entry.Destroy r) is supported none = absurd cc
+fits_entry past p (entry.DropPool q) is supported none = absurd cc
+fits_entry past p (entry.Unmap b) is supported none = absurd cc
+fits_entry past p (entry.Write b o bytes) is supported none = absurd cc
+fits_entry past p (entry.Flush b o n) is supported none = absurd cc
+fits_entry past p (entry.Invalidate b o n) is supported none = absurd cc
+fits_entry past p (entry.Event i) is supported none = new_made past p none (entry.Event i) i is refl
+fits_entry past p (entry.Signal s v) is supported none = tt
+fits_entry past p (entry.Defrag i q n m) is supported none = absurd cc
+fits_entry past p (entry.Pass d) is supported none = absurd cc
+fits_entry past p (entry.EndPass d kept lost) is supported none = absurd cc
+fits_entry past p (entry.EndDefrag d) is supported none = absurd cc
+
+fits_command : (past : Past) (p : Point) (c : Cmd) → p.action ≡ Run c → is_supported_action (Run c) ≡ true → BreaksNone past p → FitsCommand past c
+fits_command past p (cmd.Fill b o n w) is supported none = fill_point past p b o n w is none
+fits_command past p (cmd.Barrier es) is supported none = all_memory es supported
+fits_command past p (cmd.Update b o bytes) is supported none = absurd cc
+fits_command past p (cmd.Copy a b gs) is supported none = absurd cc
+fits_command past p (cmd.Clear i l color rs) is supported none = absurd cc
+fits_command past p (cmd.CopyIn b i l gs) is supported none = absurd cc
+fits_command past p (cmd.CopyOut i l b gs) is supported none = absurd cc
+fits_command past p (cmd.CopyImage a l b m gs) is supported none = absurd cc
+fits_command past p (cmd.Set v ms) is supported none = tt
+fits_command past p (cmd.Await v ms) is supported none = tt
+
+fits_action : (past : Past) (p : Point) (d : Action) → p.action ≡ d → is_supported_action d ≡ true → BreaksNone past p → FitsAction past d
+fits_action past p (Host x) is supported none = fits_entry past p x is supported none
+fits_action past p (Run c) is supported none = fits_command past p c is supported none
+fits_action past p (Wait s) is supported none = tt
+fits_action past p (Signal s) is supported none = tt
+
+-- ---- what is older is clean too
+
+clean_older : (past : Past) (p : Point) → IsClean (p ∷ past) → IsClean past
+unfolding is_supported
+clean_older past p clean = record {
+  sound = λ before q r comes. clean.sound before q r (older comes);
+  supported = (and_parts (is_supported_action p.action) (list_all (λ q. is_supported_action q.action) past) clean.supported).1;
+}
+
+-- every point of a clean past fits
+pub fits_clean : (past : Past) → IsClean past → AllFit past
+unfolding is_supported
+fits_clean [] clean = tt
+fits_clean (p ∷ past) clean =
+    (fits_action past p p.action refl (and_parts (is_supported_action p.action) (list_all (λ q. is_supported_action q.action) past) clean.supported).0 (breaks_none past p clean), fits_clean past (clean_older past p clean))
+
+-- what comes before others, which may be batches that are started
+pub clean_newer : (newer past : Past) → IsClean (newer ++ past) → IsClean past
+clean_newer [] past clean = clean
+clean_newer (p ∷ newer) past clean = clean_newer newer past (clean_older (newer ++ past) p clean)
+
+pub clean_entry : (e : ℕ) (x : Entry) (f : Front) → IsClean (after_entry e x f).past → IsClean (host e x ∷ f.past)
+clean_entry e x f clean = let g = entry_grows e x f in clean_newer g.newer (host e x ∷ f.past) (subst IsClean g.whole clean)
+
+pub clean_before : (e : ℕ) (x : Entry) (f : Front) → IsClean (after_entry e x f).past → IsClean f.past
+clean_before e x f clean = clean_older f.past (host e x) (clean_entry e x f clean)
+
+pub clean_order : (e : ℕ) (f : Front) (xs : List Entry) → IsClean (order_from e f xs).past → IsClean f.past
+clean_order e f xs clean = let g = order_grows e f xs in clean_newer g.0 f.past (subst IsClean g.1 clean)
+
+-- ---- the limit on points
+
+entry_count : (past : Past) → length (entries past) ≤ length past
+entry_count [] = omega arith
+entry_count (p ∷ past) = go p.action (entry_count past)
+  where
+    go : (a : Action) → length (entries past) ≤ length past → length (cons_option (host_of a) (entries past)) ≤ suc (length past)
+    go (Host x) le = omega arith
+    go (Wait w) le = omega arith
+    go (Run c) le = omega arith
+    go (Signal w) le = omega arith
+
+-- the number of an entry that breaks no rule is below the limit
+pub below_limit : (e : ℕ) (x : Entry) (f : Front) → IsClean (after_entry e x f).past → length (entries f.past) < 131072
+unfolding breaks
+below_limit e x f clean =
+    let unbroken : breaks_limit f.past (host e x) ≡ false = breaks_none f.past (host e x) (clean_entry e x f clean) rule.Limit in
+    let some : length f.past < 131072 = leb-false 131072 (length f.past) unbroken in
+    let most = entry_count f.past in
+    omega arith

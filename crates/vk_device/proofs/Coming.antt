@@ -1,0 +1,219 @@
+-- The points that come with an entry, on a device.
+use Rattle.std.proofs.Common.{◌≡◌, ℕ, suc, ◌+◌, ◌<◌, ◌≤◌, ◌==◌, List, [], ◌∷◌, ◌++◌, length, take, drop, get_or, reverse, refl, ap, sym, ◌∙◌, subst, arith}
+use Rattle.std.specs.Prelude.{option_map, option_and_then}
+use Rattle.std.specs.List.{find}
+use Rattle.std.proofs.lemmas.Grind.{take_at_read, common_steps}
+use Rattle.std.proofs.lemmas.List.{length-reverse, take_all, append_assoc, append_cancel_right, drop_at, take-append-drop}
+use Rattle.std.proofs.lemmas.List.Sums.{fold-append}
+use Rattle.vk_model.specs.declared.command.Cmd.{Cmd}
+use Rattle.vk_model.specs.declared.command.Cmd.TheVariants as cmd
+use Rattle.vk_model.specs.declared.entry.Entry.{Entry}
+use Rattle.vk_model.specs.declared.entry.Entry.TheVariants as entry
+use Rattle.vk_model.specs.declared.resource.BufferInfo.{BufferInfo}
+use Rattle.vk_model.specs.Basics.{holds}
+use Rattle.vk_model.specs.Laws.{OrderIsOrdered, OrderHasEntries, NoFaultIsSound}
+use Rattle.vk_model.specs.Rules.Fault.{IsUnbroken}
+use Rattle.vk_model.specs.Run.Runs.{Name, Step, Stage, Apply, applied}
+use Rattle.vk_model.specs.Trace.Objects.{made_by, buffer_in}
+use Rattle.vk_model.specs.Trace.Order.{Front, host, after_entry, order_from, order}
+use Rattle.vk_model.specs.Trace.Point.{Past, Point, entries}
+use Rattle.vk_model.specs.Trace.Structure.{IsOrdered}
+use Rattle.vk_model.proofs.Lists.Pairs.{Each}
+use Rattle.vk_model.proofs.Trace.Growing.{Quiet, same_entries, entries_after, entry_grows, order_grows, order_append}
+use Rattle.vk_laws.specs.DefinedRuns.{DefinedRunsStand}
+use Rattle.vk_laws.specs.DirectRuns.{DirectRunsAreRuns}
+use Rattle.vk_order.specs.declared.point.Point.{Point as AnyPoint}
+use Rattle.vk_order.specs.PointViews.{point_of}
+use Rattle.vk_queues.specs.declared.waiting.Waiting.{Waiting}
+use Rattle.vk_queues.specs.PointViews.{add, past_after}
+use Rattle.vk_queues.specs.IsWaiting.{IsWaiting}
+use Rattle.vk_offers.specs.IsOffers.{ComesNext, IsOffers}
+use Rattle.vk_offers.specs.Laws.{OrderComesNext}
+use Rattle.vk_resources.specs.Fits.{FitsCommand, FitsFill}
+use Rattle.vk_resources.specs.Held.{Held, MatchesSizes}
+use Rattle.vk_device.specs.declared.device.Device.{Device}
+use Rattle.vk_device.specs.Inner.Clean.{IsClean}
+use Rattle.vk_device.specs.Inner.Fits.{FitsAction, AllFit}
+use Rattle.vk_device.specs.Inner.Ready.{HostDone, PointFits, HasPieces}
+use Rattle.vk_device.specs.Led.{Led, IsSoundTrace}
+use Rattle.vk_device.proofs.Clean.{fits_clean, below_limit, clean_newer}
+
+-- ---- points one after another
+
+pub past_more : (past : Past) (points : List AnyPoint) (i : ℕ) (p : AnyPoint) → p ≡ get_or points i p → i < length points
+    → past_after past (take (i + 1) points) ≡ point_of p ∷ past_after past (take i points)
+past_more past points i p is lt =
+    ap (λ (l : List AnyPoint). past_after past l) (take_at_read points i p lt).1 ∙ fold-append add past (take i points) (get_or points i p ∷ [])
+    ∙ ap (λ (q : AnyPoint). point_of q ∷ past_after past (take i points)) (sym is)
+
+grown : (past : Past) (points : List AnyPoint) → (newer : Past) × (past_after past points ≡ newer ++ past)
+grown past [] = ([], refl)
+grown past (p ∷ points) = let rest = grown (point_of p ∷ past) points in (rest.0 ++ point_of p ∷ [], rest.1 ∙ sym (append_assoc rest.0 (point_of p ∷ []) past))
+
+-- the points from number i on come after those before it
+split_at : (past : Past) (points : List AnyPoint) (i : ℕ) → (newer : Past) × (past_after past points ≡ newer ++ past_after past (take i points))
+split_at past points i =
+    let rest = grown (past_after past (take i points)) (drop i points) in
+    (rest.0, ap (λ (l : List AnyPoint). past_after past l) (sym (take-append-drop i points)) ∙ fold-append add past (take i points) (drop i points) ∙ rest.1)
+
+-- ---- only the first of them is an entry
+
+same_tail : (xs zs ys ws : Past) → length ys ≡ length ws → xs ++ ys ≡ zs ++ ws → ys ≡ ws
+same_tail xs zs ys ws long same =
+    sym (drop_at xs ys (length xs) refl) ∙ ap (λ (l : Past). drop (length xs) l) same ∙ drop_at zs ws (length xs) long'
+  where
+    long' : length zs ≡ length xs
+    long' = let whole = ap length same in grind (arith, common_steps, whole)
+
+each_right : (a b : Past) → Each Quiet (a ++ b) → Each Quiet b
+each_right [] b each = each
+each_right (p ∷ a) b each = each_right a b each.1
+
+quiet_points : (past base newer : Past) (points : List AnyPoint) → length past ≡ length base → Each Quiet newer → past_after past points ≡ newer ++ base
+    → (i : ℕ) → entries (past_after past (take i points)) ≡ entries base
+quiet_points past base newer points long each whole i =
+    let all = grown past points in
+    let later = split_at past points i in
+    let here = grown past (take i points) in
+    let same : past ≡ base = same_tail all.0 newer past base long (sym all.1 ∙ whole) in
+    let parts : (later.0 ++ here.0) ++ base ≡ newer ++ base =
+    append_assoc later.0 here.0 base ∙ ap (λ (l : Past). later.0 ++ (here.0 ++ l)) (sym same) ∙ ap (λ (l : Past). later.0 ++ l) (sym here.1) ∙ sym later.1 ∙ whole in
+    let quiet : Each Quiet (later.0 ++ here.0) = subst (λ (l : Past). Each Quiet l) (sym (append_cancel_right (later.0 ++ here.0) newer base parts)) each in
+    ap entries (here.1 ∙ ap (λ (l : Past). here.0 ++ l) same) ∙ same_entries base (here.0 ++ base) (record { newer = here.0; whole = refl; each = each_right later.0 here.0 quiet })
+
+-- ---- the buffers are those of the entries
+
+sizes_stay : (past all : Past) (r : Held) → entries all ≡ entries past → MatchesSizes past r → MatchesSizes all r
+sizes_stay past all r same sizes b =
+    sizes b ∙ ap (λ (l : List Entry). option_map (λ (i : BufferInfo). i.size) (option_and_then buffer_in (find (λ x. holds (made_by x) (λ j. b == j)) l))) (sym same)
+
+command_stays : (past all : Past) (c : Cmd) → entries all ≡ entries past → FitsCommand past c → FitsCommand all c
+command_stays past all (cmd.Fill b o n w) same fits =
+    subst (λ (l : List Entry). FitsFill (option_and_then buffer_in (find (λ x. holds (made_by x) (λ j. b == j)) l)) o n) (sym same) fits
+command_stays past all (cmd.Barrier es) same fits = fits
+command_stays past all (cmd.Set v ms) same fits = tt
+command_stays past all (cmd.Await v ms) same fits = tt
+command_stays past all (cmd.Update b o bytes) same fits = absurd fits
+command_stays past all (cmd.Copy a b gs) same fits = absurd fits
+command_stays past all (cmd.Clear i l color rs) same fits = absurd fits
+command_stays past all (cmd.CopyIn b i l gs) same fits = absurd fits
+command_stays past all (cmd.CopyOut i l b gs) same fits = absurd fits
+command_stays past all (cmd.CopyImage a l b m gs) same fits = absurd fits
+
+fits_at : (newer past : Past) (p : Point) → AllFit (newer ++ p ∷ past) → FitsAction past p.action
+fits_at [] past p fit = fit.0
+fits_at (q ∷ newer) past p fit = fits_at newer past p fit.1
+
+-- ---- an entry whose points come
+
+pub record IsComing (t : List Entry) (e : ℕ) (x : Entry) (f : Front) (r : Held) : Type 0 where
+  pub newer : Past
+  pub whole : order t ≡ newer ++ (after_entry e x f).past
+  pub clean : IsClean (order t)
+  pub unbroken : IsUnbroken (order t)
+  pub ordered : IsOrdered (order t)
+  pub sizes : MatchesSizes (host e x ∷ f.past) r
+  pub below : e < 131072
+
+pub clean_trace : (t : List Entry) → NoFaultIsSound → IsSoundTrace t → IsClean (order t)
+clean_trace t law sound = record {
+  sound = λ before p r comes broke. (law t).0 sound.faultless before p r (comes, broke);
+  supported = sound.supported;
+}
+
+pub applied_front : (s : Stage) (n : ℕ) (x : Entry) (xs : List Entry) → (applied s n x xs).front ≡ after_entry s.count x s.front
+applied_front s n (entry.Pass d) xs = refl
+applied_front s n (entry.EndPass d kept lost) xs = refl
+applied_front s n _ xs = refl
+
+applied_count : (s : Stage) (n : ℕ) (x : Entry) (xs : List Entry) → (applied s n x xs).count ≡ s.count + 1
+applied_count s n (entry.Pass d) xs = refl
+applied_count s n (entry.EndPass d kept lost) xs = refl
+applied_count s n _ xs = refl
+
+applied_done : (s : Stage) (n : ℕ) (x : Entry) (xs : List Entry) → (applied s n x xs).done ≡ s.done
+applied_done s n (entry.Pass d) xs = refl
+applied_done s n (entry.EndPass d kept lost) xs = refl
+applied_done s n _ xs = refl
+
+applied_parts : (s : Stage) (x : Entry) (xs : List Entry) → s.parts ≡ 0 → (applied s 0 x xs).parts ≡ 0
+applied_parts s (entry.Pass d) xs none = refl
+applied_parts s (entry.EndPass d kept lost) xs none = refl
+applied_parts s _ xs none = none
+
+pub coming : (t : List Entry) (steps : List Step) (s : Stage) (x : Entry) (xs : List Entry) (d : Device) → OrderIsOrdered → OrderHasEntries → NoFaultIsSound → DirectRunsAreRuns → DefinedRunsStand
+    → HostDone t steps s x xs d → IsComing t s.count x s.front d.resources
+coming t steps s x xs d ordered has sound runs stand h =
+    let e : Stage = applied s 0 x xs in
+    let empty : Front = record { past = []; waiting = [] } in
+    let stands = stand t (steps ++ Apply [] 0 ∷ []) e (runs t _ e _ h.run) in
+    let rest = order_grows (0 + length stands.gone) (order_from 0 empty stands.gone) e.left in
+    let clean = clean_trace t sound h.sound in
+    let whole : order t ≡ rest.0 ++ (after_entry s.count x s.front).past =
+    ap order stands.whole ∙ ap (λ (f : Front). f.past) (order_append 0 empty stands.gone e.left) ∙ rest.1
+    ∙ ap (λ (f : Front). rest.0 ++ f.past) (sym stands.front ∙ applied_front s 0 x xs) in
+    let count : suc (length (entries s.front.past)) ≡ length (reverse stands.gone) =
+    ap length (sym (entries_after s.count x s.front)) ∙ ap (λ (f : Front). length (entries f.past)) (sym (applied_front s 0 x xs) ∙ stands.front) ∙ ap length (has stands.gone) in
+    let least = below_limit s.count x s.front (clean_newer rest.0 (after_entry s.count x s.front).past (subst (λ (l : Past). IsClean l) whole clean)) in
+    let gone : s.count + 1 ≡ length stands.gone = sym (applied_count s 0 x xs) ∙ stands.counted in
+    let long = length-reverse stands.gone in
+    record {
+      newer = rest.0;
+      whole = whole;
+      clean = clean;
+      below = omega arith;
+      unbroken = (sound t).0 h.sound.faultless;
+      ordered = ordered t;
+      sizes = h.sizes;
+    }
+
+module _ (t : List Entry) (e : ℕ) (x : Entry) (f : Front) (r : Held) (h : IsComing t e x f r) (points : List AnyPoint) (are : past_after f.past points ≡ (after_entry e x f).past) where
+  entries_at : (i : ℕ) → i < length points → entries (past_after f.past (take (i + 1) points)) ≡ x ∷ entries f.past
+  entries_at i lt = go points are lt
+    where
+      go : (points : List AnyPoint) → past_after f.past points ≡ (after_entry e x f).past → i < length points → entries (past_after f.past (take (i + 1) points)) ≡ x ∷ entries f.past
+      go [] are lt = absurd (omega arith)
+      go (p ∷ points) are lt =
+          let g = entry_grows e x f in
+          ap (λ (n : ℕ). entries (past_after f.past (take n (p ∷ points)))) (let more : i + 1 ≡ suc i = omega arith in more)
+          ∙ quiet_points (point_of p ∷ f.past) (host e x ∷ f.past) g.newer points refl g.each (are ∙ g.whole) i
+
+  module _ (i : ℕ) (p : AnyPoint) (is : p ≡ get_or points i p) (lt : i < length points) where
+    abbrev past : Past
+    past = past_after f.past (take i points)
+
+    newer_at : (newer : Past) × (order t ≡ newer ++ point_of p ∷ past)
+    newer_at =
+        let later = split_at f.past points (i + 1) in
+        (h.newer ++ later.0, h.whole ∙ ap (λ (l : Past). h.newer ++ l) (sym are ∙ later.1 ∙ ap (λ (l : Past). later.0 ++ l) (past_more f.past points i p is lt)) ∙ sym (append_assoc h.newer later.0 (point_of p ∷ past)))
+
+    point_fits : PointFits (point_of p ∷ past) (point_of p) r
+    point_fits = record {
+      sizes = sizes_stay (host e x ∷ f.past) (point_of p ∷ past) r (ap entries (sym (past_more f.past points i p is lt)) ∙ entries_at i lt) h.sizes;
+      fits = λ c is_c. command_stays past (point_of p ∷ past) c (rw is_c refl)
+          (subst (λ (a : Rattle.vk_model.specs.Trace.Point.Action). FitsAction past a) is_c (fits_at newer_at.0 past (point_of p) (subst (λ (l : Past). AllFit l) newer_at.1 (fits_clean (order t) h.clean))));
+    }
+
+    pub comes_next : (count : ℕ) → OrderComesNext → ((past : Past) → PointFits past (point_of p) r → HasPieces past (point_of p) count) → ComesNext past (point_of p) count
+    comes_next count law has =
+        law (order t) newer_at.0 past (point_of p) count h.unbroken h.ordered newer_at.1 (λ c is_c runs. has (point_of p ∷ past) point_fits c is_c)
+
+-- ---- all of them have come
+
+pub arrived : (d : Device) (s : Stage) (x : Entry) (points : List AnyPoint) → d.count ≡ s.count → past_after s.front.past points ≡ (after_entry d.count x s.front).past → past_after s.front.past points ≡ (after_entry s.count x s.front).past
+arrived d s x points counts are = are ∙ ap (λ (n : ℕ). (after_entry n x s.front).past) counts
+
+pub advanced : (t : List Entry) (steps : List Step) (s : Stage) (x : Entry) (xs : List Entry) (d new : Device) (w : Waiting) (points : List AnyPoint) (i : ℕ) → HostDone t steps s x xs d → new.resources ≡ d.resources
+    → new.count ≡ d.count + 1 → new.waiting ≡ w → IsWaiting w (d.count + 1) (after_entry d.count x s.front) → past_after s.front.past points ≡ (after_entry d.count x s.front).past → length points ≤ i
+    → IsOffers new.offers (past_after s.front.past (take i points)) s.done → Led t (steps ++ Apply [] 0 ∷ []) (applied s 0 x xs) new
+advanced t steps s x xs d new w points i h same counts waiting waits are all offers = record {
+  run = rw same h.run;
+  sizes = subst (λ (f : Front). MatchesSizes f.past new.resources) (sym (applied_front s 0 x xs))
+      (rw same (let g = entry_grows s.count x s.front in sizes_stay (host s.count x ∷ s.front.past) (after_entry s.count x s.front).past d.resources (same_entries (host s.count x ∷ s.front.past) (after_entry s.count x s.front).past g) h.sizes));
+  waits = rw (waiting, counts) (subst (λ (f : Front). IsWaiting w (d.count + 1) f) (ap (λ (n : ℕ). after_entry n x s.front) h.counts ∙ sym (applied_front s 0 x xs)) waits);
+  counts = counts ∙ ap (λ (n : ℕ). n + 1) h.counts ∙ sym (applied_count s 0 x xs);
+  offers = subst (λ (f : Front). IsOffers new.offers f.past (applied s 0 x xs).done) (sym (applied_front s 0 x xs))
+      (subst (λ (done : List Name). IsOffers new.offers (after_entry s.count x s.front).past done) (sym (applied_done s 0 x xs))
+      (subst (λ (l : Past). IsOffers new.offers l s.done) (ap (λ (l : List AnyPoint). past_after s.front.past l) (take_all i points all) ∙ arrived d s x points h.counts are) offers));
+  no_parts = applied_parts s x xs h.no_parts;
+}

@@ -1,4 +1,0 @@
-pub mod Steps
-pub mod Loops
-pub mod Entries
-pub mod Advancing

@@ -1,3 +1,0 @@
-pub mod Allotting
-pub mod Allocating
-pub mod Whole

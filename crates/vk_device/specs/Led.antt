@@ -1,0 +1,96 @@
+-- How an allowed run has led to a device, and what the device answers to what comes next.
+use Rattle.std.specs.Prelude.{◌≡◌, ℕ, suc, List, [], ◌∷◌, ◌++◌, Contains, Some, None, IsTrue}
+use Rattle.vk_model.specs.declared.entry.Entry.{Entry}
+use Rattle.vk_model.specs.Trace.Order.{order}
+use Rattle.vk_model.specs.Rules.Table.{first_fault}
+use Rattle.vk_model.specs.Run.Runs.{Step, Stage, RunPiece}
+use Rattle.vk_model.specs.Run.CachedRuns.{write_to, named_piece}
+use Rattle.vk_model.specs.World.Bytes.{Byte}
+use Rattle.vk_model.specs.World.ByteWrites.{ByteWrite}
+use Rattle.vk_model.specs.Run.Picks.{before_entry, entry_picks}
+use Rattle.vk_model.specs.World.Effect.{world}
+use Rattle.vk_model.specs.World.Meaning.{read_in}
+use Rattle.vk_laws.specs.DirectRuns.{DirectRun, bare_memory}
+use Rattle.vk_laws.specs.TraceBytes.{value_before}
+use Rattle.vk_sync.specs.declared.ready.Piece.{Piece}
+use Rattle.vk_sync.specs.Ready.{ready}
+use Rattle.vk_queues.specs.IsWaiting.{IsWaiting}
+use Rattle.vk_offers.specs.IsOffers.{IsOffers, name_of}
+use Rattle.vk_resources.specs.declared.applied.Applied.{Applied}
+use Rattle.vk_resources.specs.declared.applied.Applied.TheVariants as applied
+use Rattle.vk_model.specs.Memory.Allocations.{Allocated, FindsNoRoom, Changes}
+use Rattle.vk_resources.specs.Allocating.{IsAllocated}
+use Rattle.vk_resources.specs.Held.{MatchesSizes, byte_at}
+use Rattle.vk_device.specs.declared.device.Device.{Device}
+use Rattle.vk_validate.specs.Supported.{is_supported}
+
+-- An allowed run of a trace has led to a device: these steps, through caches that hold nothing, to this stage and to the bytes that the device's memory holds. The device has the buffers that were made, the batches that wait, the entries that were applied, and the pieces that may run next (Vulkan, "Execution and Memory Dependencies").
+pub record Led (t : List Entry) (steps : List Step) (s : Stage) (d : Device) : Type 0 where
+  pub run : DirectRun t steps s (bare_memory (byte_at d.resources))
+  pub sizes : MatchesSizes s.front.past d.resources
+  pub waits : IsWaiting d.waiting d.count s.front
+  pub counts : d.count ≡ s.count
+  pub offers : IsOffers d.offers s.front.past s.done
+  pub no_parts : s.parts ≡ 0
+
+-- The trace has no fault, and each of its points is of a supported form so far.
+pub record IsSoundTrace (t : List Entry) : Type 0 where
+  pub faultless : first_fault t ≡ None
+  pub supported : IsTrue (is_supported (order t))
+
+-- A device stands before an entry of a trace.
+pub record IsBefore (t : List Entry) (steps : List Step) (s : Stage) (x : Entry) (xs : List Entry) (d : Device) : Type 0 where
+  pub led : Led t steps s d
+  pub next : s.left ≡ x ∷ xs
+  pub sound : IsSoundTrace t
+
+-- A device stands before an entry of some trace.
+abbrev pub IsNext : Device → Entry → Type 0
+IsNext d x = (t : List Entry) × (steps : List Step) × (s : Stage) × (xs : List Entry) × IsBefore t steps s x xs d
+
+-- ---- a piece that may run
+
+-- A piece may run next on a device that a run of some trace has led to.
+pub record MayRun (d : Device) (piece : Piece) : Type 0 where
+  pub t : List Entry
+  pub steps : List Step
+  pub s : Stage
+  pub led : Led t steps s d
+  pub sound : IsSoundTrace t
+  pub among : Contains (ready d.offers.ready) piece
+
+-- It has run.
+abbrev pub HasRun : Device → Device → Piece → Type 0
+HasRun old new piece =
+    (t : List Entry) (steps : List Step) (s : Stage) → Led t steps s old → IsSoundTrace t
+    → Led t (steps ++ RunPiece (name_of s.front.past piece) ∷ []) (record s { done = name_of s.front.past piece ∷ s.done }) new
+
+-- Each byte that it has written holds what the trace means there after the command of the piece, with commands one at a time in reference order, where that is defined.
+abbrev pub HasWritten : Device → Device → Piece → Type 0
+HasWritten old new piece =
+    (t : List Entry) (steps : List Step) (s : Stage) (c : Byte) (w : ByteWrite) (v : ℕ) → Led t steps s old → IsSoundTrace t → write_to c (named_piece s.front.past (name_of s.front.past piece)) ≡ Some w
+    → value_before (order t) (suc (name_of s.front.past piece).0) c ≡ Some v → byte_at new.resources c ≡ v
+
+-- ---- an entry that is applied
+
+module _ (answer : List ℕ → ℕ → ℕ) (next : List ℕ → ℕ → List ℕ) where
+  -- An entry was applied: the steps that the scheduler picked before it have led here, and then the entry. Where there was no room those before it alone have (profile).
+  abbrev pub Applies : Applied → List Entry → List Step → Stage → List ℕ → Entry → List Entry → Device → List ℕ → Type 0
+  Applies applied.NoRoom t steps s held x xs new after = let p = before_entry answer next s held x in Led t (steps ++ p.steps) p.stage new × (after ≡ p.held)
+  Applies _ t steps s held x xs new after = let p = entry_picks answer next 0 s held x xs in Led t (steps ++ p.steps) p.stage new × (after ≡ p.held)
+
+-- What an entry reads (Vulkan, "Host Access to Device Memory Objects").
+abbrev pub Reads : Applied → Stage → Entry → Type 0
+Reads applied.Done s x = read_in (world s.front.past) s.count x ≡ []
+Reads (applied.Bytes bytes) s x = read_in (world s.front.past) s.count x ≡ (s.count, bytes) ∷ []
+Reads applied.NoRoom s x = Unit {0}
+
+-- No room is answered exactly where the entry finds none on the device as it was (Vulkan, "Device Memory").
+abbrev pub Rooms : Applied → Device → Entry → Type 0
+Rooms applied.NoRoom d x = (a : Allocated) → IsAllocated d.resources.memory a → FindsNoRoom a x
+Rooms _ d x = (a : Allocated) → IsAllocated d.resources.memory a → FindsNoRoom a x → ⊥
+
+-- An entry that is applied changes what is allocated as it is to, and no more; where there was no room nothing of it changes.
+abbrev pub Allots : Applied → Entry → Device → Device → Type 0
+Allots applied.NoRoom x old new = (d : Allocated) → IsAllocated old.resources.memory d → IsAllocated new.resources.memory d
+Allots _ x old new = (d : Allocated) → IsAllocated old.resources.memory d → (e : Allocated) × Changes d x e × IsAllocated new.resources.memory e

@@ -1,0 +1,5 @@
+pub mod Live
+mod Apart
+mod Pieces
+mod Entries
+pub mod Allotting

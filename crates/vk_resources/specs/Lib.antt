@@ -1,0 +1,5 @@
+pub mod Held
+pub mod Allocating
+pub mod Fits
+pub mod Done
+pub mod Inner
