@@ -5,11 +5,11 @@ mod exit;
 mod options;
 
 use exit::exit_status;
-use options::{Options, OptionsError};
+use options::{Options, OptionsError, Order};
 use std::io;
 use std::process::ExitCode;
 use std::rt::Env;
-use vk_model::First;
+use vk_model::{Config, First, Last, Scheduler, Seeded};
 use vk_trace::{RunError, Watched, run};
 
 /// Where the arguments of the command line can't be had, or aren't understood.
@@ -56,15 +56,22 @@ fn perform<R: Env + Input + Print + Eprint + AllocGlobal>(rt: &R) -> u8 {
         Ok(options) => options,
         Err(status) => return status,
     };
+    match options.order {
+        Order::First => replay(rt, options.config, &mut First),
+        Order::Last => replay(rt, options.config, &mut Last),
+        Order::Seed(seed) => replay(rt, options.config, &mut Seeded::new(seed)),
+    }
+}
+
+/// Replays the standard input, and answers the exit status.
+fn replay<R: Env + Input + Print + Eprint + AllocGlobal, S: Scheduler>(
+    rt: &R,
+    config: Config,
+    sched: &mut S,
+) -> u8 {
     let mut reader = Watched::new(rt.reader());
     let mut writer = Watched::new(io::writer(rt));
-    match run(
-        rt.alloc(),
-        &mut reader,
-        &mut writer,
-        options.config,
-        &mut First,
-    ) {
+    match run(rt.alloc(), &mut reader, &mut writer, config, sched) {
         Ok(status) => exit_status(Ok(status)),
         Err(error) => complain(rt, error),
     }

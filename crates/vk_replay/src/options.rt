@@ -1,13 +1,26 @@
 use clap::error::ErrorKind;
-use clap::{Arg, Command, Error, value_parser};
+use clap::{Arg, ArgMatches, Command, Error, value_parser};
 use std::alloc::{AllocError, Global};
 use vk_model::Config;
+
+/// Which of the pieces and entries that may come next is picked.
+#[derive(Clone, Copy, Debug, Drop, PartialEq, Eq)]
+pub enum Order {
+    /// The first: pieces run as early as they can, in reference order.
+    First,
+    /// The last: pieces run as late as they can.
+    Last,
+    /// By the words of a generator that begins with this seed.
+    Seed(u64),
+}
 
 /// What the command line asks for.
 #[derive(Drop)]
 pub struct Options {
     /// The sizes of the device's heaps.
     pub config: Config,
+    /// Which order is tried.
+    pub order: Order,
 }
 
 /// Why the command line asks for nothing.
@@ -43,9 +56,15 @@ fn command<'a>(alloc: Global) -> Result<Command<'a>, AllocError> {
     let order = Arg::new(alloc, "order")
         .long("order")
         .value_name("ORDER")
-        .value_parser(["first"].as_slice())
+        .value_parser(["first", "last", "seed"].as_slice())
         .default_value("first")
-        .help("Which of the commands that may run next is run");
+        .help("Which of the pieces of commands that may run next is run");
+    let seed = Arg::new(alloc, "seed")
+        .long("seed")
+        .value_name("N")
+        .value_parser(value_parser!(u64))
+        .default_value("0")
+        .help("Where --order seed begins");
     let heap0 = Arg::new(alloc, "heap0")
         .long("heap0")
         .value_name("BYTES")
@@ -63,8 +82,19 @@ fn command<'a>(alloc: Global) -> Result<Command<'a>, AllocError> {
             "Replays a trace of Vulkan transfers from standard input, or reports the first rule that it breaks",
         )
         .arg(order)?
+        .arg(seed)?
         .arg(heap0)?
         .arg(heap1)
+}
+
+/// Which order is asked for. A seed is read, and not used, where another order is.
+fn order_of(matches: &ArgMatches<'_>) -> Order {
+    let seed = matches.get_one::<u64>("seed").unwrap_or(0);
+    match matches.get_str("order") {
+        Some("last") => Order::Last,
+        Some("seed") => Order::Seed(seed),
+        _ => Order::First,
+    }
 }
 
 /// What the arguments ask for; the first one is the program's own name.
@@ -72,8 +102,9 @@ pub fn read(alloc: Global, arguments: &[String]) -> Result<Options, OptionsError
     let matches = command(alloc)?.try_get_matches_from(arguments)?;
     let heap0 = matches.get_one::<u64>("heap0").unwrap_or(HEAP_BYTES);
     let heap1 = matches.get_one::<u64>("heap1").unwrap_or(HEAP_BYTES);
+    let order = order_of(&matches);
     match Config::new(heap0, heap1) {
-        Some(config) => Ok(Options { config }),
+        Some(config) => Ok(Options { config, order }),
         None => Err(OptionsError::NoMemory),
     }
 }

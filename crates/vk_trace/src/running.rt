@@ -6,7 +6,7 @@ ghost use Rattle.vk_validate.specs.Supported.{is_supported};
 ghost use Rattle.vk_trace.specs.declared.printing.Outcome.{Outcome};
 ghost use Rattle.vk_trace.specs.Trace.{IsTrace};
 ghost use Rattle.vk_trace.specs.Watching.{counted};
-ghost use Rattle.vk_trace.specs.Run.{Reports, IsAnswer, status_of, IsBeforeWriting, IsOfReading, IsJudged};
+ghost use Rattle.vk_trace.specs.Run.{Reports, IsAnswer, Leaves, status_of, IsBeforeWriting, IsOfReading, IsJudged};
 
 use crate::errors::{ReadTraceError, RunError};
 use crate::printing::{Outcome, text};
@@ -59,7 +59,8 @@ pub fn run<R: Read, W: Write, S: Scheduler>(
     requires writes { writer.old.failed ≡ false }
     // The bytes that were read are a trace, the answer to it is written, and nothing else is.
     ensures done { IfOk result (λ status. IfSome (R.remaining reader.old.inner) (λ input.
-        (text : List ℕ) × (outcome : Outcome) × Reports config input text outcome × (status ≡ status_of outcome)
+        (text : List ℕ) × (outcome : Outcome) × (r : Reports config input text outcome) × (status ≡ status_of outcome)
+        × Leaves S.answer S.next r.entries outcome (S.held sched.old) (S.held sched.new)
         × Appends (W.contents writer.old.inner) (W.contents writer.new.inner) text)) }
     // There is no trace only where the bytes are none.
     ensures no_trace { result ≡ Err RunError.NotTrace
@@ -81,7 +82,8 @@ pub fn run<R: Read, W: Write, S: Scheduler>(
     // Either there are more bytes than that, or so many reads came to no end.
     ensures too_long { result ≡ Err RunError.TooLong → (reader.new.calls ≡ counted reader.old.calls 1048576)
         ⊎ IfSome (R.remaining reader.old.inner) (λ input. 16777216 < length input) }
-    ensures view { S.held sched.new ≡ S.held sched.old }
+    // Bytes that are no trace leave the scheduler as it was.
+    ensures view { result ≡ Err RunError.NotTrace → S.held sched.new ≡ S.held sched.old }
 {
     let input = read_all(alloc, reader)?;
     match answer_of(alloc, &input, config, sched) {
@@ -138,9 +140,10 @@ pub fn answer_of<S: Scheduler>(
     config: Config,
     sched: &mut S,
 ) -> Result<Answer, ReadTraceError>
-    ensures answered { IfOk result (λ a. (outcome : Outcome) × Reports config input.now (string_bytes a.text) outcome × (a.status ≡ status_of outcome)) }
+    ensures answered { IfOk result (λ a. (outcome : Outcome) × (r : Reports config input.now (string_bytes a.text) outcome) × (a.status ≡ status_of outcome)
+        × Leaves S.answer S.next r.entries outcome (S.held sched.old) (S.held sched.new)) }
     ensures no_trace { result ≡ Err ReadTraceError.NotTrace → (t : List Entry) → IsTrace input.now t → ⊥ }
-    ensures view { S.held sched.new ≡ S.held sched.old }
+    ensures view { result ≡ Err ReadTraceError.NotTrace → S.held sched.new ≡ S.held sched.old }
 {
     let entries = read_trace(alloc, input)?;
     let outcome = outcome_of(alloc, &entries, config, sched)?;
@@ -168,7 +171,7 @@ fn outcome_of<S: Scheduler>(
 ) -> Result<Outcome, AllocError>
     requires { IsTrue (is_supported (order entries.now)) }
     ensures answer { IfOk result (IsAnswer config entries.now) }
-    ensures view { S.held sched.new ≡ S.held sched.old }
+    ensures view { IfOk result (λ outcome. Leaves S.answer S.next entries.now outcome (S.held sched.old) (S.held sched.new)) }
 {
     match validate(alloc, entries)? {
         Verdict::Refused(at, rule) => Ok(Outcome::Refused(at, rule)),

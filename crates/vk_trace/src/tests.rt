@@ -5,7 +5,7 @@ use std::io;
 use std::io::{ErrorKind, Read, Write};
 use std::process::Abort;
 use std::test::Fail;
-use vk_model::{At, Config, First, Rule};
+use vk_model::{At, Config, First, Last, Rule, Scheduler, Seeded};
 
 mod table;
 
@@ -19,12 +19,43 @@ fn config() -> Config {
     }
 }
 
-/// Runs a trace that lies in memory: how that ended, and what was written.
-fn run_bytes(alloc: Global, input: &[u8]) -> (Ending, Vec<u8>) {
+/// Which of the options is picked.
+#[derive(Clone, Copy, Debug)]
+enum Order {
+    First,
+    Last,
+    Seed(u64),
+}
+
+/// Orders that are tried beside the first.
+const ORDERS: [Order; 5] = [
+    Order::Last,
+    Order::Seed(0),
+    Order::Seed(1),
+    Order::Seed(2),
+    Order::Seed(3),
+];
+
+/// Runs a trace that lies in memory, by what a scheduler picks: how it ended, and what was written.
+fn run_picked<S: Scheduler>(alloc: Global, input: &[u8], sched: &mut S) -> (Ending, Vec<u8>) {
     let mut reader = Watched::new(input);
     let mut writer = Watched::new(Vec::new(alloc));
-    let ending = run(alloc, &mut reader, &mut writer, config(), &mut First);
+    let ending = run(alloc, &mut reader, &mut writer, config(), sched);
     (ending, writer.into_inner())
+}
+
+/// The same in an order.
+fn run_in_order(alloc: Global, input: &[u8], order: Order) -> (Ending, Vec<u8>) {
+    match order {
+        Order::First => run_picked(alloc, input, &mut First),
+        Order::Last => run_picked(alloc, input, &mut Last),
+        Order::Seed(seed) => run_picked(alloc, input, &mut Seeded::new(seed)),
+    }
+}
+
+/// The same where the first option is picked.
+fn run_bytes(alloc: Global, input: &[u8]) -> (Ending, Vec<u8>) {
+    run_in_order(alloc, input, Order::First)
 }
 
 /// Whether an allocation failed: one of the run, or that of the vector which is written to.
@@ -34,15 +65,31 @@ fn ran_out(ending: Ending) -> bool {
 
 /// Expects that a run ends so and writes this. Where it ran out of memory it has written nothing, and
 /// is run again: of all allocations at most one is made to fail.
-fn expect_run(rt: &impl Abort, alloc: Global, input: &[u8], output: &str, ending: Ending) {
-    let (mut got, mut written) = run_bytes(alloc, input);
+fn expect_in_order(
+    rt: &impl Abort,
+    alloc: Global,
+    input: &[u8],
+    output: &str,
+    ending: Ending,
+    order: Order,
+) {
+    let (mut got, mut written) = run_in_order(alloc, input, order);
     if ran_out(got) {
         assert!(rt; written.is_empty());
-        (got, written) = run_bytes(alloc, input);
+        (got, written) = run_in_order(alloc, input, order);
     }
     let input_text = str::from_utf8(input).unwrap_or("bytes that are no text");
-    assert_eq!(rt; got, ending, "at {input_text}");
-    assert_eq!(rt; written.as_slice(), output.as_bytes(), "at {input_text}");
+    assert_eq!(rt; got, ending, "{order:?} at {input_text}");
+    assert_eq!(rt;
+        written.as_slice(),
+        output.as_bytes(),
+        "{order:?} at {input_text}"
+    );
+}
+
+/// The same where the first option is picked.
+fn expect_run(rt: &impl Abort, alloc: Global, input: &[u8], output: &str, ending: Ending) {
+    expect_in_order(rt, alloc, input, output, ending, Order::First);
 }
 
 /// Expects that no front of a trace is a trace.
@@ -63,6 +110,20 @@ fn traces(rt: HostRuntime) {
     }
     expect_run(&rt, alloc, b"[[\"map\",\xff]]", "", NO_TRACE);
     expect_no_front(&rt, alloc, FILL_AND_READ.as_bytes());
+}
+
+/// A trace that replays is answered alike, whatever is picked.
+#[test]
+fn orders(rt: HostRuntime) {
+    let alloc = rt.alloc();
+    for (input, output, ending) in TRACES {
+        if ending != REPLAYED {
+            continue;
+        }
+        for order in ORDERS {
+            expect_in_order(&rt, alloc, input.as_bytes(), output, ending, order);
+        }
+    }
 }
 
 /// Gives its bytes, 16 at most in each read, and an error after some reads.

@@ -18,7 +18,7 @@ pub const FILL_AND_READ: &str =
     r#"[["buffer",1,16,3,"exclusive",["dedicated",1]],["semaphore",2,0],["submit",0,[[[],[["fill",1,0,16,67305985],["barrier",[[4096,4096,16384,8192]],[],[]]],[[2,1,65536]]]]],["wait",[[2,1]]],["map",1],["read",1,0,4]]"#;
 
 /// Traces, with what is written for them and how the run ends.
-pub const TRACES: [(&str, &str, Ending); 36] = [
+pub const TRACES: [(&str, &str, Ending); 38] = [
     ("[]", "", REPLAYED),
     (
         r#"[["buffer",1,16,3,"exclusive",["dedicated",1]],["semaphore",2,0],["submit",0,[[[],[["fill",1,0,16,67305985],["barrier",[[4096,4096,16384,8192]],[],[]]],[[2,1,65536]]]]],["wait",[[2,1]]],["map",1],["read",1,0,4]]"#,
@@ -169,6 +169,16 @@ pub const TRACES: [(&str, &str, Ending); 36] = [
     (
         r#"[["buffer",1,16,3,"exclusive",["dedicated",1]],["semaphore",2,0],["submit",1,[[[[2,1,4096]],[["fill",1,4,8,134678021],["barrier",[[4096,4096,16384,8192]],[],[]]],[[2,2,65536]]]]],["submit",0,[[[],[["fill",1,0,16,67305985]],[[2,1,4096]]]]],["wait",[[2,2]]],["map",1],["read",1,0,16]]"#,
         "6 01020304050607080506070801020304\n",
+        REPLAYED,
+    ),
+    (
+        r#"[["buffer",1,16,3,"concurrent",["dedicated",1]],["semaphore",2,0],["semaphore",3,0],["submit",0,[[[],[["fill",1,0,8,67305985],["barrier",[[4096,4096,16384,8192]],[],[]]],[[2,1,65536]]]]],["submit",1,[[[],[["fill",1,8,8,134678021],["barrier",[[4096,4096,16384,8192]],[],[]]],[[3,1,65536]]]]],["wait",[[2,1],[3,1]]],["map",1],["read",1,0,16]]"#,
+        "7 01020304010203040506070805060708\n",
+        REPLAYED,
+    ),
+    (
+        r#"[["buffer",1,12288,3,"concurrent",["dedicated",1]],["semaphore",2,0],["semaphore",3,0],["submit",0,[[[],[["fill",1,0,8192,67305985],["barrier",[[4096,4096,16384,8192]],[],[]]],[[2,1,65536]]]]],["submit",2,[[[],[["fill",1,8192,4096,134678021],["barrier",[[4096,4096,16384,8192]],[],[]]],[[3,1,65536]]]]],["wait",[[3,1]]],["wait",[[2,1]]],["map",1],["read",1,8188,8]]"#,
+        "8 0102030405060708\n",
         REPLAYED,
     ),
 ];

@@ -19,3 +19,8 @@ returns-in-Ok-clause-answer g c =
 
 pub returns-in-Refused-clause-answer : goal.returns-in-Refused-clause-answer
 returns-in-Refused-clause-answer g c = sym (rw c.in-Refused.is at c.in_ok-at.ensures.exact c.requires)
+
+pub returns-in-Ok-clause-view : goal.returns-in-Ok-clause-view
+returns-in-Ok-clause-view g c =
+    let same : c.in-Accepted.accepted ≡ c.args.entries.now = rw c.in-Accepted.is at c.in_ok-at.ensures.same in
+    (rw same at c.in-Ok.ensures.led).1
