@@ -3,11 +3,13 @@
 # wrong answer fails it.
 #
 # PROGRAM is the program to measure; where it isn't set, the repository's own, which ./replay builds
-# where that is due. RUNS is how often a row is run, 5 where nothing is said.
+# where that is due. RUNS is how often a row is run, 5 where nothing is said. ARGUMENTS has what the
+# program is given on its command line; a script sets it before a row.
 set -u
 top=$(cd "$(dirname "${BASH_SOURCE[0]}")/.." && pwd)
 runs=${RUNS:-5}
 wrong=0
+ARGUMENTS=()
 # (in memory where that can be had, so that no disk is measured)
 folder=$(TMPDIR=$([ -w /dev/shm ] && echo /dev/shm || echo "${TMPDIR:-/tmp}") mktemp -d) || exit 1
 trap 'rm -rf "$folder"' EXIT
@@ -75,7 +77,7 @@ row() {
         [ "$run" -ne 1 ] || started=(with_peak "$folder/peak")
         now
         from=$moment
-        "${started[@]}" "$PROGRAM" <"$folder/trace" >"$folder/answer" 2>"$folder/complaint"
+        "${started[@]}" "$PROGRAM" "${ARGUMENTS[@]}" <"$folder/trace" >"$folder/answer" 2>"$folder/complaint"
         ended=$?
         now
         if [ -z "$best" ] || [ $((moment - from)) -lt "$best" ]; then
@@ -100,6 +102,17 @@ mebibytes() {
 
 print_row() {
     printf '%-28s %10s %14s %10s %7s  %s\n' "$@"
+}
+
+# A barrier that makes what transfers wrote visible to the host.
+to_host='["barrier",[[4096,4096,16384,8192]],[],[]]'
+
+# ENTRY WORD: that the read of this entry answers the word.
+answers() {
+    awk -v entry="$1" -v word="$2" 'BEGIN {
+        printf "%d %02x%02x%02x%02x\n", entry, word % 256, int(word / 256) % 256,
+            int(word / 65536) % 256, int(word / 16777216)
+    }'
 }
 
 # The line above the rows.

@@ -4,22 +4,12 @@
 # sizes, so that a reader sees how the time grows (bench/common.sh).
 . "$(dirname "${BASH_SOURCE[0]}")/common.sh"
 
-to_host='["barrier",[[4096,4096,16384,8192]],[],[]]'
-
 # The entries that wait until semaphore 3 has value 1, and read the first word of buffer 1.
 read_word='["wait",[[3,1]]],["map",1],["read",1,0,4]]'
 
 # ENTRIES: the beginning of a trace with a buffer, semaphores 2 and 3, and these entries.
 beginning() {
     printf '[["buffer",1,16,3,"concurrent",["dedicated",1]],["semaphore",2,0],["semaphore",3,0],%s' "$1"
-}
-
-# ENTRY WORD: that the read of this entry answers the word.
-answers() {
-    awk -v entry="$1" -v word="$2" 'BEGIN {
-        printf "%d %02x%02x%02x%02x\n", entry, word % 256, int(word / 256) % 256,
-            int(word / 65536) % 256, int(word / 16777216)
-    }'
 }
 
 # N batches, a multiple of 4, that each fill the same word, on the four queues in turn: each waits for
