@@ -22,16 +22,30 @@ pub fn count_at(clock: &[usize], index: usize) -> usize
     }
 }
 
+/// The clock of what comes after both. The first is changed in its place, so that it is copied only
+/// where it grows.
+pub fn joined_to(first: Vec<usize>, second: &[usize]) -> Result<Vec<usize>, AllocError>
+    ensures counts { IfOk result (λ both. (i : ℕ) → slice_index_or both.items i 0 ≡ max (slice_index_or first.items i 0) (slice_index_or second.now i 0)) }
+    ensures len { IfOk result (λ both. vec_len both ≡ max (vec_len first) (length second.now)) }
+{
+    let mut both = first;
+    for (index, count) in second.iter().enumerate() {
+        if index < both.len() {
+            both[index] = both[index].max(*count);
+        } else {
+            both.push(*count)?;
+        }
+    }
+    Ok(both)
+}
+
 /// The clock of what comes after both.
 pub fn joined(alloc: Global, first: &[usize], second: &[usize]) -> Result<Vec<usize>, AllocError>
     ensures counts { IfOk result (λ both. (i : ℕ) → slice_index_or both.items i 0 ≡ max (slice_index_or first.now i 0) (slice_index_or second.now i 0)) }
     ensures len { IfOk result (λ both. vec_len both ≡ max (length first.now) (length second.now)) }
 {
-    let length = first.len().max(second.len());
-    let mut both = Vec::with_capacity(alloc, length)?;
-    for index in 0..length {
-        both.push(count_at(first, index).max(count_at(second, index)))?;
-    }
+    let copy = Vec::from_slice(alloc, first)?;
+    let both = joined_to(copy, second)?;
     Ok(both)
 }
 

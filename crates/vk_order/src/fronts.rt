@@ -6,7 +6,7 @@ ghost use Rattle.vk_order.specs.declared.lines.Line.{Line as AnyLine};
 ghost use Rattle.vk_order.specs.Inner.Clocks.{IsWhole};
 ghost use Rattle.vk_order.specs.Inner.Fronts.{IsFront, IsNamed, IsOwnFront};
 
-use crate::clocks::joined;
+use crate::clocks::joined_to;
 use std::alloc::{AllocError, Global};
 
 /// What comes after some nodes: how many nodes of each line are before it, and how many commands of
@@ -44,37 +44,46 @@ impl Front {
     }
 
     /// What comes after the nodes of both.
-    pub fn joined(&self, alloc: Global, other: &Front) -> Result<Front, AllocError>
-        ensures both { IfOk result (λ both. (ns : List Node) (ls : List AnyLine) (f g : Node → Bool) → IsFront ns ls f self.now → IsFront ns ls g other.now → IsFront ns ls (λ k. f k || g k) both) }
-        ensures grown { IfOk result (λ both. (ns : List Node) (ls : List AnyLine) (test : Node → Bool) (n : Node) → IsNumbered (n ∷ ns) → test n ≡ true → IsWhole (n ∷ ns) test → IsFront ns ls test self.now → IsOwnFront ns ls n other.now → IsFront (n ∷ ns) ls test both) }
+    pub fn joined(self, other: &Front) -> Result<Front, AllocError>
+        ensures both { IfOk result (λ both. (ns : List Node) (ls : List AnyLine) (f g : Node → Bool) → IsFront ns ls f self → IsFront ns ls g other.now → IsFront ns ls (λ k. f k || g k) both) }
+        ensures grown { IfOk result (λ both. (ns : List Node) (ls : List AnyLine) (test : Node → Bool) (n : Node) → IsNumbered (n ∷ ns) → test n ≡ true → IsWhole (n ∷ ns) test → IsFront ns ls test self → IsOwnFront ns ls n other.now → IsFront (n ∷ ns) ls test both) }
     {
+        let Front {
+            clock,
+            available,
+            reads,
+            writes,
+            host_reads,
+            host_writes,
+        } = self;
         Ok(Front {
-            clock: joined(alloc, self.clock.as_slice(), other.clock.as_slice())?,
-            available: joined(alloc, self.available.as_slice(), other.available.as_slice())?,
-            reads: joined(alloc, self.reads.as_slice(), other.reads.as_slice())?,
-            writes: joined(alloc, self.writes.as_slice(), other.writes.as_slice())?,
-            host_reads: joined(
-                alloc,
-                self.host_reads.as_slice(),
-                other.host_reads.as_slice(),
-            )?,
-            host_writes: joined(
-                alloc,
-                self.host_writes.as_slice(),
-                other.host_writes.as_slice(),
-            )?,
+            clock: joined_to(clock, other.clock.as_slice())?,
+            available: joined_to(available, other.available.as_slice())?,
+            reads: joined_to(reads, other.reads.as_slice())?,
+            writes: joined_to(writes, other.writes.as_slice())?,
+            host_reads: joined_to(host_reads, other.host_reads.as_slice())?,
+            host_writes: joined_to(host_writes, other.host_writes.as_slice())?,
         })
+    }
+
+    /// The same front once more.
+    pub fn copied(&self, alloc: Global) -> Result<Front, AllocError>
+        ensures { IfOk result (λ copy. (ns : List Node) (ls : List AnyLine) (test : Node → Bool) → IsFront ns ls test self.now → IsFront ns ls test copy) }
+    {
+        let none = Front::new(alloc);
+        let copy = none.joined(self)?;
+        Ok(copy)
     }
 }
 
 /// What comes after the nodes of a front, and of another one if there is one.
-pub fn with_named(alloc: Global, front: Front, named: Option<&Front>) -> Result<Front, AllocError>
+pub fn with_named(front: Front, named: Option<&Front>) -> Result<Front, AllocError>
     ensures { IfOk result (λ both. (ns : List Node) (ls : List AnyLine) (f g : Node → Bool) → IsFront ns ls f front → IsNamed ns ls g (option_copied named.entry) → IsFront ns ls (λ k. f k || g k) both) }
 {
     let Some(other) = named else {
         return Ok(front);
     };
-    let both = front.joined(alloc, other)?;
+    let both = front.joined(other)?;
     Ok(both)
 }
 
@@ -84,9 +93,10 @@ pub fn named_with(alloc: Global, named: Option<&Front>, own: &Front) -> Result<F
 {
     let Some(front) = named else {
         let none = Front::new(alloc);
-        let more = none.joined(alloc, own)?;
+        let more = none.joined(own)?;
         return Ok(more);
     };
-    let more = front.joined(alloc, own)?;
+    let copy = front.copied(alloc)?;
+    let more = copy.joined(own)?;
     Ok(more)
 }

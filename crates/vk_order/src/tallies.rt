@@ -53,7 +53,7 @@ pub fn join_of(alloc: Global, tallies: &[LineTally], row: &Row<'_>) -> Result<Fr
     let mut front = Front::new(alloc);
     for tally in tallies {
         if tally.line.leads(row.point.queue, &row.act) {
-            front = front.joined(alloc, &tally.front)?;
+            front = front.joined(&tally.front)?;
         }
     }
     Ok(front)
@@ -94,7 +94,8 @@ pub fn tally(
     };
     let place = tallies[at].count;
     let own = own_front(alloc, tallies.as_slice(), row, line, at, front)?;
-    let front = tallies[at].front.joined(alloc, &own)?;
+    let before = tallies[at].front.copied(alloc)?;
+    let front = before.joined(&own)?;
     let count = if line.is_of_sets() {
         place
     } else {

@@ -14,4 +14,5 @@ returns-in_default c = λ ns ls test n numbers passes whole named own.
 
 pub returns : goal.returns
 returns c = λ ns ls test n numbers passes whole named own.
-    c.in_ok-more-2.ensures.grown ns ls test n numbers passes whole (subst (λ (o : Option (Bor Front)). IsNamed ns ls test (option_copied o)) c.in-Some.is named) own
+    c.in_ok-more-2.ensures.grown ns ls test n numbers passes whole
+    (c.in_ok-copy.ensures ns ls test (subst (λ (o : Option (Bor Front)). IsNamed ns ls test (option_copied o)) c.in-Some.is named)) own

@@ -48,5 +48,5 @@ returns-clause-kept c = λ ns n coming tallied.
       | else-is_of_sets w ↦ w.count-is ∙ w.saturating_add-count.ensures ∙ sym (rw (sym c.is_of_sets.ensures ∙ w.if-is_of_sets.false) refl)
     ] in
     tallied_more ns ts n row known own coming tallied at found t u here c.of-line.ensures
-    (λ test passes whole is. c.in_ok-front.ensures.grown ns (lines_of ts) test n coming.numbers passes whole (subst (λ (x : LineTally). IsFront ns (lines_of ts) test x.front) same is) is_own)
+    (λ test passes whole is. c.in_ok-front.ensures.grown ns (lines_of ts) test n coming.numbers passes whole (c.in_ok-before.ensures ns (lines_of ts) test (subst (λ (x : LineTally). IsFront ns (lines_of ts) test x.front) same is)) is_own)
     (count ∙ ap (λ (l : Line). if is_of_sets l then t.count else min (t.count + 1) (2 ^ 64 - 1)) c.of-line.ensures)

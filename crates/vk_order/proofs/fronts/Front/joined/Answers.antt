@@ -3,11 +3,11 @@ use Rattle.vk_order.specs.declared.fronts.Front.{Front}
 use Rattle.vk_order.proofs.FrontLemmas.{AreJoinedFronts, fronts_joined, fronts_both, front_grows}
 use Rattle.vk_order.proofs.fronts.Front.joined.Goals as goal
 
-abbrev result_of : (c : goal.In_ok-joined-6) → Front
-result_of c = record { clock = c.in_ok-joined.field-0; available = c.in_ok-joined-2.field-0; reads = c.in_ok-joined-3.field-0; writes = c.in_ok-joined-4.field-0; host_reads = c.in_ok-joined-5.field-0; host_writes = c.in_ok-joined-6.field-0 }
+abbrev result_of : (c : goal.In_ok-joined_to-6) → Front
+result_of c = record { clock = c.in_ok-joined_to.field-0; available = c.in_ok-joined_to-2.field-0; reads = c.in_ok-joined_to-3.field-0; writes = c.in_ok-joined_to-4.field-0; host_reads = c.in_ok-joined_to-5.field-0; host_writes = c.in_ok-joined_to-6.field-0 }
 
-are : (c : goal.In_ok-joined-6) → AreJoinedFronts c.args.self.now c.args.other.now (result_of c)
-are c = fronts_joined c.args.self.now c.args.other.now (result_of c)
+are : (c : goal.In_ok-joined_to-6) → AreJoinedFronts c.args.self c.args.other.now (result_of c)
+are c = fronts_joined c.args.self c.args.other.now (result_of c)
     (record { counts = search rules; long = search rules })
     (record { counts = search rules; long = search rules })
     (record { counts = search rules; long = search rules })
@@ -16,7 +16,7 @@ are c = fronts_joined c.args.self.now c.args.other.now (result_of c)
     (record { counts = search rules; long = search rules })
 
 pub returns-clause-both : goal.returns-clause-both
-returns-clause-both c = λ ns ls f g i j. fronts_both ns ls f g c.args.self.now c.args.other.now (result_of c) (are c) i j
+returns-clause-both c = λ ns ls f g i j. fronts_both ns ls f g c.args.self c.args.other.now (result_of c) (are c) i j
 
 pub returns-clause-grown : goal.returns-clause-grown
-returns-clause-grown c = λ ns ls test n numbers passes whole is of. front_grows ns ls test n numbers c.args.self.now c.args.other.now (result_of c) (are c) passes whole is of
+returns-clause-grown c = λ ns ls test n numbers passes whole is of. front_grows ns ls test n numbers c.args.self c.args.other.now (result_of c) (are c) passes whole is of

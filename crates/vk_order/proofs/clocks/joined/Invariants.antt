@@ -1,9 +1,0 @@
-use Rattle.std.proofs.Common.{◌≡◌, ◌<◌, ℕ, slice_index_or, vec_len}
-use Rattle.std.specs.Prelude.{max}
-use Rattle.vk_order.proofs.clocks.joined.Given as goal
-
-abbrev pub invariant-loop-index : goal.invariant-loop-index
-invariant-loop-index l = record {
-  so_far : vec_len l.both ≡ l.index;
-  counts : (i : ℕ) → i < l.index → slice_index_or l.both.items i 0 ≡ max (slice_index_or l.first i 0) (slice_index_or l.second i 0);
-}
