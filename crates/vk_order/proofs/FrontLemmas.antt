@@ -1,6 +1,7 @@
 -- Fronts, and what they are made of.
 use Rattle.std.proofs.Common.{◌≡◌, ℕ, ◌<◌, ◌≤◌, List, [], ◌∷◌, length, Bool, true, false, ◌||◌, IsTrue, Option, Some, None, refl, ap, sym, ◌∙◌, subst, arith}
-use Rattle.std.specs.Prelude.{Contains, max}
+use Rattle.std.specs.Prelude.{Contains, max, slice_index_or}
+use Rattle.std.proofs.Math.Nat.{max_comm}
 use Rattle.vk_model.specs.Sync.Node.{Node}
 use Rattle.vk_model.specs.Sync.Seen.{Read, Write}
 use Rattle.vk_model.specs.Sync.Before.{IsNumbered}
@@ -33,6 +34,19 @@ fronts_joined first second both c a r w hr hw = record { clock = c; rows = each 
     each (Visible Write) = w
     each (OnHost Read) = hr
     each (OnHost Write) = hw
+
+turned : (first second both : List ℕ) → AreJoined first second both → AreJoined second first both
+turned first second both are = record {
+  counts = λ i. are.counts i ∙ max_comm (slice_index_or first i 0) (slice_index_or second i 0);
+  long = are.long ∙ max_comm (length first) (length second);
+}
+
+-- it doesn't matter which of two fronts is the first
+pub fronts_turned : (first second both : Front) → AreJoinedFronts first second both → AreJoinedFronts second first both
+fronts_turned first second both are = record {
+  clock = turned first.clock.items second.clock.items both.clock.items are.clock;
+  rows = λ g. turned (row_in g first) (row_in g second) (row_in g both) (are.rows g);
+}
 
 -- ---- rows
 

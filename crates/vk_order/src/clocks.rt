@@ -24,10 +24,17 @@ pub fn count_at(clock: &[usize], index: usize) -> usize
 
 /// The clock of what comes after both. The first is changed in its place, so that it is copied only
 /// where it grows.
-pub fn joined_to(first: Vec<usize>, second: &[usize]) -> Result<Vec<usize>, AllocError>
+pub fn joined_to(
+    alloc: Global,
+    first: Vec<usize>,
+    second: &[usize],
+) -> Result<Vec<usize>, AllocError>
     ensures counts { IfOk result (λ both. (i : ℕ) → slice_index_or both.items i 0 ≡ max (slice_index_or first.items i 0) (slice_index_or second.now i 0)) }
     ensures len { IfOk result (λ both. vec_len both ≡ max (vec_len first) (length second.now)) }
 {
+    if first.is_empty() {
+        return Vec::from_slice(alloc, second);
+    }
     let mut both = first;
     for (index, count) in second.iter().enumerate() {
         if index < both.len() {
@@ -45,7 +52,7 @@ pub fn joined(alloc: Global, first: &[usize], second: &[usize]) -> Result<Vec<us
     ensures len { IfOk result (λ both. vec_len both ≡ max (length first.now) (length second.now)) }
 {
     let copy = Vec::from_slice(alloc, first)?;
-    let both = joined_to(copy, second)?;
+    let both = joined_to(alloc, copy, second)?;
     Ok(both)
 }
 

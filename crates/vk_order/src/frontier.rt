@@ -22,7 +22,7 @@ use crate::names::Names;
 use crate::point::{Act, Point};
 use crate::rows::rows_of;
 use crate::sights::Sight;
-use crate::tallies::{LineTally, join_of, line_index, lines_copied, list_line, tally};
+use crate::tallies::{LineTally, join_of, line_index, lines_copied, list_line, own_of, tally};
 use std::alloc::{AllocError, Global};
 
 /// What is known of the nodes so far, for those that come next: of each line how many there are,
@@ -158,8 +158,9 @@ impl Frontier {
         let Some(nodes) = self.nodes.checked_add(1) else {
             return Err(AllocError);
         };
-        let own = tally(self.alloc, &mut self.tallies, row, front)?;
+        let own = own_of(self.alloc, self.tallies.as_slice(), row, front)?;
         self.names.add(self.alloc, row, &own)?;
+        tally(self.alloc, &mut self.tallies, row, own)?;
         self.nodes = nodes;
         Ok(())
     }

@@ -44,9 +44,10 @@ impl Front {
     }
 
     /// What comes after the nodes of both.
-    pub fn joined(self, other: &Front) -> Result<Front, AllocError>
+    pub fn joined(self, alloc: Global, other: &Front) -> Result<Front, AllocError>
         ensures both { IfOk result (λ both. (ns : List Node) (ls : List AnyLine) (f g : Node → Bool) → IsFront ns ls f self → IsFront ns ls g other.now → IsFront ns ls (λ k. f k || g k) both) }
         ensures grown { IfOk result (λ both. (ns : List Node) (ls : List AnyLine) (test : Node → Bool) (n : Node) → IsNumbered (n ∷ ns) → test n ≡ true → IsWhole (n ∷ ns) test → IsFront ns ls test self → IsOwnFront ns ls n other.now → IsFront (n ∷ ns) ls test both) }
+        ensures grows { IfOk result (λ both. (ns : List Node) (ls : List AnyLine) (test : Node → Bool) (n : Node) → IsNumbered (n ∷ ns) → test n ≡ true → IsWhole (n ∷ ns) test → IsOwnFront ns ls n self → IsFront ns ls test other.now → IsFront (n ∷ ns) ls test both) }
     {
         let Front {
             clock,
@@ -57,12 +58,12 @@ impl Front {
             host_writes,
         } = self;
         Ok(Front {
-            clock: joined_to(clock, other.clock.as_slice())?,
-            available: joined_to(available, other.available.as_slice())?,
-            reads: joined_to(reads, other.reads.as_slice())?,
-            writes: joined_to(writes, other.writes.as_slice())?,
-            host_reads: joined_to(host_reads, other.host_reads.as_slice())?,
-            host_writes: joined_to(host_writes, other.host_writes.as_slice())?,
+            clock: joined_to(alloc, clock, other.clock.as_slice())?,
+            available: joined_to(alloc, available, other.available.as_slice())?,
+            reads: joined_to(alloc, reads, other.reads.as_slice())?,
+            writes: joined_to(alloc, writes, other.writes.as_slice())?,
+            host_reads: joined_to(alloc, host_reads, other.host_reads.as_slice())?,
+            host_writes: joined_to(alloc, host_writes, other.host_writes.as_slice())?,
         })
     }
 
@@ -71,19 +72,19 @@ impl Front {
         ensures { IfOk result (λ copy. (ns : List Node) (ls : List AnyLine) (test : Node → Bool) → IsFront ns ls test self.now → IsFront ns ls test copy) }
     {
         let none = Front::new(alloc);
-        let copy = none.joined(self)?;
+        let copy = none.joined(alloc, self)?;
         Ok(copy)
     }
 }
 
 /// What comes after the nodes of a front, and of another one if there is one.
-pub fn with_named(front: Front, named: Option<&Front>) -> Result<Front, AllocError>
+pub fn with_named(alloc: Global, front: Front, named: Option<&Front>) -> Result<Front, AllocError>
     ensures { IfOk result (λ both. (ns : List Node) (ls : List AnyLine) (f g : Node → Bool) → IsFront ns ls f front → IsNamed ns ls g (option_copied named.entry) → IsFront ns ls (λ k. f k || g k) both) }
 {
     let Some(other) = named else {
         return Ok(front);
     };
-    let both = front.joined(other)?;
+    let both = front.joined(alloc, other)?;
     Ok(both)
 }
 
@@ -93,10 +94,10 @@ pub fn named_with(alloc: Global, named: Option<&Front>, own: &Front) -> Result<F
 {
     let Some(front) = named else {
         let none = Front::new(alloc);
-        let more = none.joined(own)?;
+        let more = none.joined(alloc, own)?;
         return Ok(more);
     };
     let copy = front.copied(alloc)?;
-    let more = copy.joined(own)?;
+    let more = copy.joined(alloc, own)?;
     Ok(more)
 }

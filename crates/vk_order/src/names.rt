@@ -68,8 +68,8 @@ impl Names {
         ensures { IfOk result (λ both. (ns : List Node) (ls : List AnyLine) (f : Node → Bool) (j : ℕ) → IsNames ns ls self.now → IsFront ns ls f front → IsFront ns ls (λ k. f k || by_name ns k (node_of j row.now)) both) }
     {
         let submit = self.submits.get(&row.point.entry);
-        let front = with_named(front, submit)?;
-        let front = with_named(front, self.set_of(&row.act))?;
+        let front = with_named(alloc, front, submit)?;
+        let front = with_named(alloc, front, self.set_of(&row.act))?;
         let front = self.with_signals(alloc, front, &row.act)?;
         Ok(front)
     }
@@ -111,7 +111,7 @@ impl Names {
         match act {
             Act::Waits(wait) => {
                 let signal = self.signal_for(wait.semaphore, wait.value);
-                let both = with_named(front, signal)?;
+                let both = with_named(alloc, front, signal)?;
                 Ok(both)
             }
             Act::Hosts(entry) => {
@@ -147,7 +147,7 @@ impl Names {
         let mut both = front;
         for wait in waits {
             let signal = self.signal_for(wait.semaphore, wait.value);
-            both = with_named(both, signal)?;
+            both = with_named(alloc, both, signal)?;
         }
         Ok(both)
     }

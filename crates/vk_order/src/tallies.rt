@@ -53,7 +53,7 @@ pub fn join_of(alloc: Global, tallies: &[LineTally], row: &Row<'_>) -> Result<Fr
     let mut front = Front::new(alloc);
     for tally in tallies {
         if tally.line.leads(row.point.queue, &row.act) {
-            front = front.joined(&tally.front)?;
+            front = front.joined(alloc, &tally.front)?;
         }
     }
     Ok(front)
@@ -76,31 +76,46 @@ pub fn list_line(alloc: Global, tallies: &mut Vec<LineTally>, line: Line) -> Res
     Ok(())
 }
 
-/// Counts a row that comes next, of which this is before. Answers what comes after it.
+/// What comes after a row that comes next, of which this is before.
+pub fn own_of(
+    alloc: Global,
+    tallies: &[LineTally],
+    row: &Row<'_>,
+    front: &Front,
+) -> Result<Front, AllocError>
+    requires { IsTrue (is_some (index_in (lines_of tallies.now) (class_on row.now.point.queue (act_of row.now.act)))) }
+    ensures { IfOk result (λ own. (ns : List Node) (n : Node) → IsComing ns (lines_of tallies.now) n row.now front.now → IsTallied ns tallies.now → IsOwnFront ns (lines_of tallies.now) n own) }
+{
+    let line = Line::of(row.point.queue, &row.act);
+    let Some(at) = line_index(tallies, line) else {
+        unreachable!()
+    };
+    let own = own_front(alloc, tallies, row, line, at, front)?;
+    Ok(own)
+}
+
+/// Counts a row that comes next, after which this comes.
 pub fn tally(
     alloc: Global,
     tallies: &mut Vec<LineTally>,
     row: &Row<'_>,
-    front: &Front,
-) -> Result<Front, AllocError>
+    own: Front,
+) -> Result<(), AllocError>
     requires { IsTrue (is_some (index_in (lines_of tallies.old.items) (class_on row.now.point.queue (act_of row.now.act)))) }
     ensures lines { OnOk result (lines_of tallies.new.items ≡ lines_of tallies.old.items) }
-    ensures own { IfOk result (λ own. (ns : List Node) (n : Node) → IsComing ns (lines_of tallies.old.items) n row.now front.now → IsTallied ns tallies.old.items → IsOwnFront ns (lines_of tallies.old.items) n own) }
-    ensures kept { OnOk result ((ns : List Node) (n : Node) → IsComing ns (lines_of tallies.old.items) n row.now front.now → IsTallied ns tallies.old.items → IsTallied (n ∷ ns) tallies.new.items) }
+    ensures kept { OnOk result ((ns : List Node) (n : Node) (known : Front) → IsComing ns (lines_of tallies.old.items) n row.now known → IsTallied ns tallies.old.items → IsOwnFront ns (lines_of tallies.old.items) n own → IsTallied (n ∷ ns) tallies.new.items) }
 {
     let line = Line::of(row.point.queue, &row.act);
     let Some(at) = line_index(tallies.as_slice(), line) else {
         unreachable!()
     };
     let place = tallies[at].count;
-    let own = own_front(alloc, tallies.as_slice(), row, line, at, front)?;
-    let before = tallies[at].front.copied(alloc)?;
-    let front = before.joined(&own)?;
+    let front = own.joined(alloc, &tallies[at].front)?;
     let count = if line.is_of_sets() {
         place
     } else {
         place.saturating_add(1)
     };
     tallies[at] = LineTally { line, count, front };
-    Ok(own)
+    Ok(())
 }

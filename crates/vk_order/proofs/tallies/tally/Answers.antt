@@ -1,15 +1,14 @@
-use Rattle.std.proofs.Common.{◌≡◌, ◌+◌, ◌-◌, ◌^◌, ◌<◌, List, Some, refl, ap, sym, ◌∙◌, subst, length, rules}
+use Rattle.std.proofs.Common.{◌≡◌, ◌+◌, ◌-◌, ◌^◌, ◌<◌, Some, refl, ap, sym, ◌∙◌, subst, length, rules}
 use Rattle.std.specs.Prelude.{min, slice_get, if◌then◌else◌}
 use Rattle.std.proofs.lemmas.Option.{slice_get_read}
-use Rattle.vk_model.specs.Sync.Node.{Node}
 use Rattle.vk_order.specs.declared.tallies.LineTally.{LineTally}
 use Rattle.vk_order.specs.declared.lines.Line.{Line}
 use Rattle.vk_order.specs.PointViews.{act_of}
 use Rattle.vk_order.specs.Lines.{class_on}
 use Rattle.vk_order.specs.Inner.Leads.{is_of_sets}
 use Rattle.vk_order.specs.Inner.Places.{index_in}
-use Rattle.vk_order.specs.Inner.Fronts.{IsFront, IsOwnFront}
-use Rattle.vk_order.specs.Inner.Tallies.{lines_of, IsTallied, IsComing}
+use Rattle.vk_order.specs.Inner.Fronts.{IsFront}
+use Rattle.vk_order.specs.Inner.Tallies.{lines_of}
 use Rattle.vk_order.proofs.OwnLemmas.{index_low}
 use Rattle.vk_order.proofs.TallyLemmas.{lines-set, tallied_more}
 use Rattle.vk_order.proofs.tallies.tally.Goals.{then-is_of_sets, else-is_of_sets}
@@ -24,22 +23,18 @@ inside : (a b : LineTally) → Some a ≡ Some b → a ≡ b
 inside a b e = cc
 
 pub returns-clause-kept : goal.returns-clause-kept
-returns-clause-kept c = λ ns n coming tallied.
+returns-clause-kept c = λ ns n known coming tallied is_own.
     let ts = c.args.tallies.now.items in
     let at = c.in-Some.at in
     let line = c.of-line.result in
     let row = c.args.row.now in
-    let known = c.args.front.now in
-    let own = c.in_ok-own.own in
+    let own = c.args.own in
     let u : LineTally = record { line = line; count = c.if-is_of_sets.count; front = c.in_ok-front.front } in
     let t : LineTally = c.index.result.now in
     let that : index_in (lines_of ts) line ≡ Some at = search rules in
     let found : index_in (lines_of ts) (class_on row.point.queue (act_of row.act)) ≡ Some at = ap (index_in (lines_of ts)) (sym c.of-line.ensures) ∙ that in
     let low : at < length ts = index_low ts line at that in
     let here : slice_get ts at ≡ Some t = slice_get_read ts (length ts) at t refl low c.index.ensures in
-    let is_own : IsOwnFront ns (lines_of ts) n own =
-    subst (λ (l : List LineTally). index_in (lines_of l) line ≡ Some at → (ms : List Node) (m : Node) → IsComing ms (lines_of l) m row known → IsTallied ms l → IsOwnFront ms (lines_of l) m own) c.as_slice-2.ensures.value
-    (c.in_ok-own.ensures c.of-line.ensures) that ns n coming tallied in
     let there : slice_get ts at ≡ Some c.index-2.result.now = slice_get_read ts (length ts) at c.index-2.result.now refl low c.index-2.ensures in
     let same : t ≡ c.index-2.result.now = inside t c.index-2.result.now (sym here ∙ there) in
     let count : u.count ≡ (if is_of_sets line then t.count else min (t.count + 1) (2 ^ 64 - 1)) =
@@ -48,5 +43,5 @@ returns-clause-kept c = λ ns n coming tallied.
       | else-is_of_sets w ↦ w.count-is ∙ w.saturating_add-count.ensures ∙ sym (rw (sym c.is_of_sets.ensures ∙ w.if-is_of_sets.false) refl)
     ] in
     tallied_more ns ts n row known own coming tallied at found t u here c.of-line.ensures
-    (λ test passes whole is. c.in_ok-front.ensures.grown ns (lines_of ts) test n coming.numbers passes whole (c.in_ok-before.ensures ns (lines_of ts) test (subst (λ (x : LineTally). IsFront ns (lines_of ts) test x.front) same is)) is_own)
+    (λ test passes whole is. c.in_ok-front.ensures.grows ns (lines_of ts) test n coming.numbers passes whole is_own (subst (λ (x : LineTally). IsFront ns (lines_of ts) test x.front) same is))
     (count ∙ ap (λ (l : Line). if is_of_sets l then t.count else min (t.count + 1) (2 ^ 64 - 1)) c.of-line.ensures)
