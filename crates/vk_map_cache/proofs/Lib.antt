@@ -1,0 +1,5 @@
+pub mod HostBytes
+pub mod CellLemmas
+pub mod HoldingLemmas
+pub mod SpanLemmas
+pub mod HostLemmas
