@@ -1,5 +1,6 @@
 pub mod Forms
 pub mod Barriers
+pub mod Levels
 pub mod Fills
 pub mod Pasts
 pub mod Ranges

@@ -3,7 +3,7 @@ ghost use Rattle.std.specs.Option.{option_map};
 ghost use Rattle.std.specs.List.{fold};
 ghost use Rattle.vk_model.specs.Basics.{holds};
 ghost use Rattle.vk_model.specs.Trace.Point.{Past, host_of};
-ghost use Rattle.vk_model.specs.Trace.Objects.{made, buffer, initial};
+ghost use Rattle.vk_model.specs.Trace.Objects.{made, buffer, image, pool, memory, initial, type_at, type_of, memory_of, pool_of, pool_at};
 ghost use Rattle.vk_model.specs.Trace.Order.{counter, signaled};
 ghost use Rattle.vk_model.specs.Trace.Structure.{IsOrdered};
 ghost use Rattle.vk_model.specs.World.ByteWrites.{buffer_size};
@@ -23,11 +23,12 @@ ghost use Rattle.vk_validate.specs.Inner.Tabled.{spot_view, set_view, maker_view
 use crate::contents::BufferContents;
 use crate::events::EventSet;
 use crate::objects::Maker;
+use crate::places::{memory_at, pool_at};
 use crate::semaphores::Signals;
 use crate::tables::{Tables, note};
 use std::alloc::{AllocError, Global};
 use std::marker::Model;
-use vk_model::{BufferInfo, Entry};
+use vk_model::{BufferInfo, Entry, ImageInfo, MemoryInfo, Place, PoolInfo};
 use vk_order::{Act, Action, Point, Sight};
 
 /// What has happened: the first `count` of the points, which break no rule. What the rules ask of it
@@ -129,6 +130,104 @@ impl<'a> History<'a> {
     {
         match self.made(id) {
             Some(Entry::Buffer { info, .. }) => Some(info),
+            _ => None,
+        }
+    }
+
+    /// What an image was made with.
+    pub fn image(&self, id: u32) -> Option<&'a ImageInfo>
+        ensures { option_map (λ x. x.now) result ≡ image (past self.now) id }
+    {
+        match self.made(id) {
+            Some(Entry::Image { info, .. }) => Some(info),
+            _ => None,
+        }
+    }
+
+    /// What a pool was made with.
+    pub fn pool(&self, id: u32) -> Option<&'a PoolInfo>
+        ensures { option_map (λ x. x.now) result ≡ pool (past self.now) id }
+    {
+        match self.made(id) {
+            Some(Entry::Pool { info, .. }) => Some(info),
+            _ => None,
+        }
+    }
+
+    /// What a memory object was made with.
+    pub fn memory(&self, id: u32) -> Option<&'a MemoryInfo>
+        ensures { option_map (λ x. x.now) result ≡ memory (past self.now) id }
+    {
+        match self.made(id) {
+            Some(Entry::Memory { info, .. }) => Some(info),
+            _ => None,
+        }
+    }
+
+    /// The memory type of a place; none where its pool or memory object was never made.
+    pub fn type_at(&self, place: Place) -> Option<u32>
+        ensures { result ≡ type_at (past self.now) place }
+    {
+        match place {
+            Place::Dedicated { memory_type } => Some(memory_type),
+            Place::Pool { pool } => self.pool_type(pool),
+            Place::PoolUpper { pool } => self.pool_type(pool),
+            Place::Memory { memory, .. } => match self.memory(memory) {
+                Some(info) => Some(info.memory_type),
+                None => None,
+            },
+        }
+    }
+
+    /// The memory type of a pool.
+    fn pool_type(&self, id: u32) -> Option<u32>
+        ensures { result ≡ option_map (λ x. x.memory_type) (pool (past self.now) id) }
+    {
+        match self.pool(id) {
+            Some(info) => Some(info.memory_type),
+            None => None,
+        }
+    }
+
+    /// The pool of a place, as it was made.
+    pub fn pool_for(&self, place: Place) -> Option<&'a PoolInfo>
+        ensures { option_map (λ x. x.now) result ≡ option_and_then (pool (past self.now)) (pool_at place) }
+    {
+        match pool_at(place) {
+            Some(id) => self.pool(id),
+            None => None,
+        }
+    }
+
+    /// The memory type of a resource.
+    pub fn type_of(&self, id: u32) -> Option<u32>
+        ensures { result ≡ type_of (past self.now) id }
+    {
+        match self.made(id) {
+            Some(Entry::Buffer { info, .. }) => self.type_at(info.place),
+            Some(Entry::Image { info, .. }) => self.type_at(info.place),
+            _ => None,
+        }
+    }
+
+    /// The pool that a resource is in.
+    pub fn pool_of(&self, id: u32) -> Option<u32>
+        ensures { result ≡ pool_of (past self.now) id }
+    {
+        match self.made(id) {
+            Some(Entry::Buffer { info, .. }) => pool_at(info.place),
+            Some(Entry::Image { info, .. }) => pool_at(info.place),
+            _ => None,
+        }
+    }
+
+    /// The memory object that the trace bound a resource to.
+    pub fn memory_of(&self, id: u32) -> Option<u32>
+        ensures { result ≡ memory_of (past self.now) id }
+    {
+        match self.made(id) {
+            Some(Entry::Buffer { info, .. }) => memory_at(info.place),
+            Some(Entry::Image { info, .. }) => memory_at(info.place),
             _ => None,
         }
     }

@@ -67,6 +67,7 @@ pub record IsUntested (r : Rule) : Type 0 where
   pub usage : r ≡ rule.Usage → ⊥
   pub memory_type : r ≡ rule.MemoryType → ⊥
   pub memory_size : r ≡ rule.MemorySize → ⊥
+  pub pool_size : r ≡ rule.PoolSize → ⊥
   pub range : r ≡ rule.Range → ⊥
   pub align : r ≡ rule.Align → ⊥
   pub stage : r ≡ rule.Stage → ⊥
@@ -89,7 +90,7 @@ module _ (past : Past) (supported : is_supported past ≡ true) (p : Point) (now
   rest_unbroken rule.Usage u = absurd (u.usage refl)
   rest_unbroken rule.MemoryType u = absurd (u.memory_type refl)
   rest_unbroken rule.MemorySize u = absurd (u.memory_size refl)
-  rest_unbroken rule.PoolSize u = sym (unbroken.no_pool_size past p now)
+  rest_unbroken rule.PoolSize u = absurd (u.pool_size refl)
   rest_unbroken rule.BindRange u = sym (unbroken.no_bind_range past p now)
   rest_unbroken rule.BindAlign u = sym (unbroken.no_bind_align past p now)
   rest_unbroken rule.Aliased u = sym (unbroken.no_aliased past p now)

@@ -6,7 +6,6 @@ use Rattle.vk_model.specs.declared.command.Element.TheVariants as element
 use Rattle.vk_model.specs.Basics.{some_pair}
 use Rattle.vk_model.specs.Trace.Point.{Past, Point, Action, Host, Run}
 use Rattle.vk_model.specs.World.Effect.{world}
-use Rattle.vk_model.specs.Rules.Sizes.{breaks_pool_size}
 use Rattle.vk_model.specs.Rules.Binding.{breaks_bind_range, breaks_bind_align, breaks_aliased}
 use Rattle.vk_model.specs.Rules.Ranges.{breaks_overlap, breaks_format, breaks_subresource, bad_element, transitions_meet}
 use Rattle.vk_model.specs.Rules.Layouts.{breaks_layout, breaks_old_layout, bad_transition, bad_old_layout}
@@ -25,11 +24,6 @@ memory_pairs (element.Buffer e ∷ es) all = absurd cc
 memory_pairs (element.Image e ∷ es) all = absurd cc
 
 module _ (past : Past) (p : Point) (supported : is_supported_action p.action ≡ true) where
-  pub no_pool_size : breaks_pool_size past p ≡ false
-  no_pool_size =
-      let P : Action → Type 0 = λ d. breaks_pool_size past (record p { action = d }) ≡ false in
-      action_cases P (entry_cases (λ x. P (Host x)) (λ i b t is other. rw is refl) (λ b. refl) (λ b o n. refl) (λ i v. refl) (λ i. refl) (λ s v. refl) (λ ws. refl) (λ q bs. refl)) (λ w. refl) (command_cases (λ c. P (Run c)) (λ b o n w. refl) (λ es all. refl) (λ v ms. refl) (λ v ms. refl)) (λ s. refl) p.action supported
-
   pub no_bind_range : breaks_bind_range past p ≡ false
   no_bind_range =
       let P : Action → Type 0 = λ d. breaks_bind_range past (record p { action = d }) ≡ false in

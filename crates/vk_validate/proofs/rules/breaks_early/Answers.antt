@@ -31,11 +31,15 @@ returns-in-Usage c = rw c.in-Usage.is c.breaks_usage.ensures
 
 pub returns-in-MemoryType : goal.returns-in-MemoryType
 unfolding breaks_early breaks
-returns-in-MemoryType c = rw c.in-MemoryType.is (c.breaks_memory_type.ensures (past c.args.history.now))
+returns-in-MemoryType c = rw c.in-MemoryType.is c.breaks_memory_type.ensures
 
 pub returns-in-MemorySize : goal.returns-in-MemorySize
 unfolding breaks_early breaks
 returns-in-MemorySize c = rw c.in-MemorySize.is (c.breaks_memory_size.ensures (past c.args.history.now))
+
+pub returns-in-PoolSize : goal.returns-in-PoolSize
+unfolding breaks_early breaks
+returns-in-PoolSize c = rw c.in-PoolSize.is c.breaks_pool_size.ensures
 
 pub returns-in-Range : goal.returns-in-Range
 unfolding breaks_early breaks
@@ -89,6 +93,7 @@ returns-in_default c =
       usage = d.not-Usage;
       memory_type = d.not-MemoryType;
       memory_size = d.not-MemorySize;
+      pool_size = d.not-PoolSize;
       range = d.not-Range;
       align = d.not-Align;
       stage = d.not-Stage;

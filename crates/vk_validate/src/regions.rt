@@ -1,0 +1,73 @@
+ghost use Rattle.std.specs.Prelude.{◌≡◌, ◌≤◌, ◌<◌, ◌-◌, ◌+◌, ◌*◌, ◌^◌, nat_lt, not, ◌==◌, ◌||◌, ◌&&◌, ℕ};
+ghost use Rattle.vk_model.specs.Trace.Image as image;
+ghost use Rattle.vk_model.specs.World.ByteWrites as bytes;
+ghost use Rattle.vk_model.specs.Rules.Ranges as ranges;
+ghost use Rattle.std.specs.List.{list_any};
+
+use crate::images::{level_height, level_width, texel_size};
+use vk_model::{BufferImageCopy, Format, ImageInfo, SubresourceRange};
+
+/// Whether the last texel of a region ends past a buffer of a size. The gap after its last row counts
+/// for nothing.
+pub fn ends_past_buffer(region: &BufferImageCopy, format: Format, size: u64) -> bool
+    ensures { result ≡ ranges.region_past size (image.texel format) region.now }
+{
+    region.layers > 0
+        && region.height > 0
+        && region.width > 0
+        && last_byte(region, format) > u128::from(size)
+}
+
+/// Where the last texel of a region ends in the buffer.
+fn last_byte(region: &BufferImageCopy, format: Format) -> u128
+    requires layers { 0 < region.now.layers }
+    requires rows { 0 < region.now.height }
+    requires texels { 0 < region.now.width }
+    ensures { result ≡ bytes.buffer_texel region.now (image.texel format) (region.now.layers - 1) (region.now.height - 1) (region.now.width - 1) (image.texel format) }
+{
+    let texel = u128::from(texel_size(format));
+    u128::from(region.buffer_offset) + last_texel(region) * texel + texel
+}
+
+/// How many texels of the buffer come before the last one of a region, from its first one on.
+fn last_texel(region: &BufferImageCopy) -> u128
+    requires layers { 0 < region.now.layers }
+    requires rows { 0 < region.now.height }
+    requires texels { 0 < region.now.width }
+    ensures count { result ≡ ((region.now.layers - 1) * bytes.layer_rows region.now + (region.now.height - 1)) * bytes.row_texels region.now + (region.now.width - 1) }
+    ensures within { result < 2 ^ 97 }
+{
+    let rows = u128::from(region.layers - 1) * u128::from(layer_rows(region))
+        + u128::from(region.height - 1);
+    rows * u128::from(row_texels(region)) + u128::from(region.width - 1)
+}
+
+/// The texels from one row to the next in the buffer.
+fn row_texels(region: &BufferImageCopy) -> u32
+    ensures { result ≡ bytes.row_texels region.now }
+{
+    if region.row_length == 0 {
+        region.width
+    } else {
+        region.row_length
+    }
+}
+
+/// The rows from one layer to the next in the buffer.
+fn layer_rows(region: &BufferImageCopy) -> u32
+    ensures { result ≡ bytes.layer_rows region.now }
+{
+    if region.image_height == 0 {
+        region.height
+    } else {
+        region.image_height
+    }
+}
+
+/// Whether a row length or image height that isn't 0 is under the region's width or height.
+pub fn is_short(region: &BufferImageCopy) -> bool
+    ensures { result ≡ ranges.is_short region.now }
+{
+    (region.row_length != 0 && region.row_length < region.width)
+        || (region.image_height != 0 && region.image_height < region.height)
+}
