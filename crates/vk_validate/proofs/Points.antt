@@ -2,6 +2,9 @@ pub mod Forms
 pub mod Barriers
 pub mod Levels
 pub mod Fills
+pub mod Areas
+pub mod Reaching
+pub mod Lying
 pub mod Pasts
 pub mod Ranges
 pub mod SupportedNodes

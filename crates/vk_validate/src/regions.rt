@@ -1,16 +1,16 @@
-ghost use Rattle.std.specs.Prelude.{◌≡◌, ◌≤◌, ◌<◌, ◌-◌, ◌+◌, ◌*◌, ◌^◌, nat_lt, not, ◌==◌, ◌||◌, ◌&&◌, ℕ};
-ghost use Rattle.vk_model.specs.Trace.Image as image;
+ghost use Rattle.std.specs.Prelude.{◌≡◌, ◌<◌, ◌-◌, ◌+◌, ◌*◌, ◌^◌, nat_lt};
+ghost use Rattle.std.specs.List.{list_any};
+ghost use Rattle.vk_model.specs.Trace.Image.{texel};
 ghost use Rattle.vk_model.specs.World.ByteWrites as bytes;
 ghost use Rattle.vk_model.specs.Rules.Ranges as ranges;
-ghost use Rattle.std.specs.List.{list_any};
 
-use crate::images::{level_height, level_width, texel_size};
-use vk_model::{BufferImageCopy, Format, ImageInfo, SubresourceRange};
+use crate::images::texel_size;
+use vk_model::{BufferCopy, BufferImageCopy, Format, Length};
 
 /// Whether the last texel of a region ends past a buffer of a size. The gap after its last row counts
 /// for nothing.
-pub fn ends_past_buffer(region: &BufferImageCopy, format: Format, size: u64) -> bool
-    ensures { result ≡ ranges.region_past size (image.texel format) region.now }
+fn ends_past_buffer(region: &BufferImageCopy, format: Format, size: u64) -> bool
+    ensures { result ≡ ranges.region_past size (texel format) region.now }
 {
     region.layers > 0
         && region.height > 0
@@ -23,7 +23,7 @@ fn last_byte(region: &BufferImageCopy, format: Format) -> u128
     requires layers { 0 < region.now.layers }
     requires rows { 0 < region.now.height }
     requires texels { 0 < region.now.width }
-    ensures { result ≡ bytes.buffer_texel region.now (image.texel format) (region.now.layers - 1) (region.now.height - 1) (region.now.width - 1) (image.texel format) }
+    ensures { result ≡ bytes.buffer_texel region.now (texel format) (region.now.layers - 1) (region.now.height - 1) (region.now.width - 1) (texel format) }
 {
     let texel = u128::from(texel_size(format));
     u128::from(region.buffer_offset) + last_texel(region) * texel + texel
@@ -65,9 +65,59 @@ fn layer_rows(region: &BufferImageCopy) -> u32
 }
 
 /// Whether a row length or image height that isn't 0 is under the region's width or height.
-pub fn is_short(region: &BufferImageCopy) -> bool
+fn is_short(region: &BufferImageCopy) -> bool
     ensures { result ≡ ranges.is_short region.now }
 {
     (region.row_length != 0 && region.row_length < region.width)
         || (region.image_height != 0 && region.image_height < region.height)
+}
+
+/// Whether a range ends past a buffer of a size; one to the end must begin before the end.
+pub fn ends_past(buffer_size: u64, offset: u64, size: Length) -> bool
+    ensures { result ≡ ranges.ends_past buffer_size offset size }
+{
+    match size {
+        Length::Bytes(bytes) => bytes > buffer_size || offset > buffer_size - bytes,
+        Length::Whole => offset >= buffer_size,
+    }
+}
+
+/// Whether what a region reads ends past a buffer of a size.
+pub fn has_source_past(buffer_size: u64, regions: &[BufferCopy]) -> bool
+    ensures { result ≡ list_any (λ g. nat_lt buffer_size (g.source_offset + g.size)) regions.now }
+{
+    regions.iter().any(|region| ends_past(
+        buffer_size,
+        region.source_offset,
+        Length::Bytes(region.size),
+    ))
+}
+
+/// Whether what a region writes ends past a buffer of a size.
+pub fn has_destination_past(buffer_size: u64, regions: &[BufferCopy]) -> bool
+    ensures { result ≡ list_any (λ g. nat_lt buffer_size (g.destination_offset + g.size)) regions.now }
+{
+    regions.iter().any(|region| {
+        ends_past(
+            buffer_size,
+            region.destination_offset,
+            Length::Bytes(region.size),
+        )
+    })
+}
+
+/// Whether the rows of a region end past a buffer of a size.
+pub fn has_rows_past(buffer_size: u64, format: Format, regions: &[BufferImageCopy]) -> bool
+    ensures { result ≡ list_any (ranges.region_past buffer_size (texel format)) regions.now }
+{
+    regions
+        .iter()
+        .any(|region| ends_past_buffer(region, format, buffer_size))
+}
+
+/// Whether a region's rows or layers are too short.
+pub fn has_short(regions: &[BufferImageCopy]) -> bool
+    ensures { result ≡ list_any ranges.is_short regions.now }
+{
+    regions.iter().any(|region| is_short(region))
 }

@@ -10,6 +10,7 @@ ghost use Rattle.vk_validate.specs.Inner.Judged.{early_rules, late_rules, first_
 ghost use Rattle.vk_validate.specs.Inner.Early.{breaks_early};
 ghost use Rattle.vk_validate.specs.Inner.Conflicts.{AreConflicts};
 
+mod binding;
 mod hazards;
 mod ids;
 mod mapping;
@@ -124,8 +125,11 @@ fn breaks_early(rule: Rule, history: &History<'_>, point: &Point<'_>, is_unorder
         Rule::MemoryType => sizes::breaks_memory_type(history, point),
         Rule::MemorySize => sizes::breaks_memory_size(point),
         Rule::PoolSize => sizes::breaks_pool_size(history, point),
+        Rule::BindAlign => binding::breaks_bind_align(history, point),
         Rule::Range => ranges::breaks_range(history, point),
-        Rule::Align => ranges::breaks_align(point),
+        Rule::Align => ranges::breaks_align(history, point),
+        Rule::Format => ranges::breaks_format(history, point),
+        Rule::Subresource => ranges::breaks_subresource(history, point),
         Rule::Stage => synchronization::breaks_stage(point),
         Rule::EventState => synchronization::breaks_event_state(history, point),
         Rule::EventDependency => synchronization::breaks_event_dependency(history, point),

@@ -1,25 +1,23 @@
 -- Rules that need what a past of supported forms has made.
-use Rattle.std.proofs.Common.{◌≡◌, ◌+◌, ℕ, List, [], ◌∷◌, Bool, true, false, not, ◌||◌, ◌==◌, nat_lt, cond, refl, ap, ◌∙◌, arith, Option, Some, None}
-use Rattle.std.specs.Prelude.{option_and_then, count_by}
+use Rattle.std.proofs.Common.{◌≡◌, ◌+◌, ℕ, List, [], ◌∷◌, Bool, true, false, ◌||◌, ◌==◌, nat_lt, cond, refl, ap, ◌∙◌, arith, Option, Some, None}
+use Rattle.std.specs.Prelude.{count_by}
 use Rattle.std.specs.List.{list_any, list_all}
 use Rattle.std.proofs.lemmas.Bool.Decides.{nat_tests}
 use Rattle.std.proofs.lemmas.List.Sums.{sum_by-cons}
 use Rattle.std.proofs.lemmas.Bool.{and_parts}
 use Rattle.vk_model.specs.declared.entry.Entry.{Entry}
-use Rattle.vk_model.specs.Basics.{holds, has_bits}
+use Rattle.vk_model.specs.Basics.{holds}
 use Rattle.vk_model.specs.World.Bytes.{resource_at}
 use Rattle.vk_model.specs.Sync.Node.{acts}
 use Rattle.vk_model.specs.Sync.Access.{writes_of}
 use Rattle.vk_model.specs.Trace.Point.{Past, Point, entries}
-use Rattle.vk_model.specs.Trace.Objects.{made, buffer, buffer_in, resource_in, type_at, is_of_type}
-use Rattle.vk_model.specs.Rules.Sizes.{lacks}
 use Rattle.vk_model.specs.Rules.Mapping.{mapping, maps, unmaps, count_for, is_mapped}
 use Rattle.vk_model.specs.Rules.Passes.{breaks_pass_write}
 use Rattle.vk_validate.specs.Supported.{is_supported, is_supported_entry}
-use Rattle.vk_validate.specs.Inner.Tabled.{was_mapped, is_on_type_0}
+use Rattle.vk_validate.specs.Inner.Tabled.{was_mapped}
 use Rattle.vk_model.proofs.Lists.Members.{none_passes_any}
 use Rattle.vk_validate.proofs.Points.Forms.{entry_cases}
-use Rattle.vk_validate.proofs.Points.Pasts.{supported_entries, made_supported, none_moves, maps_itself}
+use Rattle.vk_validate.proofs.Points.Pasts.{supported_entries, none_moves, maps_itself}
 
 -- a count is above 0 where some entry passes
 count_any : (f g : Entry → Bool) → ((x : Entry) → f x ≡ g x) → (xs : List Entry) → nat_lt 0 (count_by f xs) ≡ list_any g xs
@@ -43,25 +41,6 @@ module _ (past : Past) (supported : is_supported past ≡ true) where
       same : (o : Option ℕ) → holds o (λ c. mapping past c == mapping past b) ≡ holds o (λ c. c == b)
       same None = refl
       same (Some c) = rw (maps_itself past supported c, maps_itself past supported b) refl
-
-  -- what has a type is a buffer
-  pub on_type_0 : (b : ℕ) → is_of_type past 0 b ≡ holds (buffer past b) (λ i. is_on_type_0 i.place)
-  on_type_0 b = go (made past b) refl where
-    by_form : (x : Entry) → is_supported_entry x ≡ true → holds (option_and_then (λ r. type_at past r.place) (resource_in x)) (λ u. u == 0) ≡ holds (buffer_in x) (λ i. is_on_type_0 i.place)
-    by_form = let P : Entry → Type 0 = λ x. holds (option_and_then (λ r. type_at past r.place) (resource_in x)) (λ u. u == 0) ≡ holds (buffer_in x) (λ i. is_on_type_0 i.place) in entry_cases P (λ i b t is other. rw is refl) (λ b. refl) (λ b o n. refl) (λ i v. refl) (λ i. refl) (λ s v. refl) (λ ws. refl) (λ q bs. refl)
-
-    go : (o : Option Entry) → made past b ≡ o → holds (option_and_then (λ r. type_at past r.place) (option_and_then resource_in o)) (λ u. u == 0) ≡ holds (option_and_then buffer_in o) (λ i. is_on_type_0 i.place)
-    go None e = refl
-    go (Some x) e = by_form x (made_supported past supported b x e)
-
-  pub lacks_destination : (b : ℕ) → lacks past 2 b ≡ not (holds (buffer past b) (λ i. has_bits i.usage.0 2))
-  lacks_destination b = go (made past b) refl where
-    by_form : (x : Entry) → is_supported_entry x ≡ true → not (holds (resource_in x) (λ r. has_bits r.usage 2)) ≡ not (holds (buffer_in x) (λ i. has_bits i.usage.0 2))
-    by_form = let P : Entry → Type 0 = λ x. not (holds (resource_in x) (λ r. has_bits r.usage 2)) ≡ not (holds (buffer_in x) (λ i. has_bits i.usage.0 2)) in entry_cases P (λ i b t is other. refl) (λ b. refl) (λ b o n. refl) (λ i v. refl) (λ i. refl) (λ s v. refl) (λ ws. refl) (λ q bs. refl)
-
-    go : (o : Option Entry) → made past b ≡ o → not (holds (option_and_then resource_in o) (λ r. has_bits r.usage 2)) ≡ not (holds (option_and_then buffer_in o) (λ i. has_bits i.usage.0 2))
-    go None e = refl
-    go (Some x) e = by_form x (made_supported past supported b x e)
 
   module _ (p : Point) where
     pub no_pass_write : breaks_pass_write past p ≡ false

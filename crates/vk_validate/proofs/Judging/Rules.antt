@@ -68,8 +68,11 @@ pub record IsUntested (r : Rule) : Type 0 where
   pub memory_type : r ≡ rule.MemoryType → ⊥
   pub memory_size : r ≡ rule.MemorySize → ⊥
   pub pool_size : r ≡ rule.PoolSize → ⊥
+  pub bind_align : r ≡ rule.BindAlign → ⊥
   pub range : r ≡ rule.Range → ⊥
   pub align : r ≡ rule.Align → ⊥
+  pub format : r ≡ rule.Format → ⊥
+  pub subresource : r ≡ rule.Subresource → ⊥
   pub stage : r ≡ rule.Stage → ⊥
   pub event_state : r ≡ rule.EventState → ⊥
   pub event_dependency : r ≡ rule.EventDependency → ⊥
@@ -92,13 +95,13 @@ module _ (past : Past) (supported : is_supported past ≡ true) (p : Point) (now
   rest_unbroken rule.MemorySize u = absurd (u.memory_size refl)
   rest_unbroken rule.PoolSize u = absurd (u.pool_size refl)
   rest_unbroken rule.BindRange u = sym (unbroken.no_bind_range past p now)
-  rest_unbroken rule.BindAlign u = sym (unbroken.no_bind_align past p now)
+  rest_unbroken rule.BindAlign u = absurd (u.bind_align refl)
   rest_unbroken rule.Aliased u = sym (unbroken.no_aliased past p now)
   rest_unbroken rule.Range u = absurd (u.range refl)
   rest_unbroken rule.Align u = absurd (u.align refl)
   rest_unbroken rule.Overlap u = sym (unbroken.no_overlap past p now)
-  rest_unbroken rule.Format u = sym (unbroken.no_format past p now)
-  rest_unbroken rule.Subresource u = sym (unbroken.no_subresource past p now)
+  rest_unbroken rule.Format u = absurd (u.format refl)
+  rest_unbroken rule.Subresource u = absurd (u.subresource refl)
   rest_unbroken rule.Stage u = absurd (u.stage refl)
   rest_unbroken rule.Layout u = sym (unbroken.no_layout past p now)
   rest_unbroken rule.OldLayout u = sym (unbroken.no_old_layout past p now)

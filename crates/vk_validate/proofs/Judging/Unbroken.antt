@@ -6,8 +6,8 @@ use Rattle.vk_model.specs.declared.command.Element.TheVariants as element
 use Rattle.vk_model.specs.Basics.{some_pair}
 use Rattle.vk_model.specs.Trace.Point.{Past, Point, Action, Host, Run}
 use Rattle.vk_model.specs.World.Effect.{world}
-use Rattle.vk_model.specs.Rules.Binding.{breaks_bind_range, breaks_bind_align, breaks_aliased}
-use Rattle.vk_model.specs.Rules.Ranges.{breaks_overlap, breaks_format, breaks_subresource, bad_element, transitions_meet}
+use Rattle.vk_model.specs.Rules.Binding.{breaks_bind_range, breaks_aliased}
+use Rattle.vk_model.specs.Rules.Ranges.{breaks_overlap, transitions_meet}
 use Rattle.vk_model.specs.Rules.Layouts.{breaks_layout, breaks_old_layout, bad_transition, bad_old_layout}
 use Rattle.vk_model.specs.Rules.Owners.{breaks_owner_whole, is_partial_transfer}
 use Rattle.vk_model.specs.Rules.Passes.{breaks_pool_kind, breaks_pass_state, breaks_pass_busy}
@@ -29,11 +29,6 @@ module _ (past : Past) (p : Point) (supported : is_supported_action p.action ≡
       let P : Action → Type 0 = λ d. breaks_bind_range past (record p { action = d }) ≡ false in
       action_cases P (entry_cases (λ x. P (Host x)) (λ i b t is other. rw is refl) (λ b. refl) (λ b o n. refl) (λ i v. refl) (λ i. refl) (λ s v. refl) (λ ws. refl) (λ q bs. refl)) (λ w. refl) (command_cases (λ c. P (Run c)) (λ b o n w. refl) (λ es all. refl) (λ v ms. refl) (λ v ms. refl)) (λ s. refl) p.action supported
 
-  pub no_bind_align : breaks_bind_align past p ≡ false
-  no_bind_align =
-      let P : Action → Type 0 = λ d. breaks_bind_align past (record p { action = d }) ≡ false in
-      action_cases P (entry_cases (λ x. P (Host x)) (λ i b t is other. rw is refl) (λ b. refl) (λ b o n. refl) (λ i v. refl) (λ i. refl) (λ s v. refl) (λ ws. refl) (λ q bs. refl)) (λ w. refl) (command_cases (λ c. P (Run c)) (λ b o n w. refl) (λ es all. refl) (λ v ms. refl) (λ v ms. refl)) (λ s. refl) p.action supported
-
   pub no_aliased : breaks_aliased past p ≡ false
   no_aliased =
       let P : Action → Type 0 = λ d. breaks_aliased past (record p { action = d }) ≡ false in
@@ -43,16 +38,6 @@ module _ (past : Past) (p : Point) (supported : is_supported_action p.action ≡
   no_overlap =
       let P : Action → Type 0 = λ d. breaks_overlap past (record p { action = d }) ≡ false in
       action_cases P (entry_cases (λ x. P (Host x)) (λ i b t is other. refl) (λ b. refl) (λ b o n. refl) (λ i v. refl) (λ i. refl) (λ s v. refl) (λ ws. refl) (λ q bs. refl)) (λ w. refl) (command_cases (λ c. P (Run c)) (λ b o n w. refl) (λ es all. memory_pairs es all) (λ v ms. refl) (λ v ms. refl)) (λ s. refl) p.action supported
-
-  pub no_format : breaks_format past p ≡ false
-  no_format =
-      let P : Action → Type 0 = λ d. breaks_format past (record p { action = d }) ≡ false in
-      action_cases P (entry_cases (λ x. P (Host x)) (λ i b t is other. refl) (λ b. refl) (λ b o n. refl) (λ i v. refl) (λ i. refl) (λ s v. refl) (λ ws. refl) (λ q bs. refl)) (λ w. refl) (command_cases (λ c. P (Run c)) (λ b o n w. refl) (λ es all. refl) (λ v ms. refl) (λ v ms. refl)) (λ s. refl) p.action supported
-
-  pub no_subresource : breaks_subresource past p ≡ false
-  no_subresource =
-      let P : Action → Type 0 = λ d. breaks_subresource past (record p { action = d }) ≡ false in
-      action_cases P (entry_cases (λ x. P (Host x)) (λ i b t is other. refl) (λ b. refl) (λ b o n. refl) (λ i v. refl) (λ i. refl) (λ s v. refl) (λ ws. refl) (λ q bs. refl)) (λ w. refl) (command_cases (λ c. P (Run c)) (λ b o n w. refl) (λ es all. memory_any (bad_element past) (λ d. refl) es all) (λ v ms. refl) (λ v ms. refl)) (λ s. refl) p.action supported
 
   pub no_layout : breaks_layout past p ≡ false
   no_layout =

@@ -1,14 +1,12 @@
 -- Sums over the levels of an image.
-use Rattle.std.proofs.Common.{List, [], subst, ◌≡◌, ◌≤◌, ◌<◌, ◌+◌, ◌-◌, ◌*◌, ◌/◌, ◌^◌, ℕ, zero, suc, refl, ap, sym, ◌∙◌, arith, add_assoc, true, false}
+use Rattle.std.proofs.Common.{subst, ◌≡◌, ◌≤◌, ◌<◌, ◌+◌, ◌-◌, ◌*◌, ◌/◌, ◌^◌, ℕ, zero, suc, refl, ap, sym, ◌∙◌, arith, add_assoc, true}
 use Rattle.std.specs.Prelude.{max, nat_lt}
 use Rattle.std.specs.List.{sum_by, range_with_len}
-use Rattle.std.proofs.Math.Nat.{div-eq_of_lt, pow-le-pow_right, mul-le-mul_left}
-use Rattle.std.proofs.lemmas.Bool.{lt-ltb, le-ltb}
+use Rattle.std.proofs.Math.Nat.{div-eq_of_lt, pow-le-pow_right}
+use Rattle.std.proofs.lemmas.Bool.{lt-ltb}
 use Rattle.std.proofs.lemmas.List.Sums.{sum_by-cons}
 use Rattle.std.proofs.lemmas.Nat.{mul-le}
 use Rattle.vk_model.specs.Basics.{below}
-use Rattle.vk_model.specs.declared.resource.ImageInfo.{ImageInfo}
-use Rattle.vk_model.specs.Trace.Image.{level_size, layer_size}
 
 -- a side of 32 bits is one texel at level 32 and later ones
 pub last_texel : (side level : ℕ) → side < 2 ^ 32 → 32 ≤ level → 1 ≡ max 1 (side / 2 ^ level)

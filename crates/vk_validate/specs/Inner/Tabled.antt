@@ -1,11 +1,9 @@
 -- The tables of a history say what its past does.
-use Rattle.std.specs.Prelude.{◌≡◌, ℕ, ◌==◌, nat_lt, Bool, false, max, Option, unwrap_or}
+use Rattle.std.specs.Prelude.{◌≡◌, ℕ, ◌==◌, nat_lt, Bool, max, Option, unwrap_or}
 use Rattle.std.specs.Option.{option_map}
 use Rattle.std.specs.List.{fold, list_any}
 use Rattle.std.specs.Ordering.{nat_cmp}
 use Rattle.std.specs.BTreeMap.{get}
-use Rattle.vk_model.specs.declared.resource.Place.{Place}
-use Rattle.vk_model.specs.declared.resource.Place.TheVariants as place
 use Rattle.vk_model.specs.Basics.{holds}
 use Rattle.vk_model.specs.Trace.Point.{Past, entries}
 use Rattle.vk_model.specs.Trace.Order.{signaled}
@@ -40,11 +38,6 @@ was_mapped past b = list_any (λ x. holds (maps x) (λ c. c == b)) (entries past
 -- Just those buffers are counted as mapped that an entry has mapped.
 abbrev pub AreMappings : Mappings → Past → Type 0
 AreMappings mappings past = (b : ℕ) → nat_lt 0 (unwrap_or (get nat_cmp mappings.counts b) 0) ≡ was_mapped past b
-
--- Whether a place is on memory type 0, which the host can't map.
-abbrev pub is_on_type_0 : Place → Bool
-is_on_type_0 (place.Dedicated t) = t == 0
-is_on_type_0 _ = false
 
 -- The set that a table keeps.
 abbrev pub set_view : EventSet → Set

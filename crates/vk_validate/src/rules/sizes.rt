@@ -13,7 +13,8 @@ use crate::history::History;
 use crate::images::{asks_more, has_bad_shape};
 use bitflags::Flags;
 use vk_model::{
-    BufferCopy, BufferInfo, Cmd, Element, Entry, ImageElement, ImageInfo, Kind, Layout, Length, Place, PoolInfo, Usage,
+    BufferCopy, BufferInfo, Cmd, Element, Entry, ImageElement, ImageInfo, Kind, Layout, Length,
+    Place, PoolInfo, Usage,
 };
 use vk_order::{Action, Point};
 

@@ -1,4 +1,4 @@
-use Rattle.std.proofs.Common.{arith, ◌+◌, ◌≤◌, ◌≡◌, ◌<◌, sym, ◌∙◌, ap}
+use Rattle.std.proofs.Common.{arith, ◌+◌, ◌<◌, sym, ◌∙◌, ap}
 use Rattle.std.specs.List.{sum_by}
 use Rattle.vk_model.specs.Basics.{below}
 use Rattle.vk_model.specs.Trace.Image.{level_size}

@@ -41,13 +41,25 @@ pub returns-in-PoolSize : goal.returns-in-PoolSize
 unfolding breaks_early breaks
 returns-in-PoolSize c = rw c.in-PoolSize.is c.breaks_pool_size.ensures
 
+pub returns-in-BindAlign : goal.returns-in-BindAlign
+unfolding breaks_early breaks
+returns-in-BindAlign c = rw c.in-BindAlign.is c.breaks_bind_align.ensures
+
 pub returns-in-Range : goal.returns-in-Range
 unfolding breaks_early breaks
 returns-in-Range c = rw c.in-Range.is c.breaks_range.ensures
 
 pub returns-in-Align : goal.returns-in-Align
 unfolding breaks_early breaks
-returns-in-Align c = rw c.in-Align.is (c.breaks_align.ensures (past c.args.history.now))
+returns-in-Align c = rw c.in-Align.is c.breaks_align.ensures
+
+pub returns-in-Format : goal.returns-in-Format
+unfolding breaks_early breaks
+returns-in-Format c = rw c.in-Format.is c.breaks_format.ensures
+
+pub returns-in-Subresource : goal.returns-in-Subresource
+unfolding breaks_early breaks
+returns-in-Subresource c = rw c.in-Subresource.is c.breaks_subresource.ensures
 
 pub returns-in-Stage : goal.returns-in-Stage
 unfolding breaks_early breaks
@@ -94,8 +106,11 @@ returns-in_default c =
       memory_type = d.not-MemoryType;
       memory_size = d.not-MemorySize;
       pool_size = d.not-PoolSize;
+      bind_align = d.not-BindAlign;
       range = d.not-Range;
       align = d.not-Align;
+      format = d.not-Format;
+      subresource = d.not-Subresource;
       stage = d.not-Stage;
       event_state = d.not-EventState;
       event_dependency = d.not-EventDependency;

@@ -1,0 +1,49 @@
+ghost use Rattle.std.specs.Prelude.{◌≡◌, ◌<◌, ◌%◌, ◌==◌, ◌&&◌, ◌||◌, not};
+ghost use Rattle.vk_model.specs.Basics.{holds};
+ghost use Rattle.vk_model.specs.Trace.Objects.{bound_at, type_at};
+ghost use Rattle.vk_model.specs.Rules.Binding as binding;
+ghost use Rattle.vk_order.specs.PointViews.{point_of};
+ghost use Rattle.vk_validate.specs.Inner.PointViews.{past};
+
+use crate::history::History;
+use crate::images::image_align;
+use vk_model::{Entry, Place};
+use vk_order::{Action, Point};
+
+/// The alignment that a buffer asks for in bytes.
+const BUFFER_ALIGN: u64 = 16;
+
+/// The bytes of an atom of memory that isn't coherent.
+const ATOM: u64 = 64;
+
+/// The memory type whose host accesses go through a cache.
+const CACHED_TYPE: u32 = 2;
+
+/// BIND_ALIGN: the offset in the memory object isn't a multiple of the resource's alignment, or of an
+/// atom where the host's accesses are cached.
+pub fn breaks_bind_align(history: &History<'_>, point: &Point<'_>) -> bool
+    ensures { result ≡ binding.breaks_bind_align (past history.now) (point_of point.now) }
+{
+    match point.action {
+        Action::Host(Entry::Buffer { info, .. }) => {
+            is_misplaced(history, info.place, BUFFER_ALIGN)
+        }
+        Action::Host(Entry::Image { info, .. }) => {
+            is_misplaced(history, info.place, image_align(info.tiling))
+        }
+        _ => false,
+    }
+}
+
+fn is_misplaced(history: &History<'_>, place: Place, align: u64) -> bool
+    requires { 0 < align }
+    ensures { result ≡ holds (bound_at place) (λ s. not (s.1 % align == 0) || holds (type_at (past history.now) place) (λ t. t == 2) && not (s.1 % 64 == 0)) }
+{
+    match place {
+        Place::Memory { offset, .. } => {
+            offset % align != 0
+                || (history.type_at(place) == Some(CACHED_TYPE) && offset % ATOM != 0)
+        }
+        _ => false,
+    }
+}
