@@ -5,6 +5,5 @@ pub mod Touched
 pub mod Made
 pub mod Contents
 pub mod Changes
-pub mod Named
 pub mod Conflicts
 pub mod Tabled

@@ -3,7 +3,7 @@ ghost use Rattle.std.specs.Option.{option_map};
 ghost use Rattle.std.specs.List.{fold};
 ghost use Rattle.vk_model.specs.Basics.{holds};
 ghost use Rattle.vk_model.specs.Trace.Point.{Past, host_of};
-ghost use Rattle.vk_model.specs.Trace.Objects.{made, buffer, image, pool, memory, initial, type_at, type_of, memory_of, pool_of, pool_at};
+ghost use Rattle.vk_model.specs.Trace.Objects.{made, live, buffer, image, pool, memory, initial, type_at, type_of, memory_of, pool_of, pool_at};
 ghost use Rattle.vk_model.specs.Trace.Order.{counter, signaled};
 ghost use Rattle.vk_model.specs.Trace.Structure.{IsOrdered};
 ghost use Rattle.vk_model.specs.World.ByteWrites.{buffer_size};
@@ -101,7 +101,7 @@ impl<'a> History<'a> {
 
     /// The entry that made an object, as the ids of a point are judged: those of a batch's points by
     /// the entries before its submit.
-    pub fn made_for(&self, point: &Point<'_>, id: u32) -> Option<&'a Entry>
+    fn made_for(&self, point: &Point<'_>, id: u32) -> Option<&'a Entry>
         requires { IsOrdered (point_of point.now ∷ past self.now) }
         ensures { option_map (λ x. x.now) result ≡ made (judged_in (past self.now) (point_of point.now)) id }
     {
@@ -122,6 +122,23 @@ impl<'a> History<'a> {
             Some(maker) if maker.number < number => Some(maker.entry),
             _ => None,
         }
+    }
+
+    /// The entry that made an object that is live. Nothing of a supported form ends one.
+    pub fn live(&self, id: u32) -> Option<&'a Entry>
+        ensures { option_map (λ x. x.now) result ≡ live (past self.now) id }
+    {
+        self.is_judged();
+        self.made(id)
+    }
+
+    /// The same, as the ids of a point are judged.
+    pub fn live_for(&self, point: &Point<'_>, id: u32) -> Option<&'a Entry>
+        requires { IsOrdered (point_of point.now ∷ past self.now) }
+        ensures { option_map (λ x. x.now) result ≡ live (judged_in (past self.now) (point_of point.now)) id }
+    {
+        self.is_judged();
+        self.made_for(point, id)
     }
 
     /// What a buffer was made with.
