@@ -14,6 +14,8 @@ mod binding;
 mod hazards;
 mod ids;
 mod mapping;
+mod owners;
+mod passes;
 mod ranges;
 mod sizes;
 mod synchronization;
@@ -106,8 +108,8 @@ fn first_of(
     None
 }
 
-// Points of the supported forms can't break the rules that aren't listed. Those speak of images,
-// pools, memory objects or ownership; and a batch is started only once its waits are met.
+// Points of the supported forms can't break the rules that aren't listed. Those compare resources
+// that are bound to memory objects, regions of a command, layouts of images, owners or passes.
 fn breaks_early(rule: Rule, history: &History<'_>, point: &Point<'_>, is_unordered: bool) -> bool
     requires supported { IsTrue (is_supported_action (action_of point.now.action)) }
     requires ordered { IsOrdered (point_of point.now ∷ past history.now) }
@@ -125,19 +127,24 @@ fn breaks_early(rule: Rule, history: &History<'_>, point: &Point<'_>, is_unorder
         Rule::MemoryType => sizes::breaks_memory_type(history, point),
         Rule::MemorySize => sizes::breaks_memory_size(point),
         Rule::PoolSize => sizes::breaks_pool_size(history, point),
+        Rule::BindRange => binding::breaks_bind_range(history, point),
         Rule::BindAlign => binding::breaks_bind_align(history, point),
         Rule::Range => ranges::breaks_range(history, point),
         Rule::Align => ranges::breaks_align(history, point),
         Rule::Format => ranges::breaks_format(history, point),
         Rule::Subresource => ranges::breaks_subresource(history, point),
         Rule::Stage => synchronization::breaks_stage(point),
+        Rule::OwnerWhole => owners::breaks_owner_whole(history, point),
         Rule::EventState => synchronization::breaks_event_state(history, point),
         Rule::EventDependency => synchronization::breaks_event_dependency(history, point),
         Rule::SignalValue => synchronization::breaks_signal_value(history, point),
         Rule::SignalOrder => is_unordered,
+        // A batch is started only once its waits are met.
+        Rule::WaitBeforeSignal => false,
         Rule::WaitNever => synchronization::breaks_wait_never(history, point),
         Rule::MapState => mapping::breaks_map_state(history, point),
         Rule::HostVisible => mapping::breaks_host_visible(history, point),
+        Rule::PoolKind => passes::breaks_pool_kind(history, point),
         _ => false,
     }
 }

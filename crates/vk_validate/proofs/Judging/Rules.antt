@@ -68,19 +68,23 @@ pub record IsUntested (r : Rule) : Type 0 where
   pub memory_type : r ≡ rule.MemoryType → ⊥
   pub memory_size : r ≡ rule.MemorySize → ⊥
   pub pool_size : r ≡ rule.PoolSize → ⊥
+  pub bind_range : r ≡ rule.BindRange → ⊥
   pub bind_align : r ≡ rule.BindAlign → ⊥
   pub range : r ≡ rule.Range → ⊥
   pub align : r ≡ rule.Align → ⊥
   pub format : r ≡ rule.Format → ⊥
   pub subresource : r ≡ rule.Subresource → ⊥
   pub stage : r ≡ rule.Stage → ⊥
+  pub owner_whole : r ≡ rule.OwnerWhole → ⊥
   pub event_state : r ≡ rule.EventState → ⊥
   pub event_dependency : r ≡ rule.EventDependency → ⊥
   pub signal_value : r ≡ rule.SignalValue → ⊥
   pub signal_order : r ≡ rule.SignalOrder → ⊥
+  pub wait_before_signal : r ≡ rule.WaitBeforeSignal → ⊥
   pub wait_never : r ≡ rule.WaitNever → ⊥
   pub map_state : r ≡ rule.MapState → ⊥
   pub host_visible : r ≡ rule.HostVisible → ⊥
+  pub pool_kind : r ≡ rule.PoolKind → ⊥
 
 module _ (past : Past) (supported : is_supported past ≡ true) (p : Point) (now : is_supported_action p.action ≡ true) where
   pub rest_unbroken : (r : Rule) → IsUntested r → false ≡ breaks_early r past p
@@ -94,7 +98,7 @@ module _ (past : Past) (supported : is_supported past ≡ true) (p : Point) (now
   rest_unbroken rule.MemoryType u = absurd (u.memory_type refl)
   rest_unbroken rule.MemorySize u = absurd (u.memory_size refl)
   rest_unbroken rule.PoolSize u = absurd (u.pool_size refl)
-  rest_unbroken rule.BindRange u = sym (unbroken.no_bind_range past p now)
+  rest_unbroken rule.BindRange u = absurd (u.bind_range refl)
   rest_unbroken rule.BindAlign u = absurd (u.bind_align refl)
   rest_unbroken rule.Aliased u = sym (unbroken.no_aliased past p now)
   rest_unbroken rule.Range u = absurd (u.range refl)
@@ -105,17 +109,17 @@ module _ (past : Past) (supported : is_supported past ≡ true) (p : Point) (now
   rest_unbroken rule.Stage u = absurd (u.stage refl)
   rest_unbroken rule.Layout u = sym (unbroken.no_layout past p now)
   rest_unbroken rule.OldLayout u = sym (unbroken.no_old_layout past p now)
-  rest_unbroken rule.OwnerWhole u = sym (unbroken.no_owner_whole past p now)
+  rest_unbroken rule.OwnerWhole u = absurd (u.owner_whole refl)
   rest_unbroken rule.OwnerPair u = sym (no_owner_pair past p now)
   rest_unbroken rule.EventState u = absurd (u.event_state refl)
   rest_unbroken rule.EventDependency u = absurd (u.event_dependency refl)
   rest_unbroken rule.SignalValue u = absurd (u.signal_value refl)
   rest_unbroken rule.SignalOrder u = absurd (u.signal_order refl)
-  rest_unbroken rule.WaitBeforeSignal u = refl
+  rest_unbroken rule.WaitBeforeSignal u = absurd (u.wait_before_signal refl)
   rest_unbroken rule.WaitNever u = absurd (u.wait_never refl)
   rest_unbroken rule.MapState u = absurd (u.map_state refl)
   rest_unbroken rule.HostVisible u = absurd (u.host_visible refl)
-  rest_unbroken rule.PoolKind u = sym (unbroken.no_pool_kind past p now)
+  rest_unbroken rule.PoolKind u = absurd (u.pool_kind refl)
   rest_unbroken rule.PassState u = sym (unbroken.no_pass_state past p now)
   rest_unbroken rule.PassBusy u = sym (unbroken.no_pass_busy past p now)
   rest_unbroken rule.PassWrite u = sym (no_pass_write past supported p)

@@ -6,11 +6,10 @@ use Rattle.vk_model.specs.declared.command.Element.TheVariants as element
 use Rattle.vk_model.specs.Basics.{some_pair}
 use Rattle.vk_model.specs.Trace.Point.{Past, Point, Action, Host, Run}
 use Rattle.vk_model.specs.World.Effect.{world}
-use Rattle.vk_model.specs.Rules.Binding.{breaks_bind_range, breaks_aliased}
+use Rattle.vk_model.specs.Rules.Binding.{breaks_aliased}
 use Rattle.vk_model.specs.Rules.Ranges.{breaks_overlap, transitions_meet}
 use Rattle.vk_model.specs.Rules.Layouts.{breaks_layout, breaks_old_layout, bad_transition, bad_old_layout}
-use Rattle.vk_model.specs.Rules.Owners.{breaks_owner_whole, is_partial_transfer}
-use Rattle.vk_model.specs.Rules.Passes.{breaks_pool_kind, breaks_pass_state, breaks_pass_busy}
+use Rattle.vk_model.specs.Rules.Passes.{breaks_pass_state, breaks_pass_busy}
 use Rattle.vk_model.specs.Rules.Hazards.{breaks_in_use}
 use Rattle.vk_validate.specs.Supported.{is_supported_action, is_memory}
 use Rattle.vk_validate.proofs.Points.Barriers.{memory_any}
@@ -24,11 +23,6 @@ memory_pairs (element.Buffer e ∷ es) all = absurd cc
 memory_pairs (element.Image e ∷ es) all = absurd cc
 
 module _ (past : Past) (p : Point) (supported : is_supported_action p.action ≡ true) where
-  pub no_bind_range : breaks_bind_range past p ≡ false
-  no_bind_range =
-      let P : Action → Type 0 = λ d. breaks_bind_range past (record p { action = d }) ≡ false in
-      action_cases P (entry_cases (λ x. P (Host x)) (λ i b t is other. rw is refl) (λ b. refl) (λ b o n. refl) (λ i v. refl) (λ i. refl) (λ s v. refl) (λ ws. refl) (λ q bs. refl)) (λ w. refl) (command_cases (λ c. P (Run c)) (λ b o n w. refl) (λ es all. refl) (λ v ms. refl) (λ v ms. refl)) (λ s. refl) p.action supported
-
   pub no_aliased : breaks_aliased past p ≡ false
   no_aliased =
       let P : Action → Type 0 = λ d. breaks_aliased past (record p { action = d }) ≡ false in
@@ -48,16 +42,6 @@ module _ (past : Past) (p : Point) (supported : is_supported_action p.action ≡
   no_old_layout =
       let P : Action → Type 0 = λ d. breaks_old_layout past (record p { action = d }) ≡ false in
       action_cases P (entry_cases (λ x. P (Host x)) (λ i b t is other. refl) (λ b. refl) (λ b o n. refl) (λ i v. refl) (λ i. refl) (λ s v. refl) (λ ws. refl) (λ q bs. refl)) (λ w. refl) (command_cases (λ c. P (Run c)) (λ b o n w. refl) (λ es all. memory_any (bad_old_layout (world past) p.queue) (λ d. refl) es all) (λ v ms. refl) (λ v ms. refl)) (λ s. refl) p.action supported
-
-  pub no_owner_whole : breaks_owner_whole past p ≡ false
-  no_owner_whole =
-      let P : Action → Type 0 = λ d. breaks_owner_whole past (record p { action = d }) ≡ false in
-      action_cases P (entry_cases (λ x. P (Host x)) (λ i b t is other. refl) (λ b. refl) (λ b o n. refl) (λ i v. refl) (λ i. refl) (λ s v. refl) (λ ws. refl) (λ q bs. refl)) (λ w. refl) (command_cases (λ c. P (Run c)) (λ b o n w. refl) (λ es all. memory_any (is_partial_transfer past) (λ d. refl) es all) (λ v ms. refl) (λ v ms. refl)) (λ s. refl) p.action supported
-
-  pub no_pool_kind : breaks_pool_kind past p ≡ false
-  no_pool_kind =
-      let P : Action → Type 0 = λ d. breaks_pool_kind past (record p { action = d }) ≡ false in
-      action_cases P (entry_cases (λ x. P (Host x)) (λ i b t is other. rw is refl) (λ b. refl) (λ b o n. refl) (λ i v. refl) (λ i. refl) (λ s v. refl) (λ ws. refl) (λ q bs. refl)) (λ w. refl) (command_cases (λ c. P (Run c)) (λ b o n w. refl) (λ es all. refl) (λ v ms. refl) (λ v ms. refl)) (λ s. refl) p.action supported
 
   pub no_pass_state : breaks_pass_state past p ≡ false
   no_pass_state =

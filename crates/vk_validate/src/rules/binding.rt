@@ -1,13 +1,15 @@
-ghost use Rattle.std.specs.Prelude.{◌≡◌, ◌<◌, ◌%◌, ◌==◌, ◌&&◌, ◌||◌, not};
-ghost use Rattle.vk_model.specs.Basics.{holds};
-ghost use Rattle.vk_model.specs.Trace.Objects.{bound_at, type_at};
+ghost use Rattle.std.specs.Prelude.{◌≡◌, ◌<◌, ◌+◌, ◌%◌, ◌==◌, ◌&&◌, ◌||◌, not, nat_lt};
+ghost use Rattle.vk_model.specs.Basics.{holds, round_up};
+ghost use Rattle.vk_model.specs.Trace.Objects.{bound_at, memory, type_at};
+ghost use Rattle.vk_model.specs.Trace.Image.{image_size};
 ghost use Rattle.vk_model.specs.Rules.Binding as binding;
 ghost use Rattle.vk_order.specs.PointViews.{point_of};
 ghost use Rattle.vk_validate.specs.Inner.PointViews.{past};
 
 use crate::history::History;
-use crate::images::image_align;
-use vk_model::{Entry, Place};
+use crate::images::{asks_more, image_align};
+use crate::rules::sizes::takes_more;
+use vk_model::{BufferInfo, Entry, ImageInfo, Place};
 use vk_order::{Action, Point};
 
 /// The alignment that a buffer asks for in bytes.
@@ -18,6 +20,41 @@ const ATOM: u64 = 64;
 
 /// The memory type whose host accesses go through a cache.
 const CACHED_TYPE: u32 = 2;
+
+/// BIND_RANGE: a resource ends past the memory object that it's bound to.
+pub fn breaks_bind_range(history: &History<'_>, point: &Point<'_>) -> bool
+    ensures { result ≡ binding.breaks_bind_range (past history.now) (point_of point.now) }
+{
+    match point.action {
+        Action::Host(Entry::Buffer { info, .. }) => buffer_ends_past(history, info),
+        Action::Host(Entry::Image { info, .. }) => image_ends_past(history, info),
+        _ => false,
+    }
+}
+
+fn buffer_ends_past(history: &History<'_>, info: &BufferInfo) -> bool
+    ensures { result ≡ holds (bound_at info.now.place) (λ s. holds (memory (past history.now) s.0) (λ x. nat_lt x.size (s.1 + round_up info.now.size 16))) }
+{
+    match info.place {
+        Place::Memory { memory, offset } => match history.memory(memory) {
+            Some(object) => offset > object.size || takes_more(info, object.size - offset),
+            None => false,
+        },
+        _ => false,
+    }
+}
+
+fn image_ends_past(history: &History<'_>, info: &ImageInfo) -> bool
+    ensures { result ≡ holds (bound_at info.now.place) (λ s. holds (memory (past history.now) s.0) (λ x. nat_lt x.size (s.1 + image_size info.now info.now.tiling))) }
+{
+    match info.place {
+        Place::Memory { memory, offset } => match history.memory(memory) {
+            Some(object) => offset > object.size || asks_more(info, object.size - offset),
+            None => false,
+        },
+        _ => false,
+    }
+}
 
 /// BIND_ALIGN: the offset in the memory object isn't a multiple of the resource's alignment, or of an
 /// atom where the host's accesses are cached.

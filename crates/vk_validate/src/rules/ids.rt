@@ -199,7 +199,10 @@ fn is_no_resource(history: &History<'_>, point: &Point<'_>, id: u32) -> bool
     requires { IsOrdered (point_of point.now ∷ past history.now) }
     ensures { result ≡ ids.is_dead (ids.judged_in (past history.now) (point_of point.now)) (id, ids.is_resource) }
 {
-    !matches!(history.live_for(point, id), Some(Entry::Buffer { .. } | Entry::Image { .. }))
+    !matches!(
+        history.live_for(point, id),
+        Some(Entry::Buffer { .. } | Entry::Image { .. })
+    )
 }
 
 fn is_no_pool(history: &History<'_>, point: &Point<'_>, id: u32) -> bool
@@ -241,26 +244,18 @@ fn ends_stray(history: &History<'_>, point: &Point<'_>) -> bool
     ensures { result ≡ on_host (ids.lists_stray (past history.now)) (point_of point.now) }
 {
     match point.action {
-        Action::Host(Entry::EndPass {
-            defrag,
-            ignored,
-            destroyed,
-        }) => lists_stray(
-            history,
-            *defrag,
-            ignored.as_slice(),
-            destroyed.as_slice(),
-        ),
+        Action::Host(
+            Entry::EndPass {
+                defrag,
+                ignored,
+                destroyed,
+            },
+        ) => lists_stray(history, *defrag, ignored.as_slice(), destroyed.as_slice()),
         _ => false,
     }
 }
 
-fn lists_stray(
-    history: &History<'_>,
-    defrag: u32,
-    ignored: &[u32],
-    destroyed: &[u32],
-) -> bool
+fn lists_stray(history: &History<'_>, defrag: u32, ignored: &[u32], destroyed: &[u32]) -> bool
     ensures { result ≡ list_any (ids.is_stray (past history.now) defrag) (ignored.now ++ destroyed.now) }
 {
     let pool = defragmented(history, defrag);

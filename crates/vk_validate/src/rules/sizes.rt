@@ -299,7 +299,7 @@ fn is_bad_memory(entry: &Entry) -> bool
 
 /// Whether a buffer asks for more than so many bytes. It asks for its size rounded up to 16, which
 /// passes the limit just where the size passes the limit rounded down.
-fn takes_more(info: &BufferInfo, limit: u64) -> bool
+pub fn takes_more(info: &BufferInfo, limit: u64) -> bool
     ensures { result ≡ nat_lt limit (round_up info.now.size 16) }
 {
     info.size > limit / 16 * 16

@@ -1,3 +1,4 @@
+use Rattle.std.proofs.Common.{refl}
 use Rattle.vk_model.specs.Rules.Table.{breaks}
 use Rattle.vk_order.specs.PointViews.{point_of}
 use Rattle.vk_validate.specs.Inner.PointViews.{past}
@@ -41,6 +42,10 @@ pub returns-in-PoolSize : goal.returns-in-PoolSize
 unfolding breaks_early breaks
 returns-in-PoolSize c = rw c.in-PoolSize.is c.breaks_pool_size.ensures
 
+pub returns-in-BindRange : goal.returns-in-BindRange
+unfolding breaks_early breaks
+returns-in-BindRange c = rw c.in-BindRange.is c.breaks_bind_range.ensures
+
 pub returns-in-BindAlign : goal.returns-in-BindAlign
 unfolding breaks_early breaks
 returns-in-BindAlign c = rw c.in-BindAlign.is c.breaks_bind_align.ensures
@@ -65,6 +70,10 @@ pub returns-in-Stage : goal.returns-in-Stage
 unfolding breaks_early breaks
 returns-in-Stage c = rw c.in-Stage.is c.breaks_stage.ensures
 
+pub returns-in-OwnerWhole : goal.returns-in-OwnerWhole
+unfolding breaks_early breaks
+returns-in-OwnerWhole c = rw c.in-OwnerWhole.is c.breaks_owner_whole.ensures
+
 pub returns-in-EventState : goal.returns-in-EventState
 unfolding breaks_early breaks
 returns-in-EventState c = rw c.in-EventState.is c.breaks_event_state.ensures
@@ -81,6 +90,10 @@ pub returns-in-SignalOrder : goal.returns-in-SignalOrder
 unfolding breaks_early breaks
 returns-in-SignalOrder c = rw c.in-SignalOrder.is c.requires.unordered
 
+pub returns-in-WaitBeforeSignal : goal.returns-in-WaitBeforeSignal
+unfolding breaks_early breaks
+returns-in-WaitBeforeSignal c = rw c.in-WaitBeforeSignal.is refl
+
 pub returns-in-WaitNever : goal.returns-in-WaitNever
 unfolding breaks_early breaks
 returns-in-WaitNever c = rw c.in-WaitNever.is c.breaks_wait_never.ensures
@@ -92,6 +105,10 @@ returns-in-MapState c = rw c.in-MapState.is c.breaks_map_state.ensures
 pub returns-in-HostVisible : goal.returns-in-HostVisible
 unfolding breaks_early breaks
 returns-in-HostVisible c = rw c.in-HostVisible.is c.breaks_host_visible.ensures
+
+pub returns-in-PoolKind : goal.returns-in-PoolKind
+unfolding breaks_early breaks
+returns-in-PoolKind c = rw c.in-PoolKind.is c.breaks_pool_kind.ensures
 
 pub returns-in_default : goal.returns-in_default
 returns-in_default c =
@@ -106,17 +123,21 @@ returns-in_default c =
       memory_type = d.not-MemoryType;
       memory_size = d.not-MemorySize;
       pool_size = d.not-PoolSize;
+      bind_range = d.not-BindRange;
       bind_align = d.not-BindAlign;
       range = d.not-Range;
       align = d.not-Align;
       format = d.not-Format;
       subresource = d.not-Subresource;
       stage = d.not-Stage;
+      owner_whole = d.not-OwnerWhole;
       event_state = d.not-EventState;
       event_dependency = d.not-EventDependency;
       signal_value = d.not-SignalValue;
       signal_order = d.not-SignalOrder;
+      wait_before_signal = d.not-WaitBeforeSignal;
       wait_never = d.not-WaitNever;
       map_state = d.not-MapState;
       host_visible = d.not-HostVisible;
+      pool_kind = d.not-PoolKind;
     })

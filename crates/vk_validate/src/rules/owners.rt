@@ -1,0 +1,81 @@
+ghost use Rattle.std.specs.Prelude.{◌≡◌, not};
+ghost use Rattle.std.specs.List.{list_any};
+ghost use Rattle.vk_model.specs.Basics.{holds};
+ghost use Rattle.vk_model.specs.Trace.Objects.{image};
+ghost use Rattle.vk_model.specs.Rules.Owners as owners;
+ghost use Rattle.vk_order.specs.PointViews.{point_of};
+ghost use Rattle.vk_validate.specs.Inner.PointViews.{past};
+
+use crate::history::History;
+use vk_model::{Cmd, Element, Families, ImageInfo, Length, SubresourceRange};
+use vk_order::{Action, Point};
+
+/// OWNER_WHOLE: an ownership transfer of less than a whole resource.
+pub fn breaks_owner_whole(history: &History<'_>, point: &Point<'_>) -> bool
+    ensures { result ≡ owners.breaks_owner_whole (past history.now) (point_of point.now) }
+{
+    match point.action {
+        Action::Run(Cmd::Barrier { elements }) => transfer_parts(history, elements.as_slice()),
+        _ => false,
+    }
+}
+
+fn transfer_parts(history: &History<'_>, elements: &[Element]) -> bool
+    ensures { result ≡ list_any (owners.is_partial_transfer (past history.now)) elements.now }
+{
+    elements
+        .iter()
+        .any(|element| transfers_part(history, element))
+}
+
+fn transfers_part(history: &History<'_>, element: &Element) -> bool
+    ensures { result ≡ owners.is_partial_transfer (past history.now) element.now }
+{
+    match element {
+        Element::Memory(_) => false,
+        Element::Buffer(on_buffer) => {
+            differ(on_buffer.families)
+                && !(on_buffer.offset == 0
+                    && is_all(history.size(on_buffer.buffer), on_buffer.size))
+        }
+        Element::Image(on_image) => {
+            differ(on_image.families) && is_part(history, on_image.image, &on_image.range)
+        }
+    }
+}
+
+/// Whether two queue families differ: then it's an ownership transfer.
+fn differ(families: Families) -> bool
+    ensures { result ≡ owners.families_differ families }
+{
+    families.source != families.destination
+}
+
+/// Whether a length from offset 0 is the whole of a buffer.
+fn is_all(buffer_size: u64, size: Length) -> bool
+    ensures { result ≡ owners.is_all buffer_size size }
+{
+    match size {
+        Length::Bytes(bytes) => bytes == buffer_size,
+        Length::Whole => true,
+    }
+}
+
+/// Whether a range isn't the whole of an image.
+fn is_part(history: &History<'_>, id: u32, range: &SubresourceRange) -> bool
+    ensures { result ≡ holds (image (past history.now) id) (λ m. not (owners.is_all_of m range.now)) }
+{
+    match history.image(id) {
+        Some(info) => !is_all_of(info, range),
+        None => false,
+    }
+}
+
+fn is_all_of(info: &ImageInfo, range: &SubresourceRange) -> bool
+    ensures { result ≡ owners.is_all_of info.now range.now }
+{
+    range.first_level == 0
+        && range.first_layer == 0
+        && range.levels == info.levels
+        && range.layers == info.layers
+}

@@ -1,0 +1,74 @@
+ghost use Rattle.std.specs.Prelude.{◌≡◌, option_and_then};
+ghost use Rattle.vk_model.specs.Basics.{holds};
+ghost use Rattle.vk_model.specs.Trace.Objects.{pool};
+ghost use Rattle.vk_model.specs.Rules.Passes as passes;
+ghost use Rattle.vk_order.specs.PointViews.{point_of};
+ghost use Rattle.vk_validate.specs.Inner.PointViews.{past};
+
+use crate::history::History;
+use vk_model::{Entry, Place, PoolInfo, PoolKind};
+use vk_order::{Action, Point};
+
+/// POOL_KIND: a defragmentation of a linear pool, or a place at the upper end of a pool that has none.
+pub fn breaks_pool_kind(history: &History<'_>, point: &Point<'_>) -> bool
+    ensures { result ≡ passes.breaks_pool_kind (past history.now) (point_of point.now) }
+{
+    match point.action {
+        Action::Host(entry) => has_bad_pool(history, entry),
+        _ => false,
+    }
+}
+
+fn has_bad_pool(history: &History<'_>, entry: &Entry) -> bool
+    ensures { result ≡ passes.bad_pool_kind (past history.now) entry.now }
+{
+    match entry {
+        Entry::Defrag { pool, .. } => is_linear_pool(history, *pool),
+        Entry::Buffer { info, .. } => has_no_end(history, info.place),
+        Entry::Image { info, .. } => has_no_end(history, info.place),
+        _ => false,
+    }
+}
+
+fn is_linear_pool(history: &History<'_>, id: u32) -> bool
+    ensures { result ≡ holds (pool (past history.now) id) (λ x. passes.is_linear_kind x.kind) }
+{
+    match history.pool(id) {
+        Some(info) => is_linear(info.kind),
+        None => false,
+    }
+}
+
+/// Whether a place is at the upper end of a pool that has none.
+fn has_no_end(history: &History<'_>, place: Place) -> bool
+    ensures { result ≡ holds (option_and_then (pool (past history.now)) (passes.upper_pool place)) passes.has_no_upper }
+{
+    match place {
+        Place::PoolUpper { pool } => is_without_end(history, pool),
+        _ => false,
+    }
+}
+
+fn is_without_end(history: &History<'_>, id: u32) -> bool
+    ensures { result ≡ holds (pool (past history.now) id) passes.has_no_upper }
+{
+    match history.pool(id) {
+        Some(info) => has_no_upper(info),
+        None => false,
+    }
+}
+
+fn has_no_upper(info: &PoolInfo) -> bool
+    ensures { result ≡ passes.has_no_upper info.now }
+{
+    !(is_linear(info.kind) && info.block_limit == 1)
+}
+
+fn is_linear(kind: PoolKind) -> bool
+    ensures { result ≡ passes.is_linear_kind kind }
+{
+    match kind {
+        PoolKind::Tlsf => false,
+        PoolKind::Linear => true,
+    }
+}
