@@ -3,3 +3,4 @@ pub mod EventSets
 pub mod Worlds
 pub mod Signaling
 pub mod SameElements
+pub mod Ended

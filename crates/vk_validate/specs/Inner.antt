@@ -3,6 +3,7 @@ pub mod Judged
 pub mod Early
 pub mod Touched
 pub mod Made
+pub mod Ended
 pub mod Contents
 pub mod Changes
 pub mod Conflicts

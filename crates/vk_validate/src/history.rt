@@ -1,9 +1,9 @@
-ghost use Rattle.std.specs.Prelude.{◌≡◌, ◌≤◌, ◌<◌, ◌+◌, ◌∷◌, ℕ, length, slice_get, not, Option, Some, None, IfOk, OnOk, IsTrue, max, is_some, option_and_then};
+ghost use Rattle.std.specs.Prelude.{◌≡◌, ◌≤◌, ◌<◌, ◌+◌, ◌∷◌, ℕ, length, slice_get, nat_lt, not, Option, Some, None, IfOk, OnOk, IsTrue, max, is_some, option_and_then};
 ghost use Rattle.std.specs.Option.{option_map};
 ghost use Rattle.std.specs.List.{fold};
 ghost use Rattle.vk_model.specs.Basics.{holds};
 ghost use Rattle.vk_model.specs.Trace.Point.{Past, host_of};
-ghost use Rattle.vk_model.specs.Trace.Objects.{made, live, buffer, image, pool, memory, initial, type_at, type_of, memory_of, pool_of, pool_at};
+ghost use Rattle.vk_model.specs.Trace.Objects.{made, ended, live, buffer, image, pool, memory, initial, type_at, type_of, memory_of, pool_of, pool_at};
 ghost use Rattle.vk_model.specs.Trace.Order.{counter, signaled};
 ghost use Rattle.vk_model.specs.Trace.Structure.{IsOrdered};
 ghost use Rattle.vk_model.specs.World.ByteWrites.{buffer_size};
@@ -15,6 +15,7 @@ ghost use Rattle.vk_order.specs.Frontiers.{IsSight};
 ghost use Rattle.vk_order.specs.Wide.{IsApartFrom};
 ghost use Rattle.vk_validate.specs.Inner.PointViews.{past};
 ghost use Rattle.vk_validate.specs.Inner.Judged.{IsJudged};
+ghost use Rattle.vk_validate.specs.Inner.Ended.{first_end};
 ghost use Rattle.vk_validate.specs.Inner.Made.{last_maker, last_set, earlier_than};
 ghost use Rattle.vk_validate.specs.Inner.Touched.{last_signaler, signal_spot, next_node, act_next};
 ghost use Rattle.vk_validate.specs.Inner.Contents.{AreContentsIn};
@@ -124,12 +125,21 @@ impl<'a> History<'a> {
         }
     }
 
-    /// The entry that made an object that is live. Nothing of a supported form ends one.
+    /// The number of the first entry that ended an object.
+    fn first_end(&self, id: u32) -> Option<usize>
+        ensures { result ≡ first_end (past self.now) id }
+    {
+        self.tables.endings.first(id)
+    }
+
+    /// The entry that made an object that is live.
     pub fn live(&self, id: u32) -> Option<&'a Entry>
         ensures { option_map (λ x. x.now) result ≡ live (past self.now) id }
     {
-        self.is_judged();
-        self.made(id)
+        match self.first_end(id) {
+            Some(_) => None,
+            None => self.made(id),
+        }
     }
 
     /// The same, as the ids of a point are judged.
@@ -137,8 +147,32 @@ impl<'a> History<'a> {
         requires { IsOrdered (point_of point.now ∷ past self.now) }
         ensures { option_map (λ x. x.now) result ≡ live (judged_in (past self.now) (point_of point.now)) id }
     {
-        self.is_judged();
-        self.made_for(point, id)
+        if self.was_ended_for(point, id) {
+            None
+        } else {
+            self.made_for(point, id)
+        }
+    }
+
+    /// Whether an object had ended, as the ids of a point are judged.
+    fn was_ended_for(&self, point: &Point<'_>, id: u32) -> bool
+        requires { IsOrdered (point_of point.now ∷ past self.now) }
+        ensures { result ≡ ended (judged_in (past self.now) (point_of point.now)) id }
+    {
+        match point.action {
+            Action::Host(_) => self.first_end(id).is_some(),
+            _ => self.was_ended_before(point.entry, id),
+        }
+    }
+
+    /// Whether an entry below a number ended an object.
+    fn was_ended_before(&self, number: usize, id: u32) -> bool
+        ensures { result ≡ holds (first_end (past self.now) id) (λ n. nat_lt n number) }
+    {
+        match self.first_end(id) {
+            Some(first) => first < number,
+            None => false,
+        }
     }
 
     /// What a buffer was made with.

@@ -6,6 +6,7 @@
 #![tactic(auto)]
 
 mod contents;
+mod endings;
 mod events;
 mod found;
 mod history;

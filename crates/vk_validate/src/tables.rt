@@ -6,6 +6,7 @@ ghost use Rattle.vk_validate.specs.Inner.Touched.{class_next};
 ghost use Rattle.vk_validate.specs.Inner.Tabled.{IsTabled};
 
 use crate::contents::Contents;
+use crate::endings::Endings;
 use crate::events::Events;
 use crate::mappings::Mappings;
 use crate::objects::Objects;
@@ -17,6 +18,7 @@ use vk_order::{Action, Frontier, Line, Point};
 #[derive(Drop)]
 pub struct Tables<'a> {
     pub objects: Objects<'a>,
+    pub endings: Endings,
     pub mappings: Mappings,
     pub semaphores: Semaphores,
     pub events: Events<'a>,
@@ -31,6 +33,7 @@ impl<'a> Tables<'a> {
     {
         Tables {
             objects: Objects::new(alloc),
+            endings: Endings::new(alloc),
             mappings: Mappings::new(alloc),
             semaphores: Semaphores::new(alloc),
             events: Events::new(alloc),
@@ -47,6 +50,7 @@ pub fn note<'a>(tables: &mut Tables<'a>, point: &Point<'a>) -> Result<(), AllocE
     let line = line_of(point);
     let place = tables.frontier.count(line);
     tables.objects.note(point)?;
+    tables.endings.note(point)?;
     tables.mappings.note(point)?;
     tables.events.note(point)?;
     tables.semaphores.note(point, line, place)?;

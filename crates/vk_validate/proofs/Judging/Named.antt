@@ -1,32 +1,11 @@
 -- What points name, and what is live where their ids are judged.
-use Rattle.std.proofs.Common.{◌≡◌, ℕ, List, [], ◌∷◌, ◌++◌, map, Bool, true, false, ◌&&◌, ◌||◌, ◌==◌, refl, ap, ◌∙◌}
-use Rattle.std.specs.Prelude.{is_some, if◌then◌else◌}
+use Rattle.std.proofs.Common.{◌≡◌, ℕ, List, [], ◌∷◌, ◌++◌, map, Bool, ◌||◌, refl, ap, ◌∙◌}
 use Rattle.std.specs.List.{list_any, flat_map}
 use Rattle.std.proofs.lemmas.List.Folds.{list_any-append}
 use Rattle.vk_model.specs.declared.command.Element.{Element}
 use Rattle.vk_model.specs.declared.entry.Entry.{Entry}
-use Rattle.vk_model.specs.Trace.Objects.{made, live}
-use Rattle.vk_model.specs.Trace.Point.{Past, Point, host_of}
-use Rattle.vk_model.specs.Rules.Ids.{asked_by_element, until, judged_in}
+use Rattle.vk_model.specs.Rules.Ids.{asked_by_element}
 use Rattle.vk_model.proofs.Lists.Members.{any_map}
-use Rattle.vk_validate.specs.Supported.{is_supported}
-use Rattle.vk_validate.proofs.Points.Pasts.{supported-cons, live_made}
-
-supported_until : (e : ℕ) (past : Past) → is_supported past ≡ true → is_supported (until e past) ≡ true
-supported_until e [] h = h
-supported_until e (p ∷ past) h = go (p.entry == e && is_some (host_of p.action)) (supported-cons p past h).1 (supported_until e past (supported-cons p past h).1) where
-  go : (b : Bool) → is_supported past ≡ true → is_supported (until e past) ≡ true → is_supported (if b then past else until e past) ≡ true
-  go true a b = a
-  go false a b = b
-
-module _ (past : Past) (supported : is_supported past ≡ true) where
-  supported_judged : (b : Bool) (e : ℕ) → is_supported (if b then past else until e past) ≡ true
-  supported_judged true e = supported
-  supported_judged false e = supported_until e past supported
-
-  -- what was made before is live where ids are judged
-  pub live_judged : (p : Point) (i : ℕ) → live (judged_in past p) i ≡ made (judged_in past p) i
-  live_judged p i = live_made (judged_in past p) (supported_judged (is_some (host_of p.action)) p.entry) i
 
 -- what is asked of each of some ids, and of each of some lists
 module _ (dead : ℕ × (Entry → Bool) → Bool) where

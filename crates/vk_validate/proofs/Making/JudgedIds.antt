@@ -20,7 +20,17 @@ use Rattle.vk_model.proofs.Rules.Fault.{unbroken_of_none}
 use Rattle.vk_model.proofs.Lists.Members.{contains-cons, none_in}
 use Rattle.vk_model.proofs.Trace.Structure.{entry_below, is_of_batch}
 use Rattle.vk_laws.proofs.Nodes.Steady.{made_until, new_ids, IsNew}
+use Rattle.vk_order.specs.declared.point.Action.{Action as AnyAction}
+use Rattle.vk_order.specs.declared.point.Action.TheVariants as action
+use Rattle.vk_order.specs.PointViews.{action_of}
 use Rattle.vk_validate.specs.Inner.Made.{Numbered, makes, last_maker, earlier_than}
+
+-- a point of a batch is no host entry
+pub no_host : (a : AnyAction) → ((x : _) → a ≡ action.Host x → ⊥) → host_of (action_of a) ≡ None
+no_host (action.Host x) none = absurd (none x refl)
+no_host (action.Wait s) none = refl
+no_host (action.Run c) none = refl
+no_host (action.Signal s) none = refl
 
 -- what made an id is the last maker's entry
 pub made_is : (past : Past) (i : ℕ) → made past i ≡ option_map (λ m. m.entry) (last_maker past i)

@@ -20,6 +20,7 @@ use Rattle.vk_validate.specs.declared.semaphores.Signals.{Signals}
 use Rattle.vk_validate.specs.declared.semaphores.Semaphores.{Semaphores}
 use Rattle.vk_validate.specs.declared.events.EventSet.{EventSet}
 use Rattle.vk_validate.specs.declared.events.Events.{Events}
+use Rattle.vk_validate.specs.Inner.Ended.{AreEndings}
 use Rattle.vk_validate.specs.Inner.Made.{Numbered, last_maker, Set, last_set}
 use Rattle.vk_validate.specs.Inner.Touched.{last_signaler, signal_spot}
 
@@ -63,6 +64,7 @@ pub record AreSemaphores (semaphores : Semaphores) (past : Past) : Type 0 where
 -- All tables say what the past does.
 pub record IsTabled (tables : Tables) (past : Past) : Type 0 where
   pub objects : AreObjects tables.objects past
+  pub endings : AreEndings tables.endings past
   pub mappings : AreMappings tables.mappings past
   pub semaphores : AreSemaphores tables.semaphores past
   pub events : AreEvents tables.events past

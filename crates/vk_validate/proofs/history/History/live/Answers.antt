@@ -1,7 +1,14 @@
-use Rattle.std.proofs.Common.{◌∙◌, sym}
+use Rattle.std.proofs.Common.{◌∙◌, sym, refl}
 use Rattle.vk_validate.specs.Inner.PointViews.{past}
-use Rattle.vk_validate.proofs.Points.Pasts.{live_made}
+use Rattle.vk_validate.proofs.Making.Ended.{ended_is}
 use Rattle.vk_validate.proofs.history.History.live.Goals as goal
 
-pub returns : goal.returns
-returns c = c.made.ensures ∙ sym (live_made (past c.args.self.now) c.is_judged.ensures.supported c.args.id)
+pub returns-in-Some : goal.returns-in-Some
+returns-in-Some c =
+    let e = sym c.first_end.ensures ∙ c.in-Some.is in
+    rw (ended_is (past c.args.self.now) c.args.id, e) refl
+
+pub returns-in-None : goal.returns-in-None
+returns-in-None c =
+    let e = sym c.first_end.ensures ∙ c.in-None.is in
+    rw (ended_is (past c.args.self.now) c.args.id, e) c.made.ensures
