@@ -6,5 +6,6 @@ pub mod Made
 pub mod Ended
 pub mod Contents
 pub mod Changes
+pub mod RuleParts
 pub mod Conflicts
 pub mod Tabled

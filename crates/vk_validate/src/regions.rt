@@ -1,8 +1,9 @@
-ghost use Rattle.std.specs.Prelude.{◌≡◌, ◌<◌, ◌-◌, ◌+◌, ◌*◌, ◌^◌, nat_lt};
+ghost use Rattle.std.specs.Prelude.{◌≡◌, ◌<◌, ◌-◌, ◌+◌, ◌*◌, ◌^◌};
 ghost use Rattle.std.specs.List.{list_any};
 ghost use Rattle.vk_model.specs.Trace.Image.{texel};
 ghost use Rattle.vk_model.specs.World.ByteWrites as bytes;
 ghost use Rattle.vk_model.specs.Rules.Ranges as ranges;
+ghost use Rattle.vk_validate.specs.Inner.RuleParts.{some_read_past, some_written_past};
 
 use crate::images::texel_size;
 use vk_model::{BufferCopy, BufferImageCopy, Format, Length};
@@ -84,7 +85,7 @@ pub fn ends_past(buffer_size: u64, offset: u64, size: Length) -> bool
 
 /// Whether what a region reads ends past a buffer of a size.
 pub fn has_source_past(buffer_size: u64, regions: &[BufferCopy]) -> bool
-    ensures { result ≡ list_any (λ g. nat_lt buffer_size (g.source_offset + g.size)) regions.now }
+    ensures { result ≡ some_read_past buffer_size regions.now }
 {
     regions.iter().any(|region| ends_past(
         buffer_size,
@@ -95,7 +96,7 @@ pub fn has_source_past(buffer_size: u64, regions: &[BufferCopy]) -> bool
 
 /// Whether what a region writes ends past a buffer of a size.
 pub fn has_destination_past(buffer_size: u64, regions: &[BufferCopy]) -> bool
-    ensures { result ≡ list_any (λ g. nat_lt buffer_size (g.destination_offset + g.size)) regions.now }
+    ensures { result ≡ some_written_past buffer_size regions.now }
 {
     regions.iter().any(|region| {
         ends_past(

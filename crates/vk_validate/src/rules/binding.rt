@@ -1,10 +1,10 @@
-ghost use Rattle.std.specs.Prelude.{◌≡◌, ◌<◌, ◌+◌, ◌%◌, ◌==◌, ◌&&◌, ◌||◌, not, nat_lt};
-ghost use Rattle.vk_model.specs.Basics.{holds, round_up};
-ghost use Rattle.vk_model.specs.Trace.Objects.{bound_at, memory, type_at};
+ghost use Rattle.std.specs.Prelude.{◌≡◌, ◌<◌};
+ghost use Rattle.vk_model.specs.Basics.{round_up};
 ghost use Rattle.vk_model.specs.Trace.Image.{image_size};
 ghost use Rattle.vk_model.specs.Rules.Binding as binding;
 ghost use Rattle.vk_order.specs.PointViews.{point_of};
 ghost use Rattle.vk_validate.specs.Inner.PointViews.{past};
+ghost use Rattle.vk_validate.specs.Inner.RuleParts.{ends_past_object, is_misplaced_at};
 
 use crate::history::History;
 use crate::images::{asks_more, image_align};
@@ -33,7 +33,7 @@ pub fn breaks_bind_range(history: &History<'_>, point: &Point<'_>) -> bool
 }
 
 fn buffer_ends_past(history: &History<'_>, info: &BufferInfo) -> bool
-    ensures { result ≡ holds (bound_at info.now.place) (λ s. holds (memory (past history.now) s.0) (λ x. nat_lt x.size (s.1 + round_up info.now.size 16))) }
+    ensures { result ≡ ends_past_object (past history.now) info.now.place (round_up info.now.size 16) }
 {
     match info.place {
         Place::Memory { memory, offset } => match history.memory(memory) {
@@ -45,7 +45,7 @@ fn buffer_ends_past(history: &History<'_>, info: &BufferInfo) -> bool
 }
 
 fn image_ends_past(history: &History<'_>, info: &ImageInfo) -> bool
-    ensures { result ≡ holds (bound_at info.now.place) (λ s. holds (memory (past history.now) s.0) (λ x. nat_lt x.size (s.1 + image_size info.now info.now.tiling))) }
+    ensures { result ≡ ends_past_object (past history.now) info.now.place (image_size info.now info.now.tiling) }
 {
     match info.place {
         Place::Memory { memory, offset } => match history.memory(memory) {
@@ -74,7 +74,7 @@ pub fn breaks_bind_align(history: &History<'_>, point: &Point<'_>) -> bool
 
 fn is_misplaced(history: &History<'_>, place: Place, align: u64) -> bool
     requires { 0 < align }
-    ensures { result ≡ holds (bound_at place) (λ s. not (s.1 % align == 0) || holds (type_at (past history.now) place) (λ t. t == 2) && not (s.1 % 64 == 0)) }
+    ensures { result ≡ is_misplaced_at (past history.now) place align }
 {
     match place {
         Place::Memory { offset, .. } => {

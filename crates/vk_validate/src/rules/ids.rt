@@ -7,6 +7,7 @@ ghost use Rattle.vk_model.specs.Trace.Structure.{IsOrdered};
 ghost use Rattle.vk_model.specs.Rules.Ids as ids;
 ghost use Rattle.vk_order.specs.PointViews.{action_of, point_of};
 ghost use Rattle.vk_validate.specs.Inner.PointViews.{past};
+ghost use Rattle.vk_validate.specs.Inner.RuleParts.{is_dead_for, some_dead};
 
 use crate::history::History;
 use vk_model::{Cmd, Element, Entry, Place, SemaphoreValue};
@@ -36,7 +37,7 @@ pub fn breaks_live_id(history: &History<'_>, point: &Point<'_>) -> bool
 
 fn names_dead(history: &History<'_>, point: &Point<'_>) -> bool
     requires { IsOrdered (point_of point.now ∷ past history.now) }
-    ensures { result ≡ list_any (ids.is_dead (ids.judged_in (past history.now) (point_of point.now))) (ids.asked_by (action_of point.now.action)) }
+    ensures { result ≡ some_dead (past history.now) (point_of point.now) (ids.asked_by (action_of point.now.action)) }
 {
     match point.action {
         Action::Host(entry) => entry_names_dead(history, point, entry),
@@ -48,7 +49,7 @@ fn names_dead(history: &History<'_>, point: &Point<'_>) -> bool
 
 fn entry_names_dead(history: &History<'_>, point: &Point<'_>, entry: &Entry) -> bool
     requires { IsOrdered (point_of point.now ∷ past history.now) }
-    ensures { result ≡ list_any (ids.is_dead (ids.judged_in (past history.now) (point_of point.now))) (ids.asked_by_entry entry.now) }
+    ensures { result ≡ some_dead (past history.now) (point_of point.now) (ids.asked_by_entry entry.now) }
 {
     match entry {
         Entry::Buffer { info, .. } => is_nowhere(history, point, info.place),
@@ -88,7 +89,7 @@ fn entry_names_dead(history: &History<'_>, point: &Point<'_>, entry: &Entry) -> 
 
 fn is_nowhere(history: &History<'_>, point: &Point<'_>, place: Place) -> bool
     requires { IsOrdered (point_of point.now ∷ past history.now) }
-    ensures { result ≡ list_any (ids.is_dead (ids.judged_in (past history.now) (point_of point.now))) (ids.asked_by_place place) }
+    ensures { result ≡ some_dead (past history.now) (point_of point.now) (ids.asked_by_place place) }
 {
     match place {
         Place::Dedicated { .. } => false,
@@ -100,7 +101,7 @@ fn is_nowhere(history: &History<'_>, point: &Point<'_>, place: Place) -> bool
 
 fn waits_for_dead(history: &History<'_>, point: &Point<'_>, waits: &[SemaphoreValue]) -> bool
     requires { IsOrdered (point_of point.now ∷ past history.now) }
-    ensures { result ≡ list_any (λ w. ids.is_dead (ids.judged_in (past history.now) (point_of point.now)) (w.semaphore, ids.is_semaphore)) waits.now }
+    ensures { result ≡ list_any (λ w. is_dead_for (past history.now) (point_of point.now) w.semaphore ids.is_semaphore) waits.now }
 {
     waits
         .iter()
@@ -115,7 +116,7 @@ fn ends_dead(
     destroyed: &[u32],
 ) -> bool
     requires { IsOrdered (point_of point.now ∷ past history.now) }
-    ensures { result ≡ (ids.is_dead (ids.judged_in (past history.now) (point_of point.now)) (defrag, ids.is_defrag) || (list_any (λ r. ids.is_dead (ids.judged_in (past history.now) (point_of point.now)) (r, ids.is_resource)) ignored.now || list_any (λ r. ids.is_dead (ids.judged_in (past history.now) (point_of point.now)) (r, ids.is_resource)) destroyed.now)) }
+    ensures { result ≡ (is_dead_for (past history.now) (point_of point.now) defrag ids.is_defrag || (list_any (λ r. is_dead_for (past history.now) (point_of point.now) r ids.is_resource) ignored.now || list_any (λ r. is_dead_for (past history.now) (point_of point.now) r ids.is_resource) destroyed.now)) }
 {
     is_no_defrag(history, point, defrag)
         || lists_dead(history, point, ignored)
@@ -124,7 +125,7 @@ fn ends_dead(
 
 fn lists_dead(history: &History<'_>, point: &Point<'_>, resources: &[u32]) -> bool
     requires { IsOrdered (point_of point.now ∷ past history.now) }
-    ensures { result ≡ list_any (λ r. ids.is_dead (ids.judged_in (past history.now) (point_of point.now)) (r, ids.is_resource)) resources.now }
+    ensures { result ≡ list_any (λ r. is_dead_for (past history.now) (point_of point.now) r ids.is_resource) resources.now }
 {
     resources
         .iter()
@@ -133,7 +134,7 @@ fn lists_dead(history: &History<'_>, point: &Point<'_>, resources: &[u32]) -> bo
 
 fn command_names_dead(history: &History<'_>, point: &Point<'_>, command: &Cmd) -> bool
     requires { IsOrdered (point_of point.now ∷ past history.now) }
-    ensures { result ≡ list_any (ids.is_dead (ids.judged_in (past history.now) (point_of point.now))) (ids.asked_by_command command.now) }
+    ensures { result ≡ some_dead (past history.now) (point_of point.now) (ids.asked_by_command command.now) }
 {
     match command {
         Cmd::Fill { buffer, .. } => is_no_buffer(history, point, *buffer),
@@ -163,7 +164,7 @@ fn command_names_dead(history: &History<'_>, point: &Point<'_>, command: &Cmd) -
 
 fn has_dead_element(history: &History<'_>, point: &Point<'_>, elements: &[Element]) -> bool
     requires { IsOrdered (point_of point.now ∷ past history.now) }
-    ensures { result ≡ list_any (λ e. list_any (ids.is_dead (ids.judged_in (past history.now) (point_of point.now))) (ids.asked_by_element e)) elements.now }
+    ensures { result ≡ list_any (λ e. some_dead (past history.now) (point_of point.now) (ids.asked_by_element e)) elements.now }
 {
     elements
         .iter()
@@ -172,7 +173,7 @@ fn has_dead_element(history: &History<'_>, point: &Point<'_>, elements: &[Elemen
 
 fn element_names_dead(history: &History<'_>, point: &Point<'_>, element: &Element) -> bool
     requires { IsOrdered (point_of point.now ∷ past history.now) }
-    ensures { result ≡ list_any (ids.is_dead (ids.judged_in (past history.now) (point_of point.now))) (ids.asked_by_element element.now) }
+    ensures { result ≡ some_dead (past history.now) (point_of point.now) (ids.asked_by_element element.now) }
 {
     match element {
         Element::Memory(_) => false,
@@ -183,21 +184,21 @@ fn element_names_dead(history: &History<'_>, point: &Point<'_>, element: &Elemen
 
 fn is_no_buffer(history: &History<'_>, point: &Point<'_>, id: u32) -> bool
     requires { IsOrdered (point_of point.now ∷ past history.now) }
-    ensures { result ≡ ids.is_dead (ids.judged_in (past history.now) (point_of point.now)) (id, ids.is_buffer) }
+    ensures { result ≡ is_dead_for (past history.now) (point_of point.now) id ids.is_buffer }
 {
     !matches!(history.live_for(point, id), Some(Entry::Buffer { .. }))
 }
 
 fn is_no_image(history: &History<'_>, point: &Point<'_>, id: u32) -> bool
     requires { IsOrdered (point_of point.now ∷ past history.now) }
-    ensures { result ≡ ids.is_dead (ids.judged_in (past history.now) (point_of point.now)) (id, ids.is_image) }
+    ensures { result ≡ is_dead_for (past history.now) (point_of point.now) id ids.is_image }
 {
     !matches!(history.live_for(point, id), Some(Entry::Image { .. }))
 }
 
 fn is_no_resource(history: &History<'_>, point: &Point<'_>, id: u32) -> bool
     requires { IsOrdered (point_of point.now ∷ past history.now) }
-    ensures { result ≡ ids.is_dead (ids.judged_in (past history.now) (point_of point.now)) (id, ids.is_resource) }
+    ensures { result ≡ is_dead_for (past history.now) (point_of point.now) id ids.is_resource }
 {
     !matches!(
         history.live_for(point, id),
@@ -207,35 +208,35 @@ fn is_no_resource(history: &History<'_>, point: &Point<'_>, id: u32) -> bool
 
 fn is_no_pool(history: &History<'_>, point: &Point<'_>, id: u32) -> bool
     requires { IsOrdered (point_of point.now ∷ past history.now) }
-    ensures { result ≡ ids.is_dead (ids.judged_in (past history.now) (point_of point.now)) (id, ids.is_pool) }
+    ensures { result ≡ is_dead_for (past history.now) (point_of point.now) id ids.is_pool }
 {
     !matches!(history.live_for(point, id), Some(Entry::Pool { .. }))
 }
 
 fn is_no_memory(history: &History<'_>, point: &Point<'_>, id: u32) -> bool
     requires { IsOrdered (point_of point.now ∷ past history.now) }
-    ensures { result ≡ ids.is_dead (ids.judged_in (past history.now) (point_of point.now)) (id, ids.is_memory) }
+    ensures { result ≡ is_dead_for (past history.now) (point_of point.now) id ids.is_memory }
 {
     !matches!(history.live_for(point, id), Some(Entry::Memory { .. }))
 }
 
 fn is_no_semaphore(history: &History<'_>, point: &Point<'_>, id: u32) -> bool
     requires { IsOrdered (point_of point.now ∷ past history.now) }
-    ensures { result ≡ ids.is_dead (ids.judged_in (past history.now) (point_of point.now)) (id, ids.is_semaphore) }
+    ensures { result ≡ is_dead_for (past history.now) (point_of point.now) id ids.is_semaphore }
 {
     !matches!(history.live_for(point, id), Some(Entry::Semaphore { .. }))
 }
 
 fn is_no_event(history: &History<'_>, point: &Point<'_>, id: u32) -> bool
     requires { IsOrdered (point_of point.now ∷ past history.now) }
-    ensures { result ≡ ids.is_dead (ids.judged_in (past history.now) (point_of point.now)) (id, ids.is_event) }
+    ensures { result ≡ is_dead_for (past history.now) (point_of point.now) id ids.is_event }
 {
     !matches!(history.live_for(point, id), Some(Entry::Event { .. }))
 }
 
 fn is_no_defrag(history: &History<'_>, point: &Point<'_>, id: u32) -> bool
     requires { IsOrdered (point_of point.now ∷ past history.now) }
-    ensures { result ≡ ids.is_dead (ids.judged_in (past history.now) (point_of point.now)) (id, ids.is_defrag) }
+    ensures { result ≡ is_dead_for (past history.now) (point_of point.now) id ids.is_defrag }
 {
     !matches!(history.live_for(point, id), Some(Entry::Defrag { .. }))
 }

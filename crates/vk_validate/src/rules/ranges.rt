@@ -9,6 +9,7 @@ ghost use Rattle.vk_model.specs.World.Areas.{region_box, source_box, destination
 ghost use Rattle.vk_model.specs.Rules.Ranges as ranges;
 ghost use Rattle.vk_order.specs.PointViews.{point_of};
 ghost use Rattle.vk_validate.specs.Inner.PointViews.{past};
+ghost use Rattle.vk_validate.specs.Inner.RuleParts.{some_read_past, some_written_past, some_rows_past, some_box_outside, some_range_outside};
 
 use crate::history::History;
 use crate::images::{
@@ -108,14 +109,14 @@ fn writes_past(history: &History<'_>, buffer: u32, offset: u64, bytes: usize) ->
 }
 
 fn copies_past(history: &History<'_>, source: u32, destination: u32, regions: &[BufferCopy]) -> bool
-    ensures { result ≡ (list_any (λ g. nat_lt (buffer_size (past history.now) source) (g.source_offset + g.size)) regions.now || list_any (λ g. nat_lt (buffer_size (past history.now) destination) (g.destination_offset + g.size)) regions.now) }
+    ensures { result ≡ (some_read_past (buffer_size (past history.now) source) regions.now || some_written_past (buffer_size (past history.now) destination) regions.now) }
 {
     has_source_past(history.size(source), regions)
         || has_destination_past(history.size(destination), regions)
 }
 
 fn has_bad_rows(history: &History<'_>, buffer: u32, image: u32, regions: &[BufferImageCopy]) -> bool
-    ensures { result ≡ (holds (objects.image (past history.now) image) (λ m. list_any (ranges.region_past (buffer_size (past history.now) buffer) (texel m.format)) regions.now) || list_any ranges.is_short regions.now) }
+    ensures { result ≡ (some_rows_past (past history.now) buffer image regions.now || list_any ranges.is_short regions.now) }
 {
     rows_end_past(history, buffer, image, regions) || has_short(regions)
 }
@@ -126,7 +127,7 @@ fn rows_end_past(
     image: u32,
     regions: &[BufferImageCopy],
 ) -> bool
-    ensures { result ≡ holds (objects.image (past history.now) image) (λ m. list_any (ranges.region_past (buffer_size (past history.now) buffer) (texel m.format)) regions.now) }
+    ensures { result ≡ some_rows_past (past history.now) buffer image regions.now }
 {
     match history.image(image) {
         Some(info) => has_rows_past(history.size(buffer), info.format, regions),
@@ -289,7 +290,7 @@ fn names_outside(history: &History<'_>, command: &Cmd) -> bool
 }
 
 fn clears_outside(history: &History<'_>, image: u32, parts: &[SubresourceRange]) -> bool
-    ensures { result ≡ holds (objects.image (past history.now) image) (λ m. list_any (ranges.bad_range m) parts.now) }
+    ensures { result ≡ some_range_outside (past history.now) image parts.now }
 {
     match history.image(image) {
         Some(info) => has_bad_range(info, parts),
@@ -298,7 +299,7 @@ fn clears_outside(history: &History<'_>, image: u32, parts: &[SubresourceRange])
 }
 
 fn lies_outside(history: &History<'_>, image: u32, regions: &[BufferImageCopy]) -> bool
-    ensures { result ≡ holds (objects.image (past history.now) image) (λ m. list_any (λ g. ranges.bad_box m (region_box g)) regions.now) }
+    ensures { result ≡ some_box_outside (past history.now) image region_box regions.now }
 {
     match history.image(image) {
         Some(info) => has_bad_region(info, regions),
@@ -312,13 +313,13 @@ fn copies_outside(
     destination: u32,
     regions: &[ImageCopy],
 ) -> bool
-    ensures { result ≡ (holds (objects.image (past history.now) source) (λ m. list_any (λ g. ranges.bad_box m (source_box g)) regions.now) || holds (objects.image (past history.now) destination) (λ m. list_any (λ g. ranges.bad_box m (destination_box g)) regions.now)) }
+    ensures { result ≡ (some_box_outside (past history.now) source source_box regions.now || some_box_outside (past history.now) destination destination_box regions.now) }
 {
     reads_outside(history, source, regions) || writes_outside(history, destination, regions)
 }
 
 fn reads_outside(history: &History<'_>, image: u32, regions: &[ImageCopy]) -> bool
-    ensures { result ≡ holds (objects.image (past history.now) image) (λ m. list_any (λ g. ranges.bad_box m (source_box g)) regions.now) }
+    ensures { result ≡ some_box_outside (past history.now) image source_box regions.now }
 {
     match history.image(image) {
         Some(info) => has_bad_source(info, regions),
@@ -327,7 +328,7 @@ fn reads_outside(history: &History<'_>, image: u32, regions: &[ImageCopy]) -> bo
 }
 
 fn writes_outside(history: &History<'_>, image: u32, regions: &[ImageCopy]) -> bool
-    ensures { result ≡ holds (objects.image (past history.now) image) (λ m. list_any (λ g. ranges.bad_box m (destination_box g)) regions.now) }
+    ensures { result ≡ some_box_outside (past history.now) image destination_box regions.now }
 {
     match history.image(image) {
         Some(info) => has_bad_destination(info, regions),

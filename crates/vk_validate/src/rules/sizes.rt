@@ -2,12 +2,13 @@ ghost use Rattle.std.specs.Prelude.{◌≡◌, ◌<◌, ◌*◌, ◌||◌, ◌==
 ghost use Rattle.std.specs.List.{list_any};
 ghost use Rattle.vk_model.specs.Basics.{holds, round_up};
 ghost use Rattle.vk_model.specs.Trace.Image.{image_size};
-ghost use Rattle.vk_model.specs.Trace.Objects.{type_at, pool, pool_at};
+ghost use Rattle.vk_model.specs.Trace.Objects.{type_at};
 ghost use Rattle.vk_model.specs.Trace.Point.{Past};
 ghost use Rattle.vk_model.specs.declared.command.Element.TheVariants as element;
 ghost use Rattle.vk_model.specs.Rules.Sizes as sizes;
 ghost use Rattle.vk_order.specs.PointViews.{point_of};
 ghost use Rattle.vk_validate.specs.Inner.PointViews.{past};
+ghost use Rattle.vk_validate.specs.Inner.RuleParts.{is_over_half};
 
 use crate::history::History;
 use crate::images::{asks_more, has_bad_shape};
@@ -317,7 +318,7 @@ pub fn breaks_pool_size(history: &History<'_>, point: &Point<'_>) -> bool
 }
 
 fn is_large_buffer(history: &History<'_>, info: &BufferInfo) -> bool
-    ensures { result ≡ holds (option_and_then (pool (past history.now)) (pool_at info.now.place)) (λ p. nat_lt p.block_size (2 * round_up info.now.size 16)) }
+    ensures { result ≡ is_over_half (past history.now) info.now.place (round_up info.now.size 16) }
 {
     match history.pool_for(info.place) {
         Some(pool) => takes_more(info, pool.block_size / 2),
@@ -326,7 +327,7 @@ fn is_large_buffer(history: &History<'_>, info: &BufferInfo) -> bool
 }
 
 fn is_large_image(history: &History<'_>, info: &ImageInfo) -> bool
-    ensures { result ≡ holds (option_and_then (pool (past history.now)) (pool_at info.now.place)) (λ p. nat_lt p.block_size (2 * image_size info.now info.now.tiling)) }
+    ensures { result ≡ is_over_half (past history.now) info.now.place (image_size info.now info.now.tiling) }
 {
     match history.pool_for(info.place) {
         Some(pool) => asks_more(info, pool.block_size / 2),

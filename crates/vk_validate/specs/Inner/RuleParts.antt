@@ -1,0 +1,56 @@
+-- Parts of rules, as single functions answer them.
+use Rattle.std.specs.Prelude.{ℕ, ◌+◌, ◌*◌, ◌%◌, ◌==◌, ◌&&◌, ◌||◌, List, Bool, not, nat_lt, option_and_then}
+use Rattle.std.specs.List.{list_any}
+use Rattle.vk_model.specs.declared.command.BufferCopy.{BufferCopy}
+use Rattle.vk_model.specs.declared.command.BufferImageCopy.{BufferImageCopy}
+use Rattle.vk_model.specs.declared.command.SubresourceRange.{SubresourceRange}
+use Rattle.vk_model.specs.declared.entry.Entry.{Entry}
+use Rattle.vk_model.specs.declared.resource.Place.{Place}
+use Rattle.vk_model.specs.Basics.{holds}
+use Rattle.vk_model.specs.Trace.Image.{texel}
+use Rattle.vk_model.specs.Trace.Objects.{image, pool, memory, pool_at, bound_at, type_at}
+use Rattle.vk_model.specs.Trace.Point.{Past, Point}
+use Rattle.vk_model.specs.World.Areas.{Box}
+use Rattle.vk_model.specs.World.ByteWrites.{buffer_size}
+use Rattle.vk_model.specs.Rules.Ids.{Asked, is_dead, judged_in}
+use Rattle.vk_model.specs.Rules.Ranges.{region_past, bad_box, bad_range}
+
+-- Whether an id isn't a live object of the kind asked, as the ids of a point are judged.
+abbrev pub is_dead_for : Past → Point → ℕ → (Entry → Bool) → Bool
+is_dead_for past p i kind = is_dead (judged_in past p) (i, kind)
+
+-- Whether some id isn't.
+abbrev pub some_dead : Past → Point → Asked → Bool
+some_dead past p asked = list_any (is_dead (judged_in past p)) asked
+
+-- Whether more than half a block of the pool of a place is asked for.
+abbrev pub is_over_half : Past → Place → ℕ → Bool
+is_over_half past q n = holds (option_and_then (pool past) (pool_at q)) (λ p. nat_lt p.block_size (2 * n))
+
+-- Whether so many bytes end past the memory object of a place.
+abbrev pub ends_past_object : Past → Place → ℕ → Bool
+ends_past_object past q n = holds (bound_at q) (λ s. holds (memory past s.0) (λ x. nat_lt x.size (s.1 + n)))
+
+-- Whether the offset of a place in a memory object isn't a multiple of an alignment, and on memory of type 2 of 64.
+abbrev pub is_misplaced_at : Past → Place → ℕ → Bool
+is_misplaced_at past q align = holds (bound_at q) (λ s. not (s.1 % align == 0) || holds (type_at past q) (λ t. t == 2) && not (s.1 % 64 == 0))
+
+-- Whether a region of a copy reads past a buffer of a size.
+abbrev pub some_read_past : ℕ → List BufferCopy → Bool
+some_read_past size gs = list_any (λ g. nat_lt size (g.source_offset + g.size)) gs
+
+-- Whether a region of a copy writes past it.
+abbrev pub some_written_past : ℕ → List BufferCopy → Bool
+some_written_past size gs = list_any (λ g. nat_lt size (g.destination_offset + g.size)) gs
+
+-- Whether the rows of a region, of texels of an image, end past a buffer.
+abbrev pub some_rows_past : Past → ℕ → ℕ → List BufferImageCopy → Bool
+some_rows_past past b i gs = holds (image past i) (λ m. list_any (region_past (buffer_size past b) (texel m.format)) gs)
+
+-- Whether a box isn't of an image.
+abbrev pub some_box_outside : {A : Type 0} → Past → ℕ → (A → Box) → List A → Bool
+some_box_outside past i of gs = holds (image past i) (λ m. list_any (λ g. bad_box m (of g)) gs)
+
+-- Whether a range of subresources isn't.
+abbrev pub some_range_outside : Past → ℕ → List SubresourceRange → Bool
+some_range_outside past i rs = holds (image past i) (λ m. list_any (bad_range m) rs)
