@@ -1,0 +1,169 @@
+#!/usr/bin/env python3
+"""Runs random traces in every order, and compares the answers with each other and with a slow reading.
+
+    tools/random_traces.py --count 2000 --seed 1 crates/vk_replay/out/vk_replay
+
+Each trace is drawn from the seed and its number (drawing.py), and run with `--order first`, with `last`,
+and with the seeds 0 to 15: output, exit status and standard error have to be the same. They also have to
+be those of the slow reading (slow_reading.py), unless `--orders-only` is given. The first difference is
+made as small as leaving out entries, batches and commands makes it, and printed; the exit status is then
+1. At the end it is printed what was drawn. `--only N` runs trace N alone, and prints it.
+"""
+
+import argparse
+import json
+import random
+import subprocess
+import sys
+from collections import Counter
+
+from drawing import draw
+from slow_reading import read
+
+ORDERS = [("first",), ("last",), *(("seed", "--seed", str(seed)) for seed in range(16))]
+PIECE = 4_096
+SECONDS = 60
+
+
+def run(program, trace, heaps, order):
+    """What the program answers: its output, its exit status and its standard error."""
+    heap_words = ["--heap0", str(heaps[0]), "--heap1", str(heaps[1])]
+    words = [program, "--order", *order, *heap_words]
+    ended = subprocess.run(
+        words, input=json.dumps(trace).encode(), capture_output=True, timeout=SECONDS
+    )
+    return ended.stdout.decode(), ended.returncode, ended.stderr.decode()
+
+
+def difference(program, trace, heaps, with_reading, orders=ORDERS):
+    """The order in which the answer differs from that of the first order, or the first order where it
+    isn't that of the slow reading, with both answers; nothing where all agree."""
+    first = run(program, trace, heaps, orders[0])
+    if with_reading:
+        wanted = (*read(trace, heaps).answer(), "")
+        if first != wanted:
+            return orders[0], f"the slow reading: {wanted}\nthe program: {first}"
+    for order in orders[1:]:
+        answer = run(program, trace, heaps, order)
+        if answer != first:
+            return order, f"--order first: {first}\n--order {' '.join(order)}: {answer}"
+    return None
+
+
+def smaller(trace):
+    """The traces with one entry, batch, wait, command or signal left out."""
+    for e, entry in enumerate(trace):
+        yield trace[:e] + trace[e + 1 :]
+        if entry[0] == "submit":
+            for batches in smaller_batches(entry[2]):
+                yield trace[:e] + [[*entry[:2], batches]] + trace[e + 1 :]
+
+
+def smaller_batches(batches):
+    for b, batch in enumerate(batches):
+        yield batches[:b] + batches[b + 1 :]
+        for k, items in enumerate(batch):
+            for i in range(len(items)):
+                fewer = batch[:k] + [items[:i] + items[i + 1 :]] + batch[k + 1 :]
+                yield batches[:b] + [fewer] + batches[b + 1 :]
+
+
+def shrunk(program, trace, heaps, with_reading, found):
+    """A trace with a difference from which nothing can be left out, and what differs."""
+    orders = [ORDERS[0], found[0]]
+    fewer = next(smaller(trace), None)
+    while fewer is not None:
+        for fewer in smaller(trace):
+            differs = difference(program, fewer, heaps, with_reading, orders)
+            if differs is not None:
+                trace, found = fewer, differs
+                break
+        else:
+            fewer = None
+    return trace, found[1]
+
+
+# ---- what was drawn
+
+
+def sources(reading, host_read):
+    """The pieces and the queues that the bytes of a read come from."""
+    _, _, buffer, offset, fills = host_read
+    size = len(host_read[1])
+    pieces = [None] * size
+    for k, (_, filled, low, high, queue) in enumerate(reading.fills[:fills]):
+        for at in range(max(low, offset), min(high, offset + size)) if filled == buffer else ():
+            pieces[at - offset] = (k, (at - low) // PIECE, queue)
+    return set(pieces), {piece[2] for piece in pieces if piece}
+
+
+def is_ahead(reading):
+    """Whether a batch was started after a later entry than its own submit."""
+    entries = [node.point.entry for node in reading.nodes]
+    return any(earlier > later for earlier, later in zip(entries, entries[1:]))
+
+
+def count_accepted(reading, counts):
+    counts["with batches started later than at their submit"] += is_ahead(reading)
+    counts["with batches that are never started"] += bool(reading.waiting)
+    counts["with events awaited"] += any(n.role and n.role[0] == "await" for n in reading.nodes)
+    counts["with reads"] += bool(reading.reads)
+    origins = [sources(reading, host_read) for host_read in reading.reads]
+    counts["with reads of bytes from several pieces"] += any(len(p) > 1 for p, _ in origins)
+    counts["with reads of bytes from several queues"] += any(len(q) > 1 for _, q in origins)
+    counts["stopped, for want of room"] += reading.stop is not None
+
+
+def count_trace(reading, counts, rules):
+    counts["points that are nodes"] += len(reading.nodes)
+    if reading.fault is None:
+        counts["accepted"] += 1
+        count_accepted(reading, counts)
+    else:
+        counts["refused"] += 1
+        rules[reading.fault.split()[2]] += 1
+
+
+def print_counts(drawn, counts, rules):
+    print(f"{drawn} traces, each in {len(ORDERS)} orders: no difference")
+    for name, count in counts.items():
+        print(f"  {count:7} {name}")
+    for rule, count in rules.most_common():
+        print(f"  {count:7} refused by {rule}")
+
+
+# ---- the program
+
+
+def arguments():
+    parser = argparse.ArgumentParser(description=__doc__.splitlines()[0])
+    parser.add_argument("program", help="the program `replay`, as it was built")
+    parser.add_argument("--count", type=int, default=200, help="how many traces are drawn")
+    parser.add_argument("--seed", type=int, default=0, help="where the drawing begins")
+    parser.add_argument("--only", type=int, help="runs the trace of this number alone, and prints it")
+    parser.add_argument("--orders-only", action="store_true", help="compares the orders alone")
+    return parser.parse_args()
+
+
+def main():
+    options = arguments()
+    print(f"seed {options.seed}", flush=True)
+    counts, rules = Counter(), Counter()
+    numbers = range(options.count) if options.only is None else [options.only]
+    for number in numbers:
+        trace, heaps = draw(random.Random(f"{options.seed}/{number}"))
+        if options.only is not None:
+            print(json.dumps(trace), heaps)
+        found = difference(options.program, trace, heaps, not options.orders_only)
+        if found is not None:
+            trace, text = shrunk(options.program, trace, heaps, not options.orders_only, found)
+            print(f"trace {number} differs; made smaller, with heaps of {heaps}:")
+            print(f"{json.dumps(trace)}\n{text}")
+            return 1
+        count_trace(read(trace, heaps), counts, rules)
+    print_counts(len(numbers), counts, rules)
+    return 0
+
+
+if __name__ == "__main__":
+    sys.exit(main())
