@@ -22,6 +22,8 @@ mod rows;
 mod seen;
 mod sights;
 mod tallies;
+#[cfg(test)]
+mod tests;
 mod writes;
 
 pub use access::Access;
