@@ -6,6 +6,7 @@ ghost use Rattle.vk_heap.specs.Region.{piece};
 ghost use Rattle.vk_resources.specs.Held.{placed, spot_of};
 ghost use Rattle.vk_resources.specs.Inner.Allotted.{FoundRoom};
 ghost use Rattle.vk_offers.specs.IsOffers.{name_of};
+ghost use Rattle.vk_sync.specs.Ready.{ready};
 ghost use Rattle.vk_order.specs.PointViews.{point_of};
 ghost use Rattle.std.specs.Prelude.{◌<◌};
 ghost use Rattle.vk_model.specs.Run.Picks.{pick_of, held_after};
@@ -248,7 +249,9 @@ impl<'a> Device<'a> {
 
     /// The pieces that may run next, in reference order. The only error is want of memory.
     pub fn offered(&self) -> Result<Vec<Piece>, AllocError>
-        ensures { IfOk result (λ pieces. (t : List Entry) (steps : List Step) (s : Stage) → Led t steps s self.now → map (name_of s.front.past) pieces.items ≡ offered s.front.past s.done) }
+        ensures named { IfOk result (λ pieces. (t : List Entry) (steps : List Step) (s : Stage) → Led t steps s self.now → map (name_of s.front.past) pieces.items ≡ offered s.front.past s.done) }
+        // They are those that `step` takes.
+        ensures ready { IfOk result (λ pieces. pieces.items ≡ ready self.now.offers.ready) }
     {
         self.offers.offered()
     }

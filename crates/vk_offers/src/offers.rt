@@ -91,7 +91,8 @@ impl<'a> Offers<'a> {
 
     /// All pieces that may run next, in reference order.
     pub fn offered(&self) -> Result<Vec<Piece>, AllocError>
-        ensures { IfOk result (λ pieces. (past : Past) (done : List Name) → IsOffers self.now past done → map (name_of past) pieces.items ≡ offered past done) }
+        ensures ready { IfOk result (λ pieces. pieces.items ≡ ready self.now.ready) }
+        ensures named { IfOk result (λ pieces. (past : Past) (done : List Name) → IsOffers self.now past done → map (name_of past) pieces.items ≡ offered past done) }
     {
         self.ready.ready()
     }

@@ -1,7 +1,7 @@
 //! The order of a fill and of a host read after it, with a barrier between and without.
 
-use super::drawing::{Drawn, Happening};
-use super::readings;
+use super::drawn::{Drawn, Happening};
+use super::points_of;
 use crate::{Access, Byte, ByteAccess};
 use std::alloc::{AllocError, Global};
 use std::test::Fail;
@@ -102,7 +102,7 @@ const READ: ByteAccess = ByteAccess {
 #[test]
 fn a_host_read_sees_a_fill_before_a_barrier(rt: HostRuntime) -> Result<(), Fail> {
     let drawn = first_path(rt.alloc(), true)?;
-    let (points, _slow) = readings(rt.alloc(), drawn.as_slice())?;
+    let points = points_of(rt.alloc(), drawn.as_slice())?;
     assert_eq!(rt; points.len(), 9);
     assert!(rt; points.before(3, 8));
     assert!(rt; points.seen(3, 8, READ)?);
@@ -113,7 +113,7 @@ fn a_host_read_sees_a_fill_before_a_barrier(rt: HostRuntime) -> Result<(), Fail>
 #[test]
 fn a_host_read_is_after_a_fill_and_does_not_see_it(rt: HostRuntime) -> Result<(), Fail> {
     let drawn = first_path(rt.alloc(), false)?;
-    let (points, _slow) = readings(rt.alloc(), drawn.as_slice())?;
+    let points = points_of(rt.alloc(), drawn.as_slice())?;
     assert_eq!(rt; points.len(), 8);
     assert!(rt; points.before(3, 7));
     assert!(rt; !points.seen(3, 7, READ)?);

@@ -1,11 +1,9 @@
 //! Random pasts of all kinds of nodes. What is drawn breaks rules as it may.
 
-ghost use Rattle.std.specs.Prelude.{◌≡◌, ◌<◌, ◌+◌, ◌*◌};
-ghost use Rattle.vk_model.specs.declared.command.Cmd.{Cmd as AnyCmd};
-ghost use Rattle.vk_model.specs.Trace.Point.{Run};
-ghost use Rattle.vk_order.specs.PointViews.{action_of};
+ghost use Rattle.std.specs.Prelude.{◌<◌};
 
-use crate::{Action, Byte, Point};
+use super::drawn::{Drawn, Happening};
+use crate::Byte;
 use std::alloc::{AllocError, Global};
 use vk_model::{
     Accesses, BufferElement, Cmd, Dependency, Element, Entry, Families, ImageElement, Layout,
@@ -69,25 +67,6 @@ impl Random {
             None => other,
         }
     }
-}
-
-/// What happens at a drawn point.
-#[derive(Drop)]
-pub enum Happening {
-    Host(Entry),
-    Wait(SemaphoreSubmit),
-    Run(Cmd),
-    Signal(SemaphoreSubmit),
-}
-
-/// A drawn point.
-#[derive(Drop)]
-pub struct Drawn {
-    pub entry: usize,
-    pub batch: usize,
-    pub place: usize,
-    pub queue: u32,
-    pub happening: Happening,
 }
 
 /// Sets of stages: the more usual ones more than once, all others once, and one that isn't known.
@@ -315,32 +294,6 @@ pub fn draw(alloc: Global, random: &mut Random) -> Result<Vec<Drawn>, AllocError
         })?;
     }
     Ok(drawn)
-}
-
-/// The point of what was drawn. Each command has a place in a batch of its own, by its number.
-pub fn point_of<'a>(number: usize, drawn: &'a Drawn) -> Point<'a>
-    ensures { (c : AnyCmd) → action_of result.action ≡ Run c → result.place + 8 * result.batch ≡ number }
-{
-    let Drawn {
-        entry,
-        batch,
-        place,
-        queue,
-        happening,
-    } = drawn;
-    let (action, batch, place) = match happening {
-        Happening::Host(entry) => (Action::Host(entry), *batch, *place),
-        Happening::Wait(wait) => (Action::Wait(wait), *batch, *place),
-        Happening::Signal(signal) => (Action::Signal(signal), *batch, *place),
-        Happening::Run(command) => (Action::Run(command), number / 8, number % 8),
-    };
-    Point {
-        entry: *entry,
-        batch,
-        place,
-        queue: *queue,
-        action,
-    }
 }
 
 /// A byte of a buffer or of an image.

@@ -1,0 +1,54 @@
+//! Points of tests, as values of their own.
+
+ghost use Rattle.std.specs.Prelude.{◌≡◌, ◌+◌, ◌*◌};
+ghost use Rattle.vk_model.specs.declared.command.Cmd.{Cmd as AnyCmd};
+ghost use Rattle.vk_model.specs.Trace.Point.{Run};
+ghost use Rattle.vk_order.specs.PointViews.{action_of};
+
+use crate::{Action, Point};
+use vk_model::{Cmd, Entry, SemaphoreSubmit};
+
+/// What happens at a point.
+#[derive(Drop)]
+pub enum Happening {
+    Host(Entry),
+    Wait(SemaphoreSubmit),
+    Run(Cmd),
+    Signal(SemaphoreSubmit),
+}
+
+/// A point.
+#[derive(Drop)]
+pub struct Drawn {
+    pub entry: usize,
+    pub batch: usize,
+    pub place: usize,
+    pub queue: u32,
+    pub happening: Happening,
+}
+
+/// The point with a number. Each command has a place in a batch of its own, by its number.
+pub fn point_of<'a>(number: usize, drawn: &'a Drawn) -> Point<'a>
+    ensures { (c : AnyCmd) → action_of result.action ≡ Run c → result.place + 8 * result.batch ≡ number }
+{
+    let Drawn {
+        entry,
+        batch,
+        place,
+        queue,
+        happening,
+    } = drawn;
+    let (action, batch, place) = match happening {
+        Happening::Host(entry) => (Action::Host(entry), *batch, *place),
+        Happening::Wait(wait) => (Action::Wait(wait), *batch, *place),
+        Happening::Signal(signal) => (Action::Signal(signal), *batch, *place),
+        Happening::Run(command) => (Action::Run(command), number / 8, number % 8),
+    };
+    Point {
+        entry: *entry,
+        batch,
+        place,
+        queue: *queue,
+        action,
+    }
+}
