@@ -19,7 +19,9 @@ for crate in vk_model vk_order; do
     cp -r "$here/../crates/$crate/src" "$here/../crates/$crate/specs" "$room/crates/$crate"
 done
 tests=$room/crates/vk_order/src/tests
-cp "$here"/random_pasts/*.rt "$tests"
+for file in "$here"/random_pasts/*.rt.in; do
+    cp "$file" "$tests/$(basename "$file" .in)"
+done
 sed -i "s/^const PASTS: u64 = .*/const PASTS: u64 = $count;/; s/^const SEED: u64 = .*/const SEED: u64 = $seed;/" \
     "$tests/random_pasts.rt"
 sed -i 's/^mod first_path;/mod drawing;\n&\nmod links;\nmod random_pasts;\nmod slow;/' "$tests.rt"
