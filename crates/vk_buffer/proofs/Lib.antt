@@ -1,0 +1,5 @@
+pub mod Clear
+mod Neighbors
+mod Refusals
+mod Asked
+mod Types

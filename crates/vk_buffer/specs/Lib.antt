@@ -1,0 +1,3 @@
+pub mod BoundMemory
+pub mod Requirements
+pub mod Inner
