@@ -6,18 +6,12 @@ use Rattle.std.proofs.lemmas.Bool.{eq-eqb, ne_eqb, lt-ltb, le-ltb, or_left, or_r
 use Rattle.vk_model.specs.declared.resource.BufferInfo.{BufferInfo}
 use Rattle.vk_model.specs.declared.rule.Rule.{Rule}
 use Rattle.vk_model.specs.declared.rule.Rule.TheVariants as rule
-use Rattle.vk_model.specs.Basics.{first_that, round_up}
+use Rattle.vk_model.specs.Basics.{round_up}
 use Rattle.vk_model.specs.Rules.Sizes.{is_outside}
 use Rattle.vk_model.specs.Rules.Table.{breaks}
 use Rattle.vk_model.specs.Trace.Point.{Past, Point}
+use Rattle.vk_buffer.proofs.Firsts.{first_yes, first_no}
 use Rattle.vk_buffer.specs.Requirements.{Makes, first_asked}
-
--- the first of a list, or one of the rest
-first_yes : {A : Type 0} (test : A → Bool) (x : A) (xs : List A) → test x ≡ true → first_that test (x ∷ xs) ≡ Some x
-first_yes test x xs e = rw (e, first_that) refl
-
-first_no : {A : Type 0} (test : A → Bool) (x : A) (xs : List A) → test x ≡ false → first_that test (x ∷ xs) ≡ first_that test xs
-first_no test x xs e = rw (e, first_that) refl
 
 module _ (past : Past) (p : Point) (b : BufferInfo) (makes : Makes p b) where
   size_is : breaks rule.Size past p ≡ (b.size == 0)

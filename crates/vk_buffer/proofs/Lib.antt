@@ -1,5 +1,7 @@
 pub mod Clear
 mod Neighbors
 mod Refusals
+mod Firsts
 mod Asked
 mod Types
+mod Judging

@@ -3,9 +3,9 @@ use Rattle.std.proofs.Common.{◌≡◌, ℕ, ◌/◌, ◌%◌, ◌^◌, ◌<◌
 use Rattle.std.proofs.Math.Nat.{pow-le-pow_right, div-eq_of_lt}
 use Rattle.vk_model.specs.Memory.Addresses.{bit}
 
--- a mask of 32 bits has none above
-pub no_bit_above : (types t : ℕ) → types < 2 ^ 32 → 32 ≤ t → (bit types t == 1) ≡ false
-no_bit_above types t fits above =
-    let more : 2 ^ 32 ≤ 2 ^ t = pow-le-pow_right (lit< tt) above in
-    let none : types / 2 ^ t ≡ 0 = div-eq_of_lt (omega arith) in
-    ap (λ (n : ℕ). n % 2 == 1) none
+-- a number below 2 ^ j has no bit from j on
+pub no_bit_above : (n j t : ℕ) → n < 2 ^ j → j ≤ t → (bit n t == 1) ≡ false
+no_bit_above n j t fits above =
+    let more : 2 ^ j ≤ 2 ^ t = pow-le-pow_right (lit< tt) above in
+    let none : n / 2 ^ t ≡ 0 = div-eq_of_lt (omega arith) in
+    ap (λ (i : ℕ). i % 2 == 1) none

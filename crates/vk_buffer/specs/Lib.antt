@@ -1,3 +1,4 @@
 pub mod BoundMemory
 pub mod Requirements
+pub mod Judging
 pub mod Inner

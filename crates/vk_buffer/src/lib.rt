@@ -19,9 +19,11 @@
 
 mod bindings;
 mod conflicts;
+mod laws;
 mod needs;
 
 pub use bindings::{BindError, Bindings, BoundResource};
+pub use laws::bindings_are_judged;
 pub use needs::requirements;
 
 #[cfg(test)]
