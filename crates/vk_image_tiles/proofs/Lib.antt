@@ -1,0 +1,5 @@
+pub mod Levels
+pub mod LevelBounds
+pub mod TexelPlaces
+pub mod RowPlaces
+pub mod RunLemmas
