@@ -1,6 +1,5 @@
 pub mod Forms
 pub mod Barriers
-pub mod Levels
 pub mod Fills
 pub mod Areas
 pub mod Reaching

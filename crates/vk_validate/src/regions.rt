@@ -5,7 +5,7 @@ ghost use Rattle.vk_model.specs.World.ByteWrites as bytes;
 ghost use Rattle.vk_model.specs.Rules.Ranges as ranges;
 ghost use Rattle.vk_validate.specs.Inner.RuleParts.{some_read_past, some_written_past};
 
-use crate::images::texel_size;
+use vk_image_tiles::texel_size;
 use vk_model::{BufferCopy, BufferImageCopy, Format, Length};
 
 /// Whether the last texel of a region ends past a buffer of a size. The gap after its last row counts

@@ -7,8 +7,8 @@ ghost use Rattle.vk_validate.specs.Inner.PointViews.{past};
 ghost use Rattle.vk_validate.specs.Inner.RuleParts.{ends_past_object, is_misplaced_at};
 
 use crate::history::History;
-use crate::images::{asks_more, image_align};
 use crate::rules::sizes::takes_more;
+use vk_image_tiles::{asks_more, image_align};
 use vk_model::{BufferInfo, Entry, ImageInfo, Place};
 use vk_order::{Action, Point};
 

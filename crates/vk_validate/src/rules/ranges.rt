@@ -13,9 +13,10 @@ ghost use Rattle.vk_validate.specs.Inner.RuleParts.{some_read_past, some_written
 
 use crate::history::History;
 use crate::images::{
-    has_bad_destination, has_bad_range, has_bad_region, has_bad_source, is_bad_range, texel_size,
+    has_bad_destination, has_bad_range, has_bad_region, has_bad_source, is_bad_range,
 };
 use crate::regions::{ends_past, has_destination_past, has_rows_past, has_short, has_source_past};
+use vk_image_tiles::texel_size;
 use vk_model::{
     BufferCopy, BufferImageCopy, Cmd, Element, Entry, Format, ImageCopy, ImageInfo, Length,
     SubresourceRange,

@@ -11,8 +11,8 @@ ghost use Rattle.vk_validate.specs.Inner.PointViews.{past};
 ghost use Rattle.vk_validate.specs.Inner.RuleParts.{is_over_half};
 
 use crate::history::History;
-use crate::images::{asks_more, has_bad_shape};
 use bitflags::Flags;
+use vk_image_tiles::{asks_more, has_bad_shape};
 use vk_model::{
     BufferCopy, BufferInfo, Cmd, Element, Entry, ImageElement, ImageInfo, Kind, Layout, Length,
     Place, PoolInfo, Usage,

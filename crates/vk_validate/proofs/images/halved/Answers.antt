@@ -1,5 +1,0 @@
-use Rattle.vk_validate.proofs.Points.Levels.{last_texel}
-use Rattle.vk_validate.proofs.images.halved.Goals as goal
-
-pub returns-else-level-lt32 : goal.returns-else-level-lt32
-returns-else-level-lt32 c = last_texel c.args.side c.args.level c.ranges.side.fits c.if-level-lt32.false
