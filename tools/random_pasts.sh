@@ -4,9 +4,9 @@
 #     tools/random_pasts.sh [COUNT] [SEED] [SECONDS]
 #
 # COUNT pasts are drawn (200 where nothing is said), the first from SEED (1), each next one from the
-# next number, and all must be compared within SECONDS (3600). The crate is copied, the files of
-# random_pasts/ are added to its tests, and these are run by `rt try`, so nothing is proved. A
-# difference stops the run, and is told with its seed.
+# next number, and all must be compared within SECONDS (3600). The crate is copied, and a crate is
+# made of the files of random_pasts/ with what the tests of the libraries have for points; its tests
+# are run by `rt try`, so nothing is proved. A difference stops the run, and is told with its seed.
 set -eu
 count=${1:-200} seed=${2:-1} seconds=${3:-3600}
 here=$(cd "$(dirname "$0")" && pwd)
@@ -14,16 +14,21 @@ room=$(mktemp -d)
 trap 'rm -rf "$room"' EXIT
 mkdir "$room/crates"
 grep -E '^vk_(model|order):' "$here/../crates.txt" >"$room/crates.txt"
+echo 'pasts: vk_model vk_order' >>"$room/crates.txt"
 for crate in vk_model vk_order; do
     mkdir "$room/crates/$crate"
     cp -r "$here/../crates/$crate/src" "$here/../crates/$crate/specs" "$room/crates/$crate"
 done
-tests=$room/crates/vk_order/src/tests
+tests=$room/crates/pasts/src
+mkdir -p "$tests/order"
+cp "$here/../crates/library_tests/src/order.rt" "$tests"
+cp "$here/../crates/library_tests/src/order/drawn.rt" "$tests/order"
 for file in "$here"/random_pasts/*.rt.in; do
-    cp "$file" "$tests/$(basename "$file" .in)"
+    cp "$file" "$tests/order/$(basename "$file" .in)"
 done
 sed -i "s/^const PASTS: u64 = .*/const PASTS: u64 = $count;/; s/^const SEED: u64 = .*/const SEED: u64 = $seed;/" \
-    "$tests/random_pasts.rt"
-sed -i 's/^mod first_path;/mod drawing;\n&\nmod links;\nmod random_pasts;\nmod slow;/' "$tests.rt"
-cd "$room/crates/vk_order"
+    "$tests/order/random_pasts.rt"
+sed -i '/^mod \(first_path\|frontiers\|seen\|waits\);/d; s/^mod drawn;/&\nmod drawing;\nmod links;\nmod random_pasts;\nmod slow;/; /^#\[tactic/d' "$tests/order.rt"
+printf '%s\n' '#![tactic(auto)]' '#[cfg(test)]' 'mod order;' >"$tests/lib.rt"
+cd "$room/crates/pasts"
 rt try --test --seconds "$seconds"

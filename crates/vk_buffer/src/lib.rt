@@ -25,6 +25,3 @@ mod needs;
 pub use bindings::{BindError, Bindings, BoundResource};
 pub use laws::bindings_are_judged;
 pub use needs::requirements;
-
-#[cfg(test)]
-mod tests;

@@ -5,8 +5,6 @@
 mod applied;
 mod device;
 mod replaying;
-#[cfg(test)]
-mod tests;
 
 pub use applied::ApplyError;
 pub use device::Device;

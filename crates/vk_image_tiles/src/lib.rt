@@ -27,6 +27,3 @@ pub use sizes::{
     asks_more, has_bad_shape, image_align, level_height, level_size, level_width, row_pitch,
     texel_size,
 };
-
-#[cfg(test)]
-mod tests;

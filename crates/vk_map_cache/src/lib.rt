@@ -27,6 +27,3 @@ mod object;
 mod span;
 
 pub use host::HostCache;
-
-#[cfg(test)]
-mod tests;

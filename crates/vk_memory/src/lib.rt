@@ -4,6 +4,3 @@
 mod memories;
 
 pub use memories::{MapState, Memories, MemoryError};
-
-#[cfg(test)]
-mod tests;

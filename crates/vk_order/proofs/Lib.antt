@@ -3,7 +3,6 @@ mod LinePrefixes
 mod NodeEdges
 mod ByEdges
 pub mod ElementPlaces
-mod DrawnPlaces
 mod Visibility
 pub mod LastWriter
 mod ActLemmas

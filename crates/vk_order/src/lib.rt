@@ -22,8 +22,6 @@ mod rows;
 mod seen;
 mod sights;
 mod tallies;
-#[cfg(test)]
-mod tests;
 mod writes;
 
 pub use access::Access;

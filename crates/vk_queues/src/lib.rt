@@ -8,8 +8,6 @@ mod orders;
 mod pushing;
 mod submitted;
 mod tallies;
-#[cfg(test)]
-mod tests;
 mod waiting;
 
 pub use laws::{commands_are_apart, points_are_new};

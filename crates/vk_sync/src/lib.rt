@@ -23,8 +23,6 @@ mod flags;
 mod left;
 mod line;
 mod ready;
-#[cfg(test)]
-mod tests;
 mod tree;
 
 pub use board::Command;

@@ -17,5 +17,3 @@ pub use reading::read_trace;
 pub use running::{Answer, Status, answer_of, run};
 pub use watched::Watched;
 
-#[cfg(test)]
-mod tests;

@@ -1,4 +1,4 @@
-use crate::HostCache;
+use vk_map_cache::HostCache;
 use std::test::Fail;
 use vk_heap::Region;
 

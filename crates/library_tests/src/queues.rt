@@ -1,4 +1,4 @@
-use crate::{Waiting, points_after, reference_order};
+use vk_queues::{Waiting, points_after, reference_order};
 use std::alloc::{AllocError, Global};
 use std::test::Fail;
 use vk_model::{Batch, Entry, SemaphoreSubmit, Sequence, Stages};

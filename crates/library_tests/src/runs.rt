@@ -1,4 +1,3 @@
-use crate::{Outcome, RunError, Status, Watched, run, text};
 use itoa::Buffer;
 use std::alloc::Global;
 use std::io;
@@ -6,10 +5,13 @@ use std::io::{ErrorKind, Read, Write};
 use std::process::Abort;
 use std::test::Fail;
 use vk_model::{At, Config, First, Last, Rule, Scheduler, Seeded};
+use vk_trace::{Outcome, RunError, Status, Watched, run, text};
 
 mod table;
 
-use table::{Ending, FILL_AND_READ, NO_MEMORY, NO_TRACE, NO_TRACES, REFUSED, REPLAYED, TRACES};
+use table::{
+    Ending, FILL_AND_READ, NO_MEMORY, NO_TRACE, NO_TRACES, REFUSED, REPLAYED, TRACES, TWO_FILLS,
+};
 
 /// Heaps of 4 MiB.
 fn config() -> Config {
@@ -124,6 +126,37 @@ fn orders(rt: HostRuntime) {
             expect_in_order(&rt, alloc, input.as_bytes(), output, ending, order);
         }
     }
+}
+
+/// Picks the first, and keeps how often it was asked.
+#[derive(Drop)]
+struct Counting {
+    asked: u64,
+}
+
+impl Scheduler for Counting {
+    ghost use Rattle.std.specs.Prelude.{[]};
+
+    ghost held = { λ _. [] };
+
+    ghost answer = { λ _ _. 0 };
+
+    ghost next = { λ _ _. [] };
+
+    fn pick(&mut self, _options: u64) -> u64 {
+        self.asked = self.asked.saturating_add(1);
+        0
+    }
+}
+
+/// The scheduler that is handed in is asked where two fills may run and the wait for them may not go,
+/// and at no other entry.
+#[test]
+fn the_scheduler_is_asked_once(rt: HostRuntime) {
+    let mut sched = Counting { asked: 0 };
+    let (ending, _) = run_picked(rt.alloc(), TWO_FILLS.as_bytes(), &mut sched);
+    assert_eq!(rt; ending, REPLAYED);
+    assert_eq!(rt; sched.asked, 1);
 }
 
 /// Gives its bytes, 16 at most in each read, and an error after some reads.

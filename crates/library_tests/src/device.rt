@@ -1,4 +1,8 @@
-use crate::{Piece, replay};
+ghost use Rattle.std.specs.Prelude.{List};
+ghost use Rattle.vk_model.specs.declared.entry.Entry.{Entry as AnyEntry};
+ghost use Rattle.vk_model.specs.Run.Runs.{Step, Stage};
+ghost use Rattle.vk_device.specs.Led.{Led, IsSoundTrace};
+
 use std::alloc::{AllocError, Global};
 use std::process::Abort;
 use std::test::Fail;
@@ -6,6 +10,7 @@ use vk_model::{
     Accesses, Batch, BufferInfo, Cmd, Config, Dependency, Element, Entry, Last, Length, Place,
     Scheduler, SemaphoreSubmit, SemaphoreValue, Sequence, Sharing, Stages, Usage,
 };
+use vk_device::{Device, Piece, replay};
 use vk_validate::{Verdict, validate};
 
 /// Picks the first, and keeps how often it was asked, and among how many options the last time.
@@ -194,5 +199,39 @@ fn what_is_submitted_may_run(rt: HostRuntime) -> Result<(), Fail> {
         },
     ];
     expect_asked(&rt, alloc, front, &mut Last, fills.as_slice())?;
+    Ok(())
+}
+
+/// Runs the piece at a place among those that may run next, and answers those that may run then.
+fn stepped(device: &mut Device<'_>, place: usize) -> Result<Vec<Piece>, Fail>
+    requires { (t : List AnyEntry) × (steps : List Step) × (s : Stage) × Led t steps s device.old × IsSoundTrace t }
+{
+    let offered = device.offered()?;
+    let piece = offered.as_slice().get(place).ok_or("fewer may run")?;
+    device.step(*piece).map_err(|_| "the device has failed")?;
+    let left = device.offered()?;
+    Ok(left)
+}
+
+/// A step runs its piece and no other.
+#[test]
+fn a_step_leaves_the_other_piece(rt: HostRuntime) -> Result<(), Fail> {
+    let alloc = rt.alloc();
+    let entries = trace(alloc)?;
+    let (front, _) = entries.as_slice().split_at_checked(3).ok_or("too few")?;
+    let config = Config::new(65_536, 65_536).ok_or("no such heaps")?;
+    match validate(alloc, front)? {
+        Verdict::Refused(..) => assert!(rt; false),
+        Verdict::Accepted(accepted) => {
+            let _entries = accepted.entries();
+            let mut replayed = replay(alloc, &accepted, config, &mut Last)?;
+            let left = stepped(&mut replayed.device, 1)?;
+            let first = Piece {
+                command: 0,
+                index: 0,
+            };
+            assert_eq!(rt; left.as_slice(), [first].as_slice());
+        }
+    }
     Ok(())
 }

@@ -1,4 +1,4 @@
-use crate::{Row, Run, Shape, level_height, level_size, level_width, row_pitch, texel_size};
+use vk_image_tiles::{Row, Run, Shape, level_height, level_size, level_width, row_pitch, texel_size};
 use std::test::Fail;
 use vk_model::{Format, ImageInfo, Kind, Need, Place, Rule, Sharing, SubresourceLayout, Usage};
 

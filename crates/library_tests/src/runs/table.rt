@@ -1,4 +1,4 @@
-use crate::{RunError, Status};
+use vk_trace::{RunError, Status};
 
 /// How a run ends.
 pub type Ending = Result<Status, RunError>;
@@ -16,6 +16,10 @@ pub const NO_MEMORY: Ending = Err(RunError::NoMemory);
 /// A buffer is filled, and read by the host after a barrier and a wait.
 pub const FILL_AND_READ: &str =
     r#"[["buffer",1,16,3,"exclusive",["dedicated",1]],["semaphore",2,0],["submit",0,[[[],[["fill",1,0,16,67305985],["barrier",[[4096,4096,16384,8192]],[],[]]],[[2,1,65536]]]]],["wait",[[2,1]]],["map",1],["read",1,0,4]]"#;
+
+/// Two fills side by side, which are waited for and read.
+pub const TWO_FILLS: &str =
+    r#"[["buffer",1,16,3,"exclusive",["dedicated",1]],["semaphore",2,0],["submit",0,[[[],[["fill",1,0,8,67305985],["fill",1,8,8,134678021],["barrier",[[4096,4096,16384,8192]],[],[]]],[[2,1,65536]]]]],["wait",[[2,1]]],["map",1],["read",1,4,8]]"#;
 
 /// Traces, with what is written for them and how the run ends.
 pub const TRACES: [(&str, &str, Ending); 38] = [
@@ -41,7 +45,7 @@ pub const TRACES: [(&str, &str, Ending); 38] = [
         REFUSED,
     ),
     (
-        r#"[["buffer",1,16,3,"exclusive",["dedicated",1]],["semaphore",2,0],["submit",0,[[[],[["fill",1,0,8,67305985],["fill",1,8,8,134678021],["barrier",[[4096,4096,16384,8192]],[],[]]],[[2,1,65536]]]]],["wait",[[2,1]]],["map",1],["read",1,4,8]]"#,
+        TWO_FILLS,
         "5 0102030405060708\n",
         REPLAYED,
     ),

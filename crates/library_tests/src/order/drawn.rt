@@ -5,8 +5,8 @@ ghost use Rattle.vk_model.specs.declared.command.Cmd.{Cmd as AnyCmd};
 ghost use Rattle.vk_model.specs.Trace.Point.{Run};
 ghost use Rattle.vk_order.specs.PointViews.{action_of};
 
-use crate::{Action, Point};
 use vk_model::{Cmd, Entry, SemaphoreSubmit};
+use vk_order::{Action, Point};
 
 /// What happens at a point.
 #[derive(Drop)]

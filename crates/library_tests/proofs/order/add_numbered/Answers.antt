@@ -3,8 +3,8 @@ use Rattle.std.specs.Prelude.{List}
 use Rattle.std.proofs.lemmas.Result.{on_ok_weaker}
 use Rattle.vk_model.specs.Sync.Node.{Node}
 use Rattle.vk_order.specs.PointViews.{point_of}
-use Rattle.vk_order.proofs.DrawnPlaces.{AreBelow, stays_below}
-use Rattle.vk_order.proofs.tests.add_numbered.Goals as goal
+use Rattle.library_tests.proofs.DrawnPlaces.{AreBelow, stays_below}
+use Rattle.library_tests.proofs.order.add_numbered.Goals as goal
 
 pub returns : goal.returns
 returns c = on_ok_weaker c.add.result

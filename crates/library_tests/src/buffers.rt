@@ -1,4 +1,4 @@
-use crate::{BindError, Bindings, requirements};
+use vk_buffer::{BindError, Bindings, requirements};
 use std::test::Fail;
 use vk_model::{Kind, Need, Rule, Usage};
 

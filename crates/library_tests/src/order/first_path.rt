@@ -2,13 +2,13 @@
 
 use super::drawn::{Drawn, Happening};
 use super::points_of;
-use crate::{Access, Byte, ByteAccess};
 use std::alloc::{AllocError, Global};
 use std::test::Fail;
 use vk_model::{
     Accesses, BufferInfo, Cmd, Dependency, Element, Entry, Length, Place, SemaphoreSubmit,
     SemaphoreValue, Sequence, Sharing, Stages, Usage,
 };
+use vk_order::{Access, Byte, ByteAccess};
 
 fn buffer() -> Entry {
     let info = BufferInfo {

@@ -1,4 +1,4 @@
-use crate::{Memories, MemoryError};
+use vk_memory::{Memories, MemoryError};
 use std::test::Fail;
 use vk_heap::{Budget, Region};
 use vk_model::Config;

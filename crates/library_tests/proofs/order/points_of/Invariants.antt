@@ -2,7 +2,7 @@ use Rattle.std.proofs.Common.{◌≡◌, ℕ, ◌+◌, ◌-◌, ◌*◌, ◌<◌
 use Rattle.std.specs.Prelude.{Contains}
 use Rattle.vk_model.specs.Sync.Node.{Node}
 use Rattle.vk_model.specs.Sync.Edge.{is_element}
-use Rattle.vk_order.proofs.tests.points_of.Given as goal
+use Rattle.library_tests.proofs.order.points_of.Given as goal
 
 abbrev pub invariant-loop-number : goal.invariant-loop-number
 invariant-loop-number l = (m : Node) → Contains l.points m → IsTrue (is_element m.act) → m.point.place + 8 * m.point.batch < l.number

@@ -1,3 +1,5 @@
+//! The order of points that are added one after another.
+
 ghost use Rattle.std.specs.Prelude.{◌≡◌, ◌<◌, ◌+◌, ◌*◌, IsTrue, Contains, OnOk};
 ghost use Rattle.vk_model.specs.declared.command.Cmd.{Cmd as AnyCmd};
 ghost use Rattle.vk_model.specs.Sync.Node.{Node};
@@ -5,11 +7,14 @@ ghost use Rattle.vk_model.specs.Sync.Edge.{is_element};
 ghost use Rattle.vk_model.specs.Trace.Point.{Run};
 ghost use Rattle.vk_order.specs.PointViews.{action_of};
 
-use crate::{Point, Points};
 use std::alloc::{AllocError, Global};
+use vk_order::{Point, Points};
 
 mod drawn;
 mod first_path;
+mod frontiers;
+mod seen;
+mod waits;
 
 use drawn::{Drawn, point_of};
 
