@@ -66,11 +66,12 @@ impl<'a> Offers<'a> {
         growth_keeps();
         before_is_order();
         commands_follow();
-        let sight = self.frontier.sight(point, &Act::Runs(command))?;
+        let act = Act::Runs(command);
+        let sight = self.frontier.sight(point, &act)?;
         self.commands.push(command)?;
         self.ready
             .add(point.queue, commands_before(&sight), pieces)?;
-        self.frontier.advance(point)
+        self.frontier.add_seen(point, &act, sight)
     }
 
     /// How many pieces may run next.

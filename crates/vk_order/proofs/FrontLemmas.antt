@@ -8,7 +8,7 @@ use Rattle.vk_model.specs.Sync.Before.{IsNumbered}
 use Rattle.vk_order.specs.declared.lines.Line.{Line}
 use Rattle.vk_order.specs.declared.fronts.Front.{Front}
 use Rattle.vk_order.specs.Inner.Clocks.{IsWhole, joined, extended}
-use Rattle.vk_order.specs.Inner.Kept.{clock_at, IsKeptJoin}
+use Rattle.vk_order.specs.Inner.Kept.{clock_at, IsKeptJoin, IsLonger}
 use Rattle.vk_order.specs.Inner.Rows.{Knowledge, Available, Visible, OnHost, IsKeptRow, AreJoined}
 use Rattle.vk_order.specs.Inner.Fronts.{row_in, IsFront, IsNamed, IsOwnFront}
 use Rattle.vk_order.proofs.Arrange.{or-false}
@@ -114,3 +114,18 @@ module _ (ns : List Node) (ls : List Line) (test : Node → Bool) (n : Node) (nu
 pub named_same : (ns : List Node) (ls : List Line) (f h : Node → Bool) (o : Option Front) → ((k : Node) → Contains ns k → f k ≡ h k) → IsNamed ns ls f o → IsNamed ns ls h o
 named_same ns ls f h None same none = λ k c. sym (same k c) ∙ none k c
 named_same ns ls f h (Some x) same is = front_same ns ls f h x same is
+
+-- ---- more lines
+
+-- what a front says it says over more lines too
+pub front_longer : (ns : List Node) (ls more : List Line) → IsLonger ls more → (test : Node → Bool) (x : Front) → IsFront ns ls test x → IsFront ns more test x
+front_longer ns ls more longer test x is = record {
+  clock = record {
+    join = join_as ns test (clock_at ls x.clock.items) (clock_at more x.clock.items) (longer.same x.clock.items is.clock.short) is.clock.join;
+    short = let a = is.clock.short in let b = longer.long in omega arith;
+  };
+  rows = λ g. record {
+    join = rows_as g ns test (clock_at ls (row_in g x)) (clock_at more (row_in g x)) (longer.same (row_in g x) (is.rows g).short) (is.rows g).join;
+    short = let a = (is.rows g).short in let b = longer.long in omega arith;
+  };
+}

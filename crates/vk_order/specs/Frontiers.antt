@@ -21,3 +21,7 @@ pub record IsSight (ns : List Node) (n : Node) (s : Sight) : Type 0 where
   pub numbers : IsNumbered (n ∷ ns)
   pub front : IsFront ns s.lines.items (λ k. edge ns k n) s.front
   pub is_host : s.is_host ≡ is_host n.act
+
+-- A sight knows the lines that a frontier has.
+abbrev pub IsFrom : Frontier → Sight → Type 0
+IsFrom f s = s.lines.items ≡ lines_of f.tallies.items

@@ -44,8 +44,9 @@ fn stamps_of(
     let mut more = Vec::new(alloc);
     for (index, row) in rows.iter().enumerate() {
         let place = frontier.count(Line::of(row.point.queue, &row.act));
-        let front = &fronts[index];
-        let clock = Vec::from_slice(alloc, front.clock.as_slice())?;
+        let known = &fronts[index];
+        let clock = Vec::from_slice(alloc, known.clock.as_slice())?;
+        let front = known.copied(alloc)?;
         frontier.add(row, front)?;
         more.push(Stamp { place, clock })?;
     }

@@ -22,59 +22,51 @@ pub fn count_at(clock: &[usize], index: usize) -> usize
     }
 }
 
-/// The clock of what comes after both. The first is changed in its place, so that it is copied only
-/// where it grows.
-pub fn joined_to(
+/// Makes a clock that of what comes after another one's nodes too.
+pub fn join_in(
     alloc: Global,
-    first: Vec<usize>,
-    second: &[usize],
-) -> Result<Vec<usize>, AllocError>
-    ensures counts { IfOk result (λ both. (i : ℕ) → slice_index_or both.items i 0 ≡ max (slice_index_or first.items i 0) (slice_index_or second.now i 0)) }
-    ensures len { IfOk result (λ both. vec_len both ≡ max (vec_len first) (length second.now)) }
+    clock: &mut Vec<usize>,
+    other: &[usize],
+) -> Result<(), AllocError>
+    ensures counts { OnOk result ((i : ℕ) → slice_index_or clock.new.items i 0 ≡ max (slice_index_or clock.old.items i 0) (slice_index_or other.now i 0)) }
+    ensures len { OnOk result (vec_len clock.new ≡ max (vec_len clock.old) (length other.now)) }
 {
-    if first.is_empty() {
-        return Vec::from_slice(alloc, second);
+    if other.is_empty() {
+        return Ok(());
     }
-    let mut both = first;
-    for (index, count) in second.iter().enumerate() {
-        if index < both.len() {
-            both[index] = both[index].max(*count);
+    if clock.is_empty() {
+        *clock = Vec::from_slice(alloc, other)?;
+        return Ok(());
+    }
+    for (index, count) in other.iter().enumerate() {
+        if index < clock.len() {
+            clock[index] = clock[index].max(*count);
         } else {
-            both.push(*count)?;
+            clock.push(*count)?;
         }
     }
-    Ok(both)
+    Ok(())
 }
 
-/// The clock of what comes after both.
-pub fn joined(alloc: Global, first: &[usize], second: &[usize]) -> Result<Vec<usize>, AllocError>
-    ensures counts { IfOk result (λ both. (i : ℕ) → slice_index_or both.items i 0 ≡ max (slice_index_or first.now i 0) (slice_index_or second.now i 0)) }
-    ensures len { IfOk result (λ both. vec_len both ≡ max (length first.now) (length second.now)) }
-{
-    let copy = Vec::from_slice(alloc, first)?;
-    let both = joined_to(alloc, copy, second)?;
-    Ok(both)
-}
-
-/// A clock with another count at an index.
-pub fn with_count(
-    alloc: Global,
-    clock: &[usize],
-    at: usize,
-    count: usize,
-) -> Result<Vec<usize>, AllocError>
+/// A clock with another count at an index, up to which it grows. It is changed in its place.
+pub fn with_count(clock: Vec<usize>, at: usize, count: usize) -> Result<Vec<usize>, AllocError>
     requires { at < 2 ^ 63 }
-    ensures counts { IfOk result (λ new. (i : ℕ) → slice_index_or new.items i 0 ≡ (if i == at then count else slice_index_or clock.now i 0)) }
-    ensures len { IfOk result (λ new. vec_len new ≡ max (length clock.now) (at + 1)) }
+    ensures counts { IfOk result (λ new. (i : ℕ) → slice_index_or new.items i 0 ≡ (if i == at then count else slice_index_or clock.items i 0)) }
+    ensures len { IfOk result (λ new. vec_len new ≡ max (vec_len clock) (at + 1)) }
 {
-    let length = clock.len().max(at + 1);
-    let mut new = Vec::with_capacity(alloc, length)?;
-    for index in 0..length {
-        new.push(if index == at {
-            count
-        } else {
-            count_at(clock, index)
-        })?;
+    let mut new = lengthened(clock, at + 1)?;
+    new[at] = count;
+    Ok(new)
+}
+
+/// A clock of this length at least, with zeros at its end.
+fn lengthened(clock: Vec<usize>, length: usize) -> Result<Vec<usize>, AllocError>
+    ensures counts { IfOk result (λ new. (i : ℕ) → slice_index_or new.items i 0 ≡ slice_index_or clock.items i 0) }
+    ensures len { IfOk result (λ new. vec_len new ≡ max (vec_len clock) length) }
+{
+    let mut new = clock;
+    for _missing in new.len()..length {
+        new.push(0)?;
     }
     Ok(new)
 }

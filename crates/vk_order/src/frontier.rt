@@ -1,6 +1,6 @@
-ghost use Rattle.std.specs.Prelude.{◌≡◌, ◌∷◌, ◌||◌, ◌<◌, [], ℕ, Bool, List, IfOk, OnOk, IsTrue, is_some, Contains, Some, length, slice_get};
+ghost use Rattle.std.specs.Prelude.{◌≡◌, ◌∷◌, ◌||◌, ◌<◌, [], ℕ, Bool, List, false, IfOk, OnOk, IsTrue, is_some, Contains, Some, length, slice_get};
 ghost use Rattle.vk_model.specs.Sync.Node.{Node, acts, with_acts};
-ghost use Rattle.vk_model.specs.Sync.Edge.{edge};
+ghost use Rattle.vk_model.specs.Sync.Edge.{edge, is_element};
 ghost use Rattle.vk_order.specs.declared.lines.Line.{Line as AnyLine};
 ghost use Rattle.vk_order.specs.PointViews.{action_of, act_of, point_of, node_of, nodes_after};
 ghost use Rattle.vk_order.specs.Lines.{class_of, class_on};
@@ -13,13 +13,13 @@ ghost use Rattle.vk_order.specs.Inner.Places.{index_in};
 ghost use Rattle.vk_order.specs.Inner.Fronts.{IsFront};
 ghost use Rattle.vk_order.specs.Inner.Kept.{IsLonger};
 ghost use Rattle.vk_order.specs.Inner.Tallies.{lines_of, CanFollow, AreOnLines, AreFronts};
-ghost use Rattle.vk_order.specs.Frontiers.{IsFrontier, IsSight};
+ghost use Rattle.vk_order.specs.Frontiers.{IsFrontier, IsSight, IsFrom};
 
 use crate::acts::Row;
 use crate::fronts::Front;
 use crate::lines::Line;
 use crate::names::Names;
-use crate::point::{Act, Point};
+use crate::point::{Act, Point, single_act};
 use crate::rows::rows_of;
 use crate::sights::Sight;
 use crate::tallies::{LineTally, join_of, line_index, lines_copied, list_line, own_of, tally};
@@ -61,7 +61,8 @@ impl Frontier {
 
     /// What a node that comes next, with this act, has before it and sees.
     pub fn sight(&self, point: &Point<'_>, act: &Act<'_>) -> Result<Sight, AllocError>
-        ensures { IfOk result (λ s. (ns : List Node) (n : Node) → IsFrontier self.now ns → n ≡ record { number = length ns; point = point_of point.now; act = act_of act.now } → IsApartFrom ns n → IsSight ns n s) }
+        ensures from_here { IfOk result (λ s. IsFrom self.now s) }
+        ensures sight { IfOk result (λ s. (ns : List Node) (n : Node) → IsFrontier self.now ns → n ≡ record { number = length ns; point = point_of point.now; act = act_of act.now } → IsApartFrom ns n → IsSight ns n s) }
     {
         let row = Row {
             point: *point,
@@ -93,6 +94,42 @@ impl Frontier {
     /// Adds the nodes of a point that comes next. The only error is want of memory, or of numbers
     /// for nodes; what comes after it isn't said then.
     pub fn advance(&mut self, point: &Point<'_>) -> Result<(), AllocError>
+        ensures { OnOk result ((ns : List Node) → IsNew (point_of point.now) ns → IsFrontier self.old ns → IsFrontier self.new (with_acts (point_of point.now) (acts (action_of point.now.action)) ns)) }
+    {
+        match single_act(point.action) {
+            Some(act) => self.add_single(&Row { point: *point, act }),
+            None => self.add_point(point),
+        }
+    }
+
+    /// Adds the node of a point that comes next, which has this act alone, by its sight. The errors
+    /// are those of `advance`.
+    pub fn add_seen(&mut self, point: &Point<'_>, act: &Act<'_>, sight: Sight) -> Result<(), AllocError>
+        requires { IsFrom self.old sight }
+        ensures { OnOk result ((ns : List Node) (n : Node) → IsFrontier self.old ns → n ≡ record { number = length ns; point = point_of point.now; act = act_of act.now } → IsSight ns n sight → IsFrontier self.new (n ∷ ns)) }
+    {
+        let row = Row {
+            point: *point,
+            act: *act,
+        };
+        self.list_line(Line::of(point.queue, act))?;
+        self.add(&row, sight.into_front())?;
+        Ok(())
+    }
+
+    /// Adds a row that comes next and is no element.
+    fn add_single(&mut self, row: &Row<'_>) -> Result<(), AllocError>
+        requires { is_element (act_of row.now.act) ≡ false }
+        ensures { OnOk result ((ns : List Node) → IsFrontier self.old ns → IsFrontier self.new (node_of (length ns) row.now ∷ ns)) }
+    {
+        self.list_line(Line::of(row.point.queue, &row.act))?;
+        let front = self.front_of(row)?;
+        self.add(row, front)?;
+        Ok(())
+    }
+
+    /// Adds the nodes of a point that comes next.
+    fn add_point(&mut self, point: &Point<'_>) -> Result<(), AllocError>
         ensures { OnOk result ((ns : List Node) → IsNew (point_of point.now) ns → IsFrontier self.old ns → IsFrontier self.new (with_acts (point_of point.now) (acts (action_of point.now.action)) ns)) }
     {
         let rows = rows_of(self.alloc, *point)?;
@@ -144,16 +181,17 @@ impl Frontier {
         ensures { OnOk result ((ns : List Node) → CanFollow ns rows.now → AreFronts ns (lines_of self.old.tallies.items) rows.now fronts.now → IsFrontier self.old ns → IsFrontier self.new (nodes_after ns rows.now)) }
     {
         for (index, row) in rows.iter().enumerate() {
-            self.add(row, &fronts[index])?;
+            let front = fronts[index].copied(self.alloc)?;
+            self.add(row, front)?;
         }
         Ok(())
     }
 
     /// Adds a row that comes next, with what it comes after.
-    pub(crate) fn add(&mut self, row: &Row<'_>, front: &Front) -> Result<(), AllocError>
+    pub(crate) fn add(&mut self, row: &Row<'_>, front: Front) -> Result<(), AllocError>
         requires { IsTrue (is_some (index_in (lines_of self.old.tallies.items) (class_on row.now.point.queue (act_of row.now.act)))) }
         ensures lines { OnOk result (lines_of self.new.tallies.items ≡ lines_of self.old.tallies.items) }
-        ensures kept { OnOk result ((ns : List Node) (n : Node) → n ≡ node_of (length ns) row.now → IsFront ns (lines_of self.old.tallies.items) (λ k. edge ns k n) front.now → IsFrontier self.old ns → IsFrontier self.new (n ∷ ns)) }
+        ensures kept { OnOk result ((ns : List Node) (n : Node) → n ≡ node_of (length ns) row.now → IsFront ns (lines_of self.old.tallies.items) (λ k. edge ns k n) front → IsFrontier self.old ns → IsFrontier self.new (n ∷ ns)) }
     {
         let Some(nodes) = self.nodes.checked_add(1) else {
             return Err(AllocError);

@@ -6,7 +6,7 @@ ghost use Rattle.vk_order.specs.declared.lines.Line.{Line as AnyLine};
 ghost use Rattle.vk_order.specs.Inner.Clocks.{IsWhole};
 ghost use Rattle.vk_order.specs.Inner.Fronts.{IsFront, IsNamed, IsOwnFront};
 
-use crate::clocks::joined_to;
+use crate::clocks::join_in;
 use std::alloc::{AllocError, Global};
 
 /// What comes after some nodes: how many nodes of each line are before it, and how many commands of
@@ -49,22 +49,14 @@ impl Front {
         ensures grown { IfOk result (λ both. (ns : List Node) (ls : List AnyLine) (test : Node → Bool) (n : Node) → IsNumbered (n ∷ ns) → test n ≡ true → IsWhole (n ∷ ns) test → IsFront ns ls test self → IsOwnFront ns ls n other.now → IsFront (n ∷ ns) ls test both) }
         ensures grows { IfOk result (λ both. (ns : List Node) (ls : List AnyLine) (test : Node → Bool) (n : Node) → IsNumbered (n ∷ ns) → test n ≡ true → IsWhole (n ∷ ns) test → IsOwnFront ns ls n self → IsFront ns ls test other.now → IsFront (n ∷ ns) ls test both) }
     {
-        let Front {
-            clock,
-            available,
-            reads,
-            writes,
-            host_reads,
-            host_writes,
-        } = self;
-        Ok(Front {
-            clock: joined_to(alloc, clock, other.clock.as_slice())?,
-            available: joined_to(alloc, available, other.available.as_slice())?,
-            reads: joined_to(alloc, reads, other.reads.as_slice())?,
-            writes: joined_to(alloc, writes, other.writes.as_slice())?,
-            host_reads: joined_to(alloc, host_reads, other.host_reads.as_slice())?,
-            host_writes: joined_to(alloc, host_writes, other.host_writes.as_slice())?,
-        })
+        let mut both = self;
+        join_in(alloc, &mut both.clock, other.clock.as_slice())?;
+        join_in(alloc, &mut both.available, other.available.as_slice())?;
+        join_in(alloc, &mut both.reads, other.reads.as_slice())?;
+        join_in(alloc, &mut both.writes, other.writes.as_slice())?;
+        join_in(alloc, &mut both.host_reads, other.host_reads.as_slice())?;
+        join_in(alloc, &mut both.host_writes, other.host_writes.as_slice())?;
+        Ok(both)
     }
 
     /// The same front once more.

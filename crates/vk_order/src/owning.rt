@@ -13,35 +13,42 @@ ghost use Rattle.vk_order.specs.Inner.Tallies.{lines_of, IsTallied, IsComing};
 
 use crate::access::Access;
 use crate::acts::Row;
-use crate::clocks::{joined, with_count};
+use crate::clocks::{join_in, with_count};
 use crate::fronts::Front;
 use crate::lines::Line;
 use crate::tallies::{LineTally, line_index};
 use std::alloc::{AllocError, Global};
 
-/// What comes after a row that comes next, of which this is before.
+/// What comes after a row that comes next, of which this is before. It is changed in its place.
 pub fn own_front(
     alloc: Global,
     tallies: &[LineTally],
     row: &Row<'_>,
     line: Line,
     at: usize,
-    front: &Front,
+    front: Front,
 ) -> Result<Front, AllocError>
     requires within { at < length tallies.now }
     requires few { at < 2 ^ 63 }
     ensures { line ≡ class_on row.now.point.queue (act_of row.now.act) → index_in (lines_of tallies.now) line ≡ Some at
-        → IfOk result (λ own. (ns : List Node) (n : Node) → IsComing ns (lines_of tallies.now) n row.now front.now → IsTallied ns tallies.now → IsOwnFront ns (lines_of tallies.now) n own) }
+        → IfOk result (λ own. (ns : List Node) (n : Node) → IsComing ns (lines_of tallies.now) n row.now front → IsTallied ns tallies.now → IsOwnFront ns (lines_of tallies.now) n own) }
 {
-    let clock = own_clock(alloc, front.clock.as_slice(), line, at, tallies[at].count)?;
-    let available = own_available(alloc, tallies, row, front.available.as_slice())?;
+    let Front {
+        clock,
+        available,
+        host_reads,
+        host_writes,
+        ..
+    } = front;
+    let clock = own_clock(clock, line, at, tallies[at].count)?;
+    let available = own_available(tallies, row, available)?;
     let known = available.as_slice();
     let reads = visible(alloc, row.act.receives(Access::Read), known)?;
     let writes = visible(alloc, row.act.receives(Access::Write), known)?;
     let read = row.act.receives_on_host(Access::Read);
-    let host_reads = on_host(alloc, read, front.host_reads.as_slice(), known)?;
+    let host_reads = on_host(alloc, read, host_reads, known)?;
     let write = row.act.receives_on_host(Access::Write);
-    let host_writes = on_host(alloc, write, front.host_writes.as_slice(), known)?;
+    let host_writes = on_host(alloc, write, host_writes, known)?;
     Ok(Front {
         clock,
         available,
@@ -55,40 +62,37 @@ pub fn own_front(
 /// The clock of what comes after a node of a line, from its own clock, the index of the line and
 /// how many nodes of the line came earlier: it counts the node too.
 fn own_clock(
-    alloc: Global,
-    clock: &[usize],
+    clock: Vec<usize>,
     line: Line,
     at: usize,
     count: usize,
 ) -> Result<Vec<usize>, AllocError>
     requires { at < 2 ^ 63 }
-    ensures { IfOk result (λ own. (ns : List Node) (ls : List AnyLine) (n : Node) → class_of n ≡ line → index_in ls line ≡ Some at → count ≡ place ns line n.number → count + 1 < 2 ^ 64 → length clock.now ≤ length ls → IsOwn ns ls n clock.now own.items) }
+    ensures { IfOk result (λ own. (ns : List Node) (ls : List AnyLine) (n : Node) → class_of n ≡ line → index_in ls line ≡ Some at → count ≡ place ns line n.number → count + 1 < 2 ^ 64 → length clock.items ≤ length ls → IsOwn ns ls n clock.items own.items) }
 {
     if line.is_of_sets() {
-        return Vec::from_slice(alloc, clock);
+        return Ok(clock);
     }
-    let own = with_count(alloc, clock, at, count.saturating_add(1))?;
+    let own = with_count(clock, at, count.saturating_add(1))?;
     Ok(own)
 }
 
 /// The row of what is available after a row that comes next.
 fn own_available(
-    alloc: Global,
     tallies: &[LineTally],
     row: &Row<'_>,
-    available: &[usize],
+    available: Vec<usize>,
 ) -> Result<Vec<usize>, AllocError>
-    ensures { IfOk result (λ own. (ns : List Node) → IsTallied ns tallies.now → length available.now ≤ length tallies.now
-        → IsOwnAvailable ns (lines_of tallies.now) row.now.point.queue (sends (act_of row.now.act)) available.now own.items) }
+    ensures { IfOk result (λ own. (ns : List Node) → IsTallied ns tallies.now → length available.items ≤ length tallies.now
+        → IsOwnAvailable ns (lines_of tallies.now) row.now.point.queue (sends (act_of row.now.act)) available.items own.items) }
 {
     if !row.act.sends() {
-        return Vec::from_slice(alloc, available);
+        return Ok(available);
     }
     let Some(at) = line_index(tallies, Line::Commands(row.point.queue)) else {
-        let own = Vec::from_slice(alloc, available)?;
-        return Ok(own);
+        return Ok(available);
     };
-    let own = with_count(alloc, available, at, tallies[at].count)?;
+    let own = with_count(available, at, tallies[at].count)?;
     Ok(own)
 }
 
@@ -107,15 +111,15 @@ fn visible(alloc: Global, receives: bool, available: &[usize]) -> Result<Vec<usi
 fn on_host(
     alloc: Global,
     receives: bool,
-    before: &[usize],
+    before: Vec<usize>,
     available: &[usize],
 ) -> Result<Vec<usize>, AllocError>
-    ensures yes { receives ≡ true → IfOk result (λ own. AreJoined before.now available.now own.items) }
-    ensures no { receives ≡ false → IfOk result (λ own. own.items ≡ before.now) }
+    ensures yes { receives ≡ true → IfOk result (λ own. AreJoined before.items available.now own.items) }
+    ensures no { receives ≡ false → IfOk result (λ own. own.items ≡ before.items) }
 {
+    let mut own = before;
     if receives {
-        joined(alloc, before, available)
-    } else {
-        Vec::from_slice(alloc, before)
+        join_in(alloc, &mut own, available)?;
     }
+    Ok(own)
 }

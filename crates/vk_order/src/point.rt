@@ -1,5 +1,6 @@
-ghost use Rattle.std.specs.Prelude.{◌≡◌, ◌∷◌, [], IfOk, map};
+ghost use Rattle.std.specs.Prelude.{◌≡◌, ◌∷◌, [], IfOk, IfSome, false, map};
 ghost use Rattle.vk_model.specs.Sync.Node.{acts, command_acts, event_acts, Depends, Barrier, SetOf, AwaitOf};
+ghost use Rattle.vk_model.specs.Sync.Edge.{is_element};
 ghost use Rattle.vk_order.specs.PointViews.{action_of, act_of};
 
 use std::alloc::{AllocError, Global};
@@ -50,6 +51,20 @@ pub enum Act<'a> {
     Set(u32, usize, &'a Dependency),
     /// The element of an await that has this index, of the event of this id.
     Await(u32, usize, &'a Dependency),
+}
+
+/// The act of what happens at a point where it has a single one, which is no element.
+pub fn single_act<'a>(action: Action<'a>) -> Option<Act<'a>>
+    ensures acts { IfSome result (λ a. acts (action_of action.entry) ≡ act_of a ∷ []) }
+    ensures apart { IfSome result (λ a. is_element (act_of a) ≡ false) }
+{
+    match action {
+        Action::Host(entry) => Some(Act::Hosts(entry)),
+        Action::Wait(wait) => Some(Act::Waits(wait)),
+        Action::Signal(signal) => Some(Act::Signals(signal)),
+        Action::Run(Cmd::Barrier { .. } | Cmd::Set { .. } | Cmd::Await { .. }) => None,
+        Action::Run(command) => Some(Act::Runs(command)),
+    }
 }
 
 /// The acts of a point, in order.

@@ -81,10 +81,10 @@ pub fn own_of(
     alloc: Global,
     tallies: &[LineTally],
     row: &Row<'_>,
-    front: &Front,
+    front: Front,
 ) -> Result<Front, AllocError>
     requires { IsTrue (is_some (index_in (lines_of tallies.now) (class_on row.now.point.queue (act_of row.now.act)))) }
-    ensures { IfOk result (λ own. (ns : List Node) (n : Node) → IsComing ns (lines_of tallies.now) n row.now front.now → IsTallied ns tallies.now → IsOwnFront ns (lines_of tallies.now) n own) }
+    ensures { IfOk result (λ own. (ns : List Node) (n : Node) → IsComing ns (lines_of tallies.now) n row.now front → IsTallied ns tallies.now → IsOwnFront ns (lines_of tallies.now) n own) }
 {
     let line = Line::of(row.point.queue, &row.act);
     let Some(at) = line_index(tallies, line) else {

@@ -63,7 +63,8 @@ loop-index-preserved c =
           let clock : s.clock.items ≡ f.clock.items = c.in_ok-clock.ensures.items ∙ c.as_slice.ensures.value in
           let one = stamped_one (old ++ take k rows) (stamps ++ c.loop-index.more.items) ls row s f before.0 known clock count (c.requires.listed k row at) in
           let next : IsFrontier c.add.new.self (node_of (length all) row ∷ all) =
-          c.in_ok-add.ensures.kept all (node_of (length all) row) refl (subst (λ (l : List Line). IsFront all l (λ m. edge all m (node_of (length all) row)) f) (sym c.loop-index.invariant.same) known) before.1 in
+          c.in_ok-add.ensures.kept all (node_of (length all) row) refl
+          (c.in_ok-front.ensures all (lines_of c.loop-index.frontier.tallies.items) (λ m. edge all m (node_of (length all) row)) (subst (λ (l : List Line). IsFront all l (λ m. edge all m (node_of (length all) row)) f) (sym c.loop-index.invariant.same) known)) before.1 in
           rw (longer, more) (one, subst (λ (l : List Node). IsFrontier c.add.new.self l) (sym (nodes_after-append [] (old ++ take k rows) (row ∷ []))) next);
     }
 

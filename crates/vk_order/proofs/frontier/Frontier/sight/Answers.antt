@@ -16,8 +16,8 @@ use Rattle.vk_order.proofs.LineTests.{edge_split}
 use Rattle.vk_order.proofs.FrontLemmas.{front_same}
 use Rattle.vk_order.proofs.frontier.Frontier.sight.Goals as goal
 
-pub returns : goal.returns
-returns c = λ ns n is node apart.
+pub returns-clause-sight : goal.returns-clause-sight
+returns-clause-sight c = λ ns n is node apart.
     let row : Row = record { point = c.args.point.now; act = c.args.act.now } in
     let numbers : IsNumbered (n ∷ ns) = (ap (λ (m : Node). m.number) node, is.numbers) in
     let lines : c.in_ok-lines.lines.items ≡ lines_of c.args.self.now.tallies.items = c.in_ok-lines.ensures in

@@ -3,10 +3,10 @@ use Rattle.vk_order.specs.declared.fronts.Front.{Front}
 use Rattle.vk_order.proofs.FrontLemmas.{AreJoinedFronts, fronts_joined, fronts_both, fronts_turned, front_grows}
 use Rattle.vk_order.proofs.fronts.Front.joined.Goals as goal
 
-abbrev result_of : (c : goal.In_ok-joined_to-6) → Front
-result_of c = record { clock = c.in_ok-joined_to.field-0; available = c.in_ok-joined_to-2.field-0; reads = c.in_ok-joined_to-3.field-0; writes = c.in_ok-joined_to-4.field-0; host_reads = c.in_ok-joined_to-5.field-0; host_writes = c.in_ok-joined_to-6.field-0 }
+abbrev result_of : (c : goal.In_ok-join_in-6) → Front
+result_of c = record { clock = c.join_in.new.clock; available = c.join_in-2.new.clock; reads = c.join_in-3.new.clock; writes = c.join_in-4.new.clock; host_reads = c.join_in-5.new.clock; host_writes = c.join_in-6.new.clock }
 
-are : (c : goal.In_ok-joined_to-6) → AreJoinedFronts c.args.self c.args.other.now (result_of c)
+are : (c : goal.In_ok-join_in-6) → AreJoinedFronts c.args.self c.args.other.now (result_of c)
 are c = fronts_joined c.args.self c.args.other.now (result_of c)
     (record { counts = search rules; long = search rules })
     (record { counts = search rules; long = search rules })

@@ -9,4 +9,4 @@ use Rattle.vk_validate.proofs.history.History.sight.Goals as goal
 pub returns : goal.returns
 returns c =
     let now = rw c.self.view_is at c.self.invariant in
-    if_ok c.sight.result c.sight.ensures (λ s h apart. h (nodes (past c.args.self.now)) (next_node (past c.args.self.now) (point_of c.args.point.now) (act_next (action_of c.args.point.now.action))) now.1.frontier (ap (next_node (past c.args.self.now) (point_of c.args.point.now)) (sym c.act_of.ensures)) apart)
+    if_ok c.sight.result c.sight.ensures.sight (λ s h apart. h (nodes (past c.args.self.now)) (next_node (past c.args.self.now) (point_of c.args.point.now) (act_next (action_of c.args.point.now.action))) now.1.frontier (ap (next_node (past c.args.self.now) (point_of c.args.point.now)) (sym c.act_of.ensures)) apart)

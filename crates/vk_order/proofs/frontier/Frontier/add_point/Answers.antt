@@ -6,7 +6,7 @@ use Rattle.vk_order.specs.PointViews.{nodes_after}
 use Rattle.vk_order.specs.Inner.Tallies.{lines_of, CanFollow, AreFronts}
 use Rattle.vk_order.specs.Frontiers.{IsFrontier}
 use Rattle.vk_order.proofs.PointLemmas.{can_follow}
-use Rattle.vk_order.proofs.frontier.Frontier.advance.Goals as goal
+use Rattle.vk_order.proofs.frontier.Frontier.add_point.Goals as goal
 
 pub returns : goal.returns
 returns c = λ ns new is.

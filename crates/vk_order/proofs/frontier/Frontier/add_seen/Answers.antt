@@ -1,0 +1,17 @@
+use Rattle.std.proofs.Common.{List, sym, subst}
+use Rattle.vk_model.specs.Sync.Edge.{edge}
+use Rattle.vk_order.specs.declared.fronts.Front.{Front}
+use Rattle.vk_order.specs.declared.lines.Line.{Line}
+use Rattle.vk_order.specs.Inner.Fronts.{IsFront}
+use Rattle.vk_order.specs.Inner.Tallies.{lines_of}
+use Rattle.vk_order.proofs.FrontLemmas.{front_longer}
+use Rattle.vk_order.proofs.frontier.Frontier.add_seen.Goals as goal
+
+pub returns : goal.returns
+returns c = λ ns n is node sight.
+    let old = lines_of c.args.self.now.tallies.items in
+    let new = lines_of c.list_line.new.self.tallies.items in
+    let here : IsFront ns old (λ k. edge ns k n) c.args.sight.front = subst (λ (ls : List Line). IsFront ns ls (λ k. edge ns k n) c.args.sight.front) c.requires sight.front in
+    let there : IsFront ns new (λ k. edge ns k n) c.into_front.result =
+    subst (λ (f : Front). IsFront ns new (λ k. edge ns k n) f) (sym c.into_front.ensures) (front_longer ns old new c.in_ok-list_line.ensures.longer (λ k. edge ns k n) c.args.sight.front here) in
+    c.in_ok-add.ensures.kept ns n node there (c.in_ok-list_line.ensures.kept ns is)
