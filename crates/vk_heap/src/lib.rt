@@ -1,6 +1,7 @@
 //! The memory under a device: regions of bytes, and budgets of bytes.
 #![tactic(auto)]
 
+mod block;
 mod budget;
 mod region;
 

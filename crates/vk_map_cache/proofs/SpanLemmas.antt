@@ -1,35 +1,8 @@
--- Lemmas on a region with a part of it written anew, and on ranges of bytes that are changed.
-use Rattle.std.proofs.Common.{◌≡◌, ◌⊎◌, inl, inr, ℕ, ◌+◌, ◌-◌, ◌<◌, ◌≤◌, List, length, get_or, refl, ap, sym, ◌∙◌, arith, Bool, true, false, ◌&&◌, nat_lt, nat_le, if◌then◌else◌}
+-- Lemmas on ranges of bytes that are changed.
+use Rattle.std.proofs.Common.{◌≡◌, ◌⊎◌, inl, inr, ℕ, ◌<◌, ◌≤◌, refl, ap, sym, ◌∙◌, arith, Bool, true, false, ◌&&◌, nat_lt, nat_le, if◌then◌else◌}
 use Rattle.std.proofs.lemmas.Bool.{and_from, and_left, and_right, lt-ltb, le-ltb, le-leb, lt-leb}
-use Rattle.std.proofs.lemmas.Grind.{common_steps, elements}
-use Rattle.vk_heap.specs.Region.{splice, piece}
 use Rattle.vk_model.specs.Run.Caches.{Cell}
 use Rattle.vk_map_cache.proofs.HoldingLemmas.{in_range_or}
-
--- ---- a region with a part of it written anew
-
-module _ (xs ys : List ℕ) (at : ℕ) (fits : at + length ys ≤ length xs) where
-  pub length-splice : length (splice xs at ys) ≡ length xs
-  length-splice = grind (arith, common_steps)
-
-  pub splice-in : (k : ℕ) → at ≤ k → k < at + length ys → get_or (splice xs at ys) k 0 ≡ get_or ys (k - at) 0
-  splice-in k low high = grind (arith, elements)
-
-  splice-before : (k : ℕ) → k < at → get_or (splice xs at ys) k 0 ≡ get_or xs k 0
-  splice-before k lt = grind (arith, elements)
-
-  splice-after : (k : ℕ) → at + length ys ≤ k → get_or (splice xs at ys) k 0 ≡ get_or xs k 0
-  splice-after k le = grind (arith, elements)
-
-  pub splice-out : (k : ℕ) → (k < at) ⊎ (at + length ys ≤ k) → get_or (splice xs at ys) k 0 ≡ get_or xs k 0
-  splice-out k (inl lt) = splice-before k lt
-  splice-out k (inr le) = splice-after k le
-
--- byte k of a piece
-pub get_or-piece : (xs : List ℕ) (at n k : ℕ) → at ≤ k → k < at + n → get_or (piece xs at n) (k - at) 0 ≡ get_or xs k 0
-get_or-piece xs at n k low high = grind (arith, elements)
-
--- ---- ranges of bytes that are changed
 
 -- a change where a test holds, and then again where another does
 abbrev pub twice : (Cell → Cell) → Cell → Bool → Bool → Cell

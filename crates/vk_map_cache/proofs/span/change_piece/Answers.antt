@@ -2,7 +2,7 @@ use Rattle.std.proofs.Common.{◌≡◌, ◌<◌, ◌≤◌, ◌+◌, ◌-◌, �
 use Rattle.vk_map_cache.specs.Inner.Marks.{changed}
 use Rattle.vk_map_cache.proofs.CellLemmas.{same_cell, changed_if, kept_unless}
 use Rattle.vk_map_cache.proofs.HoldingLemmas.{in_range_or}
-use Rattle.vk_map_cache.proofs.SpanLemmas.{splice-in, splice-out, get_or-piece}
+use Rattle.vk_heap.proofs.SpliceLemmas.{splice-in, splice-out, get_or-piece}
 use Rattle.vk_map_cache.proofs.span.change_piece.Goals as goal
 
 pub returns-clause-bytes : goal.returns-clause-bytes

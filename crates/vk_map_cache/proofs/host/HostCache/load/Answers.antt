@@ -4,7 +4,7 @@ use Rattle.vk_model.specs.Run.Caches.{loaded}
 use Rattle.vk_map_cache.specs.Holdings.{Holdings, IsCell, held_in, held_at, is_in_atom, only_where}
 use Rattle.vk_map_cache.proofs.CellLemmas.{same_cell, changed_if, kept_unless}
 use Rattle.vk_map_cache.proofs.HoldingLemmas.{in_range_or}
-use Rattle.vk_map_cache.proofs.SpanLemmas.{get_or-piece}
+use Rattle.vk_heap.proofs.SpliceLemmas.{get_or-piece}
 use Rattle.vk_map_cache.proofs.HostLemmas.{one_object, object_read, ended, region-loaded}
 use Rattle.vk_map_cache.proofs.host.HostCache.load.Goals as goal
 
