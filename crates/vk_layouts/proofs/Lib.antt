@@ -1,1 +1,1 @@
-mod Others
+pub mod Others

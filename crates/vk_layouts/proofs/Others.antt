@@ -1,4 +1,4 @@
--- Whether a range has another layout in a world, by the layouts that are kept of the image.
+-- Whether a range has another layout in a world, by the layouts that are kept of the image. Other crates cite it.
 use Rattle.std.proofs.Common.{◌≡◌, ◌⊎◌, ◌↔◌, inl, inr, ℕ, ◌+◌, ◌-◌, ◌<◌, ◌≤◌, [], Bool, true, false, not, ◌==◌, length, refl, sym, ap, ◌∙◌, IsTrue, arith, eq-eqb, eqb-true}
 use Rattle.std.specs.Prelude.{slice_index_or}
 use Rattle.std.specs.List.{list_any}

@@ -5,7 +5,7 @@ ghost use Rattle.vk_model.specs.World.Bytes.{World, new_world};
 ghost use Rattle.vk_model.specs.World.Effect.{layout_after};
 ghost use Rattle.vk_model.specs.Rules.Layouts.{has_other_layout};
 ghost use Rattle.vk_layouts.specs.ImageLayouts.{layout_at, AreLayouts, HaveLayers, IsWithin};
-ghost use Rattle.vk_layouts.specs.Inner.Ranges.{has_range, may_be_in, AreIn};
+ghost use Rattle.vk_layouts.specs.Inner.Ranges.{may_be_in, AreIn};
 
 use crate::level::Level;
 use std::alloc::{AllocError, Global};
@@ -74,17 +74,15 @@ impl Layouts {
         ensures layers { HaveLayers self.now.layers self.now.levels }
     {
         let _layers = self.layers;
-        layout == Layout::UNDEFINED || self.has(range)
+        layout == Layout::UNDEFINED || range.levels == 0 || range.layers == 0 || self.has(range)
     }
 
-    /// Whether all subresources of a range are of the image.
-    fn has(&self, range: &SubresourceRange) -> bool
-        ensures { result ≡ has_range self.now range.now }
+    /// Whether a range is of the image's levels and layers.
+    pub fn has(&self, range: &SubresourceRange) -> bool
+        ensures { IsTrue result ↔ IsWithin self.now range.now }
     {
-        range.levels == 0
-            || range.layers == 0
-            || (range.first_level as usize + range.levels as usize <= self.levels.len()
-                && u64::from(range.first_layer) + u64::from(range.layers) <= u64::from(self.layers))
+        range.first_level as usize + range.levels as usize <= self.levels.len()
+            && u64::from(range.first_layer) + u64::from(range.layers) <= u64::from(self.layers)
     }
 
     /// Whether the subresources of a range that the image has are in a layout.

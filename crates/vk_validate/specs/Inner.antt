@@ -8,4 +8,5 @@ pub mod Contents
 pub mod Changes
 pub mod RuleParts
 pub mod Conflicts
+pub mod Layouts
 pub mod Tabled

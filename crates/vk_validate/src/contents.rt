@@ -11,6 +11,7 @@ ghost use Rattle.vk_validate.specs.Inner.Touched.{class_next, next_place};
 ghost use Rattle.vk_validate.specs.Inner.Contents.{AreContents, IsMade, IsRead, IsFilled, IsTaken, ReadIn, FilledIn, LiesIn};
 ghost use Rattle.vk_validate.specs.Inner.Changes.{Fits};
 
+use crate::families::family_of;
 use crate::parts::Part;
 use crate::writer::Writer;
 use std::alloc::{AllocError, Global};
@@ -232,11 +233,4 @@ fn fill_all(
 {
     let bytes = size.filled(contents.defined.len(), offset);
     contents.fill(offset, bytes, family_of(writer.queue), writer)
-}
-
-/// The family of a queue.
-fn family_of(queue: u32) -> u32
-    ensures { result ≡ family_of queue }
-{
-    if queue < 2 { 0 } else { 1 }
 }

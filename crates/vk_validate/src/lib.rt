@@ -6,11 +6,14 @@
 #![tactic(auto)]
 
 mod contents;
+mod elements;
 mod endings;
 mod events;
+mod families;
 mod found;
 mod history;
 mod images;
+mod layouts;
 mod mappings;
 mod objects;
 mod parts;

@@ -3,6 +3,7 @@ ghost use Rattle.std.specs.Option.{option_map};
 ghost use Rattle.std.specs.Ordering.{nat_cmp};
 ghost use Rattle.std.specs.BTreeMap.{get};
 ghost use Rattle.vk_model.specs.Trace.Point.{Past};
+ghost use Rattle.vk_model.specs.Trace.Objects.{made};
 ghost use Rattle.vk_order.specs.PointViews.{point_of};
 ghost use Rattle.vk_validate.specs.Inner.Made.{last_maker};
 ghost use Rattle.vk_validate.specs.Inner.Tabled.{AreObjects, maker_view};
@@ -40,6 +41,16 @@ impl<'a> Objects<'a> {
         ensures { (past : Past) → AreObjects self.now past → option_map maker_view result ≡ last_maker past id }
     {
         self.makers.get(&id).copied()
+    }
+
+    /// The entry that made an object.
+    pub fn made(&self, id: u32) -> Option<&'a Entry>
+        ensures { (past : Past) → AreObjects self.now past → option_map (λ x. x.now) result ≡ made past id }
+    {
+        match self.maker(id) {
+            Some(maker) => Some(maker.entry),
+            None => None,
+        }
     }
 
     /// Takes the next point.
