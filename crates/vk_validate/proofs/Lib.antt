@@ -4,3 +4,4 @@ pub mod Touching
 pub mod Transitions
 pub mod Kept
 pub mod Judging
+pub mod Living

@@ -9,4 +9,5 @@ pub mod Changes
 pub mod RuleParts
 pub mod Conflicts
 pub mod Layouts
+pub mod Counted
 pub mod Tabled

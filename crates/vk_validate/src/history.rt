@@ -21,10 +21,12 @@ ghost use Rattle.vk_validate.specs.Inner.Touched.{last_signaler, signal_spot, ne
 ghost use Rattle.vk_validate.specs.Inner.Contents.{AreContentsIn};
 ghost use Rattle.vk_validate.specs.Inner.Tabled.{spot_view, set_view, maker_view};
 
+mod pools;
+
 use crate::contents::BufferContents;
 use crate::events::EventSet;
 use crate::objects::Maker;
-use crate::places::{memory_at, pool_at};
+use crate::places::pool_at;
 use crate::semaphores::Signals;
 use crate::tables::{Tables, note};
 use std::alloc::{AllocError, Global};
@@ -94,10 +96,7 @@ impl<'a> History<'a> {
     pub fn made(&self, id: u32) -> Option<&'a Entry>
         ensures { option_map (λ x. x.now) result ≡ made (past self.now) id }
     {
-        match self.maker(id) {
-            Some(maker) => Some(maker.entry),
-            None => None,
-        }
+        self.tables.objects.made(id)
     }
 
     /// The entry that made an object, as the ids of a point are judged: those of a batch's points by
@@ -265,22 +264,14 @@ impl<'a> History<'a> {
     pub fn pool_of(&self, id: u32) -> Option<u32>
         ensures { result ≡ pool_of (past self.now) id }
     {
-        match self.made(id) {
-            Some(Entry::Buffer { info, .. }) => pool_at(info.place),
-            Some(Entry::Image { info, .. }) => pool_at(info.place),
-            _ => None,
-        }
+        self.tables.objects.pool_of(id)
     }
 
     /// The memory object that the trace bound a resource to.
     pub fn memory_of(&self, id: u32) -> Option<u32>
         ensures { result ≡ memory_of (past self.now) id }
     {
-        match self.made(id) {
-            Some(Entry::Buffer { info, .. }) => memory_at(info.place),
-            Some(Entry::Image { info, .. }) => memory_at(info.place),
-            _ => None,
-        }
+        self.tables.objects.memory_of(id)
     }
 
     /// The initial value of a semaphore.
@@ -325,11 +316,12 @@ impl<'a> History<'a> {
         self.tables.events.last_set(event)
     }
 
-    /// Whether a buffer is mapped.
-    pub fn is_mapped(&self, buffer: u32) -> bool
-        ensures { result ≡ is_mapped (past self.now) buffer }
+    /// Whether what is mapped with a resource is mapped.
+    pub fn is_mapped(&self, resource: u32) -> bool
+        ensures { result ≡ is_mapped (past self.now) resource }
     {
-        self.tables.mappings.was_mapped(buffer)
+        let mapping = self.tables.objects.mapping(resource);
+        self.tables.mappings.is_open(mapping)
     }
 
     /// The size of a buffer in bytes; 0 for what is no buffer.

@@ -6,6 +6,8 @@
 #![tactic(auto)]
 
 mod contents;
+mod counts;
+mod defrags;
 mod elements;
 mod endings;
 mod events;
@@ -16,6 +18,7 @@ mod images;
 mod layouts;
 mod mappings;
 mod objects;
+mod occupants;
 mod parts;
 mod places;
 mod regions;

@@ -1,19 +1,22 @@
-ghost use Rattle.std.specs.Prelude.{◌≡◌, ◌==◌, ◌||◌, ◌∷◌, [], ℕ, OnOk, nat_lt, unwrap_or};
-ghost use Rattle.std.specs.Ordering.{nat_cmp};
-ghost use Rattle.std.specs.BTreeMap.{get};
+ghost use Rattle.std.specs.Prelude.{◌≡◌, ◌∷◌, [], OnOk, nat_lt};
 ghost use Rattle.vk_model.specs.Trace.Point.{Past};
+ghost use Rattle.vk_model.specs.Rules.Mapping.{maps, unmaps};
 ghost use Rattle.vk_order.specs.PointViews.{point_of};
-ghost use Rattle.vk_validate.specs.Inner.Tabled.{AreMappings, was_mapped};
+ghost use Rattle.vk_validate.specs.Inner.Counted.{AreMappings, MapsBy, count_mapping};
+ghost use Rattle.vk_validate.specs.Inner.Judged.{IsJudged};
+ghost use Rattle.vk_validate.specs.Inner.Tabled.{AreObjects};
 
+use crate::counts::Counts;
+use crate::objects::Objects;
 use std::alloc::{AllocError, Global};
-use std::collections::BTreeMap;
 use vk_model::Entry;
 use vk_order::{Action, Point};
 
-/// How often each buffer was mapped.
+/// How much more often than unmapped each memory object was mapped, and each allocation of a buffer's
+/// own, which has the buffer's id.
 #[derive(Drop)]
 pub struct Mappings {
-    counts: BTreeMap<u32, u64>,
+    mapped: Counts,
 }
 
 impl Mappings {
@@ -22,33 +25,38 @@ impl Mappings {
         ensures { AreMappings result [] }
     {
         Mappings {
-            counts: BTreeMap::new(alloc),
+            mapped: Counts::new(alloc),
         }
     }
 
-    /// Whether a buffer was mapped.
-    pub fn was_mapped(&self, buffer: u32) -> bool
-        ensures { (past : Past) → AreMappings self.now past → result ≡ was_mapped past buffer }
+    /// Whether a memory object or an allocation is mapped.
+    pub fn is_open(&self, mapping: u32) -> bool
+        ensures { (past : Past) → AreMappings self.now past → result ≡ nat_lt (count_mapping past unmaps mapping) (count_mapping past maps mapping) }
     {
-        self.counts.get(&buffer).copied().unwrap_or(0) > 0
+        self.mapped.has(mapping)
     }
 
-    /// Takes the next point.
-    pub fn note(&mut self, point: &Point<'_>) -> Result<(), AllocError>
-        ensures { OnOk result ((past : Past) → AreMappings self.old past → AreMappings self.new (point_of point.now ∷ past)) }
+    /// Takes the next point, by the objects so far.
+    pub fn note(&mut self, point: &Point<'_>, objects: &Objects<'_>) -> Result<(), AllocError>
+        ensures { OnOk result ((past : Past) → IsJudged (point_of point.now ∷ past) → AreObjects objects.now past
+            → AreMappings self.old past → AreMappings self.new (point_of point.now ∷ past)) }
     {
         match point.action {
-            Action::Host(Entry::Map { buffer }) => self.count(*buffer),
+            Action::Host(entry) => self.map_by(entry, objects),
             _ => Ok(()),
         }
     }
 
-    fn count(&mut self, buffer: u32) -> Result<(), AllocError>
-        ensures { OnOk result ((other : ℕ) → nat_lt 0 (unwrap_or (get nat_cmp self.new.counts other) 0)
-            ≡ (other == buffer || nat_lt 0 (unwrap_or (get nat_cmp self.old.counts other) 0))) }
+    fn map_by(&mut self, entry: &Entry, objects: &Objects<'_>) -> Result<(), AllocError>
+        ensures { OnOk result ((past : Past) → AreObjects objects.now past → MapsBy past entry.now self.old self.new) }
     {
-        let count = self.counts.get(&buffer).copied().unwrap_or(0);
-        self.counts.insert(buffer, count.saturating_add(1))?;
-        Ok(())
+        match entry {
+            Entry::Map { buffer } => self.mapped.add(objects.mapping(*buffer)),
+            Entry::Unmap { buffer } => {
+                self.mapped.remove(objects.mapping(*buffer));
+                Ok(())
+            }
+            _ => Ok(()),
+        }
     }
 }

@@ -1,13 +1,15 @@
-ghost use Rattle.std.specs.Prelude.{◌≡◌, ◌==◌, ◌∷◌, [], ℕ, OnOk, if◌then◌else◌, Some};
+ghost use Rattle.std.specs.Prelude.{◌≡◌, ◌==◌, ◌∷◌, [], ℕ, OnOk, if◌then◌else◌, Some, option_and_then};
 ghost use Rattle.std.specs.Option.{option_map};
 ghost use Rattle.std.specs.Ordering.{nat_cmp};
 ghost use Rattle.std.specs.BTreeMap.{get};
 ghost use Rattle.vk_model.specs.Trace.Point.{Past};
-ghost use Rattle.vk_model.specs.Trace.Objects.{made};
+ghost use Rattle.vk_model.specs.Trace.Objects.{made, memory_of, pool_of, defrag_in};
+ghost use Rattle.vk_model.specs.Rules.Mapping.{mapping};
 ghost use Rattle.vk_order.specs.PointViews.{point_of};
 ghost use Rattle.vk_validate.specs.Inner.Made.{last_maker};
 ghost use Rattle.vk_validate.specs.Inner.Tabled.{AreObjects, maker_view};
 
+use crate::places::{memory_at, pool_at};
 use std::alloc::{AllocError, Global};
 use std::collections::BTreeMap;
 use vk_model::Entry;
@@ -50,6 +52,49 @@ impl<'a> Objects<'a> {
         match self.maker(id) {
             Some(maker) => Some(maker.entry),
             None => None,
+        }
+    }
+
+    /// The memory object that the trace bound a resource to.
+    pub fn memory_of(&self, id: u32) -> Option<u32>
+        ensures { (past : Past) → AreObjects self.now past → result ≡ memory_of past id }
+    {
+        match self.made(id) {
+            Some(Entry::Buffer { info, .. }) => memory_at(info.place),
+            Some(Entry::Image { info, .. }) => memory_at(info.place),
+            _ => None,
+        }
+    }
+
+    /// The pool that a resource is in.
+    pub fn pool_of(&self, id: u32) -> Option<u32>
+        ensures { (past : Past) → AreObjects self.now past → result ≡ pool_of past id }
+    {
+        match self.made(id) {
+            Some(Entry::Buffer { info, .. }) => pool_at(info.place),
+            Some(Entry::Image { info, .. }) => pool_at(info.place),
+            _ => None,
+        }
+    }
+
+    /// The pool of a defragmentation, also of one that has ended.
+    pub fn defragmented(&self, id: u32) -> Option<u32>
+        ensures { (past : Past) → AreObjects self.now past → result ≡ option_and_then defrag_in (made past id) }
+    {
+        match self.made(id) {
+            Some(Entry::Defrag { pool, .. }) => Some(*pool),
+            _ => None,
+        }
+    }
+
+    /// What is mapped with a resource: the memory object that the trace bound it to, or its own
+    /// allocation, which has its id.
+    pub fn mapping(&self, id: u32) -> u32
+        ensures { (past : Past) → AreObjects self.now past → result ≡ mapping past id }
+    {
+        match self.memory_of(id) {
+            Some(memory) => memory,
+            None => id,
         }
     }
 

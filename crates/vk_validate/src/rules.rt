@@ -109,7 +109,8 @@ fn first_of(
 }
 
 // Points of the supported forms can't break the rules that aren't listed. Those compare resources
-// that are bound to memory objects, regions of a command, layouts of images, owners or passes.
+// that are bound to memory objects, regions of a command, layouts of images or owners, or ask
+// whether a pass finds commands or writes.
 fn breaks_early(rule: Rule, history: &History<'_>, point: &Point<'_>, is_unordered: bool) -> bool
     requires supported { IsTrue (is_supported_action (action_of point.now.action)) }
     requires ordered { IsOrdered (point_of point.now ∷ past history.now) }
@@ -145,16 +146,18 @@ fn breaks_early(rule: Rule, history: &History<'_>, point: &Point<'_>, is_unorder
         Rule::MapState => mapping::breaks_map_state(history, point),
         Rule::HostVisible => mapping::breaks_host_visible(history, point),
         Rule::PoolKind => passes::breaks_pool_kind(history, point),
+        Rule::PassState => passes::breaks_pass_state(history, point),
         _ => false,
     }
 }
 
-// No point of a supported form breaks IN_USE.
+// No point of a supported form destroys a resource, so that IN_USE is of memory objects and pools.
 fn first_late(history: &History<'_>, point: &Point<'_>, found: Conflicts) -> Option<Rule>
     requires supported { IsTrue (is_supported_action (action_of point.now.action)) }
     requires found { AreConflicts found (past history.now) (point_of point.now) }
     ensures { result ≡ first_among late_rules (past history.now) (point_of point.now) }
 {
+    let is_used = hazards::frees_used(history, point);
     let is_over = traces::breaks_limit(history);
     if found.war {
         Some(Rule::HazardWar)
@@ -162,6 +165,8 @@ fn first_late(history: &History<'_>, point: &Point<'_>, found: Conflicts) -> Opt
         Some(Rule::HazardRaw)
     } else if found.waw {
         Some(Rule::HazardWaw)
+    } else if is_used {
+        Some(Rule::InUse)
     } else if found.undefined {
         Some(Rule::ReadUndefined)
     } else if is_over {

@@ -6,10 +6,12 @@ ghost use Rattle.vk_validate.specs.Inner.Touched.{class_next};
 ghost use Rattle.vk_validate.specs.Inner.Tabled.{IsTabled};
 
 use crate::contents::Contents;
+use crate::defrags::Defrags;
 use crate::endings::Endings;
 use crate::events::Events;
 use crate::mappings::Mappings;
 use crate::objects::Objects;
+use crate::occupants::Occupants;
 use crate::semaphores::Semaphores;
 use std::alloc::{AllocError, Global};
 use vk_order::{Action, Frontier, Line, Point};
@@ -20,6 +22,8 @@ pub struct Tables<'a> {
     pub objects: Objects<'a>,
     pub endings: Endings,
     pub mappings: Mappings,
+    pub occupants: Occupants,
+    pub defrags: Defrags,
     pub semaphores: Semaphores,
     pub events: Events<'a>,
     pub contents: Contents,
@@ -35,6 +39,8 @@ impl<'a> Tables<'a> {
             objects: Objects::new(alloc),
             endings: Endings::new(alloc),
             mappings: Mappings::new(alloc),
+            occupants: Occupants::new(alloc),
+            defrags: Defrags::new(alloc),
             semaphores: Semaphores::new(alloc),
             events: Events::new(alloc),
             contents: Contents::new(alloc),
@@ -49,9 +55,11 @@ pub fn note<'a>(tables: &mut Tables<'a>, point: &Point<'a>) -> Result<(), AllocE
 {
     let line = line_of(point);
     let place = tables.frontier.count(line);
+    tables.mappings.note(point, &tables.objects)?;
+    tables.occupants.note(point, &tables.objects)?;
+    tables.defrags.note(point, &tables.objects)?;
     tables.objects.note(point)?;
     tables.endings.note(point)?;
-    tables.mappings.note(point)?;
     tables.events.note(point)?;
     tables.semaphores.note(point, line, place)?;
     tables.contents.note(point, place)?;

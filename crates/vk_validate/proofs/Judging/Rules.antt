@@ -5,13 +5,14 @@ use Rattle.std.proofs.lemmas.List.{drop_all}
 use Rattle.vk_model.specs.declared.rule.Rule.{Rule}
 use Rattle.vk_model.specs.declared.rule.Rule.TheVariants as rule
 use Rattle.vk_model.specs.Basics.{first_that}
-use Rattle.vk_model.specs.Trace.Point.{Past, Point}
+use Rattle.vk_model.specs.Trace.Point.{Past, Point, on_host}
 use Rattle.vk_model.specs.Rules.Table.{breaks, first_rule}
 use Rattle.vk_model.specs.Rules.Hazards.{breaks_hazard_war, breaks_hazard_raw, breaks_hazard_waw, breaks_in_use, breaks_read_undefined}
 use Rattle.vk_model.specs.Rules.Traces.{breaks_limit}
 use Rattle.vk_validate.specs.Supported.{is_supported, is_supported_action}
 use Rattle.vk_validate.specs.Inner.Judged.{early_rules, late_rules, first_among}
 use Rattle.vk_validate.specs.Inner.Early.{breaks_early}
+use Rattle.vk_validate.specs.Inner.RuleParts.{frees_used}
 use Rattle.vk_validate.proofs.Judging.Unbroken as unbroken
 use Rattle.vk_validate.proofs.Judging.Judged.{no_pass_write}
 use Rattle.vk_validate.proofs.Judging.Pairs.{no_owner_pair}
@@ -85,6 +86,7 @@ pub record IsUntested (r : Rule) : Type 0 where
   pub map_state : r ≡ rule.MapState → ⊥
   pub host_visible : r ≡ rule.HostVisible → ⊥
   pub pool_kind : r ≡ rule.PoolKind → ⊥
+  pub pass_state : r ≡ rule.PassState → ⊥
 
 module _ (past : Past) (supported : is_supported past ≡ true) (p : Point) (now : is_supported_action p.action ≡ true) where
   pub rest_unbroken : (r : Rule) → IsUntested r → false ≡ breaks_early r past p
@@ -120,7 +122,7 @@ module _ (past : Past) (supported : is_supported past ≡ true) (p : Point) (now
   rest_unbroken rule.MapState u = absurd (u.map_state refl)
   rest_unbroken rule.HostVisible u = absurd (u.host_visible refl)
   rest_unbroken rule.PoolKind u = absurd (u.pool_kind refl)
-  rest_unbroken rule.PassState u = sym (unbroken.no_pass_state past p now)
+  rest_unbroken rule.PassState u = absurd (u.pass_state refl)
   rest_unbroken rule.PassBusy u = sym (unbroken.no_pass_busy past p now)
   rest_unbroken rule.PassWrite u = sym (no_pass_write past supported p)
   rest_unbroken rule.HazardWar u = refl
@@ -135,13 +137,13 @@ module _ (past : Past) (p : Point) (now : is_supported_action p.action ≡ true)
   abbrev pub late : (war raw waw used undefined over : Bool) → Option Rule
   late war raw waw used undefined over = cond war (Some rule.HazardWar) (cond raw (Some rule.HazardRaw) (cond waw (Some rule.HazardWaw) (cond used (Some rule.InUse) (cond undefined (Some rule.ReadUndefined) (cond over (Some rule.Limit) None)))))
 
-  pub found_late : (war raw waw undefined over : Bool) → war ≡ breaks_hazard_war past p → raw ≡ breaks_hazard_raw past p → waw ≡ breaks_hazard_waw past p → undefined ≡ breaks_read_undefined past p → over ≡ breaks_limit past p
-      → late war raw waw false undefined over ≡ first_among late_rules past p
+  pub found_late : (war raw waw used undefined over : Bool) → war ≡ breaks_hazard_war past p → raw ≡ breaks_hazard_raw past p → waw ≡ breaks_hazard_waw past p → used ≡ on_host (frees_used past) p → undefined ≡ breaks_read_undefined past p → over ≡ breaks_limit past p
+      → late war raw waw used undefined over ≡ first_among late_rules past p
   unfolding breaks
-  found_late war raw waw undefined over a b c d e =
-      ap (λ x. late x raw waw false undefined over) a
-      ∙ ap (λ x. late (breaks_hazard_war past p) x waw false undefined over) b
-      ∙ ap (λ x. late (breaks_hazard_war past p) (breaks_hazard_raw past p) x false undefined over) c
-      ∙ ap (λ x. late (breaks_hazard_war past p) (breaks_hazard_raw past p) (breaks_hazard_waw past p) x undefined over) (sym (unbroken.no_in_use past p now))
+  found_late war raw waw used undefined over a b c u d e =
+      ap (λ x. late x raw waw used undefined over) a
+      ∙ ap (λ x. late (breaks_hazard_war past p) x waw used undefined over) b
+      ∙ ap (λ x. late (breaks_hazard_war past p) (breaks_hazard_raw past p) x used undefined over) c
+      ∙ ap (λ x. late (breaks_hazard_war past p) (breaks_hazard_raw past p) (breaks_hazard_waw past p) x undefined over) (u ∙ unbroken.in_use_is past p now)
       ∙ ap (λ x. late (breaks_hazard_war past p) (breaks_hazard_raw past p) (breaks_hazard_waw past p) (breaks_in_use past p) x over) d
       ∙ ap (λ x. late (breaks_hazard_war past p) (breaks_hazard_raw past p) (breaks_hazard_waw past p) (breaks_in_use past p) (breaks_read_undefined past p) x) e

@@ -4,14 +4,15 @@ use Rattle.std.specs.List.{list_all}
 use Rattle.vk_model.specs.declared.command.Element.{Element}
 use Rattle.vk_model.specs.declared.command.Element.TheVariants as element
 use Rattle.vk_model.specs.Basics.{some_pair}
-use Rattle.vk_model.specs.Trace.Point.{Past, Point, Action, Host, Run}
+use Rattle.vk_model.specs.Trace.Point.{Past, Point, Action, Host, Run, on_host}
 use Rattle.vk_model.specs.World.Effect.{world}
 use Rattle.vk_model.specs.Rules.Binding.{breaks_aliased}
 use Rattle.vk_model.specs.Rules.Ranges.{breaks_overlap, transitions_meet}
 use Rattle.vk_model.specs.Rules.Layouts.{breaks_layout, breaks_old_layout, bad_transition, bad_old_layout}
-use Rattle.vk_model.specs.Rules.Passes.{breaks_pass_state, breaks_pass_busy}
+use Rattle.vk_model.specs.Rules.Passes.{breaks_pass_busy}
 use Rattle.vk_model.specs.Rules.Hazards.{breaks_in_use}
 use Rattle.vk_validate.specs.Supported.{is_supported_action, is_memory}
+use Rattle.vk_validate.specs.Inner.RuleParts.{frees_used}
 use Rattle.vk_validate.proofs.Points.Barriers.{memory_any}
 use Rattle.vk_validate.proofs.Points.Forms.{entry_cases, command_cases, action_cases}
 
@@ -43,17 +44,13 @@ module _ (past : Past) (p : Point) (supported : is_supported_action p.action ≡
       let P : Action → Type 0 = λ d. breaks_old_layout past (record p { action = d }) ≡ false in
       action_cases P (entry_cases (λ x. P (Host x)) (λ i b t is other. refl) (λ b. refl) (λ b o n. refl) (λ i v. refl) (λ i. refl) (λ s v. refl) (λ ws. refl) (λ q bs. refl)) (λ w. refl) (command_cases (λ c. P (Run c)) (λ b o n w. refl) (λ es all. memory_any (bad_old_layout (world past) p.queue) (λ d. refl) es all) (λ v ms. refl) (λ v ms. refl)) (λ s. refl) p.action supported
 
-  pub no_pass_state : breaks_pass_state past p ≡ false
-  no_pass_state =
-      let P : Action → Type 0 = λ d. breaks_pass_state past (record p { action = d }) ≡ false in
-      action_cases P (entry_cases (λ x. P (Host x)) (λ i b t is other. refl) (λ b. refl) (λ b o n. refl) (λ i v. refl) (λ i. refl) (λ s v. refl) (λ ws. refl) (λ q bs. refl)) (λ w. refl) (command_cases (λ c. P (Run c)) (λ b o n w. refl) (λ es all. refl) (λ v ms. refl) (λ v ms. refl)) (λ s. refl) p.action supported
-
   pub no_pass_busy : breaks_pass_busy past p ≡ false
   no_pass_busy =
       let P : Action → Type 0 = λ d. breaks_pass_busy past (record p { action = d }) ≡ false in
       action_cases P (entry_cases (λ x. P (Host x)) (λ i b t is other. refl) (λ b. refl) (λ b o n. refl) (λ i v. refl) (λ i. refl) (λ s v. refl) (λ ws. refl) (λ q bs. refl)) (λ w. refl) (command_cases (λ c. P (Run c)) (λ b o n w. refl) (λ es all. refl) (λ v ms. refl) (λ v ms. refl)) (λ s. refl) p.action supported
 
-  pub no_in_use : breaks_in_use past p ≡ false
-  no_in_use =
-      let P : Action → Type 0 = λ d. breaks_in_use past (record p { action = d }) ≡ false in
+  -- what is used is asked of resources alone where one is destroyed
+  pub in_use_is : on_host (frees_used past) p ≡ breaks_in_use past p
+  in_use_is =
+      let P : Action → Type 0 = λ d. on_host (frees_used past) (record p { action = d }) ≡ breaks_in_use past (record p { action = d }) in
       action_cases P (entry_cases (λ x. P (Host x)) (λ i b t is other. refl) (λ b. refl) (λ b o n. refl) (λ i v. refl) (λ i. refl) (λ s v. refl) (λ ws. refl) (λ q bs. refl)) (λ w. refl) (command_cases (λ c. P (Run c)) (λ b o n w. refl) (λ es all. refl) (λ v ms. refl) (λ v ms. refl)) (λ s. refl) p.action supported

@@ -1,6 +1,6 @@
 -- What holds of a past whose points are all of supported forms.
 use Rattle.std.proofs.Common.{◌≡◌, ℕ, List, [], ◌∷◌, Bool, true, false, ◌==◌, cond, refl, ap, sym, ◌∙◌, Option, Some, None}
-use Rattle.std.specs.Prelude.{option_and_then, option_map}
+use Rattle.std.specs.Prelude.{option_and_then}
 use Rattle.std.specs.List.{list_any, list_all, find, cons_option}
 use Rattle.std.proofs.lemmas.Bool.{and_parts}
 use Rattle.vk_model.specs.declared.entry.Entry.{Entry}
@@ -8,8 +8,7 @@ use Rattle.vk_model.specs.declared.resource.BufferInfo.{BufferInfo}
 use Rattle.vk_model.specs.declared.resource.Place.TheVariants as place
 use Rattle.vk_model.specs.Basics.{holds, among}
 use Rattle.vk_model.specs.Trace.Point.{Past, Point, Action, Host, Wait, Run, Signal, entries, host_of}
-use Rattle.vk_model.specs.Trace.Objects.{made, made_by, ended, ended_by, live, buffer, buffer_in, resource, resource_in, Resource, of_buffer, memory_of, pool_of, bound_at, pool_at}
-use Rattle.vk_model.specs.Rules.Mapping.{mapping}
+use Rattle.vk_model.specs.Trace.Objects.{made, made_by, ended, ended_by, live, buffer, buffer_in, resource, resource_in, Resource, of_buffer, pool_of, pool_at}
 use Rattle.vk_model.specs.Rules.Passes.{moves_now}
 use Rattle.vk_validate.specs.Supported.{is_supported, is_supported_action, is_supported_entry}
 use Rattle.vk_validate.proofs.Points.Forms.{entry_cases}
@@ -71,13 +70,7 @@ module _ (past : Past) (supported : is_supported past ≡ true) where
       by_form = let P : Entry → Type 0 = λ x. resource_in x ≡ Some r → (t : ℕ) × (b : BufferInfo) × (r.place ≡ place.Dedicated t) × (buffer_in x ≡ Some b) × (r ≡ of_buffer b) in
           entry_cases P (λ i b t is other h. let same : of_buffer b ≡ r = cc in (t, b, ap (λ (q : Resource). q.place) (sym same) ∙ is, refl, sym same)) (λ b h. absurd cc) (λ b o n h. absurd cc) (λ i v h. absurd cc) (λ i h. absurd cc) (λ s v h. absurd cc) (λ ws h. absurd cc) (λ q bs h. absurd cc)
 
-  -- so it's in no pool, and bound to no memory object
-  pub none_bound : (i : ℕ) → memory_of past i ≡ None
-  none_bound i = go (resource past i) refl where
-    go : (o : Option Resource) → resource past i ≡ o → option_and_then (λ r. option_map (λ x. x.0) (bound_at r.place)) o ≡ None
-    go None e = refl
-    go (Some r) e = let own = resource_own i r e in rw own.2 refl
-
+  -- so it's in no pool
   pub none_pooled : (i : ℕ) → pool_of past i ≡ None
   none_pooled i = go (resource past i) refl where
     go : (o : Option Resource) → resource past i ≡ o → option_and_then (λ r. pool_at r.place) o ≡ None
@@ -86,6 +79,3 @@ module _ (past : Past) (supported : is_supported past ≡ true) where
 
   pub none_moves : (i : ℕ) → moves_now past i ≡ false
   none_moves i = rw (none_pooled i) refl
-
-  pub maps_itself : (i : ℕ) → mapping past i ≡ i
-  maps_itself i = rw (none_bound i) refl

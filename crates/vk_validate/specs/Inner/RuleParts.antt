@@ -1,14 +1,15 @@
 -- Parts of rules, as single functions answer them.
-use Rattle.std.specs.Prelude.{ℕ, ◌+◌, ◌*◌, ◌%◌, ◌==◌, ◌&&◌, ◌||◌, List, Bool, not, nat_lt, option_and_then}
+use Rattle.std.specs.Prelude.{ℕ, ◌+◌, ◌*◌, ◌%◌, ◌==◌, ◌&&◌, ◌||◌, List, Bool, false, not, nat_lt, option_and_then}
 use Rattle.std.specs.List.{list_any}
 use Rattle.vk_model.specs.declared.command.BufferCopy.{BufferCopy}
 use Rattle.vk_model.specs.declared.command.BufferImageCopy.{BufferImageCopy}
 use Rattle.vk_model.specs.declared.command.SubresourceRange.{SubresourceRange}
 use Rattle.vk_model.specs.declared.entry.Entry.{Entry}
+use Rattle.vk_model.specs.declared.entry.Entry.TheVariants as entry
 use Rattle.vk_model.specs.declared.resource.Place.{Place}
 use Rattle.vk_model.specs.Basics.{holds}
 use Rattle.vk_model.specs.Trace.Image.{texel}
-use Rattle.vk_model.specs.Trace.Objects.{image, pool, memory, pool_at, bound_at, type_at}
+use Rattle.vk_model.specs.Trace.Objects.{image, pool, memory, pool_at, bound_at, type_at, memory_of, pool_of, live_resources}
 use Rattle.vk_model.specs.Trace.Point.{Past, Point}
 use Rattle.vk_model.specs.World.Areas.{Box}
 use Rattle.vk_model.specs.World.ByteWrites.{buffer_size}
@@ -54,3 +55,9 @@ some_box_outside past i of gs = holds (image past i) (λ m. list_any (λ g. bad_
 -- Whether a range of subresources isn't.
 abbrev pub some_range_outside : Past → ℕ → List SubresourceRange → Bool
 some_range_outside past i rs = holds (image past i) (λ m. list_any (bad_range m) rs)
+
+-- Whether an entry frees a memory object, or drops a pool, that a live resource is in.
+abbrev pub frees_used : Past → Entry → Bool
+frees_used past (entry.Free m) = list_any (λ r. holds (memory_of past r) (λ s. m == s)) (live_resources past)
+frees_used past (entry.DropPool q) = list_any (λ r. holds (pool_of past r) (λ s. q == s)) (live_resources past)
+frees_used past _ = false

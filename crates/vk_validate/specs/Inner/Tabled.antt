@@ -1,13 +1,11 @@
 -- The tables of a history say what its past does.
-use Rattle.std.specs.Prelude.{◌≡◌, ℕ, ◌==◌, nat_lt, Bool, max, Option, unwrap_or}
+use Rattle.std.specs.Prelude.{◌≡◌, ℕ, max, Option, unwrap_or}
 use Rattle.std.specs.Option.{option_map}
-use Rattle.std.specs.List.{fold, list_any}
+use Rattle.std.specs.List.{fold}
 use Rattle.std.specs.Ordering.{nat_cmp}
 use Rattle.std.specs.BTreeMap.{get}
-use Rattle.vk_model.specs.Basics.{holds}
-use Rattle.vk_model.specs.Trace.Point.{Past, entries}
+use Rattle.vk_model.specs.Trace.Point.{Past}
 use Rattle.vk_model.specs.Trace.Order.{signaled}
-use Rattle.vk_model.specs.Rules.Mapping.{maps}
 use Rattle.vk_model.specs.Sync.Node.{nodes}
 use Rattle.vk_order.specs.declared.lines.Line.{Line}
 use Rattle.vk_order.specs.Frontiers.{IsFrontier}
@@ -15,11 +13,11 @@ use Rattle.vk_validate.specs.declared.tables.Tables.{Tables}
 use Rattle.vk_validate.specs.Inner.Contents.{AreContents}
 use Rattle.vk_validate.specs.declared.objects.Maker.{Maker}
 use Rattle.vk_validate.specs.declared.objects.Objects.{Objects}
-use Rattle.vk_validate.specs.declared.mappings.Mappings.{Mappings}
 use Rattle.vk_validate.specs.declared.semaphores.Signals.{Signals}
 use Rattle.vk_validate.specs.declared.semaphores.Semaphores.{Semaphores}
 use Rattle.vk_validate.specs.declared.events.EventSet.{EventSet}
 use Rattle.vk_validate.specs.declared.events.Events.{Events}
+use Rattle.vk_validate.specs.Inner.Counted.{AreMappings, AreOccupants, AreDefrags}
 use Rattle.vk_validate.specs.Inner.Ended.{AreEndings}
 use Rattle.vk_validate.specs.Inner.Made.{Numbered, last_maker, Set, last_set}
 use Rattle.vk_validate.specs.Inner.Touched.{last_signaler, signal_spot}
@@ -31,14 +29,6 @@ maker_view m = record { entry = m.entry.now; number = m.number }
 -- The last maker of each id.
 abbrev pub AreObjects : Objects → Past → Type 0
 AreObjects objects past = (i : ℕ) → option_map maker_view (get nat_cmp objects.makers i) ≡ last_maker past i
-
--- Whether an entry has mapped a buffer.
-abbrev pub was_mapped : Past → ℕ → Bool
-was_mapped past b = list_any (λ x. holds (maps x) (λ c. c == b)) (entries past)
-
--- Just those buffers are counted as mapped that an entry has mapped.
-abbrev pub AreMappings : Mappings → Past → Type 0
-AreMappings mappings past = (b : ℕ) → nat_lt 0 (unwrap_or (get nat_cmp mappings.counts b) 0) ≡ was_mapped past b
 
 -- The set that a table keeps.
 abbrev pub set_view : EventSet → Set
@@ -66,6 +56,8 @@ pub record IsTabled (tables : Tables) (past : Past) : Type 0 where
   pub objects : AreObjects tables.objects past
   pub endings : AreEndings tables.endings past
   pub mappings : AreMappings tables.mappings past
+  pub occupants : AreOccupants tables.occupants past
+  pub defrags : AreDefrags tables.defrags past
   pub semaphores : AreSemaphores tables.semaphores past
   pub events : AreEvents tables.events past
   pub contents : AreContents tables.contents past

@@ -1,16 +1,19 @@
 ghost use Rattle.std.specs.Prelude.{◌≡◌, ◌∷◌, IfOk, IsTrue, None};
+ghost use Rattle.vk_model.specs.Trace.Point.{on_host};
 ghost use Rattle.vk_model.specs.Trace.Structure.{IsOrdered};
 ghost use Rattle.vk_order.specs.PointViews.{action_of, point_of};
 ghost use Rattle.vk_validate.specs.Supported.{is_supported_action};
 ghost use Rattle.vk_validate.specs.Inner.PointViews.{past};
 ghost use Rattle.vk_validate.specs.Inner.Judged.{early_rules, first_among};
 ghost use Rattle.vk_validate.specs.Inner.Conflicts.{AreConflicts};
+ghost use Rattle.vk_validate.specs.Inner.RuleParts as parts;
 
 use crate::contents::{Change, change_by};
 use crate::found::Conflicts;
 use crate::history::History;
 use std::alloc::AllocError;
-use vk_order::{Access, Point};
+use vk_model::Entry;
+use vk_order::{Access, Action, Point};
 
 /// What a point that breaks no rule before those on accesses finds wrong with the bytes that it
 /// accesses: HAZARD_WAR, HAZARD_RAW, HAZARD_WAW and READ_UNDEFINED. The only error is want of memory.
@@ -47,5 +50,16 @@ pub fn conflicts(history: &History<'_>, point: &Point<'_>) -> Result<Conflicts, 
             }
             None => Ok(Conflicts::NONE),
         },
+    }
+}
+
+/// IN_USE of memory objects and pools: one ends that a live resource is in.
+pub fn frees_used(history: &History<'_>, point: &Point<'_>) -> bool
+    ensures { result ≡ on_host (parts.frees_used (past history.now)) (point_of point.now) }
+{
+    match point.action {
+        Action::Host(Entry::Free { memory }) => history.is_memory_used(*memory),
+        Action::Host(Entry::DropPool { pool }) => history.is_pool_used(*pool),
+        _ => false,
     }
 }

@@ -72,3 +72,28 @@ fn is_linear(kind: PoolKind) -> bool
         PoolKind::Linear => true,
     }
 }
+
+/// PASS_STATE: a second defragmentation of a pool, a second pass, the end of one that isn't open or of a
+/// defragmentation in one, or the end of a pool or a resource that is being defragmented.
+pub fn breaks_pass_state(history: &History<'_>, point: &Point<'_>) -> bool
+    ensures { result ≡ passes.breaks_pass_state (past history.now) (point_of point.now) }
+{
+    match point.action {
+        Action::Host(entry) => is_bad_pass(history, entry),
+        _ => false,
+    }
+}
+
+fn is_bad_pass(history: &History<'_>, entry: &Entry) -> bool
+    ensures { result ≡ passes.bad_pass (past history.now) entry.now }
+{
+    match entry {
+        Entry::Defrag { pool, .. } => history.has_defrag(*pool),
+        Entry::DropPool { pool } => history.has_defrag(*pool),
+        Entry::Pass { .. } => history.has_pass(),
+        Entry::EndDefrag { defrag } => history.is_in_pass(*defrag),
+        Entry::EndPass { defrag, .. } => !history.is_in_pass(*defrag),
+        Entry::Destroy { resource } => history.is_moving(*resource),
+        _ => false,
+    }
+}

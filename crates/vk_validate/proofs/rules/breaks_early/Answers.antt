@@ -110,6 +110,10 @@ pub returns-in-PoolKind : goal.returns-in-PoolKind
 unfolding breaks_early breaks
 returns-in-PoolKind c = rw c.in-PoolKind.is c.breaks_pool_kind.ensures
 
+pub returns-in-PassState : goal.returns-in-PassState
+unfolding breaks_early breaks
+returns-in-PassState c = rw c.in-PassState.is c.breaks_pass_state.ensures
+
 pub returns-in_default : goal.returns-in_default
 returns-in_default c =
     let d = c.in_default in
@@ -140,4 +144,5 @@ returns-in_default c =
       map_state = d.not-MapState;
       host_visible = d.not-HostVisible;
       pool_kind = d.not-PoolKind;
+      pass_state = d.not-PassState;
     })

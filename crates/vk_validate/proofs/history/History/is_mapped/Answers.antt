@@ -1,9 +1,12 @@
-use Rattle.std.proofs.Common.{◌∙◌, sym}
+use Rattle.std.proofs.Common.{◌∙◌, ap}
+use Rattle.std.specs.Prelude.{ℕ, nat_lt}
+use Rattle.vk_model.specs.Rules.Mapping.{maps, unmaps}
+use Rattle.vk_validate.specs.Inner.Counted.{count_mapping}
 use Rattle.vk_validate.specs.Inner.PointViews.{past}
-use Rattle.vk_validate.proofs.Judging.Judged.{mapped_once}
 use Rattle.vk_validate.proofs.history.History.is_mapped.Goals as goal
 
 pub returns : goal.returns
 returns c =
     let now = rw c.self.view_is at c.self.invariant in
-    c.was_mapped.ensures (past c.args.self.now) now.1.mappings ∙ sym (mapped_once (past c.args.self.now) now.2.supported c.args.buffer)
+    let all = past c.args.self.now in
+    c.is_open.ensures all now.1.mappings ∙ ap (λ (k : ℕ). nat_lt (count_mapping all unmaps k) (count_mapping all maps k)) (c.mapping-mapping.ensures all now.1.objects)

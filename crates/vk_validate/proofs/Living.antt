@@ -1,0 +1,5 @@
+pub mod Counting
+pub mod LiveIds
+pub mod Mappings
+pub mod Occupants
+pub mod Defrags
