@@ -1,4 +1,3 @@
-pub mod Judged
 pub mod Unbroken
 pub mod Named
 pub mod Conflicting

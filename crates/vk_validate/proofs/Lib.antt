@@ -5,3 +5,4 @@ pub mod Transitions
 pub mod Kept
 pub mod Judging
 pub mod Living
+pub mod Writing

@@ -30,5 +30,6 @@ mod supported;
 mod tables;
 mod verdicts;
 mod writer;
+mod written;
 
 pub use verdicts::{Accepted, Verdict, validate};

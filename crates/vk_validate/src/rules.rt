@@ -110,7 +110,7 @@ fn first_of(
 
 // Points of the supported forms can't break the rules that aren't listed. Those compare resources
 // that are bound to memory objects, regions of a command, layouts of images or owners, or ask
-// whether a pass finds commands or writes.
+// whether a pass finds commands.
 fn breaks_early(rule: Rule, history: &History<'_>, point: &Point<'_>, is_unordered: bool) -> bool
     requires supported { IsTrue (is_supported_action (action_of point.now.action)) }
     requires ordered { IsOrdered (point_of point.now ∷ past history.now) }
@@ -147,6 +147,7 @@ fn breaks_early(rule: Rule, history: &History<'_>, point: &Point<'_>, is_unorder
         Rule::HostVisible => mapping::breaks_host_visible(history, point),
         Rule::PoolKind => passes::breaks_pool_kind(history, point),
         Rule::PassState => passes::breaks_pass_state(history, point),
+        Rule::PassWrite => passes::breaks_pass_write(history, point),
         _ => false,
     }
 }

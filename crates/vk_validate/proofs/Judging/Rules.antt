@@ -9,12 +9,11 @@ use Rattle.vk_model.specs.Trace.Point.{Past, Point, on_host}
 use Rattle.vk_model.specs.Rules.Table.{breaks, first_rule}
 use Rattle.vk_model.specs.Rules.Hazards.{breaks_hazard_war, breaks_hazard_raw, breaks_hazard_waw, breaks_in_use, breaks_read_undefined}
 use Rattle.vk_model.specs.Rules.Traces.{breaks_limit}
-use Rattle.vk_validate.specs.Supported.{is_supported, is_supported_action}
+use Rattle.vk_validate.specs.Supported.{is_supported_action}
 use Rattle.vk_validate.specs.Inner.Judged.{early_rules, late_rules, first_among}
 use Rattle.vk_validate.specs.Inner.Early.{breaks_early}
 use Rattle.vk_validate.specs.Inner.RuleParts.{frees_used}
 use Rattle.vk_validate.proofs.Judging.Unbroken as unbroken
-use Rattle.vk_validate.proofs.Judging.Judged.{no_pass_write}
 use Rattle.vk_validate.proofs.Judging.Pairs.{no_owner_pair}
 
 pub find-drop : {X : Type 0} (p : X → Bool) (xs : List X) (i : ℕ) (d : X) → i < length xs → find p (drop i xs) ≡ cond (p (get_or xs i d)) (Some (get_or xs i d)) (find p (drop (i + 1) xs))
@@ -87,8 +86,9 @@ pub record IsUntested (r : Rule) : Type 0 where
   pub host_visible : r ≡ rule.HostVisible → ⊥
   pub pool_kind : r ≡ rule.PoolKind → ⊥
   pub pass_state : r ≡ rule.PassState → ⊥
+  pub pass_write : r ≡ rule.PassWrite → ⊥
 
-module _ (past : Past) (supported : is_supported past ≡ true) (p : Point) (now : is_supported_action p.action ≡ true) where
+module _ (past : Past) (p : Point) (now : is_supported_action p.action ≡ true) where
   pub rest_unbroken : (r : Rule) → IsUntested r → false ≡ breaks_early r past p
   unfolding breaks_early breaks
   rest_unbroken rule.NewId u = absurd (u.new_id refl)
@@ -124,7 +124,7 @@ module _ (past : Past) (supported : is_supported past ≡ true) (p : Point) (now
   rest_unbroken rule.PoolKind u = absurd (u.pool_kind refl)
   rest_unbroken rule.PassState u = absurd (u.pass_state refl)
   rest_unbroken rule.PassBusy u = sym (unbroken.no_pass_busy past p now)
-  rest_unbroken rule.PassWrite u = sym (no_pass_write past supported p)
+  rest_unbroken rule.PassWrite u = absurd (u.pass_write refl)
   rest_unbroken rule.HazardWar u = refl
   rest_unbroken rule.HazardRaw u = refl
   rest_unbroken rule.HazardWaw u = refl

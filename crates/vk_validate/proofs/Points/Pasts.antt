@@ -59,23 +59,3 @@ module _ (past : Past) (supported : is_supported past ≡ true) where
   -- so what is made is live
   pub live_made : (i : ℕ) → live past i ≡ made past i
   live_made i = rw (none_ended i) refl
-
-  -- a resource is a buffer in memory of its own
-  pub resource_own : (i : ℕ) (r : Resource) → resource past i ≡ Some r → (t : ℕ) × (b : BufferInfo) × (r.place ≡ place.Dedicated t) × (buffer past i ≡ Some b) × (r ≡ of_buffer b)
-  resource_own i r is = go (made past i) refl is where
-    go : (o : Option Entry) → made past i ≡ o → option_and_then resource_in o ≡ Some r → (t : ℕ) × (b : BufferInfo) × (r.place ≡ place.Dedicated t) × (option_and_then buffer_in o ≡ Some b) × (r ≡ of_buffer b)
-    go None e h = absurd cc
-    go (Some x) e h = by_form x (made_supported i x e) h where
-      by_form : (x : Entry) → is_supported_entry x ≡ true → resource_in x ≡ Some r → (t : ℕ) × (b : BufferInfo) × (r.place ≡ place.Dedicated t) × (buffer_in x ≡ Some b) × (r ≡ of_buffer b)
-      by_form = let P : Entry → Type 0 = λ x. resource_in x ≡ Some r → (t : ℕ) × (b : BufferInfo) × (r.place ≡ place.Dedicated t) × (buffer_in x ≡ Some b) × (r ≡ of_buffer b) in
-          entry_cases P (λ i b t is other h. let same : of_buffer b ≡ r = cc in (t, b, ap (λ (q : Resource). q.place) (sym same) ∙ is, refl, sym same)) (λ b h. absurd cc) (λ b o n h. absurd cc) (λ i v h. absurd cc) (λ i h. absurd cc) (λ s v h. absurd cc) (λ ws h. absurd cc) (λ q bs h. absurd cc)
-
-  -- so it's in no pool
-  pub none_pooled : (i : ℕ) → pool_of past i ≡ None
-  none_pooled i = go (resource past i) refl where
-    go : (o : Option Resource) → resource past i ≡ o → option_and_then (λ r. pool_at r.place) o ≡ None
-    go None e = refl
-    go (Some r) e = let own = resource_own i r e in rw own.2 refl
-
-  pub none_moves : (i : ℕ) → moves_now past i ≡ false
-  none_moves i = rw (none_pooled i) refl

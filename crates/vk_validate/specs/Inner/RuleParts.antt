@@ -1,8 +1,9 @@
 -- Parts of rules, as single functions answer them.
-use Rattle.std.specs.Prelude.{ℕ, ◌+◌, ◌*◌, ◌%◌, ◌==◌, ◌&&◌, ◌||◌, List, Bool, false, not, nat_lt, option_and_then}
+use Rattle.std.specs.Prelude.{◌≡◌, ℕ, ◌+◌, ◌*◌, ◌%◌, ◌==◌, ◌&&◌, ◌||◌, List, Bool, false, not, nat_lt, Option, option_and_then}
 use Rattle.std.specs.List.{list_any}
 use Rattle.vk_model.specs.declared.command.BufferCopy.{BufferCopy}
 use Rattle.vk_model.specs.declared.command.BufferImageCopy.{BufferImageCopy}
+use Rattle.vk_model.specs.declared.command.ImageCopy.{ImageCopy}
 use Rattle.vk_model.specs.declared.command.SubresourceRange.{SubresourceRange}
 use Rattle.vk_model.specs.declared.entry.Entry.{Entry}
 use Rattle.vk_model.specs.declared.entry.Entry.TheVariants as entry
@@ -12,7 +13,11 @@ use Rattle.vk_model.specs.Trace.Image.{texel}
 use Rattle.vk_model.specs.Trace.Objects.{image, pool, memory, pool_at, bound_at, type_at, memory_of, pool_of, live_resources}
 use Rattle.vk_model.specs.Trace.Point.{Past, Point}
 use Rattle.vk_model.specs.World.Areas.{Box}
+use Rattle.vk_model.specs.World.Bytes.{Byte, resource_at}
 use Rattle.vk_model.specs.World.ByteWrites.{buffer_size}
+use Rattle.vk_model.specs.Rules.Passes.{moves_now}
+use Rattle.vk_model.specs.Sync.Node.{Act}
+use Rattle.vk_model.specs.Sync.Access.{writes_of}
 use Rattle.vk_model.specs.Rules.Ids.{Asked, is_dead, judged_in}
 use Rattle.vk_model.specs.Rules.Ranges.{region_past, bad_box, bad_range}
 
@@ -61,3 +66,28 @@ abbrev pub frees_used : Past → Entry → Bool
 frees_used past (entry.Free m) = list_any (λ r. holds (memory_of past r) (λ s. m == s)) (live_resources past)
 frees_used past (entry.DropPool q) = list_any (λ r. holds (pool_of past r) (λ s. q == s)) (live_resources past)
 frees_used past _ = false
+
+-- A resource is that of some bytes, each of which has the same; there is none where there is no byte.
+abbrev pub IsResourceOf : Option ℕ → List Byte → Type 0
+IsResourceOf r bs = (f : ℕ → Bool) → holds r f ≡ list_any (λ b. f (resource_at b)) bs
+
+-- Whether some region has a byte, some range a subresource, or some region a texel.
+abbrev pub some_bytes : List BufferCopy → Bool
+some_bytes gs = list_any (λ g. nat_lt 0 g.size) gs
+
+abbrev pub some_subresource : List SubresourceRange → Bool
+some_subresource rs = list_any (λ r. nat_lt 0 r.levels && nat_lt 0 r.layers) rs
+
+abbrev pub some_texel : List BufferImageCopy → Bool
+some_texel gs = list_any (λ g. nat_lt 0 g.layers && nat_lt 0 g.height && nat_lt 0 g.width) gs
+
+abbrev pub some_copied : List ImageCopy → Bool
+some_copied gs = list_any (λ g. nat_lt 0 g.layers && nat_lt 0 g.height && nat_lt 0 g.width) gs
+
+-- Whether one of some bytes is of a resource whose pool is in a pass.
+abbrev pub touches_moving : Past → List Byte → Bool
+touches_moving past bs = list_any (λ b. moves_now past (resource_at b)) bs
+
+-- Whether one of some acts on a queue writes such a byte.
+abbrev pub writes_moving : Past → ℕ → List Act → Bool
+writes_moving past q as' = list_any (λ a. touches_moving past (writes_of past q a)) as'

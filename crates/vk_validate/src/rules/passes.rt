@@ -1,12 +1,17 @@
 ghost use Rattle.std.specs.Prelude.{◌≡◌, option_and_then};
+ghost use Rattle.std.specs.List.{list_any};
 ghost use Rattle.vk_model.specs.Basics.{holds};
 ghost use Rattle.vk_model.specs.Trace.Objects.{pool};
 ghost use Rattle.vk_model.specs.Rules.Passes as passes;
 ghost use Rattle.vk_order.specs.PointViews.{point_of};
+ghost use Rattle.vk_model.specs.Sync.Node.{command_acts};
+ghost use Rattle.vk_model.specs.Sync.Access.{transition_bytes};
 ghost use Rattle.vk_validate.specs.Inner.PointViews.{past};
+ghost use Rattle.vk_validate.specs.Inner.RuleParts as parts;
 
 use crate::history::History;
-use vk_model::{Entry, Place, PoolInfo, PoolKind};
+use crate::written::{written, written_by_element, written_by_host};
+use vk_model::{Cmd, Element, Entry, Place, PoolInfo, PoolKind};
 use vk_order::{Action, Point};
 
 /// POOL_KIND: a defragmentation of a linear pool, or a place at the upper end of a pool that has none.
@@ -95,5 +100,49 @@ fn is_bad_pass(history: &History<'_>, entry: &Entry) -> bool
         Entry::EndPass { defrag, .. } => !history.is_in_pass(*defrag),
         Entry::Destroy { resource } => history.is_moving(*resource),
         _ => false,
+    }
+}
+
+/// PASS_WRITE: the host, a command or a transition writes a resource of a pool inside a pass.
+pub fn breaks_pass_write(history: &History<'_>, point: &Point<'_>) -> bool
+    ensures { result ≡ passes.breaks_pass_write (past history.now) (point_of point.now) }
+{
+    match point.action {
+        Action::Host(entry) => is_moving(history, written_by_host(entry)),
+        Action::Run(command) => command_writes_moving(history, point.queue, command),
+        _ => false,
+    }
+}
+
+fn command_writes_moving(history: &History<'_>, queue: u32, command: &Cmd) -> bool
+    ensures { result ≡ parts.writes_moving (past history.now) queue (command_acts command.now) }
+{
+    match command {
+        Cmd::Barrier { elements } => some_writes_moving(history, queue, elements.as_slice()),
+        _ => is_moving(history, written(history, command)),
+    }
+}
+
+fn some_writes_moving(history: &History<'_>, queue: u32, elements: &[Element]) -> bool
+    ensures { result ≡ list_any (λ e. parts.touches_moving (past history.now) (transition_bytes (past history.now) queue e)) elements.now }
+{
+    elements
+        .iter()
+        .any(|element| element_writes_moving(history, queue, element))
+}
+
+fn element_writes_moving(history: &History<'_>, queue: u32, element: &Element) -> bool
+    ensures { result ≡ parts.touches_moving (past history.now) (transition_bytes (past history.now) queue element.now) }
+{
+    is_moving(history, written_by_element(history, queue, element))
+}
+
+/// Whether a pass of a resource's pool is open.
+fn is_moving(history: &History<'_>, resource: Option<u32>) -> bool
+    ensures { result ≡ holds resource (passes.moves_now (past history.now)) }
+{
+    match resource {
+        Some(id) => history.is_moving(id),
+        None => false,
     }
 }
