@@ -11,6 +11,8 @@ mod host_cache;
 #[cfg(test)]
 mod image_tiles;
 #[cfg(test)]
+mod layouts;
+#[cfg(test)]
 mod memory;
 #[cfg(test)]
 mod offers;

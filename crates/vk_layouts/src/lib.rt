@@ -28,6 +28,3 @@ mod ownership;
 
 pub use layouts::Layouts;
 pub use ownership::{Owner, Release, Transfer};
-
-#[cfg(test)]
-mod tests;

@@ -1,4 +1,4 @@
-use crate::{Layouts, Owner, Transfer};
+use vk_layouts::{Layouts, Owner, Transfer};
 use std::test::Fail;
 use vk_model::{
     Accesses, BufferElement, Dependency, Element, Families, Layout, Length, Rule, Stages,
