@@ -54,9 +54,10 @@ impl From<HeapFull> for MemoryError {
     }
 }
 
-/// The object is mapped already (Vulkan, "Host Access to Device Memory Objects"). Nothing is changed.
+/// An object is mapped already that is to be mapped, or isn't that is to be unmapped (Vulkan, "Host
+/// Access to Device Memory Objects"). Nothing is changed.
 #[derive(Clone, Copy, Debug, Drop, PartialEq, Eq, Error)]
-#[error("the memory object is mapped already")]
+#[error("the memory object is mapped already, or is not mapped")]
 pub struct MapState;
 
 /// A memory object.
@@ -100,7 +101,8 @@ impl Memories {
     ghost use Rattle.std.specs.Borrow.{Lends, sem};
     ghost use Rattle.vk_memory.specs.contracts.memories.Memories.{the_row};
     ghost use Rattle.vk_heap.specs.contracts.region.Region.{the_row as region_row};
-    ghost use Rattle.std.specs.Prelude.{◌==◌, ◌↔◌, IsErr, OnOk, IsTrue, true, Some, None};
+    ghost use Rattle.vk_heap.specs.Region.{splice, piece};
+    ghost use Rattle.std.specs.Prelude.{◌==◌, ◌↔◌, ◌≤◌, ◌+◌, IsErr, OnOk, IsTrue, true, false, Some, None};
 
     /// Heaps of these sizes, without objects. It takes no memory.
     pub fn new(alloc: Global, config: Config) -> Memories
@@ -198,6 +200,67 @@ impl Memories {
                 Ok(())
             }
             None => unreachable!(),
+        }
+    }
+
+    /// Unmaps a live object that is mapped.
+    pub fn unmap(&mut self, number: u64) -> Result<(), MapState>
+        requires { IsLive self.old number }
+        ensures ok { OnOk result (self.new ≡ with_mapped self.old number false) }
+        ensures state { IsOk result ↔ IsTrue (is_mapped self.old number) }
+        ensures err { OnErr result (self.new ≡ self.old) }
+    {
+        match &mut self.objects[number as usize] {
+            Some(object) => {
+                if !object.mapped {
+                    return Err(MapState);
+                }
+                object.mapped = false;
+                Ok(())
+            }
+            None => unreachable!(),
+        }
+    }
+
+    /// Frees a live object, mapped or not. Its heap has the bytes back, and its number is not given
+    /// again.
+    pub fn free(&mut self, number: u64)
+        requires { IsLive self.old number }
+        ensures { self.new ≡ with_object self.old number None }
+    {
+        match self.objects[number as usize].take() {
+            Some(object) => {
+                self.live -= 1;
+                if object.memory_type == 0 {
+                    self.heap0.give(object.size);
+                } else {
+                    self.heap1.give(object.size);
+                }
+            }
+            None => unreachable!(),
+        }
+    }
+
+    /// Copies `len` bytes of a live object, as they were, from its byte `at` on, to a live object, from
+    /// its byte `to_at` on. They may be one object, and the ranges may overlap.
+    pub fn copy(&mut self, from: u64, at: u64, to: u64, to_at: u64, len: u64)
+        requires source { IsLive self.old from × (at + len ≤ length (region_of self.old from)) }
+        requires destination { IsLive self.old to × (to_at + len ≤ length (region_of self.old to)) }
+        ensures { self.new ≡ with_region self.old to (splice (region_of self.old to) to_at (piece (region_of self.old from) at len)) }
+    {
+        if from == to {
+            self.region_mut(to).copy_within(at, to_at, len);
+            return;
+        }
+        let taken = self.objects[to as usize].take();
+        match (&self.objects[from as usize], taken) {
+            (Some(source), Some(mut object)) => {
+                source
+                    .region
+                    .copy_between(at, &mut object.region, to_at, len);
+                self.objects[to as usize] = Some(object);
+            }
+            _ => unreachable!(),
         }
     }
 

@@ -8,7 +8,7 @@ use Rattle.vk_memory.specs.declared.memories.Object.{Object}
 use Rattle.vk_memory.specs.MemoryState.{MemoryState, IsLive, object_at, region_of, bytes_of, rewritten, with_region}
 use Rattle.vk_resources.specs.declared.resources.Placed.{Placed}
 use Rattle.vk_resources.specs.Held.{IsApart, placed_in}
-use Rattle.vk_resources.proofs.Live.{live_below, region_of-same, region_of-other}
+use Rattle.vk_memory.proofs.LiveObjects.{live_below, region_of-same, region_of-other}
 
 -- a buffer in a live object that is long enough
 abbrev IsInside : MemoryState → Placed → Type 0

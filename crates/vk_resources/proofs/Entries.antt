@@ -9,24 +9,21 @@ use Rattle.std.specs.List.{range_with_len}
 use Rattle.vk_heap.specs.Region.{piece}
 use Rattle.vk_memory.specs.MemoryState.{MemoryState, IsLive, region_of, bytes_of, fresh, object_at, remapped, with_mapped}
 use Rattle.vk_memory.specs.declared.memories.Object.{Object}
-use Rattle.vk_resources.proofs.Live.{live_below}
+use Rattle.vk_memory.proofs.LiveObjects.{live_below}
 use Rattle.vk_model.specs.declared.entry.Entry.{Entry}
 use Rattle.vk_model.specs.declared.entry.Entry.TheVariants as entry
 use Rattle.vk_model.specs.declared.resource.BufferInfo.{BufferInfo}
 use Rattle.vk_model.specs.Trace.Point.{Past}
 use Rattle.vk_model.specs.Basics.{below, round_up}
 use Rattle.vk_model.specs.Trace.Objects.{made, buffer, buffer_in}
-use Rattle.vk_model.specs.Trace.Order.{host}
-use Rattle.vk_model.specs.World.Bytes.{Byte, in_buffer, in_image}
-use Rattle.vk_model.specs.World.Effect.{world}
-use Rattle.vk_model.specs.World.Meaning.{bytes_at, read_in}
+use Rattle.vk_model.specs.World.Bytes.{in_buffer, in_image}
 use Rattle.vk_resources.specs.declared.applied.Applied.{Applied}
 use Rattle.vk_resources.specs.declared.applied.Applied.TheVariants as applied
 use Rattle.vk_resources.specs.declared.resources.Placed.{Placed}
-use Rattle.vk_resources.specs.Held.{Held, IsApart, placed, byte_in, byte_at, IsThere, MatchesSizes}
+use Rattle.vk_resources.specs.Held.{Held, IsApart, placed, byte_in, byte_at, MatchesSizes}
 use Rattle.vk_resources.specs.Inner.Steps.{MapsAt, Makes, MadeOr}
 use Rattle.vk_resources.specs.Fits.{FitsEntry, FitsRead}
-use Rattle.vk_resources.specs.Done.{KeepsBytes, Goes, ReadsBytes, ReadsNothing, DoneBy}
+use Rattle.vk_resources.specs.Done.{KeepsBytes, Goes, DoneBy}
 use Rattle.vk_resources.proofs.Pieces.{there_placed}
 
 -- ---- a new buffer

@@ -1,4 +1,3 @@
-pub mod Live
 mod Apart
 mod Pieces
 mod Entries

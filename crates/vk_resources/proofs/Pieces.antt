@@ -1,5 +1,5 @@
 -- A piece of a fill, on the bytes of all resources.
-use Rattle.std.proofs.Common.{◌≡◌, ℕ, ◌+◌, ◌*◌, ◌/◌, ◌%◌, ◌<◌, ◌≤◌, List, [], map, length, Bool, true, false, eqb, eq-eqb, refl, ap, sym, ◌∙◌, subst, arith, zero-add, slice_index, Option, Some, None}
+use Rattle.std.proofs.Common.{◌≡◌, ℕ, ◌+◌, ◌*◌, ◌/◌, ◌%◌, ◌<◌, ◌≤◌, List, length, Bool, true, false, eqb, eq-eqb, refl, ap, sym, ◌∙◌, subst, arith, zero-add, slice_index, Option, Some, None}
 use Rattle.std.proofs.lemmas.Bool.{eqb-true, eqb-false, and_parts}
 use Rattle.std.specs.Prelude.{IfSome, IsTrue, Contains, option_map, slice_get}
 use Rattle.std.specs.List.{range_with_len}
@@ -8,11 +8,11 @@ use Rattle.vk_model.specs.declared.command.Cmd.{Cmd}
 use Rattle.vk_model.specs.declared.command.Cmd.TheVariants as cmd
 use Rattle.vk_model.specs.declared.command.Length.{Length}
 use Rattle.vk_model.specs.declared.resource.BufferInfo.{BufferInfo}
-use Rattle.vk_model.specs.Basics.{below, byte_of}
+use Rattle.vk_model.specs.Basics.{byte_of}
 use Rattle.vk_model.specs.Trace.Point.{Past}
 use Rattle.vk_model.specs.Trace.Objects.{buffer}
 use Rattle.vk_model.specs.World.Bytes.{Byte, in_buffer, in_image, same_byte}
-use Rattle.vk_model.specs.World.ByteWrites.{ByteWrite, Source, Value, byte_writes, buffer_size, fill_size}
+use Rattle.vk_model.specs.World.ByteWrites.{ByteWrite, Source, Value, buffer_size, fill_size}
 use Rattle.vk_model.specs.Run.Pieces.{cut, pieces}
 use Rattle.vk_model.specs.Run.CachedRuns.{write_to}
 use Rattle.vk_transfer.specs.declared.filling.Fill.{Fill}
@@ -26,10 +26,10 @@ use Rattle.vk_resources.specs.Fits.{FitsFill, FitsCommand}
 use Rattle.vk_resources.specs.Done.{PieceReady}
 use Rattle.vk_resources.specs.Inner.Steps.{fill_of}
 use Rattle.std.specs.Int.{to_le_bytes, w32}
-use Rattle.std.proofs.lemmas.Grind.{common_steps}
 use Rattle.vk_heap.specs.Region.{splice, repeated}
 use Rattle.vk_heap.proofs.RegionLemmas.{length-repeated}
-use Rattle.vk_resources.proofs.Live.{region_of-same, region_of-other}
+use Rattle.vk_heap.proofs.SpliceLemmas.{length-splice}
+use Rattle.vk_memory.proofs.LiveObjects.{region_of-same, region_of-other}
 use Rattle.vk_resources.proofs.Apart.{apart_rewritten}
 
 -- ---- the size of a placed buffer is the one that was asked for
@@ -131,9 +131,6 @@ module _ (s : Held) (apart : IsApart s.memory s.buffers) (b : ℕ) (p : Placed) 
   piece_ran (in_image x l a y z q) = rw (missed (in_image x l a y z q) (λ j same. absurd cc) (write_to (in_image x l a y z q) (fill_piece b f i)) refl) refl
 
 -- ---- the fill that is found for a command
-
-length-splice : (xs ys : List ℕ) (at : ℕ) → at + length ys ≤ length xs → length (splice xs at ys) ≡ length xs
-length-splice xs ys at le = grind (arith, common_steps)
 
 module _ (s : Held) (y : Cmd) (b o : ℕ) (n : Length) (w object : ℕ) (f : Fill) (is : y ≡ cmd.Fill b o n w) (at : option_map (fill_of o n w) (placed s b) ≡ Some (object, f)) where
   -- it is that of the buffer

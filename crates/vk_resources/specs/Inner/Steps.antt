@@ -1,5 +1,5 @@
 -- What each step asks of resources, and what it changes there.
-use Rattle.std.specs.Prelude.{◌≡◌, ◌⊎◌, ℕ, ◌+◌, ◌≤◌, List, [], ◌∷◌, ◌++◌, length, true, Option, Some, None}
+use Rattle.std.specs.Prelude.{◌≡◌, ◌⊎◌, ℕ, ◌+◌, ◌≤◌, [], ◌∷◌, ◌++◌, length, true, Option, Some, None}
 use Rattle.vk_memory.specs.MemoryState.{IsFull, IsLive, fresh, with_mapped}
 use Rattle.vk_model.specs.declared.command.Length.{Length}
 use Rattle.vk_model.specs.Basics.{round_up}

@@ -1,8 +1,7 @@
-use Rattle.std.proofs.Common.{◌≡◌, length, sym, ◌∙◌, ap, subst, Some}
+use Rattle.std.proofs.Common.{◌≡◌, sym, ◌∙◌, ap, subst, Some}
 use Rattle.std.specs.Prelude.{option_map}
 use Rattle.vk_memory.specs.MemoryState.{with_region}
 use Rattle.vk_resources.specs.Inner.Steps.{fill_of}
-use Rattle.vk_model.specs.Trace.Point.{Past}
 use Rattle.vk_resources.specs.Held.{Held, placed, byte_at, MatchesSizes}
 use Rattle.vk_transfer.specs.Ran.{HaveRun}
 use Rattle.vk_resources.specs.Done.{PieceReady}

@@ -1,14 +1,14 @@
 -- Live memory objects, and their bytes when some are put there.
 use Rattle.std.proofs.Common.{◌≡◌, inl, inr, ℕ, ◌<◌, List, length, refl, ap, ◌∙◌, get_or-set_same, get_or-set_other, Option, Some, None}
+use Rattle.std.proofs.lemmas.Bool.{cases_lt}
 use Rattle.std.proofs.lemmas.List.{get_or_past}
 use Rattle.std.specs.Prelude.{IsSome}
 use Rattle.vk_memory.specs.MemoryState.{MemoryState, IsLive, region_of, with_region, object_at, bytes_of, rewritten}
 use Rattle.vk_memory.specs.declared.memories.Object.{Object}
-use Rattle.vk_transfer.proofs.Finding.{below_or}
 
 -- a live object has a number that was given
 pub live_below : (m : MemoryState) (o : ℕ) → IsLive m o → o < length m.objects
-live_below m o live = elim (below_or o (length m.objects)) [
+live_below m o live = elim (cases_lt o (length m.objects)) [
   | inl lt ↦ lt
   | inr le ↦ let none : IsSome {T = Object} None = rw (get_or_past m.objects o None le) at live in absurd cc
 ]
