@@ -1,10 +1,9 @@
--- What is looked for among what a function gives for numbers, and the bytes of what was spliced.
-use Rattle.std.proofs.Common.{◌≡◌, ◌⊎◌, inl, inr, ℕ, zero, suc, ◌+◌, ◌-◌, ◌*◌, ◌%◌, ◌<◌, ◌≤◌, List, map, length, Bool, true, false, refl, ap, ◌∙◌, arith, cond, get_or, Some, None}
-use Rattle.std.proofs.lemmas.Grind.{elements}
+-- What is looked for among what a function gives for numbers, and the bytes of a word that is repeated.
+use Rattle.std.proofs.Common.{◌≡◌, ℕ, zero, suc, ◌+◌, ◌*◌, ◌%◌, ◌<◌, ◌≤◌, map, Bool, true, false, refl, ap, ◌∙◌, arith, cond, get_or, Some, None}
 use Rattle.std.proofs.Math.Nat.{add-mod_left}
 use Rattle.std.specs.List.{find, range_with_len}
 use Rattle.std.specs.Int.{to_le_bytes, w32}
-use Rattle.vk_heap.specs.Region.{splice, repeated}
+use Rattle.vk_heap.specs.Region.{repeated}
 use Rattle.vk_model.specs.Basics.{byte_of}
 
 -- what is looked for is at one number of the range
@@ -38,18 +37,3 @@ word_at (suc n) w (suc (suc (suc (suc j)))) lt =
     let four : suc (suc (suc (suc j))) ≡ 4 + j = omega arith in
     let same : suc (suc (suc (suc j))) % 4 ≡ j % 4 = ap (λ (i : ℕ). i % 4) four ∙ add-mod_left 4 j in
     rw same (word_at n w j (omega arith))
-
--- the region's bytes around, and in, what was spliced in
-pub splice_before : (xs ys : List ℕ) (at k : ℕ) → k < at → at + length ys ≤ length xs → get_or (splice xs at ys) k 0 ≡ get_or xs k 0
-splice_before xs ys at k lt le = grind (arith, elements)
-
-pub splice_in : (xs ys : List ℕ) (at k : ℕ) → at ≤ k → k < at + length ys → at + length ys ≤ length xs → get_or (splice xs at ys) k 0 ≡ get_or ys (k - at) 0
-splice_in xs ys at k ge lt le = grind (arith, elements)
-
-pub splice_after : (xs ys : List ℕ) (at k : ℕ) → at + length ys ≤ k → at + length ys ≤ length xs → get_or (splice xs at ys) k 0 ≡ get_or xs k 0
-splice_after xs ys at k ge le = grind (arith, elements)
-
-pub below_or : (k at : ℕ) → (k < at) ⊎ (at ≤ k)
-below_or k zero = inr (omega arith)
-below_or zero (suc at) = inl (omega arith)
-below_or (suc k) (suc at) = elim (below_or k at) [ inl h ↦ inl (omega (arith, h)) | inr h ↦ inr (omega (arith, h)) ]

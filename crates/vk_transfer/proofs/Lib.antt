@@ -1,3 +1,8 @@
 pub mod Cutting
 pub mod Finding
+pub mod Ranges
+pub mod Spliced
 pub mod FillPieces
+pub mod UpdatePieces
+pub mod CopiedBytes
+mod Counting

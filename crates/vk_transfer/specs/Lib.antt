@@ -1,2 +1,5 @@
 pub mod Ran
 pub mod Fills
+pub mod Updates
+pub mod Copies
+pub mod Inner

@@ -1,5 +1,5 @@
 -- What it means that byte writes have been made.
-use Rattle.std.specs.Prelude.{◌≡◌, ℕ, ◌+◌, ◌==◌, List, slice_index, Option, Some, None, if◌then◌else◌}
+use Rattle.std.specs.Prelude.{◌≡◌, ℕ, ◌+◌, ◌≤◌, ◌⊎◌, ◌==◌, nat_lt, List, slice_index, Option, Some, None, if◌then◌else◌}
 use Rattle.vk_model.specs.World.Bytes.{Byte, in_buffer, in_image}
 use Rattle.vk_model.specs.World.ByteWrites.{Source, Value, From, ByteWrite}
 use Rattle.vk_model.specs.Run.CachedRuns.{write_to}
@@ -22,3 +22,32 @@ HaveRun ms old new = (c : Byte) → new c ≡ stored (write_to c ms) old c
 abbrev pub bytes_in : List ℕ → ℕ → ℕ → Byte → ℕ
 bytes_in region start b (in_buffer c k) = if b == c then slice_index region (start + k) else 0
 bytes_in region start b (in_image i l a x y p) = 0
+
+-- ---- buffers in several places
+
+-- Where a buffer lies: in a region from a place on, so many bytes (Vulkan, "Resource Memory Association").
+pub record Stretch : Type 0 where
+  pub region : List ℕ
+  pub start : ℕ
+  pub size : ℕ
+
+abbrev pub stretch : List ℕ → ℕ → ℕ → Stretch
+stretch region start size = record { region = region; start = start; size = size }
+
+-- Byte k of what lies in a stretch; 0 beyond its end, and where there is none.
+abbrev pub byte_in : Option Stretch → ℕ → ℕ
+byte_in None k = 0
+byte_in (Some p) k = if nat_lt k p.size then slice_index p.region (p.start + k) else 0
+
+-- The bytes of buffers, each of which lies in its stretch, if it has one; no image has a byte.
+abbrev pub bytes_of : (ℕ → Option Stretch) → Byte → ℕ
+bytes_of stretches (in_buffer c k) = byte_in (stretches c) k
+bytes_of stretches (in_image i l a x y p) = 0
+
+-- Buffer s lies in a stretch, and buffer d in another.
+abbrev pub two_buffers : ℕ → Stretch → ℕ → Stretch → ℕ → Option Stretch
+two_buffers s p d q c = if d == c then Some q else if s == c then Some p else None
+
+-- The m bytes from a place on and the n bytes from another on share none.
+abbrev pub AreApart : ℕ → ℕ → ℕ → ℕ → Type 0
+AreApart start m other n = (start + m ≤ other) ⊎ (other + n ≤ start)

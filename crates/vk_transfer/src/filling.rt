@@ -5,10 +5,8 @@ ghost use Rattle.vk_model.specs.Run.Pieces.{cut};
 ghost use Rattle.vk_transfer.specs.Fills.{fill_writes, fill_piece, piece_size};
 ghost use Rattle.vk_transfer.specs.Ran.{bytes_in, HaveRun};
 
+use crate::pieces::{PIECE, piece_count, piece_size};
 use vk_heap::Region;
-
-/// A piece has this many bytes at most (profile).
-const PIECE: u64 = 4096;
 
 /// A fill of a buffer, with the bytes that it writes there (Vulkan, "Filling Buffers").
 #[derive(Clone, Copy, Debug, Drop, PartialEq, Eq)]
@@ -23,15 +21,11 @@ pub struct Fill {
 
 impl Fill {
     /// How many pieces it is run in.
+    #[tactic(auto, using(crate::proofs::FillPieces::writes_size))]
     pub fn pieces(&self) -> u64
         ensures { (b : ℕ) → result ≡ length (cut 4096 (fill_writes b self.now)) }
     {
-        let whole = self.size / PIECE;
-        if self.size % PIECE == 0 {
-            whole
-        } else {
-            whole + 1
-        }
+        piece_count(self.size)
     }
 
     /// Runs the piece of this number on the region in which the buffer lies from `start` on.
@@ -45,7 +39,7 @@ impl Fill {
         // A region's size is a whole number of 64 bits, so the places in it are too.
         let _size = region.size();
         let before = PIECE * number;
-        let size = PIECE.min(self.size - before);
+        let size = piece_size(self.size, number);
         region.fill(start + self.offset + before, size / 4, self.word);
     }
 }
