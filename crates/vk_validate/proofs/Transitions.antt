@@ -2,3 +2,4 @@ pub mod Undefined
 pub mod Keeping
 pub mod Elements
 pub mod Named
+pub mod Commands

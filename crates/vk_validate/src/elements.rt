@@ -1,8 +1,9 @@
 ghost use Rattle.std.specs.Prelude.{◌≡◌};
+ghost use Rattle.vk_model.specs.World.Ownership as ownership;
 ghost use Rattle.vk_order.specs.PointViews.{action_of};
 ghost use Rattle.vk_validate.specs.Inner.Layouts.{elements_at};
 
-use vk_model::{Cmd, Element};
+use vk_model::{Cmd, Element, ImageElement};
 use vk_order::{Action, Point};
 
 /// The elements of the barrier that a point is; of another point there are none.
@@ -13,4 +14,11 @@ pub fn elements_of<'a>(point: &Point<'a>) -> &'a [Element]
         Action::Run(Cmd::Barrier { elements }) => elements.as_slice(),
         _ => &[],
     }
+}
+
+/// Whether an image element is a layout transition: its layouts differ.
+pub fn is_transition(element: &ImageElement) -> bool
+    ensures { result ≡ ownership.is_transition element.now }
+{
+    element.old_layout != element.new_layout
 }

@@ -22,6 +22,7 @@ ghost use Rattle.vk_validate.specs.Inner.Contents.{AreContentsIn};
 ghost use Rattle.vk_validate.specs.Inner.Tabled.{spot_view, set_view, maker_view};
 
 mod pools;
+mod resources;
 
 use crate::contents::BufferContents;
 use crate::events::EventSet;

@@ -11,7 +11,7 @@ ghost use Rattle.vk_validate.specs.Inner.Judged.{IsJudged};
 ghost use Rattle.vk_validate.specs.Inner.Layouts.{AreCurrent, AreKept, AreThere, is_there, has_subresources, transition_of, is_in_undefined, HasRoom, IsNew, IsSet, SetIn};
 ghost use Rattle.vk_validate.specs.Inner.Tabled.{AreObjects};
 
-use crate::elements::elements_of;
+use crate::elements::{elements_of, is_transition};
 use crate::families::family_of;
 use crate::objects::Objects;
 use std::alloc::{AllocError, Global};
@@ -51,7 +51,7 @@ impl CurrentLayouts {
 
     /// Takes the next point, where these are the objects so far. After an error the layouts may
     /// have some of it.
-    pub fn note(&mut self, point: &Point<'_>, objects: &Objects<'_>) -> Result<(), AllocError>
+    pub fn note_with(&mut self, point: &Point<'_>, objects: &Objects<'_>) -> Result<(), AllocError>
         ensures { OnOk result ((past : Past) → IsJudged (point_of point.now ∷ past)
             → AreObjects objects.now past → AreCurrent self.old past
             → AreCurrent self.new (point_of point.now ∷ past)) }
@@ -170,7 +170,7 @@ fn transition_of(family: u32, element: &Element) -> Option<&ImageElement>
     };
     let transfer = Transfer::of(family, on_image.families);
     let acts = matches!(transfer, Transfer::Stays | Transfer::Acquire);
-    if acts && on_image.old_layout != on_image.new_layout {
+    if acts && is_transition(on_image) {
         Some(on_image)
     } else {
         None

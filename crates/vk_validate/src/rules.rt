@@ -13,6 +13,7 @@ ghost use Rattle.vk_validate.specs.Inner.Conflicts.{AreConflicts};
 mod binding;
 mod hazards;
 mod ids;
+mod layouts;
 mod mapping;
 mod owners;
 mod passes;
@@ -109,8 +110,8 @@ fn first_of(
 }
 
 // Points of the supported forms can't break the rules that aren't listed. Those compare resources
-// that are bound to memory objects, regions of a command, layouts of images or owners, or ask
-// whether a pass finds commands.
+// that are bound to memory objects, regions of a command or owners, or ask whether a pass finds
+// commands.
 fn breaks_early(rule: Rule, history: &History<'_>, point: &Point<'_>, is_unordered: bool) -> bool
     requires supported { IsTrue (is_supported_action (action_of point.now.action)) }
     requires ordered { IsOrdered (point_of point.now ∷ past history.now) }
@@ -135,6 +136,8 @@ fn breaks_early(rule: Rule, history: &History<'_>, point: &Point<'_>, is_unorder
         Rule::Format => ranges::breaks_format(history, point),
         Rule::Subresource => ranges::breaks_subresource(history, point),
         Rule::Stage => synchronization::breaks_stage(point),
+        Rule::Layout => layouts::breaks_layout(history, point),
+        Rule::OldLayout => layouts::breaks_old_layout(history, point),
         Rule::OwnerWhole => owners::breaks_owner_whole(history, point),
         Rule::EventState => synchronization::breaks_event_state(history, point),
         Rule::EventDependency => synchronization::breaks_event_dependency(history, point),

@@ -9,6 +9,7 @@ use crate::contents::Contents;
 use crate::defrags::Defrags;
 use crate::endings::Endings;
 use crate::events::Events;
+use crate::layouts::CurrentLayouts;
 use crate::mappings::Mappings;
 use crate::objects::Objects;
 use crate::occupants::Occupants;
@@ -26,6 +27,7 @@ pub struct Tables<'a> {
     pub defrags: Defrags,
     pub semaphores: Semaphores,
     pub events: Events<'a>,
+    pub layouts: CurrentLayouts,
     pub contents: Contents,
     pub frontier: Frontier,
 }
@@ -43,6 +45,7 @@ impl<'a> Tables<'a> {
             defrags: Defrags::new(alloc),
             semaphores: Semaphores::new(alloc),
             events: Events::new(alloc),
+            layouts: CurrentLayouts::new(alloc),
             contents: Contents::new(alloc),
             frontier: Frontier::new(alloc),
         }
@@ -58,6 +61,7 @@ pub fn note<'a>(tables: &mut Tables<'a>, point: &Point<'a>) -> Result<(), AllocE
     tables.mappings.note(point, &tables.objects)?;
     tables.occupants.note(point, &tables.objects)?;
     tables.defrags.note(point, &tables.objects)?;
+    tables.layouts.note_with(point, &tables.objects)?;
     tables.objects.note(point)?;
     tables.endings.note(point)?;
     tables.events.note(point)?;

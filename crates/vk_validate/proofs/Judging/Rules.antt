@@ -75,6 +75,8 @@ pub record IsUntested (r : Rule) : Type 0 where
   pub format : r ≡ rule.Format → ⊥
   pub subresource : r ≡ rule.Subresource → ⊥
   pub stage : r ≡ rule.Stage → ⊥
+  pub layout : r ≡ rule.Layout → ⊥
+  pub old_layout : r ≡ rule.OldLayout → ⊥
   pub owner_whole : r ≡ rule.OwnerWhole → ⊥
   pub event_state : r ≡ rule.EventState → ⊥
   pub event_dependency : r ≡ rule.EventDependency → ⊥
@@ -109,8 +111,8 @@ module _ (past : Past) (p : Point) (now : is_supported_action p.action ≡ true)
   rest_unbroken rule.Format u = absurd (u.format refl)
   rest_unbroken rule.Subresource u = absurd (u.subresource refl)
   rest_unbroken rule.Stage u = absurd (u.stage refl)
-  rest_unbroken rule.Layout u = sym (unbroken.no_layout past p now)
-  rest_unbroken rule.OldLayout u = sym (unbroken.no_old_layout past p now)
+  rest_unbroken rule.Layout u = absurd (u.layout refl)
+  rest_unbroken rule.OldLayout u = absurd (u.old_layout refl)
   rest_unbroken rule.OwnerWhole u = absurd (u.owner_whole refl)
   rest_unbroken rule.OwnerPair u = sym (no_owner_pair past p now)
   rest_unbroken rule.EventState u = absurd (u.event_state refl)

@@ -5,10 +5,8 @@ use Rattle.vk_model.specs.declared.command.Element.{Element}
 use Rattle.vk_model.specs.declared.command.Element.TheVariants as element
 use Rattle.vk_model.specs.Basics.{some_pair}
 use Rattle.vk_model.specs.Trace.Point.{Past, Point, Action, Host, Run, on_host}
-use Rattle.vk_model.specs.World.Effect.{world}
 use Rattle.vk_model.specs.Rules.Binding.{breaks_aliased}
 use Rattle.vk_model.specs.Rules.Ranges.{breaks_overlap, transitions_meet}
-use Rattle.vk_model.specs.Rules.Layouts.{breaks_layout, breaks_old_layout, bad_transition, bad_old_layout}
 use Rattle.vk_model.specs.Rules.Passes.{breaks_pass_busy}
 use Rattle.vk_model.specs.Rules.Hazards.{breaks_in_use}
 use Rattle.vk_validate.specs.Supported.{is_supported_action, is_memory}
@@ -34,15 +32,6 @@ module _ (past : Past) (p : Point) (supported : is_supported_action p.action ≡
       let P : Action → Type 0 = λ d. breaks_overlap past (record p { action = d }) ≡ false in
       action_cases P (entry_cases (λ x. P (Host x)) (λ i b t is other. refl) (λ b. refl) (λ b o n. refl) (λ i v. refl) (λ i. refl) (λ s v. refl) (λ ws. refl) (λ q bs. refl)) (λ w. refl) (command_cases (λ c. P (Run c)) (λ b o n w. refl) (λ es all. memory_pairs es all) (λ v ms. refl) (λ v ms. refl)) (λ s. refl) p.action supported
 
-  pub no_layout : breaks_layout past p ≡ false
-  no_layout =
-      let P : Action → Type 0 = λ d. breaks_layout past (record p { action = d }) ≡ false in
-      action_cases P (entry_cases (λ x. P (Host x)) (λ i b t is other. refl) (λ b. refl) (λ b o n. refl) (λ i v. refl) (λ i. refl) (λ s v. refl) (λ ws. refl) (λ q bs. refl)) (λ w. refl) (command_cases (λ c. P (Run c)) (λ b o n w. refl) (λ es all. memory_any bad_transition (λ d. refl) es all) (λ v ms. refl) (λ v ms. refl)) (λ s. refl) p.action supported
-
-  pub no_old_layout : breaks_old_layout past p ≡ false
-  no_old_layout =
-      let P : Action → Type 0 = λ d. breaks_old_layout past (record p { action = d }) ≡ false in
-      action_cases P (entry_cases (λ x. P (Host x)) (λ i b t is other. refl) (λ b. refl) (λ b o n. refl) (λ i v. refl) (λ i. refl) (λ s v. refl) (λ ws. refl) (λ q bs. refl)) (λ w. refl) (command_cases (λ c. P (Run c)) (λ b o n w. refl) (λ es all. memory_any (bad_old_layout (world past) p.queue) (λ d. refl) es all) (λ v ms. refl) (λ v ms. refl)) (λ s. refl) p.action supported
 
   pub no_pass_busy : breaks_pass_busy past p ≡ false
   no_pass_busy =

@@ -19,6 +19,7 @@ use Rattle.vk_validate.specs.declared.events.EventSet.{EventSet}
 use Rattle.vk_validate.specs.declared.events.Events.{Events}
 use Rattle.vk_validate.specs.Inner.Counted.{AreMappings, AreOccupants, AreDefrags}
 use Rattle.vk_validate.specs.Inner.Ended.{AreEndings}
+use Rattle.vk_validate.specs.Inner.Layouts.{AreCurrent}
 use Rattle.vk_validate.specs.Inner.Made.{Numbered, last_maker, Set, last_set}
 use Rattle.vk_validate.specs.Inner.Touched.{last_signaler, signal_spot}
 
@@ -60,5 +61,6 @@ pub record IsTabled (tables : Tables) (past : Past) : Type 0 where
   pub defrags : AreDefrags tables.defrags past
   pub semaphores : AreSemaphores tables.semaphores past
   pub events : AreEvents tables.events past
+  pub layouts : AreCurrent tables.layouts past
   pub contents : AreContents tables.contents past
   pub frontier : IsFrontier tables.frontier (nodes past)

@@ -70,6 +70,14 @@ pub returns-in-Stage : goal.returns-in-Stage
 unfolding breaks_early breaks
 returns-in-Stage c = rw c.in-Stage.is c.breaks_stage.ensures
 
+pub returns-in-Layout : goal.returns-in-Layout
+unfolding breaks_early breaks
+returns-in-Layout c = rw c.in-Layout.is c.breaks_layout.ensures
+
+pub returns-in-OldLayout : goal.returns-in-OldLayout
+unfolding breaks_early breaks
+returns-in-OldLayout c = rw c.in-OldLayout.is c.breaks_old_layout.ensures
+
 pub returns-in-OwnerWhole : goal.returns-in-OwnerWhole
 unfolding breaks_early breaks
 returns-in-OwnerWhole c = rw c.in-OwnerWhole.is c.breaks_owner_whole.ensures
@@ -138,6 +146,8 @@ returns-in_default c =
       format = d.not-Format;
       subresource = d.not-Subresource;
       stage = d.not-Stage;
+      layout = d.not-Layout;
+      old_layout = d.not-OldLayout;
       owner_whole = d.not-OwnerWhole;
       event_state = d.not-EventState;
       event_dependency = d.not-EventDependency;

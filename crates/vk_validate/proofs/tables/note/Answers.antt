@@ -19,6 +19,7 @@ returns c = λ past judged tabled.
       endings = c.in_ok-note-5.ensures past tabled.endings;
       semaphores = c.in_ok-note-7.ensures past line_is place_is tabled.semaphores;
       events = c.in_ok-note-6.ensures past tabled.events;
+      layouts = c.in_ok-note_with.ensures past judged tabled.objects tabled.layouts;
       contents = c.in_ok-note-8.ensures past judged (place_is ∙ ap (next_place past) line_is) tabled.contents;
       frontier = c.in_ok-advance.ensures (nodes past) (ordered_new (p ∷ past) past p judged.ordered newest) tabled.frontier;
     }

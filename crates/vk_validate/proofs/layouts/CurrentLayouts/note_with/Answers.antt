@@ -4,7 +4,7 @@ use Rattle.vk_model.specs.World.Effect.{world}
 use Rattle.vk_validate.proofs.Kept.Changes.{on_three}
 use Rattle.vk_validate.proofs.Transitions.Elements.{point_kept}
 use Rattle.vk_validate.proofs.Transitions.Named.{elements_there, grown}
-use Rattle.vk_validate.proofs.layouts.CurrentLayouts.note.Goals as goal
+use Rattle.vk_validate.proofs.layouts.CurrentLayouts.note_with.Goals as goal
 
 pub returns : goal.returns
 returns c =
