@@ -11,6 +11,3 @@ pub use copying::RegionCopy;
 pub use filling::Fill;
 pub use regions::{CopyError, CopyPieces, FoundPiece};
 pub use updating::Update;
-
-#[cfg(test)]
-mod tests;
