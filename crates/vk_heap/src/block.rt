@@ -1,4 +1,4 @@
-//! Raw memory: a block of bytes from an allocator, lent out as slices. Nothing else names a pointer.
+//! Raw memory: a block of bytes from an allocator, lent out as slices. Nothing else has pointers.
 ghost use Rattle.std.specs.Prelude.{◌≡◌, ℕ, ◌^◌, ◌<◌, List, length, replicate, IfSome};
 ghost use Rattle.std.specs.Borrow.{sem, full_share, Array, u8 as byte_row};
 ghost use Rattle.std.specs.Ptr.{room_at, lies_at};

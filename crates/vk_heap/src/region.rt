@@ -9,8 +9,8 @@ use std::marker::Model;
 /// What a new region is filled with, since Vulkan leaves the contents of new memory undefined.
 const FRESH: u8 = 0xcd;
 
-/// The bytes of one memory object, in a block that is freed when the region is dropped. Contracts see
-/// the list of them.
+/// The bytes of one memory object, in a block that is freed when the region is dropped. Contracts
+/// see the list of them.
 pub struct Region {
     block: Block,
     lease: Lease<Global>,
@@ -110,8 +110,8 @@ impl Region {
         into.write(to, &bytes[start..start + len as usize]);
     }
 
-    /// Copies `len` bytes from byte `at` on, as they were, to byte `to` on, and keeps all others. The
-    /// two ranges may overlap.
+    /// Copies `len` bytes from byte `at` on, as they were, to byte `to` on, and keeps all others.
+    /// The two ranges may overlap.
     pub fn copy_within(&mut self, at: u64, to: u64, len: u64)
         requires from { at + len ≤ length self.old }
         requires room { to + len ≤ length self.old }

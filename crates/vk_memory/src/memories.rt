@@ -241,8 +241,8 @@ impl Memories {
         }
     }
 
-    /// Copies `len` bytes of a live object, as they were, from its byte `at` on, to a live object, from
-    /// its byte `to_at` on. They may be one object, and the ranges may overlap.
+    /// Copies `len` bytes of a live object, as they were, from its byte `at` on, to a live object,
+    /// from its byte `to_at` on. They may be one object, and the ranges may overlap.
     pub fn copy(&mut self, from: u64, at: u64, to: u64, to_at: u64, len: u64)
         requires source { IsLive self.old from × (at + len ≤ length (region_of self.old from)) }
         requires destination { IsLive self.old to × (to_at + len ≤ length (region_of self.old to)) }

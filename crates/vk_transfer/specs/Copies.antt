@@ -21,6 +21,6 @@ FitsBuffers g m n = (g.source_offset + g.size ≤ m) × (g.destination_offset + 
 abbrev pub copy_pieces : ℕ → ℕ → List BufferCopy → List (List ByteWrite)
 copy_pieces s d regions = flat_map (λ g. cut 4096 (copy_writes s d g)) regions
 
--- The byte writes of one of them.
+-- The byte writes of one of them (profile).
 abbrev pub copy_piece : ℕ → ℕ → List BufferCopy → ℕ → List ByteWrite
 copy_piece s d regions number = elim (slice_get (copy_pieces s d regions) number) [ None ↦ [] | Some ms ↦ ms ]

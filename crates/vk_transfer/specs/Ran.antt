@@ -31,23 +31,24 @@ pub record Stretch : Type 0 where
   pub start : ℕ
   pub size : ℕ
 
+-- The stretch with these parts.
 abbrev pub stretch : List ℕ → ℕ → ℕ → Stretch
 stretch region start size = record { region = region; start = start; size = size }
 
--- Byte k of what lies in a stretch; 0 beyond its end, and where there is none.
+-- Byte k of what lies in a stretch; 0 beyond its end, and where there is none (Vulkan, "Resource Memory Association").
 abbrev pub byte_in : Option Stretch → ℕ → ℕ
 byte_in None k = 0
 byte_in (Some p) k = if nat_lt k p.size then slice_index p.region (p.start + k) else 0
 
--- The bytes of buffers, each of which lies in its stretch, if it has one; no image has a byte.
+-- The bytes of buffers, each of which lies in its stretch, if it has one; 0 stands for bytes that lie nowhere, as those of images (Vulkan, "Resource Memory Association").
 abbrev pub bytes_of : (ℕ → Option Stretch) → Byte → ℕ
 bytes_of stretches (in_buffer c k) = byte_in (stretches c) k
 bytes_of stretches (in_image i l a x y p) = 0
 
--- Buffer s lies in a stretch, and buffer d in another.
+-- Buffer s lies in a stretch, buffer d in another, and no other buffer anywhere (Vulkan, "Resource Memory Association").
 abbrev pub two_buffers : ℕ → Stretch → ℕ → Stretch → ℕ → Option Stretch
 two_buffers s p d q c = if d == c then Some q else if s == c then Some p else None
 
--- The m bytes from a place on and the n bytes from another on share none.
+-- The m bytes from a place on and the n bytes from another on share none (Vulkan, "Memory Aliasing").
 abbrev pub AreApart : ℕ → ℕ → ℕ → ℕ → Type 0
 AreApart start m other n = (start + m ≤ other) ⊎ (other + n ≤ start)

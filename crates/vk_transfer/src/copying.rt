@@ -25,8 +25,8 @@ impl RegionCopy {
         piece_count(self.region.size)
     }
 
-    /// Runs the piece of this number between two regions of memory: the source lies in `source` from
-    /// `source_start` on, the destination in `destination` from `destination_start` on.
+    /// Runs the piece of this number between two regions of memory: the source lies in `source`
+    /// from `source_start` on, the destination in `destination` from `destination_start` on.
     pub fn run_piece(
         &self,
         number: u64,

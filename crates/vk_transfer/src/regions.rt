@@ -41,8 +41,8 @@ impl<T: Drop> From<AllocFailed<T>> for CopyError {
     }
 }
 
-/// The pieces of a copy between buffers, region by region, to be found by their numbers. Contracts see
-/// the regions.
+/// The pieces of a copy between buffers, region by region, to be found by their numbers. Contracts
+/// see the regions.
 #[derive(Drop)]
 pub struct CopyPieces<'r> {
     regions: &'r [BufferCopy],
