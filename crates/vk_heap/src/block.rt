@@ -2,11 +2,12 @@
 ghost use Rattle.std.specs.Prelude.{◌≡◌, ℕ, ◌^◌, ◌<◌, List, length, replicate, IfSome};
 ghost use Rattle.std.specs.Borrow.{sem, full_share, Array, u8 as byte_row};
 ghost use Rattle.std.specs.Ptr.{room_at, lies_at};
+ghost use base.Fml.{ftrue};
 ghost use denote.RawPtr.{Ptr};
 ghost use Rattle.vk_heap.specs.Inner.Ownership.{bytes_at, bytes_lent, bytes_type};
 
 use std::alloc::Allocator;
-use std::marker::{Model, PhantomData};
+use std::marker::{Model, PhantomData, Send, Sync};
 
 /// A block of bytes, and where it lies. It has no `Drop`: `free` gives it back.
 pub(crate) struct Block {
@@ -21,9 +22,13 @@ impl Model for Block {
     ghost also_shares = { λ b _ κ. bytes_lent b.start b.size b.bytes κ };
 }
 
+unsafe impl Send for Block {}
+
+unsafe impl Sync for Block {}
+
 /// The right to give a block back to its allocator. It takes no space.
 pub(crate) struct Lease<A: Allocator> {
-    marker: PhantomData<A>,
+    marker: PhantomData<*const A>,
     pub(crate) ghost alloc: { A },
     pub(crate) ghost start: { Ptr },
     pub(crate) ghost size: { ℕ },
@@ -31,7 +36,14 @@ pub(crate) struct Lease<A: Allocator> {
 
 impl<A: Allocator> Model for Lease<A> {
     ghost also_owns = { λ l. A.dealloc_token l.alloc (bytes_type l.size) l.start };
+
+    ghost also_shares = { λ _ _ _. ftrue };
 }
+
+unsafe impl<A: Allocator + Send> Send for Lease<A> {}
+
+// A `&` to it holds nothing.
+unsafe impl<A: Allocator> Sync for Lease<A> {}
 
 /// Writes `byte` into each byte of fresh room.
 unsafe fn fill_room(start: *mut u8, size: usize, byte: u8)
