@@ -1,16 +1,15 @@
 -- What a point does to layouts: what its elements do, one after another.
-use Rattle.std.proofs.Common.{◌≡◌, ℕ, List, [], ◌∷◌, Bool, true, false, refl, ap, sym, ◌∙◌, subst, Option, Some, None}
+use Rattle.std.proofs.Common.{◌≡◌, ℕ, List, [], ◌∷◌, Bool, true, false, refl, sym, ◌∙◌, subst}
 use Rattle.std.specs.Prelude.{if◌then◌else◌}
 use Rattle.std.specs.List.{fold}
-use Rattle.vk_model.specs.declared.command.Cmd.{Cmd}
 use Rattle.vk_model.specs.declared.entry.Entry.{Entry}
 use Rattle.vk_model.specs.declared.entry.Entry.TheVariants as entry
 use Rattle.vk_model.specs.World.Bytes.{World}
 use Rattle.vk_model.specs.World.ByteWrites.{byte_writes}
-use Rattle.vk_model.specs.World.Effect.{world, used, after_writes, after_element, after_command, after_host, after_action, flushed, invalidated, reaches}
-use Rattle.vk_model.specs.World.Ownership.{family_of, uses, elements_of}
+use Rattle.vk_model.specs.World.Effect.{used, after_writes, after_element, after_host, after_action, flushed, invalidated, reaches}
+use Rattle.vk_model.specs.World.Ownership.{family_of, uses}
 use Rattle.vk_model.specs.Trace.Objects.{is_exclusive, is_cached}
-use Rattle.vk_model.specs.Trace.Point.{Past, Point, Action, Host, Wait, Run, Signal}
+use Rattle.vk_model.specs.Trace.Point.{Past, Action, Host, Wait, Run, Signal}
 use Rattle.vk_validate.specs.declared.layouts.CurrentLayouts.{CurrentLayouts}
 use Rattle.vk_validate.specs.Inner.Layouts.{AreKept, elements_at}
 

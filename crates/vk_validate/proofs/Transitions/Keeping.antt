@@ -1,13 +1,12 @@
 -- What becomes of the layouts that are kept of images.
-use Rattle.std.proofs.Common.{◌≡◌, ◌≢◌, ℕ, Bool, true, false, ◌&&◌, ◌==◌, not, cond, refl, ap, sym, ◌∙◌, subst, arith, Option, Some, None, length}
-use Rattle.std.specs.Prelude.{IfSome, IsSome, IsTrue, is_some, if◌then◌else◌, option_and_then}
+use Rattle.std.proofs.Common.{◌≡◌, ◌≢◌, ℕ, Bool, true, false, ◌&&◌, ◌==◌, not, refl, ap, sym, ◌∙◌, arith, Option, Some, None}
+use Rattle.std.specs.Prelude.{IfSome, IsSome, IsTrue, is_some, if◌then◌else◌}
 use Rattle.std.specs.Ordering.{nat_cmp}
 use Rattle.std.specs.BTreeMap.{get}
-use Rattle.std.proofs.lemmas.Bool.{eqb-true, eqb-false, eq-eqb, false_from_ne_true}
+use Rattle.std.proofs.lemmas.Bool.{eqb-true, eqb-false, eq-eqb}
 use Rattle.std.proofs.lemmas.Bool.Decides.{nat_tests}
 use Rattle.vk_model.specs.declared.command.ImageElement.{ImageElement}
 use Rattle.vk_model.specs.declared.command.SubresourceRange.{SubresourceRange}
-use Rattle.vk_model.specs.declared.entry.Entry.{Entry}
 use Rattle.vk_model.specs.declared.resource.ImageInfo.{ImageInfo}
 use Rattle.vk_model.specs.Basics.{holds, within}
 use Rattle.vk_model.specs.Trace.Objects.{image}
@@ -17,7 +16,7 @@ use Rattle.vk_model.specs.World.Effect.{layout_after}
 use Rattle.vk_model.specs.Rules.Ranges.{bad_range}
 use Rattle.vk_layouts.specs.ImageLayouts.{ImageLayouts, layout_at, IsWithin}
 use Rattle.vk_validate.specs.declared.layouts.CurrentLayouts.{CurrentLayouts}
-use Rattle.vk_validate.specs.Inner.Layouts.{AreKept, AreOf, AreOfImage, kept_layout, has_subresources, HasRoom, IsNew, IsSet, SetIn}
+use Rattle.vk_validate.specs.Inner.Layouts.{AreKept, AreOf, AreOfImage, kept_layout, has_subresources, HasRoom, IsNew, SetIn}
 
 -- what isn't there
 pub none_there : {A : Type 0} (o : Option A) → is_some o ≡ false → o ≡ None

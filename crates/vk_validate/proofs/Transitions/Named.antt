@@ -1,12 +1,11 @@
 -- That what the elements of a judged point name is there, and that images stay what they are.
-use Rattle.std.proofs.Common.{◌≡◌, ◌<◌, ℕ, List, [], ◌∷◌, Bool, true, false, not, ◌||◌, refl, ap, sym, ◌∙◌, subst, Option, Some, None, length, arith}
-use Rattle.std.specs.Prelude.{IfSome, IsTrue, is_some, if◌then◌else◌, option_and_then, Contains, All, slice_index_or}
+use Rattle.std.proofs.Common.{◌≡◌, ◌<◌, ℕ, List, [], ◌∷◌, Bool, true, false, not, ◌||◌, refl, subst, Option, Some, None, length, arith}
+use Rattle.std.specs.Prelude.{IfSome, IsTrue, is_some, if◌then◌else◌, option_and_then, Contains, slice_index_or}
 use Rattle.std.specs.List.{list_any, flat_map}
 use Rattle.std.specs.Ordering.{nat_cmp}
 use Rattle.std.specs.BTreeMap.{get}
 use Rattle.std.proofs.lemmas.Bool.{false_from_ne_true, not-false, or_parts}
 use Rattle.std.proofs.lemmas.List.{get_or_default}
-use Rattle.vk_model.specs.declared.command.Cmd.{Cmd}
 use Rattle.vk_model.specs.declared.command.Cmd.TheVariants as cmd
 use Rattle.vk_model.specs.declared.command.Element.{Element}
 use Rattle.vk_model.specs.declared.command.Element.TheVariants as element
@@ -17,9 +16,9 @@ use Rattle.vk_model.specs.declared.rule.Rule.TheVariants as rule
 use Rattle.vk_model.specs.Basics.{holds}
 use Rattle.vk_model.specs.Trace.Objects.{made, ended, live, image, image_in}
 use Rattle.vk_model.specs.Trace.Point.{Past, Point, Action, Host, Wait, Run, Signal, host_of, command_of}
-use Rattle.vk_model.specs.Rules.Ids.{breaks_live_id, is_dead, is_image, until, asked_by, asked_by_element, lists_stray}
+use Rattle.vk_model.specs.Rules.Ids.{is_dead, is_image, until, asked_by, asked_by_element, lists_stray}
 use Rattle.vk_model.specs.Rules.Ranges.{breaks_subresource, bad_subresource, bad_element, bad_range}
-use Rattle.vk_model.specs.Rules.Table.{fault, breaks}
+use Rattle.vk_model.specs.Rules.Table.{breaks}
 use Rattle.vk_model.proofs.Rules.Fault.{unbroken_of_none}
 use Rattle.vk_model.proofs.Lists.Members.{member_passes, contains-head, flat_has}
 use Rattle.vk_model.proofs.Lists.Truths.{clash}
@@ -27,7 +26,7 @@ use Rattle.vk_laws.proofs.Nodes.Steady.{made_until, new_ids}
 use Rattle.vk_layouts.specs.ImageLayouts.{ImageLayouts}
 use Rattle.vk_validate.specs.declared.layouts.CurrentLayouts.{CurrentLayouts}
 use Rattle.vk_validate.specs.Inner.Judged.{IsJudged}
-use Rattle.vk_validate.specs.Inner.Layouts.{AreKept, AreOfImage, AreThere, is_there, has_subresources, elements_at}
+use Rattle.vk_validate.specs.Inner.Layouts.{AreKept, AreOfImage, AreThere, is_there, elements_at}
 use Rattle.vk_validate.proofs.Kept.NextPoint.{judged_rest, unbroken, live_id, made_kept}
 
 -- what no item passes fails at a member

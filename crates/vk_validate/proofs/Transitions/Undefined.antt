@@ -1,5 +1,5 @@
 -- Ranges of images whose subresources are all UNDEFINED.
-use Rattle.std.proofs.Common.{◌≡◌, ◌+◌, ◌<◌, ℕ, Bool, true, false, ◌||◌, ◌==◌, not, ap, sym, ◌∙◌, arith}
+use Rattle.std.proofs.Common.{◌≡◌, ◌+◌, ◌<◌, ℕ, true, not, ap, sym, ◌∙◌, arith}
 use Rattle.std.proofs.lemmas.Bool.{not-true}
 use Rattle.std.proofs.lemmas.Bool.Decides.{nat_tests}
 use Rattle.vk_model.specs.declared.command.SubresourceRange.{SubresourceRange}
@@ -19,5 +19,5 @@ undefined_is r l k m is lk lm = grind (arith, nat_tests)
 pub undefined_in : (w : World) (i : ℕ) (r : SubresourceRange) (l : ℕ) → ((k m : ℕ) → w.layout i k m ≡ 0) → is_in_undefined r l ≡ not (has_other_layout w i r l)
 undefined_in w i r l none =
     bool_same (is_in_undefined r l) (not (has_other_layout w i r l))
-      (λ yes. ap not (none_other w i r l (λ k m lk lm. none (r.first_level + k) (r.first_layer + m) ∙ sym (undefined_is r l k m yes lk lm))))
-      (λ no. in_its_layout r l (λ lk lm. sym (no_other w i r l (not-true (has_other_layout w i r l) no) 0 0 lk lm) ∙ none (r.first_level + 0) (r.first_layer + 0)))
+    (λ yes. ap not (none_other w i r l (λ k m lk lm. none (r.first_level + k) (r.first_layer + m) ∙ sym (undefined_is r l k m yes lk lm))))
+    (λ no. in_its_layout r l (λ lk lm. sym (no_other w i r l (not-true (has_other_layout w i r l) no) 0 0 lk lm) ∙ none (r.first_level + 0) (r.first_layer + 0)))

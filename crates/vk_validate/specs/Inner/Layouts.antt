@@ -10,7 +10,7 @@ use Rattle.vk_model.specs.declared.resource.ImageInfo.{ImageInfo}
 use Rattle.vk_model.specs.Basics.{holds, within}
 use Rattle.vk_model.specs.Trace.Objects.{image}
 use Rattle.vk_model.specs.Trace.Point.{Past, Action, Run}
-use Rattle.vk_model.specs.World.Ownership.{Transfer, Stays, Release, Acquire, Neither, transfer, is_transition, elements_of}
+use Rattle.vk_model.specs.World.Ownership.{Transfer, Stays, Acquire, transfer, is_transition, elements_of}
 use Rattle.vk_model.specs.World.Effect.{world}
 use Rattle.vk_model.specs.Rules.Ranges.{bad_range}
 use Rattle.vk_layouts.specs.ImageLayouts.{ImageLayouts, layout_at, IsWithin}

@@ -10,9 +10,7 @@ use crate::elements::is_transition;
 use crate::families::family_of;
 use crate::history::History;
 use vk_layouts::Transfer;
-use vk_model::{
-    BufferImageCopy, Cmd, Element, Families, ImageCopy, Layout, SubresourceRange,
-};
+use vk_model::{BufferImageCopy, Cmd, Element, Families, ImageCopy, Layout, SubresourceRange};
 use vk_order::{Action, Point};
 
 /// LAYOUT: a layout that isn't allowed for its use or isn't current, or a transition between layouts
@@ -63,7 +61,12 @@ fn names_badly(history: &History<'_>, command: &Cmd) -> bool
             regions,
         } => {
             reads_badly(history, *source, *source_layout, regions.as_slice())
-                || writes_badly(history, *destination, *destination_layout, regions.as_slice())
+                || writes_badly(
+                    history,
+                    *destination,
+                    *destination_layout,
+                    regions.as_slice(),
+                )
         }
         _ => false,
     }
@@ -101,7 +104,11 @@ fn reads_badly(history: &History<'_>, image: u32, layout: Layout, regions: &[Ima
     ensures { result ≡ list_any (λ g. layouts.bad_named (world (past history.now)) (layouts.named image layout false g.source_level g.source_first_layer g.layers)) regions.now }
 {
     regions.iter().any(|region| {
-        let range = range_of(region.source_level, region.source_first_layer, region.layers);
+        let range = range_of(
+            region.source_level,
+            region.source_first_layer,
+            region.layers,
+        );
         is_bad_named(history, image, layout, false, &range)
     })
 }

@@ -1,4 +1,4 @@
-use Rattle.std.proofs.Common.{◌≡◌, ◌∙◌, sym, ap, Option}
+use Rattle.std.proofs.Common.{◌∙◌, sym, ap, Option}
 use Rattle.vk_model.specs.World.Effect.{world}
 use Rattle.vk_layouts.specs.ImageLayouts.{ImageLayouts}
 use Rattle.vk_validate.specs.Inner.Layouts.{kept_layout}

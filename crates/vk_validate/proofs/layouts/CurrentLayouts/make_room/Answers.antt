@@ -1,4 +1,4 @@
-use Rattle.std.proofs.Common.{◌≡◌, ◌∙◌, ap, sym, Some}
+use Rattle.std.proofs.Common.{◌∙◌, ap, sym, Some}
 use Rattle.std.specs.Prelude.{option_and_then, option_map}
 use Rattle.vk_model.specs.Trace.Objects.{image_in}
 use Rattle.vk_validate.proofs.Kept.Changes.{on_three}
