@@ -10,4 +10,5 @@ pub mod RuleParts
 pub mod Conflicts
 pub mod Layouts
 pub mod Counted
+pub mod Owners
 pub mod Tabled
