@@ -1,3 +1,4 @@
 pub mod Spread
 pub mod Written
 pub mod Moving
+pub mod Overlaps

@@ -7,6 +7,7 @@ pub mod Ended
 pub mod Contents
 pub mod Changes
 pub mod RuleParts
+pub mod Overlapping
 pub mod Conflicts
 pub mod Layouts
 pub mod Counted

@@ -19,6 +19,8 @@ mod layouts;
 mod mappings;
 mod objects;
 mod occupants;
+mod overlapping;
+mod overlaps;
 mod parts;
 mod places;
 mod regions;

@@ -110,8 +110,7 @@ fn first_of(
 }
 
 // Points of the supported forms can't break the rules that aren't listed. Those compare resources
-// that are bound to memory objects, regions of a command or owners, or ask whether a pass finds
-// commands.
+// that are bound to memory objects or owners, or ask whether a pass finds commands.
 fn breaks_early(rule: Rule, history: &History<'_>, point: &Point<'_>, is_unordered: bool) -> bool
     requires supported { IsTrue (is_supported_action (action_of point.now.action)) }
     requires ordered { IsOrdered (point_of point.now ∷ past history.now) }
@@ -133,6 +132,7 @@ fn breaks_early(rule: Rule, history: &History<'_>, point: &Point<'_>, is_unorder
         Rule::BindAlign => binding::breaks_bind_align(history, point),
         Rule::Range => ranges::breaks_range(history, point),
         Rule::Align => ranges::breaks_align(history, point),
+        Rule::Overlap => ranges::breaks_overlap(history, point),
         Rule::Format => ranges::breaks_format(history, point),
         Rule::Subresource => ranges::breaks_subresource(history, point),
         Rule::Stage => synchronization::breaks_stage(point),

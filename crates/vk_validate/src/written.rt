@@ -10,6 +10,7 @@ ghost use Rattle.vk_validate.specs.Inner.RuleParts.{IsResourceOf};
 
 use crate::families::family_of;
 use crate::history::History;
+use crate::images::changes_layout;
 use vk_model::{
     BufferCopy, BufferImageCopy, Cmd, Element, Entry, Families, ImageCopy, ImageElement,
     SubresourceRange,
@@ -108,12 +109,6 @@ fn changes_some(history: &History<'_>, queue: u32, on_image: &ImageElement) -> b
         && !is_release(queue, on_image.families)
         && is_image(history, on_image.image)
         && has_any(&on_image.range)
-}
-
-fn changes_layout(on_image: &ImageElement) -> bool
-    ensures { result ≡ is_transition on_image.now }
-{
-    on_image.old_layout.code() != on_image.new_layout.code()
 }
 
 /// Whether an element on a queue is the first half of an ownership transfer.

@@ -72,6 +72,7 @@ pub record IsUntested (r : Rule) : Type 0 where
   pub bind_align : r ≡ rule.BindAlign → ⊥
   pub range : r ≡ rule.Range → ⊥
   pub align : r ≡ rule.Align → ⊥
+  pub overlap : r ≡ rule.Overlap → ⊥
   pub format : r ≡ rule.Format → ⊥
   pub subresource : r ≡ rule.Subresource → ⊥
   pub stage : r ≡ rule.Stage → ⊥
@@ -107,7 +108,7 @@ module _ (past : Past) (p : Point) (now : is_supported_action p.action ≡ true)
   rest_unbroken rule.Aliased u = sym (unbroken.no_aliased past p now)
   rest_unbroken rule.Range u = absurd (u.range refl)
   rest_unbroken rule.Align u = absurd (u.align refl)
-  rest_unbroken rule.Overlap u = sym (unbroken.no_overlap past p now)
+  rest_unbroken rule.Overlap u = absurd (u.overlap refl)
   rest_unbroken rule.Format u = absurd (u.format refl)
   rest_unbroken rule.Subresource u = absurd (u.subresource refl)
   rest_unbroken rule.Stage u = absurd (u.stage refl)

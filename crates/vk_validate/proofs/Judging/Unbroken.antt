@@ -14,23 +14,11 @@ use Rattle.vk_validate.specs.Inner.RuleParts.{frees_used}
 use Rattle.vk_validate.proofs.Points.Barriers.{memory_any}
 use Rattle.vk_validate.proofs.Points.Forms.{entry_cases, command_cases, action_cases}
 
--- no two memory dependencies are transitions of one subresource
-memory_pairs : (es : List Element) → list_all is_memory es ≡ true → some_pair transitions_meet es ≡ false
-memory_pairs [] all = refl
-memory_pairs (element.Memory d ∷ es) all = rw (memory_any (transitions_meet (element.Memory d)) (λ e. refl) es all) (memory_pairs es all)
-memory_pairs (element.Buffer e ∷ es) all = absurd cc
-memory_pairs (element.Image e ∷ es) all = absurd cc
-
 module _ (past : Past) (p : Point) (supported : is_supported_action p.action ≡ true) where
   pub no_aliased : breaks_aliased past p ≡ false
   no_aliased =
       let P : Action → Type 0 = λ d. breaks_aliased past (record p { action = d }) ≡ false in
       action_cases P (entry_cases (λ x. P (Host x)) (λ i b t is other. rw is refl) (λ b. refl) (λ b o n. refl) (λ i v. refl) (λ i. refl) (λ s v. refl) (λ ws. refl) (λ q bs. refl)) (λ w. refl) (command_cases (λ c. P (Run c)) (λ b o n w. refl) (λ es all. refl) (λ v ms. refl) (λ v ms. refl)) (λ s. refl) p.action supported
-
-  pub no_overlap : breaks_overlap past p ≡ false
-  no_overlap =
-      let P : Action → Type 0 = λ d. breaks_overlap past (record p { action = d }) ≡ false in
-      action_cases P (entry_cases (λ x. P (Host x)) (λ i b t is other. refl) (λ b. refl) (λ b o n. refl) (λ i v. refl) (λ i. refl) (λ s v. refl) (λ ws. refl) (λ q bs. refl)) (λ w. refl) (command_cases (λ c. P (Run c)) (λ b o n w. refl) (λ es all. memory_pairs es all) (λ v ms. refl) (λ v ms. refl)) (λ s. refl) p.action supported
 
   pub no_pass_busy : breaks_pass_busy past p ≡ false
   no_pass_busy =

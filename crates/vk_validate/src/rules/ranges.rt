@@ -15,6 +15,8 @@ use crate::history::History;
 use crate::images::{
     has_bad_destination, has_bad_range, has_bad_region, has_bad_source, is_bad_range,
 };
+use crate::overlapping::overlaps;
+use crate::overlaps::some_ids_meet;
 use crate::regions::{ends_past, has_destination_past, has_rows_past, has_short, has_source_past};
 use vk_image_tiles::texel_size;
 use vk_model::{
@@ -353,6 +355,31 @@ fn is_element_outside(history: &History<'_>, element: &Element) -> bool
             Some(info) => is_bad_range(info, &on_image.range),
             None => false,
         },
+        _ => false,
+    }
+}
+
+/// OVERLAP: what a region of a command writes, with what another writes or any reads; two transitions of
+/// a subresource; an id twice in the lists of an end of a pass.
+pub fn breaks_overlap(history: &History<'_>, point: &Point<'_>) -> bool
+    ensures { result ≡ ranges.breaks_overlap (past history.now) (point_of point.now) }
+{
+    match point.action {
+        Action::Host(entry) => lists_twice(entry),
+        Action::Run(command) => overlaps(history, command),
+        _ => false,
+    }
+}
+
+fn lists_twice(entry: &Entry) -> bool
+    ensures { result ≡ ranges.lists_twice entry.now }
+{
+    match entry {
+        Entry::EndPass {
+            ignored,
+            destroyed,
+            ..
+        } => some_ids_meet(ignored.as_slice(), destroyed.as_slice()),
         _ => false,
     }
 }

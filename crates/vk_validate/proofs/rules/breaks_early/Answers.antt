@@ -58,6 +58,10 @@ pub returns-in-Align : goal.returns-in-Align
 unfolding breaks_early breaks
 returns-in-Align c = rw c.in-Align.is c.breaks_align.ensures
 
+pub returns-in-Overlap : goal.returns-in-Overlap
+unfolding breaks_early breaks
+returns-in-Overlap c = rw c.in-Overlap.is c.breaks_overlap.ensures
+
 pub returns-in-Format : goal.returns-in-Format
 unfolding breaks_early breaks
 returns-in-Format c = rw c.in-Format.is c.breaks_format.ensures
@@ -143,6 +147,7 @@ returns-in_default c =
       bind_align = d.not-BindAlign;
       range = d.not-Range;
       align = d.not-Align;
+      overlap = d.not-Overlap;
       format = d.not-Format;
       subresource = d.not-Subresource;
       stage = d.not-Stage;
