@@ -1,15 +1,10 @@
 -- The rules that no point of a supported form breaks.
-use Rattle.std.proofs.Common.{◌≡◌, List, [], ◌∷◌, true, false, refl}
-use Rattle.std.specs.List.{list_all}
-use Rattle.vk_model.specs.declared.command.Element.{Element}
-use Rattle.vk_model.specs.declared.command.Element.TheVariants as element
-use Rattle.vk_model.specs.Basics.{some_pair}
+use Rattle.std.proofs.Common.{◌≡◌, true, false, refl}
 use Rattle.vk_model.specs.Trace.Point.{Past, Point, Action, Host, Run, on_host}
 use Rattle.vk_model.specs.Rules.Binding.{breaks_aliased}
-use Rattle.vk_model.specs.Rules.Ranges.{breaks_overlap, transitions_meet}
 use Rattle.vk_model.specs.Rules.Passes.{breaks_pass_busy}
 use Rattle.vk_model.specs.Rules.Hazards.{breaks_in_use}
-use Rattle.vk_validate.specs.Supported.{is_supported_action, is_memory}
+use Rattle.vk_validate.specs.Supported.{is_supported_action}
 use Rattle.vk_validate.specs.Inner.RuleParts.{frees_used}
 use Rattle.vk_validate.proofs.Points.Barriers.{memory_any}
 use Rattle.vk_validate.proofs.Points.Forms.{entry_cases, command_cases, action_cases}

@@ -1,15 +1,11 @@
 -- What holds of a past whose points are all of supported forms.
-use Rattle.std.proofs.Common.{◌≡◌, ℕ, List, [], ◌∷◌, Bool, true, false, ◌==◌, cond, refl, ap, sym, ◌∙◌, Option, Some, None}
-use Rattle.std.specs.Prelude.{option_and_then}
+use Rattle.std.proofs.Common.{◌≡◌, ℕ, List, [], ◌∷◌, Bool, true, false, ◌==◌, cond, refl, ap, sym, ◌∙◌, Some}
 use Rattle.std.specs.List.{list_any, list_all, find, cons_option}
 use Rattle.std.proofs.lemmas.Bool.{and_parts}
 use Rattle.vk_model.specs.declared.entry.Entry.{Entry}
-use Rattle.vk_model.specs.declared.resource.BufferInfo.{BufferInfo}
-use Rattle.vk_model.specs.declared.resource.Place.TheVariants as place
 use Rattle.vk_model.specs.Basics.{holds, among}
 use Rattle.vk_model.specs.Trace.Point.{Past, Point, Action, Host, Wait, Run, Signal, entries, host_of}
-use Rattle.vk_model.specs.Trace.Objects.{made, made_by, ended, ended_by, live, buffer, buffer_in, resource, resource_in, Resource, of_buffer, pool_of, pool_at}
-use Rattle.vk_model.specs.Rules.Passes.{moves_now}
+use Rattle.vk_model.specs.Trace.Objects.{made, made_by, ended, ended_by, live}
 use Rattle.vk_validate.specs.Supported.{is_supported, is_supported_action, is_supported_entry}
 use Rattle.vk_validate.proofs.Points.Forms.{entry_cases}
 

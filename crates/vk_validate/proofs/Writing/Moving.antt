@@ -1,5 +1,5 @@
 -- PASS_WRITE by the acts of a command.
-use Rattle.std.proofs.Common.{◌≡◌, ℕ, List, [], ◌∷◌, Bool, false, ap, sym, ◌∙◌, Option, refl}
+use Rattle.std.proofs.Common.{◌≡◌, ℕ, List, [], ◌∷◌, false, ap, sym, ◌∙◌, Option, refl}
 use Rattle.std.specs.List.{list_any, enumerate_from}
 use Rattle.std.proofs.Math.Bool.{or-false}
 use Rattle.vk_model.specs.declared.command.Cmd.{Cmd}

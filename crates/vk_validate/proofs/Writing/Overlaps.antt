@@ -4,7 +4,7 @@ use Rattle.std.specs.Prelude.{nat_eq}
 use Rattle.std.specs.List.{list_any}
 use Rattle.std.proofs.lemmas.Bool.{eq-eqb}
 use Rattle.std.proofs.lemmas.List.Folds.{list_any-append}
-use Rattle.std.proofs.Math.Bool.{and-false, or-false}
+use Rattle.std.proofs.Math.Bool.{or-false}
 use Rattle.vk_model.specs.declared.command.BufferCopy.{BufferCopy}
 use Rattle.vk_model.specs.declared.command.BufferImageCopy.{BufferImageCopy}
 use Rattle.vk_model.specs.declared.command.ImageCopy.{ImageCopy}
@@ -16,11 +16,10 @@ use Rattle.vk_model.specs.Basics.{some_pair, holds, among}
 use Rattle.vk_model.specs.Trace.Image.{texel}
 use Rattle.vk_model.specs.Trace.Objects.{image}
 use Rattle.vk_model.specs.Trace.Point.{Past}
-use Rattle.vk_model.specs.World.Areas.{Area, Bytes, Rows, Texels, Subresources, areas_meet, areas_read, areas_written, region_rows, region_box, source_box, destination_box, subresources_meet, rows_meet}
+use Rattle.vk_model.specs.World.Areas.{Area, Bytes, Rows, Texels, Subresources, areas_meet, areas_read, areas_written, region_box, source_box, destination_box, subresources_meet, rows_meet}
 use Rattle.vk_model.specs.Rules.Ranges.{command_overlaps, writes_overlap, transitions_meet}
 use Rattle.vk_model.proofs.Lists.Members.{any_same, any_map, none_passes_any}
 use Rattle.vk_validate.specs.Inner.Overlapping.{copies_meet, copy_meets_source, copies_overlap, regions_meet, rows_overlap, image_copies_meet, image_copy_meets_source, image_copies_overlap}
-use Rattle.vk_validate.proofs.Writing.Spread.{any_and}
 
 -- ---- pairs
 

@@ -1,5 +1,5 @@
 -- Tests that give the same for each item of a list, of a grid or of some subresources.
-use Rattle.std.proofs.Common.{◌≡◌, ◌<◌, ◌+◌, ℕ, zero, suc, List, [], ◌∷◌, ◌++◌, map, Bool, true, false, ◌&&◌, ◌||◌, nat_lt, refl, ap, sym, ◌∙◌, arith}
+use Rattle.std.proofs.Common.{◌≡◌, ◌<◌, ◌+◌, ℕ, zero, suc, List, [], ◌∷◌, Bool, true, false, ◌&&◌, ◌||◌, nat_lt, refl, ap, ◌∙◌, arith}
 use Rattle.std.specs.List.{list_any, flat_map, range_with_len, enumerate_from}
 use Rattle.std.proofs.lemmas.Bool.{lt-ltb}
 use Rattle.std.proofs.lemmas.List.Folds.{list_any-append}
@@ -12,7 +12,7 @@ use Rattle.vk_model.specs.Basics.{below, grid}
 use Rattle.vk_model.specs.Trace.Image.{texel, level_width, level_height}
 use Rattle.vk_model.specs.World.Bytes.{Byte, in_image}
 use Rattle.vk_model.specs.World.ByteWrites.{level_bytes, subresource_bytes}
-use Rattle.vk_model.proofs.Lists.Members.{any_same, any_map, none_passes_any, member_passes, range_from, numbers_have}
+use Rattle.vk_model.proofs.Lists.Members.{any_map, none_passes_any, member_passes, range_from, numbers_have}
 
 pub any_flat : {A B : Type 0} (f : B → Bool) (h : A → List B) (xs : List A) → list_any f (flat_map h xs) ≡ list_any (λ x. list_any f (h x)) xs
 any_flat f h [] = refl

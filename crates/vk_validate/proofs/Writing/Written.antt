@@ -1,9 +1,8 @@
 -- Of which resource the bytes are that a command, an element or a host entry writes.
-use Rattle.std.proofs.Common.{◌≡◌, ◌⊎◌, inl, inr, ⊎_elim, ◌≤◌, ◌<◌, ◌+◌, ℕ, List, [], ◌∷◌, map, length, Bool, true, false, not, ◌&&◌, ◌||◌, nat_lt, refl, ap, sym, ◌∙◌, arith, Option, Some, None}
-use Rattle.std.specs.Prelude.{◌↔◌, IsTrue, is_some, option_and_then, if◌then◌else◌}
+use Rattle.std.proofs.Common.{◌≡◌, ◌⊎◌, inl, inr, ⊎_elim, ◌≤◌, ◌<◌, ◌+◌, ℕ, List, [], ◌∷◌, length, Bool, true, false, not, ◌&&◌, nat_lt, refl, ap, sym, ◌∙◌, arith, Option, Some, None}
+use Rattle.std.specs.Prelude.{◌↔◌, IsTrue, is_some, if◌then◌else◌}
 use Rattle.std.specs.List.{list_any, flat_map, enumerate_from}
 use Rattle.std.proofs.lemmas.Bool.{lt-ltb, cases_lt, false≢true}
-use Rattle.std.proofs.Math.Bool.{and-false, or-false}
 use Rattle.vk_model.specs.declared.command.BufferCopy.{BufferCopy}
 use Rattle.vk_model.specs.declared.command.BufferImageCopy.{BufferImageCopy}
 use Rattle.vk_model.specs.declared.command.ImageCopy.{ImageCopy}
@@ -13,11 +12,11 @@ use Rattle.vk_model.specs.declared.command.Cmd.TheVariants as cmd
 use Rattle.vk_model.specs.declared.command.ImageElement.{ImageElement}
 use Rattle.vk_model.specs.declared.command.Element.TheVariants as element
 use Rattle.vk_model.specs.declared.resource.ImageInfo.{ImageInfo}
-use Rattle.vk_model.specs.Basics.{below, byte_of}
+use Rattle.vk_model.specs.Basics.{below}
 use Rattle.vk_model.specs.Trace.Point.{Past}
 use Rattle.vk_model.specs.Trace.Objects.{image}
-use Rattle.vk_model.specs.World.Bytes.{Byte, in_buffer, in_image, resource_at}
-use Rattle.vk_model.specs.World.ByteWrites.{ByteWrite, byte_write, byte_writes, fill_size, buffer_size, copy_writes, clear_writes, copy_in_writes, copy_out_writes, copy_image_writes, subresource_bytes}
+use Rattle.vk_model.specs.World.Bytes.{Byte, in_buffer, resource_at}
+use Rattle.vk_model.specs.World.ByteWrites.{ByteWrite, byte_writes, fill_size, buffer_size, copy_writes, clear_writes, copy_in_writes, copy_out_writes, copy_image_writes, subresource_bytes}
 use Rattle.vk_model.specs.World.Ownership.{is_transition, releases, transfer, family_of}
 use Rattle.vk_model.specs.Sync.Access.{targets, bytes_of, image_bytes, transition_bytes}
 use Rattle.vk_model.proofs.Lists.Members.{any_same, any_map}

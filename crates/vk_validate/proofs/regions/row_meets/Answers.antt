@@ -1,4 +1,4 @@
-use Rattle.std.proofs.Common.{sym, ◌∙◌, ◌*◌, ap, ℕ, arith}
+use Rattle.std.proofs.Common.{sym, ◌∙◌, ◌*◌, arith}
 use Rattle.vk_model.specs.Trace.Image.{texel}
 use Rattle.vk_model.specs.Memory.Suballocation.{ranges_meet}
 use Rattle.vk_model.specs.World.Areas.{row_count, row_start}

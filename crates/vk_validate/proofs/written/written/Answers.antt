@@ -1,6 +1,5 @@
-use Rattle.std.proofs.Common.{◌∙◌, ◌&&◌, ap, sym, Bool, nat_lt, ℕ, List, length}
+use Rattle.std.proofs.Common.{◌∙◌, ◌&&◌, ap, sym, nat_lt, List, length}
 use Rattle.std.specs.Prelude.{is_some}
-use Rattle.vk_model.specs.declared.command.BufferCopy.{BufferCopy}
 use Rattle.vk_model.specs.declared.command.BufferImageCopy.{BufferImageCopy}
 use Rattle.vk_model.specs.declared.command.ImageCopy.{ImageCopy}
 use Rattle.vk_model.specs.declared.command.SubresourceRange.{SubresourceRange}
