@@ -236,7 +236,11 @@ pub fn some_transitions_meet(elements: &[Element]) -> bool
 fn transition_meets_any(element: &Element, others: &[Element]) -> bool
     ensures { result ≡ list_any (rules.transitions_meet element.now) others.now }
 {
-    others.iter().any(|other| transitions_meet(element, other))
+    match element {
+        Element::Memory(_) => false,
+        Element::Buffer(_) => false,
+        Element::Image(_) => others.iter().any(|other| transitions_meet(element, other)),
+    }
 }
 
 fn transitions_meet(one: &Element, other: &Element) -> bool

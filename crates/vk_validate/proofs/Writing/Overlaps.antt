@@ -10,6 +10,9 @@ use Rattle.vk_model.specs.declared.command.BufferImageCopy.{BufferImageCopy}
 use Rattle.vk_model.specs.declared.command.ImageCopy.{ImageCopy}
 use Rattle.vk_model.specs.declared.command.SubresourceRange.{SubresourceRange}
 use Rattle.vk_model.specs.declared.command.Element.{Element}
+use Rattle.vk_model.specs.declared.command.Element.TheVariants as element
+use Rattle.vk_model.specs.declared.command.Dependency.{Dependency}
+use Rattle.vk_model.specs.declared.command.BufferElement.{BufferElement}
 use Rattle.vk_model.specs.declared.command.Cmd.TheVariants as cmd
 use Rattle.vk_model.specs.declared.resource.ImageInfo.{ImageInfo}
 use Rattle.vk_model.specs.Basics.{some_pair, holds, among}
@@ -95,3 +98,18 @@ twice (x ∷ xs) ys = regroup (among x xs) (some_pair nat_eq xs) (among x ys) (l
   regroup false true false d e = refl
   regroup false false true d e = refl
   regroup false false false d e = refl
+
+-- ---- elements on no image
+
+-- no transition meets one that is on all memory or on a buffer
+pub memory_meets : (d : Dependency) (es : List Element) → list_any (transitions_meet (element.Memory d)) es ≡ false
+memory_meets d [] = refl
+memory_meets d (element.Memory f ∷ es) = memory_meets d es
+memory_meets d (element.Buffer f ∷ es) = memory_meets d es
+memory_meets d (element.Image f ∷ es) = memory_meets d es
+
+pub buffer_meets : (e : BufferElement) (es : List Element) → list_any (transitions_meet (element.Buffer e)) es ≡ false
+buffer_meets e [] = refl
+buffer_meets e (element.Memory f ∷ es) = buffer_meets e es
+buffer_meets e (element.Buffer f ∷ es) = buffer_meets e es
+buffer_meets e (element.Image f ∷ es) = buffer_meets e es
