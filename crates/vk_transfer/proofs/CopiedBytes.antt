@@ -1,11 +1,12 @@
 -- A piece of a region of a copy, and the bytes of both buffers after it.
-use Rattle.std.proofs.Common.{◌≡◌, ◌⊎◌, inl, inr, ℕ, ◌+◌, ◌-◌, ◌*◌, ◌<◌, ◌≤◌, List, length, eqb, false, eq-eqb, refl, ap, sym, ◌∙◌, arith, slice_index}
+use Rattle.std.proofs.Common.{◌≡◌, zero, suc, ◌∷◌, map, add-zero, ◌⊎◌, inl, inr, ℕ, ◌+◌, ◌-◌, ◌*◌, ◌<◌, ◌≤◌, List, length, eqb, false, eq-eqb, refl, ap, sym, ◌∙◌, arith, slice_index}
 use Rattle.std.proofs.lemmas.Bool.{lt-ltb, ne_eqb}
+use Rattle.std.specs.List.{range_with_len}
 use Rattle.vk_heap.specs.Region.{splice, piece}
 use Rattle.vk_heap.proofs.SpliceLemmas.{length-piece, get_or-piece, splice-out}
 use Rattle.vk_model.specs.declared.command.BufferCopy.{BufferCopy}
 use Rattle.vk_model.specs.World.Bytes.{in_buffer}
-use Rattle.vk_model.specs.World.ByteWrites.{Source, From, copy_writes}
+use Rattle.vk_model.specs.World.ByteWrites.{Source, From, byte_write, copy_writes}
 use Rattle.vk_transfer.specs.Ran.{bytes_in, bytes_of, two_buffers, stretch, AreApart, HaveRun}
 use Rattle.vk_transfer.specs.Copies.{region_piece, region_piece_size, FitsBuffers}
 use Rattle.vk_transfer.proofs.Ranges.{length-writes, writes, piece_writes}
@@ -26,6 +27,26 @@ module _ (s d : ℕ) (g : BufferCopy) where
 
   piece_is : (i : ℕ) → 4096 * i < g.size → region_piece s d g i ≡ writes d g.destination_offset source (4096 * i) (region_piece_size g i)
   piece_is i here = piece_writes d g.destination_offset source g.size i here
+
+-- the piece as a region of its own
+shifted : {Y : Type 0} (f g : ℕ → Y) (a b n : ℕ) → ((k : ℕ) → f (a + k) ≡ g (b + k)) → map f (range_with_len a n) ≡ map g (range_with_len b n)
+shifted f g a b zero same = refl
+shifted {Y} f g a b (suc n) same =
+    let here : f a ≡ g b = ap f (sym (add-zero a)) ∙ same 0 ∙ ap g (add-zero b) in
+    let rest : map f (range_with_len (a + 1) n) ≡ map g (range_with_len (b + 1) n) = shifted f g (a + 1) (b + 1) n (λ k. ap f (next a k) ∙ same (suc k) ∙ ap g (sym (next b k))) in
+    ap (λ (y : Y). y ∷ map f (range_with_len (a + 1) n)) here ∙ ap (λ (ys : List Y). g b ∷ ys) rest
+  where
+    next : (i k : ℕ) → i + 1 + k ≡ i + suc k
+    next i k = omega arith
+
+pub part_writes : (s d : ℕ) (g : BufferCopy) (i : ℕ) → 4096 * i < g.size
+    → copy_writes s d (record { source_offset = g.source_offset + 4096 * i; destination_offset = g.destination_offset + 4096 * i; size = region_piece_size g i }) ≡ region_piece s d g i
+part_writes s d g i here =
+    let at : (k : ℕ) → g.destination_offset + 4096 * i + (0 + k) ≡ g.destination_offset + (4096 * i + k) = λ k. omega arith in
+    let from : (k : ℕ) → g.source_offset + 4096 * i + (0 + k) ≡ g.source_offset + (4096 * i + k) = λ k. omega arith in
+    shifted (λ k. byte_write (in_buffer d (g.destination_offset + 4096 * i + k)) (From (in_buffer s (g.source_offset + 4096 * i + k)))) (λ k. byte_write (in_buffer d (g.destination_offset + k)) (source s d g k)) 0 (4096 * i) (region_piece_size g i)
+    (λ k. ap (λ (j : ℕ). byte_write (in_buffer d j) (From (in_buffer s (g.source_offset + 4096 * i + (0 + k))))) (at k) ∙ ap (λ (j : ℕ). byte_write (in_buffer d (g.destination_offset + (4096 * i + k))) (From (in_buffer s j))) (from k))
+    ∙ sym (piece_is s d g i here)
 
 -- the bytes of a piece that is read
 abbrev pub read_from : BufferCopy → ℕ → List ℕ → ℕ → List ℕ

@@ -1,4 +1,4 @@
-ghost use Rattle.std.specs.Prelude.{◌≡◌, ◌+◌, ◌*◌, ◌<◌, ◌≤◌, ℕ, length};
+ghost use Rattle.std.specs.Prelude.{◌≡◌, ◌+◌, ◌*◌, ◌^◌, ◌<◌, ◌≤◌, ℕ, length};
 ghost use Rattle.vk_heap.specs.Region.{splice, piece};
 ghost use Rattle.vk_model.specs.Run.Pieces.{cut};
 ghost use Rattle.vk_model.specs.World.ByteWrites.{copy_writes};
@@ -25,6 +25,24 @@ impl RegionCopy {
         piece_count(self.region.size)
     }
 
+    /// The bytes of the piece of this number: where they lie in both buffers, and how many they are.
+    pub fn piece(&self, number: u64) -> BufferCopy
+        requires from { self.now.region.source_offset + self.now.region.size < 2 ^ 64 }
+        requires to { self.now.region.destination_offset + self.now.region.size < 2 ^ 64 }
+        requires piece { 4096 * number < self.now.region.size }
+        ensures writes { (s d : ℕ) → copy_writes s d result ≡ region_piece s d self.now.region number }
+        ensures from { result.source_offset ≡ self.now.region.source_offset + 4096 * number }
+        ensures to { result.destination_offset ≡ self.now.region.destination_offset + 4096 * number }
+        ensures size { result.size ≡ region_piece_size self.now.region number }
+    {
+        let before = PIECE * number;
+        BufferCopy {
+            source_offset: self.region.source_offset + before,
+            destination_offset: self.region.destination_offset + before,
+            size: piece_size(self.region.size, number),
+        }
+    }
+
     /// Runs the piece of this number between two regions of memory: the source lies in `source`
     /// from `source_start` on, the destination in `destination` from `destination_start` on.
     pub fn run_piece(
@@ -46,11 +64,10 @@ impl RegionCopy {
     {
         // A region's size is a whole number of 64 bits, so the places in it are too.
         let _sizes = (source.size(), destination.size());
-        let before = PIECE * number;
-        let size = piece_size(self.region.size, number);
-        let at = source_start + self.region.source_offset + before;
-        let to = destination_start + self.region.destination_offset + before;
-        source.copy_between(at, destination, to, size);
+        let piece = self.piece(number);
+        let from = source_start + piece.source_offset;
+        let to = destination_start + piece.destination_offset;
+        source.copy_between(from, destination, to, piece.size);
     }
 
     /// Runs the piece of this number within one region of memory: the source lies there from
@@ -74,10 +91,9 @@ impl RegionCopy {
     {
         // A region's size is a whole number of 64 bits, so the places in it are too.
         let _size = region.size();
-        let before = PIECE * number;
-        let size = piece_size(self.region.size, number);
-        let at = source_start + self.region.source_offset + before;
-        let to = destination_start + self.region.destination_offset + before;
-        region.copy_within(at, to, size);
+        let piece = self.piece(number);
+        let at = source_start + piece.source_offset;
+        let to = destination_start + piece.destination_offset;
+        region.copy_within(at, to, piece.size);
     }
 }
