@@ -1,5 +1,5 @@
-use vk_buffer::{BindError, Bindings, requirements};
 use std::test::Fail;
+use vk_buffer::{BindError, Bindings, requirements};
 use vk_model::{Kind, Need, Rule, Usage};
 
 /// An image of 8 by 8 texels of a byte each: one tile.

@@ -6,11 +6,11 @@ ghost use Rattle.vk_device.specs.Led.{Led, IsSoundTrace};
 use std::alloc::{AllocError, Global};
 use std::process::Abort;
 use std::test::Fail;
+use vk_device::{Device, Piece, replay};
 use vk_model::{
     Accesses, Batch, BufferInfo, Cmd, Config, Dependency, Element, Entry, Last, Length, Place,
     Scheduler, SemaphoreSubmit, SemaphoreValue, Sequence, Sharing, Stages, Usage,
 };
-use vk_device::{Device, Piece, replay};
 use vk_validate::{Verdict, validate};
 
 /// Picks the first, and keeps how often it was asked, and among how many options the last time.

@@ -1,6 +1,6 @@
-use vk_map_cache::HostCache;
 use std::test::Fail;
 use vk_heap::Region;
+use vk_map_cache::HostCache;
 
 /// The byte that the host reads at an offset.
 fn byte_at(cache: &HostCache, region: &Region, at: u64) -> Option<u8> {

@@ -1,5 +1,7 @@
-use vk_image_tiles::{Row, Run, Shape, level_height, level_size, level_width, row_pitch, texel_size};
 use std::test::Fail;
+use vk_image_tiles::{
+    Row, Run, Shape, level_height, level_size, level_width, row_pitch, texel_size,
+};
 use vk_model::{Format, ImageInfo, Kind, Need, Place, Rule, Sharing, SubresourceLayout, Usage};
 
 /// An image of 16-bit texels, 9 by 5, of one level and one layer.

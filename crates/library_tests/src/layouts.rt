@@ -1,5 +1,5 @@
-use vk_layouts::{Layouts, Owner, Transfer};
 use std::test::Fail;
+use vk_layouts::{Layouts, Owner, Transfer};
 use vk_model::{
     Accesses, BufferElement, Dependency, Element, Families, Layout, Length, Rule, Stages,
     SubresourceRange,

@@ -1,6 +1,6 @@
-use vk_memory::{Memories, MemoryError};
 use std::test::Fail;
 use vk_heap::{Budget, Region};
+use vk_memory::{Memories, MemoryError};
 use vk_model::Config;
 
 #[test]

@@ -1,8 +1,8 @@
-use vk_queues::{Waiting, points_after, reference_order};
 use std::alloc::{AllocError, Global};
 use std::test::Fail;
 use vk_model::{Batch, Entry, SemaphoreSubmit, Sequence, Stages};
 use vk_order::{Action, Point};
+use vk_queues::{Waiting, points_after, reference_order};
 
 fn submit_to(
     alloc: Global,

@@ -15,13 +15,7 @@ fn add(
 }
 
 /// Runs a ready piece, which has to be this one.
-fn run(
-    rt: &impl std::process::Abort,
-    ready: &mut Ready,
-    place: u64,
-    command: usize,
-    index: u64,
-) {
+fn run(rt: &impl std::process::Abort, ready: &mut Ready, place: u64, command: usize, index: u64) {
     assert!(rt; place < ready.count());
     let piece = ready.nth(place);
     assert_eq!(rt; piece, Piece { command, index });

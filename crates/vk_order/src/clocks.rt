@@ -23,11 +23,7 @@ pub fn count_at(clock: &[usize], index: usize) -> usize
 }
 
 /// Makes a clock that of what comes after another one's nodes too.
-pub fn join_in(
-    alloc: Global,
-    clock: &mut Vec<usize>,
-    other: &[usize],
-) -> Result<(), AllocError>
+pub fn join_in(alloc: Global, clock: &mut Vec<usize>, other: &[usize]) -> Result<(), AllocError>
     ensures counts { OnOk result ((i : ℕ) → slice_index_or clock.new.items i 0 ≡ max (slice_index_or clock.old.items i 0) (slice_index_or other.now i 0)) }
     ensures len { OnOk result (vec_len clock.new ≡ max (vec_len clock.old) (length other.now)) }
 {

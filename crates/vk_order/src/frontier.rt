@@ -104,7 +104,12 @@ impl Frontier {
 
     /// Adds the node of a point that comes next, which has this act alone, by its sight. The errors
     /// are those of `advance`.
-    pub fn add_seen(&mut self, point: &Point<'_>, act: &Act<'_>, sight: Sight) -> Result<(), AllocError>
+    pub fn add_seen(
+        &mut self,
+        point: &Point<'_>,
+        act: &Act<'_>,
+        sight: Sight,
+    ) -> Result<(), AllocError>
         requires { IsFrom self.old sight }
         ensures { OnOk result ((ns : List Node) (n : Node) → IsFrontier self.old ns → n ≡ record { number = length ns; point = point_of point.now; act = act_of act.now } → IsSight ns n sight → IsFrontier self.new (n ∷ ns)) }
     {

@@ -16,4 +16,3 @@ pub use printing::{Outcome, text};
 pub use reading::read_trace;
 pub use running::{Answer, Status, answer_of, run};
 pub use watched::Watched;
-

@@ -44,11 +44,7 @@ pub const TRACES: [(&str, &str, Ending); 38] = [
         "refused 2.0.1 STAGE\n",
         REFUSED,
     ),
-    (
-        TWO_FILLS,
-        "5 0102030405060708\n",
-        REPLAYED,
-    ),
+    (TWO_FILLS, "5 0102030405060708\n", REPLAYED),
     (
         r#"[["buffer",1,18,3,"exclusive",["dedicated",1]],["semaphore",2,0],["submit",0,[[[],[["fill",1,0,"whole",67305985],["barrier",[[4096,4096,16384,8192]],[],[]]],[[2,1,65536]]]]],["wait",[[2,1]]],["map",1],["read",1,12,4]]"#,
         "5 01020304\n",
