@@ -32,7 +32,8 @@ fn is_bad(history: &History<'_>, command: &Cmd) -> bool
 
 #[tactic(auto, using(vk_model::proofs::Lists::Members::any_map, crate::proofs::Transitions::Commands::any_of_two))]
 fn names_badly(history: &History<'_>, command: &Cmd) -> bool
-    ensures { result ≡ list_any (layouts.bad_named (world (past history.now))) (layouts.layouts_named command.now) }
+    ensures { result ≡ list_any (layouts.bad_named (world (past history.now)))
+        (layouts.layouts_named command.now) }
 {
     match command {
         Cmd::Clear {
@@ -78,7 +79,8 @@ fn clears_badly(
     layout: Layout,
     ranges: &[SubresourceRange],
 ) -> bool
-    ensures { result ≡ list_any (λ r. layouts.bad_named (world (past history.now)) (record { image = image; layout = layout; range = r; written = true })) ranges.now }
+    ensures { result ≡ list_any (λ r. layouts.bad_named (world (past history.now))
+        (record { image = image; layout = layout; range = r; written = true })) ranges.now }
 {
     ranges
         .iter()
@@ -92,7 +94,8 @@ fn copies_badly(
     is_written: bool,
     regions: &[BufferImageCopy],
 ) -> bool
-    ensures { result ≡ list_any (λ g. layouts.bad_named (world (past history.now)) (layouts.named image layout is_written g.level g.first_layer g.layers)) regions.now }
+    ensures { result ≡ list_any (λ g. layouts.bad_named (world (past history.now))
+        (layouts.named image layout is_written g.level g.first_layer g.layers)) regions.now }
 {
     regions.iter().any(|region| {
         let range = range_of(region.level, region.first_layer, region.layers);
@@ -101,7 +104,8 @@ fn copies_badly(
 }
 
 fn reads_badly(history: &History<'_>, image: u32, layout: Layout, regions: &[ImageCopy]) -> bool
-    ensures { result ≡ list_any (λ g. layouts.bad_named (world (past history.now)) (layouts.named image layout false g.source_level g.source_first_layer g.layers)) regions.now }
+    ensures { result ≡ list_any (λ g. layouts.bad_named (world (past history.now))
+        (layouts.named image layout false g.source_level g.source_first_layer g.layers)) regions.now }
 {
     regions.iter().any(|region| {
         let range = range_of(
@@ -114,7 +118,8 @@ fn reads_badly(history: &History<'_>, image: u32, layout: Layout, regions: &[Ima
 }
 
 fn writes_badly(history: &History<'_>, image: u32, layout: Layout, regions: &[ImageCopy]) -> bool
-    ensures { result ≡ list_any (λ g. layouts.bad_named (world (past history.now)) (layouts.named image layout true g.destination_level g.destination_first_layer g.layers)) regions.now }
+    ensures { result ≡ list_any (λ g. layouts.bad_named (world (past history.now))
+        (layouts.named image layout true g.destination_level g.destination_first_layer g.layers)) regions.now }
 {
     regions.iter().any(|region| {
         let range = range_of(
@@ -128,7 +133,12 @@ fn writes_badly(history: &History<'_>, image: u32, layout: Layout, regions: &[Im
 
 /// Layers of one level.
 fn range_of(level: u32, first_layer: u32, layers: u32) -> SubresourceRange
-    ensures { result ≡ record { first_level = level; levels = 1; first_layer = first_layer; layers = layers } }
+    ensures { result ≡ record {
+      first_level = level;
+      levels = 1;
+      first_layer = first_layer;
+      layers = layers;
+    } }
 {
     SubresourceRange {
         first_level: level,
@@ -146,7 +156,8 @@ fn is_bad_named(
     is_written: bool,
     range: &SubresourceRange,
 ) -> bool
-    ensures { result ≡ layouts.bad_named (world (past history.now)) (record { image = image; layout = layout; range = range.now; written = is_written }) }
+    ensures { result ≡ layouts.bad_named (world (past history.now))
+        (record { image = image; layout = layout; range = range.now; written = is_written }) }
 {
     !is_allowed(is_written, layout) || !history.is_in(image, range, layout)
 }
@@ -208,7 +219,8 @@ pub fn breaks_old_layout(history: &History<'_>, point: &Point<'_>) -> bool
 }
 
 fn leave_others(history: &History<'_>, queue: u32, elements: &[Element]) -> bool
-    ensures { result ≡ list_any (layouts.bad_old_layout (world (past history.now)) queue) elements.now }
+    ensures { result ≡ list_any (layouts.bad_old_layout (world (past history.now)) queue)
+        elements.now }
 {
     elements
         .iter()
@@ -231,7 +243,8 @@ fn leaves_other(history: &History<'_>, queue: u32, element: &Element) -> bool
 
 /// Whether an element with these families is the second half of a transfer on a queue.
 fn acquires(queue: u32, families: Families) -> bool
-    ensures { result ≡ ownership.acquires (ownership.transfer (ownership.family_of queue) families) }
+    ensures { result
+        ≡ ownership.acquires (ownership.transfer (ownership.family_of queue) families) }
 {
     matches!(Transfer::of(family_of(queue), families), Transfer::Acquire)
 }

@@ -87,13 +87,15 @@ fn is_all_of(info: &ImageInfo, range: &SubresourceRange) -> bool
         && range.layers == info.layers
 }
 
-/// Whether an element on a queue breaks OWNER_PAIR, where its resource has this owner and an acquire's
-/// release comes before it.
+/// Whether an element on a queue breaks OWNER_PAIR, where its resource has this owner and the
+/// release of an acquire comes before it.
 pub fn is_bad_half(history: &History<'_>, queue: u32, element: &Element, owner: &Owner) -> bool
-    ensures bad { IsTrue result → (ns : List Node) (w : World) (n : Node) → IsOwnedBy w element.now (owner_of owner.now)
-        → n.point.queue ≡ queue → owners.bad_pair (past history.now) ns w n element.now ≡ true }
-    ensures whole { (ns : List Node) (w : World) (n : Node) → IsOwnedBy w element.now (owner_of owner.now)
-        → n.point.queue ≡ queue → IsReleasedBefore ns n element.now
+    ensures bad { IsTrue result → (ns : List Node) (w : World) (n : Node)
+        → IsOwnedBy w element.now (owner_of owner.now) → n.point.queue ≡ queue
+        → owners.bad_pair (past history.now) ns w n element.now ≡ true }
+    ensures whole { (ns : List Node) (w : World) (n : Node)
+        → IsOwnedBy w element.now (owner_of owner.now) → n.point.queue ≡ queue
+        → IsReleasedBefore ns n element.now
         → result ≡ owners.bad_pair (past history.now) ns w n element.now }
 {
     match element {
@@ -113,7 +115,9 @@ pub fn is_bad_half(history: &History<'_>, queue: u32, element: &Element, owner: 
 
 /// Whether families differ and one isn't 0 or 1, or the resource is concurrent.
 fn has_bad_families(history: &History<'_>, families: Families, resource: u32) -> bool
-    ensures { result ≡ (owners.families_differ families && (nat_lt 1 families.source || nat_lt 1 families.destination || not (is_exclusive (past history.now) resource))) }
+    ensures { result ≡ (owners.families_differ families
+        && (nat_lt 1 families.source || nat_lt 1 families.destination
+        || not (is_exclusive (past history.now) resource))) }
 {
     differ(families)
         && (families.source > 1 || families.destination > 1 || !history.is_exclusive(resource))
@@ -122,7 +126,8 @@ fn has_bad_families(history: &History<'_>, families: Families, resource: u32) ->
 /// Whether an element doesn't fit the owner: it is neither half of a transfer, it releases what is
 /// released, or it acquires what isn't released by its other half.
 fn misses_half(queue: u32, families: Families, element: &Element, owner: &Owner) -> bool
-    ensures { result ≡ misses_half (owner_of owner.now) element.now (transfer (family_of queue) families) }
+    ensures { result
+        ≡ misses_half (owner_of owner.now) element.now (transfer (family_of queue) families) }
 {
     match Transfer::of(family_of(queue), families) {
         Transfer::Stays => false,
