@@ -3,3 +3,5 @@ pub mod LiveIds
 pub mod Mappings
 pub mod Occupants
 pub mod Defrags
+pub mod Entries
+pub mod Bound

@@ -12,4 +12,5 @@ pub mod Conflicts
 pub mod Layouts
 pub mod Counted
 pub mod Owners
+pub mod Bound
 pub mod Tabled

@@ -3,13 +3,14 @@ ghost use Rattle.std.specs.Option.{option_map};
 ghost use Rattle.std.specs.Ordering.{nat_cmp};
 ghost use Rattle.std.specs.BTreeMap.{get};
 ghost use Rattle.vk_model.specs.Trace.Point.{Past};
-ghost use Rattle.vk_model.specs.Trace.Objects.{made, memory_of, pool_of, defrag_in};
+ghost use Rattle.vk_model.specs.Trace.Objects as objects;
+ghost use Rattle.vk_model.specs.Trace.Objects.{made, memory_of, pool_of, defrag_in, resource};
 ghost use Rattle.vk_model.specs.Rules.Mapping.{mapping};
 ghost use Rattle.vk_order.specs.PointViews.{point_of};
 ghost use Rattle.vk_validate.specs.Inner.Made.{last_maker};
 ghost use Rattle.vk_validate.specs.Inner.Tabled.{AreObjects, maker_view};
 
-use crate::places::{memory_at, pool_at};
+use crate::places::{bound_at, memory_at, pool_at};
 use std::alloc::{AllocError, Global};
 use std::collections::BTreeMap;
 use vk_model::Entry;
@@ -62,6 +63,17 @@ impl<'a> Objects<'a> {
         match self.made(id) {
             Some(Entry::Buffer { info, .. }) => memory_at(info.place),
             Some(Entry::Image { info, .. }) => memory_at(info.place),
+            _ => None,
+        }
+    }
+
+    /// The memory object that the trace bound a resource to, and the offset in it in bytes.
+    pub fn bound_at(&self, id: u32) -> Option<(u32, u64)>
+        ensures { (past : Past) → AreObjects self.now past → result ≡ option_and_then (λ r. objects.bound_at r.place) (resource past id) }
+    {
+        match self.made(id) {
+            Some(Entry::Buffer { info, .. }) => bound_at(info.place),
+            Some(Entry::Image { info, .. }) => bound_at(info.place),
             _ => None,
         }
     }

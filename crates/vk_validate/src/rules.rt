@@ -109,8 +109,8 @@ fn first_of(
     None
 }
 
-// Points of the supported forms can't break the rules that aren't listed. Those compare resources
-// that are bound to memory objects or owners, or ask whether a pass finds commands.
+// Points of the supported forms can't break the rules that aren't listed. Those ask for owners, or
+// whether a pass finds commands.
 fn breaks_early(rule: Rule, history: &History<'_>, point: &Point<'_>, is_unordered: bool) -> bool
     requires supported { IsTrue (is_supported_action (action_of point.now.action)) }
     requires ordered { IsOrdered (point_of point.now ∷ past history.now) }
@@ -130,6 +130,7 @@ fn breaks_early(rule: Rule, history: &History<'_>, point: &Point<'_>, is_unorder
         Rule::PoolSize => sizes::breaks_pool_size(history, point),
         Rule::BindRange => binding::breaks_bind_range(history, point),
         Rule::BindAlign => binding::breaks_bind_align(history, point),
+        Rule::Aliased => binding::breaks_aliased(history, point),
         Rule::Range => ranges::breaks_range(history, point),
         Rule::Align => ranges::breaks_align(history, point),
         Rule::Overlap => ranges::breaks_overlap(history, point),

@@ -5,6 +5,7 @@ ghost use Rattle.vk_validate.specs.Inner.Judged.{IsJudged};
 ghost use Rattle.vk_validate.specs.Inner.Touched.{class_next};
 ghost use Rattle.vk_validate.specs.Inner.Tabled.{IsTabled};
 
+use crate::bound::BoundMemories;
 use crate::contents::Contents;
 use crate::defrags::Defrags;
 use crate::endings::Endings;
@@ -24,6 +25,7 @@ pub struct Tables<'a> {
     pub endings: Endings,
     pub mappings: Mappings,
     pub occupants: Occupants,
+    pub bound: BoundMemories,
     pub defrags: Defrags,
     pub semaphores: Semaphores,
     pub events: Events<'a>,
@@ -42,6 +44,7 @@ impl<'a> Tables<'a> {
             endings: Endings::new(alloc),
             mappings: Mappings::new(alloc),
             occupants: Occupants::new(alloc),
+            bound: BoundMemories::new(alloc),
             defrags: Defrags::new(alloc),
             semaphores: Semaphores::new(alloc),
             events: Events::new(alloc),
@@ -60,6 +63,7 @@ pub fn note<'a>(tables: &mut Tables<'a>, point: &Point<'a>) -> Result<(), AllocE
     let place = tables.frontier.count(line);
     tables.mappings.note(point, &tables.objects)?;
     tables.occupants.note(point, &tables.objects)?;
+    tables.bound.note(point, &tables.objects)?;
     tables.defrags.note(point, &tables.objects)?;
     tables.layouts.note_with(point, &tables.objects)?;
     tables.objects.note(point)?;

@@ -70,6 +70,7 @@ pub record IsUntested (r : Rule) : Type 0 where
   pub pool_size : r ≡ rule.PoolSize → ⊥
   pub bind_range : r ≡ rule.BindRange → ⊥
   pub bind_align : r ≡ rule.BindAlign → ⊥
+  pub aliased : r ≡ rule.Aliased → ⊥
   pub range : r ≡ rule.Range → ⊥
   pub align : r ≡ rule.Align → ⊥
   pub overlap : r ≡ rule.Overlap → ⊥
@@ -105,7 +106,7 @@ module _ (past : Past) (p : Point) (now : is_supported_action p.action ≡ true)
   rest_unbroken rule.PoolSize u = absurd (u.pool_size refl)
   rest_unbroken rule.BindRange u = absurd (u.bind_range refl)
   rest_unbroken rule.BindAlign u = absurd (u.bind_align refl)
-  rest_unbroken rule.Aliased u = sym (unbroken.no_aliased past p now)
+  rest_unbroken rule.Aliased u = absurd (u.aliased refl)
   rest_unbroken rule.Range u = absurd (u.range refl)
   rest_unbroken rule.Align u = absurd (u.align refl)
   rest_unbroken rule.Overlap u = absurd (u.overlap refl)

@@ -10,10 +10,6 @@ use Rattle.vk_validate.proofs.Points.Barriers.{memory_any}
 use Rattle.vk_validate.proofs.Points.Forms.{entry_cases, command_cases, action_cases}
 
 module _ (past : Past) (p : Point) (supported : is_supported_action p.action ≡ true) where
-  pub no_aliased : breaks_aliased past p ≡ false
-  no_aliased =
-      let P : Action → Type 0 = λ d. breaks_aliased past (record p { action = d }) ≡ false in
-      action_cases P (entry_cases (λ x. P (Host x)) (λ i b t is other. rw is refl) (λ b. refl) (λ b o n. refl) (λ i v. refl) (λ i. refl) (λ s v. refl) (λ ws. refl) (λ q bs. refl)) (λ w. refl) (command_cases (λ c. P (Run c)) (λ b o n w. refl) (λ es all. refl) (λ v ms. refl) (λ v ms. refl)) (λ s. refl) p.action supported
 
   pub no_pass_busy : breaks_pass_busy past p ≡ false
   no_pass_busy =

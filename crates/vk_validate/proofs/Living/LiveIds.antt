@@ -199,7 +199,8 @@ module _ (past : Past) (p : Point) (j : IsJudged (p ∷ past)) where
       go true b = refl
       go false b = refl
 
-    unmade : (i : ℕ) → made_by x ≡ Some i → is_some (made past i) ≡ false
+    -- what is made wasn't made before
+    pub unmade : (i : ℕ) → made_by x ≡ Some i → is_some (made past i) ≡ false
     unmade i by = false_from_ne_true (is_some (made past i)) (λ h. all_new past p newest (rw (is, by) h))
 
     -- the object that is made is live

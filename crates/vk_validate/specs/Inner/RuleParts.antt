@@ -10,12 +10,13 @@ use Rattle.vk_model.specs.declared.entry.Entry.TheVariants as entry
 use Rattle.vk_model.specs.declared.resource.Place.{Place}
 use Rattle.vk_model.specs.Basics.{holds, below}
 use Rattle.vk_model.specs.Trace.Image.{texel}
-use Rattle.vk_model.specs.Trace.Objects.{image, pool, memory, pool_at, bound_at, type_at, memory_of, pool_of, live_resources}
+use Rattle.vk_model.specs.Trace.Objects.{Resource, image, pool, memory, pool_at, bound_at, type_at, memory_of, pool_of, live_resources}
 use Rattle.vk_model.specs.Trace.Point.{Past, Point}
 use Rattle.vk_model.specs.Memory.Suballocation.{ranges_meet}
 use Rattle.vk_model.specs.World.Areas.{Box, row_start, row_count}
 use Rattle.vk_model.specs.World.Bytes.{Byte, resource_at}
 use Rattle.vk_model.specs.World.ByteWrites.{buffer_size}
+use Rattle.vk_model.specs.Rules.Binding.{is_aliased}
 use Rattle.vk_model.specs.Rules.Passes.{moves_now}
 use Rattle.vk_model.specs.Sync.Node.{Act}
 use Rattle.vk_model.specs.Sync.Access.{writes_of}
@@ -96,3 +97,7 @@ writes_moving past q as' = list_any (λ a. touches_moving past (writes_of past q
 -- Whether row r of a region has a byte in common with a row of another, with texels of t bytes.
 abbrev pub row_meets_some : ℕ → BufferImageCopy → ℕ → BufferImageCopy → Bool
 row_meets_some t g r h = list_any (λ s. ranges_meet (row_start t g r) (g.width * t) (row_start t h s) (h.width * t)) (below (row_count h))
+
+-- Whether a resource conflicts with a live one in the memory object that it's bound to.
+abbrev pub is_aliased_at : Past → Resource → Bool
+is_aliased_at past r = holds (bound_at r.place) (λ s. is_aliased past r s.0 s.1)

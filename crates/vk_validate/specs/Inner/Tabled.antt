@@ -17,6 +17,7 @@ use Rattle.vk_validate.specs.declared.semaphores.Signals.{Signals}
 use Rattle.vk_validate.specs.declared.semaphores.Semaphores.{Semaphores}
 use Rattle.vk_validate.specs.declared.events.EventSet.{EventSet}
 use Rattle.vk_validate.specs.declared.events.Events.{Events}
+use Rattle.vk_validate.specs.Inner.Bound.{AreBound}
 use Rattle.vk_validate.specs.Inner.Counted.{AreMappings, AreOccupants, AreDefrags}
 use Rattle.vk_validate.specs.Inner.Ended.{AreEndings}
 use Rattle.vk_validate.specs.Inner.Layouts.{AreCurrent}
@@ -58,6 +59,7 @@ pub record IsTabled (tables : Tables) (past : Past) : Type 0 where
   pub endings : AreEndings tables.endings past
   pub mappings : AreMappings tables.mappings past
   pub occupants : AreOccupants tables.occupants past
+  pub bound : AreBound tables.bound past
   pub defrags : AreDefrags tables.defrags past
   pub semaphores : AreSemaphores tables.semaphores past
   pub events : AreEvents tables.events past

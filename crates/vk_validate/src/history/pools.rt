@@ -1,13 +1,23 @@
-ghost use Rattle.std.specs.Prelude.{◌≡◌, ◌==◌};
+ghost use Rattle.std.specs.Prelude.{◌≡◌, ◌==◌, min};
 ghost use Rattle.std.specs.List.{list_any};
 ghost use Rattle.vk_model.specs.Basics.{holds};
-ghost use Rattle.vk_model.specs.Trace.Objects.{live_resources, memory_of, pool_of};
+ghost use Rattle.vk_model.specs.Trace.Objects.{Resource, live_resources, memory_of, pool_of};
+ghost use Rattle.vk_model.specs.Rules.Binding as binding;
 ghost use Rattle.vk_model.specs.Rules.Passes as passes;
 ghost use Rattle.vk_validate.specs.Inner.PointViews.{past};
 
 use crate::history::History;
+use vk_model::Kind;
 
 impl History<'_> {
+    /// Whether a resource that asks for so many bytes would conflict, at an offset of a memory object,
+    /// with a live resource there. One byte more than the greatest size stands for all that is above it.
+    pub fn is_aliased(&self, memory: u32, offset: u64, size: u64, kind: Kind) -> bool
+        ensures { (r : Resource) → size ≡ min r.size 67108865 → kind ≡ r.kind → result ≡ binding.is_aliased (past self.now) r memory offset }
+    {
+        self.tables.bound.is_aliased(memory, offset, size, kind)
+    }
+
     /// Whether a live resource is bound to a memory object.
     pub fn is_memory_used(&self, memory: u32) -> bool
         ensures { result ≡ list_any (λ r. holds (memory_of (past self.now) r) (λ s. memory == s)) (live_resources (past self.now)) }

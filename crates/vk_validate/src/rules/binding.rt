@@ -1,16 +1,20 @@
-ghost use Rattle.std.specs.Prelude.{◌≡◌, ◌<◌};
+ghost use Rattle.std.specs.Prelude.{◌≡◌, ◌<◌, min};
 ghost use Rattle.vk_model.specs.Basics.{round_up};
 ghost use Rattle.vk_model.specs.Trace.Image.{image_size};
+ghost use Rattle.vk_model.specs.Trace.Objects.{Resource, of_buffer, of_image};
 ghost use Rattle.vk_model.specs.Rules.Binding as binding;
 ghost use Rattle.vk_order.specs.PointViews.{point_of};
 ghost use Rattle.vk_validate.specs.Inner.PointViews.{past};
-ghost use Rattle.vk_validate.specs.Inner.RuleParts.{ends_past_object, is_misplaced_at};
+ghost use Rattle.vk_validate.specs.Inner.RuleParts.{ends_past_object, is_misplaced_at, is_aliased_at};
 
 use crate::history::History;
 use crate::rules::sizes::takes_more;
 use vk_image_tiles::{asks_more, image_align};
-use vk_model::{BufferInfo, Entry, ImageInfo, Place};
+use vk_model::{BufferInfo, Entry, ImageInfo, Kind, Place};
 use vk_order::{Action, Point};
+
+/// The greatest size that a resource may ask for in bytes.
+const GREATEST_SIZE: u64 = 67_108_864;
 
 /// The alignment that a buffer asks for in bytes.
 const BUFFER_ALIGN: u64 = 16;
@@ -83,4 +87,65 @@ fn is_misplaced(history: &History<'_>, place: Place, align: u64) -> bool
         }
         _ => false,
     }
+}
+
+/// ALIASED: the resource has bytes in common with a live one in its memory object, or shares a page of
+/// `bufferImageGranularity` with one of the other kind.
+pub fn breaks_aliased(history: &History<'_>, point: &Point<'_>) -> bool
+    ensures { result ≡ binding.breaks_aliased (past history.now) (point_of point.now) }
+{
+    match point.action {
+        Action::Host(Entry::Buffer { info, .. }) => is_buffer_aliased(history, info),
+        Action::Host(Entry::Image { info, .. }) => is_image_aliased(history, info),
+        _ => false,
+    }
+}
+
+fn is_buffer_aliased(history: &History<'_>, info: &BufferInfo) -> bool
+    ensures { result ≡ is_aliased_at (past history.now) (of_buffer info.now) }
+{
+    is_aliased(history, info.place, buffer_bytes(info), Kind::Linear)
+}
+
+fn is_image_aliased(history: &History<'_>, info: &ImageInfo) -> bool
+    ensures { result ≡ is_aliased_at (past history.now) (of_image info.now) }
+{
+    is_aliased(history, info.place, image_bytes(info), info.tiling)
+}
+
+fn is_aliased(history: &History<'_>, place: Place, size: u64, kind: Kind) -> bool
+    ensures { (r : Resource) → place ≡ r.place → size ≡ min r.size 67108865 → kind ≡ r.kind → result ≡ is_aliased_at (past history.now) r }
+{
+    match place {
+        Place::Memory { memory, offset } => history.is_aliased(memory, offset, size, kind),
+        _ => false,
+    }
+}
+
+/// The bytes that a buffer asks for; one more than the limit, where it asks for more.
+fn buffer_bytes(info: &BufferInfo) -> u64
+    ensures { result ≡ min (round_up info.now.size 16) 67108865 }
+{
+    if takes_more(info, GREATEST_SIZE) {
+        GREATEST_SIZE + 1
+    } else {
+        (info.size + 15) / 16 * 16
+    }
+}
+
+/// The same of an image.
+fn image_bytes(info: &ImageInfo) -> u64
+    ensures { result ≡ min (image_size info.now info.now.tiling) 67108865 }
+{
+    let mut low = 0;
+    let mut high = GREATEST_SIZE + 1;
+    while low < high {
+        let middle = low + (high - low) / 2;
+        if asks_more(info, middle) {
+            low = middle + 1;
+        } else {
+            high = middle;
+        }
+    }
+    low
 }

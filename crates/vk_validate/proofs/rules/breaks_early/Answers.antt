@@ -50,6 +50,10 @@ pub returns-in-BindAlign : goal.returns-in-BindAlign
 unfolding breaks_early breaks
 returns-in-BindAlign c = rw c.in-BindAlign.is c.breaks_bind_align.ensures
 
+pub returns-in-Aliased : goal.returns-in-Aliased
+unfolding breaks_early breaks
+returns-in-Aliased c = rw c.in-Aliased.is c.breaks_aliased.ensures
+
 pub returns-in-Range : goal.returns-in-Range
 unfolding breaks_early breaks
 returns-in-Range c = rw c.in-Range.is c.breaks_range.ensures
@@ -145,6 +149,7 @@ returns-in_default c =
       pool_size = d.not-PoolSize;
       bind_range = d.not-BindRange;
       bind_align = d.not-BindAlign;
+      aliased = d.not-Aliased;
       range = d.not-Range;
       align = d.not-Align;
       overlap = d.not-Overlap;

@@ -14,12 +14,13 @@ returns c = λ past judged tabled.
     record {
       mappings = c.in_ok-note.ensures past judged tabled.objects tabled.mappings;
       occupants = c.in_ok-note-2.ensures past judged tabled.objects tabled.occupants;
-      defrags = c.in_ok-note-3.ensures past judged tabled.objects tabled.defrags;
-      objects = c.in_ok-note-4.ensures past tabled.objects;
-      endings = c.in_ok-note-5.ensures past tabled.endings;
-      semaphores = c.in_ok-note-7.ensures past line_is place_is tabled.semaphores;
-      events = c.in_ok-note-6.ensures past tabled.events;
+      bound = c.in_ok-note-3.ensures past judged tabled.objects tabled.bound;
+      defrags = c.in_ok-note-4.ensures past judged tabled.objects tabled.defrags;
+      objects = c.in_ok-note-5.ensures past tabled.objects;
+      endings = c.in_ok-note-6.ensures past tabled.endings;
+      semaphores = c.in_ok-note-8.ensures past line_is place_is tabled.semaphores;
+      events = c.in_ok-note-7.ensures past tabled.events;
       layouts = c.in_ok-note_with.ensures past judged tabled.objects tabled.layouts;
-      contents = c.in_ok-note-8.ensures past judged (place_is ∙ ap (next_place past) line_is) tabled.contents;
+      contents = c.in_ok-note-9.ensures past judged (place_is ∙ ap (next_place past) line_is) tabled.contents;
       frontier = c.in_ok-advance.ensures (nodes past) (ordered_new (p ∷ past) past p judged.ordered newest) tabled.frontier;
     }
