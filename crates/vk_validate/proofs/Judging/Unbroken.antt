@@ -1,16 +1,13 @@
 -- The rules that no point of a supported form breaks.
 use Rattle.std.proofs.Common.{◌≡◌, true, false, refl}
 use Rattle.vk_model.specs.Trace.Point.{Past, Point, Action, Host, Run, on_host}
-use Rattle.vk_model.specs.Rules.Binding.{breaks_aliased}
 use Rattle.vk_model.specs.Rules.Passes.{breaks_pass_busy}
 use Rattle.vk_model.specs.Rules.Hazards.{breaks_in_use}
 use Rattle.vk_validate.specs.Supported.{is_supported_action}
 use Rattle.vk_validate.specs.Inner.RuleParts.{frees_used}
-use Rattle.vk_validate.proofs.Points.Barriers.{memory_any}
 use Rattle.vk_validate.proofs.Points.Forms.{entry_cases, command_cases, action_cases}
 
 module _ (past : Past) (p : Point) (supported : is_supported_action p.action ≡ true) where
-
   pub no_pass_busy : breaks_pass_busy past p ≡ false
   no_pass_busy =
       let P : Action → Type 0 = λ d. breaks_pass_busy past (record p { action = d }) ≡ false in

@@ -1,11 +1,11 @@
 -- What is bound in each memory object after a point, and ALIASED by it.
-use Rattle.std.proofs.Common.{◌≡◌, ◌≢◌, ⊎_elim, min, ◌/◌, ◌-◌, ◌+◌, ◌≤◌, ◌<◌, ℕ, List, [], ◌∷◌, ◌++◌, Bool, true, false, not, ◌&&◌, ◌||◌, ◌==◌, nat_lt, cond, refl, ap, sym, ◌∙◌, subst, arith, Option, Some, None}
-use Rattle.std.specs.Prelude.{Result, Ok, Err, Contains, count_by, is_some, option_map, option_and_then, if◌then◌else◌}
+use Rattle.std.proofs.Common.{◌≡◌, ⊎_elim, min, ◌/◌, ◌-◌, ◌+◌, ◌≤◌, ◌<◌, ℕ, List, [], ◌∷◌, ◌++◌, Bool, true, false, not, ◌&&◌, ◌||◌, ◌==◌, nat_lt, cond, refl, ap, sym, ◌∙◌, subst, arith, Option, Some, None}
+use Rattle.std.specs.Prelude.{Result, Ok, Contains, count_by, is_some, option_and_then, if◌then◌else◌}
 use Rattle.std.specs.List.{list_any}
 use Rattle.std.specs.Ordering.{nat_cmp}
 use Rattle.std.specs.BTreeMap.{get, insert_entry, is_at}
 use Rattle.std.specs.Map.{remove_entry}
-use Rattle.std.proofs.lemmas.Bool.{eqb-true, eq-eqb, ne_eqb, eqb-false, or_left, ltb-false, ltb-true, lt-ltb, le-leb, cases_lt, le-ltb, false_from_ne_true, or_parts, and_from, not-false, cases_eq}
+use Rattle.std.proofs.lemmas.Bool.{eqb-true, eq-eqb, ne_eqb, eqb-false, or_left, ltb-false, lt-ltb, le-leb, cases_lt, false_from_ne_true, or_parts, and_from, not-false}
 use Rattle.std.proofs.lemmas.List.Elements.{Contains-append_right}
 use Rattle.vk_model.specs.declared.entry.Entry.{Entry}
 use Rattle.vk_model.specs.declared.entry.Entry.TheVariants as entry
@@ -24,7 +24,7 @@ use Rattle.vk_model.specs.Trace.Objects.{Resource, of_buffer, of_image, made, ma
 use Rattle.vk_model.specs.Rules.Ids.{is_memory, is_pool, is_defrag, is_resource, is_dead, is_stray, asked_by, asked_by_entry, lists_stray, until}
 use Rattle.vk_model.specs.Rules.Binding as binding
 use Rattle.vk_model.specs.Rules.Table.{breaks}
-use Rattle.vk_model.proofs.Lists.Members.{contains-head, contains-tail, filter_has, member_passes, any_same}
+use Rattle.vk_model.proofs.Lists.Members.{contains-head, filter_has, member_passes, any_same}
 use Rattle.vk_model.proofs.Lists.Truths.{clash}
 use Rattle.vk_buffer.specs.BoundMemory.{BoundMemory, refusal, is_wrong_type, ends_past, is_misplaced, is_aliased, conflicts_with, with_bound, without}
 use Rattle.vk_buffer.specs.Requirements.{need_or}
@@ -34,8 +34,8 @@ use Rattle.vk_validate.specs.Inner.Bound.{AreBound, AreOthers, BindsBy, UnbindsB
 use Rattle.vk_validate.specs.Inner.Judged.{IsJudged}
 use Rattle.vk_validate.proofs.Kept.NextPoint.{unbroken}
 use Rattle.vk_validate.proofs.Living.Counting.{count_same, among_from, any_counted}
-use Rattle.vk_validate.proofs.Living.Entries.{none_counted, some_counted, split_counted, one_counted, has_key, inserted, removed}
-use Rattle.vk_validate.proofs.Living.LiveIds.{ids, ends_as, is_alive, ended_alive, none_dead, live_now, made_old, made_new, unmade, count_next, made_among}
+use Rattle.vk_validate.proofs.Living.Entries.{none_counted, split_counted, one_counted, has_key, inserted, removed}
+use Rattle.vk_validate.proofs.Living.LiveIds.{ids, is_alive, ended_alive, none_dead, live_now, made_old, made_new, unmade, count_next, made_among}
 use Rattle.vk_validate.proofs.Living.Occupants.{count_none, none_ended}
 
 -- ---- resources that are bound

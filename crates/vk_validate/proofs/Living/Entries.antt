@@ -1,14 +1,12 @@
 -- Counts of entries by their keys, when one is put in or taken away.
 use Rattle.std.proofs.Common.{◌≡◌, ◌⊎◌, inl, inr, ◌+◌, ◌≤◌, ◌<◌, ℕ, List, [], ◌∷◌, Bool, true, false, not, ◌&&◌, ◌==◌, nat_lt, cond, refl, ap, sym, ◌∙◌, arith}
 use Rattle.std.specs.Prelude.{Contains, count_by}
-use Rattle.std.specs.List.{list_any}
 use Rattle.std.specs.Map.{remove_entry}
 use Rattle.std.specs.Ordering.{nat_cmp, is_eq, match_ordering}
 use Rattle.std.specs.BTreeMap.{insert_entry, is_at}
-use Rattle.std.specs.declared.cmp.Ordering.{Ordering}
 use Rattle.std.specs.declared.cmp.Ordering.TheVariants.{Less, Equal, Greater}
-use Rattle.std.proofs.lemmas.Bool.{eqb-true, eq-eqb, ltb-true, ne_eqb, false_from_ne_true}
-use Rattle.vk_model.proofs.Lists.Members.{contains-cons, contains-head, contains-tail, member_passes, none_in}
+use Rattle.std.proofs.lemmas.Bool.{ltb-true, ne_eqb, false_from_ne_true}
+use Rattle.vk_model.proofs.Lists.Members.{contains-cons, member_passes, none_in}
 use Rattle.vk_model.proofs.Lists.Truths.{clash}
 use Rattle.vk_validate.proofs.Living.Counting.{count-cons, count_same, any_counted, swapped}
 use Rattle.vk_validate.proofs.Living.Occupants.{count_none}

@@ -7,7 +7,6 @@ use Rattle.vk_model.specs.declared.entry.Entry.TheVariants as entry
 use Rattle.vk_model.specs.declared.resource.Kind.{Kind}
 use Rattle.vk_model.specs.declared.resource.MemoryInfo.{MemoryInfo}
 use Rattle.vk_model.specs.declared.resource.Need.{Need}
-use Rattle.vk_model.specs.declared.resource.Place.{Place}
 use Rattle.vk_model.specs.Basics.{holds}
 use Rattle.vk_model.specs.Memory.Addresses.{need_of}
 use Rattle.vk_model.specs.Trace.Objects.{Resource, made, memory, resource, resource_in, of_buffer, of_image, bound_at, live_resources}

@@ -1,6 +1,5 @@
 use Rattle.std.proofs.Common.{◌≡◌, sym, ◌∙◌, refl, []}
 use Rattle.vk_model.specs.declared.entry.Entry.TheVariants as entry
-use Rattle.vk_model.specs.declared.resource.Need.{Need}
 use Rattle.vk_model.specs.Memory.Addresses.{need_of}
 use Rattle.vk_model.specs.Trace.Objects.{of_buffer}
 use Rattle.vk_model.specs.Trace.Point.{Point, Host}

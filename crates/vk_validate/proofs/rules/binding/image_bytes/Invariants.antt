@@ -1,4 +1,4 @@
-use Rattle.std.proofs.Common.{◌≡◌, ◌≤◌, ◌-◌, min}
+use Rattle.std.proofs.Common.{◌≤◌, ◌-◌, min}
 use Rattle.vk_model.specs.Trace.Image.{image_size}
 use Rattle.vk_validate.proofs.rules.binding.image_bytes.Given as goal
 
