@@ -100,7 +100,8 @@ impl BoundMemories {
         }
     }
 
-    // What breaks no rule isn't refused.
+    // A point that breaks no rule isn't refused, as `vk_buffer::bindings_are_judged` says. What is refused
+    // all the same would be answered as want of memory.
     fn bind(&mut self, id: u32, offset: u64, need: Need, kind: Kind) -> Result<(), AllocError>
         ensures here { OnOk result (IsBindOf (get nat_cmp self.old.memories id) (get nat_cmp self.new.memories id) offset need kind) }
         ensures others { OnOk result (AreOthers self.old self.new id) }
