@@ -20,7 +20,7 @@ use Rattle.vk_model.specs.Basics.{holds}
 use Rattle.vk_model.specs.Memory.Addresses.{need_of}
 use Rattle.vk_model.specs.Memory.Suballocation.{conflict, ranges_meet, same_kind, share_page}
 use Rattle.vk_model.specs.Trace.Point.{Past, Point, Action, Host, host_of}
-use Rattle.vk_model.specs.Trace.Objects.{Resource, of_buffer, of_image, made, made_by, live, memory, memory_in, ended_by, live_resources, resource_in, resource, bound_at, pool_at, pool_of, defrag_in}
+use Rattle.vk_model.specs.Trace.Objects.{Resource, of_buffer, of_image, made, live, memory, memory_in, ended_by, live_resources, resource_in, resource, bound_at, pool_at, pool_of, defrag_in}
 use Rattle.vk_model.specs.Rules.Ids.{is_memory, is_pool, is_defrag, is_resource, is_dead, is_stray, asked_by, asked_by_entry, lists_stray, until}
 use Rattle.vk_model.specs.Rules.Binding as binding
 use Rattle.vk_model.specs.Rules.Table.{breaks}
@@ -35,7 +35,7 @@ use Rattle.vk_validate.specs.Inner.Judged.{IsJudged}
 use Rattle.vk_validate.proofs.Kept.NextPoint.{unbroken}
 use Rattle.vk_validate.proofs.Living.Counting.{count_same, among_from, any_counted}
 use Rattle.vk_validate.proofs.Living.Entries.{none_counted, split_counted, one_counted, has_key, inserted, removed}
-use Rattle.vk_validate.proofs.Living.LiveIds.{ids, is_alive, ended_alive, none_dead, live_now, made_old, made_new, unmade, count_next, made_among}
+use Rattle.vk_validate.proofs.Living.LiveIds.{ids, is_alive, ended_alive, none_dead, live_now, made_old, made_new, unmade, resources_make, count_next, made_among}
 use Rattle.vk_validate.proofs.Living.Occupants.{count_none, none_ended}
 
 -- ---- resources that are bound
@@ -60,11 +60,6 @@ module _ (m : ℕ) (t : Test) where
   no_defrag : (y : Entry) → is_defrag y ≡ true → is_bound m t (Some y) ≡ false
   no_defrag (entry.Defrag i q b n) h = refl
   no_defrag _ h = absurd cc
-
-makers : (y : Entry) → is_some (resource_in y) ≡ true → is_some (made_by y) ≡ true
-makers (entry.Buffer i b) h = refl
-makers (entry.Image i n) h = refl
-makers _ h = absurd cc
 
 -- what an entry takes away from a count
 abbrev gone : Past → ℕ → Test → Entry → ℕ
@@ -141,7 +136,7 @@ module _ (past : Past) (p : Point) (j : IsJudged (p ∷ past)) where
 
   next : (x : Entry) → p.action ≡ Host x → (m : ℕ) (t : Test) → count_bound (p ∷ past) m t + gone past m t x ≡ count_bound past m t + cond (is_bound m t (Some x)) 1 0
   next x is m t =
-      let all = count_next past p j x is resource_in makers (is_bound m t) refl (only m t) in
+      let all = count_next past p j x is resource_in resources_make (is_bound m t) refl (only m t) in
       let same = gone_count x is m t in
       omega (arith, all, same)
 

@@ -9,7 +9,7 @@ use Rattle.vk_model.specs.declared.entry.Entry.TheVariants as entry
 use Rattle.vk_model.specs.declared.rule.Rule.TheVariants as rule
 use Rattle.vk_model.specs.Basics.{holds, among, some_pair}
 use Rattle.vk_model.specs.Trace.Point.{Past, Point, Action, Host, host_of, entries}
-use Rattle.vk_model.specs.Trace.Objects.{made, made_by, ended, ended_by, live, live_of}
+use Rattle.vk_model.specs.Trace.Objects.{made, made_by, ended, ended_by, live, live_of, resource_in}
 use Rattle.vk_model.specs.Rules.Ids.{Asked, is_dead, is_memory, is_resource, is_pool, is_defrag, asked_by, asked_by_entry, breaks_live_id, lists_stray, until}
 use Rattle.vk_model.specs.Rules.Ranges.{breaks_overlap, lists_twice}
 use Rattle.vk_model.specs.Rules.Fault.{newest, older}
@@ -140,6 +140,12 @@ ends_none (entry.DropPool p) i e = absurd cc
 ends_none (entry.EndPass d kept lost) i e = absurd cc
 ends_none (entry.EndDefrag d) i e = absurd cc
 ends_none _ i e = refl
+
+-- what makes a resource makes an id
+pub resources_make : (y : Entry) → is_some (resource_in y) ≡ true → is_some (made_by y) ≡ true
+resources_make (entry.Buffer i b) h = refl
+resources_make (entry.Image i m) h = refl
+resources_make _ h = absurd cc
 
 -- an entry ends no id twice
 pub ended_apart : (x : Entry) → lists_twice x ≡ false → some_pair nat_eq (ended_by x) ≡ false

@@ -5,14 +5,14 @@ use Rattle.vk_model.specs.declared.entry.Entry.{Entry}
 use Rattle.vk_model.specs.declared.entry.Entry.TheVariants as entry
 use Rattle.vk_model.specs.declared.resource.Place.{Place}
 use Rattle.vk_model.specs.Trace.Point.{Past, Point, Host, host_of}
-use Rattle.vk_model.specs.Trace.Objects.{made, made_by, ended_by, live_resources, resource_in, memory_of, pool_of, pool_at}
+use Rattle.vk_model.specs.Trace.Objects.{made, ended_by, live_resources, resource_in, memory_of, pool_of, pool_at}
 use Rattle.vk_model.specs.Rules.Ids.{is_memory, is_pool, is_defrag}
 use Rattle.vk_model.proofs.Lists.Members.{contains-head, contains-tail}
 use Rattle.vk_validate.specs.declared.occupants.Occupants.{Occupants}
 use Rattle.vk_validate.specs.Inner.Counted.{AreOccupants, OccupiesBy, count_at, destroyed_by, is_id, memory_at}
 use Rattle.vk_validate.specs.Inner.Judged.{IsJudged}
 use Rattle.vk_validate.proofs.Living.Counting.{count-cons}
-use Rattle.vk_validate.proofs.Living.LiveIds.{ends_as, is_alive, ended_alive, none_dead, count_next}
+use Rattle.vk_validate.proofs.Living.LiveIds.{ends_as, is_alive, ended_alive, none_dead, resources_make, count_next}
 
 -- a count where nothing passes
 pub count_none : {A : Type 0} (f : A → Bool) (xs : List A) → ((x : A) → Contains xs x → f x ≡ false) → count_by f xs ≡ 0
@@ -40,11 +40,6 @@ module _ (at : Place → Option ℕ) (k : ℕ) where
   only (entry.Image i m) h = refl
   only _ h = absurd cc
 
-  makers : (y : Entry) → is_some (resource_in y) ≡ true → is_some (made_by y) ≡ true
-  makers (entry.Buffer i b) h = refl
-  makers (entry.Image i m) h = refl
-  makers _ h = absurd cc
-
   no_memory : (y : Entry) → is_memory y ≡ true → at_id (Some y) ≡ false
   no_memory (entry.Memory i m) h = refl
   no_memory _ h = absurd cc
@@ -71,7 +66,7 @@ module _ (at : Place → Option ℕ) (k : ℕ) where
     host_count : (x : Entry) → p.action ≡ Host x → (old new : ℕ) → old ≡ count_by (λ i. at_id (made past i)) (live_resources past) → new ≡ old + cond (at_id (Some x)) 1 0 - count_by (λ i. at_id (made past i)) (destroyed_by x)
         → new ≡ count_by (λ i. at_id (made (p ∷ past) i)) (live_resources (p ∷ past))
     host_count x is old new was now =
-        let next = count_next past p j x is resource_in makers at_id refl only in
+        let next = count_next past p j x is resource_in resources_make at_id refl only in
         let same = destroyed_count x is in
         omega (arith, next, same, was, now)
 
