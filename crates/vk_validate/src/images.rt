@@ -1,11 +1,10 @@
 ghost use Rattle.std.specs.Prelude.{◌≡◌};
 ghost use Rattle.vk_model.specs.World.Areas.{region_box, source_box, destination_box};
-ghost use Rattle.vk_model.specs.World.Ownership.{is_transition};
 ghost use Rattle.vk_model.specs.Rules.Ranges as ranges;
 ghost use Rattle.std.specs.List.{list_any};
 
 use vk_image_tiles::{level_height, level_width};
-use vk_model::{BufferImageCopy, ImageCopy, ImageElement, ImageInfo, SubresourceRange};
+use vk_model::{BufferImageCopy, ImageCopy, ImageInfo, SubresourceRange};
 
 /// Whether a range isn't one of the image's levels and layers.
 pub fn is_bad_range(info: &ImageInfo, range: &SubresourceRange) -> bool
@@ -83,11 +82,4 @@ pub fn has_bad_range(info: &ImageInfo, parts: &[SubresourceRange]) -> bool
     ensures { result ≡ list_any (ranges.bad_range info.now) parts.now }
 {
     parts.iter().any(|part| is_bad_range(info, part))
-}
-
-/// Whether an element of a barrier is a layout transition: its layouts differ.
-pub fn changes_layout(on_image: &ImageElement) -> bool
-    ensures { result ≡ is_transition on_image.now }
-{
-    on_image.old_layout.code() != on_image.new_layout.code()
 }

@@ -7,7 +7,7 @@ ghost use Rattle.vk_model.specs.World.Areas.{region_box, source_box, destination
 ghost use Rattle.vk_model.specs.Rules.Ranges as rules;
 ghost use Rattle.vk_validate.specs.Inner.Overlapping as overlapping;
 
-use crate::images::changes_layout;
+use crate::elements::is_transition;
 use vk_model::{BufferCopy, BufferImageCopy, Element, ImageCopy, SubresourceRange};
 
 /// Whether two ranges of bytes have one in common.
@@ -249,8 +249,8 @@ fn transitions_meet(one: &Element, other: &Element) -> bool
     match (one, other) {
         (Element::Image(one), Element::Image(other)) => {
             one.image == other.image
-                && changes_layout(one)
-                && changes_layout(other)
+                && is_transition(one)
+                && is_transition(other)
                 && subresources_meet(&one.range, &other.range)
         }
         _ => false,

@@ -8,9 +8,9 @@ ghost use Rattle.vk_validate.specs.Inner.PointViews.{past};
 ghost use Rattle.vk_validate.specs.Inner.RuleParts as parts;
 ghost use Rattle.vk_validate.specs.Inner.RuleParts.{IsResourceOf};
 
+use crate::elements::is_transition;
 use crate::families::family_of;
 use crate::history::History;
-use crate::images::changes_layout;
 use vk_model::{
     BufferCopy, BufferImageCopy, Cmd, Element, Entry, Families, ImageCopy, ImageElement,
     SubresourceRange,
@@ -105,7 +105,7 @@ fn copies_image(history: &History<'_>, id: u32, regions: &[ImageCopy]) -> bool
 fn changes_some(history: &History<'_>, queue: u32, on_image: &ImageElement) -> bool
     ensures { result ≡ ((is_transition on_image.now && not (releases (transfer (family_of queue) on_image.now.families))) && (is_some (image (past history.now) on_image.now.image) && (nat_lt 0 on_image.now.range.levels && nat_lt 0 on_image.now.range.layers))) }
 {
-    changes_layout(on_image)
+    is_transition(on_image)
         && !is_release(queue, on_image.families)
         && is_image(history, on_image.image)
         && has_any(&on_image.range)
