@@ -6,3 +6,4 @@ pub mod Caching
 pub mod Running
 pub mod CachedRunning
 pub mod DirectRuns
+pub mod Living

@@ -17,3 +17,4 @@ pub mod CachedRuns
 pub mod CachedExample
 pub mod PickedRuns
 pub mod DirectRuns
+pub mod Lifetimes

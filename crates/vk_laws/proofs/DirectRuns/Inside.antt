@@ -72,6 +72,19 @@ command_takes past (cmd.Barrier es) m c d e = absurd (none_in m c)
 command_takes past (cmd.Set v ms) m c d e = absurd (none_in m c)
 command_takes past (cmd.Await v ms) m c d e = absurd (none_in m c)
 
+-- ---- what a piece writes and copies its command names
+
+pub piece_names : PiecesAreByteWrites → (past : Past) (x : Name) (p : IsPiece past x) (c : Byte) (w : ByteWrite) → write_to c (named_piece past x) ≡ Some w
+    → Names (asked_by_command p.command) c × ((d : Byte) → w.source ≡ From d → Names (asked_by_command p.command) d)
+piece_names together past x p c w is =
+    (subst (λ (b : Byte). Names (asked_by_command p.command) b) (byte_same w.to c f.1) (command_names past p.command w written), λ d e. command_takes past p.command w written d e)
+  where
+    f : Contains (named_piece past x) w × IsTrue (same_byte w.to c)
+    f = found (λ m. same_byte m.to c) (named_piece past x) w is
+
+    written : Contains (byte_writes past p.command) w
+    written = subst (λ (ms : List ByteWrite). Contains ms w) (together past p.command) (part_has (pieces past p.command) x.1 (named_piece past x) w p.content f.0)
+
 -- ---- what a command of a stage names was made
 
 module _ {t : List Entry} (known : Known t) (together : PiecesAreByteWrites) (P : Point → Type 0) (past : Past) (g : Grows P past (order t)) where
@@ -91,19 +104,8 @@ module _ {t : List Entry} (known : Known t) (together : PiecesAreByteWrites) (P 
 
   pub inside : (done : List Name) (x : Name) (c : Byte) (w : ByteWrite) → IsTrue (is_done (offered past done) x) → write_to c (named_piece past x) ≡ Some w
       → IsTrue (is_made past c) × ((d : Byte) → w.source ≡ From d → IsTrue (is_made past d))
-  inside done x c w h is = (
-    named_there p.node p.command present p.act c (subst (λ (b : Byte). Names (asked_by_command p.command) b) (byte_same w.to c f.1) (command_names past p.command w written)),
-    λ d e. named_there p.node p.command present p.act d (command_takes past p.command w written d e),
-  )
-    where
-      p : IsPiece past x
-      p = is_piece past done x h
-
-      present : Contains (nodes past) p.node
-      present = (found _ (nodes past) p.node p.present).0
-
-      f : Contains (named_piece past x) w × IsTrue (same_byte w.to c)
-      f = found (λ m. same_byte m.to c) (named_piece past x) w is
-
-      written : Contains (byte_writes past p.command) w
-      written = subst (λ (ms : List ByteWrite). Contains ms w) (together past p.command) (part_has (pieces past p.command) x.1 (named_piece past x) w p.content f.0)
+  inside done x c w h is =
+      let p : IsPiece past x = is_piece past done x h in
+      let present : Contains (nodes past) p.node = (found _ (nodes past) p.node p.present).0 in
+      let names = piece_names together past x p c w is in
+      (named_there p.node p.command present p.act c names.0, λ d e. named_there p.node p.command present p.act d (names.1 d e))

@@ -83,7 +83,7 @@ module _ (paths : BeforeIsPath) (past : Past) where
 
 -- ---- no hazards
 
-split_at : (all past : Past) (p : Point) → Comes all past p → (more : Past) × (all ≡ more ++ p ∷ past)
+pub split_at : (all past : Past) (p : Point) → Comes all past p → (more : Past) × (all ≡ more ++ p ∷ past)
 split_at all past p newest = ([], refl)
 split_at (q ∷ all) past p (older h) = let r = split_at all past p h in (q ∷ r.0, ap (λ (l : Past). q ∷ l) r.1)
 
@@ -97,7 +97,7 @@ module _ (keeps : GrowthKeeps) (all past : Past) (p : Point) (comes : Comes all 
   pub seen_in_all : (cached : Byte → Bool) (x y : Node) (k : Access) (b : Byte) → Contains (nodes (p ∷ past)) y → IsTrue (seen cached (nodes (p ∷ past)) x y k b) → IsTrue (seen cached (nodes all) x y k b)
   seen_in_all cached x y k b c h = whole.visibilities cached x y k b c ∙ h
 
-found_new : (f : Node → Bool) (past : Past) (p : Point) (y : Node) → Contains (nodes (p ∷ past)) y → length (nodes past) ≤ y.number → IsTrue (f y) → IsTrue (list_any f (next_nodes past p))
+pub found_new : (f : Node → Bool) (past : Past) (p : Point) (y : Node) → Contains (nodes (p ∷ past)) y → length (nodes past) ≤ y.number → IsTrue (f y) → IsTrue (list_any f (next_nodes past p))
 found_new f past p y c le h =
     let new = filter (λ n. nat_le (length (nodes past)) n.number) (nodes (p ∷ past)) in
     sym (list_any-IsPermutation f new (reverse new) (IsPermutation-reverse new)) ∙ any_filter f (λ n. nat_le (length (nodes past)) n.number) (nodes (p ∷ past)) y c (le-leb (length (nodes past)) y.number le) h

@@ -52,7 +52,7 @@ at_point_below all n s = number_below (nodes (s.at ∷ s.past)) (numbered (s.at 
 
 -- ---- the action of a command's node
 
-not_mapped : {X : Type 0} (f : X → Act) (c : Cmd) → ((x : X) → f x ≡ Runs c → ⊥) → (xs : List X) → Contains (map f xs) (Runs c) → ⊥
+pub not_mapped : {X : Type 0} (f : X → Act) (c : Cmd) → ((x : X) → f x ≡ Runs c → ⊥) → (xs : List X) → Contains (map f xs) (Runs c) → ⊥
 not_mapped f c never [] h = none_in (Runs c) h
 not_mapped f c never (x ∷ xs) h = ⊎_elim (λ e. never x e) (λ later. not_mapped f c never xs later) (contains-cons (f x) (map f xs) (Runs c) h)
 
