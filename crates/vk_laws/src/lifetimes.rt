@@ -1,5 +1,5 @@
-//! What lives in the allowed runs of a trace without a fault: laws for a device that drops a resource
-//! as soon as it has ended.
+//! What lives in the allowed runs of a trace without a fault: laws for a device that drops a
+//! resource as soon as it has ended.
 ghost use Rattle.vk_laws.specs.Lifetimes.{EntriesNameLive, PiecesBeforeHaveRun, PiecesStayLive};
 
 use crate::direct_runs::pieces_stay_inside;
