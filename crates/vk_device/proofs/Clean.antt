@@ -27,7 +27,7 @@ use Rattle.vk_model.specs.declared.entry.Entry.TheVariants as entry
 use Rattle.vk_model.specs.declared.resource.BufferInfo.{BufferInfo}
 use Rattle.vk_model.specs.declared.resource.Place.{Place}
 use Rattle.vk_model.specs.declared.resource.Place.TheVariants as place
-use Rattle.vk_validate.specs.Supported.{is_supported, is_supported_action, is_supported_place, is_memory}
+use Rattle.vk_history.specs.Supported.{is_supported, is_supported_action, is_supported_place, is_memory}
 use Rattle.vk_device.specs.Inner.Clean.{IsClean}
 use Rattle.vk_device.specs.Inner.Fits.{FitsAction, AllFit}
 use Rattle.vk_resources.specs.Fits.{FitsFill, AllMemory, FitsCommand, IsOwn, FitsRead, FitsEntry}

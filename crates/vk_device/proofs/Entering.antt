@@ -30,7 +30,7 @@ use Rattle.vk_resources.specs.Done.{EntryReady, Goes, DoneBy}
 use Rattle.vk_resources.specs.Fits.{FitsEntry}
 use Rattle.vk_resources.specs.Held.{Held, placed, byte_in, byte_at, MatchesSizes}
 use Rattle.vk_resources.specs.Inner.Allotted.{allotted, FoundRoom, GotAsked, finds_no_room, with_asked, Allotted}
-use Rattle.vk_validate.specs.Supported.{is_supported, is_supported_action, is_supported_entry, is_supported_place}
+use Rattle.vk_history.specs.Supported.{is_supported, is_supported_action, is_supported_entry, is_supported_place}
 use Rattle.vk_device.specs.declared.device.Device.{Device}
 use Rattle.vk_device.specs.Inner.Clean.{IsClean}
 use Rattle.vk_device.specs.Inner.Ready.{HostDone, Picks, GotAskedBy, AdvanceReady}

@@ -22,7 +22,7 @@ use Rattle.vk_model.specs.Memory.Allocations.{Allocated, FindsNoRoom, Changes}
 use Rattle.vk_resources.specs.Allocating.{IsAllocated}
 use Rattle.vk_resources.specs.Held.{MatchesSizes, byte_at}
 use Rattle.vk_device.specs.declared.device.Device.{Device}
-use Rattle.vk_validate.specs.Supported.{is_supported}
+use Rattle.vk_history.specs.Supported.{is_supported}
 
 -- An allowed run of a trace has led to a device: these steps, through caches that hold nothing, to this stage and to the bytes that the device's memory holds. The device has the buffers that were made, the batches that wait, the entries that were applied, and the pieces that may run next (Vulkan, "Execution and Memory Dependencies").
 pub record Led (t : List Entry) (steps : List Step) (s : Stage) (d : Device) : Type 0 where

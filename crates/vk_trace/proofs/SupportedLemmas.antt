@@ -16,11 +16,11 @@ use Rattle.vk_model.specs.declared.resource.Place.{Place}
 use Rattle.vk_model.specs.declared.resource.Place.TheVariants as place
 use Rattle.vk_model.specs.Trace.Point.{Past, Action, Wait, Run, Signal}
 use Rattle.vk_model.specs.Trace.Order.{SubmittedBatch, Front, host, actions, started, batches_from, batches_of, is_met, same_batch, next_batch, start_batch, settled, after_entry, order_from, order}
-use Rattle.vk_validate.specs.Supported.{is_supported, is_supported_action, is_supported_entry, is_supported_command, is_supported_place, is_memory}
+use Rattle.vk_history.specs.Supported.{is_supported, is_supported_action, is_supported_entry, is_supported_command, is_supported_place, is_memory}
 use Rattle.vk_model.specs.Basics.{among}
 use Rattle.vk_model.proofs.Lists.Pairs.{Each, each_append, each_from, each_has}
 use Rattle.vk_model.proofs.Lists.Members.{filtered}
-use Rattle.vk_validate.proofs.Points.Pasts.{supported-next}
+use Rattle.vk_history.proofs.Points.Pasts.{supported-next}
 use Rattle.vk_trace.specs.Members.{Reader, Row, ◌>>=◌, array_members, first_member, no_member, from, ◌<*>◌, only, members, at_word, after_word, word_and_members, tagged, each_member, list_of, empty_list, u32_value, u64_value}
 use Rattle.vk_trace.specs.Trace.{memory_element, dependency_value, command_rows, command_value, semaphore_submit, batch_value, semaphore_value, memory_type_value, place_rows, place_value, sharing_value, length_or_whole, buffer, entry_rows, entry_value, IsTrace}
 

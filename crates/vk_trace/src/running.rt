@@ -2,7 +2,7 @@ ghost use Rattle.std.specs.Prelude.{◌≡◌, ◌↔◌, ◌⊎◌, ◌≤◌, 
 ghost use Rattle.std.specs.Io.KnownBytes.{Appends, Keeps};
 ghost use Rattle.vk_model.specs.declared.entry.Entry.{Entry};
 ghost use Rattle.vk_model.specs.Trace.Order.{order};
-ghost use Rattle.vk_validate.specs.Supported.{is_supported};
+ghost use Rattle.vk_history.specs.Supported.{is_supported};
 ghost use Rattle.vk_trace.specs.declared.printing.Outcome.{Outcome};
 ghost use Rattle.vk_trace.specs.Trace.{IsTrace};
 ghost use Rattle.vk_trace.specs.Watching.{counted};

@@ -1,9 +1,5 @@
-pub mod Forms
 pub mod Barriers
-pub mod Fills
 pub mod Areas
 pub mod Reaching
 pub mod Lying
-pub mod Pasts
-pub mod Ranges
 pub mod SupportedNodes

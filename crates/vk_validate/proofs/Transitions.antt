@@ -1,5 +1,1 @@
-pub mod Undefined
-pub mod Keeping
-pub mod Elements
-pub mod Named
 pub mod Commands

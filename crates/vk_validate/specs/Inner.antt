@@ -1,16 +1,4 @@
-pub mod PointViews
-pub mod Judged
 pub mod Early
-pub mod Touched
-pub mod Made
-pub mod Ended
-pub mod Contents
-pub mod Changes
 pub mod RuleParts
 pub mod Overlapping
-pub mod Conflicts
-pub mod Layouts
-pub mod Counted
 pub mod Owners
-pub mod Bound
-pub mod Tabled

@@ -1,4 +1,3 @@
-pub mod Supported
 pub mod Inner
 pub mod Faults
 pub mod Acceptable

@@ -5,34 +5,13 @@
 //! history of what has happened, which answers what the rules ask.
 #![tactic(auto)]
 
-mod bound;
-mod contents;
-mod counts;
-mod defrags;
-mod elements;
-mod endings;
-mod events;
-mod families;
-mod found;
-mod history;
 mod images;
-mod layouts;
-mod mappings;
-mod objects;
-mod occupants;
 mod overlapping;
 mod overlaps;
-mod parts;
-mod places;
 mod regions;
 mod rules;
 mod scopes;
-mod searches;
-mod semaphores;
-mod supported;
-mod tables;
 mod verdicts;
-mod writer;
 mod written;
 
 pub use verdicts::{Accepted, Verdict, validate};

@@ -1,9 +1,9 @@
 ghost use Rattle.std.specs.Prelude.{◌≡◌};
 ghost use Rattle.vk_model.specs.Rules.Ranges.{command_overlaps};
-ghost use Rattle.vk_validate.specs.Inner.PointViews.{past};
+ghost use Rattle.vk_history.specs.PointViews.{past};
 ghost use Rattle.vk_validate.specs.Inner.Overlapping.{rows_overlap};
 
-use crate::history::History;
+use vk_history::History;
 use crate::overlaps::{
     copies_overlap, image_copies_overlap, some_ranges_meet, some_regions_meet,
     some_transitions_meet,

@@ -7,7 +7,7 @@ ghost use Rattle.vk_model.specs.World.Areas.{region_box, source_box, destination
 ghost use Rattle.vk_model.specs.Rules.Ranges as rules;
 ghost use Rattle.vk_validate.specs.Inner.Overlapping as overlapping;
 
-use crate::elements::is_transition;
+use vk_history::is_transition;
 use vk_model::{BufferCopy, BufferImageCopy, Element, ImageCopy, SubresourceRange};
 
 /// Whether two ranges of bytes have one in common.

@@ -4,11 +4,11 @@ ghost use Rattle.vk_model.specs.Trace.Structure.{IsOrdered};
 ghost use Rattle.vk_model.specs.Rules.Table as table;
 ghost use Rattle.vk_model.specs.Rules.Synchronization as sync;
 ghost use Rattle.vk_order.specs.PointViews.{action_of, point_of};
-ghost use Rattle.vk_validate.specs.Supported.{is_supported_action};
-ghost use Rattle.vk_validate.specs.Inner.PointViews.{past};
-ghost use Rattle.vk_validate.specs.Inner.Judged.{early_rules, late_rules, first_among};
+ghost use Rattle.vk_history.specs.Supported.{is_supported_action};
+ghost use Rattle.vk_history.specs.PointViews.{past};
+ghost use Rattle.vk_history.specs.Judged.{early_rules, late_rules, first_among};
 ghost use Rattle.vk_validate.specs.Inner.Early.{breaks_early};
-ghost use Rattle.vk_validate.specs.Inner.Conflicts.{AreConflicts};
+ghost use Rattle.vk_history.specs.Conflicts.{AreConflicts};
 
 mod binding;
 mod hazards;
@@ -22,8 +22,8 @@ mod sizes;
 mod synchronization;
 mod traces;
 
-use crate::found::Conflicts;
-use crate::history::History;
+use vk_history::Conflicts;
+use vk_history::History;
 use std::alloc::AllocError;
 use vk_model::Rule;
 use vk_order::Point;

@@ -3,15 +3,15 @@ ghost use Rattle.vk_model.specs.Trace.Point as spec;
 ghost use Rattle.vk_model.specs.Trace.Order.{order};
 ghost use Rattle.vk_model.specs.Trace.Structure.{IsOrdered};
 ghost use Rattle.vk_model.specs.Rules.Table.{first_fault};
-ghost use Rattle.vk_validate.specs.Supported.{is_supported};
+ghost use Rattle.vk_history.specs.Supported.{is_supported};
 ghost use Rattle.vk_validate.specs.Faults.{reported_fault};
 ghost use Rattle.vk_validate.specs.Verdicts.{reported, IsAbout};
 ghost use Rattle.vk_order.specs.PointViews.{point_of};
 ghost use Rattle.vk_queues.specs.PointViews.{past_of};
 
-use crate::history::History;
+use vk_history::History;
 use crate::rules::first_rule;
-use crate::supported::is_supported;
+use vk_history::is_supported;
 use std::alloc::{AllocError, Global};
 use std::marker::Model;
 use vk_model::{At, Entry, Rule};

@@ -4,13 +4,13 @@ ghost use Rattle.vk_model.specs.Trace.Objects.{image};
 ghost use Rattle.vk_model.specs.World.ByteWrites.{byte_writes};
 ghost use Rattle.vk_model.specs.World.Ownership.{transfer, releases, family_of, is_transition};
 ghost use Rattle.vk_model.specs.Sync.Access.{targets, transition_bytes, host_writes};
-ghost use Rattle.vk_validate.specs.Inner.PointViews.{past};
+ghost use Rattle.vk_history.specs.PointViews.{past};
 ghost use Rattle.vk_validate.specs.Inner.RuleParts as parts;
 ghost use Rattle.vk_validate.specs.Inner.RuleParts.{IsResourceOf};
 
-use crate::elements::is_transition;
-use crate::families::family_of;
-use crate::history::History;
+use vk_history::is_transition;
+use vk_history::family_of;
+use vk_history::History;
 use vk_model::{
     BufferCopy, BufferImageCopy, Cmd, Element, Entry, Families, ImageCopy, ImageElement,
     SubresourceRange,

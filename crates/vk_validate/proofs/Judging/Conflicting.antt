@@ -28,15 +28,15 @@ use Rattle.vk_order.specs.declared.access.Access.{Access}
 use Rattle.vk_order.specs.declared.access.Access.TheVariants as access
 use Rattle.vk_order.specs.declared.lines.Line.TheVariants.{Host as OfHost, Commands as OfCommands}
 use Rattle.vk_order.specs.declared.sights.Sight.{Sight}
-use Rattle.vk_validate.specs.declared.contents.BufferContents.{BufferContents}
-use Rattle.vk_validate.specs.declared.writer.Writer.{Writer}
-use Rattle.vk_validate.specs.Supported.{is_supported, is_supported_action}
-use Rattle.vk_validate.specs.Inner.Judged.{IsJudged}
-use Rattle.vk_validate.specs.Inner.Touched.{next_node, act_next, last_writer, last_reader, writer_spot, reader_spot, byte_writer, byte_reader}
-use Rattle.vk_validate.specs.Inner.Contents.{AreContentsOf, is_defined}
-use Rattle.vk_validate.specs.Inner.Conflicts.{Misses, IsEarly, FoundIn, SaysSeen}
-use Rattle.vk_validate.proofs.Points.Pasts.{supported-next}
-use Rattle.vk_validate.proofs.Points.Ranges.{one_of, none_of, fill-targets}
+use Rattle.vk_history.specs.declared.contents.BufferContents.{BufferContents}
+use Rattle.vk_history.specs.declared.writer.Writer.{Writer}
+use Rattle.vk_history.specs.Supported.{is_supported, is_supported_action}
+use Rattle.vk_history.specs.Judged.{IsJudged}
+use Rattle.vk_history.specs.Touched.{next_node, act_next, last_writer, last_reader, writer_spot, reader_spot, byte_writer, byte_reader}
+use Rattle.vk_history.specs.Contents.{AreContentsOf, is_defined}
+use Rattle.vk_history.specs.Conflicts.{Misses, IsEarly, FoundIn, SaysSeen}
+use Rattle.vk_history.proofs.Points.Pasts.{supported-next}
+use Rattle.vk_history.proofs.Points.Ranges.{one_of, none_of, fill-targets}
 use Rattle.vk_validate.proofs.Points.SupportedNodes.{supported_node, runs_or_none, reads_none, all_wide, uncached, supported_older}
 use Rattle.vk_validate.proofs.Touching.LastHazards.{CommandsWrite, HostReads, StaysCached, raw_is, waw_is, war_is, reader_at, nodes_with}
 use Rattle.vk_validate.proofs.Touching.LastAccesses.{last_is}

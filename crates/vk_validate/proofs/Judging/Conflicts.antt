@@ -19,15 +19,15 @@ use Rattle.vk_model.proofs.Lists.Members.{all_passes, only_one}
 use Rattle.vk_order.specs.Frontiers.{IsSight}
 use Rattle.vk_order.specs.declared.access.Access.TheVariants as access
 use Rattle.vk_order.specs.declared.sights.Sight.{Sight}
-use Rattle.vk_validate.specs.declared.contents.BufferContents.{BufferContents}
-use Rattle.vk_validate.specs.declared.found.Conflicts.{Conflicts}
-use Rattle.vk_validate.specs.Supported.{is_supported_action}
-use Rattle.vk_validate.specs.Inner.Changes.{is_quiet}
-use Rattle.vk_validate.specs.Inner.Conflicts.{AreConflicts, FoundIn, Misses, IsEarly}
-use Rattle.vk_validate.specs.Inner.Contents.{AreContentsOf}
-use Rattle.vk_validate.specs.Inner.Judged.{IsJudged, early_rules, first_among}
-use Rattle.vk_validate.specs.Inner.Touched.{next_node, act_next}
-use Rattle.vk_validate.proofs.Points.Forms.{entry_cases, command_cases, action_cases}
+use Rattle.vk_history.specs.declared.contents.BufferContents.{BufferContents}
+use Rattle.vk_history.specs.declared.found.Conflicts.{Conflicts}
+use Rattle.vk_history.specs.Supported.{is_supported_action}
+use Rattle.vk_history.specs.Changes.{is_quiet}
+use Rattle.vk_history.specs.Conflicts.{AreConflicts, FoundIn, Misses, IsEarly}
+use Rattle.vk_history.specs.Contents.{AreContentsOf}
+use Rattle.vk_history.specs.Judged.{IsJudged, early_rules, first_among}
+use Rattle.vk_history.specs.Touched.{next_node, act_next}
+use Rattle.vk_history.proofs.Points.Forms.{entry_cases, command_cases, action_cases}
 use Rattle.vk_validate.proofs.Points.SupportedNodes.{is_supported_act, supported_acts, is_calm, calm, calm_acts, calm_reads, calm_writes, reads_none}
 use Rattle.vk_validate.proofs.Judging.Quiet.{no_war, no_raw, no_waw}
 use Rattle.vk_validate.proofs.Judging.Conflicting.{read_raw, read_undefined, fill_waw, fill_war}

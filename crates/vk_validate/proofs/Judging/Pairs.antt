@@ -11,8 +11,8 @@ use Rattle.vk_model.specs.World.Effect.{world}
 use Rattle.vk_model.specs.Trace.Point.{Past, Point, Action, Run}
 use Rattle.vk_model.specs.Sync.Node.{Node, Act, Hosts, Waits, Signals, Runs, Depends, Barrier, Role, acts, nodes, SetOf, AwaitOf}
 use Rattle.vk_model.specs.Rules.Owners.{some_bad_pair, bad_pair, element_in, after_some, breaks_owner_pair}
-use Rattle.vk_validate.specs.Supported.{is_supported_action, is_memory}
-use Rattle.vk_validate.proofs.Points.Forms.{command_cases, action_cases}
+use Rattle.vk_history.specs.Supported.{is_supported_action, is_memory}
+use Rattle.vk_history.proofs.Points.Forms.{command_cases, action_cases}
 use Rattle.vk_validate.proofs.Touching.NextNodes.{lined, next_nodes-lined}
 
 -- whether an act transfers nothing

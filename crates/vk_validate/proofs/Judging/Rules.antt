@@ -9,8 +9,8 @@ use Rattle.vk_model.specs.Trace.Point.{Past, Point, on_host}
 use Rattle.vk_model.specs.Rules.Table.{breaks, first_rule}
 use Rattle.vk_model.specs.Rules.Hazards.{breaks_hazard_war, breaks_hazard_raw, breaks_hazard_waw, breaks_in_use, breaks_read_undefined}
 use Rattle.vk_model.specs.Rules.Traces.{breaks_limit}
-use Rattle.vk_validate.specs.Supported.{is_supported_action}
-use Rattle.vk_validate.specs.Inner.Judged.{early_rules, late_rules, first_among}
+use Rattle.vk_history.specs.Supported.{is_supported_action}
+use Rattle.vk_history.specs.Judged.{early_rules, late_rules, first_among}
 use Rattle.vk_validate.specs.Inner.Early.{breaks_early}
 use Rattle.vk_validate.specs.Inner.RuleParts.{frees_used}
 use Rattle.vk_validate.proofs.Judging.Unbroken as unbroken

@@ -3,9 +3,9 @@ use Rattle.std.proofs.Common.{◌≡◌, true, false, refl}
 use Rattle.vk_model.specs.Trace.Point.{Past, Point, Action, Host, Run, on_host}
 use Rattle.vk_model.specs.Rules.Passes.{breaks_pass_busy}
 use Rattle.vk_model.specs.Rules.Hazards.{breaks_in_use}
-use Rattle.vk_validate.specs.Supported.{is_supported_action}
+use Rattle.vk_history.specs.Supported.{is_supported_action}
 use Rattle.vk_validate.specs.Inner.RuleParts.{frees_used}
-use Rattle.vk_validate.proofs.Points.Forms.{entry_cases, command_cases, action_cases}
+use Rattle.vk_history.proofs.Points.Forms.{entry_cases, command_cases, action_cases}
 
 module _ (past : Past) (p : Point) (supported : is_supported_action p.action ≡ true) where
   pub no_pass_busy : breaks_pass_busy past p ≡ false

@@ -16,7 +16,7 @@ use Rattle.vk_model.specs.Rules.Synchronization.{set_by, sets, on_queue, bad_eve
 use Rattle.vk_model.specs.Rules.Table.{fault, breaks}
 use Rattle.vk_model.specs.Rules.Fault.{newest, older, IsUnbroken}
 use Rattle.vk_model.proofs.Rules.Fault.{unbroken_of_none}
-use Rattle.vk_validate.specs.Inner.Made.{Set, last_set}
+use Rattle.vk_history.specs.Made.{Set, last_set}
 
 -- a set of an event that was set breaks its rule
 fresh : (past : Past) (p : Point) (v : ℕ) (ms : List Dependency) → breaks_event_state past p ≡ false → option_and_then (set_by v) (command_of p.action) ≡ Some ms → length (sets past v) ≡ 0

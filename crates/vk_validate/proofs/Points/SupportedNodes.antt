@@ -21,9 +21,9 @@ use Rattle.vk_model.specs.Sync.Access.{host_writes, host_reads, writes_of, reads
 use Rattle.vk_model.proofs.Lists.Members.{all_passes}
 use Rattle.vk_laws.proofs.Nodes.Points.{at_point}
 use Rattle.vk_order.specs.Wide.{is_wide, AreWide}
-use Rattle.vk_validate.specs.Supported.{is_supported, is_supported_action, is_supported_entry, is_memory}
-use Rattle.vk_validate.proofs.Points.Forms.{entry_cases, command_cases, action_cases}
-use Rattle.vk_validate.proofs.Points.Pasts.{supported-cons, made_supported}
+use Rattle.vk_history.specs.Supported.{is_supported, is_supported_action, is_supported_entry, is_memory}
+use Rattle.vk_history.proofs.Points.Forms.{entry_cases, command_cases, action_cases}
+use Rattle.vk_history.proofs.Points.Pasts.{supported-cons, made_supported}
 
 abbrev pub is_fill : Cmd → Bool
 is_fill (cmd.Fill b o n w) = true

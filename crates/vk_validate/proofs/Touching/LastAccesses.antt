@@ -25,8 +25,8 @@ use Rattle.vk_laws.proofs.Nodes.Steady.{commands_stay, comes_here}
 use Rattle.vk_laws.proofs.Nodes.Points.{at_point, action_of, older_node}
 use Rattle.vk_laws.proofs.Nodes.Prefixes.{has_more}
 use Rattle.vk_laws.proofs.Accesses.TaskAccesses.{byte_same}
-use Rattle.vk_validate.specs.Inner.Touched.{next_node, writer_next, last_writer}
-use Rattle.vk_validate.proofs.Touching.LastNodes.{last_found, HasLast, last_from, writer_is, writers_own, next_there, runs_alone}
+use Rattle.vk_history.specs.Touched.{next_node, writer_next, last_writer}
+use Rattle.vk_history.proofs.Touching.LastNodes.{last_found, HasLast, last_from, writer_is, writers_own, next_there, runs_alone}
 
 -- a byte that is in a list is a member
 pub is_there : (c : Byte) (bs : List Byte) → IsTrue (is_in c bs) → Contains bs c

@@ -27,9 +27,9 @@ use Rattle.vk_laws.proofs.Nodes.NoHazard.{host_in_order}
 use Rattle.vk_laws.proofs.Nodes.Points.{at_point}
 use Rattle.vk_laws.proofs.Nodes.Prefixes.{has_more}
 use Rattle.vk_laws.proofs.Accesses.TaskAccesses.{byte_itself}
-use Rattle.vk_validate.specs.Inner.Touched.{next_node, last_writer, last_reader, reader_next}
+use Rattle.vk_history.specs.Touched.{next_node, last_writer, last_reader, reader_next}
 use Rattle.vk_validate.proofs.Touching.NextNodes.{lined, next_nodes-lined}
-use Rattle.vk_validate.proofs.Touching.LastNodes.{HasLast, last_found, last_from, reader_is, readers_own, next_there}
+use Rattle.vk_history.proofs.Touching.LastNodes.{HasLast, last_found, last_from, reader_is, readers_own, next_there}
 use Rattle.vk_validate.proofs.Touching.LastAccesses.{is_there, only_new, writer_last, last_is, all_seen}
 
 -- the node of a point with one act is its only one

@@ -4,10 +4,10 @@ ghost use Rattle.vk_model.specs.Trace.Image.{image_size};
 ghost use Rattle.vk_model.specs.Trace.Objects.{Resource, of_buffer, of_image};
 ghost use Rattle.vk_model.specs.Rules.Binding as binding;
 ghost use Rattle.vk_order.specs.PointViews.{point_of};
-ghost use Rattle.vk_validate.specs.Inner.PointViews.{past};
+ghost use Rattle.vk_history.specs.PointViews.{past};
 ghost use Rattle.vk_validate.specs.Inner.RuleParts.{ends_past_object, is_misplaced_at, is_aliased_at};
 
-use crate::history::History;
+use vk_history::History;
 use crate::rules::sizes::takes_more;
 use vk_image_tiles::{asks_more, image_align};
 use vk_model::{BufferInfo, Entry, ImageInfo, Kind, Place};

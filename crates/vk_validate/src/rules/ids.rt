@@ -6,10 +6,10 @@ ghost use Rattle.vk_model.specs.Trace.Point.{Past, on_host};
 ghost use Rattle.vk_model.specs.Trace.Structure.{IsOrdered};
 ghost use Rattle.vk_model.specs.Rules.Ids as ids;
 ghost use Rattle.vk_order.specs.PointViews.{action_of, point_of};
-ghost use Rattle.vk_validate.specs.Inner.PointViews.{past};
+ghost use Rattle.vk_history.specs.PointViews.{past};
 ghost use Rattle.vk_validate.specs.Inner.RuleParts.{is_dead_for, some_dead};
 
-use crate::history::History;
+use vk_history::History;
 use vk_model::{Cmd, Element, Entry, Place, SemaphoreValue};
 use vk_order::{Action, Point};
 

@@ -4,11 +4,11 @@ ghost use Rattle.vk_model.specs.World.Effect.{world};
 ghost use Rattle.vk_model.specs.World.Ownership as ownership;
 ghost use Rattle.vk_model.specs.Rules.Layouts as layouts;
 ghost use Rattle.vk_order.specs.PointViews.{point_of};
-ghost use Rattle.vk_validate.specs.Inner.PointViews.{past};
+ghost use Rattle.vk_history.specs.PointViews.{past};
 
-use crate::elements::is_transition;
-use crate::families::family_of;
-use crate::history::History;
+use vk_history::is_transition;
+use vk_history::family_of;
+use vk_history::History;
 use vk_layouts::Transfer;
 use vk_model::{BufferImageCopy, Cmd, Element, Families, ImageCopy, Layout, SubresourceRange};
 use vk_order::{Action, Point};

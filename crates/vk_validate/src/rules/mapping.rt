@@ -4,9 +4,9 @@ ghost use Rattle.vk_model.specs.Trace.Objects.{is_of_type, memory_of};
 ghost use Rattle.vk_model.specs.Rules.Mapping as mapping;
 ghost use Rattle.vk_model.specs.Rules.Mapping.{is_mapped};
 ghost use Rattle.vk_order.specs.PointViews.{point_of};
-ghost use Rattle.vk_validate.specs.Inner.PointViews.{past};
+ghost use Rattle.vk_history.specs.PointViews.{past};
 
-use crate::history::History;
+use vk_history::History;
 use vk_model::Entry;
 use vk_order::{Action, Point};
 

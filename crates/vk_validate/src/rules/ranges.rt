@@ -8,10 +8,10 @@ ghost use Rattle.vk_model.specs.World.ByteWrites.{buffer_size};
 ghost use Rattle.vk_model.specs.World.Areas.{region_box, source_box, destination_box};
 ghost use Rattle.vk_model.specs.Rules.Ranges as ranges;
 ghost use Rattle.vk_order.specs.PointViews.{point_of};
-ghost use Rattle.vk_validate.specs.Inner.PointViews.{past};
+ghost use Rattle.vk_history.specs.PointViews.{past};
 ghost use Rattle.vk_validate.specs.Inner.RuleParts.{some_read_past, some_written_past, some_rows_past, some_box_outside, some_range_outside};
 
-use crate::history::History;
+use vk_history::History;
 use crate::images::{
     has_bad_destination, has_bad_range, has_bad_region, has_bad_source, is_bad_range,
 };

@@ -7,10 +7,10 @@ ghost use Rattle.vk_model.specs.Trace.Point.{Past};
 ghost use Rattle.vk_model.specs.declared.command.Element.TheVariants as element;
 ghost use Rattle.vk_model.specs.Rules.Sizes as sizes;
 ghost use Rattle.vk_order.specs.PointViews.{point_of};
-ghost use Rattle.vk_validate.specs.Inner.PointViews.{past};
+ghost use Rattle.vk_history.specs.PointViews.{past};
 ghost use Rattle.vk_validate.specs.Inner.RuleParts.{is_over_half};
 
-use crate::history::History;
+use vk_history::History;
 use bitflags::Flags;
 use vk_image_tiles::{asks_more, has_bad_shape};
 use vk_model::{

@@ -8,11 +8,11 @@ ghost use Rattle.vk_model.specs.Rules.Synchronization.{known_stages};
 ghost use Rattle.vk_model.specs.World.Ownership.{dependency_of};
 ghost use Rattle.vk_model.specs.Rules.Synchronization as sync;
 ghost use Rattle.vk_order.specs.PointViews.{action_of, point_of};
-ghost use Rattle.vk_validate.specs.Inner.PointViews.{past};
+ghost use Rattle.vk_history.specs.PointViews.{past};
 
-use crate::history::History;
+use vk_history::History;
 use crate::scopes::{BY_HOST, BY_TRANSFERS, KNOWN_ACCESSES, KNOWN_STAGES, TRANSFERS};
-use crate::semaphores::signal_of;
+use vk_history::signal_of;
 use bitflags::Flags;
 use std::alloc::AllocError;
 use vk_model::{Accesses, Cmd, Dependency, Element, Entry, SemaphoreValue, Stages};

@@ -2,7 +2,7 @@ use Rattle.std.proofs.Common.{◌∙◌, ap}
 use Rattle.vk_model.specs.Basics.{some_pair}
 use Rattle.vk_model.specs.World.Areas.{subresources_meet}
 use Rattle.vk_validate.specs.Inner.Overlapping.{copies_overlap, regions_meet, rows_overlap, image_copies_overlap}
-use Rattle.vk_validate.specs.Inner.PointViews.{past}
+use Rattle.vk_history.specs.PointViews.{past}
 use Rattle.vk_validate.proofs.Writing.Overlaps.{copy_overlaps, image_copy_overlaps, clear_overlaps, copy_in_overlaps, copy_out_overlaps}
 use Rattle.vk_validate.proofs.overlapping.overlaps.Goals as goal
 

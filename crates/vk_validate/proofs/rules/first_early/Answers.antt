@@ -1,6 +1,6 @@
 use Rattle.std.proofs.Common.{◌∙◌}
 use Rattle.vk_order.specs.PointViews.{point_of}
-use Rattle.vk_validate.specs.Inner.PointViews.{past}
+use Rattle.vk_history.specs.PointViews.{past}
 use Rattle.vk_validate.proofs.Judging.Rules.{early_are}
 use Rattle.vk_validate.proofs.rules.first_early.Goals as goal
 

@@ -3,7 +3,7 @@ use Rattle.std.specs.Prelude.{slice_get}
 use Rattle.std.proofs.lemmas.Option.{slice_get_read}
 use Rattle.vk_model.specs.declared.rule.At.{At}
 use Rattle.vk_model.specs.declared.rule.Rule.TheVariants as rule
-use Rattle.vk_validate.specs.Inner.PointViews.{Walk}
+use Rattle.vk_history.specs.PointViews.{Walk}
 use Rattle.vk_validate.specs.Faults.{reported_rule}
 use Rattle.vk_validate.proofs.Judging.Faults.{next_ordered, next_judged, done, reported_here}
 use Rattle.vk_validate.proofs.verdicts.first_fault.Goals as goal

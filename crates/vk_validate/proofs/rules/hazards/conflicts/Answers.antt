@@ -6,12 +6,12 @@ use Rattle.vk_model.specs.World.ByteWrites.{buffer_size, fill_size}
 use Rattle.vk_model.proofs.Lists.Truths.{clash}
 use Rattle.vk_order.specs.PointViews.{point_of}
 use Rattle.vk_order.specs.declared.access.Access.TheVariants as access
-use Rattle.vk_validate.specs.Inner.PointViews.{past}
-use Rattle.vk_validate.specs.Inner.Conflicts.{FoundIn, Misses, IsEarly}
-use Rattle.vk_validate.specs.Inner.Contents.{LiesIn}
-use Rattle.vk_validate.proofs.Kept.ContentSteps.{lies}
-use Rattle.vk_validate.specs.Inner.Touched.{next_node, act_next}
-use Rattle.vk_validate.proofs.Kept.NextPoint.{read_there, read_fits, fill_there, fill_fits}
+use Rattle.vk_history.specs.PointViews.{past}
+use Rattle.vk_history.specs.Conflicts.{FoundIn, Misses, IsEarly}
+use Rattle.vk_history.specs.Contents.{LiesIn}
+use Rattle.vk_history.proofs.Kept.ContentSteps.{lies}
+use Rattle.vk_history.specs.Touched.{next_node, act_next}
+use Rattle.vk_history.proofs.Kept.NextPoint.{read_there, read_fits, fill_there, fill_fits}
 use Rattle.vk_order.proofs.PlaceLemmas.{apart_from}
 use Rattle.vk_validate.proofs.Points.SupportedNodes.{calm}
 use Rattle.vk_validate.proofs.Judging.Conflicts.{early_live, early_range, quiet_conflicts, calm_conflicts, read_conflicts, fill_conflicts}

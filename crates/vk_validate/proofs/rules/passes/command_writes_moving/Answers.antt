@@ -2,7 +2,7 @@ use Rattle.std.proofs.Common.{◌∙◌, ap, List}
 use Rattle.std.specs.List.{list_any}
 use Rattle.vk_model.specs.declared.command.Element.{Element}
 use Rattle.vk_model.specs.Sync.Access.{transition_bytes}
-use Rattle.vk_validate.specs.Inner.PointViews.{past}
+use Rattle.vk_history.specs.PointViews.{past}
 use Rattle.vk_validate.specs.Inner.RuleParts.{touches_moving}
 use Rattle.vk_validate.proofs.Writing.Moving.{barrier_moves, command_moves}
 use Rattle.vk_validate.proofs.rules.passes.command_writes_moving.Goals as goal

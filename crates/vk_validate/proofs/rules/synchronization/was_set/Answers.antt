@@ -1,7 +1,7 @@
 use Rattle.std.proofs.Common.{◌∙◌, sym, ap}
 use Rattle.std.specs.Prelude.{is_some}
-use Rattle.vk_validate.specs.Inner.PointViews.{past}
-use Rattle.vk_validate.specs.Inner.Tabled.{set_view}
+use Rattle.vk_history.specs.PointViews.{past}
+use Rattle.vk_history.specs.Tabled.{set_view}
 use Rattle.vk_validate.proofs.Making.EventSets.{was_set, some_map}
 use Rattle.vk_validate.proofs.rules.synchronization.was_set.Goals as goal
 

@@ -1,6 +1,6 @@
 use Rattle.std.proofs.Common.{◌∙◌, sym, ap, not, ◌==◌}
 use Rattle.vk_model.specs.Basics.{holds}
-use Rattle.vk_validate.specs.Inner.PointViews.{past}
+use Rattle.vk_history.specs.PointViews.{past}
 use Rattle.vk_validate.proofs.Making.EventSets.{was_set_on}
 use Rattle.vk_validate.proofs.rules.synchronization.was_set_on.Goals as goal
 

@@ -1,7 +1,7 @@
 use Rattle.std.proofs.Common.{◌∙◌, sym, ap}
 use Rattle.vk_model.specs.Basics.{holds}
 use Rattle.vk_model.specs.Rules.Synchronization.{same_dependencies}
-use Rattle.vk_validate.specs.Inner.PointViews.{past}
+use Rattle.vk_history.specs.PointViews.{past}
 use Rattle.vk_validate.proofs.Making.EventSets.{was_set_with}
 use Rattle.vk_validate.proofs.rules.synchronization.was_set_with.Goals as goal
 

@@ -1,0 +1,6 @@
+pub mod Points
+pub mod Making
+pub mod Touching
+pub mod Transitions
+pub mod Kept
+pub mod Living

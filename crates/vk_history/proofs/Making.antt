@@ -1,0 +1,3 @@
+pub mod JudgedIds
+pub mod Worlds
+pub mod Ended

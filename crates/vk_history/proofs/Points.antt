@@ -1,0 +1,4 @@
+pub mod Forms
+pub mod Fills
+pub mod Pasts
+pub mod Ranges

@@ -1,0 +1,2 @@
+pub mod LastNodes
+pub mod Spots

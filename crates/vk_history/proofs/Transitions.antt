@@ -1,0 +1,4 @@
+pub mod Undefined
+pub mod Keeping
+pub mod Elements
+pub mod Named

@@ -1,0 +1,26 @@
+use Rattle.std.proofs.Common.{◌≡◌, ◌∷◌, ◌∙◌, ap}
+use Rattle.vk_model.specs.Rules.Fault.{newest}
+use Rattle.vk_model.specs.Sync.Node.{nodes}
+use Rattle.vk_order.specs.PointViews.{point_of}
+use Rattle.vk_queues.proofs.NewPoints.{ordered_new}
+use Rattle.vk_history.specs.Touched.{next_place}
+use Rattle.vk_history.proofs.tables.note.Goals as goal
+
+pub returns : goal.returns
+returns c = λ past judged tabled.
+    let p = point_of c.args.point.now in
+    let line_is = c.line_of-line.ensures in
+    let place_is : c.count-place.result ≡ next_place past c.line_of-line.result = c.count-place.ensures (nodes past) tabled.frontier in
+    record {
+      mappings = c.in_ok-note.ensures past judged tabled.objects tabled.mappings;
+      occupants = c.in_ok-note-2.ensures past judged tabled.objects tabled.occupants;
+      bound = c.in_ok-note-3.ensures past judged tabled.objects tabled.bound;
+      defrags = c.in_ok-note-4.ensures past judged tabled.objects tabled.defrags;
+      objects = c.in_ok-note-5.ensures past tabled.objects;
+      endings = c.in_ok-note-6.ensures past tabled.endings;
+      semaphores = c.in_ok-note-8.ensures past line_is place_is tabled.semaphores;
+      events = c.in_ok-note-7.ensures past tabled.events;
+      layouts = c.in_ok-note_with.ensures past judged tabled.objects tabled.layouts;
+      contents = c.in_ok-note-9.ensures past judged (place_is ∙ ap (next_place past) line_is) tabled.contents;
+      frontier = c.in_ok-advance.ensures (nodes past) (ordered_new (p ∷ past) past p judged.ordered newest) tabled.frontier;
+    }

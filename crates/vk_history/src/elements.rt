@@ -1,0 +1,24 @@
+ghost use Rattle.std.specs.Prelude.{◌≡◌};
+ghost use Rattle.vk_model.specs.World.Ownership as ownership;
+ghost use Rattle.vk_order.specs.PointViews.{action_of};
+ghost use Rattle.vk_history.specs.Layouts.{elements_at};
+
+use vk_model::{Cmd, Element, ImageElement};
+use vk_order::{Action, Point};
+
+/// The elements of the barrier that a point is; of another point there are none.
+pub fn elements_of<'a>(point: &Point<'a>) -> &'a [Element]
+    ensures { result.now ≡ elements_at (action_of point.now.action) }
+{
+    match point.action {
+        Action::Run(Cmd::Barrier { elements }) => elements.as_slice(),
+        _ => &[],
+    }
+}
+
+/// Whether an image element is a layout transition: its layouts differ.
+pub fn is_transition(element: &ImageElement) -> bool
+    ensures { result ≡ ownership.is_transition element.now }
+{
+    element.old_layout != element.new_layout
+}

@@ -1,0 +1,37 @@
+//! What has happened in a trace, as its rules ask for it.
+//!
+//! The points of a trace that break no rule are noted one after another in tables: what was made and
+//! ended, mapped, bound and defragmented, which semaphores and events were signaled and set, in
+//! which layouts images are, and which bytes are defined and were accessed by whom.
+#![tactic(auto)]
+
+mod bound;
+mod contents;
+mod counts;
+mod defrags;
+mod elements;
+mod endings;
+mod events;
+mod families;
+mod found;
+mod history;
+mod layouts;
+mod mappings;
+mod objects;
+mod occupants;
+mod parts;
+mod places;
+mod searches;
+mod semaphores;
+mod supported;
+mod tables;
+mod writer;
+
+pub use contents::{BufferContents, Change, change_by};
+pub use elements::is_transition;
+pub use events::EventSet;
+pub use families::family_of;
+pub use found::Conflicts;
+pub use history::History;
+pub use semaphores::{Signals, signal_of};
+pub use supported::is_supported;

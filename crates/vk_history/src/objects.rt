@@ -1,0 +1,139 @@
+ghost use Rattle.std.specs.Prelude.{◌≡◌, ◌==◌, ◌∷◌, [], ℕ, OnOk, if◌then◌else◌, Some, option_and_then};
+ghost use Rattle.std.specs.Option.{option_map};
+ghost use Rattle.std.specs.Ordering.{nat_cmp};
+ghost use Rattle.std.specs.BTreeMap.{get};
+ghost use Rattle.vk_model.specs.Trace.Point.{Past};
+ghost use Rattle.vk_model.specs.Trace.Objects as objects;
+ghost use Rattle.vk_model.specs.Trace.Objects.{made, memory_of, pool_of, defrag_in, resource};
+ghost use Rattle.vk_model.specs.Rules.Mapping.{mapping};
+ghost use Rattle.vk_order.specs.PointViews.{point_of};
+ghost use Rattle.vk_history.specs.Made.{last_maker};
+ghost use Rattle.vk_history.specs.Tabled.{AreObjects, maker_view};
+
+use crate::places::{bound_at, memory_at, pool_at};
+use std::alloc::{AllocError, Global};
+use std::collections::BTreeMap;
+use vk_model::Entry;
+use vk_order::{Action, Point};
+
+/// An entry that made an object, with its number.
+#[derive(Clone, Copy)]
+pub struct Maker<'a> {
+    pub entry: &'a Entry,
+    pub number: usize,
+}
+
+/// Which entry made each object.
+#[derive(Drop)]
+pub struct Objects<'a> {
+    makers: BTreeMap<u32, Maker<'a>>,
+}
+
+impl<'a> Objects<'a> {
+    /// Before the first point.
+    pub fn new(alloc: Global) -> Objects<'a>
+        ensures { AreObjects result [] }
+    {
+        Objects {
+            makers: BTreeMap::new(alloc),
+        }
+    }
+
+    /// The last entry that made an id.
+    pub fn maker(&self, id: u32) -> Option<Maker<'a>>
+        ensures { (past : Past) → AreObjects self.now past → option_map maker_view result ≡ last_maker past id }
+    {
+        self.makers.get(&id).copied()
+    }
+
+    /// The entry that made an object.
+    pub fn made(&self, id: u32) -> Option<&'a Entry>
+        ensures { (past : Past) → AreObjects self.now past → option_map (λ x. x.now) result ≡ made past id }
+    {
+        match self.maker(id) {
+            Some(maker) => Some(maker.entry),
+            None => None,
+        }
+    }
+
+    /// The memory object that the trace bound a resource to.
+    pub fn memory_of(&self, id: u32) -> Option<u32>
+        ensures { (past : Past) → AreObjects self.now past → result ≡ memory_of past id }
+    {
+        match self.made(id) {
+            Some(Entry::Buffer { info, .. }) => memory_at(info.place),
+            Some(Entry::Image { info, .. }) => memory_at(info.place),
+            _ => None,
+        }
+    }
+
+    /// The memory object that the trace bound a resource to, and the offset in it in bytes.
+    pub fn bound_at(&self, id: u32) -> Option<(u32, u64)>
+        ensures { (past : Past) → AreObjects self.now past → result ≡ option_and_then (λ r. objects.bound_at r.place) (resource past id) }
+    {
+        match self.made(id) {
+            Some(Entry::Buffer { info, .. }) => bound_at(info.place),
+            Some(Entry::Image { info, .. }) => bound_at(info.place),
+            _ => None,
+        }
+    }
+
+    /// The pool that a resource is in.
+    pub fn pool_of(&self, id: u32) -> Option<u32>
+        ensures { (past : Past) → AreObjects self.now past → result ≡ pool_of past id }
+    {
+        match self.made(id) {
+            Some(Entry::Buffer { info, .. }) => pool_at(info.place),
+            Some(Entry::Image { info, .. }) => pool_at(info.place),
+            _ => None,
+        }
+    }
+
+    /// The pool of a defragmentation, also of one that has ended.
+    pub fn defragmented(&self, id: u32) -> Option<u32>
+        ensures { (past : Past) → AreObjects self.now past → result ≡ option_and_then defrag_in (made past id) }
+    {
+        match self.made(id) {
+            Some(Entry::Defrag { pool, .. }) => Some(*pool),
+            _ => None,
+        }
+    }
+
+    /// What is mapped with a resource: the memory object that the trace bound it to, or its own
+    /// allocation, which has its id.
+    pub fn mapping(&self, id: u32) -> u32
+        ensures { (past : Past) → AreObjects self.now past → result ≡ mapping past id }
+    {
+        match self.memory_of(id) {
+            Some(memory) => memory,
+            None => id,
+        }
+    }
+
+    /// Takes the next point.
+    pub fn note(&mut self, point: &Point<'a>) -> Result<(), AllocError>
+        ensures { OnOk result ((past : Past) → AreObjects self.old past → AreObjects self.new (point_of point.now ∷ past)) }
+    {
+        match point.action {
+            Action::Host(entry) => match entry.made_id() {
+                Some(id) => self.set(
+                    id,
+                    Maker {
+                        entry,
+                        number: point.entry,
+                    },
+                ),
+                None => Ok(()),
+            },
+            _ => Ok(()),
+        }
+    }
+
+    fn set(&mut self, id: u32, maker: Maker<'a>) -> Result<(), AllocError>
+        ensures { OnOk result ((other : ℕ) → option_map maker_view (get nat_cmp self.new.makers other)
+            ≡ (if other == id then Some (maker_view maker.entry) else option_map maker_view (get nat_cmp self.old.makers other))) }
+    {
+        self.makers.insert(id, maker)?;
+        Ok(())
+    }
+}

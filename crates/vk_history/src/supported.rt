@@ -1,0 +1,70 @@
+ghost use Rattle.std.specs.Prelude.{◌≡◌};
+ghost use Rattle.std.specs.List.{list_all};
+ghost use Rattle.vk_history.specs.Supported as supported;
+ghost use Rattle.vk_order.specs.PointViews.{action_of};
+
+use vk_model::{Cmd, Element, Entry, Place};
+use vk_order::{Action, Point};
+
+/// Whether the rules of this crate cover the point's form. The others have rules that are not written
+/// yet.
+pub fn is_supported(point: &Point<'_>) -> bool
+    ensures { result ≡ supported.is_supported_action (action_of point.now.action) }
+{
+    match point.action {
+        Action::Host(entry) => is_supported_entry(entry),
+        Action::Run(command) => is_supported_command(command),
+        Action::Wait(_) | Action::Signal(_) => true,
+    }
+}
+
+fn is_supported_entry(entry: &Entry) -> bool
+    ensures { result ≡ supported.is_supported_entry entry.now }
+{
+    match entry {
+        Entry::Buffer { info, .. } => is_supported_place(info.place),
+        Entry::Map { .. }
+        | Entry::Read { .. }
+        | Entry::Semaphore { .. }
+        | Entry::Event { .. }
+        | Entry::Signal { .. }
+        | Entry::Wait { .. }
+        | Entry::Submit { .. } => true,
+        _ => false,
+    }
+}
+
+// Memory type 2 keeps the host's accesses in a cache.
+fn is_supported_place(place: Place) -> bool
+    ensures { result ≡ supported.is_supported_place place }
+{
+    match place {
+        Place::Dedicated { memory_type } => memory_type != 2,
+        _ => false,
+    }
+}
+
+fn is_supported_command(command: &Cmd) -> bool
+    ensures { result ≡ supported.is_supported_command command.now }
+{
+    match command {
+        Cmd::Fill { .. } | Cmd::Set { .. } | Cmd::Await { .. } => true,
+        Cmd::Barrier { elements } => are_memory(elements.as_slice()),
+        _ => false,
+    }
+}
+
+fn are_memory(elements: &[Element]) -> bool
+    ensures { result ≡ list_all supported.is_memory elements.now }
+{
+    elements.iter().all(|element| is_memory(element))
+}
+
+fn is_memory(element: &Element) -> bool
+    ensures { result ≡ supported.is_memory element.now }
+{
+    match element {
+        Element::Memory(_) => true,
+        _ => false,
+    }
+}

@@ -1,0 +1,87 @@
+ghost use Rattle.std.specs.Prelude.{◌≡◌, ◌∷◌, OnOk, []};
+ghost use Rattle.vk_model.specs.Trace.Point.{Past};
+ghost use Rattle.vk_order.specs.PointViews.{point_of};
+ghost use Rattle.vk_history.specs.Judged.{IsJudged};
+ghost use Rattle.vk_history.specs.Touched.{class_next};
+ghost use Rattle.vk_history.specs.Tabled.{IsTabled};
+
+use crate::bound::BoundMemories;
+use crate::contents::Contents;
+use crate::defrags::Defrags;
+use crate::endings::Endings;
+use crate::events::Events;
+use crate::layouts::CurrentLayouts;
+use crate::mappings::Mappings;
+use crate::objects::Objects;
+use crate::occupants::Occupants;
+use crate::semaphores::Semaphores;
+use std::alloc::{AllocError, Global};
+use vk_order::{Action, Frontier, Line, Point};
+
+/// What is asked of the past.
+#[derive(Drop)]
+pub struct Tables<'a> {
+    pub objects: Objects<'a>,
+    pub endings: Endings,
+    pub mappings: Mappings,
+    pub occupants: Occupants,
+    pub bound: BoundMemories,
+    pub defrags: Defrags,
+    pub semaphores: Semaphores,
+    pub events: Events<'a>,
+    pub layouts: CurrentLayouts,
+    pub contents: Contents,
+    pub frontier: Frontier,
+}
+
+impl<'a> Tables<'a> {
+    /// Before the first point.
+    pub fn new(alloc: Global) -> Tables<'a>
+        ensures { IsTabled result [] }
+    {
+        Tables {
+            objects: Objects::new(alloc),
+            endings: Endings::new(alloc),
+            mappings: Mappings::new(alloc),
+            occupants: Occupants::new(alloc),
+            bound: BoundMemories::new(alloc),
+            defrags: Defrags::new(alloc),
+            semaphores: Semaphores::new(alloc),
+            events: Events::new(alloc),
+            layouts: CurrentLayouts::new(alloc),
+            contents: Contents::new(alloc),
+            frontier: Frontier::new(alloc),
+        }
+    }
+}
+
+/// Takes the next point. After an error the tables may have some of it.
+pub fn note<'a>(tables: &mut Tables<'a>, point: &Point<'a>) -> Result<(), AllocError>
+    ensures { OnOk result ((past : Past) → IsJudged (point_of point.now ∷ past) → IsTabled tables.old past → IsTabled tables.new (point_of point.now ∷ past)) }
+{
+    let line = line_of(point);
+    let place = tables.frontier.count(line);
+    tables.mappings.note(point, &tables.objects)?;
+    tables.occupants.note(point, &tables.objects)?;
+    tables.bound.note(point, &tables.objects)?;
+    tables.defrags.note(point, &tables.objects)?;
+    tables.layouts.note_with(point, &tables.objects)?;
+    tables.objects.note(point)?;
+    tables.endings.note(point)?;
+    tables.events.note(point)?;
+    tables.semaphores.note(point, line, place)?;
+    tables.contents.note(point, place)?;
+    tables.frontier.advance(point)?;
+    Ok(())
+}
+
+/// The line of a point's node, where it has one and isn't a wait.
+fn line_of(point: &Point<'_>) -> Line
+    ensures { result ≡ class_next (point_of point.now) }
+{
+    match point.action {
+        Action::Host(_) => Line::Host,
+        Action::Signal(_) => Line::Signals(point.queue),
+        Action::Wait(_) | Action::Run(_) => Line::Commands(point.queue),
+    }
+}

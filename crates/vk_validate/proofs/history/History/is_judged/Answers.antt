@@ -1,4 +1,0 @@
-use Rattle.vk_validate.proofs.history.History.is_judged.Goals as goal
-
-pub returns : goal.returns
-returns c = rw c.self.view_is at c.self.invariant.2

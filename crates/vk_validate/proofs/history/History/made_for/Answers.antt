@@ -1,8 +1,0 @@
-use Rattle.std.proofs.Common.{◌∙◌, sym}
-use Rattle.vk_order.specs.PointViews.{point_of}
-use Rattle.vk_validate.specs.Inner.PointViews.{past}
-use Rattle.vk_validate.proofs.Making.JudgedIds.{no_host, judged_made}
-use Rattle.vk_validate.proofs.history.History.made_for.Goals as goal
-
-pub returns-in_default : goal.returns-in_default
-returns-in_default c = c.made_before.ensures ∙ sym (judged_made (past c.args.self.now) (point_of c.args.point.now) c.args.id c.is_judged.ensures.faultless c.requires (no_host c.args.point.now.action c.in_default.not-Host))
