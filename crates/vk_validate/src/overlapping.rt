@@ -3,12 +3,12 @@ ghost use Rattle.vk_model.specs.Rules.Ranges.{command_overlaps};
 ghost use Rattle.vk_history.specs.PointViews.{past};
 ghost use Rattle.vk_validate.specs.Inner.Overlapping.{rows_overlap};
 
-use vk_history::History;
 use crate::overlaps::{
     copies_overlap, image_copies_overlap, some_ranges_meet, some_regions_meet,
     some_transitions_meet,
 };
 use crate::regions::some_rows_meet;
+use vk_history::History;
 use vk_model::{BufferImageCopy, Cmd};
 
 /// Whether a command's areas or transitions overlap.

@@ -22,9 +22,8 @@ mod sizes;
 mod synchronization;
 mod traces;
 
-use vk_history::Conflicts;
-use vk_history::History;
 use std::alloc::AllocError;
+use vk_history::{Conflicts, History};
 use vk_model::Rule;
 use vk_order::Point;
 

@@ -9,11 +9,10 @@ ghost use Rattle.vk_validate.specs.Verdicts.{reported, IsAbout};
 ghost use Rattle.vk_order.specs.PointViews.{point_of};
 ghost use Rattle.vk_queues.specs.PointViews.{past_of};
 
-use vk_history::History;
 use crate::rules::first_rule;
-use vk_history::is_supported;
 use std::alloc::{AllocError, Global};
 use std::marker::Model;
+use vk_history::{History, is_supported};
 use vk_model::{At, Entry, Rule};
 use vk_order::{Action, Point};
 use vk_queues::reference_order;

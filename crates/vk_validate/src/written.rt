@@ -8,9 +8,7 @@ ghost use Rattle.vk_history.specs.PointViews.{past};
 ghost use Rattle.vk_validate.specs.Inner.RuleParts as parts;
 ghost use Rattle.vk_validate.specs.Inner.RuleParts.{IsResourceOf};
 
-use vk_history::is_transition;
-use vk_history::family_of;
-use vk_history::History;
+use vk_history::{History, family_of, is_transition};
 use vk_model::{
     BufferCopy, BufferImageCopy, Cmd, Element, Entry, Families, ImageCopy, ImageElement,
     SubresourceRange,

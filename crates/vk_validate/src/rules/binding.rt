@@ -7,8 +7,8 @@ ghost use Rattle.vk_order.specs.PointViews.{point_of};
 ghost use Rattle.vk_history.specs.PointViews.{past};
 ghost use Rattle.vk_validate.specs.Inner.RuleParts.{ends_past_object, is_misplaced_at, is_aliased_at};
 
-use vk_history::History;
 use crate::rules::sizes::takes_more;
+use vk_history::History;
 use vk_image_tiles::{asks_more, image_align};
 use vk_model::{BufferInfo, Entry, ImageInfo, Kind, Place};
 use vk_order::{Action, Point};

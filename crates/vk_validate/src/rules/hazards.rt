@@ -8,10 +8,8 @@ ghost use Rattle.vk_history.specs.Judged.{early_rules, first_among};
 ghost use Rattle.vk_history.specs.Conflicts.{AreConflicts};
 ghost use Rattle.vk_validate.specs.Inner.RuleParts as parts;
 
-use vk_history::{Change, change_by};
-use vk_history::Conflicts;
-use vk_history::History;
 use std::alloc::AllocError;
+use vk_history::{Change, Conflicts, History, change_by};
 use vk_model::Entry;
 use vk_order::{Access, Action, Point};
 

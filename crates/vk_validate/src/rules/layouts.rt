@@ -6,9 +6,7 @@ ghost use Rattle.vk_model.specs.Rules.Layouts as layouts;
 ghost use Rattle.vk_order.specs.PointViews.{point_of};
 ghost use Rattle.vk_history.specs.PointViews.{past};
 
-use vk_history::is_transition;
-use vk_history::family_of;
-use vk_history::History;
+use vk_history::{History, family_of, is_transition};
 use vk_layouts::Transfer;
 use vk_model::{BufferImageCopy, Cmd, Element, Families, ImageCopy, Layout, SubresourceRange};
 use vk_order::{Action, Point};

@@ -11,8 +11,7 @@ ghost use Rattle.vk_layouts.specs.Owned.{owner_of};
 ghost use Rattle.vk_validate.specs.Inner.Owners.{IsOwnedBy, IsReleasedBefore, misses_half};
 ghost use Rattle.vk_history.specs.PointViews.{past};
 
-use vk_history::family_of;
-use vk_history::History;
+use vk_history::{History, family_of};
 use vk_layouts::{Owner, Transfer};
 use vk_model::{Cmd, Element, Families, ImageInfo, Length, SubresourceRange};
 use vk_order::{Action, Point};

@@ -11,13 +11,13 @@ ghost use Rattle.vk_order.specs.PointViews.{point_of};
 ghost use Rattle.vk_history.specs.PointViews.{past};
 ghost use Rattle.vk_validate.specs.Inner.RuleParts.{some_read_past, some_written_past, some_rows_past, some_box_outside, some_range_outside};
 
-use vk_history::History;
 use crate::images::{
     has_bad_destination, has_bad_range, has_bad_region, has_bad_source, is_bad_range,
 };
 use crate::overlapping::overlaps;
 use crate::overlaps::some_ids_meet;
 use crate::regions::{ends_past, has_destination_past, has_rows_past, has_short, has_source_past};
+use vk_history::History;
 use vk_image_tiles::texel_size;
 use vk_model::{
     BufferCopy, BufferImageCopy, Cmd, Element, Entry, Format, ImageCopy, ImageInfo, Length,

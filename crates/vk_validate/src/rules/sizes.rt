@@ -10,8 +10,8 @@ ghost use Rattle.vk_order.specs.PointViews.{point_of};
 ghost use Rattle.vk_history.specs.PointViews.{past};
 ghost use Rattle.vk_validate.specs.Inner.RuleParts.{is_over_half};
 
-use vk_history::History;
 use bitflags::Flags;
+use vk_history::History;
 use vk_image_tiles::{asks_more, has_bad_shape};
 use vk_model::{
     BufferCopy, BufferInfo, Cmd, Element, Entry, ImageElement, ImageInfo, Kind, Layout, Length,

@@ -10,11 +10,10 @@ ghost use Rattle.vk_model.specs.Rules.Synchronization as sync;
 ghost use Rattle.vk_order.specs.PointViews.{action_of, point_of};
 ghost use Rattle.vk_history.specs.PointViews.{past};
 
-use vk_history::History;
 use crate::scopes::{BY_HOST, BY_TRANSFERS, KNOWN_ACCESSES, KNOWN_STAGES, TRANSFERS};
-use vk_history::signal_of;
 use bitflags::Flags;
 use std::alloc::AllocError;
+use vk_history::{History, signal_of};
 use vk_model::{Accesses, Cmd, Dependency, Element, Entry, SemaphoreValue, Stages};
 use vk_order::{Action, Point};
 
