@@ -48,10 +48,10 @@ found_line ls l i e =
     let r = position-Some (λ m. same_line m l) ls i l e in
     slice_get-get_or ls i l r.0 ∙ ap Some (line_same (get_or ls i l) l r.1)
 
-abbrev no_counts : List ℕ
+abbrev pub no_counts : List ℕ
 no_counts = []
 
-nil : (i : ℕ) → slice_index_or no_counts i 0 ≡ 0
+pub nil : (i : ℕ) → slice_index_or no_counts i 0 ≡ 0
 nil zero = refl
 nil (suc i) = refl
 

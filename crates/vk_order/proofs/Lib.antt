@@ -24,6 +24,10 @@ mod WaitLemmas
 mod OwnLemmas
 mod TallyLemmas
 mod SightLemmas
+mod LimitedLemmas
+mod CachedLemmas
+mod PartLemmas
+mod ServeLemmas
 mod FollowLemmas
 mod StampedLemmas
 pub mod PlaceLemmas

@@ -1,29 +1,32 @@
 -- What comes after one node, the newest.
-use Rattle.std.proofs.Common.{◌≡◌, ℕ, ◌+◌, ◌<◌, ◌≤◌, List, [], ◌∷◌, length, Bool, true, false, ◌&&◌, Option, Some, None, refl, ap, sym, ◌∙◌, arith}
+use Rattle.std.proofs.Common.{◌≡◌, ℕ, ◌+◌, ◌<◌, ◌≤◌, List, [], ◌∷◌, length, Bool, true, false, Option, Some, None, refl, ap, sym, ◌∙◌, arith}
 use Rattle.std.specs.Prelude.{◌==◌, Contains, max, slice_get, slice_index_or, is_some, if◌then◌else◌}
 use Rattle.std.specs.Option.{option_map, option_map_or}
-use Rattle.std.proofs.lemmas.Bool.{eq-eqb, eqb-true, ne_eqb}
+use Rattle.std.proofs.lemmas.Bool.{eq-eqb, ne_eqb}
 use Rattle.std.proofs.lemmas.Option.{slice_get_within, slice_get-map}
-use Rattle.vk_model.specs.Sync.Node.{Node, Act}
+use Rattle.vk_model.specs.Sync.Node.{Node, Act, Hosts, Waits, Signals, Runs, Depends}
+use Rattle.vk_model.specs.Sync.Edge.{is_submit}
 use Rattle.vk_model.specs.Sync.Seen.{Access}
 use Rattle.vk_model.proofs.Lists.Truths.{no}
 use Rattle.vk_order.specs.declared.acts.Row.{Row}
 use Rattle.vk_order.specs.declared.lines.Line.{Line}
-use Rattle.vk_order.specs.declared.lines.Line.TheVariants.{Commands as OfCommands}
+use Rattle.vk_order.specs.declared.lines.Line.TheVariants.{Host as OfHost, Commands as OfCommands, Signals as OfSignals, Elements as OfElements, Sets as OfSets, Waits as OfWaits}
 use Rattle.vk_order.specs.declared.fronts.Front.{Front}
 use Rattle.vk_order.specs.declared.tallies.LineTally.{LineTally}
 use Rattle.vk_order.specs.PointViews.{act_of}
-use Rattle.vk_order.specs.Lines.{class_of}
-use Rattle.vk_order.specs.Inner.Clocks.{same_line, on_line, place}
+use Rattle.vk_order.specs.Lines.{class_of, class_on}
+use Rattle.vk_order.specs.Inner.Clocks.{same_line, on_line, place, IsClock}
 use Rattle.vk_order.specs.Inner.Kept.{clock_at, IsOwn}
+use Rattle.vk_order.specs.Inner.Leads.{is_of_host, is_of_barriers}
 use Rattle.vk_order.specs.Inner.Places.{index_in}
-use Rattle.vk_order.specs.Inner.Rows.{Knowledge, Available, Visible, OnHost, sends, receives, receives_on_host, IsRow, AreJoined, IsOwnAvailable}
+use Rattle.vk_order.specs.Inner.Rows.{Knowledge, Available, Visible, OnHost, sends, receives, receives_on_host, shows, sends_line, IsRow, AreJoined, IsKnownRow, IsOwnAvailable, IsMerged, IsOwnVisible, IsOwnOnHost}
 use Rattle.vk_order.specs.Inner.Fronts.{row_in, IsOwnFront}
 use Rattle.vk_order.specs.Inner.Tallies.{lines_of, IsTallied, IsComing}
+use Rattle.vk_order.proofs.Arrange.{and-true, and-false}
 use Rattle.vk_order.proofs.ClockLemmas.{edges_join, line_same, line_itself, of_on}
-use Rattle.vk_order.proofs.KeptLemmas.{at_max, none_of, found_line, line_class}
+use Rattle.vk_order.proofs.KeptLemmas.{at_max, nil, none_of, found_line, line_class}
 use Rattle.vk_order.proofs.ListLemmas.{place-none}
-use Rattle.vk_order.proofs.RowJoins.{available_row, visible_row, host_row}
+use Rattle.vk_order.proofs.RowJoins.{available_row, known_row, visible_row, host_row}
 
 -- ---- tallies by their lines
 
@@ -67,94 +70,210 @@ count_there ns ts tallied l i t at here =
 
 -- ---- what is available after it
 
-same_queue : (q r : ℕ) → OfCommands q ≡ OfCommands r → q ≡ r
-same_queue q r e = cc
-
-module _ (ns : List Node) (ts : List LineTally) (tallied : IsTallied ns ts) (queue : ℕ) (row own : List ℕ) where
-  abbrev ls : List Line
-  ls = lines_of ts
-
-  pub available_counted : (at count : ℕ) (t : LineTally) → index_in (lines_of ts) (OfCommands queue) ≡ Some at → slice_get ts at ≡ Some t → count ≡ t.count → ((i : ℕ) → slice_index_or own i 0 ≡ (if i == at then count else slice_index_or row i 0))
-      → length own ≡ max (length row) (at + 1) → length row ≤ length ts → IsOwnAvailable ns (lines_of ts) queue true row own
-  available_counted at count t found here is counts len short = record {
-    counts = λ q. go q (q == queue) refl (index_in (lines_of ts) (OfCommands q)) refl;
+module _ (ns : List Node) (ts : List LineTally) (tallied : IsTallied ns ts) (queue : ℕ) (act : Act) (row own : List ℕ) where
+  -- where all nodes of a line are sent
+  pub available_counted : (line : Line) (at count : ℕ) (t : LineTally) → ((l : Line) → same_line l line ≡ sends_line queue act l) → index_in (lines_of ts) line ≡ Some at → slice_get ts at ≡ Some t → count ≡ t.count
+      → ((i : ℕ) → slice_index_or own i 0 ≡ (if i == at then count else slice_index_or row i 0)) → length own ≡ max (length row) (at + 1) → length row ≤ length ts → IsOwnAvailable ns (lines_of ts) queue act row own
+  available_counted line at count t sends found here is counts len short = record {
+    counts = λ l. go l (same_line l line) refl (index_in (lines_of ts) l) refl ∙ ap (λ (b : Bool). if b then place ns l (length ns) else clock_at (lines_of ts) row l) (sends l);
     short = let lt = slice_get_within ts at t here in let e = lines_length ts in omega arith;
   }
     where
-      go : (q : ℕ) (b : Bool) → (q == queue) ≡ b → (o : Option ℕ) → index_in (lines_of ts) (OfCommands q) ≡ o
-          → option_map_or (λ i. slice_index_or own i 0) o 0 ≡ (if true && b then place ns (OfCommands q) (length ns) else option_map_or (λ i. slice_index_or row i 0) o 0)
-      go q true e None f = absurd (let same : q ≡ queue = eqb-true q queue e in let bad : None ≡ Some at = sym f ∙ ap (λ (x : ℕ). index_in (lines_of ts) (OfCommands x)) same ∙ found in cc)
-      go q true e (Some i) f =
-          let same : q ≡ queue = eqb-true q queue e in
-          let that : Some i ≡ Some at = sym f ∙ ap (λ (x : ℕ). index_in (lines_of ts) (OfCommands x)) same ∙ found in
-          let eq : i ≡ at = cc in
-          counts i ∙ rw (eq-eqb i at eq) (is ∙ count_there ns ts tallied (OfCommands queue) at t found here ∙ ap (λ (x : ℕ). place ns (OfCommands x) (length ns)) (sym same))
-      go q false e None f = refl
-      go q false e (Some i) f =
-          counts i ∙ rw (ne_eqb i at (λ eq. no (sym e ∙ eq-eqb q queue (same_queue q queue (inside (OfCommands q) (OfCommands queue) (sym (found_line (lines_of ts) (OfCommands q) i f) ∙ ap (slice_get (lines_of ts)) eq ∙ found_line (lines_of ts) (OfCommands queue) at found)))))) refl
-        where
-          inside : (a b : Line) → Some a ≡ Some b → a ≡ b
-          inside a b e = cc
+      inside : (a b : Line) → Some a ≡ Some b → a ≡ b
+      inside a b e = cc
 
-  pub available_none : index_in (lines_of ts) (OfCommands queue) ≡ None → own ≡ row → length row ≤ length ts → IsOwnAvailable ns (lines_of ts) queue true row own
-  available_none none same short = record {
-    counts = λ q. ap (λ (r : List ℕ). clock_at (lines_of ts) r (OfCommands q)) same ∙ go q (q == queue) refl;
+      go : (l : Line) (b : Bool) → same_line l line ≡ b → (o : Option ℕ) → index_in (lines_of ts) l ≡ o
+          → option_map_or (λ i. slice_index_or own i 0) o 0 ≡ (if b then place ns l (length ns) else option_map_or (λ i. slice_index_or row i 0) o 0)
+      go l true e None f = absurd (let bad : None ≡ Some at = sym f ∙ ap (index_in (lines_of ts)) (line_same l line e) ∙ found in cc)
+      go l true e (Some i) f =
+          let same : l ≡ line = line_same l line e in
+          let that : Some i ≡ Some at = sym f ∙ ap (index_in (lines_of ts)) same ∙ found in
+          let eq : i ≡ at = cc in
+          counts i ∙ rw (eq-eqb i at eq) (is ∙ count_there ns ts tallied line at t found here ∙ ap (λ (m : Line). place ns m (length ns)) (sym same))
+      go l false e None f = refl
+      go l false e (Some i) f =
+          counts i ∙ rw (ne_eqb i at (λ eq.
+          let same : l ≡ line = inside l line (sym (found_line (lines_of ts) l i f) ∙ ap (slice_get (lines_of ts)) eq ∙ found_line (lines_of ts) line at found) in
+          no (sym e ∙ ap (same_line l) (sym same) ∙ line_itself l))) refl
+
+  -- where the line has no node yet
+  pub available_none : (line : Line) → ((l : Line) → same_line l line ≡ sends_line queue act l) → index_in (lines_of ts) line ≡ None → own ≡ row → length row ≤ length ts → IsOwnAvailable ns (lines_of ts) queue act row own
+  available_none line sends none same short = record {
+    counts = λ l. ap (λ (r : List ℕ). clock_at (lines_of ts) r l) same ∙ go l (same_line l line) refl ∙ ap (λ (b : Bool). if b then place ns l (length ns) else clock_at (lines_of ts) row l) (sends l);
     short = let e = lines_length ts in let f = ap length same in omega arith;
   }
     where
-      go : (q : ℕ) (b : Bool) → (q == queue) ≡ b → clock_at (lines_of ts) row (OfCommands q) ≡ (if true && b then place ns (OfCommands q) (length ns) else clock_at (lines_of ts) row (OfCommands q))
-      go q true e =
-          let eq : q ≡ queue = eqb-true q queue e in
-          let off : index_in (lines_of ts) (OfCommands q) ≡ None = ap (λ (x : ℕ). index_in (lines_of ts) (OfCommands x)) eq ∙ none in
-          ap (λ (o : Option ℕ). option_map_or (λ i. slice_index_or row i 0) o 0) off ∙ sym (no_place ns ts tallied (OfCommands q) off (length ns))
-      go q false e = refl
+      go : (l : Line) (b : Bool) → same_line l line ≡ b → clock_at (lines_of ts) row l ≡ (if b then place ns l (length ns) else clock_at (lines_of ts) row l)
+      go l true e =
+          let off : index_in (lines_of ts) l ≡ None = ap (index_in (lines_of ts)) (line_same l line e) ∙ none in
+          ap (λ (o : Option ℕ). option_map_or (λ i. slice_index_or row i 0) o 0) off ∙ sym (no_place ns ts tallied l off (length ns))
+      go l false e = refl
 
-  pub available_same : own ≡ row → length row ≤ length ts → IsOwnAvailable ns (lines_of ts) queue false row own
-  available_same same short = record { counts = λ q. ap (λ (r : List ℕ). clock_at (lines_of ts) r (OfCommands q)) same; short = let e = lines_length ts in let f = ap length same in omega arith }
+  -- where nothing is sent
+  pub available_same : ((l : Line) → false ≡ sends_line queue act l) → own ≡ row → length row ≤ length ts → IsOwnAvailable ns (lines_of ts) queue act row own
+  available_same sends same short = record {
+    counts = λ l. ap (λ (r : List ℕ). clock_at (lines_of ts) r l) same ∙ ap (λ (b : Bool). if b then place ns l (length ns) else clock_at (lines_of ts) row l) (sends l);
+    short = let e = lines_length ts in let f = ap length same in omega arith;
+  }
+
+-- ---- which line is sent
+
+pub host_sent : (q : ℕ) (a : Act) → is_submit a ≡ true → (l : Line) → same_line l OfHost ≡ sends_line q a l
+host_sent q (Hosts x) e OfHost = sym e
+host_sent q (Hosts x) e (OfCommands r) = refl
+host_sent q (Hosts x) e (OfSignals r) = refl
+host_sent q (Hosts x) e (OfElements r t h) = refl
+host_sent q (Hosts x) e (OfSets r) = refl
+host_sent q (Hosts x) e (OfWaits r t h b) = refl
+host_sent q (Waits s) e l = no e
+host_sent q (Signals s) e l = no e
+host_sent q (Runs c) e l = no e
+host_sent q (Depends r x) e l = no e
+
+pub commands_sent : (q : ℕ) (a : Act) → is_submit a ≡ false → sends a ≡ true → (l : Line) → same_line l (OfCommands q) ≡ sends_line q a l
+commands_sent q a s e OfHost = sym s
+commands_sent q a s e (OfCommands r) = rw e refl
+commands_sent q a s e (OfSignals r) = refl
+commands_sent q a s e (OfElements r t h) = refl
+commands_sent q a s e (OfSets r) = refl
+commands_sent q a s e (OfWaits r t h b) = refl
+
+pub none_sent : (q : ℕ) (a : Act) → is_submit a ≡ false → sends a ≡ false → (l : Line) → false ≡ sends_line q a l
+none_sent q a s e OfHost = sym s
+none_sent q a s e (OfCommands r) = rw e refl
+none_sent q a s e (OfSignals r) = refl
+none_sent q a s e (OfElements r t h) = refl
+none_sent q a s e (OfSets r) = refl
+none_sent q a s e (OfWaits r t h b) = refl
+
+pub submit_line : (q : ℕ) (a : Act) → is_submit a ≡ true → class_on q a ≡ OfHost
+submit_line q (Hosts x) e = refl
+submit_line q (Waits s) e = no e
+submit_line q (Signals s) e = no e
+submit_line q (Runs c) e = no e
+submit_line q (Depends r x) e = no e
+
+-- ---- what it makes visible
+
+host_is : (l : Line) → is_of_host l ≡ true → l ≡ OfHost
+host_is OfHost e = refl
+host_is (OfCommands r) e = no e
+host_is (OfSignals r) e = no e
+host_is (OfElements r t h) e = no e
+host_is (OfSets r) e = no e
+host_is (OfWaits r t h b) e = no e
+
+barriers_off : (l : Line) → l ≡ OfHost → is_of_barriers l ≡ false
+barriers_off l e = ap is_of_barriers e
+
+-- of the lines of elements the one row, of the others the other
+pub merged : (ts : List LineTally) (clock row own : List ℕ) → length own ≡ length ts
+    → ((i : ℕ) (t : LineTally) → slice_get ts i ≡ Some t → slice_index_or own i 0 ≡ (if is_of_barriers t.line then slice_index_or clock i 0 else slice_index_or row i 0)) → IsMerged (lines_of ts) clock row own
+merged ts clock row own len each = record { counts = λ l. go l (index_in (lines_of ts) l) refl; short = let e = lines_length ts in omega arith }
+  where
+    none : (b : Bool) (z : ℕ) → z ≡ (if b then z else z)
+    none true z = refl
+    none false z = refl
+
+    go : (l : Line) (o : Option ℕ) → index_in (lines_of ts) l ≡ o
+        → option_map_or (λ i. slice_index_or own i 0) o 0 ≡ (if is_of_barriers l then option_map_or (λ i. slice_index_or clock i 0) o 0 else option_map_or (λ i. slice_index_or row i 0) o 0)
+    go l None e = none (is_of_barriers l) 0
+    go l (Some i) e =
+        let r = tally_at ts l i e in
+        each i r.0 r.1 ∙ ap (λ (m : Line). if is_of_barriers m then slice_index_or clock i 0 else slice_index_or row i 0) r.2
+
+module _ (k : Access) (ls : List Line) (act : Act) (clock row own : List ℕ) where
+  -- all that is known
+  pub visible_all : receives k act ≡ true → IsMerged ls clock row own → IsOwnVisible k ls act clock row own
+  visible_all e is = record {
+    counts = λ l. is.counts l ∙ sym (rw e refl);
+    short = is.short;
+  }
+
+  -- nothing
+  pub visible_none : receives k act ≡ false → is_submit act ≡ false → own ≡ [] → IsOwnVisible k ls act clock row own
+  visible_none e s same = record {
+    counts = λ l. ap (λ (r : List ℕ). clock_at ls r l) same ∙ none_of ls l ∙ sym (rw (e, s, and-false (is_of_host l)) refl);
+    short = let f = ap length same in omega arith;
+  }
+
+  -- what the host wrote
+  pub visible_host : (at : ℕ) → receives k act ≡ false → is_submit act ≡ true → index_in ls OfHost ≡ Some at → ((i : ℕ) → slice_index_or own i 0 ≡ (if i == at then slice_index_or row at 0 else slice_index_or [] i 0)) → length own ≡ at + 1 → at < length ls → IsOwnVisible k ls act clock row own
+  visible_host at e s found counts len low = record {
+    counts = λ l. go l (is_of_host l) refl ∙ ap (λ (b : Bool). if b then (if is_of_barriers l then clock_at ls clock l else clock_at ls row l) else 0) (sym (rw (e, s, and-true (is_of_host l)) refl));
+    short = omega arith;
+  }
+    where
+      at_host : (l : Line) → l ≡ OfHost → (o : Option ℕ) → index_in ls l ≡ o → option_map_or (λ i. slice_index_or own i 0) o 0 ≡ option_map_or (λ i. slice_index_or row i 0) o 0
+      at_host l is None f = refl
+      at_host l is (Some i) f =
+          let that : Some i ≡ Some at = sym f ∙ ap (index_in ls) is ∙ found in
+          let eq : i ≡ at = cc in
+          counts i ∙ rw (eq-eqb i at eq) (ap (λ (j : ℕ). slice_index_or row j 0) (sym eq))
+
+      inside : (a b : Line) → Some a ≡ Some b → a ≡ b
+      inside a b f = cc
+
+      off_host : (l : Line) → is_of_host l ≡ false → (o : Option ℕ) → index_in ls l ≡ o → option_map_or (λ i. slice_index_or own i 0) o 0 ≡ 0
+      off_host l off None f = refl
+      off_host l off (Some i) f =
+          counts i ∙ rw (ne_eqb i at (λ eq.
+          let same : l ≡ OfHost = inside l OfHost (sym (found_line ls l i f) ∙ ap (slice_get ls) eq ∙ found_line ls OfHost at found) in
+          no (sym off ∙ ap is_of_host same))) (nil i)
+
+      go : (l : Line) (b : Bool) → is_of_host l ≡ b → clock_at ls own l ≡ (if b then (if is_of_barriers l then clock_at ls clock l else clock_at ls row l) else 0)
+      go l true f = at_host l (host_is l f) (index_in ls l) refl ∙ sym (rw (barriers_off l (host_is l f)) refl)
+      go l false f = off_host l f (index_in ls l) refl
+
+-- and on the host
+module _ (k : Access) (ls : List Line) (act : Act) (clock row before own : List ℕ) where
+  pub on_host_more : (known : List ℕ) → receives_on_host k act ≡ true → IsMerged ls clock row known → AreJoined before known own → length before ≤ length ls → IsOwnOnHost k ls act clock row before own
+  on_host_more known e is are short = record {
+    counts = λ l. at_max ls own before known are.counts l ∙ ap (λ (i : ℕ). max (clock_at ls before l) i) (is.counts l) ∙ sym (rw e refl);
+    short = let a = is.short in let b = are.long in omega arith;
+  }
+
+  pub on_host_same : receives_on_host k act ≡ false → own ≡ before → length before ≤ length ls → IsOwnOnHost k ls act clock row before own
+  on_host_same e same short = record {
+    counts = λ l. ap (λ (r : List ℕ). clock_at ls r l) same ∙ sym (rw e refl);
+    short = let f = ap length same in omega arith;
+  }
 
 -- ---- its front
 
 module _ (ns : List Node) (ls : List Line) (n : Node) (row : Row) (known own : Front) (coming : IsComing ns ls n row known) (clock : IsOwn ns ls n known.clock.items own.clock.items)
-    (available : IsOwnAvailable ns ls row.point.queue (sends (act_of row.act)) known.available.items own.available.items)
-    (visible : (k : Access) → row_in (Visible k) own ≡ (if receives k (act_of row.act) then own.available.items else []))
-    (hosted : (k : Access) → receives_on_host k (act_of row.act) ≡ true → AreJoined (row_in (OnHost k) known) own.available.items (row_in (OnHost k) own))
-    (unhosted : (k : Access) → receives_on_host k (act_of row.act) ≡ false → row_in (OnHost k) own ≡ row_in (OnHost k) known) where
+    (available : IsOwnAvailable ns ls row.point.queue (act_of row.act) known.available.items own.available.items)
+    (visible : (k : Access) → IsOwnVisible k ls (act_of row.act) known.clock.items own.available.items (row_in (Visible k) own))
+    (hosted : (k : Access) → IsOwnOnHost k ls (act_of row.act) known.clock.items own.available.items (row_in (OnHost k) known) (row_in (OnHost k) own)) where
   queue_is : n.point.queue ≡ row.point.queue
   queue_is = ap (λ (p : Rattle.vk_model.specs.Trace.Point.Point). p.queue) coming.point
 
   sent : IsRow Available (n ∷ ns) n (clock_at ls own.available.items)
   sent = available_row ns n coming.numbers (clock_at ls known.available.items) (clock_at ls own.available.items) (coming.front.rows Available).join
-      (λ q. available.counts q ∙ ap (λ (a : Act). if sends a && q == row.point.queue then place ns (OfCommands q) (length ns) else clock_at ls known.available.items (OfCommands q)) (sym coming.act)
-      ∙ ap (λ (r : ℕ). if sends n.act && q == r then place ns (OfCommands q) (length ns) else clock_at ls known.available.items (OfCommands q)) (sym queue_is))
+      (λ l. available.counts l ∙ ap (λ (b : Bool). if b then place ns l (length ns) else clock_at ls known.available.items l)
+      (ap (λ (a : Act). sends_line row.point.queue a l) (sym coming.act) ∙ ap (λ (q : ℕ). sends_line q n.act l) (sym queue_is)))
+
+  clock_there : IsClock (n ∷ ns) n (clock_at ls known.clock.items)
+  clock_there = edges_join n ns coming.numbers (clock_at ls known.clock.items) coming.front.clock.join
+
+  abbrev heard : Line → ℕ
+  heard l = if is_of_barriers l then clock_at ls known.clock.items l else clock_at ls own.available.items l
+
+  heard_there : IsKnownRow (n ∷ ns) n (λ l. if is_of_barriers l then clock_at ls known.clock.items l else clock_at ls own.available.items l)
+  heard_there = known_row ns n coming.numbers (clock_at ls known.clock.items) (clock_at ls own.available.items) clock_there sent
 
   seen_there : (k : Access) → IsRow (Visible k) (n ∷ ns) n (clock_at ls (row_in (Visible k) own))
-  seen_there k = visible_row ns n coming.numbers (clock_at ls own.available.items) sent k (clock_at ls (row_in (Visible k) own))
-      (λ q. ap (λ (r : List ℕ). clock_at ls r (OfCommands q)) (visible k) ∙ ap (λ (a : Act). clock_at ls (if receives k a then own.available.items else []) (OfCommands q)) (sym coming.act) ∙ go q (receives k n.act))
-    where
-      go : (q : ℕ) (b : Bool) → clock_at ls (if b then own.available.items else []) (OfCommands q) ≡ (if b then clock_at ls own.available.items (OfCommands q) else 0)
-      go q true = refl
-      go q false = none_of ls (OfCommands q)
+  seen_there k = visible_row ns n coming.numbers (λ l. heard l) heard_there k (clock_at ls (row_in (Visible k) own))
+      (λ l. (visible k).counts l ∙ ap (λ (a : Act). if shows k (is_of_host l) a then heard l else 0) (sym coming.act))
 
   on_host : (k : Access) → IsRow (OnHost k) (n ∷ ns) n (clock_at ls (row_in (OnHost k) own))
-  on_host k = host_row ns n coming.numbers (clock_at ls own.available.items) sent k (clock_at ls (row_in (OnHost k) known)) (clock_at ls (row_in (OnHost k) own)) (coming.front.rows (OnHost k)).join
-      (λ q. go q (receives_on_host k n.act) (sym (ap (receives_on_host k) coming.act)))
-    where
-      go : (q : ℕ) (b : Bool) → receives_on_host k (act_of row.act) ≡ b → clock_at ls (row_in (OnHost k) own) (OfCommands q) ≡ (if b then max (clock_at ls (row_in (OnHost k) known) (OfCommands q)) (clock_at ls own.available.items (OfCommands q)) else clock_at ls (row_in (OnHost k) known) (OfCommands q))
-      go q true e = at_max ls (row_in (OnHost k) own) (row_in (OnHost k) known) own.available.items (hosted k e).counts (OfCommands q)
-      go q false e = ap (λ (r : List ℕ). clock_at ls r (OfCommands q)) (unhosted k e)
+  on_host k = host_row ns n coming.numbers (λ l. heard l) heard_there k (clock_at ls (row_in (OnHost k) known)) (clock_at ls (row_in (OnHost k) own)) (coming.front.rows (OnHost k)).join
+      (λ l. (hosted k).counts l ∙ ap (λ (a : Act). if receives_on_host k a then max (clock_at ls (row_in (OnHost k) known) l) (heard l) else clock_at ls (row_in (OnHost k) known) l) (sym coming.act))
 
   shorter : (g : Knowledge) → length (row_in g own) ≤ length ls
   shorter Available = available.short
-  shorter (Visible k) = let e = ap length (visible k) in go (receives k (act_of row.act)) e available.short
-    where
-      go : (b : Bool) → length (row_in (Visible k) own) ≡ length (if b then own.available.items else []) → length own.available.items ≤ length ls → length (row_in (Visible k) own) ≤ length ls
-      go true e le = omega arith
-      go false e le = omega arith
-  shorter (OnHost k) = go (receives_on_host k (act_of row.act)) refl
-    where
-      go : (b : Bool) → receives_on_host k (act_of row.act) ≡ b → length (row_in (OnHost k) own) ≤ length ls
-      go true e = let l = (hosted k e).long in let a = (coming.front.rows (OnHost k)).short in let b = available.short in omega arith
-      go false e = let l = ap length (unhosted k e) in let a = (coming.front.rows (OnHost k)).short in omega arith
+  shorter (Visible k) = (visible k).short
+  shorter (OnHost k) = (hosted k).short
 
   rows_there : (g : Knowledge) → IsRow g (n ∷ ns) n (clock_at ls (row_in g own))
   rows_there Available = sent
@@ -164,7 +283,7 @@ module _ (ns : List Node) (ls : List Line) (n : Node) (row : Row) (known own : F
   pub own_is : IsOwnFront ns ls n own
   own_is = record {
     before = known.clock.items;
-    clock = edges_join n ns coming.numbers (clock_at ls known.clock.items) coming.front.clock.join;
+    clock = clock_there;
     own = clock;
     rows = rows_there;
     short = shorter;

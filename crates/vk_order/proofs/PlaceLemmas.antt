@@ -1,12 +1,18 @@
 -- Places in lines, when nodes come, and what has no siblings: what callers show of sights.
-use Rattle.std.proofs.Common.{◌≡◌, ℕ, ◌≤◌, List, [], ◌∷◌, length, Bool, true, false, ◌&&◌, refl, ap, ◌∙◌, arith}
+use Rattle.std.proofs.Common.{◌≡◌, ℕ, ◌≤◌, Some, List, [], ◌∷◌, length, Bool, true, false, ◌&&◌, refl, ap, ◌∙◌, arith}
+use Rattle.std.specs.Prelude.{Contains}
 use Rattle.vk_model.specs.Trace.Point.{Point}
 use Rattle.vk_model.specs.Sync.Node.{Node, Act, with_acts, same_place}
 use Rattle.vk_model.specs.Sync.Edge.{is_element}
 use Rattle.vk_order.specs.declared.lines.Line.{Line}
 use Rattle.vk_order.specs.Wide.{IsApartFrom}
 use Rattle.vk_order.specs.Inner.Clocks.{place}
-use Rattle.vk_order.proofs.ClockLemmas.{place-older}
+pub use Rattle.vk_order.proofs.ClockLemmas.{place-older, place-grows, line_itself, line_same}
+use Rattle.vk_order.specs.declared.sights.Sight.{Sight}
+use Rattle.vk_order.specs.Frontiers.{IsSight}
+use Rattle.vk_order.specs.Lines.{line_of}
+use Rattle.vk_model.specs.Sync.Before.{before}
+use Rattle.vk_order.proofs.ByEdges.{by_last, by_edge}
 
 -- a point that comes changes no place of an older node
 pub place_stays : (p : Point) (acts : List Act) (ns : List Node) (l : Line) (k : ℕ) → k ≤ length ns → place (with_acts p acts ns) l k ≡ place ns l k
@@ -22,3 +28,11 @@ apart_from ns n none k c = ap (λ (t : Bool). is_element k.act && t && same_plac
     go : (b : Bool) → (b && false && same_place k.point n.point) ≡ false
     go true = refl
     go false = refl
+
+-- what is before the next node is the first of each line
+pub first_on_line : (ns : List Node) (n : Node) (s : Sight) → IsSight ns n s → (l : Line) (m d : Node) → Contains ns m → Contains ns d → line_of m ≡ Some l → line_of d ≡ Some l → place ns l m.number ≤ place ns l d.number
+    → before (n ∷ ns) d n ≡ true → before (n ∷ ns) m n ≡ true
+first_on_line ns n s sight l m d hm hd lm ld le h =
+    let join = sight.front.clock.join in
+    let lt = (join.counts l d hd ld).0 (by_last n ns sight.numbers d hd h) in
+    by_edge n ns sight.numbers m hm ((join.counts l m hm lm).1 (omega (arith, lt, le)))

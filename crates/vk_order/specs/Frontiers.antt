@@ -8,6 +8,7 @@ use Rattle.vk_order.specs.declared.sights.Sight.{Sight}
 use Rattle.vk_order.specs.Inner.Fronts.{IsFront}
 use Rattle.vk_order.specs.Inner.Tallies.{lines_of, IsTallied}
 use Rattle.vk_order.specs.Inner.Names.{IsNames}
+use Rattle.vk_order.specs.Inner.Parts.{AreParts}
 
 -- A frontier is that of the nodes so far, the newest first.
 pub record IsFrontier (f : Frontier) (ns : List Node) : Type 0 where
@@ -15,12 +16,14 @@ pub record IsFrontier (f : Frontier) (ns : List Node) : Type 0 where
   pub total : f.nodes ≡ length ns
   pub tallied : IsTallied ns f.tallies.items
   pub names : IsNames ns (lines_of f.tallies.items) f.names
+  pub parts : AreParts ns (lines_of f.tallies.items) f.parts
 
 -- A sight is that of node n, which comes next after the nodes so far: what is before it, and what it sees.
 pub record IsSight (ns : List Node) (n : Node) (s : Sight) : Type 0 where
   pub numbers : IsNumbered (n ∷ ns)
   pub front : IsFront ns s.lines.items (λ k. edge ns k n) s.front
   pub is_host : s.is_host ≡ is_host n.act
+  pub queue : s.queue ≡ n.point.queue
 
 -- A sight knows the lines that a frontier has.
 abbrev pub IsFrom : Frontier → Sight → Type 0

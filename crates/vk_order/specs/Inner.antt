@@ -10,4 +10,5 @@ pub mod Names
 pub mod Tallies
 pub mod Places
 pub mod Ready
+pub mod Parts
 pub mod Sending

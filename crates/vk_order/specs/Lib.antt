@@ -3,6 +3,8 @@ pub mod Bytes
 pub mod Queries
 pub mod Wide
 pub mod Frontiers
+pub mod Limited
+pub mod Cached
 pub mod Lines
 pub mod Places
 pub mod Prefixes

@@ -21,7 +21,8 @@ impl Act<'_> {
         matches!(self, Act::Hosts(_))
     }
 
-    fn is_submit(&self) -> bool
+    /// Whether it is a submit.
+    pub fn is_submit(&self) -> bool
         ensures { result ≡ edge.is_submit (act_of self.now) }
     {
         matches!(self, Act::Hosts(Entry::Submit { .. }))

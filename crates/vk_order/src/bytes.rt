@@ -1,5 +1,6 @@
 ghost use Rattle.std.specs.Prelude.{◌≡◌, ℕ};
 ghost use Rattle.vk_model.specs.Basics.{within};
+ghost use Rattle.vk_model.specs.World.Bytes as world;
 ghost use Rattle.vk_model.specs.World.Effect.{in_atoms, in_range};
 ghost use Rattle.vk_model.specs.Sync.Seen as seen;
 ghost use Rattle.vk_order.specs.PointViews.{act_of};
@@ -34,6 +35,18 @@ pub enum Byte {
         /// How many bytes of the texel come earlier.
         texel_byte: u32,
     },
+}
+
+impl Byte {
+    /// The id of the resource that it is of.
+    pub fn resource(self) -> u32
+        ensures { result ≡ world.resource_at (byte_of self) }
+    {
+        match self {
+            Byte::Buffer { buffer, .. } => buffer,
+            Byte::Texel { image, .. } => image,
+        }
+    }
 }
 
 /// An access of a byte.

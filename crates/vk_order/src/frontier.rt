@@ -1,24 +1,34 @@
-ghost use Rattle.std.specs.Prelude.{◌≡◌, ◌∷◌, ◌||◌, ◌<◌, [], ℕ, Bool, List, false, IfOk, OnOk, IsTrue, is_some, Contains, Some, length, slice_get};
+ghost use Rattle.std.specs.Prelude.{◌≡◌, ◌∷◌, ◌||◌, ◌&&◌, ◌==◌, ◌<◌, ◌↔◌, [], ℕ, Bool, List, true, false, nat_lt, IfOk, OnOk, IsTrue, is_some, Contains, Some, length, slice_get};
+ghost use Rattle.vk_model.specs.World.Bytes as world;
 ghost use Rattle.vk_model.specs.Sync.Node.{Node, acts, with_acts};
-ghost use Rattle.vk_model.specs.Sync.Edge.{edge, is_element};
+ghost use Rattle.vk_model.specs.Sync.Edge.{edge, is_command, is_element, is_host};
+ghost use Rattle.vk_model.specs.Sync.Seen.{seen, makes_writes_available};
 ghost use Rattle.vk_order.specs.declared.lines.Line.{Line as AnyLine};
 ghost use Rattle.vk_order.specs.PointViews.{action_of, act_of, point_of, node_of, nodes_after};
-ghost use Rattle.vk_order.specs.Lines.{class_of, class_on};
+ghost use Rattle.vk_order.specs.Lines.{class_of, class_on, line_of};
 ghost use Rattle.vk_order.specs.Queries.{IsNew};
-ghost use Rattle.vk_order.specs.Wide.{IsApartFrom};
-ghost use Rattle.vk_order.specs.Inner.Clocks.{place};
+ghost use Rattle.vk_order.specs.Wide.{IsApartFrom, access_of, is_answered};
+ghost use Rattle.vk_order.specs.Limited.{is_limited, Reaches, IsWrite};
+ghost use Rattle.vk_order.specs.Bytes.{byte_of};
+ghost use Rattle.vk_order.specs.Inner.Clocks.{place, same_line};
 ghost use Rattle.vk_order.specs.Inner.Leads.{line_leads};
 ghost use Rattle.vk_order.specs.Inner.Links.{by_name};
 ghost use Rattle.vk_order.specs.Inner.Places.{index_in};
 ghost use Rattle.vk_order.specs.Inner.Fronts.{IsFront};
-ghost use Rattle.vk_order.specs.Inner.Kept.{IsLonger};
+ghost use Rattle.vk_order.specs.Inner.Kept.{clock_at, IsLonger};
+ghost use Rattle.vk_order.specs.Inner.Parts.{parts_at, IsPart, IsNewPart, opens, Serves};
 ghost use Rattle.vk_order.specs.Inner.Tallies.{lines_of, CanFollow, AreOnLines, AreFronts};
 ghost use Rattle.vk_order.specs.Frontiers.{IsFrontier, IsSight, IsFrom};
 
+use crate::access::Access;
 use crate::acts::Row;
+use crate::bytes::Byte;
+use crate::clocks::count_at;
 use crate::fronts::Front;
 use crate::lines::Line;
 use crate::names::Names;
+use crate::owning::Known;
+use crate::parts::{Part, Parts, Spot};
 use crate::point::{Act, Point, single_act};
 use crate::rows::rows_of;
 use crate::sights::Sight;
@@ -34,6 +44,7 @@ pub struct Frontier {
     nodes: usize,
     tallies: Vec<LineTally>,
     names: Names,
+    parts: Parts,
 }
 
 impl Frontier {
@@ -46,6 +57,7 @@ impl Frontier {
             nodes: 0,
             tallies: Vec::new(alloc),
             names: Names::new(alloc),
+            parts: Parts::new(alloc),
         }
     }
 
@@ -70,7 +82,7 @@ impl Frontier {
         };
         let front = self.front_of(&row)?;
         let lines = self.lines()?;
-        Ok(Sight::new(lines, front, act.is_host()))
+        Ok(Sight::new(lines, front, act.is_host(), point.queue))
     }
 
     /// The lines so far.
@@ -201,10 +213,138 @@ impl Frontier {
         let Some(nodes) = self.nodes.checked_add(1) else {
             return Err(AllocError);
         };
+        let part = self.new_part(row, &front)?;
         let own = own_of(self.alloc, self.tallies.as_slice(), row, front)?;
         self.names.add(self.alloc, row, &own)?;
+        self.parts.keep(self.alloc, part)?;
         tally(self.alloc, &mut self.tallies, row, own)?;
         self.nodes = nodes;
         Ok(())
+    }
+
+    /// What is kept of a row that comes next, with what it comes after, where it is a dependency on
+    /// a part of a resource's memory.
+    fn new_part(&self, row: &Row<'_>, front: &Front) -> Result<Option<(u32, Part)>, AllocError>
+        ensures { IfOk result (λ part. (ns : List Node) (n : Node) → n ≡ node_of (length ns) row.now → IsFront ns (lines_of self.now.tallies.items) (λ k. edge ns k n) front.now → IsFrontier self.now ns → IsNewPart ns (lines_of self.now.tallies.items) n part) }
+    {
+        let Some((id, element)) = row.act.limited() else {
+            return Ok(None);
+        };
+        let known = Known {
+            tallies: self.tallies.as_slice(),
+            clock: front.clock.as_slice(),
+            available: front.available.as_slice(),
+        };
+        let heard = known.row(self.alloc)?;
+        let queue = row.point.queue;
+        let line = Line::of(queue, &row.act);
+        let part = Part {
+            element,
+            queue,
+            line,
+            place: self.count(line),
+            earlier: self.count(Line::Commands(queue)),
+            heard,
+        };
+        Ok(Some((id, part)))
+    }
+
+    /// Whether an access of a byte by the node that a sight is of, a command or a host entry that
+    /// needs no invalidation, sees the write of it by a node. Dependencies may be on parts of memory.
+    pub fn is_seen(&self, sight: &Sight, write: Spot, byte: Byte, access: Access) -> bool
+        ensures { (ns : List Node) (n w : Node) (cached : world.Byte → Bool) → IsFrontier self.now ns → IsSight ns n sight.now → IsWrite cached ns w (byte_of byte) → line_of w ≡ Some write.line → place ns write.line w.number ≡ write.place
+            → IsTrue (is_answered cached n.act (access_of access) (byte_of byte)) → result ≡ seen cached (n ∷ ns) w n (access_of access) (byte_of byte) }
+    {
+        let parts = self.parts.of(byte.resource());
+        self.is_served(sight, parts, write, byte, access)
+            || self.is_marked(sight, parts, write, byte, access)
+    }
+
+    /// Whether parts make a write available, and what one of them marks is known at a node that
+    /// makes the byte visible to the access.
+    fn is_marked(
+        &self,
+        sight: &Sight,
+        parts: &[Part],
+        write: Spot,
+        byte: Byte,
+        access: Access,
+    ) -> bool
+        ensures { (ns : List Node) (n w : Node) (cached : world.Byte → Bool) → IsFrontier self.now ns → IsSight ns n sight.now → (is_command n.act || is_host n.act) ≡ true → parts.now ≡ parts_at self.now.parts (world.resource_at (byte_of byte))
+            → Contains ns w → line_of w ≡ Some write.line → place ns write.line w.number ≡ write.place
+            → IsTrue result ↔ ((m : Node) × Contains ns m × IsTrue (is_limited m.act) × IsTrue (is_command w.act && makes_writes_available cached ns m (byte_of byte) m.act && edge ns w m) × Serves cached ns n (access_of access) (byte_of byte) m) }
+    {
+        for part in parts {
+            if self.is_mark(sight, parts, part, write, byte, access) {
+                return true;
+            }
+        }
+        false
+    }
+
+    /// Whether one part makes a write available, and what it marks is known at such a node.
+    fn is_mark(
+        &self,
+        sight: &Sight,
+        parts: &[Part],
+        part: &Part,
+        write: Spot,
+        byte: Byte,
+        access: Access,
+    ) -> bool
+        ensures { (ns : List Node) (n w m : Node) (cached : world.Byte → Bool) → IsFrontier self.now ns → IsSight ns n sight.now → (is_command n.act || is_host n.act) ≡ true → parts.now ≡ parts_at self.now.parts (world.resource_at (byte_of byte))
+            → Contains ns w → line_of w ≡ Some write.line → place ns write.line w.number ≡ write.place → IsPart ns (lines_of self.now.tallies.items) m part.now
+            → IsTrue result ↔ (IsTrue (is_command w.act && makes_writes_available cached ns m (byte_of byte) m.act && edge ns w m) × Serves cached ns n (access_of access) (byte_of byte) m) }
+    {
+        part.marks(write, byte) && self.is_served(sight, parts, part.spot(), byte, access)
+    }
+
+    /// Whether what a node marks is known at a node that makes a byte visible to the access.
+    fn is_served(
+        &self,
+        sight: &Sight,
+        parts: &[Part],
+        spot: Spot,
+        byte: Byte,
+        access: Access,
+    ) -> bool
+        ensures { (ns : List Node) (n m : Node) (cached : world.Byte → Bool) → IsFrontier self.now ns → IsSight ns n sight.now → (is_command n.act || is_host n.act) ≡ true → parts.now ≡ parts_at self.now.parts (world.resource_at (byte_of byte))
+            → Contains ns m → line_of m ≡ Some spot.line → place ns spot.line m.number ≡ spot.place → IsTrue result ↔ Serves cached ns n (access_of access) (byte_of byte) m }
+    {
+        if sight.shows(spot, access) {
+            return true;
+        }
+        for part in parts {
+            if self.gives(sight, part, spot, byte, access) {
+                return true;
+            }
+        }
+        false
+    }
+
+    /// Whether one part makes the byte visible to the access, and what the node marks is known at it.
+    fn gives(&self, sight: &Sight, part: &Part, spot: Spot, byte: Byte, access: Access) -> bool
+        ensures { (ns : List Node) (n m q : Node) (cached : world.Byte → Bool) → IsSight ns n sight.now → (is_command n.act || is_host n.act) ≡ true → IsPart ns (lines_of self.now.tallies.items) q part.now
+            → Contains ns m → line_of m ≡ Some spot.line → place ns spot.line m.number ≡ spot.place → IsTrue result ↔ (IsTrue (opens cached ns n n.act (access_of access) (byte_of byte) q) × Reaches ns m q) }
+    {
+        sight.is_open(part, byte, access) && self.reaches(part, spot)
+    }
+
+    /// Whether what a node marks is known at a part, or it is the part itself.
+    fn reaches(&self, part: &Part, spot: Spot) -> bool
+        ensures { result ≡ (nat_lt spot.place (clock_at (lines_of self.now.tallies.items) part.now.heard.items spot.line) || same_line part.now.line spot.line && part.now.place == spot.place) }
+    {
+        spot.place < self.heard(part, spot.line)
+            || part.line.is(spot.line) && part.place == spot.place
+    }
+
+    /// How many nodes of a line are known at a part.
+    fn heard(&self, part: &Part, line: Line) -> usize
+        ensures { result ≡ clock_at (lines_of self.now.tallies.items) part.now.heard.items line }
+    {
+        let Some(at) = line_index(self.tallies.as_slice(), line) else {
+            return 0;
+        };
+        count_at(part.heard.as_slice(), at)
     }
 }

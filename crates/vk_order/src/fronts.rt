@@ -10,8 +10,8 @@ use crate::clocks::join_in;
 use std::alloc::{AllocError, Global};
 
 /// What comes after some nodes: how many nodes of each line are before it, and how many commands of
-/// each queue have their writes made available by then. Each is a list of counts in the order of
-/// the lines, where zeros at the end are left out; a queue's commands are counted at their line.
+/// each queue and host entries have their writes made available by then. Each is a list of counts
+/// in the order of the lines, where zeros at the end are left out.
 #[derive(Drop)]
 pub struct Front {
     /// What is before it.

@@ -3,6 +3,8 @@ ghost use Rattle.vk_order.specs.Prefixes.{HostPrefix, WaitPrefix, SignalPrefix, 
 ghost use Rattle.vk_order.specs.Places.{ApartIsPlaced};
 ghost use Rattle.vk_order.specs.Submission.{CommandsFollow, OrderedAreSubmitted, OrderIsSubmitted};
 ghost use Rattle.vk_order.specs.Visibility.{CommandsSeen, HostSeen, SeenThrough, LastWriteSeen};
+ghost use Rattle.vk_order.specs.Limited.{LimitedSeen};
+ghost use Rattle.vk_order.specs.Cached.{FlushedSeen, UnflushedSeen, InvalidatedSeen, UninvalidatedSeen};
 ghost use Rattle.vk_order.specs.Counterexamples.{Counterexamples};
 
 use vk_model::{growth_keeps, order_is_structured};
@@ -58,6 +60,27 @@ pub fn last_write_seen()
 {
     growth_keeps();
 }
+
+/// Where dependencies may be on parts of memory, an access by a node that comes next sees a write
+/// exactly where the write, or a dependency on a part that makes it available, reaches a node that
+/// makes it visible.
+pub fn limited_seen()
+    ensures { LimitedSeen }
+{}
+
+/// Of memory that the host reaches through a cache a command or transition sees a host write as if
+/// the first flush after it had made it, and none that wasn't flushed.
+pub fn flushed_seen()
+    ensures flushed { FlushedSeen }
+    ensures unflushed { UnflushedSeen }
+{}
+
+/// Of such memory a host read sees what one at the last invalidation before it would see of memory
+/// without a cache, and nothing where there is none.
+pub fn invalidated_seen()
+    ensures invalidated { InvalidatedSeen }
+    ensures uninvalidated { UninvalidatedSeen }
+{}
 
 /// Premises and parts of lines without which the laws would be false.
 pub fn counterexamples()

@@ -15,6 +15,7 @@ mod laws;
 mod lines;
 mod names;
 mod owning;
+mod parts;
 mod point;
 mod points;
 mod reads;
@@ -28,10 +29,11 @@ pub use access::Access;
 pub use bytes::{Byte, ByteAccess};
 pub use frontier::Frontier;
 pub use laws::{
-    commands_follow, commands_seen, counterexamples, elements_are_together, host_seen,
-    last_write_seen, prefixes, seen_through,
+    commands_follow, commands_seen, counterexamples, elements_are_together, flushed_seen,
+    host_seen, invalidated_seen, last_write_seen, limited_seen, prefixes, seen_through,
 };
 pub use lines::Line;
+pub use parts::Spot;
 pub use point::{Act, Action, Point};
 pub use points::Points;
 pub use sights::Sight;

@@ -126,6 +126,13 @@ impl Line {
         matches!(self, Line::Sets(_))
     }
 
+    /// Whether its nodes are elements of barriers and awaits.
+    pub fn is_of_barriers(self) -> bool
+        ensures { result ≡ leads.is_of_barriers self }
+    {
+        matches!(self, Line::Elements(..))
+    }
+
     fn is_of_elements(self, on: u32) -> bool
         ensures { result ≡ leads.is_of_elements on self }
     {
@@ -153,7 +160,7 @@ impl Line {
     }
 
     /// Whether it has dependencies or waits that end in transfers.
-    fn ends_in_transfer(self, on: u32) -> bool
+    pub fn ends_in_transfer(self, on: u32) -> bool
         ensures { result ≡ leads.ends_in_transfer on self }
     {
         match self {

@@ -1,37 +1,45 @@
-ghost use Rattle.std.specs.Prelude.{◌≡◌, ◌∷◌, ◌<◌, ◌≤◌, ℕ, Bool, List, IsTrue, Contains, Some, if◌then◌else◌, length, nat_lt};
-ghost use Rattle.vk_model.specs.World.Bytes.{Byte};
+ghost use Rattle.std.specs.Prelude.{◌≡◌, ◌∷◌, ◌<◌, ◌≤◌, ◌||◌, ◌↔◌, ℕ, Bool, List, true, IsTrue, Contains, Some, false, if◌then◌else◌, length, nat_lt};
+ghost use Rattle.vk_model.specs.World.Bytes as world;
 ghost use Rattle.vk_model.specs.Sync.Node.{Node};
+ghost use Rattle.vk_model.specs.Sync.Edge.{edge, is_command, is_host};
 ghost use Rattle.vk_model.specs.Sync.Before.{before};
 ghost use Rattle.vk_model.specs.Sync.Seen.{seen};
-ghost use Rattle.vk_order.specs.declared.lines.Line.TheVariants.{Commands as OfCommands};
+ghost use Rattle.vk_order.specs.declared.lines.Line.TheVariants.{Host as OfHost, Commands as OfCommands};
+ghost use Rattle.vk_order.specs.declared.lines.Line.{Line as AnyLine};
+ghost use Rattle.vk_order.specs.Bytes.{byte_of};
 ghost use Rattle.vk_order.specs.Lines.{line_of};
 ghost use Rattle.vk_order.specs.Wide.{access_of, AreWide, is_answered};
 ghost use Rattle.vk_order.specs.Inner.Clocks.{place};
 ghost use Rattle.vk_order.specs.Inner.Kept.{clock_at};
-ghost use Rattle.vk_order.specs.Inner.Rows.{Visible, OnHost};
+ghost use Rattle.vk_order.specs.Inner.Rows.{Visible, OnHost, KnowsOne};
+ghost use Rattle.vk_order.specs.Inner.Parts.{IsPart, asked_of, opens};
 ghost use Rattle.vk_order.specs.Inner.Fronts.{row_in};
 ghost use Rattle.vk_order.specs.Frontiers.{IsSight};
 
 use crate::access::Access;
+use crate::bytes::Byte;
 use crate::clocks::count_at;
 use crate::fronts::Front;
 use crate::lines::{Line, index_among};
+use crate::parts::{Part, Spot};
 
 /// What a node that comes next has before it, and what it sees.
 #[derive(Drop)]
 pub struct Sight {
     is_host: bool,
+    queue: u32,
     lines: Vec<Line>,
     front: Front,
 }
 
 impl Sight {
     /// The sight of a node from the lines so far and its front.
-    pub(crate) fn new(lines: Vec<Line>, front: Front, is_host: bool) -> Sight
-        ensures { result ≡ record { is_host = is_host; lines = lines; front = front } }
+    pub(crate) fn new(lines: Vec<Line>, front: Front, is_host: bool, queue: u32) -> Sight
+        ensures { result ≡ record { is_host = is_host; queue = queue; lines = lines; front = front } }
     {
         Sight {
             is_host,
+            queue,
             lines,
             front,
         }
@@ -62,10 +70,42 @@ impl Sight {
     /// Whether an access of this kind by the node sees the writes of the command of a queue before
     /// which this many came on it. It is asked where all dependencies are on all memory.
     pub fn sees(&self, queue: u32, earlier: usize, access: Access) -> bool
-        ensures { (ns : List Node) (n m : Node) (cached : Byte → Bool) (b : Byte) → IsSight ns n self.now → Contains ns m → line_of m ≡ Some (OfCommands queue) → place ns (OfCommands queue) m.number ≡ earlier
+        ensures { (ns : List Node) (n m : Node) (cached : world.Byte → Bool) (b : world.Byte) → IsSight ns n self.now → Contains ns m → line_of m ≡ Some (OfCommands queue) → place ns (OfCommands queue) m.number ≡ earlier
             → AreWide (n ∷ ns) → IsTrue (is_answered cached n.act (access_of access) b) → result ≡ seen cached (n ∷ ns) m n (access_of access) b }
     {
         earlier < self.count(self.row(access), Line::Commands(queue))
+    }
+
+    /// Whether an access of this kind by the node sees the writes of the host entry before which
+    /// this many came. It is asked where all dependencies are on all memory, of a byte that the host
+    /// reaches without a cache.
+    pub fn sees_host(&self, earlier: usize, access: Access) -> bool
+        ensures { (ns : List Node) (n m : Node) (cached : world.Byte → Bool) (b : world.Byte) → IsSight ns n self.now → Contains ns m → line_of m ≡ Some OfHost → place ns OfHost m.number ≡ earlier
+            → AreWide (n ∷ ns) → IsTrue (is_answered cached n.act (access_of access) b) → cached b ≡ false → result ≡ seen cached (n ∷ ns) m n (access_of access) b }
+    {
+        earlier < self.count(self.row(access), Line::Host)
+    }
+
+    /// Whether what a node wrote is known at one that serves all memory and makes it visible to an
+    /// access by this node, a command or a host entry.
+    pub(crate) fn shows(&self, spot: Spot, access: Access) -> bool
+        ensures { (ns : List Node) (n m : Node) → IsSight ns n self.now → Contains ns m → line_of m ≡ Some spot.line → place ns spot.line m.number ≡ spot.place → (is_command n.act || is_host n.act) ≡ true
+            → IsTrue result ↔ KnowsOne (asked_of n.act (access_of access)) ns (λ q. edge ns q n) m }
+    {
+        spot.place < self.count(self.row(access), spot.line)
+    }
+
+    /// Whether a dependency on a part of memory makes a byte visible to an access by this node, a
+    /// command or a host entry.
+    pub(crate) fn is_open(&self, part: &Part, byte: Byte, access: Access) -> bool
+        ensures { (ns : List Node) (ls : List AnyLine) (n q : Node) (cached : world.Byte → Bool) → IsSight ns n self.now → IsPart ns ls q part.now → (is_command n.act || is_host n.act) ≡ true
+            → result ≡ opens cached ns n n.act (access_of access) (byte_of byte) q }
+    {
+        if self.is_host {
+            self.follows(part.line, part.place) && part.shows_on_host(access, byte)
+        } else {
+            part.line.ends_in_transfer(self.queue) && part.makes_visible(access.of_commands(), byte)
+        }
     }
 
     /// The row that answers for an access.

@@ -37,7 +37,7 @@ fn families_of(element: &Element) -> Option<Families>
 }
 
 /// Whether an element on a queue is the second half of an ownership transfer.
-fn is_acquire(queue: u32, element: &Element) -> bool
+pub fn is_acquire(queue: u32, element: &Element) -> bool
     ensures { result ≡ ownership.is_acquire queue element.now }
 {
     let Some(families) = families_of(element) else {
@@ -48,7 +48,7 @@ fn is_acquire(queue: u32, element: &Element) -> bool
 }
 
 /// Whether it is the first half.
-fn is_release(queue: u32, element: &Element) -> bool
+pub fn is_release(queue: u32, element: &Element) -> bool
     ensures { result ≡ ownership.is_release queue element.now }
 {
     let Some(families) = families_of(element) else {
@@ -58,7 +58,7 @@ fn is_release(queue: u32, element: &Element) -> bool
 }
 
 /// The accesses of an element's first scope.
-fn source_accesses(element: &Element) -> Accesses
+pub fn source_accesses(element: &Element) -> Accesses
     ensures { result.0 ≡ (ownership.dependency_of element.now).source_accesses.0 }
 {
     match element {
@@ -69,7 +69,7 @@ fn source_accesses(element: &Element) -> Accesses
 }
 
 /// The accesses of an element's second scope.
-fn destination_accesses(element: &Element) -> Accesses
+pub fn destination_accesses(element: &Element) -> Accesses
     ensures { result.0 ≡ (ownership.dependency_of element.now).destination_accesses.0 }
 {
     match element {

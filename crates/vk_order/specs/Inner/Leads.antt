@@ -23,6 +23,11 @@ abbrev pub is_of_sets : Line → Bool
 is_of_sets (OfSets r) = true
 is_of_sets _ = false
 
+-- Whether it is of elements of barriers and awaits.
+abbrev pub is_of_barriers : Line → Bool
+is_of_barriers (OfElements r t h) = true
+is_of_barriers _ = false
+
 -- Whether it has a queue's dependencies or waits that end in clears and copies.
 abbrev pub ends_in_transfer : ℕ → Line → Bool
 ends_in_transfer q (OfElements r t h) = r == q && t

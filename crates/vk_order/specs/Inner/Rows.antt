@@ -1,16 +1,17 @@
--- Which commands' writes of all bytes are available and visible where, as counts of commands for each queue.
-use Rattle.std.specs.Prelude.{◌≡◌, ◌⊎◌, ◌↔◌, ℕ, ◌<◌, ◌≤◌, List, length, Bool, true, false, not, ◌&&◌, IsTrue, Contains, Some, max, slice_index_or, if◌then◌else◌, ◌==◌}
+-- Whose writes of all bytes are available and visible where, as counts of nodes for each line.
+use Rattle.std.specs.Prelude.{◌≡◌, ◌⊎◌, ◌↔◌, ℕ, ◌<◌, ◌≤◌, List, length, Bool, true, false, not, ◌&&◌, ◌||◌, IsTrue, Contains, Some, max, slice_index_or, if◌then◌else◌, ◌==◌}
 use Rattle.vk_model.specs.declared.command.Element.TheVariants as element
 use Rattle.vk_model.specs.Basics.{has_some}
-use Rattle.vk_model.specs.Sync.Node.{Node, Act, Waits, Signals, Depends}
-use Rattle.vk_model.specs.Sync.Edge.{edge}
+use Rattle.vk_model.specs.Sync.Node.{Node, Act, Hosts, Waits, Signals, Runs, Depends}
+use Rattle.vk_model.specs.Sync.Edge.{edge, is_host, is_submit, is_element}
 use Rattle.vk_model.specs.Sync.Before.{before}
 use Rattle.vk_model.specs.Sync.Seen.{Access, Write, command_mask, host_mask, is_await, is_set, to_host}
-use Rattle.vk_order.specs.declared.lines.Line.TheVariants.{Commands as OfCommands}
+use Rattle.vk_order.specs.declared.lines.Line.TheVariants.{Host as OfHost, Commands as OfCommands}
 use Rattle.vk_order.specs.Lines.{line_of}
 use Rattle.vk_order.specs.Prefixes.{from_transfer}
 use Rattle.vk_order.specs.Inner.Clocks.{place, Clock}
 use Rattle.vk_order.specs.Inner.Kept.{clock_at}
+use Rattle.vk_order.specs.Inner.Leads.{is_of_host, is_of_barriers}
 use Rattle.vk_order.specs.declared.lines.Line.{Line}
 
 -- Whether an act makes commands' writes of every byte available: a dependency on all memory that has the write in its source accesses, or a signal (Vulkan, "Execution and Memory Dependencies" and "Semaphore Signaling").
@@ -34,35 +35,54 @@ abbrev pub receives_on_host : Access → Act → Bool
 receives_on_host k (Depends r (element.Memory d)) = not (is_set r) && to_host (Depends r (element.Memory d)) && has_some d.destination_accesses.0 (host_mask k)
 receives_on_host k _ = false
 
--- How a command's writes are known at a node: available, visible to commands to which the node leads, or visible to host accesses that come after.
+-- Whether node p makes the writes of every byte by node w, a command or host entry whose act is given, available: a command's where an edge leads from it and it sends them, a host's as a later submit (Vulkan, "Execution and Memory Dependencies" and "Host Write Ordering Guarantees").
+abbrev pub makes_available : List Node → Node → Act → Node → Bool
+makes_available ns w (Runs c) p = edge ns w p && sends_all p.act
+makes_available ns w (Hosts x) p = is_submit p.act && before ns w p
+makes_available ns w _ p = false
+
+-- How a node's writes are known at another one: available, visible to commands to which that one leads, or visible to host accesses that come after.
 pub data Knowledge : Type 0 where
   Available : Knowledge
   Visible : Access → Knowledge
   OnHost : Access → Knowledge
 
--- The writes of command c are made available at node n or before it.
+-- The writes of node w are made available at node n or before it.
 abbrev pub IsAvailable : List Node → Node → Node → Type 0
-IsAvailable ns c n = (p : Node) × Contains ns p × IsTrue (sends_all p.act) × IsTrue (edge ns c p) × ((p ≡ n) ⊎ IsTrue (before ns p n))
+IsAvailable ns w n = (p : Node) × Contains ns p × IsTrue (makes_available ns w w.act p) × ((p ≡ n) ⊎ IsTrue (before ns p n))
+
+-- Or node w is an element that comes before node n: the writes of its transition are then available there, as they are at the element itself (Vulkan, "Image Layout Transitions").
+abbrev pub IsKnown : List Node → Node → Node → Type 0
+IsKnown ns w n = IsAvailable ns w n ⊎ (IsTrue (is_element w.act) × IsTrue (before ns w n))
+
+-- Whether a node makes available writes visible to an access by commands: one that receives those of every byte, or a submit those of the host (Vulkan, "Host Write Ordering Guarantees").
+abbrev pub shows : Access → Bool → Act → Bool
+shows k by_host a = receives k a || by_host && is_submit a
 
 -- They are known so at node n.
 abbrev pub Knows : Knowledge → List Node → Node → Node → Type 0
-Knows Available ns c n = IsAvailable ns c n
-Knows (Visible k) ns c n = IsTrue (receives k n.act) × IsAvailable ns c n
-Knows (OnHost k) ns c n = (q : Node) × Contains ns q × IsTrue (receives_on_host k q.act) × ((q ≡ n) ⊎ IsTrue (before ns q n)) × IsAvailable ns c q
+Knows Available ns w n = IsAvailable ns w n
+Knows (Visible k) ns w n = IsTrue (shows k (is_host w.act) n.act) × IsKnown ns w n
+Knows (OnHost k) ns w n = (q : Node) × Contains ns q × IsTrue (receives_on_host k q.act) × ((q ≡ n) ⊎ IsTrue (before ns q n)) × IsKnown ns w q
 
 -- They are known so at one of the nodes that pass a test.
 abbrev pub KnowsOne : Knowledge → List Node → (Node → Bool) → Node → Type 0
-KnowsOne g ns test c = (k : Node) × Contains ns k × IsTrue (test k) × Knows g ns c k
+KnowsOne g ns test w = (k : Node) × Contains ns k × IsTrue (test k) × Knows g ns w k
 
--- A row of node n: it counts, queue by queue, exactly the commands whose writes are known there.
+-- A row of node n: it counts, line by line, exactly the nodes whose writes are known there.
 pub record IsRow (g : Knowledge) (ns : List Node) (n : Node) (row : Clock) : Type 0 where
-  pub counts : (q : ℕ) (c : Node) → Contains ns c → line_of c ≡ Some (OfCommands q) → Knows g ns c n ↔ (place ns (OfCommands q) c.number < row (OfCommands q))
-  pub bounded : (q : ℕ) → row (OfCommands q) ≤ place ns (OfCommands q) n.number
+  pub counts : (l : Line) (w : Node) → Contains ns w → line_of w ≡ Some l → Knows g ns w n ↔ (place ns l w.number < row l)
+  pub bounded : (l : Line) → row l ≤ place ns l n.number
+
+-- The same of what is available there and of the elements before it.
+pub record IsKnownRow (ns : List Node) (n : Node) (row : Clock) : Type 0 where
+  pub counts : (l : Line) (w : Node) → Contains ns w → line_of w ≡ Some l → IsKnown ns w n ↔ (place ns l w.number < row l)
+  pub bounded : (l : Line) → row l ≤ place ns l n.number
 
 -- The join of the rows of the nodes that pass a test.
 pub record IsRowJoin (g : Knowledge) (ns : List Node) (test : Node → Bool) (row : Clock) : Type 0 where
-  pub counts : (q : ℕ) (c : Node) → Contains ns c → line_of c ≡ Some (OfCommands q) → KnowsOne g ns test c ↔ (place ns (OfCommands q) c.number < row (OfCommands q))
-  pub bounded : (q : ℕ) → row (OfCommands q) ≤ place ns (OfCommands q) (length ns)
+  pub counts : (l : Line) (w : Node) → Contains ns w → line_of w ≡ Some l → KnowsOne g ns test w ↔ (place ns l w.number < row l)
+  pub bounded : (l : Line) → row l ≤ place ns l (length ns)
 
 -- A kept row is the join over the nodes that pass a test.
 pub record IsKeptRow (g : Knowledge) (ns : List Node) (ls : List Line) (test : Node → Bool) (row : List ℕ) : Type 0 where
@@ -74,7 +94,28 @@ pub record AreJoined (first second both : List ℕ) : Type 0 where
   pub counts : (i : ℕ) → slice_index_or both i 0 ≡ max (slice_index_or first i 0) (slice_index_or second i 0)
   pub long : length both ≡ max (length first) (length second)
 
--- What is available after a node of a queue that comes next: all its queue's commands so far where it sends them, and what was available before.
-pub record IsOwnAvailable (ns : List Node) (ls : List Line) (queue : ℕ) (sending : Bool) (row own : List ℕ) : Type 0 where
-  pub counts : (q : ℕ) → clock_at ls own (OfCommands q) ≡ (if sending && q == queue then place ns (OfCommands q) (length ns) else clock_at ls row (OfCommands q))
+-- Whether an act on a queue makes the writes of all nodes of a line so far available: a submit those of the host, and what sends commands' writes those of its queue's commands.
+abbrev pub sends_line : ℕ → Act → Line → Bool
+sends_line q a OfHost = is_submit a
+sends_line q a (OfCommands r) = sends a && r == q
+sends_line q a l = false
+
+-- A kept row of what is available after such an act, which comes next: what was available before, and what it makes available.
+pub record IsOwnAvailable (ns : List Node) (ls : List Line) (queue : ℕ) (act : Act) (row own : List ℕ) : Type 0 where
+  pub counts : (l : Line) → clock_at ls own l ≡ (if sends_line queue act l then place ns l (length ns) else clock_at ls row l)
+  pub short : length own ≤ length ls
+
+-- A kept row of what is available and of the elements before, from a row of the one and a clock.
+pub record IsMerged (ls : List Line) (clock row own : List ℕ) : Type 0 where
+  pub counts : (l : Line) → clock_at ls own l ≡ (if is_of_barriers l then clock_at ls clock l else clock_at ls row l)
+  pub short : length own ≤ length ls
+
+-- A kept row of what it then makes visible to an access by commands.
+pub record IsOwnVisible (k : Access) (ls : List Line) (act : Act) (clock row own : List ℕ) : Type 0 where
+  pub counts : (l : Line) → clock_at ls own l ≡ (if shows k (is_of_host l) act then (if is_of_barriers l then clock_at ls clock l else clock_at ls row l) else 0)
+  pub short : length own ≤ length ls
+
+-- A kept row of what is then visible on the host, from that before.
+pub record IsOwnOnHost (k : Access) (ls : List Line) (act : Act) (clock row before own : List ℕ) : Type 0 where
+  pub counts : (l : Line) → clock_at ls own l ≡ (if receives_on_host k act then max (clock_at ls before l) (if is_of_barriers l then clock_at ls clock l else clock_at ls row l) else clock_at ls before l)
   pub short : length own ≤ length ls

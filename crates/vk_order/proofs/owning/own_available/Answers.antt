@@ -1,21 +1,31 @@
-use Rattle.std.proofs.Common.{Bool, refl, sym, ◌∙◌, subst, get_or, rules}
+use Rattle.std.proofs.Common.{◌≡◌, Option, Some, None, refl, ap, sym, ◌∙◌, get_or, rules}
 use Rattle.std.proofs.lemmas.Option.{slice_get-get_or}
+use Rattle.vk_model.specs.Basics.{holds}
+use Rattle.vk_order.specs.declared.lines.Line.{Line}
 use Rattle.vk_order.specs.declared.tallies.LineTally.{LineTally}
-use Rattle.vk_order.specs.Inner.Rows.{IsOwnAvailable}
-use Rattle.vk_order.specs.Inner.Tallies.{lines_of}
-use Rattle.vk_order.proofs.OwnLemmas.{index_low, available_counted, available_none}
+use Rattle.vk_order.specs.PointViews.{act_of}
+use Rattle.vk_order.specs.Inner.Clocks.{same_line}
+use Rattle.vk_order.proofs.OwnLemmas.{index_low, available_counted, available_none, available_same}
 use Rattle.vk_order.proofs.owning.own_available.Goals as goal
 
 pub returns-in_default : goal.returns-in_default
 returns-in_default c = λ ns tallied short.
-    let ts = c.args.tallies.now in
-    subst (λ (b : Bool). IsOwnAvailable ns (lines_of ts) c.args.row.now.point.queue b c.args.available.items c.args.available.items) (sym c.if-not-sends.false ∙ c.sends.ensures)
-    (available_none ns ts tallied c.args.row.now.point.queue c.args.available.items c.args.available.items (sym c.in_default.ensures) refl short)
+    let none : c.sent_line.result ≡ None = search rules in
+    available_same ns c.args.tallies.now tallied c.args.row.now.point.queue (act_of c.args.row.now.act) c.args.available.items c.args.available.items
+    (λ l. ap (λ (o : Option Line). holds o (same_line l)) (sym none) ∙ c.sent_line.ensures l) refl short
+
+pub returns-in_default-line_index : goal.returns-in_default-line_index
+returns-in_default-line_index c = λ ns tallied short.
+    let some : c.sent_line.result ≡ Some c.in-Some.line = search rules in
+    available_none ns c.args.tallies.now tallied c.args.row.now.point.queue (act_of c.args.row.now.act) c.args.available.items c.args.available.items c.in-Some.line
+    (λ l. ap (λ (o : Option Line). holds o (same_line l)) (sym some) ∙ c.sent_line.ensures l) (sym c.in_default-line_index.ensures) refl short
 
 pub returns : goal.returns
 returns c = λ ns tallied short.
     let ts = c.args.tallies.now in
-    let t : LineTally = get_or ts c.in-Some.at c.index-tallies-at.result in
-    subst (λ (b : Bool). IsOwnAvailable ns (lines_of ts) c.args.row.now.point.queue b c.args.available.items c.in_ok-own.own.items) (sym c.if-not-sends.false ∙ c.sends.ensures)
-    (available_counted ns ts tallied c.args.row.now.point.queue c.args.available.items c.in_ok-own.own.items c.in-Some.at t.count t (sym c.in-Some.ensures)
-    (slice_get-get_or ts c.in-Some.at c.index-tallies-at.result (index_low ts _ c.in-Some.at (sym c.in-Some.ensures))) refl c.in_ok-own.ensures.counts (search rules) short)
+    let at = c.in-Some-line_index.at in
+    let t : LineTally = get_or ts at c.index-tallies-at.result in
+    let some : c.sent_line.result ≡ Some c.in-Some.line = search rules in
+    available_counted ns ts tallied c.args.row.now.point.queue (act_of c.args.row.now.act) c.args.available.items c.in_ok-own.own.items c.in-Some.line at t.count t
+    (λ l. ap (λ (o : Option Line). holds o (same_line l)) (sym some) ∙ c.sent_line.ensures l) (sym c.in-Some-line_index.ensures)
+    (slice_get-get_or ts at c.index-tallies-at.result (index_low ts c.in-Some.line at (sym c.in-Some-line_index.ensures))) refl c.in_ok-own.ensures.counts (search rules) short

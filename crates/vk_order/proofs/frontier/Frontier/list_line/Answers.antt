@@ -4,6 +4,7 @@ use Rattle.vk_order.specs.Inner.Names.{IsNames}
 use Rattle.vk_order.specs.Inner.Tallies.{lines_of}
 use Rattle.vk_order.specs.Inner.Kept.{IsLonger}
 use Rattle.vk_order.proofs.ListLemmas.{longer_push, longer_same}
+use Rattle.vk_order.proofs.PartLemmas.{parts_longer}
 use Rattle.vk_order.proofs.TallyLemmas.{names_listed}
 use Rattle.vk_order.proofs.frontier.Frontier.list_line.Goals as goal
 
@@ -16,7 +17,14 @@ returns-clause-kept c = λ ns is. record {
       (λ e. subst (λ (ls : List Line). IsNames ns ls c.args.self.now.names) (sym e) is.names)
       (λ e. subst (λ (ls : List Line). IsNames ns ls c.args.self.now.names) (sym e) (names_listed ns (lines_of c.args.self.now.tallies.items) c.args.line c.args.self.now.names is.names))
       c.in_ok-list_line.ensures.grown;
+  parts = parts_longer ns (lines_of c.args.self.now.tallies.items) (lines_of c.list_line.new.tallies.items) c.args.self.now.parts longer is.parts;
 }
+  where
+    longer : IsLonger (lines_of c.args.self.now.tallies.items) (lines_of c.list_line.new.tallies.items)
+    longer = ⊎_elim
+        (λ e. longer_same (lines_of c.args.self.now.tallies.items) (lines_of c.list_line.new.tallies.items) e)
+        (λ e. subst (λ (ls : List Line). IsLonger (lines_of c.args.self.now.tallies.items) ls) (sym e) (longer_push (lines_of c.args.self.now.tallies.items) c.args.line))
+        c.in_ok-list_line.ensures.grown
 
 pub returns-clause-longer : goal.returns-clause-longer
 returns-clause-longer c =
