@@ -1,16 +1,18 @@
 -- What lives while a trace runs: pieces and host entries reach live resources alone, and what an entry ends no piece reaches any more.
-use Rattle.std.specs.Prelude.{◌≡◌, ℕ, List, ◌∷◌, Bool, Some, None, IsTrue, is_some, Contains}
+use Rattle.std.specs.Prelude.{◌≡◌, ◌<◌, ℕ, List, ◌∷◌, Bool, false, Some, None, IsTrue, is_some, length, Contains}
+use Rattle.vk_model.specs.declared.command.Cmd.{Cmd}
 use Rattle.vk_model.specs.declared.entry.Entry.{Entry}
 use Rattle.vk_model.specs.Basics.{holds}
 use Rattle.vk_model.specs.Trace.Point.{Past}
 use Rattle.vk_model.specs.Trace.Objects.{live}
 use Rattle.vk_model.specs.World.Bytes.{Byte, resource_at}
 use Rattle.vk_model.specs.World.ByteWrites.{ByteWrite, From}
-use Rattle.vk_model.specs.Sync.Node.{Node, nodes}
+use Rattle.vk_model.specs.Sync.Node.{Node, Runs, nodes}
 use Rattle.vk_model.specs.Sync.Edge.{is_host}
 use Rattle.vk_model.specs.Sync.Before.{before}
-use Rattle.vk_model.specs.Rules.Ids.{asked_by_entry}
+use Rattle.vk_model.specs.Rules.Ids.{asked_by_entry, asked_by_command}
 use Rattle.vk_model.specs.Rules.Table.{first_fault}
+use Rattle.vk_model.specs.Run.Pieces.{pieces}
 use Rattle.vk_model.specs.Run.Runs.{Name, is_done, node_pieces, offered, Step, Stage}
 use Rattle.vk_model.specs.Run.CachedRuns.{named_piece, write_to}
 use Rattle.vk_laws.specs.DefinedRuns.{RunOf}
@@ -36,3 +38,9 @@ abbrev pub EntriesNameLive : Type 0
 EntriesNameLive =
     (t : List Entry) (steps : List Step) (s : Stage) (x : Entry) (xs : List Entry) (i : ℕ) (kind : Entry → Bool) → RunOf t steps s → first_fault t ≡ None → s.left ≡ x ∷ xs
     → Contains (asked_by_entry x) (i, kind) → IsTrue (holds (live s.front.past i) kind)
+
+-- And a command that has come and has a piece that hasn't run names live objects, each of the kind that it needs: what it reads and writes isn't destroyed before it has run whole (Vulkan, "Object Lifetime").
+abbrev pub CommandsNameLive : Type 0
+CommandsNameLive =
+    (t : List Entry) (steps : List Step) (s : Stage) (n : Node) (c : Cmd) (k i : ℕ) (kind : Entry → Bool) → RunOf t steps s → first_fault t ≡ None → Contains (nodes s.front.past) n → n.act ≡ Runs c
+    → k < length (pieces s.front.past c) → is_done s.done (n.number, k) ≡ false → Contains (asked_by_command c) (i, kind) → IsTrue (holds (live s.front.past i) kind)

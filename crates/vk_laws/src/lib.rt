@@ -18,7 +18,9 @@ pub use direct_runs::{
     direct_runs_are_fresh, direct_runs_are_runs, direct_runs_go_on, new_memory_holds_anything,
     pieces_stay_inside,
 };
-pub use lifetimes::{entries_name_live, pieces_before_have_run, pieces_stay_live};
+pub use lifetimes::{
+    commands_name_live, entries_name_live, pieces_before_have_run, pieces_stay_live,
+};
 pub use machine::{
     every_order, pieces_suffice, premises_can_be_met, runs_carry_over, whole_commands,
 };

@@ -1,6 +1,6 @@
 //! What lives in the allowed runs of a trace without a fault: laws for a device that drops a
 //! resource as soon as it has ended.
-ghost use Rattle.vk_laws.specs.Lifetimes.{EntriesNameLive, PiecesBeforeHaveRun, PiecesStayLive};
+ghost use Rattle.vk_laws.specs.Lifetimes.{CommandsNameLive, EntriesNameLive, PiecesBeforeHaveRun, PiecesStayLive};
 
 use crate::direct_runs::pieces_stay_inside;
 use vk_model::{
@@ -38,4 +38,15 @@ pub fn entries_name_live()
 {
     no_fault_is_sound();
     growth_keeps();
+}
+
+/// In an allowed run of a trace without a fault a command that has a piece that hasn't run names
+/// live objects, each of the kind that it needs.
+pub fn commands_name_live()
+    ensures { CommandsNameLive }
+{
+    no_fault_is_sound();
+    growth_keeps();
+    before_is_path();
+    before_is_order();
 }

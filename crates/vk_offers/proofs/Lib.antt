@@ -1,8 +1,8 @@
 pub mod Commands
 pub mod Offering
-mod Growing
+pub mod Growing
 mod Finishing
-mod Steps
+pub mod Steps
 mod Coming
 mod Waiting
 pub mod PiecesLeft

@@ -5,5 +5,5 @@ mod laws;
 mod offers;
 
 pub use laws::{points_come_next, waits_go};
-pub use offers::Offers;
+pub use offers::{Offers, run_at};
 pub use vk_sync::Piece;

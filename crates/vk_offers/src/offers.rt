@@ -143,7 +143,7 @@ impl<'a> Offers<'a> {
 }
 
 /// The command of a point that is run in pieces: all are but barriers, sets and awaits.
-fn run_at<'a>(point: &Point<'a>) -> Option<&'a Cmd>
+pub fn run_at<'a>(point: &Point<'a>) -> Option<&'a Cmd>
     ensures some { IfSome result (λ c. ((point_of point.now).action ≡ Run c.now) × (is_run c.now ≡ true)) }
     ensures none { IfNone result (is_run_in_pieces (point_of point.now).action ≡ false) }
 {

@@ -31,12 +31,15 @@ module _ (b : ℕ) (u : Update) where
   pub length_update : length (update_writes b u) ≡ length u.bytes.now
   length_update = ap (λ (ms : List ByteWrite). length ms) all_writes ∙ length-writes b u.offset source (length u.bytes.now)
 
+  -- the byte writes of a piece that is there
+  pub update_piece_writes : (i : ℕ) → 4096 * i < length u.bytes.now → update_piece b u i ≡ writes b u.offset source (4096 * i) (update_piece_size u i)
+  update_piece_writes i here = ap (λ (ms : List ByteWrite). nth_piece ms i) all_writes ∙ piece_writes b u.offset source (length u.bytes.now) i here
+
   -- a piece, by its number
   pub update_ran : (region : List ℕ) (start i : ℕ) → start + u.offset + length u.bytes.now ≤ length region → 4096 * i < length u.bytes.now
       → HaveRun (update_piece b u i) (bytes_in region start b) (bytes_in (splice region (start + u.offset + 4096 * i) (piece u.bytes.now (4096 * i) (update_piece_size u i))) start b)
   update_ran region start i room here =
       let n = update_piece_size u i in
-      let some : update_piece b u i ≡ writes b u.offset source (4096 * i) n = ap (λ (ms : List ByteWrite). nth_piece ms i) all_writes ∙ piece_writes b u.offset source (length u.bytes.now) i here in
-      rw some
+      rw (update_piece_writes i here)
       (one_ran region (piece u.bytes.now (4096 * i) n) start u.offset (4096 * i) n (length-piece u.bytes.now (4096 * i) n (omega (arith, here))) (omega (arith, room, here)) b source
       (λ j low high. get_or-piece u.bytes.now (4096 * i) n j low high))

@@ -9,9 +9,9 @@ use Rattle.vk_model.specs.declared.entry.Entry.{Entry}
 use Rattle.vk_model.specs.declared.entry.Entry.TheVariants as entry
 use Rattle.vk_model.specs.declared.rule.Rule.{Rule}
 use Rattle.vk_model.specs.declared.rule.At.TheVariants as at
-use Rattle.vk_model.specs.Basics.{among}
+use Rattle.vk_model.specs.Basics.{holds, among}
 use Rattle.vk_model.specs.Trace.Point.{Past, Point, Action, Host, Wait, Run, Signal, host_of, label, at_of}
-use Rattle.vk_model.specs.Trace.Objects.{made, ended, ended_by}
+use Rattle.vk_model.specs.Trace.Objects.{made, ended, ended_by, live}
 use Rattle.vk_model.specs.Trace.Order.{host, order}
 use Rattle.vk_model.specs.Trace.Structure.{IsOfBatch, Follows, IsOrdered}
 use Rattle.vk_model.specs.World.Ownership.{uses}
@@ -82,14 +82,14 @@ named_used (cmd.Set v ms) runs r kind h = absurd (not_mapped _ (cmd.Set v ms) (�
 named_used (cmd.Await v ms) runs r kind h = absurd (not_mapped _ (cmd.Await v ms) (λ x e. cc) (enumerate_from 0 ms) runs)
 
 -- what names a resource is of a command's point
-runs_of : (d : Action) (a : Act) → Contains (acts d) a → (r : ℕ) → IsTrue (among r (named_by_act a)) → (c : Cmd) × (d ≡ Run c)
+pub runs_of : (d : Action) (a : Act) → Contains (acts d) a → (r : ℕ) → IsTrue (among r (named_by_act a)) → (c : Cmd) × (d ≡ Run c)
 runs_of (Run c) a ca r h = (c, refl)
 runs_of (Host x) a ca r h = let no : IsTrue (among r (named_by_act (Hosts x))) = subst (λ (b : Act). IsTrue (among r (named_by_act b))) (sym (only_one (Hosts x) a ca)) h in absurd cc
 runs_of (Wait x) a ca r h = let no : IsTrue (among r (named_by_act (Waits x))) = subst (λ (b : Act). IsTrue (among r (named_by_act b))) (sym (only_one (Waits x) a ca)) h in absurd cc
 runs_of (Signal x) a ca r h = let no : IsTrue (among r (named_by_act (Signals x))) = subst (λ (b : Act). IsTrue (among r (named_by_act b))) (sym (only_one (Signals x) a ca)) h in absurd cc
 
 -- two commands at one place are reported alike
-alike : (p q m : Point) → m ≡ q → IsTrue (same_place m p) → (c d : Cmd) → p.action ≡ Run c → q.action ≡ Run d → at_of q ≡ at_of p
+pub alike : (p q m : Point) → m ≡ q → IsTrue (same_place m p) → (c d : Cmd) → p.action ≡ Run c → q.action ≡ Run d → at_of q ≡ at_of p
 alike p q m same h c d is_p is_q =
     let parts = and_parts (m.entry == p.entry && m.batch == p.batch) (m.place == p.place) h in
     let first = and_parts (m.entry == p.entry) (m.batch == p.batch) parts.0 in
@@ -98,7 +98,7 @@ alike p q m same h c d is_p is_q =
     let places : q.place ≡ p.place = ap (λ (x : Point). x.place) (sym same) ∙ eqb-true m.place p.place parts.1 in
     ap (label q) is_q ∙ (λ i. at.Command (entries i) (batches i) (places i)) ∙ sym (ap (label p) is_p)
 
-some_in : {X : Type 0} (xs : List X) → IsTrue (nat_lt 0 (length xs)) → (x : X) × Contains xs x
+pub some_in : {X : Type 0} (xs : List X) → IsTrue (nat_lt 0 (length xs)) → (x : X) × Contains xs x
 some_in [] h = absurd cc
 some_in (x ∷ xs) h = (x, contains-head x xs)
 
@@ -206,6 +206,13 @@ module _ {t : List Entry} (known : Known t) (s : Stage) (did : List Task) (i : A
           go (inr (inl e)) = not_older e
           go (inr (inr e)) = let no : Run c ≡ Host y = sym run ∙ ap (λ (p : Point). p.action) e.1 ∙ is in cc
 
+    submit_here : Comes past judged submit
+    submit_here = comes_on past a.past judged a.at submit here submit_comes
+
+    -- what it names was live when it was submitted
+    named_alive : (r : ℕ) (kind : Entry → Bool) → Contains (asked_by_command c) (r, kind) → IsAlive judged r kind
+    named_alive r kind asked = is_alive judged r kind (batch_names_live a.past a.at (ap host_of run) (live_ids (order t) known.sound a.past a.at (comes a.past a.at here)) r kind (subst (λ (d : Action). Contains (asked_by d) (r, kind)) (sym run) asked))
+
     pub unended : (r : ℕ) (kind : Entry → Bool) → Contains (asked_by_command c) (r, kind) → ended past r ≡ false
     unended r kind asked = false_from_ne_true (ended past r) (λ e. refute (ending past r e))
       where
@@ -213,10 +220,7 @@ module _ {t : List Entry} (known : Known t) (s : Stage) (did : List Task) (i : A
         its = named_used c (subst (λ (d : Action). Contains (acts d) (Runs c)) run (subst (λ (x : Act). Contains (acts a.at.action) x) runs a.acted)) r kind asked
 
         alive : IsAlive judged r kind
-        alive = is_alive judged r kind (batch_names_live a.past a.at (ap host_of run) (live_ids (order t) known.sound a.past a.at (comes a.past a.at here)) r kind (subst (λ (d : Action). Contains (asked_by d) (r, kind)) (sym run) asked))
-
-        submit_here : Comes past judged submit
-        submit_here = comes_on past a.past judged a.at submit here submit_comes
+        alive = named_alive r kind asked
 
         refute : Ending past r → ⊥
         refute e = go (which_first past judged e.before submit e.at submit_here e.comes)
@@ -232,3 +236,7 @@ module _ {t : List Entry} (known : Known t) (s : Stage) (did : List Task) (i : A
             go (inl c) = clash (has_ended judged e.before e.at e.by r c e.is_host e.ends) alive.unended
             go (inr (inl later)) = by_end later (when_ended e.before e.at e.by e.is_host (λ k h. sound e.before e.at e.comes k h) r e.ends)
             go (inr (inr same)) = submit_ends_none (entry.Submit a.at.queue of_batch.batches) e.by r (ap (λ (p : Point). p.action) same.1 ∙ e.is_host) refl e.ends
+
+    -- so it is live
+    pub named_live : (r : ℕ) (kind : Entry → Bool) → Contains (asked_by_command c) (r, kind) → IsTrue (holds (live past r) kind)
+    named_live r kind asked = let was = named_alive r kind asked in rw (unended r kind asked, made_on judged submit submit_here r was.object was.made_it) was.is_kind
