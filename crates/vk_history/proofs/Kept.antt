@@ -3,4 +3,7 @@ pub mod PastLemmas
 pub mod SignalSteps
 pub mod NextPoint
 pub mod ContentSteps
+pub mod AccessSteps
+pub mod CopySteps
 pub mod Searches
+pub mod Stretches

@@ -4,3 +4,4 @@ pub mod Touching
 pub mod Transitions
 pub mod Kept
 pub mod Living
+pub mod Using

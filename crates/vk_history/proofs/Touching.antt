@@ -1,2 +1,3 @@
 pub mod LastNodes
 pub mod Spots
+pub mod Remembering

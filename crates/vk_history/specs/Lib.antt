@@ -1,6 +1,7 @@
 pub mod Supported
 pub mod PointViews
 pub mod Judged
+pub mod Remembered
 pub mod Touched
 pub mod Made
 pub mod Ended
@@ -9,5 +10,6 @@ pub mod Changes
 pub mod Conflicts
 pub mod Layouts
 pub mod Counted
+pub mod Uses
 pub mod Bound
 pub mod Tabled

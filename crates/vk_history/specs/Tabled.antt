@@ -23,6 +23,7 @@ use Rattle.vk_history.specs.Ended.{AreEndings}
 use Rattle.vk_history.specs.Layouts.{AreCurrent}
 use Rattle.vk_history.specs.Made.{Numbered, last_maker, Set, last_set}
 use Rattle.vk_history.specs.Touched.{last_signaler, signal_spot}
+use Rattle.vk_history.specs.Uses.{AreUses}
 
 -- The entry that a table keeps, with its number.
 abbrev pub maker_view : Maker → Numbered
@@ -65,4 +66,5 @@ pub record IsTabled (tables : Tables) (past : Past) : Type 0 where
   pub events : AreEvents tables.events past
   pub layouts : AreCurrent tables.layouts past
   pub contents : AreContents tables.contents past
+  pub uses : AreUses tables.uses past
   pub frontier : IsFrontier tables.frontier (nodes past)

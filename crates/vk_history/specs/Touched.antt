@@ -1,18 +1,21 @@
--- Which node wrote a byte last, which host entry read it last, and which node signaled a semaphore last.
-use Rattle.std.specs.Prelude.{ℕ, [], ◌∷◌, length, Bool, ◌==◌, if◌then◌else◌, Option, Some, None, option_map}
+-- Which nodes touched a byte last, and which node signaled a semaphore last.
+use Rattle.std.specs.Prelude.{ℕ, [], ◌∷◌, length, Bool, false, ◌&&◌, ◌==◌, if◌then◌else◌, Option, Some, None, option_map}
 use Rattle.std.specs.Option.{option_or}
 use Rattle.vk_model.specs.Basics.{holds}
-use Rattle.vk_model.specs.World.Bytes.{Byte, in_buffer}
+use Rattle.vk_model.specs.World.Bytes.{Byte}
 use Rattle.vk_model.specs.World.ByteWrites.{byte_writes}
 use Rattle.vk_model.specs.Trace.Point.{Past, Point, Action, Host, Wait, Run, Signal}
 use Rattle.vk_model.specs.Trace.Order.{signal_of}
 use Rattle.vk_model.specs.Sync.Node.{Node, Act, Hosts, Waits, Signals, Runs, nodes}
-use Rattle.vk_model.specs.Sync.Access.{is_in, targets, host_reads}
+use Rattle.vk_model.specs.Sync.Access.{is_in, targets, origins, host_reads, host_writes}
 use Rattle.vk_order.specs.Lines.{class_of}
 use Rattle.vk_order.specs.Inner.Clocks.{place}
 use Rattle.vk_order.specs.declared.lines.Line.{Line}
 use Rattle.vk_order.specs.declared.lines.Line.TheVariants.{Host as OfHost, Commands as OfCommands, Signals as OfSignals}
-use Rattle.vk_history.specs.declared.writer.Writer.{Writer}
+use Rattle.vk_history.specs.declared.touches.Spot.{Spot}
+use Rattle.vk_history.specs.declared.touches.Touch.{Touch}
+use Rattle.vk_history.specs.declared.touches.Touch.TheVariants as touch
+use Rattle.vk_history.specs.declared.touches.LastTouches.{LastTouches}
 
 -- The node of a point that comes next and has one act.
 abbrev pub next_node : Past → Point → Act → Node
@@ -29,15 +32,17 @@ act_next (Signal s) = Signals s
 abbrev pub only_if : Bool → Node → Option Node
 only_if test n = if test then Some n else None
 
--- The node of a point that comes next, where it is a command that writes a byte.
-abbrev pub writer_next : Byte → Past → Point → Action → Option Node
-writer_next b past p (Run c) = only_if (is_in b (targets (byte_writes (p ∷ past) c))) (next_node past p (Runs c))
-writer_next b past p _ = None
+-- Whether an action of a point that comes next touches a byte so: a command writes it, the host writes it, the host reads it, a command of a queue reads it.
+abbrev pub touches : Touch → Byte → Past → Point → Action → Bool
+touches touch.Write b past p (Run c) = is_in b (targets (byte_writes (p ∷ past) c))
+touches touch.HostWrite b past p (Host x) = is_in b (host_writes x)
+touches touch.HostRead b past p (Host x) = is_in b (host_reads x)
+touches (touch.Read q) b past p (Run c) = p.queue == q && is_in b (origins (byte_writes (p ∷ past) c))
+touches _ b past p _ = false
 
--- The same of a host entry that reads a byte.
-abbrev pub reader_next : Byte → Past → Point → Action → Option Node
-reader_next b past p (Host x) = only_if (is_in b (host_reads x)) (next_node past p (Hosts x))
-reader_next b past p _ = None
+-- The node of a point that comes next, where it touches a byte so.
+abbrev pub touch_next : Touch → Byte → Past → Point → Action → Option Node
+touch_next t b past p d = only_if (touches t b past p d) (next_node past p (act_next d))
 
 -- The act of an action that signals a semaphore.
 abbrev pub signal_act : Action → Option Act
@@ -54,13 +59,9 @@ abbrev pub last_of : (Past → Point → Action → Option Node) → Past → Op
 last_of of [] = None
 last_of of (p ∷ past) = option_or (of past p p.action) (last_of of past)
 
--- The last command that wrote a byte.
-abbrev pub last_writer : Past → Byte → Option Node
-last_writer past b = last_of (writer_next b) past
-
--- The last host entry that read a byte.
-abbrev pub last_reader : Past → Byte → Option Node
-last_reader past b = last_of (reader_next b) past
+-- The last node that touched a byte so.
+abbrev pub last_touch : Touch → Past → Byte → Option Node
+last_touch t past b = last_of (touch_next t b) past
 
 -- The last node that signaled a semaphore.
 abbrev pub last_signaler : Past → ℕ → Option Node
@@ -82,22 +83,31 @@ class_next p = line_next p p.action
 abbrev pub next_place : Past → Line → ℕ
 next_place past l = place (nodes past) l (length (nodes past))
 
--- A command's queue, and its place among the commands there.
-abbrev pub writer_spot : Past → Node → Writer
-writer_spot past v = record { queue = v.point.queue; place = place (nodes past) (OfCommands v.point.queue) v.number }
+-- The line of a node, and its place in it.
+abbrev pub spot_of : Past → Node → Spot
+spot_of past v = record { line = class_of v; place = place (nodes past) (class_of v) v.number }
 
--- A host entry's place among those of the host.
-abbrev pub reader_spot : Past → Node → ℕ
-reader_spot past v = place (nodes past) OfHost v.number
+-- The spot of the node of a point that comes next.
+abbrev pub next_spot : Past → Point → Spot
+next_spot past p = record { line = class_next p; place = next_place past (class_next p) }
+
+-- Where the last node is that touched a byte so.
+abbrev pub last_spot : Touch → Past → Byte → Option Spot
+last_spot t past b = option_map (spot_of past) (last_touch t past b)
+
+-- Its place in its line.
+abbrev pub last_place : Touch → Past → Byte → Option ℕ
+last_place t past b = option_map (λ s. s.place) (last_spot t past b)
 
 -- The line of a signal, and its place in it.
 abbrev pub signal_spot : Past → Node → Line × ℕ
 signal_spot past v = (class_of v, place (nodes past) (class_of v) v.number)
 
--- Which command wrote byte k of a buffer last.
-abbrev pub byte_writer : Past → ℕ → ℕ → Option Writer
-byte_writer past b k = option_map (writer_spot past) (last_writer past (in_buffer b k))
-
--- Which host entry read it last.
-abbrev pub byte_reader : Past → ℕ → ℕ → Option ℕ
-byte_reader past b k = option_map (reader_spot past) (last_reader past (in_buffer b k))
+-- What a byte remembers: of each way the last node that touched it, as the last one on a line stands for the earlier ones there (Vulkan, "Execution and Memory Dependencies", on data hazards).
+abbrev pub touched : Past → Byte → LastTouches
+touched past b = record {
+  write = last_spot touch.Write past b;
+  host_write = last_place touch.HostWrite past b;
+  host_read = last_place touch.HostRead past b;
+  reads = record { first = last_place (touch.Read 0) past b; second = last_place (touch.Read 1) past b; third = last_place (touch.Read 2) past b; fourth = last_place (touch.Read 3) past b };
+}

@@ -1,23 +1,23 @@
-ghost use Rattle.std.specs.Prelude.{◌≡◌, ◌≢◌, ◌≤◌, ◌<◌, ◌+◌, ◌∷◌, [], ℕ, OnOk, OnErr, IfOk, IfSome, IsSome, Option, Some, None, length, true, false};
+ghost use Rattle.std.specs.Prelude.{◌≡◌, ◌≢◌, ◌∷◌, [], ℕ, OnOk, IfOk, IfSome, IsSome, Option};
 ghost use Rattle.std.specs.Option.{option_map};
 ghost use Rattle.std.specs.Ordering.{nat_cmp};
 ghost use Rattle.std.specs.BTreeMap.{get};
 ghost use Rattle.vk_model.specs.Trace.Point.{Past};
-ghost use Rattle.vk_model.specs.World.ByteWrites.{fill_size};
 ghost use Rattle.vk_model.specs.World.Ownership.{family_of};
-ghost use Rattle.vk_order.specs.PointViews.{point_of, action_of};
+ghost use Rattle.vk_order.specs.PointViews.{point_of};
 ghost use Rattle.vk_history.specs.Judged.{IsJudged};
-ghost use Rattle.vk_history.specs.Touched.{class_next, next_place};
-ghost use Rattle.vk_history.specs.Contents.{AreContents, IsMade, IsRead, IsFilled, IsTaken, ReadIn, FilledIn, LiesIn};
-ghost use Rattle.vk_history.specs.Changes.{Fits};
+ghost use Rattle.vk_history.specs.Touched.{next_spot};
+ghost use Rattle.vk_history.specs.Contents.{AreContents, IsMade, IsTaken, IsRead, IsSet, IsWritten, IsLent, IsPasted, BecomesIn, IsWrittenBy, IsLentWith};
 
+use crate::changes::{Change, change_by};
 use crate::families::family_of;
-use crate::parts::Part;
-use crate::writer::Writer;
+use crate::ranges::{define, touch};
+use crate::stretches::{Stretch, copies, define_all, touch_destinations, touch_sources};
+use crate::touches::{LastTouches, Spot, Touch};
 use std::alloc::{AllocError, Global};
 use std::collections::BTreeMap;
-use vk_model::{BufferInfo, Cmd, Entry, Length, Sharing};
-use vk_order::{Action, Point};
+use vk_model::{BufferCopy, BufferInfo, Length, Sharing};
+use vk_order::Point;
 use vk_ranges::RangeMap;
 
 /// What is known of the bytes of a buffer.
@@ -25,10 +25,8 @@ use vk_ranges::RangeMap;
 pub struct BufferContents {
     /// Whether each byte is defined.
     pub defined: RangeMap<bool>,
-    /// The command that wrote each byte last.
-    pub writers: RangeMap<Option<Writer>>,
-    /// The host entry that read each byte last, by how many came before it.
-    pub readers: RangeMap<Option<usize>>,
+    /// Who touched each byte last.
+    pub touches: RangeMap<LastTouches>,
     /// Whether one queue family at a time owns it.
     pub is_exclusive: bool,
     /// The queue family that owns it, if one does.
@@ -42,53 +40,61 @@ impl BufferContents {
     {
         Ok(BufferContents {
             defined: RangeMap::new(alloc, info.size, false)?,
-            writers: RangeMap::new(alloc, info.size, None)?,
-            readers: RangeMap::new(alloc, info.size, None)?,
+            touches: RangeMap::new(alloc, info.size, LastTouches::none())?,
             is_exclusive: matches!(info.sharing, Sharing::Exclusive),
             owner: None,
         })
     }
 
-    /// The part of a range that lies in the buffer.
-    pub fn part(&self, offset: u64, size: u64) -> Part
-        ensures defined { result.high ≤ length self.now.defined }
-        ensures writers { result.high ≤ length self.now.writers }
-        ensures readers { result.high ≤ length self.now.readers }
-        ensures inside { LiesIn self.now offset size → (result.low ≡ offset) × (result.high ≡ offset + size) }
+    /// After a host entry has read bytes.
+    fn read(&mut self, offset: u64, size: u64, spot: Spot) -> Result<(), AllocError>
+        ensures { OnOk result (IsRead self.old self.new offset size spot) }
     {
-        let high = offset
-            .saturating_add(size)
-            .min(self.defined.len())
-            .min(self.writers.len())
-            .min(self.readers.len());
-        Part {
-            low: offset.min(high),
-            high,
-        }
+        touch(&mut self.touches, offset, size, Touch::HostRead, spot)
     }
 
-    /// After a host entry, at this place among those of the host, has read bytes.
-    fn read(&mut self, offset: u64, size: u64, place: usize) -> Result<(), AllocError>
-        ensures { OnOk result (IsRead self.old self.new offset size place) }
+    /// After a host entry has written bytes.
+    fn set(&mut self, offset: u64, size: u64, spot: Spot) -> Result<(), AllocError>
+        ensures { OnOk result (IsSet self.old self.new offset size spot) }
     {
-        let part = self.part(offset, size);
-        self.readers.assign(part.low, part.high, Some(place))
+        define(&mut self.defined, offset, size)?;
+        touch(&mut self.touches, offset, size, Touch::HostWrite, spot)?;
+        Ok(())
     }
 
-    /// After a command has filled bytes on a queue of a family.
-    fn fill(
-        &mut self,
-        offset: u64,
-        size: u64,
-        family: u32,
-        writer: Writer,
-    ) -> Result<(), AllocError>
-        ensures { OnOk result (IsFilled self.old self.new offset size family writer) }
+    /// After a command has given bytes values on a queue of a family.
+    fn write(&mut self, offset: u64, size: u64, family: u32, spot: Spot) -> Result<(), AllocError>
+        ensures { OnOk result (IsWritten self.old self.new offset size family spot) }
     {
         self.take_over(family)?;
-        let part = self.part(offset, size);
-        self.defined.assign(part.low, part.high, true)?;
-        self.writers.assign(part.low, part.high, Some(writer))
+        define(&mut self.defined, offset, size)?;
+        touch(&mut self.touches, offset, size, Touch::Write, spot)?;
+        Ok(())
+    }
+
+    /// After a command of a queue has read the regions of a copy.
+    fn lend(&mut self, regions: &[BufferCopy], queue: u32, spot: Spot) -> Result<(), AllocError>
+        ensures { OnOk result (IsLent self.old self.new regions.now queue spot) }
+    {
+        self.take_over(family_of(queue))?;
+        touch_sources(&mut self.touches, regions, Touch::Read(queue), spot)?;
+        Ok(())
+    }
+
+    /// After a command has written the regions of a copy on a queue of a family.
+    fn paste(
+        &mut self,
+        regions: &[BufferCopy],
+        stretches: Vec<Stretch>,
+        family: u32,
+        spot: Spot,
+    ) -> Result<(), AllocError>
+        ensures { OnOk result (IsPasted self.old self.new regions.now stretches.items family spot) }
+    {
+        self.take_over(family)?;
+        define_all(&mut self.defined, stretches)?;
+        touch_destinations(&mut self.touches, regions, Touch::Write, spot)?;
+        Ok(())
     }
 
     /// A use by a queue family: of an exclusive buffer that another one owns all is lost, and the
@@ -105,43 +111,6 @@ impl BufferContents {
         }
         self.owner = Some(family);
         Ok(())
-    }
-}
-
-/// A change of the bytes of buffers.
-#[derive(Clone, Copy)]
-pub enum Change<'a> {
-    Nothing,
-    /// A buffer was made.
-    Made(u32, &'a BufferInfo),
-    /// The host read a range of a buffer.
-    Read(u32, u64, u64),
-    /// A command filled a range of a buffer.
-    Filled(u32, u64, Length),
-}
-
-/// What a point changes of the bytes of buffers.
-pub fn change_by<'a>(point: &Point<'a>) -> Change<'a>
-    ensures { Fits result (action_of point.now.action) }
-{
-    match point.action {
-        Action::Host(Entry::Buffer { id, info }) => Change::Made(*id, info),
-        Action::Host(
-            Entry::Read {
-                buffer,
-                offset,
-                size,
-            },
-        ) => Change::Read(*buffer, *offset, *size),
-        Action::Run(
-            Cmd::Fill {
-                buffer,
-                offset,
-                size,
-                ..
-            },
-        ) => Change::Filled(*buffer, *offset, *size),
-        _ => Change::Nothing,
     }
 }
 
@@ -170,18 +139,22 @@ impl Contents {
         self.buffers.get(&buffer)
     }
 
-    /// Takes the next point, whose node has this place in its line.
-    pub fn note(&mut self, point: &Point<'_>, place: usize) -> Result<(), AllocError>
-        ensures { OnOk result ((past : Past) → IsJudged (point_of point.now ∷ past) → place ≡ next_place past (class_next (point_of point.now))
+    /// Takes the next point, whose node has this spot.
+    pub fn note(&mut self, point: &Point<'_>, spot: Spot) -> Result<(), AllocError>
+        ensures { OnOk result ((past : Past) → IsJudged (point_of point.now ∷ past) → spot ≡ next_spot past (point_of point.now)
             → AreContents self.old past → AreContents self.new (point_of point.now ∷ past)) }
     {
+        let queue = point.queue;
         match change_by(point) {
             Change::Nothing => Ok(()),
             Change::Made(buffer, info) => self.make(buffer, info),
-            Change::Read(buffer, offset, size) => self.read(buffer, offset, size, place),
-            Change::Filled(buffer, offset, size) => {
-                let queue = point.queue;
-                self.fill(buffer, offset, size, Writer { queue, place })
+            Change::HostRead(buffer, offset, size) => self.read(buffer, offset, size, spot),
+            Change::HostWritten(buffer, offset, size) => self.set(buffer, offset, size, spot),
+            Change::Written(buffer, offset, size) => self.write(buffer, offset, size, queue, spot),
+            Change::Copied(source, destination, regions) => {
+                let stretches = self.lend(source, regions, queue, spot)?;
+                self.paste(destination, regions, stretches, queue, spot)?;
+                Ok(())
             }
         }
     }
@@ -196,41 +169,102 @@ impl Contents {
         Ok(())
     }
 
-    fn read(&mut self, buffer: u32, offset: u64, size: u64, place: usize) -> Result<(), AllocError>
-        ensures here { OnOk result (ReadIn (get nat_cmp self.old.buffers buffer) (get nat_cmp self.new.buffers buffer) offset size place) }
+    fn read(&mut self, buffer: u32, offset: u64, size: u64, spot: Spot) -> Result<(), AllocError>
+        ensures here { OnOk result (BecomesIn (λ old new. IsRead old new offset size spot) (get nat_cmp self.old.buffers buffer) (get nat_cmp self.new.buffers buffer)) }
         ensures others { OnOk result ((other : ℕ) → other ≢ buffer → get nat_cmp self.new.buffers other ≡ get nat_cmp self.old.buffers other) }
     {
         match self.buffers.get_mut(&buffer) {
-            Some(contents) => contents.read(offset, size, place),
+            Some(contents) => contents.read(offset, size, spot),
             None => Ok(()),
         }
     }
 
-    fn fill(
+    fn set(&mut self, buffer: u32, offset: u64, size: u64, spot: Spot) -> Result<(), AllocError>
+        ensures here { OnOk result (BecomesIn (λ old new. IsSet old new offset size spot) (get nat_cmp self.old.buffers buffer) (get nat_cmp self.new.buffers buffer)) }
+        ensures others { OnOk result ((other : ℕ) → other ≢ buffer → get nat_cmp self.new.buffers other ≡ get nat_cmp self.old.buffers other) }
+    {
+        match self.buffers.get_mut(&buffer) {
+            Some(contents) => contents.set(offset, size, spot),
+            None => Ok(()),
+        }
+    }
+
+    fn write(
         &mut self,
         buffer: u32,
         offset: u64,
         size: Length,
-        writer: Writer,
+        queue: u32,
+        spot: Spot,
     ) -> Result<(), AllocError>
-        ensures here { OnOk result (FilledIn (get nat_cmp self.old.buffers buffer) (get nat_cmp self.new.buffers buffer) offset size writer) }
+        ensures here { OnOk result (BecomesIn (IsWrittenBy offset size queue spot) (get nat_cmp self.old.buffers buffer) (get nat_cmp self.new.buffers buffer)) }
         ensures others { OnOk result ((other : ℕ) → other ≢ buffer → get nat_cmp self.new.buffers other ≡ get nat_cmp self.old.buffers other) }
     {
         match self.buffers.get_mut(&buffer) {
-            Some(contents) => fill_all(contents, offset, size, writer),
+            Some(contents) => write_all(contents, offset, size, queue, spot),
+            None => Ok(()),
+        }
+    }
+
+    /// Reads the regions of a copy in its source, and answers what is found there.
+    fn lend(
+        &mut self,
+        source: u32,
+        regions: &[BufferCopy],
+        queue: u32,
+        spot: Spot,
+    ) -> Result<Vec<Stretch>, AllocError>
+        ensures here { IfOk result (λ stretches. BecomesIn (IsLentWith regions.now stretches.items queue spot) (get nat_cmp self.old.buffers source) (get nat_cmp self.new.buffers source)) }
+        ensures others { OnOk result ((other : ℕ) → other ≢ source → get nat_cmp self.new.buffers other ≡ get nat_cmp self.old.buffers other) }
+    {
+        let alloc = self.alloc;
+        match self.buffers.get_mut(&source) {
+            Some(contents) => lend_all(contents, alloc, regions, queue, spot),
+            None => Ok(Vec::new(alloc)),
+        }
+    }
+
+    /// Writes what was found in a copy's source to its destination.
+    fn paste(
+        &mut self,
+        destination: u32,
+        regions: &[BufferCopy],
+        stretches: Vec<Stretch>,
+        queue: u32,
+        spot: Spot,
+    ) -> Result<(), AllocError>
+        ensures here { OnOk result (BecomesIn (λ old new. IsPasted old new regions.now stretches.items (family_of queue) spot) (get nat_cmp self.old.buffers destination) (get nat_cmp self.new.buffers destination)) }
+        ensures others { OnOk result ((other : ℕ) → other ≢ destination → get nat_cmp self.new.buffers other ≡ get nat_cmp self.old.buffers other) }
+    {
+        match self.buffers.get_mut(&destination) {
+            Some(contents) => contents.paste(regions, stretches, family_of(queue), spot),
             None => Ok(()),
         }
     }
 }
 
-fn fill_all(
+fn write_all(
     contents: &mut BufferContents,
     offset: u64,
     size: Length,
-    writer: Writer,
+    queue: u32,
+    spot: Spot,
 ) -> Result<(), AllocError>
-    ensures { OnOk result (IsFilled contents.old contents.new offset (fill_size (length contents.old.defined) offset size) (family_of writer.queue) writer) }
+    ensures { OnOk result (IsWrittenBy offset size queue spot contents.old contents.new) }
 {
     let bytes = size.filled(contents.defined.len(), offset);
-    contents.fill(offset, bytes, family_of(writer.queue), writer)
+    contents.write(offset, bytes, family_of(queue), spot)
+}
+
+fn lend_all(
+    contents: &mut BufferContents,
+    alloc: Global,
+    regions: &[BufferCopy],
+    queue: u32,
+    spot: Spot,
+) -> Result<Vec<Stretch>, AllocError>
+    ensures { IfOk result (λ stretches. IsLentWith regions.now stretches.items queue spot contents.old contents.new) }
+{
+    contents.lend(regions, queue, spot)?;
+    copies(&contents.defined, alloc, regions)
 }

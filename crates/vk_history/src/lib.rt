@@ -6,6 +6,7 @@
 #![tactic(auto)]
 
 mod bound;
+mod changes;
 mod contents;
 mod counts;
 mod defrags;
@@ -15,19 +16,25 @@ mod events;
 mod families;
 mod found;
 mod history;
+mod last_uses;
 mod layouts;
 mod mappings;
 mod objects;
 mod occupants;
 mod parts;
 mod places;
+mod ranges;
 mod searches;
 mod semaphores;
+mod stretches;
 mod supported;
 mod tables;
-mod writer;
+mod touches;
+mod used;
+mod uses;
 
-pub use contents::{BufferContents, Change, change_by};
+pub use changes::{Change, change_by};
+pub use contents::BufferContents;
 pub use elements::is_transition;
 pub use events::EventSet;
 pub use families::family_of;

@@ -1,57 +1,128 @@
-ghost use Rattle.std.specs.Prelude.{◌≡◌, ◌+◌, not};
-ghost use Rattle.vk_history.specs.Contents.{LiesIn};
-ghost use Rattle.vk_history.specs.Conflicts.{Misses, IsEarly, FoundIn};
+ghost use Rattle.std.specs.Prelude.{◌≡◌, ◌+◌, ◌≤◌, not, length};
+ghost use Rattle.vk_order.specs.declared.lines.Line.TheVariants.{Host as OfHost};
+ghost use Rattle.vk_history.specs.Conflicts.{Misses, MissesWrite, IsEarly, HasEarlyRead, HasEarlyCommand, IsRefused, SaysFollows, SaysHostSeen, FoundIn};
 
 use crate::contents::BufferContents;
-use crate::writer::Writer;
+use crate::parts::Part;
+use crate::touches::{LastTouches, QueueReads};
 use vk_order::{Access, Line, Sight};
 
 impl BufferContents {
-    /// Whether a byte of a range has a last write that an access doesn't see.
+    /// Whether a byte of a range has a last write, by a command or the host, that an access by a
+    /// command doesn't see.
     pub fn has_missed(&self, offset: u64, size: u64, sight: &Sight, access: Access) -> bool
-        ensures { LiesIn self.now offset size → FoundIn (λ r w. Misses r sight.now access w) result self.now.writers offset (offset + size) }
+        ensures { offset + size ≤ length self.now.touches → FoundIn (Misses sight.now access) result self.now.touches offset (offset + size) }
     {
-        let part = self.part(offset, size);
-        self.writers
-            .find(part.low, part.high, |writer| misses(*writer, sight, access))
+        let part = Part::of(offset, 0, size, self.touches.len());
+        self.touches
+            .find(part.low, part.high, |last| misses(last, sight, access))
             .is_some()
     }
 
-    /// Whether a byte of a range has a last read that doesn't come before.
-    pub fn has_early(&self, offset: u64, size: u64, sight: &Sight) -> bool
-        ensures { LiesIn self.now offset size → FoundIn (λ r e. IsEarly r sight.now e) result self.now.readers offset (offset + size) }
+    /// Whether one has a last write by a command that an access by the host doesn't see.
+    pub fn has_missed_write(&self, offset: u64, size: u64, sight: &Sight, access: Access) -> bool
+        ensures { offset + size ≤ length self.now.touches → FoundIn (MissesWrite sight.now access) result self.now.touches offset (offset + size) }
     {
-        let part = self.part(offset, size);
-        self.readers
-            .find(part.low, part.high, |reader| is_early(*reader, sight))
+        let part = Part::of(offset, 0, size, self.touches.len());
+        self.touches
+            .find(
+                part.low,
+                part.high,
+                |last| misses_write(last, sight, access),
+            )
+            .is_some()
+    }
+
+    /// Whether one has a last read, by the host or by a command of some queue, that doesn't come
+    /// before a command.
+    pub fn has_early(&self, offset: u64, size: u64, sight: &Sight) -> bool
+        ensures { offset + size ≤ length self.now.touches → FoundIn (IsEarly sight.now) result self.now.touches offset (offset + size) }
+    {
+        let part = Part::of(offset, 0, size, self.touches.len());
+        self.touches
+            .find(part.low, part.high, |last| is_early(last, sight))
+            .is_some()
+    }
+
+    /// Whether one has a last read by a command of some queue that doesn't come before an entry of
+    /// the host.
+    pub fn has_early_command(&self, offset: u64, size: u64, sight: &Sight) -> bool
+        ensures { offset + size ≤ length self.now.touches → FoundIn (HasEarlyCommand sight.now) result self.now.touches offset (offset + size) }
+    {
+        let part = Part::of(offset, 0, size, self.touches.len());
+        self.touches
+            .find(
+                part.low,
+                part.high,
+                |last| has_early_read(&last.reads, sight),
+            )
             .is_some()
     }
 
     /// Whether a byte of a range is undefined.
     pub fn has_undefined(&self, offset: u64, size: u64) -> bool
-        ensures { LiesIn self.now offset size → FoundIn (λ r d. r ≡ not d) result self.now.defined offset (offset + size) }
+        ensures { offset + size ≤ length self.now.defined → FoundIn (λ r d. r ≡ not d) result self.now.defined offset (offset + size) }
     {
-        let part = self.part(offset, size);
+        let part = Part::of(offset, 0, size, self.defined.len());
         self.defined
             .find(part.low, part.high, |is_defined| !*is_defined)
             .is_some()
     }
 }
 
-fn misses(writer: Option<Writer>, sight: &Sight, access: Access) -> bool
-    ensures { Misses result sight.now access writer }
+fn misses(last: &LastTouches, sight: &Sight, access: Access) -> bool
+    ensures { Misses sight.now access result last.now }
 {
-    match writer {
-        Some(writer) => !sight.sees(writer.queue, writer.place, access),
+    let of_command = misses_write(last, sight, access);
+    let of_host = misses_host_write(last.host_write, sight, access);
+    of_command || of_host
+}
+
+fn misses_write(last: &LastTouches, sight: &Sight, access: Access) -> bool
+    ensures { MissesWrite sight.now access result last.now }
+{
+    match last.write {
+        Some(spot) => match spot.line {
+            Line::Commands(queue) => !sight.sees(queue, spot.place, access),
+            _ => true,
+        },
         None => false,
     }
 }
 
-fn is_early(reader: Option<usize>, sight: &Sight) -> bool
-    ensures { IsEarly result sight.now reader }
+fn misses_host_write(last: Option<usize>, sight: &Sight, access: Access) -> bool
+    ensures { IsRefused (SaysHostSeen sight.now access) result last }
 {
-    match reader {
-        Some(place) => !sight.follows(Line::Host, place),
+    match last {
+        Some(place) => !sight.sees_host(place, access),
+        None => false,
+    }
+}
+
+fn is_early(last: &LastTouches, sight: &Sight) -> bool
+    ensures { IsEarly sight.now result last.now }
+{
+    let of_host = is_ahead(last.host_read, sight, Line::Host);
+    let of_commands = has_early_read(&last.reads, sight);
+    of_host || of_commands
+}
+
+fn has_early_read(reads: &QueueReads, sight: &Sight) -> bool
+    ensures { HasEarlyRead sight.now result reads.now }
+{
+    let on_first = is_ahead(reads.first, sight, Line::Commands(0));
+    let on_second = is_ahead(reads.second, sight, Line::Commands(1));
+    let on_third = is_ahead(reads.third, sight, Line::Commands(2));
+    let on_fourth = is_ahead(reads.fourth, sight, Line::Commands(3));
+    on_first || on_second || on_third || on_fourth
+}
+
+/// Whether there is a node of a line that doesn't come before.
+fn is_ahead(last: Option<usize>, sight: &Sight, line: Line) -> bool
+    ensures { IsRefused (SaysFollows sight.now line) result last }
+{
+    match last {
+        Some(place) => !sight.follows(line, place),
         None => false,
     }
 }

@@ -23,7 +23,12 @@ fn is_supported_entry(entry: &Entry) -> bool
 {
     match entry {
         Entry::Buffer { info, .. } => is_supported_place(info.place),
-        Entry::Map { .. }
+        Entry::Memory { info, .. } => info.memory_type != 2,
+        Entry::Free { .. }
+        | Entry::Destroy { .. }
+        | Entry::Map { .. }
+        | Entry::Unmap { .. }
+        | Entry::Write { .. }
         | Entry::Read { .. }
         | Entry::Semaphore { .. }
         | Entry::Event { .. }
@@ -40,6 +45,7 @@ fn is_supported_place(place: Place) -> bool
 {
     match place {
         Place::Dedicated { memory_type } => memory_type != 2,
+        Place::Memory { .. } => true,
         _ => false,
     }
 }
@@ -48,7 +54,11 @@ fn is_supported_command(command: &Cmd) -> bool
     ensures { result ≡ supported.is_supported_command command.now }
 {
     match command {
-        Cmd::Fill { .. } | Cmd::Set { .. } | Cmd::Await { .. } => true,
+        Cmd::Fill { .. }
+        | Cmd::Update { .. }
+        | Cmd::Copy { .. }
+        | Cmd::Set { .. }
+        | Cmd::Await { .. } => true,
         Cmd::Barrier { elements } => are_memory(elements.as_slice()),
         _ => false,
     }

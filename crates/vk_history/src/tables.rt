@@ -15,6 +15,8 @@ use crate::mappings::Mappings;
 use crate::objects::Objects;
 use crate::occupants::Occupants;
 use crate::semaphores::Semaphores;
+use crate::touches::Spot;
+use crate::uses::Uses;
 use std::alloc::{AllocError, Global};
 use vk_order::{Action, Frontier, Line, Point};
 
@@ -31,6 +33,7 @@ pub struct Tables<'a> {
     pub events: Events<'a>,
     pub layouts: CurrentLayouts,
     pub contents: Contents,
+    pub uses: Uses,
     pub frontier: Frontier,
 }
 
@@ -50,6 +53,7 @@ impl<'a> Tables<'a> {
             events: Events::new(alloc),
             layouts: CurrentLayouts::new(alloc),
             contents: Contents::new(alloc),
+            uses: Uses::new(alloc),
             frontier: Frontier::new(alloc),
         }
     }
@@ -70,7 +74,8 @@ pub fn note<'a>(tables: &mut Tables<'a>, point: &Point<'a>) -> Result<(), AllocE
     tables.endings.note(point)?;
     tables.events.note(point)?;
     tables.semaphores.note(point, line, place)?;
-    tables.contents.note(point, place)?;
+    tables.contents.note(point, Spot { line, place })?;
+    tables.uses.note(point, &tables.frontier)?;
     tables.frontier.advance(point)?;
     Ok(())
 }

@@ -1,5 +1,7 @@
 pub mod Unbroken
+pub mod Busy
 pub mod Named
+pub mod Among
 pub mod Conflicting
 pub mod Quiet
 pub mod Conflicts

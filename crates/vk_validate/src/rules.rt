@@ -2,6 +2,7 @@ ghost use Rattle.std.specs.Prelude.{◌≡◌, ◌∷◌, IfOk, IsTrue, None};
 ghost use Rattle.std.specs.List.{find};
 ghost use Rattle.vk_model.specs.Trace.Structure.{IsOrdered};
 ghost use Rattle.vk_model.specs.Rules.Table as table;
+ghost use Rattle.vk_model.specs.Rules.Hazards.{breaks_in_use};
 ghost use Rattle.vk_model.specs.Rules.Synchronization as sync;
 ghost use Rattle.vk_order.specs.PointViews.{action_of, point_of};
 ghost use Rattle.vk_history.specs.Supported.{is_supported_action};
@@ -13,6 +14,7 @@ ghost use Rattle.vk_history.specs.Conflicts.{AreConflicts};
 mod binding;
 mod hazards;
 mod ids;
+mod in_use;
 mod layouts;
 mod mapping;
 mod owners;
@@ -76,7 +78,8 @@ pub fn first_rule(history: &History<'_>, point: &Point<'_>) -> Result<Option<Rul
         return Ok(Some(rule));
     }
     let found = hazards::conflicts(history, point)?;
-    Ok(first_late(history, point, found))
+    let is_used = in_use::breaks_in_use(history, point)?;
+    Ok(first_late(history, point, found, is_used))
 }
 
 fn first_early(history: &History<'_>, point: &Point<'_>, is_unordered: bool) -> Option<Rule>
@@ -155,13 +158,16 @@ fn breaks_early(rule: Rule, history: &History<'_>, point: &Point<'_>, is_unorder
     }
 }
 
-// No point of a supported form destroys a resource, so that IN_USE is of memory objects and pools.
-fn first_late(history: &History<'_>, point: &Point<'_>, found: Conflicts) -> Option<Rule>
-    requires supported { IsTrue (is_supported_action (action_of point.now.action)) }
+fn first_late(
+    history: &History<'_>,
+    point: &Point<'_>,
+    found: Conflicts,
+    is_used: bool,
+) -> Option<Rule>
     requires found { AreConflicts found (past history.now) (point_of point.now) }
+    requires used { is_used ≡ breaks_in_use (past history.now) (point_of point.now) }
     ensures { result ≡ first_among late_rules (past history.now) (point_of point.now) }
 {
-    let is_used = hazards::frees_used(history, point);
     let is_over = traces::breaks_limit(history);
     if found.war {
         Some(Rule::HazardWar)

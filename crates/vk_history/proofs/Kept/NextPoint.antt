@@ -1,79 +1,107 @@
 -- What a point that breaks no rule says of the ids and ranges that it names.
-use Rattle.std.proofs.Common.{◌≡◌, ◌≤◌, ◌+◌, ◌-◌, ◌*◌, ◌/◌, ℕ, ◌∷◌, Bool, true, false, not, ◌||◌, refl, sym, ◌∙◌, subst, arith, Option, Some, None}
-use Rattle.std.specs.Prelude.{is_some, option_and_then, nat_lt, if◌then◌else◌}
+use Rattle.std.proofs.Common.{◌≡◌, ◌≤◌, ◌+◌, ℕ, List, [], ◌∷◌, length, Bool, true, false, not, ◌||◌, refl, ap, sym, ◌∙◌, subst, Option, Some, None}
+use Rattle.std.specs.Prelude.{Contains, is_some, if◌then◌else◌}
 use Rattle.std.specs.List.{list_any}
-use Rattle.std.proofs.Math.Nat.{div-mul-le_self}
-use Rattle.std.proofs.lemmas.Bool.{false_from_ne_true}
-use Rattle.std.proofs.lemmas.Bool.Decides.{nat_tests}
+use Rattle.std.proofs.lemmas.Bool.{false_from_ne_true, ltb-false}
+use Rattle.std.proofs.lemmas.List.Folds.{list_any-append}
+use Rattle.vk_model.specs.declared.command.BufferCopy.{BufferCopy}
+use Rattle.vk_model.specs.declared.command.Cmd.{Cmd}
 use Rattle.vk_model.specs.declared.command.Cmd.TheVariants as cmd
 use Rattle.vk_model.specs.declared.command.Length.{Length}
-use Rattle.vk_model.specs.declared.command.Length.TheVariants as length_of
 use Rattle.vk_model.specs.declared.entry.Entry.{Entry}
 use Rattle.vk_model.specs.declared.entry.Entry.TheVariants as entry
 use Rattle.vk_model.specs.declared.rule.Rule.{Rule}
 use Rattle.vk_model.specs.declared.rule.Rule.TheVariants as rule
 use Rattle.vk_model.specs.Basics.{holds}
 use Rattle.vk_model.specs.Trace.Point.{Past, Point, Action, Host, Run, host_of, command_of}
-use Rattle.vk_model.specs.Trace.Objects.{made, made_by, live, ended, buffer, buffer_in}
+use Rattle.vk_model.specs.Trace.Objects.{made, made_by, live, ended, buffer}
+use Rattle.vk_model.specs.World.Areas.{Area, Bytes, areas_read, areas_written}
 use Rattle.vk_model.specs.World.ByteWrites.{buffer_size, fill_size}
-use Rattle.vk_model.specs.Rules.Ids.{breaks_new_id, breaks_live_id, is_dead, is_buffer, until, asked_by, lists_stray}
-use Rattle.vk_model.specs.Rules.Ranges.{breaks_range, ends_past, host_past, command_past}
+use Rattle.vk_model.specs.Rules.Ids.{breaks_new_id, breaks_live_id, is_dead, is_buffer, until, asked_by, asked_by_entry, asked_by_command, lists_stray}
+use Rattle.vk_model.specs.Rules.Ranges.{breaks_range, area_past, host_past, command_past}
 use Rattle.vk_model.specs.Rules.Table.{fault, breaks}
 use Rattle.vk_model.specs.Rules.Fault.{newest}
 use Rattle.vk_model.proofs.Rules.Fault.{unbroken_of_none, fault-cons_none}
-use Rattle.vk_model.proofs.Lists.Truths.{clash, or-false-false}
+use Rattle.vk_model.proofs.Lists.Members.{member_passes, map_has, contains-head}
+use Rattle.vk_model.proofs.Lists.Truths.{clash}
 use Rattle.vk_laws.proofs.Nodes.Steady.{made_step, made_until, new_ids}
 use Rattle.vk_history.specs.Judged.{IsJudged}
 use Rattle.vk_history.proofs.Points.Pasts.{supported-cons}
-use Rattle.vk_history.proofs.Points.Fills.{fill_range}
 
 -- the past of a judged point is judged
 pub judged_rest : (past : Past) (p : Point) → IsJudged (p ∷ past) → IsJudged past
 judged_rest past p j = record { supported = (supported-cons p past j.supported).1; ordered = j.ordered.1; faultless = (fault-cons_none past p j.faultless).0 }
 
+-- a buffer that is named is there
+live_there : (past : Past) (b : ℕ) → holds (live past b) is_buffer ≡ true → (x : Entry) × (made past b ≡ Some x) × (is_buffer x ≡ true)
+live_there past b h = go (ended past b) (made past b) refl h where
+  go : (t : Bool) (m : Option Entry) → made past b ≡ m → holds (if t then None else m) is_buffer ≡ true → (x : Entry) × (made past b ≡ Some x) × (is_buffer x ≡ true)
+  go true m e h = absurd cc
+  go false None e h = absurd cc
+  go false (Some x) e h = (x, e, h)
+
+not_dead : (past : Past) (xs : List (ℕ × (Entry → Bool))) (rest : Bool) → (list_any (is_dead past) xs || rest) ≡ false → (b : ℕ) → Contains xs (b, is_buffer) → holds (live past b) is_buffer ≡ true
+not_dead past xs rest none b c = go (holds (live past b) is_buffer) refl where
+  go : (t : Bool) → holds (live past b) is_buffer ≡ t → t ≡ true
+  go true e = refl
+  go false e = let dead : list_any (is_dead past) xs ≡ true = member_passes (is_dead past) xs (b, is_buffer) c (ap not e) in absurd (let bad : true ≡ false = rw dead at none in cc)
+
+-- what doesn't end past a buffer lies in it
+area_in : (past : Past) (xs : List Area) → list_any (area_past past) xs ≡ false → (b o n : ℕ) → Contains xs (Bytes b o n) → o + n ≤ buffer_size past b
+area_in past xs none b o n c = ltb-false (buffer_size past b) (o + n) (false_from_ne_true _ (λ h. clash (member_passes (area_past past) xs (Bytes b o n) c h) none))
+
+left_false : (a b : Bool) → (a || b) ≡ false → a ≡ false
+left_false true b e = absurd cc
+left_false false b e = refl
+
+right_false : (a b : Bool) → (a || b) ≡ false → b ≡ false
+right_false true b e = absurd cc
+right_false false b e = e
+
 -- by what its rules on ids and ranges say
 module _ (past : Past) (p : Point) (faultless : fault past ≡ None) (live_id : breaks_live_id past p ≡ false) (within_range : breaks_range past p ≡ false) where
-  -- a read's buffer is there, and has its bytes
-  pub read_there : (b o n : ℕ) → p.action ≡ Host (entry.Read b o n) → is_some (buffer past b) ≡ true
-  read_there b o n is = at (live past b) refl (ended past b) refl (made past b) refl where
-    alive : not (holds (live past b) is_buffer) ≡ false
-    alive = sym (or-false-false (not (holds (live past b) is_buffer))) ∙ subst (λ (d : Action). (list_any (is_dead (if is_some (host_of d) then past else until p.entry past)) (asked_by d) || holds (host_of d) (lists_stray past)) ≡ false) is live_id
+  -- the buffers that an entry or a command names are there
+  pub host_there : (x : Entry) → p.action ≡ Host x → (b : ℕ) → Contains (asked_by_entry x) (b, is_buffer) → is_some (buffer past b) ≡ true
+  host_there x is b c =
+      let alive = not_dead past (asked_by_entry x) _ (subst (λ (d : Action). (list_any (is_dead (if is_some (host_of d) then past else until p.entry past)) (asked_by d) || holds (host_of d) (lists_stray past)) ≡ false) is live_id) b c in
+      let m = live_there past b alive in
+      rw (m.1) (m.2)
 
-    at : (l : Option Entry) → live past b ≡ l → (t : Bool) → ended past b ≡ t → (m : Option Entry) → made past b ≡ m → is_some (option_and_then buffer_in m) ≡ true
-    at l le true te m me = absurd (let none : live past b ≡ None = rw te refl in let bad : true ≡ false = rw none at alive in cc)
-    at l le false te None me = absurd (let none : live past b ≡ None = rw (te, me) refl in let bad : true ≡ false = rw none at alive in cc)
-    at l le false te (Some x) me = not_false (is_buffer x) (let some : live past b ≡ Some x = rw (te, me) refl in rw some at alive) where
-      not_false : (t : Bool) → not t ≡ false → t ≡ true
-      not_false true e = refl
-      not_false false e = absurd cc
+  pub command_there : (c : Cmd) → p.action ≡ Run c → (b : ℕ) → Contains (asked_by_command c) (b, is_buffer) → is_some (buffer past b) ≡ true
+  command_there c is b m =
+      let alive = not_dead (until p.entry past) (asked_by_command c) _ (subst (λ (d : Action). (list_any (is_dead (if is_some (host_of d) then past else until p.entry past)) (asked_by d) || holds (host_of d) (lists_stray past)) ≡ false) is live_id) b m in
+      let was = live_there (until p.entry past) b alive in
+      let now : made past b ≡ Some was.0 = made_until p.entry past b was.0 (new_ids past (unbroken_of_none past faultless)) was.1 in
+      rw now (was.2)
+
+  -- the ranges that they name lie in their buffers
+  host_in : (x : Entry) → p.action ≡ Host x → host_past past x ≡ false
+  host_in x is = left_false (host_past past x) false (subst (λ (d : Action). (holds (host_of d) (host_past past) || holds (command_of d) (command_past past)) ≡ false) is within_range)
 
   pub read_fits : (b o n : ℕ) → p.action ≡ Host (entry.Read b o n) → o + n ≤ buffer_size past b
-  read_fits b o n is = inside (buffer_size past b) (subst (λ (d : Action). (holds (host_of d) (host_past past) || holds (command_of d) (command_past past)) ≡ false) is within_range) where
-    inside : (size : ℕ) → (nat_lt size (o + n) || false) ≡ false → o + n ≤ size
-    inside size e = grind (arith, nat_tests)
+  read_fits b o n is = ltb-false (buffer_size past b) (o + n) (host_in (entry.Read b o n) is)
 
-  -- a fill's buffer is there, and has its bytes
-  pub fill_there : (b o : ℕ) (n : Length) (w : ℕ) → p.action ≡ Run (cmd.Fill b o n w) → is_some (buffer past b) ≡ true
-  fill_there b o n w is = at (ended (until p.entry past) b) refl (made (until p.entry past) b) refl where
-    alive : not (holds (live (until p.entry past) b) is_buffer) ≡ false
-    alive = sym (or-false-false (not (holds (live (until p.entry past) b) is_buffer))) ∙ subst (λ (d : Action). (list_any (is_dead (if is_some (host_of d) then past else until p.entry past)) (asked_by d) || holds (host_of d) (lists_stray past)) ≡ false) is live_id
+  pub set_fits : (b o : ℕ) (bytes : List ℕ) → p.action ≡ Host (entry.Write b o bytes) → o + length bytes ≤ buffer_size past b
+  set_fits b o bytes is = ltb-false (buffer_size past b) (o + length bytes) (host_in (entry.Write b o bytes) is)
 
-    at : (t : Bool) → ended (until p.entry past) b ≡ t → (m : Option Entry) → made (until p.entry past) b ≡ m → is_some (buffer past b) ≡ true
-    at true te m me = absurd (let none : live (until p.entry past) b ≡ None = rw te refl in let bad : true ≡ false = rw none at alive in cc)
-    at false te None me = absurd (let none : live (until p.entry past) b ≡ None = rw (te, me) refl in let bad : true ≡ false = rw none at alive in cc)
-    at false te (Some x) me =
-        let was : made past b ≡ Some x = made_until p.entry past b x (new_ids past (unbroken_of_none past faultless)) me in
-        rw was (not_false (is_buffer x) (let some : live (until p.entry past) b ≡ Some x = rw (te, me) refl in rw some at alive))
-      where
-        not_false : (t : Bool) → not t ≡ false → t ≡ true
-        not_false true e = refl
-        not_false false e = absurd cc
+  areas_in : (c : Cmd) → p.action ≡ Run c → (list_any (area_past past) (areas_read past c) ≡ false) × (list_any (area_past past) (areas_written past c) ≡ false)
+  areas_in c is =
+      let whole : command_past past c ≡ false = subst (λ (d : Action). (holds (host_of d) (host_past past) || holds (command_of d) (command_past past)) ≡ false) is within_range in
+      let both : (list_any (area_past past) (areas_read past c) || list_any (area_past past) (areas_written past c)) ≡ false =
+      sym (list_any-append (area_past past) (areas_read past c) (areas_written past c)) ∙ left_false _ _ (left_false _ _ (left_false _ _ whole)) in
+      (left_false _ _ both, right_false _ _ both)
 
   pub fill_fits : (b o : ℕ) (n : Length) (w : ℕ) → p.action ≡ Run (cmd.Fill b o n w) → o + fill_size (buffer_size past b) o n ≤ buffer_size past b
-  fill_fits b o n w is = inside (buffer_size past b) n (sym (fill_range past b o n w) ∙ subst (λ (d : Action). (holds (host_of d) (host_past past) || holds (command_of d) (command_past past)) ≡ false) is within_range) where
-    inside : (size : ℕ) (n : Length) → ends_past size o n ≡ false → o + fill_size size o n ≤ size
-    inside size (length_of.Bytes n) e = grind (arith, nat_tests)
-    inside size length_of.Whole e = let le : (size - o) / 4 * 4 ≤ size - o = div-mul-le_self (size - o) 4 in grind (arith, nat_tests)
+  fill_fits b o n w is = area_in past (areas_written past (cmd.Fill b o n w)) (areas_in (cmd.Fill b o n w) is).1 b o (fill_size (buffer_size past b) o n) (contains-head _ [])
+
+  pub update_fits : (b o : ℕ) (bytes : List ℕ) → p.action ≡ Run (cmd.Update b o bytes) → o + length bytes ≤ buffer_size past b
+  update_fits b o bytes is = area_in past (areas_written past (cmd.Update b o bytes)) (areas_in (cmd.Update b o bytes) is).1 b o (length bytes) (contains-head _ [])
+
+  pub copy_reads_fit : (s d : ℕ) (gs : List BufferCopy) → p.action ≡ Run (cmd.Copy s d gs) → (g : BufferCopy) → Contains gs g → g.source_offset + g.size ≤ buffer_size past s
+  copy_reads_fit s d gs is g c = area_in past (areas_read past (cmd.Copy s d gs)) (areas_in (cmd.Copy s d gs) is).0 s g.source_offset g.size (map_has (λ (g : BufferCopy). Bytes s g.source_offset g.size) gs g c)
+
+  pub copy_writes_fit : (s d : ℕ) (gs : List BufferCopy) → p.action ≡ Run (cmd.Copy s d gs) → (g : BufferCopy) → Contains gs g → g.destination_offset + g.size ≤ buffer_size past d
+  copy_writes_fit s d gs is g c = area_in past (areas_written past (cmd.Copy s d gs)) (areas_in (cmd.Copy s d gs) is).1 d g.destination_offset g.size (map_has (λ (g : BufferCopy). Bytes d g.destination_offset g.size) gs g c)
 
 module _ (past : Past) (p : Point) (j : IsJudged (p ∷ past)) where
   pub unbroken : (r : Rule) → breaks r past p ≡ false
@@ -102,14 +130,11 @@ module _ (past : Past) (p : Point) (j : IsJudged (p ∷ past)) where
     go None e = refl
     go (Some y) e = absurd (let broken : breaks_new_id past p ≡ true = rw (is, by, e) refl in let bad : true ≡ false = sym broken ∙ new_id in cc)
 
-  pub read_buffer : (b o n : ℕ) → p.action ≡ Host (entry.Read b o n) → is_some (buffer past b) ≡ true
-  read_buffer = read_there past p (judged_rest past p j).faultless live_id within_range
+  pub there_on_host : (x : Entry) → p.action ≡ Host x → (b : ℕ) → Contains (asked_by_entry x) (b, is_buffer) → is_some (buffer past b) ≡ true
+  there_on_host = host_there past p (judged_rest past p j).faultless live_id within_range
 
-  pub read_inside : (b o n : ℕ) → p.action ≡ Host (entry.Read b o n) → o + n ≤ buffer_size past b
-  read_inside = read_fits past p (judged_rest past p j).faultless live_id within_range
+  pub there_for_command : (c : Cmd) → p.action ≡ Run c → (b : ℕ) → Contains (asked_by_command c) (b, is_buffer) → is_some (buffer past b) ≡ true
+  there_for_command = command_there past p (judged_rest past p j).faultless live_id within_range
 
-  pub fill_buffer : (b o : ℕ) (n : Length) (w : ℕ) → p.action ≡ Run (cmd.Fill b o n w) → is_some (buffer past b) ≡ true
-  fill_buffer = fill_there past p (judged_rest past p j).faultless live_id within_range
-
-  pub fill_inside : (b o : ℕ) (n : Length) (w : ℕ) → p.action ≡ Run (cmd.Fill b o n w) → o + fill_size (buffer_size past b) o n ≤ buffer_size past b
-  fill_inside = fill_fits past p (judged_rest past p j).faultless live_id within_range
+  pub copy_source : (s d : ℕ) (gs : List BufferCopy) → p.action ≡ Run (cmd.Copy s d gs) → (g : BufferCopy) → Contains gs g → g.source_offset + g.size ≤ buffer_size past s
+  copy_source = copy_reads_fit past p (judged_rest past p j).faultless live_id within_range

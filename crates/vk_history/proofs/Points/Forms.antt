@@ -2,6 +2,7 @@
 use Rattle.std.proofs.Common.{◌≡◌, ℕ, List, true, false, ◌==◌, refl}
 use Rattle.std.specs.List.{list_all}
 use Rattle.std.proofs.lemmas.Bool.{not-true}
+use Rattle.vk_model.specs.declared.command.BufferCopy.{BufferCopy}
 use Rattle.vk_model.specs.declared.command.Cmd.{Cmd}
 use Rattle.vk_model.specs.declared.command.Cmd.TheVariants as cmd
 use Rattle.vk_model.specs.declared.command.Dependency.{Dependency}
@@ -13,6 +14,7 @@ use Rattle.vk_model.specs.declared.entry.Entry.TheVariants as entry
 use Rattle.vk_model.specs.declared.entry.SemaphoreSubmit.{SemaphoreSubmit}
 use Rattle.vk_model.specs.declared.entry.SemaphoreValue.{SemaphoreValue}
 use Rattle.vk_model.specs.declared.resource.BufferInfo.{BufferInfo}
+use Rattle.vk_model.specs.declared.resource.MemoryInfo.{MemoryInfo}
 use Rattle.vk_model.specs.declared.resource.Place.{Place}
 use Rattle.vk_model.specs.declared.resource.Place.TheVariants as place
 use Rattle.vk_model.specs.Trace.Point.{Action, Host, Wait, Run, Signal}
@@ -20,7 +22,13 @@ use Rattle.vk_history.specs.Supported.{is_supported_action, is_supported_entry, 
 
 module _ (P : Entry → Type 0)
     (buffer : (i : ℕ) (b : BufferInfo) (t : ℕ) → b.place ≡ place.Dedicated t → (t == 2) ≡ false → P (entry.Buffer i b))
+    (bound : (i : ℕ) (b : BufferInfo) (m o : ℕ) → b.place ≡ place.Memory m o → P (entry.Buffer i b))
+    (memory : (i : ℕ) (m : MemoryInfo) → (m.memory_type == 2) ≡ false → P (entry.Memory i m))
+    (free : (m : ℕ) → P (entry.Free m))
+    (destroy : (r : ℕ) → P (entry.Destroy r))
     (map : (b : ℕ) → P (entry.Map b))
+    (unmap : (b : ℕ) → P (entry.Unmap b))
+    (write : (b o : ℕ) (bytes : List ℕ) → P (entry.Write b o bytes))
     (read : (b o n : ℕ) → P (entry.Read b o n))
     (semaphore : (i v : ℕ) → P (entry.Semaphore i v))
     (event : (i : ℕ) → P (entry.Event i))
@@ -31,7 +39,7 @@ module _ (P : Entry → Type 0)
   placed i b (place.Dedicated t) is e = buffer i b t is (not-true (t == 2) e)
   placed i b (place.Pool q) is e = absurd cc
   placed i b (place.PoolUpper q) is e = absurd cc
-  placed i b (place.Memory m o) is e = absurd cc
+  placed i b (place.Memory m o) is e = bound i b m o is
 
   -- what holds of each form of entry that is supported holds of all
   pub entry_cases : (x : Entry) → is_supported_entry x ≡ true → P x
@@ -43,12 +51,12 @@ module _ (P : Entry → Type 0)
   entry_cases (entry.Submit q bs) e = submit q bs
   entry_cases (entry.Pool i x) e = absurd cc
   entry_cases (entry.Image i x) e = absurd cc
-  entry_cases (entry.Memory i x) e = absurd cc
-  entry_cases (entry.Free m) e = absurd cc
-  entry_cases (entry.Destroy r) e = absurd cc
+  entry_cases (entry.Memory i m) e = memory i m (not-true (m.memory_type == 2) e)
+  entry_cases (entry.Free m) e = free m
+  entry_cases (entry.Destroy r) e = destroy r
   entry_cases (entry.DropPool q) e = absurd cc
-  entry_cases (entry.Unmap b) e = absurd cc
-  entry_cases (entry.Write b o bytes) e = absurd cc
+  entry_cases (entry.Unmap b) e = unmap b
+  entry_cases (entry.Write b o bytes) e = write b o bytes
   entry_cases (entry.Flush b o n) e = absurd cc
   entry_cases (entry.Invalidate b o n) e = absurd cc
   entry_cases (entry.Event i) e = event i
@@ -60,6 +68,8 @@ module _ (P : Entry → Type 0)
 
 module _ (P : Cmd → Type 0)
     (fill : (b o : ℕ) (n : Length) (w : ℕ) → P (cmd.Fill b o n w))
+    (update : (b o : ℕ) (bytes : List ℕ) → P (cmd.Update b o bytes))
+    (copy : (s d : ℕ) (gs : List BufferCopy) → P (cmd.Copy s d gs))
     (barrier : (es : List Element) → list_all is_memory es ≡ true → P (cmd.Barrier es))
     (set : (v : ℕ) (ms : List Dependency) → P (cmd.Set v ms))
     (await : (v : ℕ) (ms : List Dependency) → P (cmd.Await v ms)) where
@@ -67,8 +77,8 @@ module _ (P : Cmd → Type 0)
   pub command_cases : (c : Cmd) → is_supported_command c ≡ true → P c
   command_cases (cmd.Fill b o n w) e = fill b o n w
   command_cases (cmd.Barrier es) e = barrier es e
-  command_cases (cmd.Update b o bytes) e = absurd cc
-  command_cases (cmd.Copy a b gs) e = absurd cc
+  command_cases (cmd.Update b o bytes) e = update b o bytes
+  command_cases (cmd.Copy s d gs) e = copy s d gs
   command_cases (cmd.Clear i l color rs) e = absurd cc
   command_cases (cmd.CopyIn b i l gs) e = absurd cc
   command_cases (cmd.CopyOut i l b gs) e = absurd cc

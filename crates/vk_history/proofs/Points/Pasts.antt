@@ -1,13 +1,12 @@
 -- What holds of a past whose points are all of supported forms.
 use Rattle.std.proofs.Common.{◌≡◌, ℕ, List, [], ◌∷◌, Bool, true, false, ◌==◌, cond, refl, ap, sym, ◌∙◌, Some}
-use Rattle.std.specs.List.{list_any, list_all, find, cons_option}
+use Rattle.std.specs.List.{list_all, find, cons_option}
 use Rattle.std.proofs.lemmas.Bool.{and_parts}
 use Rattle.vk_model.specs.declared.entry.Entry.{Entry}
-use Rattle.vk_model.specs.Basics.{holds, among}
+use Rattle.vk_model.specs.Basics.{holds}
 use Rattle.vk_model.specs.Trace.Point.{Past, Point, Action, Host, Wait, Run, Signal, entries, host_of}
-use Rattle.vk_model.specs.Trace.Objects.{made, made_by, ended, ended_by, live}
+use Rattle.vk_model.specs.Trace.Objects.{made, made_by}
 use Rattle.vk_history.specs.Supported.{is_supported, is_supported_action, is_supported_entry}
-use Rattle.vk_history.proofs.Points.Forms.{entry_cases}
 
 -- a past is supported where its newest point and the older ones are
 pub supported-cons : (p : Point) (past : Past) → is_supported (p ∷ past) ≡ true → (is_supported_action p.action ≡ true) × (is_supported past ≡ true)
@@ -36,22 +35,6 @@ found_passes test pick (y ∷ ys) x all is = go (pick y) is (and_parts (test y) 
   go true e h rest = let same : y ≡ x = cc in ap test (sym same) ∙ h.0
   go false e h rest = rest h.1 e
 
--- no entry passes a test that no supported one does
-no_entry_passes : (test : Entry → Bool) → ((x : Entry) → is_supported_entry x ≡ true → test x ≡ false) → (xs : List Entry) → list_all is_supported_entry xs ≡ true → list_any test xs ≡ false
-no_entry_passes test none [] all = refl
-no_entry_passes test none (x ∷ xs) all = let h = and_parts (is_supported_entry x) (list_all is_supported_entry xs) all in rw (none x h.0) (no_entry_passes test none xs h.1)
-
-none_ends : (i : ℕ) (x : Entry) → is_supported_entry x ≡ true → among i (ended_by x) ≡ false
-none_ends i = let P : Entry → Type 0 = λ x. among i (ended_by x) ≡ false in entry_cases P (λ i b t is other. refl) (λ b. refl) (λ b o n. refl) (λ i v. refl) (λ i. refl) (λ s v. refl) (λ ws. refl) (λ q bs. refl)
-
 module _ (past : Past) (supported : is_supported past ≡ true) where
   pub made_supported : (i : ℕ) (x : Entry) → made past i ≡ Some x → is_supported_entry x ≡ true
   made_supported i x is = found_passes is_supported_entry (λ x. holds (made_by x) (λ j. i == j)) (entries past) x (supported_entries past supported) is
-
-  -- no object is ended
-  pub none_ended : (i : ℕ) → ended past i ≡ false
-  none_ended i = no_entry_passes (λ x. among i (ended_by x)) (none_ends i) (entries past) (supported_entries past supported)
-
-  -- so what is made is live
-  pub live_made : (i : ℕ) → live past i ≡ made past i
-  live_made i = rw (none_ended i) refl

@@ -2,9 +2,9 @@
 use Rattle.std.proofs.Common.{◌≡◌, ◌≤◌, ℕ, List, [], ◌∷◌, ◌++◌, length, Bool, true, false, ◌==◌, refl, ap, sym, ◌∙◌, subst, arith, Option, Some, None}
 use Rattle.std.specs.Prelude.{Contains, if◌then◌else◌}
 use Rattle.std.specs.Option.{option_or}
+use Rattle.std.proofs.lemmas.Bool.{and_parts}
 use Rattle.vk_model.specs.declared.command.Cmd.{Cmd}
 use Rattle.vk_model.specs.declared.command.Cmd.TheVariants as cmd
-use Rattle.vk_model.specs.declared.entry.Entry.{Entry}
 use Rattle.vk_model.specs.Basics.{holds}
 use Rattle.vk_model.specs.World.Bytes.{Byte}
 use Rattle.vk_model.specs.World.ByteWrites.{byte_writes}
@@ -12,10 +12,13 @@ use Rattle.vk_model.specs.Trace.Point.{Past, Point, Action, Host, Wait, Run, Sig
 use Rattle.vk_model.specs.Trace.Order.{signal_in}
 use Rattle.vk_model.specs.Sync.Node.{Node, Act, Hosts, Signals, Runs, nodes, acts, with_acts}
 use Rattle.vk_model.specs.Sync.Edge.{signaled_by}
-use Rattle.vk_model.specs.Sync.Access.{is_in, targets, host_reads}
+use Rattle.vk_model.specs.Sync.Access.{is_in, targets, origins}
 use Rattle.vk_laws.proofs.Nodes.Counts.{more_nodes}
 use Rattle.vk_model.proofs.Lists.Members.{contains-head}
-use Rattle.vk_history.specs.Touched.{next_node, only_if, writer_next, reader_next, signaler_next, last_of}
+use Rattle.vk_order.specs.Lines.{class_on}
+use Rattle.vk_history.specs.declared.touches.Touch.{Touch}
+use Rattle.vk_history.specs.declared.touches.Touch.TheVariants as touch
+use Rattle.vk_history.specs.Touched.{next_node, act_next, line_next, only_if, touches, touch_next, signaler_next, last_of}
 
 -- points give nodes of their own: the first of a point's nodes
 abbrev pub GivesOwn : (Past → Point → Action → Option Node) → Type 0
@@ -58,43 +61,22 @@ last_from of own (q ∷ newer) before p x gives = go (of (newer ++ p ∷ before)
         longer : (newer : Past) → length (nodes before) ≤ length (nodes (newer ++ p ∷ before))
         longer newer = let one = more_nodes (p ∷ []) before in let all = more_nodes newer (p ∷ before) in omega (arith, one, all)
 
--- ---- the three of them
+-- ---- who touches, and who signals
 
 picked : (test : Bool) (n v : Node) → only_if test n ≡ Some v → (test ≡ true) × (n ≡ v)
 picked true n v is = (refl, cc)
 picked false n v is = absurd cc
 
--- a command that writes a byte
-pub record IsWriterAt (b : Byte) (past : Past) (p : Point) (d : Action) (v : Node) : Type 0 where
-  pub command : Cmd
-  pub runs : d ≡ Run command
-  pub writes_it : is_in b (targets (byte_writes (p ∷ past) command)) ≡ true
-  pub node_is : next_node past p (Runs command) ≡ v
+-- a point that touches a byte
+pub record IsToucherAt (t : Touch) (b : Byte) (past : Past) (p : Point) (d : Action) (v : Node) : Type 0 where
+  pub touches_it : touches t b past p d ≡ true
+  pub node_is : next_node past p (act_next d) ≡ v
 
-pub writer_is : (b : Byte) (past : Past) (p : Point) (d : Action) (v : Node) → writer_next b past p d ≡ Some v → IsWriterAt b past p d v
-writer_is b past p (Run c) v is = let h = picked (is_in b (targets (byte_writes (p ∷ past) c))) (next_node past p (Runs c)) v is in record { command = c; runs = refl; writes_it = h.0; node_is = h.1 }
-writer_is b past p (Host x) v is = absurd cc
-writer_is b past p (Wait s) v is = absurd cc
-writer_is b past p (Signal s) v is = absurd cc
+pub toucher_is : (t : Touch) (b : Byte) (past : Past) (p : Point) (d : Action) (v : Node) → touch_next t b past p d ≡ Some v → IsToucherAt t b past p d v
+toucher_is t b past p d v is = let h = picked (touches t b past p d) (next_node past p (act_next d)) v is in record { touches_it = h.0; node_is = h.1 }
 
-pub writers_own : (b : Byte) → GivesOwn (writer_next b)
-writers_own b past p d v is = let w = writer_is b past p d v is in (ap (λ (n : Node). n.number) (sym w.node_is), ap (λ (n : Node). n.point) (sym w.node_is))
-
--- a host entry that reads a byte
-pub record IsReaderAt (b : Byte) (past : Past) (p : Point) (d : Action) (v : Node) : Type 0 where
-  pub entry : Entry
-  pub runs : d ≡ Host entry
-  pub reads_it : is_in b (host_reads entry) ≡ true
-  pub node_is : next_node past p (Hosts entry) ≡ v
-
-pub reader_is : (b : Byte) (past : Past) (p : Point) (d : Action) (v : Node) → reader_next b past p d ≡ Some v → IsReaderAt b past p d v
-reader_is b past p (Host x) v is = let h = picked (is_in b (host_reads x)) (next_node past p (Hosts x)) v is in record { entry = x; runs = refl; reads_it = h.0; node_is = h.1 }
-reader_is b past p (Run c) v is = absurd cc
-reader_is b past p (Wait s) v is = absurd cc
-reader_is b past p (Signal s) v is = absurd cc
-
-pub readers_own : (b : Byte) → GivesOwn (reader_next b)
-readers_own b past p d v is = let w = reader_is b past p d v is in (ap (λ (n : Node). n.number) (sym w.node_is), ap (λ (n : Node). n.point) (sym w.node_is))
+pub touchers_own : (t : Touch) (b : Byte) → GivesOwn (touch_next t b)
+touchers_own t b past p d v is = let w = toucher_is t b past p d v is in (ap (λ (n : Node). n.number) (sym w.node_is), ap (λ (n : Node). n.point) (sym w.node_is))
 
 -- a point that signals a semaphore, by a node of its own
 pub record IsSignalerAt (s : ℕ) (past : Past) (p : Point) (d : Action) (v : Node) : Type 0 where
@@ -128,15 +110,50 @@ signalers_own s past p d v is = let w = signaler_is s past p d v is in (ap (λ (
 pub next_there : (past : Past) (p : Point) (a : Act) → acts p.action ≡ a ∷ [] → Contains (nodes (p ∷ past)) (next_node past p a)
 next_there past p a alone = subst (λ (l : List Act). Contains (with_acts p l (nodes past)) (next_node past p a)) (sym alone) (contains-head (next_node past p a) (nodes past))
 
--- a command that writes a byte is no dependency
-pub runs_alone : (past : Past) (b : Byte) (c : Cmd) → is_in b (targets (byte_writes past c)) ≡ true → acts (Run c) ≡ Runs c ∷ []
-runs_alone past b (cmd.Barrier es) h = absurd cc
-runs_alone past b (cmd.Set v ms) h = absurd cc
-runs_alone past b (cmd.Await v ms) h = absurd cc
-runs_alone past b (cmd.Fill c o n w) h = refl
-runs_alone past b (cmd.Update c o bytes) h = refl
-runs_alone past b (cmd.Copy s d gs) h = refl
-runs_alone past b (cmd.Clear i l color rs) h = refl
-runs_alone past b (cmd.CopyIn c i l gs) h = refl
-runs_alone past b (cmd.CopyOut i l c gs) h = refl
-runs_alone past b (cmd.CopyImage s l d m gs) h = refl
+-- a command that makes byte writes is no dependency
+runs_alone : (past : Past) (c : Cmd) → (byte_writes past c ≡ [] → ⊥) → acts (Run c) ≡ Runs c ∷ []
+runs_alone past (cmd.Barrier es) some = absurd (some refl)
+runs_alone past (cmd.Set v ms) some = absurd (some refl)
+runs_alone past (cmd.Await v ms) some = absurd (some refl)
+runs_alone past (cmd.Fill c o n w) some = refl
+runs_alone past (cmd.Update c o bytes) some = refl
+runs_alone past (cmd.Copy s d gs) some = refl
+runs_alone past (cmd.Clear i l color rs) some = refl
+runs_alone past (cmd.CopyIn c i l gs) some = refl
+runs_alone past (cmd.CopyOut i l c gs) some = refl
+runs_alone past (cmd.CopyImage s l d m gs) some = refl
+
+pub writes_alone : (past : Past) (b : Byte) (c : Cmd) → is_in b (targets (byte_writes past c)) ≡ true → acts (Run c) ≡ Runs c ∷ []
+writes_alone past b c h = runs_alone past c (λ none. let bad : is_in b [] ≡ true = ap (λ ms. is_in b (targets ms)) (sym none) ∙ h in cc)
+
+pub reads_alone : (past : Past) (b : Byte) (c : Cmd) → is_in b (origins (byte_writes past c)) ≡ true → acts (Run c) ≡ Runs c ∷ []
+reads_alone past b c h = runs_alone past c (λ none. let bad : is_in b [] ≡ true = ap (λ ms. is_in b (origins ms)) (sym none) ∙ h in cc)
+
+-- what touches a byte has one act, which is no dependency
+pub touches_alone : (t : Touch) (b : Byte) (past : Past) (p : Point) (d : Action) → touches t b past p d ≡ true → acts d ≡ act_next d ∷ []
+touches_alone touch.Write b past p (Run c) h = writes_alone (p ∷ past) b c h
+touches_alone (touch.Read q) b past p (Run c) h = reads_alone (p ∷ past) b c (and_parts (p.queue == q) (is_in b (origins (byte_writes (p ∷ past) c))) h).1
+touches_alone touch.HostWrite b past p (Host x) h = refl
+touches_alone touch.HostRead b past p (Host x) h = refl
+touches_alone touch.Write b past p (Host x) h = absurd cc
+touches_alone touch.Write b past p (Wait s) h = absurd cc
+touches_alone touch.Write b past p (Signal s) h = absurd cc
+touches_alone (touch.Read q) b past p (Host x) h = absurd cc
+touches_alone (touch.Read q) b past p (Wait s) h = absurd cc
+touches_alone (touch.Read q) b past p (Signal s) h = absurd cc
+touches_alone touch.HostWrite b past p (Run c) h = absurd cc
+touches_alone touch.HostWrite b past p (Wait s) h = absurd cc
+touches_alone touch.HostWrite b past p (Signal s) h = absurd cc
+touches_alone touch.HostRead b past p (Run c) h = absurd cc
+touches_alone touch.HostRead b past p (Wait s) h = absurd cc
+touches_alone touch.HostRead b past p (Signal s) h = absurd cc
+
+-- so its line is known
+pub touches_on : (t : Touch) (b : Byte) (past : Past) (p : Point) (d : Action) → touches t b past p d ≡ true → class_on p.queue (act_next d) ≡ line_next p d
+touches_on t b past p (Run c) h = refl
+touches_on t b past p (Host x) h = refl
+touches_on t b past p (Signal s) h = refl
+touches_on touch.Write b past p (Wait s) h = absurd cc
+touches_on (touch.Read q) b past p (Wait s) h = absurd cc
+touches_on touch.HostWrite b past p (Wait s) h = absurd cc
+touches_on touch.HostRead b past p (Wait s) h = absurd cc

@@ -1,36 +1,48 @@
 -- What is wrong with the bytes that a point accesses, by what it does.
-use Rattle.std.proofs.Common.{◌≡◌, ◌≤◌, ◌+◌, ℕ, List, [], ◌∷◌, slice_get, cond, Bool, true, false, not, refl, ap, sym, ◌∙◌, subst, Some, None, zero, suc}
-use Rattle.std.specs.Prelude.{Contains}
-use Rattle.std.specs.List.{find}
+use Rattle.std.proofs.Common.{◌≡◌, ◌≤◌, ◌+◌, ℕ, List, [], ◌∷◌, slice_get, length, cond, Bool, true, false, not, refl, ap, sym, ◌∙◌, subst, Some, None, zero, suc, arith}
+use Rattle.std.specs.Prelude.{Contains, IsTrue, is_none}
+use Rattle.std.specs.List.{find, list_any, flat_map}
+use Rattle.vk_model.specs.declared.command.BufferCopy.{BufferCopy}
+use Rattle.vk_model.specs.declared.command.Cmd.{Cmd}
 use Rattle.vk_model.specs.declared.command.Cmd.TheVariants as cmd
 use Rattle.vk_model.specs.declared.command.Length.{Length}
 use Rattle.vk_model.specs.declared.entry.Entry.TheVariants as entry
 use Rattle.vk_model.specs.declared.rule.Rule.TheVariants as rule
-use Rattle.vk_model.specs.World.ByteWrites.{buffer_size, fill_size}
+use Rattle.vk_model.specs.World.Bytes.{Byte, in_buffer, resource_at}
+use Rattle.vk_model.specs.World.ByteWrites.{buffer_size, fill_size, byte_writes}
+use Rattle.vk_model.specs.World.Effect.{world}
+use Rattle.vk_model.specs.Trace.Objects.{is_cached}
 use Rattle.vk_model.specs.Trace.Point.{Past, Point, Action, Host, Run}
-use Rattle.vk_model.specs.Sync.Node.{Act, Hosts, Waits, Signals, Runs, Depends, acts, nodes}
-use Rattle.vk_model.specs.Sync.Edge.{is_command}
-use Rattle.vk_model.specs.Sync.Access.{reads_of, writes_of}
+use Rattle.vk_model.specs.Sync.Node.{Act, Hosts, Runs, acts, nodes}
+use Rattle.vk_model.specs.Sync.Edge.{is_host}
+use Rattle.vk_model.specs.Sync.Seen.{Read}
+use Rattle.vk_model.specs.Sync.Access.{reads, writes, reads_of, writes_of, bytes_of, targets, origins}
 use Rattle.vk_model.specs.Rules.Ids.{breaks_live_id}
 use Rattle.vk_model.specs.Rules.Ranges.{breaks_range}
 use Rattle.vk_model.specs.Rules.Hazards.{breaks_read_undefined}
 use Rattle.vk_model.specs.Rules.Table.{breaks}
 use Rattle.vk_model.proofs.Lists.Members.{all_passes, only_one}
 use Rattle.vk_order.specs.Frontiers.{IsSight}
+use Rattle.vk_order.specs.Prefixes.{LinePrefix}
+use Rattle.vk_order.specs.Visibility.{HostSeen}
+use Rattle.vk_order.specs.Wide.{is_answered, access_of}
+use Rattle.vk_order.specs.declared.access.Access.{Access}
 use Rattle.vk_order.specs.declared.access.Access.TheVariants as access
 use Rattle.vk_order.specs.declared.sights.Sight.{Sight}
 use Rattle.vk_history.specs.declared.contents.BufferContents.{BufferContents}
 use Rattle.vk_history.specs.declared.found.Conflicts.{Conflicts}
-use Rattle.vk_history.specs.Supported.{is_supported_action}
+use Rattle.vk_history.specs.Supported.{is_supported_action, is_supported_command}
 use Rattle.vk_history.specs.Changes.{is_quiet}
-use Rattle.vk_history.specs.Conflicts.{AreConflicts, FoundIn, Misses, IsEarly}
-use Rattle.vk_history.specs.Contents.{AreContentsOf}
+use Rattle.vk_history.specs.Conflicts.{AreConflicts, FoundIn, FoundAmong, Misses, MissesWrite, IsEarly, HasEarlyCommand}
+use Rattle.vk_history.specs.Contents.{AreContentsOf, is_defined}
 use Rattle.vk_history.specs.Judged.{IsJudged, early_rules, first_among}
-use Rattle.vk_history.specs.Touched.{next_node, act_next}
+use Rattle.vk_history.specs.Touched.{next_node, act_next, touched}
 use Rattle.vk_history.proofs.Points.Forms.{entry_cases, command_cases, action_cases}
-use Rattle.vk_validate.proofs.Points.SupportedNodes.{is_supported_act, supported_acts, is_calm, calm, calm_acts, calm_reads, calm_writes, reads_none}
+use Rattle.vk_history.proofs.Points.Pasts.{supported-next}
+use Rattle.vk_history.proofs.Points.Ranges.{fill-targets, fill-origins, update-targets, update-origins, copy-targets-flat, copy-origins-flat}
+use Rattle.vk_validate.proofs.Points.SupportedNodes.{is_supported_act, supported_acts, is_calm, calm, calm_acts, calm_accesses, uncached}
 use Rattle.vk_validate.proofs.Judging.Quiet.{no_war, no_raw, no_waw}
-use Rattle.vk_validate.proofs.Judging.Conflicting.{read_raw, read_undefined, fill_waw, fill_war}
+use Rattle.vk_validate.proofs.Judging.Conflicting.{any_found, range_found, regions_found, missed_by, early_by, command_misses, host_misses, command_early, host_early, raw_rule, waw_rule, war_rule}
 
 -- ---- what isn't broken
 
@@ -57,53 +69,184 @@ module _ (past : Past) (p : Point) (now : is_supported_action p.action ≡ true)
   abbrev nothing : Conflicts
   nothing = record { war = false; raw = false; waw = false; undefined = false }
 
-  no_command : (a : Act) → is_calm a ≡ true → is_command a ≡ false
-  no_command (Hosts x) c = refl
-  no_command (Waits s) c = refl
-  no_command (Signals s) c = refl
-  no_command (Runs x) c = absurd cc
-  no_command (Depends r e) c = refl
-
   pub calm_conflicts : calm p.action ≡ true → AreConflicts nothing past p
   calm_conflicts is_so = record {
-    war = sym (no_war past p (λ a c q. calm_writes (p ∷ past) q a (all_passes is_supported_act (acts p.action) a (supported_acts p.action now) c) (no_command a (all_passes is_calm (acts p.action) a (calm_acts p.action now is_so) c))));
-    raw = sym (no_raw past p (λ a c q. calm_reads (p ∷ past) q a (all_passes is_supported_act (acts p.action) a (supported_acts p.action now) c) (all_passes is_calm (acts p.action) a (calm_acts p.action now is_so) c)));
-    waw = sym (no_waw past p (λ a c q. calm_writes (p ∷ past) q a (all_passes is_supported_act (acts p.action) a (supported_acts p.action now) c) (no_command a (all_passes is_calm (acts p.action) a (calm_acts p.action now is_so) c))));
+    war = sym (no_war past p (λ a c q. (quiet_act a c q).1));
+    raw = sym (no_raw past p (λ a c q. (quiet_act a c q).0));
+    waw = sym (no_waw past p (λ a c q. (quiet_act a c q).1));
     undefined = undefined p.action now is_so;
   } where
+    quiet_act : (a : Act) → Contains (acts p.action) a → (q : ℕ) → (reads_of (p ∷ past) q a ≡ []) × (writes_of (p ∷ past) q a ≡ [])
+    quiet_act a c q = calm_accesses (p ∷ past) q a (all_passes is_supported_act (acts p.action) a (supported_acts p.action now) c) (all_passes is_calm (acts p.action) a (calm_acts p.action now is_so) c)
+
     undefined : (d : Action) → is_supported_action d ≡ true → calm d ≡ true → false ≡ breaks_read_undefined past (record p { action = d })
     undefined = let P : Action → Type 0 = λ d. calm d ≡ true → false ≡ breaks_read_undefined past (record p { action = d }) in
-        action_cases P (entry_cases (λ x. P (Host x)) (λ i b t at other c. refl) (λ b c. refl) (λ b o n c. absurd cc) (λ i v c. refl) (λ i c. refl) (λ s v c. refl) (λ ws c. refl) (λ q bs c. refl)) (λ s c. refl)
-        (command_cases (λ c. P (Run c)) (λ b o n w c. absurd cc) (λ es all c. refl) (λ v ms c. refl) (λ v ms c. refl)) (λ s c. refl)
+        action_cases P (entry_cases (λ x. P (Host x)) (λ i b t at other c. refl) (λ i b m o at c. refl) (λ i m other c. refl) (λ m c. refl) (λ r c. refl) (λ b c. refl) (λ b c. refl) (λ b o bytes c. refl) (λ b o n c. absurd cc) (λ i v c. refl) (λ i c. refl) (λ s v c. refl) (λ ws c. refl) (λ q bs c. refl)) (λ s c. refl)
+        (command_cases (λ c. P (Run c)) (λ b o n w c. refl) (λ b o bytes c. refl) (λ s d gs c. refl) (λ es all c. refl) (λ v ms c. refl) (λ v ms c. refl)) (λ s c. refl)
 
   pub quiet_conflicts : is_quiet p.action ≡ true → AreConflicts nothing past p
   quiet_conflicts h = calm_conflicts (go p.action now h) where
     go : (d : Action) → is_supported_action d ≡ true → is_quiet d ≡ true → calm d ≡ true
     go = let P : Action → Type 0 = λ d. is_quiet d ≡ true → calm d ≡ true in
-        action_cases P (entry_cases (λ x. P (Host x)) (λ i b t at other c. refl) (λ b c. refl) (λ b o n c. absurd cc) (λ i v c. refl) (λ i c. refl) (λ s v c. refl) (λ ws c. refl) (λ q bs c. refl)) (λ s c. refl)
-        (command_cases (λ c. P (Run c)) (λ b o n w c. absurd cc) (λ es all c. refl) (λ v ms c. refl) (λ v ms c. refl)) (λ s c. refl)
+        action_cases P (entry_cases (λ x. P (Host x)) (λ i b t at other c. refl) (λ i b m o at c. refl) (λ i m other c. refl) (λ m c. refl) (λ r c. refl) (λ b c. refl) (λ b c. refl) (λ b o bytes c. absurd cc) (λ b o n c. absurd cc) (λ i v c. refl) (λ i c. refl) (λ s v c. refl) (λ ws c. refl) (λ q bs c. refl)) (λ s c. refl)
+        (command_cases (λ c. P (Run c)) (λ b o n w c. absurd cc) (λ b o bytes c. absurd cc) (λ s d gs c. absurd cc) (λ es all c. refl) (λ v ms c. refl) (λ v ms c. refl)) (λ s c. refl)
 
--- ---- a read, and a fill
+-- ---- a host read
 
-pub read_conflicts : (past : Past) → IsJudged past → (p : Point) (b o n : ℕ) (is : p.action ≡ Host (entry.Read b o n)) (c : BufferContents) → AreContentsOf c past b → o + n ≤ buffer_size past b
-    → (s : Sight) → IsSight (nodes past) (next_node past p (act_next p.action)) s → (raw undefined : Bool) → FoundIn (λ r w. Misses r s access.Read w) raw c.writers o (o + n) → FoundIn (λ r d. r ≡ not d) undefined c.defined o (o + n)
-    → AreConflicts (record { war = false; raw = raw; waw = false; undefined = undefined }) past p
-read_conflicts past judged p b o n is c are fits s sights raw undefined missed unknown = record {
-  war = sym (no_war past p (λ a m q. no_writes a m q));
-  raw = read_raw past judged p b o n is c are fits s sights raw missed;
-  waw = sym (no_waw past p (λ a m q. no_writes a m q));
-  undefined = read_undefined past judged p b o n is c are fits undefined unknown;
-} where
+module _ (past : Past) (judged : IsJudged past) (p : Point) (b o n : ℕ) (is : p.action ≡ Host (entry.Read b o n)) where
+  read_now : is_supported_action p.action ≡ true
+  read_now = rw is refl
+
+  read_alone : acts p.action ≡ act_next p.action ∷ []
+  read_alone = rw is refl
+
+  read_steady : (c : Cmd) → byte_writes (p ∷ past) c ≡ byte_writes past c
+  read_steady c = subst (λ (d : Action). byte_writes (record p { action = d } ∷ past) c ≡ byte_writes past c) (sym is) refl
+
+  read_answered : (byte : Byte) → IsTrue (is_answered (λ c. is_cached (p ∷ past) (resource_at c)) (act_next p.action) (access_of access.Read) byte)
+  read_answered byte = subst (λ (d : Action). IsTrue (is_answered (λ c. is_cached (p ∷ past) (resource_at c)) (act_next d) Read byte)) (sym is) (ap not (uncached (p ∷ past) (supported-next p past read_now judged.supported) (resource_at byte)))
+
   no_writes : (a : Act) → Contains (acts p.action) a → (q : ℕ) → writes_of (p ∷ past) q a ≡ []
   no_writes a m q = subst (λ (b : Act). writes_of (p ∷ past) q b ≡ []) (only_one (Hosts (entry.Read b o n)) a (subst (λ (d : Action). Contains (acts d) a) is m)) refl
 
-pub fill_conflicts : (past : Past) → IsJudged past → (p : Point) (b o : ℕ) (l : Length) (word : ℕ) (is : p.action ≡ Run (cmd.Fill b o l word)) (c : BufferContents) → AreContentsOf c past b → o + fill_size (buffer_size past b) o l ≤ buffer_size past b
-    → (s : Sight) → IsSight (nodes past) (next_node past p (act_next p.action)) s → (war waw : Bool)
-    → FoundIn (λ r e. IsEarly r s e) war c.readers o (o + fill_size (buffer_size past b) o l) → FoundIn (λ r w. Misses r s access.Write w) waw c.writers o (o + fill_size (buffer_size past b) o l)
-    → AreConflicts (record { war = war; raw = false; waw = waw; undefined = false }) past p
-fill_conflicts past judged p b o l word is c are fits s sights war waw early missed = record {
-  war = fill_war past judged p b o l word is c are fits s sights war early;
-  raw = sym (no_raw past p (λ a m q. subst (λ (b : Act). reads_of (p ∷ past) q b ≡ []) (only_one (Runs (cmd.Fill b o l word)) a (subst (λ (d : Action). Contains (acts d) a) is m)) (reads_none (p ∷ past) q (Runs (cmd.Fill b o l word)) refl refl)));
-  waw = fill_waw past judged p b o l word is c are fits s sights waw missed;
-  undefined = subst (λ (d : Action). false ≡ breaks_read_undefined past (record p { action = d })) (sym is) refl;
-}
+  pub read_conflicts : HostSeen → (c : BufferContents) → AreContentsOf c past b → o + n ≤ buffer_size past b → (s : Sight) → IsSight (nodes past) (next_node past p (act_next p.action)) s → (raw undefined : Bool)
+      → (o + n ≤ length c.touches → FoundIn (MissesWrite s access.Read) raw c.touches o (o + n)) → (o + n ≤ length c.defined → FoundIn (λ r d. r ≡ not d) undefined c.defined o (o + n))
+      → AreConflicts (record { war = false; raw = raw; waw = false; undefined = undefined }) past p
+  read_conflicts law c are fits s sights raw undefined missed unknown = record {
+    war = sym (no_war past p no_writes);
+    raw = sym (raw_rule past judged p read_now read_steady read_alone law ∙ ap (list_any (missed_by past judged p read_now read_steady read_alone access.Read)) bytes
+        ∙ range_found past (MissesWrite s access.Read) (missed_by past judged p read_now read_steady read_alone access.Read) (λ byte r h. host_misses past judged p read_now read_steady read_alone s sights (ap (λ (d : Action). is_host (act_next d)) is) access.Read byte (read_answered byte) r h) b c are o n fits raw missed);
+    waw = sym (no_waw past p no_writes);
+    undefined = sym (rw is (any_found (λ r d. r ≡ not d) c.defined o n undefined (λ k. is_none ((world past).value (in_buffer b k))) (unknown (rw are.defined_size fits)) (λ k low high q d at e.
+        let same : Some d ≡ Some (is_defined past b k) = sym at ∙ are.defined k (omega (arith, high, fits)) in
+        sym (e ∙ ap not (inside d (is_defined past b k) same) ∙ twice (is_none ((world past).value (in_buffer b k)))))));
+  } where
+    bytes : reads (p ∷ past) (next_node past p (act_next p.action)) ≡ bytes_of b o n
+    bytes = ap (λ (d : Action). reads_of (p ∷ past) p.queue (act_next d)) is
+
+    inside : (x y : Bool) → Some x ≡ Some y → x ≡ y
+    inside x y e = cc
+
+    twice : (t : Bool) → not (not t) ≡ t
+    twice true = refl
+    twice false = refl
+
+-- ---- a host write
+
+module _ (past : Past) (judged : IsJudged past) (p : Point) (b o : ℕ) (bytes : List ℕ) (is : p.action ≡ Host (entry.Write b o bytes)) where
+  set_now : is_supported_action p.action ≡ true
+  set_now = rw is refl
+
+  set_alone : acts p.action ≡ act_next p.action ∷ []
+  set_alone = rw is refl
+
+  set_steady : (c : Cmd) → byte_writes (p ∷ past) c ≡ byte_writes past c
+  set_steady c = subst (λ (d : Action). byte_writes (record p { action = d } ∷ past) c ≡ byte_writes past c) (sym is) refl
+
+  set_answered : (byte : Byte) → IsTrue (is_answered (λ c. is_cached (p ∷ past) (resource_at c)) (act_next p.action) (access_of access.Write) byte)
+  set_answered byte = rw is refl
+
+  set_reads : (a : Act) → Contains (acts p.action) a → (q : ℕ) → reads_of (p ∷ past) q a ≡ []
+  set_reads a m q = subst (λ (b : Act). reads_of (p ∷ past) q b ≡ []) (only_one (Hosts (entry.Write b o bytes)) a (subst (λ (d : Action). Contains (acts d) a) is m)) refl
+
+  set_bytes : writes (p ∷ past) (next_node past p (act_next p.action)) ≡ bytes_of b o (length bytes)
+  set_bytes = ap (λ (d : Action). writes_of (p ∷ past) p.queue (act_next d)) is
+
+  pub set_conflicts : HostSeen → LinePrefix → (c : BufferContents) → AreContentsOf c past b → o + length bytes ≤ buffer_size past b → (s : Sight) → IsSight (nodes past) (next_node past p (act_next p.action)) s → (war waw : Bool)
+      → (o + length bytes ≤ length c.touches → FoundIn (HasEarlyCommand s) war c.touches o (o + length bytes)) → (o + length bytes ≤ length c.touches → FoundIn (MissesWrite s access.Write) waw c.touches o (o + length bytes))
+      → AreConflicts (record { war = war; raw = false; waw = waw; undefined = false }) past p
+  set_conflicts law line c are fits s sights war waw ahead missed = record {
+    war = sym (war_rule past judged p set_now set_steady set_alone line ∙ ap (list_any (early_by past judged p set_now set_steady set_alone)) set_bytes
+        ∙ range_found past (HasEarlyCommand s) (early_by past judged p set_now set_steady set_alone) (λ byte r h. host_early past judged p set_now set_steady set_alone s sights (ap (λ (d : Action). is_host (act_next d)) is) byte r h) b c are o (length bytes) fits war ahead);
+    raw = sym (no_raw past p set_reads);
+    waw = sym (waw_rule past judged p set_now set_steady set_alone law ∙ ap (list_any (missed_by past judged p set_now set_steady set_alone access.Write)) set_bytes
+        ∙ range_found past (MissesWrite s access.Write) (missed_by past judged p set_now set_steady set_alone access.Write) (λ byte r h. host_misses past judged p set_now set_steady set_alone s sights (ap (λ (d : Action). is_host (act_next d)) is) access.Write byte (set_answered byte) r h) b c are o (length bytes) fits waw missed);
+    undefined = subst (λ (d : Action). false ≡ breaks_read_undefined past (record p { action = d })) (sym is) refl;
+  }
+
+-- ---- a command with one act
+
+module _ (past : Past) (judged : IsJudged past) (p : Point) (c : Cmd) (is : p.action ≡ Run c) (supported : is_supported_command c ≡ true) (one : acts (Run c) ≡ Runs c ∷ []) where
+  run_now : is_supported_action p.action ≡ true
+  run_now = ap is_supported_action is ∙ supported
+
+  run_alone : acts p.action ≡ act_next p.action ∷ []
+  run_alone = ap acts is ∙ one ∙ ap (λ (d : Action). act_next d ∷ []) (sym is)
+
+  run_steady : (e : Cmd) → byte_writes (p ∷ past) e ≡ byte_writes past e
+  run_steady e = subst (λ (d : Action). byte_writes (record p { action = d } ∷ past) e ≡ byte_writes past e) (sym is) refl
+
+  run_device : is_host (act_next p.action) ≡ false
+  run_device = ap (λ (d : Action). is_host (act_next d)) is
+
+  run_answered : (k : Access) (byte : Byte) → IsTrue (is_answered (λ c. is_cached (p ∷ past) (resource_at c)) (act_next p.action) (access_of k) byte)
+  run_answered k byte = rw is refl
+
+  run_writes : writes (p ∷ past) (next_node past p (act_next p.action)) ≡ targets (byte_writes past c)
+  run_writes = ap (λ (d : Action). writes_of (p ∷ past) p.queue (act_next d)) is ∙ ap targets (run_steady c)
+
+  run_reads : reads (p ∷ past) (next_node past p (act_next p.action)) ≡ origins (byte_writes past c)
+  run_reads = ap (λ (d : Action). reads_of (p ∷ past) p.queue (act_next d)) is ∙ ap origins (run_steady c)
+
+  run_undefined : false ≡ breaks_read_undefined past p
+  run_undefined = subst (λ (d : Action). false ≡ breaks_read_undefined past (record p { action = d })) (sym is) refl
+
+  abbrev run_missed : Access → Byte → Bool
+  run_missed k byte = missed_by past judged p run_now run_steady run_alone k byte
+
+  abbrev run_early : Byte → Bool
+  run_early byte = early_by past judged p run_now run_steady run_alone byte
+
+  module _ (law : HostSeen) (line : LinePrefix) (s : Sight) (sights : IsSight (nodes past) (next_node past p (act_next p.action)) s) where
+    missed_is : (k : Access) (byte : Byte) (r : Bool) → Misses s k r (touched past byte) → run_missed k byte ≡ r
+    missed_is k byte r h = command_misses past judged p run_now run_steady run_alone s sights run_device k byte (run_answered k byte) r h
+
+    early_is : (byte : Byte) (r : Bool) → IsEarly s r (touched past byte) → run_early byte ≡ r
+    early_is byte r h = command_early past judged p run_now run_steady run_alone s sights run_device byte r h
+
+    -- one that gives a range values
+    pub values_conflicts : (b o n : ℕ) → origins (byte_writes past c) ≡ [] → targets (byte_writes past c) ≡ bytes_of b o n → (u : BufferContents) → AreContentsOf u past b → o + n ≤ buffer_size past b → (war waw : Bool)
+        → (o + n ≤ length u.touches → FoundIn (IsEarly s) war u.touches o (o + n)) → (o + n ≤ length u.touches → FoundIn (Misses s access.Write) waw u.touches o (o + n))
+        → AreConflicts (record { war = war; raw = false; waw = waw; undefined = false }) past p
+    values_conflicts b o n none bytes u are fits war waw ahead missed = record {
+      war = sym (war_rule past judged p run_now run_steady run_alone line ∙ ap (list_any run_early) (run_writes ∙ bytes) ∙ range_found past (IsEarly s) run_early early_is b u are o n fits war ahead);
+      raw = sym (raw_rule past judged p run_now run_steady run_alone law ∙ ap (list_any (run_missed access.Read)) (run_reads ∙ none));
+      waw = sym (waw_rule past judged p run_now run_steady run_alone law ∙ ap (list_any (run_missed access.Write)) (run_writes ∙ bytes) ∙ range_found past (Misses s access.Write) (run_missed access.Write) (missed_is access.Write) b u are o n fits waw missed);
+      undefined = run_undefined;
+    }
+
+    -- a copy
+    pub regions_conflicts : (b d : ℕ) (gs : List BufferCopy) → origins (byte_writes past c) ≡ flat_map (λ g. bytes_of b g.source_offset g.size) gs → targets (byte_writes past c) ≡ flat_map (λ g. bytes_of d g.destination_offset g.size) gs
+        → (u v : BufferContents) → AreContentsOf u past b → AreContentsOf v past d → ((g : BufferCopy) → Contains gs g → g.source_offset + g.size ≤ buffer_size past b) → ((g : BufferCopy) → Contains gs g → g.destination_offset + g.size ≤ buffer_size past d) → (war raw waw : Bool)
+        → FoundAmong (λ r g. g.destination_offset + g.size ≤ length v.touches → FoundIn (IsEarly s) r v.touches g.destination_offset (g.destination_offset + g.size)) war gs
+        → FoundAmong (λ r g. g.source_offset + g.size ≤ length u.touches → FoundIn (Misses s access.Read) r u.touches g.source_offset (g.source_offset + g.size)) raw gs
+        → FoundAmong (λ r g. g.destination_offset + g.size ≤ length v.touches → FoundIn (Misses s access.Write) r v.touches g.destination_offset (g.destination_offset + g.size)) waw gs
+        → AreConflicts (record { war = war; raw = raw; waw = waw; undefined = false }) past p
+    regions_conflicts b d gs from to u v are_u are_v fits_u fits_v war raw waw ahead unread unwritten = record {
+      war = sym (war_rule past judged p run_now run_steady run_alone line ∙ ap (list_any run_early) (run_writes ∙ to) ∙ regions_found past (IsEarly s) run_early early_is d v are_v (λ g. g.destination_offset) gs fits_v war ahead);
+      raw = sym (raw_rule past judged p run_now run_steady run_alone law ∙ ap (list_any (run_missed access.Read)) (run_reads ∙ from) ∙ regions_found past (Misses s access.Read) (run_missed access.Read) (missed_is access.Read) b u are_u (λ g. g.source_offset) gs fits_u raw unread);
+      waw = sym (waw_rule past judged p run_now run_steady run_alone law ∙ ap (list_any (run_missed access.Write)) (run_writes ∙ to) ∙ regions_found past (Misses s access.Write) (run_missed access.Write) (missed_is access.Write) d v are_v (λ g. g.destination_offset) gs fits_v waw unwritten);
+      undefined = run_undefined;
+    }
+
+-- ---- fills, updates and copies
+
+module _ (past : Past) (judged : IsJudged past) (p : Point) (law : HostSeen) (line : LinePrefix) (s : Sight) (sights : IsSight (nodes past) (next_node past p (act_next p.action)) s) where
+  pub fill_conflicts : (b o : ℕ) (n : Length) (w : ℕ) → p.action ≡ Run (cmd.Fill b o n w) → (u : BufferContents) → AreContentsOf u past b → o + fill_size (buffer_size past b) o n ≤ buffer_size past b → (war waw : Bool)
+      → (o + fill_size (buffer_size past b) o n ≤ length u.touches → FoundIn (IsEarly s) war u.touches o (o + fill_size (buffer_size past b) o n))
+      → (o + fill_size (buffer_size past b) o n ≤ length u.touches → FoundIn (Misses s access.Write) waw u.touches o (o + fill_size (buffer_size past b) o n))
+      → AreConflicts (record { war = war; raw = false; waw = waw; undefined = false }) past p
+  fill_conflicts b o n w is = values_conflicts past judged p (cmd.Fill b o n w) is refl refl law line s sights b o (fill_size (buffer_size past b) o n) (fill-origins past b o n w) (fill-targets past b o n w)
+
+  pub update_conflicts : (b o : ℕ) (bytes : List ℕ) → p.action ≡ Run (cmd.Update b o bytes) → (u : BufferContents) → AreContentsOf u past b → o + length bytes ≤ buffer_size past b → (war waw : Bool)
+      → (o + length bytes ≤ length u.touches → FoundIn (IsEarly s) war u.touches o (o + length bytes)) → (o + length bytes ≤ length u.touches → FoundIn (Misses s access.Write) waw u.touches o (o + length bytes))
+      → AreConflicts (record { war = war; raw = false; waw = waw; undefined = false }) past p
+  update_conflicts b o bytes is = values_conflicts past judged p (cmd.Update b o bytes) is refl refl law line s sights b o (length bytes) (update-origins past b o bytes) (update-targets past b o bytes)
+
+  pub copy_conflicts : (b d : ℕ) (gs : List BufferCopy) → p.action ≡ Run (cmd.Copy b d gs)
+      → (u v : BufferContents) → AreContentsOf u past b → AreContentsOf v past d → ((g : BufferCopy) → Contains gs g → g.source_offset + g.size ≤ buffer_size past b) → ((g : BufferCopy) → Contains gs g → g.destination_offset + g.size ≤ buffer_size past d) → (war raw waw : Bool)
+      → FoundAmong (λ r g. g.destination_offset + g.size ≤ length v.touches → FoundIn (IsEarly s) r v.touches g.destination_offset (g.destination_offset + g.size)) war gs
+      → FoundAmong (λ r g. g.source_offset + g.size ≤ length u.touches → FoundIn (Misses s access.Read) r u.touches g.source_offset (g.source_offset + g.size)) raw gs
+      → FoundAmong (λ r g. g.destination_offset + g.size ≤ length v.touches → FoundIn (Misses s access.Write) r v.touches g.destination_offset (g.destination_offset + g.size)) waw gs
+      → AreConflicts (record { war = war; raw = raw; waw = waw; undefined = false }) past p
+  copy_conflicts b d gs is = regions_conflicts past judged p (cmd.Copy b d gs) is refl refl law line s sights b d gs (copy-origins-flat b d gs) (copy-targets-flat b d gs)

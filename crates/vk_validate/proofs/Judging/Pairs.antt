@@ -23,7 +23,7 @@ keeps_owners _ = true
 -- no act of a supported form transfers anything
 all_keep : (d : Action) → is_supported_action d ≡ true → list_all keeps_owners (acts d) ≡ true
 all_keep = let P : Action → Type 0 = λ d. list_all keeps_owners (acts d) ≡ true in
-    action_cases P (λ x h. refl) (λ s. refl) (command_cases (λ c. P (Run c)) (λ b o n w. refl) (λ es all. elements es all) (λ v ms. dependencies (SetOf v) 0 ms) (λ v ms. dependencies (AwaitOf v) 0 ms)) (λ s. refl)
+    action_cases P (λ x h. refl) (λ s. refl) (command_cases (λ c. P (Run c)) (λ b o n w. refl) (λ b o bytes. refl) (λ s d gs. refl) (λ es all. elements es all) (λ v ms. dependencies (SetOf v) 0 ms) (λ v ms. dependencies (AwaitOf v) 0 ms)) (λ s. refl)
   where
     elements : (es : List Element) → list_all is_memory es ≡ true → list_all keeps_owners (map (Depends Barrier) es) ≡ true
     elements [] all = refl

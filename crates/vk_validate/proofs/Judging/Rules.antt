@@ -5,14 +5,13 @@ use Rattle.std.proofs.lemmas.List.{drop_all}
 use Rattle.vk_model.specs.declared.rule.Rule.{Rule}
 use Rattle.vk_model.specs.declared.rule.Rule.TheVariants as rule
 use Rattle.vk_model.specs.Basics.{first_that}
-use Rattle.vk_model.specs.Trace.Point.{Past, Point, on_host}
+use Rattle.vk_model.specs.Trace.Point.{Past, Point}
 use Rattle.vk_model.specs.Rules.Table.{breaks, first_rule}
 use Rattle.vk_model.specs.Rules.Hazards.{breaks_hazard_war, breaks_hazard_raw, breaks_hazard_waw, breaks_in_use, breaks_read_undefined}
 use Rattle.vk_model.specs.Rules.Traces.{breaks_limit}
 use Rattle.vk_history.specs.Supported.{is_supported_action}
 use Rattle.vk_history.specs.Judged.{early_rules, late_rules, first_among}
 use Rattle.vk_validate.specs.Inner.Early.{breaks_early}
-use Rattle.vk_validate.specs.Inner.RuleParts.{frees_used}
 use Rattle.vk_validate.proofs.Judging.Unbroken as unbroken
 use Rattle.vk_validate.proofs.Judging.Pairs.{no_owner_pair}
 
@@ -136,18 +135,18 @@ module _ (past : Past) (p : Point) (now : is_supported_action p.action ≡ true)
   rest_unbroken rule.ReadUndefined u = refl
   rest_unbroken rule.Limit u = refl
 
-module _ (past : Past) (p : Point) (now : is_supported_action p.action ≡ true) where
+module _ (past : Past) (p : Point) where
   -- the late rules, by what is known of the accesses
   abbrev pub late : (war raw waw used undefined over : Bool) → Option Rule
   late war raw waw used undefined over = cond war (Some rule.HazardWar) (cond raw (Some rule.HazardRaw) (cond waw (Some rule.HazardWaw) (cond used (Some rule.InUse) (cond undefined (Some rule.ReadUndefined) (cond over (Some rule.Limit) None)))))
 
-  pub found_late : (war raw waw used undefined over : Bool) → war ≡ breaks_hazard_war past p → raw ≡ breaks_hazard_raw past p → waw ≡ breaks_hazard_waw past p → used ≡ on_host (frees_used past) p → undefined ≡ breaks_read_undefined past p → over ≡ breaks_limit past p
+  pub found_late : (war raw waw used undefined over : Bool) → war ≡ breaks_hazard_war past p → raw ≡ breaks_hazard_raw past p → waw ≡ breaks_hazard_waw past p → used ≡ breaks_in_use past p → undefined ≡ breaks_read_undefined past p → over ≡ breaks_limit past p
       → late war raw waw used undefined over ≡ first_among late_rules past p
   unfolding breaks
   found_late war raw waw used undefined over a b c u d e =
       ap (λ x. late x raw waw used undefined over) a
       ∙ ap (λ x. late (breaks_hazard_war past p) x waw used undefined over) b
       ∙ ap (λ x. late (breaks_hazard_war past p) (breaks_hazard_raw past p) x used undefined over) c
-      ∙ ap (λ x. late (breaks_hazard_war past p) (breaks_hazard_raw past p) (breaks_hazard_waw past p) x undefined over) (u ∙ unbroken.in_use_is past p now)
+      ∙ ap (λ x. late (breaks_hazard_war past p) (breaks_hazard_raw past p) (breaks_hazard_waw past p) x undefined over) u
       ∙ ap (λ x. late (breaks_hazard_war past p) (breaks_hazard_raw past p) (breaks_hazard_waw past p) (breaks_in_use past p) x over) d
       ∙ ap (λ x. late (breaks_hazard_war past p) (breaks_hazard_raw past p) (breaks_hazard_waw past p) (breaks_in_use past p) (breaks_read_undefined past p) x) e

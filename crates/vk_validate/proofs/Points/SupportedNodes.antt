@@ -1,8 +1,9 @@
--- The nodes of a past of supported forms: what they read and write.
-use Rattle.std.proofs.Common.{◌≡◌, ◌+◌, ℕ, List, [], ◌∷◌, map, Bool, true, false, refl, ap, sym, ◌∙◌, subst, Option, Some, None, inl, inr, ◌⊎◌, ⊎_elim, ◌==◌, ◌++◌}
-use Rattle.std.specs.Prelude.{Contains, ◌%◌, option_and_then}
+-- The nodes of a past of supported forms: what they read and write, and where they are.
+use Rattle.std.proofs.Common.{◌≡◌, ◌<◌, ◌+◌, ℕ, List, [], ◌∷◌, map, Bool, true, false, nat_lt, refl, ap, sym, subst, arith, Option, Some, None, inl, inr, ◌⊎◌, ⊎_elim, ◌==◌, ◌++◌}
+use Rattle.std.specs.Prelude.{Contains, option_and_then}
+use Rattle.std.specs.Option.{option_map}
 use Rattle.std.specs.List.{list_all, enumerate_from}
-use Rattle.std.proofs.lemmas.Bool.{and_parts}
+use Rattle.std.proofs.lemmas.Bool.{and_parts, ltb-false}
 use Rattle.vk_model.specs.declared.command.Cmd.{Cmd}
 use Rattle.vk_model.specs.declared.command.Cmd.TheVariants as cmd
 use Rattle.vk_model.specs.declared.command.Dependency.{Dependency}
@@ -10,36 +11,37 @@ use Rattle.vk_model.specs.declared.command.Element.{Element}
 use Rattle.vk_model.specs.declared.command.Element.TheVariants as element
 use Rattle.vk_model.specs.declared.entry.Entry.{Entry}
 use Rattle.vk_model.specs.declared.entry.Entry.TheVariants as entry
-use Rattle.vk_model.specs.Basics.{holds, below, byte_of}
-use Rattle.vk_model.specs.World.Bytes.{in_buffer}
-use Rattle.vk_model.specs.World.ByteWrites.{byte_write, Value, fill_size, buffer_size}
+use Rattle.vk_model.specs.declared.resource.MemoryInfo.{MemoryInfo}
+use Rattle.vk_model.specs.declared.rule.Rule.TheVariants as rule
+use Rattle.vk_model.specs.Basics.{holds}
+use Rattle.vk_model.specs.World.Bytes.{Byte}
 use Rattle.vk_model.specs.Trace.Point.{Past, Point, Action, Host, Run}
-use Rattle.vk_model.specs.Trace.Objects.{made, is_cached, type_at, resource_in}
+use Rattle.vk_model.specs.Trace.Objects.{made, memory, memory_in, is_cached, type_at, resource_in}
+use Rattle.vk_model.specs.Trace.Order.{host}
+use Rattle.vk_model.specs.Trace.Structure.{IsOrdered, Follows}
+use Rattle.vk_model.specs.Rules.Table.{breaks}
+use Rattle.vk_model.specs.Rules.Fault.{Comes, newest, older, IsUnbroken}
 use Rattle.vk_model.specs.Sync.Node.{Node, Act, Hosts, Waits, Signals, Runs, Depends, Barrier, SetOf, AwaitOf, acts, nodes}
-use Rattle.vk_model.specs.Sync.Edge.{is_host, is_command}
-use Rattle.vk_model.specs.Sync.Access.{host_writes, host_reads, writes_of, reads_of, origins}
-use Rattle.vk_model.proofs.Lists.Members.{all_passes}
-use Rattle.vk_laws.proofs.Nodes.Points.{at_point}
+use Rattle.vk_model.specs.Sync.Access.{is_in, host_writes, host_reads, writes_of, reads_of}
+use Rattle.vk_model.proofs.Lists.Members.{all_passes, contains-cons, none_in}
+use Rattle.vk_laws.proofs.Nodes.Points.{at_point, action_of}
+use Rattle.vk_laws.proofs.Nodes.Steady.{comes_within}
 use Rattle.vk_order.specs.Wide.{is_wide, AreWide}
 use Rattle.vk_history.specs.Supported.{is_supported, is_supported_action, is_supported_entry, is_memory}
 use Rattle.vk_history.proofs.Points.Forms.{entry_cases, command_cases, action_cases}
 use Rattle.vk_history.proofs.Points.Pasts.{supported-cons, made_supported}
-
-abbrev pub is_fill : Cmd → Bool
-is_fill (cmd.Fill b o n w) = true
-is_fill _ = false
 
 -- the acts of supported forms
 abbrev pub is_supported_act : Act → Bool
 is_supported_act (Hosts x) = is_supported_entry x
 is_supported_act (Waits s) = true
 is_supported_act (Signals s) = true
-is_supported_act (Runs c) = is_fill c
+is_supported_act (Runs c) = true
 is_supported_act (Depends r e) = is_memory e
 
 pub supported_acts : (d : Action) → is_supported_action d ≡ true → list_all is_supported_act (acts d) ≡ true
 supported_acts = let P : Action → Type 0 = λ d. list_all is_supported_act (acts d) ≡ true in
-    action_cases P (λ x h. rw h refl) (λ s. refl) (command_cases (λ c. P (Run c)) (λ b o n w. refl) (λ es all. elements es all) (λ v ms. numbered (λ k d. Depends (SetOf v k) (element.Memory d)) (λ k d. refl) 0 ms) (λ v ms. numbered (λ k d. Depends (AwaitOf v k) (element.Memory d)) (λ k d. refl) 0 ms)) (λ s. refl)
+    action_cases P (λ x h. rw h refl) (λ s. refl) (command_cases (λ c. P (Run c)) (λ b o n w. refl) (λ b o bytes. refl) (λ s d gs. refl) (λ es all. elements es all) (λ v ms. numbered (λ k d. Depends (SetOf v k) (element.Memory d)) (λ k d. refl) 0 ms) (λ v ms. numbered (λ k d. Depends (AwaitOf v k) (element.Memory d)) (λ k d. refl) 0 ms)) (λ s. refl)
   where
     elements : (es : List Element) → list_all is_memory es ≡ true → list_all is_supported_act (map (Depends Barrier) es) ≡ true
     elements [] all = refl
@@ -70,76 +72,107 @@ all_wide past supported n c = wide_act n.act (supported_node past supported n c)
 
 -- ---- what they read and write
 
-values_only : (b o : ℕ) (f : ℕ → ℕ) (ks : List ℕ) → origins (map (λ k. byte_write (in_buffer b (o + k)) (Value (f k))) ks) ≡ []
-values_only b o f [] = refl
-values_only b o f (k ∷ ks) = values_only b o f ks
+-- a command, or a host entry
+abbrev pub Accesses : Act → Type 0
+Accesses a = ((c : Cmd) × (a ≡ Runs c)) ⊎ ((e : Entry) × (a ≡ Hosts e))
 
--- no act but of the host reads
-pub reads_none : (past : Past) (q : ℕ) (a : Act) → is_supported_act a ≡ true → is_host a ≡ false → reads_of past q a ≡ []
-reads_none past q (Hosts x) h host = absurd cc
-reads_none past q (Waits s) h host = refl
-reads_none past q (Signals s) h host = refl
-reads_none past q (Depends r (element.Memory d)) h host = refl
-reads_none past q (Depends r (element.Buffer e)) h host = absurd cc
-reads_none past q (Depends r (element.Image e)) h host = absurd cc
-reads_none past q (Runs (cmd.Fill b o n w)) h host = values_only b o (λ k. byte_of w (k % 4)) (below (fill_size (buffer_size past b) o n))
-reads_none past q (Runs (cmd.Update b o bytes)) h host = absurd cc
-reads_none past q (Runs (cmd.Copy a b gs)) h host = absurd cc
-reads_none past q (Runs (cmd.Clear i l color rs)) h host = absurd cc
-reads_none past q (Runs (cmd.CopyIn b i l gs)) h host = absurd cc
-reads_none past q (Runs (cmd.CopyOut i l b gs)) h host = absurd cc
-reads_none past q (Runs (cmd.CopyImage a l b m gs)) h host = absurd cc
-reads_none past q (Runs (cmd.Barrier es)) h host = absurd cc
-reads_none past q (Runs (cmd.Set v ms)) h host = absurd cc
-reads_none past q (Runs (cmd.Await v ms)) h host = absurd cc
+-- only these write
+pub known_writer : (past : Past) (q : ℕ) (b : Byte) (a : Act) → is_supported_act a ≡ true → is_in b (writes_of past q a) ≡ true → Accesses a
+known_writer past q b (Hosts x) h w = inr (x, refl)
+known_writer past q b (Runs c) h w = inl (c, refl)
+known_writer past q b (Waits s) h w = absurd cc
+known_writer past q b (Signals s) h w = absurd cc
+known_writer past q b (Depends r (element.Memory d)) h w = absurd cc
+known_writer past q b (Depends r (element.Buffer e)) h w = absurd cc
+known_writer past q b (Depends r (element.Image e)) h w = absurd cc
 
-host_writes_none : (x : Entry) → is_supported_entry x ≡ true → host_writes x ≡ []
-host_writes_none = let P : Entry → Type 0 = λ x. host_writes x ≡ [] in entry_cases P (λ i b t is other. refl) (λ b. refl) (λ b o n. refl) (λ i v. refl) (λ i. refl) (λ s v. refl) (λ ws. refl) (λ q bs. refl)
+-- and read
+pub known_reader : (past : Past) (q : ℕ) (b : Byte) (a : Act) → is_supported_act a ≡ true → is_in b (reads_of past q a) ≡ true → Accesses a
+known_reader past q b (Hosts x) h w = inr (x, refl)
+known_reader past q b (Runs c) h w = inl (c, refl)
+known_reader past q b (Waits s) h w = absurd cc
+known_reader past q b (Signals s) h w = absurd cc
+known_reader past q b (Depends r (element.Memory d)) h w = absurd cc
+known_reader past q b (Depends r (element.Buffer e)) h w = absurd cc
+known_reader past q b (Depends r (element.Image e)) h w = absurd cc
 
--- and no act but a command writes
-pub runs_or_none : (past : Past) (q : ℕ) (a : Act) → is_supported_act a ≡ true → ((c : Cmd) × (a ≡ Runs c)) ⊎ (writes_of past q a ≡ [])
-runs_or_none past q (Hosts x) h = inr (host_writes_none x h)
-runs_or_none past q (Waits s) h = inr refl
-runs_or_none past q (Signals s) h = inr refl
-runs_or_none past q (Runs c) h = inl (c, refl)
-runs_or_none past q (Depends r (element.Memory d)) h = inr refl
-runs_or_none past q (Depends r (element.Buffer e)) h = absurd cc
-runs_or_none past q (Depends r (element.Image e)) h = absurd cc
+-- ---- queues
+
+-- what has come is of some past
+came : (past : Past) (p : Point) → Contains past p → (before : Past) × Comes past before p
+came [] p c = absurd (none_in p c)
+came (q ∷ past) p c = ⊎_elim (λ e. subst (λ (r : Point). (before : Past) × Comes (q ∷ past) before r) e (past, newest)) (λ older_c. let at = came past p older_c in (at.0, older at.1)) (contains-cons q past p c)
+
+ordered_older : (newer past : Past) → IsOrdered (newer ++ past) → IsOrdered past
+ordered_older [] past o = o
+ordered_older (q ∷ newer) past o = ordered_older newer past o.1
+
+-- a command is on one of four queues
+pub queue_low : (past : Past) → IsUnbroken past → IsOrdered past → (x : Node) (c : Cmd) → Contains (nodes past) x → x.act ≡ Runs c → x.point.queue < 4
+unfolding breaks
+queue_low past sound ordered x c there is =
+    let s = at_point past x there in
+    let action : s.at.action ≡ Run c = action_of s.at.action c (subst (λ (a : Act). Contains (acts s.at.action) a) is s.acted) in
+    let follows : Follows s.past s.at (Run c) = subst (λ (d : Action). Follows s.past s.at d) action (ordered_older s.newer (s.at ∷ s.past) (subst (λ (l : Past). IsOrdered l) s.whole ordered)).0 in
+    let at = came s.past (host s.at.entry (entry.Submit s.at.queue follows.batches)) follows.submitted in
+    let comes : Comes past at.0 (host s.at.entry (entry.Submit s.at.queue follows.batches)) = comes_within past s.newer (s.at ∷ s.past) s.whole at.0 _ (older at.1) in
+    subst (λ (q : ℕ). q < 4) (ap (λ (p : Point). p.queue) (sym s.pointed)) (go s.at.queue (nat_lt 3 s.at.queue) refl (λ h. sound at.0 (host s.at.entry (entry.Submit s.at.queue follows.batches)) rule.Queue (comes, h)))
+  where
+    go : (q : ℕ) (b : Bool) → nat_lt 3 q ≡ b → (nat_lt 3 q ≡ true → ⊥) → q < 4
+    go q true over never = absurd (never over)
+    go q false within never = let least = ltb-false 3 q within in omega (arith, least)
 
 -- ---- memory of supported forms is not cached
 
-pub uncached : (past : Past) → is_supported past ≡ true → (i : ℕ) → is_cached past i ≡ false
-uncached past supported i = go (made past i) refl where
-  by_form : (x : Entry) → is_supported_entry x ≡ true → holds (option_and_then (λ r. type_at past r.place) (resource_in x)) (λ u. u == 2) ≡ false
-  by_form = let P : Entry → Type 0 = λ x. holds (option_and_then (λ r. type_at past r.place) (resource_in x)) (λ u. u == 2) ≡ false in entry_cases P (λ i b t is other. rw is other) (λ b. refl) (λ b o n. refl) (λ i v. refl) (λ i. refl) (λ s v. refl) (λ ws. refl) (λ q bs. refl)
+module _ (past : Past) (supported : is_supported past ≡ true) where
+  -- memory objects of the trace are of no type with a cache
+  object_uncached : (m : ℕ) → holds (option_map (λ (x : MemoryInfo). x.memory_type) (memory past m)) (λ u. u == 2) ≡ false
+  object_uncached m = go (made past m) refl where
+    by_form : (x : Entry) → is_supported_entry x ≡ true → holds (option_map (λ (x : MemoryInfo). x.memory_type) (memory_in x)) (λ u. u == 2) ≡ false
+    by_form = entry_cases (λ x. holds (option_map (λ (x : MemoryInfo). x.memory_type) (memory_in x)) (λ u. u == 2) ≡ false)
+        (λ i b t is other. refl) (λ i b m o is. refl) (λ i m other. other) (λ m. refl) (λ r. refl) (λ b. refl) (λ b. refl) (λ b o bytes. refl) (λ b o n. refl) (λ i v. refl) (λ i. refl) (λ s v. refl) (λ ws. refl) (λ q bs. refl)
 
-  go : (o : Option Entry) → made past i ≡ o → holds (option_and_then (λ r. type_at past r.place) (option_and_then resource_in o)) (λ u. u == 2) ≡ false
-  go None e = refl
-  go (Some x) e = by_form x (made_supported past supported i x e)
+    go : (o : Option Entry) → made past m ≡ o → holds (option_map (λ (x : MemoryInfo). x.memory_type) (option_and_then memory_in o)) (λ u. u == 2) ≡ false
+    go None e = refl
+    go (Some x) e = by_form x (made_supported past supported m x e)
+
+  pub uncached : (i : ℕ) → is_cached past i ≡ false
+  uncached i = go (made past i) refl where
+    by_form : (x : Entry) → is_supported_entry x ≡ true → holds (option_and_then (λ r. type_at past r.place) (resource_in x)) (λ u. u == 2) ≡ false
+    by_form = entry_cases (λ x. holds (option_and_then (λ r. type_at past r.place) (resource_in x)) (λ u. u == 2) ≡ false)
+        (λ i b t is other. rw is other) (λ i b m o is. rw is (object_uncached m)) (λ i m other. refl) (λ m. refl) (λ r. refl) (λ b. refl) (λ b. refl) (λ b o bytes. refl) (λ b o n. refl) (λ i v. refl) (λ i. refl) (λ s v. refl) (λ ws. refl) (λ q bs. refl)
+
+    go : (o : Option Entry) → made past i ≡ o → holds (option_and_then (λ r. type_at past r.place) (option_and_then resource_in o)) (λ u. u == 2) ≡ false
+    go None e = refl
+    go (Some x) e = by_form x (made_supported past supported i x e)
 
 -- the older points of a supported past
 pub supported_older : (newer past : Past) → is_supported (newer ++ past) ≡ true → is_supported past ≡ true
 supported_older [] past h = h
 supported_older (q ∷ newer) past h = supported_older newer past (supported-cons q (newer ++ past) h).1
 
--- ---- the acts of a point, by whether it reads or fills
+-- ---- points that access no bytes
 
--- whether an action makes no read and no fill
+-- whether an action neither reads nor writes bytes
 abbrev pub calm : Action → Bool
 calm (Host (entry.Read b o n)) = false
+calm (Host (entry.Write b o bytes)) = false
 calm (Run (cmd.Fill b o n w)) = false
+calm (Run (cmd.Update b o bytes)) = false
+calm (Run (cmd.Copy s d gs)) = false
 calm _ = true
 
--- an act of a supported form, that is no host entry that reads and no fill
+-- and an act
 abbrev pub is_calm : Act → Bool
 is_calm (Hosts (entry.Read b o n)) = false
+is_calm (Hosts (entry.Write b o bytes)) = false
 is_calm (Runs c) = false
 is_calm _ = true
 
 pub calm_acts : (d : Action) → is_supported_action d ≡ true → calm d ≡ true → list_all is_calm (acts d) ≡ true
 calm_acts = let P : Action → Type 0 = λ d. calm d ≡ true → list_all is_calm (acts d) ≡ true in
-    action_cases P (entry_cases (λ x. P (Host x)) (λ i b t at other c. refl) (λ b c. refl) (λ b o n c. absurd cc) (λ i v c. refl) (λ i c. refl) (λ s v c. refl) (λ ws c. refl) (λ q bs c. refl)) (λ s c. refl)
-    (command_cases (λ c. P (Run c)) (λ b o n w c. absurd cc) (λ es all c. elements es) (λ v ms c. numbered (λ k d. Depends (SetOf v k) (element.Memory d)) (λ k d. refl) 0 ms) (λ v ms c. numbered (λ k d. Depends (AwaitOf v k) (element.Memory d)) (λ k d. refl) 0 ms)) (λ s c. refl)
+    action_cases P (entry_cases (λ x. P (Host x)) (λ i b t at other c. refl) (λ i b m o at c. refl) (λ i m other c. refl) (λ m c. refl) (λ r c. refl) (λ b c. refl) (λ b c. refl) (λ b o bytes c. absurd cc) (λ b o n c. absurd cc) (λ i v c. refl) (λ i c. refl) (λ s v c. refl) (λ ws c. refl) (λ q bs c. refl)) (λ s c. refl)
+    (command_cases (λ c. P (Run c)) (λ b o n w c. absurd cc) (λ b o bytes c. absurd cc) (λ s d gs c. absurd cc) (λ es all c. elements es) (λ v ms c. numbered (λ k d. Depends (SetOf v k) (element.Memory d)) (λ k d. refl) 0 ms) (λ v ms c. numbered (λ k d. Depends (AwaitOf v k) (element.Memory d)) (λ k d. refl) 0 ms)) (λ s c. refl)
   where
     elements : (es : List Element) → list_all is_calm (map (Depends Barrier) es) ≡ true
     elements [] = refl
@@ -149,14 +182,15 @@ calm_acts = let P : Action → Type 0 = λ d. calm d ≡ true → list_all is_ca
     numbered of ok k [] = refl
     numbered of ok k (m ∷ ms) = rw (ok k m) (numbered of ok (k + 1) ms)
 
-pub calm_reads : (past : Past) (q : ℕ) (a : Act) → is_supported_act a ≡ true → is_calm a ≡ true → reads_of past q a ≡ []
-calm_reads past q (Hosts x) h c = let P : Entry → Type 0 = λ x. is_calm (Hosts x) ≡ true → host_reads x ≡ [] in entry_cases P (λ i b t at other c. refl) (λ b c. refl) (λ b o n c. absurd cc) (λ i v c. refl) (λ i c. refl) (λ s v c. refl) (λ ws c. refl) (λ q bs c. refl) x h c
-calm_reads past q (Waits s) h c = refl
-calm_reads past q (Signals s) h c = refl
-calm_reads past q (Runs x) h c = absurd cc
-calm_reads past q (Depends r (element.Memory d)) h c = refl
-calm_reads past q (Depends r (element.Buffer e)) h c = absurd cc
-calm_reads past q (Depends r (element.Image e)) h c = absurd cc
+calm_entry : (x : Entry) → is_supported_entry x ≡ true → is_calm (Hosts x) ≡ true → (host_reads x ≡ []) × (host_writes x ≡ [])
+calm_entry = let P : Entry → Type 0 = λ x. is_calm (Hosts x) ≡ true → (host_reads x ≡ []) × (host_writes x ≡ []) in
+    entry_cases P (λ i b t at other c. (refl, refl)) (λ i b m o at c. (refl, refl)) (λ i m other c. (refl, refl)) (λ m c. (refl, refl)) (λ r c. (refl, refl)) (λ b c. (refl, refl)) (λ b c. (refl, refl)) (λ b o bytes c. absurd cc) (λ b o n c. absurd cc) (λ i v c. (refl, refl)) (λ i c. (refl, refl)) (λ s v c. (refl, refl)) (λ ws c. (refl, refl)) (λ q bs c. (refl, refl))
 
-pub calm_writes : (past : Past) (q : ℕ) (a : Act) → is_supported_act a ≡ true → is_command a ≡ false → writes_of past q a ≡ []
-calm_writes past q a h c = ⊎_elim (λ r. absurd (let bad : true ≡ false = sym (ap is_command r.1) ∙ c in cc)) (λ none. none) (runs_or_none past q a h)
+pub calm_accesses : (past : Past) (q : ℕ) (a : Act) → is_supported_act a ≡ true → is_calm a ≡ true → (reads_of past q a ≡ []) × (writes_of past q a ≡ [])
+calm_accesses past q (Hosts x) h c = calm_entry x h c
+calm_accesses past q (Waits s) h c = (refl, refl)
+calm_accesses past q (Signals s) h c = (refl, refl)
+calm_accesses past q (Runs x) h c = absurd cc
+calm_accesses past q (Depends r (element.Memory d)) h c = (refl, refl)
+calm_accesses past q (Depends r (element.Buffer e)) h c = absurd cc
+calm_accesses past q (Depends r (element.Image e)) h c = absurd cc

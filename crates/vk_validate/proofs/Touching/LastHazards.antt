@@ -1,36 +1,38 @@
--- The hazards of a point with one node, by the last writer and the last reader of each byte.
-use Rattle.std.proofs.Common.{◌≡◌, ⊎_elim, ◌≤◌, ◌+◌, ℕ, List, [], ◌∷◌, ◌++◌, length, Bool, true, false, not, ◌&&◌, refl, ap, sym, ◌∙◌, subst, arith, Option, Some, None}
+-- The hazards of a point with one node, by the last nodes that touched each byte.
+use Rattle.std.proofs.Common.{◌≡◌, ◌⊎◌, ⊎_elim, ◌≤◌, ◌<◌, ◌+◌, ℕ, zero, suc, List, [], ◌∷◌, ◌++◌, length, Bool, true, false, not, ◌&&◌, nat_lt, refl, ap, sym, ◌∙◌, subst, arith, Option, Some, None}
 use Rattle.std.specs.Prelude.{Contains}
 use Rattle.std.specs.List.{list_any}
-use Rattle.std.proofs.lemmas.Bool.{lt-ltb, ltb-true, and_parts, and_from, not-true, cases_lt, false_from_ne_true}
+use Rattle.std.proofs.lemmas.Bool.{lt-ltb, ltb-true, and_parts, and_from, not-true, cases_lt}
 use Rattle.std.proofs.Math.Bool.{or-false}
 use Rattle.vk_model.specs.declared.command.Cmd.{Cmd}
 use Rattle.vk_model.specs.declared.entry.Entry.{Entry}
 use Rattle.vk_model.specs.Basics.{holds}
 use Rattle.vk_model.specs.World.Bytes.{Byte, resource_at}
 use Rattle.vk_model.specs.World.ByteWrites.{byte_writes}
-use Rattle.vk_model.specs.Trace.Point.{Past, Point, Action, Host}
+use Rattle.vk_model.specs.Trace.Point.{Past, Point}
 use Rattle.vk_model.specs.Trace.Objects.{is_cached}
 use Rattle.vk_model.specs.Sync.Node.{Node, Act, Hosts, Runs, nodes, acts, with_acts, next_nodes}
-use Rattle.vk_model.specs.Sync.Edge.{is_host}
+use Rattle.vk_model.specs.Sync.Edge.{is_host, is_element}
 use Rattle.vk_model.specs.Sync.Before.{before}
 use Rattle.vk_model.specs.Sync.Seen.{Access, Read, Write}
-use Rattle.vk_model.specs.Sync.Access.{writes, reads, host_reads, is_in, is_seen, share, precedes, hazard, war, raw, waw, reads_of}
+use Rattle.vk_model.specs.Sync.Access.{writes, reads, is_in, is_seen, share, precedes, hazard, war, raw, waw}
 use Rattle.vk_model.specs.Rules.Table.{fault}
-use Rattle.vk_model.proofs.Lists.Members.{some_member, member_passes, contains-cons, contains-head, contains-tail, none_in}
+use Rattle.vk_model.proofs.Lists.Members.{some_member, member_passes, contains-cons, contains-head, contains-tail, none_in, only_one, place_has, any_same}
 use Rattle.vk_model.proofs.Lists.Truths.{bool_same, clash, no}
 use Rattle.vk_model.proofs.Sync.Numbers.{numbered, number_below, unique}
-use Rattle.vk_model.proofs.Sync.Growth.{growth}
-use Rattle.vk_model.proofs.Sync.Paths.{before_path, transitive}
-use Rattle.vk_laws.proofs.Nodes.Actions.{host_action}
-use Rattle.vk_laws.proofs.Nodes.NoHazard.{host_in_order}
-use Rattle.vk_laws.proofs.Nodes.Points.{at_point}
-use Rattle.vk_laws.proofs.Nodes.Prefixes.{has_more}
 use Rattle.vk_laws.proofs.Accesses.TaskAccesses.{byte_itself}
-use Rattle.vk_history.specs.Touched.{next_node, last_writer, last_reader, reader_next}
+use Rattle.vk_order.specs.declared.lines.Line.{Line}
+use Rattle.vk_order.specs.declared.lines.Line.TheVariants.{Host as OfHost, Commands as OfCommands}
+use Rattle.vk_order.specs.Lines.{line_of, line_on}
+use Rattle.vk_order.specs.Prefixes.{LinePrefix}
+use Rattle.vk_order.specs.Visibility.{HostSeen}
+use Rattle.vk_history.specs.declared.touches.Touch.{Touch}
+use Rattle.vk_history.specs.declared.touches.Touch.TheVariants as touch
+use Rattle.vk_history.specs.Touched.{next_node, last_touch}
+use Rattle.vk_validate.proofs.Writing.Spread.{any_and}
 use Rattle.vk_validate.proofs.Touching.NextNodes.{lined, next_nodes-lined}
-use Rattle.vk_history.proofs.Touching.LastNodes.{HasLast, last_found, last_from, reader_is, readers_own, next_there}
-use Rattle.vk_validate.proofs.Touching.LastAccesses.{is_there, only_new, writer_last, last_is, all_seen}
+use Rattle.vk_history.proofs.Touching.LastNodes.{next_there}
+use Rattle.vk_validate.proofs.Touching.LastAccesses.{is_there, Touches, touch_last, last_touch_is, all_seen}
 
 -- the node of a point with one act is its only one
 pub one_next : (past : Past) (p : Point) (a : Act) → acts p.action ≡ a ∷ [] → next_nodes past p ≡ next_node past p a ∷ []
@@ -67,131 +69,191 @@ module _ (past : Past) (p : Point) (a : Act) (alone : acts p.action ≡ a ∷ []
   pub hazard_of_one : (kind : Past → Node → Node → Bool) → hazard kind past p ≡ list_any (λ x. precedes x (next_node past p a) && kind (p ∷ past) x (next_node past p a)) (nodes (p ∷ past))
   hazard_of_one kind = ap (λ ns. list_any (λ y. list_any (λ x. precedes x y && kind (p ∷ past) x y) (nodes (p ∷ past))) ns) (one_next past p a alone) ∙ or-false _
 
--- that commands alone write, and host entries alone read
-abbrev pub CommandsWrite : Past → Point → Type 0
-CommandsWrite past p = (x : Node) (b : Byte) → Contains (nodes past) x → is_in b (writes (p ∷ past) x) ≡ true → (c : Cmd) × (x.act ≡ Runs c)
-
-abbrev pub HostReads : Past → Point → Type 0
-HostReads past p = (x : Node) (b : Byte) → Contains (nodes past) x → Contains (reads (p ∷ past) x) b → (e : Entry) × (x.act ≡ Hosts e)
-
 -- that a byte's memory stays as it is
 abbrev pub StaysCached : Past → Point → Type 0
 StaysCached past p = (b : Byte) (newer older : Past) (q : Point) → past ≡ newer ++ q ∷ older → is_cached (p ∷ past) (resource_at b) ≡ is_cached (q ∷ older) (resource_at b)
 
--- ---- readers
+-- a list of which one item is in another, turned about
+share_turned : (bs cs : List Byte) → share bs cs ≡ list_any (λ c. is_in c bs) cs
+share_turned bs cs = bool_same _ _ to from where
+  there : (b : Byte) (ds : List Byte) → Contains ds b → is_in b ds ≡ true
+  there b ds c = member_passes _ ds b c (byte_itself b)
 
--- the last reader is a host entry that reads the byte
-pub record IsLastReader (past : Past) (v : Node) (b : Byte) : Type 0 where
-  pub entry : Entry
-  pub runs_it : v.act ≡ Hosts entry
-  pub there : Contains (nodes past) v
-  pub reads_it : is_in b (host_reads entry) ≡ true
+  to : share bs cs ≡ true → list_any (λ c. is_in c bs) cs ≡ true
+  to h = let b = some_member (λ b. is_in b cs) bs h in member_passes (λ c. is_in c bs) cs b.0 (is_there b.0 cs b.2) (there b.0 bs b.1)
 
-pub reader_at : (past : Past) (v : Node) (b : Byte) → last_reader past b ≡ Some v → IsLastReader past v b
-reader_at past v b is =
-    let l = last_found (reader_next b) past v is in
-    let r = reader_is b l.before l.at l.at.action v l.gives in
-    let here : Contains (nodes (l.at ∷ l.before)) v = subst (λ (n : Node). Contains (nodes (l.at ∷ l.before)) n) r.node_is (next_there l.before l.at (Hosts r.entry) (ap acts r.runs)) in
-    record { entry = r.entry; runs_it = ap (λ (n : Node). n.act) (sym r.node_is); there = subst (λ (l : Past). Contains (nodes l) v) (sym l.whole) (has_more growth l.newer (l.at ∷ l.before) v here); reads_it = r.reads_it }
-
--- a host entry that reads a byte isn't later than the last
-pub reader_last : (past : Past) (x : Node) (e : Entry) (b : Byte) → Contains (nodes past) x → x.act ≡ Hosts e → is_in b (host_reads e) ≡ true → HasLast (reader_next b) past x
-reader_last past x e b there is read =
-    let s = at_point past x there in
-    let action : s.at.action ≡ Host e = host_action s.at.action e (subst (λ (c : Act). Contains (acts s.at.action) c) is s.acted) in
-    let alone : acts s.at.action ≡ Hosts e ∷ [] = ap acts action in
-    let node : next_node s.past s.at (Hosts e) ≡ x = only_new s.past s.at (Hosts e) alone x s.here s.new in
-    let gives : reader_next b s.past s.at s.at.action ≡ Some x = ap (λ (d : Action). reader_next b s.past s.at d) action ∙ rw read (ap Some node) in
-    subst (λ (l : Past). HasLast (reader_next b) l x) (sym s.whole) (last_from (reader_next b) (readers_own b) s.newer s.past s.at x gives)
+  from : list_any (λ c. is_in c bs) cs ≡ true → share bs cs ≡ true
+  from h = let c = some_member (λ c. is_in c bs) cs h in member_passes (λ b. is_in b cs) bs c.0 (is_there c.0 bs c.2) (there c.0 cs c.1)
 
 module _ (past : Past) (none : fault past ≡ None) (p : Point) (steady : (c : Cmd) → byte_writes (p ∷ past) c ≡ byte_writes past c) (a : Act) (alone : acts p.action ≡ a ∷ []) where
   abbrev y : Node
   y = next_node past p a
 
+  -- ways to touch a byte, each with whether it counts
+  abbrev pub some_last : List (Bool × Touch) → (Node → Byte → Bool) → Byte → Bool
+  some_last ways bad b = list_any (λ w. w.0 && holds (last_touch w.1 past b) (λ v. bad v b)) ways
+
+  -- of ways that count, the last node decides whether there is a bad one, and each such node is found by a test and comes first
+  pub record Decides (ways : List (Bool × Touch)) (test bad : Node → Byte → Bool) : Type 0 where
+    pub covers : (x : Node) (b : Byte) → Contains (nodes past) x → precedes x y ≡ true → test x b ≡ true → (w : Bool × Touch) × Contains ways w × (w.0 ≡ true) × Touches past none p steady w.1 b x
+    pub found_by : (w : Bool × Touch) → Contains ways w → w.0 ≡ true → (v : Node) (b : Byte) → Contains (nodes past) v → Touches past none p steady w.1 b v → (test v b ≡ true) × (precedes v y ≡ true)
+    pub last : (w : Bool × Touch) → Contains ways w → w.0 ≡ true → (x v : Node) (b : Byte) → Contains (nodes past) x → Contains (nodes past) v → Touches past none p steady w.1 b x → last_touch w.1 past b ≡ Some v → x.number ≤ v.number → bad x b ≡ true → bad v b ≡ true
+
+  pub by_last : (ways : List (Bool × Touch)) (test bad : Node → Byte → Bool) → Decides ways test bad → (bs : List Byte)
+      → list_any (λ x. precedes x y && list_any (λ b. test x b && bad x b) bs) (nodes (p ∷ past)) ≡ list_any (some_last ways bad) bs
+  by_last ways test bad d bs = bool_same _ _ to from where
+    to : list_any (λ x. precedes x y && list_any (λ b. test x b && bad x b) bs) (nodes (p ∷ past)) ≡ true → list_any (some_last ways bad) bs ≡ true
+    to h =
+        let x = some_member (λ x. precedes x y && list_any (λ b. test x b && bad x b) bs) (nodes (p ∷ past)) h in
+        let parts = and_parts (precedes x.0 y) (list_any (λ b. test x.0 b && bad x.0 b) bs) x.2 in
+        let old = is_old past p a alone x.0 x.1 parts.0 in
+        let b = some_member (λ b. test x.0 b && bad x.0 b) bs parts.1 in
+        let both = and_parts (test x.0 b.0) (bad x.0 b.0) b.2 in
+        let w = d.covers x.0 b.0 old parts.0 both.0 in
+        let l = touch_last past none p steady w.0.1 b.0 x.0 old w.3 in
+        let v = last_touch_is past none p steady w.0.1 l.node b.0 l.is in
+        let worse = d.last w.0 w.1 w.2 x.0 l.node b.0 old v.there w.3 l.is l.not_before both.1 in
+        member_passes (some_last ways bad) bs b.0 b.1 (member_passes (λ w. w.0 && holds (last_touch w.1 past b.0) (λ v. bad v b.0)) ways w.0 w.1 (and_from w.0.0 _ w.2 (rw (l.is) worse)))
+
+    from : list_any (some_last ways bad) bs ≡ true → list_any (λ x. precedes x y && list_any (λ b. test x b && bad x b) bs) (nodes (p ∷ past)) ≡ true
+    from h =
+        let b = some_member (some_last ways bad) bs h in
+        let w = some_member (λ w. w.0 && holds (last_touch w.1 past b.0) (λ v. bad v b.0)) ways b.2 in
+        let both = and_parts w.0.0 (holds (last_touch w.0.1 past b.0) (λ v. bad v b.0)) w.2 in
+        at b.0 b.1 w.0 w.1 both.0 (last_touch w.0.1 past b.0) refl both.1
+      where
+        at : (b : Byte) → Contains bs b → (w : Bool × Touch) → Contains ways w → w.0 ≡ true → (o : Option Node) → last_touch w.1 past b ≡ o → holds o (λ v. bad v b) ≡ true → list_any (λ x. precedes x y && list_any (λ b. test x b && bad x b) bs) (nodes (p ∷ past)) ≡ true
+        at b in_bs w in_ways counts None e h = no h
+        at b in_bs w in_ways counts (Some v) e h =
+            let l = last_touch_is past none p steady w.1 v b e in
+            let f = d.found_by w in_ways counts v b l.there l.does in
+            member_passes (λ x. precedes x y && list_any (λ b. test x b && bad x b) bs) (nodes (p ∷ past)) v (older_there past p a alone v l.there)
+            (and_from (precedes v y) (list_any (λ b. test v b && bad v b) bs) f.1 (member_passes (λ b. test v b && bad v b) bs b in_bs (and_from (test v b) (bad v b) f.0 h)))
+
   -- ---- what isn't seen
 
-  module _ (commands : CommandsWrite past p) (still : StaysCached past p) (k : Access) (bs : List Byte) where
-    abbrev unseen : Node → Byte → Bool
-    unseen x b = is_in b (writes (p ∷ past) x) && not (is_seen (p ∷ past) x y k b)
+  -- writes by commands, and by the host where the point isn't of it
+  abbrev pub write_ways : List (Bool × Touch)
+  write_ways = (true, touch.Write) ∷ (not (is_host a), touch.HostWrite) ∷ []
 
-    abbrev by_last : Byte → Bool
-    by_last b = holds (last_writer past b) (λ v. not (is_seen (p ∷ past) v y k b))
+  abbrev pub unseen : Access → Node → Byte → Bool
+  unseen k x b = not (is_seen (p ∷ past) x y k b)
 
-    pub unseen_is : list_any (λ x. precedes x y && list_any (unseen x) bs) (nodes (p ∷ past)) ≡ list_any by_last bs
-    unseen_is = bool_same _ _ to from where
-      to : list_any (λ x. precedes x y && list_any (unseen x) bs) (nodes (p ∷ past)) ≡ true → list_any by_last bs ≡ true
-      to h =
-          let x = some_member (λ x. precedes x y && list_any (unseen x) bs) (nodes (p ∷ past)) h in
-          let parts = and_parts (precedes x.0 y) (list_any (unseen x.0) bs) x.2 in
-          let old = is_old past p a alone x.0 x.1 parts.0 in
-          let b = some_member (unseen x.0) bs parts.1 in
-          let both = and_parts (is_in b.0 (writes (p ∷ past) x.0)) (not (is_seen (p ∷ past) x.0 y k b.0)) b.2 in
-          let c = commands x.0 b.0 old both.0 in
-          let l = writer_last past none p steady x.0 c.0 b.0 old c.1 both.0 in
-          let not_seen : is_seen (p ∷ past) l.node y k b.0 ≡ false = false_from_ne_true (is_seen (p ∷ past) l.node y k b.0)
-          (λ s. clash (all_seen past none p steady b.0 (still b.0) x.0 l.node y c.0 k old c.1 both.0 l.is l.not_before s) (not-true (is_seen (p ∷ past) x.0 y k b.0) both.1)) in
-          member_passes by_last bs b.0 b.1 (rw (l.is, not_seen) refl)
+  -- only commands and the host write
+  abbrev pub KnownWriters : Type 0
+  KnownWriters = (x : Node) (b : Byte) → Contains (nodes past) x → is_in b (writes (p ∷ past) x) ≡ true → ((c : Cmd) × (x.act ≡ Runs c)) ⊎ ((e : Entry) × (x.act ≡ Hosts e))
 
-      from : list_any by_last bs ≡ true → list_any (λ x. precedes x y && list_any (unseen x) bs) (nodes (p ∷ past)) ≡ true
-      from h = let b = some_member by_last bs h in at b.0 b.1 (last_writer past b.0) refl b.2 where
-        at : (b : Byte) → Contains bs b → (o : Option Node) → last_writer past b ≡ o → holds o (λ v. not (is_seen (p ∷ past) v y k b)) ≡ true → list_any (λ x. precedes x y && list_any (unseen x) bs) (nodes (p ∷ past)) ≡ true
-        at b in_bs None e h = no h
-        at b in_bs (Some v) e h =
-            let l = last_is past none p steady v b e in
-            member_passes (λ x. precedes x y && list_any (unseen x) bs) (nodes (p ∷ past)) v (older_there past p a alone v l.there)
-            (and_from (precedes v y) (list_any (unseen v) bs) (goes_first past p a alone v l.there (rw (ap is_host l.runs_it) refl)) (member_passes (unseen v) bs b in_bs (and_from (is_in b (writes (p ∷ past) v)) (not (is_seen (p ∷ past) v y k b)) l.writes_it h)))
+  unless_seen : (s t : Bool) → (t ≡ true → s ≡ true) → not s ≡ true → not t ≡ true
+  unless_seen s true imp h = absurd (let both : s ≡ true = imp refl in let bad : false ≡ true = rw both at h in cc)
+  unless_seen s false imp h = refl
 
-  -- HAZARD_RAW and HAZARD_WAW
-  pub raw_is : CommandsWrite past p → StaysCached past p → hazard raw past p ≡ list_any (λ b. holds (last_writer past b) (λ v. not (is_seen (p ∷ past) v y Read b))) (reads (p ∷ past) y)
-  raw_is commands still = hazard_of_one past p a alone raw ∙ unseen_is commands still Read (reads (p ∷ past) y)
+  pub writes_decide : HostSeen → KnownWriters → StaysCached past p → (k : Access) → Decides write_ways (λ x b. is_in b (writes (p ∷ past) x)) (unseen k)
+  writes_decide host_seen known still k = record { covers = covers; found_by = found_by; last = last } where
+    covers : (x : Node) (b : Byte) → Contains (nodes past) x → precedes x y ≡ true → is_in b (writes (p ∷ past) x) ≡ true → (w : Bool × Touch) × Contains write_ways w × (w.0 ≡ true) × Touches past none p steady w.1 b x
+    covers x b there first wrote = ⊎_elim
+        (λ c. ((true, touch.Write), contains-head (true, touch.Write) ((not (is_host a), touch.HostWrite) ∷ []), refl, (c.0, c.1, wrote)))
+        (λ e. ((not (is_host a), touch.HostWrite), contains-tail (true, touch.Write) ((not (is_host a), touch.HostWrite) ∷ []) (not (is_host a), touch.HostWrite) (contains-head (not (is_host a), touch.HostWrite) []), apart e.0 e.1, (e.0, e.1, wrote)))
+        (known x b there wrote)
+      where
+        apart : (e : Entry) → x.act ≡ Hosts e → not (is_host a) ≡ true
+        apart e is = let both : not (is_host x.act && is_host a) ≡ true = (and_parts (nat_lt x.number y.number) (not (is_host x.act && is_host a)) first).1 in subst (λ (t : Act). not (is_host t && is_host a) ≡ true) is both
 
-  pub waw_is : CommandsWrite past p → StaysCached past p → hazard waw past p ≡ list_any (λ b. holds (last_writer past b) (λ v. not (is_seen (p ∷ past) v y Write b))) (writes (p ∷ past) y)
-  waw_is commands still = hazard_of_one past p a alone waw ∙ unseen_is commands still Write (writes (p ∷ past) y)
+    found_by : (w : Bool × Touch) → Contains write_ways w → w.0 ≡ true → (v : Node) (b : Byte) → Contains (nodes past) v → Touches past none p steady w.1 b v → (is_in b (writes (p ∷ past) v) ≡ true) × (precedes v y ≡ true)
+    found_by w c counts v b there does = ⊎_elim
+        (λ e. subst (λ (u : Bool × Touch). u.0 ≡ true → Touches past none p steady u.1 b v → (is_in b (writes (p ∷ past) v) ≡ true) × (precedes v y ≡ true)) e
+        (λ n d. (d.2, goes_first past p a alone v there (rw (ap is_host d.1) refl))) counts does)
+        (λ later. subst (λ (u : Bool × Touch). u.0 ≡ true → Touches past none p steady u.1 b v → (is_in b (writes (p ∷ past) v) ≡ true) × (precedes v y ≡ true)) (only_one (not (is_host a), touch.HostWrite) w later)
+        (λ n d. (d.2, goes_first past p a alone v there (rw (ap is_host d.1, not-true (is_host a) n) refl))) counts does)
+        (contains-cons (true, touch.Write) ((not (is_host a), touch.HostWrite) ∷ []) w c)
 
-  -- HAZARD_WAR
-  module _ (hosts : HostReads past p) (device : is_host a ≡ false) where
-    abbrev early : Node → Bool
-    early x = share (reads (p ∷ past) x) (writes (p ∷ past) y) && not (before (nodes (p ∷ past)) x y)
-
-    abbrev by_reader : Byte → Bool
-    by_reader b = holds (last_reader past b) (λ v. not (before (nodes (p ∷ past)) v y))
-
-    -- what comes before the last reader's node comes before what it comes before
-    earlier : (x : Node) (e : Entry) (v : Node) (b : Byte) → Contains (nodes past) x → x.act ≡ Hosts e → last_reader past b ≡ Some v → x.number ≤ v.number → before (nodes (p ∷ past)) v y ≡ true → before (nodes (p ∷ past)) x y ≡ true
-    earlier x e v b there runs last le h =
-        let r = reader_at past v b last in
-        let cx = older_there past p a alone x there in
-        let cv = older_there past p a alone v r.there in
-        ⊎_elim
-        (λ lt. transitive (p ∷ past) x v y cx cv (next_there past p a alone) (host_in_order (before_path) (p ∷ past) x v cx cv (rw (ap is_host runs) refl) (rw (ap is_host r.runs_it) refl) lt) h)
-        (λ ge. subst (λ (n : Node). before (nodes (p ∷ past)) n y ≡ true) (unique (nodes past) (numbered past) v x r.there there (omega (arith, le, ge))) h)
+    by_host : (x v : Node) (b : Byte) → Contains (nodes past) x → Contains (nodes past) v → is_host x.act ≡ true → is_host v.act ≡ true → x.number ≤ v.number → is_seen (p ∷ past) v y k b ≡ true → is_seen (p ∷ past) x y k b ≡ true
+    by_host x v b cx cv hx hv le seen_v = ⊎_elim
+        (λ lt. host_seen (nodes (p ∷ past)) (λ c. is_cached (p ∷ past) (resource_at c)) x v y k b (numbered (p ∷ past)) (older_there past p a alone x cx) (older_there past p a alone v cv) hx hv lt seen_v)
+        (λ ge. subst (λ (n : Node). is_seen (p ∷ past) n y k b ≡ true) (unique (nodes past) (numbered past) v x cv cx (omega (arith, le, ge))) seen_v)
         (cases_lt x.number v.number)
 
-    pub war_is : hazard war past p ≡ list_any by_reader (writes (p ∷ past) y)
-    war_is = hazard_of_one past p a alone war ∙ bool_same _ _ to from where
-      byte_in : (b : Byte) (bs : List Byte) → Contains bs b → is_in b bs ≡ true
-      byte_in b bs c = member_passes _ bs b c (byte_itself b)
+    last : (w : Bool × Touch) → Contains write_ways w → w.0 ≡ true → (x v : Node) (b : Byte) → Contains (nodes past) x → Contains (nodes past) v → Touches past none p steady w.1 b x → last_touch w.1 past b ≡ Some v → x.number ≤ v.number → unseen k x b ≡ true → unseen k v b ≡ true
+    last w c counts x v b cx cv does is le h = unless_seen (is_seen (p ∷ past) x y k b) (is_seen (p ∷ past) v y k b) (λ seen_v. ⊎_elim
+        (λ e. subst (λ (u : Bool × Touch). Touches past none p steady u.1 b x → last_touch u.1 past b ≡ Some v → is_seen (p ∷ past) x y k b ≡ true) e
+        (λ d l. all_seen past none p steady b (still b) x v y d.0 k cx d.1 d.2 l le seen_v) does is)
+        (λ later. subst (λ (u : Bool × Touch). Touches past none p steady u.1 b x → last_touch u.1 past b ≡ Some v → is_seen (p ∷ past) x y k b ≡ true) (only_one (not (is_host a), touch.HostWrite) w later)
+        (λ d l. by_host x v b cx cv (rw (ap is_host d.1) refl) (let f = last_touch_is past none p steady touch.HostWrite v b l in rw (ap is_host f.does.1) refl) le seen_v) does is)
+        (contains-cons (true, touch.Write) ((not (is_host a), touch.HostWrite) ∷ []) w c)) h
 
-      to : list_any (λ x. precedes x y && early x) (nodes (p ∷ past)) ≡ true → list_any by_reader (writes (p ∷ past) y) ≡ true
-      to h =
-          let x = some_member (λ x. precedes x y && early x) (nodes (p ∷ past)) h in
-          let parts = and_parts (precedes x.0 y) (early x.0) x.2 in
-          let old = is_old past p a alone x.0 x.1 parts.0 in
-          let both = and_parts (share (reads (p ∷ past) x.0) (writes (p ∷ past) y)) (not (before (nodes (p ∷ past)) x.0 y)) parts.1 in
-          let b = some_member (λ b. is_in b (writes (p ∷ past) y)) (reads (p ∷ past) x.0) both.0 in
-          let e = hosts x.0 b.0 old b.1 in
-          let read : is_in b.0 (host_reads e.0) ≡ true = ap (λ (c : Act). is_in b.0 (reads_of (p ∷ past) x.0.point.queue c)) (sym e.1) ∙ byte_in b.0 (reads (p ∷ past) x.0) b.1 in
-          let l = reader_last past x.0 e.0 b.0 old e.1 read in
-          let not_before : before (nodes (p ∷ past)) l.node y ≡ false = false_from_ne_true (before (nodes (p ∷ past)) l.node y) (λ s. clash (earlier x.0 e.0 l.node b.0 old e.1 l.is l.not_before s) (not-true (before (nodes (p ∷ past)) x.0 y) both.1)) in
-          member_passes by_reader (writes (p ∷ past) y) b.0 (is_there b.0 (writes (p ∷ past) y) b.2) (rw (l.is, not_before) refl)
+  -- HAZARD_RAW and HAZARD_WAW
+  pub raw_is : HostSeen → KnownWriters → StaysCached past p → hazard raw past p ≡ list_any (some_last write_ways (unseen Read)) (reads (p ∷ past) y)
+  raw_is host_seen known still = hazard_of_one past p a alone raw ∙ by_last write_ways (λ x b. is_in b (writes (p ∷ past) x)) (unseen Read) (writes_decide host_seen known still Read) (reads (p ∷ past) y)
 
-      from : list_any by_reader (writes (p ∷ past) y) ≡ true → list_any (λ x. precedes x y && early x) (nodes (p ∷ past)) ≡ true
-      from h = let b = some_member by_reader (writes (p ∷ past) y) h in at b.0 b.1 (last_reader past b.0) refl b.2 where
-        at : (b : Byte) → Contains (writes (p ∷ past) y) b → (o : Option Node) → last_reader past b ≡ o → holds o (λ v. not (before (nodes (p ∷ past)) v y)) ≡ true → list_any (λ x. precedes x y && early x) (nodes (p ∷ past)) ≡ true
-        at b written None e h = no h
-        at b written (Some v) e h =
-            let r = reader_at past v b e in
-            let read : is_in b (reads (p ∷ past) v) ≡ true = ap (λ (c : Act). is_in b (reads_of (p ∷ past) v.point.queue c)) r.runs_it ∙ r.reads_it in
-            let shared : share (reads (p ∷ past) v) (writes (p ∷ past) y) ≡ true = member_passes (λ c. is_in c (writes (p ∷ past) y)) (reads (p ∷ past) v) b (is_there b (reads (p ∷ past) v) read) (byte_in b (writes (p ∷ past) y) written) in
-            member_passes (λ x. precedes x y && early x) (nodes (p ∷ past)) v (older_there past p a alone v r.there)
-            (and_from (precedes v y) (early v) (goes_first past p a alone v r.there (rw (device, ap is_host r.runs_it) refl)) (and_from (share (reads (p ∷ past) v) (writes (p ∷ past) y)) (not (before (nodes (p ∷ past)) v y)) shared h))
+  pub waw_is : HostSeen → KnownWriters → StaysCached past p → hazard waw past p ≡ list_any (some_last write_ways (unseen Write)) (writes (p ∷ past) y)
+  waw_is host_seen known still = hazard_of_one past p a alone waw ∙ by_last write_ways (λ x b. is_in b (writes (p ∷ past) x)) (unseen Write) (writes_decide host_seen known still Write) (writes (p ∷ past) y)
+
+  -- ---- what doesn't come before
+
+  -- reads by commands of each queue, and by the host where the point isn't of it
+  abbrev pub read_ways : List (Bool × Touch)
+  read_ways = (not (is_host a), touch.HostRead) ∷ (true, touch.Read 0) ∷ (true, touch.Read 1) ∷ (true, touch.Read 2) ∷ (true, touch.Read 3) ∷ []
+
+  abbrev pub early : Node → Byte → Bool
+  early x b = not (before (nodes (p ∷ past)) x y)
+
+  -- only commands of the four queues and the host read
+  abbrev pub KnownReaders : Type 0
+  KnownReaders = (x : Node) (b : Byte) → Contains (nodes past) x → is_in b (reads (p ∷ past) x) ≡ true → ((c : Cmd) × (x.act ≡ Runs c) × (x.point.queue < 4)) ⊎ ((e : Entry) × (x.act ≡ Hosts e))
+
+  pub reads_decide : LinePrefix → KnownReaders → Decides read_ways (λ x b. is_in b (reads (p ∷ past) x)) early
+  reads_decide line known = record { covers = covers; found_by = found_by; last = last } where
+    on_queue : (q : ℕ) → q < 4 → Contains read_ways (true, touch.Read q)
+    on_queue zero lt = place_has read_ways 1 _ refl
+    on_queue (suc zero) lt = place_has read_ways 2 _ refl
+    on_queue (suc (suc zero)) lt = place_has read_ways 3 _ refl
+    on_queue (suc (suc (suc zero))) lt = place_has read_ways 4 _ refl
+    on_queue (suc (suc (suc (suc q)))) lt = absurd (omega (arith, lt))
+
+    covers : (x : Node) (b : Byte) → Contains (nodes past) x → precedes x y ≡ true → is_in b (reads (p ∷ past) x) ≡ true → (w : Bool × Touch) × Contains read_ways w × (w.0 ≡ true) × Touches past none p steady w.1 b x
+    covers x b there first read = ⊎_elim
+        (λ c. ((true, touch.Read x.point.queue), on_queue x.point.queue c.2, refl, (c.0, c.1, read, refl)))
+        (λ e. ((not (is_host a), touch.HostRead), place_has read_ways 0 _ refl, apart e.0 e.1, (e.0, e.1, read)))
+        (known x b there read)
+      where
+        apart : (e : Entry) → x.act ≡ Hosts e → not (is_host a) ≡ true
+        apart e is = let both : not (is_host x.act && is_host a) ≡ true = (and_parts (nat_lt x.number y.number) (not (is_host x.act && is_host a)) first).1 in subst (λ (t : Act). not (is_host t && is_host a) ≡ true) is both
+
+    -- by the host, or by a command of a queue
+    by_way : (P : Bool × Touch → Type 0) → P (not (is_host a), touch.HostRead) → ((q : ℕ) → P (true, touch.Read q)) → (w : Bool × Touch) → Contains read_ways w → P w
+    by_way P host command w c = ⊎_elim
+        (λ e. subst P e host)
+        (λ c1. ⊎_elim (λ e. subst P e (command 0))
+        (λ c2. ⊎_elim (λ e. subst P e (command 1))
+        (λ c3. ⊎_elim (λ e. subst P e (command 2))
+        (λ c4. subst P (only_one (true, touch.Read 3) w c4) (command 3))
+        (contains-cons (true, touch.Read 2) ((true, touch.Read 3) ∷ []) w c3))
+        (contains-cons (true, touch.Read 1) ((true, touch.Read 2) ∷ (true, touch.Read 3) ∷ []) w c2))
+        (contains-cons (true, touch.Read 0) ((true, touch.Read 1) ∷ (true, touch.Read 2) ∷ (true, touch.Read 3) ∷ []) w c1))
+        (contains-cons (not (is_host a), touch.HostRead) ((true, touch.Read 0) ∷ (true, touch.Read 1) ∷ (true, touch.Read 2) ∷ (true, touch.Read 3) ∷ []) w c)
+
+    found_by : (w : Bool × Touch) → Contains read_ways w → w.0 ≡ true → (v : Node) (b : Byte) → Contains (nodes past) v → Touches past none p steady w.1 b v → (is_in b (reads (p ∷ past) v) ≡ true) × (precedes v y ≡ true)
+    found_by = by_way (λ w. w.0 ≡ true → (v : Node) (b : Byte) → Contains (nodes past) v → Touches past none p steady w.1 b v → (is_in b (reads (p ∷ past) v) ≡ true) × (precedes v y ≡ true))
+        (λ n v b there d. (d.2, goes_first past p a alone v there (rw (ap is_host d.1, not-true (is_host a) n) refl)))
+        (λ q n v b there d. (d.2, goes_first past p a alone v there (rw (ap is_host d.1) refl)))
+
+    in_line : (l : Line) (x v : Node) → Contains (nodes past) x → Contains (nodes past) v → line_of x ≡ Some l → line_of v ≡ Some l → is_element x.act ≡ false → x.number ≤ v.number → before (nodes (p ∷ past)) v y ≡ true → before (nodes (p ∷ past)) x y ≡ true
+    in_line l x v cx cv lx lv plain le h = ⊎_elim
+        (λ lt. line (nodes (p ∷ past)) l x v y (numbered (p ∷ past)) (λ e. clash e plain) (older_there past p a alone x cx) (older_there past p a alone v cv) (next_there past p a alone) lx lv lt h)
+        (λ ge. subst (λ (n : Node). before (nodes (p ∷ past)) n y ≡ true) (unique (nodes past) (numbered past) v x cv cx (omega (arith, le, ge))) h)
+        (cases_lt x.number v.number)
+
+    last : (w : Bool × Touch) → Contains read_ways w → w.0 ≡ true → (x v : Node) (b : Byte) → Contains (nodes past) x → Contains (nodes past) v → Touches past none p steady w.1 b x → last_touch w.1 past b ≡ Some v → x.number ≤ v.number → early x b ≡ true → early v b ≡ true
+    last = by_way (λ w. w.0 ≡ true → (x v : Node) (b : Byte) → Contains (nodes past) x → Contains (nodes past) v → Touches past none p steady w.1 b x → last_touch w.1 past b ≡ Some v → x.number ≤ v.number → early x b ≡ true → early v b ≡ true)
+        (λ n x v b cx cv d l le h. unless_seen (before (nodes (p ∷ past)) x y) (before (nodes (p ∷ past)) v y) (λ s.
+        let f = last_touch_is past none p steady touch.HostRead v b l in
+        in_line OfHost x v cx cv (rw (ap (line_on x.point.queue) d.1) refl) (rw (ap (line_on v.point.queue) f.does.1) refl) (rw (ap is_element d.1) refl) le s) h)
+        (λ q n x v b cx cv d l le h. unless_seen (before (nodes (p ∷ past)) x y) (before (nodes (p ∷ past)) v y) (λ s.
+        let f = last_touch_is past none p steady (touch.Read q) v b l in
+        in_line (OfCommands q) x v cx cv (ap (line_on x.point.queue) d.1 ∙ ap (λ (r : ℕ). Some (OfCommands r)) d.3) (ap (line_on v.point.queue) f.does.1 ∙ ap (λ (r : ℕ). Some (OfCommands r)) f.does.3) (rw (ap is_element d.1) refl) le s) h)
+
+  -- HAZARD_WAR
+  pub war_is : LinePrefix → KnownReaders → hazard war past p ≡ list_any (some_last read_ways early) (writes (p ∷ past) y)
+  war_is line known =
+      hazard_of_one past p a alone war
+      ∙ any_same _ _ (nodes (p ∷ past)) (λ x c. ap (λ (t : Bool). precedes x y && t) (ap (λ (t : Bool). t && not (before (nodes (p ∷ past)) x y)) (share_turned (reads (p ∷ past) x) (writes (p ∷ past) y)) ∙ sym (any_and (λ b. is_in b (reads (p ∷ past) x)) (not (before (nodes (p ∷ past)) x y)) (writes (p ∷ past) y))))
+      ∙ by_last read_ways (λ x b. is_in b (reads (p ∷ past) x)) early (reads_decide line known) (writes (p ∷ past) y)

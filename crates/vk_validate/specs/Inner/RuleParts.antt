@@ -63,12 +63,6 @@ some_box_outside past i of gs = holds (image past i) (λ m. list_any (λ g. bad_
 abbrev pub some_range_outside : Past → ℕ → List SubresourceRange → Bool
 some_range_outside past i rs = holds (image past i) (λ m. list_any (bad_range m) rs)
 
--- Whether an entry frees a memory object, or drops a pool, that a live resource is in.
-abbrev pub frees_used : Past → Entry → Bool
-frees_used past (entry.Free m) = list_any (λ r. holds (memory_of past r) (λ s. m == s)) (live_resources past)
-frees_used past (entry.DropPool q) = list_any (λ r. holds (pool_of past r) (λ s. q == s)) (live_resources past)
-frees_used past _ = false
-
 -- A resource is that of some bytes, each of which has the same; there is none where there is no byte.
 abbrev pub IsResourceOf : Option ℕ → List Byte → Type 0
 IsResourceOf r bs = (f : ℕ → Bool) → holds r f ≡ list_any (λ b. f (resource_at b)) bs

@@ -1,17 +1,20 @@
-ghost use Rattle.std.specs.Prelude.{◌≡◌, ◌∷◌, IfOk, IsTrue, None};
-ghost use Rattle.vk_model.specs.Trace.Point.{on_host};
+ghost use Rattle.std.specs.Prelude.{◌≡◌, ◌≤◌, ◌+◌, ◌∷◌, IfOk, IsTrue, None, length};
+ghost use Rattle.vk_model.specs.declared.command.Cmd.TheVariants as cmd;
+ghost use Rattle.vk_model.specs.Trace.Point.{Run};
 ghost use Rattle.vk_model.specs.Trace.Structure.{IsOrdered};
 ghost use Rattle.vk_order.specs.PointViews.{action_of, point_of};
+ghost use Rattle.vk_order.specs.declared.access.Access.TheVariants as access;
+ghost use Rattle.vk_history.specs.declared.changes.Change.TheVariants as change;
 ghost use Rattle.vk_history.specs.Supported.{is_supported_action};
 ghost use Rattle.vk_history.specs.PointViews.{past};
 ghost use Rattle.vk_history.specs.Judged.{early_rules, first_among};
-ghost use Rattle.vk_history.specs.Conflicts.{AreConflicts};
-ghost use Rattle.vk_validate.specs.Inner.RuleParts as parts;
+ghost use Rattle.vk_history.specs.Changes.{Fits};
+ghost use Rattle.vk_history.specs.Conflicts.{AreConflicts, FoundIn, FoundAmong, Misses, IsEarly};
 
 use std::alloc::AllocError;
-use vk_history::{Change, Conflicts, History, change_by};
-use vk_model::Entry;
-use vk_order::{Access, Action, Point};
+use vk_history::{BufferContents, Change, Conflicts, History, change_by};
+use vk_model::{BufferCopy, Length};
+use vk_order::{Access, Point, Sight, host_seen, prefixes};
 
 /// What a point that breaks no rule before those on accesses finds wrong with the bytes that it
 /// accesses: HAZARD_WAR, HAZARD_RAW, HAZARD_WAW and READ_UNDEFINED. The only error is want of memory.
@@ -21,43 +24,168 @@ pub fn conflicts(history: &History<'_>, point: &Point<'_>) -> Result<Conflicts, 
     requires early { first_among early_rules (past history.now) (point_of point.now) ≡ None }
     ensures { IfOk result (λ found. AreConflicts found (past history.now) (point_of point.now)) }
 {
-    history.is_judged();
     match change_by(point) {
         Change::Nothing => Ok(Conflicts::NONE),
         Change::Made(_, _) => Ok(Conflicts::NONE),
-        Change::Read(buffer, offset, size) => match history.contents(buffer) {
-            Some(contents) => {
-                let sight = history.sight(point)?;
-                Ok(Conflicts {
-                    raw: contents.has_missed(offset, size, &sight, Access::Read),
-                    undefined: contents.has_undefined(offset, size),
-                    ..Conflicts::NONE
-                })
-            }
-            None => Ok(Conflicts::NONE),
-        },
-        Change::Filled(buffer, offset, size) => match history.contents(buffer) {
-            Some(contents) => {
-                let bytes = size.filled(contents.defined.len(), offset);
-                let sight = history.sight(point)?;
-                Ok(Conflicts {
-                    war: contents.has_early(offset, bytes, &sight),
-                    waw: contents.has_missed(offset, bytes, &sight, Access::Write),
-                    ..Conflicts::NONE
-                })
-            }
-            None => Ok(Conflicts::NONE),
-        },
+        Change::HostRead(buffer, offset, size) => of_host_read(
+            history, point, buffer, offset, size,
+        ),
+        Change::HostWritten(buffer, offset, size) => {
+            of_host_write(history, point, buffer, offset, size)
+        }
+        Change::Written(buffer, offset, size) => of_write(history, point, buffer, offset, size),
+        Change::Copied(source, destination, regions) => {
+            of_copy(history, point, source, destination, regions)
+        }
     }
 }
 
-/// IN_USE of memory objects and pools: one ends that a live resource is in.
-pub fn frees_used(history: &History<'_>, point: &Point<'_>) -> bool
-    ensures { result ≡ on_host (parts.frees_used (past history.now)) (point_of point.now) }
+/// What a host read of a range finds wrong.
+fn of_host_read(
+    history: &History<'_>,
+    point: &Point<'_>,
+    buffer: u32,
+    offset: u64,
+    size: u64,
+) -> Result<Conflicts, AllocError>
+    requires early { first_among early_rules (past history.now) (point_of point.now) ≡ None }
+    requires reads { Fits (change.HostRead buffer offset size) (action_of point.now.action) }
+    ensures { IfOk result (λ found. AreConflicts found (past history.now) (point_of point.now)) }
 {
-    match point.action {
-        Action::Host(Entry::Free { memory }) => history.is_memory_used(*memory),
-        Action::Host(Entry::DropPool { pool }) => history.is_pool_used(*pool),
-        _ => false,
+    host_seen();
+    history.is_judged();
+    match history.contents(buffer) {
+        Some(contents) => {
+            let sight = history.sight(point)?;
+            Ok(Conflicts {
+                raw: contents.has_missed_write(offset, size, &sight, Access::Read),
+                undefined: contents.has_undefined(offset, size),
+                ..Conflicts::NONE
+            })
+        }
+        None => Ok(Conflicts::NONE),
     }
+}
+
+/// What a host write of a range finds wrong.
+fn of_host_write(
+    history: &History<'_>,
+    point: &Point<'_>,
+    buffer: u32,
+    offset: u64,
+    size: u64,
+) -> Result<Conflicts, AllocError>
+    requires early { first_among early_rules (past history.now) (point_of point.now) ≡ None }
+    requires writes { Fits (change.HostWritten buffer offset size) (action_of point.now.action) }
+    ensures { IfOk result (λ found. AreConflicts found (past history.now) (point_of point.now)) }
+{
+    host_seen();
+    prefixes();
+    history.is_judged();
+    match history.contents(buffer) {
+        Some(contents) => {
+            let sight = history.sight(point)?;
+            Ok(Conflicts {
+                war: contents.has_early_command(offset, size, &sight),
+                waw: contents.has_missed_write(offset, size, &sight, Access::Write),
+                ..Conflicts::NONE
+            })
+        }
+        None => Ok(Conflicts::NONE),
+    }
+}
+
+/// What a command finds wrong that gives a range values.
+fn of_write(
+    history: &History<'_>,
+    point: &Point<'_>,
+    buffer: u32,
+    offset: u64,
+    size: Length,
+) -> Result<Conflicts, AllocError>
+    requires early { first_among early_rules (past history.now) (point_of point.now) ≡ None }
+    requires writes { Fits (change.Written buffer offset size) (action_of point.now.action) }
+    ensures { IfOk result (λ found. AreConflicts found (past history.now) (point_of point.now)) }
+{
+    host_seen();
+    prefixes();
+    history.is_judged();
+    match history.contents(buffer) {
+        Some(contents) => {
+            let bytes = size.filled(contents.defined.len(), offset);
+            let sight = history.sight(point)?;
+            Ok(Conflicts {
+                war: contents.has_early(offset, bytes, &sight),
+                waw: contents.has_missed(offset, bytes, &sight, Access::Write),
+                ..Conflicts::NONE
+            })
+        }
+        None => Ok(Conflicts::NONE),
+    }
+}
+
+/// What a copy finds wrong.
+fn of_copy(
+    history: &History<'_>,
+    point: &Point<'_>,
+    source: u32,
+    destination: u32,
+    regions: &[BufferCopy],
+) -> Result<Conflicts, AllocError>
+    requires early { first_among early_rules (past history.now) (point_of point.now) ≡ None }
+    requires copies { action_of point.now.action ≡ Run (cmd.Copy source destination regions.now) }
+    ensures { IfOk result (λ found. AreConflicts found (past history.now) (point_of point.now)) }
+{
+    host_seen();
+    prefixes();
+    history.is_judged();
+    let Some(from) = history.contents(source) else {
+        return Ok(Conflicts::NONE);
+    };
+    let Some(to) = history.contents(destination) else {
+        return Ok(Conflicts::NONE);
+    };
+    let sight = history.sight(point)?;
+    Ok(Conflicts {
+        war: has_early_destination(to, regions, &sight),
+        raw: has_missed_source(from, regions, &sight),
+        waw: has_missed_destination(to, regions, &sight),
+        undefined: false,
+    })
+}
+
+/// Whether what some region reads has a last write that isn't seen.
+fn has_missed_source(contents: &BufferContents, regions: &[BufferCopy], sight: &Sight) -> bool
+    ensures { FoundAmong (λ r g. g.source_offset + g.size ≤ length contents.now.touches → FoundIn (Misses sight.now access.Read) r contents.now.touches g.source_offset (g.source_offset + g.size)) result regions.now }
+{
+    for region in regions {
+        if contents.has_missed(region.source_offset, region.size, sight, Access::Read) {
+            return true;
+        }
+    }
+    false
+}
+
+/// Whether what some region writes has a last write that isn't seen.
+fn has_missed_destination(contents: &BufferContents, regions: &[BufferCopy], sight: &Sight) -> bool
+    ensures { FoundAmong (λ r g. g.destination_offset + g.size ≤ length contents.now.touches → FoundIn (Misses sight.now access.Write) r contents.now.touches g.destination_offset (g.destination_offset + g.size)) result regions.now }
+{
+    for region in regions {
+        if contents.has_missed(region.destination_offset, region.size, sight, Access::Write) {
+            return true;
+        }
+    }
+    false
+}
+
+/// Whether what some region writes has a last read that doesn't come before.
+fn has_early_destination(contents: &BufferContents, regions: &[BufferCopy], sight: &Sight) -> bool
+    ensures { FoundAmong (λ r g. g.destination_offset + g.size ≤ length contents.now.touches → FoundIn (IsEarly sight.now) r contents.now.touches g.destination_offset (g.destination_offset + g.size)) result regions.now }
+{
+    for region in regions {
+        if contents.has_early(region.destination_offset, region.size, sight) {
+            return true;
+        }
+    }
+    false
 }

@@ -1,8 +1,10 @@
-use Rattle.std.proofs.Common.{◌≡◌, ◌∷◌, ◌∙◌, ap}
+use Rattle.std.proofs.Common.{ℕ, ◌≡◌, ◌∷◌, ◌∙◌, ap}
 use Rattle.vk_model.specs.Rules.Fault.{newest}
 use Rattle.vk_model.specs.Sync.Node.{nodes}
 use Rattle.vk_order.specs.PointViews.{point_of}
 use Rattle.vk_queues.proofs.NewPoints.{ordered_new}
+use Rattle.vk_order.specs.declared.lines.Line.{Line}
+use Rattle.vk_history.specs.declared.touches.Spot.{Spot}
 use Rattle.vk_history.specs.Touched.{next_place}
 use Rattle.vk_history.proofs.tables.note.Goals as goal
 
@@ -11,6 +13,7 @@ returns c = λ past judged tabled.
     let p = point_of c.args.point.now in
     let line_is = c.line_of-line.ensures in
     let place_is : c.count-place.result ≡ next_place past c.line_of-line.result = c.count-place.ensures (nodes past) tabled.frontier in
+    let at : Line → ℕ → Spot = λ l k. record { line = l; place = k } in
     record {
       mappings = c.in_ok-note.ensures past judged tabled.objects tabled.mappings;
       occupants = c.in_ok-note-2.ensures past judged tabled.objects tabled.occupants;
@@ -21,6 +24,7 @@ returns c = λ past judged tabled.
       semaphores = c.in_ok-note-8.ensures past line_is place_is tabled.semaphores;
       events = c.in_ok-note-7.ensures past tabled.events;
       layouts = c.in_ok-note_with.ensures past judged tabled.objects tabled.layouts;
-      contents = c.in_ok-note-9.ensures past judged (place_is ∙ ap (next_place past) line_is) tabled.contents;
+      contents = c.in_ok-note-9.ensures past judged (ap (at c.line_of-line.result) place_is ∙ ap (λ (l : Line). at l (next_place past l)) line_is) tabled.contents;
+      uses = c.in_ok-note-10.ensures past judged.ordered tabled.frontier tabled.uses;
       frontier = c.in_ok-advance.ensures (nodes past) (ordered_new (p ∷ past) past p judged.ordered newest) tabled.frontier;
     }

@@ -1,24 +1,62 @@
-use Rattle.std.proofs.Common.{ap, ◌∙◌, ℕ}
+use Rattle.std.proofs.Common.{ℕ, subst}
 use Rattle.vk_order.specs.PointViews.{point_of}
-use Rattle.vk_history.specs.Touched.{line_next, next_place}
+use Rattle.vk_history.specs.declared.touches.Spot.{Spot}
+use Rattle.std.specs.Ordering.{nat_cmp}
+use Rattle.std.specs.BTreeMap.{get}
+use Rattle.vk_history.specs.Touched.{next_spot}
+use Rattle.vk_history.specs.Contents.{BecomesIn, IsRead, IsSet, IsWrittenBy, IsLentWith, IsPasted}
+use Rattle.vk_model.specs.World.Ownership.{family_of}
 use Rattle.vk_history.proofs.Kept.Changes.{on_three}
-use Rattle.vk_history.proofs.Kept.ContentSteps.{quiet_step, buffer_made, read_step, fill_step}
+use Rattle.vk_history.proofs.Kept.ContentSteps.{buffer_made}
+use Rattle.vk_history.proofs.Kept.CopySteps.{copy_step}
+use Rattle.vk_history.proofs.Kept.AccessSteps.{quiet_step, read_step, set_step, written_step}
 use Rattle.vk_history.proofs.contents.Contents.note.Goals as goal
 
 pub returns-in-Nothing : goal.returns-in-Nothing
-returns-in-Nothing c = λ past j place_is are. quiet_step past (point_of c.args.point.now) j c.in-Nothing.ensures c.args.self.now are
+returns-in-Nothing c = λ past j spot_is are. quiet_step past (point_of c.args.point.now) j c.in-Nothing.ensures c.args.self.now are
 
 pub returns-in-Made : goal.returns-in-Made
-returns-in-Made c = on_three c.make.result c.make.ensures.here c.make.ensures.present c.make.ensures.others (λ here present others past j place_is are.
+returns-in-Made c = on_three c.make.result c.make.ensures.here c.make.ensures.present c.make.ensures.others (λ here present others past j spot_is are.
     buffer_made past (point_of c.args.point.now) j c.in-Made.buffer c.in-Made.info.now c.in-Made.ensures c.args.self.now c.make.new.self here present others are)
 
-pub returns-in-Read : goal.returns-in-Read
-returns-in-Read c = on_three c.read.result c.read.ensures.here c.read.ensures.others c.read.ensures.here (λ here others more past j place_is are.
+pub returns-in-HostRead : goal.returns-in-HostRead
+returns-in-HostRead c = on_three c.read.result c.read.ensures.here c.read.ensures.others c.read.ensures.here (λ here others more past j spot_is are.
     let p = point_of c.args.point.now in
-    read_step past p j c.in-Read.buffer c.in-Read.offset c.in-Read.size c.in-Read.ensures c.args.place (place_is ∙ ap (λ d. next_place past (line_next p d)) c.in-Read.ensures) c.args.self.now c.read.new.self here others are)
+    let old = get nat_cmp c.args.self.now.buffers c.in-HostRead.buffer in
+    let new = get nat_cmp c.read.new.self.buffers c.in-HostRead.buffer in
+    read_step past p j c.in-HostRead.buffer c.in-HostRead.offset c.in-HostRead.size c.in-HostRead.ensures c.args.self.now c.read.new.self
+    (subst (λ (s : Spot). BecomesIn (λ u v. IsRead u v c.in-HostRead.offset c.in-HostRead.size s) old new) spot_is here) others are)
 
-pub returns-in-Filled : goal.returns-in-Filled
-returns-in-Filled c = on_three c.fill.result c.fill.ensures.here c.fill.ensures.others c.fill.ensures.here (λ here others more past j place_is are.
+pub returns-in-HostWritten : goal.returns-in-HostWritten
+returns-in-HostWritten c = on_three c.set.result c.set.ensures.here c.set.ensures.others c.set.ensures.here (λ here others more past j spot_is are.
     let p = point_of c.args.point.now in
-    let is = c.in-Filled.ensures in
-    fill_step past p j c.in-Filled.buffer c.in-Filled.offset c.in-Filled.size is.0 is.1 (record { queue = c.args.point.now.queue; place = c.args.place }) (ap (λ (k : ℕ). record { queue = c.args.point.now.queue; place = k }) (place_is ∙ ap (λ d. next_place past (line_next p d)) is.1)) c.args.self.now c.fill.new.self here others are)
+    let old = get nat_cmp c.args.self.now.buffers c.in-HostWritten.buffer in
+    let new = get nat_cmp c.set.new.self.buffers c.in-HostWritten.buffer in
+    let fits = c.in-HostWritten.ensures in
+    set_step past p j c.in-HostWritten.buffer c.in-HostWritten.offset fits.0 fits.1 c.args.self.now c.set.new.self
+    (subst (λ (n : ℕ). BecomesIn (λ u v. IsSet u v c.in-HostWritten.offset n (next_spot past p)) old new) fits.2
+    (subst (λ (s : Spot). BecomesIn (λ u v. IsSet u v c.in-HostWritten.offset c.in-HostWritten.size s) old new) spot_is here)) others are)
+
+pub returns-in-Written : goal.returns-in-Written
+returns-in-Written c = on_three c.write.result c.write.ensures.here c.write.ensures.others c.write.ensures.here (λ here others more past j spot_is are.
+    let p = point_of c.args.point.now in
+    let old = get nat_cmp c.args.self.now.buffers c.in-Written.buffer in
+    let new = get nat_cmp c.write.new.self.buffers c.in-Written.buffer in
+    written_step past p j c.in-Written.buffer c.in-Written.offset c.in-Written.size c.in-Written.ensures c.args.self.now c.write.new.self
+    (subst (λ (s : Spot). BecomesIn (IsWrittenBy c.in-Written.offset c.in-Written.size p.queue s) old new) spot_is here) others are)
+
+pub returns-in_ok-paste-in-Copied : goal.returns-in_ok-paste-in-Copied
+returns-in_ok-paste-in-Copied c = λ past j spot_is are.
+    let p = point_of c.args.point.now in
+    let s = c.in-Copied.source in
+    let d = c.in-Copied.destination in
+    let gs = c.in-Copied.regions.now in
+    let ss = c.in_ok-stretches-in-Copied.stretches.items in
+    let old = c.args.self.now in
+    let mid = c.lend.new.self in
+    let new = c.paste.new.self in
+    copy_step past p j s d gs c.in-Copied.ensures ss old mid new
+    (subst (λ (t : Spot). BecomesIn (IsLentWith gs ss p.queue t) (get nat_cmp old.buffers s) (get nat_cmp mid.buffers s)) spot_is c.in_ok-stretches-in-Copied.ensures.here)
+    c.in_ok-stretches-in-Copied.ensures.others
+    (subst (λ (t : Spot). BecomesIn (λ u v. IsPasted u v gs ss (family_of p.queue) t) (get nat_cmp mid.buffers d) (get nat_cmp new.buffers d)) spot_is c.in_ok-paste-in-Copied.ensures.here)
+    c.in_ok-paste-in-Copied.ensures.others are

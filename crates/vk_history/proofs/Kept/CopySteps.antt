@@ -1,0 +1,251 @@
+-- What is kept of the bytes of buffers after a copy.
+use Rattle.std.proofs.Common.{◌≡◌, ◌≢◌, ◌+◌, ◌-◌, ℕ, List, [], ◌∷◌, length, slice_get, Bool, true, false, not, ◌&&◌, ◌==◌, refl, ap, sym, ◌∙◌, subst, arith, Option, Some, None}
+use Rattle.std.specs.Prelude.{Contains, is_some, is_none, if◌then◌else◌, unwrap_or, option_and_then, nat_le, nat_lt}
+use Rattle.std.specs.Option.{option_map}
+use Rattle.std.specs.List.{find}
+use Rattle.std.specs.Ordering.{nat_cmp}
+use Rattle.std.specs.BTreeMap.{get}
+use Rattle.std.proofs.lemmas.Bool.{eq-eqb, eqb-true, eqb-false, and_parts, leb-true, ltb-true}
+use Rattle.vk_model.specs.declared.command.BufferCopy.{BufferCopy}
+use Rattle.vk_model.specs.declared.command.Cmd.TheVariants as cmd
+use Rattle.vk_model.specs.Rules.Ids.{is_buffer, asked_by_command}
+use Rattle.vk_model.specs.Basics.{within}
+use Rattle.vk_model.specs.World.Bytes.{in_buffer, Family, World, Owner}
+use Rattle.vk_model.specs.World.ByteWrites.{buffer_size}
+use Rattle.vk_model.specs.World.Effect.{world, after_action, used, is_other}
+use Rattle.vk_model.specs.World.Ownership.{family_of}
+use Rattle.vk_model.specs.Trace.Objects.{buffer, is_exclusive}
+use Rattle.vk_model.specs.Trace.Point.{Past, Point, Action, Run}
+use Rattle.vk_model.proofs.Lists.Members.{found, contains-head, contains-tail}
+use Rattle.vk_model.proofs.Lists.Truths.{clash}
+use Rattle.vk_history.specs.declared.contents.BufferContents.{BufferContents}
+use Rattle.vk_history.specs.declared.contents.Contents.{Contents}
+use Rattle.vk_history.specs.declared.stretches.Stretch.{Stretch}
+use Rattle.vk_history.specs.declared.touches.LastTouches.{LastTouches}
+use Rattle.vk_history.specs.declared.touches.Touch.TheVariants as touch
+use Rattle.vk_history.specs.Judged.{IsJudged}
+use Rattle.vk_history.specs.Remembered.{with_touch}
+use Rattle.vk_history.specs.Touched.{touched, next_spot}
+use Rattle.vk_history.specs.Contents.{AreContents, AreContentsIn, AreContentsOf, IsChanged, BecomesIn, IsLent, IsLentWith, IsPasted, AreCopied, ReadWithin, is_defined, is_defined_in, stretch_at, reads_at, writes_at, touching, left_of, owner_of, owner_after}
+use Rattle.vk_history.proofs.Points.Ranges.{copy-targets, copy-origins}
+use Rattle.vk_history.proofs.Making.Worlds.{copy_leaves, used_owner, used_value, loses, turned_about}
+use Rattle.vk_history.proofs.Touching.Remembering.{touched_by_command, merged_command}
+use Rattle.vk_history.proofs.Kept.NextPoint.{there_for_command, copy_source}
+use Rattle.vk_history.proofs.Kept.ContentSteps.{IsOf, IsUntouched, untouched, next_of, of_contents, taken_owner, left_is, used_apart}
+
+-- two changes, one after the other
+afterwards : (a b c : BufferContents) (o1 o2 : Option ℕ) (d1 d2 : ℕ → Bool → Bool) (t1 t2 : ℕ → LastTouches → LastTouches) → IsChanged a b o1 d1 t1 → IsChanged b c o2 d2 t2 → IsChanged a c o2 (λ k d. d2 k (d1 k d)) (λ k t. t2 k (t1 k t))
+afterwards a b c o1 o2 d1 d2 t1 t2 h g = record {
+  defined_size = g.defined_size ∙ h.defined_size;
+  touches_size = g.touches_size ∙ h.touches_size;
+  mode = g.mode ∙ h.mode;
+  owned = g.owned;
+  defined = λ k. g.defined k ∙ ap (option_map (d2 k)) (h.defined k) ∙ twice (d1 k) (d2 k) (slice_get a.defined k);
+  touches = λ k. g.touches k ∙ ap (option_map (t2 k)) (h.touches k) ∙ twice (t1 k) (t2 k) (slice_get a.touches k);
+} where
+  twice : {A : Type 0} (f g : A → A) (o : Option A) → option_map g (option_map f o) ≡ option_map (λ x. g (f x)) o
+  twice f g None = refl
+  twice f g (Some x) = refl
+
+-- what a use leaves of contents
+taken_of : (past : Past) (f b : ℕ) (w : World) (u v : BufferContents) (t : ℕ → LastTouches → LastTouches) → IsOf past u w b → IsChanged u v (owner_after u f) (left_of u f) t → IsOf past v (used past f b w) b
+taken_of past f b w u v t a h = record {
+  mode = h.mode ∙ a.mode;
+  owner = ap owner_of h.owned ∙ taken_owner past f w b u a;
+  defined = λ k lt. h.defined k ∙ ap (option_map (left_of u f k)) (a.defined k lt) ∙ ap Some (left_is past f w b u a k);
+}
+
+-- what a second use by the family leaves of the first one's buffer
+used_again : (past : Past) (f s d : ℕ) (w : World) (k : ℕ) → is_defined_in (used past f d (used past f s w)) s k ≡ is_defined_in (used past f s w) s k
+used_again past f s d w k = ap not (used_value past f d (used past f s w) s k ∙ by (s == d) refl) where
+  after : World
+  after = used past f s w
+
+  lost : s ≡ d → loses past f d after ≡ false
+  lost e = subst (λ (r : ℕ). loses past f r after ≡ false) e (ap (λ (o : Owner). is_exclusive past s && is_other f o) (used_owner past f s w s) ∙ rw (eq-eqb s s refl) (go (is_exclusive past s))) where
+    go : (t : Bool) → (t && is_other f (if t && true then Family f else w.owner s)) ≡ false
+    go true = rw (eq-eqb f f refl) refl
+    go false = refl
+
+  by : (t : Bool) → (s == d) ≡ t → (if t && loses past f d after then true else is_none (after.value (in_buffer s k))) ≡ is_none (after.value (in_buffer s k))
+  by true e = rw (lost (eqb-true s d e)) refl
+  by false e = refl
+
+-- the buffers that a copy names
+pub source_named : (s d : ℕ) → Contains (asked_by_command (cmd.Copy s d [])) (s, is_buffer)
+source_named s d = contains-head (s, is_buffer) ((d, is_buffer) ∷ [])
+
+pub destination_named : (s d : ℕ) → Contains (asked_by_command (cmd.Copy s d [])) (d, is_buffer)
+destination_named s d = contains-tail (s, is_buffer) ((d, is_buffer) ∷ []) (d, is_buffer) (contains-head (d, is_buffer) [])
+
+module _ (past : Past) (p : Point) (j : IsJudged (p ∷ past)) (s d : ℕ) (gs : List BufferCopy) (is : p.action ≡ Run (cmd.Copy s d gs)) where
+  abbrev family : ℕ
+  family = family_of p.queue
+
+  -- the world when the source was used, and then the destination
+  abbrev lent : World
+  lent = used past family s (world past)
+
+  abbrev ready : World
+  ready = used past family d lent
+
+  abbrev first_with : ℕ → Option BufferCopy
+  first_with k = find (λ g. within g.destination_offset g.size k) gs
+
+  made : (b : ℕ) → buffer (p ∷ past) b ≡ buffer past b
+  made b = rw is refl
+
+  owned : (b : ℕ) → (world (p ∷ past)).owner b ≡ ready.owner b
+  owned b = ap (λ (e : Action). (after_action past p.queue e (world past)).owner b) is
+
+  valued : (b k : ℕ) → is_defined (p ∷ past) b k ≡ (if b == d then elim (first_with k) [ None ↦ is_defined_in ready b k | Some g ↦ is_defined_in ready s (g.source_offset + (k - g.destination_offset)) ] else is_defined_in ready b k)
+  valued b k = ap (λ (e : Action). not (is_none ((after_action past p.queue e (world past)).value (in_buffer b k)))) is ∙ ap not (copy_leaves ready.value s d gs b k) ∙ go (b == d) (first_with k) where
+    go : (t : Bool) (o : Option BufferCopy) → not (if t then elim o [ None ↦ is_none (ready.value (in_buffer b k)) | Some g ↦ is_none (ready.value (in_buffer s (g.source_offset + (k - g.destination_offset)))) ] else is_none (ready.value (in_buffer b k)))
+        ≡ (if t then elim o [ None ↦ is_defined_in ready b k | Some g ↦ is_defined_in ready s (g.source_offset + (k - g.destination_offset)) ] else is_defined_in ready b k)
+    go true None = refl
+    go true (Some g) = refl
+    go false o = refl
+
+  remembers : (b k : ℕ) (w r : Bool) → (b == d && writes_at gs k) ≡ w → (b == s && reads_at gs k) ≡ r
+      → touched (p ∷ past) (in_buffer b k) ≡ (let t : LastTouches = if r then with_touch (touched past (in_buffer b k)) (touch.Read p.queue) (next_spot past p) else touched past (in_buffer b k) in if w then with_touch t touch.Write (next_spot past p) else t)
+  remembers b k w r we re = touched_by_command past p (in_buffer b k) (cmd.Copy s d gs) is w r (copy-targets s d gs b k ∙ we) (copy-origins s d gs b k ∙ re) ∙ merged_command w r p.queue (touched past (in_buffer b k)) (next_spot past p)
+
+  -- what was found in the source
+  module _ (v : BufferContents) (of : IsOf past v lent s) (size : length v.defined ≡ buffer_size past s) (ss : List Stretch) (copied : AreCopied ss v.defined gs) where
+    reads_within : ReadWithin gs (length v.defined)
+    reads_within g c = rw size (copy_source past p j s d gs is g c)
+
+    found_at : (k : ℕ) → stretch_at ss k ≡ option_map (λ g. is_defined_in lent s (g.source_offset + (k - g.destination_offset))) (first_with k)
+    found_at k = copied reads_within k ∙ go (first_with k) refl where
+      go : (o : Option BufferCopy) → first_with k ≡ o → option_and_then (λ g. slice_get v.defined (g.source_offset + (k - g.destination_offset))) o ≡ option_map (λ g. is_defined_in lent s (g.source_offset + (k - g.destination_offset))) o
+      go None e = refl
+      go (Some g) e =
+          let member = found (λ g. within g.destination_offset g.size k) gs g e in
+          let parts = and_parts (nat_le g.destination_offset k) (nat_lt k (g.destination_offset + g.size)) member.1 in
+          let low = leb-true g.destination_offset k parts.0 in
+          let high = ltb-true k (g.destination_offset + g.size) parts.1 in
+          let fits = copy_source past p j s d gs is g member.0 in
+          of.defined (g.source_offset + (k - g.destination_offset)) (omega (arith, low, high, fits))
+
+    -- so the destination is defined as the copy leaves it
+    pasted_is : (m : BufferContents) → IsOf past m lent d → (k : ℕ) → unwrap_or (stretch_at ss k) (left_of m family k (is_defined_in lent d k)) ≡ is_defined (p ∷ past) d k
+    pasted_is m om k =
+        ap (unwrap_or (stretch_at ss k)) (left_is past family lent d m om k) ∙ ap (λ (o : Option Bool). unwrap_or o (is_defined_in ready d k)) (found_at k)
+        ∙ go (first_with k) ∙ sym (valued d k ∙ ap (λ (t : Bool). if t then elim (first_with k) [ None ↦ is_defined_in ready d k | Some g ↦ is_defined_in ready s (g.source_offset + (k - g.destination_offset)) ] else is_defined_in ready d k) (eq-eqb d d refl))
+      where
+        go : (o : Option BufferCopy) → unwrap_or (option_map (λ g. is_defined_in lent s (g.source_offset + (k - g.destination_offset))) o) (is_defined_in ready d k) ≡ elim o [ None ↦ is_defined_in ready d k | Some g ↦ is_defined_in ready s (g.source_offset + (k - g.destination_offset)) ]
+        go None = refl
+        go (Some g) = sym (used_again past family s d (world past) (g.source_offset + (k - g.destination_offset)))
+
+  -- ---- another buffer than the two
+
+  apart : (b : ℕ) → (b == s) ≡ false → (b == d) ≡ false → IsUntouched past p j b
+  apart b es ed =
+      let one = used_apart past family (world past) s b es in
+      let two = used_apart past family lent d b ed in
+      record {
+        unmade = λ none. ap is_some (made b) ∙ none;
+        owner = owned b ∙ two.0 ∙ one.0;
+        defined = λ k. valued b k ∙ rw ed (two.1 k ∙ one.1 k);
+        touches = λ k. remembers b k false false (rw ed refl) (rw es refl);
+      }
+
+  -- ---- the source alone
+
+  source_next : (s == d) ≡ false → (u v : BufferContents) → AreContentsOf u past s → IsLent u v gs p.queue (next_spot past p) → AreContentsOf v (p ∷ past) s
+  source_next ne u v a h =
+      let two = used_apart past family lent d s ne in
+      next_of past p j s u v (owner_after u family) (left_of u family) (touching (reads_at gs) (touch.Read p.queue) (next_spot past p)) a h
+      (taken_owner past family (world past) s u (of_contents past s u a) ∙ sym (owned s ∙ two.0))
+      (λ k lt. left_is past family (world past) s u (of_contents past s u a) k ∙ sym (valued s k ∙ rw ne (two.1 k)))
+      (λ k. sym (remembers s k false (reads_at gs k) (rw ne refl) (rw (eq-eqb s s refl) refl)))
+
+  -- ---- the destination alone
+
+  destination_next : (d == s) ≡ false → (v : BufferContents) → IsOf past v lent s → length v.defined ≡ buffer_size past s → (ss : List Stretch) → AreCopied ss v.defined gs
+      → (u x : BufferContents) → AreContentsOf u past d → IsPasted u x gs ss family (next_spot past p) → AreContentsOf x (p ∷ past) d
+  destination_next ne v of size ss copied u x a h =
+      let one = used_apart past family (world past) s d ne in
+      let before = of_contents past d u a in
+      let mid : IsOf past u lent d = record { mode = a.mode; owner = a.owner ∙ sym one.0; defined = λ k lt. a.defined k lt ∙ ap Some (sym (one.1 k)) } in
+      next_of past p j d u x (owner_after u family) (λ k e. unwrap_or (stretch_at ss k) (left_of u family k e)) (touching (writes_at gs) touch.Write (next_spot past p)) a h
+      (taken_owner past family lent d u mid ∙ sym (owned d))
+      (λ k lt. ap (λ (e : Bool). unwrap_or (stretch_at ss k) (left_of u family k e)) (sym (one.1 k)) ∙ pasted_is v of size ss copied u mid k)
+      (λ k. sym (remembers d k (writes_at gs k) false (rw (eq-eqb d d refl) refl) (rw ne refl)))
+
+  -- ---- between two buffers
+
+  pub between : (s == d) ≡ false → (d == s) ≡ false → (ss : List Stretch) (old mid new : Contents) → BecomesIn (IsLentWith gs ss p.queue (next_spot past p)) (get nat_cmp old.buffers s) (get nat_cmp mid.buffers s)
+      → ((other : ℕ) → other ≢ s → get nat_cmp mid.buffers other ≡ get nat_cmp old.buffers other)
+      → BecomesIn (λ u v. IsPasted u v gs ss family (next_spot past p)) (get nat_cmp mid.buffers d) (get nat_cmp new.buffers d)
+      → ((other : ℕ) → other ≢ d → get nat_cmp new.buffers other ≡ get nat_cmp mid.buffers other) → AreContents old past → AreContents new (p ∷ past)
+  between sd ds ss old mid new lends kept pastes left are b = by (b == d) refl (b == s) refl where
+    source : (u v : Option BufferContents) → BecomesIn (IsLentWith gs ss p.queue (next_spot past p)) u v → AreContentsIn u past s → (x : BufferContents) × (y : BufferContents) × (v ≡ Some y) × AreContentsOf x past s × IsLentWith gs ss p.queue (next_spot past p) x y
+    source None v h fresh = clash (there_for_command past p j (cmd.Copy s d gs) is s (source_named s d)) fresh.unmade
+    source (Some u) None h a = absurd h
+    source (Some u) (Some v) h a = (u, v, refl, a, h)
+
+    here : (x : BufferContents) × (y : BufferContents) × (get nat_cmp mid.buffers s ≡ Some y) × AreContentsOf x past s × IsLentWith gs ss p.queue (next_spot past p) x y
+    here = source (get nat_cmp old.buffers s) (get nat_cmp mid.buffers s) lends (are s)
+
+    lent_of : IsOf past here.1 lent s
+    lent_of = taken_of past family s (world past) here.0 here.1 (touching (reads_at gs) (touch.Read p.queue) (next_spot past p)) (of_contents past s here.0 here.3) here.4.0
+
+    destination : (u x : Option BufferContents) → BecomesIn (λ u v. IsPasted u v gs ss family (next_spot past p)) u x → AreContentsIn u past d → AreContentsIn x (p ∷ past) d
+    destination None x h fresh = clash (there_for_command past p j (cmd.Copy s d gs) is d (destination_named s d)) fresh.unmade
+    destination (Some u) None h a = absurd h
+    destination (Some u) (Some x) h a = destination_next ds here.1 lent_of (here.4.0.defined_size ∙ here.3.defined_size) ss here.4.1 u x a h
+
+    same_mid : get nat_cmp mid.buffers d ≡ get nat_cmp old.buffers d
+    same_mid = kept d (eqb-false d s ds)
+
+    by : (t : Bool) → (b == d) ≡ t → (r : Bool) → (b == s) ≡ r → AreContentsIn (get nat_cmp new.buffers b) (p ∷ past) b
+    by true e r g = subst (λ (x : ℕ). AreContentsIn (get nat_cmp new.buffers x) (p ∷ past) x) (sym (eqb-true b d e)) (destination (get nat_cmp mid.buffers d) (get nat_cmp new.buffers d) pastes (subst (λ (o : Option BufferContents). AreContentsIn o past d) (sym same_mid) (are d)))
+    by false e true g = subst (λ (x : ℕ). AreContentsIn (get nat_cmp new.buffers x) (p ∷ past) x) (sym (eqb-true b s g)) (subst (λ (o : Option BufferContents). AreContentsIn o (p ∷ past) s) (sym (left s (eqb-false s d sd) ∙ here.2)) (source_next sd here.0 here.1 here.3 here.4.0))
+    by false e false g = subst (λ (o : Option BufferContents). AreContentsIn o (p ∷ past) b) (sym (left b (eqb-false b d e) ∙ kept b (eqb-false b s g))) (untouched past p j (get nat_cmp old.buffers b) b (apart b g e) (are b))
+
+-- ---- within one buffer
+
+module _ (past : Past) (p : Point) (j : IsJudged (p ∷ past)) (s : ℕ) (gs : List BufferCopy) (is : p.action ≡ Run (cmd.Copy s s gs)) (ss : List Stretch) where
+  both_next : (u v x : BufferContents) → AreContentsOf u past s → IsLentWith gs ss p.queue (next_spot past p) u v → IsPasted v x gs ss (family_of p.queue) (next_spot past p) → AreContentsOf x (p ∷ past) s
+  both_next u v x a lends pastes =
+      let f : ℕ = family_of p.queue in
+      let reads : ℕ → LastTouches → LastTouches = touching (reads_at gs) (touch.Read p.queue) (next_spot past p) in
+      let writes : ℕ → LastTouches → LastTouches = touching (writes_at gs) touch.Write (next_spot past p) in
+      let pasted : ℕ → Bool → Bool = λ k e. unwrap_or (stretch_at ss k) (left_of v f k e) in
+      let of = taken_of past f s (world past) u v reads (of_contents past s u a) lends.0 in
+      next_of past p j s u x (owner_after v f) (λ k e. pasted k (left_of u f k e)) (λ k t. writes k (reads k t)) a (afterwards u v x (owner_after u f) (owner_after v f) (left_of u f) pasted reads writes lends.0 pastes)
+      (taken_owner past f (used past f s (world past)) s v of ∙ sym (owned past p j s s gs is s))
+      (λ k lt. ap (pasted k) (left_is past f (world past) s u (of_contents past s u a) k) ∙ pasted_is past p j s s gs is v of (lends.0.defined_size ∙ a.defined_size) ss lends.1 v of k)
+      (λ k. sym (remembers past p j s s gs is s k (writes_at gs k) (reads_at gs k) (rw (eq-eqb s s refl) refl) (rw (eq-eqb s s refl) refl)))
+
+  pub within_one : (old mid new : Contents) → BecomesIn (IsLentWith gs ss p.queue (next_spot past p)) (get nat_cmp old.buffers s) (get nat_cmp mid.buffers s)
+      → ((other : ℕ) → other ≢ s → get nat_cmp mid.buffers other ≡ get nat_cmp old.buffers other)
+      → BecomesIn (λ u v. IsPasted u v gs ss (family_of p.queue) (next_spot past p)) (get nat_cmp mid.buffers s) (get nat_cmp new.buffers s)
+      → ((other : ℕ) → other ≢ s → get nat_cmp new.buffers other ≡ get nat_cmp mid.buffers other) → AreContents old past → AreContents new (p ∷ past)
+  within_one old mid new lends kept pastes left are b = by (b == s) refl where
+    known : (u v x : Option BufferContents) → AreContentsIn u past s → BecomesIn (IsLentWith gs ss p.queue (next_spot past p)) u v → BecomesIn (λ u v. IsPasted u v gs ss (family_of p.queue) (next_spot past p)) v x → AreContentsIn x (p ∷ past) s
+    known None v x fresh h g = clash (there_for_command past p j (cmd.Copy s s gs) is s (source_named s s)) fresh.unmade
+    known (Some u) None x a h g = absurd h
+    known (Some u) (Some v) None a h g = absurd g
+    known (Some u) (Some v) (Some x) a h g = both_next u v x a h g
+
+    by : (t : Bool) → (b == s) ≡ t → AreContentsIn (get nat_cmp new.buffers b) (p ∷ past) b
+    by true e = subst (λ (x : ℕ). AreContentsIn (get nat_cmp new.buffers x) (p ∷ past) x) (sym (eqb-true b s e)) (known (get nat_cmp old.buffers s) (get nat_cmp mid.buffers s) (get nat_cmp new.buffers s) (are s) lends pastes)
+    by false e = subst (λ (o : Option BufferContents). AreContentsIn o (p ∷ past) b) (sym (left b (eqb-false b s e) ∙ kept b (eqb-false b s e))) (untouched past p j (get nat_cmp old.buffers b) b (apart past p j s s gs is b e e) (are b))
+
+-- ---- a copy
+
+pub copy_step : (past : Past) (p : Point) (j : IsJudged (p ∷ past)) (s d : ℕ) (gs : List BufferCopy) → p.action ≡ Run (cmd.Copy s d gs) → (ss : List Stretch) (old mid new : Contents)
+    → BecomesIn (IsLentWith gs ss p.queue (next_spot past p)) (get nat_cmp old.buffers s) (get nat_cmp mid.buffers s)
+    → ((other : ℕ) → other ≢ s → get nat_cmp mid.buffers other ≡ get nat_cmp old.buffers other)
+    → BecomesIn (λ u v. IsPasted u v gs ss (family_of p.queue) (next_spot past p)) (get nat_cmp mid.buffers d) (get nat_cmp new.buffers d)
+    → ((other : ℕ) → other ≢ d → get nat_cmp new.buffers other ≡ get nat_cmp mid.buffers other) → AreContents old past → AreContents new (p ∷ past)
+copy_step past p j s d gs is ss old mid new lends kept pastes left are = by (s == d) refl where
+  by : (t : Bool) → (s == d) ≡ t → AreContents new (p ∷ past)
+  by true e =
+      let same : d ≡ s = sym (eqb-true s d e) in
+      within_one past p j s gs (subst (λ (x : ℕ). p.action ≡ Run (cmd.Copy s x gs)) same is) ss old mid new lends kept
+      (subst (λ (x : ℕ). BecomesIn (λ u v. IsPasted u v gs ss (family_of p.queue) (next_spot past p)) (get nat_cmp mid.buffers x) (get nat_cmp new.buffers x)) same pastes)
+      (subst (λ (x : ℕ). (other : ℕ) → other ≢ x → get nat_cmp new.buffers other ≡ get nat_cmp mid.buffers other) same left) are
+  by false e = between past p j s d gs is e (turned_about d s ∙ e) ss old mid new lends kept pastes left are

@@ -1,0 +1,4 @@
+pub mod Times
+pub mod Lasts
+pub mod Waiting
+pub mod Busy
