@@ -1,7 +1,7 @@
 -- What the rules promise of the points of a clean past.
-use Rattle.std.proofs.Common.{◌≡◌, ◌≢◌, ℕ, suc, length, ◌++◌, subst, ◌+◌, ◌-◌, ◌*◌, ◌/◌, ◌%◌, ◌<◌, ◌≤◌, List, [], ◌∷◌, Bool, true, false, not, ◌||◌, ◌==◌, nat_lt, nat_le, refl, ap, arith, Option, Some, None}
-use Rattle.std.specs.Prelude.{IsSome, is_some, is_none}
-use Rattle.std.specs.List.{list_all, cons_option}
+use Rattle.std.proofs.Common.{◌≡◌, ◌≢◌, ℕ, suc, length, ◌++◌, subst, ◌+◌, ◌-◌, ◌*◌, ◌/◌, ◌%◌, ◌<◌, ◌≤◌, List, [], ◌∷◌, Bool, true, false, not, ◌||◌, ◌==◌, nat_lt, nat_le, refl, ap, sym, ◌∙◌, arith, Option, Some, None}
+use Rattle.std.specs.Prelude.{IsTrue, Contains, All, is_some, map, option_and_then}
+use Rattle.std.specs.List.{list_all, list_any, cons_option}
 use Rattle.vk_model.specs.Trace.Order.{Front, after_entry, order_from, host}
 use Rattle.vk_model.proofs.Trace.Growing.{entry_grows, order_grows}
 use Rattle.std.proofs.lemmas.Bool.{ltb-false, leb-false, eqb-false, eqb-true, false_from_ne_true, or_parts, and_parts}
@@ -12,12 +12,9 @@ use Rattle.vk_model.specs.Rules.Table.{breaks}
 use Rattle.vk_model.specs.Rules.Fault.{newest, older}
 use Rattle.vk_model.specs.Rules.Ids.{breaks_new_id}
 use Rattle.vk_model.specs.Rules.Sizes.{breaks_size, bad_entry_size, bad_command_size, fills_none, breaks_memory_size, bad_memory_size}
-use Rattle.vk_model.specs.Rules.Ranges.{breaks_range, host_past, command_past, fills_from_end, breaks_align, misaligned, off_4_length}
+use Rattle.vk_model.specs.Rules.Ranges.{breaks_range, host_past, command_past, area_past, fills_from_end, breaks_align, misaligned, off_4_length}
 use Rattle.vk_model.specs.Rules.Traces.{breaks_limit}
-use Rattle.vk_model.specs.Rules.Hazards.{breaks_read_undefined, reads_undefined}
-use Rattle.vk_model.specs.World.Effect.{world}
 use Rattle.vk_model.specs.World.ByteWrites.{buffer_size, fill_size}
-use Rattle.vk_model.specs.World.Bytes.{in_buffer}
 use Rattle.vk_model.specs.declared.command.Length.{Length}
 use Rattle.vk_model.specs.declared.command.Length.TheVariants as length_of
 use Rattle.vk_model.specs.declared.command.Cmd.TheVariants as cmd
@@ -30,12 +27,28 @@ use Rattle.vk_model.specs.declared.resource.Place.TheVariants as place
 use Rattle.vk_history.specs.Supported.{is_supported, is_supported_action, is_supported_place, is_memory}
 use Rattle.vk_device.specs.Inner.Clean.{IsClean}
 use Rattle.vk_device.specs.Inner.Fits.{FitsAction, AllFit}
-use Rattle.vk_resources.specs.Fits.{FitsFill, AllMemory, FitsCommand, IsOwn, FitsRead, FitsEntry}
+use Rattle.vk_resources.specs.Fits.{FitsFill, AllMemory, FitsCommand, IsUnused, FitsPlace, FitsRange, FitsEntry}
+use Rattle.vk_transfer.specs.Copies.{FitsBuffers}
+use Rattle.vk_model.specs.Basics.{holds}
+use Rattle.vk_model.specs.Rules.Ids.{is_buffer, is_memory as makes_memory, is_resource, asked_by_entry, breaks_live_id}
+use Rattle.vk_model.specs.Rules.Hazards.{ends_used, breaks_in_use}
+use Rattle.vk_model.specs.Rules.Binding.{on_bound, ends_past_memory, is_aliased, breaks_bind_range, breaks_aliased}
+use Rattle.vk_model.specs.Rules.Fault.{Comes}
+use Rattle.vk_model.specs.World.Areas.{Area, Bytes, areas_read, areas_written}
+use Rattle.vk_model.specs.declared.command.BufferCopy.{BufferCopy}
+use Rattle.vk_model.specs.declared.resource.MemoryInfo.{MemoryInfo}
+use Rattle.vk_model.proofs.Lists.Members.{contains-head, contains-tail, map_has, member_passes}
+use Rattle.vk_model.proofs.Lists.Truths.{clash}
+use Rattle.std.proofs.lemmas.List.Elements.{All-nil, All-cons, Contains-append_left, Contains-append_right}
+use Rattle.std.proofs.lemmas.List.{append_assoc}
+use Rattle.vk_laws.proofs.Nodes.NoHazard.{split_at}
+use Rattle.vk_laws.proofs.Nodes.Steady.{IsNew, made_step, made_up}
+use Rattle.vk_laws.proofs.Living.Alive.{is_alive, Ending, ending, host_names_live}
+use Rattle.vk_laws.proofs.Living.Ends.{Ended, idle, other, when_ended}
 use Rattle.std.proofs.Math.Nat.{div-add-mod, div-mul-le_self, mul-div_cancel, mod-lt}
 use Rattle.vk_model.specs.declared.command.Cmd.{Cmd}
-use Rattle.vk_model.specs.Trace.Objects.{made, made_by, buffer}
+use Rattle.vk_model.specs.Trace.Objects.{made, made_by, ended, live, buffer, buffer_in}
 use Rattle.vk_model.specs.declared.entry.Entry.{Entry}
-use Rattle.vk_model.proofs.Lists.Pairs.{none_at}
 
 -- a point breaks no rule
 abbrev BreaksNone : Past → Point → Type 0
@@ -109,31 +122,86 @@ module _ (past : Past) (p : Point) (none : BreaksNone past p) where
       let unbroken : breaks_align past p ≡ false = none rule.Align in
       rw is at unbroken
 
-  entry_defined : (x : Entry) → p.action ≡ Host x → reads_undefined (world past) x ≡ false
+-- ---- live objects
+
+module _ (past : Past) (p : Point) (none : BreaksNone past p) where
+  names_live : (x : Entry) (i : ℕ) (kind : Entry → Bool) → p.action ≡ Host x → Contains (asked_by_entry x) (i, kind) → IsTrue (holds (live past i) kind)
   unfolding breaks
-  entry_defined x is =
-      let unbroken : breaks_read_undefined past p ≡ false = none rule.ReadUndefined in
+  names_live x i kind is c = host_names_live past p x is (λ h. let un : breaks_live_id past p ≡ false = none rule.LiveId in clash h un) i kind c
+
+  used_none : (x : Entry) → p.action ≡ Host x → ends_used past p x ≡ false
+  unfolding breaks
+  used_none x is =
+      let unbroken : breaks_in_use past p ≡ false = none rule.InUse in
+      subst (λ (d : Action). holds (host_of d) (ends_used past p) ≡ false) is unbroken
+
+  bound_within : (x : Entry) → p.action ≡ Host x → on_bound (ends_past_memory past) x ≡ false
+  unfolding breaks
+  bound_within x is =
+      let unbroken : breaks_bind_range past p ≡ false = none rule.BindRange in
       rw is at unbroken
 
-some_of : {A : Type 0} (o : Option A) → is_none o ≡ false → IsSome o
-some_of None e = absurd cc
-some_of (Some x) e = refl
+  bound_apart : (x : Entry) → p.action ≡ Host x → on_bound (is_aliased past) x ≡ false
+  unfolding breaks
+  bound_apart x is =
+      let unbroken : breaks_aliased past p ≡ false = none rule.Aliased in
+      rw is at unbroken
 
--- ---- reads
-
--- a read of some bytes within what is no buffer
-read_fits : (past : Past) (b o n : ℕ) → 0 < n → o + n ≤ buffer_size past b → FitsRead (buffer past b) o n
-read_fits past b o n some range = go (buffer past b) refl
+-- a range within the buffer of an id that is live
+live_range : (past : Past) (b o n : ℕ) → IsTrue (holds (live past b) is_buffer) → o + n ≤ buffer_size past b → FitsRange (option_and_then buffer_in (live past b)) o n
+live_range past b o n alive range = let a = is_alive past b is_buffer alive in rw (a.unended, a.made_it) (go a.object a.is_kind (rw (buffer_size, a.made_it) at range))
   where
-    go : (x : Option BufferInfo) → buffer past b ≡ x → FitsRead x o n
-    go None is = let le : o + n ≤ 0 = rw (buffer_size, is) at range in absurd (omega arith)
-    go (Some i) is = rw (buffer_size, is) at range
+    go : (y : Entry) → IsTrue (is_buffer y) → o + n ≤ elim (buffer_in y) [ None ↦ 0 | Some i ↦ i.size ] → FitsRange (buffer_in y) o n
+    go (entry.Buffer i info) h range = range
+    go _ h range = absurd cc
+
+-- an id that wasn't made hasn't been ended
+abbrev IsFresh : Past → Type 0
+IsFresh past = (i : ℕ) → made past i ≡ None → ended past i ≡ false
+
+new_clean : (past : Past) → IsClean past → IsNew past
+unfolding breaks
+new_clean past clean before q comes broken = clean.sound before q rule.NewId comes broken
+
+made_on : (past before : Past) (q : Point) → IsClean past → Comes past before q → (i : ℕ) (x : Entry) → made before i ≡ Some x → made past i ≡ Some x
+made_on past before q clean comes i x is =
+    let f = split_at past before q comes in
+    let whole : past ≡ (f.0 ++ q ∷ []) ++ before = f.1 ∙ sym (append_assoc f.0 (q ∷ []) before) in
+    ap (λ (l : Past). made l i) whole ∙ made_up (f.0 ++ q ∷ []) before i x (subst (λ (l : Past). IsNew l) whole (new_clean past clean)) is
+
+fresh_clean : (past : Past) → IsClean past → IsFresh past
+fresh_clean past clean i unmade = false_from_ne_true (ended past i) (λ h. go (ending past i h))
+  where
+    clash_made : (x : Entry) → made past i ≡ Some x → ⊥
+    clash_made x is = let both : None ≡ Some x = sym unmade ∙ is in cc
+
+    go : Ending past i → ⊥
+    go e = by (when_ended e.before e.at e.by e.is_host (λ k h. clean.sound e.before e.at k e.comes h) i e.ends)
+      where
+        by : Ended e.before e.at e.by e.is_host i → ⊥
+        by (idle alive free) = clash_made alive.object (made_on past e.before e.at clean e.comes i alive.object alive.made_it)
+        by (other kind alive apart) = clash_made alive.object (made_on past e.before e.at clean e.comes i alive.object alive.made_it)
+
+new_id : (past : Past) (p : Point) (none : BreaksNone past p) → IsFresh past → (x : Entry) (i : ℕ) → p.action ≡ Host x → made_by x ≡ Some i → IsUnused past i
+new_id past p none fresh x i is makes = let un = new_made past p none x i is makes in record { unmade = un; unended = fresh i un }
+
+-- ---- host accesses
 
 read_point : (past : Past) (p : Point) (b o n : ℕ) → p.action ≡ Host (entry.Read b o n) → BreaksNone past p → FitsEntry past (entry.Read b o n)
-read_point past p b o n is none = (
-  read_fits past b o n (not_zero n (entry_size past p none (entry.Read b o n) is)) (not_above (buffer_size past b) (o + n) (entry_range past p none (entry.Read b o n) is)),
-  λ k lt. some_of ((world past).value (in_buffer b (o + k))) (none_at (λ k. is_none ((world past).value (in_buffer b (o + k)))) 0 n k (entry_defined past p none (entry.Read b o n) is) (omega arith) (omega arith)),
-)
+read_point past p b o n is none =
+    live_range past b o n (names_live past p none (entry.Read b o n) b is_buffer is (contains-head (b, is_buffer) [])) (not_above (buffer_size past b) (o + n) (entry_range past p none (entry.Read b o n) is))
+
+write_point : (past : Past) (p : Point) (b o : ℕ) (bytes : List ℕ) → p.action ≡ Host (entry.Write b o bytes) → BreaksNone past p → FitsEntry past (entry.Write b o bytes)
+write_point past p b o bytes is none =
+    live_range past b o (length bytes) (names_live past p none (entry.Write b o bytes) b is_buffer is (contains-head (b, is_buffer) [])) (not_above (buffer_size past b) (o + length bytes) (entry_range past p none (entry.Write b o bytes) is))
+
+-- ---- what ends
+
+free_point : (past : Past) (p : Point) (m : ℕ) → p.action ≡ Host (entry.Free m) → BreaksNone past p → FitsEntry past (entry.Free m)
+free_point past p m is none = (names_live past p none (entry.Free m) m makes_memory is (contains-head (m, makes_memory) []), used_none past p none (entry.Free m) is)
+
+destroy_point : (past : Past) (p : Point) (r : ℕ) → p.action ≡ Host (entry.Destroy r) → BreaksNone past p → FitsEntry past (entry.Destroy r)
+destroy_point past p r is none = names_live past p none (entry.Destroy r) r is_resource is (contains-head (r, is_resource) [])
 
 -- ---- fills
 
@@ -185,52 +253,86 @@ all_memory (element.Memory d ∷ es) e = all_memory es e
 all_memory (element.Buffer b ∷ es) e = absurd cc
 all_memory (element.Image b ∷ es) e = absurd cc
 
-own_place : (q : Place) → is_supported_place q ≡ true → IsOwn q
-own_place (place.Dedicated t) e = tt
-own_place (place.Pool q) e = absurd cc
-own_place (place.PoolUpper q) e = absurd cc
-own_place (place.Memory m o) e = absurd cc
+-- a place that breaks no rule on binding
+place_fits : (past : Past) (p : Point) (i : ℕ) (b : BufferInfo) → p.action ≡ Host (entry.Buffer i b) → BreaksNone past p → (q : Place) → b.place ≡ q → is_supported_place q ≡ true → FitsPlace past b q
+place_fits past p i b is none (place.Dedicated t) at supported = tt
+place_fits past p i b is none (place.Memory m o) at supported = (
+  names_live past p none (entry.Buffer i b) m makes_memory is (rw at (contains-head (m, makes_memory) [])),
+  rw at at (bound_within past p none (entry.Buffer i b) is),
+  rw at at (bound_apart past p none (entry.Buffer i b) is),
+)
+place_fits past p i b is none (place.Pool q) at supported = absurd cc
+place_fits past p i b is none (place.PoolUpper q) at supported = absurd cc
 
 rounded_bound : (size : ℕ) → (size + 15) / 16 * 16 ≤ 67108864 → size ≤ 67108864
 rounded_bound size le = let parts = div-add-mod (size + 15) 16 in let rest : (size + 15) % 16 < 16 = mod-lt (size + 15) (omega arith) in omega arith
 
-buffer_point : (past : Past) (p : Point) (i : ℕ) (b : BufferInfo) → p.action ≡ Host (entry.Buffer i b) → is_supported_place b.place ≡ true → BreaksNone past p → FitsEntry past (entry.Buffer i b)
-buffer_point past p i b is supported none = (
-  new_made past p none (entry.Buffer i b) i is refl,
-  not_zero b.size (entry_size past p none (entry.Buffer i b) is),
-  rounded_bound b.size (not_above 67108864 ((b.size + 15) / 16 * 16) (memory_size past p none (entry.Buffer i b) is)),
-  own_place b.place supported,
-)
+buffer_point : (past : Past) (p : Point) (i : ℕ) (b : BufferInfo) → p.action ≡ Host (entry.Buffer i b) → is_supported_place b.place ≡ true → IsFresh past → BreaksNone past p → FitsEntry past (entry.Buffer i b)
+buffer_point past p i b is supported fresh none = record {
+  unused = new_id past p none fresh (entry.Buffer i b) i is refl;
+  some = not_zero b.size (entry_size past p none (entry.Buffer i b) is);
+  bounded = rounded_bound b.size (not_above 67108864 ((b.size + 15) / 16 * 16) (memory_size past p none (entry.Buffer i b) is));
+  place = place_fits past p i b is none b.place refl supported;
+}
 
-fits_entry : (past : Past) (p : Point) (x : Entry) → p.action ≡ Host x → is_supported_action (Host x) ≡ true → BreaksNone past p → FitsEntry past x
-fits_entry past p (entry.Buffer i b) is supported none = buffer_point past p i b is supported none
-fits_entry past p (entry.Map b) is supported none = tt
-fits_entry past p (entry.Read b o n) is supported none = read_point past p b o n is none
-fits_entry past p (entry.Semaphore i v) is supported none = new_made past p none (entry.Semaphore i v) i is refl
-fits_entry past p (entry.Wait ws) is supported none = tt
-fits_entry past p (entry.Submit q bs) is supported none = tt
-fits_entry past p (entry.Pool i x) is supported none = absurd cc
-fits_entry past p (entry.Image i x) is supported none = absurd cc
-fits_entry past p (entry.Memory i x) is supported none = absurd cc
-fits_entry past p (entry.Free m) is supported none = absurd cc
-fits_entry past p (entry.Destroy r) is supported none = absurd cc
-fits_entry past p (entry.DropPool q) is supported none = absurd cc
-fits_entry past p (entry.Unmap b) is supported none = absurd cc
-fits_entry past p (entry.Write b o bytes) is supported none = absurd cc
-fits_entry past p (entry.Flush b o n) is supported none = absurd cc
-fits_entry past p (entry.Invalidate b o n) is supported none = absurd cc
-fits_entry past p (entry.Event i) is supported none = new_made past p none (entry.Event i) i is refl
-fits_entry past p (entry.Signal s v) is supported none = tt
-fits_entry past p (entry.Defrag i q n m) is supported none = absurd cc
-fits_entry past p (entry.Pass d) is supported none = absurd cc
-fits_entry past p (entry.EndPass d kept lost) is supported none = absurd cc
-fits_entry past p (entry.EndDefrag d) is supported none = absurd cc
+memory_point : (past : Past) (p : Point) (i : ℕ) (m : MemoryInfo) → p.action ≡ Host (entry.Memory i m) → IsFresh past → BreaksNone past p → FitsEntry past (entry.Memory i m)
+memory_point past p i m is fresh none = (new_id past p none fresh (entry.Memory i m) i is refl, not_zero m.size (or_parts (m.size == 0) (nat_lt 67108864 m.size) (memory_size past p none (entry.Memory i m) is)).0)
+
+fits_entry : (past : Past) (p : Point) (x : Entry) → p.action ≡ Host x → is_supported_action (Host x) ≡ true → IsFresh past → BreaksNone past p → FitsEntry past x
+fits_entry past p (entry.Buffer i b) is supported fresh none = buffer_point past p i b is supported fresh none
+fits_entry past p (entry.Memory i m) is supported fresh none = memory_point past p i m is fresh none
+fits_entry past p (entry.Free m) is supported fresh none = free_point past p m is none
+fits_entry past p (entry.Destroy r) is supported fresh none = destroy_point past p r is none
+fits_entry past p (entry.Map b) is supported fresh none = tt
+fits_entry past p (entry.Unmap b) is supported fresh none = tt
+fits_entry past p (entry.Write b o bytes) is supported fresh none = write_point past p b o bytes is none
+fits_entry past p (entry.Read b o n) is supported fresh none = read_point past p b o n is none
+fits_entry past p (entry.Semaphore i v) is supported fresh none = new_id past p none fresh (entry.Semaphore i v) i is refl
+fits_entry past p (entry.Event i) is supported fresh none = new_id past p none fresh (entry.Event i) i is refl
+fits_entry past p (entry.Signal s v) is supported fresh none = tt
+fits_entry past p (entry.Wait ws) is supported fresh none = tt
+fits_entry past p (entry.Submit q bs) is supported fresh none = tt
+fits_entry past p (entry.Pool i x) is supported fresh none = absurd cc
+fits_entry past p (entry.Image i x) is supported fresh none = absurd cc
+fits_entry past p (entry.DropPool q) is supported fresh none = absurd cc
+fits_entry past p (entry.Flush b o n) is supported fresh none = absurd cc
+fits_entry past p (entry.Invalidate b o n) is supported fresh none = absurd cc
+fits_entry past p (entry.Defrag i q n m) is supported fresh none = absurd cc
+fits_entry past p (entry.Pass d) is supported fresh none = absurd cc
+fits_entry past p (entry.EndPass d kept lost) is supported fresh none = absurd cc
+fits_entry past p (entry.EndDefrag d) is supported fresh none = absurd cc
+
+-- ---- updates and copies
+
+-- what holds of each item holds of all
+all_from : {A : Type 0} (P : A → Type 0) (xs : List A) → ((x : A) → Contains xs x → P x) → All P xs
+all_from P [] each = All-nil P
+all_from P (x ∷ xs) each = All-cons P x xs (each x (contains-head x xs)) (all_from P xs (λ y c. each y (contains-tail x xs y c)))
+
+-- the areas that a command reads and writes lie in their buffers
+areas_inside : (past : Past) (p : Point) (c : Cmd) → p.action ≡ Run c → BreaksNone past p → list_any (area_past past) (areas_read past c ++ areas_written past c) ≡ false
+areas_inside past p c is none = (or_parts _ _ (or_parts _ _ (or_parts _ _ (command_range past p none c is)).0).0).0
+
+update_point : (past : Past) (p : Point) (b o : ℕ) (bytes : List ℕ) → p.action ≡ Run (cmd.Update b o bytes) → BreaksNone past p → FitsCommand past (cmd.Update b o bytes)
+update_point past p b o bytes is none = not_above (buffer_size past b) (o + length bytes) (or_parts _ false (areas_inside past p (cmd.Update b o bytes) is none)).0
+
+copy_point : (past : Past) (p : Point) (s d : ℕ) (gs : List BufferCopy) → p.action ≡ Run (cmd.Copy s d gs) → BreaksNone past p → FitsCommand past (cmd.Copy s d gs)
+copy_point past p s d gs is none = all_regions gs (areas_inside past p (cmd.Copy s d gs) is none)
+  where
+    all_regions : (gs : List BufferCopy) → list_any (area_past past) (map (λ g. Bytes s g.source_offset g.size) gs ++ map (λ g. Bytes d g.destination_offset g.size) gs) ≡ false → All (λ g. FitsBuffers g (buffer_size past s) (buffer_size past d)) gs
+    all_regions gs inside = all_from (λ g. FitsBuffers g (buffer_size past s) (buffer_size past d)) gs (λ g c. (
+      not_above (buffer_size past s) (g.source_offset + g.size) (fails (Bytes s g.source_offset g.size) (Contains-append_left (map (λ g. Bytes s g.source_offset g.size) gs) (map (λ g. Bytes d g.destination_offset g.size) gs) (Bytes s g.source_offset g.size) (map_has (λ g. Bytes s g.source_offset g.size) gs g c))),
+      not_above (buffer_size past d) (g.destination_offset + g.size) (fails (Bytes d g.destination_offset g.size) (Contains-append_right (map (λ g. Bytes s g.source_offset g.size) gs) (map (λ g. Bytes d g.destination_offset g.size) gs) (Bytes d g.destination_offset g.size) (map_has (λ g. Bytes d g.destination_offset g.size) gs g c))),
+    ))
+      where
+        fails : (a : Area) → Contains (map (λ g. Bytes s g.source_offset g.size) gs ++ map (λ g. Bytes d g.destination_offset g.size) gs) a → area_past past a ≡ false
+        fails a c = false_from_ne_true (area_past past a) (λ h. clash (member_passes (area_past past) (map (λ g. Bytes s g.source_offset g.size) gs ++ map (λ g. Bytes d g.destination_offset g.size) gs) a c h) inside)
 
 fits_command : (past : Past) (p : Point) (c : Cmd) → p.action ≡ Run c → is_supported_action (Run c) ≡ true → BreaksNone past p → FitsCommand past c
 fits_command past p (cmd.Fill b o n w) is supported none = fill_point past p b o n w is none
+fits_command past p (cmd.Update b o bytes) is supported none = update_point past p b o bytes is none
+fits_command past p (cmd.Copy s d gs) is supported none = copy_point past p s d gs is none
 fits_command past p (cmd.Barrier es) is supported none = all_memory es supported
-fits_command past p (cmd.Update b o bytes) is supported none = absurd cc
-fits_command past p (cmd.Copy a b gs) is supported none = absurd cc
 fits_command past p (cmd.Clear i l color rs) is supported none = absurd cc
 fits_command past p (cmd.CopyIn b i l gs) is supported none = absurd cc
 fits_command past p (cmd.CopyOut i l b gs) is supported none = absurd cc
@@ -238,11 +340,11 @@ fits_command past p (cmd.CopyImage a l b m gs) is supported none = absurd cc
 fits_command past p (cmd.Set v ms) is supported none = tt
 fits_command past p (cmd.Await v ms) is supported none = tt
 
-fits_action : (past : Past) (p : Point) (d : Action) → p.action ≡ d → is_supported_action d ≡ true → BreaksNone past p → FitsAction past d
-fits_action past p (Host x) is supported none = fits_entry past p x is supported none
-fits_action past p (Run c) is supported none = fits_command past p c is supported none
-fits_action past p (Wait s) is supported none = tt
-fits_action past p (Signal s) is supported none = tt
+fits_action : (past : Past) (p : Point) (d : Action) → p.action ≡ d → is_supported_action d ≡ true → IsFresh past → BreaksNone past p → FitsAction past d
+fits_action past p (Host x) is supported fresh none = fits_entry past p x is supported fresh none
+fits_action past p (Run c) is supported fresh none = fits_command past p c is supported none
+fits_action past p (Wait s) is supported fresh none = tt
+fits_action past p (Signal s) is supported fresh none = tt
 
 -- ---- what is older is clean too
 
@@ -258,7 +360,7 @@ pub fits_clean : (past : Past) → IsClean past → AllFit past
 unfolding is_supported
 fits_clean [] clean = tt
 fits_clean (p ∷ past) clean =
-    (fits_action past p p.action refl (and_parts (is_supported_action p.action) (list_all (λ q. is_supported_action q.action) past) clean.supported).0 (breaks_none past p clean), fits_clean past (clean_older past p clean))
+    (fits_action past p p.action refl (and_parts (is_supported_action p.action) (list_all (λ q. is_supported_action q.action) past) clean.supported).0 (fresh_clean past (clean_older past p clean)) (breaks_none past p clean), fits_clean past (clean_older past p clean))
 
 -- what comes before others, which may be batches that are started
 pub clean_newer : (newer past : Past) → IsClean (newer ++ past) → IsClean past
@@ -267,9 +369,6 @@ clean_newer (p ∷ newer) past clean = clean_newer newer past (clean_older (newe
 
 pub clean_entry : (e : ℕ) (x : Entry) (f : Front) → IsClean (after_entry e x f).past → IsClean (host e x ∷ f.past)
 clean_entry e x f clean = let g = entry_grows e x f in clean_newer g.newer (host e x ∷ f.past) (subst IsClean g.whole clean)
-
-pub clean_before : (e : ℕ) (x : Entry) (f : Front) → IsClean (after_entry e x f).past → IsClean f.past
-clean_before e x f clean = clean_older f.past (host e x) (clean_entry e x f clean)
 
 pub clean_order : (e : ℕ) (f : Front) (xs : List Entry) → IsClean (order_from e f xs).past → IsClean f.past
 clean_order e f xs clean = let g = order_grows e f xs in clean_newer g.0 f.past (subst IsClean g.1 clean)
@@ -294,3 +393,7 @@ below_limit e x f clean =
     let some : length f.past < 131072 = leb-false 131072 (length f.past) unbroken in
     let most = entry_count f.past in
     omega arith
+
+-- an object that was made stays when a point comes
+pub made_next : (past : Past) (p : Point) → IsClean (p ∷ past) → (i : ℕ) (x : Entry) → made past i ≡ Some x → made (p ∷ past) i ≡ Some x
+made_next past p clean i x is = made_step past p i x (new_clean (p ∷ past) clean past p newest) is

@@ -1,22 +1,23 @@
 -- The points that come with an entry, on a device.
-use Rattle.std.proofs.Common.{◌≡◌, ℕ, suc, ◌+◌, ◌<◌, ◌≤◌, ◌==◌, List, [], ◌∷◌, ◌++◌, length, take, drop, get_or, reverse, refl, ap, sym, ◌∙◌, subst, arith}
-use Rattle.std.specs.Prelude.{option_map, option_and_then}
-use Rattle.std.specs.List.{find}
+use Rattle.std.proofs.Common.{◌≡◌, ℕ, suc, ◌+◌, ◌%◌, ◌<◌, ◌≤◌, ◌==◌, true, false, Option, Some, None, map, List, [], ◌∷◌, ◌++◌, length, take, drop, get_or, reverse, refl, ap, sym, ◌∙◌, subst, arith}
+use Rattle.std.specs.Prelude.{All, Contains, IsTrue, is_some, option_map, option_and_then, if◌then◌else◌}
+use Rattle.std.specs.List.{find, list_any}
+use Rattle.std.proofs.lemmas.Bool.{false_from_ne_true}
 use Rattle.std.proofs.lemmas.Grind.{take_at_read, common_steps}
-use Rattle.std.proofs.lemmas.List.{length-reverse, take_all, append_assoc, append_cancel_right, drop_at, take-append-drop}
+use Rattle.std.proofs.lemmas.List.{length-reverse, take_all, append_assoc, append_cancel_right, drop_at, take-append-drop, map-append}
 use Rattle.std.proofs.lemmas.List.Sums.{fold-append}
 use Rattle.vk_model.specs.declared.command.Cmd.{Cmd}
 use Rattle.vk_model.specs.declared.command.Cmd.TheVariants as cmd
 use Rattle.vk_model.specs.declared.entry.Entry.{Entry}
 use Rattle.vk_model.specs.declared.entry.Entry.TheVariants as entry
 use Rattle.vk_model.specs.declared.resource.BufferInfo.{BufferInfo}
-use Rattle.vk_model.specs.Basics.{holds}
+use Rattle.vk_model.specs.Basics.{holds, among, below, byte_of}
 use Rattle.vk_model.specs.Laws.{OrderIsOrdered, OrderHasEntries, NoFaultIsSound}
 use Rattle.vk_model.specs.Rules.Fault.{IsUnbroken}
-use Rattle.vk_model.specs.Run.Runs.{Name, Step, Stage, Apply, applied}
-use Rattle.vk_model.specs.Trace.Objects.{made_by, buffer_in}
+use Rattle.vk_model.specs.Run.Runs.{Name, is_done, Step, Stage, Apply, applied}
+use Rattle.vk_model.specs.Trace.Objects.{made_by, ended_by, live, buffer_in}
 use Rattle.vk_model.specs.Trace.Order.{Front, host, after_entry, order_from, order}
-use Rattle.vk_model.specs.Trace.Point.{Past, Point, entries}
+use Rattle.vk_model.specs.Trace.Point.{Past, Point, Action, Run, entries}
 use Rattle.vk_model.specs.Trace.Structure.{IsOrdered}
 use Rattle.vk_model.proofs.Lists.Pairs.{Each}
 use Rattle.vk_model.proofs.Trace.Growing.{Quiet, same_entries, entries_after, entry_grows, order_grows, order_append}
@@ -27,15 +28,32 @@ use Rattle.vk_order.specs.PointViews.{point_of}
 use Rattle.vk_queues.specs.declared.waiting.Waiting.{Waiting}
 use Rattle.vk_queues.specs.PointViews.{add, past_after}
 use Rattle.vk_queues.specs.IsWaiting.{IsWaiting}
-use Rattle.vk_offers.specs.IsOffers.{ComesNext, IsOffers}
+use Rattle.vk_offers.specs.IsOffers.{ComesNext, IsOffers, commands_in, is_run}
 use Rattle.vk_offers.specs.Laws.{OrderComesNext}
-use Rattle.vk_resources.specs.Fits.{FitsCommand, FitsFill}
-use Rattle.vk_resources.specs.Held.{Held, MatchesSizes}
+use Rattle.vk_resources.specs.Fits.{FitsCommand, FitsFill, NamesLive}
+use Rattle.vk_resources.specs.Held.{Held, placed_in, object_in}
+use Rattle.vk_resources.specs.declared.resources.Placed.{Placed}
+use Rattle.vk_resources.specs.Matches.{MatchesLive}
+use Rattle.vk_resources.proofs.Matching.{matches_same}
+use Rattle.vk_transfer.specs.Copies.{FitsBuffers}
+use Rattle.vk_model.specs.Laws.{GrowthKeeps}
+use Rattle.vk_model.specs.Run.Pieces.{cut, pieces}
+use Rattle.vk_model.specs.World.Bytes.{in_buffer}
+use Rattle.vk_model.specs.World.ByteWrites.{Value, byte_write, fill_size}
+use Rattle.vk_model.specs.Sync.Node.{Node, Act, Runs, acts, with_acts, nodes}
+use Rattle.vk_model.proofs.Lists.Members.{contains-head}
+use Rattle.vk_laws.specs.Lifetimes.{CommandsNameLive}
+use Rattle.vk_laws.proofs.Nodes.Counts.{more_nodes}
+use Rattle.vk_laws.proofs.Nodes.Prefixes.{old_has}
+use Rattle.vk_offers.specs.Inner.Starting.{is_run_in_pieces}
+use Rattle.vk_offers.proofs.Commands.{command_node}
+use Rattle.vk_offers.proofs.Growing.{run_acts, others_stay, none_run}
+use Rattle.vk_device.proofs.Running.{later_fits}
 use Rattle.vk_device.specs.declared.device.Device.{Device}
 use Rattle.vk_device.specs.Inner.Clean.{IsClean}
 use Rattle.vk_device.specs.Inner.Fits.{FitsAction, AllFit}
-use Rattle.vk_device.specs.Inner.Ready.{HostDone, PointFits, HasPieces}
-use Rattle.vk_device.specs.Led.{Led, IsSoundTrace}
+use Rattle.vk_device.specs.Inner.Ready.{HostDone, CommandFits}
+use Rattle.vk_device.specs.Led.{Led, AreWorks, IsSoundTrace}
 use Rattle.vk_device.proofs.Clean.{fits_clean, below_limit, clean_newer}
 
 -- ---- points one after another
@@ -81,24 +99,49 @@ quiet_points past base newer points long each whole i =
     let quiet : Each Quiet (later.0 ++ here.0) = subst (λ (l : Past). Each Quiet l) (sym (append_cancel_right (later.0 ++ here.0) newer base parts)) each in
     ap entries (here.1 ∙ ap (λ (l : Past). here.0 ++ l) same) ∙ same_entries base (here.0 ++ base) (record { newer = here.0; whole = refl; each = each_right later.0 here.0 quiet })
 
--- ---- the buffers are those of the entries
+-- ---- what is live is so by the entries
 
-sizes_stay : (past all : Past) (r : Held) → entries all ≡ entries past → MatchesSizes past r → MatchesSizes all r
-sizes_stay past all r same sizes b =
-    sizes b ∙ ap (λ (l : List Entry). option_map (λ (i : BufferInfo). i.size) (option_and_then buffer_in (find (λ x. holds (made_by x) (λ j. b == j)) l))) (sym same)
+live_stays : (past all : Past) → entries all ≡ entries past → (i : ℕ) → live all i ≡ live past i
+live_stays past all same i = ap (λ (l : List Entry). if list_any (λ x. among i (ended_by x)) l then None else find (λ x. holds (made_by x) (λ j. i == j)) l) same
+
+matches_stay : (past all : Past) (r : Held) → entries all ≡ entries past → MatchesLive past r → MatchesLive all r
+matches_stay past all r same m = matches_same (live past) (live all) r (live_stays past all same) m
+
+alive_stays : (past all : Past) (c : Cmd) → entries all ≡ entries past → NamesLive past c → NamesLive all c
+alive_stays past all c same alive i kind asked = subst (λ (x : Option Entry). IsTrue (holds x kind)) (sym (live_stays past all same i)) (alive i kind asked)
+
+-- the buffer of an id, by the entries
+abbrev buffer_by : List Entry → ℕ → Option BufferInfo
+buffer_by l b = option_and_then buffer_in (find (λ x. holds (made_by x) (λ j. b == j)) l)
+
+abbrev size_by : List Entry → ℕ → ℕ
+size_by l b = elim (buffer_by l b) [ None ↦ 0 | Some i ↦ i.size ]
 
 command_stays : (past all : Past) (c : Cmd) → entries all ≡ entries past → FitsCommand past c → FitsCommand all c
-command_stays past all (cmd.Fill b o n w) same fits =
-    subst (λ (l : List Entry). FitsFill (option_and_then buffer_in (find (λ x. holds (made_by x) (λ j. b == j)) l)) o n) (sym same) fits
+command_stays past all (cmd.Fill b o n w) same fits = subst (λ (l : List Entry). FitsFill (buffer_by l b) o n) (sym same) fits
+command_stays past all (cmd.Update b o bytes) same fits = subst (λ (l : List Entry). o + length bytes ≤ size_by l b) (sym same) fits
+command_stays past all (cmd.Copy a b gs) same fits = subst (λ (l : List Entry). All (λ g. FitsBuffers g (size_by l a) (size_by l b)) gs) (sym same) fits
 command_stays past all (cmd.Barrier es) same fits = fits
 command_stays past all (cmd.Set v ms) same fits = tt
 command_stays past all (cmd.Await v ms) same fits = tt
-command_stays past all (cmd.Update b o bytes) same fits = absurd fits
-command_stays past all (cmd.Copy a b gs) same fits = absurd fits
 command_stays past all (cmd.Clear i l color rs) same fits = absurd fits
 command_stays past all (cmd.CopyIn b i l gs) same fits = absurd fits
 command_stays past all (cmd.CopyOut i l b gs) same fits = absurd fits
 command_stays past all (cmd.CopyImage a l b m gs) same fits = absurd fits
+
+-- and so are the pieces of a command that fits
+count_stays : (past all : Past) (c : Cmd) → entries all ≡ entries past → FitsCommand past c → length (pieces all c) ≡ length (pieces past c)
+count_stays past all (cmd.Fill b o n w) same fits =
+    ap (λ (l : List Entry). length (cut 4096 (map (λ k. byte_write (in_buffer b (o + k)) (Value (byte_of w (k % 4)))) (below (fill_size (size_by l b) o n))))) same
+count_stays past all (cmd.Update b o bytes) same fits = refl
+count_stays past all (cmd.Copy a b gs) same fits = refl
+count_stays past all (cmd.Barrier es) same fits = refl
+count_stays past all (cmd.Set v ms) same fits = refl
+count_stays past all (cmd.Await v ms) same fits = refl
+count_stays past all (cmd.Clear i l color rs) same fits = absurd fits
+count_stays past all (cmd.CopyIn b i l gs) same fits = absurd fits
+count_stays past all (cmd.CopyOut i l b gs) same fits = absurd fits
+count_stays past all (cmd.CopyImage a l b m gs) same fits = absurd fits
 
 fits_at : (newer past : Past) (p : Point) → AllFit (newer ++ p ∷ past) → FitsAction past p.action
 fits_at [] past p fit = fit.0
@@ -112,7 +155,8 @@ pub record IsComing (t : List Entry) (e : ℕ) (x : Entry) (f : Front) (r : Held
   pub clean : IsClean (order t)
   pub unbroken : IsUnbroken (order t)
   pub ordered : IsOrdered (order t)
-  pub sizes : MatchesSizes (host e x ∷ f.past) r
+  pub matches : MatchesLive (host e x ∷ f.past) r
+  pub alive : (n : Node) (c : Cmd) → Contains (nodes (after_entry e x f).past) n → n.act ≡ Runs c → length (nodes f.past) ≤ n.number → 0 < length (pieces (after_entry e x f).past c) → NamesLive (after_entry e x f).past c
   pub below : e < 131072
 
 pub clean_trace : (t : List Entry) → NoFaultIsSound → IsSoundTrace t → IsClean (order t)
@@ -141,9 +185,9 @@ applied_parts s (entry.Pass d) xs none = refl
 applied_parts s (entry.EndPass d kept lost) xs none = refl
 applied_parts s _ xs none = none
 
-pub coming : (t : List Entry) (steps : List Step) (s : Stage) (x : Entry) (xs : List Entry) (d : Device) → OrderIsOrdered → OrderHasEntries → NoFaultIsSound → DirectRunsAreRuns → DefinedRunsStand
+pub coming : (t : List Entry) (steps : List Step) (s : Stage) (x : Entry) (xs : List Entry) (d : Device) → OrderIsOrdered → OrderHasEntries → NoFaultIsSound → DirectRunsAreRuns → DefinedRunsStand → CommandsNameLive
     → HostDone t steps s x xs d → IsComing t s.count x s.front d.resources
-coming t steps s x xs d ordered has sound runs stand h =
+coming t steps s x xs d ordered has sound runs stand names h =
     let e : Stage = applied s 0 x xs in
     let empty : Front = record { past = []; waiting = [] } in
     let stands = stand t (steps ++ Apply [] 0 ∷ []) e (runs t _ e _ h.run) in
@@ -164,7 +208,15 @@ coming t steps s x xs d ordered has sound runs stand h =
       below = omega arith;
       unbroken = (sound t).0 h.sound.faultless;
       ordered = ordered t;
-      sizes = h.sizes;
+      matches = h.matches;
+      alive = λ n c at act new some i kind asked.
+          let fronts = applied_front s 0 x xs in
+          let unrun : is_done e.done (n.number, 0) ≡ false = false_from_ne_true (is_done e.done (n.number, 0))
+          (λ ran. let low = h.offers.known (n.number, 0) (subst (λ (done : List Name). IsTrue (is_done done (n.number, 0))) (applied_done s 0 x xs) ran) in omega (arith, low, new)) in
+          let there : Contains (nodes e.front.past) n = subst (λ (f : Front). Contains (nodes f.past) n) (sym fronts) at in
+          let pieced : 0 < length (pieces e.front.past c) = subst (λ (f : Front). 0 < length (pieces f.past c)) (sym fronts) some in
+          subst (λ (f : Front). IsTrue (holds (live f.past i) kind)) fronts
+          (names t (steps ++ Apply [] 0 ∷ []) e n c 0 i kind (runs t _ e _ h.run) h.sound.faultless there act pieced unrun asked);
     }
 
 module _ (t : List Entry) (e : ℕ) (x : Entry) (f : Front) (r : Held) (h : IsComing t e x f r) (points : List AnyPoint) (are : past_after f.past points ≡ (after_entry e x f).past) where
@@ -187,16 +239,64 @@ module _ (t : List Entry) (e : ℕ) (x : Entry) (f : Front) (r : Held) (h : IsCo
         let later = split_at f.past points (i + 1) in
         (h.newer ++ later.0, h.whole ∙ ap (λ (l : Past). h.newer ++ l) (sym are ∙ later.1 ∙ ap (λ (l : Past). later.0 ++ l) (past_more f.past points i p is lt)) ∙ sym (append_assoc h.newer later.0 (point_of p ∷ past)))
 
-    point_fits : PointFits (point_of p ∷ past) (point_of p) r
-    point_fits = record {
-      sizes = sizes_stay (host e x ∷ f.past) (point_of p ∷ past) r (ap entries (sym (past_more f.past points i p is lt)) ∙ entries_at i lt) h.sizes;
-      fits = λ c is_c. command_stays past (point_of p ∷ past) c (rw is_c refl)
-          (subst (λ (a : Rattle.vk_model.specs.Trace.Point.Action). FitsAction past a) is_c (fits_at newer_at.0 past (point_of p) (subst (λ (l : Past). AllFit l) newer_at.1 (fits_clean (order t) h.clean))));
-    }
+    same_past : entries (point_of p ∷ past) ≡ x ∷ entries f.past
+    same_past = ap entries (sym (past_more f.past points i p is lt)) ∙ entries_at i lt
 
-    pub comes_next : (count : ℕ) → OrderComesNext → ((past : Past) → PointFits past (point_of p) r → HasPieces past (point_of p) count) → ComesNext past (point_of p) count
-    comes_next count law has =
-        law (order t) newer_at.0 past (point_of p) count h.unbroken h.ordered newer_at.1 (λ c is_c runs. has (point_of p ∷ past) point_fits c is_c)
+    command_fits : GrowthKeeps → (c : Cmd) → (point_of p).action ≡ Run c → is_run c ≡ true → CommandFits (point_of p ∷ past) c r
+    command_fits keeps c is_c runs = record {
+      matches = matches_stay (host e x ∷ f.past) (point_of p ∷ past) r same_past h.matches;
+      fits = fits;
+      alive = λ some. alive_stays (after_entry e x f).past (point_of p ∷ past) c (same_past ∙ sym all_entries)
+          (h.alive n c there refl older (subst (λ (k : ℕ). 0 < k) (sym (count_stays (point_of p ∷ past) (after_entry e x f).past c (all_entries ∙ sym same_past) fits)) some));
+    }
+      where
+        own : FitsCommand past c
+        own = subst (λ (a : Action). FitsAction past a) is_c (fits_at newer_at.0 past (point_of p) (subst (λ (l : Past). AllFit l) newer_at.1 (fits_clean (order t) h.clean)))
+
+        fits : FitsCommand (point_of p ∷ past) c
+        fits = later_fits past (point_of p) c (subst (λ (a : Action). FitsAction past a) (sym is_c) own) own
+
+        n : Node
+        n = record { number = length (nodes past); point = point_of p; act = Runs c }
+
+        here : nodes (point_of p ∷ past) ≡ n ∷ nodes past
+        here = ap (λ (d : Action). with_acts (point_of p) (acts d) (nodes past)) is_c ∙ ap (λ (as' : List Act). with_acts (point_of p) as' (nodes past)) (run_acts c runs)
+
+        later : (newer : Past) × (past_after f.past points ≡ newer ++ past_after f.past (take (i + 1) points))
+        later = split_at f.past points (i + 1)
+
+        whole : (after_entry e x f).past ≡ later.0 ++ point_of p ∷ past
+        whole = sym are ∙ later.1 ∙ ap (λ (l : Past). later.0 ++ l) (past_more f.past points i p is lt)
+
+        there : Contains (nodes (after_entry e x f).past) n
+        there = old_has keeps (after_entry e x f).past later.0 (point_of p ∷ past) whole n (subst (λ (ns : List Node). Contains ns n) (sym here) (contains-head n (nodes past)))
+
+        older : length (nodes f.past) ≤ length (nodes past)
+        older = let g = grown f.past (take i points) in subst (λ (l : Past). length (nodes f.past) ≤ length (nodes l)) (sym g.1) (more_nodes g.0 f.past)
+
+        all_entries : entries (after_entry e x f).past ≡ x ∷ entries f.past
+        all_entries = let g = entry_grows e x f in same_entries (host e x ∷ f.past) (after_entry e x f).past g
+
+    comes_next : (count : ℕ) → OrderComesNext → ((c : Cmd) → (point_of p).action ≡ Run c → is_run c ≡ true → count ≡ length (pieces (point_of p ∷ past) c)) → ComesNext past (point_of p) count
+    comes_next count law has = law (order t) newer_at.0 past (point_of p) count h.unbroken h.ordered newer_at.1 has
+
+    -- as it was made ready
+    pub prepared_next : (count : ℕ) → OrderComesNext → GrowthKeeps → (q : Held) → q ≡ r → ((past : Past) (c : Cmd) → (point_of p).action ≡ Run c → is_run c ≡ true → CommandFits past c q → count ≡ length (pieces past c)) → ComesNext past (point_of p) count
+    prepared_next count law keeps q same has = comes_next count law (λ c is_c runs. has (point_of p ∷ past) c is_c runs (subst (λ (h : Held). CommandFits (point_of p ∷ past) c h) (sym same) (command_fits keeps c is_c runs)))
+
+-- ---- the commands that were made ready
+
+-- a point that is run in pieces adds its command
+pub works_more : (works : List Cmd) (past : Past) (p : Point) (c : Cmd) → p.action ≡ Run c → is_run c ≡ true → AreWorks works past → AreWorks (works ++ c ∷ []) (p ∷ past)
+works_more works past p c is runs are =
+    let n : Node = record { number = length (nodes past); point = p; act = Runs c } in
+    let here : nodes (p ∷ past) ≡ n ∷ nodes past = ap (λ (d : Action). with_acts p (acts d) (nodes past)) is ∙ ap (λ (as' : List Act). with_acts p as' (nodes past)) (run_acts c runs) in
+    map-append Runs works (c ∷ []) ∙ ap (λ (as' : List Act). as' ++ Runs c ∷ []) are ∙ sym (map-append (λ n. n.act) (commands_in (nodes past)) (n ∷ []))
+    ∙ ap (λ (ns : List Node). map (λ n. n.act) ns) (sym (command_node n (nodes past) refl)) ∙ ap (λ (ns : List Node). map (λ n. n.act) (commands_in ns)) (sym here)
+
+-- and another one doesn't
+pub works_same : (works : List Cmd) (past : Past) (p : Point) → is_run_in_pieces p.action ≡ false → AreWorks works past → AreWorks works (p ∷ past)
+works_same works past p other are = are ∙ ap (λ (ns : List Node). map (λ n. n.act) ns) (sym (others_stay p (acts p.action) (nodes past) (none_run p.action other)))
 
 -- ---- all of them have come
 
@@ -205,15 +305,29 @@ arrived d s x points counts are = are ∙ ap (λ (n : ℕ). (after_entry n x s.f
 
 pub advanced : (t : List Entry) (steps : List Step) (s : Stage) (x : Entry) (xs : List Entry) (d new : Device) (w : Waiting) (points : List AnyPoint) (i : ℕ) → HostDone t steps s x xs d → new.resources ≡ d.resources
     → new.count ≡ d.count + 1 → new.waiting ≡ w → IsWaiting w (d.count + 1) (after_entry d.count x s.front) → past_after s.front.past points ≡ (after_entry d.count x s.front).past → length points ≤ i
-    → IsOffers new.offers (past_after s.front.past (take i points)) s.done → Led t (steps ++ Apply [] 0 ∷ []) (applied s 0 x xs) new
-advanced t steps s x xs d new w points i h same counts waiting waits are all offers = record {
-  run = rw same h.run;
-  sizes = subst (λ (f : Front). MatchesSizes f.past new.resources) (sym (applied_front s 0 x xs))
-      (rw same (let g = entry_grows s.count x s.front in sizes_stay (host s.count x ∷ s.front.past) (after_entry s.count x s.front).past d.resources (same_entries (host s.count x ∷ s.front.past) (after_entry s.count x s.front).past g) h.sizes));
+    → AreWorks new.works.items (past_after s.front.past (take i points)) → IsOffers new.offers (past_after s.front.past (take i points)) s.done → Led t (steps ++ Apply [] 0 ∷ []) (applied s 0 x xs) new
+advanced t steps s x xs d new w points i h same counts waiting waits are all works offers = record {
+  bytes = h.bytes;
+  run = h.run;
+  holds = rw same h.holds;
+  matches = subst (λ (f : Front). MatchesLive f.past new.resources) (sym (applied_front s 0 x xs))
+      (rw same (let g = entry_grows s.count x s.front in matches_stay (host s.count x ∷ s.front.past) (after_entry s.count x s.front).past d.resources (same_entries (host s.count x ∷ s.front.past) (after_entry s.count x s.front).past g) h.matches));
+  works = subst (λ (f : Front). AreWorks new.works.items f.past) (sym (applied_front s 0 x xs))
+      (subst (λ (l : Past). AreWorks new.works.items l) (ap (λ (l : List AnyPoint). past_after s.front.past l) (take_all i points all) ∙ arrived d s x points h.counts are) works);
   waits = rw (waiting, counts) (subst (λ (f : Front). IsWaiting w (d.count + 1) f) (ap (λ (n : ℕ). after_entry n x s.front) h.counts ∙ sym (applied_front s 0 x xs)) waits);
   counts = counts ∙ ap (λ (n : ℕ). n + 1) h.counts ∙ sym (applied_count s 0 x xs);
   offers = subst (λ (f : Front). IsOffers new.offers f.past (applied s 0 x xs).done) (sym (applied_front s 0 x xs))
       (subst (λ (done : List Name). IsOffers new.offers (after_entry s.count x s.front).past done) (sym (applied_done s 0 x xs))
       (subst (λ (l : Past). IsOffers new.offers l s.done) (ap (λ (l : List AnyPoint). past_after s.front.past l) (take_all i points all) ∙ arrived d s x points h.counts are) offers));
   no_parts = applied_parts s x xs h.no_parts;
+}
+
+-- ---- a new device
+
+pub nothing_held : (r : Held) → r.owned ≡ [] → r.buffers ≡ [] → MatchesLive [] r
+nothing_held r owned buffers = record {
+  sizes = λ b. ap (λ (bs : List (ℕ × Placed)). option_map (λ (p : Placed). p.size) (placed_in bs b)) buffers;
+  places = λ b p i at is. absurd cc;
+  owned = λ i. ap (λ (os : List (ℕ × ℕ)). is_some (object_in os i)) owned;
+  memories = λ k number x is has. absurd cc;
 }

@@ -1,41 +1,46 @@
 -- An entry that is applied, on a device.
-use Rattle.std.proofs.Common.{◌≡◌, ◌⊎◌, inl, inr, ℕ, ◌+◌, List, [], ◌∷◌, ◌++◌, length, Bool, true, false, not, ◌==◌, refl, ap, sym, ◌∙◌, subst, cond, zero-add, Option, Some, None}
-use Rattle.std.specs.Prelude.{IsTrue, IsSome, is_some, option_map, option_and_then}
+use Rattle.std.proofs.Common.{◌≡◌, ◌⊎◌, inl, inr, ℕ, ◌+◌, List, [], ◌∷◌, ◌++◌, length, Bool, true, false, not, ◌||◌, ◌==◌, refl, ap, sym, ◌∙◌, subst, cond, zero-add, Option, Some, None}
+use Rattle.std.specs.Prelude.{IsTrue, IsSome, is_some, option_and_then, unwrap_or, map, if◌then◌else◌}
 use Rattle.std.specs.List.{list_all, find, cons_option}
-use Rattle.std.proofs.lemmas.Bool.{eqb-true, and_parts}
+use Rattle.std.proofs.lemmas.Bool.{and_parts}
 use Rattle.std.proofs.lemmas.List.{append_assoc}
+use Rattle.vk_model.proofs.Lists.Truths.{clash}
 use Rattle.vk_model.specs.declared.entry.Entry.{Entry}
 use Rattle.vk_model.specs.declared.entry.Entry.TheVariants as entry
 use Rattle.vk_model.specs.declared.resource.BufferInfo.{BufferInfo}
 use Rattle.vk_model.specs.declared.resource.Place.{Place}
 use Rattle.vk_model.specs.declared.resource.Place.TheVariants as place
-use Rattle.vk_model.specs.Basics.{holds}
+use Rattle.vk_model.specs.Basics.{holds, among, below}
 use Rattle.vk_model.specs.Laws.{NoFaultIsSound}
 use Rattle.vk_model.specs.Run.Runs.{Step, Stage, Apply, applied, may_go, atom_count}
 use Rattle.vk_model.specs.Run.Picks.{Picked, before_entry, atom_picks}
-use Rattle.vk_model.specs.Trace.Objects.{made_by, made, buffer, buffer_in, resource_in, type_at, is_cached}
+use Rattle.vk_model.specs.Trace.Objects.{made_by, made, ended, ended_by, live, buffer_in, resource_in, type_at, is_cached}
 use Rattle.vk_model.specs.Trace.Order.{Front, host, order_from, order}
 use Rattle.vk_model.specs.Trace.Point.{Past, Point, Action, Host, Wait, Run, Signal, host_of, entries}
 use Rattle.vk_model.specs.World.Bytes.{Byte, in_buffer, in_image}
-use Rattle.vk_model.specs.World.Effect.{world}
+use Rattle.vk_model.specs.World.Effect.{world, written}
 use Rattle.vk_model.specs.World.Meaning.{read_in}
 use Rattle.vk_model.proofs.Trace.Growing.{order_append}
 use Rattle.vk_laws.specs.DefinedRuns.{DefinedRunsStand}
-use Rattle.vk_laws.specs.DirectRuns.{DirectRun, DirectRunsAreRuns, NewMemoryHoldsAnything, OtherEntriesGoOn, DirectRunsReadMemory, bare_memory, is_made, reaches_memory}
+use Rattle.vk_laws.specs.DirectRuns.{DirectRun, DirectRunsAreRuns, NewMemoryHoldsAnything, UncachedEntriesGoOn, DirectRunsReadMemory, bare_memory, byte_after_entry, writes_cache, is_made}
 use Rattle.vk_laws.specs.PickedRuns.{PicksLeadOn}
 use Rattle.vk_resources.specs.declared.applied.Applied.{Applied}
 use Rattle.vk_resources.specs.declared.applied.Applied.TheVariants as applied
 use Rattle.vk_resources.specs.declared.resources.Placed.{Placed}
-use Rattle.vk_resources.specs.Done.{EntryReady, Goes, DoneBy}
-use Rattle.vk_resources.specs.Fits.{FitsEntry}
-use Rattle.vk_resources.specs.Held.{Held, placed, byte_in, byte_at, MatchesSizes}
-use Rattle.vk_resources.specs.Inner.Allotted.{allotted, FoundRoom, GotAsked, finds_no_room, with_asked, Allotted}
+use Rattle.vk_resources.specs.Done.{EntryReady, byte_after, Goes, DoneBy, ReadsBytes}
+use Rattle.vk_resources.specs.Fits.{FitsEntry, FitsRange}
+use Rattle.vk_resources.specs.Held.{Held, placed, byte_at, IsThere}
+use Rattle.vk_resources.specs.Matches.{MatchesLive}
+use Rattle.vk_resources.proofs.Matching.{live_of_placed, placed_of_live}
+use Rattle.vk_resources.proofs.Fitting.{live_made}
 use Rattle.vk_history.specs.Supported.{is_supported, is_supported_action, is_supported_entry, is_supported_place}
+use Rattle.vk_validate.proofs.Points.SupportedNodes as nodes
+use Rattle.vk_validate.proofs.Points.SupportedNodes.{supported_older}
 use Rattle.vk_device.specs.declared.device.Device.{Device}
 use Rattle.vk_device.specs.Inner.Clean.{IsClean}
-use Rattle.vk_device.specs.Inner.Ready.{HostDone, Picks, GotAskedBy, AdvanceReady}
+use Rattle.vk_device.specs.Inner.Ready.{HostDone, Picks, AdvanceReady}
 use Rattle.vk_device.specs.Led.{Led, IsBefore, Applies, Reads, IsNext}
-use Rattle.vk_device.proofs.Clean.{fits_clean, clean_entry, clean_order}
+use Rattle.vk_device.proofs.Clean.{fits_clean, clean_entry, clean_order, made_next}
 use Rattle.vk_device.proofs.Coming.{clean_trace}
 
 -- ---- the entry that comes next breaks no rule
@@ -62,164 +67,123 @@ fits_some d x sound runs stand r = (r.2.front.past, fits_next r.2.count x r.2.fr
 
 -- ---- its host accesses go through no cache
 
-place_uncached : (all : Past) (q : Place) → is_supported_place q ≡ true → holds (type_at all q) (λ u. u == 2) ≡ false
-place_uncached all (place.Dedicated t) ok = go (t == 2) ok
-  where
-    go : (b : Bool) → not b ≡ true → b ≡ false
-    go true e = absurd cc
-    go false e = refl
-place_uncached all (place.Pool q) ok = absurd cc
-place_uncached all (place.PoolUpper q) ok = absurd cc
-place_uncached all (place.Memory m o) ok = absurd cc
-
-entry_uncached : (all : Past) (x : Entry) → is_supported_entry x ≡ true → holds (option_and_then (λ r. type_at all r.place) (resource_in x)) (λ u. u == 2) ≡ false
-entry_uncached all (entry.Buffer i info) ok = place_uncached all info.place ok
-entry_uncached all (entry.Image i info) ok = absurd cc
-entry_uncached all _ ok = refl
-
-found_uncached : (all : Past) (test : Entry → Bool) (past : Past) → list_all (λ p. is_supported_action p.action) past ≡ true
-    → holds (option_and_then (λ r. type_at all r.place) (option_and_then resource_in (find test (entries past)))) (λ u. u == 2) ≡ false
-found_uncached all test [] ok = refl
-found_uncached all test (p ∷ past) ok =
-    let both = and_parts (is_supported_action p.action) (list_all (λ q. is_supported_action q.action) past) ok in
-    go p.action both.0 (found_uncached all test past both.1)
-  where
-    one : (x : Entry) (b : Bool) → is_supported_entry x ≡ true → holds (option_and_then (λ r. type_at all r.place) (option_and_then resource_in (find test (entries past)))) (λ u. u == 2) ≡ false
-        → holds (option_and_then (λ r. type_at all r.place) (option_and_then resource_in (cond b (Some x) (find test (entries past))))) (λ u. u == 2) ≡ false
-    one x true ok rest = entry_uncached all x ok
-    one x false ok rest = rest
-
-    go : (a : Action) → is_supported_action a ≡ true → holds (option_and_then (λ r. type_at all r.place) (option_and_then resource_in (find test (entries past)))) (λ u. u == 2) ≡ false
-        → holds (option_and_then (λ r. type_at all r.place) (option_and_then resource_in (find test (cons_option (host_of a) (entries past))))) (λ u. u == 2) ≡ false
-    go (Host x) ok rest = one x (test x) ok rest
-    go (Wait w) ok rest = rest
-    go (Run c) ok rest = rest
-    go (Signal w) ok rest = rest
-
-supported_older : (p : Point) (past : Past) → IsClean (p ∷ past) → list_all (λ q. is_supported_action q.action) past ≡ true
-unfolding is_supported
-supported_older p past clean = (and_parts (is_supported_action p.action) (list_all (λ q. is_supported_action q.action) past) clean.supported).1
-
 no_atoms : (past : Past) (x : Entry) → ((b : ℕ) → is_cached past b ≡ false) → FitsEntry past x → atom_count past x ≡ 0
 no_atoms past (entry.Read b o n) un fits = rw (un b) refl
-no_atoms past (entry.Buffer i info) un fits = refl
-no_atoms past (entry.Map b) un fits = refl
-no_atoms past (entry.Semaphore i v) un fits = refl
-no_atoms past (entry.Event i) un fits = refl
-no_atoms past (entry.Wait ws) un fits = refl
-no_atoms past (entry.Signal s v) un fits = refl
-no_atoms past (entry.Submit q bs) un fits = refl
-no_atoms past (entry.Pool i y) un fits = absurd fits
-no_atoms past (entry.Image i y) un fits = absurd fits
-no_atoms past (entry.Memory i y) un fits = absurd fits
-no_atoms past (entry.Free m) un fits = absurd fits
-no_atoms past (entry.Destroy r) un fits = absurd fits
-no_atoms past (entry.DropPool q) un fits = absurd fits
-no_atoms past (entry.Unmap b) un fits = absurd fits
-no_atoms past (entry.Write b o bytes) un fits = absurd fits
+no_atoms past (entry.Write b o bytes) un fits = rw (un b) refl
 no_atoms past (entry.Flush b o n) un fits = absurd fits
 no_atoms past (entry.Invalidate b o n) un fits = absurd fits
-no_atoms past (entry.Defrag i q n m) un fits = absurd fits
-no_atoms past (entry.Pass d) un fits = absurd fits
-no_atoms past (entry.EndPass d kept lost) un fits = absurd fits
-no_atoms past (entry.EndDefrag d) un fits = absurd fits
+no_atoms past _ un fits = refl
+
+no_cache : (past : Past) (x : Entry) → ((b : ℕ) → is_cached past b ≡ false) → writes_cache past x ≡ false
+no_cache past (entry.Write b o bytes) un = un b
+no_cache past _ un = refl
+
+uncached : (e : ℕ) (x : Entry) (past : Past) → IsClean (host e x ∷ past) → (b : ℕ) → is_cached past b ≡ false
+uncached e x past clean b = nodes.uncached past (supported_older (host e x ∷ []) past clean.supported) b
 
 pub none_touched : (e : ℕ) (x : Entry) (past : Past) → IsClean (host e x ∷ past) → atom_count past x ≡ 0
-none_touched e x past clean = no_atoms past x (λ b. found_uncached past (λ y. holds (made_by y) (λ j. b == j)) past (supported_older (host e x) past clean)) (fits_next e x past clean)
+none_touched e x past clean = no_atoms past x (uncached e x past clean) (fits_next e x past clean)
 
--- ---- it changes no byte of what was made
+-- ---- it changes bytes of what was made by host writes alone
 
-reaches_none : (past : Past) (x : Entry) → FitsEntry past x → reaches_memory x ≡ false
-reaches_none past (entry.Write b o bytes) fits = absurd fits
-reaches_none past (entry.Flush b o n) fits = absurd fits
-reaches_none past (entry.Invalidate b o n) fits = absurd fits
-reaches_none past (entry.Pass d) fits = absurd fits
-reaches_none past (entry.EndPass d kept lost) fits = absurd fits
-reaches_none past _ fits = refl
-
-sizes_none : (past : Past) (r : Held) (b : ℕ) → MatchesSizes past r → placed r b ≡ None → buffer past b ≡ None
-sizes_none past r b sizes none = go (buffer past b) (sym (sizes b) ∙ ap (λ (o : Option Placed). option_map (λ (p : Placed). p.size) o) none)
+-- a resource that is there is a buffer that lives
+there_live : (past : Past) (r : Held) (c : Byte) → MatchesLive past r → IsThere r c → (b k : ℕ) × (c ≡ in_buffer b k) × ((info : BufferInfo) × (option_and_then buffer_in (live past b) ≡ Some info))
+there_live past r (in_buffer b k) m there = (b, k, refl, go (placed r b) refl there)
   where
-    go : (o : Option BufferInfo) → option_map (λ (i : BufferInfo). i.size) o ≡ None → o ≡ None
-    go None e = refl
-    go (Some i) e = absurd cc
+    go : (o : Option Placed) → placed r b ≡ o → IsSome o → (info : BufferInfo) × (option_and_then buffer_in (live past b) ≡ Some info)
+    go None is some = absurd cc
+    go (Some p) is some = let l = live_of_placed (live past) r b p m is in (l.info, l.is)
+there_live past r (in_image i l a x y z) m there = absurd there
 
-none_sizes : (past : Past) (r : Held) (b : ℕ) → MatchesSizes past r → buffer past b ≡ None → placed r b ≡ None
-none_sizes past r b sizes none = go (placed r b) (sizes b ∙ ap (λ (o : Option BufferInfo). option_map (λ (i : BufferInfo). i.size) o) none)
-  where
-    go : (o : Option Placed) → option_map (λ (p : Placed). p.size) o ≡ None → o ≡ None
-    go None e = refl
-    go (Some p) e = absurd cc
+module _ (e : ℕ) (past : Past) (x : Entry) (clean : IsClean (host e x ∷ past)) where
+  -- what was made is the same object with the entry
+  made_same : (b : ℕ) (y : Entry) → made past b ≡ Some y → made (host e x ∷ past) b ≡ Some y
+  made_same b y is = made_next past (host e x) clean b y is
 
--- what was made already is no buffer that the entry makes
-same_buffer : (e : ℕ) (past : Past) (x : Entry) (b : ℕ) → FitsEntry past x → IsTrue (is_some (made past b)) → buffer past b ≡ None → buffer (host e x ∷ past) b ≡ None
-same_buffer e past (entry.Buffer i info) b fits there none = go (b == i) refl
-  where
-    clash : (o : Option Entry) → o ≡ None → IsTrue (is_some o) → ⊥
-    clash None is some = absurd cc
-    clash (Some y) is some = absurd cc
+  -- what is live then and was made is live before
+  lived : (b : ℕ) (info : BufferInfo) → IsTrue (is_some (made past b)) → option_and_then buffer_in (live (host e x ∷ past) b) ≡ Some info → option_and_then buffer_in (live past b) ≡ Some info
+  lived b info there is = go (made past b) refl there
+    where
+      unended : (t u : Bool) → option_and_then buffer_in (if t || u then None else made (host e x ∷ past) b) ≡ Some info → (u ≡ false) × (option_and_then buffer_in (made (host e x ∷ past) b) ≡ Some info)
+      unended true u is = absurd cc
+      unended false true is = absurd cc
+      unended false false is = (refl, is)
 
-    go : (c : Bool) → (b == i) ≡ c → option_and_then buffer_in (cond c (Some (entry.Buffer i info)) (made past b)) ≡ None
-    go true is = absurd (clash (made past b) (ap (λ (k : ℕ). made past k) (eqb-true b i is) ∙ fits.0) there)
-    go false is = none
-same_buffer e past (entry.Semaphore i v) b fits there none = go (b == i)
-  where
-    go : (c : Bool) → option_and_then buffer_in (cond c (Some (entry.Semaphore i v)) (made past b)) ≡ None
-    go true = refl
-    go false = none
-same_buffer e past (entry.Event i) b fits there none = go (b == i)
-  where
-    go : (c : Bool) → option_and_then buffer_in (cond c (Some (entry.Event i)) (made past b)) ≡ None
-    go true = refl
-    go false = none
-same_buffer e past (entry.Map i) b fits there none = none
-same_buffer e past (entry.Read i o n) b fits there none = none
-same_buffer e past (entry.Wait ws) b fits there none = none
-same_buffer e past (entry.Signal s v) b fits there none = none
-same_buffer e past (entry.Submit q bs) b fits there none = none
-same_buffer e past (entry.Pool i y) b fits there none = absurd fits
-same_buffer e past (entry.Image i y) b fits there none = absurd fits
-same_buffer e past (entry.Memory i y) b fits there none = absurd fits
-same_buffer e past (entry.Free m) b fits there none = absurd fits
-same_buffer e past (entry.Destroy r) b fits there none = absurd fits
-same_buffer e past (entry.DropPool q) b fits there none = absurd fits
-same_buffer e past (entry.Unmap i) b fits there none = absurd fits
-same_buffer e past (entry.Write i o bytes) b fits there none = absurd fits
-same_buffer e past (entry.Flush i o n) b fits there none = absurd fits
-same_buffer e past (entry.Invalidate i o n) b fits there none = absurd fits
-same_buffer e past (entry.Defrag i q n m) b fits there none = absurd fits
-same_buffer e past (entry.Pass d) b fits there none = absurd fits
-same_buffer e past (entry.EndPass d kept lost) b fits there none = absurd fits
-same_buffer e past (entry.EndDefrag d) b fits there none = absurd fits
+      go : (o : Option Entry) → made past b ≡ o → IsTrue (is_some o) → option_and_then buffer_in (live past b) ≡ Some info
+      go None at some = absurd cc
+      go (Some y) at some =
+          let parts = unended (among b (ended_by x)) (ended past b) is in
+          rw (parts.0, at) (ap (option_and_then buffer_in) (sym (made_same b y at)) ∙ parts.1)
 
-bytes_stay : (e : ℕ) (past : Past) (x : Entry) (old new : Held) → FitsEntry past x → MatchesSizes past old → Goes e x past old new → (c : Byte) → IsTrue (is_made past c) → byte_at old c ≡ byte_at new c
-bytes_stay e past x old new fits sizes goes (in_buffer b k) there = go (placed old b) refl
-  where
-    some : (o : Option Placed) (p : Placed) → o ≡ Some p → IsSome o
-    some o p is = rw is refl
+  module _ (old new : Held) (m : MatchesLive past old) (goes : Goes e x past old new) where
+    was_there : (c : Byte) → IsTrue (is_made past c) → IsThere new c → IsThere old c
+    was_there (in_buffer b k) made_it there =
+        let l = there_live (host e x ∷ past) new (in_buffer b k) goes.0 there in
+        let same : in_buffer b k ≡ in_buffer l.0 l.1 = l.2 in
+        let one : l.0 ≡ b = cc in
+        let info = lived b l.3.0 made_it (subst (λ (i : ℕ). option_and_then buffer_in (live (host e x ∷ past) i) ≡ Some l.3.0) one l.3.1) in
+        let p = placed_of_live (live past) old b l.3.0 m info in
+        rw p.1 refl
+    was_there (in_image i l a u v z) made_it there = there
 
-    go : (o : Option Placed) → placed old b ≡ o → byte_in old.memory (placed old b) k ≡ byte_in new.memory (placed new b) k
-    go None is = rw (is, none_sizes (host e x ∷ past) new b goes.0 (same_buffer e past x b fits there (sizes_none past old b sizes is))) refl
-    go (Some p) is = sym (goes.1 (in_buffer b k) (some (placed old b) p is)).1
-bytes_stay e past x old new fits sizes goes (in_image i l a y z p) there = refl
+  -- a host write makes nothing
+  writes_made : (new : Held) → MatchesLive (host e x ∷ past) new → (b o : ℕ) (bytes : List ℕ) → x ≡ entry.Write b o bytes → (c : Byte) → IsThere new c → is_made past c ≡ false → ⊥
+  writes_made new m b o bytes is c there unmade =
+      let l = there_live (host e x ∷ past) new c m there in
+      let info = live_made buffer_in (host e x ∷ past) l.0 l.3.0 l.3.1 in
+      let was : option_and_then buffer_in (made past l.0) ≡ Some l.3.0 = subst (λ (y : Entry). option_and_then buffer_in (made (host e y ∷ past) l.0) ≡ Some l.3.0) is info in
+      clash (made_some (made past l.0) l.3.0 was) (subst (λ (d : Byte). is_made past d ≡ false) l.2 unmade)
+    where
+      made_some : (o : Option Entry) (info : BufferInfo) → option_and_then buffer_in o ≡ Some info → is_some o ≡ true
+      made_some None info h = absurd cc
+      made_some (Some y) info h = refl
+
+-- a byte after an entry, by bytes that are the same before it
+after_same : (x : Entry) (f g : Byte → ℕ) (c : Byte) → f c ≡ g c → byte_after x f c ≡ byte_after_entry x g c
+after_same (entry.Write b o bytes) f g c same = ap (unwrap_or (written b o bytes c)) same
+after_same _ f g c same = same
+
+after_kept : (x : Entry) (g : Byte → ℕ) (c : Byte) → ((b o : ℕ) (bytes : List ℕ) → x ≡ entry.Write b o bytes → ⊥) → byte_after_entry x g c ≡ g c
+after_kept (entry.Write b o bytes) g c other = absurd (other b o bytes refl)
+after_kept _ g c other = refl
 
 -- ---- the run goes on with it
 
-pub host_done : (t : List Entry) (steps : List Step) (s : Stage) (x : Entry) (xs : List Entry) (d : Device) (new : Held) → NewMemoryHoldsAnything → OtherEntriesGoOn → IsBefore t steps s x xs d → IsTrue (may_go s x)
+pub host_done : (t : List Entry) (steps : List Step) (s : Stage) (x : Entry) (xs : List Entry) (d : Device) (new : Held) → NewMemoryHoldsAnything → UncachedEntriesGoOn → IsBefore t steps s x xs d → IsTrue (may_go s x)
     → IsClean (host s.count x ∷ s.front.past) → Goes s.count x s.front.past d.resources new → HostDone t steps s x xs (record d { resources = new })
-host_done t steps s x xs d new anything others h may clean goes =
-    let fits = fits_next s.count x s.front.past clean in
-    let run : DirectRun t steps s (bare_memory (byte_at new)) =
-    anything t steps s (bare_memory (byte_at d.resources)) (bare_memory (byte_at new)) h.sound.faultless h.led.run (λ c there. (bytes_stay s.count s.front.past x d.resources new fits h.led.sizes goes c there, refl)) (λ c none. refl) in
-    record {
-      run = others t steps s (bare_memory (byte_at new)) x xs 0 run h.next may (reaches_none s.front.past x fits);
-      sizes = goes.0;
-      waits = h.led.waits;
-      counts = h.led.counts;
-      offers = h.led.offers;
-      no_parts = h.led.no_parts;
-      sound = h.sound;
-    }
+host_done t steps s x xs d new anything uncached_go h may clean goes = record {
+  bytes = byte_after_entry x between;
+  run = uncached_go t steps s between x xs 0 run h.next may (no_cache past x (uncached s.count x past clean));
+  holds = λ c there. holds_at c there (is_made past c) refl;
+  matches = goes.0;
+  works = h.led.works;
+  waits = h.led.waits;
+  counts = h.led.counts;
+  offers = h.led.offers;
+  no_parts = h.led.no_parts;
+  sound = h.sound;
+}
+  where
+    past : Past
+    past = s.front.past
+
+    -- new resources have what memory holds there
+    between : Byte → ℕ
+    between c = if is_made past c then h.led.bytes c else byte_at new c
+
+    kept : (c : Byte) → IsTrue (is_made past c) → between c ≡ h.led.bytes c
+    kept c made_it = rw made_it refl
+
+    run : DirectRun t steps s (bare_memory between)
+    run = anything t steps s (bare_memory h.led.bytes) (bare_memory between) h.sound.faultless h.led.run (λ c made_it. (sym (kept c made_it), refl)) (λ c none. refl)
+
+    holds_at : (c : Byte) → IsThere new c → (made_it : Bool) → is_made past c ≡ made_it → byte_at new c ≡ byte_after_entry x between c
+    holds_at c there true is =
+        let before = was_there s.count past x clean d.resources new h.led.matches goes c is there in
+        goes.1 c before there ∙ after_same x (byte_at d.resources) between c (h.led.holds c before ∙ sym (kept c is))
+    holds_at c there false is =
+        let same : between c ≡ byte_at new c = rw is refl in
+        sym (after_kept x between c (λ b o bytes w. writes_made s.count past x clean new goes.0 b o bytes w c there is) ∙ same)
 
 -- what it answers, and has done
 pub goes_of : (a : Applied) (e : ℕ) (x : Entry) (past : Past) (old new : Held) → (a ≡ applied.NoRoom → ⊥) → DoneBy a e x past old new → Goes e x past old new
@@ -227,17 +191,34 @@ goes_of applied.Done e x past old new other done = done.0
 goes_of (applied.Bytes bytes) e x past old new other done = done.0
 goes_of applied.NoRoom e x past old new other done = absurd (other refl)
 
+-- what is the same of each item is so of all
+map_each : (f g : ℕ → ℕ) → ((k : ℕ) → f k ≡ g k) → (ks : List ℕ) → map f ks ≡ map g ks
+map_each f g same [] = refl
+map_each f g same (k ∷ ks) = ap (λ (v : ℕ). v ∷ map f ks) (same k) ∙ ap (λ (vs : List ℕ). g k ∷ vs) (map_each f g same ks)
+
 reads_nothing : (past : Past) (e : ℕ) (x : Entry) → ((b o n : ℕ) → x ≡ entry.Read b o n → ⊥) → read_in (world past) e x ≡ []
 reads_nothing past e (entry.Read b o n) none = absurd (none b o n refl)
 reads_nothing past e _ none = refl
 
-pub reads_of : (t : List Entry) (steps : List Step) (s : Stage) (x : Entry) (xs : List Entry) (d : Device) (new : Held) → DirectRunsReadMemory → IsBefore t steps s x xs d → (a : Applied) → DoneBy a s.count x s.front.past d.resources new → Reads a s x
-reads_of t steps s x xs d new law h applied.NoRoom done = tt
-reads_of t steps s x xs d new law h applied.Done done = reads_nothing s.front.past s.count x done.1
-reads_of t steps s x xs d new law h (applied.Bytes bytes) done = go x h.next done.1
+pub reads_of : (t : List Entry) (steps : List Step) (s : Stage) (x : Entry) (xs : List Entry) (d : Device) (new : Held) → DirectRunsReadMemory → IsClean (host s.count x ∷ s.front.past) → IsBefore t steps s x xs d → (a : Applied) → DoneBy a s.count x s.front.past d.resources new → Reads a s x
+reads_of t steps s x xs d new law clean h applied.NoRoom done = tt
+reads_of t steps s x xs d new law clean h applied.Done done = reads_nothing s.front.past s.count x done.1
+reads_of t steps s x xs d new law clean h (applied.Bytes bytes) done = go x h.next done.1
   where
-    go : (x : Entry) → s.left ≡ x ∷ xs → Rattle.vk_resources.specs.Done.ReadsBytes x d.resources bytes → read_in (world s.front.past) s.count x ≡ (s.count, bytes) ∷ []
-    go (entry.Read b o n) is reads = law t steps s (bare_memory (byte_at d.resources)) b o n xs h.sound.faultless h.led.run is ∙ ap (λ (l : List ℕ). (s.count, l) ∷ []) (sym reads)
+    there : (b o n : ℕ) → s.left ≡ entry.Read b o n ∷ xs → IsSome (placed d.resources b)
+    there b o n is =
+        let both : x ∷ xs ≡ entry.Read b o n ∷ xs = sym h.next ∙ is in
+        let one : x ≡ entry.Read b o n = cc in
+        range_there (option_and_then buffer_in (live s.front.past b)) refl (subst (λ (y : Entry). FitsEntry s.front.past y) one (fits_next s.count x s.front.past clean))
+      where
+        range_there : (i : Option BufferInfo) → option_and_then buffer_in (live s.front.past b) ≡ i → FitsRange i o n → IsSome (placed d.resources b)
+        range_there None at fits = absurd fits
+        range_there (Some info) at fits = let p = placed_of_live (live s.front.past) d.resources b info h.led.matches at in rw p.1 refl
+
+    go : (x : Entry) → s.left ≡ x ∷ xs → ReadsBytes x d.resources bytes → read_in (world s.front.past) s.count x ≡ (s.count, bytes) ∷ []
+    go (entry.Read b o n) is reads =
+        law t steps s (bare_memory h.led.bytes) b o n xs h.sound.faultless h.led.run is
+        ∙ ap (λ (l : List ℕ). (s.count, l) ∷ []) (sym (reads ∙ map_each (λ k. byte_at d.resources (in_buffer b (o + k))) (λ k. h.led.bytes (in_buffer b (o + k))) (λ k. h.led.holds (in_buffer b (o + k)) (there b o n is)) (below n)))
     go _ is reads = absurd reads
 
 reads_same : (a : Applied) (q s : Stage) (x : Entry) → q.front ≡ s.front → q.count ≡ s.count → Reads a q x → Reads a s x
@@ -281,12 +262,9 @@ module _ (answer : List ℕ → ℕ → ℕ) (next : List ℕ → ℕ → List �
       go (applied.Bytes bytes) other = both
       go applied.NoRoom other = absurd (other refl)
 
--- ---- what is allotted
-
-pub found_before : (a : Applied) (x : Entry) (old mid : Held) → allotted mid.memory ≡ allotted old.memory → FoundRoom a mid x → FoundRoom a old x
-found_before applied.NoRoom x old mid same found = ap (λ (m : Allotted). finds_no_room m x) (sym same) ∙ found
-found_before applied.Done x old mid same found = ap (λ (m : Allotted). finds_no_room m x) (sym same) ∙ found
-found_before (applied.Bytes bytes) x old mid same found = ap (λ (m : Allotted). finds_no_room m x) (sym same) ∙ found
+-- where there was no room nothing was changed
+no_change : (a : Applied) (e : ℕ) (x : Entry) (past : Past) (old new : Held) → a ≡ applied.NoRoom → DoneBy a e x past old new → new ≡ old
+no_change a e x past old new is done = subst (λ (b : Applied). DoneBy b e x past old new) is done
 
 -- ---- the whole of an entry
 
@@ -297,7 +275,7 @@ pub record Laws : Type 0 where
   pub stand : DefinedRunsStand
   pub lead_on : PicksLeadOn
   pub anything : NewMemoryHoldsAnything
-  pub others : OtherEntriesGoOn
+  pub uncached_go : UncachedEntriesGoOn
   pub reads_memory : DirectRunsReadMemory
 
 module _ (laws : Laws) (answer : List ℕ → ℕ → ℕ) (next : List ℕ → ℕ → List ℕ) (held after : List ℕ) (x : Entry) (old mid : Device) where
@@ -311,9 +289,17 @@ module _ (laws : Laws) (answer : List ℕ → ℕ → ℕ) (next : List ℕ → 
         let h = r.4 in
         let p = before answer next r.0 r.1 r.2 held x r.3 in
         let now = stands_before answer next r.0 r.1 r.2 held x r.3 old mid after laws.runs laws.lead_on h (picked r.0 r.1 r.2 r.3 h) in
-        (p.stage.front.past, now.led.sizes, fits_next p.stage.count x p.stage.front.past (clean_next r.0 (r.1 ++ p.steps) p.stage x r.3 mid laws.sound laws.runs laws.stand now))
+        (p.stage.front.past, now.led.matches, fits_next p.stage.count x p.stage.front.past (clean_next r.0 (r.1 ++ p.steps) p.stage x r.3 mid laws.sound laws.runs laws.stand now))
 
-    module _ (new : Held) (a : Applied) (other : a ≡ applied.NoRoom → ⊥) (done : (e : ℕ) (past : Past) → MatchesSizes past mid.resources → FitsEntry past x → DoneBy a e x past mid.resources new) where
+    pub refused : (new : Held) (a : Applied) → a ≡ applied.NoRoom → ((e : ℕ) (past : Past) → MatchesLive past mid.resources → FitsEntry past x → DoneBy a e x past mid.resources new)
+        → (t : List Entry) (steps : List Step) (s : Stage) (xs : List Entry) → IsBefore t steps s x xs old → new ≡ mid.resources
+    refused new a is done t steps s xs h =
+        let p = before answer next t steps s held x xs in
+        let now = stands_before answer next t steps s held x xs old mid after laws.runs laws.lead_on h (picked t steps s xs h) in
+        let clean = clean_next t (steps ++ p.steps) p.stage x xs mid laws.sound laws.runs laws.stand now in
+        no_change a p.stage.count x p.stage.front.past mid.resources new is (done p.stage.count p.stage.front.past now.led.matches (fits_next p.stage.count x p.stage.front.past clean))
+
+    module _ (new : Held) (a : Applied) (other : a ≡ applied.NoRoom → ⊥) (done : (e : ℕ) (past : Past) → MatchesLive past mid.resources → FitsEntry past x → DoneBy a e x past mid.resources new) where
       module _ (t : List Entry) (steps : List Step) (s : Stage) (xs : List Entry) (h : IsBefore t steps s x xs old) where
         now : IsBefore t (steps ++ (before_entry answer next s held x).steps) (before_entry answer next s held x).stage x xs mid
         now = stands_before answer next t steps s held x xs old mid after laws.runs laws.lead_on h (picked t steps s xs h)
@@ -322,13 +308,13 @@ module _ (laws : Laws) (answer : List ℕ → ℕ → ℕ) (next : List ℕ → 
         clean = clean_next t (steps ++ (before_entry answer next s held x).steps) (before_entry answer next s held x).stage x xs mid laws.sound laws.runs laws.stand now
 
         did : DoneBy a (before_entry answer next s held x).stage.count x (before_entry answer next s held x).stage.front.past mid.resources new
-        did = done _ _ now.led.sizes (fits_next _ x _ clean)
+        did = done _ _ now.led.matches (fits_next _ x _ clean)
 
         pub was_done : HostDone t (steps ++ (before_entry answer next s held x).steps) (before_entry answer next s held x).stage x xs (record mid { resources = new })
-        was_done = host_done t _ _ x xs mid new laws.anything laws.others now (picked t steps s xs h).2 clean (goes_of a _ x _ mid.resources new other did)
+        was_done = host_done t _ _ x xs mid new laws.anything laws.uncached_go now (picked t steps s xs h).2 clean (goes_of a _ x _ mid.resources new other did)
 
         pub read_then : Reads a s x
-        read_then = reads_before answer next t steps s held x xs old a laws.runs laws.lead_on h (reads_of t _ _ x xs mid new laws.reads_memory now a did)
+        read_then = reads_before answer next t steps s held x xs old a laws.runs laws.lead_on h (reads_of t _ _ x xs mid new laws.reads_memory clean now a did)
 
         pub applied_then : (final : Device) → ((t : List Entry) (steps : List Step) (s : Stage) (xs : List Entry) → HostDone t steps s x xs (record mid { resources = new }) → Led t (steps ++ Apply [] 0 ∷ []) (applied s 0 x xs) final)
             → Applies answer next a t steps s held x xs final after
@@ -336,13 +322,3 @@ module _ (laws : Laws) (answer : List ℕ → ℕ → ℕ) (next : List ℕ → 
 
       pub advance_ready : IsNext old x → AdvanceReady (record mid { resources = new }) x
       advance_ready r = (r.0, _, _, r.3, was_done r.0 r.1 r.2 r.3 r.4)
-
-pub got_by_device : (a : Applied) (x : Entry) (old mid new final : Held) → (a ≡ applied.NoRoom → ⊥) → allotted mid.memory ≡ allotted old.memory → GotAsked a x mid new → allotted final.memory ≡ allotted new.memory → GotAskedBy a x old final
-got_by_device applied.Done x old mid new final other first got last = last ∙ got ∙ ap (λ (m : Allotted). with_asked m x) first
-got_by_device (applied.Bytes bytes) x old mid new final other first got last = last ∙ got ∙ ap (λ (m : Allotted). with_asked m x) first
-got_by_device applied.NoRoom x old mid new final other first got last = absurd (other refl)
-
-pub no_room_same : (a : Applied) (x : Entry) (old new : Held) → a ≡ applied.NoRoom → GotAsked a x old new → new ≡ old
-no_room_same applied.Done x old new is got = absurd cc
-no_room_same (applied.Bytes bytes) x old new is got = absurd cc
-no_room_same applied.NoRoom x old new is got = got

@@ -1,7 +1,9 @@
 -- A piece that runs on a device.
-use Rattle.std.proofs.Common.{◌≡◌, inl, inr, ℕ, suc, List, [], ◌∷◌, ◌++◌, map, Bool, true, false, ◌==◌, eq-eqb, refl, ap, sym, ◌∙◌, subst, cond, IsTrue, Option, Some, None}
-use Rattle.std.proofs.lemmas.Bool.{eqb-true}
-use Rattle.std.specs.Prelude.{Contains, slice_get, option_and_then, option_map}
+use Rattle.std.proofs.Common.{◌≡◌, ◌+◌, ◌≤◌, arith, length, false, inl, inr, ℕ, suc, List, [], ◌∷◌, ◌++◌, map, Bool, true, ◌==◌, eq-eqb, refl, ap, sym, ◌∙◌, subst, cond, IsTrue, Option, Some, None}
+use Rattle.std.proofs.lemmas.Bool.{eqb-true, not-true}
+use Rattle.std.proofs.lemmas.List.{length-map}
+use Rattle.std.proofs.lemmas.List.Elements.{All-weaker}
+use Rattle.std.specs.Prelude.{Contains, IsSome, slice_get, option_and_then}
 use Rattle.std.specs.List.{enumerate_from}
 use Rattle.vk_model.specs.declared.command.Cmd.{Cmd}
 use Rattle.vk_model.specs.declared.command.Cmd.TheVariants as cmd
@@ -12,33 +14,44 @@ use Rattle.vk_model.specs.declared.resource.BufferInfo.{BufferInfo}
 use Rattle.vk_model.specs.Trace.Point.{Past, Point, Action, Host, Wait, Run, Signal}
 use Rattle.vk_model.specs.Trace.Objects.{made, buffer, buffer_in}
 use Rattle.vk_model.specs.Sync.Node.{Node, Act, Runs, Depends, acts, nodes}
-use Rattle.vk_model.proofs.Lists.Members.{none_in, contains-cons, map_has, mapped_from, member_passes, found}
+use Rattle.vk_model.proofs.Lists.Members.{none_in, contains-cons, contains-head, map_has, mapped_from, flat_from, part_has, member_passes, found}
 use Rattle.vk_order.proofs.ElementPlaces.{with_member}
-use Rattle.vk_resources.specs.Fits.{FitsFill, FitsCommand, FitsEntry}
-use Rattle.vk_model.specs.World.Bytes.{Byte}
-use Rattle.vk_model.specs.World.ByteWrites.{ByteWrite, Source, Value, From}
+use Rattle.vk_resources.specs.Fits.{FitsFill, FitsCommand, FitsEntry, NamesLive}
+use Rattle.vk_model.specs.World.Bytes.{Byte, in_buffer, in_image, same_byte}
+use Rattle.vk_model.specs.World.ByteWrites.{ByteWrite, byte_write, byte_writes, copy_writes, buffer_size, Source, Value, From}
+use Rattle.vk_model.specs.Basics.{below}
+use Rattle.vk_model.specs.Laws.{PiecesAreByteWrites}
+use Rattle.vk_model.specs.Rules.Ids.{is_buffer}
+use Rattle.vk_transfer.specs.Copies.{FitsBuffers}
+use Rattle.vk_laws.proofs.Running.OfferedPieces.{offered_of}
+use Rattle.vk_offers.proofs.Growing.{get_some}
+use Rattle.vk_offers.proofs.Steps.{get_mapped, piece_low, piece_of}
 use Rattle.vk_model.specs.Trace.Order.{order}
 use Rattle.vk_model.specs.Rules.Table.{first_fault}
 use Rattle.vk_model.specs.Run.Pieces.{pieces}
 use Rattle.vk_model.specs.Run.Runs.{Name, same_name, is_done, offered, Step, Stage, RunPiece}
 use Rattle.vk_model.specs.Run.CachedRuns.{write_to, named_piece}
 use Rattle.vk_model.proofs.Sync.Numbers.{numbered, unique}
-use Rattle.vk_laws.specs.DefinedRuns.{OfferedArePieces}
+use Rattle.vk_laws.specs.DefinedRuns.{OfferedArePieces, RunOf}
+use Rattle.vk_laws.specs.Lifetimes.{CommandsNameLive}
+use Rattle.vk_resources.specs.Done.{PieceReady}
 use Rattle.vk_laws.specs.TraceBytes.{value_before}
-use Rattle.vk_laws.specs.DirectRuns.{DirectRunsAreWritten, PiecesGoOn, MemoryIsItsBytes, bare_memory, memory_after_piece, byte_after, value_in}
+use Rattle.vk_laws.specs.DirectRuns.{DirectRunsAreWritten, PiecesGoOn, bare_memory, byte_after, value_in}
 use Rattle.vk_queues.specs.declared.waiting.Waiting.{Waiting}
 use Rattle.vk_queues.specs.IsWaiting.{IsWaiting}
 use Rattle.vk_sync.specs.declared.ready.Piece.{Piece}
 use Rattle.vk_sync.specs.Ready.{ready}
 use Rattle.vk_offers.specs.declared.offers.Offers.{Offers}
-use Rattle.vk_offers.specs.IsOffers.{IsOffers, IsPieceOf, name_of, number_of}
+use Rattle.vk_offers.specs.IsOffers.{IsOffers, IsPieceOf, name_of, number_of, commands_in}
 use Rattle.vk_offers.proofs.Offering.{same_offers}
 use Rattle.vk_offers.proofs.Commands.{command_at}
 use Rattle.vk_transfer.specs.Ran.{given, stored, HaveRun}
 use Rattle.vk_resources.specs.declared.resources.Placed.{Placed}
-use Rattle.vk_resources.specs.Held.{byte_at, placed_in}
+use Rattle.vk_resources.specs.Held.{Held, byte_at, placed_in, IsThere}
+use Rattle.vk_resources.specs.Matches.{MatchesLive}
+use Rattle.vk_resources.proofs.Fitting.{named_there}
 use Rattle.vk_device.specs.declared.device.Device.{Device}
-use Rattle.vk_device.specs.Led.{Led}
+use Rattle.vk_device.specs.Led.{Led, AreWorks}
 use Rattle.vk_device.specs.Inner.Fits.{FitsAction, AllFit}
 
 -- ---- a command fits as long as resources stay
@@ -53,9 +66,14 @@ module _ (past : Past) (b : ℕ) (info : BufferInfo) (is : buffer past b ≡ Som
   other_id i none x false e = is
 
   stays_host : (e k p q : ℕ) (x : Entry) → FitsEntry past x → buffer (record { entry = e; batch = k; place = p; queue = q; action = Host x } ∷ past) b ≡ Some info
-  stays_host e k p q (entry.Buffer i y) fit = other_id i fit.0 (Some (entry.Buffer i y)) (b == i) refl
-  stays_host e k p q (entry.Semaphore i v) fit = other_id i fit (Some (entry.Semaphore i v)) (b == i) refl
-  stays_host e k p q (entry.Event i) fit = other_id i fit (Some (entry.Event i)) (b == i) refl
+  stays_host e k p q (entry.Buffer i y) fit = other_id i fit.unused.unmade (Some (entry.Buffer i y)) (b == i) refl
+  stays_host e k p q (entry.Memory i y) fit = other_id i fit.0.unmade (Some (entry.Memory i y)) (b == i) refl
+  stays_host e k p q (entry.Semaphore i v) fit = other_id i fit.unmade (Some (entry.Semaphore i v)) (b == i) refl
+  stays_host e k p q (entry.Event i) fit = other_id i fit.unmade (Some (entry.Event i)) (b == i) refl
+  stays_host e k p q (entry.Free m) fit = is
+  stays_host e k p q (entry.Destroy r) fit = is
+  stays_host e k p q (entry.Unmap r) fit = is
+  stays_host e k p q (entry.Write r o bytes) fit = is
   stays_host e k p q (entry.Map r) fit = is
   stays_host e k p q (entry.Read r o n) fit = is
   stays_host e k p q (entry.Signal s v) fit = is
@@ -76,8 +94,24 @@ later_fill past p b o n fit fits = go (buffer past b) refl fits
     go None e f = absurd f
     go (Some info) e f = subst (λ (y : Option BufferInfo). FitsFill y o n) (sym (stays past b info e p.entry p.batch p.place p.queue p.action fit)) f
 
+-- its size doesn't get less
+later_size : (past : Past) (p : Point) (b : ℕ) → FitsAction past p.action → buffer_size past b ≤ buffer_size (p ∷ past) b
+later_size past p b fit = go (buffer past b) refl
+  where
+    go : (x : Option BufferInfo) → buffer past b ≡ x → buffer_size past b ≤ buffer_size (p ∷ past) b
+    go None e = rw (buffer_size, e) (omega arith)
+    go (Some info) e = rw (buffer_size, e, stays past b info e p.entry p.batch p.place p.queue p.action fit) (omega arith)
+
 pub later_fits : (past : Past) (p : Point) (c : Cmd) → FitsAction past p.action → FitsCommand past c → FitsCommand (p ∷ past) c
 later_fits past p (cmd.Fill b o n w) fit fits = later_fill past p b o n fit fits
+later_fits past p (cmd.Update b o bytes) fit fits = let grows = later_size past p b fit in omega (arith, grows, fits)
+later_fits past p (cmd.Copy s d gs) fit fits =
+    All-weaker (λ g. FitsBuffers g (buffer_size past s) (buffer_size past d)) (λ g. FitsBuffers g (buffer_size (p ∷ past) s) (buffer_size (p ∷ past) d)) (λ g f.
+    let from = later_size past p s fit in
+    let to = later_size past p d fit in
+    let first = f.0 in
+    let second = f.1 in
+    (omega (arith, from, first), omega (arith, to, second))) gs fits
 later_fits past p (cmd.Barrier es) fit fits = fits
 later_fits past p (cmd.Set v ms) fit fits = fits
 later_fits past p (cmd.Await v ms) fit fits = fits
@@ -123,14 +157,6 @@ node_fits (p ∷ past) fit n c at act = elim (with_member p (acts p.action) (nod
 
 -- ---- the piece
 
-same_source : (m : Source) (bytes : Byte → ℕ) → given m bytes ≡ value_in bytes m
-same_source (Value v) bytes = refl
-same_source (From d) bytes = refl
-
-same_store : (o : Option ByteWrite) (bytes : Byte → ℕ) (c : Byte) → stored o bytes c ≡ byte_after bytes o c
-same_store None bytes c = refl
-same_store (Some m) bytes c = same_source m.source bytes
-
 module _ (past : Past) (done : List Name) (o : Offers) (is : IsOffers o past done) (piece : Piece) (at : Contains (ready o.ready) piece) where
   pub is_offered : IsTrue (is_done (offered past done) (name_of past piece))
   is_offered =
@@ -152,29 +178,113 @@ module _ (past : Past) (done : List Name) (o : Offers) (is : IsOffers o past don
       let command : this.command ≡ c = cc in
       subst (λ (d : Cmd). slice_get (pieces past d) piece.index ≡ Some (named_piece past (name_of past piece))) command this.content
 
-module _ (go_on : PiecesGoOn) (by_bytes : MemoryIsItsBytes) (t : List Entry) (steps : List Step) (s : Stage) (d : Device) (led : Led t steps s d) (piece : Piece) (at : Contains (ready d.offers.ready) piece) where
+  -- it is of a command that was made ready
+  pub work_of : (works : List Cmd) → AreWorks works past → (c : Cmd) × (slice_get works piece.command ≡ Some c) × IsPieceOf past piece c
+  work_of works are =
+      let all : map Runs works ≡ map (λ d. Runs d.now) o.commands.items = are ∙ sym is.acts in
+      let long : length works ≡ length o.commands.items = sym (length-map works Runs) ∙ ap (λ (l : List Act). length l) all ∙ length-map o.commands.items (λ d. Runs d.now) in
+      let low = piece_low o past done is piece at in
+      let c = get_some works piece.command (omega (arith, low, long)) in
+      (c.0, c.1, piece_of o past done is piece at c.0 (sym (ap (λ (l : List Act). slice_get l piece.command) all) ∙ get_mapped Runs works piece.command c.0 c.1))
+
+  -- and hasn't run
+  pub unrun : (n : Node) → slice_get (commands_in (nodes past)) piece.command ≡ Some n → is_done done (n.number, piece.index) ≡ false
+  unrun n here =
+      let left = (offered_of past done (name_of past piece) is_offered).fresh in
+      let number : (name_of past piece).0 ≡ n.number = ap number_of here in
+      subst (λ (k : ℕ). is_done done (k, piece.index) ≡ false) number (not-true (is_done done (name_of past piece)) left)
+
+-- ---- what it copies
+
+module _ (past : Past) (s : Held) (m : MatchesLive past s) (together : PiecesAreByteWrites) where
+  -- a byte that a command copies is of a buffer that is there
+  source_there : (c : Cmd) → FitsCommand past c → NamesLive past c → (w : ByteWrite) (e : Byte) → Contains (byte_writes past c) w → w.source ≡ From e → IsThere s e
+  source_there (cmd.Fill b o n v) fits alive w e among is = let f = mapped_from _ (below _) w among in let both : From e ≡ Value _ = sym is ∙ ap (λ (x : ByteWrite). x.source) (sym f.2) in absurd cc
+  source_there (cmd.Update b o bytes) fits alive w e among is = let f = mapped_from _ (enumerate_from 0 bytes) w among in let both : From e ≡ Value f.0.1 = sym is ∙ ap (λ (x : ByteWrite). x.source) (sym f.2) in absurd cc
+  source_there (cmd.Copy a d gs) fits alive w e among is =
+      let g = flat_from (copy_writes a d) gs w among in
+      let f = mapped_from (λ k. byte_write (in_buffer d (g.0.destination_offset + k)) (From (in_buffer a (g.0.source_offset + k)))) (below g.0.size) w g.2 in
+      let both : From e ≡ From (in_buffer a (g.0.source_offset + f.0)) = sym is ∙ ap (λ (x : ByteWrite). x.source) (sym f.2) in
+      let one : e ≡ in_buffer a (g.0.source_offset + f.0) = cc in
+      rw one (named_there past s m a (alive a is_buffer (contains-head (a, is_buffer) ((d, is_buffer) ∷ []))))
+  source_there (cmd.Barrier es) fits alive w e among is = absurd (none_in w among)
+  source_there (cmd.Set v ms) fits alive w e among is = absurd (none_in w among)
+  source_there (cmd.Await v ms) fits alive w e among is = absurd (none_in w among)
+  source_there _ fits alive w e among is = absurd fits
+
+  pub sources_there : (c : Cmd) (k : ℕ) (ms : List ByteWrite) → FitsCommand past c → NamesLive past c → slice_get (pieces past c) k ≡ Some ms → (b : Byte) (w : ByteWrite) (e : Byte) → write_to b ms ≡ Some w → w.source ≡ From e → IsThere s e
+  sources_there c k ms fits alive piece b w e write is =
+      let hit = found (λ (x : ByteWrite). same_byte x.to b) ms w write in
+      source_there c fits alive w e (subst (λ (all : List ByteWrite). Contains all w) (together past c) (part_has (pieces past c) k ms w piece hit.0)) is
+
+-- what is stored is so by other bytes that are the same where they are copied from
+stored_same : (old bytes : Byte → ℕ) (o : Option ByteWrite) (c : Byte) → (o ≡ None → old c ≡ bytes c) → ((m : ByteWrite) (e : Byte) → o ≡ Some m → m.source ≡ From e → old e ≡ bytes e) → stored o old c ≡ byte_after bytes o c
+stored_same old bytes None c kept copied = kept refl
+stored_same old bytes (Some m) c kept copied = go m.source refl
+  where
+    go : (x : Source) → m.source ≡ x → given x old ≡ value_in bytes x
+    go (Value v) is = refl
+    go (From e) is = copied m e refl is
+
+module _ (t : List Entry) (steps : List Step) (s : Stage) (d : Device) (led : Led t steps s d) (piece : Piece) (at : Contains (ready d.offers.ready) piece)
+    (sources : (c : Byte) (w : ByteWrite) (e : Byte) → write_to c (named_piece s.front.past (name_of s.front.past piece)) ≡ Some w → w.source ≡ From e → IsThere d.resources e) where
+  abbrev ms : List ByteWrite
+  ms = named_piece s.front.past (name_of s.front.past piece)
+
   -- the device when it has run
-  pub has_run : (new : Device) → HaveRun (named_piece s.front.past (name_of s.front.past piece)) (byte_at d.resources) (byte_at new.resources) → new.resources.buffers ≡ d.resources.buffers
+  pub has_run : PiecesGoOn → (new : Device) → HaveRun ms (byte_at d.resources) (byte_at new.resources) → MatchesLive s.front.past new.resources → new.resources.buffers ≡ d.resources.buffers → new.works ≡ d.works
       → new.waiting ≡ d.waiting → new.count ≡ d.count → IsOffers new.offers s.front.past (name_of s.front.past piece ∷ s.done)
       → Led t (steps ++ RunPiece (name_of s.front.past piece) ∷ []) (record s { done = name_of s.front.past piece ∷ s.done }) new
-  has_run new ran buffers waiting count offers =
-      let x = name_of s.front.past piece in
-      let after = go_on t steps s (bare_memory (byte_at d.resources)) x led.run (is_offered s.front.past s.done d.offers led.offers piece at) in
-      record {
-        run = by_bytes t (steps ++ RunPiece x ∷ []) (record s { done = x ∷ s.done }) (memory_after_piece (named_piece s.front.past x) (bare_memory (byte_at d.resources))) (bare_memory (byte_at new.resources)) after
-            (λ c. sym (same_store (write_to c (named_piece s.front.past x)) (byte_at d.resources) c) ∙ sym (ran c)) (λ c. refl);
-        sizes = λ b. ap (λ (bs : List (ℕ × Placed)). option_map (λ (p : Placed). p.size) (placed_in bs b)) buffers ∙ led.sizes b;
-        waits = subst (λ (w : Waiting). IsWaiting w new.count s.front) (sym waiting) (subst (λ (k : ℕ). IsWaiting d.waiting k s.front) (sym count) led.waits);
-        counts = count ∙ led.counts;
-        offers = offers;
-        no_parts = led.no_parts;
-      }
+  has_run go_on new ran matches buffers works waiting count offers = record {
+    bytes = λ c. byte_after led.bytes (write_to c ms) c;
+    run = go_on t steps s (bare_memory led.bytes) (name_of s.front.past piece) led.run (is_offered s.front.past s.done d.offers led.offers piece at);
+    holds = λ c there. ran c ∙ stored_same (byte_at d.resources) led.bytes (write_to c ms) c (λ none. led.holds c (was c there)) (λ w e is from. led.holds e (sources c w e is from));
+    matches = matches;
+    works = rw works led.works;
+    waits = subst (λ (w : Waiting). IsWaiting w new.count s.front) (sym waiting) (subst (λ (k : ℕ). IsWaiting d.waiting k s.front) (sym count) led.waits);
+    counts = count ∙ led.counts;
+    offers = offers;
+    no_parts = led.no_parts;
+  }
+    where
+      was : (c : Byte) → IsThere new.resources c → IsThere d.resources c
+      was (in_buffer b k) there = subst (λ (bs : List (ℕ × Placed)). IsSome (placed_in bs b)) buffers there
+      was (in_image i l a x y p) there = there
 
--- the bytes that it has written
-pub has_written : DirectRunsAreWritten → (t : List Entry) (steps : List Step) (s : Stage) (d : Device) → Led t steps s d → first_fault t ≡ None → (piece : Piece) → Contains (ready d.offers.ready) piece
-    → (bytes : Byte → ℕ) → HaveRun (named_piece s.front.past (name_of s.front.past piece)) (byte_at d.resources) bytes → (c : Byte) (w : ByteWrite) (v : ℕ)
-    → write_to c (named_piece s.front.past (name_of s.front.past piece)) ≡ Some w → value_before (order t) (suc (name_of s.front.past piece).0) c ≡ Some v → bytes c ≡ v
-has_written law t steps s d led faultless piece at bytes ran c w v write means =
-    let x = name_of s.front.past piece in
-    let after = law t steps s (bare_memory (byte_at d.resources)) x c w v faultless led.run (is_offered s.front.past s.done d.offers led.offers piece at) write means in
-    ran c ∙ same_store (write_to c (named_piece s.front.past x)) (byte_at d.resources) c ∙ after
+  -- the bytes that it has written
+  pub has_written : DirectRunsAreWritten → first_fault t ≡ None → (bytes : Byte → ℕ) → HaveRun ms (byte_at d.resources) bytes → (c : Byte) (w : ByteWrite) (v : ℕ) → write_to c ms ≡ Some w
+      → value_before (order t) (suc (name_of s.front.past piece).0) c ≡ Some v → bytes c ≡ v
+  has_written law faultless bytes ran c w v write means =
+      let after = law t steps s (bare_memory led.bytes) (name_of s.front.past piece) c w v faultless led.run (is_offered s.front.past s.done d.offers led.offers piece at) write means in
+      ran c ∙ stored_same (byte_at d.resources) led.bytes (write_to c ms) c (λ none. let both : None ≡ Some w = sym none ∙ write in absurd cc) (λ w e is from. led.holds e (sources c w e is from)) ∙ after
+
+-- ---- the command of a piece that may run
+
+module _ (t : List Entry) (steps : List Step) (s : Stage) (d : Device) (led : Led t steps s d) (piece : Piece) (at : Contains (ready d.offers.ready) piece) (y : Cmd) (here : slice_get d.works.items piece.command ≡ Some y) where
+  pub piece_is_of : IsPieceOf s.front.past piece y
+  piece_is_of =
+      let w = work_of s.front.past s.done d.offers led.offers piece at d.works.items led.works in
+      let both : Some w.0 ≡ Some y = sym w.1 ∙ here in
+      let same : w.0 ≡ y = cc in
+      subst (λ (c : Cmd). IsPieceOf s.front.past piece c) same w.2
+
+  module _ (run : RunOf t steps s) (faultless : first_fault t ≡ None) (names : CommandsNameLive) (fits : AllFit s.front.past) where
+    present : Contains (nodes s.front.past) piece_is_of.node
+    present = (command_at (nodes s.front.past) piece.command piece_is_of.node piece_is_of.here).0
+
+    pub its_fit : FitsCommand s.front.past y
+    its_fit = node_fits s.front.past fits piece_is_of.node y present piece_is_of.runs
+
+    pub its_alive : NamesLive s.front.past y
+    its_alive i kind asked =
+        names t steps s piece_is_of.node y piece.index i kind run faultless present piece_is_of.runs piece_is_of.among
+        (unrun s.front.past s.done d.offers led.offers piece at piece_is_of.node piece_is_of.here) asked
+
+    pub piece_ready : PieceReady d.resources y piece.index
+    piece_ready = record { past = s.front.past; matches = led.matches; fits = its_fit; alive = its_alive; below = piece_is_of.among }
+
+    pub its_content : OfferedArePieces → slice_get (pieces s.front.past y) piece.index ≡ Some (named_piece s.front.past (name_of s.front.past piece))
+    its_content law = named_content s.front.past s.done d.offers led.offers piece at law y piece_is_of
+
+    pub its_sources : OfferedArePieces → PiecesAreByteWrites → (c : Byte) (w : ByteWrite) (e : Byte) → write_to c (named_piece s.front.past (name_of s.front.past piece)) ≡ Some w → w.source ≡ From e → IsThere d.resources e
+    its_sources law together = sources_there s.front.past d.resources led.matches together y piece.index (named_piece s.front.past (name_of s.front.past piece)) its_fit its_alive (its_content law)

@@ -1,6 +1,7 @@
 -- The entries of a trace, one after another.
-use Rattle.std.proofs.Common.{◌≡◌, ◌⊎◌, inr, ℕ, suc, ◌+◌, ◌<◌, ◌≤◌, List, [], ◌∷◌, ◌++◌, length, take, drop, Bool, true, false, ◌==◌, refl, ap, sym, ◌∙◌, subst, arith, get_or, append-nil, append_assoc, Option, Some, None, IsTrue, zero}
-use Rattle.std.specs.Prelude.{⊤}
+use Rattle.std.proofs.Common.{◌≡◌, ◌⊎◌, inr, ℕ, suc, ◌+◌, ◌<◌, ◌≤◌, List, [], ◌∷◌, ◌++◌, length, take, drop, map, Bool, true, false, ◌==◌, refl, ap, sym, ◌∙◌, subst, arith, get_or, append-nil, append_assoc, Option, Some, None, IsTrue, zero}
+use Rattle.std.specs.Prelude.{⊤, IsSome, slice_index_or}
+use Rattle.std.proofs.lemmas.List.{get_or_past}
 use Rattle.std.proofs.lemmas.Bool.{eqb-true, eq-eqb}
 use Rattle.std.proofs.lemmas.Option.{slice_get-get_or}
 use Rattle.std.proofs.lemmas.Grind.{take_at_read, common_steps}
@@ -24,11 +25,12 @@ use Rattle.vk_laws.specs.PickedRuns.{PicksLeadOn}
 use Rattle.vk_device.proofs.Allocating.{applied_more}
 use Rattle.vk_resources.specs.declared.applied.Applied.{Applied}
 use Rattle.vk_resources.specs.declared.applied.Applied.TheVariants as applied
-use Rattle.vk_resources.specs.Allocating.{IsAllocated}
+use Rattle.vk_resources.specs.Allocating.{IsAllocated, Fulfils, kind_of, Rooms, Allots}
+use Rattle.vk_resources.specs.Held.{object_in}
 use Rattle.vk_memory.specs.MemoryState.{MemoryState}
 use Rattle.vk_device.specs.declared.device.Device.{Device}
 use Rattle.vk_device.specs.Led as led
-use Rattle.vk_device.specs.Led.{Led, IsBefore, IsNext, IsSoundTrace, Applies, Rooms, Allots}
+use Rattle.vk_device.specs.Led.{Led, IsBefore, IsNext, IsSoundTrace, Applies}
 use Rattle.vk_device.specs.Replays.{Ends, LedByPicks}
 
 -- only host entries read
@@ -66,7 +68,7 @@ module _ (answer : List ℕ → ℕ → ℕ) (next : List ℕ → ℕ → List �
     pub same : reported ≡ meaning t i
     pub works : d.failed ≡ false
     pub allocated : Allocated
-    pub has : IsAllocated d.resources.memory allocated
+    pub has : IsAllocated d.resources allocated
     pub reached : Reaches config (take i t) allocated
     pub rest : (stop : Option ℕ) → NotBefore i stop → trace_picks answer next (λ e. 0) stop (start t) held0 t ≡ after_steps steps (trace_picks answer next (λ e. 0) stop stage held stage.left)
 
@@ -81,10 +83,14 @@ module _ (answer : List ℕ → ℕ → ℕ) (next : List ℕ → ℕ → List �
     same = refl;
     works = works;
     allocated = nothing_allocated config;
-    has = subst (λ (m : MemoryState). IsAllocated m (nothing_allocated config)) (sym empty) (record { sizes = refl; objects = refl; no_pools = refl });
+    has = subst (λ (m : MemoryState). Fulfils (record { sizes = m.sizes; objects = map kind_of m.objects; owned = d.resources.owned }) (nothing_allocated config)) (sym empty)
+        (record { sizes = refl; owner = λ n. n; owns = λ n there. none n there; objects = refl; no_pools = refl });
     reached = refl;
     rest = λ stop not_before. refl;
   }
+    where
+      none : (n : ℕ) → IsSome {T = ℕ × ℕ} (slice_index_or [] n None) → object_in d.resources.owned n ≡ Some n
+      none n there = let gone : IsSome {T = ℕ × ℕ} None = subst (λ (x : Option (ℕ × ℕ)). IsSome x) (get_or_past [] n None (omega arith)) there in absurd cc
 
 -- the entries with one more
 front_more : (t : List Entry) (i : ℕ) (x : Entry) → x ≡ get_or t i x → i < length t → take (i + 1) t ≡ take i t ++ x ∷ []
@@ -158,8 +164,8 @@ module _ (answer : List ℕ → ℕ → ℕ) (next : List ℕ → ℕ → List �
 
   pub replays_more : PicksLeadOn → (run : RunOf t so_far.steps s) → StandsIn t s → (d' : Device) (held' : List ℕ) (new : Reads) → Led t (so_far.steps ++ (entry_picks answer next 0 s held x (drop (i + 1) t)).steps) (entry_picks answer next 0 s held x (drop (i + 1) t)).stage d'
       → held' ≡ (entry_picks answer next 0 s held x (drop (i + 1) t)).held → read_in (world s.front.past) s.count x ≡ new
-      → ((a : Allocated) → IsAllocated d.resources.memory a → FindsNoRoom a x → ⊥)
-      → ((a : Allocated) → IsAllocated d.resources.memory a → (e : Allocated) × Changes a x e × IsAllocated d'.resources.memory e) → d'.failed ≡ false → Replays answer next config t held0 (i + 1) (reported ++ new) d' held'
+      → ((a : Allocated) → IsAllocated d.resources a → FindsNoRoom a x → ⊥)
+      → ((a : Allocated) → IsAllocated d.resources a → (e : Allocated) × Changes a x e × IsAllocated d'.resources e) → d'.failed ≡ false → Replays answer next config t held0 (i + 1) (reported ++ new) d' held'
   unfolding meaning
   replays_more lead_on run st d' held' new led same_held gave room allots works =
       let front = stage_front t s i st so_far.at in
@@ -188,34 +194,34 @@ module _ (answer : List ℕ → ℕ → ℕ) (next : List ℕ → ℕ → List �
   abbrev pub ReadsAt : Applied → Type 0
   ReadsAt a = (t' : List Entry) (steps : List Step) (s' : Stage) (xs : List Entry) → IsBefore t' steps s' x xs d → led.Reads a s' x
 
-  pub after_done : PicksLeadOn → RunOf t so_far.steps s → StandsIn t s → (d' : Device) (held' : List ℕ) (a : Applied) → a ≡ applied.Done → AppliesAt a d' held' → ReadsAt a → Rooms a d x → Allots a x d d' → d'.failed ≡ false
+  pub after_done : PicksLeadOn → RunOf t so_far.steps s → StandsIn t s → (d' : Device) (held' : List ℕ) (a : Applied) → a ≡ applied.Done → AppliesAt a d' held' → ReadsAt a → Rooms a d.resources x → Allots a x d.resources d'.resources → d'.failed ≡ false
       → Replays answer next config t held0 (i + 1) reported d' held'
   after_done lead_on run st d' held' a done applies gives rooms allots works =
       let now = subst (λ (b : Applied). AppliesAt b d' held') done applies t so_far.steps s (drop (i + 1) t) stands_before in
       let gave = subst (λ (b : Applied). ReadsAt b) done gives t so_far.steps s (drop (i + 1) t) stands_before in
-      rw (← append-nil reported) (replays_more lead_on run st d' held' [] now.0 now.1 gave (subst (λ (b : Applied). Rooms b d x) done rooms) (subst (λ (b : Applied). Allots b x d d') done allots) works)
+      rw (← append-nil reported) (replays_more lead_on run st d' held' [] now.0 now.1 gave (subst (λ (b : Applied). Rooms b d.resources x) done rooms) (subst (λ (b : Applied). Allots b x d.resources d'.resources) done allots) works)
 
-  pub after_bytes : PicksLeadOn → RunOf t so_far.steps s → StandsIn t s → (d' : Device) (held' : List ℕ) (a : Applied) (bytes : List ℕ) → a ≡ applied.Bytes bytes → AppliesAt a d' held' → ReadsAt a → Rooms a d x → Allots a x d d' → d'.failed ≡ false
+  pub after_bytes : PicksLeadOn → RunOf t so_far.steps s → StandsIn t s → (d' : Device) (held' : List ℕ) (a : Applied) (bytes : List ℕ) → a ≡ applied.Bytes bytes → AppliesAt a d' held' → ReadsAt a → Rooms a d.resources x → Allots a x d.resources d'.resources → d'.failed ≡ false
       → Replays answer next config t held0 (i + 1) (reported ++ (i, bytes) ∷ []) d' held'
   after_bytes lead_on run st d' held' a bytes given applies gives rooms allots works =
       let now = subst (λ (b : Applied). AppliesAt b d' held') given applies t so_far.steps s (drop (i + 1) t) stands_before in
       let gave = subst (λ (b : Applied). ReadsAt b) given gives t so_far.steps s (drop (i + 1) t) stands_before in
       subst (λ (n : ℕ). Replays answer next config t held0 (i + 1) (reported ++ (n, bytes) ∷ []) d' held') so_far.at
-      (replays_more lead_on run st d' held' ((s.count, bytes) ∷ []) now.0 now.1 gave (subst (λ (b : Applied). Rooms b d x) given rooms) (subst (λ (b : Applied). Allots b x d d') given allots) works)
+      (replays_more lead_on run st d' held' ((s.count, bytes) ∷ []) now.0 now.1 gave (subst (λ (b : Applied). Rooms b d.resources x) given rooms) (subst (λ (b : Applied). Allots b x d.resources d'.resources) given allots) works)
 
-  pub stops : (d' : Device) (held' : List ℕ) (a : Applied) → a ≡ applied.NoRoom → AppliesAt a d' held' → Rooms a d x → Allots a x d d' → Ends config t (Some i) d' × LedByPicks answer next t (Some i) held0 d' held'
+  pub stops : (d' : Device) (held' : List ℕ) (a : Applied) → a ≡ applied.NoRoom → AppliesAt a d' held' → Rooms a d.resources x → Allots a x d.resources d'.resources → Ends config t (Some i) d' × LedByPicks answer next t (Some i) held0 d' held'
   stops d' held' a no_room applies rooms allots =
       let now = subst (λ (b : Applied). AppliesAt b d' held') no_room applies t so_far.steps s (drop (i + 1) t) stands_before in
       let whole : trace_picks answer next (λ e. 0) (Some i) (start t) held0 t ≡ after_steps so_far.steps (before_entry answer next s held x) =
       so_far.rest (Some i) (omega arith) ∙ ap (λ (ys : List Entry). after_steps so_far.steps (trace_picks answer next (λ e. 0) (Some i) s held ys)) next_left ∙ rw (eq-eqb i s.count (sym so_far.at)) refl in (
         record {
           allocated = so_far.allocated;
-          held = subst (λ (b : Applied). Allots b x d d') no_room allots so_far.allocated so_far.has;
+          held = subst (λ (b : Applied). Allots b x d.resources d'.resources) no_room allots so_far.allocated so_far.has;
           ends = record {
             reached = so_far.reached;
             stopped = x;
             here = slice_get-get_or t i x lt ∙ ap (λ (y : Entry). Some y) (sym is);
-            no_room = subst (λ (b : Applied). Rooms b d x) no_room rooms so_far.allocated so_far.has;
+            no_room = subst (λ (b : Applied). Rooms b d.resources x) no_room rooms so_far.allocated so_far.has;
           };
         },
         subst (λ (p : Picked). Led t p.steps p.stage d' × (held' ≡ p.held)) (sym whole) now,

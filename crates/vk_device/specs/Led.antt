@@ -1,7 +1,10 @@
 -- How an allowed run has led to a device, and what the device answers to what comes next.
-use Rattle.std.specs.Prelude.{◌≡◌, ℕ, suc, List, [], ◌∷◌, ◌++◌, Contains, Some, None, IsTrue}
+use Rattle.std.specs.Prelude.{◌≡◌, ℕ, suc, List, [], ◌∷◌, ◌++◌, map, Contains, Some, None, IsTrue}
+use Rattle.vk_model.specs.declared.command.Cmd.{Cmd}
 use Rattle.vk_model.specs.declared.entry.Entry.{Entry}
+use Rattle.vk_model.specs.Trace.Point.{Past}
 use Rattle.vk_model.specs.Trace.Order.{order}
+use Rattle.vk_model.specs.Sync.Node.{Runs, nodes}
 use Rattle.vk_model.specs.Rules.Table.{first_fault}
 use Rattle.vk_model.specs.Run.Runs.{Step, Stage, RunPiece}
 use Rattle.vk_model.specs.Run.CachedRuns.{write_to, named_piece}
@@ -15,19 +18,25 @@ use Rattle.vk_laws.specs.TraceBytes.{value_before}
 use Rattle.vk_sync.specs.declared.ready.Piece.{Piece}
 use Rattle.vk_sync.specs.Ready.{ready}
 use Rattle.vk_queues.specs.IsWaiting.{IsWaiting}
-use Rattle.vk_offers.specs.IsOffers.{IsOffers, name_of}
+use Rattle.vk_offers.specs.IsOffers.{IsOffers, name_of, commands_in}
 use Rattle.vk_resources.specs.declared.applied.Applied.{Applied}
 use Rattle.vk_resources.specs.declared.applied.Applied.TheVariants as applied
-use Rattle.vk_model.specs.Memory.Allocations.{Allocated, FindsNoRoom, Changes}
-use Rattle.vk_resources.specs.Allocating.{IsAllocated}
-use Rattle.vk_resources.specs.Held.{MatchesSizes, byte_at}
+use Rattle.vk_resources.specs.Held.{byte_at, IsThere}
+use Rattle.vk_resources.specs.Matches.{MatchesLive}
 use Rattle.vk_device.specs.declared.device.Device.{Device}
 use Rattle.vk_history.specs.Supported.{is_supported}
 
--- An allowed run of a trace has led to a device: these steps, through caches that hold nothing, to this stage and to the bytes that the device's memory holds. The device has the buffers that were made, the batches that wait, the entries that were applied, and the pieces that may run next (Vulkan, "Execution and Memory Dependencies").
+-- A device has made ready the clears and copies of a past, in their order.
+abbrev pub AreWorks : List Cmd → Past → Type 0
+AreWorks works past = map Runs works ≡ map (λ n. n.act) (commands_in (nodes past))
+
+-- An allowed run of a trace has led to a device: these steps, through caches that hold nothing, to this stage and to some bytes of memory, which are those that the device's memory holds wherever a resource lies. The device has the buffers and the memory objects that are live, the batches that wait, the entries that were applied, the commands that were started, and the pieces that may run next (Vulkan, "Execution and Memory Dependencies").
 pub record Led (t : List Entry) (steps : List Step) (s : Stage) (d : Device) : Type 0 where
-  pub run : DirectRun t steps s (bare_memory (byte_at d.resources))
-  pub sizes : MatchesSizes s.front.past d.resources
+  pub bytes : Byte → ℕ
+  pub run : DirectRun t steps s (bare_memory bytes)
+  pub holds : (c : Byte) → IsThere d.resources c → byte_at d.resources c ≡ bytes c
+  pub matches : MatchesLive s.front.past d.resources
+  pub works : AreWorks d.works.items s.front.past
   pub waits : IsWaiting d.waiting d.count s.front
   pub counts : d.count ≡ s.count
   pub offers : IsOffers d.offers s.front.past s.done
@@ -84,13 +93,3 @@ abbrev pub Reads : Applied → Stage → Entry → Type 0
 Reads applied.Done s x = read_in (world s.front.past) s.count x ≡ []
 Reads (applied.Bytes bytes) s x = read_in (world s.front.past) s.count x ≡ (s.count, bytes) ∷ []
 Reads applied.NoRoom s x = Unit {0}
-
--- No room is answered exactly where the entry finds none on the device as it was (Vulkan, "Device Memory").
-abbrev pub Rooms : Applied → Device → Entry → Type 0
-Rooms applied.NoRoom d x = (a : Allocated) → IsAllocated d.resources.memory a → FindsNoRoom a x
-Rooms _ d x = (a : Allocated) → IsAllocated d.resources.memory a → FindsNoRoom a x → ⊥
-
--- An entry that is applied changes what is allocated as it is to, and no more; where there was no room nothing of it changes.
-abbrev pub Allots : Applied → Entry → Device → Device → Type 0
-Allots applied.NoRoom x old new = (d : Allocated) → IsAllocated old.resources.memory d → IsAllocated new.resources.memory d
-Allots _ x old new = (d : Allocated) → IsAllocated old.resources.memory d → (e : Allocated) × Changes d x e × IsAllocated new.resources.memory e

@@ -12,7 +12,7 @@ use Rattle.vk_device.specs.Led.{Led}
 -- A replay ended on this device: the entries that were applied reach what it has allocated; where it stopped, the next entry finds no room there (profile).
 pub record Ends (sizes : HeapSizes) (t : List Entry) (stop : Option ℕ) (d : Device) : Type 0 where
   pub allocated : Allocated
-  pub held : IsAllocated d.resources.memory allocated
+  pub held : IsAllocated d.resources allocated
   pub ends : EndsOn sizes t stop allocated
 
 module _ (answer : List ℕ → ℕ → ℕ) (next : List ℕ → ℕ → List ℕ) where

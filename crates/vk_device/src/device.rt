@@ -4,7 +4,7 @@ ghost use Rattle.vk_model.specs.Run.Runs.{Step, Stage, Apply, applied, offered};
 ghost use Rattle.vk_memory.specs.MemoryState.{IsLive, region_of};
 ghost use Rattle.vk_heap.specs.Region.{piece};
 ghost use Rattle.vk_resources.specs.Held.{placed, spot_of};
-ghost use Rattle.vk_resources.specs.Inner.Allotted.{FoundRoom};
+ghost use Rattle.vk_resources.specs.Allocating.{Rooms, Allots};
 ghost use Rattle.vk_offers.specs.IsOffers.{name_of};
 ghost use Rattle.vk_sync.specs.Ready.{ready};
 ghost use Rattle.vk_order.specs.PointViews.{point_of};
@@ -15,14 +15,17 @@ ghost use Rattle.vk_device.specs.Inner.Ready.{option_count};
 use crate::applied::ApplyError;
 use std::alloc::{AllocError, Global};
 use vk_laws::{
-    defined_runs_stand, direct_runs_are_fresh, direct_runs_are_runs, direct_runs_go_on,
-    new_memory_holds_anything, offered_are_pieces, picks_are_runs,
+    commands_name_live, defined_runs_stand, direct_runs_are_fresh, direct_runs_are_runs,
+    direct_runs_go_on, new_memory_holds_anything, offered_are_pieces, picks_are_runs,
 };
-use vk_model::{Config, Entry, Scheduler, no_fault_is_sound, order_is_structured};
-use vk_offers::{Offers, Piece, points_come_next, waits_go};
-use vk_order::{Action, Point};
+use vk_model::{
+    Config, Entry, Scheduler, growth_keeps, no_fault_is_sound, order_is_structured,
+    pieces_are_byte_writes,
+};
+use vk_offers::{Offers, Piece, points_come_next, run_at, waits_go};
+use vk_order::Point;
 use vk_queues::{Waiting, points_after};
-use vk_resources::{Applied, Resources, Spot};
+use vk_resources::{Applied, Resources, Spot, Work};
 
 /// A device with its memory and its queues. A batch waits for its semaphores; the commands of one
 /// that was started run in pieces, in any order that the rules allow: a scheduler picks it.
@@ -35,6 +38,8 @@ pub struct Device<'a> {
     waiting: Waiting<'a>,
     /// The commands that were started, and which of their pieces have run.
     offers: Offers<'a>,
+    /// Those commands, made ready to be run in pieces.
+    works: Vec<Work<'a>>,
     /// How many entries were applied.
     count: usize,
     /// Whether an entry has met `NoMemory`.
@@ -43,9 +48,9 @@ pub struct Device<'a> {
 
 impl<'a> Device<'a> {
     ghost use Rattle.vk_model.specs.Run.Runs.{start};
-    ghost use Rattle.vk_device.specs.Led.{Led, IsBefore, IsNext, MayRun, HasRun, HasWritten, Applies, Reads, Rooms, Allots};
-    ghost use Rattle.vk_device.specs.Inner.Ready.{PointFits, HasPieces, Waited, MayAsk, Goes, Picks, HostDone, AdvanceReady, GotAskedBy};
-    ghost use Rattle.vk_resources.specs.Inner.Allotted.{allotted};
+    ghost use Rattle.vk_device.specs.Led.{Led, IsBefore, IsNext, MayRun, HasRun, HasWritten, Applies, Reads};
+    ghost use Rattle.vk_device.specs.Inner.Ready.{Prepares, Waited, MayAsk, Goes, Picks, HostDone, AdvanceReady};
+    ghost use Rattle.vk_resources.specs.Allocating.{allotted};
     ghost use Rattle.vk_device.specs.declared.applied.ApplyError.TheVariants.{NoMemory, Failed};
 
     /// A device with heaps of these sizes, without resources. It takes no memory.
@@ -60,6 +65,7 @@ impl<'a> Device<'a> {
             resources: Resources::new(alloc, config),
             waiting: Waiting::new(alloc),
             offers: Offers::new(alloc),
+            works: Vec::new(alloc),
             count: 0,
             failed: false,
         }
@@ -70,7 +76,7 @@ impl<'a> Device<'a> {
         requires { MayRun self.old piece }
         ensures ran { HasRun self.old self.new piece }
         ensures written { HasWritten self.old self.new piece }
-        ensures allotted { allotted self.new.resources.memory ≡ allotted self.old.resources.memory }
+        ensures allotted { allotted self.new.resources ≡ allotted self.old.resources }
         ensures failed { self.new.failed ≡ self.old.failed }
     {
         direct_runs_go_on();
@@ -79,19 +85,26 @@ impl<'a> Device<'a> {
         defined_runs_stand();
         offered_are_pieces();
         no_fault_is_sound();
+        commands_name_live();
+        pieces_are_byte_writes();
         self.resources
-            .run_piece(self.offers.command(piece), piece.index);
+            .run_piece(&self.works[piece.command], piece.index);
         self.offers.finish(piece);
     }
 
-    /// How many pieces a point is run in; only a clear or a copy has any.
-    fn pieces(&self, point: &Point<'_>) -> u64
-        ensures { (past : Past) → PointFits past (point_of point.now) self.now.resources → HasPieces past (point_of point.now) result }
+    /// Makes the command of a point ready, if it is run in pieces, and answers how many they are.
+    fn prepare(&mut self, point: &Point<'a>) -> Result<u64, AllocError>
+        ensures prepared { IfOk result (λ total. Prepares self.old self.new (point_of point.now) total) }
+        ensures resources { self.new.resources ≡ self.old.resources }
+        ensures failed { self.new.failed ≡ self.old.failed }
     {
-        match point.action {
-            Action::Run(command) => self.resources.pieces(command),
-            _ => 0,
-        }
+        let Some(command) = run_at(point) else {
+            return Ok(0);
+        };
+        let work = Work::new(self.alloc, command)?;
+        let pieces = self.resources.pieces(&work);
+        self.works.push(work)?;
+        Ok(pieces)
     }
 
     /// The commands that an entry waits for: of each queue the first so many. Only a wait of the host
@@ -137,7 +150,7 @@ impl<'a> Device<'a> {
         requires { IsNext self.old entry.now }
         ensures picked { OnOk result ((t : List Entry) (steps : List Step) (s : Stage) (xs : List Entry) → IsBefore t steps s entry.now xs self.old
             → Picks S.answer S.next t steps s (S.held sched.old) entry.now self.new (S.held sched.new)) }
-        ensures allotted { allotted self.new.resources.memory ≡ allotted self.old.resources.memory }
+        ensures allotted { allotted self.new.resources ≡ allotted self.old.resources }
         ensures failed { self.new.failed ≡ self.old.failed }
     {
         picks_are_runs();
@@ -164,7 +177,7 @@ impl<'a> Device<'a> {
         requires { AdvanceReady self.old entry.now }
         ensures advanced { OnOk result ((t : List Entry) (steps : List Step) (s : Stage) (xs : List Entry) → HostDone t steps s entry.now xs self.old
             → Led t (steps ++ Apply [] 0 ∷ []) (applied s 0 entry.now xs) self.new) }
-        ensures allotted { allotted self.new.resources.memory ≡ allotted self.old.resources.memory }
+        ensures allotted { allotted self.new.resources ≡ allotted self.old.resources }
         ensures failed { self.new.failed ≡ self.old.failed }
     {
         points_come_next();
@@ -172,9 +185,11 @@ impl<'a> Device<'a> {
         no_fault_is_sound();
         direct_runs_are_runs();
         defined_runs_stand();
+        commands_name_live();
+        growth_keeps();
         let points = points_after(self.alloc, &mut self.waiting, self.count, entry)?;
         for point in points.as_slice() {
-            let pieces = self.pieces(point);
+            let pieces = self.prepare(point)?;
             self.offers.add(point, pieces)?;
         }
         self.count += 1;
@@ -191,8 +206,8 @@ impl<'a> Device<'a> {
         ensures applied { IfOk result (λ a. (t : List Entry) (steps : List Step) (s : Stage) (xs : List Entry) → IsBefore t steps s entry.now xs self.old
             → Applies S.answer S.next a t steps s (S.held sched.old) entry.now xs self.new (S.held sched.new)) }
         ensures reads { IfOk result (λ a. (t : List Entry) (steps : List Step) (s : Stage) (xs : List Entry) → IsBefore t steps s entry.now xs self.old → Reads a s entry.now) }
-        ensures rooms { IfOk result (λ a. FoundRoom a self.old.resources entry.now) }
-        ensures allots { IfOk result (λ a. GotAskedBy a entry.now self.old.resources self.new.resources) }
+        ensures rooms { IfOk result (λ a. Rooms a self.old.resources entry.now) }
+        ensures allots { IfOk result (λ a. Allots a entry.now self.old.resources self.new.resources) }
         ensures failed { self.new.failed ≡ self.old.failed }
         ensures error { IfErr result (λ f. f ≡ NoMemory) }
     {
@@ -228,8 +243,8 @@ impl<'a> Device<'a> {
         ensures applied { IfOk result (λ a. (t : List Entry) (steps : List Step) (s : Stage) (xs : List Entry) → IsBefore t steps s entry.now xs self.old
             → Applies S.answer S.next a t steps s (S.held sched.old) entry.now xs self.new (S.held sched.new)) }
         ensures reads { IfOk result (λ a. (t : List Entry) (steps : List Step) (s : Stage) (xs : List Entry) → IsBefore t steps s entry.now xs self.old → Reads a s entry.now) }
-        ensures rooms { IfOk result (λ a. Rooms a self.old entry.now) }
-        ensures allots { IfOk result (λ a. Allots a entry.now self.old self.new) }
+        ensures rooms { IfOk result (λ a. Rooms a self.old.resources entry.now) }
+        ensures allots { IfOk result (λ a. Allots a entry.now self.old.resources self.new.resources) }
         ensures works { IfOk result (λ a. (self.old.failed ≡ false) × (self.new.failed ≡ false)) }
         ensures error { IfErr result (λ f. f ≡ (if self.old.failed then Failed else NoMemory)) }
         ensures failed { OnErr result (self.new.failed ≡ true) }
@@ -263,7 +278,7 @@ impl<'a> Device<'a> {
         requires { IsTrue self.old.failed ⊎ MayRun self.old piece }
         ensures ran { OnOk result (HasRun self.old self.new piece) }
         ensures written { OnOk result (HasWritten self.old self.new piece) }
-        ensures allotted { allotted self.new.resources.memory ≡ allotted self.old.resources.memory }
+        ensures allotted { allotted self.new.resources ≡ allotted self.old.resources }
         ensures error { IfErr result (λ f. (f ≡ Failed) × IsTrue self.old.failed) }
     {
         if self.failed {

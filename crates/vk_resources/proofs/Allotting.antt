@@ -1,77 +1,46 @@
--- Which memory objects are live after each step, and whether an entry finds room for its own.
-use Rattle.std.proofs.Common.{◌≡◌, ◌⊎◌, inl, inr, ℕ, ◌+◌, List, [], ◌∷◌, ◌++◌, map, length, Bool, true, false, ◌==◌, ◌||◌, refl, ap, sym, ◌∙◌, subst, append-nil, add-zero, zero-add, arith, Option, Some, None}
-use Rattle.std.proofs.Math.Seq.{map-set_same}
-use Rattle.std.proofs.Math.Bool.{or-false}
-use Rattle.std.proofs.lemmas.Bool.{leb-true, ltb-true, lt-ltb, le-leb, false_from_ne_true}
-use Rattle.std.specs.Prelude.{if◌then◌else◌, nat_lt, nat_le}
-use Rattle.std.specs.List.{fold, list_any, filter_map}
+-- Whether an entry finds room, and what is allocated when it has been applied.
+use Rattle.std.proofs.Common.{◌≡◌, ◌⊎◌, inl, inr, ℕ, zero, suc, ◌+◌, ◌<◌, ◌≤◌, List, [], ◌∷◌, ◌++◌, map, length, Bool, true, false, not, ◌==◌, ◌||◌, eqb, refl, ap, sym, ◌∙◌, subst, add-zero, zero-add, arith, get_or-set_same, get_or-set_other, length-append, Option, Some, None}
+use Rattle.std.proofs.lemmas.Bool.{leb-true, ltb-true, lt-ltb, le-leb, ne_eqb, eq-eqb, cases_lt}
+use Rattle.std.proofs.lemmas.List.{get_or_past, get_or_append_left, length-map, map-append, map-set, get_or-map}
+use Rattle.vk_memory.proofs.LiveObjects.{live_below}
+use Rattle.std.specs.Prelude.{if◌then◌else◌, nat_lt, nat_le, sum_by, slice_set, IsSome, slice_index_or}
+use Rattle.std.specs.List.{fold, filter}
 use Rattle.vk_memory.specs.declared.memories.Object.{Object}
-use Rattle.vk_memory.specs.MemoryState.{MemoryState, IsFull, size_on, sizes_on, counted as one_if, live_count, object_at, rewritten, remapped, with_region, with_mapped, fresh}
+use Rattle.vk_memory.specs.MemoryState.{MemoryState, IsLive, IsFull, size_on, sizes_on, counted as one_if, live_count, fresh}
 use Rattle.vk_model.specs.declared.entry.Entry.{Entry}
 use Rattle.vk_model.specs.declared.entry.Entry.TheVariants as entry
 use Rattle.vk_model.specs.declared.resource.BufferInfo.{BufferInfo}
+use Rattle.vk_model.specs.declared.resource.MemoryInfo.{MemoryInfo}
 use Rattle.vk_model.specs.declared.resource.Place.{Place}
 use Rattle.vk_model.specs.declared.resource.Place.TheVariants as place
+use Rattle.vk_model.specs.Trace.Objects.{of_buffer}
+use Rattle.vk_model.specs.Trace.Point.{Past}
 use Rattle.vk_model.specs.Basics.{round_up}
+use Rattle.vk_model.specs.Memory.HeapSizes.{HeapSizes}
 use Rattle.vk_model.specs.Memory.Room.{heap_of, no_object}
+use Rattle.vk_model.specs.Memory.Allocations.{Allocated, OwnMemory, PoolMemory, heaps_of, pool_bytes, with_object, without, without_resident, FindsNoneAt, Gets}
 use Rattle.vk_resources.specs.declared.applied.Applied.{Applied}
 use Rattle.vk_resources.specs.declared.applied.Applied.TheVariants as applied
-use Rattle.vk_resources.specs.declared.resources.Placed.{Placed}
-use Rattle.vk_resources.specs.Allocating.{kind_of}
-use Rattle.vk_resources.specs.Inner.Allotted.{Allotted, allotted, asked_by, asked_at, with_asked, heaps_with, finds_no_room, FoundRoom, GotAsked}
-use Rattle.vk_resources.specs.Held.{Held}
-use Rattle.vk_resources.specs.Inner.Steps.{MapsAt, MadeOr}
+use Rattle.vk_resources.specs.Held.{Held, IsApart, object_in, object_of}
+use Rattle.vk_resources.specs.Allocating.{Allotted, allotted, kind_of, live_from, Fulfils, IsAllocated, Rooms, Allots}
+use Rattle.vk_resources.specs.Fits.{FitsEntry}
+use Rattle.vk_resources.specs.Inner.Steps.{Makes, MemoryMade, BufferMade, Ends, freed}
+use Rattle.vk_resources.proofs.Applying.{IsRest}
 
--- ---- an object keeps its type and its size
+-- ---- the heaps
 
-pub region_allots : (m : MemoryState) (o : ℕ) (bytes : List ℕ) → allotted (with_region m o bytes) ≡ allotted m
-region_allots m o bytes = ap (λ (l : List (Option (ℕ × ℕ))). record (allotted m) { objects = filter_map (λ k. k) l }) (map-set_same kind_of m.objects o (rewritten bytes (object_at m o)) None (same (object_at m o)))
-  where
-    same : (x : Option Object) → kind_of (rewritten bytes x) ≡ kind_of x
-    same None = refl
-    same (Some x) = refl
-
-mapped_allots : (m : MemoryState) (o : ℕ) (b : Bool) → allotted (with_mapped m o b) ≡ allotted m
-mapped_allots m o b = ap (λ (l : List (Option (ℕ × ℕ))). record (allotted m) { objects = filter_map (λ k. k) l }) (map-set_same kind_of m.objects o (remapped b (object_at m o)) None (same (object_at m o)))
-  where
-    same : (x : Option Object) → kind_of (remapped b x) ≡ kind_of x
-    same None = refl
-    same (Some x) = refl
-
-pub map_allots : (old new : Held) (p : Option Placed) → MapsAt old new p → allotted new.memory ≡ allotted old.memory
-map_allots old new None same = ap (λ (s : Held). allotted s.memory) same
-map_allots old new (Some p) (inl same) = ap (λ (s : Held). allotted s.memory) same
-map_allots old new (Some p) (inr now) = ap (λ (s : Held). allotted s.memory) now.1 ∙ mapped_allots old.memory p.object true
-
--- ---- an entry that asks for nothing
-
-pub nothing_allots : (x : Entry) (old new : Held) → asked_by x ≡ [] → allotted new.memory ≡ allotted old.memory → allotted new.memory ≡ with_asked (allotted old.memory) x
-nothing_allots x old new none same = same ∙ rw none (ap (λ (l : List (ℕ × ℕ)). record (allotted old.memory) { objects = l }) (sym (append-nil (allotted old.memory).objects)))
-
--- what makes no buffer asks for nothing
-pub asked_none : (x : Entry) → ((i : ℕ) (info : BufferInfo) → x ≡ entry.Buffer i info → ⊥) → asked_by x ≡ []
-asked_none (entry.Buffer i info) other = absurd (other i info refl)
-asked_none _ other = refl
-
-pub nothing_rooms : (x : Entry) (s : Held) → asked_by x ≡ [] → finds_no_room (allotted s.memory) x ≡ false
-nothing_rooms x s none = ap (λ (l : List (ℕ × ℕ)). list_any (λ (o : ℕ × ℕ). no_object (heaps_with (allotted s.memory)) o.0 o.1) l) none
-
--- ---- room for an object, by the heaps
-
--- the kinds of the live objects
-abbrev live_kinds : List (Option Object) → List (ℕ × ℕ)
-live_kinds os = filter_map (λ k. k) (map kind_of os)
-
-used_same : (g : ℕ × ℕ → ℕ) (f : Option Object → ℕ) → f None ≡ 0 → ((o : Object) → g (o.memory_type, o.size) ≡ f (Some o)) → (n : ℕ) (os : List (Option Object)) → fold (λ a x. a + g x) n (live_kinds os) ≡ fold (λ a x. a + f x) n os
-used_same g f none same n [] = refl
-used_same g f none same n (None ∷ os) = used_same g f none same n os ∙ ap (λ (m : ℕ). fold (λ a x. a + f x) m os) (sym (add-zero n) ∙ ap (λ (m : ℕ). n + m) (sym none))
-used_same g f none same n (Some o ∷ os) = used_same g f none same (n + g (o.memory_type, o.size)) os ∙ ap (λ (m : ℕ). fold (λ a x. a + f x) (n + m) os) (same o)
+used_same : (owner : ℕ → ℕ) (g : OwnMemory → ℕ) (f : Option Object → ℕ) → f None ≡ 0 → ((n : ℕ) (o : Object) → g (record { owner = n; memory_type = o.memory_type; size = o.size }) ≡ f (Some o)) → (k n : ℕ) (os : List (Option Object))
+    → fold (λ a o. a + g o) n (live_from owner k (map kind_of os)) ≡ fold (λ a x. a + f x) n os
+used_same owner g f none same k n [] = refl
+used_same owner g f none same k n (None ∷ os) = used_same owner g f none same (suc k) n os ∙ ap (λ (m : ℕ). fold (λ a x. a + f x) m os) (sym (add-zero n) ∙ ap (λ (m : ℕ). n + m) (sym none))
+used_same owner g f none same k n (Some o ∷ os) =
+    used_same owner g f none same (suc k) (n + g (record { owner = owner k; memory_type = o.memory_type; size = o.size })) os ∙ ap (λ (m : ℕ). fold (λ a x. a + f x) (n + m) os) (same (owner k) o)
 
 -- and how many there are
-count_same : (n : ℕ) (os : List (Option Object)) → n + length (live_kinds os) ≡ fold (λ a x. a + one_if x) n os
-count_same n [] = add-zero n
-count_same n (None ∷ os) = count_same n os ∙ ap (λ (m : ℕ). fold (λ a x. a + one_if x) m os) (sym (add-zero n))
-count_same n (Some o ∷ os) = let rest = count_same (n + 1) os in omega (arith, rest)
+count_same : (owner : ℕ → ℕ) (k n : ℕ) (os : List (Option Object)) → n + length (live_from owner k (map kind_of os)) ≡ fold (λ a x. a + one_if x) n os
+count_same owner k n [] = add-zero n
+count_same owner k n (None ∷ os) = count_same owner (suc k) n os ∙ ap (λ (m : ℕ). fold (λ a x. a + one_if x) m os) (sym (add-zero n))
+count_same owner k n (Some o ∷ os) = let rest = count_same owner (suc k) (n + 1) os in omega (arith, rest)
 
 on_heap0 : (b : Bool) (n : ℕ) → (if (if b then 0 else 1) == 0 then n else 0) ≡ (if b then n else 0)
 on_heap0 true n = refl
@@ -93,71 +62,326 @@ or_left : (a b : Bool) → a ≡ true → (a || b) ≡ true
 or_left true b h = refl
 or_left false b h = absurd cc
 
-module _ (m : MemoryState) where
-  limit_at : (b : Bool) → (heaps_with (allotted m)).limit (if b then 0 else 1) ≡ (if b then m.sizes.heap0 else m.sizes.heap1)
-  limit_at true = refl
-  limit_at false = refl
+module _ (s : Held) (d : Allocated) (is : IsAllocated s d) where
+  limit_at : (b : Bool) → (heaps_of d).limit (if b then 0 else 1) ≡ (if b then s.memory.sizes.heap0 else s.memory.sizes.heap1)
+  limit_at true = ap (λ (z : HeapSizes). z.heap0) (sym is.sizes)
+  limit_at false = ap (λ (z : HeapSizes). z.heap1) (sym is.sizes)
 
-  used_at : (b : Bool) → (heaps_with (allotted m)).used (if b then 0 else 1) ≡ sizes_on b m.objects
-  used_at true = used_same (λ o. if heap_of o.0 == 0 then o.1 else 0) (size_on true) refl (λ o. on_heap0 (o.memory_type == 0) o.size) 0 m.objects
-  used_at false = used_same (λ o. if heap_of o.0 == 1 then o.1 else 0) (size_on false) refl (λ o. on_heap1 (o.memory_type == 0) o.size) 0 m.objects
+  used_objects : (h : ℕ) → (heaps_of d).used h ≡ sum_by (λ o. if heap_of o.memory_type == h then o.size else 0) (live_from is.owner 0 (map kind_of s.memory.objects))
+  used_objects h =
+      ap (λ (ps : List PoolMemory). sum_by (λ o. if heap_of o.memory_type == h then o.size else 0) d.objects + sum_by (pool_bytes h) ps) is.no_pools ∙ add-zero _
+      ∙ ap (λ (os : List OwnMemory). sum_by (λ o. if heap_of o.memory_type == h then o.size else 0) os) is.objects
 
-  counted : (heaps_with (allotted m)).objects ≡ live_count m.objects
-  counted = sym (zero-add (length (live_kinds m.objects))) ∙ count_same 0 m.objects
+  used_at : (b : Bool) → (heaps_of d).used (if b then 0 else 1) ≡ sizes_on b s.memory.objects
+  used_at true = used_objects 0 ∙ used_same is.owner (λ o. if heap_of o.memory_type == 0 then o.size else 0) (size_on true) refl (λ n o. on_heap0 (o.memory_type == 0) o.size) 0 0 s.memory.objects
+  used_at false = used_objects 1 ∙ used_same is.owner (λ o. if heap_of o.memory_type == 1 then o.size else 0) (size_on false) refl (λ n o. on_heap1 (o.memory_type == 0) o.size) 0 0 s.memory.objects
+
+  counted : (heaps_of d).objects ≡ live_count s.memory.objects
+  counted =
+      ap (λ (ps : List PoolMemory). length d.objects + sum_by (λ q. length q.pool.blocks) ps) is.no_pools ∙ add-zero _ ∙ ap (λ (os : List OwnMemory). length os) is.objects
+      ∙ sym (zero-add (length (live_from is.owner 0 (map kind_of s.memory.objects)))) ∙ count_same is.owner 0 0 s.memory.objects
 
   abbrev is_over : ℕ → ℕ → Bool
-  is_over t size = nat_lt ((heaps_with (allotted m)).limit (heap_of t)) ((heaps_with (allotted m)).used (heap_of t) + size)
+  is_over t size = nat_lt ((heaps_of d).limit (heap_of t)) ((heaps_of d).used (heap_of t) + size)
 
   abbrev has_most : Bool
-  has_most = nat_le 4096 (heaps_with (allotted m)).objects
+  has_most = nat_le 4096 (heaps_of d).objects
 
-  pub full_found : (t size : ℕ) → IsFull m t size → no_object (heaps_with (allotted m)) t size ≡ true
-  full_found t size (inl many) = or_right (is_over t size) has_most (le-leb 4096 (heaps_with (allotted m)).objects (rw counted many))
+  full_found : (t size : ℕ) → IsFull s.memory t size → no_object (heaps_of d) t size ≡ true
+  full_found t size (inl many) = or_right (is_over t size) has_most (le-leb 4096 (heaps_of d).objects (subst (λ (n : ℕ). 4096 ≤ n) (sym counted) many))
   full_found t size (inr over) =
-      or_left (is_over t size) has_most (lt-ltb ((heaps_with (allotted m)).limit (heap_of t)) ((heaps_with (allotted m)).used (heap_of t) + size) (rw (limit_at (t == 0), used_at (t == 0)) over))
+      or_left (is_over t size) has_most
+      (lt-ltb ((heaps_of d).limit (heap_of t)) ((heaps_of d).used (heap_of t) + size) (subst (λ (n : ℕ). n < (heaps_of d).used (heap_of t) + size) (sym (limit_at (t == 0))) (subst (λ (n : ℕ). limit < n + size) (sym (used_at (t == 0))) over)))
+    where
+      limit : ℕ
+      limit = if t == 0 then s.memory.sizes.heap0 else s.memory.sizes.heap1
 
-  pub found_full : (t size : ℕ) → no_object (heaps_with (allotted m)) t size ≡ true → IsFull m t size
+  found_full : (t size : ℕ) → no_object (heaps_of d) t size ≡ true → IsFull s.memory t size
   found_full t size found = elim (either (is_over t size) has_most found) [
-    | inl over ↦ inr (rw (limit_at (t == 0), used_at (t == 0)) at (ltb-true ((heaps_with (allotted m)).limit (heap_of t)) ((heaps_with (allotted m)).used (heap_of t) + size) over))
-    | inr many ↦ inl (rw counted at (leb-true 4096 (heaps_with (allotted m)).objects many))
+    | inl over ↦ inr
+        (subst (λ (n : ℕ). limit < n + size) (used_at (t == 0))
+        (subst (λ (n : ℕ). n < (heaps_of d).used (heap_of t) + size) (limit_at (t == 0)) (ltb-true ((heaps_of d).limit (heap_of t)) ((heaps_of d).used (heap_of t) + size) over)))
+    | inr many ↦ inl (subst (λ (n : ℕ). 4096 ≤ n) counted (leb-true 4096 (heaps_of d).objects many))
   ]
+    where
+      limit : ℕ
+      limit = if t == 0 then s.memory.sizes.heap0 else s.memory.sizes.heap1
 
--- ---- a buffer
+-- ---- room for what an entry asks for
 
-one_asked : (a : Allotted) (t size : ℕ) → list_any (λ (o : ℕ × ℕ). no_object (heaps_with a) o.0 o.1) ((t, size) ∷ []) ≡ no_object (heaps_with a) t size
-one_asked a t size = or-false (no_object (heaps_with a) t size)
-
-pub buffer_rooms : (old new : Held) (y : Entry) (i t : ℕ) (info : BufferInfo) → y ≡ entry.Buffer i info → info.place ≡ place.Dedicated t → (a : Applied) → MadeOr a old new i t info.size → FoundRoom a old y
-buffer_rooms old new y i t info is there a made = subst (λ (x : Entry). FoundRoom a old x) (sym is) (go a made)
+pub memory_rooms : (old new : Held) (y : Entry) (i : ℕ) (info : MemoryInfo) → y ≡ entry.Memory i info → (a : Applied) → MemoryMade a old new i info.memory_type info.size → Rooms a old y
+memory_rooms old new y i info is a made = subst (λ (x : Entry). Rooms a old x) (sym is) (go a made)
   where
-    size : ℕ
-    size = round_up info.size 16
-
-    found : finds_no_room (allotted old.memory) (entry.Buffer i info) ≡ no_object (heaps_with (allotted old.memory)) t size
-    found = ap (λ (p : Place). list_any (λ (o : ℕ × ℕ). no_object (heaps_with (allotted old.memory)) o.0 o.1) (asked_at p size)) there ∙ one_asked (allotted old.memory) t size
-
-    go : (a : Applied) → MadeOr a old new i t info.size → FoundRoom a old (entry.Buffer i info)
-    go applied.Done made = found ∙ false_from_ne_true _ (λ h. made.1 (found_full old.memory t size h))
+    go : (a : Applied) → MemoryMade a old new i info.memory_type info.size → Rooms a old (entry.Memory i info)
+    go applied.Done made = λ d al none. made.2 (found_full old d al info.memory_type info.size none)
     go (applied.Bytes bytes) made = absurd made
-    go applied.NoRoom made = found ∙ full_found old.memory t size made.1
+    go applied.NoRoom made = λ d al. full_found old d al info.memory_type info.size made.1
 
--- ---- a new buffer has what it asks for
-
-kinds_more : (os : List (Option Object)) (o : Object) → live_kinds (os ++ Some o ∷ []) ≡ live_kinds os ++ (o.memory_type, o.size) ∷ []
-kinds_more [] o = refl
-kinds_more (None ∷ os) o = kinds_more os o
-kinds_more (Some p ∷ os) o = ap (λ (l : List (ℕ × ℕ)). (p.memory_type, p.size) ∷ l) (kinds_more os o)
-
-pub buffer_allots : (old new : Held) (y : Entry) (i t : ℕ) (info : BufferInfo) → y ≡ entry.Buffer i info → info.place ≡ place.Dedicated t → (a : Applied) → MadeOr a old new i t info.size → GotAsked a y old new
-buffer_allots old new y i t info is there a made = subst (λ (x : Entry). GotAsked a x old new) (sym is) (go a made)
+pub buffer_rooms : (old new : Held) (y : Entry) (i t : ℕ) (info : BufferInfo) → y ≡ entry.Buffer i info → info.place ≡ place.Dedicated t → (a : Applied) → BufferMade a old new i t info.size → Rooms a old y
+buffer_rooms old new y i t info is own a made = subst (λ (x : Entry). Rooms a old x) (sym is) (go a made)
   where
-    asked : asked_by (entry.Buffer i info) ≡ (t, round_up info.size 16) ∷ []
-    asked = ap (λ (p : Place). asked_at p (round_up info.size 16)) there
-
-    go : (a : Applied) → MadeOr a old new i t info.size → GotAsked a (entry.Buffer i info) old new
-    go applied.Done made =
-        ap (λ (m : MemoryState). allotted m) made.0.memory
-        ∙ ap (λ (l : List (ℕ × ℕ)). record (allotted old.memory) { objects = l }) (kinds_more old.memory.objects (fresh t (round_up info.size 16)))
-        ∙ ap (λ (l : List (ℕ × ℕ)). record (allotted old.memory) { objects = (allotted old.memory).objects ++ l }) (sym asked)
+    go : (a : Applied) → BufferMade a old new i t info.size → Rooms a old (entry.Buffer i info)
+    go applied.Done made = λ d al none. made.2 (found_full old d al t (round_up info.size 16) (subst (λ (q : Place). FindsNoneAt d q (of_buffer info)) own none))
     go (applied.Bytes bytes) made = absurd made
-    go applied.NoRoom made = made.0
+    go applied.NoRoom made = λ d al. subst (λ (q : Place). FindsNoneAt d q (of_buffer info)) (sym own) (full_found old d al t (round_up info.size 16) made.1)
+
+pub bound_rooms : (old : Held) (y : Entry) (i k o : ℕ) (info : BufferInfo) → y ≡ entry.Buffer i info → info.place ≡ place.Memory k o → Rooms applied.Done old y
+bound_rooms old y i k o info is at = subst (λ (x : Entry). Rooms applied.Done old x) (sym is) (λ d al none. subst (λ (q : Place). FindsNoneAt d q (of_buffer info)) at none)
+
+-- ---- one more object
+
+abbrev kinds : Type 0
+kinds = List (Option (ℕ × ℕ))
+
+-- owners that agree below
+same_live : (f g : ℕ → ℕ) (k : ℕ) (os : kinds) → ((n : ℕ) → n < k + length os → f n ≡ g n) → live_from f k os ≡ live_from g k os
+same_live f g k [] same = refl
+same_live f g k (None ∷ os) same = same_live f g (suc k) os (λ n lt. same n (omega (arith, lt)))
+same_live f g k (Some o ∷ os) same =
+    ap (λ (n : ℕ). record { owner = n; memory_type = o.0; size = o.1 } ∷ live_from f (suc k) os) (same k (omega arith))
+    ∙ ap (λ (l : List OwnMemory). record { owner = g k; memory_type = o.0; size = o.1 } ∷ l) (same_live f g (suc k) os (λ n lt. same n (omega (arith, lt))))
+
+live_push : (f : ℕ → ℕ) (k : ℕ) (os : kinds) (o : ℕ × ℕ) → live_from f k (os ++ Some o ∷ []) ≡ live_from f k os ++ record { owner = f (k + length os); memory_type = o.0; size = o.1 } ∷ []
+live_push f k [] o = ap (λ (n : ℕ). record { owner = f n; memory_type = o.0; size = o.1 } ∷ []) (sym (add-zero k))
+live_push f k (None ∷ os) o = live_push f (suc k) os o ∙ ap (λ (n : ℕ). live_from f (suc k) os ++ record { owner = f n; memory_type = o.0; size = o.1 } ∷ []) (let next : suc k + length os ≡ k + suc (length os) = omega arith in next)
+live_push f k (Some p ∷ os) o =
+    ap (λ (l : List OwnMemory). record { owner = f k; memory_type = p.0; size = p.1 } ∷ l)
+    (live_push f (suc k) os o ∙ ap (λ (n : ℕ). live_from f (suc k) os ++ record { owner = f n; memory_type = o.0; size = o.1 } ∷ []) (let next : suc k + length os ≡ k + suc (length os) = omega arith in next))
+
+-- ---- what is allocated then
+
+module _ (old : Held) (d : Allocated) (al : IsAllocated old d) (apart : IsApart old.memory old.owned old.buffers) where
+  abbrev objects : kinds
+  objects = map kind_of old.memory.objects
+
+  module _ (new : Held) (id t size : ℕ) (makes : Makes old new id t size) (absent : object_of old id ≡ None) where
+    abbrev owner : ℕ → ℕ
+    owner n = if eqb n (length objects) then id else al.owner n
+
+    is_owner : (n : ℕ) → n < length objects → owner n ≡ al.owner n
+    is_owner n lt = rw (ne_eqb n (length objects) (λ same. omega (arith, lt, same))) refl
+
+    all : map kind_of new.memory.objects ≡ objects ++ Some (t, size) ∷ []
+    all = ap (λ (m : MemoryState). map kind_of m.objects) makes.memory ∙ map-append kind_of old.memory.objects (Some (fresh t size) ∷ [])
+
+    number : length old.memory.objects ≡ length objects
+    number = sym (length-map old.memory.objects kind_of)
+
+    owns_old : (n : ℕ) → n < length objects → IsSome (slice_index_or (objects ++ Some (t, size) ∷ []) n None) → object_in new.owned (owner n) ≡ Some n
+    owns_old n lt there =
+        let was : object_of old (al.owner n) ≡ Some n = al.owns n (subst (λ (x : Option (ℕ × ℕ)). IsSome x) (get_or_append_left objects (Some (t, size) ∷ []) None n lt) there) in
+        rw (is_owner n lt) (makes.others (al.owner n) (λ same. clash (sym (ap (λ (j : ℕ). object_of old j) same) ∙ was)) ∙ was)
+      where
+        clash : object_of old id ≡ Some n → ⊥
+        clash has = let both : ◌≡◌ {A = Option ℕ} None (Some n) = sym absent ∙ has in cc
+
+    owns_new : (n : ℕ) → length objects ≤ n → IsSome (slice_index_or (objects ++ Some (t, size) ∷ []) n None) → object_in new.owned (owner n) ≡ Some n
+    owns_new n le there = go (cases_lt (length objects) n)
+      where
+        past : length objects < n → ⊥
+        past lt =
+            let long = length-append objects (Some (t, size) ∷ []) in
+            let none : IsSome {T = ℕ × ℕ} None = subst (λ (x : Option (ℕ × ℕ)). IsSome x) (get_or_past (objects ++ Some (t, size) ∷ []) n None (omega (arith, lt, long))) there in
+            cc
+
+        go : (length objects < n) ⊎ (n ≤ length objects) → object_in new.owned (owner n) ≡ Some n
+        go (inl lt) = absurd (past lt)
+        go (inr ge) =
+            let same : n ≡ length objects = omega (arith, le, ge) in
+            rw (eq-eqb n (length objects) same) (makes.here ∙ ap (λ (k : ℕ). Some k) (number ∙ sym same))
+
+    pub more_allocated : IsAllocated new (with_object id t size d)
+    more_allocated = record {
+      sizes = ap (λ (m : MemoryState). m.sizes) makes.memory ∙ al.sizes;
+      owner = owner;
+      owns = λ n there. by_place n (subst (λ (os : kinds). IsSome (slice_index_or os n None)) all there) (cases_lt n (length objects));
+      objects = ap (λ (os : List OwnMemory). os ++ record { owner = id; memory_type = t; size = size } ∷ []) (al.objects ∙ same_live al.owner owner 0 objects (λ n lt. sym (is_owner n (omega (arith, lt)))))
+          ∙ ap (λ (k : ℕ). live_from owner 0 objects ++ record { owner = k; memory_type = t; size = size } ∷ []) (sym last) ∙ sym (live_push owner 0 objects (t, size)) ∙ ap (λ (os : kinds). live_from owner 0 os) (sym all);
+      no_pools = al.no_pools;
+    }
+      where
+        last : owner (0 + length objects) ≡ id
+        last = rw (eq-eqb (0 + length objects) (length objects) (omega arith)) refl
+
+        by_place : (n : ℕ) → IsSome (slice_index_or (objects ++ Some (t, size) ∷ []) n None) → (n < length objects) ⊎ (length objects ≤ n) → object_in new.owned (owner n) ≡ Some n
+        by_place n there (inl lt) = owns_old n lt there
+        by_place n there (inr le) = owns_new n le there
+
+-- ---- one less
+
+-- the objects of an id, where it has none of them
+none_dropped : (f : ℕ → ℕ) (id k : ℕ) (os : kinds) → ((n : ℕ) → IsSome (slice_index_or os n None) → f (k + n) ≡ id → ⊥) → filter (λ o. not (o.owner == id)) (live_from f k os) ≡ live_from f k os
+none_dropped f id k [] other = refl
+none_dropped f id k (None ∷ os) other = none_dropped f id (suc k) os (λ n there same. other (suc n) there (ap f (next k n) ∙ same))
+  where
+    next : (k n : ℕ) → k + suc n ≡ suc k + n
+    next k n = omega arith
+none_dropped f id k (Some o ∷ os) other =
+    let kept : (f k == id) ≡ false = ne_eqb (f k) id (λ same. other 0 refl (ap f (add-zero k) ∙ same)) in
+    rw kept (ap (λ (l : List OwnMemory). record { owner = f k; memory_type = o.0; size = o.1 } ∷ l) (none_dropped f id (suc k) os (λ n there same. other (suc n) there (ap f (next k n) ∙ same))))
+  where
+    next : (k n : ℕ) → k + suc n ≡ suc k + n
+    next k n = omega arith
+
+-- and where it has one
+one_dropped : (f : ℕ → ℕ) (id k : ℕ) (os : kinds) (j : ℕ) → IsSome (slice_index_or os j None) → f (k + j) ≡ id → ((n : ℕ) → IsSome (slice_index_or os n None) → f (k + n) ≡ id → n ≡ j)
+    → filter (λ o. not (o.owner == id)) (live_from f k os) ≡ live_from f k (slice_set os j None)
+one_dropped f id k [] j there same only = let none : IsSome {T = ℕ × ℕ} None = subst (λ (x : Option (ℕ × ℕ)). IsSome x) (get_or_past [] j None (omega arith)) there in absurd cc
+one_dropped f id k (None ∷ os) zero there same only = let none : IsSome {T = ℕ × ℕ} None = there in absurd cc
+one_dropped f id k (Some o ∷ os) zero there same only =
+    let dropped : (f k == id) ≡ true = eq-eqb (f k) id (ap f (sym (add-zero k)) ∙ same) in
+    rw dropped (none_dropped f id (suc k) os (λ n there owned. let first : suc n ≡ 0 = only (suc n) there (ap f (next k n) ∙ owned) in omega (arith, first)))
+  where
+    next : (k n : ℕ) → k + suc n ≡ suc k + n
+    next k n = omega arith
+one_dropped f id k (None ∷ os) (suc j) there same only =
+    one_dropped f id (suc k) os j there (ap f (sym (next k j)) ∙ same) (λ n there owned. let first : suc n ≡ suc j = only (suc n) there (ap f (next k n) ∙ owned) in omega (arith, first))
+  where
+    next : (k n : ℕ) → k + suc n ≡ suc k + n
+    next k n = omega arith
+one_dropped f id k (Some o ∷ os) (suc j) there same only =
+    let kept : (f k == id) ≡ false = ne_eqb (f k) id (λ owned. let first : 0 ≡ suc j = only 0 refl (ap f (add-zero k) ∙ owned) in omega (arith, first)) in
+    rw kept
+    (ap (λ (l : List OwnMemory). record { owner = f k; memory_type = o.0; size = o.1 } ∷ l)
+    (one_dropped f id (suc k) os j there (ap f (sym (next k j)) ∙ same) (λ n there owned. let first : suc n ≡ suc j = only (suc n) there (ap f (next k n) ∙ owned) in omega (arith, first))))
+  where
+    next : (k n : ℕ) → k + suc n ≡ suc k + n
+    next k n = omega arith
+
+module _ (old : Held) (d : Allocated) (al : IsAllocated old d) (apart : IsApart old.memory old.owned old.buffers) (new : Held) (r : ℕ) (ends : Ends old new r) where
+  abbrev before : kinds
+  before = map kind_of old.memory.objects
+
+  kind_there : (x : Option Object) → IsSome x → IsSome (kind_of x)
+  kind_there None h = let none : IsSome {T = Object} None = h in absurd cc
+  kind_there (Some o) h = refl
+
+  kind_at : (n : ℕ) → IsLive old.memory n → slice_index_or before n None ≡ kind_of (slice_index_or old.memory.objects n None)
+  kind_at n lives = get_or-map kind_of old.memory.objects n None None (live_below old.memory n lives)
+
+  one : (i n k : ℕ) → object_of old i ≡ Some n → object_of old i ≡ Some k → n ≡ k
+  one i n k a b = let both : ◌≡◌ {A = Option ℕ} (Some n) (Some k) = sym a ∙ b in cc
+
+  -- what is left of the owners
+  owned_on : (n : ℕ) → IsSome (slice_index_or before n None) → (al.owner n ≡ r → ⊥) → object_of new (al.owner n) ≡ Some n
+  owned_on n there other = ends.objects (al.owner n) other ∙ al.owns n there
+
+  gone : (o : Option ℕ) → object_of old r ≡ o → (memory : MemoryState) → memory ≡ freed old.memory o
+      → ((n : ℕ) → IsSome (slice_index_or (map kind_of memory.objects) n None) → object_of new (al.owner n) ≡ Some n) × (filter (λ o. not (o.owner == r)) (live_from al.owner 0 before) ≡ live_from al.owner 0 (map kind_of memory.objects))
+  gone None has memory is = (
+    λ n there. let was = subst (λ (m : MemoryState). IsSome (slice_index_or (map kind_of m.objects) n None)) is there in owned_on n was (λ same. none n was same),
+    none_dropped al.owner r 0 before (λ n there same. none n there (ap al.owner (sym (zero-add n)) ∙ same)) ∙ ap (λ (m : MemoryState). live_from al.owner 0 (map kind_of m.objects)) (sym is),
+  )
+    where
+      none : (n : ℕ) → IsSome (slice_index_or before n None) → al.owner n ≡ r → ⊥
+      none n there same = let both : ◌≡◌ {A = Option ℕ} (Some n) None = sym (al.owns n there) ∙ ap (λ (i : ℕ). object_of old i) same ∙ has in cc
+  gone (Some number) has memory is = (
+    λ n there.
+        let other : n ≡ number → ⊥ = λ (same : n ≡ number). left n same (subst (λ (os : kinds). IsSome (slice_index_or os n None)) all there) in
+        let was : IsSome (slice_index_or before n None) = subst (λ (x : Option (ℕ × ℕ)). IsSome x) (get_or-set_other before number n None None other) (subst (λ (os : kinds). IsSome (slice_index_or os n None)) all there) in
+        owned_on n was (λ same. other (one r n number (ap (λ (i : ℕ). object_of old i) (sym same) ∙ al.owns n was) has)),
+    one_dropped al.owner r 0 before number there (ap al.owner (zero-add number) ∙ apart.own (al.owner number) r number (al.owns number there) has)
+        (λ n at same. one r n number (ap (λ (i : ℕ). object_of old i) (sym (ap al.owner (sym (zero-add n)) ∙ same)) ∙ al.owns n at) has)
+        ∙ ap (λ (os : kinds). live_from al.owner 0 os) (sym all),
+  )
+    where
+      all : map kind_of memory.objects ≡ slice_set before number None
+      all = ap (λ (m : MemoryState). map kind_of m.objects) is ∙ map-set kind_of old.memory.objects number None
+
+      there : IsSome (slice_index_or before number None)
+      there = subst (λ (x : Option (ℕ × ℕ)). IsSome x) (sym (kind_at number (apart.live r number has))) (kind_there (slice_index_or old.memory.objects number None) (apart.live r number has))
+
+      below : number < length before
+      below = elim (cases_lt number (length before)) [
+        | inl lt ↦ lt
+        | inr le ↦ let none : IsSome {T = ℕ × ℕ} None = subst (λ (x : Option (ℕ × ℕ)). IsSome x) (get_or_past before number None le) there in absurd cc
+      ]
+
+      left : (n : ℕ) → n ≡ number → IsSome (slice_index_or (slice_set before number None) n None) → ⊥
+      left n same h = let none : IsSome {T = ℕ × ℕ} None = subst (λ (x : Option (ℕ × ℕ)). IsSome x) (ap (λ (k : ℕ). slice_index_or (slice_set before number None) k None) same ∙ get_or-set_same before number None None below) h in cc
+
+  pub less_allocated : IsAllocated new (without r d)
+  less_allocated =
+      let left = gone (object_of old r) refl new.memory ends.memory in
+      record {
+        sizes = ap (λ (m : MemoryState). m.sizes) ends.memory ∙ same_sizes (object_of old r) ∙ al.sizes;
+        owner = al.owner;
+        owns = left.0;
+        objects = ap (λ (os : List OwnMemory). filter (λ o. not (o.owner == r)) os) al.objects ∙ left.1;
+        no_pools = ap (λ (ps : List PoolMemory). map (without_resident r) ps) al.no_pools;
+      }
+    where
+      same_sizes : (o : Option ℕ) → (freed old.memory o).sizes ≡ old.memory.sizes
+      same_sizes None = refl
+      same_sizes (Some n) = refl
+
+-- ---- as each entry asks
+
+pub memory_allots : (old new : Held) (y : Entry) (i : ℕ) (info : MemoryInfo) → y ≡ entry.Memory i info → object_of old i ≡ None → IsApart old.memory old.owned old.buffers → (a : Applied) → MemoryMade a old new i info.memory_type info.size → Allots a y old new
+memory_allots old new y i info is absent apart a made = subst (λ (x : Entry). Allots a x old new) (sym is) (go a made)
+  where
+    go : (a : Applied) → MemoryMade a old new i info.memory_type info.size → Allots a (entry.Memory i info) old new
+    go applied.Done made = λ d al. (with_object i info.memory_type info.size d, refl, more_allocated old d al apart new i info.memory_type info.size made.0 absent)
+    go (applied.Bytes bytes) made = absurd made
+    go applied.NoRoom made = λ d al. subst (λ (s : Held). IsAllocated s d) (sym made.0) al
+
+pub buffer_allots : (old new : Held) (y : Entry) (i t : ℕ) (info : BufferInfo) → y ≡ entry.Buffer i info → info.place ≡ place.Dedicated t → object_of old i ≡ None → IsApart old.memory old.owned old.buffers → (a : Applied) → BufferMade a old new i t info.size → Allots a y old new
+buffer_allots old new y i t info is own absent apart a made = subst (λ (x : Entry). Allots a x old new) (sym is) (go a made)
+  where
+    go : (a : Applied) → BufferMade a old new i t info.size → Allots a (entry.Buffer i info) old new
+    go applied.Done made = λ d al. (with_object i t (round_up info.size 16) d, subst (λ (q : Place). Gets d i (of_buffer info) q (with_object i t (round_up info.size 16) d)) (sym own) refl, more_allocated old d al apart new i t (round_up info.size 16) made.0 absent)
+    go (applied.Bytes bytes) made = absurd made
+    go applied.NoRoom made = λ d al. subst (λ (s : Held). IsAllocated s d) (sym made.0) al
+
+-- what is held the same is allocated the same
+pub same_allocated : (old new : Held) (d : Allocated) → allotted new ≡ allotted old → IsAllocated old d → IsAllocated new d
+same_allocated old new d same al = subst (λ (a : Allotted). Fulfils a d) (sym same) al
+
+pub bound_allots : (old new : Held) (y : Entry) (i k o : ℕ) (info : BufferInfo) → y ≡ entry.Buffer i info → info.place ≡ place.Memory k o → allotted new ≡ allotted old → Allots applied.Done y old new
+bound_allots old new y i k o info is at same =
+    subst (λ (x : Entry). Allots applied.Done x old new) (sym is) (λ d al. (d, subst (λ (q : Place). Gets d i (of_buffer info) q d) (sym at) refl, same_allocated old new d same al))
+
+pub bound_same : (old new : Held) → new.memory ≡ old.memory → new.owned ≡ old.owned → allotted new ≡ allotted old
+bound_same old new memory owned = rw (memory, owned) refl
+
+pub write_allots : (old new : Held) (y : Entry) (b o : ℕ) (bytes : List ℕ) → y ≡ entry.Write b o bytes → allotted new ≡ allotted old → Allots applied.Done y old new
+write_allots old new y b o bytes is same = subst (λ (x : Entry). Allots applied.Done x old new) (sym is) (λ d al. (d, refl, same_allocated old new d same al))
+
+pub free_allots : (old new : Held) (y : Entry) (m : ℕ) → y ≡ entry.Free m → IsApart old.memory old.owned old.buffers → Ends old new m → Allots applied.Done y old new
+free_allots old new y m is apart ends = subst (λ (x : Entry). Allots applied.Done x old new) (sym is) (λ d al. (without m d, refl, less_allocated old d al apart new m ends))
+
+pub destroy_allots : (old new : Held) (y : Entry) (r : ℕ) → y ≡ entry.Destroy r → IsApart old.memory old.owned old.buffers → Ends old new r → Allots applied.Done y old new
+destroy_allots old new y r is apart ends = subst (λ (x : Entry). Allots applied.Done x old new) (sym is) (λ d al. (without r d, refl, less_allocated old d al apart new r ends))
+
+pub rest_rooms : (s : Held) (y : Entry) → IsRest y → (past : Past) → FitsEntry past y → Rooms applied.Done s y
+rest_rooms s (entry.Memory i info) rest past fit = absurd rest
+rest_rooms s (entry.Buffer i info) rest past fit = absurd rest
+rest_rooms s (entry.Image i info) rest past fit = absurd fit
+rest_rooms s _ rest past fit = λ d al none. none
+
+pub rest_allots : (s : Held) (y : Entry) → IsRest y → (past : Past) → FitsEntry past y → Allots applied.Done y s s
+rest_allots s (entry.Semaphore i v) rest past fit = λ d al. (d, refl, al)
+rest_allots s (entry.Event i) rest past fit = λ d al. (d, refl, al)
+rest_allots s (entry.Map b) rest past fit = λ d al. (d, refl, al)
+rest_allots s (entry.Unmap b) rest past fit = λ d al. (d, refl, al)
+rest_allots s (entry.Signal v n) rest past fit = λ d al. (d, refl, al)
+rest_allots s (entry.Wait ws) rest past fit = λ d al. (d, refl, al)
+rest_allots s (entry.Submit q bs) rest past fit = λ d al. (d, refl, al)
+rest_allots s (entry.Memory i info) rest past fit = absurd rest
+rest_allots s (entry.Buffer i info) rest past fit = absurd rest
+rest_allots s (entry.Free i) rest past fit = absurd rest
+rest_allots s (entry.Destroy i) rest past fit = absurd rest
+rest_allots s (entry.Write b o bytes) rest past fit = absurd rest
+rest_allots s (entry.Read b o n) rest past fit = absurd rest
+rest_allots s _ rest past fit = absurd fit
+
+-- what isn't the one or the other is done nothing for
+pub is_rest : (y : Entry) → ((i : ℕ) (info : MemoryInfo) → y ≡ entry.Memory i info → ⊥) → ((i : ℕ) (info : BufferInfo) → y ≡ entry.Buffer i info → ⊥) → ((m : ℕ) → y ≡ entry.Free m → ⊥) → ((r : ℕ) → y ≡ entry.Destroy r → ⊥)
+    → ((b o : ℕ) (bytes : List ℕ) → y ≡ entry.Write b o bytes → ⊥) → ((b o n : ℕ) → y ≡ entry.Read b o n → ⊥) → IsRest y
+is_rest (entry.Memory i info) memory buffer free destroy write read = memory i info refl
+is_rest (entry.Buffer i info) memory buffer free destroy write read = buffer i info refl
+is_rest (entry.Free m) memory buffer free destroy write read = free m refl
+is_rest (entry.Destroy r) memory buffer free destroy write read = destroy r refl
+is_rest (entry.Write b o bytes) memory buffer free destroy write read = write b o bytes refl
+is_rest (entry.Read b o n) memory buffer free destroy write read = read b o n refl
+is_rest _ memory buffer free destroy write read = tt

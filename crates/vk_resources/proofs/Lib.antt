@@ -1,4 +1,10 @@
-mod Apart
-mod Pieces
-mod Entries
-pub mod Allotting
+mod Placing
+mod Splicing
+mod Commands
+pub mod Matching
+pub mod Fitting
+mod Living
+mod Binding
+mod Applying
+mod Ending
+mod Allotting

@@ -1,5 +1,6 @@
 -- What is taken for granted of the commands and entries that come. Those that break no rule and are of a supported form have it.
-use Rattle.std.specs.Prelude.{◌≡◌, ℕ, ◌+◌, ◌*◌, ◌/◌, ◌<◌, ◌≤◌, List, [], ◌∷◌, Option, Some, None, IsSome, ⊤}
+use Rattle.std.specs.Prelude.{◌≡◌, ℕ, ◌+◌, ◌*◌, ◌/◌, ◌<◌, ◌≤◌, ◌==◌, List, [], ◌∷◌, All, Contains, length, Bool, false, Option, Some, None, IsTrue, option_and_then, ⊤}
+use Rattle.std.specs.List.{list_any}
 use Rattle.vk_model.specs.declared.command.Cmd.{Cmd}
 use Rattle.vk_model.specs.declared.command.Cmd.TheVariants as cmd
 use Rattle.vk_model.specs.declared.command.Element.{Element}
@@ -10,11 +11,15 @@ use Rattle.vk_model.specs.declared.entry.Entry.TheVariants as entry
 use Rattle.vk_model.specs.declared.resource.BufferInfo.{BufferInfo}
 use Rattle.vk_model.specs.declared.resource.Place.{Place}
 use Rattle.vk_model.specs.declared.resource.Place.TheVariants as place
+use Rattle.vk_model.specs.Basics.{holds}
 use Rattle.vk_model.specs.Trace.Point.{Past}
-use Rattle.vk_model.specs.Trace.Objects.{made, buffer}
-use Rattle.vk_model.specs.World.Bytes.{in_buffer}
-use Rattle.vk_model.specs.World.ByteWrites.{fill_size}
-use Rattle.vk_model.specs.World.Effect.{world}
+use Rattle.vk_model.specs.Trace.Objects.{made, ended, live, live_resources, memory_of, buffer, buffer_in, of_buffer}
+use Rattle.vk_model.specs.World.ByteWrites.{buffer_size, fill_size}
+use Rattle.vk_model.specs.Rules.Ids.{is_memory, is_resource, asked_by_command}
+use Rattle.vk_model.specs.Rules.Binding.{ends_past_memory, is_aliased}
+use Rattle.vk_transfer.specs.Copies.{FitsBuffers}
+
+-- ---- commands
 
 -- A fill lies in a buffer that was made, and writes whole words (Vulkan, "Filling Buffers").
 abbrev pub FitsFill : Option BufferInfo → ℕ → Length → Type 0
@@ -28,31 +33,61 @@ AllMemory (element.Memory d ∷ es) = AllMemory es
 AllMemory (element.Buffer e ∷ es) = ⊥
 AllMemory (element.Image e ∷ es) = ⊥
 
--- A command is a fill that fits, a barrier on all memory, or a set or an await of an event, which ask nothing (Vulkan, "Events").
+-- A command fits: a fill, an update and each region of a copy between buffers lie in buffers that were made (Vulkan, "Filling Buffers", "Updating Buffers" and "Copying Data Between Buffers"); a barrier is on all memory; a set or an await of an event asks nothing (Vulkan, "Events").
 abbrev pub FitsCommand : Past → Cmd → Type 0
 FitsCommand past (cmd.Fill b o n w) = FitsFill (buffer past b) o n
+FitsCommand past (cmd.Update b o bytes) = o + length bytes ≤ buffer_size past b
+FitsCommand past (cmd.Copy s d gs) = All (λ g. FitsBuffers g (buffer_size past s) (buffer_size past d)) gs
 FitsCommand past (cmd.Barrier es) = AllMemory es
 FitsCommand past (cmd.Set v ms) = ⊤
 FitsCommand past (cmd.Await v ms) = ⊤
 FitsCommand past _ = ⊥
 
--- A resource is placed in an allocation of its own (VMA, "Choosing memory type", on dedicated allocations).
-abbrev pub IsOwn : Place → Type 0
-IsOwn (place.Dedicated t) = ⊤
-IsOwn _ = ⊥
+-- Each object that a command names is live, and of the kind that it needs (Vulkan, "Object Lifetime").
+abbrev pub NamesLive : Past → Cmd → Type 0
+NamesLive past c = (i : ℕ) (kind : Entry → Bool) → Contains (asked_by_command c) (i, kind) → IsTrue (holds (live past i) kind)
 
--- A read lies in a buffer that was made (Vulkan, "Host Access to Device Memory Objects").
-abbrev pub FitsRead : Option BufferInfo → ℕ → ℕ → Type 0
-FitsRead None o n = ⊥
-FitsRead (Some i) o n = o + n ≤ i.size
+-- ---- entries
 
--- An entry makes a new id, of a size above 0 and up to 67,108,864 (profile), or reads defined bytes, or asks nothing of the device.
+-- No entry has made or ended an id (profile).
+pub record IsUnused (past : Past) (i : ℕ) : Type 0 where
+  pub unmade : made past i ≡ None
+  pub unended : ended past i ≡ false
+
+-- A buffer has a memory object of its own, or is bound in one that is live, ends in it, and meets no live resource there (Vulkan, "Resource Memory Association" and "Memory Aliasing"; VMA, "Choosing memory type", on dedicated allocations).
+abbrev pub FitsPlace : Past → BufferInfo → Place → Type 0
+FitsPlace past info (place.Dedicated t) = ⊤
+FitsPlace past info (place.Memory m o) = IsTrue (holds (live past m) is_memory) × (ends_past_memory past (of_buffer info) m o ≡ false) × (is_aliased past (of_buffer info) m o ≡ false)
+FitsPlace past info _ = ⊥
+
+-- A new buffer is of a new id, of a size above 0 and up to 67,108,864 (profile), and its place fits.
+pub record FitsBuffer (past : Past) (i : ℕ) (info : BufferInfo) : Type 0 where
+  pub unused : IsUnused past i
+  pub some : 0 < info.size
+  pub bounded : info.size ≤ 67108864
+  pub place : FitsPlace past info info.place
+
+-- Whether a live resource is bound to a memory object (Vulkan, "Resource Memory Association").
+abbrev pub is_occupied : Past → ℕ → Bool
+is_occupied past m = list_any (λ r. holds (memory_of past r) (λ s. m == s)) (live_resources past)
+
+-- A range lies in a buffer that is live (Vulkan, "Host Access to Device Memory Objects").
+abbrev pub FitsRange : Option BufferInfo → ℕ → ℕ → Type 0
+FitsRange None o n = ⊥
+FitsRange (Some i) o n = o + n ≤ i.size
+
+-- An entry makes a new object, of some bytes; frees a live memory object to which no live resource is bound; destroys a live resource; writes or reads in a live buffer; or asks nothing of the device (Vulkan, valid usage of these calls).
 abbrev pub FitsEntry : Past → Entry → Type 0
-FitsEntry past (entry.Buffer i info) = (made past i ≡ None) × (0 < info.size) × (info.size ≤ 67108864) × IsOwn info.place
-FitsEntry past (entry.Read b o n) = FitsRead (buffer past b) o n × ((k : ℕ) → k < n → IsSome ((world past).value (in_buffer b (o + k))))
-FitsEntry past (entry.Semaphore i v) = made past i ≡ None
-FitsEntry past (entry.Event i) = made past i ≡ None
+FitsEntry past (entry.Buffer i info) = FitsBuffer past i info
+FitsEntry past (entry.Memory i m) = IsUnused past i × (0 < m.size)
+FitsEntry past (entry.Free m) = IsTrue (holds (live past m) is_memory) × (is_occupied past m ≡ false)
+FitsEntry past (entry.Destroy r) = IsTrue (holds (live past r) is_resource)
+FitsEntry past (entry.Write b o bytes) = FitsRange (option_and_then buffer_in (live past b)) o (length bytes)
+FitsEntry past (entry.Read b o n) = FitsRange (option_and_then buffer_in (live past b)) o n
+FitsEntry past (entry.Semaphore i v) = IsUnused past i
+FitsEntry past (entry.Event i) = IsUnused past i
 FitsEntry past (entry.Map b) = ⊤
+FitsEntry past (entry.Unmap b) = ⊤
 FitsEntry past (entry.Signal s v) = ⊤
 FitsEntry past (entry.Wait ws) = ⊤
 FitsEntry past (entry.Submit q bs) = ⊤

@@ -1,3 +1,3 @@
--- What only the contracts within the crate cite, and what a device shows of its heaps.
-pub mod Allotted
+-- What only the contracts within the crate cite.
 pub mod Steps
+pub mod Works

@@ -2,7 +2,11 @@
 #![tactic(auto)]
 
 mod applied;
+mod entries;
+mod pieces;
 mod resources;
+mod work;
 
 pub use applied::Applied;
 pub use resources::{Resources, Spot};
+pub use work::Work;

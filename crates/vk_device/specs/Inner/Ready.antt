@@ -1,9 +1,10 @@
 -- What each step of a device asks of it, and gives.
-use Rattle.std.specs.Prelude.{◌≡◌, ℕ, ◌+◌, List, [], ◌∷◌, ◌++◌, length, Option, Some, None, Bool, true, false, IsTrue}
+use Rattle.std.specs.Prelude.{◌≡◌, ℕ, ◌+◌, ◌<◌, List, [], ◌∷◌, ◌++◌, length, Option, Some, None, Bool, true, false, IsTrue}
 use Rattle.vk_model.specs.declared.entry.Entry.{Entry}
 use Rattle.vk_model.specs.declared.command.Cmd.{Cmd}
 use Rattle.vk_model.specs.Trace.Point.{Past, Point, Run}
 use Rattle.vk_model.specs.Trace.Order.{host}
+use Rattle.vk_model.specs.World.Bytes.{Byte}
 use Rattle.vk_model.specs.Run.Pieces.{pieces}
 use Rattle.vk_model.specs.Run.Runs.{Name, Step, Stage, RunPiece, Apply, may_go}
 use Rattle.vk_model.specs.Run.Runs as runs
@@ -11,14 +12,12 @@ use Rattle.vk_model.specs.Run.Picks.{before_entry}
 use Rattle.vk_model.specs.Sync.Node.{Node, nodes}
 use Rattle.vk_laws.specs.DirectRuns.{DirectRun, bare_memory}
 use Rattle.vk_queues.specs.IsWaiting.{IsWaiting}
-use Rattle.vk_offers.specs.IsOffers.{IsOffers, CountsBefore, host_node, is_free_next}
-use Rattle.vk_resources.specs.Held.{Held, MatchesSizes, byte_at}
-use Rattle.vk_resources.specs.declared.applied.Applied.{Applied}
-use Rattle.vk_resources.specs.declared.applied.Applied.TheVariants as applied
-use Rattle.vk_resources.specs.Fits.{FitsCommand}
-use Rattle.vk_resources.specs.Inner.Allotted.{allotted, with_asked}
+use Rattle.vk_offers.specs.IsOffers.{IsOffers, CountsBefore, host_node, is_free_next, is_run}
+use Rattle.vk_resources.specs.Held.{Held, byte_at, IsThere}
+use Rattle.vk_resources.specs.Matches.{MatchesLive}
+use Rattle.vk_resources.specs.Fits.{FitsCommand, NamesLive}
 use Rattle.vk_device.specs.declared.device.Device.{Device}
-use Rattle.vk_device.specs.Led.{Led, IsBefore, IsSoundTrace}
+use Rattle.vk_device.specs.Led.{Led, AreWorks, IsBefore, IsSoundTrace}
 
 -- The commands before an entry that waits for them: how many of each queue; none where it waits for none. When it may be applied goes by them, whichever pieces have run then.
 abbrev pub Waited : Device → Entry → Option (List ℕ) → Type 0
@@ -28,8 +27,11 @@ Waited d x (Some counts) = (t : List Entry) (steps : List Step) (s : Stage) (xs 
 
 -- An entry has been done by itself: the run has come to its stage, and its points haven't come to the device.
 pub record HostDone (t : List Entry) (steps : List Step) (s : Stage) (x : Entry) (xs : List Entry) (d : Device) : Type 0 where
-  pub run : DirectRun t (steps ++ Apply [] 0 ∷ []) (runs.applied s 0 x xs) (bare_memory (byte_at d.resources))
-  pub sizes : MatchesSizes (host s.count x ∷ s.front.past) d.resources
+  pub bytes : Byte → ℕ
+  pub run : DirectRun t (steps ++ Apply [] 0 ∷ []) (runs.applied s 0 x xs) (bare_memory bytes)
+  pub holds : (c : Byte) → IsThere d.resources c → byte_at d.resources c ≡ bytes c
+  pub matches : MatchesLive (host s.count x ∷ s.front.past) d.resources
+  pub works : AreWorks d.works.items s.front.past
   pub waits : IsWaiting d.waiting d.count s.front
   pub counts : d.count ≡ s.count
   pub offers : IsOffers d.offers s.front.past s.done
@@ -39,14 +41,19 @@ pub record HostDone (t : List Entry) (steps : List Step) (s : Stage) (x : Entry)
 abbrev pub AdvanceReady : Device → Entry → Type 0
 AdvanceReady d x = (t : List Entry) × (steps : List Step) × (s : Stage) × (xs : List Entry) × HostDone t steps s x xs d
 
--- A point that comes fits what the resources are.
-pub record PointFits (past : Past) (p : Point) (resources : Held) : Type 0 where
-  pub sizes : MatchesSizes past resources
-  pub fits : (c : Cmd) → p.action ≡ Run c → FitsCommand past c
+-- A command that comes fits what the resources are, and names live objects where it has a piece.
+pub record CommandFits (past : Past) (c : Cmd) (resources : Held) : Type 0 where
+  pub matches : MatchesLive past resources
+  pub fits : FitsCommand past c
+  pub alive : 0 < length (pieces past c) → NamesLive past c
 
--- It is run in so many pieces.
-abbrev pub HasPieces : Past → Point → ℕ → Type 0
-HasPieces past p count = (c : Cmd) → p.action ≡ Run c → count ≡ length (pieces past c)
+-- A point that comes was made ready: it is run in so many pieces where it is a clear or a copy, which is among those that are ready then, and nothing else has changed.
+pub record Prepares (old new : Device) (p : Point) (total : ℕ) : Type 0 where
+  pub counted : (past : Past) (c : Cmd) → p.action ≡ Run c → is_run c ≡ true → CommandFits past c old.resources → total ≡ length (pieces past c)
+  pub works : (past : Past) → AreWorks old.works.items past → AreWorks new.works.items (p ∷ past)
+  pub waiting : new.waiting ≡ old.waiting
+  pub offers : new.offers ≡ old.offers
+  pub count : new.count ≡ old.count
 
 -- It may be asked whether so many commands of each queue have run.
 abbrev pub MayAsk : Device → Option (List ℕ) → Type 0
@@ -63,11 +70,6 @@ abbrev pub Picks : (List ℕ → ℕ → ℕ) → (List ℕ → ℕ → List ℕ
 Picks answer next t steps s held x new after =
     let p = before_entry answer next s held x in
     Led t (steps ++ p.steps) p.stage new × (after ≡ p.held) × IsTrue (may_go p.stage x)
-
--- An entry that is applied gets the memory objects that it asks for, and no others are made.
-abbrev pub GotAskedBy : Applied → Entry → Held → Held → Type 0
-GotAskedBy applied.NoRoom x old new = allotted new.memory ≡ allotted old.memory
-GotAskedBy _ x old new = allotted new.memory ≡ with_asked (allotted old.memory) x
 
 -- How many options there are before an entry: so many pieces, and the entry where it may be applied (profile).
 abbrev pub option_count : ℕ → Bool → ℕ

@@ -1,37 +1,110 @@
 -- What each step asks of resources, and what it changes there.
-use Rattle.std.specs.Prelude.{◌≡◌, ◌⊎◌, ℕ, ◌+◌, ◌≤◌, [], ◌∷◌, ◌++◌, length, true, Option, Some, None}
-use Rattle.vk_memory.specs.MemoryState.{IsFull, IsLive, fresh, with_mapped}
+use Rattle.std.specs.Prelude.{◌≡◌, ℕ, ◌+◌, ◌<◌, ◌≤◌, [], ◌∷◌, ◌++◌, length, List, Option, Some, None, unwrap_or, All}
+use Rattle.vk_memory.specs.MemoryState.{MemoryState, IsFull, fresh, region_of, with_object}
 use Rattle.vk_model.specs.declared.command.Length.{Length}
+use Rattle.vk_model.specs.declared.command.BufferCopy.{BufferCopy}
 use Rattle.vk_model.specs.Basics.{round_up}
-use Rattle.vk_model.specs.World.ByteWrites.{fill_size}
+use Rattle.vk_model.specs.World.Bytes.{Byte}
+use Rattle.vk_model.specs.World.ByteWrites.{ByteWrite, fill_size}
+use Rattle.vk_model.specs.World.Effect.{written}
 use Rattle.vk_transfer.specs.declared.filling.Fill.{Fill}
+use Rattle.vk_transfer.specs.Ran.{HaveRun, AreApart}
+use Rattle.vk_transfer.specs.Copies.{FitsBuffers, copy_pieces}
 use Rattle.vk_resources.specs.declared.applied.Applied.{Applied}
 use Rattle.vk_resources.specs.declared.applied.Applied.TheVariants as applied
 use Rattle.vk_resources.specs.declared.resources.Placed.{Placed}
-use Rattle.vk_resources.specs.Held.{Held, placed}
+use Rattle.vk_resources.specs.Allocating.{allotted}
+use Rattle.vk_resources.specs.Held.{Held, placed, object_of, byte_at}
 
--- A fill of a placed buffer, with the memory object that the buffer lies in.
-abbrev pub fill_of : ℕ → Length → ℕ → Placed → ℕ × Fill
-fill_of o n w p = (p.object, record { offset = o; size = fill_size p.size o n; word = w })
+-- ---- bytes
 
--- A read lies in a buffer that is there.
-abbrev pub MayRead : Option Placed → ℕ → ℕ → Type 0
-MayRead None o n = ⊥
-MayRead (Some b) o n = o + n ≤ b.size
+-- A buffer is one of those that are held.
+abbrev pub IsPlaced : Held → Placed → Type 0
+IsPlaced s p = (b : ℕ) × (placed s b ≡ Some p)
 
--- A new buffer lies in a new memory object of its own, of a multiple of 16 bytes (profile), and nothing else has changed.
+-- A fill of a placed buffer.
+abbrev pub fill_of : ℕ → Length → ℕ → Placed → Fill
+fill_of o n w p = record { offset = o; size = fill_size p.size o n; word = w }
+
+-- Only bytes have changed: the buffers and the memory objects are what they were.
+pub record KeepsPlaces (old new : Held) : Type 0 where
+  pub buffers : new.buffers ≡ old.buffers
+  pub same : allotted new ≡ allotted old
+  pub lengths : (number : ℕ) → length (region_of new.memory number) ≡ length (region_of old.memory number)
+
+-- Byte writes have been made, and nothing else has changed (Vulkan, "Copy Commands").
+abbrev pub HasRun : Held → Held → List ByteWrite → Type 0
+HasRun old new ms = KeepsPlaces old new × HaveRun ms (byte_at old) (byte_at new)
+
+-- The host has written bytes to a buffer, and nothing else has changed (Vulkan, "Host Access to Device Memory Objects").
+abbrev pub HasWritten : Held → Held → ℕ → ℕ → List ℕ → Type 0
+HasWritten old new b o bytes = KeepsPlaces old new × ((c : Byte) → byte_at new c ≡ unwrap_or (written b o bytes c) (byte_at old c))
+
+-- A range lies in a buffer that is there.
+abbrev pub MayReach : Option Placed → ℕ → ℕ → Type 0
+MayReach None o n = ⊥
+MayReach (Some b) o n = o + n ≤ b.size
+
+-- A piece of a copy is one of its regions, each of which lies in both buffers (Vulkan, "Copying Data Between Buffers").
+abbrev pub CopyReady : Placed → Placed → List BufferCopy → ℕ → Type 0
+CopyReady p q gs k = (k < length (copy_pieces 0 0 gs)) × All (λ g. FitsBuffers g p.size q.size) gs
+
+-- ---- objects
+
+-- A new memory object is that of an id, which had none, and nothing else has changed (Vulkan, "Device Memory").
 pub record Makes (old new : Held) (id t size : ℕ) : Type 0 where
-  pub memory : new.memory ≡ record old.memory { objects = old.memory.objects ++ Some (fresh t (round_up size 16)) ∷ [] }
-  pub here : placed new id ≡ Some (record { size = size; object = length old.memory.objects })
-  pub others : (q : ℕ) → (q ≡ id → ⊥) → placed new q ≡ placed old q
+  pub memory : new.memory ≡ record old.memory { objects = old.memory.objects ++ Some (fresh t size) ∷ [] }
+  pub here : object_of new id ≡ Some (length old.memory.objects)
+  pub others : (i : ℕ) → (i ≡ id → ⊥) → object_of new i ≡ object_of old i
 
--- A buffer was made; or nothing has changed, exactly where there is no room for its memory object.
-abbrev pub MadeOr : Applied → Held → Held → ℕ → ℕ → ℕ → Type 0
-MadeOr applied.Done old new id t size = Makes old new id t size × (IsFull old.memory t (round_up size 16) → ⊥)
-MadeOr (applied.Bytes bytes) old new id t size = ⊥
-MadeOr applied.NoRoom old new id t size = (new ≡ old) × IsFull old.memory t (round_up size 16)
+-- A memory object was made for an id, and this is its number; or nothing has changed, exactly where there is no room for it.
+abbrev pub MadeOr : Option ℕ → Held → Held → ℕ → ℕ → ℕ → Type 0
+MadeOr (Some number) old new id t size = (number ≡ length old.memory.objects) × Makes old new id t size × (new.buffers ≡ old.buffers) × (IsFull old.memory t size → ⊥)
+MadeOr None old new id t size = (new ≡ old) × IsFull old.memory t size
 
--- The memory object under a buffer may have been mapped, and nothing else has changed (Vulkan, "Host Access to Device Memory Objects").
-abbrev pub MapsAt : Held → Held → Option Placed → Type 0
-MapsAt old new None = new ≡ old
-MapsAt old new (Some p) = (new ≡ old) ⊎ (IsLive old.memory p.object × (new ≡ record old { memory = with_mapped old.memory p.object true }))
+-- A buffer was put somewhere, and no other was.
+pub record Puts (old new : Held) (id : ℕ) (p : Placed) : Type 0 where
+  pub here : placed new id ≡ Some p
+  pub others : (b : ℕ) → (b ≡ id → ⊥) → placed new b ≡ placed old b
+
+-- A buffer was made in a memory object of its own, of a multiple of 16 bytes (profile); or nothing has changed, exactly where there is no room for its memory object.
+abbrev pub BufferMade : Applied → Held → Held → ℕ → ℕ → ℕ → Type 0
+BufferMade applied.Done old new id t size = Makes old new id t (round_up size 16) × Puts old new id (record { size = size; object = length old.memory.objects; offset = 0 }) × (IsFull old.memory t (round_up size 16) → ⊥)
+BufferMade (applied.Bytes bytes) old new id t size = ⊥
+BufferMade applied.NoRoom old new id t size = (new ≡ old) × IsFull old.memory t (round_up size 16)
+
+-- A memory object was made; or nothing has changed, exactly where there is no room for it.
+abbrev pub MemoryMade : Applied → Held → Held → ℕ → ℕ → ℕ → Type 0
+MemoryMade applied.Done old new id t size = Makes old new id t size × (new.buffers ≡ old.buffers) × (IsFull old.memory t size → ⊥)
+MemoryMade (applied.Bytes bytes) old new id t size = ⊥
+MemoryMade applied.NoRoom old new id t size = (new ≡ old) × IsFull old.memory t size
+
+-- A buffer of this size may be bound at this offset of the memory object that an id has: it has bytes, ends there, and meets no other buffer (Vulkan, "Resource Memory Association" and "Memory Aliasing").
+pub record BindReady (s : Held) (memory offset size : ℕ) : Type 0 where
+  pub number : ℕ
+  pub has : object_of s memory ≡ Some number
+  pub some : 0 < size
+  pub room : offset + size ≤ length (region_of s.memory number)
+  pub apart : (c : ℕ) (q : Placed) → placed s c ≡ Some q → q.object ≡ number → AreApart offset size q.offset q.size
+
+-- It was bound there, and nothing else has changed.
+abbrev pub Binds : Held → Held → ℕ → ℕ → ℕ → ℕ → Type 0
+Binds old new id memory offset size =
+    (new.memory ≡ old.memory) × (new.owned ≡ old.owned) × ((number : ℕ) → object_of old memory ≡ Some number → Puts old new id (record { size = size; object = number; offset = offset }))
+
+-- No buffer but that of an id itself lies in the memory object that the id has.
+abbrev pub IsEmpty : Held → ℕ → Type 0
+IsEmpty s id = (number b : ℕ) (p : Placed) → object_of s id ≡ Some number → (b ≡ id → ⊥) → placed s b ≡ Some p → p.object ≡ number → ⊥
+
+-- Memory without the object of a number, if there is one (Vulkan, "Device Memory").
+abbrev pub freed : MemoryState → Option ℕ → MemoryState
+freed m None = m
+freed m (Some number) = with_object m number None
+
+-- An id has ended: its buffer isn't there any more, nor the memory object that it had, and nothing else has changed (Vulkan, "Object Lifetime").
+pub record Ends (old new : Held) (id : ℕ) : Type 0 where
+  pub memory : new.memory ≡ freed old.memory (object_of old id)
+  pub no_object : object_of new id ≡ None
+  pub objects : (i : ℕ) → (i ≡ id → ⊥) → object_of new i ≡ object_of old i
+  pub no_buffer : placed new id ≡ None
+  pub buffers : (b : ℕ) → (b ≡ id → ⊥) → placed new b ≡ placed old b

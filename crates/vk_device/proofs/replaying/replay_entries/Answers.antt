@@ -1,5 +1,5 @@
 use Rattle.std.proofs.Common.{◌∙◌}
-use Rattle.vk_device.proofs.WholeTraces.{replays_start, entry_ready, stops, after_done, after_bytes}
+use Rattle.vk_device.proofs.WholeTraces.{replays_start, entry_ready, stops, after_done, after_bytes, ends}
 use Rattle.vk_device.proofs.replaying.replay_entries.Goals as goal
 use Rattle.vk_device.proofs.replaying.replay_entries.Goals.{in-Done, in-Bytes+in_ok-push-in-Bytes}
 
@@ -32,3 +32,7 @@ loop-index-preserved g c =
 
 pub loop-index-init : goal.loop-index-init
 loop-index-init g c = rw c.new-reads.ensures.items (replays_start g.S.Scheduler.answer g.S.Scheduler.next c.args.config c.args.entries.now (g.S.Scheduler.held c.args.sched.now) c.new-device.result (c.new-device.ensures.led c.args.entries.now) c.new-device.ensures.empty c.new-device.ensures.works)
+
+pub returns-clause-led : goal.returns-clause-led
+returns-clause-led g c =
+    (ends g.S.Scheduler.answer g.S.Scheduler.next c.args.config c.args.entries.now (g.S.Scheduler.held c.args.sched.now) c.loop-index.index c.loop-index.reads.items c.loop-index.device (g.S.Scheduler.held c.loop-index.sched) c.loop-index.invariant c.loop-index-test.false).2

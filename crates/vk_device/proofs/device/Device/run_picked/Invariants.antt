@@ -1,5 +1,5 @@
 use Rattle.std.proofs.Common.{◌≡◌}
-use Rattle.vk_resources.specs.Inner.Allotted.{allotted}
+use Rattle.vk_resources.specs.Allocating.{allotted}
 use Rattle.vk_device.proofs.Picking.{Turns, left_in}
 use Rattle.vk_device.proofs.device.Device.run_picked.Given as goal
 
@@ -7,7 +7,7 @@ use Rattle.vk_device.proofs.device.Device.run_picked.Given as goal
 abbrev pub invariant-loop-commands : goal.invariant-loop-commands
 invariant-loop-commands g l =
     Turns g.S.Scheduler.answer g.S.Scheduler.next l.fn.self (g.S.Scheduler.held l.fn.sched) l.entry l.self (g.S.Scheduler.held l.sched)
-    × (allotted l.self.resources.memory ≡ allotted l.fn.self.resources.memory) × (l.self.failed ≡ l.fn.self.failed)
+    × (allotted l.self.resources ≡ allotted l.fn.self.resources) × (l.self.failed ≡ l.fn.self.failed)
 
 -- The pieces that are left.
 abbrev pub decreases-loop-commands : goal.decreases-loop-commands

@@ -1,35 +1,75 @@
-use Rattle.std.proofs.Common.{◌≡◌, sym, ◌∙◌, ap, subst, Some}
-use Rattle.std.specs.Prelude.{option_map}
-use Rattle.vk_memory.specs.MemoryState.{with_region}
-use Rattle.vk_resources.specs.Inner.Steps.{fill_of}
-use Rattle.vk_resources.specs.Held.{Held, placed, byte_at, MatchesSizes}
-use Rattle.vk_transfer.specs.Ran.{HaveRun}
-use Rattle.vk_resources.specs.Done.{PieceReady}
-use Rattle.vk_resources.specs.Inner.Allotted.{allotted}
-use Rattle.vk_resources.proofs.Allotting.{region_allots}
-use Rattle.vk_resources.proofs.Pieces.{piece_small, command_ran, still_apart}
+use Rattle.std.proofs.Common.{refl, sym, ◌∙◌}
+use Rattle.vk_model.specs.Trace.Objects.{live}
+use Rattle.vk_resources.proofs.Fitting.{fill_there, fill_may, fill_made, update_there, update_may, update_made, source_there, destination_there, copy_may, copy_made, regions_of}
+use Rattle.vk_resources.proofs.Matching.{keeps_matches}
 use Rattle.vk_resources.proofs.resources.Resources.run_piece.Goals as goal
 
-pub run_piece-requires-clause-piece : goal.run_piece-requires-clause-piece
-run_piece-requires-clause-piece c =
-    piece_small c.args.self.now c.args.command.now c.in-Fill.buffer c.in-Fill.offset c.in-Fill.size c.in-Fill.word c.in-Some.object c.in-Some.fill c.in-Fill.is (sym c.fill_at.ensures ∙ c.in-Some.is) c.args.number c.requires
+-- ---- fills
 
-pub invariant_of-self : goal.invariant_of-self
-invariant_of-self c =
-    let s : Held = record { memory = c.self.inside.memories; buffers = c.self.inside.buffers.entries } in
-    let ready : PieceReady s c.args.command.now c.args.number = subst (λ (h : Held). PieceReady h c.args.command.now c.args.number) (sym c.self.view_is) c.requires in
-    let at = subst (λ (h : Held). option_map (fill_of c.in-Fill.offset c.in-Fill.size c.in-Fill.word) (placed h c.in-Fill.buffer) ≡ Some (c.in-Some.object, c.in-Some.fill)) (sym c.self.view_is) (sym c.fill_at.ensures ∙ c.in-Some.is) in
-    still_apart s c.args.command.now c.in-Fill.buffer c.in-Fill.offset c.in-Fill.size c.in-Fill.word c.in-Some.object c.in-Some.fill c.in-Fill.is at c.self.invariant c.run_piece.new.region c.args.number ready
-    (rw c.region_mut.ensures.value at c.run_piece.ensures.kept)
+pub there-placed-requires : goal.there-placed-requires
+there-placed-requires c = fill_there c.args.self.now c.args.work.now c.args.number c.requires c.in-Fill.buffer c.in-Fill.offset c.in-Fill.word c.in-Fill.size (sym c.work.view_is ∙ c.in-Fill.is)
+
+pub run_fill-requires-clause-whole : goal.run_fill-requires-clause-whole
+run_fill-requires-clause-whole c =
+    (fill_may c.args.self.now c.args.work.now c.args.number c.requires c.in-Fill.buffer c.in-Fill.offset c.in-Fill.word c.in-Fill.size (sym c.work.view_is ∙ c.in-Fill.is) c.there-placed.result c.there-placed.ensures c.filling.result c.filling.ensures).0
+
+pub run_fill-requires-clause-inside : goal.run_fill-requires-clause-inside
+run_fill-requires-clause-inside c =
+    (fill_may c.args.self.now c.args.work.now c.args.number c.requires c.in-Fill.buffer c.in-Fill.offset c.in-Fill.word c.in-Fill.size (sym c.work.view_is ∙ c.in-Fill.is) c.there-placed.result c.there-placed.ensures c.filling.result c.filling.ensures).1
+
+pub run_fill-requires-clause-piece : goal.run_fill-requires-clause-piece
+run_fill-requires-clause-piece c =
+    (fill_may c.args.self.now c.args.work.now c.args.number c.requires c.in-Fill.buffer c.in-Fill.offset c.in-Fill.word c.in-Fill.size (sym c.work.view_is ∙ c.in-Fill.is) c.there-placed.result c.there-placed.ensures c.filling.result c.filling.ensures).2
+
+pub returns-in-Fill-clause-ran : goal.returns-in-Fill-clause-ran
+returns-in-Fill-clause-ran c = λ past ms m fits at.
+    fill_made c.args.self.now c.args.work.now c.args.number c.requires c.in-Fill.buffer c.in-Fill.offset c.in-Fill.word c.in-Fill.size (sym c.work.view_is ∙ c.in-Fill.is) c.there-placed.result c.there-placed.ensures c.filling.result c.filling.ensures
+    c.run_fill.new.self (c.run_fill.ensures c.in-Fill.buffer c.there-placed.ensures) past ms m at
+
+pub returns-in-Fill-clause-matches : goal.returns-in-Fill-clause-matches
+returns-in-Fill-clause-matches c = λ past m. keeps_matches (live past) c.args.self.now c.run_fill.new.self (c.run_fill.ensures c.in-Fill.buffer c.there-placed.ensures).0 m
+
+-- ---- updates
+
+pub there-placed-requires-in-Update : goal.there-placed-requires-in-Update
+there-placed-requires-in-Update c = update_there c.args.self.now c.args.work.now c.args.number c.requires c.in-Update.buffer c.in-Update.offset c.in-Update.bytes (sym c.work.view_is ∙ c.in-Update.is)
+
+pub run_update-requires-clause-inside : goal.run_update-requires-clause-inside
+run_update-requires-clause-inside c =
+    (update_may c.args.self.now c.args.work.now c.args.number c.requires c.in-Update.buffer c.in-Update.offset c.in-Update.bytes (sym c.work.view_is ∙ c.in-Update.is) c.there-placed-in-Update.result c.there-placed-in-Update.ensures
+    (record { offset = c.in-Update.offset; bytes = c.as_slice.result }) refl c.as_slice.ensures).0
+
+pub run_update-requires-clause-piece : goal.run_update-requires-clause-piece
+run_update-requires-clause-piece c =
+    (update_may c.args.self.now c.args.work.now c.args.number c.requires c.in-Update.buffer c.in-Update.offset c.in-Update.bytes (sym c.work.view_is ∙ c.in-Update.is) c.there-placed-in-Update.result c.there-placed-in-Update.ensures
+    (record { offset = c.in-Update.offset; bytes = c.as_slice.result }) refl c.as_slice.ensures).1
+
+pub returns-in-Update-clause-ran : goal.returns-in-Update-clause-ran
+returns-in-Update-clause-ran c = λ past ms m fits at.
+    update_made c.args.self.now c.args.work.now c.args.number c.requires c.in-Update.buffer c.in-Update.offset c.in-Update.bytes (sym c.work.view_is ∙ c.in-Update.is) c.there-placed-in-Update.result c.there-placed-in-Update.ensures
+    (record { offset = c.in-Update.offset; bytes = c.as_slice.result }) refl c.as_slice.ensures c.run_update.new.self (c.run_update.ensures c.in-Update.buffer c.there-placed-in-Update.ensures) past ms m at
+
+pub returns-in-Update-clause-matches : goal.returns-in-Update-clause-matches
+returns-in-Update-clause-matches c = λ past m. keeps_matches (live past) c.args.self.now c.run_update.new.self (c.run_update.ensures c.in-Update.buffer c.there-placed-in-Update.ensures).0 m
+
+-- ---- copies
+
+pub there-from-requires : goal.there-from-requires
+there-from-requires c = source_there c.args.self.now c.args.work.now c.args.number c.requires c.in-Copy.source c.in-Copy.destination c.in-Copy.regions (sym c.work.view_is ∙ c.in-Copy.is)
+
+pub run_copy-requires-clause-piece : goal.run_copy-requires-clause-piece
+run_copy-requires-clause-piece c =
+    copy_may c.args.self.now c.args.work.now c.args.number c.requires c.in-Copy.source c.in-Copy.destination c.in-Copy.regions (sym c.work.view_is ∙ c.in-Copy.is) c.there-from.result c.there-to.result c.there-from.ensures c.there-to.ensures c.in-Some.pieces
+    (regions_of c.work.inside.command.now c.work.inside.copies c.in-Copy.source c.in-Copy.destination c.in-Copy.regions c.in-Some.pieces c.work.invariant c.in-Copy.is c.in-Some.is)
+
+pub returns-in-Some-clause-matches : goal.returns-in-Some-clause-matches
+returns-in-Some-clause-matches c = λ past m. keeps_matches (live past) c.args.self.now c.run_copy.new.self (c.run_copy.ensures c.in-Copy.source c.in-Copy.destination c.there-from.ensures c.there-to.ensures).0 m
+
+pub there-to-requires : goal.there-to-requires
+there-to-requires c = destination_there c.args.self.now c.args.work.now c.args.number c.requires c.in-Copy.source c.in-Copy.destination c.in-Copy.regions (sym c.work.view_is ∙ c.in-Copy.is)
 
 pub returns-in-Some-clause-ran : goal.returns-in-Some-clause-ran
-returns-in-Some-clause-ran c = λ past ms st fit here.
-    let s : Held = record { memory = c.self.inside.memories; buffers = c.self.inside.buffers.entries } in
-    let ready : PieceReady s c.args.command.now c.args.number = subst (λ (h : Held). PieceReady h c.args.command.now c.args.number) (sym c.self.view_is) c.requires in
-    let at = subst (λ (h : Held). option_map (fill_of c.in-Fill.offset c.in-Fill.size c.in-Fill.word) (placed h c.in-Fill.buffer) ≡ Some (c.in-Some.object, c.in-Some.fill)) (sym c.self.view_is) (sym c.fill_at.ensures ∙ c.in-Some.is) in
-    subst (λ (h : Held). HaveRun ms (byte_at h) (byte_at (record s { memory = with_region s.memory c.in-Some.object c.run_piece.new.region }))) c.self.view_is
-    (command_ran s c.args.command.now c.in-Fill.buffer c.in-Fill.offset c.in-Fill.size c.in-Fill.word c.in-Some.object c.in-Some.fill c.in-Fill.is at c.self.invariant c.run_piece.new.region c.args.number ready
-    (rw c.region_mut.ensures.value at c.run_piece.ensures.ran) past ms (subst (λ (h : Held). MatchesSizes past h) (sym c.self.view_is) st) fit here)
-
-pub returns-in-Some-clause-allotted : goal.returns-in-Some-clause-allotted
-returns-in-Some-clause-allotted c = region_allots c.self.inside.memories c.in-Some.object c.run_piece.new.region ∙ ap (λ (s : Held). allotted s.memory) c.self.view_is
+returns-in-Some-clause-ran c = λ past ms m fits at.
+    copy_made c.args.self.now c.args.work.now c.args.number c.requires c.in-Copy.source c.in-Copy.destination c.in-Copy.regions (sym c.work.view_is ∙ c.in-Copy.is) c.run_copy.new.self c.in-Some.pieces
+    (regions_of c.work.inside.command.now c.work.inside.copies c.in-Copy.source c.in-Copy.destination c.in-Copy.regions c.in-Some.pieces c.work.invariant c.in-Copy.is c.in-Some.is)
+    (c.run_copy.ensures c.in-Copy.source c.in-Copy.destination c.there-from.ensures c.there-to.ensures) past ms at

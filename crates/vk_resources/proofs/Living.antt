@@ -1,0 +1,176 @@
+-- What is live when an entry has come, and that what is held is that.
+use Rattle.std.proofs.Common.{◌≡◌, ◌∙◌, ℕ, List, [], ◌∷◌, length, Bool, true, false, ◌||◌, ◌==◌, eqb, cond, refl, ap, sym, subst, Option, Some, None}
+use Rattle.std.specs.Prelude.{is_some, option_map, option_and_then, if◌then◌else◌}
+use Rattle.std.proofs.lemmas.Bool.{eqb-true, eqb-false}
+use Rattle.vk_memory.specs.MemoryState.{MemoryState, region_of, bytes_of}
+use Rattle.vk_model.specs.declared.entry.Entry.{Entry}
+use Rattle.vk_model.specs.declared.resource.BufferInfo.{BufferInfo}
+use Rattle.vk_model.specs.declared.resource.MemoryInfo.{MemoryInfo}
+use Rattle.vk_model.specs.declared.resource.Place.{Place}
+use Rattle.vk_model.specs.Basics.{holds}
+use Rattle.vk_model.specs.Trace.Point.{Past}
+use Rattle.vk_model.specs.Trace.Order.{host}
+use Rattle.vk_model.specs.Trace.Objects.{made, made_by, ended, ended_by, live, buffer_in, memory_in}
+use Rattle.vk_resources.specs.declared.resources.Placed.{Placed}
+use Rattle.vk_resources.specs.Held.{Held, IsApart, placed, object_of}
+use Rattle.vk_resources.specs.Matches.{Matches, LiesAt, has_memory}
+use Rattle.vk_resources.specs.Fits.{IsUnused}
+use Rattle.vk_resources.specs.Inner.Steps.{IsEmpty, Ends, freed}
+use Rattle.vk_resources.proofs.Placing.{kept_apart}
+use Rattle.vk_resources.proofs.Matching.{home, lies_on, lies_in, live_of_placed, unowned}
+
+-- ---- the live object of each id
+
+module _ (past : Past) (e : ℕ) (x : Entry) where
+  -- an entry that makes a new one
+  pub live_new : (i : ℕ) → made_by x ≡ Some i → ended_by x ≡ [] → IsUnused past i → (j : ℕ) → live (host e x ∷ past) j ≡ cond (j == i) (Some x) (live past j)
+  live_new i makes ends unused j = rw (makes, ends) (go (j == i) refl)
+    where
+      go : (t : Bool) → (j == i) ≡ t → (if ended past j then None else cond t (Some x) (made past j)) ≡ cond t (Some x) (live past j)
+      go true is = let un : ended past j ≡ false = ap (λ (k : ℕ). ended past k) (eqb-true j i is) ∙ unused.unended in rw un refl
+      go false is = refl
+
+  -- one that ends one
+  pub live_end : (r : ℕ) → made_by x ≡ None → ended_by x ≡ r ∷ [] → (j : ℕ) → live (host e x ∷ past) j ≡ cond (j == r) None (live past j)
+  live_end r makes ends j = rw (makes, ends) (go (j == r))
+    where
+      go : (t : Bool) → (if (t || false) || ended past j then None else made past j) ≡ cond t None (live past j)
+      go true = refl
+      go false = refl
+
+  -- and one that does neither
+  pub live_same : made_by x ≡ None → ended_by x ≡ [] → (j : ℕ) → live (host e x ∷ past) j ≡ live past j
+  live_same makes ends j = rw (makes, ends) refl
+
+pub not_live : (past : Past) (i : ℕ) → IsUnused past i → live past i ≡ None
+not_live past i unused = rw (unused.unended, unused.unmade) refl
+
+-- ---- one more object is live
+
+module _ (alive alive' : ℕ → Option Entry) (old new : Held) (id : ℕ) (x : Entry) where
+  pub record Grows : Type 0 where
+    pub now : (j : ℕ) → alive' j ≡ cond (j == id) (Some x) (alive j)
+    pub fresh : alive id ≡ None
+    pub size : option_map (λ p. p.size) (placed new id) ≡ option_map (λ i. i.size) (buffer_in x)
+    pub places : (b : ℕ) → (b ≡ id → ⊥) → placed new b ≡ placed old b
+    pub object : is_some (object_of new id) ≡ has_memory x
+    pub objects : (i : ℕ) → (i ≡ id → ⊥) → object_of new i ≡ object_of old i
+    pub lies : (p : Placed) (i : BufferInfo) → placed new id ≡ Some p → buffer_in x ≡ Some i → LiesAt alive' new id i.place p
+    pub bytes : (number : ℕ) (y : MemoryInfo) → memory_in x ≡ Some y → object_of new id ≡ Some number → length (region_of new.memory number) ≡ y.size
+    pub regions : (j number : ℕ) → object_of old j ≡ Some number → region_of new.memory number ≡ region_of old.memory number
+
+  module _ (g : Grows) (m : Matches alive old) where
+    here : (j : ℕ) → eqb j id ≡ true → alive' j ≡ Some x
+    here j e = rw (g.now j, e) refl
+
+    there : (j : ℕ) → eqb j id ≡ false → alive' j ≡ alive j
+    there j e = rw (g.now j, e) refl
+
+    had_none : object_of old id ≡ None
+    had_none = unowned alive old id m (ap (λ (o : Option Entry). holds o has_memory) g.fresh)
+
+    -- where a buffer lies is no new object
+    home_old : (b : ℕ) (q : Place) (p : Placed) → LiesAt alive old b q p → home b q ≡ id → ⊥
+    home_old b q p lies same = let both : ◌≡◌ {A = Option ℕ} (Some p.object) None = sym (lies_in alive old b q p lies) ∙ ap (λ (i : ℕ). object_of old i) same ∙ had_none in cc
+
+    home_there : (b : ℕ) (q : Place) (p : Placed) → LiesAt alive old b q p → alive' (home b q) ≡ alive (home b q)
+    home_there b q p lies = go (eqb (home b q) id) refl
+      where
+        go : (t : Bool) → eqb (home b q) id ≡ t → alive' (home b q) ≡ alive (home b q)
+        go true e = absurd (home_old b q p lies (eqb-true (home b q) id e))
+        go false e = there (home b q) e
+
+    pub grown : Matches alive' new
+    grown = record {
+      sizes = λ b. sizes b (eqb b id) refl;
+      places = λ b p i at is. lies b p i at is (eqb b id) refl;
+      owned = λ i. owned i (eqb i id) refl;
+      memories = λ k number y is has. memories k number y is has (eqb k id) refl;
+    }
+      where
+        sizes : (b : ℕ) (t : Bool) → eqb b id ≡ t → option_map (λ (p : Placed). p.size) (placed new b) ≡ option_map (λ (i : BufferInfo). i.size) (option_and_then buffer_in (alive' b))
+        sizes b true e = rw (here b e) (ap (λ (j : ℕ). option_map (λ (p : Placed). p.size) (placed new j)) (eqb-true b id e) ∙ g.size)
+        sizes b false e = rw (there b e) (ap (λ (o : Option Placed). option_map (λ (p : Placed). p.size) o) (g.places b (eqb-false b id e)) ∙ m.sizes b)
+
+        lies : (b : ℕ) (p : Placed) (i : BufferInfo) → placed new b ≡ Some p → option_and_then buffer_in (alive' b) ≡ Some i → (t : Bool) → eqb b id ≡ t → LiesAt alive' new b i.place p
+        lies b p i at is true e =
+            let same = eqb-true b id e in
+            subst (λ (j : ℕ). LiesAt alive' new j i.place p) (sym same) (g.lies p i (ap (λ (j : ℕ). placed new j) (sym same) ∙ at) (ap (option_and_then buffer_in) (sym (here b e)) ∙ is))
+        lies b p i at is false e =
+            let was = m.places b p i (sym (g.places b (eqb-false b id e)) ∙ at) (ap (option_and_then buffer_in) (sym (there b e)) ∙ is) in
+            lies_on alive alive' old new b i.place p was (g.objects (home b i.place) (home_old b i.place p was)) (home_there b i.place p was)
+
+        owned : (i : ℕ) (t : Bool) → eqb i id ≡ t → is_some (object_of new i) ≡ holds (alive' i) has_memory
+        owned i true e = rw (here i e) (ap (λ (j : ℕ). is_some (object_of new j)) (eqb-true i id e) ∙ g.object)
+        owned i false e = rw (there i e) (ap is_some (g.objects i (eqb-false i id e)) ∙ m.owned i)
+
+        memories : (k number : ℕ) (y : MemoryInfo) → option_and_then memory_in (alive' k) ≡ Some y → object_of new k ≡ Some number → (t : Bool) → eqb k id ≡ t → length (region_of new.memory number) ≡ y.size
+        memories k number y is has true e = g.bytes number y (ap (option_and_then memory_in) (sym (here k e)) ∙ is) (ap (λ (j : ℕ). object_of new j) (sym (eqb-true k id e)) ∙ has)
+        memories k number y is has false e =
+            let had : object_of old k ≡ Some number = sym (g.objects k (eqb-false k id e)) ∙ has in
+            ap (λ (r : List ℕ). length r) (g.regions k number had) ∙ m.memories k number y (ap (option_and_then memory_in) (sym (there k e)) ∙ is) had
+
+-- ---- an object has ended
+
+module _ (alive alive' : ℕ → Option Entry) (old new : Held) (r : ℕ) (now : (j : ℕ) → alive' j ≡ cond (j == r) None (alive j)) (m : Matches alive old) (apart : IsApart old.memory old.owned old.buffers)
+    (clear : (b : ℕ) (p : Placed) (i : BufferInfo) → (b ≡ r → ⊥) → placed old b ≡ Some p → option_and_then buffer_in (alive b) ≡ Some i → LiesAt alive old b i.place p → home b i.place ≡ r → ⊥) where
+  -- no buffer lies in its memory object
+  pub empty : IsEmpty old r
+  empty number b p has other at object =
+      let l = live_of_placed alive old b p m at in
+      let lies = m.places b p l.info at l.is in
+      clear b p l.info other at l.is lies (apart.own (home b l.info.place) r number (lies_in alive old b l.info.place p lies ∙ ap (λ (k : ℕ). Some k) object) has)
+
+  module _ (ends : Ends old new r) where
+    gone : (j : ℕ) → eqb j r ≡ true → alive' j ≡ None
+    gone j e = rw (now j, e) refl
+
+    kept : (j : ℕ) → eqb j r ≡ false → alive' j ≡ alive j
+    kept j e = rw (now j, e) refl
+
+    -- another object has the bytes that it had
+    region_kept : (number : ℕ) → (object_of old r ≡ Some number → ⊥) → region_of new.memory number ≡ region_of old.memory number
+    region_kept number other = ap (λ (n : MemoryState). region_of n number) ends.memory ∙ go (object_of old r) refl
+      where
+        go : (o : Option ℕ) → object_of old r ≡ o → region_of (freed old.memory o) number ≡ region_of old.memory number
+        go None is = refl
+        go (Some n) is = ap bytes_of (kept_apart old.memory n number (λ same. other (is ∙ ap (λ (k : ℕ). Some k) (sym same))))
+
+    pub region_there : (b : ℕ) (p : Placed) → (b ≡ r → ⊥) → placed old b ≡ Some p → region_of new.memory p.object ≡ region_of old.memory p.object
+    region_there b p other at = region_kept p.object (λ has. empty p.object b p has other at refl)
+
+    pub ended_matches : Matches alive' new
+    ended_matches = record {
+      sizes = λ b. sizes b (eqb b r) refl;
+      places = λ b p i at is. lies b p i at is (eqb b r) refl;
+      owned = λ i. owned i (eqb i r) refl;
+      memories = λ k number y is has. memories k number y is has (eqb k r) refl;
+    }
+      where
+        sizes : (b : ℕ) (t : Bool) → eqb b r ≡ t → option_map (λ (p : Placed). p.size) (placed new b) ≡ option_map (λ (i : BufferInfo). i.size) (option_and_then buffer_in (alive' b))
+        sizes b true e = rw (gone b e) (ap (λ (j : ℕ). option_map (λ (p : Placed). p.size) (placed new j)) (eqb-true b r e) ∙ ap (λ (o : Option Placed). option_map (λ (p : Placed). p.size) o) ends.no_buffer)
+        sizes b false e = rw (kept b e) (ap (λ (o : Option Placed). option_map (λ (p : Placed). p.size) o) (ends.buffers b (eqb-false b r e)) ∙ m.sizes b)
+
+        lies : (b : ℕ) (p : Placed) (i : BufferInfo) → placed new b ≡ Some p → option_and_then buffer_in (alive' b) ≡ Some i → (t : Bool) → eqb b r ≡ t → LiesAt alive' new b i.place p
+        lies b p i at is true e = let both : None ≡ Some i = ap (option_and_then buffer_in) (sym (gone b e)) ∙ is in absurd cc
+        lies b p i at is false e =
+            let other = eqb-false b r e in
+            let at_old : placed old b ≡ Some p = sym (ends.buffers b other) ∙ at in
+            let is_old : option_and_then buffer_in (alive b) ≡ Some i = ap (option_and_then buffer_in) (sym (kept b e)) ∙ is in
+            let was = m.places b p i at_old is_old in
+            lies_on alive alive' old new b i.place p was (ends.objects (home b i.place) (clear b p i other at_old is_old was)) (home_kept (eqb (home b i.place) r) refl (clear b p i other at_old is_old was))
+          where
+            home_kept : (t : Bool) → eqb (home b i.place) r ≡ t → (home b i.place ≡ r → ⊥) → alive' (home b i.place) ≡ alive (home b i.place)
+            home_kept true e elsewhere = absurd (elsewhere (eqb-true (home b i.place) r e))
+            home_kept false e elsewhere = kept (home b i.place) e
+
+        owned : (i : ℕ) (t : Bool) → eqb i r ≡ t → is_some (object_of new i) ≡ holds (alive' i) has_memory
+        owned i true e = rw (gone i e) (ap (λ (j : ℕ). is_some (object_of new j)) (eqb-true i r e) ∙ ap is_some ends.no_object)
+        owned i false e = rw (kept i e) (ap is_some (ends.objects i (eqb-false i r e)) ∙ m.owned i)
+
+        memories : (k number : ℕ) (y : MemoryInfo) → option_and_then memory_in (alive' k) ≡ Some y → object_of new k ≡ Some number → (t : Bool) → eqb k r ≡ t → length (region_of new.memory number) ≡ y.size
+        memories k number y is has true e = let both : None ≡ Some y = ap (option_and_then memory_in) (sym (gone k e)) ∙ is in absurd cc
+        memories k number y is has false e =
+            let other = eqb-false k r e in
+            let had : object_of old k ≡ Some number = sym (ends.objects k other) ∙ has in
+            ap (λ (l : List ℕ). length l) (region_kept number (λ his. other (apart.own k r number had his))) ∙ m.memories k number y (ap (option_and_then memory_in) (sym (kept k e)) ∙ is) had

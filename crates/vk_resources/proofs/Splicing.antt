@@ -1,0 +1,146 @@
+-- Bytes that are put into a buffer, and what all buffers have then.
+use Rattle.std.proofs.Common.{◌≡◌, ◌⊎◌, inl, inr, ℕ, ◌+◌, ◌-◌, ◌<◌, ◌≤◌, List, length, map, Bool, true, false, ◌&&◌, eqb, nat_lt, refl, ap, sym, ◌∙◌, subst, arith, slice_index, Option, Some, None, if◌then◌else◌}
+use Rattle.std.proofs.Math.Seq.{map-set_same}
+use Rattle.std.proofs.lemmas.Bool.{eqb-true, eqb-false, lt-ltb, ltb-true, le-leb, leb-true, cases_lt, false_from_ne_true}
+use Rattle.std.specs.Prelude.{option_map, unwrap_or, nat_le, slice_get}
+use Rattle.std.proofs.lemmas.Option.{slice_get-get_or, slice_get_past}
+use Rattle.vk_model.specs.World.Effect.{written}
+use Rattle.vk_heap.specs.Region.{splice}
+use Rattle.vk_heap.proofs.SpliceLemmas.{length-splice, splice-in, splice-out}
+use Rattle.vk_memory.specs.declared.memories.Object.{Object}
+use Rattle.vk_memory.specs.MemoryState.{MemoryState, object_at, region_of, rewritten, with_region}
+use Rattle.vk_memory.proofs.LiveObjects.{region_of-same, region_of-other}
+use Rattle.vk_model.specs.World.Bytes.{Byte, in_buffer, in_image}
+use Rattle.vk_model.specs.World.ByteWrites.{Source}
+use Rattle.vk_transfer.specs.Ran.{AreApart, byte_in, given, HaveRun}
+use Rattle.vk_transfer.proofs.Ranges.{writes, made_ran}
+use Rattle.vk_resources.specs.declared.resources.Placed.{Placed}
+use Rattle.vk_resources.specs.Allocating.{allotted, kind_of}
+use Rattle.vk_resources.specs.Held.{Held, IsApart, IsInside, placed, byte_at, stretch_of}
+use Rattle.vk_resources.specs.Inner.Steps.{KeepsPlaces, HasWritten}
+use Rattle.vk_resources.proofs.Placing.{apart_rewritten, inside_of, still_long}
+
+-- an object keeps its type and its size
+kinds_kept : (m : MemoryState) (o : ℕ) (bytes : List ℕ) → map kind_of (with_region m o bytes).objects ≡ map kind_of m.objects
+kinds_kept m o bytes = map-set_same kind_of m.objects o (rewritten bytes (object_at m o)) None (same (object_at m o))
+  where
+    same : (x : Option Object) → kind_of (rewritten bytes x) ≡ kind_of x
+    same None = refl
+    same (Some x) = refl
+
+module _ (s : Held) (apart : IsApart s.memory s.owned s.buffers) (b : ℕ) (p : Placed) (here : placed s b ≡ Some p) (at : ℕ) (bytes : List ℕ) (fits : at + length bytes ≤ p.size) where
+  abbrev pub region : List ℕ
+  region = region_of s.memory p.object
+
+  abbrev pub new : List ℕ
+  new = splice region (p.offset + at) bytes
+
+  abbrev pub spliced : Held
+  spliced = record s { memory = with_region s.memory p.object new }
+
+  inside : IsInside s.memory p
+  inside = inside_of s.memory s.owned s.buffers apart b p here
+
+  room : p.offset + at + length bytes ≤ length region
+  room = let has = inside.room in omega (arith, has, fits)
+
+  long : length new ≡ length region
+  long = length-splice region bytes (p.offset + at) room
+
+  now : region_of spliced.memory p.object ≡ new
+  now = region_of-same s.memory p.object new inside.live
+
+  pub spliced_apart : IsApart spliced.memory spliced.owned spliced.buffers
+  spliced_apart = apart_rewritten s.memory p.object new inside.live long s.owned s.buffers apart
+
+  pub spliced_keeps : KeepsPlaces s spliced
+  spliced_keeps = record {
+    buffers = refl;
+    same = ap (λ (os : List (Option (ℕ × ℕ))). record (allotted s) { objects = os }) (kinds_kept s.memory p.object new);
+    lengths = λ number. still_long s.memory p.object new inside.live long number;
+  }
+
+  -- ---- bytes of the buffer itself
+
+  pub here_at : (k : ℕ) → byte_at spliced (in_buffer b k) ≡ (if nat_lt k p.size then slice_index new (p.offset + k) else 0)
+  here_at k = rw here (ap (λ (r : List ℕ). if nat_lt k p.size then slice_index r (p.offset + k) else 0) now)
+
+  pub spliced_in : (j : ℕ) → j < length bytes → byte_at spliced (in_buffer b (at + j)) ≡ slice_index bytes j
+  spliced_in j lt =
+      let place : p.offset + (at + j) - (p.offset + at) ≡ j = omega arith in
+      here_at (at + j) ∙ rw (lt-ltb (at + j) p.size (omega (arith, fits, lt)))
+      (splice-in region bytes (p.offset + at) room (p.offset + (at + j)) (omega arith) (omega (arith, lt)) ∙ ap (λ (k : ℕ). slice_index bytes k) place)
+
+  pub spliced_out : (k : ℕ) → (k < at) ⊎ (at + length bytes ≤ k) → byte_at spliced (in_buffer b k) ≡ byte_at s (in_buffer b k)
+  spliced_out k out = here_at k ∙ ap (λ (v : ℕ). if nat_lt k p.size then v else 0) (splice-out region bytes (p.offset + at) room (p.offset + k) (shifted out)) ∙ rw here refl
+    where
+      shifted : (k < at) ⊎ (at + length bytes ≤ k) → (p.offset + k < p.offset + at) ⊎ (p.offset + at + length bytes ≤ p.offset + k)
+      shifted (inl lt) = inl (omega (arith, lt))
+      shifted (inr le) = inr (omega (arith, le))
+
+  -- ---- bytes of other buffers
+
+  beside : (q : Placed) (k : ℕ) → (q.object ≡ p.object → AreApart p.offset p.size q.offset q.size) → (e : Bool) → eqb q.object p.object ≡ e → (t : Bool) → nat_lt k q.size ≡ t
+      → (if t then slice_index (region_of spliced.memory q.object) (q.offset + k) else 0) ≡ (if t then slice_index (region_of s.memory q.object) (q.offset + k) else 0)
+  beside q k clear e is false out = refl
+  beside q k clear false is true within = ap (λ (r : List ℕ). slice_index r (q.offset + k)) (region_of-other s.memory p.object q.object new (eqb-false q.object p.object is))
+  beside q k clear true is true within =
+      let same : q.object ≡ p.object = eqb-true q.object p.object is in
+      ap (λ (o : ℕ). slice_index (region_of spliced.memory o) (q.offset + k)) same ∙ ap (λ (r : List ℕ). slice_index r (q.offset + k)) now
+      ∙ splice-out region bytes (p.offset + at) room (q.offset + k) (away (clear same) (ltb-true k q.size within)) ∙ ap (λ (o : ℕ). slice_index (region_of s.memory o) (q.offset + k)) (sym same)
+    where
+      away : AreApart p.offset p.size q.offset q.size → k < q.size → (q.offset + k < p.offset + at) ⊎ (p.offset + at + length bytes ≤ q.offset + k)
+      away (inl le) lt = inr (omega (arith, le, lt, fits))
+      away (inr le) lt = inl (omega (arith, le, lt, fits))
+
+  pub spliced_other : (c k : ℕ) → (b ≡ c → ⊥) → byte_at spliced (in_buffer c k) ≡ byte_at s (in_buffer c k)
+  spliced_other c k ne = go (placed s c) refl
+    where
+      go : (o : Option Placed) → placed s c ≡ o → byte_in (option_map (stretch_of spliced.memory) (placed s c)) k ≡ byte_in (option_map (stretch_of s.memory) (placed s c)) k
+      go None is = rw is refl
+      go (Some q) is = rw is (beside q k (λ same. apart.apart b c p q ne here is (sym same)) (eqb q.object p.object) refl (nat_lt k q.size) refl)
+
+  -- ---- byte writes that put them there
+
+  module _ (offset lo : ℕ) (source : ℕ → Source) (place : at ≡ offset + lo) (values : (j : ℕ) → lo ≤ j → j < lo + length bytes → slice_index bytes (j - lo) ≡ given (source j) (byte_at s)) where
+    pub spliced_ran : HaveRun (writes b offset source lo (length bytes)) (byte_at s) (byte_at spliced)
+    spliced_ran = made_ran b offset source lo (length bytes) (byte_at s) (byte_at spliced) (record {
+      inside = λ j low high. ap (λ (k : ℕ). byte_at spliced (in_buffer b k)) (moved j low) ∙ spliced_in (j - lo) (omega (arith, low, high)) ∙ values j low high;
+      outside = λ k out. spliced_out k (turned out);
+      others = λ c k ne. spliced_other c k (eqb-false b c ne);
+      images = λ i l a x y q. refl;
+    })
+      where
+        moved : (j : ℕ) → lo ≤ j → offset + j ≡ at + (j - lo)
+        moved j low = omega (arith, place, low)
+
+        turned : {k : ℕ} → (k < offset + lo) ⊎ (offset + lo + length bytes ≤ k) → (k < at) ⊎ (at + length bytes ≤ k)
+        turned (inl lt) = inl (omega (arith, lt, place))
+        turned (inr le) = inr (omega (arith, le, place))
+
+  -- ---- a host write that puts them there
+
+  pub spliced_written : HasWritten s spliced b at bytes
+  spliced_written = (spliced_keeps, each)
+    where
+      of_buffer : (k : ℕ) → byte_at spliced (in_buffer b k) ≡ unwrap_or (if nat_le at k then slice_get bytes (k - at) else None) (byte_at s (in_buffer b k))
+      of_buffer k = elim (cases_lt k at) [
+        | inl lt ↦ rw (not_le k lt) (spliced_out k (inl lt))
+        | inr ge ↦ elim (cases_lt k (at + length bytes)) [
+          | inl lt ↦
+              let place : at + (k - at) ≡ k = omega (arith, ge) in
+              rw (le-leb at k ge, slice_get-get_or bytes (k - at) 0 (omega (arith, ge, lt))) (ap (λ (j : ℕ). byte_at spliced (in_buffer b j)) (sym place) ∙ spliced_in (k - at) (omega (arith, ge, lt)))
+          | inr past ↦ rw (le-leb at k ge, slice_get_past bytes (k - at) (omega (arith, past))) (spliced_out k (inr past))
+        ]
+      ]
+        where
+          not_le : (k : ℕ) → k < at → nat_le at k ≡ false
+          not_le k lt = false_from_ne_true (nat_le at k) (λ h. let le : at ≤ k = leb-true at k h in omega (arith, lt, le))
+
+      each : (c : Byte) → byte_at spliced c ≡ unwrap_or (written b at bytes c) (byte_at s c)
+      each (in_image i l a x y q) = refl
+      each (in_buffer c k) = go (eqb b c) refl
+        where
+          go : (t : Bool) → eqb b c ≡ t → byte_at spliced (in_buffer c k) ≡ unwrap_or (if t && nat_le at k then slice_get bytes (k - at) else None) (byte_at s (in_buffer c k))
+          go true e = subst (λ (d : ℕ). byte_at spliced (in_buffer d k) ≡ unwrap_or (if nat_le at k then slice_get bytes (k - at) else None) (byte_at s (in_buffer d k))) (eqb-true b c e) (of_buffer k)
+          go false e = spliced_other c k (eqb-false b c e)

@@ -1,0 +1,45 @@
+-- What is held is what is live after some points.
+use Rattle.std.specs.Prelude.{◌≡◌, ℕ, length, Bool, true, false, Option, Some, IsTrue, is_some, option_map, option_and_then}
+use Rattle.vk_memory.specs.MemoryState.{region_of}
+use Rattle.vk_model.specs.declared.entry.Entry.{Entry}
+use Rattle.vk_model.specs.declared.entry.Entry.TheVariants as entry
+use Rattle.vk_model.specs.declared.resource.BufferInfo.{BufferInfo}
+use Rattle.vk_model.specs.declared.resource.MemoryInfo.{MemoryInfo}
+use Rattle.vk_model.specs.declared.resource.Place.{Place}
+use Rattle.vk_model.specs.declared.resource.Place.TheVariants as place
+use Rattle.vk_model.specs.Basics.{holds}
+use Rattle.vk_model.specs.Trace.Point.{Past}
+use Rattle.vk_model.specs.Trace.Objects.{live, buffer_in, memory_in}
+use Rattle.vk_model.specs.Rules.Ids.{is_memory}
+use Rattle.vk_resources.specs.declared.resources.Placed.{Placed}
+use Rattle.vk_resources.specs.Held.{Held, placed, object_of}
+
+-- Whether a place is an allocation of its own (VMA, "Choosing memory type", on dedicated allocations).
+abbrev pub is_own : Place → Bool
+is_own (place.Dedicated t) = true
+is_own _ = false
+
+-- Whether the object that an entry makes has a memory object: it is one, or it is a resource in an allocation of its own (Vulkan, "Device Memory"; VMA, "Dedicated allocations").
+abbrev pub has_memory : Entry → Bool
+has_memory (entry.Memory i m) = true
+has_memory (entry.Buffer i b) = is_own b.place
+has_memory (entry.Image i m) = is_own m.place
+has_memory _ = false
+
+module _ (alive : ℕ → Option Entry) (s : Held) where
+  -- A buffer lies where its place says: at the start of the memory object that it has of its own, or at its offset of one that the trace made, which is live (Vulkan, "Resource Memory Association"; VMA, "Dedicated allocations").
+  abbrev pub LiesAt : ℕ → Place → Placed → Type 0
+  LiesAt b (place.Dedicated t) p = (object_of s b ≡ Some p.object) × (p.offset ≡ 0)
+  LiesAt b (place.Memory m o) p = IsTrue (holds (alive m) is_memory) × (object_of s m ≡ Some p.object) × (p.offset ≡ o)
+  LiesAt b _ p = ⊥
+
+  -- The live objects of all ids, by the entries that made them: their buffers are those that are held, of the sizes that were asked for and at their places; their memory objects are held too, with as many bytes as were asked for, and no others (Vulkan, "Buffers" and "Device Memory").
+  pub record Matches : Type 0 where
+    pub sizes : (b : ℕ) → option_map (λ p. p.size) (placed s b) ≡ option_map (λ i. i.size) (option_and_then buffer_in (alive b))
+    pub places : (b : ℕ) (p : Placed) (i : BufferInfo) → placed s b ≡ Some p → option_and_then buffer_in (alive b) ≡ Some i → LiesAt b i.place p
+    pub owned : (i : ℕ) → is_some (object_of s i) ≡ holds (alive i) has_memory
+    pub memories : (m number : ℕ) (x : MemoryInfo) → option_and_then memory_in (alive m) ≡ Some x → object_of s m ≡ Some number → length (region_of s.memory number) ≡ x.size
+
+-- What is held is what is live after these points (Vulkan, "Object Lifetime").
+abbrev pub MatchesLive : Past → Held → Type 0
+MatchesLive past s = Matches (live past) s

@@ -1,0 +1,190 @@
+ghost use Rattle.std.specs.Prelude.{◌≡◌, ℕ, ◌<◌, ◌+◌, ◌≤◌, IfOk, OnOk, None, Some, length};
+ghost use Rattle.vk_memory.specs.MemoryState.{region_of};
+ghost use Rattle.vk_heap.specs.Region.{piece};
+ghost use Rattle.vk_model.specs.Trace.Point.{Past};
+
+use crate::applied::Applied;
+use crate::resources::{Placed, Resources};
+use std::alloc::AllocError;
+use vk_memory::MemoryError;
+use vk_model::{Entry, Place, Sequence};
+
+/// Buffers are rounded up to this many bytes (profile).
+const BUFFER_UNIT: u64 = 16;
+
+impl Resources {
+    ghost use Rattle.vk_resources.specs.Held.{placed, object_of, IsApart};
+    ghost use Rattle.vk_resources.specs.Matches.{MatchesLive};
+    ghost use Rattle.vk_resources.specs.Allocating.{Rooms, Allots};
+    ghost use Rattle.vk_resources.specs.Fits.{FitsEntry};
+    ghost use Rattle.vk_resources.specs.Done.{DoneBy, EntryReady};
+    ghost use Rattle.vk_resources.specs.Inner.Steps.{MayReach, HasWritten, MadeOr, BufferMade, MemoryMade, BindReady, Binds, IsEmpty, Ends};
+
+    /// Makes a memory object for an id, and answers its number; none where there is no room.
+    fn allocate(&mut self, id: u32, memory_type: u32, size: u64) -> Result<Option<u64>, AllocError>
+        requires absent { object_of self.old id ≡ None }
+        requires some { 0 < size }
+        ensures made { IfOk result (λ o. MadeOr o self.old self.new id memory_type size) }
+        ensures apart { IsApart self.old.memory self.old.owned self.old.buffers }
+    {
+        let number = match self.memories.allocate(memory_type, size) {
+            Ok(number) => number,
+            Err(MemoryError::NoRoom) => return Ok(None),
+            Err(MemoryError::NoMemory) => return Err(AllocError),
+        };
+        self.owned.insert(id, number)?;
+        Ok(Some(number))
+    }
+
+    /// Makes a memory object.
+    fn make_memory(&mut self, id: u32, memory_type: u32, size: u64) -> Result<Applied, AllocError>
+        requires absent { object_of self.old id ≡ None }
+        requires some { 0 < size }
+        ensures made { IfOk result (λ a. MemoryMade a self.old self.new id memory_type size) }
+        ensures apart { IsApart self.old.memory self.old.owned self.old.buffers }
+    {
+        match self.allocate(id, memory_type, size)? {
+            Some(_) => Ok(Applied::Done),
+            None => Ok(Applied::NoRoom),
+        }
+    }
+
+    /// Makes a buffer in a memory object of its own.
+    fn make_buffer(&mut self, id: u32, memory_type: u32, size: u64) -> Result<Applied, AllocError>
+        requires absent { object_of self.old id ≡ None }
+        requires some { 0 < size }
+        requires bounded { size ≤ 67108864 }
+        ensures made { IfOk result (λ a. BufferMade a self.old self.new id memory_type size) }
+        ensures apart { IsApart self.old.memory self.old.owned self.old.buffers }
+    {
+        let bytes = (size + (BUFFER_UNIT - 1)) / BUFFER_UNIT * BUFFER_UNIT;
+        match self.allocate(id, memory_type, bytes)? {
+            Some(object) => {
+                let offset = 0;
+                self.buffers.insert(
+                    id,
+                    Placed {
+                        size,
+                        object,
+                        offset,
+                    },
+                )?;
+                Ok(Applied::Done)
+            }
+            None => Ok(Applied::NoRoom),
+        }
+    }
+
+    /// Binds a new buffer at an offset of the memory object that an id has.
+    fn bind_buffer(
+        &mut self,
+        id: u32,
+        memory: u32,
+        offset: u64,
+        size: u64,
+    ) -> Result<(), AllocError>
+        // What the type's invariant says may be used to show it.
+        requires { IsApart self.old.memory self.old.owned self.old.buffers → BindReady self.old memory offset size }
+        ensures bound { OnOk result (Binds self.old self.new id memory offset size) }
+        ensures apart { IsApart self.old.memory self.old.owned self.old.buffers }
+    {
+        if let Some(object) = self.owned.get(&memory) {
+            let object = *object;
+            self.buffers.insert(
+                id,
+                Placed {
+                    size,
+                    object,
+                    offset,
+                },
+            )?;
+        }
+        Ok(())
+    }
+
+    /// Ends what an id has: its buffer, and its memory object, which is freed.
+    fn end(&mut self, id: u32)
+        requires { IsApart self.old.memory self.old.owned self.old.buffers → IsEmpty self.old id }
+        ensures ended { Ends self.old self.new id }
+        ensures apart { IsApart self.old.memory self.old.owned self.old.buffers }
+    {
+        self.buffers.remove(&id);
+        if let Some(object) = self.owned.remove(&id) {
+            self.memories.free(object);
+        }
+    }
+
+    /// Writes bytes of the host to a buffer that is there.
+    fn write(&mut self, id: u32, offset: u64, bytes: &[u8])
+        requires { MayReach (placed self.old id) offset (length bytes.now) }
+        ensures { HasWritten self.old self.new id offset bytes.now }
+    {
+        if let Some(buffer) = self.placed(id) {
+            let region = self.memories.region_mut(buffer.object);
+            // A region's size is a whole number of 64 bits, so the places in it are too.
+            let _size = region.size();
+            region.write(buffer.offset + offset, bytes);
+        }
+    }
+
+    /// Reads bytes of a buffer that is there.
+    fn read(&self, id: u32, offset: u64, size: u64) -> Result<Sequence<u8>, AllocError>
+        requires { MayReach (placed self.now id) offset size }
+        ensures bytes { (b : Placed) → placed self.now id ≡ Some b → IfOk result (λ bytes. bytes ≡ piece (region_of self.now.memory b.object) (b.offset + offset) size) }
+        ensures apart { IsApart self.now.memory self.now.owned self.now.buffers }
+    {
+        let mut bytes = vec![in self.alloc; 0u8; size as usize]?;
+        if let Some(buffer) = self.placed(id) {
+            let region = self.memories.region(buffer.object);
+            let _size = region.size();
+            region.read(buffer.offset + offset, &mut bytes);
+        }
+        Ok(Sequence::new(bytes))
+    }
+
+    /// Does what an entry does to resources. Mappings are left to the rules: an entry that breaks none
+    /// reaches memory only where it is mapped. The only error is want of memory.
+    pub fn apply(&mut self, entry: &Entry) -> Result<Applied, AllocError>
+        requires { EntryReady self.old entry.now }
+        ensures done { IfOk result (λ a. (e : ℕ) (past : Past) → MatchesLive past self.old → FitsEntry past entry.now → DoneBy a e entry.now past self.old self.new) }
+        ensures rooms { IfOk result (λ a. (past : Past) → FitsEntry past entry.now → Rooms a self.old entry.now) }
+        ensures allots { IfOk result (λ a. (past : Past) → MatchesLive past self.old → FitsEntry past entry.now → Allots a entry.now self.old self.new) }
+    {
+        match entry {
+            Entry::Memory { id, info } => self.make_memory(*id, info.memory_type, info.size),
+            Entry::Buffer { id, info } => match info.place {
+                Place::Dedicated { memory_type } => self.make_buffer(*id, memory_type, info.size),
+                Place::Memory { memory, offset } => {
+                    self.bind_buffer(*id, memory, offset, info.size)?;
+                    Ok(Applied::Done)
+                }
+                _ => Ok(Applied::Done),
+            },
+            Entry::Free { memory } => {
+                self.end(*memory);
+                Ok(Applied::Done)
+            }
+            Entry::Destroy { resource } => {
+                self.end(*resource);
+                Ok(Applied::Done)
+            }
+            Entry::Write {
+                buffer,
+                offset,
+                bytes,
+            } => {
+                self.write(*buffer, *offset, bytes.as_slice());
+                Ok(Applied::Done)
+            }
+            Entry::Read {
+                buffer,
+                offset,
+                size,
+            } => {
+                let bytes = self.read(*buffer, *offset, *size)?;
+                Ok(Applied::Bytes(bytes))
+            }
+            _ => Ok(Applied::Done),
+        }
+    }
+}
