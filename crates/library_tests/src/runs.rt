@@ -11,6 +11,7 @@ mod table;
 
 use table::{
     Ending, FILL_AND_READ, NO_MEMORY, NO_TRACE, NO_TRACES, REFUSED, REPLAYED, TRACES, TWO_FILLS,
+    UPLOADS,
 };
 
 /// Heaps of 4 MiB.
@@ -112,6 +113,20 @@ fn traces(rt: HostRuntime) {
     }
     expect_run(&rt, alloc, b"[[\"map\",\xff]]", "", NO_TRACE);
     expect_no_front(&rt, alloc, FILL_AND_READ.as_bytes());
+}
+
+#[test]
+fn uploads(rt: HostRuntime) {
+    let alloc = rt.alloc();
+    for (input, output, ending) in UPLOADS {
+        expect_run(&rt, alloc, input.as_bytes(), output, ending);
+        if ending != REPLAYED {
+            continue;
+        }
+        for order in ORDERS {
+            expect_in_order(&rt, alloc, input.as_bytes(), output, ending, order);
+        }
+    }
 }
 
 /// A trace that replays is answered alike, whatever is picked.

@@ -21,8 +21,8 @@ use Rattle.vk_model.specs.Basics.{among}
 use Rattle.vk_model.proofs.Lists.Pairs.{Each, each_append, each_from, each_has}
 use Rattle.vk_model.proofs.Lists.Members.{filtered}
 use Rattle.vk_history.proofs.Points.Pasts.{supported-next}
-use Rattle.vk_trace.specs.Members.{Reader, Row, ◌>>=◌, array_members, first_member, no_member, from, ◌<*>◌, only, members, at_word, after_word, word_and_members, tagged, each_member, list_of, empty_list, u32_value, u64_value}
-use Rattle.vk_trace.specs.Trace.{memory_element, dependency_value, command_rows, command_value, semaphore_submit, batch_value, semaphore_value, memory_type_value, place_rows, place_value, sharing_value, length_or_whole, buffer, entry_rows, entry_value, IsTrace}
+use Rattle.vk_trace.specs.Members.{Reader, Row, ◌>>=◌, array_members, first_member, no_member, from, ◌<*>◌, only, members, at_word, after_word, word_and_members, tagged, each_member, list_of, empty_list, bytes_value, u32_value, u64_value}
+use Rattle.vk_trace.specs.Trace.{copy_region, memory_element, dependency_value, command_rows, command_value, semaphore_submit, batch_value, semaphore_value, memory_type_value, place_rows, place_value, sharing_value, length_or_whole, buffer, memory, entry_rows, entry_value, IsTrace}
 
 -- ---- what holds of all that a reader gives
 
@@ -128,10 +128,16 @@ unfolding command_value command_rows
 command_makes = tagged_makes IsSupportedCommand command_rows (
   any_makes IsSupportedCommand _ u32_value (any_makes _ _ length_or_whole (any_makes _ _ u64_value (any_makes _ _ u32_value (from_makes _ cmd.Fill (λ b o n w. refl))))),
   (
-    any_makes IsSupportedCommand _ empty_list (any_makes _ _ empty_list (more_makes _ (Each (λ (e : Element). is_memory e ≡ true)) _ (list_of memory_element) (from_makes _ _ (λ es each _ _. all_pass is_memory es each)) (list_makes _ memory_element memory_makes))),
+    any_makes IsSupportedCommand _ bytes_value (any_makes _ _ u64_value (any_makes _ _ u32_value (from_makes _ cmd.Update (λ b o bytes. refl)))),
     (
-      any_makes IsSupportedCommand _ (list_of dependency_value) (any_makes _ _ u32_value (from_makes _ cmd.Set (λ v ms. refl))),
-      (any_makes IsSupportedCommand _ (list_of dependency_value) (any_makes _ _ u32_value (from_makes _ cmd.Await (λ v ms. refl))), tt),
+      any_makes IsSupportedCommand _ (list_of copy_region) (any_makes _ _ u32_value (any_makes _ _ u32_value (from_makes _ cmd.Copy (λ s d gs. refl)))),
+      (
+        any_makes IsSupportedCommand _ empty_list (any_makes _ _ empty_list (more_makes _ (Each (λ (e : Element). is_memory e ≡ true)) _ (list_of memory_element) (from_makes _ _ (λ es each _ _. all_pass is_memory es each)) (list_makes _ memory_element memory_makes))),
+        (
+          any_makes IsSupportedCommand _ (list_of dependency_value) (any_makes _ _ u32_value (from_makes _ cmd.Set (λ v ms. refl))),
+          (any_makes IsSupportedCommand _ (list_of dependency_value) (any_makes _ _ u32_value (from_makes _ cmd.Await (λ v ms. refl))), tt),
+        ),
+      ),
     ),
   ),
 )
@@ -161,7 +167,7 @@ type_makes d x h =
 
 place_makes : Makes IsSupportedPlace place_value
 unfolding place_value place_rows
-place_makes = tagged_makes IsSupportedPlace place_rows (more_makes IsSupportedPlace (λ (t : ℕ). not (t == 2) ≡ true) _ memory_type_value (from_makes _ place.Dedicated (λ t other. other)) type_makes, tt)
+place_makes = tagged_makes IsSupportedPlace place_rows (more_makes IsSupportedPlace (λ (t : ℕ). not (t == 2) ≡ true) _ memory_type_value (from_makes _ place.Dedicated (λ t other. other)) type_makes, (any_makes IsSupportedPlace _ u64_value (any_makes _ _ u32_value (from_makes _ place.Memory (λ m o. refl))), tt))
 
 -- an entry, and the batches that it submits
 pub record IsSupportedEntry (x : Entry) : Type 0 where
@@ -177,20 +183,35 @@ unfolding entry_value entry_rows
 entry_makes = tagged_makes IsSupportedEntry entry_rows (
   more_makes IsSupportedEntry IsSupportedPlace _ place_value (any_makes _ _ sharing_value (any_makes _ _ u32_value (any_makes _ _ u64_value (any_makes _ _ u32_value (from_makes _ buffer (λ i n u s p own. record { host = own; batches = λ past e. tt })))))) place_makes,
   (
-    any_makes IsSupportedEntry _ u32_value (from_makes _ entry.Map (λ b. record { host = refl; batches = λ past e. tt })),
+    any_makes IsSupportedEntry _ u64_value (more_makes _ (λ (t : ℕ). not (t == 2) ≡ true) _ memory_type_value (any_makes _ _ u32_value (from_makes _ memory (λ i t other n. record { host = other; batches = λ past e. tt }))) type_makes),
     (
-      any_makes IsSupportedEntry _ u64_value (any_makes _ _ u64_value (any_makes _ _ u32_value (from_makes _ entry.Read (λ b o n. record { host = refl; batches = λ past e. tt })))),
+      any_makes IsSupportedEntry _ u32_value (from_makes _ entry.Free (λ m. record { host = refl; batches = λ past e. tt })),
       (
-        any_makes IsSupportedEntry _ u64_value (any_makes _ _ u32_value (from_makes _ entry.Semaphore (λ i v. record { host = refl; batches = λ past e. tt }))),
+        any_makes IsSupportedEntry _ u32_value (from_makes _ entry.Destroy (λ r. record { host = refl; batches = λ past e. tt })),
         (
-          any_makes IsSupportedEntry _ u32_value (from_makes _ entry.Event (λ i. record { host = refl; batches = λ past e. tt })),
+          any_makes IsSupportedEntry _ u32_value (from_makes _ entry.Map (λ b. record { host = refl; batches = λ past e. tt })),
           (
-            any_makes IsSupportedEntry _ u64_value (any_makes _ _ u32_value (from_makes _ entry.Signal (λ v n. record { host = refl; batches = λ past e. tt }))),
+            any_makes IsSupportedEntry _ u32_value (from_makes _ entry.Unmap (λ b. record { host = refl; batches = λ past e. tt })),
             (
-              any_makes IsSupportedEntry _ (list_of semaphore_value) (from_makes _ entry.Wait (λ ws. record { host = refl; batches = λ past e. tt })),
+              any_makes IsSupportedEntry _ bytes_value (any_makes _ _ u64_value (any_makes _ _ u32_value (from_makes _ entry.Write (λ b o bytes. record { host = refl; batches = λ past e. tt })))),
               (
-                more_makes IsSupportedEntry (Each IsSupportedBatch) _ (list_of batch_value) (any_makes _ _ _ (from_makes _ entry.Submit (λ q bs each. record { host = refl; batches = λ past e. of_batches past e q 0 bs each }))) (list_makes _ batch_value batch_makes),
-                tt,
+                any_makes IsSupportedEntry _ u64_value (any_makes _ _ u64_value (any_makes _ _ u32_value (from_makes _ entry.Read (λ b o n. record { host = refl; batches = λ past e. tt })))),
+                (
+                  any_makes IsSupportedEntry _ u64_value (any_makes _ _ u32_value (from_makes _ entry.Semaphore (λ i v. record { host = refl; batches = λ past e. tt }))),
+                  (
+                    any_makes IsSupportedEntry _ u32_value (from_makes _ entry.Event (λ i. record { host = refl; batches = λ past e. tt })),
+                    (
+                      any_makes IsSupportedEntry _ u64_value (any_makes _ _ u32_value (from_makes _ entry.Signal (λ v n. record { host = refl; batches = λ past e. tt }))),
+                      (
+                        any_makes IsSupportedEntry _ (list_of semaphore_value) (from_makes _ entry.Wait (λ ws. record { host = refl; batches = λ past e. tt })),
+                        (
+                          more_makes IsSupportedEntry (Each IsSupportedBatch) _ (list_of batch_value) (any_makes _ _ _ (from_makes _ entry.Submit (λ q bs each. record { host = refl; batches = λ past e. of_batches past e q 0 bs each }))) (list_makes _ batch_value batch_makes),
+                          tt,
+                        ),
+                      ),
+                    ),
+                  ),
+                ),
               ),
             ),
           ),

@@ -1,6 +1,8 @@
 -- How a value of JSON is read: an array by its members, one after the other, a word, a number.
-use Rattle.std.specs.Prelude.{ℕ, ◌^◌, List, [], ◌∷◌, Option, Some, None, option_map, option_and_then, nat_lt, if◌then◌else◌, bytes_eq}
+use Rattle.std.specs.Prelude.{ℕ, ◌^◌, List, [], ◌∷◌, Option, Some, None, option_map, option_and_then, Result, Ok, Err, nat_lt, if◌then◌else◌, bytes_eq}
 use Rattle.serde_json.specs.Data.{Data, Items, no_items, item}
+use Rattle.hex.specs.Hex.{decode_of}
+use Rattle.hex.specs.declared.error.FromHexError.{FromHexError}
 use Rattle.serde_json.specs.Find.{as_array, as_number, as_u64, as_str}
 
 -- What a value means, if it means anything.
@@ -88,6 +90,15 @@ list_of read d = array_members d >>= each_member read
 -- An array without members.
 unfoldable pub empty_list : Reader (Unit {0})
 empty_list d = array_members d >>= no_member
+
+-- What was decoded, if anything was.
+abbrev pub decoded : Result (List ℕ) FromHexError → Option (List ℕ)
+decoded (Ok bytes) = Some bytes
+decoded (Err e) = None
+
+-- Bytes as hex text of either case, two digits a byte (profile).
+unfoldable pub bytes_value : Reader (List ℕ)
+bytes_value d = as_str d >>= λ text. decoded (decode_of text)
 
 -- A whole number below 2 ^ 64, written with no sign, point or exponent (profile).
 abbrev pub u64_value : Reader ℕ

@@ -62,10 +62,28 @@ ahead_of_signal =
       destination_accesses = record { 0 = 2048 };
     }
 
+-- A host writes into memory of the trace's own, and a queue copies from there.
+abbrev pub staging : List Entry
+staging =
+    entry.Memory 1 (record { memory_type = 1; size = 64 })
+    ∷ entry.Buffer 2 (record { size = 16; usage = record { 0 = 1 }; sharing = sharing.Concurrent; place = place.Memory 1 0 })
+    ∷ entry.Map 2
+    ∷ entry.Write 2 4 (222 ∷ 173 ∷ [])
+    ∷ entry.Unmap 2
+    ∷ entry.Submit 0 (record {
+      waits = [];
+      commands = cmd.Update 3 0 (1 ∷ 2 ∷ 3 ∷ 4 ∷ []) ∷ cmd.Copy 2 3 (record { source_offset = 4; destination_offset = 8; size = 2 } ∷ []) ∷ [];
+      signals = [];
+    } ∷ [])
+    ∷ entry.Destroy 2
+    ∷ entry.Free 1
+    ∷ []
+
 -- Texts that are traces.
 pub record Traces : Type 0 where
   pub upload : meant_by (codes "[[\"buffer\",1,16,3,\"exclusive\",[\"dedicated\",1]],[\"semaphore\",2,0],[\"submit\",0,[[[],[[\"fill\",1,0,16,67305985],[\"barrier\",[[4096,4096,16384,8192]],[],[]]],[[2,1,65536]]]]],[\"wait\",[[2,1]]],[\"map\",1],[\"read\",1,0,4]]") ≡ Some first_upload
   pub ahead : meant_by (codes "[[\"semaphore\",2,0],[\"event\",3],[\"submit\",1,[[[[2,5,4096]],[[\"set\",3,[[4096,4096,4096,2048]]],[\"await\",3,[[4096,4096,4096,2048]]]],[]]]],[\"signal\",2,5]]") ≡ Some ahead_of_signal
+  pub upload_by_copy : meant_by (codes "[[\"memory\",1,1,64],[\"buffer\",2,16,1,\"concurrent\",[\"memory\",1,0]],[\"map\",2],[\"write\",2,4,\"deAD\"],[\"unmap\",2],[\"submit\",0,[[[],[[\"update\",3,0,\"01020304\"],[\"copy\",2,3,[[4,8,2]]]],[]]]],[\"destroy\",2],[\"free\",1]]") ≡ Some staging
   -- which queues there are is for a rule to say
   pub greatest_queue : meant_by (codes "[[\"submit\",4294967295,[]]]") ≡ Some (entry.Submit 4294967295 [] ∷ [])
   pub nothing : meant_by (codes " [ ] ") ≡ Some []
@@ -98,8 +116,9 @@ pub record NoTraces : Type 0 where
   -- words
   pub unknown_entry : meant_by (codes "[[\"Map\",1]]") ≡ None
   pub unknown_length : meant_by (codes "[[\"submit\",0,[[[],[[\"fill\",1,0,\"Whole\",0]],[]]]]]") ≡ None
-  -- bytes in hex with half a byte; no entry with such bytes is supported yet
+  -- bytes in hex with half a byte, and with what is no digit
   pub odd_hex : meant_by (codes "[[\"write\",1,0,\"abc\"]]") ≡ None
+  pub no_digit : meant_by (codes "[[\"write\",1,0,\"0g\"]]") ≡ None
   -- forms that are not supported yet
   pub cached_memory : meant_by (codes "[[\"buffer\",1,16,3,\"exclusive\",[\"dedicated\",2]]]") ≡ None
 

@@ -7,20 +7,21 @@ use Rattle.serde_json.specs.Find.{as_str}
 use Rattle.vk_model.specs.declared.resource.Sharing.{Sharing}
 use Rattle.vk_model.specs.declared.resource.Sharing.TheVariants.{Exclusive, Concurrent}
 use Rattle.vk_model.specs.declared.resource.Place.{Place}
-use Rattle.vk_model.specs.declared.resource.Place.TheVariants.{Dedicated}
+use Rattle.vk_model.specs.declared.resource.Place.TheVariants.{Dedicated, Memory as InMemory}
+use Rattle.vk_model.specs.declared.command.BufferCopy.{BufferCopy}
 use Rattle.vk_model.specs.declared.command.Length.{Length}
 use Rattle.vk_model.specs.declared.command.Length.TheVariants.{Bytes, Whole}
 use Rattle.vk_model.specs.declared.command.Dependency.{Dependency}
 use Rattle.vk_model.specs.declared.command.Element.{Element}
 use Rattle.vk_model.specs.declared.command.Element.TheVariants.{Memory}
 use Rattle.vk_model.specs.declared.command.Cmd.{Cmd}
-use Rattle.vk_model.specs.declared.command.Cmd.TheVariants.{Fill, Barrier, Set, Await}
+use Rattle.vk_model.specs.declared.command.Cmd.TheVariants.{Fill, Update, Copy, Barrier, Set, Await}
 use Rattle.vk_model.specs.declared.entry.SemaphoreValue.{SemaphoreValue}
 use Rattle.vk_model.specs.declared.entry.SemaphoreSubmit.{SemaphoreSubmit}
 use Rattle.vk_model.specs.declared.entry.Batch.{Batch}
 use Rattle.vk_model.specs.declared.entry.Entry.{Entry}
-use Rattle.vk_model.specs.declared.entry.Entry.TheVariants.{Buffer, Map, Read, Semaphore, Event, Signal, Wait, Submit}
-use Rattle.vk_trace.specs.Members.{Reader, Row, ◌>>=◌, from, ◌<*>◌, members, at_word, one_word, tagged, list_of, empty_list, u64_value, u32_value}
+use Rattle.vk_model.specs.declared.entry.Entry.TheVariants.{Buffer, Memory as MemoryObject, Free, Destroy, Map, Unmap, Write, Read, Semaphore, Event, Signal, Wait, Submit}
+use Rattle.vk_trace.specs.Members.{Reader, Row, ◌>>=◌, from, ◌<*>◌, members, at_word, one_word, tagged, list_of, empty_list, bytes_value, u64_value, u32_value}
 
 -- A number of bytes, or the word that means all to the end (`VK_WHOLE_SIZE`) (profile).
 unfoldable pub length_or_whole : Reader Length
@@ -41,11 +42,19 @@ dependency_value = members (from dependency <*> u32_value <*> u32_value <*> u32_
 unfoldable pub memory_element : Reader Element
 memory_element d = option_map Memory (dependency_value d)
 
+-- Source offset, destination offset, size, as in `VkBufferCopy2` (profile).
+unfoldable pub copy_region : Reader BufferCopy
+copy_region = members (from (λ source destination size. record { source_offset = source; destination_offset = destination; size = size }) <*> u64_value <*> u64_value <*> u64_value)
+
 -- The words of commands and the members after each; elements of buffers and of images are not supported yet (profile).
 unfoldable pub command_rows : List (List ℕ × Row Cmd)
 command_rows
     -- buffer, offset, size, word
     = (codes "fill", from Fill <*> u32_value <*> u64_value <*> length_or_whole <*> u32_value)
+    -- buffer, offset, bytes
+    ∷ (codes "update", from Update <*> u32_value <*> u64_value <*> bytes_value)
+    -- source, destination, regions
+    ∷ (codes "copy", from Copy <*> u32_value <*> u32_value <*> list_of copy_region)
     -- elements of memory, of buffers, of images
     ∷ (codes "barrier", from (λ elements _ _. Barrier elements) <*> list_of memory_element <*> empty_list <*> empty_list)
     -- event, elements
@@ -83,6 +92,8 @@ unfoldable pub place_rows : List (List ℕ × Row Place)
 place_rows
     -- memory type
     = (codes "dedicated", from Dedicated <*> memory_type_value)
+    -- memory object, offset
+    ∷ (codes "memory", from InMemory <*> u32_value <*> u64_value)
     ∷ []
 
 -- A place is a word and its members (profile).
@@ -97,13 +108,27 @@ sharing_value = one_word ((codes "exclusive", Exclusive) ∷ (codes "concurrent"
 abbrev pub buffer : ℕ → ℕ → ℕ → Sharing → Place → Entry
 buffer id size usage sharing place = Buffer id (record { size = size; usage = record { 0 = usage }; sharing = sharing; place = place })
 
+-- A memory object of an id, a memory type and a size (profile).
+abbrev pub memory : ℕ → ℕ → ℕ → Entry
+memory id memory_type size = MemoryObject id (record { memory_type = memory_type; size = size })
+
 -- The words of entries and the members after each (profile).
 unfoldable pub entry_rows : List (List ℕ × Row Entry)
 entry_rows
     -- id, size, usage, sharing, place
     = (codes "buffer", from buffer <*> u32_value <*> u64_value <*> u32_value <*> sharing_value <*> place_value)
+    -- id, memory type, size
+    ∷ (codes "memory", from memory <*> u32_value <*> memory_type_value <*> u64_value)
+    -- memory object
+    ∷ (codes "free", from Free <*> u32_value)
+    -- buffer
+    ∷ (codes "destroy", from Destroy <*> u32_value)
     -- buffer
     ∷ (codes "map", from Map <*> u32_value)
+    -- buffer
+    ∷ (codes "unmap", from Unmap <*> u32_value)
+    -- buffer, offset, bytes
+    ∷ (codes "write", from Write <*> u32_value <*> u64_value <*> bytes_value)
     -- buffer, offset, size
     ∷ (codes "read", from Read <*> u32_value <*> u64_value <*> u64_value)
     -- id, initial value

@@ -1,15 +1,15 @@
 ghost use Rattle.std.specs.Prelude.{map, codes};
 ghost use Rattle.serde_json.specs.View.{view};
 ghost use Rattle.vk_trace.specs.Members.{after_word};
-ghost use Rattle.vk_trace.specs.Trace.{length_or_whole, dependency_value, memory_element, command_rows, command_value};
+ghost use Rattle.vk_trace.specs.Trace.{length_or_whole, copy_region, dependency_value, memory_element, command_rows, command_value};
 ghost use Rattle.vk_trace.specs.Inner.Gives.{Gives};
 
 use crate::errors::ReadTraceError;
-use crate::members::{Member, Reading, end, first, list_members, word_first};
+use crate::members::{Member, Reading, end, first, first_bytes, list_members, word_first};
 use bitflags::Flags;
 use serde_json::Value;
 use std::alloc::Global;
-use vk_model::{Accesses, Cmd, Dependency, Element, Length, Stages};
+use vk_model::{Accesses, BufferCopy, Cmd, Dependency, Element, Length, Stages};
 
 impl Member for Length {
     ghost means = { length_or_whole };
@@ -44,6 +44,24 @@ impl Member for Dependency {
     }
 }
 
+impl Member for BufferCopy {
+    ghost means = { copy_region };
+
+    #[tactic(auto, unfolding(crate::specs::Trace::copy_region))]
+    fn member(alloc: Global, value: &Value) -> Reading<BufferCopy> {
+        let rest = list_members(value)?;
+        let (source_offset, rest) = first::<u64>(alloc, rest)?;
+        let (destination_offset, rest) = first::<u64>(alloc, rest)?;
+        let (size, rest) = first::<u64>(alloc, rest)?;
+        end(rest)?;
+        Ok(BufferCopy {
+            source_offset,
+            destination_offset,
+            size,
+        })
+    }
+}
+
 /// A dependency on all memory.
 impl Member for Element {
     ghost means = { memory_element };
@@ -62,6 +80,8 @@ impl Member for Cmd {
         let (word, rest) = word_first(value)?;
         match word {
             "fill" => fill_of(alloc, rest),
+            "update" => update_of(alloc, rest),
+            "copy" => copy_of(alloc, rest),
             "barrier" => barrier_of(alloc, rest),
             "set" => set_of(alloc, rest),
             "await" => await_of(alloc, rest),
@@ -84,6 +104,36 @@ fn fill_of(alloc: Global, rest: &[Value]) -> Reading<Cmd>
         offset,
         size,
         word,
+    })
+}
+
+#[tactic(auto, unfolding(crate::specs::Trace::command_rows))]
+fn update_of(alloc: Global, rest: &[Value]) -> Reading<Cmd>
+    ensures { Gives (λ x. x) result (after_word command_rows (codes "update") (map view rest.now)) }
+{
+    let (buffer, rest) = first::<u32>(alloc, rest)?;
+    let (offset, rest) = first::<u64>(alloc, rest)?;
+    let (bytes, rest) = first_bytes(alloc, rest)?;
+    end(rest)?;
+    Ok(Cmd::Update {
+        buffer,
+        offset,
+        bytes,
+    })
+}
+
+#[tactic(auto, unfolding(crate::specs::Trace::command_rows))]
+fn copy_of(alloc: Global, rest: &[Value]) -> Reading<Cmd>
+    ensures { Gives (λ x. x) result (after_word command_rows (codes "copy") (map view rest.now)) }
+{
+    let (source, rest) = first::<u32>(alloc, rest)?;
+    let (destination, rest) = first::<u32>(alloc, rest)?;
+    let (regions, rest) = first(alloc, rest)?;
+    end(rest)?;
+    Ok(Cmd::Copy {
+        source,
+        destination,
+        regions,
     })
 }
 

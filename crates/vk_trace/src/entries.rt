@@ -5,12 +5,13 @@ ghost use Rattle.vk_trace.specs.Trace.{sharing_value, memory_type_value, place_r
 ghost use Rattle.vk_trace.specs.Inner.Gives.{Gives};
 
 use crate::errors::ReadTraceError;
-use crate::members::{Member, Reading, end, first, list_members, text_of, word_first};
+use crate::members::{Member, Reading, end, first, first_bytes, list_members, text_of, word_first};
 use bitflags::Flags;
 use serde_json::Value;
 use std::alloc::Global;
 use vk_model::{
-    Batch, BufferInfo, Entry, Place, SemaphoreSubmit, SemaphoreValue, Sharing, Stages, Usage,
+    Batch, BufferInfo, Entry, MemoryInfo, Place, SemaphoreSubmit, SemaphoreValue, Sharing, Stages,
+    Usage,
 };
 
 impl Member for Sharing {
@@ -34,6 +35,7 @@ impl Member for Place {
         let (word, rest) = word_first(value)?;
         match word {
             "dedicated" => dedicated_of(alloc, rest),
+            "memory" => bound_of(alloc, rest),
             _ => Err(ReadTraceError::NotTrace),
         }
     }
@@ -51,6 +53,16 @@ fn dedicated_of(alloc: Global, rest: &[Value]) -> Reading<Place>
             Ok(Place::Dedicated { memory_type })
         }
     }
+}
+
+#[tactic(auto, unfolding(crate::specs::Trace::place_rows))]
+fn bound_of(alloc: Global, rest: &[Value]) -> Reading<Place>
+    ensures { Gives (λ x. x) result (after_word place_rows (codes "memory") (map view rest.now)) }
+{
+    let (memory, rest) = first::<u32>(alloc, rest)?;
+    let (offset, rest) = first::<u64>(alloc, rest)?;
+    end(rest)?;
+    Ok(Place::Memory { memory, offset })
 }
 
 #[tactic(auto, unfolding(crate::specs::Trace::memory_type_value))]
@@ -120,12 +132,17 @@ impl Member for Entry {
         let (word, rest) = word_first(value)?;
         match word {
             "buffer" => buffer_of(alloc, rest),
+            "memory" => memory_of(alloc, rest),
+            "free" => free_of(alloc, rest),
+            "destroy" => destroy_of(alloc, rest),
             "semaphore" => semaphore_of(alloc, rest),
             "submit" => submit_of(alloc, rest),
             "event" => event_of(alloc, rest),
             "signal" => signal_of(alloc, rest),
             "wait" => wait_of(alloc, rest),
             "map" => map_of(alloc, rest),
+            "unmap" => unmap_of(alloc, rest),
+            "write" => write_of(alloc, rest),
             "read" => read_of(alloc, rest),
             _ => Err(ReadTraceError::NotTrace),
         }
@@ -149,6 +166,41 @@ fn buffer_of(alloc: Global, rest: &[Value]) -> Reading<Entry>
         place,
     };
     Ok(Entry::Buffer { id, info })
+}
+
+#[tactic(auto, unfolding(crate::specs::Trace::entry_rows))]
+fn memory_of(alloc: Global, rest: &[Value]) -> Reading<Entry>
+    ensures { Gives (λ x. x) result (after_word entry_rows (codes "memory") (map view rest.now)) }
+{
+    let (id, rest) = first::<u32>(alloc, rest)?;
+    match rest {
+        [] => Err(ReadTraceError::NotTrace),
+        [memory_type, rest @ ..] => {
+            let memory_type = memory_type_of(alloc, memory_type)?;
+            let (size, rest) = first::<u64>(alloc, rest)?;
+            end(rest)?;
+            let info = MemoryInfo { memory_type, size };
+            Ok(Entry::Memory { id, info })
+        }
+    }
+}
+
+#[tactic(auto, unfolding(crate::specs::Trace::entry_rows))]
+fn free_of(alloc: Global, rest: &[Value]) -> Reading<Entry>
+    ensures { Gives (λ x. x) result (after_word entry_rows (codes "free") (map view rest.now)) }
+{
+    let (memory, rest) = first::<u32>(alloc, rest)?;
+    end(rest)?;
+    Ok(Entry::Free { memory })
+}
+
+#[tactic(auto, unfolding(crate::specs::Trace::entry_rows))]
+fn destroy_of(alloc: Global, rest: &[Value]) -> Reading<Entry>
+    ensures { Gives (λ x. x) result (after_word entry_rows (codes "destroy") (map view rest.now)) }
+{
+    let (resource, rest) = first::<u32>(alloc, rest)?;
+    end(rest)?;
+    Ok(Entry::Destroy { resource })
 }
 
 #[tactic(auto, unfolding(crate::specs::Trace::entry_rows))]
@@ -206,6 +258,30 @@ fn map_of(alloc: Global, rest: &[Value]) -> Reading<Entry>
     let (buffer, rest) = first::<u32>(alloc, rest)?;
     end(rest)?;
     Ok(Entry::Map { buffer })
+}
+
+#[tactic(auto, unfolding(crate::specs::Trace::entry_rows))]
+fn unmap_of(alloc: Global, rest: &[Value]) -> Reading<Entry>
+    ensures { Gives (λ x. x) result (after_word entry_rows (codes "unmap") (map view rest.now)) }
+{
+    let (buffer, rest) = first::<u32>(alloc, rest)?;
+    end(rest)?;
+    Ok(Entry::Unmap { buffer })
+}
+
+#[tactic(auto, unfolding(crate::specs::Trace::entry_rows))]
+fn write_of(alloc: Global, rest: &[Value]) -> Reading<Entry>
+    ensures { Gives (λ x. x) result (after_word entry_rows (codes "write") (map view rest.now)) }
+{
+    let (buffer, rest) = first::<u32>(alloc, rest)?;
+    let (offset, rest) = first::<u64>(alloc, rest)?;
+    let (bytes, rest) = first_bytes(alloc, rest)?;
+    end(rest)?;
+    Ok(Entry::Write {
+        buffer,
+        offset,
+        bytes,
+    })
 }
 
 #[tactic(auto, unfolding(crate::specs::Trace::entry_rows))]

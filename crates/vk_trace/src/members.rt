@@ -2,10 +2,11 @@ ghost use Rattle.std.specs.Prelude.{map, Option};
 ghost use Rattle.serde_json.specs.Find.{as_str};
 ghost use Rattle.serde_json.specs.Data.{Data};
 ghost use Rattle.serde_json.specs.View.{view};
-ghost use Rattle.vk_trace.specs.Members.{array_members, first_member, no_member, word_and_members, each_member, list_of, empty_list, u64_value, u32_value};
+ghost use Rattle.vk_trace.specs.Members.{array_members, first_member, no_member, word_and_members, each_member, list_of, empty_list, bytes_value, u64_value, u32_value};
 ghost use Rattle.vk_trace.specs.Inner.Gives.{Gives};
 
 use crate::errors::ReadTraceError;
+use hex::FromHexError;
 use serde_json::Value;
 use std::alloc::Global;
 use vk_model::Sequence;
@@ -68,6 +69,29 @@ pub fn word_first(value: &Value) -> Reading<(&str, &[Value])>
     match list_members(value)? {
         [] => Err(ReadTraceError::NotTrace),
         [word, rest @ ..] => Ok((text_of(word)?, rest)),
+    }
+}
+
+/// The bytes that a text in hex of either case means, two digits a byte.
+#[tactic(auto, unfolding(crate::specs::Members::bytes_value))]
+pub fn bytes_of(alloc: Global, value: &Value) -> Reading<Sequence<u8>>
+    ensures { Gives (λ x. x) result (bytes_value (view value.now)) }
+{
+    let text = text_of(value)?;
+    match hex::decode(alloc, text.as_bytes()) {
+        Ok(bytes) => Ok(Sequence::new(bytes)),
+        Err(FromHexError::OutOfMemory) => Err(ReadTraceError::NoMemory),
+        Err(_) => Err(ReadTraceError::NotTrace),
+    }
+}
+
+/// The bytes that the first member means, and the members after it.
+pub fn first_bytes(alloc: Global, values: &[Value]) -> Reading<(Sequence<u8>, &[Value])>
+    ensures { Gives (λ x. (x.0, map view x.1.now)) result (first_member bytes_value (map view values.now)) }
+{
+    match values {
+        [] => Err(ReadTraceError::NotTrace),
+        [value, rest @ ..] => Ok((bytes_of(alloc, value)?, rest)),
     }
 }
 

@@ -183,17 +183,89 @@ pub const TRACES: [(&str, &str, Ending); 38] = [
     ),
 ];
 
+/// Traces of memory objects, host writes, updates and copies, with what is written and how they end.
+pub const UPLOADS: [(&str, &str, Ending); 14] = [
+    (
+        r#"[["memory",1,1,64],["buffer",2,16,3,"exclusive",["memory",1,0]],["map",2],["map",2]]"#,
+        "refused 3 MAP_STATE\n",
+        REFUSED,
+    ),
+    (
+        r#"[["memory",1,1,4194304],["memory",2,1,1]]"#,
+        "stopped 1 NO_ROOM\n",
+        STOPPED,
+    ),
+    (
+        r#"[["memory",1,1,4096],["buffer",2,256,1,"exclusive",["memory",1,0]],["buffer",3,256,3,"exclusive",["dedicated",0]],["buffer",4,256,2,"exclusive",["memory",1,256]],["semaphore",5,0],["map",2],["write",2,0,"48656c6c6f"],["submit",0,[[[],[["copy",2,3,[[0,16,5]]],["barrier",[[4096,4096,4096,2048]],[],[]],["copy",3,4,[[16,0,5]]],["barrier",[[4096,4096,16384,8192]],[],[]]],[[5,1,65536]]]]],["wait",[[5,1]]],["read",4,0,5],["unmap",4],["destroy",2],["destroy",4],["destroy",3],["free",1]]"#,
+        "9 48656c6c6f\n",
+        REPLAYED,
+    ),
+    (
+        r#"[["memory",1,1,4096],["buffer",2,256,1,"exclusive",["memory",1,0]],["buffer",3,256,3,"exclusive",["dedicated",0]],["buffer",4,256,2,"exclusive",["memory",1,256]],["semaphore",5,0],["map",2],["write",2,0,"48656c6c6f"],["submit",0,[[[],[["copy",2,3,[[0,16,5]]],["copy",3,4,[[16,0,5]]],["barrier",[[4096,4096,16384,8192]],[],[]]],[[5,1,65536]]]]],["wait",[[5,1]]],["read",4,0,5]]"#,
+        "refused 7.0.1 HAZARD_RAW\n",
+        REFUSED,
+    ),
+    (
+        r#"[["memory",1,1,4096],["buffer",2,256,1,"exclusive",["memory",1,0]],["buffer",3,256,3,"exclusive",["dedicated",0]],["buffer",4,256,2,"exclusive",["memory",1,256]],["semaphore",5,0],["map",2],["write",2,0,"48656c6c6f"],["submit",0,[[[],[["copy",2,3,[[0,16,5]]],["barrier",[[4096,4096,4096,2048]],[],[]],["copy",3,4,[[16,0,5]]],["barrier",[[4096,4096,16384,8192]],[],[]]],[[5,1,65536]]]]],["write",2,0,"00"]]"#,
+        "refused 8 HAZARD_WAR\n",
+        REFUSED,
+    ),
+    (
+        r#"[["memory",1,1,4096],["buffer",2,256,1,"exclusive",["memory",1,0]],["buffer",3,256,3,"exclusive",["dedicated",0]],["buffer",4,256,2,"exclusive",["memory",1,256]],["semaphore",5,0],["map",2],["write",2,0,"48656c6c6f"],["submit",0,[[[],[["copy",2,3,[[0,16,5]]],["barrier",[[4096,4096,4096,2048]],[],[]],["copy",3,4,[[16,0,5]]],["barrier",[[4096,4096,16384,8192]],[],[]]],[[5,1,65536]]]]],["destroy",3]]"#,
+        "refused 8 IN_USE\n",
+        REFUSED,
+    ),
+    (
+        r#"[["memory",1,1,4096],["buffer",2,256,1,"exclusive",["memory",1,0]],["buffer",3,256,3,"exclusive",["dedicated",0]],["buffer",4,256,2,"exclusive",["memory",1,256]],["semaphore",5,0],["map",2],["write",2,0,"48656c6c6f"],["submit",0,[[[],[["copy",2,3,[[0,16,5]]],["barrier",[[4096,4096,4096,2048]],[],[]],["copy",3,4,[[16,0,5]]],["barrier",[[4096,4096,16384,8192]],[],[]]],[[5,1,65536]]]]],["wait",[[5,1]]],["read",4,0,6]]"#,
+        "refused 9 READ_UNDEFINED\n",
+        REFUSED,
+    ),
+    (
+        r#"[["memory",1,1,64],["buffer",2,16,1,"exclusive",["memory",1,0]],["free",1]]"#,
+        "refused 2 IN_USE\n",
+        REFUSED,
+    ),
+    (
+        r#"[["memory",1,1,64],["buffer",2,32,1,"exclusive",["memory",1,0]],["buffer",3,32,1,"exclusive",["memory",1,16]]]"#,
+        "refused 2 ALIASED\n",
+        REFUSED,
+    ),
+    (
+        r#"[["memory",1,1,64],["buffer",2,16,1,"exclusive",["memory",1,8]]]"#,
+        "refused 1 BIND_ALIGN\n",
+        REFUSED,
+    ),
+    (
+        r#"[["memory",1,1,64],["buffer",2,33,1,"exclusive",["memory",1,32]]]"#,
+        "refused 1 BIND_RANGE\n",
+        REFUSED,
+    ),
+    (
+        r#"[["buffer",1,32,3,"exclusive",["dedicated",1]],["semaphore",2,0],["submit",0,[[[],[["update",1,0,"0102030405060708"],["barrier",[[4096,4096,4096,2048]],[],[]],["copy",1,1,[[0,8,4],[4,12,4]]],["barrier",[[4096,4096,16384,8192]],[],[]]],[[2,1,65536]]]]],["wait",[[2,1]]],["map",1],["read",1,0,16]]"#,
+        "5 01020304050607080102030405060708\n",
+        REPLAYED,
+    ),
+    (
+        r#"[["buffer",1,32,3,"exclusive",["dedicated",1]],["semaphore",2,0],["submit",0,[[[],[["update",1,0,"0102030405060708"],["barrier",[[4096,4096,4096,2048]],[],[]],["copy",1,1,[[0,4,8]]],["barrier",[[4096,4096,16384,8192]],[],[]]],[[2,1,65536]]]]],["wait",[[2,1]]],["map",1],["read",1,0,8]]"#,
+        "refused 2.0.2 OVERLAP\n",
+        REFUSED,
+    ),
+    (
+        r#"[["buffer",1,32,3,"exclusive",["dedicated",1]],["semaphore",2,0],["submit",0,[[[],[["update",1,0,"010203"],["barrier",[[4096,4096,16384,8192]],[],[]]],[[2,1,65536]]]]],["wait",[[2,1]]],["map",1],["read",1,0,3]]"#,
+        "refused 2.0.0 ALIGN\n",
+        REFUSED,
+    ),
+];
+
 /// Texts that are no trace, or none yet.
-pub const NO_TRACES: [&str; 58] = [
+pub const NO_TRACES: [&str; 56] = [
     r#"[["buffer",1,128,1,"exclusive",["dedicated",2]],["map",1],["write",1,0,"aa"],["write",1,64,"bb"],["invalidate",1,0,1],["read",1,64,1]]"#,
     r#"[["pool",1,"linear",1,4096,1],["defrag",2,1,0,0]]"#,
     r#"[["memory",1,0,4096],["image",2,"R8_UINT",8,8,1,1,"optimal",3,"exclusive",["memory",1,0]],["buffer",3,16,3,"exclusive",["memory",1,256]]]"#,
     r#"[["image",1,"R8_UINT",8,8,1,1,"optimal",3,"exclusive",["dedicated",0]],["submit",2,[[[],[["clear",1,7,[0,0,0,0],[[0,1,0,1]]]],[]]]]]"#,
     r#"[["memory",1,2,4096],["buffer",2,16,3,"exclusive",["memory",1,16]]]"#,
     r#"[["pool",1,"tlsf",1,4096,2],["buffer",2,2064,3,"exclusive",["pool",1]]]"#,
-    r#"[["memory",1,1,64],["buffer",2,16,3,"exclusive",["memory",1,0]],["map",2],["map",2]]"#,
     r#"[["pool",1,"tlsf",2,4096,2],["buffer",2,64,1,"exclusive",["pool",1]],["buffer",3,64,1,"exclusive",["pool",1]],["map",3],["write",3,0,"aa"],["destroy",2],["defrag",4,1,0,0],["pass",4],["end_pass",4,[],[]],["read",3,0,1]]"#,
-    r#"[["memory",1,1,65536],["memory",2,1,1]]"#,
     r#"[["semaphore",4294967296,0]]"#,
     r#"[["semaphore",-1,0]]"#,
     r#"[["semaphore",1.0,0]]"#,
