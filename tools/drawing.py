@@ -16,6 +16,7 @@ DESTINATIONS = ((TRANSFER, 4096), (TRANSFER, 6144), (ALL_COMMANDS, 98304), (TRAN
 HOST_DESTINATIONS = ((HOST, 8192), (HOST, 32768), (ALL_COMMANDS | HOST, 98304))
 ODD_MASKS = ((0, 0), (TRANSFER, 2048), (HOST, 16384), (TRANSFER, 0), (TRANSFER, 8192), (1, 4096), (HOST, 8192))
 UNKNOWN = 999
+MEMORIES = (300, 301)
 SEMAPHORES = range(100, 104)
 HOST_SEMAPHORE, NEVER_SIGNALED = 104, 105
 EVENTS = range(200, 204)
@@ -63,6 +64,9 @@ class Drawing:
     def objects(self):
         self.offer(["buffer", 0, self.random.choice(SIZES), 3, "concurrent", ["dedicated", 1]])
         self.sizes[0] = self.trace[0][2]
+        for memory in MEMORIES:
+            if self.chance(0.5):
+                self.memory(memory)
         for number in range(self.random.randint(0, 2)):
             self.buffer(1 + number)
         for semaphore in (*SEMAPHORES, HOST_SEMAPHORE, NEVER_SIGNALED):
@@ -71,16 +75,42 @@ class Drawing:
             self.offer(["semaphore", semaphore, initial])
         for event in EVENTS:
             self.offer(["event", event])
+        for buffer in self.sizes:
+            if self.chance(0.5) and self.offer(["map", buffer]):
+                self.host_write()
 
     def buffer(self, number):
         size = self.random.choice(SIZES)
         usage = self.random.choice((2, 3, 3, 3, 1))
         sharing = self.random.choice(("concurrent", "concurrent", "concurrent", "exclusive"))
-        memory_type = self.random.choice((1, 1, 1, 1, 0))
+        place = ["dedicated", self.random.choice((1, 1, 1, 1, 0))]
+        memories = self.reading.live("memory")
+        if memories and self.chance(0.6):
+            _, memory, _, room = self.random.choice(memories)
+            offset = 16 * self.random.randrange(max(1, (room - size) // 16 + 1))
+            place = ["memory", memory, self.random.choice((0, offset, offset))]
         if self.slip():
-            size, usage, memory_type = self.random.choice(((0, 3, 1), (16, 0, 1), (16, 7, 1), (16, 3, 3)))
-        if self.offer(["buffer", number, size, usage, sharing, ["dedicated", memory_type]]):
+            odd = ((0, 3, ["dedicated", 1]), (16, 0, place), (16, 7, place), (16, 3, ["dedicated", 3]))
+            bound = ((16, 3, ["memory", MEMORIES[0], 8]), (16, 3, ["memory", MEMORIES[0], 1 << 20]))
+            size, usage, place = self.random.choice((*odd, *bound, (16, 3, ["memory", UNKNOWN, 0])))
+        if self.offer(["buffer", number, size, usage, sharing, place]):
             self.sizes[number] = size
+
+    def memory(self, number):
+        size = self.random.choice((0, 1 << 27)) if self.slip() else self.random.choice((4_096, 20_480, 40_000))
+        self.offer(["memory", number, 3 if self.slip() else self.random.choice((1, 1, 1, 0)), size])
+
+    def end_buffer(self):
+        """Destroys a buffer, mostly once the host has waited for all queues."""
+        if self.sizes:
+            buffer = self.random.choice(list(self.sizes))
+            if self.chance(0.7):
+                self.finish_queues()
+            if self.offer(["destroy", buffer]):
+                del self.sizes[buffer]
+
+    def end_memory(self):
+        self.offer(["free", self.random.choice(MEMORIES)])
 
     # ---- commands
 
@@ -107,6 +137,33 @@ class Drawing:
         count = self.random.randint(1, self.random.choice((min(16, words - first), words - first)))
         return ["fill", buffer, 4 * first, "whole" if self.chance(0.2) else 4 * count, word]
 
+    def bytes(self, most):
+        return self.random.getrandbits(8 * most).to_bytes(most, "big").hex()
+
+    def update(self):
+        buffer = self.random.choice(list(self.sizes))
+        words = max(1, self.sizes[buffer] // 4)
+        if self.slip():
+            odd = ((2, "00000000"), (0, "0000"), (4 * words, "00000000"), (0, ""))
+            return ["update", buffer, *self.random.choice(odd)]
+        first = self.random.randrange(words)
+        return ["update", buffer, 4 * first, self.bytes(4 * self.random.randint(1, min(6, words - first)))]
+
+    def copy(self):
+        """A copy of one to three regions, mostly of bytes that are defined."""
+        source, destination = (self.random.choice(list(self.sizes)) for _ in range(2))
+        regions = []
+        for _ in range(self.random.choice((1, 1, 2, 3))):
+            at = self.random.randrange(max(1, self.sizes[source]))
+            defined = self.reading.defined.get(source, b"").find(1)
+            at = defined if defined >= 0 and self.chance(0.7) else at
+            to = self.random.randrange(max(1, self.sizes[destination]))
+            most = min(self.sizes[source] - at, self.sizes[destination] - to)
+            if self.slip():
+                most = self.random.choice((0, most + 1))
+            regions.append([at, to, self.random.choice((most, self.random.randint(1, max(1, most))))])
+        return ["copy", source, destination, regions]
+
     def event_command(self, queue):
         """A set of a new event, or an await of one that was set; its elements are those of the set."""
         event = self.random.choice(EVENTS)
@@ -122,7 +179,7 @@ class Drawing:
         for _ in range(self.random.choice((0, 1, 2, 3, 4, 6))):
             kind = self.random.random()
             if kind < 0.6 and self.sizes:
-                drawn.append(self.fill())
+                drawn.append(self.random.choice((self.fill, self.fill, self.update, self.copy, self.copy))())
             elif kind < 0.8 and (queue < 2 or self.slip()):
                 drawn.append(self.event_command(queue))
             else:
@@ -197,7 +254,8 @@ class Drawing:
         """A fill that waits for the host's next signal, in a batch of its own."""
         value = self.last_values[HOST_SEMAPHORE] + 1
         queue = self.random.randrange(4)
-        self.offer(["submit", queue, [[[[HOST_SEMAPHORE, value, ALL_COMMANDS]], [self.fill()], []]]])
+        if self.sizes:
+            self.offer(["submit", queue, [[[[HOST_SEMAPHORE, value, ALL_COMMANDS]], [self.fill()], []]]])
 
     def twice_made(self):
         """An id that is made twice, in a trace with slips."""
@@ -226,11 +284,23 @@ class Drawing:
 
     def map(self):
         if self.sizes:
-            self.offer(["map", self.random.choice(list(self.sizes))])
+            name = "unmap" if self.chance(0.15) else "map"
+            self.offer([name, self.random.choice(list(self.sizes))])
+
+    def host_write(self):
+        """A host write, at times once the host has waited for all queues."""
+        writable = [b for b in self.sizes if self.reading.is_mapped(b)]
+        if writable and self.trace[-1][0] != "map" and self.chance(0.6):
+            self.finish_queues()
+        if writable:
+            buffer = self.random.choice(writable)
+            low = self.random.randrange(self.sizes[buffer])
+            most = self.sizes[buffer] - low + self.slip()
+            self.offer(["write", buffer, low, self.bytes(self.random.randint(1, max(1, min(most, 40))))])
 
     def host_read(self, longest):
         """A read of bytes that are defined, where there are some."""
-        readable = [b for b in self.sizes if b in self.reading.mapped and 1 in self.reading.defined[b]]
+        readable = [b for b in self.sizes if self.reading.is_mapped(b) and 1 in self.reading.defined[b]]
         if not readable:
             return
         buffer = self.random.choice(readable)
@@ -253,8 +323,8 @@ class Drawing:
         """Draws the trace."""
         self.objects()
         steps = [self.submit] * 14 + [self.host_signal, self.host_wait, self.host_wait, self.map, self.map]
-        steps += [self.finish_queues, self.held_back, self.twice_made]
-        steps += [lambda: self.host_read(False)] * 3
+        steps += [self.finish_queues, self.held_back, self.twice_made, self.end_buffer, self.end_memory]
+        steps += [lambda: self.host_read(False), self.host_write] * 3
         for _ in range(self.random.randint(3, 20)):
             self.random.choice(steps)()
             if self.chance(0.005):

@@ -88,11 +88,12 @@ def shrunk(program, trace, heaps, with_reading, found):
 
 def sources(reading, host_read):
     """The pieces and the queues that the bytes of a read come from."""
-    _, _, buffer, offset, fills = host_read
+    _, _, buffer, offset, writes = host_read
     size = len(host_read[1])
     pieces = [None] * size
-    for k, (_, filled, low, high, queue) in enumerate(reading.fills[:fills]):
-        for at in range(max(low, offset), min(high, offset + size)) if filled == buffer else ():
+    for k, (number, written, low, high) in enumerate(reading.writes[:writes]):
+        queue = reading.nodes[number].point.queue
+        for at in range(max(low, offset), min(high, offset + size)) if written == buffer else ():
             pieces[at - offset] = (k, (at - low) // PIECE, queue)
     return set(pieces), {piece[2] for piece in pieces if piece}
 
@@ -107,6 +108,9 @@ def count_accepted(reading, counts):
     counts["with batches started later than at their submit"] += is_ahead(reading)
     counts["with batches that are never started"] += bool(reading.waiting)
     counts["with events awaited"] += any(n.role and n.role[0] == "await" for n in reading.nodes)
+    names = {n.content[0] for n in reading.nodes if n.kind in ("host", "command")}
+    for name in ("memory", "write", "update", "copy", "destroy", "free", "unmap"):
+        counts[f"with {name}"] += name in names
     counts["with reads"] += bool(reading.reads)
     origins = [sources(reading, host_read) for host_read in reading.reads]
     counts["with reads of bytes from several pieces"] += any(len(p) > 1 for p, _ in origins)

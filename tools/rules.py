@@ -19,7 +19,7 @@ def rounded(size):
 
 
 def new_id(reading, point, own):
-    makes = point.kind == "host" and point.content[0] in ("buffer", "semaphore", "event")
+    makes = point.kind == "host" and point.content[0] in ("buffer", "memory", "semaphore", "event")
     return makes and point.content[1] in reading.made
 
 
@@ -28,7 +28,12 @@ def asked(point):
     content = point.content
     if point.kind in ("wait", "signal"):
         return [(content[0], "semaphore")]
-    kinds = {"fill": "buffer", "set": "event", "await": "event", "map": "buffer", "read": "buffer"}
+    kinds = {"set": "event", "await": "event", "free": "memory"}
+    kinds |= dict.fromkeys(("fill", "update", "map", "unmap", "read", "write", "destroy"), "buffer")
+    if content[0] == "copy":
+        return [(content[1], "buffer"), (content[2], "buffer")]
+    if content[0] == "buffer":
+        return [(content[5][1], "memory")] if content[5][0] == "memory" else []
     if content[0] in kinds:
         return [(content[1], kinds[content[0]])]
     if content[0] == "signal":
@@ -77,6 +82,63 @@ def fills_past(reading, fill):
 
 def misaligned(reading, fill):
     return fill[2] % 4 != 0 or fill[3] != "whole" and fill[3] % 4 != 0
+
+
+def bound(rule):
+    """A rule on buffers that are bound in a memory object of the trace."""
+    return host_entry("buffer")(lambda r, e: e[5][0] == "memory" and rule(r, e))
+
+
+def ends_past(reading, entry):
+    return entry[5][2] + rounded(entry[2]) > reading.made[entry[5][1]][1][3]
+
+
+def is_aliased(reading, entry):
+    _, memory, offset = entry[5]
+    others = [o for o in reading.live("buffer") if o[5][0] == "memory" and o[5][1] == memory]
+    return any(max(offset, o[5][2]) < min(offset + rounded(entry[2]), o[5][2] + rounded(o[2])) for o in others)
+
+
+def type_of(reading, buffer):
+    place = reading.made[buffer][1][5]
+    return place[1] if place[0] == "dedicated" else reading.made[place[1]][1][2]
+
+
+def reaches_past(reading, item):
+    return any(high > reading.size_of(buffer) for buffer, _, high in reading.writes_of(item) + reading.reads_of(item))
+
+
+def meets(first, second):
+    return first[0] == second[0] and max(first[1], second[1]) < min(first[2], second[2])
+
+
+def overlaps(reading, copy):
+    writes, reads = reading.writes_of(copy), reading.reads_of(copy)
+    twice = any(meets(w, v) for k, w in enumerate(writes) for v in writes[:k])
+    return twice or any(meets(w, r) for w in writes for r in reads)
+
+
+def lacks(reading, buffer, bit):
+    return not reading.made[buffer][1][3] & bit
+
+
+def bad_map(reading, entry):
+    return reading.made[entry[1]][1][5][0] == "memory" and reading.is_mapped(entry[1])
+
+
+def bad_end(reading, entry):
+    return reading.made[entry[1]][1][5][0] == "dedicated" and reading.is_mapped(entry[1])
+
+
+def in_use(reading, point, own):
+    if point.kind != "host":
+        return False
+    name, thing = point.content[0], point.content[1] if len(point.content) > 1 else None
+    if name == "destroy":
+        return reading.is_busy(thing, own[0])
+    if name == "free":
+        return any(e[5][0] == "memory" and e[5][1] == thing for e in reading.live("buffer"))
+    return False
 
 
 def bad_masks(stages, accesses):
@@ -131,44 +193,40 @@ def signal_order(reading, point, own):
     return False
 
 
-def ranges_meet(first, second):
-    return first[1] == second[1] and max(first[2], second[2]) < min(first[3], second[3])
-
-
-def write_of(reading, point, own):
-    if point.kind == "command" and point.content[0] == "fill":
-        return (own[0], point.content[1], *reading.filled(point.content))
-    return None
-
-
-def read_of(reading, point, own):
-    if point.kind == "host" and point.content[0] == "read":
-        _, buffer, offset, size = point.content
-        return (own[0], buffer, offset, offset + size)
-    return None
+def conflicts(reading, own, mine, earlier, judged):
+    """Whether an earlier access meets one of these and isn't judged well; two of the host never are."""
+    by_host = reading.nodes[own[0]].on_host
+    for number, *ranged in earlier:
+        if by_host and reading.nodes[number].on_host:
+            continue
+        if any(meets(ranged, own_range) for own_range in mine) and not judged(number):
+            return True
+    return False
 
 
 def hazard_war(reading, point, own):
-    write = write_of(reading, point, own)
-    earlier = [read for read in reading.host_reads if write and ranges_meet(read, write)]
-    return any(not reading.comes_before(read[0], own[0]) for read in earlier)
+    if point.kind not in ("host", "command"):
+        return False
+    mine = reading.writes_of(point.content)
+    return conflicts(reading, own, mine, reading.reads_made, lambda n: reading.comes_before(n, own[0])) if mine else False
 
 
 def hazard_raw(reading, point, own):
-    read = read_of(reading, point, own)
-    earlier = [fill for fill in reading.fills if read and ranges_meet(fill, read)]
-    return any(not reading.sees(fill[0], own[0], READS_OF) for fill in earlier)
+    if point.kind not in ("host", "command"):
+        return False
+    mine = reading.reads_of(point.content)
+    return conflicts(reading, own, mine, reading.writes, lambda n: reading.sees(n, own[0], READS_OF)) if mine else False
 
 
 def hazard_waw(reading, point, own):
-    write = write_of(reading, point, own)
-    earlier = [fill for fill in reading.fills if write and ranges_meet(fill, write)]
-    return any(not reading.sees(fill[0], own[0], WRITES_OF) for fill in earlier)
+    if point.kind not in ("host", "command"):
+        return False
+    mine = reading.writes_of(point.content)
+    return conflicts(reading, own, mine, reading.writes, lambda n: reading.sees(n, own[0], WRITES_OF)) if mine else False
 
 
-def read_undefined(reading, point, own):
-    read = read_of(reading, point, own)
-    return read is not None and 0 in reading.defined[read[1]][read[2] : read[3]]
+def read_undefined(reading, entry):
+    return 0 in reading.defined[entry[1]][entry[2] : entry[2] + entry[3]]
 
 
 RULES = [
@@ -181,37 +239,75 @@ RULES = [
         either(
             host_entry("buffer")(lambda r, e: e[2] == 0),
             host_entry("read")(lambda r, e: e[3] == 0),
+            host_entry("write")(lambda r, e: not e[3]),
             host_entry("wait")(lambda r, e: not e[1]),
             command("fill")(fills_none),
+            command("update")(lambda r, c: not 0 < len(c[3]) // 2 <= 65_536),
+            command("copy")(lambda r, c: not c[3] or any(region[2] == 0 for region in c[3])),
         ),
     ),
     (
         "USAGE",
         either(
             host_entry("buffer")(lambda r, e: e[3] == 0 or e[3] > 3),
-            command("fill")(lambda r, c: not r.made[c[1]][1][3] & 2),
+            command("fill")(lambda r, c: lacks(r, c[1], 2)),
+            command("update")(lambda r, c: lacks(r, c[1], 2)),
+            command("copy")(lambda r, c: lacks(r, c[1], 1) or lacks(r, c[2], 2)),
         ),
     ),
-    ("MEMORY_TYPE", host_entry("buffer")(lambda r, e: e[5][1] > 2)),
-    ("MEMORY_SIZE", host_entry("buffer")(lambda r, e: rounded(e[2]) > MOST_BYTES)),
+    (
+        "MEMORY_TYPE",
+        either(
+            host_entry("buffer")(lambda r, e: e[5][0] == "dedicated" and e[5][1] > 2),
+            host_entry("memory")(lambda r, e: e[2] > 2),
+        ),
+    ),
+    (
+        "MEMORY_SIZE",
+        either(
+            host_entry("buffer")(lambda r, e: rounded(e[2]) > MOST_BYTES),
+            host_entry("memory")(lambda r, e: not 0 < e[3] <= MOST_BYTES),
+        ),
+    ),
+    ("BIND_RANGE", bound(ends_past)),
+    ("BIND_ALIGN", bound(lambda r, e: e[5][2] % 16 != 0)),
+    ("ALIASED", bound(is_aliased)),
     (
         "RANGE",
         either(
-            host_entry("read")(lambda r, e: e[2] + e[3] > r.size_of(e[1])),
+            host_entry("read")(reaches_past),
+            host_entry("write")(reaches_past),
             command("fill")(fills_past),
+            command("update")(reaches_past),
+            command("copy")(reaches_past),
         ),
     ),
-    ("ALIGN", command("fill")(misaligned)),
+    (
+        "ALIGN",
+        either(
+            command("fill")(misaligned),
+            command("update")(lambda r, c: c[2] % 4 != 0 or len(c[3]) // 2 % 4 != 0),
+        ),
+    ),
+    ("OVERLAP", command("copy")(overlaps)),
     ("STAGE", stage),
     ("EVENT_STATE", event_state),
     ("EVENT_DEPENDENCY", event_dependency),
     ("SIGNAL_VALUE", signal_value),
     ("SIGNAL_ORDER", signal_order),
     ("WAIT_NEVER", host_entry("wait")(lambda r, e: any(w[1] > r.counters[w[0]] for w in e[1]))),
-    ("MAP_STATE", host_entry("read")(lambda r, e: e[1] not in r.mapped)),
-    ("HOST_VISIBLE", host_entry("map")(lambda r, e: r.made[e[1]][1][5][1] == 0)),
+    (
+        "MAP_STATE",
+        either(
+            *(host_entry(name)(lambda r, e: not r.is_mapped(e[1])) for name in ("read", "write", "unmap")),
+            host_entry("map")(bad_map),
+            host_entry("destroy")(bad_end),
+        ),
+    ),
+    ("HOST_VISIBLE", host_entry("map")(lambda r, e: type_of(r, e[1]) == 0)),
     ("HAZARD_WAR", hazard_war),
     ("HAZARD_RAW", hazard_raw),
     ("HAZARD_WAW", hazard_waw),
-    ("READ_UNDEFINED", read_undefined),
+    ("IN_USE", in_use),
+    ("READ_UNDEFINED", host_entry("read")(read_undefined)),
 ]

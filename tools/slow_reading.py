@@ -25,12 +25,17 @@ class Reading:
         self.counters = {}
         self.signals = {}
         self.sets = {}
-        self.mapped = set()
+        # Of ended ids the entries that ended them; of batches all commands that were submitted.
+        self.ended = {}
+        self.submitted = []
+        # How much more often each memory object, or buffer in memory of its own, is mapped than unmapped.
+        self.maps = {}
         self.values = {}
         self.defined = {}
         self.owners = {}
-        self.fills = []
-        self.host_reads = []
+        # Each access: its node, its buffer, and its bytes from the first to the one after the last.
+        self.writes = []
+        self.reads_made = []
         self.waiting = []
         self.reads = []
         self.fault = None
@@ -41,6 +46,7 @@ class Reading:
         other = Reading(self.free)
         for name, value in vars(self).items():
             setattr(other, name, value.copy() if hasattr(value, "copy") else value)
+        other.maps = self.maps.copy()
         other.values = {i: b.copy() for i, b in self.values.items()}
         other.defined = {i: b.copy() for i, b in self.defined.items()}
         other.signals = {i: s.copy() for i, s in self.signals.items()}
@@ -59,6 +65,8 @@ class Reading:
                 waits = [wait for wait in content[0] if wait[0] in self.counters]
                 batches.append(Batch(self.count, number, entry[1], content, waits))
         self.come(Point("host", entry, self.count))
+        for batch in batches:
+            self.submitted += [p for p in batch.points() if p.kind == "command"]
         self.waiting += batches
         while self.fault is None:
             batch = self.next_batch()
@@ -112,25 +120,30 @@ class Reading:
         return first == second or self.comes_before(first, second)
 
     def sees(self, writer, reader, masks):
-        """Whether an access by a node sees the write of an earlier fill."""
+        """Whether an access by a node sees the write of an earlier one."""
         kind = self.nodes[reader].kind
         mask = masks[kind]
-        ends = [q for q in range(len(self.nodes)) if self.shows(q, reader, kind, mask)]
+        by_host = self.nodes[writer].on_host
+        ends = [q for q in range(len(self.nodes)) if self.shows(q, reader, kind, mask, by_host)]
         for start, node in enumerate(self.nodes):
-            if not self.edges[start] >> writer & 1 or not makes_available(node):
+            if by_host:
+                if not node.is_submit or not self.comes_before(writer, start):
+                    continue
+            elif not self.edges[start] >> writer & 1 or not makes_available(node):
                 continue
             if any(self.reaches(start, end) and self.reaches(end, reader) for end in ends):
                 return True
         return False
 
-    def shows(self, number, reader, kind, mask):
+    def shows(self, number, reader, kind, mask, by_host):
         """Whether a node makes available writes visible to an access by a later one."""
         node = self.nodes[number]
         element = node.kind == "element" and node.role[0] != "set" and node.content[3] & mask
         if kind == "host":
             to_host = element and node.content[2] & HOST
             return bool(to_host and self.comes_before(number, reader))
-        return bool((element or node.kind == "wait") and self.edges[reader] >> number & 1)
+        shown = element or node.kind == "wait" or by_host and node.is_submit
+        return bool(shown and self.edges[reader] >> number & 1)
 
     # ---- points
 
@@ -154,48 +167,118 @@ class Reading:
             self.signals.setdefault(semaphore, []).append((value, own[0]))
         elif point.kind == "host":
             self.host_effect(point.content, own)
-        elif point.kind == "command" and name == "fill":
-            self.fill(point, own[0])
+        elif point.kind == "command" and name in ("fill", "update", "copy"):
+            self.change(point, own[0])
         elif point.kind == "command" and name == "set":
             self.sets.setdefault(point.content[1], []).append((point.queue, point.content[2]))
 
     def host_effect(self, entry, own):
-        if entry[0] in ("buffer", "semaphore", "event"):
+        if entry[0] in ("buffer", "memory", "semaphore", "event"):
             self.made[entry[1]] = (self.count, entry)
         if entry[0] == "semaphore":
             self.counters[entry[1]] = entry[2]
-        elif entry[0] == "map":
-            self.mapped.add(entry[1])
-        elif entry[0] == "buffer":
+        elif entry[0] in ("map", "unmap"):
+            thing = self.mapping(entry[1])
+            self.maps[thing] = self.maps.get(thing, 0) + (1 if entry[0] == "map" else -1)
+        elif entry[0] in ("buffer", "memory"):
             self.make(entry)
+        elif entry[0] in ("destroy", "free"):
+            self.end(entry[1])
+        elif entry[0] == "write":
+            _, buffer, offset, text = entry
+            self.give(buffer, offset, [(value, 1) for value in bytes.fromhex(text)])
+            self.writes += [(own[0], *r) for r in self.writes_of(entry)]
         elif entry[0] == "read":
             _, buffer, offset, size = entry
-            self.host_reads.append((own[0], buffer, offset, offset + size))
+            self.reads_made += [(own[0], *r) for r in self.reads_of(entry)]
             read = bytes(self.values[buffer][offset : offset + size])
-            self.reads.append((self.count, read, buffer, offset, len(self.fills)))
+            self.reads.append((self.count, read, buffer, offset, len(self.writes)))
 
     def make(self, entry):
-        """A buffer gets undefined bytes, and room where its heap has some."""
-        self.values[entry[1]] = bytearray(entry[2])
-        self.defined[entry[1]] = bytearray(entry[2])
-        heap = 0 if entry[5][1] == 0 else 1
-        objects = len(self.values)
-        if rounded(entry[2]) > self.free[heap] or objects > MOST_OBJECTS:
+        """A buffer gets undefined bytes; a memory object, a buffer's own too, room where its heap has some."""
+        if entry[0] == "buffer":
+            self.values[entry[1]] = bytearray(entry[2])
+            self.defined[entry[1]] = bytearray(entry[2])
+        heap, size = self.allocated(entry)
+        if heap is None:
+            return
+        objects = sum(self.allocated(e)[0] is not None for i, (_, e) in self.made.items() if i not in self.ended)
+        if size > self.free[heap] or objects > MOST_OBJECTS:
             self.stop = self.count if self.stop is None else self.stop
         else:
-            self.free[heap] -= rounded(entry[2])
+            self.free[heap] -= size
 
-    def fill(self, point, number):
-        _, buffer, offset, _, word = point.content
-        low, high = self.filled(point.content)
-        family = 0 if point.queue < 2 else 1
+    def end(self, thing):
+        """An object ends, and its heap has the bytes back."""
+        self.ended[thing] = self.count
+        heap, size = self.allocated(self.made[thing][1])
+        if heap is not None:
+            self.free[heap] += size
+
+    def allocated(self, entry):
+        """The heap and the bytes that an entry allocates; no heap where it allocates nothing."""
+        if entry[0] == "memory":
+            return (0 if entry[2] == 0 else 1), entry[3]
+        if entry[0] == "buffer" and entry[5][0] == "dedicated":
+            return (0 if entry[5][1] == 0 else 1), rounded(entry[2])
+        return None, 0
+
+    def mapping(self, buffer):
+        """What is mapped with a buffer: the memory object of its place, or itself."""
+        place = self.made[buffer][1][5]
+        return place[1] if place[0] == "memory" else buffer
+
+    def give(self, buffer, offset, given):
+        """Gives bytes of a buffer values, each with whether it is defined."""
+        self.values[buffer][offset : offset + len(given)] = bytes(value for value, _ in given)
+        self.defined[buffer][offset : offset + len(given)] = bytes(is_so for _, is_so in given)
+
+    def use(self, buffer, family):
         if self.made[buffer][1][4] == "exclusive":
             if self.owners.get(buffer, family) != family:
                 self.defined[buffer] = bytearray(len(self.defined[buffer]))
             self.owners[buffer] = family
-        self.values[buffer][low:high] = word.to_bytes(4, "little") * ((high - low) // 4)
-        self.defined[buffer][low:high] = b"\1" * (high - low)
-        self.fills.append((number, buffer, low, high, point.queue))
+
+    def change(self, point, number):
+        """A fill, an update or a copy takes effect."""
+        command = point.content
+        for buffer in command[1:3] if command[0] == "copy" else command[1:2]:
+            self.use(buffer, 0 if point.queue < 2 else 1)
+        for buffer, low, given in self.given(command):
+            self.give(buffer, low, given)
+        self.writes += [(number, *r) for r in self.writes_of(command)]
+        self.reads_made += [(number, *r) for r in self.reads_of(command)]
+
+    def given(self, command):
+        """What a command writes: a buffer, the first byte, and the values."""
+        if command[0] == "fill":
+            low, high = self.filled(command)
+            word = command[4].to_bytes(4, "little")
+            return [(command[1], low, [(value, 1) for value in word * ((high - low) // 4)])]
+        if command[0] == "update":
+            return [(command[1], command[2], [(value, 1) for value in bytes.fromhex(command[3])])]
+        _, source, destination, regions = command
+        values, defined = self.values[source], self.defined[source]
+        taken = ((to, range(at, at + size)) for at, to, size in regions)
+        return [(destination, to, [(values[k], defined[k]) for k in places]) for to, places in taken]
+
+    def writes_of(self, item):
+        """The ranges that an entry or a command writes: buffers, first bytes, and the ones after the last."""
+        if item[0] == "fill":
+            return [(item[1], *self.filled(item))]
+        if item[0] in ("update", "write"):
+            return [(item[1], item[2], item[2] + len(item[3]) // 2)]
+        if item[0] == "copy":
+            return [(item[2], to, to + size) for _, to, size in item[3]]
+        return []
+
+    def reads_of(self, item):
+        """The ranges that it reads."""
+        if item[0] == "read":
+            return [(item[1], item[2], item[2] + item[3])]
+        if item[0] == "copy":
+            return [(item[1], at, at + size) for at, _, size in item[3]]
+        return []
 
     def filled(self, fill):
         """The bytes of a fill, from the first to the one after the last."""
@@ -207,9 +290,27 @@ class Reading:
     # ---- questions of the rules
 
     def is_live(self, thing, kind, until=None):
-        """Whether an id was made as this kind, before entry `until`."""
+        """Whether an id was made as this kind, and hasn't ended, before entry `until`."""
         number, entry = self.made.get(thing, (0, [None]))
-        return entry[0] == kind and (until is None or number < until)
+        end = self.ended.get(thing)
+        has_ended = end is not None and (until is None or end < until)
+        return entry[0] == kind and (until is None or number < until) and not has_ended
+
+    def live(self, kind):
+        """The entries that made what is live of a kind."""
+        return [entry for thing, (_, entry) in self.made.items() if self.is_live(thing, kind)]
+
+    def is_mapped(self, buffer):
+        return buffer in self.made and self.maps.get(self.mapping(buffer), 0) > 0
+
+    def is_busy(self, buffer, host):
+        """Whether a submitted command that names a buffer isn't known complete at a host entry's node."""
+        for command in self.submitted:
+            if buffer in named_by(command.content):
+                nodes = [k for k, n in enumerate(self.nodes) if n.kind == "command" and same_place(n.point, command)]
+                if not nodes or not all(self.comes_before(k, host) for k in nodes):
+                    return True
+        return False
 
     def size_of(self, buffer):
         return self.made[buffer][1][2]
@@ -225,8 +326,19 @@ class Reading:
         return lines + f"stopped {self.stop} NO_ROOM\n", 3
 
 
+def named_by(command):
+    """The buffers that a command names."""
+    if command[0] == "copy":
+        return command[1:3]
+    return command[1:2] if command[0] in ("fill", "update") else []
+
+
+def same_place(point, other):
+    return (point.entry, point.batch, point.place) == (other.entry, other.batch, other.place)
+
+
 def makes_available(node):
-    """Whether a node makes fills' writes available that have an edge to it."""
+    """Whether a node makes commands' writes available that have an edge to it."""
     if node.kind == "signal":
         return True
     return bool(node.kind == "element" and node.role[0] != "await" and node.content[1] & WRITES_OF["command"])
