@@ -17,6 +17,7 @@ mod ListLemmas
 mod PointLemmas
 mod BeforeLemmas
 mod SetLemmas
+mod KnownRows
 mod RowJoins
 mod FrontLemmas
 mod NameLemmas

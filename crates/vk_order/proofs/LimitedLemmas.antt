@@ -18,7 +18,7 @@ use Rattle.vk_order.specs.Wide.{is_wide}
 use Rattle.vk_order.specs.Limited.{is_limited, IsMark, Reaches, IsWrite, SeenByCommand, SeenByHost, SeenByTransition}
 use Rattle.vk_order.specs.Inner.Rows.{sends_all, makes_available, shows, Visible, OnHost, IsAvailable, IsKnown, KnowsOne}
 use Rattle.vk_order.proofs.ByEdges.{by_last, by_edge}
-use Rattle.vk_order.proofs.RowJoins.{older_of, old_edge, heard_old, heard_new, unmade}
+use Rattle.vk_order.proofs.KnownRows.{older_of, old_edge, heard_old, heard_new, unmade}
 use Rattle.vk_order.proofs.SightLemmas.{sent_wide, receives_each, received_wide, on_host_each, on_host_wide, made_each}
 use Rattle.vk_order.proofs.Visibility.{parts_of, seen_by}
 

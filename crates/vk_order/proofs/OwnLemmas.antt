@@ -26,7 +26,7 @@ use Rattle.vk_order.proofs.Arrange.{and-true, and-false}
 use Rattle.vk_order.proofs.ClockLemmas.{edges_join, line_same, line_itself, of_on}
 use Rattle.vk_order.proofs.KeptLemmas.{at_max, nil, none_of, found_line, line_class}
 use Rattle.vk_order.proofs.ListLemmas.{place-none}
-use Rattle.vk_order.proofs.RowJoins.{available_row, known_row, visible_row, host_row}
+use Rattle.vk_order.proofs.KnownRows.{available_row, known_row, visible_row, host_row}
 
 -- ---- tallies by their lines
 

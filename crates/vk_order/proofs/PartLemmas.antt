@@ -1,6 +1,6 @@
 -- What is kept of dependencies on parts of memory, and what it gives.
-use Rattle.std.proofs.Common.{◌≡◌, ◌≢◌, ⊎_elim, ℕ, ◌<◌, List, [], ◌∷◌, ◌++◌, length, Bool, true, false, not, ◌&&◌, Some, None, refl, ap, sym, ◌∙◌, subst, arith}
-use Rattle.std.specs.Prelude.{◌==◌, nat_lt, Contains, ◌↔◌, if◌then◌else◌}
+use Rattle.std.proofs.Common.{◌≡◌, ◌≢◌, ⊎_elim, ℕ, ◌<◌, ◌≤◌, List, [], ◌∷◌, ◌++◌, ◌+◌, ◌-◌, zero, suc, take, drop, length, Bool, true, false, not, ◌&&◌, Some, None, refl, ap, sym, ◌∙◌, subst, arith}
+use Rattle.std.specs.Prelude.{◌==◌, nat_lt, Contains, ◌↔◌, slice_get, if◌then◌else◌}
 use Rattle.std.proofs.lemmas.Bool.{lt-ltb, ltb-true, and_parts, and_from, cases_lt, eqb-true, eq-eqb}
 use Rattle.std.proofs.lemmas.List.Elements.{Contains-append_left, Contains-append_right, Contains-append_cases}
 use Rattle.vk_model.specs.declared.command.Element.{Element}
@@ -12,7 +12,7 @@ use Rattle.vk_model.specs.Sync.Node.{Node, Act, Hosts, Waits, Signals, Runs, Dep
 use Rattle.vk_model.specs.Sync.Edge.{edge, is_command, is_host, is_submit}
 use Rattle.vk_model.specs.Sync.Before.{IsNumbered}
 use Rattle.vk_model.specs.Sync.Seen.{makes_writes_available, covers, command_mask, Write}
-use Rattle.vk_model.proofs.Lists.Members.{contains-head, contains-tail, contains-cons, none_in, only_one}
+use Rattle.vk_model.proofs.Lists.Members.{contains-head, contains-tail, contains-cons, none_in, only_one, place_has}
 use Rattle.vk_model.proofs.Lists.Truths.{no, bool_same}
 use Rattle.vk_model.proofs.Sync.Numbers.{number_below}
 use Rattle.vk_model.proofs.Sync.Paths.{edge_forward}
@@ -26,11 +26,14 @@ use Rattle.vk_order.specs.Inner.Clocks.{same_line, place, Clock}
 use Rattle.vk_order.specs.Inner.Kept.{clock_at, IsKeptJoin, IsLonger}
 use Rattle.vk_order.specs.Inner.Leads.{is_of_barriers}
 use Rattle.vk_order.specs.Inner.Rows.{Available, sends, IsKnown, IsRow, IsKnownRow, IsKeptRow, IsMerged}
-use Rattle.vk_order.specs.Inner.Parts.{part_of, IsPart, parts_at, AreParts}
+use Rattle.vk_order.specs.Inner.Parts.{part_of, IsPart, parts_at, AreInOrder, AreFrom, AreParts}
 use Rattle.vk_order.proofs.LinePrefixes.{node, linked, of_linked, to_linked, command_line}
 use Rattle.vk_order.proofs.ClockLemmas.{line_same, line_itself, place-grows, place-less, edges_join}
+use Rattle.std.proofs.lemmas.List.{take_all, length-drop}
+use Rattle.std.proofs.lemmas.Option.{slice_get_within, slice_get-get_or}
+use Rattle.vk_order.proofs.KeptLemmas.{push_cases}
 use Rattle.vk_order.proofs.OwnLemmas.{none_sent}
-use Rattle.vk_order.proofs.RowJoins.{takes, command_takes, available_row, known_row, at_old, at_new, unheard, heard_old, heard_new}
+use Rattle.vk_order.proofs.KnownRows.{takes, command_takes, available_row, known_row, at_old, at_new, unheard, heard_old, heard_new}
 
 -- ---- which commands lead to a part
 
@@ -130,6 +133,7 @@ part_stays ns n ls m x numbers is = record {
   there = contains-tail n ns m is.there;
   act = is.act;
   limited = is.limited;
+  number = is.number;
   queue = is.queue;
   line = is.line;
   at = is.at ∙ sym (at_old ns n numbers x.line m is.there);
@@ -144,9 +148,9 @@ part_element (element.Buffer e) id h = (refl, refl)
 part_element (element.Image e) id h = (refl, refl)
 
 -- one that comes next
-pub part_new : (ns : List Node) (n : Node) (ls : List Line) (x : Part) (id : ℕ) (clock row : List ℕ) → IsNumbered (n ∷ ns) → n.act ≡ Depends Barrier x.element → named_by x.element ≡ Some id → x.queue ≡ n.point.queue → x.line ≡ class_on n.point.queue n.act
+pub part_new : (ns : List Node) (n : Node) (ls : List Line) (x : Part) (id : ℕ) (clock row : List ℕ) → IsNumbered (n ∷ ns) → n.act ≡ Depends Barrier x.element → named_by x.element ≡ Some id → x.number ≡ n.number → x.queue ≡ n.point.queue → x.line ≡ class_on n.point.queue n.act
     → x.place ≡ place ns x.line (length ns) → x.earlier ≡ place ns (OfCommands x.queue) (length ns) → IsMerged ls clock row x.heard.items → IsKeptJoin ns ls (λ k. edge ns k n) clock → IsKeptRow Available ns ls (λ k. edge ns k n) row → IsPart (n ∷ ns) ls n x
-part_new ns n ls x id clock row numbers act named queue line at earlier merged kept sent =
+part_new ns n ls x id clock row numbers act named number queue line at earlier merged kept sent =
     let of = part_element x.element id named in
     let quiet : sends n.act ≡ false = ap sends act ∙ of.1 in
     let device : is_submit n.act ≡ false = ap is_submit act in
@@ -155,6 +159,7 @@ part_new ns n ls x id clock row numbers act named queue line at earlier merged k
       there = contains-head n ns;
       act = act;
       limited = ap is_limited act ∙ of.0;
+      number = number;
       queue = queue;
       line = ap (line_on n.point.queue) act ∙ ap (λ (a : Act). Some (class_on n.point.queue a)) (sym act) ∙ ap Some (sym line);
       at = at ∙ sym (at_new ns n numbers x.line);
@@ -166,6 +171,7 @@ part_new ns n ls x id clock row numbers act named queue line at earlier merged k
 
 pub parts_same : (ns : List Node) (n : Node) (ls : List Line) (p : Parts) → IsNumbered (n ∷ ns) → part_of n.act ≡ None → AreParts ns ls p → AreParts (n ∷ ns) ls p
 parts_same ns n ls p numbers none are = record {
+  ordered = are.ordered;
   each = λ id x has. let r = are.each id x has in (r.0, part_stays ns n ls r.0 x numbers r.1);
   all = λ id m hm is. ⊎_elim
       (λ e. absurd (let bad : None ≡ Some id = sym none ∙ ap (λ (y : Node). part_of y.act) e ∙ is in cc))
@@ -176,6 +182,7 @@ parts_same ns n ls p numbers none are = record {
 pub parts_more : (ns : List Node) (n : Node) (ls : List Line) (p q : Parts) (id : ℕ) (x : Part) → IsNumbered (n ∷ ns) → part_of n.act ≡ Some id → IsPart (n ∷ ns) ls n x
     → parts_at q id ≡ parts_at p id ++ x ∷ [] → ((i : ℕ) → i ≢ id → parts_at q i ≡ parts_at p i) → AreParts ns ls p → AreParts (n ∷ ns) ls q
 parts_more ns n ls p q id x numbers is part here others are = record {
+  ordered = λ i. in_order i (i == id) refl;
   each = λ i y has. go_each i y (i == id) refl has;
   all = λ i m hm named. ⊎_elim
       (λ e. new i m e named)
@@ -183,8 +190,30 @@ parts_more ns n ls p q id x numbers is part here others are = record {
       (contains-cons n ns m hm);
 }
   where
+    -- the new one is the newest
+    pushed : (i j : ℕ) (y z : Part) → i < j → slice_get (parts_at p id ++ x ∷ []) i ≡ Some y → slice_get (parts_at p id ++ x ∷ []) j ≡ Some z → y.number ≤ z.number
+    pushed i j y z lt first second = ⊎_elim
+        (λ old. ⊎_elim
+        (λ earlier. are.ordered id i j y z lt earlier old)
+        (λ last. absurd (let low = slice_get_within (parts_at p id) j z old in let at = last.0 in omega arith))
+        (push_cases (parts_at p id) x y i first))
+        (λ last. ⊎_elim
+        (λ earlier. let r = are.each id y (place_has (parts_at p id) i y earlier) in
+        let low = number_below ns numbers.1 r.0 r.1.there in
+        let of = r.1.number in
+        let own = part.number in
+        let at = numbers.0 in
+        let same : x.number ≡ z.number = ap (λ (u : Part). u.number) last.1 in omega arith)
+        (λ again. absurd (let at = again.0 in let on = last.0 in omega arith))
+        (push_cases (parts_at p id) x y i first))
+        (push_cases (parts_at p id) x z j second)
+
     apart : (i : ℕ) → (i == id) ≡ false → i ≢ id
     apart i e same = no (sym e ∙ eq-eqb i id same)
+
+    in_order : (i : ℕ) (t : Bool) → (i == id) ≡ t → AreInOrder (parts_at q i)
+    in_order i true e = subst (λ (l : List Part). AreInOrder l) (sym (ap (parts_at q) (eqb-true i id e) ∙ here)) pushed
+    in_order i false e = subst (λ (l : List Part). AreInOrder l) (sym (others i (apart i e))) (are.ordered i)
 
     kept : (i : ℕ) (y : Part) → Contains (parts_at p i) y → Contains (parts_at q i) y
     kept i y has = go (i == id) refl
@@ -215,6 +244,7 @@ parts_more ns n ls p q id x numbers is part here others are = record {
 -- what is kept says the same over more lines
 pub parts_longer : (ns : List Node) (ls more : List Line) (p : Parts) → IsLonger ls more → AreParts ns ls p → AreParts ns more p
 parts_longer ns ls more p longer are = record {
+  ordered = are.ordered;
   each = λ id x has. let r = are.each id x has in (r.0, part_longer r.0 x r.1);
   all = λ id m hm is. let r = are.all id m hm is in (r.0, r.1, part_longer m r.0 r.2);
 }
@@ -224,6 +254,7 @@ parts_longer ns ls more p longer are = record {
       there = is.there;
       act = is.act;
       limited = is.limited;
+      number = is.number;
       queue = is.queue;
       line = is.line;
       at = is.at;
@@ -234,6 +265,44 @@ parts_longer ns ls more p longer are = record {
 
 pub parts_none : (ls : List Line) (p : Parts) → ((id : ℕ) → parts_at p id ≡ []) → AreParts [] ls p
 parts_none ls p none = record {
+  ordered = λ id i j x y lt first second. absurd (nothing i x (ap (λ (l : List Part). slice_get l i) (sym (none id)) ∙ first));
   each = λ id x has. absurd (none_in x (subst (λ (l : List Part). Contains l x) (none id) has));
   all = λ id m hm is. absurd (none_in m hm);
 }
+  where
+    nothing : (i : ℕ) (x : Part) → slice_get [] i ≡ Some x → ⊥
+    nothing i x e = cc
+
+-- ---- parts of nodes from a number on
+
+drop_within : (k : ℕ) (xs : List Part) (x : Part) → Contains (drop k xs) x → Contains xs x
+drop_within zero xs x h = h
+drop_within (suc k) [] x h = h
+drop_within (suc k) (y ∷ ys) x h = contains-tail y ys x (drop_within k ys x h)
+
+drop_beyond : (k : ℕ) (xs : List Part) (x : Part) (i : ℕ) → slice_get xs i ≡ Some x → k ≤ i → Contains (drop k xs) x
+drop_beyond zero xs x i e le = place_has xs i x e
+drop_beyond (suc k) [] x i e le = absurd cc
+drop_beyond (suc k) (y ∷ ys) x zero e le = absurd (omega arith)
+drop_beyond (suc k) (y ∷ ys) x (suc i) e le = drop_beyond k ys x i e (omega arith)
+
+pub newer_parts : (number : ℕ) (xs : List Part) (at : ℕ) (x : Part) → slice_get xs at ≡ Some x → x.number < number → AreInOrder xs → AreFrom number xs (take (length xs - (at + 1)) (drop (at + 1) xs))
+newer_parts number xs at x here low ordered =
+    subst (λ (l : List Part). AreFrom number xs l) (sym (take_all (length xs - (at + 1)) (drop (at + 1) xs) (let e = length-drop (at + 1) xs in omega arith))) (record {
+      within = λ y h. drop_within (at + 1) xs y h;
+      newer = λ y h le.
+          let there : slice_get xs h.0 ≡ Some y = slice_get-get_or xs h.0 y h.1 ∙ ap Some h.2 in
+          ⊎_elim
+          (λ early. absurd (let less = ordered h.0 at y x early there here in omega arith))
+          (λ late. ⊎_elim
+          (λ beyond. drop_beyond (at + 1) xs y h.0 there (omega arith))
+          (λ same. absurd (
+          let eq : h.0 ≡ at = omega arith in
+          let one : y ≡ x = inside_part y x (sym there ∙ ap (slice_get xs) eq ∙ here) in
+          let n : y.number ≡ x.number = ap (λ (p : Part). p.number) one in omega arith))
+          (cases_lt at h.0))
+          (cases_lt h.0 at);
+    })
+  where
+    inside_part : (a b : Part) → Some a ≡ Some b → a ≡ b
+    inside_part a b e = cc

@@ -1,5 +1,5 @@
 -- What a node that comes next sees, where dependencies may be on parts of memory.
-use Rattle.std.proofs.Common.{◌≡◌, ◌⊎◌, inl, inr, ⊎_elim, ℕ, List, ◌∷◌, Bool, true, false, not, ◌&&◌, ◌||◌, IsTrue, Some, refl, ap, sym, ◌∙◌, subst, arith}
+use Rattle.std.proofs.Common.{◌≡◌, ◌⊎◌, inl, inr, ⊎_elim, ℕ, ◌<◌, ◌≤◌, List, ◌∷◌, Bool, true, false, not, ◌&&◌, ◌||◌, IsTrue, Some, refl, ap, sym, ◌∙◌, subst, arith}
 use Rattle.std.specs.Prelude.{◌==◌, nat_lt, Contains, ◌↔◌, if◌then◌else◌}
 use Rattle.std.proofs.lemmas.Bool.{lt-ltb, ltb-true, and_parts, and_from, or_left, or_right, or_cases, cases_lt, eqb-true, eq-eqb}
 use Rattle.vk_model.specs.declared.command.Cmd.{Cmd}
@@ -10,11 +10,12 @@ use Rattle.vk_model.specs.Basics.{has_some}
 use Rattle.vk_model.specs.World.Bytes.{Byte, in_buffer, in_image, resource_at}
 use Rattle.vk_model.specs.World.Ownership.{dependency_of, is_release, named_by}
 use Rattle.vk_model.specs.Sync.Node.{Node, Act, Role, Hosts, Waits, Signals, Runs, Depends, Barrier}
-use Rattle.vk_model.specs.Sync.Edge.{edge, is_host, is_command, is_element}
+use Rattle.vk_model.specs.Sync.Edge.{edge, is_host, is_command, is_element, is_submit}
 use Rattle.vk_model.specs.Sync.Before.{before, IsNumbered}
 use Rattle.vk_model.specs.Sync.Seen.{Access, seen, makes_writes_available, makes_writes_visible, covers, command_mask, host_mask, to_host}
 use Rattle.vk_model.proofs.Lists.Truths.{no}
 use Rattle.vk_model.proofs.Sync.Numbers.{unique}
+use Rattle.vk_model.proofs.Sync.Paths.{edge_forward, leads_on}
 use Rattle.vk_order.specs.declared.lines.Line.{Line}
 use Rattle.vk_order.specs.declared.sights.Sight.{Sight}
 use Rattle.vk_order.specs.declared.parts.Part.{Part}
@@ -24,7 +25,7 @@ use Rattle.vk_order.specs.Wide.{is_answered}
 use Rattle.vk_order.specs.Inner.Clocks.{same_line, place}
 use Rattle.vk_order.specs.Inner.Kept.{clock_at}
 use Rattle.vk_order.specs.Inner.Leads.{ends_in_transfer}
-use Rattle.vk_order.specs.Inner.Rows.{Visible, OnHost, KnowsOne}
+use Rattle.vk_order.specs.Inner.Rows.{sends_all, makes_available, Visible, OnHost, KnowsOne}
 use Rattle.vk_order.specs.Inner.Fronts.{row_in}
 use Rattle.vk_order.specs.Inner.Parts.{part_of, IsPart, asked_of, opens, Serves}
 use Rattle.vk_order.specs.Frontiers.{IsSight}
@@ -257,3 +258,20 @@ answered_any cached (Hosts y) k b h = refl
 answered_any cached (Waits s) k b h = no h
 answered_any cached (Signals s) k b h = no h
 answered_any cached (Depends r e) k b h = no h
+
+-- ---- numbers
+
+made_up : (ns : List Node) (c p : Node) (a : Act) → IsTrue (makes_available ns c a p) → c.number < p.number
+made_up ns c p (Runs x) h = edge_forward ns c p (and_parts (edge ns c p) (sends_all p.act) h).0
+made_up ns c p (Hosts x) h = leads_on ns c p (and_parts (is_submit p.act) (before ns c p) h).1
+made_up ns c p (Depends r e) h = no h
+made_up ns c p (Waits s) h = no h
+made_up ns c p (Signals s) h = no h
+
+-- what a node marks is known at no older one
+pub reach_later : (ns : List Node) (m q : Node) → Reaches ns m q → m.number ≤ q.number
+reach_later ns m q (inl (inl (p, hp, made, way))) =
+    let up = made_up ns m p m.act made in
+    ⊎_elim (λ e. let same : p.number ≡ q.number = ap (λ (x : Node). x.number) e in omega arith) (λ h. let lt = leads_on ns p q h in omega arith) way
+reach_later ns m q (inl (inr (e, h))) = let lt = leads_on ns m q h in omega arith
+reach_later ns m q (inr (e, lim)) = let same : m.number ≡ q.number = ap (λ (x : Node). x.number) e in omega arith

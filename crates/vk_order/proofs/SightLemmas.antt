@@ -26,7 +26,7 @@ use Rattle.vk_order.specs.Frontiers.{IsSight}
 use Rattle.vk_order.specs.Inner.Rows.{sends_all, receives, receives_on_host, makes_available, Visible, OnHost, IsAvailable, IsKnown, KnowsOne, IsRowJoin}
 use Rattle.vk_order.proofs.Arrange.{and-true, and-false, or-false}
 use Rattle.vk_order.proofs.ByEdges.{by_last, by_edge}
-use Rattle.vk_order.proofs.RowJoins.{older_of, sent_old, sent_new}
+use Rattle.vk_order.proofs.KnownRows.{older_of, sent_old, sent_new}
 use Rattle.vk_order.proofs.Visibility.{parts_of, seen_by}
 
 -- ---- acts

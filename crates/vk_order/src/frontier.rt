@@ -1,4 +1,4 @@
-ghost use Rattle.std.specs.Prelude.{◌≡◌, ◌∷◌, ◌||◌, ◌&&◌, ◌==◌, ◌<◌, ◌↔◌, [], ℕ, Bool, List, true, false, nat_lt, IfOk, OnOk, IsTrue, is_some, Contains, Some, length, slice_get};
+ghost use Rattle.std.specs.Prelude.{◌≡◌, ◌∷◌, ◌||◌, ◌&&◌, ◌==◌, ◌<◌, ◌≤◌, ◌↔◌, [], ℕ, Bool, List, true, false, nat_lt, IfOk, OnOk, IsTrue, is_some, Contains, Some, length, slice_get};
 ghost use Rattle.vk_model.specs.World.Bytes as world;
 ghost use Rattle.vk_model.specs.Sync.Node.{Node, acts, with_acts};
 ghost use Rattle.vk_model.specs.Sync.Edge.{edge, is_command, is_element, is_host};
@@ -16,7 +16,7 @@ ghost use Rattle.vk_order.specs.Inner.Links.{by_name};
 ghost use Rattle.vk_order.specs.Inner.Places.{index_in};
 ghost use Rattle.vk_order.specs.Inner.Fronts.{IsFront};
 ghost use Rattle.vk_order.specs.Inner.Kept.{clock_at, IsLonger};
-ghost use Rattle.vk_order.specs.Inner.Parts.{parts_at, IsPart, IsNewPart, opens, Serves};
+ghost use Rattle.vk_order.specs.Inner.Parts.{parts_at, AreFrom, IsPart, IsNewPart, opens, Serves};
 ghost use Rattle.vk_order.specs.Inner.Tallies.{lines_of, CanFollow, AreOnLines, AreFronts};
 ghost use Rattle.vk_order.specs.Frontiers.{IsFrontier, IsSight, IsFrom};
 
@@ -28,7 +28,7 @@ use crate::fronts::Front;
 use crate::lines::Line;
 use crate::names::Names;
 use crate::owning::Known;
-use crate::parts::{Part, Parts, Spot};
+use crate::parts::{Part, Parts, Spot, parts_from};
 use crate::point::{Act, Point, single_act};
 use crate::rows::rows_of;
 use crate::sights::Sight;
@@ -224,7 +224,11 @@ impl Frontier {
 
     /// What is kept of a row that comes next, with what it comes after, where it is a dependency on
     /// a part of a resource's memory.
-    fn new_part(&self, row: &Row<'_>, front: &Front) -> Result<Option<(u32, Part)>, AllocError>
+    pub(crate) fn new_part(
+        &self,
+        row: &Row<'_>,
+        front: &Front,
+    ) -> Result<Option<(u32, Part)>, AllocError>
         ensures { IfOk result (λ part. (ns : List Node) (n : Node) → n ≡ node_of (length ns) row.now → IsFront ns (lines_of self.now.tallies.items) (λ k. edge ns k n) front.now → IsFrontier self.now ns → IsNewPart ns (lines_of self.now.tallies.items) n part) }
     {
         let Some((id, element)) = row.act.limited() else {
@@ -240,6 +244,7 @@ impl Frontier {
         let line = Line::of(queue, &row.act);
         let part = Part {
             element,
+            number: self.nodes,
             queue,
             line,
             place: self.count(line),
@@ -250,14 +255,29 @@ impl Frontier {
     }
 
     /// Whether an access of a byte by the node that a sight is of, a command or a host entry that
-    /// needs no invalidation, sees the write of it by a node. Dependencies may be on parts of memory.
-    pub fn is_seen(&self, sight: &Sight, write: Spot, byte: Byte, access: Access) -> bool
-        ensures { (ns : List Node) (n w : Node) (cached : world.Byte → Bool) → IsFrontier self.now ns → IsSight ns n sight.now → IsWrite cached ns w (byte_of byte) → line_of w ≡ Some write.line → place ns write.line w.number ≡ write.place
+    /// needs no invalidation, sees the write of it by a node, before which at least `from` nodes
+    /// came: the search is among what came since. Dependencies may be on parts of memory.
+    pub fn is_seen(
+        &self,
+        sight: &Sight,
+        write: Spot,
+        from: usize,
+        byte: Byte,
+        access: Access,
+    ) -> bool
+        ensures { (ns : List Node) (n w : Node) (cached : world.Byte → Bool) → IsFrontier self.now ns → IsSight ns n sight.now → IsWrite cached ns w (byte_of byte) → line_of w ≡ Some write.line → place ns write.line w.number ≡ write.place → from ≤ w.number
             → IsTrue (is_answered cached n.act (access_of access) (byte_of byte)) → result ≡ seen cached (n ∷ ns) w n (access_of access) (byte_of byte) }
     {
-        let parts = self.parts.of(byte.resource());
+        let parts = parts_from(self.parts_of(byte), from);
         self.is_served(sight, parts, write, byte, access)
             || self.is_marked(sight, parts, write, byte, access)
+    }
+
+    /// The parts of the resource of a byte.
+    pub(crate) fn parts_of(&self, byte: Byte) -> &[Part]
+        ensures { result.now ≡ parts_at self.now.parts (world.resource_at (byte_of byte)) }
+    {
+        self.parts.of(byte.resource())
     }
 
     /// Whether parts make a write available, and what one of them marks is known at a node that
@@ -270,8 +290,8 @@ impl Frontier {
         byte: Byte,
         access: Access,
     ) -> bool
-        ensures { (ns : List Node) (n w : Node) (cached : world.Byte → Bool) → IsFrontier self.now ns → IsSight ns n sight.now → (is_command n.act || is_host n.act) ≡ true → parts.now ≡ parts_at self.now.parts (world.resource_at (byte_of byte))
-            → Contains ns w → line_of w ≡ Some write.line → place ns write.line w.number ≡ write.place
+        ensures { (ns : List Node) (n w : Node) (cached : world.Byte → Bool) (from : ℕ) → IsFrontier self.now ns → IsSight ns n sight.now → (is_command n.act || is_host n.act) ≡ true → AreFrom from (parts_at self.now.parts (world.resource_at (byte_of byte))) parts.now
+            → from ≤ w.number → Contains ns w → line_of w ≡ Some write.line → place ns write.line w.number ≡ write.place
             → IsTrue result ↔ ((m : Node) × Contains ns m × IsTrue (is_limited m.act) × IsTrue (is_command w.act && makes_writes_available cached ns m (byte_of byte) m.act && edge ns w m) × Serves cached ns n (access_of access) (byte_of byte) m) }
     {
         for part in parts {
@@ -292,8 +312,8 @@ impl Frontier {
         byte: Byte,
         access: Access,
     ) -> bool
-        ensures { (ns : List Node) (n w m : Node) (cached : world.Byte → Bool) → IsFrontier self.now ns → IsSight ns n sight.now → (is_command n.act || is_host n.act) ≡ true → parts.now ≡ parts_at self.now.parts (world.resource_at (byte_of byte))
-            → Contains ns w → line_of w ≡ Some write.line → place ns write.line w.number ≡ write.place → IsPart ns (lines_of self.now.tallies.items) m part.now
+        ensures { (ns : List Node) (n w m : Node) (cached : world.Byte → Bool) (from : ℕ) → IsFrontier self.now ns → IsSight ns n sight.now → (is_command n.act || is_host n.act) ≡ true → AreFrom from (parts_at self.now.parts (world.resource_at (byte_of byte))) parts.now
+            → from ≤ w.number → Contains ns w → line_of w ≡ Some write.line → place ns write.line w.number ≡ write.place → IsPart ns (lines_of self.now.tallies.items) m part.now
             → IsTrue result ↔ (IsTrue (is_command w.act && makes_writes_available cached ns m (byte_of byte) m.act && edge ns w m) × Serves cached ns n (access_of access) (byte_of byte) m) }
     {
         part.marks(write, byte) && self.is_served(sight, parts, part.spot(), byte, access)
@@ -308,8 +328,8 @@ impl Frontier {
         byte: Byte,
         access: Access,
     ) -> bool
-        ensures { (ns : List Node) (n m : Node) (cached : world.Byte → Bool) → IsFrontier self.now ns → IsSight ns n sight.now → (is_command n.act || is_host n.act) ≡ true → parts.now ≡ parts_at self.now.parts (world.resource_at (byte_of byte))
-            → Contains ns m → line_of m ≡ Some spot.line → place ns spot.line m.number ≡ spot.place → IsTrue result ↔ Serves cached ns n (access_of access) (byte_of byte) m }
+        ensures { (ns : List Node) (n m : Node) (cached : world.Byte → Bool) (from : ℕ) → IsFrontier self.now ns → IsSight ns n sight.now → (is_command n.act || is_host n.act) ≡ true → AreFrom from (parts_at self.now.parts (world.resource_at (byte_of byte))) parts.now
+            → from ≤ m.number → Contains ns m → line_of m ≡ Some spot.line → place ns spot.line m.number ≡ spot.place → IsTrue result ↔ Serves cached ns n (access_of access) (byte_of byte) m }
     {
         if sight.shows(spot, access) {
             return true;
@@ -322,7 +342,8 @@ impl Frontier {
         false
     }
 
-    /// Whether one part makes the byte visible to the access, and what the node marks is known at it.
+    /// Whether one part makes the byte visible to the access, and what the node marks is known
+    /// there.
     fn gives(&self, sight: &Sight, part: &Part, spot: Spot, byte: Byte, access: Access) -> bool
         ensures { (ns : List Node) (n m q : Node) (cached : world.Byte → Bool) → IsSight ns n sight.now → (is_command n.act || is_host n.act) ≡ true → IsPart ns (lines_of self.now.tallies.items) q part.now
             → Contains ns m → line_of m ≡ Some spot.line → place ns spot.line m.number ≡ spot.place → IsTrue result ↔ (IsTrue (opens cached ns n n.act (access_of access) (byte_of byte) q) × Reaches ns m q) }
@@ -331,7 +352,7 @@ impl Frontier {
     }
 
     /// Whether what a node marks is known at a part, or it is the part itself.
-    fn reaches(&self, part: &Part, spot: Spot) -> bool
+    pub(crate) fn reaches(&self, part: &Part, spot: Spot) -> bool
         ensures { result ≡ (nat_lt spot.place (clock_at (lines_of self.now.tallies.items) part.now.heard.items spot.line) || same_line part.now.line spot.line && part.now.place == spot.place) }
     {
         spot.place < self.heard(part, spot.line)

@@ -23,6 +23,7 @@ mod rows;
 mod seen;
 mod sights;
 mod tallies;
+mod transitions;
 mod writes;
 
 pub use access::Access;
@@ -33,7 +34,7 @@ pub use laws::{
     host_seen, invalidated_seen, last_write_seen, limited_seen, prefixes, seen_through,
 };
 pub use lines::Line;
-pub use parts::Spot;
+pub use parts::{Part, Spot};
 pub use point::{Act, Action, Point};
 pub use points::Points;
 pub use sights::Sight;

@@ -13,7 +13,7 @@ ghost use Rattle.vk_order.specs.Bytes.{byte_of};
 ghost use Rattle.vk_order.specs.Lines.{line_of, has_transfer};
 ghost use Rattle.vk_order.specs.Wide.{access_of};
 ghost use Rattle.vk_order.specs.Inner.Clocks.{same_line, place};
-ghost use Rattle.vk_order.specs.Inner.Parts.{part_of, IsPart, parts_at, AreParts, IsNewPart};
+ghost use Rattle.vk_order.specs.Inner.Parts.{part_of, IsPart, parts_at, AreInOrder, AreFrom, AreParts, IsNewPart};
 
 use crate::access::Access;
 use crate::acts::{TRANSFERS, destination_stages, source_stages};
@@ -39,23 +39,25 @@ pub struct Spot {
 #[derive(Drop)]
 pub struct Part {
     /// The element.
-    pub element: Element,
+    pub(crate) element: Element,
+    /// How many nodes came earlier.
+    pub(crate) number: usize,
     /// The number of its queue.
-    pub queue: u32,
+    pub(crate) queue: u32,
     /// Its line.
-    pub line: Line,
+    pub(crate) line: Line,
     /// How many nodes of the line came earlier.
-    pub place: usize,
+    pub(crate) place: usize,
     /// How many commands of the queue came earlier.
-    pub earlier: usize,
+    pub(crate) earlier: usize,
     /// What is known at it, in the order of the lines: of commands and host entries how many are
     /// available, of elements how many are before it.
-    pub heard: Vec<usize>,
+    pub(crate) heard: Vec<usize>,
 }
 
 impl Part {
     /// The node, by its line and its place.
-    pub fn spot(&self) -> Spot
+    pub(crate) fn spot(&self) -> Spot
         ensures { result ≡ record { line = self.now.line; place = self.now.place } }
     {
         Spot {
@@ -65,7 +67,7 @@ impl Part {
     }
 
     /// Whether it makes the writes of a byte by a node available: one of the commands before it.
-    pub fn marks(&self, write: Spot, byte: Byte) -> bool
+    pub(crate) fn marks(&self, write: Spot, byte: Byte) -> bool
         ensures { (ns : List Node) (ls : List AnyLine) (w m : Node) (cached : world.Byte → Bool) → IsNumbered ns → IsPart ns ls m self.now → Contains ns w → line_of w ≡ Some write.line → place ns write.line w.number ≡ write.place
             → result ≡ (is_command w.act && seen.makes_writes_available cached ns m (byte_of byte) m.act && edge ns w m) }
     {
@@ -91,7 +93,7 @@ impl Part {
     }
 
     /// Whether it makes available writes of a byte visible to an access by the host after it.
-    pub fn shows_on_host(&self, access: Access, byte: Byte) -> bool
+    pub(crate) fn shows_on_host(&self, access: Access, byte: Byte) -> bool
         ensures { result ≡ (seen.to_host (Depends Barrier self.now.element) && (not (is_release self.now.queue self.now.element) && has_some (dependency_of self.now.element).destination_accesses.0 (seen.host_mask (access_of access)) && seen.covers self.now.element (byte_of byte))) }
     {
         destination_stages(&self.element).intersects(Stages::HOST)
@@ -99,7 +101,7 @@ impl Part {
     }
 
     /// Whether it makes available writes of a byte visible to accesses after it.
-    pub fn makes_visible(&self, accesses: Accesses, byte: Byte) -> bool
+    pub(crate) fn makes_visible(&self, accesses: Accesses, byte: Byte) -> bool
         ensures { result ≡ (not (is_release self.now.queue self.now.element) && has_some (dependency_of self.now.element).destination_accesses.0 accesses.0 && seen.covers self.now.element (byte_of byte)) }
     {
         !is_release(self.queue, &self.element)
@@ -123,6 +125,19 @@ impl Act<'_> {
             _ => None,
         }
     }
+}
+
+/// Of parts in the order of their nodes those of nodes from a number on.
+pub fn parts_from(parts: &[Part], number: usize) -> &[Part]
+    ensures { AreInOrder parts.now → AreFrom number parts.now result.now }
+{
+    for newer in 0..parts.len() {
+        let last = parts.len() - 1 - newer;
+        if parts[last].number < number {
+            return &parts[last + 1..];
+        }
+    }
+    parts
 }
 
 /// The dependencies on parts of memory, by the ids of their resources, the oldest first.

@@ -52,6 +52,13 @@ impl Sight {
         self.front
     }
 
+    /// The same, to be looked at.
+    pub(crate) fn front(&self) -> &Front
+        ensures { result.now ≡ self.now.front }
+    {
+        &self.front
+    }
+
     /// Whether the node comes after the one of a line before which this many came in it.
     pub fn follows(&self, line: Line, earlier: usize) -> bool
         ensures { (ns : List Node) (n m : Node) → IsSight ns n self.now → Contains ns m → line_of m ≡ Some line → place ns line m.number ≡ earlier → result ≡ before (n ∷ ns) m n }

@@ -1,5 +1,5 @@
 -- Dependencies on parts of memory, each with what is known at it; and what they give an access that comes next.
-use Rattle.std.specs.Prelude.{◌≡◌, ◌⊎◌, ◌≤◌, ◌∷◌, ◌&&◌, ℕ, Bool, false, List, [], Option, Some, None, length, IsTrue, Contains}
+use Rattle.std.specs.Prelude.{◌≡◌, ◌⊎◌, ◌<◌, ◌≤◌, ◌∷◌, ◌&&◌, ℕ, Bool, false, List, [], Option, Some, None, length, slice_get, IsTrue, Contains}
 use Rattle.std.specs.Ordering.{nat_cmp}
 use Rattle.std.specs.BTreeMap.{get}
 use Rattle.std.specs.Option.{option_map_or}
@@ -29,6 +29,7 @@ pub record IsPart (ns : List Node) (ls : List Line) (m : Node) (x : Part) : Type
   pub there : Contains ns m
   pub act : m.act ≡ Depends Barrier x.element
   pub limited : IsTrue (is_limited m.act)
+  pub number : x.number ≡ m.number
   pub queue : x.queue ≡ m.point.queue
   pub line : line_of m ≡ Some x.line
   pub at : x.place ≡ place ns x.line m.number
@@ -40,8 +41,18 @@ pub record IsPart (ns : List Node) (ls : List Line) (m : Node) (x : Part) : Type
 abbrev pub parts_at : Parts → ℕ → List Part
 parts_at p id = option_map_or (λ v. v.items) (get nat_cmp p.by_resource id) []
 
+-- Parts are in the order of their nodes.
+abbrev pub AreInOrder : List Part → Type 0
+AreInOrder xs = (i j : ℕ) (x y : Part) → i < j → slice_get xs i ≡ Some x → slice_get xs j ≡ Some y → x.number ≤ y.number
+
+-- Some of the parts, and among them all of nodes from a number on.
+pub record AreFrom (number : ℕ) (all some : List Part) : Type 0 where
+  pub within : (x : Part) → Contains some x → Contains all x
+  pub newer : (x : Part) → Contains all x → number ≤ x.number → Contains some x
+
 -- Of each resource those of all nodes are kept.
 pub record AreParts (ns : List Node) (ls : List Line) (p : Parts) : Type 0 where
+  pub ordered : (id : ℕ) → AreInOrder (parts_at p id)
   pub each : (id : ℕ) (x : Part) → Contains (parts_at p id) x → (m : Node) × IsPart ns ls m x
   pub all : (id : ℕ) (m : Node) → Contains ns m → part_of m.act ≡ Some id → (x : Part) × Contains (parts_at p id) x × IsPart ns ls m x
 
@@ -49,6 +60,11 @@ pub record AreParts (ns : List Node) (ls : List Line) (p : Parts) : Type 0 where
 abbrev pub IsNewPart : List Node → List Line → Node → Option (ℕ × Part) → Type 0
 IsNewPart ns ls n None = part_of n.act ≡ None
 IsNewPart ns ls n (Some p) = (part_of n.act ≡ Some p.0) × IsPart (n ∷ ns) ls n p.1
+
+-- What is kept of node n, which comes next, where it is a dependency on a part of memory.
+abbrev pub IsOwnPart : List Node → List Line → Node → Option Part → Type 0
+IsOwnPart ns ls n None = part_of n.act ≡ None
+IsOwnPart ns ls n (Some x) = IsPart (n ∷ ns) ls n x
 
 -- What an access by an act asks of nodes before it.
 abbrev pub asked_of : Act → Access → Knowledge

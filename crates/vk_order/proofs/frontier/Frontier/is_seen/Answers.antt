@@ -1,34 +1,41 @@
-use Rattle.std.proofs.Common.{◌≡◌, ◌&&◌, ◌∷◌, inl, inr, ℕ, IsTrue, true, refl, ap, sym, ◌∙◌, subst}
+use Rattle.std.proofs.Common.{◌≡◌, ◌&&◌, ◌∷◌, inl, inr, ℕ, List, IsTrue, true, refl, ap, sym, ◌∙◌, subst}
 use Rattle.std.proofs.lemmas.Bool.{and_parts, and_from}
 use Rattle.vk_model.specs.Sync.Node.{Node}
 use Rattle.vk_model.specs.Sync.Edge.{edge, is_command}
 use Rattle.vk_model.specs.Sync.Seen.{seen, makes_writes_available}
 use Rattle.vk_model.proofs.Lists.Truths.{bool_same, clash}
+use Rattle.vk_model.specs.World.Bytes.{resource_at}
+use Rattle.vk_order.specs.declared.parts.Part.{Part}
+use Rattle.vk_order.specs.Inner.Parts.{AreInOrder, AreFrom}
 use Rattle.vk_order.specs.Bytes.{byte_of}
 use Rattle.vk_order.specs.Wide.{access_of}
 use Rattle.vk_order.specs.Limited.{IsMark}
-use Rattle.vk_order.specs.Inner.Parts.{parts_at, Serves}
+use Rattle.vk_order.specs.Inner.Parts.{Serves}
 use Rattle.vk_order.proofs.ServeLemmas.{seen_served, answered_any}
 use Rattle.vk_order.proofs.frontier.Frontier.is_seen.Goals as goal
 
+-- the parts that are searched, of those that are kept
+from_slice : {from : ℕ} {all some kept : List Part} → all ≡ kept → AreInOrder kept → (AreInOrder all → AreFrom from all some) → AreFrom from kept some
+from_slice {from} {all} {some} {kept} e ordered is = subst (λ (l : List Part). AreFrom from l some) e (is (subst (λ (l : List Part). AreInOrder l) (sym e) ordered))
+
 pub returns-then-is_served : goal.returns-then-is_served
-returns-then-is_served c = λ ns n w cached is sight write on at asked.
+returns-then-is_served c = λ ns n w cached is sight write on at le asked.
     let k = access_of c.args.access in
     let b = byte_of c.args.byte in
     let any = answered_any cached n.act k b asked in
-    let parts = c.of-parts.ensures ∙ ap (parts_at c.args.self.now.parts) c.resource.ensures in
-    let serves = (c.is_served.ensures ns n w cached is sight any parts write.there on at).0 c.if-is_served.true in
+    let parts = from_slice c.parts_of.ensures (is.parts.ordered (resource_at b)) c.parts_from-parts.ensures in
+    let serves = (c.is_served.ensures ns n w cached c.args.from is sight any parts le write.there on at).0 c.if-is_served.true in
     c.if-is_served.true ∙ sym ((seen_served ns n w cached k b sight.numbers write asked).1 (w, inl refl, serves))
 
 pub returns-else-is_served : goal.returns-else-is_served
-returns-else-is_served c = λ ns n w cached is sight write on at asked.
+returns-else-is_served c = λ ns n w cached is sight write on at le asked.
     let k = access_of c.args.access in
     let b = byte_of c.args.byte in
     let any = answered_any cached n.act k b asked in
-    let parts = c.of-parts.ensures ∙ ap (parts_at c.args.self.now.parts) c.resource.ensures in
+    let parts = from_slice c.parts_of.ensures (is.parts.ordered (resource_at b)) c.parts_from-parts.ensures in
     let law = seen_served ns n w cached k b sight.numbers write asked in
-    let served = c.is_served.ensures ns n w cached is sight any parts write.there on at in
-    let marked = c.is_marked.ensures ns n w cached is sight any parts write.there on at in
+    let served = c.is_served.ensures ns n w cached c.args.from is sight any parts le write.there on at in
+    let marked = c.is_marked.ensures ns n w cached c.args.from is sight any parts le write.there on at in
     let into : (m : Node) → IsMark cached ns b w m → Serves cached ns n k b m → c.is_marked.result ≡ true = (λ m mark s. by_mark ns n w m cached k b (c.is_marked.result)
     (λ e. clash (served.1 (subst (λ (x : Node). Serves cached ns n k b x) e s)) c.if-is_served.false)
     (λ hm lim all. marked.1 (m, hm, lim, all, s)) mark) in

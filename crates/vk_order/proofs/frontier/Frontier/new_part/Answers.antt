@@ -30,9 +30,9 @@ returns c = λ ns n node front is.
     let named : part_of (act_of row.act) ≡ Some c.in-Some.id = sym c.limited.ensures.resource ∙ ap (option_map (λ (p : ℕ × Element). p.0)) some in
     let is_act : act_of row.act ≡ Depends Barrier e = c.in-Some.ensures.element in
     let numbers : IsNumbered (n ∷ ns) = (ap (λ (m : Node). m.number) node, is.numbers) in
-    let x : Part = record { element = e; queue = row.point.queue; line = c.of-line.result; place = c.count.result; earlier = c.count-2.result; heard = c.in_ok-heard.heard } in (
+    let x : Part = record { element = e; number = c.args.self.now.nodes; queue = row.point.queue; line = c.of-line.result; place = c.count.result; earlier = c.count-2.result; heard = c.in_ok-heard.heard } in (
       ap part_of act ∙ named,
-      part_new ns n ls x c.in-Some.id c.args.front.now.clock.items c.args.front.now.available.items numbers (act ∙ is_act) (ap part_of (sym is_act) ∙ named) (sym (ap (λ (p : Point). p.queue) point))
+      part_new ns n ls x c.in-Some.id c.args.front.now.clock.items c.args.front.now.available.items numbers (act ∙ is_act) (ap part_of (sym is_act) ∙ named) (is.total ∙ sym numbers.0) (sym (ap (λ (p : Point). p.queue) point))
           (c.of-line.ensures ∙ ap (λ (p : Point). class_on p.queue (act_of row.act)) (sym point) ∙ ap (class_on n.point.queue) (sym act)) (c.count.ensures ns is) (c.count-2.ensures ns is)
           (of_lists c.as_slice.result.now ts c.as_slice-2.result.now c.as_slice-3.result.now c.args.front.now.clock.items c.args.front.now.available.items c.in_ok-heard.heard.items c.in_ok-heard.ensures c.as_slice.ensures.value c.as_slice-2.ensures.value c.as_slice-3.ensures.value)
           front.clock (front.rows Available),

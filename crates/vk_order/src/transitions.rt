@@ -1,0 +1,85 @@
+ghost use Rattle.std.specs.Prelude.{◌≡◌, ◌≤◌, ◌∷◌, ◌&&◌, ◌↔◌, ℕ, List, Bool, IfOk, Some, length, IsTrue, Contains};
+ghost use Rattle.vk_model.specs.World.Bytes as world;
+ghost use Rattle.vk_model.specs.Sync.Node.{Node};
+ghost use Rattle.vk_model.specs.Sync.Edge.{edge, is_command};
+ghost use Rattle.vk_model.specs.Sync.Before.{IsNumbered};
+ghost use Rattle.vk_model.specs.Sync.Seen.{Access as AnyAccess, seen, makes_writes_available};
+ghost use Rattle.vk_order.specs.PointViews.{act_of, point_of};
+ghost use Rattle.vk_order.specs.Bytes.{byte_of};
+ghost use Rattle.vk_order.specs.Lines.{line_of};
+ghost use Rattle.vk_order.specs.Limited.{is_limited, Reaches, IsWrite};
+ghost use Rattle.vk_order.specs.Inner.Clocks.{place};
+ghost use Rattle.vk_order.specs.Inner.Parts.{parts_at, AreFrom, IsPart, IsOwnPart};
+ghost use Rattle.vk_order.specs.Inner.Tallies.{lines_of};
+ghost use Rattle.vk_order.specs.Frontiers.{IsFrontier, IsSight, IsFrom};
+
+use crate::acts::Row;
+use crate::bytes::Byte;
+use crate::frontier::Frontier;
+use crate::parts::{Part, Spot, parts_from};
+use crate::point::{Act, Point};
+use crate::sights::Sight;
+use std::alloc::AllocError;
+
+impl Frontier {
+    /// What is known at a node that comes next, with this act and by its sight, where it is a
+    /// dependency on a part of memory.
+    pub fn part(
+        &self,
+        point: &Point<'_>,
+        act: &Act<'_>,
+        sight: &Sight,
+    ) -> Result<Option<Part>, AllocError>
+        requires { IsFrom self.now sight.now }
+        ensures { IfOk result (λ part. (ns : List Node) (n : Node) → IsFrontier self.now ns → n ≡ record { number = length ns; point = point_of point.now; act = act_of act.now } → IsSight ns n sight.now → IsOwnPart ns (lines_of self.now.tallies.items) n part) }
+    {
+        let row = Row {
+            point: *point,
+            act: *act,
+        };
+        let Some((_, part)) = self.new_part(&row, sight.front())? else {
+            return Ok(None);
+        };
+        Ok(Some(part))
+    }
+
+    /// Whether an access of a byte by the transition of a part that comes next sees the write of it
+    /// by a node, before which at least `from` nodes came.
+    pub fn is_seen_at(&self, part: &Part, write: Spot, from: usize, byte: Byte) -> bool
+        ensures { (ns : List Node) (n w : Node) (cached : world.Byte → Bool) (k : AnyAccess) → IsNumbered (n ∷ ns) → IsFrontier self.now ns → IsPart (n ∷ ns) (lines_of self.now.tallies.items) n part.now → IsWrite cached ns w (byte_of byte)
+            → line_of w ≡ Some write.line → place ns write.line w.number ≡ write.place → from ≤ w.number → result ≡ seen cached (n ∷ ns) w n k (byte_of byte) }
+    {
+        if self.reaches(part, write) {
+            return true;
+        }
+        if part.marks(write, byte) {
+            return true;
+        }
+        let parts = parts_from(self.parts_of(byte), from);
+        self.is_marked_at(part, parts, write, byte)
+    }
+
+    /// Whether parts make a write available, and what one of them marks is known at another one
+    /// that comes next.
+    fn is_marked_at(&self, part: &Part, parts: &[Part], write: Spot, byte: Byte) -> bool
+        ensures { (ns : List Node) (n w : Node) (cached : world.Byte → Bool) (from : ℕ) → IsNumbered (n ∷ ns) → IsFrontier self.now ns → IsPart (n ∷ ns) (lines_of self.now.tallies.items) n part.now → AreFrom from (parts_at self.now.parts (world.resource_at (byte_of byte))) parts.now
+            → from ≤ w.number → Contains ns w → line_of w ≡ Some write.line → place ns write.line w.number ≡ write.place
+            → IsTrue result ↔ ((m : Node) × Contains ns m × IsTrue (is_limited m.act) × IsTrue (is_command w.act && makes_writes_available cached ns m (byte_of byte) m.act && edge ns w m) × Reaches (n ∷ ns) m n) }
+    {
+        for mark in parts {
+            if self.is_mark_at(part, mark, write, byte) {
+                return true;
+            }
+        }
+        false
+    }
+
+    /// Whether one part makes a write available, and what it marks is known at another one.
+    fn is_mark_at(&self, part: &Part, mark: &Part, write: Spot, byte: Byte) -> bool
+        ensures { (ns : List Node) (n w m : Node) (cached : world.Byte → Bool) → IsNumbered (n ∷ ns) → IsPart (n ∷ ns) (lines_of self.now.tallies.items) n part.now → IsPart ns (lines_of self.now.tallies.items) m mark.now
+            → Contains ns w → line_of w ≡ Some write.line → place ns write.line w.number ≡ write.place
+            → IsTrue result ↔ (IsTrue (is_command w.act && makes_writes_available cached ns m (byte_of byte) m.act && edge ns w m) × Reaches (n ∷ ns) m n) }
+    {
+        mark.marks(write, byte) && self.reaches(part, mark.spot())
+    }
+}
