@@ -29,7 +29,9 @@ mod LimitedLemmas
 mod CachedLemmas
 mod PartLemmas
 mod ServeLemmas
+mod UnseenLemmas
 mod FollowLemmas
+pub mod SiblingLemmas
 mod StampedLemmas
 pub mod PlaceLemmas
 mod SubmissionLemmas

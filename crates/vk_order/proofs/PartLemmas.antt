@@ -1,5 +1,5 @@
 -- What is kept of dependencies on parts of memory, and what it gives.
-use Rattle.std.proofs.Common.{◌≡◌, ◌≢◌, ⊎_elim, ℕ, ◌<◌, ◌≤◌, List, [], ◌∷◌, ◌++◌, ◌+◌, ◌-◌, zero, suc, take, drop, length, Bool, true, false, not, ◌&&◌, Some, None, refl, ap, sym, ◌∙◌, subst, arith}
+use Rattle.std.proofs.Common.{◌≡◌, ◌≢◌, ⊎_elim, ℕ, ◌<◌, ◌≤◌, List, [], ◌∷◌, ◌++◌, ◌-◌, zero, suc, take, drop, length, Bool, true, false, not, ◌&&◌, Some, None, refl, ap, sym, ◌∙◌, subst, arith}
 use Rattle.std.specs.Prelude.{◌==◌, nat_lt, Contains, ◌↔◌, slice_get, if◌then◌else◌}
 use Rattle.std.proofs.lemmas.Bool.{lt-ltb, ltb-true, and_parts, and_from, cases_lt, eqb-true, eq-eqb}
 use Rattle.std.proofs.lemmas.List.Elements.{Contains-append_left, Contains-append_right, Contains-append_cases}
@@ -26,7 +26,7 @@ use Rattle.vk_order.specs.Inner.Clocks.{same_line, place, Clock}
 use Rattle.vk_order.specs.Inner.Kept.{clock_at, IsKeptJoin, IsLonger}
 use Rattle.vk_order.specs.Inner.Leads.{is_of_barriers}
 use Rattle.vk_order.specs.Inner.Rows.{Available, sends, IsKnown, IsRow, IsKnownRow, IsKeptRow, IsMerged}
-use Rattle.vk_order.specs.Inner.Parts.{part_of, IsPart, parts_at, AreInOrder, AreFrom, AreParts}
+use Rattle.vk_order.specs.Inner.Parts.{part_of, IsPart, parts_at, AreInOrder, AreBelow, AreFrom, AreParts}
 use Rattle.vk_order.proofs.LinePrefixes.{node, linked, of_linked, to_linked, command_line}
 use Rattle.vk_order.proofs.ClockLemmas.{line_same, line_itself, place-grows, place-less, edges_join}
 use Rattle.std.proofs.lemmas.List.{take_all, length-drop}
@@ -286,23 +286,14 @@ drop_beyond (suc k) [] x i e le = absurd cc
 drop_beyond (suc k) (y ∷ ys) x zero e le = absurd (omega arith)
 drop_beyond (suc k) (y ∷ ys) x (suc i) e le = drop_beyond k ys x i e (omega arith)
 
-pub newer_parts : (number : ℕ) (xs : List Part) (at : ℕ) (x : Part) → slice_get xs at ≡ Some x → x.number < number → AreInOrder xs → AreFrom number xs (take (length xs - (at + 1)) (drop (at + 1) xs))
-newer_parts number xs at x here low ordered =
-    subst (λ (l : List Part). AreFrom number xs l) (sym (take_all (length xs - (at + 1)) (drop (at + 1) xs) (let e = length-drop (at + 1) xs in omega arith))) (record {
-      within = λ y h. drop_within (at + 1) xs y h;
+pub newer_parts : (number : ℕ) (xs : List Part) (count : ℕ) → AreBelow number xs count → AreFrom number xs (take (length xs - count) (drop count xs))
+newer_parts number xs count below =
+    subst (λ (l : List Part). AreFrom number xs l) (sym (take_all (length xs - count) (drop count xs) (let e = length-drop count xs in omega arith))) (record {
+      within = λ y h. drop_within count xs y h;
       newer = λ y h le.
           let there : slice_get xs h.0 ≡ Some y = slice_get-get_or xs h.0 y h.1 ∙ ap Some h.2 in
           ⊎_elim
-          (λ early. absurd (let less = ordered h.0 at y x early there here in omega arith))
-          (λ late. ⊎_elim
-          (λ beyond. drop_beyond (at + 1) xs y h.0 there (omega arith))
-          (λ same. absurd (
-          let eq : h.0 ≡ at = omega arith in
-          let one : y ≡ x = inside_part y x (sym there ∙ ap (slice_get xs) eq ∙ here) in
-          let n : y.number ≡ x.number = ap (λ (p : Part). p.number) one in omega arith))
-          (cases_lt at h.0))
-          (cases_lt h.0 at);
+          (λ early. absurd (let less = below h.0 y early there in omega arith))
+          (λ late. drop_beyond count xs y h.0 there late)
+          (cases_lt h.0 count);
     })
-  where
-    inside_part : (a b : Part) → Some a ≡ Some b → a ≡ b
-    inside_part a b e = cc

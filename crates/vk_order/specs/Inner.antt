@@ -11,4 +11,5 @@ pub mod Tallies
 pub mod Places
 pub mod Ready
 pub mod Parts
+pub mod Alone
 pub mod Sending

@@ -4,6 +4,7 @@ pub mod Queries
 pub mod Wide
 pub mod Frontiers
 pub mod Limited
+pub mod SeenWrites
 pub mod Cached
 pub mod Lines
 pub mod Places

@@ -19,6 +19,7 @@ ghost use Rattle.vk_order.specs.Inner.Kept.{clock_at, IsLonger};
 ghost use Rattle.vk_order.specs.Inner.Parts.{parts_at, AreFrom, IsPart, IsNewPart, opens, Serves};
 ghost use Rattle.vk_order.specs.Inner.Tallies.{lines_of, CanFollow, AreOnLines, AreFronts};
 ghost use Rattle.vk_order.specs.Frontiers.{IsFrontier, IsSight, IsFrom};
+ghost use Rattle.vk_order.specs.SeenWrites.{SaysSeen};
 
 use crate::access::Access;
 use crate::acts::Row;
@@ -59,6 +60,13 @@ impl Frontier {
             names: Names::new(alloc),
             parts: Parts::new(alloc),
         }
+    }
+
+    /// How many nodes there are: the number of the next one.
+    pub fn nodes(&self) -> usize
+        ensures { (ns : List Node) → IsFrontier self.now ns → result ≡ length ns }
+    {
+        self.nodes
     }
 
     /// How many nodes of a line there are: the place of the next one.
@@ -265,8 +273,7 @@ impl Frontier {
         byte: Byte,
         access: Access,
     ) -> bool
-        ensures { (ns : List Node) (n w : Node) (cached : world.Byte → Bool) → IsFrontier self.now ns → IsSight ns n sight.now → IsWrite cached ns w (byte_of byte) → line_of w ≡ Some write.line → place ns write.line w.number ≡ write.place → from ≤ w.number
-            → IsTrue (is_answered cached n.act (access_of access) (byte_of byte)) → result ≡ seen cached (n ∷ ns) w n (access_of access) (byte_of byte) }
+        ensures { SaysSeen self.now sight.now write from access (byte_of byte) result }
     {
         let parts = parts_from(self.parts_of(byte), from);
         self.is_served(sight, parts, write, byte, access)

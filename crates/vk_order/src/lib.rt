@@ -24,6 +24,7 @@ mod seen;
 mod sights;
 mod tallies;
 mod transitions;
+mod unseen;
 mod writes;
 
 pub use access::Access;
@@ -38,3 +39,4 @@ pub use parts::{Part, Spot};
 pub use point::{Act, Action, Point};
 pub use points::Points;
 pub use sights::Sight;
+pub use unseen::SeenUntil;

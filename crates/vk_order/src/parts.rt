@@ -1,4 +1,4 @@
-ghost use Rattle.std.specs.Prelude.{◌≡◌, ◌≢◌, ◌++◌, ◌∷◌, ◌&&◌, ◌↔◌, ℕ, Bool, List, [], OnOk, IfSome, Some, option_map, not, nat_lt, IsTrue, Contains};
+ghost use Rattle.std.specs.Prelude.{◌≡◌, ◌≢◌, ◌++◌, ◌∷◌, ◌&&◌, ◌↔◌, ℕ, Bool, List, [], OnOk, IfSome, Some, option_map, not, nat_lt, IsTrue, Contains, length, ◌≤◌};
 ghost use Rattle.vk_model.specs.Basics.{has_some};
 ghost use Rattle.vk_model.specs.World.Bytes as world;
 ghost use Rattle.vk_model.specs.World.Ownership.{dependency_of, is_acquire, is_release};
@@ -13,7 +13,7 @@ ghost use Rattle.vk_order.specs.Bytes.{byte_of};
 ghost use Rattle.vk_order.specs.Lines.{line_of, has_transfer};
 ghost use Rattle.vk_order.specs.Wide.{access_of};
 ghost use Rattle.vk_order.specs.Inner.Clocks.{same_line, place};
-ghost use Rattle.vk_order.specs.Inner.Parts.{part_of, IsPart, parts_at, AreInOrder, AreFrom, AreParts, IsNewPart};
+ghost use Rattle.vk_order.specs.Inner.Parts.{part_of, IsPart, parts_at, AreInOrder, AreFrom, AreBelow, AreParts, IsNewPart};
 
 use crate::access::Access;
 use crate::acts::{TRANSFERS, destination_stages, source_stages};
@@ -131,13 +131,29 @@ impl Act<'_> {
 pub fn parts_from(parts: &[Part], number: usize) -> &[Part]
     ensures { AreInOrder parts.now → AreFrom number parts.now result.now }
 {
-    for newer in 0..parts.len() {
-        let last = parts.len() - 1 - newer;
-        if parts[last].number < number {
-            return &parts[last + 1..];
+    let first = first_from(parts, number);
+    if first == 0 {
+        return parts;
+    }
+    &parts[first..]
+}
+
+/// How many of them are of nodes below a number: the first ones.
+fn first_from(parts: &[Part], number: usize) -> usize
+    ensures within { result ≤ length parts.now }
+    ensures below { AreInOrder parts.now → AreBelow number parts.now result }
+{
+    let mut first = 0;
+    let mut end = parts.len();
+    while first < end {
+        let middle = first + (end - first) / 2;
+        if parts[middle].number < number {
+            first = middle + 1;
+        } else {
+            end = middle;
         }
     }
-    parts
+    first
 }
 
 /// The dependencies on parts of memory, by the ids of their resources, the oldest first.

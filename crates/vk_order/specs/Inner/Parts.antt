@@ -50,6 +50,10 @@ pub record AreFrom (number : ℕ) (all some : List Part) : Type 0 where
   pub within : (x : Part) → Contains some x → Contains all x
   pub newer : (x : Part) → Contains all x → number ≤ x.number → Contains some x
 
+-- The first so many parts are of nodes below a number.
+abbrev pub AreBelow : ℕ → List Part → ℕ → Type 0
+AreBelow number xs count = (i : ℕ) (x : Part) → i < count → slice_get xs i ≡ Some x → x.number < number
+
 -- Of each resource those of all nodes are kept.
 pub record AreParts (ns : List Node) (ls : List Line) (p : Parts) : Type 0 where
   pub ordered : (id : ℕ) → AreInOrder (parts_at p id)
