@@ -27,4 +27,4 @@ mod level;
 mod ownership;
 
 pub use layouts::Layouts;
-pub use ownership::{Owner, Release, Transfer};
+pub use ownership::{Owner, Release, Transfer, is_pair};

@@ -162,7 +162,7 @@ impl Transfer {
 
 /// Whether two elements are the two halves of one transfer: the same families, the same resource
 /// and, as written, the same layouts.
-fn is_pair(release: &Element, acquire: &Element) -> bool
+pub fn is_pair(release: &Element, acquire: &Element) -> bool
     ensures { result ≡ is_pair release.now acquire.now }
 {
     match (release, acquire) {

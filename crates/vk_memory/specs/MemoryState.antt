@@ -64,6 +64,15 @@ bytes_of (Some o) = o.region
 abbrev pub region_of : MemoryState → ℕ → List ℕ
 region_of s number = bytes_of (object_at s number)
 
+-- The memory type of an object; 0 where there is no such object.
+abbrev pub type_in : Option Object → ℕ
+type_in None = 0
+type_in (Some o) = o.memory_type
+
+-- The memory type of the object of a number (Vulkan, "Device Memory").
+abbrev pub type_of : MemoryState → ℕ → ℕ
+type_of s number = type_in (object_at s number)
+
 -- Whether an object is there and mapped (Vulkan, "Host Access to Device Memory Objects").
 abbrev pub maps : Option Object → Bool
 maps None = false

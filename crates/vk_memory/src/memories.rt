@@ -97,7 +97,7 @@ impl Model for Memories {
 }
 
 impl Memories {
-    ghost use Rattle.vk_memory.specs.MemoryState.{IsFull, IsLive, fresh, heap_size, on_first, sizes_on, region_of, with_object, with_region, with_mapped, is_mapped};
+    ghost use Rattle.vk_memory.specs.MemoryState.{IsFull, IsLive, fresh, heap_size, on_first, sizes_on, region_of, with_object, with_region, with_mapped, is_mapped, type_of};
     ghost use Rattle.std.specs.Borrow.{Lends, sem};
     ghost use Rattle.vk_memory.specs.contracts.memories.Memories.{the_row};
     ghost use Rattle.vk_heap.specs.contracts.region.Region.{the_row as region_row};
@@ -158,6 +158,18 @@ impl Memories {
             self.heap0
         } else {
             self.heap1
+        }
+    }
+
+    /// The memory type of a live object.
+    pub fn memory_type(&self, number: u64) -> u32
+        requires { IsLive self.now number }
+        ensures { result ≡ type_of self.now number }
+    {
+        let object = &self.objects[number as usize];
+        match object {
+            Some(object) => object.memory_type,
+            None => unreachable!(),
         }
     }
 
