@@ -3,7 +3,10 @@ pub mod PastLemmas
 pub mod SignalSteps
 pub mod NextPoint
 pub mod ContentSteps
+pub mod CacheChanges
 pub mod AccessSteps
+pub mod CacheSteps
 pub mod CopySteps
+pub mod PassSteps
 pub mod Searches
 pub mod Stretches

@@ -5,3 +5,4 @@ pub mod Transitions
 pub mod Kept
 pub mod Living
 pub mod Using
+pub mod Owning

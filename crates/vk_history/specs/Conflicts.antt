@@ -1,37 +1,36 @@
 -- What is found wrong with the bytes that a point accesses.
-use Rattle.std.specs.Prelude.{◌≡◌, ◌≤◌, ◌<◌, ◌∷◌, ◌||◌, ℕ, List, Bool, true, false, not, IsTrue, Contains, slice_get, Option, Some, None}
-use Rattle.vk_model.specs.World.Bytes.{Byte}
+use Rattle.std.specs.Prelude.{◌≡◌, ◌⊎◌, ◌≤◌, ◌<◌, ◌∷◌, ◌||◌, ◌&&◌, ℕ, List, Bool, true, false, not, Contains, slice_get, is_some, Option, Some, None}
+use Rattle.vk_model.specs.World.Bytes.{in_buffer}
 use Rattle.vk_model.specs.Trace.Point.{Past, Point}
-use Rattle.vk_model.specs.Sync.Node.{Node}
+use Rattle.vk_model.specs.Sync.Node.{Node, nodes}
 use Rattle.vk_model.specs.Sync.Before.{before}
-use Rattle.vk_model.specs.Sync.Seen.{seen}
 use Rattle.vk_model.specs.Rules.Hazards.{breaks_hazard_war, breaks_hazard_raw, breaks_hazard_waw, breaks_read_undefined}
 use Rattle.vk_order.specs.Lines.{line_of}
-use Rattle.vk_order.specs.Wide.{access_of, AreWide, is_answered}
-use Rattle.vk_order.specs.Frontiers.{IsSight}
+use Rattle.vk_order.specs.SeenWrites as order
+use Rattle.vk_order.specs.Frontiers.{IsFrontier, IsSight}
 use Rattle.vk_order.specs.Inner.Clocks.{place}
 use Rattle.vk_order.specs.declared.access.Access.{Access}
 use Rattle.vk_order.specs.declared.lines.Line.{Line}
 use Rattle.vk_order.specs.declared.lines.Line.TheVariants.{Host as OfHost, Commands as OfCommands}
 use Rattle.vk_order.specs.declared.sights.Sight.{Sight}
+use Rattle.vk_history.specs.declared.accesses.BufferAccess.{BufferAccess}
 use Rattle.vk_history.specs.declared.found.Conflicts.{Conflicts}
 use Rattle.vk_history.specs.declared.touches.LastTouches.{LastTouches}
 use Rattle.vk_history.specs.declared.touches.QueueReads.{QueueReads}
 use Rattle.vk_history.specs.declared.touches.Spot.{Spot}
 
--- ---- what a sight says
+-- ---- what an access sees
 
--- Of the write by a command.
-abbrev pub SaysSeen : Sight → Access → Bool → Spot → Type 0
-SaysSeen s access answer w =
-    (q : ℕ) → w.line ≡ OfCommands q → (ns : List Node) (n m : Node) (cached : Byte → Bool) (b : Byte) → IsSight ns n s → Contains ns m → line_of m ≡ Some (OfCommands q) → place ns (OfCommands q) m.number ≡ w.place
-    → AreWide (n ∷ ns) → IsTrue (is_answered cached n.act (access_of access) b) → answer ≡ seen cached (n ∷ ns) m n (access_of access) b
+-- Of a buffer, by the sight of the node that comes next.
+pub record IsAccess (past : Past) (s : Sight) (b : ℕ) (kind : Access) (x : BufferAccess) : Type 0 where
+  pub frontier : IsFrontier x.frontier.now (nodes past)
+  pub sight : x.sight.now ≡ s
+  pub buffer : x.buffer ≡ b
+  pub access : x.access ≡ kind
 
--- Of the write by a host entry.
-abbrev pub SaysHostSeen : Sight → Access → Bool → ℕ → Type 0
-SaysHostSeen s access answer k =
-    (ns : List Node) (n m : Node) (cached : Byte → Bool) (b : Byte) → IsSight ns n s → Contains ns m → line_of m ≡ Some OfHost → place ns OfHost m.number ≡ k
-    → AreWide (n ∷ ns) → IsTrue (is_answered cached n.act (access_of access) b) → cached b ≡ false → answer ≡ seen cached (n ∷ ns) m n (access_of access) b
+-- Of the write of byte k of the buffer by the node of a spot: whether the access sees it.
+abbrev pub SaysSeen : BufferAccess → ℕ → Bool → Spot → Type 0
+SaysSeen x k answer w = order.SaysSeen x.frontier.now x.sight.now (record { line = w.line; place = w.place }) w.number x.access (in_buffer x.buffer k) answer
 
 -- Of whether a node of a line is before.
 abbrev pub SaysFollows : Sight → Line → Bool → ℕ → Type 0
@@ -44,17 +43,35 @@ pub record IsRefused {A : Type 0} (says : Bool → A → Type 0) (answer : Bool)
   pub none : last ≡ None → answer ≡ false
   pub some : (a : A) → last ≡ Some a → says (not answer) a
 
--- Whether the last write by a command isn't seen.
-abbrev pub MissesWrite : Sight → Access → Bool → LastTouches → Type 0
-MissesWrite s access answer t = IsRefused (SaysSeen s access) answer t.write
+-- Of byte k, whether the last write by a command isn't seen.
+abbrev pub MissesWrite : BufferAccess → ℕ → Bool → LastTouches → Type 0
+MissesWrite x k answer t = IsRefused (SaysSeen x k) answer t.write
 
--- Whether the last write by a command or the last one by the host isn't seen.
-pub record Misses (s : Sight) (access : Access) (answer : Bool) (t : LastTouches) : Type 0 where
-  pub of_command : Bool
-  pub of_host : Bool
-  pub either : answer ≡ (of_command || of_host)
-  pub command : MissesWrite s access of_command t
-  pub host : IsRefused (SaysHostSeen s access) of_host t.host_write
+-- Of byte k, whether there is a last write by a command, and it is seen.
+pub record SeesWrite (x : BufferAccess) (k : ℕ) (answer : Bool) (t : LastTouches) : Type 0 where
+  pub none : t.write ≡ None → answer ≡ false
+  pub some : (w : Spot) → t.write ≡ Some w → SaysSeen x k answer w
+
+-- The same of a read by the host: of cached memory the last invalidation has to see the write (Vulkan, "Host Access to Device Memory Objects").
+abbrev pub MissesRead : Bool → BufferAccess → ℕ → Bool → LastTouches → Type 0
+MissesRead false x k answer t = MissesWrite x k answer t
+MissesRead true x k answer t = answer ≡ (is_some t.write && not t.is_invalidated)
+
+-- Whether the last write by the host to cached memory isn't seen: where it wasn't flushed, or the first flush since then isn't seen (Vulkan, "Host Access to Device Memory Objects").
+pub record MissesFlush (x : BufferAccess) (k : ℕ) (answer : Bool) (t : LastTouches) : Type 0 where
+  pub none : t.host_write ≡ None → answer ≡ false
+  pub unflushed : (w : Spot) → t.host_write ≡ Some w → t.flush ≡ None → answer ≡ true
+  pub flushed : (w f : Spot) → t.host_write ≡ Some w → t.flush ≡ Some f → SaysSeen x k (not answer) f
+
+-- Whether the last write by the host isn't seen.
+abbrev pub MissesHostWrite : Bool → BufferAccess → ℕ → Bool → LastTouches → Type 0
+MissesHostWrite false x k answer t = IsRefused (SaysSeen x k) answer t.host_write
+MissesHostWrite true x k answer t = MissesFlush x k answer t
+
+-- Whether one of the two isn't seen.
+abbrev pub Misses : Bool → BufferAccess → ℕ → Bool → LastTouches → Type 0
+Misses cached x k true t = MissesWrite x k true t ⊎ MissesHostWrite cached x k true t
+Misses cached x k false t = MissesWrite x k false t × MissesHostWrite cached x k false t
 
 -- Whether the last read by a command of some queue doesn't come before.
 pub record HasEarlyRead (s : Sight) (answer : Bool) (r : QueueReads) : Type 0 where
@@ -82,10 +99,19 @@ pub record IsEarly (s : Sight) (answer : Bool) (t : LastTouches) : Type 0 where
 
 -- ---- what is found
 
--- Whether some item of a part is such, or none is.
+-- Whether some number from one on and below another is such, or none is.
+abbrev pub SomeBetween : (ℕ → Bool → Type 0) → Bool → ℕ → ℕ → Type 0
+SomeBetween is true low high = (k : ℕ) × (low ≤ k) × (k < high) × is k true
+SomeBetween is false low high = (k : ℕ) → low ≤ k → k < high → is k false
+
+-- Whether some item of a part is such at its index, or none is.
+abbrev pub FoundAt : {A : Type 0} → (ℕ → Bool → A → Type 0) → Bool → List A → ℕ → ℕ → Type 0
+FoundAt {A} is true xs low high = (k : ℕ) × (low ≤ k) × (k < high) × (a : A) × (slice_get xs k ≡ Some a) × is k true a
+FoundAt {A} is false xs low high = (k : ℕ) → low ≤ k → k < high → (a : A) × (slice_get xs k ≡ Some a) × is k false a
+
+-- The same wherever it is.
 abbrev pub FoundIn : {A : Type 0} → (Bool → A → Type 0) → Bool → List A → ℕ → ℕ → Type 0
-FoundIn {A} is true xs low high = (k : ℕ) × (low ≤ k) × (k < high) × (a : A) × (slice_get xs k ≡ Some a) × is true a
-FoundIn {A} is false xs low high = (k : ℕ) → low ≤ k → k < high → (a : A) × (slice_get xs k ≡ Some a) × is false a
+FoundIn is answer xs low high = FoundAt (λ k. is) answer xs low high
 
 -- Whether some item of a list is such, or none is.
 abbrev pub FoundAmong : {A : Type 0} → (Bool → A → Type 0) → Bool → List A → Type 0

@@ -1,18 +1,21 @@
 -- What is kept of the bytes of buffers.
-use Rattle.std.specs.Prelude.{◌≡◌, ◌≤◌, ◌<◌, ◌+◌, ◌-◌, ℕ, List, length, slice_get, Bool, true, false, not, ◌&&◌, ◌==◌, nat_le, nat_lt, if◌then◌else◌, Option, Some, None, is_some, is_none, unwrap_or, option_and_then, Contains}
+use Rattle.std.specs.Prelude.{IsTrue, All, ◌≡◌, ◌≤◌, ◌<◌, ◌+◌, ◌-◌, ℕ, List, length, slice_get, Bool, true, false, not, ◌&&◌, ◌==◌, nat_le, nat_lt, if◌then◌else◌, Option, Some, None, is_some, is_none, unwrap_or, option_and_then, Contains}
 use Rattle.std.specs.Option.{option_map}
 use Rattle.std.specs.List.{list_any, find}
 use Rattle.std.specs.Ordering.{nat_cmp}
 use Rattle.std.specs.BTreeMap.{get}
 use Rattle.vk_model.specs.declared.command.BufferCopy.{BufferCopy}
+use Rattle.vk_model.specs.declared.command.BufferElement.{BufferElement}
+use Rattle.vk_model.specs.declared.command.Element.{Element}
+use Rattle.vk_model.specs.declared.command.Element.TheVariants as element
 use Rattle.vk_model.specs.declared.command.Length.{Length}
 use Rattle.vk_model.specs.declared.resource.BufferInfo.{BufferInfo}
 use Rattle.vk_model.specs.Basics.{holds, within}
-use Rattle.vk_model.specs.World.Bytes.{in_buffer, World, Owner, Nobody, Family}
+use Rattle.vk_model.specs.World.Bytes.{in_buffer, World, Owner, Nobody, Family, Released}
 use Rattle.vk_model.specs.World.ByteWrites.{buffer_size, fill_size}
-use Rattle.vk_model.specs.World.Effect.{world}
-use Rattle.vk_model.specs.World.Ownership.{family_of}
-use Rattle.vk_model.specs.Trace.Objects.{buffer, is_exclusive, is_exclusive_mode}
+use Rattle.vk_model.specs.World.Effect.{world, in_atoms, after_buffer_element}
+use Rattle.vk_model.specs.World.Ownership.{family_of, Transfer}
+use Rattle.vk_model.specs.Trace.Objects.{buffer, is_cached, is_exclusive, is_exclusive_mode}
 use Rattle.vk_model.specs.Trace.Point.{Past}
 use Rattle.vk_history.specs.declared.contents.BufferContents.{BufferContents}
 use Rattle.vk_history.specs.declared.contents.Contents.{Contents}
@@ -21,40 +24,66 @@ use Rattle.vk_history.specs.declared.touches.LastTouches.{LastTouches}
 use Rattle.vk_history.specs.declared.touches.Spot.{Spot}
 use Rattle.vk_history.specs.declared.touches.Touch.{Touch}
 use Rattle.vk_history.specs.declared.touches.Touch.TheVariants as touch
-use Rattle.vk_history.specs.Remembered.{untouched, with_touch}
+use Rattle.vk_history.specs.Remembered.{untouched, with_touch, with_flush, with_invalidation}
 use Rattle.vk_history.specs.Touched.{touched}
 
 -- ---- changes
 
--- The contents of a buffer that was just made.
-pub record IsMade (c : BufferContents) (info : BufferInfo) : Type 0 where
+-- The contents of a buffer that was just made, in memory with a cache or without.
+pub record IsMade (c : BufferContents) (info : BufferInfo) (cached : Bool) : Type 0 where
   pub defined_size : length c.defined ≡ info.size
+  pub dirty_size : length c.dirty ≡ info.size
   pub touches_size : length c.touches ≡ info.size
   pub undefined : (k : ℕ) → k < info.size → slice_get c.defined k ≡ Some false
+  pub clean : (k : ℕ) → k < info.size → slice_get c.dirty k ≡ Some false
+  pub cache : c.is_cached ≡ cached
   pub unread : (k : ℕ) → k < info.size → slice_get c.touches k ≡ Some untouched
   pub mode : c.is_exclusive ≡ is_exclusive_mode info.sharing
   pub nobody : c.owner ≡ None
 
--- After a change: the owner, whether each byte is defined, and what it remembers, by what was so before.
-pub record IsChanged (old new : BufferContents) (owner : Option ℕ) (define : ℕ → Bool → Bool) (touch : ℕ → LastTouches → LastTouches) : Type 0 where
+-- After a change: the owner, whether each byte is defined, whether it is dirty, and what it remembers, by what was so before.
+pub record IsChanged (old new : BufferContents) (owner : Option ℕ) (define soil : ℕ → Bool → Bool) (touch : ℕ → LastTouches → LastTouches) : Type 0 where
   pub defined_size : length new.defined ≡ length old.defined
+  pub dirty_size : length new.dirty ≡ length old.dirty
   pub touches_size : length new.touches ≡ length old.touches
   pub mode : new.is_exclusive ≡ old.is_exclusive
+  pub cache : new.is_cached ≡ old.is_cached
   pub owned : new.owner ≡ owner
   pub defined : (k : ℕ) → slice_get new.defined k ≡ option_map (define k) (slice_get old.defined k)
+  pub dirty : (k : ℕ) → slice_get new.dirty k ≡ option_map (soil k) (slice_get old.dirty k)
   pub touches : (k : ℕ) → slice_get new.touches k ≡ option_map (touch k) (slice_get old.touches k)
 
--- Whether a byte is defined as it was.
+-- What is so of a byte as it was.
 abbrev pub as_before : ℕ → Bool → Bool
 as_before k d = d
 
+-- What is so of a byte from now on, where one that passes a test is given a value.
+abbrev pub assigns : (ℕ → Bool) → Bool → ℕ → Bool → Bool
+assigns test value k d = if test k then value else d
+
 -- Whether a byte that passes a test is defined from now on.
 abbrev pub defines : (ℕ → Bool) → ℕ → Bool → Bool
-defines test k d = if test k then true else d
+defines test = assigns test true
 
 -- What a byte remembers, where one that passes a test was touched by the node of a spot.
 abbrev pub touching : (ℕ → Bool) → Touch → Spot → ℕ → LastTouches → LastTouches
 touching test way s k t = if test k then with_touch t way s else t
+
+-- What a byte remembers, where the host entry of a spot has flushed one that passes a test.
+abbrev pub flushing : (ℕ → Bool) → Spot → ℕ → LastTouches → LastTouches
+flushing test s k t = if test k then with_flush t s else t
+
+-- What a byte remembers, where a host entry has invalidated one that passes a test, and sees its last write by a command where another test says so.
+abbrev pub invalidating : (ℕ → Bool) → (ℕ → Bool) → ℕ → LastTouches → LastTouches
+invalidating test sees k t = if test k then with_invalidation t (sees k) else t
+
+-- Whether it is so of a byte.
+abbrev pub is_on : List Bool → ℕ → Bool
+is_on xs k = holds (slice_get xs k) (λ d. d)
+
+-- Whether a byte is remembered as one whose last invalidation sees its last write by a command.
+abbrev pub sees_at : List LastTouches → ℕ → Bool
+sees_at ts k = holds (slice_get ts k) (λ t. t.is_invalidated)
 
 -- Whether a use by a family loses all.
 abbrev pub is_lost : BufferContents → ℕ → Bool
@@ -70,19 +99,44 @@ owner_after c family = if c.is_exclusive then Some family else c.owner
 
 -- After a use by a family.
 abbrev pub IsTaken : BufferContents → BufferContents → ℕ → Type 0
-IsTaken old new family = IsChanged old new (owner_after old family) (left_of old family) (λ k t. t)
+IsTaken old new family = IsChanged old new (owner_after old family) (left_of old family) as_before (λ k t. t)
 
 -- After the host has read a range.
 abbrev pub IsRead : BufferContents → BufferContents → ℕ → ℕ → Spot → Type 0
-IsRead old new o n s = IsChanged old new old.owner as_before (touching (within o n) touch.HostRead s)
+IsRead old new o n s = IsChanged old new old.owner as_before as_before (touching (within o n) touch.HostRead s)
 
--- After the host has written a range.
+-- After the host has written a range: its bytes are dirty where the memory is cached.
 abbrev pub IsSet : BufferContents → BufferContents → ℕ → ℕ → Spot → Type 0
-IsSet old new o n s = IsChanged old new old.owner (defines (within o n)) (touching (within o n) touch.HostWrite s)
+IsSet old new o n s = IsChanged old new old.owner (defines (within o n)) (assigns (within o n) old.is_cached) (touching (within o n) touch.HostWrite s)
 
 -- After a command of a family has given a range values.
 abbrev pub IsWritten : BufferContents → BufferContents → ℕ → ℕ → ℕ → Spot → Type 0
-IsWritten old new o n family s = IsChanged old new (owner_after old family) (λ k d. defines (within o n) k (left_of old family k d)) (touching (within o n) touch.Write s)
+IsWritten old new o n family s = IsChanged old new (owner_after old family) (λ k d. defines (within o n) k (left_of old family k d)) as_before (touching (within o n) touch.Write s)
+
+-- After the host has flushed a range: the bytes that it reaches are clean.
+abbrev pub IsFlushed : BufferContents → BufferContents → ℕ → Length → Spot → Type 0
+IsFlushed old new o n s = IsChanged old new old.owner as_before (assigns (λ k. old.is_cached && in_atoms o n k) false) (flushing (in_atoms o n) s)
+
+-- After the host has invalidated a range: the dirty bytes that it reaches are lost, and what is kept of those reached says whether their last writes are seen.
+pub record IsInvalidated (sees : ℕ → Bool → LastTouches → Type 0) (old new : BufferContents) (o : ℕ) (n : Length) : Type 0 where
+  pub changed : IsChanged old new old.owner (assigns (λ k. old.is_cached && in_atoms o n k && is_on old.dirty k) false) (assigns (λ k. old.is_cached && in_atoms o n k) false) (invalidating (in_atoms o n) (sees_at new.touches))
+  pub answers : (k : ℕ) (t : LastTouches) → in_atoms o n k ≡ true → slice_get old.touches k ≡ Some t → sees k (sees_at new.touches k) t
+
+-- The dirty bytes from one on and below another.
+abbrev pub dirty_between : List Bool → ℕ → ℕ → ℕ → Bool
+dirty_between dirty low high k = (nat_le low k && nat_lt k high) && is_on dirty k
+
+-- After these were lost.
+pub record AreLost (new old dirty : List Bool) (low high : ℕ) : Type 0 where
+  pub size : length new ≡ length old
+  pub values : (k : ℕ) → slice_get new k ≡ option_map (assigns (dirty_between dirty low high) false k) (slice_get old k)
+
+-- After the bytes from one on and below another were invalidated, of which what is remembered says whether their last writes are seen.
+pub record AreInvalidated (sees : ℕ → Bool → LastTouches → Type 0) (old new : List LastTouches) (low high : ℕ) : Type 0 where
+  pub further : low < high
+  pub inside : (k : ℕ) (t : LastTouches) → low ≤ k → k < high → slice_get old k ≡ Some t → (answer : Bool) × (slice_get new k ≡ Some (with_invalidation t answer)) × sees k answer t
+  pub before : (k : ℕ) → k < low → slice_get new k ≡ slice_get old k
+  pub after : (k : ℕ) → high ≤ k → slice_get new k ≡ slice_get old k
 
 -- ---- copies
 
@@ -116,11 +170,11 @@ AreCopied ss xs gs = ReadWithin gs (length xs) → (k : ℕ) → stretch_at ss k
 
 -- The source of a copy, after a command of a queue has read it.
 abbrev pub IsLent : BufferContents → BufferContents → List BufferCopy → ℕ → Spot → Type 0
-IsLent old new gs q s = IsChanged old new (owner_after old (family_of q)) (left_of old (family_of q)) (touching (reads_at gs) (touch.Read q) s)
+IsLent old new gs q s = IsChanged old new (owner_after old (family_of q)) (left_of old (family_of q)) as_before (touching (reads_at gs) (touch.Read q) s)
 
 -- The destination of a copy, after a command of a family has written stretches of its source there.
 abbrev pub IsPasted : BufferContents → BufferContents → List BufferCopy → List Stretch → ℕ → Spot → Type 0
-IsPasted old new gs ss family s = IsChanged old new (owner_after old family) (λ k d. unwrap_or (stretch_at ss k) (left_of old family k d)) (touching (writes_at gs) touch.Write s)
+IsPasted old new gs ss family s = IsChanged old new (owner_after old family) (λ k d. unwrap_or (stretch_at ss k) (left_of old family k d)) as_before (touching (writes_at gs) touch.Write s)
 
 -- ---- of a buffer that may not be there
 
@@ -140,10 +194,11 @@ IsLentWith gs ss q s old new = IsLent old new gs q s × AreCopied ss new.defined
 
 -- ---- what it says of a past
 
--- The owner that is kept.
-abbrev pub owner_of : Option ℕ → Owner
-owner_of None = Nobody
-owner_of (Some f) = Family f
+-- The family that owns a resource, or has released it: that another family loses the contents is the same of both (Vulkan, "Queue Family Ownership Transfer").
+abbrev pub holder_of : Owner → Option ℕ
+holder_of Nobody = None
+holder_of (Family f) = Some f
+holder_of (Released f e) = Some f
 
 -- Whether byte k of a buffer is defined.
 abbrev pub is_defined_in : World → ℕ → ℕ → Bool
@@ -153,28 +208,72 @@ is_defined_in w b k = not (is_none (w.value (in_buffer b k)))
 abbrev pub is_defined : Past → ℕ → ℕ → Bool
 is_defined past b k = is_defined_in (world past) b k
 
--- The contents of buffer b.
-pub record AreContentsOf (c : BufferContents) (past : Past) (b : ℕ) : Type 0 where
+-- Whether byte k of a buffer is dirty.
+abbrev pub is_dirty_in : World → ℕ → ℕ → Bool
+is_dirty_in w b k = w.dirty (in_buffer b k)
+
+-- The same after what has happened.
+abbrev pub is_dirty : Past → ℕ → ℕ → Bool
+is_dirty past b k = is_dirty_in (world past) b k
+
+-- The contents of buffer b, where a world has its bytes and its owner.
+pub record AreContentsAt (c : BufferContents) (past : Past) (w : World) (b : ℕ) : Type 0 where
   pub made : is_some (buffer past b) ≡ true
   pub defined_size : length c.defined ≡ buffer_size past b
+  pub dirty_size : length c.dirty ≡ buffer_size past b
   pub touches_size : length c.touches ≡ buffer_size past b
   pub mode : c.is_exclusive ≡ is_exclusive past b
-  pub owner : owner_of c.owner ≡ (world past).owner b
-  pub defined : (k : ℕ) → k < buffer_size past b → slice_get c.defined k ≡ Some (is_defined past b k)
+  pub cache : c.is_cached ≡ is_cached past b
+  pub owner : c.owner ≡ holder_of (w.owner b)
+  pub defined : (k : ℕ) → k < buffer_size past b → slice_get c.defined k ≡ Some (is_defined_in w b k)
+  pub dirty : (k : ℕ) → k < buffer_size past b → slice_get c.dirty k ≡ Some (is_dirty_in w b k)
   pub touches : (k : ℕ) → k < buffer_size past b → slice_get c.touches k ≡ Some (touched past (in_buffer b k))
 
--- What is no buffer has no owner, and nobody touched it.
-pub record IsFresh (past : Past) (b : ℕ) : Type 0 where
+-- The contents of buffer b.
+abbrev pub AreContentsOf : BufferContents → Past → ℕ → Type 0
+AreContentsOf c past b = AreContentsAt c past (world past) b
+
+-- What is no buffer has no owner and no dirty byte in a world, and nobody touched it.
+pub record IsFreshAt (past : Past) (w : World) (b : ℕ) : Type 0 where
   pub unmade : is_some (buffer past b) ≡ false
-  pub owner : (world past).owner b ≡ Nobody
-  pub undefined : (k : ℕ) → is_defined past b k ≡ false
+  pub owner : w.owner b ≡ Nobody
+  pub undefined : (k : ℕ) → is_defined_in w b k ≡ false
+  pub clean : (k : ℕ) → is_dirty_in w b k ≡ false
   pub unused : (k : ℕ) → touched past (in_buffer b k) ≡ untouched
+
+-- The same after what has happened.
+abbrev pub IsFresh : Past → ℕ → Type 0
+IsFresh past b = IsFreshAt past (world past) b
+
+-- The contents of what may be a buffer, in a world.
+abbrev pub AreContentsInAt : Option BufferContents → Past → World → ℕ → Type 0
+AreContentsInAt None past w b = IsFreshAt past w b
+AreContentsInAt (Some c) past w b = AreContentsAt c past w b
 
 -- The contents of what may be a buffer.
 abbrev pub AreContentsIn : Option BufferContents → Past → ℕ → Type 0
-AreContentsIn None past b = IsFresh past b
-AreContentsIn (Some c) past b = AreContentsOf c past b
+AreContentsIn o past b = AreContentsInAt o past (world past) b
+
+-- The contents of all buffers, in a world.
+abbrev pub AreAllAt : Contents → Past → World → Type 0
+AreAllAt contents past w = (b : ℕ) → AreContentsInAt (get nat_cmp contents.buffers b) past w b
 
 -- The contents of all buffers.
 abbrev pub AreContents : Contents → Past → Type 0
-AreContents contents past = (b : ℕ) → AreContentsIn (get nat_cmp contents.buffers b) past b
+AreContents contents past = AreAllAt contents past (world past)
+
+-- ---- elements of barriers
+
+-- Whether an element is on all memory, or on a buffer that is there.
+abbrev pub is_on_buffer : Past → Element → Bool
+is_on_buffer past (element.Memory d) = true
+is_on_buffer past (element.Buffer e) = is_some (buffer past e.buffer)
+is_on_buffer past (element.Image e) = false
+
+-- All elements are.
+abbrev pub AreOnBuffers : Past → List Element → Type 0
+AreOnBuffers past es = All (λ e. IsTrue (is_on_buffer past e)) es
+
+-- After what an element on the buffer does on a queue of a family, wherever it is.
+abbrev pub IsPassed : ℕ → Transfer → BufferContents → BufferContents → Type 0
+IsPassed f t old new = (past : Past) (w : World) (e : BufferElement) → AreContentsAt old past w e.buffer → AreContentsAt new past (after_buffer_element past f e t w) e.buffer

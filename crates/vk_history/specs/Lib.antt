@@ -11,5 +11,6 @@ pub mod Conflicts
 pub mod Layouts
 pub mod Counted
 pub mod Uses
+pub mod Owners
 pub mod Bound
 pub mod Tabled

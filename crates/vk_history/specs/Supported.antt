@@ -1,5 +1,5 @@
--- The forms that are supported so far: buffers in memory of their own or of the trace's, fills, updates and copies of them, host reads and writes, dependencies on all memory by barriers and events, and semaphores, on all queues.
-use Rattle.std.specs.Prelude.{ℕ, Bool, true, false, not, ◌==◌}
+-- The forms that are supported so far: buffers in memory of their own or of the trace's, fills, updates and copies of them, host reads and writes, flushes and invalidations, dependencies by barriers on all memory and on buffers and by events, and semaphores, on all queues.
+use Rattle.std.specs.Prelude.{Bool, true, false}
 use Rattle.std.specs.List.{list_all}
 use Rattle.vk_model.specs.declared.command.Cmd.{Cmd}
 use Rattle.vk_model.specs.declared.command.Cmd.TheVariants as cmd
@@ -11,27 +11,24 @@ use Rattle.vk_model.specs.declared.resource.Place.{Place}
 use Rattle.vk_model.specs.declared.resource.Place.TheVariants as place
 use Rattle.vk_model.specs.Trace.Point.{Past, Action, Host, Wait, Run, Signal}
 
--- Whether the host reaches memory of a type without a cache: any but 2 (profile).
-abbrev pub is_uncached_type : ℕ → Bool
-is_uncached_type t = not (t == 2)
-
--- A place in memory of a buffer's own of such a type, or in a memory object of the trace, which is of such a type.
+-- A place in memory of a buffer's own, or in a memory object of the trace.
 abbrev pub is_supported_place : Place → Bool
-is_supported_place (place.Dedicated t) = is_uncached_type t
+is_supported_place (place.Dedicated t) = true
 is_supported_place (place.Memory m o) = true
 is_supported_place _ = false
 
--- Whether an element is on all memory.
-abbrev pub is_memory : Element → Bool
-is_memory (element.Memory d) = true
-is_memory _ = false
+-- Whether an element is on all memory or on a buffer.
+abbrev pub is_supported_element : Element → Bool
+is_supported_element (element.Memory d) = true
+is_supported_element (element.Buffer e) = true
+is_supported_element (element.Image e) = false
 
--- Whether a command is of a supported form: a fill, an update, a copy between buffers, a barrier on all memory, a set or an await (profile).
+-- Whether a command is of a supported form: a fill, an update, a copy between buffers, a barrier on all memory and on buffers, a set or an await (profile).
 abbrev pub is_supported_command : Cmd → Bool
 is_supported_command (cmd.Fill b o n w) = true
 is_supported_command (cmd.Update b o bytes) = true
 is_supported_command (cmd.Copy s d gs) = true
-is_supported_command (cmd.Barrier es) = list_all is_memory es
+is_supported_command (cmd.Barrier es) = list_all is_supported_element es
 is_supported_command (cmd.Set v ms) = true
 is_supported_command (cmd.Await v ms) = true
 is_supported_command _ = false
@@ -39,13 +36,15 @@ is_supported_command _ = false
 -- Whether an entry is of a supported form; what a submit carries is judged point by point.
 abbrev pub is_supported_entry : Entry → Bool
 is_supported_entry (entry.Buffer i b) = is_supported_place b.place
-is_supported_entry (entry.Memory i m) = is_uncached_type m.memory_type
+is_supported_entry (entry.Memory i m) = true
 is_supported_entry (entry.Free m) = true
 is_supported_entry (entry.Destroy r) = true
 is_supported_entry (entry.Map b) = true
 is_supported_entry (entry.Unmap b) = true
 is_supported_entry (entry.Write b o bytes) = true
 is_supported_entry (entry.Read b o n) = true
+is_supported_entry (entry.Flush b o n) = true
+is_supported_entry (entry.Invalidate b o n) = true
 is_supported_entry (entry.Semaphore i v) = true
 is_supported_entry (entry.Event i) = true
 is_supported_entry (entry.Signal s v) = true

@@ -24,6 +24,7 @@ use Rattle.vk_history.specs.Layouts.{AreCurrent}
 use Rattle.vk_history.specs.Made.{Numbered, last_maker, Set, last_set}
 use Rattle.vk_history.specs.Touched.{last_signaler, signal_spot}
 use Rattle.vk_history.specs.Uses.{AreUses}
+use Rattle.vk_history.specs.Owners.{AreOwners}
 
 -- The entry that a table keeps, with its number.
 abbrev pub maker_view : Maker → Numbered
@@ -67,4 +68,5 @@ pub record IsTabled (tables : Tables) (past : Past) : Type 0 where
   pub layouts : AreCurrent tables.layouts past
   pub contents : AreContents tables.contents past
   pub uses : AreUses tables.uses past
+  pub owners : AreOwners tables.owners past
   pub frontier : IsFrontier tables.frontier (nodes past)

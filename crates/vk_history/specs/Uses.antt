@@ -13,7 +13,6 @@ use Rattle.vk_model.specs.Trace.Point.{Past, Point, Action, Run}
 use Rattle.vk_model.specs.World.Ownership.{named_by}
 use Rattle.vk_model.specs.Sync.Node.{Node, nodes, acts}
 use Rattle.vk_model.specs.Sync.Complete.{named_by_act, nodes_for, submitted}
-use Rattle.vk_order.specs.declared.lines.Line.{Line}
 use Rattle.vk_order.specs.declared.lines.Line.TheVariants.{Elements as OfElements}
 use Rattle.vk_order.specs.Lines.{line_of}
 use Rattle.vk_order.specs.Inner.Clocks.{place}

@@ -3,7 +3,7 @@ ghost use Rattle.vk_order.specs.PointViews.{action_of};
 ghost use Rattle.vk_model.specs.Trace.Point.{Host, Run};
 ghost use Rattle.vk_history.specs.Changes.{Fits};
 
-use vk_model::{BufferCopy, BufferInfo, Cmd, Entry, Length};
+use vk_model::{BufferCopy, BufferInfo, Cmd, Element, Entry, Length};
 use vk_order::{Action, Point};
 
 /// A change of the bytes of buffers.
@@ -16,10 +16,16 @@ pub enum Change<'a> {
     HostRead(u32, u64, u64),
     /// The host wrote a range of a buffer.
     HostWritten(u32, u64, u64),
+    /// The host flushed a range of a buffer.
+    Flushed(u32, u64, Length),
+    /// The host invalidated a range of a buffer.
+    Invalidated(u32, u64, Length),
     /// A command gave a range of a buffer values.
     Written(u32, u64, Length),
     /// A command copied regions from one buffer to another, or within one.
     Copied(u32, u32, &'a [BufferCopy]),
+    /// A barrier has elements, which may pass buffers from one queue family to another.
+    Passed(&'a [Element]),
 }
 
 /// What a point changes of the bytes of buffers.
@@ -48,6 +54,16 @@ fn change_by_entry(entry: &Entry) -> Change<'_>
             offset,
             bytes,
         } => Change::HostWritten(*buffer, *offset, bytes.len() as u64),
+        Entry::Flush {
+            buffer,
+            offset,
+            size,
+        } => Change::Flushed(*buffer, *offset, *size),
+        Entry::Invalidate {
+            buffer,
+            offset,
+            size,
+        } => Change::Invalidated(*buffer, *offset, *size),
         _ => Change::Nothing,
     }
 }
@@ -72,6 +88,7 @@ fn change_by_command(command: &Cmd) -> Change<'_>
             destination,
             regions,
         } => Change::Copied(*source, *destination, regions.as_slice()),
+        Cmd::Barrier { elements } => Change::Passed(elements.as_slice()),
         _ => Change::Nothing,
     }
 }

@@ -1,23 +1,35 @@
-ghost use Rattle.std.specs.Prelude.{◌≡◌, ◌≢◌, ◌∷◌, [], ℕ, OnOk, IfOk, IfSome, IsSome, Option};
+ghost use Rattle.std.specs.Prelude.{◌≡◌, ◌≢◌, ◌∷◌, [], ℕ, OnOk, IfOk, IfSome, IsSome, IsTrue, Option};
 ghost use Rattle.std.specs.Option.{option_map};
+ghost use Rattle.std.specs.List.{fold};
 ghost use Rattle.std.specs.Ordering.{nat_cmp};
 ghost use Rattle.std.specs.BTreeMap.{get};
 ghost use Rattle.vk_model.specs.Trace.Point.{Past};
+ghost use Rattle.vk_model.specs.Sync.Node.{nodes};
+ghost use Rattle.vk_model.specs.World.Bytes.{World};
+ghost use Rattle.vk_model.specs.World.Effect.{after_element};
 ghost use Rattle.vk_model.specs.World.Ownership.{family_of};
+ghost use Rattle.vk_layouts.specs.Owned.{transfer_of};
+ghost use Rattle.vk_order.specs.Frontiers.{IsFrontier};
 ghost use Rattle.vk_order.specs.PointViews.{point_of};
+ghost use Rattle.vk_history.specs.Conflicts.{SeesWrite};
 ghost use Rattle.vk_history.specs.Judged.{IsJudged};
+ghost use Rattle.vk_history.specs.Tabled.{AreObjects};
 ghost use Rattle.vk_history.specs.Touched.{next_spot};
-ghost use Rattle.vk_history.specs.Contents.{AreContents, IsMade, IsTaken, IsRead, IsSet, IsWritten, IsLent, IsPasted, BecomesIn, IsWrittenBy, IsLentWith};
+ghost use Rattle.vk_history.specs.Contents.{AreContents, AreAllAt, AreOnBuffers, IsPassed, is_on_buffer, IsMade, IsTaken, IsRead, IsSet, IsFlushed, IsInvalidated, IsWritten, IsLent, IsPasted, BecomesIn, IsWrittenBy, IsLentWith};
 
+use crate::accesses::BufferAccess;
+use crate::acts::act_of;
 use crate::changes::{Change, change_by};
 use crate::families::family_of;
-use crate::ranges::{define, touch};
+use crate::objects::Objects;
+use crate::ranges::{assign, touch};
 use crate::stretches::{Stretch, copies, define_all, touch_destinations, touch_sources};
 use crate::touches::{LastTouches, Spot, Touch};
 use std::alloc::{AllocError, Global};
 use std::collections::BTreeMap;
-use vk_model::{BufferCopy, BufferInfo, Length, Sharing};
-use vk_order::Point;
+use vk_layouts::Transfer;
+use vk_model::{BufferCopy, BufferInfo, Element, Length, Sharing};
+use vk_order::{Access, Frontier, Point};
 use vk_ranges::RangeMap;
 
 /// What is known of the bytes of a buffer.
@@ -25,22 +37,28 @@ use vk_ranges::RangeMap;
 pub struct BufferContents {
     /// Whether each byte is defined.
     pub defined: RangeMap<bool>,
+    /// Whether the host has written each byte to its cache, and not flushed it.
+    pub dirty: RangeMap<bool>,
     /// Who touched each byte last.
     pub touches: RangeMap<LastTouches>,
+    /// Whether the host reaches it through a cache.
+    pub is_cached: bool,
     /// Whether one queue family at a time owns it.
     pub is_exclusive: bool,
-    /// The queue family that owns it, if one does.
+    /// The queue family that owns it or has released it, if one does.
     pub owner: Option<u32>,
 }
 
 impl BufferContents {
-    /// Of a buffer that was made.
-    fn new(alloc: Global, info: &BufferInfo) -> Result<BufferContents, AllocError>
-        ensures { IfOk result (λ contents. IsMade contents info.now) }
+    /// Of a buffer that was made, in memory with a cache or without.
+    fn new(alloc: Global, info: &BufferInfo, is_cached: bool) -> Result<BufferContents, AllocError>
+        ensures { IfOk result (λ contents. IsMade contents info.now is_cached) }
     {
         Ok(BufferContents {
             defined: RangeMap::new(alloc, info.size, false)?,
+            dirty: RangeMap::new(alloc, info.size, false)?,
             touches: RangeMap::new(alloc, info.size, LastTouches::none())?,
+            is_cached,
             is_exclusive: matches!(info.sharing, Sharing::Exclusive),
             owner: None,
         })
@@ -57,7 +75,8 @@ impl BufferContents {
     fn set(&mut self, offset: u64, size: u64, spot: Spot) -> Result<(), AllocError>
         ensures { OnOk result (IsSet self.old self.new offset size spot) }
     {
-        define(&mut self.defined, offset, size)?;
+        assign(&mut self.defined, offset, size, true)?;
+        assign(&mut self.dirty, offset, size, self.is_cached)?;
         touch(&mut self.touches, offset, size, Touch::HostWrite, spot)?;
         Ok(())
     }
@@ -67,7 +86,7 @@ impl BufferContents {
         ensures { OnOk result (IsWritten self.old self.new offset size family spot) }
     {
         self.take_over(family)?;
-        define(&mut self.defined, offset, size)?;
+        assign(&mut self.defined, offset, size, true)?;
         touch(&mut self.touches, offset, size, Touch::Write, spot)?;
         Ok(())
     }
@@ -99,7 +118,7 @@ impl BufferContents {
 
     /// A use by a queue family: of an exclusive buffer that another one owns all is lost, and the
     /// family owns it from then on.
-    fn take_over(&mut self, family: u32) -> Result<(), AllocError>
+    pub(crate) fn take_over(&mut self, family: u32) -> Result<(), AllocError>
         ensures { OnOk result (IsTaken self.old self.new family) }
     {
         if !self.is_exclusive {
@@ -139,32 +158,88 @@ impl Contents {
         self.buffers.get(&buffer)
     }
 
-    /// Takes the next point, whose node has this spot.
-    pub fn note(&mut self, point: &Point<'_>, spot: Spot) -> Result<(), AllocError>
+    /// Takes the next point, whose node has this spot, by the objects after it and what is known of
+    /// the nodes before it.
+    pub fn note(
+        &mut self,
+        point: &Point<'_>,
+        spot: Spot,
+        objects: &Objects<'_>,
+        frontier: &Frontier,
+    ) -> Result<(), AllocError>
         ensures { OnOk result ((past : Past) → IsJudged (point_of point.now ∷ past) → spot ≡ next_spot past (point_of point.now)
-            → AreContents self.old past → AreContents self.new (point_of point.now ∷ past)) }
+            → AreObjects objects.now (point_of point.now ∷ past) → IsFrontier frontier.now (nodes past) → AreContents self.old past → AreContents self.new (point_of point.now ∷ past)) }
     {
         let queue = point.queue;
         match change_by(point) {
             Change::Nothing => Ok(()),
-            Change::Made(buffer, info) => self.make(buffer, info),
+            Change::Made(buffer, info) => self.make(buffer, info, objects.is_cached(buffer)),
             Change::HostRead(buffer, offset, size) => self.read(buffer, offset, size, spot),
             Change::HostWritten(buffer, offset, size) => self.set(buffer, offset, size, spot),
+            Change::Flushed(buffer, offset, size) => self.flush(buffer, offset, size, spot),
+            Change::Invalidated(buffer, offset, size) => {
+                let sight = &frontier.sight(point, &act_of(point))?;
+                let by = BufferAccess {
+                    frontier,
+                    sight,
+                    buffer,
+                    access: Access::Read,
+                };
+                self.invalidate(offset, size, &by)
+            }
             Change::Written(buffer, offset, size) => self.write(buffer, offset, size, queue, spot),
             Change::Copied(source, destination, regions) => {
                 let stretches = self.lend(source, regions, queue, spot)?;
                 self.paste(destination, regions, stretches, queue, spot)?;
                 Ok(())
             }
+            Change::Passed(elements) => self.pass_all(family_of(queue), elements),
         }
     }
 
-    fn make(&mut self, buffer: u32, info: &BufferInfo) -> Result<(), AllocError>
-        ensures here { OnOk result (IfSome (get nat_cmp self.new.buffers buffer) (λ contents. IsMade contents info.now)) }
+    /// What the elements of a barrier do on a queue of a family, one after another.
+    fn pass_all(&mut self, family: u32, elements: &[Element]) -> Result<(), AllocError>
+        ensures { OnOk result ((past : Past) (w : World) → AreOnBuffers past elements.now → AreAllAt self.old past w → AreAllAt self.new past (fold (after_element past family) w elements.now)) }
+    {
+        for element in elements {
+            self.pass(family, element)?;
+        }
+        Ok(())
+    }
+
+    fn pass(&mut self, family: u32, element: &Element) -> Result<(), AllocError>
+        ensures { OnOk result ((past : Past) (w : World) → IsTrue (is_on_buffer past element.now) → AreAllAt self.old past w → AreAllAt self.new past (after_element past family w element.now)) }
+    {
+        match element {
+            Element::Buffer(range) => {
+                let transfer = Transfer::of(family, range.families);
+                self.pass_buffer(range.buffer, family, transfer)
+            }
+            _ => Ok(()),
+        }
+    }
+
+    fn pass_buffer(
+        &mut self,
+        buffer: u32,
+        family: u32,
+        transfer: Transfer,
+    ) -> Result<(), AllocError>
+        ensures here { OnOk result (BecomesIn (IsPassed family (transfer_of transfer)) (get nat_cmp self.old.buffers buffer) (get nat_cmp self.new.buffers buffer)) }
+        ensures others { OnOk result ((other : ℕ) → other ≢ buffer → get nat_cmp self.new.buffers other ≡ get nat_cmp self.old.buffers other) }
+    {
+        match self.buffers.get_mut(&buffer) {
+            Some(contents) => contents.pass(family, transfer),
+            None => Ok(()),
+        }
+    }
+
+    fn make(&mut self, buffer: u32, info: &BufferInfo, is_cached: bool) -> Result<(), AllocError>
+        ensures here { OnOk result (IfSome (get nat_cmp self.new.buffers buffer) (λ contents. IsMade contents info.now is_cached)) }
         ensures present { OnOk result (IsSome (get nat_cmp self.new.buffers buffer)) }
         ensures others { OnOk result ((other : ℕ) → other ≢ buffer → get nat_cmp self.new.buffers other ≡ get nat_cmp self.old.buffers other) }
     {
-        let contents = BufferContents::new(self.alloc, info)?;
+        let contents = BufferContents::new(self.alloc, info, is_cached)?;
         self.buffers.insert(buffer, contents)?;
         Ok(())
     }
@@ -185,6 +260,38 @@ impl Contents {
     {
         match self.buffers.get_mut(&buffer) {
             Some(contents) => contents.set(offset, size, spot),
+            None => Ok(()),
+        }
+    }
+
+    fn flush(
+        &mut self,
+        buffer: u32,
+        offset: u64,
+        size: Length,
+        spot: Spot,
+    ) -> Result<(), AllocError>
+        ensures here { OnOk result (BecomesIn (λ old new. IsFlushed old new offset size spot) (get nat_cmp self.old.buffers buffer) (get nat_cmp self.new.buffers buffer)) }
+        ensures others { OnOk result ((other : ℕ) → other ≢ buffer → get nat_cmp self.new.buffers other ≡ get nat_cmp self.old.buffers other) }
+    {
+        match self.buffers.get_mut(&buffer) {
+            Some(contents) => contents.flush(offset, size, spot),
+            None => Ok(()),
+        }
+    }
+
+    /// Invalidates a range of a buffer, by an entry of the host that reads as this says.
+    fn invalidate(
+        &mut self,
+        offset: u64,
+        size: Length,
+        by: &BufferAccess<'_>,
+    ) -> Result<(), AllocError>
+        ensures here { OnOk result (BecomesIn (λ old new. IsInvalidated (SeesWrite by.now) old new offset size) (get nat_cmp self.old.buffers by.now.buffer) (get nat_cmp self.new.buffers by.now.buffer)) }
+        ensures others { OnOk result ((other : ℕ) → other ≢ by.now.buffer → get nat_cmp self.new.buffers other ≡ get nat_cmp self.old.buffers other) }
+    {
+        match self.buffers.get_mut(&by.buffer) {
+            Some(contents) => contents.invalidate(offset, size, by),
             None => Ok(()),
         }
     }

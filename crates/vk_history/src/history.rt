@@ -18,12 +18,15 @@ ghost use Rattle.vk_history.specs.Judged.{IsJudged};
 ghost use Rattle.vk_history.specs.Ended.{first_end};
 ghost use Rattle.vk_history.specs.Made.{last_maker, last_set, earlier_than};
 ghost use Rattle.vk_history.specs.Touched.{last_signaler, signal_spot, next_node, act_next};
+ghost use Rattle.vk_history.specs.Conflicts.{IsAccess};
 ghost use Rattle.vk_history.specs.Contents.{AreContentsIn};
 ghost use Rattle.vk_history.specs.Tabled.{spot_view, set_view, maker_view};
 
 mod pools;
 mod resources;
 
+use crate::accesses::BufferAccess;
+use crate::acts::act_of;
 use crate::contents::BufferContents;
 use crate::events::EventSet;
 use crate::objects::Maker;
@@ -33,7 +36,7 @@ use crate::tables::{Tables, note};
 use std::alloc::{AllocError, Global};
 use std::marker::Model;
 use vk_model::{BufferInfo, Entry, ImageInfo, MemoryInfo, Place, PoolInfo};
-use vk_order::{Act, Action, Point, Sight};
+use vk_order::{Access, Action, Point, Sight};
 
 /// What has happened: the first `count` of the points, which break no rule. What the rules ask of it
 /// is kept in tables.
@@ -69,6 +72,11 @@ impl<'a> History<'a> {
             count: 0,
             tables: Tables::new(alloc),
         }
+    }
+
+    /// The allocator of its tables.
+    pub fn alloc(&self) -> Global {
+        self.alloc
     }
 
     /// How many points have happened.
@@ -219,25 +227,7 @@ impl<'a> History<'a> {
     pub fn type_at(&self, place: Place) -> Option<u32>
         ensures { result ≡ type_at (past self.now) place }
     {
-        match place {
-            Place::Dedicated { memory_type } => Some(memory_type),
-            Place::Pool { pool } => self.pool_type(pool),
-            Place::PoolUpper { pool } => self.pool_type(pool),
-            Place::Memory { memory, .. } => match self.memory(memory) {
-                Some(info) => Some(info.memory_type),
-                None => None,
-            },
-        }
-    }
-
-    /// The memory type of a pool.
-    fn pool_type(&self, id: u32) -> Option<u32>
-        ensures { result ≡ option_map (λ x. x.memory_type) (pool (past self.now) id) }
-    {
-        match self.pool(id) {
-            Some(info) => Some(info.memory_type),
-            None => None,
-        }
+        self.tables.objects.type_at(place)
     }
 
     /// The pool of a place, as it was made.
@@ -254,11 +244,7 @@ impl<'a> History<'a> {
     pub fn type_of(&self, id: u32) -> Option<u32>
         ensures { result ≡ type_of (past self.now) id }
     {
-        match self.made(id) {
-            Some(Entry::Buffer { info, .. }) => self.type_at(info.place),
-            Some(Entry::Image { info, .. }) => self.type_at(info.place),
-            _ => None,
-        }
+        self.tables.objects.type_of(id)
     }
 
     /// The pool that a resource is in.
@@ -350,6 +336,18 @@ impl<'a> History<'a> {
         self.tables.frontier.sight(point, &act_of(point))
     }
 
+    /// How the node that a sight is of accesses a buffer, where it comes next.
+    pub fn access<'b>(&'b self, sight: &'b Sight, buffer: u32, access: Access) -> BufferAccess<'b>
+        ensures { IsAccess (past self.now) sight.now buffer access result }
+    {
+        BufferAccess {
+            frontier: &self.tables.frontier,
+            sight,
+            buffer,
+            access,
+        }
+    }
+
     /// Takes the next point, which breaks no rule. After an error the history begins anew.
     pub fn advance(&mut self, point: &Point<'a>) -> Result<(), AllocError>
         requires here { slice_get self.old.points self.old.count ≡ Some point.now }
@@ -367,17 +365,5 @@ impl<'a> History<'a> {
                 Err(error)
             }
         }
-    }
-}
-
-/// The act of a point that has a single one.
-fn act_of<'a>(point: &Point<'a>) -> Act<'a>
-    ensures { act_of result ≡ act_next (action_of point.now.action) }
-{
-    match point.action {
-        Action::Host(entry) => Act::Hosts(entry),
-        Action::Wait(wait) => Act::Waits(wait),
-        Action::Run(command) => Act::Runs(command),
-        Action::Signal(signal) => Act::Signals(signal),
     }
 }

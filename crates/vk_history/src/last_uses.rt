@@ -44,7 +44,7 @@ pub struct ElementCounts {
 
 impl ElementCounts {
     /// Those of a queue.
-    fn of(frontier: &Frontier, queue: u32) -> ElementCounts
+    pub fn of(frontier: &Frontier, queue: u32) -> ElementCounts
         ensures { (ns : List Node) → IsFrontier frontier.now ns → AreElementCounts result queue ns }
     {
         ElementCounts {
@@ -56,7 +56,7 @@ impl ElementCounts {
     }
 
     /// One more on a line of elements; and how many there were. None where there are too many.
-    fn take(&mut self, line: Line) -> Option<usize>
+    pub fn take(&mut self, line: Line) -> Option<usize>
         ensures { (q : ℕ) (t h : Bool) → line ≡ OfElements q t h → IfSome result (λ count. (count ≡ elements_on self.old t h)
             × ((u i : Bool) → elements_on self.new u i ≡ elements_on self.old u i + (if same_bit u t && same_bit i h then 1 else 0))) }
     {

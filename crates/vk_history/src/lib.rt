@@ -5,6 +5,8 @@
 //! which layouts images are, and which bytes are defined and were accessed by whom.
 #![tactic(auto)]
 
+mod accesses;
+mod acts;
 mod bound;
 mod changes;
 mod contents;
@@ -14,6 +16,7 @@ mod elements;
 mod endings;
 mod events;
 mod families;
+mod flushes;
 mod found;
 mod history;
 mod last_uses;
@@ -21,7 +24,9 @@ mod layouts;
 mod mappings;
 mod objects;
 mod occupants;
+mod owners;
 mod parts;
+mod passes;
 mod places;
 mod ranges;
 mod searches;
@@ -33,6 +38,7 @@ mod touches;
 mod used;
 mod uses;
 
+pub use accesses::BufferAccess;
 pub use changes::{Change, change_by};
 pub use contents::BufferContents;
 pub use elements::is_transition;
@@ -40,5 +46,6 @@ pub use events::EventSet;
 pub use families::family_of;
 pub use found::Conflicts;
 pub use history::History;
+pub use owners::{Owned, Release};
 pub use semaphores::{Signals, signal_of};
 pub use supported::is_supported;

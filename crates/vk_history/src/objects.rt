@@ -4,7 +4,7 @@ ghost use Rattle.std.specs.Ordering.{nat_cmp};
 ghost use Rattle.std.specs.BTreeMap.{get};
 ghost use Rattle.vk_model.specs.Trace.Point.{Past};
 ghost use Rattle.vk_model.specs.Trace.Objects as objects;
-ghost use Rattle.vk_model.specs.Trace.Objects.{made, memory_of, pool_of, defrag_in, resource};
+ghost use Rattle.vk_model.specs.Trace.Objects.{made, memory, pool, memory_of, pool_of, defrag_in, resource, type_at, type_of, is_cached, is_exclusive, is_exclusive_mode};
 ghost use Rattle.vk_model.specs.Rules.Mapping.{mapping};
 ghost use Rattle.vk_order.specs.PointViews.{point_of};
 ghost use Rattle.vk_history.specs.Made.{last_maker};
@@ -13,7 +13,7 @@ ghost use Rattle.vk_history.specs.Tabled.{AreObjects, maker_view};
 use crate::places::{bound_at, memory_at, pool_at};
 use std::alloc::{AllocError, Global};
 use std::collections::BTreeMap;
-use vk_model::Entry;
+use vk_model::{Entry, Place, Sharing};
 use vk_order::{Action, Point};
 
 /// An entry that made an object, with its number.
@@ -56,6 +56,59 @@ impl<'a> Objects<'a> {
         }
     }
 
+    /// The memory type of a place; none where its pool or memory object was never made.
+    pub fn type_at(&self, place: Place) -> Option<u32>
+        ensures { (past : Past) → AreObjects self.now past → result ≡ type_at past place }
+    {
+        match place {
+            Place::Dedicated { memory_type } => Some(memory_type),
+            Place::Pool { pool } => self.pool_type(pool),
+            Place::PoolUpper { pool } => self.pool_type(pool),
+            Place::Memory { memory, .. } => self.object_type(memory),
+        }
+    }
+
+    /// The memory type of a pool.
+    fn pool_type(&self, id: u32) -> Option<u32>
+        ensures { (past : Past) → AreObjects self.now past → result ≡ option_map (λ x. x.memory_type) (pool past id) }
+    {
+        match self.made(id) {
+            Some(Entry::Pool { info, .. }) => Some(info.memory_type),
+            _ => None,
+        }
+    }
+
+    /// The memory type of a memory object.
+    fn object_type(&self, id: u32) -> Option<u32>
+        ensures { (past : Past) → AreObjects self.now past → result ≡ option_map (λ x. x.memory_type) (memory past id) }
+    {
+        match self.made(id) {
+            Some(Entry::Memory { info, .. }) => Some(info.memory_type),
+            _ => None,
+        }
+    }
+
+    /// The memory type of a resource.
+    pub fn type_of(&self, id: u32) -> Option<u32>
+        ensures { (past : Past) → AreObjects self.now past → result ≡ type_of past id }
+    {
+        match self.made(id) {
+            Some(Entry::Buffer { info, .. }) => self.type_at(info.place),
+            Some(Entry::Image { info, .. }) => self.type_at(info.place),
+            _ => None,
+        }
+    }
+
+    /// Whether the host reaches a resource through a cache: it is in memory of type 2.
+    pub fn is_cached(&self, id: u32) -> bool
+        ensures { (past : Past) → AreObjects self.now past → result ≡ is_cached past id }
+    {
+        match self.type_of(id) {
+            Some(memory_type) => memory_type == 2,
+            None => false,
+        }
+    }
+
     /// The memory object that the trace bound a resource to.
     pub fn memory_of(&self, id: u32) -> Option<u32>
         ensures { (past : Past) → AreObjects self.now past → result ≡ memory_of past id }
@@ -86,6 +139,17 @@ impl<'a> Objects<'a> {
             Some(Entry::Buffer { info, .. }) => pool_at(info.place),
             Some(Entry::Image { info, .. }) => pool_at(info.place),
             _ => None,
+        }
+    }
+
+    /// Whether one queue family at a time owns a resource.
+    pub fn is_exclusive(&self, id: u32) -> bool
+        ensures { (past : Past) → AreObjects self.now past → result ≡ is_exclusive past id }
+    {
+        match self.made(id) {
+            Some(Entry::Buffer { info, .. }) => is_exclusive(info.sharing),
+            Some(Entry::Image { info, .. }) => is_exclusive(info.sharing),
+            _ => false,
         }
     }
 
@@ -136,4 +200,10 @@ impl<'a> Objects<'a> {
         self.makers.insert(id, maker)?;
         Ok(())
     }
+}
+
+fn is_exclusive(mode: Sharing) -> bool
+    ensures { result ≡ is_exclusive_mode mode }
+{
+    matches!(mode, Sharing::Exclusive)
 }

@@ -1,4 +1,10 @@
-ghost use Rattle.std.specs.Prelude.{◌≡◌, ◌≤◌, ◌+◌, min};
+ghost use Rattle.std.specs.Prelude.{◌≡◌, ◌≤◌, ◌<◌, ◌+◌, ◌*◌, ◌/◌, ◌&&◌, ℕ, min, nat_le, nat_lt};
+ghost use Rattle.vk_model.specs.World.Effect.{in_atoms};
+
+use vk_model::Length;
+
+/// The bytes of an atom of memory that the host reaches through a cache.
+const ATOM: u64 = 64;
 
 /// The part of a range that lies in a buffer: the bytes from `low` on, below `high`.
 #[derive(Clone, Copy)]
@@ -20,4 +26,27 @@ impl Part {
             high,
         }
     }
+
+    /// Of the atoms that a flush or an invalidation of a range reaches, the bytes below `len`.
+    pub fn of_atoms(offset: u64, size: Length, len: u64) -> Part
+        ensures within { result.high ≤ len }
+        ensures reached { (k : ℕ) → k < len → in_atoms offset size k ≡ (nat_le result.low k && nat_lt k result.high) }
+    {
+        let high = match size {
+            Length::Bytes(0) => 0,
+            Length::Bytes(bytes) => end_of_atom(offset.saturating_add(bytes) - 1).min(len),
+            Length::Whole => len,
+        };
+        Part {
+            low: (offset / ATOM * ATOM).min(high),
+            high,
+        }
+    }
+}
+
+/// The byte after the atom of a byte, or the last one that has a number.
+fn end_of_atom(byte: u64) -> u64
+    ensures { result ≡ min (byte / 64 * 64 + 64) u64.MAX }
+{
+    (byte / ATOM * ATOM).saturating_add(ATOM)
 }

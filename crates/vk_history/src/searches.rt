@@ -1,36 +1,37 @@
 ghost use Rattle.std.specs.Prelude.{◌≡◌, ◌+◌, ◌≤◌, not, length};
 ghost use Rattle.vk_order.specs.declared.lines.Line.TheVariants.{Host as OfHost};
-ghost use Rattle.vk_history.specs.Conflicts.{Misses, MissesWrite, IsEarly, HasEarlyRead, HasEarlyCommand, IsRefused, SaysFollows, SaysHostSeen, FoundIn};
+ghost use Rattle.vk_history.specs.Conflicts.{Misses, MissesRead, MissesWrite, IsEarly, HasEarlyRead, HasEarlyCommand, IsRefused, SaysFollows, FoundIn, FoundAt};
 
+use crate::accesses::BufferAccess;
 use crate::contents::BufferContents;
 use crate::parts::Part;
 use crate::touches::{LastTouches, QueueReads};
-use vk_order::{Access, Line, Sight};
+use vk_order::{Line, Sight};
 
 impl BufferContents {
     /// Whether a byte of a range has a last write, by a command or the host, that an access by a
     /// command doesn't see.
-    pub fn has_missed(&self, offset: u64, size: u64, sight: &Sight, access: Access) -> bool
-        ensures { offset + size ≤ length self.now.touches → FoundIn (Misses sight.now access) result self.now.touches offset (offset + size) }
+    pub fn has_missed(&self, offset: u64, size: u64, by: &BufferAccess<'_>) -> bool
+        ensures { offset + size ≤ length self.now.touches → FoundAt (Misses self.now.is_cached by.now) result self.now.touches offset (offset + size) }
     {
         let part = Part::of(offset, 0, size, self.touches.len());
-        self.touches
-            .find(part.low, part.high, |last| misses(last, sight, access))
-            .is_some()
+        by.misses_some(&self.touches, part.low, part.high, self.is_cached)
     }
 
-    /// Whether one has a last write by a command that an access by the host doesn't see.
-    pub fn has_missed_write(&self, offset: u64, size: u64, sight: &Sight, access: Access) -> bool
-        ensures { offset + size ≤ length self.now.touches → FoundIn (MissesWrite sight.now access) result self.now.touches offset (offset + size) }
+    /// Whether one has a last write by a command that a read by the host doesn't see.
+    pub fn has_missed_read(&self, offset: u64, size: u64, by: &BufferAccess<'_>) -> bool
+        ensures { offset + size ≤ length self.now.touches → FoundAt (MissesRead self.now.is_cached by.now) result self.now.touches offset (offset + size) }
     {
         let part = Part::of(offset, 0, size, self.touches.len());
-        self.touches
-            .find(
-                part.low,
-                part.high,
-                |last| misses_write(last, sight, access),
-            )
-            .is_some()
+        by.misses_some_read(&self.touches, part.low, part.high, self.is_cached)
+    }
+
+    /// Whether one has a last write by a command that a write by the host doesn't see.
+    pub fn has_missed_write(&self, offset: u64, size: u64, by: &BufferAccess<'_>) -> bool
+        ensures { offset + size ≤ length self.now.touches → FoundAt (MissesWrite by.now) result self.now.touches offset (offset + size) }
+    {
+        let part = Part::of(offset, 0, size, self.touches.len());
+        by.misses_some_write(&self.touches, part.low, part.high)
     }
 
     /// Whether one has a last read, by the host or by a command of some queue, that doesn't come
@@ -67,35 +68,6 @@ impl BufferContents {
         self.defined
             .find(part.low, part.high, |is_defined| !*is_defined)
             .is_some()
-    }
-}
-
-fn misses(last: &LastTouches, sight: &Sight, access: Access) -> bool
-    ensures { Misses sight.now access result last.now }
-{
-    let of_command = misses_write(last, sight, access);
-    let of_host = misses_host_write(last.host_write, sight, access);
-    of_command || of_host
-}
-
-fn misses_write(last: &LastTouches, sight: &Sight, access: Access) -> bool
-    ensures { MissesWrite sight.now access result last.now }
-{
-    match last.write {
-        Some(spot) => match spot.line {
-            Line::Commands(queue) => !sight.sees(queue, spot.place, access),
-            _ => true,
-        },
-        None => false,
-    }
-}
-
-fn misses_host_write(last: Option<usize>, sight: &Sight, access: Access) -> bool
-    ensures { IsRefused (SaysHostSeen sight.now access) result last }
-{
-    match last {
-        Some(place) => !sight.sees_host(place, access),
-        None => false,
     }
 }
 

@@ -23,13 +23,15 @@ fn is_supported_entry(entry: &Entry) -> bool
 {
     match entry {
         Entry::Buffer { info, .. } => is_supported_place(info.place),
-        Entry::Memory { info, .. } => info.memory_type != 2,
-        Entry::Free { .. }
+        Entry::Memory { .. }
+        | Entry::Free { .. }
         | Entry::Destroy { .. }
         | Entry::Map { .. }
         | Entry::Unmap { .. }
         | Entry::Write { .. }
         | Entry::Read { .. }
+        | Entry::Flush { .. }
+        | Entry::Invalidate { .. }
         | Entry::Semaphore { .. }
         | Entry::Event { .. }
         | Entry::Signal { .. }
@@ -39,13 +41,11 @@ fn is_supported_entry(entry: &Entry) -> bool
     }
 }
 
-// Memory type 2 keeps the host's accesses in a cache.
 fn is_supported_place(place: Place) -> bool
     ensures { result ≡ supported.is_supported_place place }
 {
     match place {
-        Place::Dedicated { memory_type } => memory_type != 2,
-        Place::Memory { .. } => true,
+        Place::Dedicated { .. } | Place::Memory { .. } => true,
         _ => false,
     }
 }
@@ -59,22 +59,22 @@ fn is_supported_command(command: &Cmd) -> bool
         | Cmd::Copy { .. }
         | Cmd::Set { .. }
         | Cmd::Await { .. } => true,
-        Cmd::Barrier { elements } => are_memory(elements.as_slice()),
+        Cmd::Barrier { elements } => are_supported(elements.as_slice()),
         _ => false,
     }
 }
 
-fn are_memory(elements: &[Element]) -> bool
-    ensures { result ≡ list_all supported.is_memory elements.now }
+fn are_supported(elements: &[Element]) -> bool
+    ensures { result ≡ list_all supported.is_supported_element elements.now }
 {
-    elements.iter().all(|element| is_memory(element))
+    elements.iter().all(|element| is_supported_element(element))
 }
 
-fn is_memory(element: &Element) -> bool
-    ensures { result ≡ supported.is_memory element.now }
+fn is_supported_element(element: &Element) -> bool
+    ensures { result ≡ supported.is_supported_element element.now }
 {
     match element {
-        Element::Memory(_) => true,
-        _ => false,
+        Element::Memory(_) | Element::Buffer(_) => true,
+        Element::Image(_) => false,
     }
 }

@@ -14,6 +14,7 @@ use crate::layouts::CurrentLayouts;
 use crate::mappings::Mappings;
 use crate::objects::Objects;
 use crate::occupants::Occupants;
+use crate::owners::Owners;
 use crate::semaphores::Semaphores;
 use crate::touches::Spot;
 use crate::uses::Uses;
@@ -34,6 +35,7 @@ pub struct Tables<'a> {
     pub layouts: CurrentLayouts,
     pub contents: Contents,
     pub uses: Uses,
+    pub owners: Owners<'a>,
     pub frontier: Frontier,
 }
 
@@ -54,6 +56,7 @@ impl<'a> Tables<'a> {
             layouts: CurrentLayouts::new(alloc),
             contents: Contents::new(alloc),
             uses: Uses::new(alloc),
+            owners: Owners::new(alloc),
             frontier: Frontier::new(alloc),
         }
     }
@@ -64,17 +67,26 @@ pub fn note<'a>(tables: &mut Tables<'a>, point: &Point<'a>) -> Result<(), AllocE
     ensures { OnOk result ((past : Past) → IsJudged (point_of point.now ∷ past) → IsTabled tables.old past → IsTabled tables.new (point_of point.now ∷ past)) }
 {
     let line = line_of(point);
-    let place = tables.frontier.count(line);
+    let spot = Spot {
+        line,
+        place: tables.frontier.count(line),
+        number: tables.frontier.nodes(),
+    };
     tables.mappings.note(point, &tables.objects)?;
     tables.occupants.note(point, &tables.objects)?;
     tables.bound.note(point, &tables.objects)?;
     tables.defrags.note(point, &tables.objects)?;
     tables.layouts.note_with(point, &tables.objects)?;
+    tables
+        .owners
+        .note(point, &tables.objects, &tables.frontier)?;
     tables.objects.note(point)?;
     tables.endings.note(point)?;
     tables.events.note(point)?;
-    tables.semaphores.note(point, line, place)?;
-    tables.contents.note(point, Spot { line, place })?;
+    tables.semaphores.note(point, line, spot.place)?;
+    tables
+        .contents
+        .note(point, spot, &tables.objects, &tables.frontier)?;
     tables.uses.note(point, &tables.frontier)?;
     tables.frontier.advance(point)?;
     Ok(())

@@ -5,11 +5,27 @@ use std::alloc::AllocError;
 use vk_order::Line;
 use vk_ranges::RangeValue;
 
-/// A node, by its line and by how many nodes of the line came before it.
+/// A node, by its line and by how many nodes came before it.
 #[derive(Clone, Copy)]
 pub struct Spot {
+    /// Its line.
     pub line: Line,
+    /// How many nodes of the line came before it.
     pub place: usize,
+    /// How many nodes came before it.
+    pub number: usize,
+}
+
+impl Spot {
+    /// The same by its line and its place there alone.
+    pub fn in_line(self) -> vk_order::Spot
+        ensures { result ≡ record { line = self.line; place = self.place } }
+    {
+        vk_order::Spot {
+            line: self.line,
+            place: self.place,
+        }
+    }
 }
 
 /// A way to touch a byte that a later access is judged against.
@@ -40,8 +56,12 @@ pub struct QueueReads {
 pub struct LastTouches {
     /// The last command that wrote it.
     pub write: Option<Spot>,
-    /// The last host entry that wrote it, by how many came before it.
-    pub host_write: Option<usize>,
+    /// Whether the last invalidation of it sees that command's write.
+    pub is_invalidated: bool,
+    /// The last host entry that wrote it.
+    pub host_write: Option<Spot>,
+    /// The first host entry that flushed it since then.
+    pub flush: Option<Spot>,
     /// The last host entry that read it, by how many came before it.
     pub host_read: Option<usize>,
     /// The last command of each queue that read it.
@@ -83,7 +103,9 @@ impl LastTouches {
     {
         LastTouches {
             write: None,
+            is_invalidated: false,
             host_write: None,
+            flush: None,
             host_read: None,
             reads: QueueReads {
                 first: None,
@@ -101,10 +123,12 @@ impl LastTouches {
         match touch {
             Touch::Write => LastTouches {
                 write: Some(spot),
+                is_invalidated: false,
                 ..self
             },
             Touch::HostWrite => LastTouches {
-                host_write: Some(spot.place),
+                host_write: Some(spot),
+                flush: None,
                 ..self
             },
             Touch::HostRead => LastTouches {
@@ -117,6 +141,26 @@ impl LastTouches {
             },
         }
     }
+
+    /// After the host entry of a spot has flushed the byte.
+    pub fn flushed(self, spot: Spot) -> LastTouches
+        ensures { result ≡ remembered.with_flush self spot }
+    {
+        LastTouches {
+            flush: self.flush.or(Some(spot)),
+            ..self
+        }
+    }
+
+    /// After a host entry has invalidated the byte, which sees the last write by a command or not.
+    pub fn invalidated(self, is_invalidated: bool) -> LastTouches
+        ensures { result ≡ remembered.with_invalidation self is_invalidated }
+    {
+        LastTouches {
+            is_invalidated,
+            ..self
+        }
+    }
 }
 
 impl RangeValue for Spot {
@@ -125,7 +169,7 @@ impl RangeValue for Spot {
     }
 
     fn is_same(&self, other: &Spot) -> bool {
-        self.line.is(other.line) && self.place == other.place
+        self.line.is(other.line) && self.place == other.place && self.number == other.number
     }
 }
 
@@ -148,7 +192,10 @@ impl RangeValue for LastTouches {
         if !self.write.is_same(&other.write) {
             return false;
         }
-        if !self.host_write.is_same(&other.host_write) {
+        if self.is_invalidated != other.is_invalidated {
+            return false;
+        }
+        if !self.host_write.is_same(&other.host_write) || !self.flush.is_same(&other.flush) {
             return false;
         }
         self.host_read.is_same(&other.host_read) && self.reads.is_same(&other.reads)

@@ -6,5 +6,7 @@ pub mod Conflicting
 pub mod Quiet
 pub mod Conflicts
 pub mod Pairs
+pub mod Halves
+pub mod Elements
 pub mod Rules
 pub mod Faults

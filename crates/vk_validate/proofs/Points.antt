@@ -1,4 +1,3 @@
-pub mod Barriers
 pub mod Areas
 pub mod Reaching
 pub mod Lying

@@ -5,6 +5,7 @@
 //! history of what has happened, which answers what the rules ask.
 #![tactic(auto)]
 
+mod halves;
 mod images;
 mod overlapping;
 mod overlaps;

@@ -3,12 +3,11 @@ ghost use Rattle.std.specs.List.{find};
 ghost use Rattle.vk_model.specs.Trace.Structure.{IsOrdered};
 ghost use Rattle.vk_model.specs.Rules.Table as table;
 ghost use Rattle.vk_model.specs.Rules.Hazards.{breaks_in_use};
-ghost use Rattle.vk_model.specs.Rules.Synchronization as sync;
 ghost use Rattle.vk_order.specs.PointViews.{action_of, point_of};
 ghost use Rattle.vk_history.specs.Supported.{is_supported_action};
 ghost use Rattle.vk_history.specs.PointViews.{past};
 ghost use Rattle.vk_history.specs.Judged.{early_rules, late_rules, first_among};
-ghost use Rattle.vk_validate.specs.Inner.Early.{breaks_early};
+ghost use Rattle.vk_validate.specs.Inner.Early.{breaks_early, AreSearched};
 ghost use Rattle.vk_history.specs.Conflicts.{AreConflicts};
 
 mod binding;
@@ -28,6 +27,15 @@ use std::alloc::AllocError;
 use vk_history::{Conflicts, History};
 use vk_model::Rule;
 use vk_order::Point;
+
+/// Whether a point breaks the rules that need memory to be judged.
+#[derive(Clone, Copy)]
+struct Searched {
+    /// SIGNAL_ORDER.
+    is_unordered: bool,
+    /// OWNER_PAIR.
+    is_unpaired: bool,
+}
 
 /// The rules that are judged before the accesses of a point, in the order of their tests.
 const EARLY: [Rule; 34] = [
@@ -73,8 +81,8 @@ pub fn first_rule(history: &History<'_>, point: &Point<'_>) -> Result<Option<Rul
     requires ordered { IsOrdered (point_of point.now ∷ past history.now) }
     ensures { IfOk result (λ r. r ≡ table.first_rule (past history.now) (point_of point.now)) }
 {
-    let is_unordered = synchronization::breaks_signal_order(history, point)?;
-    if let Some(rule) = first_early(history, point, is_unordered) {
+    let searched = search(history, point)?;
+    if let Some(rule) = first_early(history, point, searched) {
         return Ok(Some(rule));
     }
     let found = hazards::conflicts(history, point)?;
@@ -82,13 +90,26 @@ pub fn first_rule(history: &History<'_>, point: &Point<'_>) -> Result<Option<Rul
     Ok(first_late(history, point, found, is_used))
 }
 
-fn first_early(history: &History<'_>, point: &Point<'_>, is_unordered: bool) -> Option<Rule>
+/// What the rules find that need memory to be judged.
+fn search(history: &History<'_>, point: &Point<'_>) -> Result<Searched, AllocError>
+    requires ordered { IsOrdered (point_of point.now ∷ past history.now) }
+    ensures { IfOk result (λ found. AreSearched found (past history.now) (point_of point.now)) }
+{
+    let is_unordered = synchronization::breaks_signal_order(history, point)?;
+    let is_unpaired = owners::breaks_owner_pair(history, point)?;
+    Ok(Searched {
+        is_unordered,
+        is_unpaired,
+    })
+}
+
+fn first_early(history: &History<'_>, point: &Point<'_>, searched: Searched) -> Option<Rule>
     requires supported { IsTrue (is_supported_action (action_of point.now.action)) }
     requires ordered { IsOrdered (point_of point.now ∷ past history.now) }
-    requires unordered { is_unordered ≡ sync.breaks_signal_order (past history.now) (point_of point.now) }
+    requires searched { AreSearched searched (past history.now) (point_of point.now) }
     ensures { result ≡ first_among early_rules (past history.now) (point_of point.now) }
 {
-    first_of(&EARLY, history, point, is_unordered)
+    first_of(&EARLY, history, point, searched)
 }
 
 #[tactic(auto, using(crate::proofs::Judging::Rules::finds))]
@@ -96,27 +117,26 @@ fn first_of(
     rules: &[Rule],
     history: &History<'_>,
     point: &Point<'_>,
-    is_unordered: bool,
+    searched: Searched,
 ) -> Option<Rule>
     requires supported { IsTrue (is_supported_action (action_of point.now.action)) }
     requires ordered { IsOrdered (point_of point.now ∷ past history.now) }
-    requires unordered { is_unordered ≡ sync.breaks_signal_order (past history.now) (point_of point.now) }
+    requires searched { AreSearched searched (past history.now) (point_of point.now) }
     ensures { result ≡ find (λ r. breaks_early r (past history.now) (point_of point.now)) rules.now }
 {
     for rule in rules {
-        if breaks_early(*rule, history, point, is_unordered) {
+        if breaks_early(*rule, history, point, searched) {
             return Some(*rule);
         }
     }
     None
 }
 
-// Points of the supported forms can't break the rules that aren't listed. Those ask for owners, or
-// whether a pass finds commands.
-fn breaks_early(rule: Rule, history: &History<'_>, point: &Point<'_>, is_unordered: bool) -> bool
+// Points of the supported forms can't break the rule that isn't listed: whether a pass finds commands.
+fn breaks_early(rule: Rule, history: &History<'_>, point: &Point<'_>, searched: Searched) -> bool
     requires supported { IsTrue (is_supported_action (action_of point.now.action)) }
     requires ordered { IsOrdered (point_of point.now ∷ past history.now) }
-    requires unordered { is_unordered ≡ sync.breaks_signal_order (past history.now) (point_of point.now) }
+    requires searched { AreSearched searched (past history.now) (point_of point.now) }
     ensures { result ≡ breaks_early rule (past history.now) (point_of point.now) }
 {
     history.is_judged();
@@ -142,10 +162,11 @@ fn breaks_early(rule: Rule, history: &History<'_>, point: &Point<'_>, is_unorder
         Rule::Layout => layouts::breaks_layout(history, point),
         Rule::OldLayout => layouts::breaks_old_layout(history, point),
         Rule::OwnerWhole => owners::breaks_owner_whole(history, point),
+        Rule::OwnerPair => searched.is_unpaired,
         Rule::EventState => synchronization::breaks_event_state(history, point),
         Rule::EventDependency => synchronization::breaks_event_dependency(history, point),
         Rule::SignalValue => synchronization::breaks_signal_value(history, point),
-        Rule::SignalOrder => is_unordered,
+        Rule::SignalOrder => searched.is_unordered,
         // A batch is started only once its waits are met.
         Rule::WaitBeforeSignal => false,
         Rule::WaitNever => synchronization::breaks_wait_never(history, point),

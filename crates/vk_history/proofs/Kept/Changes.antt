@@ -1,9 +1,9 @@
 -- Changes of a part of a list of values.
-use Rattle.std.proofs.Common.{◌≡◌, ◌<◌, ◌≤◌, ◌+◌, min, ℕ, List, length, slice_get, Bool, true, false, refl, ap, ◌∙◌, arith, Option, Some, None, ⊎_elim}
-use Rattle.std.specs.Prelude.{Result, Ok, Err, OnOk, IfOk, if◌then◌else◌}
+use Rattle.std.proofs.Common.{◌≡◌, ◌<◌, ◌≤◌, ◌+◌, min, ℕ, List, length, slice_get, Bool, true, false, refl, ap, ◌∙◌, arith, Option, Some, None, ⊎_elim, sym, ◌&&◌}
+use Rattle.std.specs.Prelude.{Result, Ok, Err, OnOk, IfOk, if◌then◌else◌, nat_le, nat_lt}
 use Rattle.std.specs.Option.{option_map, IsSomeAnd}
 use Rattle.std.proofs.lemmas.Bool.{cases_lt, lt-ltb, le-leb, lt-leb, le-ltb}
-use Rattle.std.proofs.lemmas.Option.{slice_get_past}
+use Rattle.std.proofs.lemmas.Option.{slice_get_past, slice_get-get_or}
 use Rattle.vk_model.specs.Basics.{within}
 
 -- what follows from three facts on a success
@@ -35,6 +35,42 @@ module _ {A : Type 0} (f : A → A) (gives : A → A → Type 0) (only : (a b : 
       hit None v h = absurd h
       hit (Some a) None h = absurd h
       hit (Some a) (Some b) h = ap Some (only a b h)
+
+-- ---- where a test holds of the indices of a part
+
+module _ {A : Type 0} (f : A → A) (test : ℕ → Bool) (old new : List A) (low high : ℕ) (within_old : high ≤ length old) (is : (k : ℕ) → k < length old → test k ≡ (nat_le low k && nat_lt k high))
+    (before : (i : ℕ) → i < low → slice_get new i ≡ slice_get old i) (after : (i : ℕ) → high ≤ i → slice_get new i ≡ slice_get old i) where
+  unchanged : (o : Option A) → o ≡ option_map (λ a. if false then f a else a) o
+  unchanged None = refl
+  unchanged (Some a) = refl
+
+  -- a change of the part is one where the test holds
+  pub changed_where : ((i : ℕ) → low ≤ i → i < high → slice_get new i ≡ option_map f (slice_get old i)) → (k : ℕ) → slice_get new k ≡ option_map (λ a. if test k then f a else a) (slice_get old k)
+  changed_where inside k = ⊎_elim
+      (λ here. ⊎_elim
+      (λ lt. rw (is k here, lt-leb low k lt) (before k lt ∙ unchanged (slice_get old k)))
+      (λ ge. ⊎_elim
+      (λ lt. rw (is k here, le-leb low k ge, lt-ltb k high lt) (inside k ge lt))
+      (λ past. rw (is k here, le-leb low k ge, le-ltb k high past) (after k past ∙ unchanged (slice_get old k)))
+      (cases_lt k high))
+      (cases_lt k low))
+      (λ none. rw (after k (omega (arith, none, within_old)), slice_get_past old k none) refl)
+      (cases_lt k (length old))
+
+  -- an update of it
+  pub updated_where : (gives : A → A → Type 0) → ((a b : A) → gives a b → b ≡ f a) → ((i : ℕ) → low ≤ i → i < high → IsSomeAnd (slice_get old i) (λ a. IsSomeAnd (slice_get new i) (gives a)))
+      → (k : ℕ) → slice_get new k ≡ option_map (λ a. if test k then f a else a) (slice_get old k)
+  updated_where gives only inside = changed_where (λ i ge lt. hit (slice_get old i) (slice_get new i) (inside i ge lt)) where
+    hit : (u v : Option A) → IsSomeAnd u (λ a. IsSomeAnd v (gives a)) → v ≡ option_map f u
+    hit None v h = absurd h
+    hit (Some a) None h = absurd h
+    hit (Some a) (Some b) h = ap Some (only a b h)
+
+-- one value for all of it
+pub assigned_where : {A : Type 0} (v : A) (test : ℕ → Bool) (old new : List A) (low high : ℕ) → high ≤ length old → ((k : ℕ) → k < length old → test k ≡ (nat_le low k && nat_lt k high))
+    → ((i : ℕ) → i < low → slice_get new i ≡ slice_get old i) → ((i : ℕ) → high ≤ i → slice_get new i ≡ slice_get old i) → ((i : ℕ) → low ≤ i → i < high → slice_get new i ≡ Some v)
+    → (k : ℕ) → slice_get new k ≡ option_map (λ a. if test k then v else a) (slice_get old k)
+assigned_where v test old new low high fits is before after inside = changed_where (λ a. v) test old new low high fits is before after (λ i ge lt. inside i ge lt ∙ ap (option_map (λ a. v)) (sym (slice_get-get_or old i v (omega (arith, lt, fits)))))
 
 -- two changes, one after the other
 pub changed_twice : {A : Type 0} (t : Bool) (f : A → A) (v : A) (o : Option A) → option_map (λ a. if t then v else a) (option_map f o) ≡ option_map (λ a. if t then v else f a) o

@@ -1,5 +1,5 @@
 -- What is kept of the bytes of buffers after a point.
-use Rattle.std.proofs.Common.{◌≡◌, ◌≢◌, ◌<◌, ℕ, ◌∷◌, slice_get, cond, Bool, true, false, not, ◌&&◌, ◌==◌, refl, ap, sym, ◌∙◌, subst, Option, Some, None}
+use Rattle.std.proofs.Common.{◌≡◌, ◌≢◌, ◌<◌, ℕ, [], ◌∷◌, slice_get, cond, Bool, true, false, not, ◌&&◌, ◌==◌, refl, ap, sym, ◌∙◌, subst, Option, Some, None}
 use Rattle.std.specs.Prelude.{is_some, is_none, if◌then◌else◌, option_and_then, IfSome, IsSome}
 use Rattle.std.specs.Option.{option_map}
 use Rattle.std.specs.List.{find, cons_option}
@@ -11,10 +11,14 @@ use Rattle.vk_model.specs.declared.entry.Entry.{Entry}
 use Rattle.vk_model.specs.declared.entry.Entry.TheVariants as entry
 use Rattle.vk_model.specs.declared.resource.BufferInfo.{BufferInfo}
 use Rattle.vk_model.specs.Basics.{holds}
-use Rattle.vk_model.specs.World.Bytes.{in_buffer, Family, World}
+use Rattle.vk_model.specs.World.Bytes.{in_buffer, Owner, Nobody, Family, Released, World}
 use Rattle.vk_model.specs.World.ByteWrites.{buffer_size}
 use Rattle.vk_model.specs.World.Effect.{world, after_action, is_other, used}
-use Rattle.vk_model.specs.Trace.Objects.{made, made_by, buffer, buffer_in, is_exclusive, resource_in, is_exclusive_mode}
+use Rattle.vk_model.specs.Sync.Seen.{flushes, invalidates}
+use Rattle.vk_model.proofs.Rules.Fault.{unbroken_of_none}
+use Rattle.vk_laws.proofs.Caching.CachedStays.{cached_stays}
+use Rattle.vk_laws.proofs.Nodes.Steady.{new_ids, live_ids}
+use Rattle.vk_model.specs.Trace.Objects.{made, made_by, buffer, buffer_in, is_cached, is_exclusive, resource_in, is_exclusive_mode}
 use Rattle.vk_model.specs.Trace.Point.{Past, Point, Action, Host, host_of, entries}
 use Rattle.vk_model.proofs.Lists.Truths.{clash, bool_same}
 use Rattle.vk_history.specs.declared.contents.BufferContents.{BufferContents}
@@ -23,18 +27,18 @@ use Rattle.vk_history.specs.declared.touches.LastTouches.{LastTouches}
 use Rattle.vk_history.specs.declared.touches.Touch.{Touch}
 use Rattle.vk_history.specs.declared.touches.Touch.TheVariants as touch
 use Rattle.vk_history.specs.Judged.{IsJudged}
-use Rattle.vk_history.specs.Touched.{touches, touched}
-use Rattle.vk_history.specs.Contents.{AreContents, AreContentsIn, AreContentsOf, IsFresh, IsMade, IsChanged, BecomesIn, is_lost, left_of, owner_after, owner_of, is_defined, is_defined_in}
+use Rattle.vk_history.specs.Touched.{touches, touched, act_next}
+use Rattle.vk_history.specs.Contents.{AreContents, AreContentsIn, AreContentsOf, IsFresh, IsMade, IsChanged, BecomesIn, is_lost, left_of, owner_after, holder_of, is_defined, is_defined_in, is_dirty}
 use Rattle.vk_history.proofs.Making.Worlds.{used_owner, used_value, loses}
 use Rattle.vk_history.proofs.Touching.Remembering.{touched_by_none}
-use Rattle.vk_history.proofs.Kept.NextPoint.{made_kept, was_unmade}
+use Rattle.vk_history.proofs.Kept.NextPoint.{judged_rest, made_kept, was_unmade}
 
 -- ---- contents and a world
 
 -- the owner of a buffer, and what is defined of it, are those of a world
 pub record IsOf (past : Past) (c : BufferContents) (w : World) (b : ℕ) : Type 0 where
   pub mode : c.is_exclusive ≡ is_exclusive past b
-  pub owner : owner_of c.owner ≡ w.owner b
+  pub owner : c.owner ≡ holder_of (w.owner b)
   pub defined : (k : ℕ) → k < buffer_size past b → slice_get c.defined k ≡ Some (is_defined_in w b k)
 
 module _ (past : Past) (f : ℕ) (w : World) where
@@ -43,15 +47,16 @@ module _ (past : Past) (f : ℕ) (w : World) where
 
   -- what a use loses, as it is kept
   pub lost_is : (b : ℕ) (c : BufferContents) → IsOf past c w b → is_lost c f ≡ loses past f b w
-  lost_is b c a = rw (a.mode, ← a.owner) (ap (λ (t : Bool). is_exclusive past b && t) (go c.owner)) where
-    go : (o : Option ℕ) → holds o (λ g. not (g == f)) ≡ is_other f (owner_of o)
-    go None = refl
-    go (Some g) = ap not (swapped g f)
+  lost_is b c a = rw (a.mode, a.owner) (ap (λ (t : Bool). is_exclusive past b && t) (go (w.owner b))) where
+    go : (o : Owner) → holds (holder_of o) (λ g. not (g == f)) ≡ is_other f o
+    go Nobody = refl
+    go (Family g) = ap not (swapped g f)
+    go (Released g e) = ap not (swapped g f)
 
   -- who owns it after a use
-  pub taken_owner : (b : ℕ) (c : BufferContents) → IsOf past c w b → owner_of (owner_after c f) ≡ (used past f b w).owner b
-  taken_owner b c a = go c.is_exclusive refl ∙ sym (used_owner past f b w b) where
-    go : (t : Bool) → c.is_exclusive ≡ t → owner_of (if t then Some f else c.owner) ≡ (if is_exclusive past b && b == b then Family f else w.owner b)
+  pub taken_owner : (b : ℕ) (c : BufferContents) → IsOf past c w b → owner_after c f ≡ holder_of ((used past f b w).owner b)
+  taken_owner b c a = go c.is_exclusive refl ∙ sym (ap holder_of (used_owner past f b w b)) where
+    go : (t : Bool) → c.is_exclusive ≡ t → (if t then Some f else c.owner) ≡ holder_of (if is_exclusive past b && b == b then Family f else w.owner b)
     go true e = rw (sym a.mode ∙ e, eq-eqb b b refl) refl
     go false e = rw (sym a.mode ∙ e) a.owner
 
@@ -81,31 +86,41 @@ module _ (past : Past) (p : Point) (j : IsJudged (p ∷ past)) where
   same_made : (b : ℕ) → is_some (buffer past b) ≡ true → made (p ∷ past) b ≡ made past b
   same_made b some = let m = made_of b some in made_kept past p j b m.0 m.1 ∙ sym m.1
 
-  same_buffer : (b : ℕ) → is_some (buffer past b) ≡ true → buffer (p ∷ past) b ≡ buffer past b
+  pub same_buffer : (b : ℕ) → is_some (buffer past b) ≡ true → buffer (p ∷ past) b ≡ buffer past b
   same_buffer b some = ap (option_and_then buffer_in) (same_made b some)
 
-  same_size : (b : ℕ) → is_some (buffer past b) ≡ true → buffer_size (p ∷ past) b ≡ buffer_size past b
+  pub same_size : (b : ℕ) → is_some (buffer past b) ≡ true → buffer_size (p ∷ past) b ≡ buffer_size past b
   same_size b some = ap (λ (o : Option BufferInfo). elim o [ None ↦ 0 | Some i ↦ i.size ]) (same_buffer b some)
 
-  same_mode : (b : ℕ) → is_some (buffer past b) ≡ true → is_exclusive (p ∷ past) b ≡ is_exclusive past b
+  pub same_mode : (b : ℕ) → is_some (buffer past b) ≡ true → is_exclusive (p ∷ past) b ≡ is_exclusive past b
   same_mode b some = ap (λ (o : Option Entry). holds (option_and_then resource_in o) (λ r. is_exclusive_mode r.sharing)) (same_made b some)
+
+  pub same_cache : (b : ℕ) → is_some (buffer past b) ≡ true → is_cached (p ∷ past) b ≡ is_cached past b
+  same_cache b some =
+      let m = made_of b some in
+      let sound = unbroken_of_none past (judged_rest past p j).faultless in
+      cached_stays (p ∷ []) past (new_ids (p ∷ past) (unbroken_of_none (p ∷ past) j.faultless)) (live_ids past sound) (new_ids past sound) b m.0 m.1
 
   -- ---- contents that a point leaves, or changes
 
   -- of a buffer that is there
-  pub next_of : (b : ℕ) (old new : BufferContents) (owner : Option ℕ) (define : ℕ → Bool → Bool) (touch : ℕ → LastTouches → LastTouches) → AreContentsOf old past b → IsChanged old new owner define touch
-      → owner_of owner ≡ (world (p ∷ past)).owner b
+  pub next_of : (b : ℕ) (old new : BufferContents) (owner : Option ℕ) (define soil : ℕ → Bool → Bool) (touch : ℕ → LastTouches → LastTouches) → AreContentsOf old past b → IsChanged old new owner define soil touch
+      → owner ≡ holder_of ((world (p ∷ past)).owner b)
       → ((k : ℕ) → k < buffer_size past b → define k (is_defined past b k) ≡ is_defined (p ∷ past) b k)
-      → ((k : ℕ) → touch k (touched past (in_buffer b k)) ≡ touched (p ∷ past) (in_buffer b k))
+      → ((k : ℕ) → k < buffer_size past b → soil k (is_dirty past b k) ≡ is_dirty (p ∷ past) b k)
+      → ((k : ℕ) → k < buffer_size past b → touch k (touched past (in_buffer b k)) ≡ touched (p ∷ past) (in_buffer b k))
       → AreContentsOf new (p ∷ past) b
-  next_of b old new owner define touch are is owned defined touches = record {
+  next_of b old new owner define soil touch are is owned defined dirty touches = record {
     made = ap is_some (same_buffer b are.made) ∙ are.made;
     defined_size = is.defined_size ∙ are.defined_size ∙ sym (same_size b are.made);
+    dirty_size = is.dirty_size ∙ are.dirty_size ∙ sym (same_size b are.made);
     touches_size = is.touches_size ∙ are.touches_size ∙ sym (same_size b are.made);
     mode = is.mode ∙ are.mode ∙ sym (same_mode b are.made);
-    owner = ap owner_of is.owned ∙ owned;
+    cache = is.cache ∙ are.cache ∙ sym (same_cache b are.made);
+    owner = is.owned ∙ owned;
     defined = λ k lt. let low : k < buffer_size past b = rw (← same_size b are.made) lt in is.defined k ∙ ap (option_map (define k)) (are.defined k low) ∙ ap Some (defined k low);
-    touches = λ k lt. let low : k < buffer_size past b = rw (← same_size b are.made) lt in is.touches k ∙ ap (option_map (touch k)) (are.touches k low) ∙ ap Some (touches k);
+    dirty = λ k lt. let low : k < buffer_size past b = rw (← same_size b are.made) lt in is.dirty k ∙ ap (option_map (soil k)) (are.dirty k low) ∙ ap Some (dirty k low);
+    touches = λ k lt. let low : k < buffer_size past b = rw (← same_size b are.made) lt in is.touches k ∙ ap (option_map (touch k)) (are.touches k low) ∙ ap Some (touches k low);
   }
 
   -- a buffer that a point doesn't touch
@@ -113,6 +128,7 @@ module _ (past : Past) (p : Point) (j : IsJudged (p ∷ past)) where
     pub unmade : is_some (buffer past b) ≡ false → is_some (buffer (p ∷ past) b) ≡ false
     pub owner : (world (p ∷ past)).owner b ≡ (world past).owner b
     pub defined : (k : ℕ) → is_defined (p ∷ past) b k ≡ is_defined past b k
+    pub dirty : (k : ℕ) → is_dirty (p ∷ past) b k ≡ is_dirty past b k
     pub touches : (k : ℕ) → touched (p ∷ past) (in_buffer b k) ≡ touched past (in_buffer b k)
 
   -- what isn't touched stays
@@ -121,25 +137,32 @@ module _ (past : Past) (p : Point) (j : IsJudged (p ∷ past)) where
     unmade = un.unmade fresh.unmade;
     owner = un.owner ∙ fresh.owner;
     undefined = λ k. un.defined k ∙ fresh.undefined k;
+    clean = λ k. un.dirty k ∙ fresh.clean k;
     unused = λ k. un.touches k ∙ fresh.unused k;
   }
   untouched (Some c) b un are = record {
     made = ap is_some (same_buffer b are.made) ∙ are.made;
     defined_size = are.defined_size ∙ sym (same_size b are.made);
+    dirty_size = are.dirty_size ∙ sym (same_size b are.made);
     touches_size = are.touches_size ∙ sym (same_size b are.made);
     mode = are.mode ∙ sym (same_mode b are.made);
-    owner = are.owner ∙ sym un.owner;
+    cache = are.cache ∙ sym (same_cache b are.made);
+    owner = are.owner ∙ sym (ap holder_of un.owner);
     defined = λ k lt. are.defined k (rw (← same_size b are.made) lt) ∙ ap Some (sym (un.defined k));
+    dirty = λ k lt. are.dirty k (rw (← same_size b are.made) lt) ∙ ap Some (sym (un.dirty k));
     touches = λ k lt. are.touches k (rw (← same_size b are.made) lt) ∙ ap Some (sym (un.touches k));
   }
 
   -- ---- points that touch no byte
 
-  -- what an action leaves as it is: owners, values, who touched what, and what is no buffer
+  -- what an action leaves as it is: owners, values, what is dirty, who touched what, and what is no buffer
   pub record IsStill (d : Action) : Type 0 where
     pub owner : (b : ℕ) → (after_action past p.queue d (world past)).owner b ≡ (world past).owner b
     pub value : (b k : ℕ) → is_none ((after_action past p.queue d (world past)).value (in_buffer b k)) ≡ is_none ((world past).value (in_buffer b k))
+    pub dirty : (b k : ℕ) → (after_action past p.queue d (world past)).dirty (in_buffer b k) ≡ is_dirty past b k
     pub touches : (t : Touch) (b k : ℕ) → touches t (in_buffer b k) past p d ≡ false
+    pub unflushed : (b k : ℕ) → flushes (act_next d) (in_buffer b k) ≡ false
+    pub valid : (b k : ℕ) → invalidates (act_next d) (in_buffer b k) ≡ false
     pub buffers : holds (host_of d) (λ x. is_some (buffer_in x)) ≡ false
 
   -- what makes no buffer leaves what is none
@@ -155,7 +178,8 @@ module _ (past : Past) (p : Point) (j : IsJudged (p ∷ past)) where
     unmade = λ none. subst (λ (e : Action). is_some (buffer (record p { action = e } ∷ past) b) ≡ false) (sym is) (no_buffer (host_of d) still.buffers b none);
     owner = ap (λ (e : Action). (after_action past p.queue e (world past)).owner b) is ∙ still.owner b;
     defined = λ k. ap (λ (e : Action). not (is_none ((after_action past p.queue e (world past)).value (in_buffer b k)))) is ∙ ap not (still.value b k);
-    touches = λ k. touched_by_none past p (in_buffer b k) d is (λ t. still.touches t b k);
+    dirty = λ k. ap (λ (e : Action). (after_action past p.queue e (world past)).dirty (in_buffer b k)) is ∙ still.dirty b k;
+    touches = λ k. touched_by_none past p (in_buffer b k) d is (λ t. still.touches t b k) (still.unflushed b k) (still.valid b k);
   }
 
   -- ---- points that change one buffer
@@ -177,14 +201,17 @@ module _ (past : Past) (p : Point) (j : IsJudged (p ∷ past)) where
   -- ---- a buffer is made
 
   pub buffer_made : (i : ℕ) (info : BufferInfo) → p.action ≡ Host (entry.Buffer i info) → (old new : Contents)
-      → IfSome (get nat_cmp new.buffers i) (λ c. IsMade c info) → IsSome (get nat_cmp new.buffers i) → ((other : ℕ) → other ≢ i → get nat_cmp new.buffers other ≡ get nat_cmp old.buffers other)
+      → (cached : Bool) → cached ≡ is_cached (p ∷ past) i → IfSome (get nat_cmp new.buffers i) (λ c. IsMade c info cached) → IsSome (get nat_cmp new.buffers i) → ((other : ℕ) → other ≢ i → get nat_cmp new.buffers other ≡ get nat_cmp old.buffers other)
       → AreContents old past → AreContents new (p ∷ past)
-  buffer_made i info is old new here present others are b = at (b == i) refl where
+  buffer_made i info is old new cached is_cache here present others are b = at (b == i) refl where
     owned : (b : ℕ) → (world (p ∷ past)).owner b ≡ (world past).owner b
     owned b = ap (λ (e : Action). (after_action past p.queue e (world past)).owner b) is
 
     valued : (b k : ℕ) → is_defined (p ∷ past) b k ≡ is_defined past b k
     valued b k = ap (λ (e : Action). not (is_none ((after_action past p.queue e (world past)).value (in_buffer b k)))) is
+
+    soiled : (b k : ℕ) → is_dirty (p ∷ past) b k ≡ is_dirty past b k
+    soiled b k = ap (λ (e : Action). (after_action past p.queue e (world past)).dirty (in_buffer b k)) is
 
     quiet : (t : Touch) (b k : ℕ) → touches t (in_buffer b k) past p (Host (entry.Buffer i info)) ≡ false
     quiet t b k = no_touch t where
@@ -195,7 +222,7 @@ module _ (past : Past) (p : Point) (j : IsJudged (p ∷ past)) where
       no_touch (touch.Read q) = refl
 
     kept : (b k : ℕ) → touched (p ∷ past) (in_buffer b k) ≡ touched past (in_buffer b k)
-    kept b k = touched_by_none past p (in_buffer b k) (Host (entry.Buffer i info)) is (λ t. quiet t b k)
+    kept b k = touched_by_none past p (in_buffer b k) (Host (entry.Buffer i info)) is (λ t. quiet t b k) refl refl
 
     unmade : is_some (buffer past i) ≡ false
     unmade = rw (was_unmade past p j (entry.Buffer i info) i is refl) refl
@@ -215,15 +242,18 @@ module _ (past : Past) (p : Point) (j : IsJudged (p ∷ past)) where
       go None f = f
       go (Some c) a = clash a.made unmade
 
-    new_one : (o : Option BufferContents) → IsSome o → IfSome o (λ c. IsMade c info) → AreContentsIn o (p ∷ past) i
+    new_one : (o : Option BufferContents) → IsSome o → IfSome o (λ c. IsMade c info cached) → AreContentsIn o (p ∷ past) i
     new_one None some made = absurd cc
     new_one (Some c) some made = record {
       made = ap is_some made_now;
       defined_size = made.defined_size ∙ sym size_now;
+      dirty_size = made.dirty_size ∙ sym size_now;
+      cache = made.cache ∙ is_cache;
       touches_size = made.touches_size ∙ sym size_now;
       mode = made.mode ∙ sym (ap (λ (o : Option Entry). holds (option_and_then resource_in o) (λ r. is_exclusive_mode r.sharing)) entry_now);
-      owner = ap owner_of made.nobody ∙ sym (owned i ∙ fresh.owner);
+      owner = made.nobody ∙ sym (ap holder_of (owned i ∙ fresh.owner));
       defined = λ k lt. made.undefined k (rw (← size_now) lt) ∙ ap Some (sym (valued i k ∙ fresh.undefined k));
+      dirty = λ k lt. made.clean k (rw (← size_now) lt) ∙ ap Some (sym (soiled i k ∙ fresh.clean k));
       touches = λ k lt. made.unread k (rw (← size_now) lt) ∙ ap Some (sym (kept i k ∙ fresh.unused k));
     }
 
@@ -233,4 +263,4 @@ module _ (past : Past) (p : Point) (j : IsJudged (p ∷ past)) where
     at : (t : Bool) → (b == i) ≡ t → AreContentsIn (get nat_cmp new.buffers b) (p ∷ past) b
     at true e = subst (λ (c : ℕ). AreContentsIn (get nat_cmp new.buffers c) (p ∷ past) c) (sym (eqb-true b i e)) (new_one (get nat_cmp new.buffers i) present here)
     at false e = subst (λ (o : Option BufferContents). AreContentsIn o (p ∷ past) b) (sym (others b (eqb-false b i e)))
-        (untouched (get nat_cmp old.buffers b) b (record { unmade = λ none. ap is_some (other_kept b e) ∙ none; owner = owned b; defined = valued b; touches = kept b }) (are b))
+        (untouched (get nat_cmp old.buffers b) b (record { unmade = λ none. ap is_some (other_kept b e) ∙ none; owner = owned b; defined = valued b; dirty = soiled b; touches = kept b }) (are b))

@@ -26,21 +26,24 @@ use Rattle.vk_history.specs.declared.touches.Touch.TheVariants as touch
 use Rattle.vk_history.specs.Judged.{IsJudged}
 use Rattle.vk_history.specs.Remembered.{with_touch}
 use Rattle.vk_history.specs.Touched.{touched, next_spot}
-use Rattle.vk_history.specs.Contents.{AreContents, AreContentsIn, AreContentsOf, IsChanged, BecomesIn, IsLent, IsLentWith, IsPasted, AreCopied, ReadWithin, is_defined, is_defined_in, stretch_at, reads_at, writes_at, touching, left_of, owner_of, owner_after}
+use Rattle.vk_history.specs.Contents.{AreContents, AreContentsIn, AreContentsOf, IsChanged, BecomesIn, IsLent, IsLentWith, IsPasted, AreCopied, ReadWithin, as_before, is_defined, is_defined_in, is_dirty, stretch_at, reads_at, writes_at, touching, left_of, holder_of, owner_after}
 use Rattle.vk_history.proofs.Points.Ranges.{copy-targets, copy-origins}
-use Rattle.vk_history.proofs.Making.Worlds.{copy_leaves, used_owner, used_value, loses, turned_about}
+use Rattle.vk_history.proofs.Making.Worlds.{copy_leaves, used_owner, used_value, used_dirty, loses, turned_about}
 use Rattle.vk_history.proofs.Touching.Remembering.{touched_by_command, merged_command}
 use Rattle.vk_history.proofs.Kept.NextPoint.{there_for_command, copy_source}
 use Rattle.vk_history.proofs.Kept.ContentSteps.{IsOf, IsUntouched, untouched, next_of, of_contents, taken_owner, left_is, used_apart}
 
 -- two changes, one after the other
-afterwards : (a b c : BufferContents) (o1 o2 : Option ℕ) (d1 d2 : ℕ → Bool → Bool) (t1 t2 : ℕ → LastTouches → LastTouches) → IsChanged a b o1 d1 t1 → IsChanged b c o2 d2 t2 → IsChanged a c o2 (λ k d. d2 k (d1 k d)) (λ k t. t2 k (t1 k t))
+afterwards : (a b c : BufferContents) (o1 o2 : Option ℕ) (d1 d2 : ℕ → Bool → Bool) (t1 t2 : ℕ → LastTouches → LastTouches) → IsChanged a b o1 d1 as_before t1 → IsChanged b c o2 d2 as_before t2 → IsChanged a c o2 (λ k d. d2 k (d1 k d)) as_before (λ k t. t2 k (t1 k t))
 afterwards a b c o1 o2 d1 d2 t1 t2 h g = record {
   defined_size = g.defined_size ∙ h.defined_size;
+  dirty_size = g.dirty_size ∙ h.dirty_size;
   touches_size = g.touches_size ∙ h.touches_size;
   mode = g.mode ∙ h.mode;
+  cache = g.cache ∙ h.cache;
   owned = g.owned;
   defined = λ k. g.defined k ∙ ap (option_map (d2 k)) (h.defined k) ∙ twice (d1 k) (d2 k) (slice_get a.defined k);
+  dirty = λ k. g.dirty k ∙ ap (option_map (as_before k)) (h.dirty k) ∙ twice (as_before k) (as_before k) (slice_get a.dirty k);
   touches = λ k. g.touches k ∙ ap (option_map (t2 k)) (h.touches k) ∙ twice (t1 k) (t2 k) (slice_get a.touches k);
 } where
   twice : {A : Type 0} (f g : A → A) (o : Option A) → option_map g (option_map f o) ≡ option_map (λ x. g (f x)) o
@@ -48,10 +51,10 @@ afterwards a b c o1 o2 d1 d2 t1 t2 h g = record {
   twice f g (Some x) = refl
 
 -- what a use leaves of contents
-taken_of : (past : Past) (f b : ℕ) (w : World) (u v : BufferContents) (t : ℕ → LastTouches → LastTouches) → IsOf past u w b → IsChanged u v (owner_after u f) (left_of u f) t → IsOf past v (used past f b w) b
+taken_of : (past : Past) (f b : ℕ) (w : World) (u v : BufferContents) (t : ℕ → LastTouches → LastTouches) → IsOf past u w b → IsChanged u v (owner_after u f) (left_of u f) as_before t → IsOf past v (used past f b w) b
 taken_of past f b w u v t a h = record {
   mode = h.mode ∙ a.mode;
-  owner = ap owner_of h.owned ∙ taken_owner past f w b u a;
+  owner = h.owned ∙ taken_owner past f w b u a;
   defined = λ k lt. h.defined k ∙ ap (option_map (left_of u f k)) (a.defined k lt) ∙ ap Some (left_is past f w b u a k);
 }
 
@@ -97,6 +100,9 @@ module _ (past : Past) (p : Point) (j : IsJudged (p ∷ past)) (s d : ℕ) (gs :
 
   owned : (b : ℕ) → (world (p ∷ past)).owner b ≡ ready.owner b
   owned b = ap (λ (e : Action). (after_action past p.queue e (world past)).owner b) is
+
+  soiled : (b k : ℕ) → is_dirty (p ∷ past) b k ≡ is_dirty past b k
+  soiled b k = ap (λ (e : Action). (after_action past p.queue e (world past)).dirty (in_buffer b k)) is ∙ used_dirty past family d lent (in_buffer b k) ∙ used_dirty past family s (world past) (in_buffer b k)
 
   valued : (b k : ℕ) → is_defined (p ∷ past) b k ≡ (if b == d then elim (first_with k) [ None ↦ is_defined_in ready b k | Some g ↦ is_defined_in ready s (g.source_offset + (k - g.destination_offset)) ] else is_defined_in ready b k)
   valued b k = ap (λ (e : Action). not (is_none ((after_action past p.queue e (world past)).value (in_buffer b k)))) is ∙ ap not (copy_leaves ready.value s d gs b k) ∙ go (b == d) (first_with k) where
@@ -147,6 +153,7 @@ module _ (past : Past) (p : Point) (j : IsJudged (p ∷ past)) (s d : ℕ) (gs :
         unmade = λ none. ap is_some (made b) ∙ none;
         owner = owned b ∙ two.0 ∙ one.0;
         defined = λ k. valued b k ∙ rw ed (two.1 k ∙ one.1 k);
+        dirty = soiled b;
         touches = λ k. remembers b k false false (rw ed refl) (rw es refl);
       }
 
@@ -155,10 +162,11 @@ module _ (past : Past) (p : Point) (j : IsJudged (p ∷ past)) (s d : ℕ) (gs :
   source_next : (s == d) ≡ false → (u v : BufferContents) → AreContentsOf u past s → IsLent u v gs p.queue (next_spot past p) → AreContentsOf v (p ∷ past) s
   source_next ne u v a h =
       let two = used_apart past family lent d s ne in
-      next_of past p j s u v (owner_after u family) (left_of u family) (touching (reads_at gs) (touch.Read p.queue) (next_spot past p)) a h
-      (taken_owner past family (world past) s u (of_contents past s u a) ∙ sym (owned s ∙ two.0))
+      next_of past p j s u v (owner_after u family) (left_of u family) as_before (touching (reads_at gs) (touch.Read p.queue) (next_spot past p)) a h
+      (taken_owner past family (world past) s u (of_contents past s u a) ∙ sym (ap holder_of (owned s ∙ two.0)))
       (λ k lt. left_is past family (world past) s u (of_contents past s u a) k ∙ sym (valued s k ∙ rw ne (two.1 k)))
-      (λ k. sym (remembers s k false (reads_at gs k) (rw ne refl) (rw (eq-eqb s s refl) refl)))
+      (λ k lt. sym (soiled s k))
+      (λ k lt. sym (remembers s k false (reads_at gs k) (rw ne refl) (rw (eq-eqb s s refl) refl)))
 
   -- ---- the destination alone
 
@@ -167,11 +175,12 @@ module _ (past : Past) (p : Point) (j : IsJudged (p ∷ past)) (s d : ℕ) (gs :
   destination_next ne v of size ss copied u x a h =
       let one = used_apart past family (world past) s d ne in
       let before = of_contents past d u a in
-      let mid : IsOf past u lent d = record { mode = a.mode; owner = a.owner ∙ sym one.0; defined = λ k lt. a.defined k lt ∙ ap Some (sym (one.1 k)) } in
-      next_of past p j d u x (owner_after u family) (λ k e. unwrap_or (stretch_at ss k) (left_of u family k e)) (touching (writes_at gs) touch.Write (next_spot past p)) a h
-      (taken_owner past family lent d u mid ∙ sym (owned d))
+      let mid : IsOf past u lent d = record { mode = a.mode; owner = a.owner ∙ sym (ap holder_of one.0); defined = λ k lt. a.defined k lt ∙ ap Some (sym (one.1 k)) } in
+      next_of past p j d u x (owner_after u family) (λ k e. unwrap_or (stretch_at ss k) (left_of u family k e)) as_before (touching (writes_at gs) touch.Write (next_spot past p)) a h
+      (taken_owner past family lent d u mid ∙ sym (ap holder_of (owned d)))
       (λ k lt. ap (λ (e : Bool). unwrap_or (stretch_at ss k) (left_of u family k e)) (sym (one.1 k)) ∙ pasted_is v of size ss copied u mid k)
-      (λ k. sym (remembers d k (writes_at gs k) false (rw (eq-eqb d d refl) refl) (rw ne refl)))
+      (λ k lt. sym (soiled d k))
+      (λ k lt. sym (remembers d k (writes_at gs k) false (rw (eq-eqb d d refl) refl) (rw ne refl)))
 
   -- ---- between two buffers
 
@@ -214,10 +223,11 @@ module _ (past : Past) (p : Point) (j : IsJudged (p ∷ past)) (s : ℕ) (gs : L
       let writes : ℕ → LastTouches → LastTouches = touching (writes_at gs) touch.Write (next_spot past p) in
       let pasted : ℕ → Bool → Bool = λ k e. unwrap_or (stretch_at ss k) (left_of v f k e) in
       let of = taken_of past f s (world past) u v reads (of_contents past s u a) lends.0 in
-      next_of past p j s u x (owner_after v f) (λ k e. pasted k (left_of u f k e)) (λ k t. writes k (reads k t)) a (afterwards u v x (owner_after u f) (owner_after v f) (left_of u f) pasted reads writes lends.0 pastes)
-      (taken_owner past f (used past f s (world past)) s v of ∙ sym (owned past p j s s gs is s))
+      next_of past p j s u x (owner_after v f) (λ k e. pasted k (left_of u f k e)) as_before (λ k t. writes k (reads k t)) a (afterwards u v x (owner_after u f) (owner_after v f) (left_of u f) pasted reads writes lends.0 pastes)
+      (taken_owner past f (used past f s (world past)) s v of ∙ sym (ap holder_of (owned past p j s s gs is s)))
       (λ k lt. ap (pasted k) (left_is past f (world past) s u (of_contents past s u a) k) ∙ pasted_is past p j s s gs is v of (lends.0.defined_size ∙ a.defined_size) ss lends.1 v of k)
-      (λ k. sym (remembers past p j s s gs is s k (writes_at gs k) (reads_at gs k) (rw (eq-eqb s s refl) refl) (rw (eq-eqb s s refl) refl)))
+      (λ k lt. sym (soiled past p j s s gs is s k))
+      (λ k lt. sym (remembers past p j s s gs is s k (writes_at gs k) (reads_at gs k) (rw (eq-eqb s s refl) refl) (rw (eq-eqb s s refl) refl)))
 
   pub within_one : (old mid new : Contents) → BecomesIn (IsLentWith gs ss p.queue (next_spot past p)) (get nat_cmp old.buffers s) (get nat_cmp mid.buffers s)
       → ((other : ℕ) → other ≢ s → get nat_cmp mid.buffers other ≡ get nat_cmp old.buffers other)

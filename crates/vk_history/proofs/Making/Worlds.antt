@@ -2,21 +2,18 @@
 use Rattle.std.proofs.Common.{◌⊎◌, inl, inr, ◌≡◌, ◌≢◌, ◌<◌, ◌≤◌, ◌+◌, ◌-◌, ℕ, zero, suc, List, [], ◌∷◌, map, Bool, true, false, ◌&&◌, ◌||◌, ◌==◌, nat_lt, cond, refl, ap, sym, ◌∙◌, arith, Option, Some, None, eq-eqb, eqb}
 use Rattle.std.specs.Prelude.{is_none, if◌then◌else◌}
 use Rattle.std.specs.Option.{option_map, option_or}
-use Rattle.std.specs.List.{list_all, find, fold, range_with_len, flat_map}
+use Rattle.std.specs.List.{find, range_with_len, flat_map}
 use Rattle.std.proofs.lemmas.Bool.{eqb-true, eqb-false, le-leb, lt-ltb, lt-leb, le-ltb, cases_lt}
 use Rattle.std.proofs.lemmas.List.Folds.{find-append}
 use Rattle.vk_model.specs.declared.command.BufferCopy.{BufferCopy}
-use Rattle.vk_model.specs.declared.command.Element.{Element}
-use Rattle.vk_model.specs.declared.command.Element.TheVariants as element
 use Rattle.vk_model.specs.Basics.{within}
 use Rattle.vk_model.specs.World.Bytes.{Byte, in_buffer, in_image, same_byte, World, Family, resource_at}
 use Rattle.vk_model.specs.World.ByteWrites.{Source, Value, From, ByteWrite, byte_write, copy_writes}
 use Rattle.vk_model.specs.Trace.Objects.{is_exclusive}
-use Rattle.vk_model.specs.World.Effect.{after_element, after_writes, value_after, used, is_other, set_owner, without}
+use Rattle.vk_model.specs.World.Effect.{after_writes, value_after, used, is_other, set_owner, without}
 use Rattle.vk_model.specs.Trace.Point.{Past}
 use Rattle.vk_model.specs.Sync.Access.{is_in, targets, origins}
 use Rattle.vk_model.proofs.Lists.Truths.{bool_same}
-use Rattle.vk_history.specs.Supported.{is_memory}
 
 pub turned_about : (b c : ℕ) → (b == c) ≡ (c == b)
 turned_about b c = bool_same (b == c) (c == b) (λ h. eq-eqb c b (sym (eqb-true b c h))) (λ h. eq-eqb b c (sym (eqb-true c b h)))
@@ -140,10 +137,8 @@ module _ (past : Past) (f r : ℕ) (w : World) where
     go true false = keeps (b == r)
     go false o = keeps (b == r)
 
--- ---- commands on all of memory
-
-pub memory_does_nothing : (past : Past) (f : ℕ) (es : List Element) → list_all is_memory es ≡ true → (w : World) → fold (after_element past f) w es ≡ w
-memory_does_nothing past f [] all w = refl
-memory_does_nothing past f (element.Memory d ∷ es) all w = memory_does_nothing past f es all w
-memory_does_nothing past f (element.Buffer e ∷ es) all w = absurd cc
-memory_does_nothing past f (element.Image e ∷ es) all w = absurd cc
+  pub used_dirty : (b : Byte) → (used past f r w).dirty b ≡ w.dirty b
+  used_dirty b = go (is_exclusive past r) where
+    go : (x : Bool) → (if x then set_owner r (Family f) (record w { value = if is_other f (w.owner r) then without (λ c. resource_at c == r) w.value else w.value }) else w).dirty b ≡ w.dirty b
+    go true = refl
+    go false = refl

@@ -1,7 +1,6 @@
 -- The forms of points that are supported, one by one.
-use Rattle.std.proofs.Common.{◌≡◌, ℕ, List, true, false, ◌==◌, refl}
+use Rattle.std.proofs.Common.{◌≡◌, ℕ, List, true, refl}
 use Rattle.std.specs.List.{list_all}
-use Rattle.std.proofs.lemmas.Bool.{not-true}
 use Rattle.vk_model.specs.declared.command.BufferCopy.{BufferCopy}
 use Rattle.vk_model.specs.declared.command.Cmd.{Cmd}
 use Rattle.vk_model.specs.declared.command.Cmd.TheVariants as cmd
@@ -18,25 +17,27 @@ use Rattle.vk_model.specs.declared.resource.MemoryInfo.{MemoryInfo}
 use Rattle.vk_model.specs.declared.resource.Place.{Place}
 use Rattle.vk_model.specs.declared.resource.Place.TheVariants as place
 use Rattle.vk_model.specs.Trace.Point.{Action, Host, Wait, Run, Signal}
-use Rattle.vk_history.specs.Supported.{is_supported_action, is_supported_entry, is_supported_place, is_supported_command, is_memory}
+use Rattle.vk_history.specs.Supported.{is_supported_action, is_supported_entry, is_supported_place, is_supported_command, is_supported_element}
 
 module _ (P : Entry → Type 0)
-    (buffer : (i : ℕ) (b : BufferInfo) (t : ℕ) → b.place ≡ place.Dedicated t → (t == 2) ≡ false → P (entry.Buffer i b))
+    (buffer : (i : ℕ) (b : BufferInfo) (t : ℕ) → b.place ≡ place.Dedicated t → P (entry.Buffer i b))
     (bound : (i : ℕ) (b : BufferInfo) (m o : ℕ) → b.place ≡ place.Memory m o → P (entry.Buffer i b))
-    (memory : (i : ℕ) (m : MemoryInfo) → (m.memory_type == 2) ≡ false → P (entry.Memory i m))
+    (memory : (i : ℕ) (m : MemoryInfo) → P (entry.Memory i m))
     (free : (m : ℕ) → P (entry.Free m))
     (destroy : (r : ℕ) → P (entry.Destroy r))
     (map : (b : ℕ) → P (entry.Map b))
     (unmap : (b : ℕ) → P (entry.Unmap b))
     (write : (b o : ℕ) (bytes : List ℕ) → P (entry.Write b o bytes))
     (read : (b o n : ℕ) → P (entry.Read b o n))
+    (flush : (b o : ℕ) (n : Length) → P (entry.Flush b o n))
+    (invalidate : (b o : ℕ) (n : Length) → P (entry.Invalidate b o n))
     (semaphore : (i v : ℕ) → P (entry.Semaphore i v))
     (event : (i : ℕ) → P (entry.Event i))
     (signal : (s v : ℕ) → P (entry.Signal s v))
     (wait : (ws : List SemaphoreValue) → P (entry.Wait ws))
     (submit : (q : ℕ) (bs : List Batch) → P (entry.Submit q bs)) where
   placed : (i : ℕ) (b : BufferInfo) (q : Place) → b.place ≡ q → is_supported_place q ≡ true → P (entry.Buffer i b)
-  placed i b (place.Dedicated t) is e = buffer i b t is (not-true (t == 2) e)
+  placed i b (place.Dedicated t) is e = buffer i b t is
   placed i b (place.Pool q) is e = absurd cc
   placed i b (place.PoolUpper q) is e = absurd cc
   placed i b (place.Memory m o) is e = bound i b m o is
@@ -51,14 +52,14 @@ module _ (P : Entry → Type 0)
   entry_cases (entry.Submit q bs) e = submit q bs
   entry_cases (entry.Pool i x) e = absurd cc
   entry_cases (entry.Image i x) e = absurd cc
-  entry_cases (entry.Memory i m) e = memory i m (not-true (m.memory_type == 2) e)
+  entry_cases (entry.Memory i m) e = memory i m
   entry_cases (entry.Free m) e = free m
   entry_cases (entry.Destroy r) e = destroy r
   entry_cases (entry.DropPool q) e = absurd cc
   entry_cases (entry.Unmap b) e = unmap b
   entry_cases (entry.Write b o bytes) e = write b o bytes
-  entry_cases (entry.Flush b o n) e = absurd cc
-  entry_cases (entry.Invalidate b o n) e = absurd cc
+  entry_cases (entry.Flush b o n) e = flush b o n
+  entry_cases (entry.Invalidate b o n) e = invalidate b o n
   entry_cases (entry.Event i) e = event i
   entry_cases (entry.Signal s v) e = signal s v
   entry_cases (entry.Defrag i q n m) e = absurd cc
@@ -70,7 +71,7 @@ module _ (P : Cmd → Type 0)
     (fill : (b o : ℕ) (n : Length) (w : ℕ) → P (cmd.Fill b o n w))
     (update : (b o : ℕ) (bytes : List ℕ) → P (cmd.Update b o bytes))
     (copy : (s d : ℕ) (gs : List BufferCopy) → P (cmd.Copy s d gs))
-    (barrier : (es : List Element) → list_all is_memory es ≡ true → P (cmd.Barrier es))
+    (barrier : (es : List Element) → list_all is_supported_element es ≡ true → P (cmd.Barrier es))
     (set : (v : ℕ) (ms : List Dependency) → P (cmd.Set v ms))
     (await : (v : ℕ) (ms : List Dependency) → P (cmd.Await v ms)) where
   -- and so of commands

@@ -1,5 +1,5 @@
 -- The last node of some points is of one of them, and no other is later.
-use Rattle.std.proofs.Common.{◌≡◌, ◌≤◌, ℕ, List, [], ◌∷◌, ◌++◌, length, Bool, true, false, ◌==◌, refl, ap, sym, ◌∙◌, subst, arith, Option, Some, None}
+use Rattle.std.proofs.Common.{◌≡◌, ◌≤◌, ℕ, List, [], ◌∷◌, ◌++◌, length, Bool, true, false, ◌==◌, refl, ap, sym, ◌∙◌, subst, arith, ⊎_elim, Option, Some, None}
 use Rattle.std.specs.Prelude.{Contains, if◌then◌else◌}
 use Rattle.std.specs.Option.{option_or}
 use Rattle.std.proofs.lemmas.Bool.{and_parts}
@@ -14,7 +14,8 @@ use Rattle.vk_model.specs.Sync.Node.{Node, Act, Hosts, Signals, Runs, nodes, act
 use Rattle.vk_model.specs.Sync.Edge.{signaled_by}
 use Rattle.vk_model.specs.Sync.Access.{is_in, targets, origins}
 use Rattle.vk_laws.proofs.Nodes.Counts.{more_nodes}
-use Rattle.vk_model.proofs.Lists.Members.{contains-head}
+use Rattle.vk_model.proofs.Lists.Members.{contains-cons, contains-head}
+use Rattle.vk_model.proofs.Sync.Numbers.{numbered, number_below}
 use Rattle.vk_order.specs.Lines.{class_on}
 use Rattle.vk_history.specs.declared.touches.Touch.{Touch}
 use Rattle.vk_history.specs.declared.touches.Touch.TheVariants as touch
@@ -157,3 +158,13 @@ touches_on touch.Write b past p (Wait s) h = absurd cc
 touches_on (touch.Read q) b past p (Wait s) h = absurd cc
 touches_on touch.HostWrite b past p (Wait s) h = absurd cc
 touches_on touch.HostRead b past p (Wait s) h = absurd cc
+
+-- of a point with one act, the node is the next
+pub only_new : (older : Past) (q : Point) (a : Act) → acts q.action ≡ a ∷ [] → (x : Node) → Contains (nodes (q ∷ older)) x → length (nodes older) ≤ x.number → next_node older q a ≡ x
+only_new older q a alone x there new =
+    let at = next_there older q a alone in
+    let small : Contains (next_node older q a ∷ nodes older) x = subst (λ (l : List Act). Contains (with q l older) x) alone there in
+    ⊎_elim (λ e. e) (λ old. absurd (let lt = number_below (nodes older) (numbered older) x old in omega (arith, lt, new))) (contains-cons (next_node older q a) (nodes older) x small)
+  where
+    with : Point → List Act → Past → List Node
+    with q l older = with_acts q l (nodes older)

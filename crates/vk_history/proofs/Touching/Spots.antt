@@ -52,8 +52,8 @@ same_spots of own alone spot stays past p none = rw none (go (last_of of past) r
   go None e = refl
   go (Some v) e = ap Some (stays past p v (last_low of own alone past v e))
 
-spot_stays : (past : Past) (p : Point) (v : Node) → v.number < length (nodes past) → spot_of (p ∷ past) v ≡ spot_of past v
-spot_stays past p v lt = ap (λ k. record { line = class_of v; place = k }) (place_stays past p (class_of v) v.number (omega (arith, lt)))
+pub spot_stays : (past : Past) (p : Point) (v : Node) → v.number < length (nodes past) → spot_of (p ∷ past) v ≡ spot_of past v
+spot_stays past p v lt = ap (λ k. record { line = class_of v; place = k; number = v.number }) (place_stays past p (class_of v) v.number (omega (arith, lt)))
 
 signal_spot_stays : (past : Past) (p : Point) (v : Node) → v.number < length (nodes past) → signal_spot (p ∷ past) v ≡ signal_spot past v
 signal_spot_stays past p v lt = ap (λ k. (class_of v, k)) (place_stays past p (class_of v) v.number (omega (arith, lt)))
@@ -65,7 +65,7 @@ last_step t past p b = go (touches t b past p p.action) refl where
   go false e = same_spots (touch_next t b) (touchers_own t b) (touchers_alone t b) spot_of spot_stays past p (rw e refl)
   go true e =
       let on : class_on p.queue (act_next p.action) ≡ class_next p = touches_on t b past p p.action e in
-      let at : Line → ℕ → Option Spot = λ l k. Some (record { line = l; place = k }) in
+      let at : Line → ℕ → Option Spot = λ l k. Some (record { line = l; place = k; number = length (nodes past) }) in
       rw e (ap (λ (l : Line). at l (place (nodes (p ∷ past)) l (length (nodes past)))) on ∙ ap (at (class_next p)) (place_stays past p (class_next p) (length (nodes past)) (omega arith)))
 
 pub same_signaler : (past : Past) (p : Point) (s : ℕ) → signaler_next s past p p.action ≡ None → option_map (signal_spot (p ∷ past)) (last_signaler (p ∷ past) s) ≡ option_map (signal_spot past) (last_signaler past s)

@@ -18,7 +18,7 @@ use Rattle.vk_model.specs.Rules.Fault.{newest}
 use Rattle.vk_model.specs.Rules.Ids.{until}
 use Rattle.vk_model.specs.Sync.Node.{Node, Act, Hosts, nodes, acts, with_acts, same_place}
 use Rattle.vk_model.specs.Sync.Before.{before}
-use Rattle.vk_model.specs.Sync.Complete.{named_by_act, names, nodes_for, commands_of, submitted}
+use Rattle.vk_model.specs.Sync.Complete.{named_by_act, nodes_for, commands_of, submitted}
 use Rattle.vk_model.proofs.Lists.Members.{none_in, contains-cons, contains-head, contains-tail, filtered, filter_has, flat_from, some_member, member_passes}
 use Rattle.vk_model.proofs.Lists.Truths.{clash}
 use Rattle.vk_model.proofs.Trace.Once.{come_once}

@@ -1,20 +1,28 @@
-ghost use Rattle.std.specs.Prelude.{◌≡◌, ◌∷◌, not};
+ghost use Rattle.std.specs.Prelude.{◌≡◌, ◌∷◌, not, Contains, IfOk, Some, option_map};
 ghost use Rattle.vk_model.specs.Trace.Point.{Point as AnyPoint, Host};
 ghost use Rattle.vk_model.specs.declared.entry.Entry.{Entry as AnyEntry};
-ghost use Rattle.vk_model.specs.Sync.Node.{nodes, Hosts};
+ghost use Rattle.vk_model.specs.Sync.Node.{Node, nodes, Hosts, Depends, Barrier};
+ghost use Rattle.vk_model.specs.Sync.Before.{before};
 ghost use Rattle.vk_model.specs.Sync.Complete.{is_busy};
 ghost use Rattle.vk_order.specs.Frontiers.{IsSight};
 ghost use Rattle.vk_history.specs.Touched.{next_node};
-ghost use Rattle.vk_model.specs.Trace.Objects.{is_exclusive, is_exclusive_mode};
+ghost use Rattle.vk_model.specs.Trace.Objects.{is_exclusive};
+ghost use Rattle.vk_order.specs.Inner.Clocks.{place};
+ghost use Rattle.vk_order.specs.Lines.{line_of};
+ghost use Rattle.vk_order.specs.PointViews.{point_of};
+ghost use Rattle.vk_order.specs.Wide.{IsApartFrom};
+ghost use Rattle.vk_history.specs.Owners.{IsOwned, kept_of};
 ghost use Rattle.vk_model.specs.World.Effect.{world};
 ghost use Rattle.vk_model.specs.Rules.Layouts.{has_other_layout};
 ghost use Rattle.vk_history.specs.PointViews.{past};
 
 use crate::history::History;
-use vk_model::{Entry, Layout, Sharing, SubresourceRange};
-use vk_order::Sight;
+use crate::owners::Owned;
+use std::alloc::AllocError;
+use vk_model::{Element, Layout, SubresourceRange};
+use vk_order::{Act, Point, Sight, Spot};
 
-impl History<'_> {
+impl<'a> History<'a> {
     /// Whether all subresources of a range of an image are in a layout.
     pub fn is_in(&self, image: u32, range: &SubresourceRange, layout: Layout) -> bool
         ensures { result ≡ not (has_other_layout (world (past self.now)) image range.now layout) }
@@ -36,16 +44,28 @@ impl History<'_> {
     pub fn is_exclusive(&self, id: u32) -> bool
         ensures { result ≡ is_exclusive (past self.now) id }
     {
-        match self.made(id) {
-            Some(Entry::Buffer { info, .. }) => is_exclusive(info.sharing),
-            Some(Entry::Image { info, .. }) => is_exclusive(info.sharing),
-            _ => false,
-        }
+        self.tables.objects.is_exclusive(id)
     }
-}
 
-fn is_exclusive(mode: Sharing) -> bool
-    ensures { result ≡ is_exclusive_mode mode }
-{
-    matches!(mode, Sharing::Exclusive)
+    /// Who owns a resource.
+    pub fn owner(&self, resource: u32) -> Option<Owned<'a>>
+        ensures { IsOwned (option_map kept_of result) ((world (past self.now)).owner resource) (nodes (past self.now)) resource }
+    {
+        self.tables.owners.of(resource)
+    }
+
+    /// Whether the node of a line before which this many came comes before an element of a barrier
+    /// that comes next.
+    pub fn is_before(
+        &self,
+        spot: Spot,
+        point: &Point<'_>,
+        element: &Element,
+    ) -> Result<bool, AllocError>
+        ensures { IfOk result (λ r. (m n : Node) → n ≡ next_node (past self.now) (point_of point.now) (Depends Barrier element.now) → IsApartFrom (nodes (past self.now)) n
+            → Contains (nodes (past self.now)) m → line_of m ≡ Some spot.line → place (nodes (past self.now)) spot.line m.number ≡ spot.place → r ≡ before (n ∷ nodes (past self.now)) m n) }
+    {
+        let sight = self.tables.frontier.sight(point, &Act::Barrier(element))?;
+        Ok(sight.follows(spot.line, spot.place))
+    }
 }

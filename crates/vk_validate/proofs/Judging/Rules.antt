@@ -13,7 +13,6 @@ use Rattle.vk_history.specs.Supported.{is_supported_action}
 use Rattle.vk_history.specs.Judged.{early_rules, late_rules, first_among}
 use Rattle.vk_validate.specs.Inner.Early.{breaks_early}
 use Rattle.vk_validate.proofs.Judging.Unbroken as unbroken
-use Rattle.vk_validate.proofs.Judging.Pairs.{no_owner_pair}
 
 pub find-drop : {X : Type 0} (p : X → Bool) (xs : List X) (i : ℕ) (d : X) → i < length xs → find p (drop i xs) ≡ cond (p (get_or xs i d)) (Some (get_or xs i d)) (find p (drop (i + 1) xs))
 find-drop p xs i d lt = rw (add-one, drop-cons xs i d) refl
@@ -79,6 +78,7 @@ pub record IsUntested (r : Rule) : Type 0 where
   pub layout : r ≡ rule.Layout → ⊥
   pub old_layout : r ≡ rule.OldLayout → ⊥
   pub owner_whole : r ≡ rule.OwnerWhole → ⊥
+  pub owner_pair : r ≡ rule.OwnerPair → ⊥
   pub event_state : r ≡ rule.EventState → ⊥
   pub event_dependency : r ≡ rule.EventDependency → ⊥
   pub signal_value : r ≡ rule.SignalValue → ⊥
@@ -115,7 +115,7 @@ module _ (past : Past) (p : Point) (now : is_supported_action p.action ≡ true)
   rest_unbroken rule.Layout u = absurd (u.layout refl)
   rest_unbroken rule.OldLayout u = absurd (u.old_layout refl)
   rest_unbroken rule.OwnerWhole u = absurd (u.owner_whole refl)
-  rest_unbroken rule.OwnerPair u = sym (no_owner_pair past p now)
+  rest_unbroken rule.OwnerPair u = absurd (u.owner_pair refl)
   rest_unbroken rule.EventState u = absurd (u.event_state refl)
   rest_unbroken rule.EventDependency u = absurd (u.event_dependency refl)
   rest_unbroken rule.SignalValue u = absurd (u.signal_value refl)

@@ -1,7 +1,6 @@
 -- The nodes of a past of supported forms: what they read and write, and where they are.
-use Rattle.std.proofs.Common.{◌≡◌, ◌<◌, ◌+◌, ℕ, List, [], ◌∷◌, map, Bool, true, false, nat_lt, refl, ap, sym, subst, arith, Option, Some, None, inl, inr, ◌⊎◌, ⊎_elim, ◌==◌, ◌++◌}
-use Rattle.std.specs.Prelude.{Contains, option_and_then}
-use Rattle.std.specs.Option.{option_map}
+use Rattle.std.proofs.Common.{◌≡◌, ◌<◌, ◌+◌, ℕ, List, [], ◌∷◌, map, Bool, true, false, nat_lt, refl, ap, sym, subst, arith, inl, inr, ◌⊎◌, ⊎_elim, ◌++◌}
+use Rattle.std.specs.Prelude.{Contains}
 use Rattle.std.specs.List.{list_all, enumerate_from}
 use Rattle.std.proofs.lemmas.Bool.{and_parts, ltb-false}
 use Rattle.vk_model.specs.declared.command.Cmd.{Cmd}
@@ -11,12 +10,9 @@ use Rattle.vk_model.specs.declared.command.Element.{Element}
 use Rattle.vk_model.specs.declared.command.Element.TheVariants as element
 use Rattle.vk_model.specs.declared.entry.Entry.{Entry}
 use Rattle.vk_model.specs.declared.entry.Entry.TheVariants as entry
-use Rattle.vk_model.specs.declared.resource.MemoryInfo.{MemoryInfo}
 use Rattle.vk_model.specs.declared.rule.Rule.TheVariants as rule
-use Rattle.vk_model.specs.Basics.{holds}
 use Rattle.vk_model.specs.World.Bytes.{Byte}
 use Rattle.vk_model.specs.Trace.Point.{Past, Point, Action, Host, Run}
-use Rattle.vk_model.specs.Trace.Objects.{made, memory, memory_in, is_cached, type_at, resource_in}
 use Rattle.vk_model.specs.Trace.Order.{host}
 use Rattle.vk_model.specs.Trace.Structure.{IsOrdered, Follows}
 use Rattle.vk_model.specs.Rules.Table.{breaks}
@@ -26,10 +22,9 @@ use Rattle.vk_model.specs.Sync.Access.{is_in, host_writes, host_reads, writes_of
 use Rattle.vk_model.proofs.Lists.Members.{all_passes, contains-cons, none_in}
 use Rattle.vk_laws.proofs.Nodes.Points.{at_point, action_of}
 use Rattle.vk_laws.proofs.Nodes.Steady.{comes_within}
-use Rattle.vk_order.specs.Wide.{is_wide, AreWide}
-use Rattle.vk_history.specs.Supported.{is_supported, is_supported_action, is_supported_entry, is_memory}
+use Rattle.vk_history.specs.Supported.{is_supported, is_supported_action, is_supported_entry, is_supported_element}
 use Rattle.vk_history.proofs.Points.Forms.{entry_cases, command_cases, action_cases}
-use Rattle.vk_history.proofs.Points.Pasts.{supported-cons, made_supported}
+use Rattle.vk_history.proofs.Points.Pasts.{supported-cons}
 
 -- the acts of supported forms
 abbrev pub is_supported_act : Act → Bool
@@ -37,15 +32,15 @@ is_supported_act (Hosts x) = is_supported_entry x
 is_supported_act (Waits s) = true
 is_supported_act (Signals s) = true
 is_supported_act (Runs c) = true
-is_supported_act (Depends r e) = is_memory e
+is_supported_act (Depends r e) = is_supported_element e
 
 pub supported_acts : (d : Action) → is_supported_action d ≡ true → list_all is_supported_act (acts d) ≡ true
 supported_acts = let P : Action → Type 0 = λ d. list_all is_supported_act (acts d) ≡ true in
     action_cases P (λ x h. rw h refl) (λ s. refl) (command_cases (λ c. P (Run c)) (λ b o n w. refl) (λ b o bytes. refl) (λ s d gs. refl) (λ es all. elements es all) (λ v ms. numbered (λ k d. Depends (SetOf v k) (element.Memory d)) (λ k d. refl) 0 ms) (λ v ms. numbered (λ k d. Depends (AwaitOf v k) (element.Memory d)) (λ k d. refl) 0 ms)) (λ s. refl)
   where
-    elements : (es : List Element) → list_all is_memory es ≡ true → list_all is_supported_act (map (Depends Barrier) es) ≡ true
+    elements : (es : List Element) → list_all is_supported_element es ≡ true → list_all is_supported_act (map (Depends Barrier) es) ≡ true
     elements [] all = refl
-    elements (e ∷ es) all = let h = and_parts (is_memory e) (list_all is_memory es) all in rw (h.0) (elements es h.1)
+    elements (e ∷ es) all = let h = and_parts (is_supported_element e) (list_all is_supported_element es) all in rw (h.0) (elements es h.1)
 
     numbered : (of : ℕ → Dependency → Act) → ((k : ℕ) (d : Dependency) → is_supported_act (of k d) ≡ true) → (k : ℕ) (ms : List Dependency) → list_all is_supported_act (map (λ p. of p.0 p.1) (enumerate_from k ms)) ≡ true
     numbered of ok k [] = refl
@@ -57,18 +52,6 @@ supported_node past supported n c = let s = at_point past n c in all_passes is_s
   point_of : (newer past : Past) (p : Point) → is_supported (newer ++ p ∷ past) ≡ true → is_supported_action p.action ≡ true
   point_of [] past p h = (supported-cons p past h).0
   point_of (q ∷ newer) past p h = point_of newer past p (supported-cons q (newer ++ p ∷ past) h).1
-
-pub wide_act : (a : Act) → is_supported_act a ≡ true → is_wide a ≡ true
-wide_act (Hosts x) h = refl
-wide_act (Waits s) h = refl
-wide_act (Signals s) h = refl
-wide_act (Runs c) h = refl
-wide_act (Depends r (element.Memory d)) h = refl
-wide_act (Depends r (element.Buffer e)) h = absurd cc
-wide_act (Depends r (element.Image e)) h = absurd cc
-
-pub all_wide : (past : Past) → is_supported past ≡ true → AreWide (nodes past)
-all_wide past supported n c = wide_act n.act (supported_node past supported n c)
 
 -- ---- what they read and write
 
@@ -122,35 +105,6 @@ queue_low past sound ordered x c there is =
     go q true over never = absurd (never over)
     go q false within never = let least = ltb-false 3 q within in omega (arith, least)
 
--- ---- memory of supported forms is not cached
-
-module _ (past : Past) (supported : is_supported past ≡ true) where
-  -- memory objects of the trace are of no type with a cache
-  object_uncached : (m : ℕ) → holds (option_map (λ (x : MemoryInfo). x.memory_type) (memory past m)) (λ u. u == 2) ≡ false
-  object_uncached m = go (made past m) refl where
-    by_form : (x : Entry) → is_supported_entry x ≡ true → holds (option_map (λ (x : MemoryInfo). x.memory_type) (memory_in x)) (λ u. u == 2) ≡ false
-    by_form = entry_cases (λ x. holds (option_map (λ (x : MemoryInfo). x.memory_type) (memory_in x)) (λ u. u == 2) ≡ false)
-        (λ i b t is other. refl) (λ i b m o is. refl) (λ i m other. other) (λ m. refl) (λ r. refl) (λ b. refl) (λ b. refl) (λ b o bytes. refl) (λ b o n. refl) (λ i v. refl) (λ i. refl) (λ s v. refl) (λ ws. refl) (λ q bs. refl)
-
-    go : (o : Option Entry) → made past m ≡ o → holds (option_map (λ (x : MemoryInfo). x.memory_type) (option_and_then memory_in o)) (λ u. u == 2) ≡ false
-    go None e = refl
-    go (Some x) e = by_form x (made_supported past supported m x e)
-
-  pub uncached : (i : ℕ) → is_cached past i ≡ false
-  uncached i = go (made past i) refl where
-    by_form : (x : Entry) → is_supported_entry x ≡ true → holds (option_and_then (λ r. type_at past r.place) (resource_in x)) (λ u. u == 2) ≡ false
-    by_form = entry_cases (λ x. holds (option_and_then (λ r. type_at past r.place) (resource_in x)) (λ u. u == 2) ≡ false)
-        (λ i b t is other. rw is other) (λ i b m o is. rw is (object_uncached m)) (λ i m other. refl) (λ m. refl) (λ r. refl) (λ b. refl) (λ b. refl) (λ b o bytes. refl) (λ b o n. refl) (λ i v. refl) (λ i. refl) (λ s v. refl) (λ ws. refl) (λ q bs. refl)
-
-    go : (o : Option Entry) → made past i ≡ o → holds (option_and_then (λ r. type_at past r.place) (option_and_then resource_in o)) (λ u. u == 2) ≡ false
-    go None e = refl
-    go (Some x) e = by_form x (made_supported past supported i x e)
-
--- the older points of a supported past
-pub supported_older : (newer past : Past) → is_supported (newer ++ past) ≡ true → is_supported past ≡ true
-supported_older [] past h = h
-supported_older (q ∷ newer) past h = supported_older newer past (supported-cons q (newer ++ past) h).1
-
 -- ---- points that access no bytes
 
 -- whether an action neither reads nor writes bytes
@@ -171,7 +125,7 @@ is_calm _ = true
 
 pub calm_acts : (d : Action) → is_supported_action d ≡ true → calm d ≡ true → list_all is_calm (acts d) ≡ true
 calm_acts = let P : Action → Type 0 = λ d. calm d ≡ true → list_all is_calm (acts d) ≡ true in
-    action_cases P (entry_cases (λ x. P (Host x)) (λ i b t at other c. refl) (λ i b m o at c. refl) (λ i m other c. refl) (λ m c. refl) (λ r c. refl) (λ b c. refl) (λ b c. refl) (λ b o bytes c. absurd cc) (λ b o n c. absurd cc) (λ i v c. refl) (λ i c. refl) (λ s v c. refl) (λ ws c. refl) (λ q bs c. refl)) (λ s c. refl)
+    action_cases P (entry_cases (λ x. P (Host x)) (λ i b t at c. refl) (λ i b m o at c. refl) (λ i m c. refl) (λ m c. refl) (λ r c. refl) (λ b c. refl) (λ b c. refl) (λ b o bytes c. absurd cc) (λ b o n c. absurd cc) (λ b o n c. refl) (λ b o n c. refl) (λ i v c. refl) (λ i c. refl) (λ s v c. refl) (λ ws c. refl) (λ q bs c. refl)) (λ s c. refl)
     (command_cases (λ c. P (Run c)) (λ b o n w c. absurd cc) (λ b o bytes c. absurd cc) (λ s d gs c. absurd cc) (λ es all c. elements es) (λ v ms c. numbered (λ k d. Depends (SetOf v k) (element.Memory d)) (λ k d. refl) 0 ms) (λ v ms c. numbered (λ k d. Depends (AwaitOf v k) (element.Memory d)) (λ k d. refl) 0 ms)) (λ s c. refl)
   where
     elements : (es : List Element) → list_all is_calm (map (Depends Barrier) es) ≡ true
@@ -184,7 +138,7 @@ calm_acts = let P : Action → Type 0 = λ d. calm d ≡ true → list_all is_ca
 
 calm_entry : (x : Entry) → is_supported_entry x ≡ true → is_calm (Hosts x) ≡ true → (host_reads x ≡ []) × (host_writes x ≡ [])
 calm_entry = let P : Entry → Type 0 = λ x. is_calm (Hosts x) ≡ true → (host_reads x ≡ []) × (host_writes x ≡ []) in
-    entry_cases P (λ i b t at other c. (refl, refl)) (λ i b m o at c. (refl, refl)) (λ i m other c. (refl, refl)) (λ m c. (refl, refl)) (λ r c. (refl, refl)) (λ b c. (refl, refl)) (λ b c. (refl, refl)) (λ b o bytes c. absurd cc) (λ b o n c. absurd cc) (λ i v c. (refl, refl)) (λ i c. (refl, refl)) (λ s v c. (refl, refl)) (λ ws c. (refl, refl)) (λ q bs c. (refl, refl))
+    entry_cases P (λ i b t at c. (refl, refl)) (λ i b m o at c. (refl, refl)) (λ i m c. (refl, refl)) (λ m c. (refl, refl)) (λ r c. (refl, refl)) (λ b c. (refl, refl)) (λ b c. (refl, refl)) (λ b o bytes c. absurd cc) (λ b o n c. absurd cc) (λ b o n c. (refl, refl)) (λ b o n c. (refl, refl)) (λ i v c. (refl, refl)) (λ i c. (refl, refl)) (λ s v c. (refl, refl)) (λ ws c. (refl, refl)) (λ q bs c. (refl, refl))
 
 pub calm_accesses : (past : Past) (q : ℕ) (a : Act) → is_supported_act a ≡ true → is_calm a ≡ true → (reads_of past q a ≡ []) × (writes_of past q a ≡ [])
 calm_accesses past q (Hosts x) h c = calm_entry x h c
@@ -192,5 +146,5 @@ calm_accesses past q (Waits s) h c = (refl, refl)
 calm_accesses past q (Signals s) h c = (refl, refl)
 calm_accesses past q (Runs x) h c = absurd cc
 calm_accesses past q (Depends r (element.Memory d)) h c = (refl, refl)
-calm_accesses past q (Depends r (element.Buffer e)) h c = absurd cc
+calm_accesses past q (Depends r (element.Buffer e)) h c = (refl, refl)
 calm_accesses past q (Depends r (element.Image e)) h c = absurd cc

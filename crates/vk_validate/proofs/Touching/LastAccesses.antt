@@ -10,7 +10,7 @@ use Rattle.vk_model.specs.World.Bytes.{Byte, resource_at}
 use Rattle.vk_model.specs.World.ByteWrites.{byte_writes}
 use Rattle.vk_model.specs.Trace.Point.{Past, Point, Action, Host, Wait, Run, Signal}
 use Rattle.vk_model.specs.Trace.Objects.{is_cached}
-use Rattle.vk_model.specs.Sync.Node.{Node, Act, Hosts, Runs, nodes, acts, with_acts}
+use Rattle.vk_model.specs.Sync.Node.{Node, Act, Hosts, Runs, nodes, acts}
 use Rattle.vk_model.specs.Sync.Edge.{is_host}
 use Rattle.vk_model.specs.Sync.Before.{IsNumbered}
 use Rattle.vk_model.specs.Sync.Seen.{Access, seen}
@@ -20,9 +20,11 @@ use Rattle.vk_model.specs.Rules.Fault.{Comes, IsUnbroken}
 use Rattle.vk_model.proofs.Rules.Fault.{unbroken_of_none}
 use Rattle.vk_model.proofs.Sync.Growth.{growth}
 use Rattle.vk_model.proofs.Sync.Numbers.{numbered, unique, number_below}
-use Rattle.vk_model.proofs.Lists.Members.{some_member, contains-cons}
+use Rattle.vk_model.proofs.Lists.Members.{some_member}
+use Rattle.vk_laws.specs.Trace.{accesses}
+use Rattle.vk_laws.proofs.Caching.CacheFree.{same_cached}
 use Rattle.vk_order.proofs.LastWriter as order
-use Rattle.vk_laws.proofs.Nodes.Steady.{commands_stay, comes_here}
+use Rattle.vk_laws.proofs.Nodes.Steady.{commands_stay, comes_here, new_ids, live_ids}
 use Rattle.vk_laws.proofs.Nodes.Actions.{host_action}
 use Rattle.vk_laws.proofs.Nodes.Points.{at_point, action_of, older_node}
 use Rattle.vk_laws.proofs.Nodes.Prefixes.{has_more}
@@ -30,21 +32,11 @@ use Rattle.vk_laws.proofs.Accesses.TaskAccesses.{byte_same}
 use Rattle.vk_history.specs.declared.touches.Touch.{Touch}
 use Rattle.vk_history.specs.declared.touches.Touch.TheVariants as touch
 use Rattle.vk_history.specs.Touched.{next_node, act_next, touches, touch_next, last_touch}
-use Rattle.vk_history.proofs.Touching.LastNodes.{last_found, HasLast, last_from, toucher_is, touchers_own, touches_alone, next_there}
+use Rattle.vk_history.proofs.Touching.LastNodes.{last_found, HasLast, last_from, toucher_is, touchers_own, touches_alone, next_there, only_new}
 
 -- a byte that is in a list is a member
 pub is_there : (c : Byte) (bs : List Byte) → IsTrue (is_in c bs) → Contains bs c
 is_there c bs h = let s = some_member _ bs h in subst (λ (b : Byte). Contains bs b) (sym (byte_same c s.0 s.2)) s.1
-
--- of a point with one act, the node is the next
-pub only_new : (older : Past) (q : Point) (a : Act) → acts q.action ≡ a ∷ [] → (x : Node) → Contains (nodes (q ∷ older)) x → length (nodes older) ≤ x.number → next_node older q a ≡ x
-only_new older q a alone x there new =
-    let at = next_there older q a alone in
-    let small : Contains (next_node older q a ∷ nodes older) x = subst (λ (l : List Act). Contains (with q l older) x) alone there in
-    ⊎_elim (λ e. e) (λ old. absurd (let lt = number_below (nodes older) (numbered older) x old in omega (arith, lt, new))) (contains-cons (next_node older q a) (nodes older) x small)
-  where
-    with : Point → List Act → Past → List Node
-    with q l older = with_acts q l (nodes older)
 
 module _ (past : Past) (none : fault past ≡ None) (p : Point) (steady : (c : Cmd) → byte_writes (p ∷ past) c ≡ byte_writes past c) where
   sound : IsUnbroken past
@@ -200,12 +192,16 @@ module _ (past : Past) (none : fault past ≡ None) (p : Point) (steady : (c : C
   free newer older q whole = false_from_ne_true (hazard waw older q) (λ h. sound older q rule.HazardWaw (subst (λ (l : Past). Comes l older q) (sym whole) (comes_here newer older q), h))
 
   -- who sees the last writer sees each
-  pub all_seen : (b : Byte) → ((newer older : Past) (q : Point) → past ≡ newer ++ q ∷ older → is_cached (p ∷ past) (resource_at b) ≡ is_cached (q ∷ older) (resource_at b))
+  pub all_seen : (b : Byte) → is_cached (p ∷ past) (resource_at b) ≡ is_cached past (resource_at b)
       → (x v y : Node) (c : Cmd) (k : Access) → Contains (nodes past) x → x.act ≡ Runs c → is_in b (writes (p ∷ past) x) ≡ true → last_touch touch.Write past b ≡ Some v → x.number ≤ v.number
       → is_seen (p ∷ past) v y k b ≡ true → is_seen (p ∷ past) x y k b ≡ true
   all_seen b still x v y c k there runs wrote last le seen_v = ⊎_elim earlier same (cases_lt x.number v.number) where
     l : IsLastWriter v b
     l = last_is v b last
+
+    -- the host reached the byte's resource at its last write as it does now
+    still_then : is_cached (p ∷ past) (resource_at b) ≡ is_cached (l.at ∷ l.older) (resource_at b)
+    still_then = still ∙ sym (same_cached past l.newer (l.at ∷ l.older) l.whole (new_ids past sound) (live_ids past sound) v l.here (ap accesses l.runs_it) b (l.at ∷ l.older) (is_there b (writes (l.at ∷ l.older) v) l.wrote))
 
     in_past : Contains (nodes (l.newer ++ l.at ∷ l.older)) x
     in_past = subst (λ (q : Past). Contains (nodes q) x) l.whole there
@@ -218,7 +214,7 @@ module _ (past : Past) (none : fault past ≡ None) (p : Point) (steady : (c : C
         let m = is_command_of x c there runs in
         let in_old : Contains (nodes (l.at ∷ l.older)) x = old lt in
         subst (λ (q : Past). seen (λ d. is_cached (p ∷ past) (resource_at d)) (nodes (p ∷ q)) x y k b ≡ true) (sym l.whole)
-        (order.last_writer growth l.older (p ∷ l.newer) l.at (λ d. is_cached (p ∷ past) (resource_at d)) x v y k b (free l.newer l.older l.at l.whole) (still l.newer l.older l.at l.whole) in_old l.here (let n = l.number in omega (arith, n)) lt (ap is_host l.runs_it) (wrote_then in_old) (is_there b (writes (l.at ∷ l.older) v) l.wrote)
+        (order.last_writer growth l.older (p ∷ l.newer) l.at (λ d. is_cached (p ∷ past) (resource_at d)) x v y k b (free l.newer l.older l.at l.whole) still_then in_old l.here (let n = l.number in omega (arith, n)) lt (ap is_host l.runs_it) (wrote_then in_old) (is_there b (writes (l.at ∷ l.older) v) l.wrote)
         (subst (λ (q : Past). seen (λ d. is_cached (p ∷ past) (resource_at d)) (nodes (p ∷ q)) v y k b ≡ true) l.whole seen_v))
       where
         old : x.number < v.number → Contains (nodes (l.at ∷ l.older)) x

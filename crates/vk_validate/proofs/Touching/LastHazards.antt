@@ -1,5 +1,5 @@
 -- The hazards of a point with one node, by the last nodes that touched each byte.
-use Rattle.std.proofs.Common.{◌≡◌, ◌⊎◌, ⊎_elim, ◌≤◌, ◌<◌, ◌+◌, ℕ, zero, suc, List, [], ◌∷◌, ◌++◌, length, Bool, true, false, not, ◌&&◌, nat_lt, refl, ap, sym, ◌∙◌, subst, arith, Option, Some, None}
+use Rattle.std.proofs.Common.{◌≡◌, ◌⊎◌, ⊎_elim, ◌≤◌, ◌<◌, ◌+◌, ℕ, zero, suc, List, [], ◌∷◌, length, Bool, true, false, not, ◌&&◌, nat_lt, refl, ap, sym, ◌∙◌, subst, arith, Option, Some, None}
 use Rattle.std.specs.Prelude.{Contains}
 use Rattle.std.specs.List.{list_any}
 use Rattle.std.proofs.lemmas.Bool.{lt-ltb, ltb-true, and_parts, and_from, not-true, cases_lt}
@@ -69,9 +69,9 @@ module _ (past : Past) (p : Point) (a : Act) (alone : acts p.action ≡ a ∷ []
   pub hazard_of_one : (kind : Past → Node → Node → Bool) → hazard kind past p ≡ list_any (λ x. precedes x (next_node past p a) && kind (p ∷ past) x (next_node past p a)) (nodes (p ∷ past))
   hazard_of_one kind = ap (λ ns. list_any (λ y. list_any (λ x. precedes x y && kind (p ∷ past) x y) (nodes (p ∷ past))) ns) (one_next past p a alone) ∙ or-false _
 
--- that a byte's memory stays as it is
+-- that the host reaches each resource after a point as before it
 abbrev pub StaysCached : Past → Point → Type 0
-StaysCached past p = (b : Byte) (newer older : Past) (q : Point) → past ≡ newer ++ q ∷ older → is_cached (p ∷ past) (resource_at b) ≡ is_cached (q ∷ older) (resource_at b)
+StaysCached past p = (r : ℕ) → is_cached (p ∷ past) r ≡ is_cached past r
 
 -- a list of which one item is in another, turned about
 share_turned : (bs cs : List Byte) → share bs cs ≡ list_any (λ c. is_in c bs) cs
@@ -175,7 +175,7 @@ module _ (past : Past) (none : fault past ≡ None) (p : Point) (steady : (c : C
     last : (w : Bool × Touch) → Contains write_ways w → w.0 ≡ true → (x v : Node) (b : Byte) → Contains (nodes past) x → Contains (nodes past) v → Touches past none p steady w.1 b x → last_touch w.1 past b ≡ Some v → x.number ≤ v.number → unseen k x b ≡ true → unseen k v b ≡ true
     last w c counts x v b cx cv does is le h = unless_seen (is_seen (p ∷ past) x y k b) (is_seen (p ∷ past) v y k b) (λ seen_v. ⊎_elim
         (λ e. subst (λ (u : Bool × Touch). Touches past none p steady u.1 b x → last_touch u.1 past b ≡ Some v → is_seen (p ∷ past) x y k b ≡ true) e
-        (λ d l. all_seen past none p steady b (still b) x v y d.0 k cx d.1 d.2 l le seen_v) does is)
+        (λ d l. all_seen past none p steady b (still (resource_at b)) x v y d.0 k cx d.1 d.2 l le seen_v) does is)
         (λ later. subst (λ (u : Bool × Touch). Touches past none p steady u.1 b x → last_touch u.1 past b ≡ Some v → is_seen (p ∷ past) x y k b ≡ true) (only_one (not (is_host a), touch.HostWrite) w later)
         (λ d l. by_host x v b cx cv (rw (ap is_host d.1) refl) (let f = last_touch_is past none p steady touch.HostWrite v b l in rw (ap is_host f.does.1) refl) le seen_v) does is)
         (contains-cons (true, touch.Write) ((not (is_host a), touch.HostWrite) ∷ []) w c)) h

@@ -25,7 +25,7 @@ use Rattle.vk_laws.proofs.Nodes.Points.{at_point, older_node}
 use Rattle.vk_laws.proofs.Nodes.Prefixes.{has_more}
 use Rattle.vk_history.specs.Touched.{next_node, last_signaler, signaler_next}
 use Rattle.vk_history.proofs.Touching.LastNodes.{HasLast, last_found, last_from, signaler_is, signalers_own, next_there}
-use Rattle.vk_validate.proofs.Touching.LastAccesses.{only_new}
+use Rattle.vk_history.proofs.Touching.LastNodes.{only_new}
 use Rattle.vk_validate.proofs.Touching.LastHazards.{one_next, nodes_with, older_there, next_acted}
 
 -- ---- the last signal

@@ -1,9 +1,12 @@
 -- The rules that are judged before the accesses of a point.
-use Rattle.std.specs.Prelude.{Bool, true, false, if◌then◌else◌}
+use Rattle.std.specs.Prelude.{◌≡◌, Bool, true, false, if◌then◌else◌}
 use Rattle.vk_model.specs.declared.rule.Rule.{Rule}
 use Rattle.vk_model.specs.declared.rule.Rule.TheVariants as rule
 use Rattle.vk_model.specs.Trace.Point.{Past, Point}
 use Rattle.vk_model.specs.Rules.Table.{breaks}
+use Rattle.vk_model.specs.Rules.Owners.{breaks_owner_pair}
+use Rattle.vk_model.specs.Rules.Synchronization.{breaks_signal_order}
+use Rattle.vk_validate.specs.declared.rules.Searched.{Searched}
 
 -- Whether a rule is on accesses, or comes after those.
 abbrev pub is_late : Rule → Bool
@@ -18,3 +21,8 @@ is_late _ = false
 -- Whether a point breaks a rule that is judged before its accesses.
 unfoldable pub breaks_early : Rule → Past → Point → Bool
 breaks_early r past p = if is_late r then false else breaks r past p
+
+-- What was found of the rules that need memory to be judged.
+pub record AreSearched (found : Searched) (past : Past) (p : Point) : Type 0 where
+  pub unordered : found.is_unordered ≡ breaks_signal_order past p
+  pub unpaired : found.is_unpaired ≡ breaks_owner_pair past p

@@ -3,18 +3,17 @@ ghost use Rattle.vk_model.specs.declared.command.Cmd.TheVariants as cmd;
 ghost use Rattle.vk_model.specs.Trace.Point.{Run};
 ghost use Rattle.vk_model.specs.Trace.Structure.{IsOrdered};
 ghost use Rattle.vk_order.specs.PointViews.{action_of, point_of};
-ghost use Rattle.vk_order.specs.declared.access.Access.TheVariants as access;
 ghost use Rattle.vk_history.specs.declared.changes.Change.TheVariants as change;
 ghost use Rattle.vk_history.specs.Supported.{is_supported_action};
 ghost use Rattle.vk_history.specs.PointViews.{past};
 ghost use Rattle.vk_history.specs.Judged.{early_rules, first_among};
 ghost use Rattle.vk_history.specs.Changes.{Fits};
-ghost use Rattle.vk_history.specs.Conflicts.{AreConflicts, FoundIn, FoundAmong, Misses, IsEarly};
+ghost use Rattle.vk_history.specs.Conflicts.{AreConflicts, FoundIn, FoundAt, FoundAmong, Misses, IsEarly};
 
 use std::alloc::AllocError;
-use vk_history::{BufferContents, Change, Conflicts, History, change_by};
+use vk_history::{BufferAccess, BufferContents, Change, Conflicts, History, change_by};
 use vk_model::{BufferCopy, Length};
-use vk_order::{Access, Point, Sight, host_seen, prefixes};
+use vk_order::{Access, Point, Sight, flushed_seen, host_seen, invalidated_seen, prefixes};
 
 /// What a point that breaks no rule before those on accesses finds wrong with the bytes that it
 /// accesses: HAZARD_WAR, HAZARD_RAW, HAZARD_WAW and READ_UNDEFINED. The only error is want of memory.
@@ -27,12 +26,15 @@ pub fn conflicts(history: &History<'_>, point: &Point<'_>) -> Result<Conflicts, 
     match change_by(point) {
         Change::Nothing => Ok(Conflicts::NONE),
         Change::Made(_, _) => Ok(Conflicts::NONE),
+        Change::Passed(_) => Ok(Conflicts::NONE),
         Change::HostRead(buffer, offset, size) => of_host_read(
             history, point, buffer, offset, size,
         ),
         Change::HostWritten(buffer, offset, size) => {
             of_host_write(history, point, buffer, offset, size)
         }
+        Change::Flushed(_, _, _) => Ok(Conflicts::NONE),
+        Change::Invalidated(_, _, _) => Ok(Conflicts::NONE),
         Change::Written(buffer, offset, size) => of_write(history, point, buffer, offset, size),
         Change::Copied(source, destination, regions) => {
             of_copy(history, point, source, destination, regions)
@@ -53,12 +55,14 @@ fn of_host_read(
     ensures { IfOk result (λ found. AreConflicts found (past history.now) (point_of point.now)) }
 {
     host_seen();
+    invalidated_seen();
     history.is_judged();
     match history.contents(buffer) {
         Some(contents) => {
             let sight = history.sight(point)?;
+            let by = history.access(&sight, buffer, Access::Read);
             Ok(Conflicts {
-                raw: contents.has_missed_write(offset, size, &sight, Access::Read),
+                raw: contents.has_missed_read(offset, size, &by),
                 undefined: contents.has_undefined(offset, size),
                 ..Conflicts::NONE
             })
@@ -85,9 +89,10 @@ fn of_host_write(
     match history.contents(buffer) {
         Some(contents) => {
             let sight = history.sight(point)?;
+            let by = history.access(&sight, buffer, Access::Write);
             Ok(Conflicts {
                 war: contents.has_early_command(offset, size, &sight),
-                waw: contents.has_missed_write(offset, size, &sight, Access::Write),
+                waw: contents.has_missed_write(offset, size, &by),
                 ..Conflicts::NONE
             })
         }
@@ -108,15 +113,17 @@ fn of_write(
     ensures { IfOk result (λ found. AreConflicts found (past history.now) (point_of point.now)) }
 {
     host_seen();
+    flushed_seen();
     prefixes();
     history.is_judged();
     match history.contents(buffer) {
         Some(contents) => {
             let bytes = size.filled(contents.defined.len(), offset);
             let sight = history.sight(point)?;
+            let by = history.access(&sight, buffer, Access::Write);
             Ok(Conflicts {
                 war: contents.has_early(offset, bytes, &sight),
-                waw: contents.has_missed(offset, bytes, &sight, Access::Write),
+                waw: contents.has_missed(offset, bytes, &by),
                 ..Conflicts::NONE
             })
         }
@@ -137,6 +144,7 @@ fn of_copy(
     ensures { IfOk result (λ found. AreConflicts found (past history.now) (point_of point.now)) }
 {
     host_seen();
+    flushed_seen();
     prefixes();
     history.is_judged();
     let Some(from) = history.contents(source) else {
@@ -146,20 +154,26 @@ fn of_copy(
         return Ok(Conflicts::NONE);
     };
     let sight = history.sight(point)?;
+    let reads = history.access(&sight, source, Access::Read);
+    let writes = history.access(&sight, destination, Access::Write);
     Ok(Conflicts {
         war: has_early_destination(to, regions, &sight),
-        raw: has_missed_source(from, regions, &sight),
-        waw: has_missed_destination(to, regions, &sight),
+        raw: has_missed_source(from, regions, &reads),
+        waw: has_missed_destination(to, regions, &writes),
         undefined: false,
     })
 }
 
 /// Whether what some region reads has a last write that isn't seen.
-fn has_missed_source(contents: &BufferContents, regions: &[BufferCopy], sight: &Sight) -> bool
-    ensures { FoundAmong (λ r g. g.source_offset + g.size ≤ length contents.now.touches → FoundIn (Misses sight.now access.Read) r contents.now.touches g.source_offset (g.source_offset + g.size)) result regions.now }
+fn has_missed_source(
+    contents: &BufferContents,
+    regions: &[BufferCopy],
+    by: &BufferAccess<'_>,
+) -> bool
+    ensures { FoundAmong (λ r g. g.source_offset + g.size ≤ length contents.now.touches → FoundAt (Misses contents.now.is_cached by.now) r contents.now.touches g.source_offset (g.source_offset + g.size)) result regions.now }
 {
     for region in regions {
-        if contents.has_missed(region.source_offset, region.size, sight, Access::Read) {
+        if contents.has_missed(region.source_offset, region.size, by) {
             return true;
         }
     }
@@ -167,11 +181,15 @@ fn has_missed_source(contents: &BufferContents, regions: &[BufferCopy], sight: &
 }
 
 /// Whether what some region writes has a last write that isn't seen.
-fn has_missed_destination(contents: &BufferContents, regions: &[BufferCopy], sight: &Sight) -> bool
-    ensures { FoundAmong (λ r g. g.destination_offset + g.size ≤ length contents.now.touches → FoundIn (Misses sight.now access.Write) r contents.now.touches g.destination_offset (g.destination_offset + g.size)) result regions.now }
+fn has_missed_destination(
+    contents: &BufferContents,
+    regions: &[BufferCopy],
+    by: &BufferAccess<'_>,
+) -> bool
+    ensures { FoundAmong (λ r g. g.destination_offset + g.size ≤ length contents.now.touches → FoundAt (Misses contents.now.is_cached by.now) r contents.now.touches g.destination_offset (g.destination_offset + g.size)) result regions.now }
 {
     for region in regions {
-        if contents.has_missed(region.destination_offset, region.size, sight, Access::Write) {
+        if contents.has_missed(region.destination_offset, region.size, by) {
             return true;
         }
     }

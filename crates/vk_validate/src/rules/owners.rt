@@ -1,18 +1,17 @@
-ghost use Rattle.std.specs.Prelude.{◌≡◌, ◌&&◌, ◌||◌, List, not, nat_lt, true, IsTrue};
+ghost use Rattle.std.specs.Prelude.{◌≡◌, ◌∷◌, IfOk, not};
 ghost use Rattle.std.specs.List.{list_any};
 ghost use Rattle.vk_model.specs.Basics.{holds};
-ghost use Rattle.vk_model.specs.Trace.Objects.{image, is_exclusive};
-ghost use Rattle.vk_model.specs.World.Bytes.{World};
-ghost use Rattle.vk_model.specs.World.Ownership.{family_of, transfer};
-ghost use Rattle.vk_model.specs.Sync.Node.{Node};
+ghost use Rattle.vk_model.specs.declared.command.Cmd.TheVariants as cmd;
+ghost use Rattle.vk_model.specs.Trace.Objects.{image};
+ghost use Rattle.vk_model.specs.Trace.Point.{Run};
+ghost use Rattle.vk_model.specs.Trace.Structure.{IsOrdered};
 ghost use Rattle.vk_model.specs.Rules.Owners as owners;
-ghost use Rattle.vk_order.specs.PointViews.{point_of};
-ghost use Rattle.vk_layouts.specs.Owned.{owner_of};
-ghost use Rattle.vk_validate.specs.Inner.Owners.{IsOwnedBy, IsReleasedBefore, misses_half};
+ghost use Rattle.vk_order.specs.PointViews.{action_of, point_of};
 ghost use Rattle.vk_history.specs.PointViews.{past};
 
-use vk_history::{History, family_of};
-use vk_layouts::{Owner, Transfer};
+use crate::halves::{Changed, is_bad_half};
+use std::alloc::AllocError;
+use vk_history::History;
 use vk_model::{Cmd, Element, Families, ImageInfo, Length, SubresourceRange};
 use vk_order::{Action, Point};
 
@@ -86,52 +85,46 @@ fn is_all_of(info: &ImageInfo, range: &SubresourceRange) -> bool
         && range.layers == info.layers
 }
 
-/// Whether an element on a queue breaks OWNER_PAIR, where its resource has this owner and the
-/// release of an acquire comes before it.
-pub fn is_bad_half(history: &History<'_>, queue: u32, element: &Element, owner: &Owner) -> bool
-    ensures bad { IsTrue result → (ns : List Node) (w : World) (n : Node)
-        → IsOwnedBy w element.now (owner_of owner.now) → n.point.queue ≡ queue
-        → owners.bad_pair (past history.now) ns w n element.now ≡ true }
-    ensures whole { (ns : List Node) (w : World) (n : Node)
-        → IsOwnedBy w element.now (owner_of owner.now) → n.point.queue ≡ queue
-        → IsReleasedBefore ns n element.now
-        → result ≡ owners.bad_pair (past history.now) ns w n element.now }
+/// OWNER_PAIR: a release or acquire that doesn't fit its other half, its queue or its resource. The
+/// only error is want of memory.
+pub fn breaks_owner_pair(history: &History<'_>, point: &Point<'_>) -> Result<bool, AllocError>
+    requires ordered { IsOrdered (point_of point.now ∷ past history.now) }
+    ensures { IfOk result (λ broken. broken ≡ owners.breaks_owner_pair (past history.now) (point_of point.now)) }
 {
-    match element {
-        Element::Memory(_) => false,
-        Element::Buffer(on_buffer) => {
-            let families = on_buffer.families;
-            has_bad_families(history, families, on_buffer.buffer)
-                || misses_half(queue, families, element, owner)
-        }
-        Element::Image(on_image) => {
-            let families = on_image.families;
-            has_bad_families(history, families, on_image.image)
-                || misses_half(queue, families, element, owner)
-        }
+    match point.action {
+        Action::Run(command) => has_bad_half(history, point, command),
+        Action::Host(_) => Ok(false),
+        Action::Wait(_) => Ok(false),
+        Action::Signal(_) => Ok(false),
     }
 }
 
-/// Whether families differ and one isn't 0 or 1, or the resource is concurrent.
-fn has_bad_families(history: &History<'_>, families: Families, resource: u32) -> bool
-    ensures { result ≡ (owners.families_differ families
-        && (nat_lt 1 families.source || nat_lt 1 families.destination
-        || not (is_exclusive (past history.now) resource))) }
+fn has_bad_half(history: &History<'_>, point: &Point<'_>, command: &Cmd) -> Result<bool, AllocError>
+    requires ordered { IsOrdered (point_of point.now ∷ past history.now) }
+    requires runs { action_of point.now.action ≡ Run command.now }
+    ensures { IfOk result (λ broken. broken ≡ owners.breaks_owner_pair (past history.now) (point_of point.now)) }
 {
-    differ(families)
-        && (families.source > 1 || families.destination > 1 || !history.is_exclusive(resource))
+    match command {
+        Cmd::Barrier { elements } => some_half_is_bad(history, point, elements.as_slice()),
+        _ => Ok(false),
+    }
 }
 
-/// Whether an element doesn't fit the owner: it is neither half of a transfer, it releases what is
-/// released, or it acquires what isn't released by its other half.
-fn misses_half(queue: u32, families: Families, element: &Element, owner: &Owner) -> bool
-    ensures { result
-        ≡ misses_half (owner_of owner.now) element.now (transfer (family_of queue) families) }
+fn some_half_is_bad(
+    history: &History<'_>,
+    point: &Point<'_>,
+    elements: &[Element],
+) -> Result<bool, AllocError>
+    requires ordered { IsOrdered (point_of point.now ∷ past history.now) }
+    requires barrier { action_of point.now.action ≡ Run (cmd.Barrier elements.now) }
+    ensures { IfOk result (λ broken. broken ≡ owners.breaks_owner_pair (past history.now) (point_of point.now)) }
 {
-    match Transfer::of(family_of(queue), families) {
-        Transfer::Stays => false,
-        Transfer::Neither => true,
-        Transfer::Release => owner.is_released(),
-        Transfer::Acquire => owner.release_for(element).is_none(),
+    let mut changed = Changed::new(history.alloc());
+    for element in elements {
+        let is_bad = is_bad_half(history, point, element, &mut changed)?;
+        if is_bad {
+            return Ok(true);
+        }
     }
+    Ok(false)
 }

@@ -1,4 +1,4 @@
-use Rattle.std.proofs.Common.{true, false, sym, ◌∙◌, arith, get_or}
+use Rattle.std.proofs.Common.{sym, ◌∙◌, arith, get_or}
 use Rattle.std.proofs.lemmas.Option.{slice_get_within}
 use Rattle.std.proofs.lemmas.List.Elements.{Contains-get_or}
 use Rattle.vk_history.proofs.Using.Lasts.{one_left, none_left, contains_at, next_done}

@@ -90,6 +90,10 @@ pub returns-in-OwnerWhole : goal.returns-in-OwnerWhole
 unfolding breaks_early breaks
 returns-in-OwnerWhole c = rw c.in-OwnerWhole.is c.breaks_owner_whole.ensures
 
+pub returns-in-OwnerPair : goal.returns-in-OwnerPair
+unfolding breaks_early breaks
+returns-in-OwnerPair c = rw c.in-OwnerPair.is c.requires.searched.unpaired
+
 pub returns-in-EventState : goal.returns-in-EventState
 unfolding breaks_early breaks
 returns-in-EventState c = rw c.in-EventState.is c.breaks_event_state.ensures
@@ -104,7 +108,7 @@ returns-in-SignalValue c = rw c.in-SignalValue.is c.breaks_signal_value.ensures
 
 pub returns-in-SignalOrder : goal.returns-in-SignalOrder
 unfolding breaks_early breaks
-returns-in-SignalOrder c = rw c.in-SignalOrder.is c.requires.unordered
+returns-in-SignalOrder c = rw c.in-SignalOrder.is c.requires.searched.unordered
 
 pub returns-in-WaitBeforeSignal : goal.returns-in-WaitBeforeSignal
 unfolding breaks_early breaks
@@ -159,6 +163,7 @@ returns-in_default c =
       layout = d.not-Layout;
       old_layout = d.not-OldLayout;
       owner_whole = d.not-OwnerWhole;
+      owner_pair = d.not-OwnerPair;
       event_state = d.not-EventState;
       event_dependency = d.not-EventDependency;
       signal_value = d.not-SignalValue;

@@ -11,3 +11,12 @@ returns-in-Nothing c = quiet_conflicts (past c.args.history.now) (point_of c.arg
 
 pub returns-in-Made : goal.returns-in-Made
 returns-in-Made c = calm_conflicts (past c.args.history.now) (point_of c.args.point.now) c.requires.supported (subst (λ (d : Action). calm d ≡ true) (sym c.in-Made.ensures) refl)
+
+pub returns-in-Flushed : goal.returns-in-Flushed
+returns-in-Flushed c = calm_conflicts (past c.args.history.now) (point_of c.args.point.now) c.requires.supported (subst (λ (d : Action). calm d ≡ true) (sym c.in-Flushed.ensures) refl)
+
+pub returns-in-Invalidated : goal.returns-in-Invalidated
+returns-in-Invalidated c = calm_conflicts (past c.args.history.now) (point_of c.args.point.now) c.requires.supported (subst (λ (d : Action). calm d ≡ true) (sym c.in-Invalidated.ensures) refl)
+
+pub returns-in-Passed : goal.returns-in-Passed
+returns-in-Passed c = calm_conflicts (past c.args.history.now) (point_of c.args.point.now) c.requires.supported (subst (λ (d : Action). calm d ≡ true) (sym c.in-Passed.ensures) refl)

@@ -1,15 +1,14 @@
 use Rattle.std.proofs.Common.{◌≤◌, ◌+◌, Bool, length}
-use Rattle.vk_order.specs.declared.access.Access.TheVariants as access
 use Rattle.vk_model.specs.declared.command.BufferCopy.{BufferCopy}
-use Rattle.vk_history.specs.Conflicts.{FoundIn, Misses}
+use Rattle.vk_history.specs.Conflicts.{FoundAt, Misses}
 use Rattle.vk_validate.proofs.Judging.Among.{none_next, some_here, none_at_all}
 use Rattle.vk_validate.proofs.rules.hazards.has_missed_destination.Goals as goal
 
 pub loop-region-preserved : goal.loop-region-preserved
-loop-region-preserved c = none_next (λ (r : Bool) (g : BufferCopy). g.destination_offset + g.size ≤ length c.args.contents.now.touches → FoundIn (Misses c.args.sight.now access.Write) r c.args.contents.now.touches g.destination_offset (g.destination_offset + g.size)) c.args.regions.now c.loop-region.region-index _ c.loop-region-test.true c.loop-region.invariant (rw c.if-has_missed.false at c.has_missed.ensures)
+loop-region-preserved c = none_next (λ (r : Bool) (g : BufferCopy). g.destination_offset + g.size ≤ length c.args.contents.now.touches → FoundAt (Misses c.args.contents.now.is_cached c.args.by.now) r c.args.contents.now.touches g.destination_offset (g.destination_offset + g.size)) c.args.regions.now c.loop-region.region-index _ c.loop-region-test.true c.loop-region.invariant (rw c.if-has_missed.false at c.has_missed.ensures)
 
 pub returns-then-has_missed : goal.returns-then-has_missed
-returns-then-has_missed c = some_here (λ (r : Bool) (g : BufferCopy). g.destination_offset + g.size ≤ length c.args.contents.now.touches → FoundIn (Misses c.args.sight.now access.Write) r c.args.contents.now.touches g.destination_offset (g.destination_offset + g.size)) c.args.regions.now c.loop-region.region-index _ c.loop-region-test.true (rw c.if-has_missed.true at c.has_missed.ensures)
+returns-then-has_missed c = some_here (λ (r : Bool) (g : BufferCopy). g.destination_offset + g.size ≤ length c.args.contents.now.touches → FoundAt (Misses c.args.contents.now.is_cached c.args.by.now) r c.args.contents.now.touches g.destination_offset (g.destination_offset + g.size)) c.args.regions.now c.loop-region.region-index _ c.loop-region-test.true (rw c.if-has_missed.true at c.has_missed.ensures)
 
 pub returns : goal.returns
-returns c = none_at_all (λ (r : Bool) (g : BufferCopy). g.destination_offset + g.size ≤ length c.args.contents.now.touches → FoundIn (Misses c.args.sight.now access.Write) r c.args.contents.now.touches g.destination_offset (g.destination_offset + g.size)) c.args.regions.now c.loop-region.region-index c.loop-region.auto.region-index-end c.loop-region-test.false c.loop-region.invariant
+returns c = none_at_all (λ (r : Bool) (g : BufferCopy). g.destination_offset + g.size ≤ length c.args.contents.now.touches → FoundAt (Misses c.args.contents.now.is_cached c.args.by.now) r c.args.contents.now.touches g.destination_offset (g.destination_offset + g.size)) c.args.regions.now c.loop-region.region-index c.loop-region.auto.region-index-end c.loop-region-test.false c.loop-region.invariant

@@ -33,7 +33,7 @@ returns c =
     let live = early_live earlier p c.requires.early in
     let range = early_range earlier p c.requires.early in
     let sights = c.in_ok-sight.ensures (apart_from (nodes earlier) (next_node earlier p (act_next p.action)) (ap (λ (d : Action). is_element (act_next d)) is)) in
-    copy_conflicts earlier c.is_judged.ensures p c.host_seen.ensures c.prefixes.ensures.line c.in_ok-sight.sight sights c.args.source c.args.destination c.args.regions.now is c.in-Some.from.now c.in-Some-contents.to.now c.in-Some.ensures c.in-Some-contents.ensures
+    copy_conflicts earlier c.is_judged.ensures p c.host_seen.ensures c.flushed_seen.ensures.flushed c.flushed_seen.ensures.unflushed c.prefixes.ensures.line c.in_ok-sight.sight sights c.args.source c.args.destination c.args.regions.now is c.in-Some.from.now c.in-Some-contents.to.now c.in-Some.ensures c.in-Some-contents.ensures
     (copy_reads_fit earlier p c.is_judged.ensures.faultless live range c.args.source c.args.destination c.args.regions.now is)
     (copy_writes_fit earlier p c.is_judged.ensures.faultless live range c.args.source c.args.destination c.args.regions.now is)
-    c.has_early_destination.result c.has_missed_source.result c.has_missed_destination.result c.has_early_destination.ensures c.has_missed_source.ensures c.has_missed_destination.ensures
+    c.access-reads.result c.access-reads.ensures c.access-writes.result c.access-writes.ensures c.has_early_destination.result c.has_missed_source.result c.has_missed_destination.result c.has_early_destination.ensures c.has_missed_source.ensures c.has_missed_destination.ensures

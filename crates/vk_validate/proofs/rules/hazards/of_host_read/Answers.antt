@@ -21,7 +21,7 @@ returns-in_ok-sight-in-Some c =
     let is = c.requires.reads in
     let fits : c.args.offset + c.args.size ≤ buffer_size earlier c.args.buffer = read_fits earlier p c.is_judged.ensures.faultless (early_live earlier p c.requires.early) (early_range earlier p c.requires.early) c.args.buffer c.args.offset c.args.size is in
     let sights = c.in_ok-sight-in-Some.ensures (apart_from (nodes earlier) (next_node earlier p (act_next p.action)) (ap (λ (d : Action). is_element (act_next d)) is)) in
-    read_conflicts earlier c.is_judged.ensures p c.args.buffer c.args.offset c.args.size is c.host_seen.ensures c.in-Some.contents.now c.in-Some.ensures fits c.in_ok-sight-in-Some.sight sights c.has_missed_write.result c.has_undefined.result c.has_missed_write.ensures c.has_undefined.ensures
+    read_conflicts earlier c.is_judged.ensures p c.args.buffer c.args.offset c.args.size is c.host_seen.ensures c.invalidated_seen.ensures.invalidated c.invalidated_seen.ensures.uninvalidated c.in-Some.contents.now c.in-Some.ensures fits c.in_ok-sight-in-Some.sight sights c.access-by.result c.access-by.ensures c.has_missed_read.result c.has_undefined.result c.has_missed_read.ensures c.has_undefined.ensures
 
 pub returns-in-None : goal.returns-in-None
 returns-in-None c =

@@ -6,10 +6,9 @@ use Rattle.vk_model.specs.Sync.Edge.{is_element}
 use Rattle.vk_model.proofs.Lists.Members.{contains-head}
 use Rattle.vk_model.proofs.Lists.Truths.{clash}
 use Rattle.vk_order.specs.PointViews.{point_of}
-use Rattle.vk_order.specs.declared.access.Access.TheVariants as access
 use Rattle.vk_order.proofs.PlaceLemmas.{apart_from}
 use Rattle.vk_history.specs.PointViews.{past}
-use Rattle.vk_history.specs.Conflicts.{FoundIn, MissesWrite, HasEarlyCommand}
+use Rattle.vk_history.specs.Conflicts.{FoundIn, FoundAt, MissesWrite, HasEarlyCommand}
 use Rattle.vk_history.specs.Touched.{next_node, act_next}
 use Rattle.vk_history.proofs.Kept.NextPoint.{host_there, set_fits}
 use Rattle.vk_validate.proofs.Judging.Conflicts.{early_live, early_range, set_conflicts}
@@ -26,9 +25,9 @@ returns-in_ok-sight-in-Some c =
     let fits = set_fits earlier p c.is_judged.ensures.faultless (early_live earlier p c.requires.early) (early_range earlier p c.requires.early) c.args.buffer c.args.offset bytes is in
     let sights = c.in_ok-sight-in-Some.ensures (apart_from (nodes earlier) (next_node earlier p (act_next p.action)) (ap (λ (d : Action). is_element (act_next d)) is)) in
     let s = c.in_ok-sight-in-Some.sight in
-    set_conflicts earlier c.is_judged.ensures p c.args.buffer c.args.offset bytes is c.host_seen.ensures c.prefixes.ensures.line c.in-Some.contents.now c.in-Some.ensures fits s sights c.has_early_command.result c.has_missed_write.result
+    set_conflicts earlier c.is_judged.ensures p c.args.buffer c.args.offset bytes is c.host_seen.ensures c.prefixes.ensures.line c.in-Some.contents.now c.in-Some.ensures fits s sights c.access-by.result c.access-by.ensures c.has_early_command.result c.has_missed_write.result
     (subst (λ (n : ℕ). c.args.offset + n ≤ length touches → FoundIn (HasEarlyCommand s) c.has_early_command.result touches c.args.offset (c.args.offset + n)) size_is c.has_early_command.ensures)
-    (subst (λ (n : ℕ). c.args.offset + n ≤ length touches → FoundIn (MissesWrite s access.Write) c.has_missed_write.result touches c.args.offset (c.args.offset + n)) size_is c.has_missed_write.ensures)
+    (subst (λ (n : ℕ). c.args.offset + n ≤ length touches → FoundAt (MissesWrite c.access-by.result) c.has_missed_write.result touches c.args.offset (c.args.offset + n)) size_is c.has_missed_write.ensures)
 
 pub returns-in-None : goal.returns-in-None
 returns-in-None c =

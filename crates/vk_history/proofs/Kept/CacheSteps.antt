@@ -1,0 +1,182 @@
+-- What is kept of the bytes of buffers after a flush and after an invalidation.
+use Rattle.std.proofs.Common.{◌≡◌, ◌≢◌, ◌<◌, ℕ, List, [], ◌∷◌, Bool, true, false, not, ◌&&◌, ◌==◌, refl, ap, sym, ◌∙◌, subst, arith, Option, Some, None}
+use Rattle.std.specs.Prelude.{is_some, is_none, if◌then◌else◌}
+use Rattle.std.specs.Option.{option_map}
+use Rattle.std.specs.Ordering.{nat_cmp}
+use Rattle.std.specs.BTreeMap.{get}
+use Rattle.std.proofs.lemmas.Bool.{eq-eqb}
+use Rattle.vk_model.specs.declared.command.Length.{Length}
+use Rattle.vk_model.specs.declared.entry.Entry.TheVariants as entry
+use Rattle.vk_model.specs.Basics.{holds}
+use Rattle.vk_model.specs.World.Bytes.{Byte, in_buffer}
+use Rattle.vk_model.specs.World.ByteWrites.{buffer_size}
+use Rattle.vk_model.specs.World.Effect.{world, after_action, flushed, invalidated, in_atoms, reaches}
+use Rattle.vk_model.specs.Trace.Objects.{buffer, is_cached}
+use Rattle.vk_model.specs.Trace.Point.{Past, Point, Action, Host}
+use Rattle.vk_model.specs.Sync.Node.{Node, Act, nodes, acts, with_acts}
+use Rattle.vk_model.specs.Sync.Edge.{is_element, is_host}
+use Rattle.vk_model.specs.Sync.Seen as seen
+use Rattle.vk_model.proofs.Lists.Members.{contains-head}
+use Rattle.vk_order.specs.Cached.{uncached}
+use Rattle.vk_order.specs.Frontiers.{IsFrontier, IsSight}
+use Rattle.vk_order.specs.Lines.{class_of, class_on, line_on}
+use Rattle.vk_order.specs.SeenWrites as order
+use Rattle.vk_order.specs.Wide.{is_answered}
+use Rattle.vk_order.specs.Inner.Clocks.{place}
+use Rattle.vk_order.specs.declared.access.Access.{Access}
+use Rattle.vk_order.specs.declared.access.Access.TheVariants as access
+use Rattle.vk_history.specs.declared.accesses.BufferAccess.{BufferAccess}
+use Rattle.vk_history.specs.declared.contents.BufferContents.{BufferContents}
+use Rattle.vk_history.specs.declared.contents.Contents.{Contents}
+use Rattle.vk_history.specs.declared.touches.Touch.TheVariants as touch
+use Rattle.vk_history.specs.Judged.{IsJudged}
+use Rattle.vk_history.specs.Conflicts.{SaysSeen, SeesWrite}
+use Rattle.vk_history.specs.Touched.{touched, next_spot, next_node, act_next, last_touch, spot_of}
+use Rattle.vk_history.specs.Contents.{AreContents, AreContentsOf, BecomesIn, IsFlushed, IsInvalidated, holder_of, is_defined, is_dirty, is_on, sees_at, as_before, assigns, flushing, invalidating}
+use Rattle.vk_history.proofs.Making.Worlds.{turned_about}
+use Rattle.vk_history.proofs.Touching.Flushing.{writer_is}
+use Rattle.vk_history.proofs.Touching.Remembering.{touched_by_flush, touched_by_invalidation}
+use Rattle.vk_history.proofs.Kept.NextPoint.{there_on_host}
+use Rattle.vk_history.proofs.Kept.ContentSteps.{one_changed, next_of}
+
+-- ---- which bytes are reached
+
+module _ (b o : ℕ) (n : Length) where
+  in_own : (k : ℕ) → reaches b o n (in_buffer b k) ≡ in_atoms o n k
+  in_own k = rw (eq-eqb b b refl) refl
+
+  in_other : (c k : ℕ) → (c == b) ≡ false → reaches b o n (in_buffer c k) ≡ false
+  in_other c k e = rw (turned_about b c, e) refl
+
+if_both : (t u d : Bool) → (if t then (if u then false else d) else d) ≡ (if t && u then false else d)
+if_both true u d = refl
+if_both false u d = refl
+
+-- ---- a flush
+
+module _ (past : Past) (p : Point) (j : IsJudged (p ∷ past)) (b o : ℕ) (n : Length) (is : p.action ≡ Host (entry.Flush b o n)) where
+  flush_made : (c : ℕ) → buffer (p ∷ past) c ≡ buffer past c
+  flush_made c = rw is refl
+
+  flush_owned : (c : ℕ) → (world (p ∷ past)).owner c ≡ (world past).owner c
+  flush_owned c = ap (λ (e : Action). (after_action past p.queue e (world past)).owner c) is ∙ go (is_cached past b) where
+    go : (t : Bool) → (if t then flushed (reaches b o n) (world past) else world past).owner c ≡ (world past).owner c
+    go true = refl
+    go false = refl
+
+  flush_valued : (c k : ℕ) → is_defined (p ∷ past) c k ≡ is_defined past c k
+  flush_valued c k = ap (λ (e : Action). not (is_none ((after_action past p.queue e (world past)).value (in_buffer c k)))) is ∙ go (is_cached past b) where
+    go : (t : Bool) → not (is_none ((if t then flushed (reaches b o n) (world past) else world past).value (in_buffer c k))) ≡ is_defined past c k
+    go true = refl
+    go false = refl
+
+  flush_dirty : (c k : ℕ) (t : Bool) → reaches b o n (in_buffer c k) ≡ t → is_dirty (p ∷ past) c k ≡ (if is_cached past b && t then false else is_dirty past c k)
+  flush_dirty c k t e = ap (λ (e : Action). (after_action past p.queue e (world past)).dirty (in_buffer c k)) is ∙ go (is_cached past b) where
+    go : (u : Bool) → (if u then flushed (reaches b o n) (world past) else world past).dirty (in_buffer c k) ≡ (if u && t then false else is_dirty past c k)
+    go true = ap (λ (t : Bool). if t then false else is_dirty past c k) e
+    go false = refl
+
+  never : (t : Bool) → (t && false) ≡ false
+  never true = refl
+  never false = refl
+
+  pub flush_change : (old new : Contents) → BecomesIn (λ u v. IsFlushed u v o n (next_spot past p)) (get nat_cmp old.buffers b) (get nat_cmp new.buffers b)
+      → ((other : ℕ) → other ≢ b → get nat_cmp new.buffers other ≡ get nat_cmp old.buffers other) → AreContents old past → AreContents new (p ∷ past)
+  flush_change old new here others = one_changed past p j b (there_on_host past p j (entry.Flush b o n) is b (contains-head _ [])) (λ u v. IsFlushed u v o n (next_spot past p)) old new here others
+      (λ u v a h. next_of past p j b u v u.owner as_before (assigns (λ k. u.is_cached && in_atoms o n k) false) (flushing (in_atoms o n) (next_spot past p)) a h (a.owner ∙ sym (ap holder_of (flush_owned b))) (λ k lt. sym (flush_valued b k))
+      (λ k lt. ap (λ (t : Bool). if t && in_atoms o n k then false else is_dirty past b k) a.cache ∙ sym (flush_dirty b k (in_atoms o n k) (in_own b o n k)))
+      (λ k lt. sym (touched_by_flush past p (in_buffer b k) b o n is (in_atoms o n k) (in_own b o n k))))
+      (λ c e. record {
+        unmade = λ none. ap is_some (flush_made c) ∙ none;
+        owner = flush_owned c;
+        defined = flush_valued c;
+        dirty = λ k. flush_dirty c k false (in_other b o n c k e) ∙ ap (λ (t : Bool). if t then false else is_dirty past c k) (never (is_cached past b));
+        touches = λ k. touched_by_flush past p (in_buffer c k) b o n is false (in_other b o n c k e);
+      })
+
+-- ---- an invalidation
+
+module _ (past : Past) (p : Point) (j : IsJudged (p ∷ past)) (b o : ℕ) (n : Length) (is : p.action ≡ Host (entry.Invalidate b o n)) where
+  invalidation_made : (c : ℕ) → buffer (p ∷ past) c ≡ buffer past c
+  invalidation_made c = rw is refl
+
+  invalidation_owned : (c : ℕ) → (world (p ∷ past)).owner c ≡ (world past).owner c
+  invalidation_owned c = ap (λ (e : Action). (after_action past p.queue e (world past)).owner c) is ∙ go (is_cached past b) where
+    go : (t : Bool) → (if t then invalidated (reaches b o n) (world past) else world past).owner c ≡ (world past).owner c
+    go true = refl
+    go false = refl
+
+  invalidation_valued : (c k : ℕ) (t : Bool) → reaches b o n (in_buffer c k) ≡ t → is_defined (p ∷ past) c k ≡ (if is_cached past b && t && is_dirty past c k then false else is_defined past c k)
+  invalidation_valued c k t e = ap (λ (e : Action). not (is_none ((after_action past p.queue e (world past)).value (in_buffer c k)))) is ∙ go (is_cached past b) where
+    lost : (u : Bool) → not (is_none (let v : Option ℕ = if u then None else (world past).value (in_buffer c k) in v)) ≡ (if u then false else is_defined past c k)
+    lost true = refl
+    lost false = refl
+
+    go : (u : Bool) → not (is_none ((if u then invalidated (reaches b o n) (world past) else world past).value (in_buffer c k))) ≡ (if u && t && is_dirty past c k then false else is_defined past c k)
+    go true = lost (reaches b o n (in_buffer c k) && is_dirty past c k) ∙ ap (λ (t : Bool). if t && is_dirty past c k then false else is_defined past c k) e
+    go false = refl
+
+  invalidation_dirty : (c k : ℕ) (t : Bool) → reaches b o n (in_buffer c k) ≡ t → is_dirty (p ∷ past) c k ≡ (if is_cached past b && t then false else is_dirty past c k)
+  invalidation_dirty c k t e = ap (λ (e : Action). (after_action past p.queue e (world past)).dirty (in_buffer c k)) is ∙ go (is_cached past b) where
+    go : (u : Bool) → (if u then invalidated (reaches b o n) (world past) else world past).dirty (in_buffer c k) ≡ (if u && t then false else is_dirty past c k)
+    go true = ap (λ (t : Bool). if t then false else is_dirty past c k) e
+    go false = refl
+
+  none_lost : (t d : Bool) → (t && false && d) ≡ false
+  none_lost true d = refl
+  none_lost false d = refl
+
+  none_clean : (t : Bool) → (t && false) ≡ false
+  none_clean true = refl
+  none_clean false = refl
+
+  module _ (x : BufferAccess) (of : x.buffer ≡ b) (reads : x.access ≡ access.Read) (frontier : IsFrontier x.frontier.now (nodes past)) (sight : IsSight (nodes past) (next_node past p (act_next p.action)) x.sight.now) where
+    -- what is answered of a byte is whether the invalidation sees its last write
+    answer_is : (k : ℕ) (answer : Bool) → SeesWrite x k answer (touched past (in_buffer b k)) → holds (last_touch touch.Write past (in_buffer b k)) (λ v. seen.seen uncached (nodes (p ∷ past)) v (next_node past p (act_next p.action)) seen.Read (in_buffer b k)) ≡ answer
+    answer_is k answer h = go (last_touch touch.Write past byte) refl where
+      byte : Byte
+      byte = in_buffer b k
+
+      y : Node
+      y = next_node past p (act_next p.action)
+
+      now_too : nodes (p ∷ past) ≡ y ∷ nodes past
+      now_too = ap (λ (l : List Act). with_acts p l (nodes past)) (ap acts is ∙ ap (λ (d : Action). act_next d ∷ []) (sym is))
+
+      asked : is_answered uncached y.act seen.Read byte ≡ true
+      asked = ap (λ (d : Action). is_answered uncached (act_next d) seen.Read byte) is
+
+      seen_is : (v : Node) → last_touch touch.Write past byte ≡ Some v → answer ≡ seen.seen uncached (y ∷ nodes past) v y seen.Read byte
+      seen_is v e =
+          let w = writer_is past byte v e in
+          let says : SaysSeen x k answer (spot_of past v) = h.some (spot_of past v) (ap (option_map (spot_of past)) e) in
+          let here : order.SaysSeen x.frontier.now x.sight.now (record { line = class_of v; place = place (nodes past) (class_of v) v.number }) v.number access.Read byte answer =
+          subst (λ (a : Access). order.SaysSeen x.frontier.now x.sight.now (record { line = class_of v; place = place (nodes past) (class_of v) v.number }) v.number a byte answer) reads
+          (subst (λ (c : ℕ). order.SaysSeen x.frontier.now x.sight.now (record { line = class_of v; place = place (nodes past) (class_of v) v.number }) v.number x.access (in_buffer c k) answer) of says) in
+          here (nodes past) y v uncached frontier sight
+          (record { there = w.there; uncached = rw (ap is_host w.runs) refl; limited = rw (ap is_element w.runs) refl })
+          (ap (line_on v.point.queue) w.runs ∙ ap Some (sym (ap (class_on v.point.queue) w.runs))) refl (omega arith) asked
+
+      go : (o : Option Node) → last_touch touch.Write past byte ≡ o → holds o (λ v. seen.seen uncached (nodes (p ∷ past)) v y seen.Read byte) ≡ answer
+      go None e = sym (h.none (ap (option_map (spot_of past)) e))
+      go (Some v) e = ap (λ ns. seen.seen uncached ns v y seen.Read byte) now_too ∙ sym (seen_is v e)
+
+    dirty_is : (u : BufferContents) → AreContentsOf u past b → (k : ℕ) → k < buffer_size past b → is_on u.dirty k ≡ is_dirty past b k
+    dirty_is u a k lt = ap (λ (o : Option Bool). holds o (λ d. d)) (a.dirty k lt)
+
+    pub invalidation_change : (old new : Contents) → BecomesIn (λ u v. IsInvalidated (SeesWrite x) u v o n) (get nat_cmp old.buffers x.buffer) (get nat_cmp new.buffers x.buffer)
+        → ((other : ℕ) → other ≢ x.buffer → get nat_cmp new.buffers other ≡ get nat_cmp old.buffers other) → AreContents old past → AreContents new (p ∷ past)
+    invalidation_change old new here others = one_changed past p j b (there_on_host past p j (entry.Invalidate b o n) is b (contains-head _ [])) (λ u v. IsInvalidated (SeesWrite x) u v o n) old new
+        (subst (λ (c : ℕ). BecomesIn (λ u v. IsInvalidated (SeesWrite x) u v o n) (get nat_cmp old.buffers c) (get nat_cmp new.buffers c)) of here)
+        (subst (λ (c : ℕ). (other : ℕ) → other ≢ c → get nat_cmp new.buffers other ≡ get nat_cmp old.buffers other) of others)
+        (λ u v a h. next_of past p j b u v u.owner (assigns (λ k. u.is_cached && in_atoms o n k && is_on u.dirty k) false) (assigns (λ k. u.is_cached && in_atoms o n k) false) (invalidating (in_atoms o n) (sees_at v.touches)) a h.changed (a.owner ∙ sym (ap holder_of (invalidation_owned b)))
+        (λ k lt. ap (λ (d : Bool). if u.is_cached && in_atoms o n k && d then false else is_defined past b k) (dirty_is u a k lt) ∙ ap (λ (t : Bool). if t && in_atoms o n k && is_dirty past b k then false else is_defined past b k) a.cache ∙ sym (invalidation_valued b k (in_atoms o n k) (in_own b o n k)))
+        (λ k lt. ap (λ (t : Bool). if t && in_atoms o n k then false else is_dirty past b k) a.cache ∙ sym (invalidation_dirty b k (in_atoms o n k) (in_own b o n k)))
+        (λ k lt. sym (touched_by_invalidation past p (in_buffer b k) b o n is (in_atoms o n k) (sees_at v.touches k) (in_own b o n k) (λ reached. answer_is k (sees_at v.touches k) (h.answers k (touched past (in_buffer b k)) reached (a.touches k lt))))))
+        (λ c e. record {
+          unmade = λ none. ap is_some (invalidation_made c) ∙ none;
+          owner = invalidation_owned c;
+          defined = λ k. invalidation_valued c k false (in_other b o n c k e) ∙ ap (λ (t : Bool). if t then false else is_defined past c k) (none_lost (is_cached past b) (is_dirty past c k));
+          dirty = λ k. invalidation_dirty c k false (in_other b o n c k e) ∙ ap (λ (t : Bool). if t then false else is_dirty past c k) (none_clean (is_cached past b));
+          touches = λ k. touched_by_invalidation past p (in_buffer c k) b o n is false false (in_other b o n c k e) (λ bad. absurd cc);
+        })
