@@ -1,19 +1,18 @@
 -- What the rules promise of the points of a clean past.
-use Rattle.std.proofs.Common.{◌≡◌, ◌≢◌, ℕ, suc, length, ◌++◌, subst, ◌+◌, ◌-◌, ◌*◌, ◌/◌, ◌%◌, ◌<◌, ◌≤◌, List, [], ◌∷◌, Bool, true, false, not, ◌||◌, ◌==◌, nat_lt, nat_le, refl, ap, sym, ◌∙◌, arith, Option, Some, None}
+use Rattle.std.proofs.Common.{◌≡◌, ◌≢◌, ℕ, length, ◌++◌, subst, ◌+◌, ◌-◌, ◌*◌, ◌/◌, ◌%◌, ◌<◌, ◌≤◌, List, [], ◌∷◌, Bool, true, false, not, ◌||◌, ◌==◌, nat_lt, nat_le, refl, ap, sym, ◌∙◌, arith, Option, Some, None}
 use Rattle.std.specs.Prelude.{IsTrue, Contains, All, is_some, map, option_and_then}
-use Rattle.std.specs.List.{list_all, list_any, cons_option}
+use Rattle.std.specs.List.{list_all, list_any}
 use Rattle.vk_model.specs.Trace.Order.{Front, after_entry, order_from, host}
 use Rattle.vk_model.proofs.Trace.Growing.{entry_grows, order_grows}
 use Rattle.std.proofs.lemmas.Bool.{ltb-false, leb-false, eqb-false, eqb-true, false_from_ne_true, or_parts, and_parts}
 use Rattle.vk_model.specs.declared.rule.Rule.{Rule}
 use Rattle.vk_model.specs.declared.rule.Rule.TheVariants as rule
-use Rattle.vk_model.specs.Trace.Point.{Past, Point, Action, Host, Wait, Run, Signal, host_of, entries}
+use Rattle.vk_model.specs.Trace.Point.{Past, Point, Action, Host, Wait, Run, Signal, host_of}
 use Rattle.vk_model.specs.Rules.Table.{breaks}
 use Rattle.vk_model.specs.Rules.Fault.{newest, older}
 use Rattle.vk_model.specs.Rules.Ids.{breaks_new_id}
 use Rattle.vk_model.specs.Rules.Sizes.{breaks_size, bad_entry_size, bad_command_size, fills_none, breaks_memory_size, bad_memory_size}
-use Rattle.vk_model.specs.Rules.Ranges.{breaks_range, host_past, command_past, area_past, fills_from_end, breaks_align, misaligned, off_4_length}
-use Rattle.vk_model.specs.Rules.Traces.{breaks_limit}
+use Rattle.vk_model.specs.Rules.Ranges.{breaks_range, ends_past, host_past, command_past, area_past, fills_from_end, breaks_align, misaligned, off_4_length}
 use Rattle.vk_model.specs.World.ByteWrites.{buffer_size, fill_size}
 use Rattle.vk_model.specs.declared.command.Length.{Length}
 use Rattle.vk_model.specs.declared.command.Length.TheVariants as length_of
@@ -24,15 +23,15 @@ use Rattle.vk_model.specs.declared.entry.Entry.TheVariants as entry
 use Rattle.vk_model.specs.declared.resource.BufferInfo.{BufferInfo}
 use Rattle.vk_model.specs.declared.resource.Place.{Place}
 use Rattle.vk_model.specs.declared.resource.Place.TheVariants as place
-use Rattle.vk_history.specs.Supported.{is_supported, is_supported_action, is_supported_place, is_memory}
+use Rattle.vk_history.specs.Supported.{is_supported, is_supported_action, is_supported_place, is_supported_element}
 use Rattle.vk_device.specs.Inner.Clean.{IsClean}
 use Rattle.vk_device.specs.Inner.Fits.{FitsAction, AllFit}
-use Rattle.vk_resources.specs.Fits.{FitsFill, AllMemory, FitsCommand, IsUnused, FitsPlace, FitsRange, FitsEntry}
+use Rattle.vk_resources.specs.Fits.{FitsFill, NoImages, FitsCommand, IsUnused, FitsPlace, FitsRange, FitsLength, FitsEntry}
 use Rattle.vk_transfer.specs.Copies.{FitsBuffers}
 use Rattle.vk_model.specs.Basics.{holds}
 use Rattle.vk_model.specs.Rules.Ids.{is_buffer, is_memory as makes_memory, is_resource, asked_by_entry, breaks_live_id}
 use Rattle.vk_model.specs.Rules.Hazards.{ends_used, breaks_in_use}
-use Rattle.vk_model.specs.Rules.Binding.{on_bound, ends_past_memory, is_aliased, breaks_bind_range, breaks_aliased}
+use Rattle.vk_model.specs.Rules.Binding.{on_bound, ends_past_memory, is_aliased, is_misplaced, breaks_bind_range, breaks_aliased, breaks_bind_align}
 use Rattle.vk_model.specs.Rules.Fault.{Comes}
 use Rattle.vk_model.specs.World.Areas.{Area, Bytes, areas_read, areas_written}
 use Rattle.vk_model.specs.declared.command.BufferCopy.{BufferCopy}
@@ -47,14 +46,14 @@ use Rattle.vk_laws.proofs.Living.Alive.{is_alive, Ending, ending, host_names_liv
 use Rattle.vk_laws.proofs.Living.Ends.{Ended, idle, other, when_ended}
 use Rattle.std.proofs.Math.Nat.{div-add-mod, div-mul-le_self, mul-div_cancel, mod-lt}
 use Rattle.vk_model.specs.declared.command.Cmd.{Cmd}
-use Rattle.vk_model.specs.Trace.Objects.{made, made_by, ended, live, buffer, buffer_in}
+use Rattle.vk_model.specs.Trace.Objects.{made, made_by, ended, live, buffer, buffer_in, bound_at, of_buffer}
 use Rattle.vk_model.specs.declared.entry.Entry.{Entry}
 
 -- a point breaks no rule
-abbrev BreaksNone : Past → Point → Type 0
+abbrev pub BreaksNone : Past → Point → Type 0
 BreaksNone past p = (r : Rule) → breaks r past p ≡ false
 
-breaks_none : (past : Past) (p : Point) → IsClean (p ∷ past) → BreaksNone past p
+pub breaks_none : (past : Past) (p : Point) → IsClean (p ∷ past) → BreaksNone past p
 breaks_none past p clean r = false_from_ne_true (breaks r past p) (clean.sound past p r newest)
 
 -- ---- what the supported forms get of it
@@ -147,11 +146,26 @@ module _ (past : Past) (p : Point) (none : BreaksNone past p) where
       let unbroken : breaks_aliased past p ≡ false = none rule.Aliased in
       rw is at unbroken
 
+  bound_aligned : (x : Entry) → p.action ≡ Host x → on_bound (is_misplaced past) x ≡ false
+  unfolding breaks
+  bound_aligned x is =
+      let unbroken : breaks_bind_align past p ≡ false = none rule.BindAlign in
+      rw is at unbroken
+
 -- a range within the buffer of an id that is live
 live_range : (past : Past) (b o n : ℕ) → IsTrue (holds (live past b) is_buffer) → o + n ≤ buffer_size past b → FitsRange (option_and_then buffer_in (live past b)) o n
 live_range past b o n alive range = let a = is_alive past b is_buffer alive in rw (a.unended, a.made_it) (go a.object a.is_kind (rw (buffer_size, a.made_it) at range))
   where
     go : (y : Entry) → IsTrue (is_buffer y) → o + n ≤ elim (buffer_in y) [ None ↦ 0 | Some i ↦ i.size ] → FitsRange (buffer_in y) o n
+    go (entry.Buffer i info) h range = range
+    go _ h range = absurd cc
+
+-- and one that may go to the end
+live_length : (past : Past) (b o : ℕ) (n : Length) → IsTrue (holds (live past b) is_buffer) → ends_past (buffer_size past b) o n ≡ false → FitsLength (option_and_then buffer_in (live past b)) o n
+live_length past b o (length_of.Bytes n) alive range = live_range past b o n alive (not_above (buffer_size past b) (o + n) range)
+live_length past b o length_of.Whole alive range = let a = is_alive past b is_buffer alive in rw (a.unended, a.made_it) (go a.object a.is_kind (leb-false (elim (buffer_in a.object) [ None ↦ 0 | Some i ↦ i.size ]) o (rw (buffer_size, a.made_it) at range)))
+  where
+    go : (y : Entry) → IsTrue (is_buffer y) → o < elim (buffer_in y) [ None ↦ 0 | Some i ↦ i.size ] → FitsLength (buffer_in y) o length_of.Whole
     go (entry.Buffer i info) h range = range
     go _ h range = absurd cc
 
@@ -194,6 +208,12 @@ read_point past p b o n is none =
 write_point : (past : Past) (p : Point) (b o : ℕ) (bytes : List ℕ) → p.action ≡ Host (entry.Write b o bytes) → BreaksNone past p → FitsEntry past (entry.Write b o bytes)
 write_point past p b o bytes is none =
     live_range past b o (length bytes) (names_live past p none (entry.Write b o bytes) b is_buffer is (contains-head (b, is_buffer) [])) (not_above (buffer_size past b) (o + length bytes) (entry_range past p none (entry.Write b o bytes) is))
+
+flush_point : (past : Past) (p : Point) (b o : ℕ) (n : Length) → p.action ≡ Host (entry.Flush b o n) → BreaksNone past p → FitsEntry past (entry.Flush b o n)
+flush_point past p b o n is none = live_length past b o n (names_live past p none (entry.Flush b o n) b is_buffer is (contains-head (b, is_buffer) [])) (entry_range past p none (entry.Flush b o n) is)
+
+invalidate_point : (past : Past) (p : Point) (b o : ℕ) (n : Length) → p.action ≡ Host (entry.Invalidate b o n) → BreaksNone past p → FitsEntry past (entry.Invalidate b o n)
+invalidate_point past p b o n is none = live_length past b o n (names_live past p none (entry.Invalidate b o n) b is_buffer is (contains-head (b, is_buffer) [])) (entry_range past p none (entry.Invalidate b o n) is)
 
 -- ---- what ends
 
@@ -247,11 +267,11 @@ fill_point past p b o n w is none =
 
 -- ---- the other forms
 
-all_memory : (es : List Element) → list_all is_memory es ≡ true → AllMemory es
-all_memory [] e = tt
-all_memory (element.Memory d ∷ es) e = all_memory es e
-all_memory (element.Buffer b ∷ es) e = absurd cc
-all_memory (element.Image b ∷ es) e = absurd cc
+no_images : (es : List Element) → list_all is_supported_element es ≡ true → NoImages es
+no_images [] e = tt
+no_images (element.Memory d ∷ es) e = no_images es (and_parts (is_supported_element (element.Memory d)) (list_all is_supported_element es) e).1
+no_images (element.Buffer b ∷ es) e = no_images es (and_parts (is_supported_element (element.Buffer b)) (list_all is_supported_element es) e).1
+no_images (element.Image b ∷ es) e = absurd cc
 
 -- a place that breaks no rule on binding
 place_fits : (past : Past) (p : Point) (i : ℕ) (b : BufferInfo) → p.action ≡ Host (entry.Buffer i b) → BreaksNone past p → (q : Place) → b.place ≡ q → is_supported_place q ≡ true → FitsPlace past b q
@@ -260,6 +280,7 @@ place_fits past p i b is none (place.Memory m o) at supported = (
   names_live past p none (entry.Buffer i b) m makes_memory is (rw at (contains-head (m, makes_memory) [])),
   rw at at (bound_within past p none (entry.Buffer i b) is),
   rw at at (bound_apart past p none (entry.Buffer i b) is),
+  subst (λ (q : Place). holds (bound_at q) (λ s. is_misplaced past (of_buffer b) s.0 s.1) ≡ false) at (bound_aligned past p none (entry.Buffer i b) is),
 )
 place_fits past p i b is none (place.Pool q) at supported = absurd cc
 place_fits past p i b is none (place.PoolUpper q) at supported = absurd cc
@@ -295,8 +316,8 @@ fits_entry past p (entry.Submit q bs) is supported fresh none = tt
 fits_entry past p (entry.Pool i x) is supported fresh none = absurd cc
 fits_entry past p (entry.Image i x) is supported fresh none = absurd cc
 fits_entry past p (entry.DropPool q) is supported fresh none = absurd cc
-fits_entry past p (entry.Flush b o n) is supported fresh none = absurd cc
-fits_entry past p (entry.Invalidate b o n) is supported fresh none = absurd cc
+fits_entry past p (entry.Flush b o n) is supported fresh none = flush_point past p b o n is none
+fits_entry past p (entry.Invalidate b o n) is supported fresh none = invalidate_point past p b o n is none
 fits_entry past p (entry.Defrag i q n m) is supported fresh none = absurd cc
 fits_entry past p (entry.Pass d) is supported fresh none = absurd cc
 fits_entry past p (entry.EndPass d kept lost) is supported fresh none = absurd cc
@@ -332,7 +353,7 @@ fits_command : (past : Past) (p : Point) (c : Cmd) → p.action ≡ Run c → is
 fits_command past p (cmd.Fill b o n w) is supported none = fill_point past p b o n w is none
 fits_command past p (cmd.Update b o bytes) is supported none = update_point past p b o bytes is none
 fits_command past p (cmd.Copy s d gs) is supported none = copy_point past p s d gs is none
-fits_command past p (cmd.Barrier es) is supported none = all_memory es supported
+fits_command past p (cmd.Barrier es) is supported none = no_images es supported
 fits_command past p (cmd.Clear i l color rs) is supported none = absurd cc
 fits_command past p (cmd.CopyIn b i l gs) is supported none = absurd cc
 fits_command past p (cmd.CopyOut i l b gs) is supported none = absurd cc
@@ -372,27 +393,6 @@ clean_entry e x f clean = let g = entry_grows e x f in clean_newer g.newer (host
 
 pub clean_order : (e : ℕ) (f : Front) (xs : List Entry) → IsClean (order_from e f xs).past → IsClean f.past
 clean_order e f xs clean = let g = order_grows e f xs in clean_newer g.0 f.past (subst IsClean g.1 clean)
-
--- ---- the limit on points
-
-entry_count : (past : Past) → length (entries past) ≤ length past
-entry_count [] = omega arith
-entry_count (p ∷ past) = go p.action (entry_count past)
-  where
-    go : (a : Action) → length (entries past) ≤ length past → length (cons_option (host_of a) (entries past)) ≤ suc (length past)
-    go (Host x) le = omega arith
-    go (Wait w) le = omega arith
-    go (Run c) le = omega arith
-    go (Signal w) le = omega arith
-
--- the number of an entry that breaks no rule is below the limit
-pub below_limit : (e : ℕ) (x : Entry) (f : Front) → IsClean (after_entry e x f).past → length (entries f.past) < 131072
-unfolding breaks
-below_limit e x f clean =
-    let unbroken : breaks_limit f.past (host e x) ≡ false = breaks_none f.past (host e x) (clean_entry e x f clean) rule.Limit in
-    let some : length f.past < 131072 = leb-false 131072 (length f.past) unbroken in
-    let most = entry_count f.past in
-    omega arith
 
 -- an object that was made stays when a point comes
 pub made_next : (past : Past) (p : Point) → IsClean (p ∷ past) → (i : ℕ) (x : Entry) → made past i ≡ Some x → made (p ∷ past) i ≡ Some x

@@ -31,14 +31,14 @@ use Rattle.vk_queues.specs.IsWaiting.{IsWaiting}
 use Rattle.vk_offers.specs.IsOffers.{ComesNext, IsOffers, commands_in, is_run}
 use Rattle.vk_offers.specs.Laws.{OrderComesNext}
 use Rattle.vk_resources.specs.Fits.{FitsCommand, FitsFill, NamesLive}
-use Rattle.vk_resources.specs.Held.{Held, placed_in, object_in}
+use Rattle.vk_resources.specs.Held.{Held, placed_in, object_in, IsThere, IsWithin}
 use Rattle.vk_resources.specs.declared.resources.Placed.{Placed}
 use Rattle.vk_resources.specs.Matches.{MatchesLive}
 use Rattle.vk_resources.proofs.Matching.{matches_same}
 use Rattle.vk_transfer.specs.Copies.{FitsBuffers}
 use Rattle.vk_model.specs.Laws.{GrowthKeeps}
 use Rattle.vk_model.specs.Run.Pieces.{cut, pieces}
-use Rattle.vk_model.specs.World.Bytes.{in_buffer}
+use Rattle.vk_model.specs.World.Bytes.{Byte, in_buffer, in_image}
 use Rattle.vk_model.specs.World.ByteWrites.{Value, byte_write, fill_size}
 use Rattle.vk_model.specs.Sync.Node.{Node, Act, Runs, acts, with_acts, nodes}
 use Rattle.vk_model.proofs.Lists.Members.{contains-head}
@@ -54,7 +54,8 @@ use Rattle.vk_device.specs.Inner.Clean.{IsClean}
 use Rattle.vk_device.specs.Inner.Fits.{FitsAction, AllFit}
 use Rattle.vk_device.specs.Inner.Ready.{HostDone, CommandFits}
 use Rattle.vk_device.specs.Led.{Led, AreWorks, IsSoundTrace}
-use Rattle.vk_device.proofs.Clean.{fits_clean, below_limit, clean_newer}
+use Rattle.vk_device.proofs.Clean.{fits_clean, clean_newer}
+use Rattle.vk_device.proofs.Limits.{below_limit}
 
 -- ---- points one after another
 
@@ -186,11 +187,11 @@ applied_parts s (entry.EndPass d kept lost) xs none = refl
 applied_parts s _ xs none = none
 
 pub coming : (t : List Entry) (steps : List Step) (s : Stage) (x : Entry) (xs : List Entry) (d : Device) → OrderIsOrdered → OrderHasEntries → NoFaultIsSound → DirectRunsAreRuns → DefinedRunsStand → CommandsNameLive
-    → HostDone t steps s x xs d → IsComing t s.count x s.front d.resources
-coming t steps s x xs d ordered has sound runs stand names h =
+    → {atoms : List ℕ} → HostDone t steps s x xs atoms d → IsComing t s.count x s.front d.resources
+coming t steps s x xs d ordered has sound runs stand names {atoms = atoms} h =
     let e : Stage = applied s 0 x xs in
     let empty : Front = record { past = []; waiting = [] } in
-    let stands = stand t (steps ++ Apply [] 0 ∷ []) e (runs t _ e _ h.run) in
+    let stands = stand t (steps ++ Apply atoms 0 ∷ []) e (runs t _ e _ h.run) in
     let rest = order_grows (0 + length stands.gone) (order_from 0 empty stands.gone) e.left in
     let clean = clean_trace t sound h.sound in
     let whole : order t ≡ rest.0 ++ (after_entry s.count x s.front).past =
@@ -216,7 +217,7 @@ coming t steps s x xs d ordered has sound runs stand names h =
           let there : Contains (nodes e.front.past) n = subst (λ (f : Front). Contains (nodes f.past) n) (sym fronts) at in
           let pieced : 0 < length (pieces e.front.past c) = subst (λ (f : Front). 0 < length (pieces f.past c)) (sym fronts) some in
           subst (λ (f : Front). IsTrue (holds (live f.past i) kind)) fronts
-          (names t (steps ++ Apply [] 0 ∷ []) e n c 0 i kind (runs t _ e _ h.run) h.sound.faultless there act pieced unrun asked);
+          (names t (steps ++ Apply atoms 0 ∷ []) e n c 0 i kind (runs t _ e _ h.run) h.sound.faultless there act pieced unrun asked);
     }
 
 module _ (t : List Entry) (e : ℕ) (x : Entry) (f : Front) (r : Held) (h : IsComing t e x f r) (points : List AnyPoint) (are : past_after f.past points ≡ (after_entry e x f).past) where
@@ -303,11 +304,11 @@ works_same works past p other are = are ∙ ap (λ (ns : List Node). map (λ n. 
 pub arrived : (d : Device) (s : Stage) (x : Entry) (points : List AnyPoint) → d.count ≡ s.count → past_after s.front.past points ≡ (after_entry d.count x s.front).past → past_after s.front.past points ≡ (after_entry s.count x s.front).past
 arrived d s x points counts are = are ∙ ap (λ (n : ℕ). (after_entry n x s.front).past) counts
 
-pub advanced : (t : List Entry) (steps : List Step) (s : Stage) (x : Entry) (xs : List Entry) (d new : Device) (w : Waiting) (points : List AnyPoint) (i : ℕ) → HostDone t steps s x xs d → new.resources ≡ d.resources
+pub advanced : (t : List Entry) (steps : List Step) (s : Stage) (x : Entry) (xs : List Entry) (d new : Device) (w : Waiting) (points : List AnyPoint) (i : ℕ) (atoms : List ℕ) → HostDone t steps s x xs atoms d → new.resources ≡ d.resources
     → new.count ≡ d.count + 1 → new.waiting ≡ w → IsWaiting w (d.count + 1) (after_entry d.count x s.front) → past_after s.front.past points ≡ (after_entry d.count x s.front).past → length points ≤ i
-    → AreWorks new.works.items (past_after s.front.past (take i points)) → IsOffers new.offers (past_after s.front.past (take i points)) s.done → Led t (steps ++ Apply [] 0 ∷ []) (applied s 0 x xs) new
-advanced t steps s x xs d new w points i h same counts waiting waits are all works offers = record {
-  bytes = h.bytes;
+    → AreWorks new.works.items (past_after s.front.past (take i points)) → IsOffers new.offers (past_after s.front.past (take i points)) s.done → Led t (steps ++ Apply atoms 0 ∷ []) (applied s 0 x xs) new
+advanced t steps s x xs d new w points i atoms h same counts waiting waits are all works offers = record {
+  memory = h.memory;
   run = h.run;
   holds = rw same h.holds;
   matches = subst (λ (f : Front). MatchesLive f.past new.resources) (sym (applied_front s 0 x xs))
@@ -330,4 +331,9 @@ nothing_held r owned buffers = record {
   places = λ b p i at is. absurd cc;
   owned = λ i. ap (λ (os : List (ℕ × ℕ)). is_some (object_in os i)) owned;
   memories = λ k number x is has. absurd cc;
+  types = λ i number t is has. absurd cc;
 }
+
+pub none_there : (r : Held) → r.buffers ≡ [] → (c : Byte) → IsThere r c → ⊥
+none_there r buffers (in_buffer b k) there = subst (λ (bs : List (ℕ × Placed)). IsWithin (placed_in bs b) k) buffers there
+none_there r buffers (in_image i l a x y p) there = there

@@ -1,8 +1,11 @@
 mod Clean
+mod Limits
 mod Standing
 mod Running
 mod Picking
 mod Coming
+mod Touching
 mod Entering
+mod WholeEntries
 mod Allocating
 mod WholeTraces

@@ -1,8 +1,8 @@
 -- A piece that runs on a device.
-use Rattle.std.proofs.Common.{◌≡◌, ◌+◌, ◌≤◌, arith, length, false, inl, inr, ℕ, suc, List, [], ◌∷◌, ◌++◌, map, Bool, true, ◌==◌, eq-eqb, refl, ap, sym, ◌∙◌, subst, cond, IsTrue, Option, Some, None}
+use Rattle.std.proofs.Common.{◌≡◌, ◌+◌, ◌<◌, ◌≤◌, arith, length, false, inl, inr, ℕ, suc, List, [], ◌∷◌, ◌++◌, map, Bool, true, ◌==◌, eq-eqb, refl, ap, sym, ◌∙◌, subst, cond, IsTrue, Option, Some, None}
 use Rattle.std.proofs.lemmas.Bool.{eqb-true, not-true}
 use Rattle.std.proofs.lemmas.List.{length-map}
-use Rattle.std.proofs.lemmas.List.Elements.{All-weaker}
+use Rattle.std.proofs.lemmas.List.Elements.{All-weaker, All-contains}
 use Rattle.std.specs.Prelude.{Contains, IsSome, slice_get, option_and_then}
 use Rattle.std.specs.List.{enumerate_from}
 use Rattle.vk_model.specs.declared.command.Cmd.{Cmd}
@@ -14,7 +14,7 @@ use Rattle.vk_model.specs.declared.resource.BufferInfo.{BufferInfo}
 use Rattle.vk_model.specs.Trace.Point.{Past, Point, Action, Host, Wait, Run, Signal}
 use Rattle.vk_model.specs.Trace.Objects.{made, buffer, buffer_in}
 use Rattle.vk_model.specs.Sync.Node.{Node, Act, Runs, Depends, acts, nodes}
-use Rattle.vk_model.proofs.Lists.Members.{none_in, contains-cons, contains-head, map_has, mapped_from, flat_from, part_has, member_passes, found}
+use Rattle.vk_model.proofs.Lists.Members.{none_in, contains-cons, contains-head, map_has, mapped_from, flat_from, range_from, part_has, member_passes, found}
 use Rattle.vk_order.proofs.ElementPlaces.{with_member}
 use Rattle.vk_resources.specs.Fits.{FitsFill, FitsCommand, FitsEntry, NamesLive}
 use Rattle.vk_model.specs.World.Bytes.{Byte, in_buffer, in_image, same_byte}
@@ -36,7 +36,7 @@ use Rattle.vk_laws.specs.DefinedRuns.{OfferedArePieces, RunOf}
 use Rattle.vk_laws.specs.Lifetimes.{CommandsNameLive}
 use Rattle.vk_resources.specs.Done.{PieceReady}
 use Rattle.vk_laws.specs.TraceBytes.{value_before}
-use Rattle.vk_laws.specs.DirectRuns.{DirectRunsAreWritten, PiecesGoOn, bare_memory, byte_after, value_in}
+use Rattle.vk_laws.specs.DirectRuns.{DirectRunsAreWritten, PiecesGoOn, memory_after_piece, byte_after, value_in}
 use Rattle.vk_queues.specs.declared.waiting.Waiting.{Waiting}
 use Rattle.vk_queues.specs.IsWaiting.{IsWaiting}
 use Rattle.vk_sync.specs.declared.ready.Piece.{Piece}
@@ -47,9 +47,10 @@ use Rattle.vk_offers.proofs.Offering.{same_offers}
 use Rattle.vk_offers.proofs.Commands.{command_at}
 use Rattle.vk_transfer.specs.Ran.{given, stored, HaveRun}
 use Rattle.vk_resources.specs.declared.resources.Placed.{Placed}
-use Rattle.vk_resources.specs.Held.{Held, byte_at, placed_in, IsThere}
+use Rattle.vk_resources.specs.Held.{Held, byte_at, host_at, holding_in, placed, placed_in, IsThere, IsWithin}
+use Rattle.vk_map_cache.specs.Holdings.{Holdings}
 use Rattle.vk_resources.specs.Matches.{MatchesLive}
-use Rattle.vk_resources.proofs.Fitting.{named_there}
+use Rattle.vk_resources.proofs.Fitting.{named_there, same_size}
 use Rattle.vk_device.specs.declared.device.Device.{Device}
 use Rattle.vk_device.specs.Led.{Led, AreWorks}
 use Rattle.vk_device.specs.Inner.Fits.{FitsAction, AllFit}
@@ -79,6 +80,8 @@ module _ (past : Past) (b : ℕ) (info : BufferInfo) (is : buffer past b ≡ Som
   stays_host e k p q (entry.Signal s v) fit = is
   stays_host e k p q (entry.Wait ws) fit = is
   stays_host e k p q (entry.Submit r bs) fit = is
+  stays_host e k p q (entry.Flush r o n) fit = is
+  stays_host e k p q (entry.Invalidate r o n) fit = is
   stays_host e k p q _ fit = absurd fit
 
   stays : (e k p q : ℕ) (a : Action) → FitsAction past a → buffer (record { entry = e; batch = k; place = p; queue = q; action = a } ∷ past) b ≡ Some info
@@ -197,6 +200,14 @@ module _ (past : Past) (done : List Name) (o : Offers) (is : IsOffers o past don
 -- ---- what it copies
 
 module _ (past : Past) (s : Held) (m : MatchesLive past s) (together : PiecesAreByteWrites) where
+  -- a byte below the size of a buffer that is held
+  within : (b k : ℕ) → IsSome (placed s b) → k < buffer_size past b → IsThere s (in_buffer b k)
+  within b k some lt = go (placed s b) refl some
+    where
+      go : (o : Option Placed) → placed s b ≡ o → IsSome o → IsWithin o k
+      go None at some = absurd cc
+      go (Some p) at some = subst (λ (n : ℕ). k < n) (same_size past s m b p at) lt
+
   -- a byte that a command copies is of a buffer that is there
   source_there : (c : Cmd) → FitsCommand past c → NamesLive past c → (w : ByteWrite) (e : Byte) → Contains (byte_writes past c) w → w.source ≡ From e → IsThere s e
   source_there (cmd.Fill b o n v) fits alive w e among is = let f = mapped_from _ (below _) w among in let both : From e ≡ Value _ = sym is ∙ ap (λ (x : ByteWrite). x.source) (sym f.2) in absurd cc
@@ -206,7 +217,10 @@ module _ (past : Past) (s : Held) (m : MatchesLive past s) (together : PiecesAre
       let f = mapped_from (λ k. byte_write (in_buffer d (g.0.destination_offset + k)) (From (in_buffer a (g.0.source_offset + k)))) (below g.0.size) w g.2 in
       let both : From e ≡ From (in_buffer a (g.0.source_offset + f.0)) = sym is ∙ ap (λ (x : ByteWrite). x.source) (sym f.2) in
       let one : e ≡ in_buffer a (g.0.source_offset + f.0) = cc in
-      rw one (named_there past s m a (alive a is_buffer (contains-head (a, is_buffer) ((d, is_buffer) ∷ []))))
+      let range = All-contains (λ g. FitsBuffers g (buffer_size past a) (buffer_size past d)) gs g.0 fits g.1 in
+      let first = range.0 in
+      let low = (range_from 0 g.0.size f.0 f.1).1 in
+      rw one (within a (g.0.source_offset + f.0) (named_there past s m a (alive a is_buffer (contains-head (a, is_buffer) ((d, is_buffer) ∷ [])))) (omega (arith, first, low)))
   source_there (cmd.Barrier es) fits alive w e among is = absurd (none_in w among)
   source_there (cmd.Set v ms) fits alive w e among is = absurd (none_in w among)
   source_there (cmd.Await v ms) fits alive w e among is = absurd (none_in w among)
@@ -232,13 +246,16 @@ module _ (t : List Entry) (steps : List Step) (s : Stage) (d : Device) (led : Le
   ms = named_piece s.front.past (name_of s.front.past piece)
 
   -- the device when it has run
-  pub has_run : PiecesGoOn → (new : Device) → HaveRun ms (byte_at d.resources) (byte_at new.resources) → MatchesLive s.front.past new.resources → new.resources.buffers ≡ d.resources.buffers → new.works ≡ d.works
+  pub has_run : PiecesGoOn → (new : Device) → HaveRun ms (byte_at d.resources) (byte_at new.resources) → MatchesLive s.front.past new.resources → new.resources.buffers ≡ d.resources.buffers → new.resources.cache ≡ d.resources.cache → new.works ≡ d.works
       → new.waiting ≡ d.waiting → new.count ≡ d.count → IsOffers new.offers s.front.past (name_of s.front.past piece ∷ s.done)
       → Led t (steps ++ RunPiece (name_of s.front.past piece) ∷ []) (record s { done = name_of s.front.past piece ∷ s.done }) new
-  has_run go_on new ran matches buffers works waiting count offers = record {
-    bytes = λ c. byte_after led.bytes (write_to c ms) c;
-    run = go_on t steps s (bare_memory led.bytes) (name_of s.front.past piece) led.run (is_offered s.front.past s.done d.offers led.offers piece at);
-    holds = λ c there. ran c ∙ stored_same (byte_at d.resources) led.bytes (write_to c ms) c (λ none. led.holds c (was c there)) (λ w e is from. led.holds e (sources c w e is from));
+  has_run go_on new ran matches buffers cache works waiting count offers = record {
+    memory = memory_after_piece ms led.memory;
+    run = go_on t steps s led.memory (name_of s.front.past piece) led.run (is_offered s.front.past s.done d.offers led.offers piece at);
+    holds = λ c there. record {
+      held = (led.holds c (was c there)).held ∙ sym (same_host c);
+      region = sym (ran c ∙ stored_same (byte_at d.resources) led.memory.region (write_to c ms) c (λ none. sym (led.holds c (was c there)).region) (λ w e is from. sym (led.holds e (sources c w e is from)).region));
+    };
     matches = matches;
     works = rw works led.works;
     waits = subst (λ (w : Waiting). IsWaiting w new.count s.front) (sym waiting) (subst (λ (k : ℕ). IsWaiting d.waiting k s.front) (sym count) led.waits);
@@ -248,15 +265,19 @@ module _ (t : List Entry) (steps : List Step) (s : Stage) (d : Device) (led : Le
   }
     where
       was : (c : Byte) → IsThere new.resources c → IsThere d.resources c
-      was (in_buffer b k) there = subst (λ (bs : List (ℕ × Placed)). IsSome (placed_in bs b)) buffers there
+      was (in_buffer b k) there = subst (λ (bs : List (ℕ × Placed)). IsWithin (placed_in bs b) k) buffers there
       was (in_image i l a x y p) there = there
+
+      same_host : (c : Byte) → host_at new.resources c ≡ host_at d.resources c
+      same_host (in_buffer b k) = ap (λ (h : Holdings). holding_in h (placed new.resources b) k) cache ∙ ap (λ (bs : List (ℕ × Placed)). holding_in d.resources.cache (placed_in bs b) k) buffers
+      same_host (in_image i l a x y p) = refl
 
   -- the bytes that it has written
   pub has_written : DirectRunsAreWritten → first_fault t ≡ None → (bytes : Byte → ℕ) → HaveRun ms (byte_at d.resources) bytes → (c : Byte) (w : ByteWrite) (v : ℕ) → write_to c ms ≡ Some w
       → value_before (order t) (suc (name_of s.front.past piece).0) c ≡ Some v → bytes c ≡ v
   has_written law faultless bytes ran c w v write means =
-      let after = law t steps s (bare_memory led.bytes) (name_of s.front.past piece) c w v faultless led.run (is_offered s.front.past s.done d.offers led.offers piece at) write means in
-      ran c ∙ stored_same (byte_at d.resources) led.bytes (write_to c ms) c (λ none. let both : None ≡ Some w = sym none ∙ write in absurd cc) (λ w e is from. led.holds e (sources c w e is from)) ∙ after
+      let after = law t steps s led.memory (name_of s.front.past piece) c w v faultless led.run (is_offered s.front.past s.done d.offers led.offers piece at) write means in
+      ran c ∙ stored_same (byte_at d.resources) led.memory.region (write_to c ms) c (λ none. let both : None ≡ Some w = sym none ∙ write in absurd cc) (λ w e is from. sym (led.holds e (sources c w e is from)).region) ∙ after
 
 -- ---- the command of a piece that may run
 

@@ -13,7 +13,7 @@ use Rattle.vk_model.specs.World.ByteWrites.{ByteWrite}
 use Rattle.vk_model.specs.Run.Picks.{before_entry, entry_picks}
 use Rattle.vk_model.specs.World.Effect.{world}
 use Rattle.vk_model.specs.World.Meaning.{read_in}
-use Rattle.vk_laws.specs.DirectRuns.{DirectRun, bare_memory}
+use Rattle.vk_laws.specs.DirectRuns.{DirectRun, HostMemory, cells_of}
 use Rattle.vk_laws.specs.TraceBytes.{value_before}
 use Rattle.vk_sync.specs.declared.ready.Piece.{Piece}
 use Rattle.vk_sync.specs.Ready.{ready}
@@ -21,7 +21,7 @@ use Rattle.vk_queues.specs.IsWaiting.{IsWaiting}
 use Rattle.vk_offers.specs.IsOffers.{IsOffers, name_of, commands_in}
 use Rattle.vk_resources.specs.declared.applied.Applied.{Applied}
 use Rattle.vk_resources.specs.declared.applied.Applied.TheVariants as applied
-use Rattle.vk_resources.specs.Held.{byte_at, IsThere}
+use Rattle.vk_resources.specs.Held.{byte_at, IsThere, HasCell}
 use Rattle.vk_resources.specs.Matches.{MatchesLive}
 use Rattle.vk_device.specs.declared.device.Device.{Device}
 use Rattle.vk_history.specs.Supported.{is_supported}
@@ -30,11 +30,11 @@ use Rattle.vk_history.specs.Supported.{is_supported}
 abbrev pub AreWorks : List Cmd → Past → Type 0
 AreWorks works past = map Runs works ≡ map (λ n. n.act) (commands_in (nodes past))
 
--- An allowed run of a trace has led to a device: these steps, through caches that hold nothing, to this stage and to some bytes of memory, which are those that the device's memory holds wherever a resource lies. The device has the buffers and the memory objects that are live, the batches that wait, the entries that were applied, the commands that were started, and the pieces that may run next (Vulkan, "Execution and Memory Dependencies").
+-- An allowed run of a trace has led to a device: these steps, without caches of queues, to this stage and to some bytes of memory with what the host's cache holds of them, which are those of the device wherever a resource lies. The device has the buffers and the memory objects that are live, the batches that wait, the entries that were applied, the commands that were started, and the pieces that may run next (Vulkan, "Execution and Memory Dependencies").
 pub record Led (t : List Entry) (steps : List Step) (s : Stage) (d : Device) : Type 0 where
-  pub bytes : Byte → ℕ
-  pub run : DirectRun t steps s (bare_memory bytes)
-  pub holds : (c : Byte) → IsThere d.resources c → byte_at d.resources c ≡ bytes c
+  pub memory : HostMemory
+  pub run : DirectRun t steps s memory
+  pub holds : (c : Byte) → IsThere d.resources c → HasCell d.resources c (cells_of memory c)
   pub matches : MatchesLive s.front.past d.resources
   pub works : AreWorks d.works.items s.front.past
   pub waits : IsWaiting d.waiting d.count s.front

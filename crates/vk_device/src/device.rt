@@ -1,4 +1,4 @@
-ghost use Rattle.std.specs.Prelude.{◌≡◌, ◌⊎◌, ◌++◌, ◌∷◌, ◌+◌, ◌≤◌, [], List, length, map, option_map, true, false, IfOk, IfErr, IsTrue, OnErr, OnOk, if◌then◌else◌};
+ghost use Rattle.std.specs.Prelude.{◌≡◌, ℕ, ◌⊎◌, ◌++◌, ◌∷◌, ◌+◌, ◌≤◌, [], List, length, map, option_map, true, false, IfOk, IfErr, IsTrue, OnErr, OnOk, if◌then◌else◌};
 ghost use Rattle.vk_model.specs.Trace.Point.{Past};
 ghost use Rattle.vk_model.specs.Run.Runs.{Step, Stage, Apply, applied, offered};
 ghost use Rattle.vk_memory.specs.MemoryState.{IsLive, region_of};
@@ -49,7 +49,7 @@ pub struct Device<'a> {
 impl<'a> Device<'a> {
     ghost use Rattle.vk_model.specs.Run.Runs.{start};
     ghost use Rattle.vk_device.specs.Led.{Led, IsBefore, IsNext, MayRun, HasRun, HasWritten, Applies, Reads};
-    ghost use Rattle.vk_device.specs.Inner.Ready.{Prepares, Waited, MayAsk, Goes, Picks, HostDone, AdvanceReady};
+    ghost use Rattle.vk_device.specs.Inner.Ready.{Prepares, Waited, MayAsk, Goes, Picks, HostDone, AdvanceReady, Touches};
     ghost use Rattle.vk_resources.specs.Allocating.{allotted};
     ghost use Rattle.vk_device.specs.declared.applied.ApplyError.TheVariants.{NoMemory, Failed};
 
@@ -171,12 +171,34 @@ impl<'a> Device<'a> {
         }
     }
 
+    /// Just before an entry asks the scheduler for each atom of the buffer in cached memory that the
+    /// host accesses by it, in rising order: 1, modulo 2, and the host's cache takes the atom up or gives
+    /// it back. The only error is want of memory.
+    fn touch<S: Scheduler>(&mut self, entry: &'a Entry, sched: &mut S) -> Result<(), AllocError>
+        requires { IsNext self.old entry.now }
+        ensures touched { OnOk result ((t : List Entry) (steps : List Step) (s : Stage) (xs : List Entry) → IsBefore t steps s entry.now xs self.old
+            → Touches S.answer S.next s.front.past entry.now (S.held sched.old) self.old.resources self.new.resources (S.held sched.new)) }
+        ensures same { self.new ≡ record self.old { resources = self.new.resources } }
+        ensures allotted { allotted self.new.resources ≡ allotted self.old.resources }
+    {
+        no_fault_is_sound();
+        direct_runs_are_runs();
+        defined_runs_stand();
+        let atoms = self.resources.atoms(entry);
+        for atom in 0..atoms {
+            if sched.pick(2) % 2 == 1 {
+                self.resources.turn_over(entry, atom)?;
+            }
+        }
+        Ok(())
+    }
+
     /// The points that come with an entry have come: its own, and those of the batches that are
     /// started then.
     fn advance(&mut self, entry: &'a Entry) -> Result<(), AllocError>
         requires { AdvanceReady self.old entry.now }
-        ensures advanced { OnOk result ((t : List Entry) (steps : List Step) (s : Stage) (xs : List Entry) → HostDone t steps s entry.now xs self.old
-            → Led t (steps ++ Apply [] 0 ∷ []) (applied s 0 entry.now xs) self.new) }
+        ensures advanced { OnOk result ((t : List Entry) (steps : List Step) (s : Stage) (xs : List Entry) (atoms : List ℕ) → HostDone t steps s entry.now xs atoms self.old
+            → Led t (steps ++ Apply atoms 0 ∷ []) (applied s 0 entry.now xs) self.new) }
         ensures allotted { allotted self.new.resources ≡ allotted self.old.resources }
         ensures failed { self.new.failed ≡ self.old.failed }
     {
@@ -219,6 +241,7 @@ impl<'a> Device<'a> {
         direct_runs_are_runs();
         defined_runs_stand();
         self.run_picked(entry, sched)?;
+        self.touch(entry, sched)?;
         match self.resources.apply(entry)? {
             Applied::NoRoom => Ok(Applied::NoRoom),
             applied => {
@@ -230,7 +253,8 @@ impl<'a> Device<'a> {
 
     /// Applies one entry. First pieces run, as the scheduler picks them, until it picks the entry: it
     /// is asked where it has two options or more, which are the pieces that may run next, in reference
-    /// order, and then the entry, where it may be applied. What the entry allocates is placed, what it
+    /// order, and then the entry, where it may be applied; and then for each atom of a buffer in memory
+    /// of type 2 that the host accesses by it. What the entry allocates is placed, what it
     /// reads is answered, and the batches that can be started with it are. The entries so far with
     /// this one are to break no rule. `NoRoom` comes exactly where the memory object that the entry
     /// asks for cannot be made. After `NoMemory` it only answers `Failed`.

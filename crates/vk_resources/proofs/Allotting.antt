@@ -7,6 +7,7 @@ use Rattle.std.specs.Prelude.{if◌then◌else◌, nat_lt, nat_le, sum_by, slice
 use Rattle.std.specs.List.{fold, filter}
 use Rattle.vk_memory.specs.declared.memories.Object.{Object}
 use Rattle.vk_memory.specs.MemoryState.{MemoryState, IsLive, IsFull, size_on, sizes_on, counted as one_if, live_count, fresh}
+use Rattle.vk_model.specs.declared.command.Length.{Length}
 use Rattle.vk_model.specs.declared.entry.Entry.{Entry}
 use Rattle.vk_model.specs.declared.entry.Entry.TheVariants as entry
 use Rattle.vk_model.specs.declared.resource.BufferInfo.{BufferInfo}
@@ -373,15 +374,19 @@ rest_allots s (entry.Free i) rest past fit = absurd rest
 rest_allots s (entry.Destroy i) rest past fit = absurd rest
 rest_allots s (entry.Write b o bytes) rest past fit = absurd rest
 rest_allots s (entry.Read b o n) rest past fit = absurd rest
+rest_allots s (entry.Flush b o n) rest past fit = absurd rest
+rest_allots s (entry.Invalidate b o n) rest past fit = absurd rest
 rest_allots s _ rest past fit = absurd fit
 
 -- what isn't the one or the other is done nothing for
 pub is_rest : (y : Entry) → ((i : ℕ) (info : MemoryInfo) → y ≡ entry.Memory i info → ⊥) → ((i : ℕ) (info : BufferInfo) → y ≡ entry.Buffer i info → ⊥) → ((m : ℕ) → y ≡ entry.Free m → ⊥) → ((r : ℕ) → y ≡ entry.Destroy r → ⊥)
-    → ((b o : ℕ) (bytes : List ℕ) → y ≡ entry.Write b o bytes → ⊥) → ((b o n : ℕ) → y ≡ entry.Read b o n → ⊥) → IsRest y
-is_rest (entry.Memory i info) memory buffer free destroy write read = memory i info refl
-is_rest (entry.Buffer i info) memory buffer free destroy write read = buffer i info refl
-is_rest (entry.Free m) memory buffer free destroy write read = free m refl
-is_rest (entry.Destroy r) memory buffer free destroy write read = destroy r refl
-is_rest (entry.Write b o bytes) memory buffer free destroy write read = write b o bytes refl
-is_rest (entry.Read b o n) memory buffer free destroy write read = read b o n refl
-is_rest _ memory buffer free destroy write read = tt
+    → ((b o : ℕ) (bytes : List ℕ) → y ≡ entry.Write b o bytes → ⊥) → ((b o n : ℕ) → y ≡ entry.Read b o n → ⊥) → ((b o : ℕ) (n : Length) → y ≡ entry.Flush b o n → ⊥) → ((b o : ℕ) (n : Length) → y ≡ entry.Invalidate b o n → ⊥) → IsRest y
+is_rest (entry.Memory i info) memory buffer free destroy write read flush invalidate = memory i info refl
+is_rest (entry.Buffer i info) memory buffer free destroy write read flush invalidate = buffer i info refl
+is_rest (entry.Free m) memory buffer free destroy write read flush invalidate = free m refl
+is_rest (entry.Destroy r) memory buffer free destroy write read flush invalidate = destroy r refl
+is_rest (entry.Write b o bytes) memory buffer free destroy write read flush invalidate = write b o bytes refl
+is_rest (entry.Read b o n) memory buffer free destroy write read flush invalidate = read b o n refl
+is_rest (entry.Flush b o n) memory buffer free destroy write read flush invalidate = flush b o n refl
+is_rest (entry.Invalidate b o n) memory buffer free destroy write read flush invalidate = invalidate b o n refl
+is_rest _ memory buffer free destroy write read flush invalidate = tt

@@ -1,5 +1,5 @@
 -- What the rules on binding and ending say of the buffers that are held.
-use Rattle.std.proofs.Common.{◌≡◌, ◌⊎◌, inl, inr, ℕ, ◌+◌, ◌<◌, ◌≤◌, Bool, true, false, ◌||◌, ◌==◌, eq-eqb, refl, ap, sym, ◌∙◌, subst, arith, Option, Some, None}
+use Rattle.std.proofs.Common.{◌≡◌, ◌⊎◌, inl, inr, ℕ, ◌+◌, ◌<◌, ◌≤◌, Bool, true, false, not, ◌||◌, ◌&&◌, ◌%◌, ◌==◌, eq-eqb, refl, ap, sym, ◌∙◌, subst, arith, Option, Some, None}
 use Rattle.std.specs.Prelude.{IsTrue, Contains, is_some, option_and_then, if◌then◌else◌}
 use Rattle.std.specs.List.{list_any, filter_map}
 use Rattle.std.proofs.lemmas.Bool.{eqb-true, ltb-false, lt-ltb, or_parts, false_from_ne_true, cases_lt}
@@ -13,14 +13,15 @@ use Rattle.vk_model.specs.declared.resource.Place.{Place}
 use Rattle.vk_model.specs.declared.resource.Place.TheVariants as place
 use Rattle.vk_model.specs.Basics.{holds, round_up}
 use Rattle.vk_model.specs.Trace.Point.{Past, entries}
-use Rattle.vk_model.specs.Trace.Objects.{of_buffer, made, made_by, ended, live, live_resources, buffer_in, memory_in, resource_in, resource, memory_of}
+use Rattle.vk_model.specs.Trace.Objects.{of_buffer, made, made_by, ended, live, live_resources, buffer_in, memory_in, resource_in, Resource, resource, memory_of, type_at, is_cached}
 use Rattle.vk_model.specs.Memory.Suballocation.{ranges_meet}
 use Rattle.vk_model.specs.Rules.Ids.{is_memory, is_resource}
 use Rattle.vk_model.specs.Rules.Binding.{conflicts_with}
+use Rattle.vk_memory.specs.MemoryState.{type_of}
 use Rattle.vk_transfer.specs.Ran.{AreApart}
 use Rattle.vk_resources.specs.declared.resources.Placed.{Placed}
-use Rattle.vk_resources.specs.Held.{Held, IsApart, placed, object_of}
-use Rattle.vk_resources.specs.Matches.{MatchesLive, LiesAt, has_memory}
+use Rattle.vk_resources.specs.Held.{Held, IsApart, is_cached_in, placed, object_of}
+use Rattle.vk_resources.specs.Matches.{MatchesLive, LiesAt, has_memory, type_made, type_of_place}
 use Rattle.vk_resources.specs.Fits.{FitsPlace, is_occupied}
 use Rattle.vk_resources.specs.Inner.Steps.{BindReady}
 use Rattle.vk_resources.proofs.Placing.{inside_of}
@@ -105,7 +106,34 @@ smaller a n k b m l less fewer (inr le) = inr (omega (arith, fewer, le))
 
 -- ---- a buffer that is bound
 
-module _ (past : Past) (s : Held) (m : MatchesLive past s) (apart : IsApart s.memory s.owned s.buffers) (k o : ℕ) (info : BufferInfo) (some : 0 < info.size) (fits : FitsPlace past info (place.Memory k o)) where
+-- what a live memory object is of
+memory_made : (o : Option Entry) (x : MemoryInfo) → option_and_then memory_in o ≡ Some x → option_and_then type_made o ≡ Some x.memory_type
+memory_made None x is = absurd cc
+memory_made (Some (entry.Memory i y)) x is = let same : y ≡ x = cc in ap (λ (z : MemoryInfo). Some z.memory_type) same
+memory_made (Some _) x is = absurd cc
+
+-- whether host accesses to a buffer go through a cache is so of its memory object
+pub same_cached : (past : Past) (s : Held) (m : MatchesLive past s) (b : ℕ) (p : Placed) → placed s b ≡ Some p → is_cached past b ≡ is_cached_in s.memory p
+same_cached past s m b p here =
+    let l = live_of_placed (live past) s b p m here in
+    let y = is_live buffer_in past b l.info l.is in
+    ap (λ (r : Option Resource). holds (option_and_then (λ r. type_at past r.place) r) (λ u. u == 2)) (resource_is past b l.info l.is)
+    ∙ go l.info.place (ap (option_and_then type_made) y.1 ∙ own y.0 l.info y.2) (m.places b p l.info here l.is)
+  where
+    own : (y : Entry) (i : BufferInfo) → buffer_in y ≡ Some i → type_made y ≡ type_of_place i.place
+    own (entry.Buffer j i') i is = let same : i' ≡ i = cc in ap (λ (z : BufferInfo). type_of_place z.place) same
+    own _ i is = absurd cc
+
+    go : (q : Place) → option_and_then type_made (live past b) ≡ type_of_place q → LiesAt (live past) s b q p → holds (type_at past q) (λ u. u == 2) ≡ is_cached_in s.memory p
+    go (place.Dedicated t) is lies = ap (λ (u : ℕ). u == 2) (sym (m.types b p.object t is lies.0))
+    go (place.Memory k o) is lies =
+        let x = live_memory (live past k) lies.0 in
+        let has = m.types k p.object x.0.memory_type (memory_made (live past k) x.0 x.1) lies.1 in
+        rw (live_made memory_in past k x.0 x.1) (ap (λ (u : ℕ). u == 2) (sym has))
+    go (place.Pool q) is lies = absurd lies
+    go (place.PoolUpper q) is lies = absurd lies
+
+module _ (past : Past) (s : Held) (m : MatchesLive past s) (apart : IsApart s.memory s.owned s.buffers) (k o : ℕ) (info : BufferInfo) (at : info.place ≡ place.Memory k o) (some : 0 < info.size) (fits : FitsPlace past info (place.Memory k o)) where
   memory_info : (x : MemoryInfo) × (option_and_then memory_in (live past k) ≡ Some x) × (holds (live past k) has_memory ≡ true)
   memory_info = live_memory (live past k) fits.0
 
@@ -144,12 +172,25 @@ module _ (past : Past) (s : Held) (m : MatchesLive past s) (apart : IsApart s.me
       go c q l more (place.Pool p) is lies same = absurd lies
       go c q l more (place.PoolUpper p) is lies same = absurd lies
 
+  aligned : type_of s.memory number_of.0 ≡ 2 → o % 64 ≡ 0
+  aligned is =
+      let x = memory_info in
+      let has = m.types k number_of.0 x.0.memory_type (memory_made (live past k) x.0 x.1) number_of.1 in
+      let type : holds (type_at past info.place) (λ t. t == 2) ≡ true = rw (at, live_made memory_in past k x.0 x.1) (eq-eqb x.0.memory_type 2 (sym has ∙ is)) in
+      let none = (or_parts _ (holds (type_at past info.place) (λ t. t == 2) && not (o % 64 == 0)) fits.3).1 in
+      let off : not (o % 64 == 0) ≡ false = rw type at none in
+      eqb-true (o % 64) 0 (not-false (o % 64 == 0) off)
+    where
+      not-false : (b : Bool) → not b ≡ false → b ≡ true
+      not-false true e = refl
+      not-false false e = absurd cc
+
   pub bind_ready : BindReady s k o info.size
   bind_ready =
       let within = ends_within in
       let long = m.memories k number_of.0 memory_info.0 memory_info.1 number_of.1 in
       let less = rounded info.size in
-      record { number = number_of.0; has = number_of.1; some = some; room = omega (arith, within, long, less); apart = bound_beside }
+      record { number = number_of.0; has = number_of.1; some = some; room = omega (arith, within, long, less); apart = bound_beside; aligned = aligned }
 
 -- ---- what ends
 

@@ -2,7 +2,7 @@
 use Rattle.std.proofs.Common.{◌≡◌, ◌∙◌, ℕ, List, [], ◌∷◌, length, Bool, true, false, ◌||◌, ◌==◌, eqb, cond, refl, ap, sym, subst, Option, Some, None}
 use Rattle.std.specs.Prelude.{is_some, option_map, option_and_then, if◌then◌else◌}
 use Rattle.std.proofs.lemmas.Bool.{eqb-true, eqb-false}
-use Rattle.vk_memory.specs.MemoryState.{MemoryState, region_of, bytes_of}
+use Rattle.vk_memory.specs.MemoryState.{MemoryState, region_of, bytes_of, type_of, type_in}
 use Rattle.vk_model.specs.declared.entry.Entry.{Entry}
 use Rattle.vk_model.specs.declared.resource.BufferInfo.{BufferInfo}
 use Rattle.vk_model.specs.declared.resource.MemoryInfo.{MemoryInfo}
@@ -13,7 +13,7 @@ use Rattle.vk_model.specs.Trace.Order.{host}
 use Rattle.vk_model.specs.Trace.Objects.{made, made_by, ended, ended_by, live, buffer_in, memory_in}
 use Rattle.vk_resources.specs.declared.resources.Placed.{Placed}
 use Rattle.vk_resources.specs.Held.{Held, IsApart, placed, object_of}
-use Rattle.vk_resources.specs.Matches.{Matches, LiesAt, has_memory}
+use Rattle.vk_resources.specs.Matches.{Matches, LiesAt, has_memory, type_made}
 use Rattle.vk_resources.specs.Fits.{IsUnused}
 use Rattle.vk_resources.specs.Inner.Steps.{IsEmpty, Ends, freed}
 use Rattle.vk_resources.proofs.Placing.{kept_apart}
@@ -58,6 +58,8 @@ module _ (alive alive' : ℕ → Option Entry) (old new : Held) (id : ℕ) (x : 
     pub lies : (p : Placed) (i : BufferInfo) → placed new id ≡ Some p → buffer_in x ≡ Some i → LiesAt alive' new id i.place p
     pub bytes : (number : ℕ) (y : MemoryInfo) → memory_in x ≡ Some y → object_of new id ≡ Some number → length (region_of new.memory number) ≡ y.size
     pub regions : (j number : ℕ) → object_of old j ≡ Some number → region_of new.memory number ≡ region_of old.memory number
+    pub type_now : (number t : ℕ) → type_made x ≡ Some t → object_of new id ≡ Some number → type_of new.memory number ≡ t
+    pub types : (j number : ℕ) → object_of old j ≡ Some number → type_of new.memory number ≡ type_of old.memory number
 
   module _ (g : Grows) (m : Matches alive old) where
     here : (j : ℕ) → eqb j id ≡ true → alive' j ≡ Some x
@@ -86,6 +88,7 @@ module _ (alive alive' : ℕ → Option Entry) (old new : Held) (id : ℕ) (x : 
       places = λ b p i at is. lies b p i at is (eqb b id) refl;
       owned = λ i. owned i (eqb i id) refl;
       memories = λ k number y is has. memories k number y is has (eqb k id) refl;
+      types = λ k number t is has. types k number t is has (eqb k id) refl;
     }
       where
         sizes : (b : ℕ) (t : Bool) → eqb b id ≡ t → option_map (λ (p : Placed). p.size) (placed new b) ≡ option_map (λ (i : BufferInfo). i.size) (option_and_then buffer_in (alive' b))
@@ -109,6 +112,12 @@ module _ (alive alive' : ℕ → Option Entry) (old new : Held) (id : ℕ) (x : 
         memories k number y is has false e =
             let had : object_of old k ≡ Some number = sym (g.objects k (eqb-false k id e)) ∙ has in
             ap (λ (r : List ℕ). length r) (g.regions k number had) ∙ m.memories k number y (ap (option_and_then memory_in) (sym (there k e)) ∙ is) had
+
+        types : (k number t : ℕ) → option_and_then type_made (alive' k) ≡ Some t → object_of new k ≡ Some number → (u : Bool) → eqb k id ≡ u → type_of new.memory number ≡ t
+        types k number t is has true e = g.type_now number t (ap (option_and_then type_made) (sym (here k e)) ∙ is) (ap (λ (j : ℕ). object_of new j) (sym (eqb-true k id e)) ∙ has)
+        types k number t is has false e =
+            let had : object_of old k ≡ Some number = sym (g.objects k (eqb-false k id e)) ∙ has in
+            g.types k number had ∙ m.types k number t (ap (option_and_then type_made) (sym (there k e)) ∙ is) had
 
 -- ---- an object has ended
 
@@ -136,6 +145,13 @@ module _ (alive alive' : ℕ → Option Entry) (old new : Held) (r : ℕ) (now :
         go None is = refl
         go (Some n) is = ap bytes_of (kept_apart old.memory n number (λ same. other (is ∙ ap (λ (k : ℕ). Some k) (sym same))))
 
+    type_kept : (number : ℕ) → (object_of old r ≡ Some number → ⊥) → type_of new.memory number ≡ type_of old.memory number
+    type_kept number other = ap (λ (n : MemoryState). type_of n number) ends.memory ∙ go (object_of old r) refl
+      where
+        go : (o : Option ℕ) → object_of old r ≡ o → type_of (freed old.memory o) number ≡ type_of old.memory number
+        go None is = refl
+        go (Some n) is = ap type_in (kept_apart old.memory n number (λ same. other (is ∙ ap (λ (k : ℕ). Some k) (sym same))))
+
     pub region_there : (b : ℕ) (p : Placed) → (b ≡ r → ⊥) → placed old b ≡ Some p → region_of new.memory p.object ≡ region_of old.memory p.object
     region_there b p other at = region_kept p.object (λ has. empty p.object b p has other at refl)
 
@@ -145,6 +161,7 @@ module _ (alive alive' : ℕ → Option Entry) (old new : Held) (r : ℕ) (now :
       places = λ b p i at is. lies b p i at is (eqb b r) refl;
       owned = λ i. owned i (eqb i r) refl;
       memories = λ k number y is has. memories k number y is has (eqb k r) refl;
+      types = λ k number t is has. types k number t is has (eqb k r) refl;
     }
       where
         sizes : (b : ℕ) (t : Bool) → eqb b r ≡ t → option_map (λ (p : Placed). p.size) (placed new b) ≡ option_map (λ (i : BufferInfo). i.size) (option_and_then buffer_in (alive' b))
@@ -174,3 +191,10 @@ module _ (alive alive' : ℕ → Option Entry) (old new : Held) (r : ℕ) (now :
             let other = eqb-false k r e in
             let had : object_of old k ≡ Some number = sym (ends.objects k other) ∙ has in
             ap (λ (l : List ℕ). length l) (region_kept number (λ his. other (apart.own k r number had his))) ∙ m.memories k number y (ap (option_and_then memory_in) (sym (kept k e)) ∙ is) had
+
+        types : (k number t : ℕ) → option_and_then type_made (alive' k) ≡ Some t → object_of new k ≡ Some number → (u : Bool) → eqb k r ≡ u → type_of new.memory number ≡ t
+        types k number t is has true e = let both : ◌≡◌ {A = Option ℕ} None (Some t) = ap (option_and_then type_made) (sym (gone k e)) ∙ is in absurd cc
+        types k number t is has false e =
+            let other = eqb-false k r e in
+            let had : object_of old k ≡ Some number = sym (ends.objects k other) ∙ has in
+            type_kept number (λ his. other (apart.own k r number had his)) ∙ m.types k number t (ap (option_and_then type_made) (sym (kept k e)) ∙ is) had

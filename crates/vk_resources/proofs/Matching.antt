@@ -10,7 +10,7 @@ use Rattle.vk_resources.specs.Held.{Held, placed, placed_in, object_in, object_o
 use Rattle.vk_model.specs.Basics.{holds}
 use Rattle.vk_model.specs.Trace.Objects.{buffer_in, memory_in}
 use Rattle.vk_model.specs.Rules.Ids.{is_memory}
-use Rattle.vk_resources.specs.Matches.{Matches, LiesAt, has_memory}
+use Rattle.vk_resources.specs.Matches.{Matches, LiesAt, has_memory, type_made}
 use Rattle.vk_resources.specs.Allocating.{Allotted}
 use Rattle.vk_resources.specs.Inner.Steps.{KeepsPlaces}
 
@@ -42,6 +42,7 @@ keeps_matches alive old new keeps m = record {
   places = λ b p i here is. lies_on alive alive old new b i.place p (m.places b p i (sym (ap (λ (bs : List (ℕ × Placed)). placed_in bs b) keeps.buffers) ∙ here) is) (objects (home b i.place)) refl;
   owned = λ i. ap is_some (objects i) ∙ m.owned i;
   memories = λ k number x is has. keeps.lengths number ∙ m.memories k number x is (sym (objects k) ∙ has);
+  types = λ i number t is has. keeps.types number ∙ m.types i number t is (sym (objects i) ∙ has);
 }
   where
     objects : (i : ℕ) → object_of new i ≡ object_of old i
@@ -55,6 +56,7 @@ matches_same alive alive' s same m = record {
   places = λ b p i here is. lies_on alive alive' s s b i.place p (m.places b p i here (ap (option_and_then buffer_in) (sym (same b)) ∙ is)) refl (same (home b i.place));
   owned = λ i. m.owned i ∙ ap (λ (x : Option Entry). holds x has_memory) (sym (same i));
   memories = λ k number x is has. m.memories k number x (ap (option_and_then memory_in) (sym (same k)) ∙ is) has;
+  types = λ i number t is has. m.types i number t (ap (option_and_then type_made) (sym (same i)) ∙ is) has;
 }
 
 -- ---- a buffer that is held is live

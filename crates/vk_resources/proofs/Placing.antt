@@ -26,10 +26,10 @@ inside_of m owned buffers apart b p here = subst (λ (x : Option Placed). IfSome
 one_place : (x : Option Placed) (p q : Placed) → x ≡ Some p → x ≡ Some q → p ≡ q
 one_place x p q a b = let both : Some p ≡ Some q = sym a ∙ b in cc
 
-one_number : (x : Option ℕ) (m n : ℕ) → x ≡ Some m → x ≡ Some n → m ≡ n
+pub one_number : (x : Option ℕ) (m n : ℕ) → x ≡ Some m → x ≡ Some n → m ≡ n
 one_number x m n a b = let both : ◌≡◌ {A = Option ℕ} (Some m) (Some n) = sym a ∙ b in cc
 
-turned : (p q a b : ℕ) → AreApart p a q b → AreApart q b p a
+pub turned : (p q a b : ℕ) → AreApart p a q b → AreApart q b p a
 turned p q a b (inl le) = inr le
 turned p q a b (inr le) = inl le
 

@@ -1,27 +1,31 @@
 -- Bytes that are put into a buffer, and what all buffers have then.
-use Rattle.std.proofs.Common.{◌≡◌, ◌⊎◌, inl, inr, ℕ, ◌+◌, ◌-◌, ◌<◌, ◌≤◌, List, length, map, Bool, true, false, ◌&&◌, eqb, nat_lt, refl, ap, sym, ◌∙◌, subst, arith, slice_index, Option, Some, None, if◌then◌else◌}
+use Rattle.std.proofs.Common.{◌≡◌, ◌⊎◌, inl, inr, ℕ, ◌+◌, ◌-◌, ◌<◌, ◌≤◌, List, length, map, Bool, true, false, eqb, nat_lt, refl, ap, sym, ◌∙◌, subst, arith, slice_index, Option, Some, None, if◌then◌else◌}
 use Rattle.std.proofs.Math.Seq.{map-set_same}
-use Rattle.std.proofs.lemmas.Bool.{eqb-true, eqb-false, lt-ltb, ltb-true, le-leb, leb-true, cases_lt, false_from_ne_true}
-use Rattle.std.specs.Prelude.{option_map, unwrap_or, nat_le, slice_get}
-use Rattle.std.proofs.lemmas.Option.{slice_get-get_or, slice_get_past}
-use Rattle.vk_model.specs.World.Effect.{written}
+use Rattle.std.proofs.lemmas.Bool.{eqb-true, eqb-false, lt-ltb, ltb-true, cases_lt}
+use Rattle.std.specs.Prelude.{option_map}
+use Rattle.vk_map_cache.specs.Holdings.{given}
+use Rattle.vk_map_cache.proofs.CellLemmas.{given-inside, given-outside}
+use Rattle.vk_model.specs.Run.Caches.{Cell}
+use Rattle.vk_model.specs.Run.CachedRuns.{after_host_write}
 use Rattle.vk_heap.specs.Region.{splice}
 use Rattle.vk_heap.proofs.SpliceLemmas.{length-splice, splice-in, splice-out}
 use Rattle.vk_memory.specs.declared.memories.Object.{Object}
 use Rattle.vk_memory.specs.MemoryState.{MemoryState, object_at, region_of, rewritten, with_region}
-use Rattle.vk_memory.proofs.LiveObjects.{region_of-same, region_of-other}
+use Rattle.vk_memory.proofs.LiveObjects.{region_of-same, region_of-other, type_of-same}
 use Rattle.vk_model.specs.World.Bytes.{Byte, in_buffer, in_image}
 use Rattle.vk_model.specs.World.ByteWrites.{Source}
-use Rattle.vk_transfer.specs.Ran.{AreApart, byte_in, given, HaveRun}
+use Rattle.vk_transfer.specs.Ran.{AreApart, byte_in, HaveRun}
+use Rattle.vk_transfer.specs.Ran as ran
 use Rattle.vk_transfer.proofs.Ranges.{writes, made_ran}
 use Rattle.vk_resources.specs.declared.resources.Placed.{Placed}
 use Rattle.vk_resources.specs.Allocating.{allotted, kind_of}
-use Rattle.vk_resources.specs.Held.{Held, IsApart, IsInside, placed, byte_at, stretch_of}
-use Rattle.vk_resources.specs.Inner.Steps.{KeepsPlaces, HasWritten}
+use Rattle.vk_resources.specs.Held.{Held, IsApart, IsCaching, IsInside, placed, byte_at, IsThere, HasCell, stretch_of}
+use Rattle.vk_resources.specs.Inner.Steps.{KeepsPlaces, changed_of, HasChanged}
 use Rattle.vk_resources.proofs.Placing.{apart_rewritten, inside_of, still_long}
+use Rattle.vk_resources.proofs.CachedBytes.{caching_typed}
 
 -- an object keeps its type and its size
-kinds_kept : (m : MemoryState) (o : ℕ) (bytes : List ℕ) → map kind_of (with_region m o bytes).objects ≡ map kind_of m.objects
+pub kinds_kept : (m : MemoryState) (o : ℕ) (bytes : List ℕ) → map kind_of (with_region m o bytes).objects ≡ map kind_of m.objects
 kinds_kept m o bytes = map-set_same kind_of m.objects o (rewritten bytes (object_at m o)) None (same (object_at m o))
   where
     same : (x : Option Object) → kind_of (rewritten bytes x) ≡ kind_of x
@@ -58,7 +62,11 @@ module _ (s : Held) (apart : IsApart s.memory s.owned s.buffers) (b : ℕ) (p : 
     buffers = refl;
     same = ap (λ (os : List (Option (ℕ × ℕ))). record (allotted s) { objects = os }) (kinds_kept s.memory p.object new);
     lengths = λ number. still_long s.memory p.object new inside.live long number;
+    types = λ number. type_of-same s.memory p.object number new inside.live;
   }
+
+  pub spliced_caching : IsCaching s.memory s.buffers s.cache → IsCaching spliced.memory spliced.buffers spliced.cache
+  spliced_caching c = caching_typed s.memory spliced.memory s.buffers s.cache (λ i q here. type_of-same s.memory p.object q.object new inside.live) c
 
   -- ---- bytes of the buffer itself
 
@@ -102,7 +110,7 @@ module _ (s : Held) (apart : IsApart s.memory s.owned s.buffers) (b : ℕ) (p : 
 
   -- ---- byte writes that put them there
 
-  module _ (offset lo : ℕ) (source : ℕ → Source) (place : at ≡ offset + lo) (values : (j : ℕ) → lo ≤ j → j < lo + length bytes → slice_index bytes (j - lo) ≡ given (source j) (byte_at s)) where
+  module _ (offset lo : ℕ) (source : ℕ → Source) (place : at ≡ offset + lo) (values : (j : ℕ) → lo ≤ j → j < lo + length bytes → slice_index bytes (j - lo) ≡ ran.given (source j) (byte_at s)) where
     pub spliced_ran : HaveRun (writes b offset source lo (length bytes)) (byte_at s) (byte_at spliced)
     spliced_ran = made_ran b offset source lo (length bytes) (byte_at s) (byte_at spliced) (record {
       inside = λ j low high. ap (λ (k : ℕ). byte_at spliced (in_buffer b k)) (moved j low) ∙ spliced_in (j - lo) (omega (arith, low, high)) ∙ values j low high;
@@ -120,27 +128,35 @@ module _ (s : Held) (apart : IsApart s.memory s.owned s.buffers) (b : ℕ) (p : 
 
   -- ---- a host write that puts them there
 
-  pub spliced_written : HasWritten s spliced b at bytes
+  pub spliced_written : HasChanged s spliced b (λ k. after_host_write false (given at bytes k))
   spliced_written = (spliced_keeps, each)
     where
-      of_buffer : (k : ℕ) → byte_at spliced (in_buffer b k) ≡ unwrap_or (if nat_le at k then slice_get bytes (k - at) else None) (byte_at s (in_buffer b k))
-      of_buffer k = elim (cases_lt k at) [
-        | inl lt ↦ rw (not_le k lt) (spliced_out k (inl lt))
+      -- a byte with its new value
+      put : (c : Byte) (cell : Cell) (v : ℕ) → byte_at spliced c ≡ v → HasCell s c cell → HasCell spliced c (record cell { region = v })
+      put c cell v is has = record { held = has.held; region = sym is }
+
+      keep : (c : Byte) (cell : Cell) → byte_at spliced c ≡ byte_at s c → HasCell s c cell → HasCell spliced c cell
+      keep c cell same has = record { held = has.held; region = has.region ∙ sym same }
+
+      outside : (k : ℕ) (cell : Cell) → (k < at) ⊎ (at + length bytes ≤ k) → HasCell s (in_buffer b k) cell → HasCell spliced (in_buffer b k) (after_host_write false (given at bytes k) cell)
+      outside k cell out has = subst (λ (g : Option ℕ). HasCell spliced (in_buffer b k) (after_host_write false g cell)) (sym (given-outside at bytes k out)) (keep (in_buffer b k) cell (spliced_out k out) has)
+
+      of_buffer : (k : ℕ) (cell : Cell) → HasCell s (in_buffer b k) cell → HasCell spliced (in_buffer b k) (after_host_write false (given at bytes k) cell)
+      of_buffer k cell has = elim (cases_lt k at) [
+        | inl lt ↦ outside k cell (inl lt) has
         | inr ge ↦ elim (cases_lt k (at + length bytes)) [
+          | inr past ↦ outside k cell (inr past) has
           | inl lt ↦
               let place : at + (k - at) ≡ k = omega (arith, ge) in
-              rw (le-leb at k ge, slice_get-get_or bytes (k - at) 0 (omega (arith, ge, lt))) (ap (λ (j : ℕ). byte_at spliced (in_buffer b j)) (sym place) ∙ spliced_in (k - at) (omega (arith, ge, lt)))
-          | inr past ↦ rw (le-leb at k ge, slice_get_past bytes (k - at) (omega (arith, past))) (spliced_out k (inr past))
+              let value : byte_at spliced (in_buffer b k) ≡ slice_index bytes (k - at) = ap (λ (j : ℕ). byte_at spliced (in_buffer b j)) (sym place) ∙ spliced_in (k - at) (omega (arith, ge, lt)) in
+              subst (λ (g : Option ℕ). HasCell spliced (in_buffer b k) (after_host_write false g cell)) (sym (given-inside at bytes k ge lt)) (put (in_buffer b k) cell (slice_index bytes (k - at)) value has)
         ]
       ]
-        where
-          not_le : (k : ℕ) → k < at → nat_le at k ≡ false
-          not_le k lt = false_from_ne_true (nat_le at k) (λ h. let le : at ≤ k = leb-true at k h in omega (arith, lt, le))
 
-      each : (c : Byte) → byte_at spliced c ≡ unwrap_or (written b at bytes c) (byte_at s c)
-      each (in_image i l a x y q) = refl
-      each (in_buffer c k) = go (eqb b c) refl
+      each : (c : Byte) (cell : Cell) → IsThere s c → HasCell s c cell → HasCell spliced c (changed_of b (λ k. after_host_write false (given at bytes k)) c cell)
+      each (in_image i l a x y q) cell there has = absurd there
+      each (in_buffer c k) cell there has = go (eqb b c) refl
         where
-          go : (t : Bool) → eqb b c ≡ t → byte_at spliced (in_buffer c k) ≡ unwrap_or (if t && nat_le at k then slice_get bytes (k - at) else None) (byte_at s (in_buffer c k))
-          go true e = subst (λ (d : ℕ). byte_at spliced (in_buffer d k) ≡ unwrap_or (if nat_le at k then slice_get bytes (k - at) else None) (byte_at s (in_buffer d k))) (eqb-true b c e) (of_buffer k)
-          go false e = spliced_other c k (eqb-false b c e)
+          go : (t : Bool) → eqb b c ≡ t → HasCell spliced (in_buffer c k) (if t then after_host_write false (given at bytes k) cell else cell)
+          go true e = subst (λ (d : ℕ). HasCell spliced (in_buffer d k) (after_host_write false (given at bytes k) cell)) (eqb-true b c e) (of_buffer k cell (subst (λ (d : ℕ). HasCell s (in_buffer d k) cell) (sym (eqb-true b c e)) has))
+          go false e = keep (in_buffer c k) cell (spliced_other c k (eqb-false b c e)) has

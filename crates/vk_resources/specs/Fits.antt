@@ -6,6 +6,7 @@ use Rattle.vk_model.specs.declared.command.Cmd.TheVariants as cmd
 use Rattle.vk_model.specs.declared.command.Element.{Element}
 use Rattle.vk_model.specs.declared.command.Element.TheVariants as element
 use Rattle.vk_model.specs.declared.command.Length.{Length}
+use Rattle.vk_model.specs.declared.command.Length.TheVariants as length_of
 use Rattle.vk_model.specs.declared.entry.Entry.{Entry}
 use Rattle.vk_model.specs.declared.entry.Entry.TheVariants as entry
 use Rattle.vk_model.specs.declared.resource.BufferInfo.{BufferInfo}
@@ -16,7 +17,7 @@ use Rattle.vk_model.specs.Trace.Point.{Past}
 use Rattle.vk_model.specs.Trace.Objects.{made, ended, live, live_resources, memory_of, buffer, buffer_in, of_buffer}
 use Rattle.vk_model.specs.World.ByteWrites.{buffer_size, fill_size}
 use Rattle.vk_model.specs.Rules.Ids.{is_memory, is_resource, asked_by_command}
-use Rattle.vk_model.specs.Rules.Binding.{ends_past_memory, is_aliased}
+use Rattle.vk_model.specs.Rules.Binding.{ends_past_memory, is_aliased, is_misplaced}
 use Rattle.vk_transfer.specs.Copies.{FitsBuffers}
 
 -- ---- commands
@@ -26,19 +27,19 @@ abbrev pub FitsFill : Option BufferInfo → ℕ → Length → Type 0
 FitsFill None o n = ⊥
 FitsFill (Some i) o n = (o ≤ i.size) × (o + fill_size i.size o n ≤ i.size) × (fill_size i.size o n ≡ 4 * (fill_size i.size o n / 4))
 
--- The elements of a barrier are all on all memory (Vulkan, "Global Memory Barriers").
-abbrev pub AllMemory : List Element → Type 0
-AllMemory [] = ⊤
-AllMemory (element.Memory d ∷ es) = AllMemory es
-AllMemory (element.Buffer e ∷ es) = ⊥
-AllMemory (element.Image e ∷ es) = ⊥
+-- None of the elements of a barrier is on an image (Vulkan, "Pipeline Barriers").
+abbrev pub NoImages : List Element → Type 0
+NoImages [] = ⊤
+NoImages (element.Memory d ∷ es) = NoImages es
+NoImages (element.Buffer e ∷ es) = NoImages es
+NoImages (element.Image e ∷ es) = ⊥
 
--- A command fits: a fill, an update and each region of a copy between buffers lie in buffers that were made (Vulkan, "Filling Buffers", "Updating Buffers" and "Copying Data Between Buffers"); a barrier is on all memory; a set or an await of an event asks nothing (Vulkan, "Events").
+-- A command fits: a fill, an update and each region of a copy between buffers lie in buffers that were made (Vulkan, "Filling Buffers", "Updating Buffers" and "Copying Data Between Buffers"); a barrier has no element on an image; a set or an await of an event asks nothing (Vulkan, "Events").
 abbrev pub FitsCommand : Past → Cmd → Type 0
 FitsCommand past (cmd.Fill b o n w) = FitsFill (buffer past b) o n
 FitsCommand past (cmd.Update b o bytes) = o + length bytes ≤ buffer_size past b
 FitsCommand past (cmd.Copy s d gs) = All (λ g. FitsBuffers g (buffer_size past s) (buffer_size past d)) gs
-FitsCommand past (cmd.Barrier es) = AllMemory es
+FitsCommand past (cmd.Barrier es) = NoImages es
 FitsCommand past (cmd.Set v ms) = ⊤
 FitsCommand past (cmd.Await v ms) = ⊤
 FitsCommand past _ = ⊥
@@ -54,10 +55,10 @@ pub record IsUnused (past : Past) (i : ℕ) : Type 0 where
   pub unmade : made past i ≡ None
   pub unended : ended past i ≡ false
 
--- A buffer has a memory object of its own, or is bound in one that is live, ends in it, and meets no live resource there (Vulkan, "Resource Memory Association" and "Memory Aliasing"; VMA, "Choosing memory type", on dedicated allocations).
+-- A buffer has a memory object of its own, or is bound in one that is live, at an offset that is aligned, ends in it, and meets no live resource there (Vulkan, "Resource Memory Association" and "Memory Aliasing"; VMA, "Choosing memory type", on dedicated allocations).
 abbrev pub FitsPlace : Past → BufferInfo → Place → Type 0
 FitsPlace past info (place.Dedicated t) = ⊤
-FitsPlace past info (place.Memory m o) = IsTrue (holds (live past m) is_memory) × (ends_past_memory past (of_buffer info) m o ≡ false) × (is_aliased past (of_buffer info) m o ≡ false)
+FitsPlace past info (place.Memory m o) = IsTrue (holds (live past m) is_memory) × (ends_past_memory past (of_buffer info) m o ≡ false) × (is_aliased past (of_buffer info) m o ≡ false) × (is_misplaced past (of_buffer info) m o ≡ false)
 FitsPlace past info _ = ⊥
 
 -- A new buffer is of a new id, of a size above 0 and up to 67,108,864 (profile), and its place fits.
@@ -76,7 +77,13 @@ abbrev pub FitsRange : Option BufferInfo → ℕ → ℕ → Type 0
 FitsRange None o n = ⊥
 FitsRange (Some i) o n = o + n ≤ i.size
 
--- An entry makes a new object, of some bytes; frees a live memory object to which no live resource is bound; destroys a live resource; writes or reads in a live buffer; or asks nothing of the device (Vulkan, valid usage of these calls).
+-- The same of a range that may go to the end, and then begins before it.
+abbrev pub FitsLength : Option BufferInfo → ℕ → Length → Type 0
+FitsLength i o (length_of.Bytes n) = FitsRange i o n
+FitsLength None o length_of.Whole = ⊥
+FitsLength (Some i) o length_of.Whole = o < i.size
+
+-- An entry makes a new object, of some bytes; frees a live memory object to which no live resource is bound; destroys a live resource; writes, reads, flushes or invalidates in a live buffer; or asks nothing of the device (Vulkan, valid usage of these calls).
 abbrev pub FitsEntry : Past → Entry → Type 0
 FitsEntry past (entry.Buffer i info) = FitsBuffer past i info
 FitsEntry past (entry.Memory i m) = IsUnused past i × (0 < m.size)
@@ -84,6 +91,8 @@ FitsEntry past (entry.Free m) = IsTrue (holds (live past m) is_memory) × (is_oc
 FitsEntry past (entry.Destroy r) = IsTrue (holds (live past r) is_resource)
 FitsEntry past (entry.Write b o bytes) = FitsRange (option_and_then buffer_in (live past b)) o (length bytes)
 FitsEntry past (entry.Read b o n) = FitsRange (option_and_then buffer_in (live past b)) o n
+FitsEntry past (entry.Flush b o n) = FitsLength (option_and_then buffer_in (live past b)) o n
+FitsEntry past (entry.Invalidate b o n) = FitsLength (option_and_then buffer_in (live past b)) o n
 FitsEntry past (entry.Semaphore i v) = IsUnused past i
 FitsEntry past (entry.Event i) = IsUnused past i
 FitsEntry past (entry.Map b) = ⊤

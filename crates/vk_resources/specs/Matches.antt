@@ -1,6 +1,6 @@
 -- What is held is what is live after some points.
-use Rattle.std.specs.Prelude.{◌≡◌, ℕ, length, Bool, true, false, Option, Some, IsTrue, is_some, option_map, option_and_then}
-use Rattle.vk_memory.specs.MemoryState.{region_of}
+use Rattle.std.specs.Prelude.{◌≡◌, ℕ, length, Bool, true, false, Option, Some, None, IsTrue, is_some, option_map, option_and_then}
+use Rattle.vk_memory.specs.MemoryState.{region_of, type_of}
 use Rattle.vk_model.specs.declared.entry.Entry.{Entry}
 use Rattle.vk_model.specs.declared.entry.Entry.TheVariants as entry
 use Rattle.vk_model.specs.declared.resource.BufferInfo.{BufferInfo}
@@ -26,6 +26,18 @@ has_memory (entry.Buffer i b) = is_own b.place
 has_memory (entry.Image i m) = is_own m.place
 has_memory _ = false
 
+-- The memory type of an allocation of its own.
+abbrev pub type_of_place : Place → Option ℕ
+type_of_place (place.Dedicated t) = Some t
+type_of_place _ = None
+
+-- The memory type of the memory object that an entry makes, where it makes one.
+abbrev pub type_made : Entry → Option ℕ
+type_made (entry.Memory i m) = Some m.memory_type
+type_made (entry.Buffer i b) = type_of_place b.place
+type_made (entry.Image i m) = type_of_place m.place
+type_made _ = None
+
 module _ (alive : ℕ → Option Entry) (s : Held) where
   -- A buffer lies where its place says: at the start of the memory object that it has of its own, or at its offset of one that the trace made, which is live (Vulkan, "Resource Memory Association"; VMA, "Dedicated allocations").
   abbrev pub LiesAt : ℕ → Place → Placed → Type 0
@@ -33,12 +45,13 @@ module _ (alive : ℕ → Option Entry) (s : Held) where
   LiesAt b (place.Memory m o) p = IsTrue (holds (alive m) is_memory) × (object_of s m ≡ Some p.object) × (p.offset ≡ o)
   LiesAt b _ p = ⊥
 
-  -- The live objects of all ids, by the entries that made them: their buffers are those that are held, of the sizes that were asked for and at their places; their memory objects are held too, with as many bytes as were asked for, and no others (Vulkan, "Buffers" and "Device Memory").
+  -- The live objects of all ids, by the entries that made them: their buffers are those that are held, of the sizes that were asked for and at their places; their memory objects are held too, of the types and with as many bytes as were asked for, and no others (Vulkan, "Buffers" and "Device Memory").
   pub record Matches : Type 0 where
     pub sizes : (b : ℕ) → option_map (λ p. p.size) (placed s b) ≡ option_map (λ i. i.size) (option_and_then buffer_in (alive b))
     pub places : (b : ℕ) (p : Placed) (i : BufferInfo) → placed s b ≡ Some p → option_and_then buffer_in (alive b) ≡ Some i → LiesAt b i.place p
     pub owned : (i : ℕ) → is_some (object_of s i) ≡ holds (alive i) has_memory
     pub memories : (m number : ℕ) (x : MemoryInfo) → option_and_then memory_in (alive m) ≡ Some x → object_of s m ≡ Some number → length (region_of s.memory number) ≡ x.size
+    pub types : (i number t : ℕ) → option_and_then type_made (alive i) ≡ Some t → object_of s i ≡ Some number → type_of s.memory number ≡ t
 
 -- What is held is what is live after these points (Vulkan, "Object Lifetime").
 abbrev pub MatchesLive : Past → Held → Type 0

@@ -1,6 +1,8 @@
-ghost use Rattle.std.specs.Prelude.{◌≡◌, ℕ, ◌<◌, ◌+◌, ◌≤◌, IfOk, OnOk, None, Some, length};
-ghost use Rattle.vk_memory.specs.MemoryState.{region_of};
-ghost use Rattle.vk_heap.specs.Region.{piece};
+ghost use Rattle.std.specs.Prelude.{◌≡◌, ℕ, ◌<◌, ◌+◌, ◌≤◌, IfOk, OnOk, None, Some, is_some, false, length, map};
+ghost use Rattle.vk_map_cache.specs.Holdings.{given};
+ghost use Rattle.vk_model.specs.Basics.{below};
+ghost use Rattle.vk_model.specs.World.Bytes.{in_buffer};
+ghost use Rattle.vk_model.specs.Run.CachedRuns.{after_host_write};
 ghost use Rattle.vk_model.specs.Trace.Point.{Past};
 
 use crate::applied::Applied;
@@ -13,19 +15,19 @@ use vk_model::{Entry, Place, Sequence};
 const BUFFER_UNIT: u64 = 16;
 
 impl Resources {
-    ghost use Rattle.vk_resources.specs.Held.{placed, object_of, IsApart};
+    ghost use Rattle.vk_resources.specs.Held.{placed, object_of, seen_at, Stands};
     ghost use Rattle.vk_resources.specs.Matches.{MatchesLive};
     ghost use Rattle.vk_resources.specs.Allocating.{Rooms, Allots};
     ghost use Rattle.vk_resources.specs.Fits.{FitsEntry};
     ghost use Rattle.vk_resources.specs.Done.{DoneBy, EntryReady};
-    ghost use Rattle.vk_resources.specs.Inner.Steps.{MayReach, HasWritten, MadeOr, BufferMade, MemoryMade, BindReady, Binds, IsEmpty, Ends};
+    ghost use Rattle.vk_resources.specs.Inner.Steps.{MayReach, HasChanged, cached_at, MadeOr, BufferMade, MemoryMade, BindReady, Binds, IsEmpty, Ends};
 
     /// Makes a memory object for an id, and answers its number; none where there is no room.
     fn allocate(&mut self, id: u32, memory_type: u32, size: u64) -> Result<Option<u64>, AllocError>
         requires absent { object_of self.old id ≡ None }
         requires some { 0 < size }
         ensures made { IfOk result (λ o. MadeOr o self.old self.new id memory_type size) }
-        ensures apart { IsApart self.old.memory self.old.owned self.old.buffers }
+        ensures stands { Stands self.old }
     {
         let number = match self.memories.allocate(memory_type, size) {
             Ok(number) => number,
@@ -41,7 +43,7 @@ impl Resources {
         requires absent { object_of self.old id ≡ None }
         requires some { 0 < size }
         ensures made { IfOk result (λ a. MemoryMade a self.old self.new id memory_type size) }
-        ensures apart { IsApart self.old.memory self.old.owned self.old.buffers }
+        ensures stands { Stands self.old }
     {
         match self.allocate(id, memory_type, size)? {
             Some(_) => Ok(Applied::Done),
@@ -52,10 +54,11 @@ impl Resources {
     /// Makes a buffer in a memory object of its own.
     fn make_buffer(&mut self, id: u32, memory_type: u32, size: u64) -> Result<Applied, AllocError>
         requires absent { object_of self.old id ≡ None }
+        requires unplaced { placed self.old id ≡ None }
         requires some { 0 < size }
         requires bounded { size ≤ 67108864 }
         ensures made { IfOk result (λ a. BufferMade a self.old self.new id memory_type size) }
-        ensures apart { IsApart self.old.memory self.old.owned self.old.buffers }
+        ensures stands { Stands self.old }
     {
         let bytes = (size + (BUFFER_UNIT - 1)) / BUFFER_UNIT * BUFFER_UNIT;
         match self.allocate(id, memory_type, bytes)? {
@@ -84,9 +87,10 @@ impl Resources {
         size: u64,
     ) -> Result<(), AllocError>
         // What the type's invariant says may be used to show it.
-        requires { IsApart self.old.memory self.old.owned self.old.buffers → BindReady self.old memory offset size }
+        requires ready { Stands self.old → BindReady self.old memory offset size }
+        requires absent { placed self.old id ≡ None }
         ensures bound { OnOk result (Binds self.old self.new id memory offset size) }
-        ensures apart { IsApart self.old.memory self.old.owned self.old.buffers }
+        ensures stands { Stands self.old }
     {
         if let Some(object) = self.owned.get(&memory) {
             let object = *object;
@@ -102,22 +106,38 @@ impl Resources {
         Ok(())
     }
 
-    /// Ends what an id has: its buffer, and its memory object, which is freed.
+    /// Ends what an id has: its buffer, with what the host's cache holds of it, and its memory object,
+    /// which is freed, with the room that the cache has for it.
     fn end(&mut self, id: u32)
-        requires { IsApart self.old.memory self.old.owned self.old.buffers → IsEmpty self.old id }
+        requires { Stands self.old → IsEmpty self.old id }
         ensures ended { Ends self.old self.new id }
-        ensures apart { IsApart self.old.memory self.old.owned self.old.buffers }
+        ensures stands { Stands self.old }
     {
+        self.forget(id);
         self.buffers.remove(&id);
         if let Some(object) = self.owned.remove(&id) {
+            let size = self.memories.region(object).size();
+            self.cache.drop_range(object, 0, size);
             self.memories.free(object);
         }
     }
 
     /// Writes bytes of the host to a buffer that is there.
-    fn write(&mut self, id: u32, offset: u64, bytes: &[u8])
+    fn write(&mut self, id: u32, offset: u64, bytes: &[u8]) -> Result<(), AllocError>
         requires { MayReach (placed self.old id) offset (length bytes.now) }
-        ensures { HasWritten self.old self.new id offset bytes.now }
+        ensures { OnOk result (HasChanged self.old self.new id (λ k. after_host_write (is_some (cached_at self.old id)) (given offset bytes.now k))) }
+    {
+        if self.cached(id).is_some() {
+            return self.write_cached(id, offset, bytes);
+        }
+        self.write_memory(id, offset, bytes);
+        Ok(())
+    }
+
+    /// Writes bytes of the host to a buffer that is there, as they are to be in memory at once.
+    fn write_memory(&mut self, id: u32, offset: u64, bytes: &[u8])
+        requires { MayReach (placed self.old id) offset (length bytes.now) }
+        ensures { HasChanged self.old self.new id (λ k. after_host_write false (given offset bytes.now k)) }
     {
         if let Some(buffer) = self.placed(id) {
             let region = self.memories.region_mut(buffer.object);
@@ -127,18 +147,13 @@ impl Resources {
         }
     }
 
-    /// Reads bytes of a buffer that is there.
+    /// Reads bytes of a buffer that is there, as the host sees them.
     fn read(&self, id: u32, offset: u64, size: u64) -> Result<Sequence<u8>, AllocError>
         requires { MayReach (placed self.now id) offset size }
-        ensures bytes { (b : Placed) → placed self.now id ≡ Some b → IfOk result (λ bytes. bytes ≡ piece (region_of self.now.memory b.object) (b.offset + offset) size) }
-        ensures apart { IsApart self.now.memory self.now.owned self.now.buffers }
+        ensures bytes { IfOk result (λ bytes. bytes ≡ map (λ k. seen_at self.now (in_buffer id (offset + k))) (below size)) }
     {
         let mut bytes = vec![in self.alloc; 0u8; size as usize]?;
-        if let Some(buffer) = self.placed(id) {
-            let region = self.memories.region(buffer.object);
-            let _size = region.size();
-            region.read(buffer.offset + offset, &mut bytes);
-        }
+        self.copy_seen(id, offset, &mut bytes);
         Ok(Sequence::new(bytes))
     }
 
@@ -173,7 +188,7 @@ impl Resources {
                 offset,
                 bytes,
             } => {
-                self.write(*buffer, *offset, bytes.as_slice());
+                self.write(*buffer, *offset, bytes.as_slice())?;
                 Ok(Applied::Done)
             }
             Entry::Read {
@@ -183,6 +198,22 @@ impl Resources {
             } => {
                 let bytes = self.read(*buffer, *offset, *size)?;
                 Ok(Applied::Bytes(bytes))
+            }
+            Entry::Flush {
+                buffer,
+                offset,
+                size,
+            } => {
+                self.flush(*buffer, *offset, *size);
+                Ok(Applied::Done)
+            }
+            Entry::Invalidate {
+                buffer,
+                offset,
+                size,
+            } => {
+                self.invalidate(*buffer, *offset, *size);
+                Ok(Applied::Done)
             }
             _ => Ok(Applied::Done),
         }

@@ -1,7 +1,8 @@
-//! The resources of a device, and the memory that they lie in.
+//! The resources of a device, the memory that they lie in, and the host's cache in front of it.
 #![tactic(auto)]
 
 mod applied;
+mod caching;
 mod entries;
 mod pieces;
 mod resources;

@@ -66,6 +66,7 @@ impl Resources {
         ensures ran { (past : Past) (ms : List ByteWrite) → MatchesLive past self.old → FitsCommand past work.now → slice_get (pieces past work.now) number ≡ Some ms → HaveRun ms (byte_at self.old) (byte_at self.new) }
         ensures matches { (past : Past) → MatchesLive past self.old → MatchesLive past self.new }
         ensures placed { self.new.buffers ≡ self.old.buffers }
+        ensures cache { self.new.cache ≡ self.old.cache }
         ensures allotted { allotted self.new ≡ allotted self.old }
     {
         match work.command {

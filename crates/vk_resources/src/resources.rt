@@ -5,6 +5,7 @@ ghost use Rattle.vk_heap.specs.Region.{piece};
 use std::alloc::Global;
 use std::collections::BTreeMap;
 use std::marker::Model;
+use vk_map_cache::HostCache;
 use vk_memory::Memories;
 use vk_model::Config;
 
@@ -30,7 +31,10 @@ pub struct Placed {
     pub offset: u64,
 }
 
-/// Buffers, and the memory that they lie in.
+/// The type of memory that the host reaches through a cache that isn't coherent (profile).
+const CACHED_TYPE: u32 = 2;
+
+/// Buffers, the memory that they lie in, and the host's cache in front of it.
 #[derive(Drop)]
 pub struct Resources {
     pub(crate) alloc: Global,
@@ -38,33 +42,39 @@ pub struct Resources {
     /// The number of the memory object that an id has: one that the trace made, or a buffer's own.
     pub(crate) owned: BTreeMap<u32, u64>,
     pub(crate) buffers: BTreeMap<u32, Placed>,
+    /// What the host has written there or read, and no queue sees.
+    pub(crate) cache: HostCache,
 }
 
 impl Model for Resources {
     ghost use Rattle.std.specs.Prelude.{ℕ, List};
-    ghost use Rattle.vk_resources.specs.Held.{Held, IsApart};
+    ghost use Rattle.vk_resources.specs.Held.{Held, IsApart, IsCaching};
 
     ghost Value = { Held };
 
-    ghost view = { λ r. record { memory = r.memories; owned = r.owned.entries; buffers = r.buffers.entries } };
+    ghost view = { λ r. record { memory = r.memories; owned = r.owned.entries; buffers = r.buffers.entries; cache = r.cache } };
 
-    ghost invariant = { λ r. IsApart r.memories r.owned.entries r.buffers.entries };
+    ghost invariant = { λ r. IsApart r.memories r.owned.entries r.buffers.entries
+        × IsCaching r.memories r.buffers.entries r.cache };
 }
 
 impl Resources {
     ghost use Rattle.vk_resources.specs.Held.{placed, spot_of};
+    ghost use Rattle.vk_resources.specs.Inner.Steps.{cached_at};
 
     /// No buffers, on heaps of these sizes. It takes no memory.
     pub fn new(alloc: Global, config: Config) -> Resources
         ensures memory { result.memory ≡ record { sizes = config; objects = [] } }
         ensures owned { result.owned ≡ [] }
         ensures buffers { result.buffers ≡ [] }
+        ensures cache { result.cache ≡ [] }
     {
         Resources {
             alloc,
             memories: Memories::new(alloc, config),
             owned: BTreeMap::new(alloc),
             buffers: BTreeMap::new(alloc),
+            cache: HostCache::new(alloc),
         }
     }
 
@@ -83,6 +93,19 @@ impl Resources {
         match self.placed(buffer) {
             Some(placed) => placed,
             None => unreachable!(),
+        }
+    }
+
+    /// Where a buffer lies that is in cached memory; none where there is no such buffer, and where it is
+    /// in other memory.
+    pub(crate) fn cached(&self, buffer: u32) -> Option<Placed>
+        ensures { result ≡ cached_at self.now buffer }
+    {
+        let placed = self.placed(buffer)?;
+        if self.memories.memory_type(placed.object) == CACHED_TYPE {
+            Some(placed)
+        } else {
+            None
         }
     }
 

@@ -1,19 +1,21 @@
 -- What each step of a device asks of it, and gives.
-use Rattle.std.specs.Prelude.{◌≡◌, ℕ, ◌+◌, ◌<◌, List, [], ◌∷◌, ◌++◌, length, Option, Some, None, Bool, true, false, IsTrue}
+use Rattle.std.specs.Prelude.{◌≡◌, ℕ, ◌+◌, ◌<◌, List, [], ◌∷◌, ◌++◌, length, Option, Some, None, Bool, true, false, if◌then◌else◌, IsTrue}
 use Rattle.vk_model.specs.declared.entry.Entry.{Entry}
 use Rattle.vk_model.specs.declared.command.Cmd.{Cmd}
 use Rattle.vk_model.specs.Trace.Point.{Past, Point, Run}
 use Rattle.vk_model.specs.Trace.Order.{host}
 use Rattle.vk_model.specs.World.Bytes.{Byte}
 use Rattle.vk_model.specs.Run.Pieces.{pieces}
-use Rattle.vk_model.specs.Run.Runs.{Name, Step, Stage, RunPiece, Apply, may_go}
+use Rattle.vk_model.specs.Run.Runs.{Name, Step, Stage, RunPiece, Apply, may_go, touched_by, atom_count}
 use Rattle.vk_model.specs.Run.Runs as runs
-use Rattle.vk_model.specs.Run.Picks.{before_entry}
+use Rattle.vk_model.specs.Run.Picks.{before_entry, atom_picks}
+use Rattle.vk_model.specs.Run.Caches.{Cell}
+use Rattle.vk_model.specs.Run.CachedRuns.{in_atoms, turned_over}
 use Rattle.vk_model.specs.Sync.Node.{Node, nodes}
-use Rattle.vk_laws.specs.DirectRuns.{DirectRun, bare_memory}
+use Rattle.vk_laws.specs.DirectRuns.{DirectRun, HostMemory, cells_of}
 use Rattle.vk_queues.specs.IsWaiting.{IsWaiting}
 use Rattle.vk_offers.specs.IsOffers.{IsOffers, CountsBefore, host_node, is_free_next, is_run}
-use Rattle.vk_resources.specs.Held.{Held, byte_at, IsThere}
+use Rattle.vk_resources.specs.Held.{Held, IsThere, HasCell}
 use Rattle.vk_resources.specs.Matches.{MatchesLive}
 use Rattle.vk_resources.specs.Fits.{FitsCommand, NamesLive}
 use Rattle.vk_device.specs.declared.device.Device.{Device}
@@ -25,11 +27,23 @@ Waited d x None = (s : Stage) → may_go s x ≡ true
 Waited d x (Some counts) = (t : List Entry) (steps : List Step) (s : Stage) (xs : List Entry) → IsBefore t steps s x xs d → CountsBefore (host_node s.front.past s.count x ∷ nodes s.front.past) (host_node s.front.past s.count x) counts
     × ((done : List Name) → may_go (record s { done = done }) x ≡ is_free_next s.front.past done (host_node s.front.past s.count x))
 
--- An entry has been done by itself: the run has come to its stage, and its points haven't come to the device.
-pub record HostDone (t : List Entry) (steps : List Step) (s : Stage) (x : Entry) (xs : List Entry) (d : Device) : Type 0 where
-  pub bytes : Byte → ℕ
-  pub run : DirectRun t (steps ++ Apply [] 0 ∷ []) (runs.applied s 0 x xs) (bare_memory bytes)
-  pub holds : (c : Byte) → IsThere d.resources c → byte_at d.resources c ≡ bytes c
+-- Just before an entry the host's cache has taken up or given back atoms of the buffer that it accesses, and nothing else has changed (Vulkan, "Host Access to Device Memory Objects").
+pub record HasTouched (x : Entry) (atoms : List ℕ) (old new : Held) : Type 0 where
+  pub cells : (c : Byte) (cell : Cell) → IsThere old c → HasCell old c cell → HasCell new c (if in_atoms (touched_by x) atoms c then turned_over cell else cell)
+  pub matches : (past : Past) → MatchesLive past old → MatchesLive past new
+  pub buffers : new.buffers ≡ old.buffers
+  pub same : atoms ≡ [] → new ≡ old
+
+-- The scheduler was asked for each atom that the buffer has in the host's cache, and those have been taken up or given back that it picked (profile).
+pub record Touches (answer : List ℕ → ℕ → ℕ) (next : List ℕ → ℕ → List ℕ) (past : Past) (x : Entry) (held : List ℕ) (old new : Held) (after : List ℕ) : Type 0 where
+  pub touched : HasTouched x (atom_picks answer next (atom_count past x) 0 held).0 old new
+  pub holds : after ≡ (atom_picks answer next (atom_count past x) 0 held).1
+
+-- An entry has been done by itself, after these atoms: the run has come to its stage, and its points haven't come to the device.
+pub record HostDone (t : List Entry) (steps : List Step) (s : Stage) (x : Entry) (xs : List Entry) (atoms : List ℕ) (d : Device) : Type 0 where
+  pub memory : HostMemory
+  pub run : DirectRun t (steps ++ Apply atoms 0 ∷ []) (runs.applied s 0 x xs) memory
+  pub holds : (c : Byte) → IsThere d.resources c → HasCell d.resources c (cells_of memory c)
   pub matches : MatchesLive (host s.count x ∷ s.front.past) d.resources
   pub works : AreWorks d.works.items s.front.past
   pub waits : IsWaiting d.waiting d.count s.front
@@ -38,8 +52,9 @@ pub record HostDone (t : List Entry) (steps : List Step) (s : Stage) (x : Entry)
   pub no_parts : s.parts ≡ 0
   pub sound : IsSoundTrace t
 
+-- An entry of some trace has been.
 abbrev pub AdvanceReady : Device → Entry → Type 0
-AdvanceReady d x = (t : List Entry) × (steps : List Step) × (s : Stage) × (xs : List Entry) × HostDone t steps s x xs d
+AdvanceReady d x = (t : List Entry) × (steps : List Step) × (s : Stage) × (xs : List Entry) × (atoms : List ℕ) × HostDone t steps s x xs atoms d
 
 -- A command that comes fits what the resources are, and names live objects where it has a piece.
 pub record CommandFits (past : Past) (c : Cmd) (resources : Held) : Type 0 where

@@ -1,12 +1,14 @@
 -- What each step asks of resources, and what it changes there.
-use Rattle.std.specs.Prelude.{◌≡◌, ℕ, ◌+◌, ◌<◌, ◌≤◌, [], ◌∷◌, ◌++◌, length, List, Option, Some, None, unwrap_or, All}
-use Rattle.vk_memory.specs.MemoryState.{MemoryState, IsFull, fresh, region_of, with_object}
+use Rattle.std.specs.Prelude.{◌≡◌, ℕ, ◌+◌, ◌-◌, ◌/◌, ◌%◌, ◌<◌, ◌≤◌, ◌==◌, [], ◌∷◌, ◌++◌, length, List, Option, Some, None, option_and_then, if◌then◌else◌, All}
+use Rattle.vk_memory.specs.MemoryState.{MemoryState, IsFull, fresh, region_of, type_of, with_object}
+use Rattle.vk_map_cache.specs.Holdings.{held_at}
 use Rattle.vk_model.specs.declared.command.Length.{Length}
+use Rattle.vk_model.specs.declared.command.Length.TheVariants as length_of
 use Rattle.vk_model.specs.declared.command.BufferCopy.{BufferCopy}
 use Rattle.vk_model.specs.Basics.{round_up}
-use Rattle.vk_model.specs.World.Bytes.{Byte}
+use Rattle.vk_model.specs.World.Bytes.{Byte, in_buffer, in_image}
 use Rattle.vk_model.specs.World.ByteWrites.{ByteWrite, fill_size}
-use Rattle.vk_model.specs.World.Effect.{written}
+use Rattle.vk_model.specs.Run.Caches.{Cell}
 use Rattle.vk_transfer.specs.declared.filling.Fill.{Fill}
 use Rattle.vk_transfer.specs.Ran.{HaveRun, AreApart}
 use Rattle.vk_transfer.specs.Copies.{FitsBuffers, copy_pieces}
@@ -14,7 +16,7 @@ use Rattle.vk_resources.specs.declared.applied.Applied.{Applied}
 use Rattle.vk_resources.specs.declared.applied.Applied.TheVariants as applied
 use Rattle.vk_resources.specs.declared.resources.Placed.{Placed}
 use Rattle.vk_resources.specs.Allocating.{allotted}
-use Rattle.vk_resources.specs.Held.{Held, placed, object_of, byte_at}
+use Rattle.vk_resources.specs.Held.{Held, placed, object_of, byte_at, host_at, is_cached_in, IsInAtoms, IsThere, HasCell}
 
 -- ---- bytes
 
@@ -31,19 +33,45 @@ pub record KeepsPlaces (old new : Held) : Type 0 where
   pub buffers : new.buffers ≡ old.buffers
   pub same : allotted new ≡ allotted old
   pub lengths : (number : ℕ) → length (region_of new.memory number) ≡ length (region_of old.memory number)
+  pub types : (number : ℕ) → type_of new.memory number ≡ type_of old.memory number
 
--- Byte writes have been made, and nothing else has changed (Vulkan, "Copy Commands").
+-- Byte writes have been made in memory, and nothing else has changed (Vulkan, "Copy Commands").
 abbrev pub HasRun : Held → Held → List ByteWrite → Type 0
-HasRun old new ms = KeepsPlaces old new × HaveRun ms (byte_at old) (byte_at new)
+HasRun old new ms = KeepsPlaces old new × HaveRun ms (byte_at old) (byte_at new) × (new.cache ≡ old.cache)
 
--- The host has written bytes to a buffer, and nothing else has changed (Vulkan, "Host Access to Device Memory Objects").
-abbrev pub HasWritten : Held → Held → ℕ → ℕ → List ℕ → Type 0
-HasWritten old new b o bytes = KeepsPlaces old new × ((c : Byte) → byte_at new c ≡ unwrap_or (written b o bytes c) (byte_at old c))
+-- Where a buffer lies that is in cached memory; none where there is no such buffer, and where it is in other memory.
+abbrev pub cached_at : Held → ℕ → Option Placed
+cached_at s b = option_and_then (λ p. if is_cached_in s.memory p then Some p else None) (placed s b)
+
+-- What becomes of a byte where a change is of the bytes of a buffer.
+abbrev pub changed_of : ℕ → (ℕ → Cell → Cell) → Byte → Cell → Cell
+changed_of b change (in_buffer c k) cell = if b == c then change k cell else cell
+changed_of b change (in_image i l a x y p) cell = cell
+
+-- Each byte of a buffer has become what the change makes of it, in memory and in the host's cache, and nothing else has changed.
+abbrev pub HasChanged : Held → Held → ℕ → (ℕ → Cell → Cell) → Type 0
+HasChanged old new b change = KeepsPlaces old new × ((c : Byte) (cell : Cell) → IsThere old c → HasCell old c cell → HasCell new c (changed_of b change c cell))
 
 -- A range lies in a buffer that is there.
 abbrev pub MayReach : Option Placed → ℕ → ℕ → Type 0
 MayReach None o n = ⊥
 MayReach (Some b) o n = o + n ≤ b.size
+
+-- The same of a range that may go to the end, and then begins before it.
+abbrev pub MayReachTo : Option Placed → ℕ → Length → Type 0
+MayReachTo b o (length_of.Bytes n) = MayReach b o n
+MayReachTo None o length_of.Whole = ⊥
+MayReachTo (Some b) o length_of.Whole = o < b.size
+
+-- A buffer that is there has an atom of this number.
+abbrev pub HasAtom : Option Placed → ℕ → Type 0
+HasAtom None k = ⊥
+HasAtom (Some b) k = k ≤ (b.size - 1) / 64
+
+-- How many bytes a range has that may go to the end.
+abbrev pub length_to : ℕ → ℕ → Length → ℕ
+length_to end o (length_of.Bytes n) = n
+length_to end o length_of.Whole = end - o
 
 -- A piece of a copy is one of its regions, each of which lies in both buffers (Vulkan, "Copying Data Between Buffers").
 abbrev pub CopyReady : Placed → Placed → List BufferCopy → ℕ → Type 0
@@ -59,7 +87,7 @@ pub record Makes (old new : Held) (id t size : ℕ) : Type 0 where
 
 -- A memory object was made for an id, and this is its number; or nothing has changed, exactly where there is no room for it.
 abbrev pub MadeOr : Option ℕ → Held → Held → ℕ → ℕ → ℕ → Type 0
-MadeOr (Some number) old new id t size = (number ≡ length old.memory.objects) × Makes old new id t size × (new.buffers ≡ old.buffers) × (IsFull old.memory t size → ⊥)
+MadeOr (Some number) old new id t size = (number ≡ length old.memory.objects) × Makes old new id t size × (new.buffers ≡ old.buffers) × (IsFull old.memory t size → ⊥) × (new.cache ≡ old.cache)
 MadeOr None old new id t size = (new ≡ old) × IsFull old.memory t size
 
 -- A buffer was put somewhere, and no other was.
@@ -69,28 +97,29 @@ pub record Puts (old new : Held) (id : ℕ) (p : Placed) : Type 0 where
 
 -- A buffer was made in a memory object of its own, of a multiple of 16 bytes (profile); or nothing has changed, exactly where there is no room for its memory object.
 abbrev pub BufferMade : Applied → Held → Held → ℕ → ℕ → ℕ → Type 0
-BufferMade applied.Done old new id t size = Makes old new id t (round_up size 16) × Puts old new id (record { size = size; object = length old.memory.objects; offset = 0 }) × (IsFull old.memory t (round_up size 16) → ⊥)
+BufferMade applied.Done old new id t size = Makes old new id t (round_up size 16) × Puts old new id (record { size = size; object = length old.memory.objects; offset = 0 }) × (IsFull old.memory t (round_up size 16) → ⊥) × (new.cache ≡ old.cache)
 BufferMade (applied.Bytes bytes) old new id t size = ⊥
 BufferMade applied.NoRoom old new id t size = (new ≡ old) × IsFull old.memory t (round_up size 16)
 
 -- A memory object was made; or nothing has changed, exactly where there is no room for it.
 abbrev pub MemoryMade : Applied → Held → Held → ℕ → ℕ → ℕ → Type 0
-MemoryMade applied.Done old new id t size = Makes old new id t size × (new.buffers ≡ old.buffers) × (IsFull old.memory t size → ⊥)
+MemoryMade applied.Done old new id t size = Makes old new id t size × (new.buffers ≡ old.buffers) × (IsFull old.memory t size → ⊥) × (new.cache ≡ old.cache)
 MemoryMade (applied.Bytes bytes) old new id t size = ⊥
 MemoryMade applied.NoRoom old new id t size = (new ≡ old) × IsFull old.memory t size
 
--- A buffer of this size may be bound at this offset of the memory object that an id has: it has bytes, ends there, and meets no other buffer (Vulkan, "Resource Memory Association" and "Memory Aliasing").
+-- A buffer of this size may be bound at this offset of the memory object that an id has: it has bytes, ends there, begins with an atom where the memory is cached, and meets no other buffer (Vulkan, "Resource Memory Association" and "Memory Aliasing").
 pub record BindReady (s : Held) (memory offset size : ℕ) : Type 0 where
   pub number : ℕ
   pub has : object_of s memory ≡ Some number
   pub some : 0 < size
   pub room : offset + size ≤ length (region_of s.memory number)
   pub apart : (c : ℕ) (q : Placed) → placed s c ≡ Some q → q.object ≡ number → AreApart offset size q.offset q.size
+  pub aligned : type_of s.memory number ≡ 2 → offset % 64 ≡ 0
 
 -- It was bound there, and nothing else has changed.
 abbrev pub Binds : Held → Held → ℕ → ℕ → ℕ → ℕ → Type 0
 Binds old new id memory offset size =
-    (new.memory ≡ old.memory) × (new.owned ≡ old.owned) × ((number : ℕ) → object_of old memory ≡ Some number → Puts old new id (record { size = size; object = number; offset = offset }))
+    (new.memory ≡ old.memory) × (new.owned ≡ old.owned) × ((number : ℕ) → object_of old memory ≡ Some number → Puts old new id (record { size = size; object = number; offset = offset })) × (new.cache ≡ old.cache)
 
 -- No buffer but that of an id itself lies in the memory object that the id has.
 abbrev pub IsEmpty : Held → ℕ → Type 0
@@ -101,10 +130,16 @@ abbrev pub freed : MemoryState → Option ℕ → MemoryState
 freed m None = m
 freed m (Some number) = with_object m number None
 
--- An id has ended: its buffer isn't there any more, nor the memory object that it had, and nothing else has changed (Vulkan, "Object Lifetime").
+-- Nothing is held any more of a buffer in cached memory, nor of its atoms; what is held of others hasn't changed.
+pub record Forgets (old new : Held) (id : ℕ) : Type 0 where
+  pub gone : (p : Placed) (k : ℕ) → cached_at old id ≡ Some p → IsInAtoms p k → held_at new.cache p.object k ≡ None
+  pub others : (b k : ℕ) → (b ≡ id → ⊥) → host_at new (in_buffer b k) ≡ host_at old (in_buffer b k)
+
+-- An id has ended: its buffer isn't there any more, nor what the host's cache held of it, nor the memory object that it had, and nothing else has changed (Vulkan, "Object Lifetime").
 pub record Ends (old new : Held) (id : ℕ) : Type 0 where
   pub memory : new.memory ≡ freed old.memory (object_of old id)
   pub no_object : object_of new id ≡ None
   pub objects : (i : ℕ) → (i ≡ id → ⊥) → object_of new i ≡ object_of old i
   pub no_buffer : placed new id ≡ None
   pub buffers : (b : ℕ) → (b ≡ id → ⊥) → placed new b ≡ placed old b
+  pub held : (b k : ℕ) → (b ≡ id → ⊥) → host_at new (in_buffer b k) ≡ host_at old (in_buffer b k)

@@ -1,14 +1,15 @@
 use Rattle.std.proofs.Common.{ap, map, refl}
 use Rattle.vk_model.specs.Sync.Node.{Runs}
+use Rattle.vk_laws.specs.DirectRuns.{bare_memory}
 use Rattle.vk_resources.specs.Held.{byte_at}
-use Rattle.vk_device.proofs.Coming.{nothing_held}
+use Rattle.vk_device.proofs.Coming.{nothing_held, none_there}
 use Rattle.vk_device.proofs.device.Device.new.Goals as goal
 
 pub returns-clause-led : goal.returns-clause-led
 returns-clause-led c = λ t. record {
-  bytes = byte_at c.new.result;
+  memory = bare_memory (byte_at c.new.result);
   run = c.direct_runs_go_on.ensures.begins t (byte_at c.new.result);
-  holds = λ b there. refl;
+  holds = λ b there. absurd (none_there c.new.result c.new.ensures.buffers b there);
   matches = nothing_held c.new.result c.new.ensures.owned c.new.ensures.buffers;
   works = ap (λ works. map Runs works) c.new-4.ensures.items;
   waits = c.new-2.ensures;

@@ -1,7 +1,8 @@
 use Rattle.std.proofs.Common.{ap, sym, ◌∙◌}
 use Rattle.std.proofs.lemmas.Result.{IfOk-weaker}
 use Rattle.vk_model.specs.declared.entry.Entry.TheVariants as entry
-use Rattle.vk_resources.proofs.Applying.{memory_done, buffer_done, bound_done, write_done, read_done, rest_done}
+use Rattle.vk_resources.proofs.Applying.{memory_done, buffer_done, bound_done, rest_done}
+use Rattle.vk_resources.proofs.HostAccesses.{write_done, flush_done, invalidate_done, read_done}
 use Rattle.vk_resources.proofs.Ending.{memory_absent, buffer_absent, entry_binds, free_empty, free_done, destroy_empty, destroy_done}
 use Rattle.vk_resources.proofs.Allotting.{memory_rooms, buffer_rooms, memory_allots, buffer_allots, bound_rooms, bound_allots, bound_same, free_allots, destroy_allots, rest_rooms, rest_allots, is_rest}
 use Rattle.vk_resources.proofs.resources.Resources.apply.Goals as goal
@@ -10,7 +11,7 @@ use Rattle.vk_resources.proofs.resources.Resources.apply.Goals as goal
 
 pub returns-in-Memory-clause-done : goal.returns-in-Memory-clause-done
 returns-in-Memory-clause-done c =
-    IfOk-weaker c.make_memory.result _ _ (λ a made. λ e past m fit. memory_done c.args.self.now c.make_memory.new.self c.args.entry.now c.in-Memory.id c.in-Memory.info c.in-Memory.is c.make_memory.ensures.apart a made e past m fit) c.make_memory.ensures.made
+    IfOk-weaker c.make_memory.result _ _ (λ a made. λ e past m fit. memory_done c.args.self.now c.make_memory.new.self c.args.entry.now c.in-Memory.id c.in-Memory.info c.in-Memory.is c.make_memory.ensures.stands.0 a made e past m fit) c.make_memory.ensures.made
 
 pub returns-in-Memory-clause-rooms : goal.returns-in-Memory-clause-rooms
 returns-in-Memory-clause-rooms c =
@@ -19,7 +20,7 @@ returns-in-Memory-clause-rooms c =
 pub returns-in-Memory-clause-allots : goal.returns-in-Memory-clause-allots
 returns-in-Memory-clause-allots c =
     IfOk-weaker c.make_memory.result _ _ (λ a made. λ past m fit.
-    memory_allots c.args.self.now c.make_memory.new.self c.args.entry.now c.in-Memory.id c.in-Memory.info c.in-Memory.is (memory_absent c.args.self.now c.args.entry.now c.in-Memory.id c.in-Memory.info c.in-Memory.is past m fit) c.make_memory.ensures.apart a made)
+    memory_allots c.args.self.now c.make_memory.new.self c.args.entry.now c.in-Memory.id c.in-Memory.info c.in-Memory.is (memory_absent c.args.self.now c.args.entry.now c.in-Memory.id c.in-Memory.info c.in-Memory.is past m fit) c.make_memory.ensures.stands.0 a made)
     c.make_memory.ensures.made
 
 -- ---- buffers
@@ -27,7 +28,7 @@ returns-in-Memory-clause-allots c =
 pub returns-in-Dedicated-clause-done : goal.returns-in-Dedicated-clause-done
 returns-in-Dedicated-clause-done c =
     IfOk-weaker c.make_buffer.result _ _ (λ a made. λ e past m fit.
-    buffer_done c.args.self.now c.make_buffer.new.self c.args.entry.now c.in-Buffer.id c.in-Dedicated.memory_type c.in-Buffer.info c.in-Buffer.is c.in-Dedicated.is c.make_buffer.ensures.apart a made e past m fit)
+    buffer_done c.args.self.now c.make_buffer.new.self c.args.entry.now c.in-Buffer.id c.in-Dedicated.memory_type c.in-Buffer.info c.in-Buffer.is c.in-Dedicated.is c.make_buffer.ensures.stands a made e past m fit)
     c.make_buffer.ensures.made
 
 pub returns-in-Dedicated-clause-rooms : goal.returns-in-Dedicated-clause-rooms
@@ -38,19 +39,19 @@ pub returns-in-Dedicated-clause-allots : goal.returns-in-Dedicated-clause-allots
 returns-in-Dedicated-clause-allots c =
     IfOk-weaker c.make_buffer.result _ _ (λ a made. λ past m fit.
     buffer_allots c.args.self.now c.make_buffer.new.self c.args.entry.now c.in-Buffer.id c.in-Dedicated.memory_type c.in-Buffer.info c.in-Buffer.is c.in-Dedicated.is
-    (buffer_absent c.args.self.now c.args.entry.now c.in-Buffer.id c.in-Buffer.info c.in-Buffer.is past m fit) c.make_buffer.ensures.apart a made)
+    (buffer_absent c.args.self.now c.args.entry.now c.in-Buffer.id c.in-Buffer.info c.in-Buffer.is past m fit) c.make_buffer.ensures.stands.0 a made)
     c.make_buffer.ensures.made
 
-pub bind_buffer-requires : goal.bind_buffer-requires
-bind_buffer-requires c = λ apart.
+pub bind_buffer-requires-clause-ready : goal.bind_buffer-requires-clause-ready
+bind_buffer-requires-clause-ready c = λ apart.
     entry_binds c.args.self.now c.args.entry.now c.in-Buffer.id c.in-Memory-place.memory c.in-Memory-place.offset c.in-Buffer.info c.in-Buffer.is c.in-Memory-place.is c.requires.0 c.requires.1 c.requires.2 apart
 
 pub returns-in_ok-bind_buffer-in-Memory-place-clause-done : goal.returns-in_ok-bind_buffer-in-Memory-place-clause-done
 returns-in_ok-bind_buffer-in-Memory-place-clause-done c = λ e past m fit.
     let s = c.args.self.now in
     let y = c.args.entry.now in
-    bound_done s c.bind_buffer.new.self y c.in-Buffer.id c.in-Memory-place.memory c.in-Memory-place.offset c.in-Buffer.info c.in-Buffer.is c.in-Memory-place.is c.bind_buffer.ensures.apart
-    (entry_binds s y c.in-Buffer.id c.in-Memory-place.memory c.in-Memory-place.offset c.in-Buffer.info c.in-Buffer.is c.in-Memory-place.is past m fit c.bind_buffer.ensures.apart) c.in_ok-bind_buffer-in-Memory-place.ensures.bound e past m fit
+    bound_done s c.bind_buffer.new.self y c.in-Buffer.id c.in-Memory-place.memory c.in-Memory-place.offset c.in-Buffer.info c.in-Buffer.is c.in-Memory-place.is c.bind_buffer.ensures.stands
+    (entry_binds s y c.in-Buffer.id c.in-Memory-place.memory c.in-Memory-place.offset c.in-Buffer.info c.in-Buffer.is c.in-Memory-place.is past m fit c.bind_buffer.ensures.stands) c.in_ok-bind_buffer-in-Memory-place.ensures.bound e past m fit
 
 pub returns-in_ok-bind_buffer-in-Memory-place-clause-rooms : goal.returns-in_ok-bind_buffer-in-Memory-place-clause-rooms
 returns-in_ok-bind_buffer-in-Memory-place-clause-rooms c = λ past fit. bound_rooms c.args.self.now c.args.entry.now c.in-Buffer.id c.in-Memory-place.memory c.in-Memory-place.offset c.in-Buffer.info c.in-Buffer.is c.in-Memory-place.is
@@ -66,36 +67,42 @@ pub end-requires : goal.end-requires
 end-requires c = λ apart. λ number b p has other at object. free_empty c.args.self.now c.args.entry.now c.in-Free.memory c.in-Free.is c.requires.0 c.requires.1 c.requires.2 apart number b p has other at object
 
 pub returns-in-Free-clause-done : goal.returns-in-Free-clause-done
-returns-in-Free-clause-done c = λ e past m fit. free_done c.args.self.now c.args.entry.now c.in-Free.memory c.in-Free.is past m fit c.end.ensures.apart c.end.new.self c.end.ensures.ended e
+returns-in-Free-clause-done c = λ e past m fit. free_done c.args.self.now c.args.entry.now c.in-Free.memory c.in-Free.is past m fit c.end.ensures.stands c.end.new.self c.end.ensures.ended e
 
 pub returns-in-Free-clause-allots : goal.returns-in-Free-clause-allots
-returns-in-Free-clause-allots c = λ past m fit. free_allots c.args.self.now c.end.new.self c.args.entry.now c.in-Free.memory c.in-Free.is c.end.ensures.apart c.end.ensures.ended
+returns-in-Free-clause-allots c = λ past m fit. free_allots c.args.self.now c.end.new.self c.args.entry.now c.in-Free.memory c.in-Free.is c.end.ensures.stands.0 c.end.ensures.ended
 
 pub end-requires-in-Destroy : goal.end-requires-in-Destroy
 end-requires-in-Destroy c = λ apart. λ number b p has other at object. destroy_empty c.args.self.now c.args.entry.now c.in-Destroy.resource c.in-Destroy.is c.requires.0 c.requires.1 c.requires.2 apart number b p has other at object
 
 pub returns-in-Destroy-clause-done : goal.returns-in-Destroy-clause-done
-returns-in-Destroy-clause-done c = λ e past m fit. destroy_done c.args.self.now c.args.entry.now c.in-Destroy.resource c.in-Destroy.is past m fit c.end-in-Destroy.ensures.apart c.end-in-Destroy.new.self c.end-in-Destroy.ensures.ended e
+returns-in-Destroy-clause-done c = λ e past m fit. destroy_done c.args.self.now c.args.entry.now c.in-Destroy.resource c.in-Destroy.is past m fit c.end-in-Destroy.ensures.stands c.end-in-Destroy.new.self c.end-in-Destroy.ensures.ended e
 
 pub returns-in-Destroy-clause-allots : goal.returns-in-Destroy-clause-allots
-returns-in-Destroy-clause-allots c = λ past m fit. destroy_allots c.args.self.now c.end-in-Destroy.new.self c.args.entry.now c.in-Destroy.resource c.in-Destroy.is c.end-in-Destroy.ensures.apart c.end-in-Destroy.ensures.ended
+returns-in-Destroy-clause-allots c = λ past m fit. destroy_allots c.args.self.now c.end-in-Destroy.new.self c.args.entry.now c.in-Destroy.resource c.in-Destroy.is c.end-in-Destroy.ensures.stands.0 c.end-in-Destroy.ensures.ended
 
 -- ---- host accesses
 
-pub returns-in-Write-clause-done : goal.returns-in-Write-clause-done
-returns-in-Write-clause-done c = λ e past m fit.
+pub returns-in_ok-write-in-Write-clause-done : goal.returns-in_ok-write-in-Write-clause-done
+returns-in_ok-write-in-Write-clause-done c = λ e past m fit.
     write_done c.args.self.now c.write.new.self c.args.entry.now c.in-Write.buffer c.in-Write.offset c.as_slice.result.now
-    (c.in-Write.is ∙ ap (entry.Write c.in-Write.buffer c.in-Write.offset) (sym c.as_slice.ensures)) c.write.ensures e past m
+    (c.in-Write.is ∙ ap (entry.Write c.in-Write.buffer c.in-Write.offset) (sym c.as_slice.ensures)) c.in_ok-write-in-Write.ensures e past m fit
 
 pub returns-in_ok-bytes-in-Read-clause-done : goal.returns-in_ok-bytes-in-Read-clause-done
 returns-in_ok-bytes-in-Read-clause-done c = λ e past m fit.
-    read_done c.args.self.now c.args.entry.now c.in-Read.buffer c.in-Read.offset c.in-Read.size c.in_ok-bytes-in-Read.bytes c.in-Read.is c.in_ok-bytes-in-Read.ensures.apart (λ p here. c.in_ok-bytes-in-Read.ensures.bytes p here) e past m fit
+    read_done c.args.self.now c.args.entry.now c.in-Read.buffer c.in-Read.offset c.in-Read.size c.in_ok-bytes-in-Read.bytes c.in-Read.is c.in_ok-bytes-in-Read.ensures.bytes e past m fit
+
+pub returns-in-Flush-clause-done : goal.returns-in-Flush-clause-done
+returns-in-Flush-clause-done c = λ e past m fit. flush_done c.args.self.now c.flush.new.self c.args.entry.now c.in-Flush.buffer c.in-Flush.offset c.in-Flush.size c.in-Flush.is c.flush.ensures e past m fit
+
+pub returns-in-Invalidate-clause-done : goal.returns-in-Invalidate-clause-done
+returns-in-Invalidate-clause-done c = λ e past m fit. invalidate_done c.args.self.now c.invalidate.new.self c.args.entry.now c.in-Invalidate.buffer c.in-Invalidate.offset c.in-Invalidate.size c.in-Invalidate.is c.invalidate.ensures e past m fit
 
 -- ---- the others
 
 pub returns-in_default : goal.returns-in_default
 returns-in_default c =
-    let rest = is_rest c.args.entry.now c.in_default.not-Memory c.in_default.not-Buffer c.in_default.not-Free c.in_default.not-Destroy c.in_default.not-Write c.in_default.not-Read in
+    let rest = is_rest c.args.entry.now c.in_default.not-Memory c.in_default.not-Buffer c.in_default.not-Free c.in_default.not-Destroy c.in_default.not-Write c.in_default.not-Read c.in_default.not-Flush c.in_default.not-Invalidate in
     record {
       done = λ e past m fit. rest_done c.args.self.now c.args.entry.now rest e past m fit;
       rooms = λ past fit. rest_rooms c.args.self.now c.args.entry.now rest past fit;

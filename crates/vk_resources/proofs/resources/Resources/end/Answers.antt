@@ -1,17 +1,62 @@
-use Rattle.std.proofs.Common.{ℕ, Option, sym, subst}
-use Rattle.vk_memory.specs.MemoryState.{MemoryState}
-use Rattle.vk_resources.specs.Held.{Held, IsApart}
-use Rattle.vk_resources.specs.Inner.Steps.{IsEmpty, freed}
-use Rattle.vk_resources.proofs.Placing.{apart_ended, other_id}
+use Rattle.std.proofs.Common.{◌≡◌, Some, None, ap, sym, ◌∙◌, subst, refl}
+use Rattle.vk_resources.specs.Held.{Held}
+use Rattle.vk_resources.specs.Inner.Steps.{IsEmpty, Forgets}
+use Rattle.vk_resources.proofs.Placing.{other_id}
+use Rattle.vk_resources.proofs.CachedSteps.{all_ended, bare_object, all_none}
 use Rattle.vk_resources.proofs.resources.Resources.end.Goals as goal
 
 pub invariant_of-self : goal.invariant_of-self
 invariant_of-self c =
-    let s : Held = record { memory = c.self.inside.memories; owned = c.self.inside.owned.entries; buffers = c.self.inside.buffers.entries } in
-    let empty = subst (λ (h : Held). IsApart h.memory h.owned h.buffers → IsEmpty h c.args.id) (sym c.self.view_is) c.requires c.self.invariant in
-    let buffers = c.remove.ensures.updates in
-    let objects = c.remove-2.ensures.updates in
-    subst (λ (m : MemoryState). IsApart m c.remove-2.new.self.entries c.remove.new.self.entries) (sym c.free.ensures)
-    (subst (λ (o : Option ℕ). IsApart (freed s.memory o) c.remove-2.new.self.entries c.remove.new.self.entries) (sym c.in-Some.ensures.value)
-    (apart_ended s.memory s.owned c.remove-2.new.self.entries s.buffers c.remove.new.self.entries c.args.id
-    objects.1 (λ i other. objects.2 i (other_id c.args.id i other)) buffers.1 (λ b other. buffers.2 b (other_id c.args.id b other)) (λ number b p has. empty number b p has) c.self.invariant))
+    let n : Held = record { memory = c.self.inside.memories; owned = c.self.inside.owned.entries; buffers = c.self.inside.buffers.entries; cache = c.self.inside.cache } in
+    let s = c.args.self.now in
+    let memory : n.memory ≡ s.memory = ap (λ (h : Held). h.memory) c.self.view_is ∙ c.forget.ensures.memory in
+    let owned : n.owned ≡ s.owned = ap (λ (h : Held). h.owned) c.self.view_is ∙ c.forget.ensures.owned in
+    let buffers : n.buffers ≡ s.buffers = ap (λ (h : Held). h.buffers) c.self.view_is ∙ c.forget.ensures.buffers in
+    let forgets : Forgets s n c.args.id = subst (λ (h : Held). Forgets s h c.args.id) (sym c.self.view_is) c.forget.ensures.forgets in
+    let empty : IsEmpty s c.args.id = c.requires c.forget.ensures.stands in
+    let gone = c.remove.ensures.updates in
+    let less = c.remove-2.ensures.updates in
+    (all_ended s n c.args.id memory owned buffers c.forget.ensures.stands c.self.invariant forgets empty c.remove-2.new.self.entries c.remove.new.self.entries c.drop_range.new.self c.free.new.self (all_none c.in-Some.object 0 c.size-size.result n.cache c.drop_range.new.self c.drop_range.ensures (bare_object s n c.args.id memory owned buffers c.forget.ensures.stands c.self.invariant forgets empty c.in-Some.object c.in-Some.ensures.value)) (Some c.in-Some.object) c.in-Some.ensures.value c.free.ensures
+    less.1 (λ i other. less.2 i (other_id c.args.id i other)) gone.1 (λ b other. gone.2 b (other_id c.args.id b other))).0
+
+pub returns-in-Some-clause-ended : goal.returns-in-Some-clause-ended
+returns-in-Some-clause-ended c =
+    let n : Held = record { memory = c.self.inside.memories; owned = c.self.inside.owned.entries; buffers = c.self.inside.buffers.entries; cache = c.self.inside.cache } in
+    let s = c.args.self.now in
+    let memory : n.memory ≡ s.memory = ap (λ (h : Held). h.memory) c.self.view_is ∙ c.forget.ensures.memory in
+    let owned : n.owned ≡ s.owned = ap (λ (h : Held). h.owned) c.self.view_is ∙ c.forget.ensures.owned in
+    let buffers : n.buffers ≡ s.buffers = ap (λ (h : Held). h.buffers) c.self.view_is ∙ c.forget.ensures.buffers in
+    let forgets : Forgets s n c.args.id = subst (λ (h : Held). Forgets s h c.args.id) (sym c.self.view_is) c.forget.ensures.forgets in
+    let empty : IsEmpty s c.args.id = c.requires c.forget.ensures.stands in
+    let gone = c.remove.ensures.updates in
+    let less = c.remove-2.ensures.updates in
+    (all_ended s n c.args.id memory owned buffers c.forget.ensures.stands c.self.invariant forgets empty c.remove-2.new.self.entries c.remove.new.self.entries c.drop_range.new.self c.free.new.self (all_none c.in-Some.object 0 c.size-size.result n.cache c.drop_range.new.self c.drop_range.ensures (bare_object s n c.args.id memory owned buffers c.forget.ensures.stands c.self.invariant forgets empty c.in-Some.object c.in-Some.ensures.value)) (Some c.in-Some.object) c.in-Some.ensures.value c.free.ensures
+    less.1 (λ i other. less.2 i (other_id c.args.id i other)) gone.1 (λ b other. gone.2 b (other_id c.args.id b other))).1
+
+pub invariant_of-self-in_default : goal.invariant_of-self-in_default
+invariant_of-self-in_default c =
+    let n : Held = record { memory = c.self.inside.memories; owned = c.self.inside.owned.entries; buffers = c.self.inside.buffers.entries; cache = c.self.inside.cache } in
+    let s = c.args.self.now in
+    let memory : n.memory ≡ s.memory = ap (λ (h : Held). h.memory) c.self.view_is ∙ c.forget.ensures.memory in
+    let owned : n.owned ≡ s.owned = ap (λ (h : Held). h.owned) c.self.view_is ∙ c.forget.ensures.owned in
+    let buffers : n.buffers ≡ s.buffers = ap (λ (h : Held). h.buffers) c.self.view_is ∙ c.forget.ensures.buffers in
+    let forgets : Forgets s n c.args.id = subst (λ (h : Held). Forgets s h c.args.id) (sym c.self.view_is) c.forget.ensures.forgets in
+    let empty : IsEmpty s c.args.id = c.requires c.forget.ensures.stands in
+    let gone = c.remove.ensures.updates in
+    let less = c.remove-2.ensures.updates in
+    (all_ended s n c.args.id memory owned buffers c.forget.ensures.stands c.self.invariant forgets empty c.remove-2.new.self.entries c.remove.new.self.entries c.self.inside.cache c.self.inside.memories (λ number k. refl) None c.in_default.ensures.value refl
+    less.1 (λ i other. less.2 i (other_id c.args.id i other)) gone.1 (λ b other. gone.2 b (other_id c.args.id b other))).0
+
+pub returns-in_default-clause-ended : goal.returns-in_default-clause-ended
+returns-in_default-clause-ended c =
+    let n : Held = record { memory = c.self.inside.memories; owned = c.self.inside.owned.entries; buffers = c.self.inside.buffers.entries; cache = c.self.inside.cache } in
+    let s = c.args.self.now in
+    let memory : n.memory ≡ s.memory = ap (λ (h : Held). h.memory) c.self.view_is ∙ c.forget.ensures.memory in
+    let owned : n.owned ≡ s.owned = ap (λ (h : Held). h.owned) c.self.view_is ∙ c.forget.ensures.owned in
+    let buffers : n.buffers ≡ s.buffers = ap (λ (h : Held). h.buffers) c.self.view_is ∙ c.forget.ensures.buffers in
+    let forgets : Forgets s n c.args.id = subst (λ (h : Held). Forgets s h c.args.id) (sym c.self.view_is) c.forget.ensures.forgets in
+    let empty : IsEmpty s c.args.id = c.requires c.forget.ensures.stands in
+    let gone = c.remove.ensures.updates in
+    let less = c.remove-2.ensures.updates in
+    (all_ended s n c.args.id memory owned buffers c.forget.ensures.stands c.self.invariant forgets empty c.remove-2.new.self.entries c.remove.new.self.entries c.self.inside.cache c.self.inside.memories (λ number k. refl) None c.in_default.ensures.value refl
+    less.1 (λ i other. less.2 i (other_id c.args.id i other)) gone.1 (λ b other. gone.2 b (other_id c.args.id b other))).1

@@ -1,0 +1,123 @@
+-- The whole of an entry, on a device.
+use Rattle.std.proofs.Common.{◌≡◌, ℕ, zero, suc, ◌+◌, ◌%◌, ◌≤◌, nat_lt, arith, List, [], ◌∷◌, ◌++◌, Bool, true, false, ◌==◌, refl, ap, sym, ◌∙◌, subst, None}
+use Rattle.std.specs.Prelude.{IsTrue, if◌then◌else◌}
+use Rattle.std.specs.List.{list_all}
+use Rattle.std.proofs.lemmas.Bool.{lt-ltb}
+use Rattle.vk_model.specs.declared.entry.Entry.{Entry}
+use Rattle.vk_model.specs.Laws.{NoFaultIsSound}
+use Rattle.vk_model.specs.Run.Runs.{Step, Stage, Apply, applied, touched_by, atom_count}
+use Rattle.vk_model.specs.Run.Picks.{Picked, before_entry, atom_picks}
+use Rattle.vk_model.specs.Trace.Order.{host}
+use Rattle.vk_model.specs.Trace.Point.{Past}
+use Rattle.vk_laws.specs.DefinedRuns.{DefinedRunsStand}
+use Rattle.vk_laws.specs.DirectRuns.{DirectRunsAreRuns, NewMemoryHoldsAnything, EntriesGoOn, DirectRunsReadTheTrace}
+use Rattle.vk_laws.specs.PickedRuns.{PicksLeadOn}
+use Rattle.vk_resources.specs.declared.applied.Applied.{Applied}
+use Rattle.vk_resources.specs.declared.applied.Applied.TheVariants as applied
+use Rattle.vk_resources.specs.Done.{EntryReady, DoneBy}
+use Rattle.vk_resources.specs.Fits.{FitsEntry}
+use Rattle.vk_resources.specs.Held.{Held}
+use Rattle.vk_resources.specs.Matches.{MatchesLive}
+use Rattle.vk_device.specs.declared.device.Device.{Device}
+use Rattle.vk_device.specs.Inner.Clean.{IsClean}
+use Rattle.vk_device.specs.Inner.Ready.{HostDone, Touches, Picks, AdvanceReady}
+use Rattle.vk_device.specs.Led.{Led, IsBefore, Applies, Reads, IsNext}
+use Rattle.vk_device.proofs.Entering.{clean_next, fits_next, host_done, goes_of, reads_of, before, stands_before, reads_before, picked_atoms, applies}
+
+-- where there was no room nothing was changed, and no atom was picked
+no_change : (a : Applied) (e : ℕ) (x : Entry) (past : Past) (old new : Held) → a ≡ applied.NoRoom → DoneBy a e x past old new → (new ≡ old) × (touched_by x ≡ None)
+no_change a e x past old new is done = subst (λ (b : Applied). DoneBy b e x past old new) is done
+
+no_atoms : (past : Past) (x : Entry) → touched_by x ≡ None → atom_count past x ≡ 0
+no_atoms past x none = rw (atom_count, none) refl
+
+-- the atoms that are picked are there
+module _ (answer : List ℕ → ℕ → ℕ) (next : List ℕ → ℕ → List ℕ) where
+  atoms_below : (n k m : ℕ) (held : List ℕ) → k + n ≤ m → IsTrue (list_all (λ j. nat_lt j m) (atom_picks answer next n k held).0)
+  atoms_below zero k m held le = refl
+  atoms_below (suc n) k m held le = go (answer held 2 % 2 == 1) (atoms_below n (k + 1) m (next held 2) (omega (arith, le)))
+    where
+      go : (b : Bool) → IsTrue (list_all (λ j. nat_lt j m) (atom_picks answer next n (k + 1) (next held 2)).0)
+          → IsTrue (list_all (λ j. nat_lt j m) (if b then k ∷ (atom_picks answer next n (k + 1) (next held 2)).0 else (atom_picks answer next n (k + 1) (next held 2)).0))
+      go true rest = rw (lt-ltb k m (omega (arith, le))) rest
+      go false rest = rest
+
+-- ---- the whole of an entry
+
+-- the laws that say so
+pub record Laws : Type 0 where
+  pub sound : NoFaultIsSound
+  pub runs : DirectRunsAreRuns
+  pub stand : DefinedRunsStand
+  pub lead_on : PicksLeadOn
+  pub anything : NewMemoryHoldsAnything
+  pub entries_go : EntriesGoOn
+  pub reads_trace : DirectRunsReadTheTrace
+
+module _ (laws : Laws) (answer : List ℕ → ℕ → ℕ) (next : List ℕ → ℕ → List ℕ) (held between after : List ℕ) (x : Entry) (old mid : Device) (r : Held) where
+  -- what was picked before it has led to the device between
+  abbrev pub WasPicked : Type 0
+  WasPicked = (t : List Entry) (steps : List Step) (s : Stage) (xs : List Entry) → IsBefore t steps s x xs old → Picks answer next t steps s held x mid between
+
+  -- and then atoms were picked
+  abbrev pub WasTouched : Type 0
+  WasTouched = (t : List Entry) (steps : List Step) (s : Stage) (xs : List Entry) → IsBefore t steps s x xs mid → Touches answer next s.front.past x between mid.resources r after
+
+  module _ (picked : WasPicked) where
+    pub next_then : IsNext old x → IsNext mid x
+    next_then n =
+        let p = before answer next n.0 n.1 n.2 held x n.3 in
+        (n.0, n.1 ++ p.steps, p.stage, n.3, stands_before answer next n.0 n.1 n.2 held x n.3 old mid between laws.runs laws.lead_on n.4 (picked n.0 n.1 n.2 n.3 n.4))
+
+    module _ (touched : WasTouched) where
+      pub entry_ready : IsNext old x → EntryReady r x
+      entry_ready n =
+          let now = next_then n in
+          let past = now.2.front.past in
+          (past, (touched now.0 now.1 now.2 now.3 now.4).touched.matches past now.4.led.matches, fits_next now.2.count x past (clean_next now.0 now.1 now.2 x now.3 mid laws.sound laws.runs laws.stand now.4))
+
+      module _ (t : List Entry) (steps : List Step) (s : Stage) (xs : List Entry) (h : IsBefore t steps s x xs old) where
+        abbrev p : Picked
+        p = before_entry answer next s held x
+
+        now : IsBefore t (steps ++ (before_entry answer next s held x).steps) (before_entry answer next s held x).stage x xs mid
+        now = stands_before answer next t steps s held x xs old mid between laws.runs laws.lead_on h (picked t steps s xs h)
+
+        clean : IsClean (host (before_entry answer next s held x).stage.count x ∷ (before_entry answer next s held x).stage.front.past)
+        clean = clean_next t (steps ++ (before_entry answer next s held x).steps) (before_entry answer next s held x).stage x xs mid laws.sound laws.runs laws.stand now
+
+        -- the atoms that were picked, from what the scheduler held
+        touches : Touches answer next (before_entry answer next s held x).stage.front.past x (before_entry answer next s held x).held mid.resources r after
+        touches = subst (λ (l : List ℕ). Touches answer next (before_entry answer next s held x).stage.front.past x l mid.resources r after) (picked t steps s xs h).1 (touched t _ _ xs now)
+
+        fits : FitsEntry (before_entry answer next s held x).stage.front.past x
+        fits = fits_next _ x _ clean
+
+        matches : MatchesLive (before_entry answer next s held x).stage.front.past r
+        matches = touches.touched.matches (before_entry answer next s held x).stage.front.past now.led.matches
+
+        -- where there was no room
+        pub refused : (new : Held) (a : Applied) → a ≡ applied.NoRoom → ((e : ℕ) (past : Past) → MatchesLive past r → FitsEntry past x → DoneBy a e x past r new) → (new ≡ mid.resources) × (after ≡ between)
+        refused new a is done =
+            let none = no_change a (before_entry answer next s held x).stage.count x (before_entry answer next s held x).stage.front.past r new is (done (before_entry answer next s held x).stage.count (before_entry answer next s held x).stage.front.past matches fits) in
+            let many = no_atoms (before_entry answer next s held x).stage.front.past x none.1 in
+            let same = touches.touched.same (ap (λ (n : ℕ). (atom_picks answer next n 0 (before_entry answer next s held x).held).0) many) in
+            (none.0 ∙ same, touches.holds ∙ ap (λ (n : ℕ). (atom_picks answer next n 0 (before_entry answer next s held x).held).1) many ∙ sym (picked t steps s xs h).1)
+
+        module _ (new : Held) (a : Applied) (other : a ≡ applied.NoRoom → ⊥) (done : (e : ℕ) (past : Past) → MatchesLive past r → FitsEntry past x → DoneBy a e x past r new) where
+          did : DoneBy a (before_entry answer next s held x).stage.count x (before_entry answer next s held x).stage.front.past r new
+          did = done (before_entry answer next s held x).stage.count (before_entry answer next s held x).stage.front.past matches fits
+
+          pub was_done : HostDone t (steps ++ (before_entry answer next s held x).steps) (before_entry answer next s held x).stage x xs (picked_atoms answer next t steps s held x xs).0 (record mid { resources = new })
+          was_done = host_done t (steps ++ (before_entry answer next s held x).steps) (before_entry answer next s held x).stage x xs (picked_atoms answer next t steps s held x xs).0 mid r new laws.anything laws.entries_go now (picked t steps s xs h).2
+              (atoms_below answer next (atom_count (before_entry answer next s held x).stage.front.past x) 0 (atom_count (before_entry answer next s held x).stage.front.past x) (before_entry answer next s held x).held (omega arith)) clean touches.touched
+              (goes_of a (before_entry answer next s held x).stage.count x (before_entry answer next s held x).stage.front.past r new other did)
+
+          pub read_then : Reads a s x
+          read_then = reads_before answer next t steps s held x xs old a laws.runs laws.lead_on h (reads_of t (steps ++ (before_entry answer next s held x).steps) (before_entry answer next s held x).stage x xs (picked_atoms answer next t steps s held x xs).0 mid r new laws.reads_trace clean now touches.touched a did)
+
+          pub applied_then : (final : Device) → ((t : List Entry) (steps : List Step) (s : Stage) (xs : List Entry) (atoms : List ℕ) → HostDone t steps s x xs atoms (record mid { resources = new }) → Led t (steps ++ Apply atoms 0 ∷ []) (applied s 0 x xs) final) → Applies answer next a t steps s held x xs final after
+          applied_then final advances = applies answer next t steps s held x xs final after touches.holds (advances t (steps ++ (before_entry answer next s held x).steps) (before_entry answer next s held x).stage xs (picked_atoms answer next t steps s held x xs).0 was_done) a other
+
+      pub advance_ready : (new : Held) (a : Applied) → (a ≡ applied.NoRoom → ⊥) → ((e : ℕ) (past : Past) → MatchesLive past r → FitsEntry past x → DoneBy a e x past r new) → IsNext old x → AdvanceReady (record mid { resources = new }) x
+      advance_ready new a other done n = (n.0, n.1 ++ (before_entry answer next n.2 held x).steps, (before_entry answer next n.2 held x).stage, n.3, (picked_atoms answer next n.0 n.1 n.2 held x n.3).0, was_done n.0 n.1 n.2 n.3 n.4 new a other done)

@@ -1,0 +1,54 @@
+use Rattle.std.proofs.Common.{◌+◌, refl, ap, sym, ◌∙◌, subst}
+use Rattle.vk_resources.specs.Allocating.{allotted}
+use Rattle.vk_device.specs.declared.device.Device.{Device}
+use Rattle.vk_device.proofs.Entering.{clean_next, fits_next}
+use Rattle.vk_device.proofs.Touching.{SoFar, begins, took, skipped, touches_all}
+use Rattle.vk_device.proofs.device.Device.touch.Goals.{then-pick-eq1+in_ok-turn_over, else-pick-eq1}
+use Rattle.vk_device.proofs.device.Device.touch.Goals as goal
+
+pub loop-atom-init : goal.loop-atom-init
+loop-atom-init g c = record { same = refl; allotted = refl; so_far = begins g.S.Scheduler.answer g.S.Scheduler.next c.args.entry.now c.atoms-atoms.result (g.S.Scheduler.held c.args.sched.now) c.args.self.now.resources }
+
+pub turn_over-requires : goal.turn_over-requires
+turn_over-requires g c =
+    let r = c.requires in
+    let past = r.2.front.past in
+    let fits = fits_next r.2.count c.args.entry.now past (clean_next r.0 r.1 r.2 c.args.entry.now r.3 c.args.self.now c.no_fault_is_sound.ensures c.direct_runs_are_runs.ensures c.defined_runs_stand.ensures r.4) in
+    (past, c.loop-atom.invariant.so_far.touched.matches past r.4.led.matches, fits, rw (sym (c.atoms-atoms.ensures past r.4.led.matches fits)) c.loop-atom-test.true)
+
+pub loop-atom-preserved : goal.loop-atom-preserved
+loop-atom-preserved g c =
+    elim c.if-pick-eq1.branch [
+      | then-pick-eq1+in_ok-turn_over w ↦ record {
+        same = w.self-is ∙ ap (λ (d : Device). record d { resources = w.turn_over.new.self }) c.loop-atom.invariant.same ∙ ap (λ (d : Device). record c.args.self.now { resources = d.resources }) (sym w.self-is);
+        allotted = ap (λ (d : Device). allotted d.resources) w.self-is ∙ w.turn_over.ensures.allotted ∙ c.loop-atom.invariant.allotted;
+        so_far = subst (λ (d : Device). SoFar g.S.Scheduler.answer g.S.Scheduler.next c.args.entry.now c.atoms-atoms.result (c.loop-atom.atom + 1) (g.S.Scheduler.held c.args.sched.now) (g.S.Scheduler.held c.pick.new.self) c.args.self.now.resources d.resources) (sym w.self-is)
+            (took g.S.Scheduler.answer g.S.Scheduler.next c.args.entry.now c.atoms-atoms.result (g.S.Scheduler.held c.args.sched.now) c.args.self.now.resources c.loop-atom.atom (g.S.Scheduler.held c.loop-atom.sched) (g.S.Scheduler.held c.pick.new.self)
+            c.loop-atom.self.resources c.loop-atom-test.true c.loop-atom.invariant.so_far c.pick.result c.pick.ensures.answer c.pick.ensures.next w.if-pick-eq1.true w.turn_over.new.self w.in_ok-turn_over.ensures.turned w.turn_over.ensures.matches w.turn_over.ensures.placed);
+      }
+      | else-pick-eq1 w ↦ record {
+        same = w.self-is ∙ c.loop-atom.invariant.same ∙ ap (λ (d : Device). record c.args.self.now { resources = d.resources }) (sym w.self-is);
+        allotted = ap (λ (d : Device). allotted d.resources) w.self-is ∙ c.loop-atom.invariant.allotted;
+        so_far = subst (λ (d : Device). SoFar g.S.Scheduler.answer g.S.Scheduler.next c.args.entry.now c.atoms-atoms.result (c.loop-atom.atom + 1) (g.S.Scheduler.held c.args.sched.now) (g.S.Scheduler.held c.pick.new.self) c.args.self.now.resources d.resources) (sym w.self-is)
+            (skipped g.S.Scheduler.answer g.S.Scheduler.next c.args.entry.now c.atoms-atoms.result (g.S.Scheduler.held c.args.sched.now) c.args.self.now.resources c.loop-atom.atom (g.S.Scheduler.held c.loop-atom.sched) (g.S.Scheduler.held c.pick.new.self)
+            c.loop-atom.self.resources c.loop-atom-test.true c.loop-atom.invariant.so_far c.pick.result c.pick.ensures.answer c.pick.ensures.next w.if-pick-eq1.false);
+      }
+    ]
+
+pub returns-in_err-turn_over-clause-same : goal.returns-in_err-turn_over-clause-same
+returns-in_err-turn_over-clause-same g c = ap (λ (d : Device). record d { resources = c.turn_over.new.self }) c.loop-atom.invariant.same
+
+pub returns-in_err-turn_over-clause-allotted : goal.returns-in_err-turn_over-clause-allotted
+returns-in_err-turn_over-clause-allotted g c = c.turn_over.ensures.allotted ∙ c.loop-atom.invariant.allotted
+
+pub returns-clause-touched : goal.returns-clause-touched
+returns-clause-touched g c t steps s xs h =
+    let fits = fits_next s.count c.args.entry.now s.front.past (clean_next t steps s c.args.entry.now xs c.args.self.now c.no_fault_is_sound.ensures c.direct_runs_are_runs.ensures c.defined_runs_stand.ensures h) in
+    touches_all g.S.Scheduler.answer g.S.Scheduler.next s.front.past c.args.entry.now c.atoms-atoms.result c.loop-atom.atom (g.S.Scheduler.held c.args.sched.now) (g.S.Scheduler.held c.loop-atom.sched) c.args.self.now.resources c.loop-atom.self.resources
+    (c.atoms-atoms.ensures s.front.past h.led.matches fits) c.loop-atom-test.false c.loop-atom.invariant.so_far
+
+pub returns-clause-same : goal.returns-clause-same
+returns-clause-same g c = c.loop-atom.invariant.same
+
+pub returns-clause-allotted : goal.returns-clause-allotted
+returns-clause-allotted g c = c.loop-atom.invariant.allotted

@@ -1,0 +1,323 @@
+-- What the host's cache does to the bytes of all buffers, where a call changes those of one in cached memory.
+use Rattle.std.proofs.Common.{◌≡◌, ◌⊎◌, inl, inr, ℕ, zero, suc, ◌+◌, ◌-◌, ◌/◌, ◌%◌, ◌<◌, ◌≤◌, ◌==◌, List, [], ◌∷◌, ◌++◌, length, Bool, true, false, ◌&&◌, eqb, nat_lt, nat_le, refl, ap, sym, ◌∙◌, subst, arith, slice_index, Option, Some, None, if◌then◌else◌}
+use Rattle.std.proofs.lemmas.Bool.{eqb-true, eqb-false, lt-ltb, le-leb, lt-leb, cases_lt, and_parts, and_right, leb-true, ltb-true, false_from_ne_true}
+use Rattle.std.proofs.lemmas.Bool.Decides.{nat_tests}
+use Rattle.std.specs.Prelude.{IsSome, is_some, option_and_then}
+use Rattle.vk_map_cache.specs.Holdings.{Holdings, held_at, IsByte, Changes, given, is_reached, is_in_atom}
+use Rattle.vk_map_cache.proofs.CellLemmas.{same_cell, given-outside}
+use Rattle.vk_memory.specs.MemoryState.{MemoryState, region_of, type_of, type_in}
+use Rattle.vk_memory.specs.declared.memories.Object.{Object}
+use Rattle.vk_model.specs.declared.command.Length.{Length}
+use Rattle.vk_model.specs.declared.command.Length.TheVariants as length_of
+use Rattle.vk_model.specs.Run.Caches as caches
+use Rattle.vk_model.specs.Run.Caches.{Cell, forgotten}
+use Rattle.vk_model.specs.Run.CachedRuns.{after_host_write}
+use Rattle.vk_model.specs.World.Bytes.{Byte, in_buffer, in_image}
+use Rattle.vk_model.specs.World.Effect.{in_atoms}
+use Rattle.vk_transfer.specs.Ran.{AreApart}
+use Rattle.vk_resources.specs.declared.resources.Placed.{Placed}
+use Rattle.vk_resources.specs.Held.{Held, IsApart, IsInside, IsCaching, IsCachedByte, IsInAtoms, Stands, is_cached_in, placed, placed_in, host_at, byte_at, IsThere, IsWithin, HasCell}
+use Rattle.vk_resources.specs.Inner.Steps.{MayReachTo, cached_at, changed_of, length_to}
+use Rattle.vk_resources.proofs.Placing.{inside_of, kept_object}
+
+-- ---- the bytes of a buffer
+
+module _ (s : Held) (b : ℕ) (p : Placed) (here : placed s b ≡ Some p) (k : ℕ) (lt : k < p.size) where
+  pub host_of : host_at s (in_buffer b k) ≡ held_at s.cache p.object (p.offset + k)
+  host_of = rw (here, lt-ltb k p.size lt) refl
+
+  pub byte_of : byte_at s (in_buffer b k) ≡ slice_index (region_of s.memory p.object) (p.offset + k)
+  byte_of = rw (here, lt-ltb k p.size lt) refl
+
+  pub as_byte : (cell : Cell) → HasCell s (in_buffer b k) cell → IsByte s.cache p.object (region_of s.memory p.object) (p.offset + k) cell
+  as_byte cell has = same_cell host_of byte_of has
+
+  pub from_byte : (cell : Cell) → IsByte s.cache p.object (region_of s.memory p.object) (p.offset + k) cell → HasCell s (in_buffer b k) cell
+  from_byte cell is = same_cell (sym host_of) (sym byte_of) is
+
+-- where a byte is there, so is its buffer
+pub where_is : (s : Held) (b k : ℕ) → IsThere s (in_buffer b k) → (p : Placed) × (placed s b ≡ Some p) × (k < p.size)
+where_is s b k there = go (placed s b) refl there
+  where
+    go : (o : Option Placed) → placed s b ≡ o → IsWithin o k → (p : Placed) × (placed s b ≡ Some p) × (k < p.size)
+    go None is lt = absurd lt
+    go (Some p) is lt = (p, is, lt)
+
+-- a buffer that is held in cached memory
+pub cached_here : (s : Held) (b : ℕ) (p : Placed) → cached_at s b ≡ Some p → (placed s b ≡ Some p) × (is_cached_in s.memory p ≡ true)
+cached_here s b p is = go (placed s b) refl is
+  where
+    by_type : (q : Placed) (t : Bool) → is_cached_in s.memory q ≡ t → (if t then Some q else None) ≡ Some p → (q ≡ p) × (is_cached_in s.memory p ≡ true)
+    by_type q true e is = let same : q ≡ p = cc in (same, subst (λ (r : Placed). is_cached_in s.memory r ≡ true) same e)
+    by_type q false e is = absurd cc
+
+    go : (o : Option Placed) → placed s b ≡ o → option_and_then (λ (p : Placed). if is_cached_in s.memory p then Some p else None) o ≡ Some p → (placed s b ≡ Some p) × (is_cached_in s.memory p ≡ true)
+    go None at is = absurd cc
+    go (Some q) at is = let parts = by_type q (is_cached_in s.memory q) refl is in (at ∙ ap (λ (r : Placed). Some r) parts.0, parts.1)
+
+pub here_cached : (s : Held) (b : ℕ) (p : Placed) → placed s b ≡ Some p → is_cached_in s.memory p ≡ true → cached_at s b ≡ Some p
+here_cached s b p here cached = rw (here, cached) refl
+
+-- ---- atoms
+
+pub in_atoms_or : (p : Placed) (k : ℕ) → IsInAtoms p k ⊎ (IsInAtoms p k → ⊥)
+in_atoms_or p k = elim (cases_lt (k / 64) (p.offset / 64)) [
+  | inl lt ↦ inr (λ at. let low = at.0 in omega (arith, lt, low))
+  | inr ge ↦ elim (cases_lt ((p.offset + p.size - 1) / 64) (k / 64)) [
+    | inl lt ↦ inr (λ at. let high = at.1 in omega (arith, lt, high))
+    | inr le ↦ inl (ge, le)
+  ]
+]
+
+-- two ranges that begin with an atom and share no byte share no atom
+pub clear_atoms : (p q : Placed) (k : ℕ) → p.offset % 64 ≡ 0 → q.offset % 64 ≡ 0 → 0 < p.size → AreApart p.offset p.size q.offset q.size → k < q.size → IsInAtoms p (q.offset + k) → ⊥
+clear_atoms p q k aligned also some (inl le) lt at = let high = at.1 in omega (arith, le, high, also)
+clear_atoms p q k aligned also some (inr le) lt at = let low = at.0 in omega (arith, le, low, aligned, lt)
+
+-- bytes of a buffer lie in its atoms
+pub within_atoms : (p : Placed) (k : ℕ) → p.offset ≤ k → k < p.offset + p.size → IsInAtoms p k
+within_atoms p k low high = (omega (arith, low), omega (arith, high))
+
+-- ---- one buffer is changed
+
+-- types stay, so what is cached does
+pub caching_typed : (memory memory' : MemoryState) (buffers : List (ℕ × Placed)) (cache : Holdings) → ((b : ℕ) (p : Placed) → placed_in buffers b ≡ Some p → type_of memory' p.object ≡ type_of memory p.object) → IsCaching memory buffers cache → IsCaching memory' buffers cache
+caching_typed memory memory' buffers cache types c = record {
+  aligned = λ b p here is. c.aligned b p here (ap (λ (t : ℕ). t == 2) (sym (types b p here)) ∙ is);
+  only = λ number k held. let w = c.only number k held in record { id = w.id; place = w.place; here = w.here; object = w.object; cached = ap (λ (t : ℕ). t == 2) (types w.id w.place w.here) ∙ w.cached; atom = w.atom };
+}
+
+-- a memory object more
+pub caching_more : (m : MemoryState) (o : Object) (owned : List (ℕ × ℕ)) (buffers : List (ℕ × Placed)) (cache : Holdings) → IsApart m owned buffers → IsCaching m buffers cache → IsCaching (record m { objects = m.objects ++ Some o ∷ [] }) buffers cache
+caching_more m o owned buffers cache apart c =
+    caching_typed m (record m { objects = m.objects ++ Some o ∷ [] }) buffers cache (λ b p here. ap type_in (kept_object m o p.object (inside_of m owned buffers apart b p here).live)) c
+
+-- a buffer more
+pub caching_put : (memory : MemoryState) (old new : List (ℕ × Placed)) (cache : Holdings) (id : ℕ) (p : Placed) → placed_in old id ≡ None → placed_in new id ≡ Some p → ((q : ℕ) → (q ≡ id → ⊥) → placed_in new q ≡ placed_in old q)
+    → (is_cached_in memory p ≡ true → p.offset % 64 ≡ 0) → IsCaching memory old cache → IsCaching memory new cache
+caching_put memory old new cache id p absent here others begins c = record { aligned = λ b q at is. aligned b q at is (eqb b id) refl; only = λ number k held. only number k (c.only number k held) }
+  where
+    aligned : (b : ℕ) (q : Placed) → placed_in new b ≡ Some q → is_cached_in memory q ≡ true → (t : Bool) → eqb b id ≡ t → q.offset % 64 ≡ 0
+    aligned b q at is false e = c.aligned b q (sym (others b (eqb-false b id e)) ∙ at) is
+    aligned b q at is true e =
+        let both : Some p ≡ Some q = sym here ∙ ap (λ (i : ℕ). placed_in new i) (sym (eqb-true b id e)) ∙ at in
+        let same : p ≡ q = cc in
+        subst (λ (r : Placed). r.offset % 64 ≡ 0) same (begins (subst (λ (r : Placed). is_cached_in memory r ≡ true) (sym same) is))
+
+    only : (number k : ℕ) → IsCachedByte memory old number k → IsCachedByte memory new number k
+    only number k w = record { id = w.id; place = w.place; here = others w.id other ∙ w.here; object = w.object; cached = w.cached; atom = w.atom }
+      where
+        other : w.id ≡ id → ⊥
+        other is = let both : Some w.place ≡ None = sym w.here ∙ ap (λ (i : ℕ). placed_in old i) is ∙ absent in cc
+
+module _ (s : Held) (stands : Stands s) (b : ℕ) (p : Placed) (here : placed s b ≡ Some p) (cached : is_cached_in s.memory p ≡ true) (memory : MemoryState) (cache : Holdings)
+    (types : (q : ℕ) → type_of memory q ≡ type_of s.memory q) (elsewhere : (q : ℕ) → (q ≡ p.object → ⊥) → region_of memory q ≡ region_of s.memory q)
+    (f : ℕ → Cell → Cell) (done : Changes f p.object s.cache cache (region_of s.memory p.object) (region_of memory p.object)) (outside : (k : ℕ) (cell : Cell) → (IsInAtoms p k → ⊥) → f k cell ≡ cell)
+  where
+    abbrev pub changed : Held
+    changed = record s { memory = memory; cache = cache }
+
+    inside : IsInside s.memory p
+    inside = inside_of s.memory s.owned s.buffers stands.0 b p here
+
+    -- what is held outside of its atoms stays
+    held_outside : (k : ℕ) → (IsInAtoms p k → ⊥) → held_at cache p.object k ≡ held_at s.cache p.object k
+    held_outside k out =
+        let cell : Cell = record { region = slice_index (region_of s.memory p.object) k; held = λ a. held_at s.cache p.object k } in
+        let now = done.bytes k cell (record { held = refl; region = refl }) in
+        sym now.held ∙ ap (λ (c : Cell). c.held 0) (outside k cell out)
+
+    pub changed_caching : IsCaching memory s.buffers cache
+    changed_caching = record { aligned = typed.aligned; only = λ number k held. only number k held (eqb number p.object) refl }
+      where
+        typed : IsCaching memory s.buffers s.cache
+        typed = caching_typed s.memory memory s.buffers s.cache (λ c q at. types q.object) stands.1
+
+        only : (number k : ℕ) → IsSome (held_at cache number k) → (t : Bool) → eqb number p.object ≡ t → IsCachedByte memory s.buffers number k
+        only number k held false e = typed.only number k (subst (λ (h : Option caches.Held). IsSome h) (done.others number k (eqb-false number p.object e)) held)
+        only number k held true e =
+            let same = eqb-true number p.object e in
+            elim (in_atoms_or p k) [
+              | inl at ↦ record { id = b; place = p; here = here; object = sym same; cached = ap (λ (t : ℕ). t == 2) (types p.object) ∙ cached; atom = at }
+              | inr out ↦ subst (λ (n : ℕ). IsCachedByte memory s.buffers n k) (sym same)
+                  (typed.only p.object k (subst (λ (h : Option caches.Held). IsSome h) (held_outside k out) (subst (λ (n : ℕ). IsSome (held_at cache n k)) same held)))
+            ]
+
+    -- other buffers
+    module _ (c : ℕ) (q : Placed) (at : placed s c ≡ Some q) (other : b ≡ c → ⊥) (k : ℕ) (lt : k < q.size) where
+      clear : q.object ≡ p.object → IsInAtoms p (q.offset + k) → ⊥
+      clear same in_it =
+          let also : is_cached_in s.memory q ≡ true = ap (λ (o : ℕ). type_of s.memory o == 2) same ∙ cached in
+          let some = inside.some in
+          clear_atoms p q k (stands.1.aligned b p here cached) (stands.1.aligned c q at also) some (stands.0.apart b c p q other here at (sym same)) lt in_it
+
+      pub other_stays : (cell : Cell) → HasCell s (in_buffer c k) cell → HasCell changed (in_buffer c k) cell
+      other_stays cell has = from_byte changed c q at k lt cell (go (eqb q.object p.object) refl)
+        where
+          was : IsByte s.cache q.object (region_of s.memory q.object) (q.offset + k) cell
+          was = as_byte s c q at k lt cell has
+
+          go : (t : Bool) → eqb q.object p.object ≡ t → IsByte cache q.object (region_of memory q.object) (q.offset + k) cell
+          go false e =
+              let ne = eqb-false q.object p.object e in
+              same_cell (sym (done.others q.object (q.offset + k) ne)) (ap (λ (r : List ℕ). slice_index r (q.offset + k)) (sym (elsewhere q.object ne))) was
+          go true e =
+              let same = eqb-true q.object p.object e in
+              let moved = subst (λ (o : ℕ). IsByte s.cache o (region_of s.memory o) (q.offset + k) cell) same was in
+              let now = done.bytes (q.offset + k) cell moved in
+              subst (λ (o : ℕ). IsByte cache o (region_of memory o) (q.offset + k) cell) (sym same)
+              (subst (λ (x : Cell). IsByte cache p.object (region_of memory p.object) (q.offset + k) x) (outside (q.offset + k) cell (clear same)) now)
+
+    -- the bytes of all buffers
+    pub changed_cells : (g : ℕ → Cell → Cell) → ((k : ℕ) (cell : Cell) → k < p.size → f (p.offset + k) cell ≡ g k cell) → (c : Byte) (cell : Cell) → IsThere s c → HasCell s c cell → HasCell changed c (changed_of b g c cell)
+    changed_cells g same (in_image i l a x y z) cell there has = absurd there
+    changed_cells g same (in_buffer c k) cell there has = go (eqb b c) refl
+      where
+        at : (q : Placed) × (placed s c ≡ Some q) × (k < q.size)
+        at = where_is s c k there
+
+        go : (t : Bool) → eqb b c ≡ t → HasCell changed (in_buffer c k) (if t then g k cell else cell)
+        go false e = other_stays c at.0 at.1 (eqb-false b c e) k at.2 cell has
+        go true e =
+            let one = eqb-true b c e in
+            let both : Some at.0 ≡ Some p = sym at.1 ∙ ap (λ (i : ℕ). placed s i) (sym one) ∙ here in
+            let is : at.0 ≡ p = cc in
+            let lt : k < p.size = subst (λ (q : Placed). k < q.size) is at.2 in
+            let was = as_byte s b p here k lt cell (subst (λ (i : ℕ). HasCell s (in_buffer i k) cell) (sym one) has) in
+            subst (λ (i : ℕ). HasCell changed (in_buffer i k) (g k cell)) one
+            (from_byte changed b p here k lt (g k cell) (subst (λ (x : Cell). IsByte cache p.object (region_of memory p.object) (p.offset + k) x) (same k cell lt) (done.bytes (p.offset + k) cell was)))
+
+-- where nothing is changed
+pub unchanged_cells : (s : Held) (b : ℕ) (g : ℕ → Cell → Cell) → ((k : ℕ) (cell : Cell) → g k cell ≡ cell) → (c : Byte) (cell : Cell) → IsThere s c → HasCell s c cell → HasCell s c (changed_of b g c cell)
+unchanged_cells s b g same (in_image i l a x y z) cell there has = absurd there
+unchanged_cells s b g same (in_buffer c k) cell there has = go (eqb b c)
+  where
+    go : (t : Bool) → HasCell s (in_buffer c k) (if t then g k cell else cell)
+    go true = subst (λ (x : Cell). HasCell s (in_buffer c k) x) (sym (same k cell)) has
+    go false = has
+
+-- ---- a host write
+
+given_moved : (x o : ℕ) (bytes : List ℕ) (k : ℕ) → given (x + o) bytes (x + k) ≡ given o bytes k
+given_moved x o bytes k = elim (cases_lt k o) [
+  | inl lt ↦ rw (lt-leb o k lt, lt-leb (x + o) (x + k) (omega (arith, lt))) refl
+  | inr ge ↦ let place : x + k - (x + o) ≡ k - o = omega (arith, ge) in rw (le-leb o k ge, le-leb (x + o) (x + k) (omega (arith, ge)), place) refl
+]
+
+module _ (p : Placed) (o : ℕ) (bytes : List ℕ) (fits : o + length bytes ≤ p.size) where
+  pub write_outside : (k : ℕ) (cell : Cell) → (IsInAtoms p k → ⊥) → after_host_write true (given (p.offset + o) bytes k) cell ≡ cell
+  write_outside k cell out = ap (λ (g : Option ℕ). after_host_write true g cell) (given-outside (p.offset + o) bytes k beyond)
+    where
+      beyond : (k < p.offset + o) ⊎ (p.offset + o + length bytes ≤ k)
+      beyond = elim (cases_lt k (p.offset + o)) [
+        | inl lt ↦ inl lt
+        | inr ge ↦ elim (cases_lt k (p.offset + o + length bytes)) [
+          | inl lt ↦ absurd (out (within_atoms p k (omega (arith, ge)) (omega (arith, lt, fits))))
+          | inr le ↦ inr le
+        ]
+      ]
+
+  pub write_inside : (k : ℕ) (cell : Cell) → k < p.size → after_host_write true (given (p.offset + o) bytes (p.offset + k)) cell ≡ after_host_write true (given o bytes k) cell
+  write_inside k cell lt = ap (λ (g : Option ℕ). after_host_write true g cell) (given_moved p.offset o bytes k)
+
+-- ---- atoms that a range reaches
+
+leb_moved : (a u v u' v' : ℕ) → u' ≡ a + u → v' ≡ a + v → nat_le u' v' ≡ nat_le u v
+leb_moved a u v u' v' left right = elim (cases_lt v u) [
+  | inl lt ↦ lt-leb u' v' (omega (arith, lt, left, right)) ∙ sym (lt-leb u v lt)
+  | inr le ↦ le-leb u' v' (omega (arith, le, left, right)) ∙ sym (le-leb u v le)
+]
+
+div_moved : (x k : ℕ) → x % 64 ≡ 0 → (x + k) / 64 ≡ x / 64 + k / 64
+div_moved x k aligned = omega (arith, aligned)
+
+reached_moved : (x o n k : ℕ) → x % 64 ≡ 0 → in_atoms (x + o) (length_of.Bytes n) (x + k) ≡ in_atoms o (length_of.Bytes n) k
+reached_moved x o zero k aligned = refl
+reached_moved x o (suc n) k aligned =
+    let end : (x + o + suc n - 1) / 64 ≡ x / 64 + (o + suc n - 1) / 64 = omega (arith, aligned) in
+    let low = leb_moved (x / 64) (o / 64) (k / 64) ((x + o) / 64) ((x + k) / 64) (div_moved x o aligned) (div_moved x k aligned) in
+    let high = leb_moved (x / 64) (k / 64) ((o + suc n - 1) / 64) ((x + k) / 64) ((x + o + suc n - 1) / 64) (div_moved x k aligned) end in
+    both (nat_lt 0 (suc n)) low high
+  where
+    both : (t : Bool) {a b c d : Bool} → a ≡ b → c ≡ d → ((t && a) && c) ≡ ((t && b) && d)
+    both t {b = b} {c = c} first second = ap (λ (a : Bool). (t && a) && c) first ∙ ap (λ (c : Bool). (t && b) && c) second
+
+-- a range lies in so many bytes
+abbrev pub FitsIn : ℕ → ℕ → Length → Type 0
+FitsIn size o (length_of.Bytes n) = o + n ≤ size
+FitsIn size o length_of.Whole = o < size
+
+pub may_reach : (x : Option Placed) (p : Placed) (o : ℕ) (n : Length) → x ≡ Some p → MayReachTo x o n → FitsIn p.size o n
+may_reach x p o n is may = go n (subst (λ (y : Option Placed). MayReachTo y o n) is may)
+  where
+    go : (n : Length) → MayReachTo (Some p) o n → FitsIn p.size o n
+    go (length_of.Bytes n) may = may
+    go length_of.Whole may = may
+
+pub ends_in : (size o : ℕ) (n : Length) → FitsIn size o n → o + length_to size o n ≤ size
+ends_in size o (length_of.Bytes n) fits = fits
+ends_in size o length_of.Whole fits = omega (arith, fits)
+
+-- a range to the end
+pub reached_to : (size o k : ℕ) (n : Length) → FitsIn size o n → k < size → in_atoms o (length_of.Bytes (length_to size o n)) k ≡ in_atoms o n k
+reached_to size o k (length_of.Bytes n) fits lt = refl
+reached_to size o k length_of.Whole fits lt =
+    rw (lt-ltb 0 (size - o) (omega (arith, fits)), le-leb (k / 64) ((o + (size - o) - 1) / 64) (omega (arith, fits, lt))) (and_true (nat_le (o / 64) (k / 64)))
+  where
+    and_true : (t : Bool) → (t && true) ≡ t
+    and_true true = refl
+    and_true false = refl
+
+module _ (p : Placed) (aligned : p.offset % 64 ≡ 0) (o m : ℕ) (fits : o + m ≤ p.size) where
+  -- a range of a buffer reaches no atom but its own
+  pub reached_outside : (k : ℕ) → (IsInAtoms p k → ⊥) → in_atoms (p.offset + o) (length_of.Bytes m) k ≡ false
+  reached_outside k out = false_from_ne_true (in_atoms (p.offset + o) (length_of.Bytes m) k) (λ h.
+      let outer = and_parts (nat_lt 0 m && nat_le ((p.offset + o) / 64) (k / 64)) (nat_le (k / 64) ((p.offset + o + m - 1) / 64)) h in
+      let inner = and_parts (nat_lt 0 m) (nat_le ((p.offset + o) / 64) (k / 64)) outer.0 in
+      let some : 0 < m = ltb-true 0 m inner.0 in
+      let low : (p.offset + o) / 64 ≤ k / 64 = leb-true ((p.offset + o) / 64) (k / 64) inner.1 in
+      let high : k / 64 ≤ (p.offset + o + m - 1) / 64 = leb-true (k / 64) ((p.offset + o + m - 1) / 64) outer.1 in
+      out (omega (arith, low), omega (arith, high, fits, some)))
+
+-- a test that is the same
+pub tested : (f : Cell → Cell) (s t : Bool) (cell : Cell) → s ≡ t → (if s then f cell else cell) ≡ (if t then f cell else cell)
+tested f s t cell same = ap (λ (b : Bool). if b then f cell else cell) same
+
+module _ (s : Held) (b : ℕ) (p : Placed) (here : placed s b ≡ Some p) (cached : is_cached_in s.memory p ≡ true) (aligned : p.offset % 64 ≡ 0) where
+  is_cached : is_some (cached_at s b) ≡ true
+  is_cached = rw (here_cached s b p here cached) refl
+
+  with_cached : (t : Bool) → (is_some (cached_at s b) && t) ≡ t
+  with_cached t = ap (λ (u : Bool). u && t) is_cached
+
+  module _ (o : ℕ) (n : Length) (fits : FitsIn p.size o n) where
+    -- what an invalidation reaches
+    pub range_inside : (k : ℕ) → k < p.size → in_atoms (p.offset + o) (length_of.Bytes (length_to p.size o n)) (p.offset + k) ≡ (is_some (cached_at s b) && in_atoms o n k)
+    range_inside k lt = reached_moved p.offset o (length_to p.size o n) k aligned ∙ reached_to p.size o k n fits lt ∙ sym (with_cached (in_atoms o n k))
+
+    pub range_outside : (k : ℕ) → (IsInAtoms p k → ⊥) → in_atoms (p.offset + o) (length_of.Bytes (length_to p.size o n)) k ≡ false
+    range_outside k out = reached_outside p aligned o (length_to p.size o n) (ends_in p.size o n fits) k out
+
+    -- what a flush reaches
+    module _ (len : ℕ) (room : p.offset + p.size ≤ len) where
+      pub flush_inside : (k : ℕ) → k < p.size → is_reached len (p.offset + o) (length_to p.size o n) (p.offset + k) ≡ (is_some (cached_at s b) && in_atoms o n k)
+      flush_inside k lt = ap (λ (t : Bool). t && in_atoms (p.offset + o) (length_of.Bytes (length_to p.size o n)) (p.offset + k)) (lt-ltb (p.offset + k) len (omega (arith, room, lt))) ∙ range_inside k lt
+
+      pub flush_outside : (k : ℕ) → (IsInAtoms p k → ⊥) → is_reached len (p.offset + o) (length_to p.size o n) k ≡ false
+      flush_outside k out = and_right (nat_lt k len) (in_atoms (p.offset + o) (length_of.Bytes (length_to p.size o n)) k) (range_outside k out)
+
+  -- an atom that is taken up or given back
+  module _ (j len : ℕ) (below : j ≤ (p.size - 1) / 64) (some : 0 < p.size) (room : p.offset + p.size ≤ len) where
+    pub atom_inside : (k : ℕ) → k < p.size → is_in_atom len (p.offset / 64 + j) (p.offset + k) ≡ (is_some (cached_at s b) && k / 64 == j)
+    atom_inside k lt =
+        ap (λ (t : Bool). t && (p.offset + k) / 64 == p.offset / 64 + j) (lt-ltb (p.offset + k) len (omega (arith, room, lt)))
+        ∙ eqb_moved (p.offset / 64) (k / 64) j ((p.offset + k) / 64) (div_moved p.offset k aligned) ∙ sym (with_cached (k / 64 == j))
+      where
+        eqb_moved : (a u v u' : ℕ) → u' ≡ a + u → (u' == a + v) ≡ (u == v)
+        eqb_moved a u v u' is = grind (arith, nat_tests)
+
+    pub atom_outside : (k : ℕ) → (IsInAtoms p k → ⊥) → is_in_atom len (p.offset / 64 + j) k ≡ false
+    atom_outside k out = false_from_ne_true (is_in_atom len (p.offset / 64 + j) k) (λ h.
+        let parts = and_parts (nat_lt k len) (k / 64 == p.offset / 64 + j) h in
+        let is : k / 64 ≡ p.offset / 64 + j = eqb-true (k / 64) (p.offset / 64 + j) parts.1 in
+        out (omega (arith, is), omega (arith, is, below, some, aligned)))

@@ -1,0 +1,309 @@
+-- Each call on the host's cache, as a step of what is held.
+use Rattle.std.proofs.Common.{◌≡◌, ℕ, ◌+◌, ◌-◌, ◌/◌, ◌%◌, ◌<◌, ◌≤◌, ◌==◌, List, [], length, slice_index, Bool, true, false, eqb, nat_lt, nat_le, ◌&&◌, refl, ap, sym, ◌∙◌, subst, arith, Option, Some, None, if◌then◌else◌}
+use Rattle.std.proofs.lemmas.Bool.{and_from, lt-ltb, ltb-true, le-leb, eqb-true, eqb-false}
+use Rattle.std.specs.Prelude.{IsSome, is_some}
+use Rattle.vk_map_cache.specs.Holdings.{Holdings, held_at, Changes, HoldsSame, given, only_where, is_reached, is_in_atom}
+use Rattle.vk_memory.specs.MemoryState.{MemoryState, region_of, type_of, type_in, with_region}
+use Rattle.vk_memory.proofs.LiveObjects.{region_of-same, region_of-other, type_of-same}
+use Rattle.vk_model.specs.declared.command.Length.{Length}
+use Rattle.vk_model.specs.declared.command.Length.TheVariants as length_of
+use Rattle.vk_model.specs.Run.Caches as caches
+use Rattle.vk_model.specs.Run.Caches.{Cell, written_back, forgotten}
+use Rattle.vk_model.specs.Run.CachedRuns.{after_host_write, turned_over}
+use Rattle.vk_model.specs.World.Bytes.{in_buffer}
+use Rattle.vk_model.specs.World.Effect.{in_atoms}
+use Rattle.vk_resources.specs.declared.resources.Placed.{Placed}
+use Rattle.vk_resources.specs.Allocating.{allotted}
+use Rattle.vk_resources.specs.Held.{Held, IsInside, IsInAtoms, IsCachedByte, Stands, is_cached_in, placed, placed_in, object_in, object_of, host_at, holding_in, byte_at}
+use Rattle.vk_resources.specs.Inner.Steps.{KeepsPlaces, HasChanged, Forgets, IsEmpty, Ends, freed, cached_at, length_to}
+use Rattle.vk_resources.proofs.Placing.{inside_of, apart_rewritten, still_long, kept_apart, apart_ended}
+use Rattle.vk_resources.proofs.Splicing.{kinds_kept}
+use Rattle.vk_resources.proofs.CachedBytes.{cached_here, here_cached, caching_typed, host_of, other_stays, reached_outside, changed_caching, changed_cells, unchanged_cells, write_outside, write_inside, FitsIn, range_inside, range_outside, flush_inside, flush_outside, atom_inside, atom_outside, tested}
+
+-- ---- nothing changes
+
+pub keeps_same : (s : Held) (cache : Holdings) → KeepsPlaces s (record s { cache = cache })
+keeps_same s cache = record { buffers = refl; same = refl; lengths = λ n. refl; types = λ n. refl }
+
+-- the same is held of every byte
+pub same_stands : (s : Held) (cache : Holdings) → Stands s → HoldsSame s.cache cache → Stands (record s { cache = cache })
+same_stands s cache stands same = (
+  stands.0,
+  record {
+    aligned = stands.1.aligned;
+    only = λ number k held. stands.1.only number k (subst (λ (h : Option caches.Held). IsSome h) (same number k) held);
+  },
+)
+
+-- a change of a buffer that isn't in cached memory
+pub uncached_kept : (s : Held) (b : ℕ) (test : ℕ → Bool) (f : Cell → Cell) → cached_at s b ≡ None → HasChanged s s b (only_where (λ k. is_some (cached_at s b) && test k) f)
+uncached_kept s b test f none =
+    (keeps_same s s.cache, unchanged_cells s b (only_where (λ k. is_some (cached_at s b) && test k) f) (λ k cell. ap (λ (o : Option Placed). if is_some o && test k then f cell else cell) none))
+
+-- ---- a change of the host's cache alone
+
+module _ (s : Held) (stands : Stands s) (b : ℕ) (p : Placed) (is : cached_at s b ≡ Some p) where
+  here : placed s b ≡ Some p
+  here = (cached_here s b p is).0
+
+  cached : is_cached_in s.memory p ≡ true
+  cached = (cached_here s b p is).1
+
+  inside : IsInside s.memory p
+  inside = inside_of s.memory s.owned s.buffers stands.0 b p here
+
+  aligned : p.offset % 64 ≡ 0
+  aligned = stands.1.aligned b p here cached
+
+  -- what is so of the cache with memory as it is
+  in_cache : (f g : ℕ → Cell → Cell) (cache : Holdings) → Changes f p.object s.cache cache (region_of s.memory p.object) (region_of s.memory p.object) → ((k : ℕ) (cell : Cell) → (IsInAtoms p k → ⊥) → f k cell ≡ cell)
+      → ((k : ℕ) (cell : Cell) → k < p.size → f (p.offset + k) cell ≡ g k cell) → Stands (record s { cache = cache }) × HasChanged s (record s { cache = cache }) b g
+  in_cache f g cache done outside same = (
+    (stands.0, changed_caching s stands b p here cached s.memory cache (λ q. refl) (λ q other. refl) f done outside),
+    (keeps_same s cache, changed_cells s stands b p here cached s.memory cache (λ q. refl) (λ q other. refl) f done outside g same),
+  )
+
+  -- memory with other bytes in its memory object
+  module _ (cache : Holdings) (after : List ℕ) (long : length after ≡ length (region_of s.memory p.object)) where
+    abbrev pub rewritten : Held
+    rewritten = record s { memory = with_region s.memory p.object after; cache = cache }
+
+    types : (q : ℕ) → type_of rewritten.memory q ≡ type_of s.memory q
+    types q = type_of-same s.memory p.object q after inside.live
+
+    pub rewritten_keeps : KeepsPlaces s rewritten
+    rewritten_keeps = record {
+      buffers = refl;
+      same = ap (λ (os : List (Option (ℕ × ℕ))). record (allotted s) { objects = os }) (kinds_kept s.memory p.object after);
+      lengths = λ number. still_long s.memory p.object after inside.live long number;
+      types = types;
+    }
+
+    -- where the same is held
+    pub rewritten_stands : HoldsSame s.cache cache → Stands rewritten
+    rewritten_stands same = (
+      apart_rewritten s.memory p.object after inside.live long s.owned s.buffers stands.0,
+      caching_typed s.memory rewritten.memory s.buffers cache (λ c q at. types q.object) (same_stands s cache stands same).1,
+    )
+
+  -- and with other bytes in its memory object
+  in_both : (f g : ℕ → Cell → Cell) (cache : Holdings) (after : List ℕ) → Changes f p.object s.cache cache (region_of s.memory p.object) after → ((k : ℕ) (cell : Cell) → (IsInAtoms p k → ⊥) → f k cell ≡ cell)
+      → ((k : ℕ) (cell : Cell) → k < p.size → f (p.offset + k) cell ≡ g k cell)
+      → Stands (record s { memory = with_region s.memory p.object after; cache = cache }) × HasChanged s (record s { memory = with_region s.memory p.object after; cache = cache }) b g
+  in_both f g cache after done outside same = (
+    (apart_rewritten s.memory p.object after inside.live done.size s.owned s.buffers stands.0, changed_caching s stands b p here cached memory cache (types cache after done.size) elsewhere f now outside),
+    (rewritten_keeps cache after done.size, changed_cells s stands b p here cached memory cache (types cache after done.size) elsewhere f now outside g same),
+  )
+    where
+      memory : MemoryState
+      memory = with_region s.memory p.object after
+
+      elsewhere : (q : ℕ) → (q ≡ p.object → ⊥) → region_of memory q ≡ region_of s.memory q
+      elsewhere q other = region_of-other s.memory p.object q after other
+
+      now : Changes f p.object s.cache cache (region_of s.memory p.object) (region_of memory p.object)
+      now = subst (λ (r : List ℕ). Changes f p.object s.cache cache (region_of s.memory p.object) r) (sym (region_of-same s.memory p.object after inside.live)) done
+
+  -- ---- the calls
+
+  pub wrote : (o : ℕ) (bytes region : List ℕ) (cache : Holdings) → o + length bytes ≤ p.size → region ≡ region_of s.memory p.object → Changes (λ k. after_host_write true (given (p.offset + o) bytes k)) p.object s.cache cache region region
+      → Stands (record s { cache = cache }) × HasChanged s (record s { cache = cache }) b (λ k. after_host_write true (given o bytes k))
+  wrote o bytes region cache fits at done =
+      in_cache (λ k. after_host_write true (given (p.offset + o) bytes k)) (λ k. after_host_write true (given o bytes k)) cache
+      (subst (λ (r : List ℕ). Changes (λ k. after_host_write true (given (p.offset + o) bytes k)) p.object s.cache cache r r) at done) (write_outside p o bytes fits) (write_inside p o bytes fits)
+
+  module _ (o : ℕ) (n : Length) (fits : FitsIn p.size o n) where
+    pub flushed : (region after : List ℕ) (cache : Holdings) → region ≡ region_of s.memory p.object → Changes (only_where (is_reached (length region) (p.offset + o) (length_to p.size o n)) (written_back 0)) p.object s.cache cache region after
+        → Stands (record s { memory = with_region s.memory p.object after; cache = cache })
+        × HasChanged s (record s { memory = with_region s.memory p.object after; cache = cache }) b (only_where (λ k. is_some (cached_at s b) && in_atoms o n k) (written_back 0))
+    flushed region after cache at done =
+        in_both (only_where (is_reached (length (region_of s.memory p.object)) (p.offset + o) (length_to p.size o n)) (written_back 0)) (only_where (λ k. is_some (cached_at s b) && in_atoms o n k) (written_back 0)) cache after
+        (subst (λ (r : List ℕ). Changes (only_where (is_reached (length r) (p.offset + o) (length_to p.size o n)) (written_back 0)) p.object s.cache cache r after) at done)
+        (λ k cell out. tested (written_back 0) _ false cell (flush_outside s b p here cached aligned o n fits (length (region_of s.memory p.object)) inside.room k out))
+        (λ k cell lt. tested (written_back 0) _ _ cell (flush_inside s b p here cached aligned o n fits (length (region_of s.memory p.object)) inside.room k lt))
+
+    pub invalidated : (cache : Holdings) → ((region : List ℕ) → Changes (only_where (in_atoms (p.offset + o) (length_of.Bytes (length_to p.size o n))) (forgotten 0)) p.object s.cache cache region region)
+        → Stands (record s { cache = cache }) × HasChanged s (record s { cache = cache }) b (only_where (λ k. is_some (cached_at s b) && in_atoms o n k) (forgotten 0))
+    invalidated cache done =
+        in_cache (only_where (in_atoms (p.offset + o) (length_of.Bytes (length_to p.size o n))) (forgotten 0)) (only_where (λ k. is_some (cached_at s b) && in_atoms o n k) (forgotten 0)) cache (done (region_of s.memory p.object))
+        (λ k cell out. tested (forgotten 0) _ false cell (range_outside s b p here cached aligned o n fits k out)) (λ k cell lt. tested (forgotten 0) _ _ cell (range_inside s b p here cached aligned o n fits k lt))
+
+  pub turned_atom : (j : ℕ) (region after : List ℕ) (cache : Holdings) → j ≤ (p.size - 1) / 64 → region ≡ region_of s.memory p.object → Changes (only_where (is_in_atom (length region) (p.offset / 64 + j)) turned_over) p.object s.cache cache region after
+      → Stands (record s { memory = with_region s.memory p.object after; cache = cache })
+      × HasChanged s (record s { memory = with_region s.memory p.object after; cache = cache }) b (only_where (λ k. is_some (cached_at s b) && k / 64 == j) turned_over)
+  turned_atom j region after cache below at done =
+      in_both (only_where (is_in_atom (length (region_of s.memory p.object)) (p.offset / 64 + j)) turned_over) (only_where (λ k. is_some (cached_at s b) && k / 64 == j) turned_over) cache after
+      (subst (λ (r : List ℕ). Changes (only_where (is_in_atom (length r) (p.offset / 64 + j)) turned_over) p.object s.cache cache r after) at done)
+      (λ k cell out. tested turned_over _ false cell (atom_outside s b p here cached aligned j (length (region_of s.memory p.object)) below inside.some inside.room k out))
+      (λ k cell lt. tested turned_over _ _ cell (atom_inside s b p here cached aligned j (length (region_of s.memory p.object)) below inside.some inside.room k lt))
+
+  -- ---- what is forgotten
+
+  module _ (cache : Holdings) (done : (region : List ℕ) → Changes (only_where (in_atoms p.offset (length_of.Bytes p.size)) (forgotten 0)) p.object s.cache cache region region) where
+    out_of_it : (k : ℕ) (cell : Cell) → (IsInAtoms p k → ⊥) → only_where (in_atoms p.offset (length_of.Bytes p.size)) (forgotten 0) k cell ≡ cell
+    out_of_it k cell out =
+        let start : p.offset + 0 ≡ p.offset = omega arith in
+        tested (forgotten 0) _ false cell (subst (λ (o : ℕ). in_atoms o (length_of.Bytes p.size) k ≡ false) start (reached_outside p aligned 0 p.size (omega arith) k out))
+
+    pub forgot_stands : Stands (record s { cache = cache })
+    forgot_stands = (stands.0, changed_caching s stands b p here cached s.memory cache (λ q. refl) (λ q other. refl) _ (done (region_of s.memory p.object)) out_of_it)
+
+    gone_at : (k : ℕ) → IsInAtoms p k → held_at cache p.object k ≡ None
+    gone_at k at =
+        let cell : Cell = record { region = slice_index (region_of s.memory p.object) k; held = λ a. held_at s.cache p.object k } in
+        let now = (done (region_of s.memory p.object)).bytes k cell (record { held = refl; region = refl }) in
+        sym now.held ∙ ap (λ (t : Bool). (if t then forgotten 0 cell else cell).held 0) reached
+      where
+        reached : in_atoms p.offset (length_of.Bytes p.size) k ≡ true
+        reached =
+            let some = inside.some in
+            and_from (nat_lt 0 p.size && nat_le (p.offset / 64) (k / 64)) (nat_le (k / 64) ((p.offset + p.size - 1) / 64))
+            (and_from (nat_lt 0 p.size) (nat_le (p.offset / 64) (k / 64)) (lt-ltb 0 p.size some) (le-leb (p.offset / 64) (k / 64) at.0)) (le-leb (k / 64) ((p.offset + p.size - 1) / 64) at.1)
+
+    pub forgets : Forgets s (record s { cache = cache }) b
+    forgets = record {
+      gone = λ q k at in_it. let both : Some p ≡ Some q = sym is ∙ at in let same : p ≡ q = cc in subst (λ (r : Placed). IsInAtoms r k → held_at cache r.object k ≡ None) same (gone_at k) in_it;
+      others = λ c k ne. others c k ne (placed s c) refl;
+    }
+      where
+        at_place : (c k : ℕ) (q : Placed) → placed s c ≡ Some q → (b ≡ c → ⊥) → (t : Bool) → nat_lt k q.size ≡ t → (if t then held_at cache q.object (q.offset + k) else None) ≡ (if t then held_at s.cache q.object (q.offset + k) else None)
+        at_place c k q at ne false e = refl
+        at_place c k q at ne true e =
+            let lt = ltb-true k q.size e in
+            let cell : Cell = record { region = byte_at s (in_buffer c k); held = λ a. host_at s (in_buffer c k) } in
+            let stays = other_stays s stands b p here cached s.memory cache (λ q. refl) (λ q other. refl) _ (done (region_of s.memory p.object)) out_of_it c q at ne k lt cell (record { held = refl; region = refl }) in
+            sym (host_of (record s { cache = cache }) c q at k lt) ∙ sym stays.held ∙ host_of s c q at k lt
+
+        others : (c k : ℕ) → (c ≡ b → ⊥) → (o : Option Placed) → placed s c ≡ o → host_at (record s { cache = cache }) (in_buffer c k) ≡ host_at s (in_buffer c k)
+        others c k ne None at = rw at refl
+        others c k ne (Some q) at = rw at (at_place c k q at (λ same. ne (sym same)) (nat_lt k q.size) refl)
+
+-- where there is nothing to be forgotten
+pub forgets_none : (s : Held) (b : ℕ) → cached_at s b ≡ None → Forgets s s b
+forgets_none s b none = record { gone = λ p k at in_it. let both : None ≡ Some p = sym none ∙ at in absurd cc; others = λ c k ne. refl }
+
+-- ---- an id that ends
+
+-- what was held nowhere is held nowhere when it is forgotten
+pub all_none : (number offset size : ℕ) (old new : Holdings) → ((region : List ℕ) → Changes (only_where (in_atoms offset (length_of.Bytes size)) (forgotten 0)) number old new region region) → ((k : ℕ) → held_at old number k ≡ None) → HoldsSame old new
+all_none number offset size old new done none n k = go (eqb n number) refl
+  where
+    forgot : (t : Bool) (cell : Cell) → cell.held 0 ≡ None → (if t then forgotten 0 cell else cell).held 0 ≡ None
+    forgot true cell unheld = refl
+    forgot false cell unheld = unheld
+
+    here : held_at new number k ≡ None
+    here =
+        let cell : Cell = record { region = slice_index [] k; held = λ a. held_at old number k } in
+        let now = (done []).bytes k cell (record { held = refl; region = refl }) in
+        sym now.held ∙ forgot (in_atoms offset (length_of.Bytes size) k) cell (none k)
+
+    go : (t : Bool) → eqb n number ≡ t → held_at new n k ≡ held_at old n k
+    go true e = ap (λ (m : ℕ). held_at new m k) (eqb-true n number e) ∙ here ∙ sym (none k) ∙ ap (λ (m : ℕ). held_at old m k) (sym (eqb-true n number e))
+    go false e = (done []).others n k (eqb-false n number e)
+
+module _ (s : Held) (id : ℕ) (cache : Holdings) (stands : Stands s) (mid : Stands (record s { cache = cache })) (forgets : Forgets s (record s { cache = cache }) id) (empty : IsEmpty s id) where
+  -- nothing is held any more of its memory object
+  pub object_bare : (number k : ℕ) → object_of s id ≡ Some number → held_at cache number k ≡ None
+  object_bare number k has = go (held_at cache number k) refl
+    where
+      go : (h : Option caches.Held) → held_at cache number k ≡ h → h ≡ None
+      go None at = refl
+      go (Some h) at =
+          let w = mid.1.only number k (rw at refl) in
+          own (eqb w.id id) w refl
+        where
+          own : (t : Bool) → (w : IsCachedByte s.memory s.buffers number k) → eqb w.id id ≡ t → Some h ≡ None
+          own false w e = absurd (empty number w.id w.place has (eqb-false w.id id e) w.here w.object)
+          own true w e =
+              let same = eqb-true w.id id e in
+              let there = here_cached s id w.place (ap (λ (i : ℕ). placed s i) (sym same) ∙ w.here) w.cached in
+              let none = subst (λ (n : ℕ). held_at cache n k ≡ None) w.object (forgets.gone w.place k there w.atom) in
+              sym at ∙ none
+
+  module _ (owned' : List (ℕ × ℕ)) (buffers' : List (ℕ × Placed)) (final : Holdings) (same : HoldsSame cache final)
+      (no_object : object_in owned' id ≡ None) (objects : (i : ℕ) → (i ≡ id → ⊥) → object_in owned' i ≡ object_in s.owned i) (no_buffer : placed_in buffers' id ≡ None) (places : (b : ℕ) → (b ≡ id → ⊥) → placed_in buffers' b ≡ placed_in s.buffers b)
+    where
+      abbrev pub ended : Held
+      ended = record { memory = freed s.memory (object_of s id); owned = owned'; buffers = buffers'; cache = final }
+
+      other : (b : ℕ) (p : Placed) → placed_in buffers' b ≡ Some p → b ≡ id → ⊥
+      other b p at is = let both : Some p ≡ None = sym at ∙ ap (λ (k : ℕ). placed_in buffers' k) is ∙ no_buffer in cc
+
+      -- another buffer lies in memory of the type that it was
+      type_kept : (b : ℕ) (p : Placed) → (b ≡ id → ⊥) → placed s b ≡ Some p → type_of (freed s.memory (object_of s id)) p.object ≡ type_of s.memory p.object
+      type_kept b p ne at = go (object_of s id) refl
+        where
+          go : (o : Option ℕ) → object_of s id ≡ o → type_of (freed s.memory o) p.object ≡ type_of s.memory p.object
+          go None is = refl
+          go (Some n) is = ap type_in (kept_apart s.memory n p.object (λ same. empty n b p is ne at same))
+
+      pub ended_stands : Stands ended
+      ended_stands = (
+        apart_ended s.memory s.owned owned' s.buffers buffers' id no_object objects no_buffer places empty stands.0,
+        record {
+          aligned = λ b p at cached.
+              let ne = other b p at in
+              let was = sym (places b ne) ∙ at in
+              stands.1.aligned b p was (ap (λ (t : ℕ). t == 2) (sym (type_kept b p ne was)) ∙ cached);
+          only = λ number k held. only number k held (mid.1.only number k (subst (λ (h : Option caches.Held). IsSome h) (same number k) held));
+        },
+      )
+        where
+          only : (number k : ℕ) → IsSome (held_at final number k) → IsCachedByte s.memory s.buffers number k → IsCachedByte ended.memory buffers' number k
+          only number k held w = go (eqb w.id id) refl
+            where
+              go : (t : Bool) → eqb w.id id ≡ t → IsCachedByte ended.memory buffers' number k
+              go false e =
+                  let ne = eqb-false w.id id e in
+                  record { id = w.id; place = w.place; here = places w.id ne ∙ w.here; object = w.object; cached = ap (λ (t : ℕ). t == 2) (type_kept w.id w.place ne w.here) ∙ w.cached; atom = w.atom }
+              go true e =
+                  let one = eqb-true w.id id e in
+                  let there = here_cached s id w.place (ap (λ (i : ℕ). placed s i) (sym one) ∙ w.here) w.cached in
+                  let none : held_at cache number k ≡ None = subst (λ (n : ℕ). held_at cache n k ≡ None) w.object (forgets.gone w.place k there w.atom) in
+                  let no : IsSome {T = caches.Held} None = subst (λ (h : Option caches.Held). IsSome h) (same number k ∙ none) held in
+                  absurd cc
+
+      pub ends : Ends s ended id
+      ends = record {
+        memory = refl;
+        no_object = no_object;
+        objects = objects;
+        no_buffer = no_buffer;
+        buffers = places;
+        held = λ b k ne. held b k ne;
+      }
+        where
+          held : (b k : ℕ) → (b ≡ id → ⊥) → host_at ended (in_buffer b k) ≡ host_at s (in_buffer b k)
+          held b k ne = ap (λ (o : Option Placed). holding_in final o k) (places b ne) ∙ in_final (placed s b) ∙ forgets.others b k ne
+            where
+              in_final : (o : Option Placed) → holding_in final o k ≡ holding_in cache o k
+              in_final None = refl
+              in_final (Some p) = ap (λ (h : Option caches.Held). if nat_lt k p.size then h else None) (same p.object (p.offset + k))
+
+-- the same of what is held when it is forgotten
+module _ (s n : Held) (id : ℕ) (memory : n.memory ≡ s.memory) (owned : n.owned ≡ s.owned) (buffers : n.buffers ≡ s.buffers) (stands : Stands s) (mid : Stands n) (forgets : Forgets s n id) (empty : IsEmpty s id) where
+  as_cache : n ≡ record s { cache = n.cache }
+  as_cache =
+      ap (λ (m : MemoryState). record n { memory = m }) memory ∙ ap (λ (o : List (ℕ × ℕ)). record n { memory = s.memory; owned = o }) owned
+      ∙ ap (λ (b : List (ℕ × Placed)). record n { memory = s.memory; owned = s.owned; buffers = b }) buffers
+
+  stands_mid : Stands (record s { cache = n.cache })
+  stands_mid = subst Stands as_cache mid
+
+  forgets_mid : Forgets s (record s { cache = n.cache }) id
+  forgets_mid = subst (λ (h : Held). Forgets s h id) as_cache forgets
+
+  pub bare_object : (number : ℕ) → Some number ≡ object_in n.owned id → (k : ℕ) → held_at n.cache number k ≡ None
+  bare_object number has k = object_bare s id n.cache stands stands_mid forgets_mid empty number k (sym (has ∙ ap (λ (o : List (ℕ × ℕ)). object_in o id) owned))
+
+  module _ (owned' : List (ℕ × ℕ)) (buffers' : List (ℕ × Placed)) (final : Holdings) (memory' : MemoryState) (same : HoldsSame n.cache final) (object : Option ℕ) (has : object ≡ object_in n.owned id) (is : memory' ≡ freed n.memory object)
+      (no_object : object_in owned' id ≡ None) (objects : (i : ℕ) → (i ≡ id → ⊥) → object_in owned' i ≡ object_in n.owned i) (no_buffer : placed_in buffers' id ≡ None) (places : (b : ℕ) → (b ≡ id → ⊥) → placed_in buffers' b ≡ placed_in n.buffers b)
+    where
+      pub all_ended : Stands (record { memory = memory'; owned = owned'; buffers = buffers'; cache = final }) × Ends s (record { memory = memory'; owned = owned'; buffers = buffers'; cache = final }) id
+      all_ended =
+          let objects' : (i : ℕ) → (i ≡ id → ⊥) → object_in owned' i ≡ object_in s.owned i = λ i ne. objects i ne ∙ ap (λ (o : List (ℕ × ℕ)). object_in o i) owned in
+          let places' : (b : ℕ) → (b ≡ id → ⊥) → placed_in buffers' b ≡ placed_in s.buffers b = λ b ne. places b ne ∙ ap (λ (l : List (ℕ × Placed)). placed_in l b) buffers in
+          let left : memory' ≡ freed s.memory (object_of s id) = is ∙ ap (λ (o : Option ℕ). freed n.memory o) (has ∙ ap (λ (o : List (ℕ × ℕ)). object_in o id) owned) ∙ ap (λ (m : MemoryState). freed m (object_of s id)) memory in
+          subst (λ (m : MemoryState). Stands (record { memory = m; owned = owned'; buffers = buffers'; cache = final }) × Ends s (record { memory = m; owned = owned'; buffers = buffers'; cache = final }) id) (sym left)
+          (ended_stands s id n.cache stands stands_mid forgets_mid empty owned' buffers' final same no_object objects' no_buffer places', ends s id n.cache stands stands_mid forgets_mid empty owned' buffers' final same no_object objects' no_buffer places')

@@ -1,0 +1,17 @@
+use Rattle.std.proofs.Common.{sym}
+use Rattle.std.proofs.lemmas.Result.{on_ok_weaker}
+use Rattle.vk_model.specs.Trace.Objects.{live}
+use Rattle.vk_resources.proofs.Matching.{keeps_matches}
+use Rattle.vk_resources.proofs.HostAccesses.{has_atom, turns_over}
+use Rattle.vk_resources.proofs.resources.Resources.turn_over.Goals as goal
+
+pub turn_over_atom-requires : goal.turn_over_atom-requires
+turn_over_atom-requires c = let r = c.requires in has_atom r.0 c.args.self.now r.1 c.args.entry.now c.in-Some.buffer (sym c.in-Some.ensures) r.2 c.args.atom r.3
+
+pub returns-in-Some-clause-turned : goal.returns-in-Some-clause-turned
+returns-in-Some-clause-turned c =
+    let r = c.requires in
+    on_ok_weaker c.turn_over_atom.result (λ changed. λ b cell there has. turns_over r.0 c.args.self.now r.1 c.args.entry.now c.in-Some.buffer (sym c.in-Some.ensures) r.2 c.args.atom c.turn_over_atom.new.self r.3 changed b cell there has) c.turn_over_atom.ensures.turned
+
+pub returns-in-Some-clause-matches : goal.returns-in-Some-clause-matches
+returns-in-Some-clause-matches c = λ past m. keeps_matches (live past) c.args.self.now c.turn_over_atom.new.self c.turn_over_atom.ensures.keeps m
