@@ -1,5 +1,6 @@
 -- Reading the members of an array one after the other.
-use Rattle.std.proofs.Common.{◌≡◌, ℕ, List, [], ◌∷◌, ◌++◌, Option, Some, None, map, refl, sym, ap, ◌∙◌, append_assoc, append-nil, ◌+◌, ◌<◌, suc, length, drop, get_or, add-one, drop-cons}
+use Rattle.std.proofs.Common.{◌≡◌, ◌≤◌, ℕ, List, [], ◌∷◌, ◌++◌, Option, Some, None, map, refl, sym, ap, ◌∙◌, append_assoc, append-nil, ◌+◌, ◌<◌, suc, length, drop, get_or, add-one, drop-cons}
+use Rattle.std.proofs.lemmas.List.{drop_all, drop_more}
 use Rattle.serde_json.specs.Data.{Data}
 use Rattle.serde_json.specs.Find.{as_array}
 use Rattle.serde_json.specs.View.{view, items_of, items_view}
@@ -56,3 +57,15 @@ rest_at vs i v lt h = rw (add-one) (drop-cons vs i v lt ∙ ap (λ w. w ∷ drop
 -- the same of what the values mean
 pub rest_views : (vs : List Value) (i : ℕ) (v : Value) → i < length vs → v ≡ get_or vs i v → map view (drop i vs) ≡ view v ∷ map view (drop (i + 1) vs)
 rest_views vs i v lt h = ap (map view) (rest_at vs i v lt h)
+
+-- ---- lists that are put together
+
+pub mapped_on : {A B : Type 0} (f : A → B) (new old whole : List B) (xs : List A) (i : ℕ) (d : A) → i < length xs → new ≡ old ++ f (get_or xs i d) ∷ [] → old ++ map f (drop i xs) ≡ whole → new ++ map f (drop (i + 1) xs) ≡ whole
+mapped_on {A} {B} f new old whole xs i d lt pushed so_far =
+    ap (λ (l : List B). l ++ map f (drop (i + 1) xs)) pushed
+    ∙ append_assoc old (f (get_or xs i d) ∷ []) (map f (drop (i + 1) xs))
+    ∙ ap (λ (l : List A). old ++ map f l) (sym (drop_more xs i d lt))
+    ∙ so_far
+
+pub mapped_all : {A B : Type 0} (f : A → B) (now whole : List B) (xs : List A) (i : ℕ) → length xs ≤ i → now ++ map f (drop i xs) ≡ whole → now ≡ whole
+mapped_all {A} f now whole xs i le so_far = sym (append-nil now) ∙ ap (λ (l : List A). now ++ map f l) (sym (drop_all i xs le)) ∙ so_far

@@ -1,5 +1,5 @@
 -- Whatever is a trace has only supported forms.
-use Rattle.std.proofs.Common.{◌≡◌, ℕ, zero, suc, ◌+◌, ◌&&◌, ◌++◌, length, List, [], ◌∷◌, Bool, true, false, not, ◌==◌, refl, ap, subst, Option, Some, None, IsTrue}
+use Rattle.std.proofs.Common.{◌≡◌, ℕ, zero, suc, ◌+◌, ◌&&◌, ◌++◌, map, length, List, [], ◌∷◌, Bool, true, false, not, ◌==◌, refl, ap, subst, Option, Some, None, IsTrue}
 use Rattle.std.specs.Prelude.{⊤, bytes_eq, if◌then◌else◌, unwrap_or, option_map}
 use Rattle.std.specs.List.{list_all, filter}
 use Rattle.serde_json.specs.Data.{Data}
@@ -7,6 +7,7 @@ use Rattle.vk_model.specs.declared.command.Cmd.{Cmd}
 use Rattle.vk_model.specs.declared.command.Cmd.TheVariants as cmd
 use Rattle.vk_model.specs.declared.command.Element.{Element}
 use Rattle.vk_model.specs.declared.command.Element.TheVariants as element
+use Rattle.vk_model.specs.declared.command.BufferElement.{BufferElement}
 use Rattle.vk_model.specs.declared.command.Dependency.{Dependency}
 use Rattle.vk_model.specs.declared.entry.Batch.{Batch}
 use Rattle.vk_model.specs.declared.entry.Entry.{Entry}
@@ -16,13 +17,13 @@ use Rattle.vk_model.specs.declared.resource.Place.{Place}
 use Rattle.vk_model.specs.declared.resource.Place.TheVariants as place
 use Rattle.vk_model.specs.Trace.Point.{Past, Action, Wait, Run, Signal}
 use Rattle.vk_model.specs.Trace.Order.{SubmittedBatch, Front, host, actions, started, batches_from, batches_of, is_met, same_batch, next_batch, start_batch, settled, after_entry, order_from, order}
-use Rattle.vk_history.specs.Supported.{is_supported, is_supported_action, is_supported_entry, is_supported_command, is_supported_place, is_memory}
+use Rattle.vk_history.specs.Supported.{is_supported, is_supported_action, is_supported_entry, is_supported_command, is_supported_place, is_supported_element}
 use Rattle.vk_model.specs.Basics.{among}
 use Rattle.vk_model.proofs.Lists.Pairs.{Each, each_append, each_from, each_has}
 use Rattle.vk_model.proofs.Lists.Members.{filtered}
 use Rattle.vk_history.proofs.Points.Pasts.{supported-next}
 use Rattle.vk_trace.specs.Members.{Reader, Row, ◌>>=◌, array_members, first_member, no_member, from, ◌<*>◌, only, members, at_word, after_word, word_and_members, tagged, each_member, list_of, empty_list, bytes_value, u32_value, u64_value}
-use Rattle.vk_trace.specs.Trace.{copy_region, memory_element, dependency_value, command_rows, command_value, semaphore_submit, batch_value, semaphore_value, memory_type_value, place_rows, place_value, sharing_value, length_or_whole, buffer, memory, entry_rows, entry_value, IsTrace}
+use Rattle.vk_trace.specs.Trace.{copy_region, dependency_value, buffer_element, command_rows, command_value, semaphore_submit, batch_value, semaphore_value, place_rows, place_value, sharing_value, length_or_whole, buffer, memory, entry_rows, entry_value, IsTrace}
 
 -- ---- what holds of all that a reader gives
 
@@ -108,17 +109,11 @@ list_makes P read makes d xs h =
 
 -- ---- what holds of the forms of a trace
 
-all_pass : {A : Type 0} (test : A → Bool) (xs : List A) → Each (λ x. test x ≡ true) xs → list_all test xs ≡ true
-all_pass test [] each = refl
-all_pass test (x ∷ xs) each = rw (each.0, all_pass test xs each.1) refl
-
-memory_makes : Makes (λ (e : Element). is_memory e ≡ true) memory_element
-unfolding memory_element
-memory_makes d x h = go (dependency_value d) h
-  where
-    go : (o : Option Dependency) → option_map element.Memory o ≡ Some x → is_memory x ≡ true
-    go None e = absurd cc
-    go (Some v) e = let same : element.Memory v ≡ x = cc in subst (λ (y : Element). is_memory y ≡ true) same refl
+-- the elements of a barrier that is read
+elements_pass : (ms : List Dependency) (us : List BufferElement) → list_all is_supported_element (map element.Memory ms ++ map element.Buffer us) ≡ true
+elements_pass [] [] = refl
+elements_pass [] (u ∷ us) = elements_pass [] us
+elements_pass (m ∷ ms) us = elements_pass ms us
 
 abbrev IsSupportedCommand : Cmd → Type 0
 IsSupportedCommand c = is_supported_command c ≡ true
@@ -132,7 +127,7 @@ command_makes = tagged_makes IsSupportedCommand command_rows (
     (
       any_makes IsSupportedCommand _ (list_of copy_region) (any_makes _ _ u32_value (any_makes _ _ u32_value (from_makes _ cmd.Copy (λ s d gs. refl)))),
       (
-        any_makes IsSupportedCommand _ empty_list (any_makes _ _ empty_list (more_makes _ (Each (λ (e : Element). is_memory e ≡ true)) _ (list_of memory_element) (from_makes _ _ (λ es each _ _. all_pass is_memory es each)) (list_makes _ memory_element memory_makes))),
+        any_makes IsSupportedCommand _ empty_list (any_makes _ _ (list_of buffer_element) (any_makes _ _ (list_of dependency_value) (from_makes _ _ (λ ms us _. elements_pass ms us)))),
         (
           any_makes IsSupportedCommand _ (list_of dependency_value) (any_makes _ _ u32_value (from_makes _ cmd.Set (λ v ms. refl))),
           (any_makes IsSupportedCommand _ (list_of dependency_value) (any_makes _ _ u32_value (from_makes _ cmd.Await (λ v ms. refl))), tt),
@@ -155,19 +150,9 @@ batch_makes = members_make IsSupportedBatch _ (
 abbrev IsSupportedPlace : Place → Type 0
 IsSupportedPlace p = is_supported_place p ≡ true
 
-type_makes : Makes (λ (t : ℕ). not (t == 2) ≡ true) memory_type_value
-unfolding memory_type_value
-type_makes d x h =
-    let read = went_on (u32_value d) (λ (n : ℕ). if n == 2 then None else Some n) x h in
-    go read.0 (read.0 == 2) refl read.2
-  where
-    go : (n : ℕ) (b : Bool) → (n == 2) ≡ b → (if b then None else Some n) ≡ Some x → not (x == 2) ≡ true
-    go n true is e = absurd cc
-    go n false is e = let same : n ≡ x = cc in subst (λ (m : ℕ). not (m == 2) ≡ true) same (rw is refl)
-
 place_makes : Makes IsSupportedPlace place_value
 unfolding place_value place_rows
-place_makes = tagged_makes IsSupportedPlace place_rows (more_makes IsSupportedPlace (λ (t : ℕ). not (t == 2) ≡ true) _ memory_type_value (from_makes _ place.Dedicated (λ t other. other)) type_makes, (any_makes IsSupportedPlace _ u64_value (any_makes _ _ u32_value (from_makes _ place.Memory (λ m o. refl))), tt))
+place_makes = tagged_makes IsSupportedPlace place_rows (any_makes IsSupportedPlace _ u32_value (from_makes _ place.Dedicated (λ t. refl)), (any_makes IsSupportedPlace _ u64_value (any_makes _ _ u32_value (from_makes _ place.Memory (λ m o. refl))), tt))
 
 -- an entry, and the batches that it submits
 pub record IsSupportedEntry (x : Entry) : Type 0 where
@@ -183,7 +168,7 @@ unfolding entry_value entry_rows
 entry_makes = tagged_makes IsSupportedEntry entry_rows (
   more_makes IsSupportedEntry IsSupportedPlace _ place_value (any_makes _ _ sharing_value (any_makes _ _ u32_value (any_makes _ _ u64_value (any_makes _ _ u32_value (from_makes _ buffer (λ i n u s p own. record { host = own; batches = λ past e. tt })))))) place_makes,
   (
-    any_makes IsSupportedEntry _ u64_value (more_makes _ (λ (t : ℕ). not (t == 2) ≡ true) _ memory_type_value (any_makes _ _ u32_value (from_makes _ memory (λ i t other n. record { host = other; batches = λ past e. tt }))) type_makes),
+    any_makes IsSupportedEntry _ u64_value (any_makes _ _ u32_value (any_makes _ _ u32_value (from_makes _ memory (λ i t n. record { host = refl; batches = λ past e. tt })))),
     (
       any_makes IsSupportedEntry _ u32_value (from_makes _ entry.Free (λ m. record { host = refl; batches = λ past e. tt })),
       (
@@ -197,16 +182,22 @@ entry_makes = tagged_makes IsSupportedEntry entry_rows (
               (
                 any_makes IsSupportedEntry _ u64_value (any_makes _ _ u64_value (any_makes _ _ u32_value (from_makes _ entry.Read (λ b o n. record { host = refl; batches = λ past e. tt })))),
                 (
-                  any_makes IsSupportedEntry _ u64_value (any_makes _ _ u32_value (from_makes _ entry.Semaphore (λ i v. record { host = refl; batches = λ past e. tt }))),
+                  any_makes IsSupportedEntry _ length_or_whole (any_makes _ _ u64_value (any_makes _ _ u32_value (from_makes _ entry.Flush (λ b o n. record { host = refl; batches = λ past e. tt })))),
                   (
-                    any_makes IsSupportedEntry _ u32_value (from_makes _ entry.Event (λ i. record { host = refl; batches = λ past e. tt })),
+                    any_makes IsSupportedEntry _ length_or_whole (any_makes _ _ u64_value (any_makes _ _ u32_value (from_makes _ entry.Invalidate (λ b o n. record { host = refl; batches = λ past e. tt })))),
                     (
-                      any_makes IsSupportedEntry _ u64_value (any_makes _ _ u32_value (from_makes _ entry.Signal (λ v n. record { host = refl; batches = λ past e. tt }))),
+                      any_makes IsSupportedEntry _ u64_value (any_makes _ _ u32_value (from_makes _ entry.Semaphore (λ i v. record { host = refl; batches = λ past e. tt }))),
                       (
-                        any_makes IsSupportedEntry _ (list_of semaphore_value) (from_makes _ entry.Wait (λ ws. record { host = refl; batches = λ past e. tt })),
+                        any_makes IsSupportedEntry _ u32_value (from_makes _ entry.Event (λ i. record { host = refl; batches = λ past e. tt })),
                         (
-                          more_makes IsSupportedEntry (Each IsSupportedBatch) _ (list_of batch_value) (any_makes _ _ _ (from_makes _ entry.Submit (λ q bs each. record { host = refl; batches = λ past e. of_batches past e q 0 bs each }))) (list_makes _ batch_value batch_makes),
-                          tt,
+                          any_makes IsSupportedEntry _ u64_value (any_makes _ _ u32_value (from_makes _ entry.Signal (λ v n. record { host = refl; batches = λ past e. tt }))),
+                          (
+                            any_makes IsSupportedEntry _ (list_of semaphore_value) (from_makes _ entry.Wait (λ ws. record { host = refl; batches = λ past e. tt })),
+                            (
+                              more_makes IsSupportedEntry (Each IsSupportedBatch) _ (list_of batch_value) (any_makes _ _ _ (from_makes _ entry.Submit (λ q bs each. record { host = refl; batches = λ past e. of_batches past e q 0 bs each }))) (list_makes _ batch_value batch_makes),
+                              tt,
+                            ),
+                          ),
                         ),
                       ),
                     ),

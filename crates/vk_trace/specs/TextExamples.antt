@@ -79,11 +79,33 @@ staging =
     ∷ entry.Free 1
     ∷ []
 
+-- A queue's writes of a part of a buffer are made visible to the host, which has a cache there.
+abbrev pub cached_read_back : List Entry
+cached_read_back =
+    entry.Buffer 2 (record { size = 64; usage = record { 0 = 2 }; sharing = sharing.Exclusive; place = place.Dedicated 2 })
+    ∷ entry.Flush 2 0 length_of.Whole
+    ∷ entry.Submit 0 (record {
+      waits = [];
+      commands = cmd.Barrier (element.Memory to_host ∷ element.Buffer (record { dependency = to_host; families = record { source = 0; destination = 1 }; buffer = 2; offset = 16; size = length_of.Bytes 48 }) ∷ []) ∷ [];
+      signals = [];
+    } ∷ [])
+    ∷ entry.Invalidate 2 16 (length_of.Bytes 48)
+    ∷ []
+  where
+    to_host : Dependency
+    to_host = record {
+      source_stages = record { 0 = 4096 };
+      source_accesses = record { 0 = 4096 };
+      destination_stages = record { 0 = 16384 };
+      destination_accesses = record { 0 = 8192 };
+    }
+
 -- Texts that are traces.
 pub record Traces : Type 0 where
   pub upload : meant_by (codes "[[\"buffer\",1,16,3,\"exclusive\",[\"dedicated\",1]],[\"semaphore\",2,0],[\"submit\",0,[[[],[[\"fill\",1,0,16,67305985],[\"barrier\",[[4096,4096,16384,8192]],[],[]]],[[2,1,65536]]]]],[\"wait\",[[2,1]]],[\"map\",1],[\"read\",1,0,4]]") ≡ Some first_upload
   pub ahead : meant_by (codes "[[\"semaphore\",2,0],[\"event\",3],[\"submit\",1,[[[[2,5,4096]],[[\"set\",3,[[4096,4096,4096,2048]]],[\"await\",3,[[4096,4096,4096,2048]]]],[]]]],[\"signal\",2,5]]") ≡ Some ahead_of_signal
   pub upload_by_copy : meant_by (codes "[[\"memory\",1,1,64],[\"buffer\",2,16,1,\"concurrent\",[\"memory\",1,0]],[\"map\",2],[\"write\",2,4,\"deAD\"],[\"unmap\",2],[\"submit\",0,[[[],[[\"update\",3,0,\"01020304\"],[\"copy\",2,3,[[4,8,2]]]],[]]]],[\"destroy\",2],[\"free\",1]]") ≡ Some staging
+  pub read_back : meant_by (codes "[[\"buffer\",2,64,2,\"exclusive\",[\"dedicated\",2]],[\"flush\",2,0,\"whole\"],[\"submit\",0,[[[],[[\"barrier\",[[4096,4096,16384,8192]],[[4096,4096,16384,8192,0,1,2,16,48]],[]]],[]]]],[\"invalidate\",2,16,48]]") ≡ Some cached_read_back
   -- which queues there are is for a rule to say
   pub greatest_queue : meant_by (codes "[[\"submit\",4294967295,[]]]") ≡ Some (entry.Submit 4294967295 [] ∷ [])
   pub nothing : meant_by (codes " [ ] ") ≡ Some []
@@ -119,8 +141,8 @@ pub record NoTraces : Type 0 where
   -- bytes in hex with half a byte, and with what is no digit
   pub odd_hex : meant_by (codes "[[\"write\",1,0,\"abc\"]]") ≡ None
   pub no_digit : meant_by (codes "[[\"write\",1,0,\"0g\"]]") ≡ None
-  -- forms that are not supported yet
-  pub cached_memory : meant_by (codes "[[\"buffer\",1,16,3,\"exclusive\",[\"dedicated\",2]]]") ≡ None
+  -- an element of a buffer is one flat array
+  pub element_in_parts : meant_by (codes "[[\"submit\",0,[[[],[[\"barrier\",[],[[[4096,4096,4096,2048],[0,1],2,0,16]],[]]],[]]]]]") ≡ None
 
 -- The texts of answers.
 pub record Texts : Type 0 where

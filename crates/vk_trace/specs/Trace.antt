@@ -1,6 +1,6 @@
 -- Which bytes are a trace, and of which entries: tables with a row for each form. The format is our own (profile).
 -- A value of any other form is no trace.
-use Rattle.std.specs.Prelude.{◌≡◌, ℕ, ◌==◌, List, [], ◌∷◌, codes, Option, Some, None, option_map, if◌then◌else◌, IsUtf8}
+use Rattle.std.specs.Prelude.{◌≡◌, ℕ, List, [], ◌∷◌, ◌++◌, map, codes, Option, Some, None, option_map, IsUtf8}
 use Rattle.serde_json.specs.Data.{Data}
 use Rattle.serde_json.specs.Read.{read}
 use Rattle.serde_json.specs.Find.{as_str}
@@ -12,15 +12,15 @@ use Rattle.vk_model.specs.declared.command.BufferCopy.{BufferCopy}
 use Rattle.vk_model.specs.declared.command.Length.{Length}
 use Rattle.vk_model.specs.declared.command.Length.TheVariants.{Bytes, Whole}
 use Rattle.vk_model.specs.declared.command.Dependency.{Dependency}
-use Rattle.vk_model.specs.declared.command.Element.{Element}
-use Rattle.vk_model.specs.declared.command.Element.TheVariants.{Memory}
+use Rattle.vk_model.specs.declared.command.BufferElement.{BufferElement}
+use Rattle.vk_model.specs.declared.command.Element.TheVariants.{Memory, Buffer as OnBuffer}
 use Rattle.vk_model.specs.declared.command.Cmd.{Cmd}
 use Rattle.vk_model.specs.declared.command.Cmd.TheVariants.{Fill, Update, Copy, Barrier, Set, Await}
 use Rattle.vk_model.specs.declared.entry.SemaphoreValue.{SemaphoreValue}
 use Rattle.vk_model.specs.declared.entry.SemaphoreSubmit.{SemaphoreSubmit}
 use Rattle.vk_model.specs.declared.entry.Batch.{Batch}
 use Rattle.vk_model.specs.declared.entry.Entry.{Entry}
-use Rattle.vk_model.specs.declared.entry.Entry.TheVariants.{Buffer, Memory as MemoryObject, Free, Destroy, Map, Unmap, Write, Read, Semaphore, Event, Signal, Wait, Submit}
+use Rattle.vk_model.specs.declared.entry.Entry.TheVariants.{Buffer, Memory as MemoryObject, Free, Destroy, Map, Unmap, Write, Read, Flush, Invalidate, Semaphore, Event, Signal, Wait, Submit}
 use Rattle.vk_trace.specs.Members.{Reader, Row, ◌>>=◌, from, ◌<*>◌, members, at_word, one_word, tagged, list_of, empty_list, bytes_value, u64_value, u32_value}
 
 -- A number of bytes, or the word that means all to the end (`VK_WHOLE_SIZE`) (profile).
@@ -31,22 +31,26 @@ length_or_whole d = by_word (as_str d)
     by_word (Some word) = at_word ((codes "whole", Whole) ∷ []) word
     by_word None = option_map Bytes (u64_value d)
 
--- Source stages, source accesses, destination stages, destination accesses, as in `VkMemoryBarrier2` (profile).
+-- The scopes of a dependency, as in `VkMemoryBarrier2` (profile).
+abbrev pub dependency : ℕ → ℕ → ℕ → ℕ → Dependency
+dependency a b c d = record { source_stages = record { 0 = a }; source_accesses = record { 0 = b }; destination_stages = record { 0 = c }; destination_accesses = record { 0 = d } }
+
+-- Source stages, source accesses, destination stages, destination accesses (profile).
 unfoldable pub dependency_value : Reader Dependency
 dependency_value = members (from dependency <*> u32_value <*> u32_value <*> u32_value <*> u32_value)
-  where
-    dependency : ℕ → ℕ → ℕ → ℕ → Dependency
-    dependency a b c d = record { source_stages = record { 0 = a }; source_accesses = record { 0 = b }; destination_stages = record { 0 = c }; destination_accesses = record { 0 = d } }
 
--- An element of a barrier, on all memory (profile).
-unfoldable pub memory_element : Reader Element
-memory_element d = option_map Memory (dependency_value d)
+-- The same, source family, destination family, buffer, offset, size, as in `VkBufferMemoryBarrier2` (profile).
+unfoldable pub buffer_element : Reader BufferElement
+buffer_element = members (from element <*> u32_value <*> u32_value <*> u32_value <*> u32_value <*> u32_value <*> u32_value <*> u32_value <*> u64_value <*> length_or_whole)
+  where
+    element : ℕ → ℕ → ℕ → ℕ → ℕ → ℕ → ℕ → ℕ → Length → BufferElement
+    element a b c d source destination buffer offset size = record { dependency = dependency a b c d; families = record { source = source; destination = destination }; buffer = buffer; offset = offset; size = size }
 
 -- Source offset, destination offset, size, as in `VkBufferCopy2` (profile).
 unfoldable pub copy_region : Reader BufferCopy
 copy_region = members (from (λ source destination size. record { source_offset = source; destination_offset = destination; size = size }) <*> u64_value <*> u64_value <*> u64_value)
 
--- The words of commands and the members after each; elements of buffers and of images are not supported yet (profile).
+-- The words of commands and the members after each; elements of images are not supported yet (profile).
 unfoldable pub command_rows : List (List ℕ × Row Cmd)
 command_rows
     -- buffer, offset, size, word
@@ -56,7 +60,7 @@ command_rows
     -- source, destination, regions
     ∷ (codes "copy", from Copy <*> u32_value <*> u32_value <*> list_of copy_region)
     -- elements of memory, of buffers, of images
-    ∷ (codes "barrier", from (λ elements _ _. Barrier elements) <*> list_of memory_element <*> empty_list <*> empty_list)
+    ∷ (codes "barrier", from (λ memory buffers _. Barrier (map Memory memory ++ map OnBuffer buffers)) <*> list_of dependency_value <*> list_of buffer_element <*> empty_list)
     -- event, elements
     ∷ (codes "set", from Set <*> u32_value <*> list_of dependency_value)
     -- event, elements
@@ -83,15 +87,11 @@ batch_value = members (from (λ waits commands signals. record { waits = waits; 
 unfoldable pub semaphore_value : Reader SemaphoreValue
 semaphore_value = members (from (λ semaphore value. record { semaphore = semaphore; value = value }) <*> u32_value <*> u64_value)
 
--- The number of a memory type; 2 is not supported yet (profile).
-unfoldable pub memory_type_value : Reader ℕ
-memory_type_value d = u32_value d >>= λ n. if n == 2 then None else Some n
-
 -- The words of places and the members after each (profile).
 unfoldable pub place_rows : List (List ℕ × Row Place)
 place_rows
     -- memory type
-    = (codes "dedicated", from Dedicated <*> memory_type_value)
+    = (codes "dedicated", from Dedicated <*> u32_value)
     -- memory object, offset
     ∷ (codes "memory", from InMemory <*> u32_value <*> u64_value)
     ∷ []
@@ -118,7 +118,7 @@ entry_rows
     -- id, size, usage, sharing, place
     = (codes "buffer", from buffer <*> u32_value <*> u64_value <*> u32_value <*> sharing_value <*> place_value)
     -- id, memory type, size
-    ∷ (codes "memory", from memory <*> u32_value <*> memory_type_value <*> u64_value)
+    ∷ (codes "memory", from memory <*> u32_value <*> u32_value <*> u64_value)
     -- memory object
     ∷ (codes "free", from Free <*> u32_value)
     -- buffer
@@ -131,6 +131,10 @@ entry_rows
     ∷ (codes "write", from Write <*> u32_value <*> u64_value <*> bytes_value)
     -- buffer, offset, size
     ∷ (codes "read", from Read <*> u32_value <*> u64_value <*> u64_value)
+    -- buffer, offset, size
+    ∷ (codes "flush", from Flush <*> u32_value <*> u64_value <*> length_or_whole)
+    -- buffer, offset, size
+    ∷ (codes "invalidate", from Invalidate <*> u32_value <*> u64_value <*> length_or_whole)
     -- id, initial value
     ∷ (codes "semaphore", from Semaphore <*> u32_value <*> u64_value)
     -- id

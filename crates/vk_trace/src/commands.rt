@@ -1,15 +1,19 @@
-ghost use Rattle.std.specs.Prelude.{map, codes};
+ghost use Rattle.std.specs.Prelude.{◌≡◌, ◌++◌, OnOk, map, codes};
 ghost use Rattle.serde_json.specs.View.{view};
 ghost use Rattle.vk_trace.specs.Members.{after_word};
-ghost use Rattle.vk_trace.specs.Trace.{length_or_whole, copy_region, dependency_value, memory_element, command_rows, command_value};
+ghost use Rattle.vk_trace.specs.Trace.{length_or_whole, copy_region, dependency_value, buffer_element, command_rows, command_value};
+ghost use Rattle.vk_model.specs.declared.command.Element.TheVariants.{Memory, Buffer};
 ghost use Rattle.vk_trace.specs.Inner.Gives.{Gives};
 
 use crate::errors::ReadTraceError;
 use crate::members::{Member, Reading, end, first, first_bytes, list_members, word_first};
 use bitflags::Flags;
 use serde_json::Value;
-use std::alloc::Global;
-use vk_model::{Accesses, BufferCopy, Cmd, Dependency, Element, Length, Stages};
+use std::alloc::{AllocError, Global};
+use vk_model::{
+    Accesses, BufferCopy, BufferElement, Cmd, Dependency, Element, Families, Length, Sequence,
+    Stages,
+};
 
 impl Member for Length {
     ghost means = { length_or_whole };
@@ -62,13 +66,37 @@ impl Member for BufferCopy {
     }
 }
 
-/// A dependency on all memory.
-impl Member for Element {
-    ghost means = { memory_element };
+impl Member for BufferElement {
+    ghost means = { buffer_element };
 
-    #[tactic(auto, unfolding(crate::specs::Trace::memory_element))]
-    fn member(alloc: Global, value: &Value) -> Reading<Element> {
-        Ok(Element::Memory(Dependency::member(alloc, value)?))
+    #[tactic(auto, unfolding(crate::specs::Trace::buffer_element))]
+    fn member(alloc: Global, value: &Value) -> Reading<BufferElement> {
+        let rest = list_members(value)?;
+        let (source_stages, rest) = first::<u32>(alloc, rest)?;
+        let (source_accesses, rest) = first::<u32>(alloc, rest)?;
+        let (destination_stages, rest) = first::<u32>(alloc, rest)?;
+        let (destination_accesses, rest) = first::<u32>(alloc, rest)?;
+        let (source, rest) = first::<u32>(alloc, rest)?;
+        let (destination, rest) = first::<u32>(alloc, rest)?;
+        let (buffer, rest) = first::<u32>(alloc, rest)?;
+        let (offset, rest) = first::<u64>(alloc, rest)?;
+        let (size, rest) = first::<Length>(alloc, rest)?;
+        end(rest)?;
+        Ok(BufferElement {
+            dependency: Dependency {
+                source_stages: Stages::from_bits_retain(source_stages),
+                source_accesses: Accesses::from_bits_retain(source_accesses),
+                destination_stages: Stages::from_bits_retain(destination_stages),
+                destination_accesses: Accesses::from_bits_retain(destination_accesses),
+            },
+            families: Families {
+                source,
+                destination,
+            },
+            buffer,
+            offset,
+            size,
+        })
     }
 }
 
@@ -141,11 +169,36 @@ fn copy_of(alloc: Global, rest: &[Value]) -> Reading<Cmd>
 fn barrier_of(alloc: Global, rest: &[Value]) -> Reading<Cmd>
     ensures { Gives (λ x. x) result (after_word command_rows (codes "barrier") (map view rest.now)) }
 {
-    let (elements, rest) = first(alloc, rest)?;
-    let ((), rest) = first::<()>(alloc, rest)?;
+    let (memory, rest) = first::<Sequence<Dependency>>(alloc, rest)?;
+    let (buffers, rest) = first::<Sequence<BufferElement>>(alloc, rest)?;
     let ((), rest) = first::<()>(alloc, rest)?;
     end(rest)?;
-    Ok(Cmd::Barrier { elements })
+    let mut elements = Vec::new(alloc);
+    push_memory(&mut elements, memory.as_slice())?;
+    push_buffers(&mut elements, buffers.as_slice())?;
+    Ok(Cmd::Barrier {
+        elements: Sequence::new(elements),
+    })
+}
+
+/// Adds dependencies on all memory to the elements of a barrier.
+fn push_memory(elements: &mut Vec<Element>, memory: &[Dependency]) -> Result<(), AllocError>
+    ensures { OnOk result (elements.new.items ≡ elements.old.items ++ map Memory memory.now) }
+{
+    for dependency in memory {
+        elements.push(Element::Memory(*dependency))?;
+    }
+    Ok(())
+}
+
+/// Adds dependencies on parts of buffers.
+fn push_buffers(elements: &mut Vec<Element>, buffers: &[BufferElement]) -> Result<(), AllocError>
+    ensures { OnOk result (elements.new.items ≡ elements.old.items ++ map Buffer buffers.now) }
+{
+    for on_buffer in buffers {
+        elements.push(Element::Buffer(*on_buffer))?;
+    }
+    Ok(())
 }
 
 #[tactic(auto, unfolding(crate::specs::Trace::command_rows))]

@@ -1,7 +1,7 @@
 ghost use Rattle.std.specs.Prelude.{map, codes};
 ghost use Rattle.serde_json.specs.View.{view};
 ghost use Rattle.vk_trace.specs.Members.{after_word};
-ghost use Rattle.vk_trace.specs.Trace.{sharing_value, memory_type_value, place_rows, place_value, semaphore_value, semaphore_submit, batch_value, entry_rows, entry_value};
+ghost use Rattle.vk_trace.specs.Trace.{sharing_value, place_rows, place_value, semaphore_value, semaphore_submit, batch_value, entry_rows, entry_value};
 ghost use Rattle.vk_trace.specs.Inner.Gives.{Gives};
 
 use crate::errors::ReadTraceError;
@@ -10,8 +10,8 @@ use bitflags::Flags;
 use serde_json::Value;
 use std::alloc::Global;
 use vk_model::{
-    Batch, BufferInfo, Entry, MemoryInfo, Place, SemaphoreSubmit, SemaphoreValue, Sharing, Stages,
-    Usage,
+    Batch, BufferInfo, Entry, Length, MemoryInfo, Place, SemaphoreSubmit, SemaphoreValue, Sharing,
+    Stages, Usage,
 };
 
 impl Member for Sharing {
@@ -45,14 +45,9 @@ impl Member for Place {
 fn dedicated_of(alloc: Global, rest: &[Value]) -> Reading<Place>
     ensures { Gives (λ x. x) result (after_word place_rows (codes "dedicated") (map view rest.now)) }
 {
-    match rest {
-        [] => Err(ReadTraceError::NotTrace),
-        [memory_type, rest @ ..] => {
-            let memory_type = memory_type_of(alloc, memory_type)?;
-            end(rest)?;
-            Ok(Place::Dedicated { memory_type })
-        }
-    }
+    let (memory_type, rest) = first::<u32>(alloc, rest)?;
+    end(rest)?;
+    Ok(Place::Dedicated { memory_type })
 }
 
 #[tactic(auto, unfolding(crate::specs::Trace::place_rows))]
@@ -63,16 +58,6 @@ fn bound_of(alloc: Global, rest: &[Value]) -> Reading<Place>
     let (offset, rest) = first::<u64>(alloc, rest)?;
     end(rest)?;
     Ok(Place::Memory { memory, offset })
-}
-
-#[tactic(auto, unfolding(crate::specs::Trace::memory_type_value))]
-fn memory_type_of(alloc: Global, value: &Value) -> Reading<u32>
-    ensures { Gives (λ x. x) result (memory_type_value (view value.now)) }
-{
-    match u32::member(alloc, value)? {
-        2 => Err(ReadTraceError::NotTrace),
-        memory_type => Ok(memory_type),
-    }
 }
 
 impl Member for SemaphoreValue {
@@ -144,6 +129,8 @@ impl Member for Entry {
             "unmap" => unmap_of(alloc, rest),
             "write" => write_of(alloc, rest),
             "read" => read_of(alloc, rest),
+            "flush" => flush_of(alloc, rest),
+            "invalidate" => invalidate_of(alloc, rest),
             _ => Err(ReadTraceError::NotTrace),
         }
     }
@@ -173,16 +160,11 @@ fn memory_of(alloc: Global, rest: &[Value]) -> Reading<Entry>
     ensures { Gives (λ x. x) result (after_word entry_rows (codes "memory") (map view rest.now)) }
 {
     let (id, rest) = first::<u32>(alloc, rest)?;
-    match rest {
-        [] => Err(ReadTraceError::NotTrace),
-        [memory_type, rest @ ..] => {
-            let memory_type = memory_type_of(alloc, memory_type)?;
-            let (size, rest) = first::<u64>(alloc, rest)?;
-            end(rest)?;
-            let info = MemoryInfo { memory_type, size };
-            Ok(Entry::Memory { id, info })
-        }
-    }
+    let (memory_type, rest) = first::<u32>(alloc, rest)?;
+    let (size, rest) = first::<u64>(alloc, rest)?;
+    end(rest)?;
+    let info = MemoryInfo { memory_type, size };
+    Ok(Entry::Memory { id, info })
 }
 
 #[tactic(auto, unfolding(crate::specs::Trace::entry_rows))]
@@ -293,6 +275,36 @@ fn read_of(alloc: Global, rest: &[Value]) -> Reading<Entry>
     let (size, rest) = first::<u64>(alloc, rest)?;
     end(rest)?;
     Ok(Entry::Read {
+        buffer,
+        offset,
+        size,
+    })
+}
+
+#[tactic(auto, unfolding(crate::specs::Trace::entry_rows))]
+fn flush_of(alloc: Global, rest: &[Value]) -> Reading<Entry>
+    ensures { Gives (λ x. x) result (after_word entry_rows (codes "flush") (map view rest.now)) }
+{
+    let (buffer, rest) = first::<u32>(alloc, rest)?;
+    let (offset, rest) = first::<u64>(alloc, rest)?;
+    let (size, rest) = first::<Length>(alloc, rest)?;
+    end(rest)?;
+    Ok(Entry::Flush {
+        buffer,
+        offset,
+        size,
+    })
+}
+
+#[tactic(auto, unfolding(crate::specs::Trace::entry_rows))]
+fn invalidate_of(alloc: Global, rest: &[Value]) -> Reading<Entry>
+    ensures { Gives (λ x. x) result (after_word entry_rows (codes "invalidate") (map view rest.now)) }
+{
+    let (buffer, rest) = first::<u32>(alloc, rest)?;
+    let (offset, rest) = first::<u64>(alloc, rest)?;
+    let (size, rest) = first::<Length>(alloc, rest)?;
+    end(rest)?;
+    Ok(Entry::Invalidate {
         buffer,
         offset,
         size,
