@@ -10,8 +10,8 @@ use vk_trace::{Outcome, RunError, Status, Watched, run, text};
 mod table;
 
 use table::{
-    Ending, FILL_AND_READ, NO_MEMORY, NO_TRACE, NO_TRACES, REFUSED, REPLAYED, TRACES, TWO_FILLS,
-    UPLOADS,
+    CACHED_ACCESSES, CACHES, Ending, FILL_AND_READ, NO_MEMORY, NO_TRACE, NO_TRACES, REFUSED,
+    REPLAYED, TRACES, TWO_FILLS, UPLOADS,
 };
 
 /// Heaps of 4 MiB.
@@ -95,6 +95,16 @@ fn expect_run(rt: &impl Abort, alloc: Global, input: &[u8], output: &str, ending
     expect_in_order(rt, alloc, input, output, ending, Order::First);
 }
 
+/// The same in every order, where the trace replays.
+fn expect_in_orders(rt: &impl Abort, alloc: Global, input: &[u8], output: &str, ending: Ending) {
+    expect_run(rt, alloc, input, output, ending);
+    if ending == REPLAYED {
+        for order in ORDERS {
+            expect_in_order(rt, alloc, input, output, ending, order);
+        }
+    }
+}
+
 /// Expects that no front of a trace is a trace.
 fn expect_no_front(rt: &impl Abort, alloc: Global, bytes: &[u8]) {
     for size in 0..bytes.len() {
@@ -119,13 +129,15 @@ fn traces(rt: HostRuntime) {
 fn uploads(rt: HostRuntime) {
     let alloc = rt.alloc();
     for (input, output, ending) in UPLOADS {
-        expect_run(&rt, alloc, input.as_bytes(), output, ending);
-        if ending != REPLAYED {
-            continue;
-        }
-        for order in ORDERS {
-            expect_in_order(&rt, alloc, input.as_bytes(), output, ending, order);
-        }
+        expect_in_orders(&rt, alloc, input.as_bytes(), output, ending);
+    }
+}
+
+#[test]
+fn caches(rt: HostRuntime) {
+    let alloc = rt.alloc();
+    for (input, output, ending) in CACHES {
+        expect_in_orders(&rt, alloc, input.as_bytes(), output, ending);
     }
 }
 
@@ -172,6 +184,17 @@ fn the_scheduler_is_asked_once(rt: HostRuntime) {
     let (ending, _) = run_picked(rt.alloc(), TWO_FILLS.as_bytes(), &mut sched);
     assert_eq!(rt; ending, REPLAYED);
     assert_eq!(rt; sched.asked, 1);
+}
+
+/// It is asked for each of the two atoms of 100 bytes, before each of the four entries that access
+/// them.
+#[test]
+fn the_scheduler_is_asked_for_atoms(rt: HostRuntime) {
+    let mut sched = Counting { asked: 0 };
+    let (ending, written) = run_picked(rt.alloc(), CACHED_ACCESSES.as_bytes(), &mut sched);
+    assert_eq!(rt; ending, REPLAYED);
+    assert_eq!(rt; written.as_slice(), "5 aa\n".as_bytes());
+    assert_eq!(rt; sched.asked, 8);
 }
 
 /// Gives its bytes, 16 at most in each read, and an error after some reads.

@@ -21,6 +21,10 @@ pub const FILL_AND_READ: &str =
 pub const TWO_FILLS: &str =
     r#"[["buffer",1,16,3,"exclusive",["dedicated",1]],["semaphore",2,0],["submit",0,[[[],[["fill",1,0,8,67305985],["fill",1,8,8,134678021],["barrier",[[4096,4096,16384,8192]],[],[]]],[[2,1,65536]]]]],["wait",[[2,1]]],["map",1],["read",1,4,8]]"#;
 
+/// The host writes, flushes, invalidates and reads a buffer of 100 bytes that it reaches through a cache.
+pub const CACHED_ACCESSES: &str =
+    r#"[["buffer",1,100,3,"exclusive",["dedicated",2]],["map",1],["write",1,64,"aa"],["flush",1,64,1],["invalidate",1,64,1],["read",1,64,1]]"#;
+
 /// Traces, with what is written for them and how the run ends.
 pub const TRACES: [(&str, &str, Ending); 38] = [
     ("[]", "", REPLAYED),
@@ -257,13 +261,76 @@ pub const UPLOADS: [(&str, &str, Ending); 14] = [
     ),
 ];
 
+/// Traces of memory that the host reaches through a cache, of dependencies on parts of buffers, and of
+/// ownership transfers.
+pub const CACHES: [(&str, &str, Ending); 12] = [
+    (
+        r#"[["buffer",1,16,1,"exclusive",["dedicated",2]],["buffer",2,16,2,"exclusive",["dedicated",1]],["semaphore",3,0],["map",1],["write",1,0,"0a0b0c0d"],["submit",0,[[[],[["copy",1,2,[[0,0,4]]],["barrier",[[4096,4096,16384,8192]],[],[]]],[[3,1,65536]]]]],["wait",[[3,1]]],["map",2],["read",2,0,4]]"#,
+        "refused 5.0.0 HAZARD_RAW\n",
+        REFUSED,
+    ),
+    (
+        r#"[["buffer",1,16,1,"exclusive",["dedicated",2]],["buffer",2,16,2,"exclusive",["dedicated",1]],["semaphore",3,0],["map",1],["write",1,0,"0a0b0c0d"],["flush",1,0,4],["submit",0,[[[],[["copy",1,2,[[0,0,4]]],["barrier",[[4096,4096,16384,8192]],[],[]]],[[3,1,65536]]]]],["wait",[[3,1]]],["map",2],["read",2,0,4]]"#,
+        "9 0a0b0c0d\n",
+        REPLAYED,
+    ),
+    (
+        r#"[["buffer",1,128,1,"exclusive",["dedicated",2]],["map",1],["write",1,0,"aa"],["write",1,64,"bb"],["invalidate",1,0,1],["read",1,64,1]]"#,
+        "5 bb\n",
+        REPLAYED,
+    ),
+    (
+        r#"[["buffer",1,128,1,"exclusive",["dedicated",2]],["map",1],["write",1,0,"aa"],["write",1,64,"bb"],["invalidate",1,0,1],["read",1,64,1],["read",1,0,1]]"#,
+        "refused 6 READ_UNDEFINED\n",
+        REFUSED,
+    ),
+    (
+        r#"[["buffer",1,16,3,"exclusive",["dedicated",0]],["buffer",2,16,2,"exclusive",["dedicated",1]],["semaphore",3,0],["submit",0,[[[],[["fill",1,0,16,67305985],["barrier",[],[[4096,4096,4096,0,0,1,1,0,"whole"]],[]]],[[3,1,65536]]]]],["submit",2,[[[[3,1,65536]],[["barrier",[],[[4096,0,4096,2048,0,1,1,0,"whole"]],[]],["copy",1,2,[[0,0,16]]],["barrier",[[4096,4096,16384,8192]],[],[]]],[[3,2,65536]]]]],["wait",[[3,2]]],["map",2],["read",2,0,4]]"#,
+        "7 01020304\n",
+        REPLAYED,
+    ),
+    (
+        r#"[["buffer",1,16,3,"exclusive",["dedicated",0]],["buffer",2,16,2,"exclusive",["dedicated",1]],["semaphore",3,0],["submit",0,[[[],[["fill",1,0,16,67305985]],[[3,1,65536]]]]],["submit",2,[[[[3,1,65536]],[["barrier",[],[[4096,0,4096,2048,0,1,1,0,"whole"]],[]],["copy",1,2,[[0,0,16]]],["barrier",[[4096,4096,16384,8192]],[],[]]],[[3,2,65536]]]]],["wait",[[3,2]]],["map",2],["read",2,0,4]]"#,
+        "refused 4.0.0 OWNER_PAIR\n",
+        REFUSED,
+    ),
+    (
+        r#"[["buffer",1,16,3,"exclusive",["dedicated",0]],["buffer",2,16,2,"exclusive",["dedicated",1]],["semaphore",3,0],["submit",0,[[[],[["fill",1,0,16,67305985],["barrier",[],[[4096,4096,4096,0,0,1,1,0,8]],[]]],[[3,1,65536]]]]],["submit",2,[[[[3,1,65536]],[["barrier",[],[[4096,0,4096,2048,0,1,1,0,"whole"]],[]],["copy",1,2,[[0,0,16]]],["barrier",[[4096,4096,16384,8192]],[],[]]],[[3,2,65536]]]]],["wait",[[3,2]]],["map",2],["read",2,0,4]]"#,
+        "refused 3.0.1 OWNER_WHOLE\n",
+        REFUSED,
+    ),
+    (
+        r#"[["memory",1,2,4096],["buffer",2,16,3,"exclusive",["memory",1,16]]]"#,
+        "refused 1 BIND_ALIGN\n",
+        REFUSED,
+    ),
+    (
+        r#"[["memory",1,2,4096],["buffer",2,16,3,"exclusive",["memory",1,64]]]"#,
+        "",
+        REPLAYED,
+    ),
+    (
+        r#"[["memory",1,2,4096],["buffer",2,16,3,"exclusive",["memory",1,4096]]]"#,
+        "refused 1 BIND_RANGE\n",
+        REFUSED,
+    ),
+    (
+        r#"[["buffer",1,32,3,"exclusive",["dedicated",0]],["buffer",2,32,2,"exclusive",["dedicated",1]],["semaphore",3,0],["submit",0,[[[],[["fill",1,0,32,67305985],["barrier",[],[[4096,4096,4096,2048,0,0,1,0,16]],[]],["copy",1,2,[[0,0,16]]],["barrier",[[4096,4096,16384,8192]],[],[]]],[[3,1,65536]]]]],["wait",[[3,1]]],["map",2],["read",2,12,4]]"#,
+        "6 01020304\n",
+        REPLAYED,
+    ),
+    (
+        r#"[["buffer",1,32,3,"exclusive",["dedicated",0]],["buffer",2,32,2,"exclusive",["dedicated",1]],["semaphore",3,0],["submit",0,[[[],[["fill",1,0,32,67305985],["barrier",[],[[4096,4096,4096,2048,0,0,1,0,16]],[]],["copy",1,2,[[0,0,17]]],["barrier",[[4096,4096,16384,8192]],[],[]]],[[3,1,65536]]]]],["wait",[[3,1]]],["map",2],["read",2,12,4]]"#,
+        "refused 3.0.2 HAZARD_RAW\n",
+        REFUSED,
+    ),
+];
+
 /// Texts that are no trace, or none yet.
-pub const NO_TRACES: [&str; 56] = [
-    r#"[["buffer",1,128,1,"exclusive",["dedicated",2]],["map",1],["write",1,0,"aa"],["write",1,64,"bb"],["invalidate",1,0,1],["read",1,64,1]]"#,
+pub const NO_TRACES: [&str; 53] = [
     r#"[["pool",1,"linear",1,4096,1],["defrag",2,1,0,0]]"#,
     r#"[["memory",1,0,4096],["image",2,"R8_UINT",8,8,1,1,"optimal",3,"exclusive",["memory",1,0]],["buffer",3,16,3,"exclusive",["memory",1,256]]]"#,
     r#"[["image",1,"R8_UINT",8,8,1,1,"optimal",3,"exclusive",["dedicated",0]],["submit",2,[[[],[["clear",1,7,[0,0,0,0],[[0,1,0,1]]]],[]]]]]"#,
-    r#"[["memory",1,2,4096],["buffer",2,16,3,"exclusive",["memory",1,16]]]"#,
     r#"[["pool",1,"tlsf",1,4096,2],["buffer",2,2064,3,"exclusive",["pool",1]]]"#,
     r#"[["pool",1,"tlsf",2,4096,2],["buffer",2,64,1,"exclusive",["pool",1]],["buffer",3,64,1,"exclusive",["pool",1]],["map",3],["write",3,0,"aa"],["destroy",2],["defrag",4,1,0,0],["pass",4],["end_pass",4,[],[]],["read",3,0,1]]"#,
     r#"[["semaphore",4294967296,0]]"#,
@@ -301,10 +368,9 @@ pub const NO_TRACES: [&str; 56] = [
     r#"[["submit",0,[[[],[["fill",1,0,-1,1]],[]]]]]"#,
     r#"[["submit",0,[[[],[["fill",1,0,4,4294967296]],[]]]]]"#,
     r#"[["submit",0,[[[],[["barrier",[[1,1,1]],[],[]]],[]]]]]"#,
-    r#"[["submit",0,[[[],[["barrier",[],[[4096,4096,4096,4096,0,0,1,0,4]],[]]],[]]]]]"#,
+    r#"[["submit",0,[[[],[["barrier",[],[[4096,4096,4096,4096,0,0,1,0]],[]]],[]]]]]"#,
     r#"[["submit",0,[[[],[["Fill",1,0,4,1]],[]]]]]"#,
     r#"[["buffer",1,16,3,"shared",["dedicated",1]]]"#,
-    r#"[["buffer",1,16,3,"exclusive",["dedicated",2]]]"#,
     r#"[["buffer",1,16,3,"exclusive",["dedicated"]]]"#,
     r#"[["buffer",1,16,3,"exclusive",["dedicated",1,1]]]"#,
     r#"[["buffer",1,16,3,"exclusive",["pool",1]]]"#,
