@@ -130,7 +130,7 @@ impl Frontier {
         }
         let parts = parts_from(self.parts_of(Byte::Buffer { buffer, at: low }), from);
         let mut at = low;
-        let mut near = parts.len();
+        let mut near = 0;
         while at < high {
             match self.shown_until(sight, parts, near, write, buffer, at, high, access) {
                 Some((index, until)) => {
