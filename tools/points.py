@@ -1,12 +1,34 @@
 """Points and nodes of a trace, and which node an edge leads to; from docs/FORMAT.md, "What orders what"."""
 
 TRANSFER, HOST, ALL_COMMANDS = 4096, 16384, 65536
+ATOM = 64
 
 
 def meet(first, second):
     """Whether two sets of stages have one in common."""
     in_transfer = first & (TRANSFER | ALL_COMMANDS) and second & (TRANSFER | ALL_COMMANDS)
     return bool(in_transfer or first & HOST and second & HOST)
+
+
+def family_of(queue):
+    """The family of a queue."""
+    return 0 if queue < 2 else 1
+
+
+def reached(entry):
+    """The atoms of a buffer that a flush or an invalidation reaches, from the first to the last; no last
+    one where it reaches all from the first on."""
+    _, _, offset, size = entry
+    return offset // ATOM, None if size == "whole" else (offset + size - 1) // ATOM
+
+
+def named_by(command):
+    """The buffers that a command or one of its elements names."""
+    if command[0] == "copy":
+        return command[1:3]
+    if command[0] == "barrier":
+        return [element[6] for element in command[2]]
+    return command[1:2] if command[0] in ("fill", "update") else []
 
 
 class Node:
@@ -19,6 +41,8 @@ class Node:
         self.role = role
         self.on_host = kind == "host"
         self.is_submit = self.on_host and content[0] == "submit"
+        # The buffer that an element is limited to.
+        self.buffer = content[6] if kind == "element" and len(content) > 4 else None
         self.first_scope = self.second_scope = None
         if kind == "command":
             self.first_scope = self.second_scope = TRANSFER
@@ -44,6 +68,45 @@ class Node:
             return [tuple(self.content[:2])]
         if self.on_host and self.content[0] == "wait":
             return [tuple(wait) for wait in self.content[1]]
+        return []
+
+    def names(self, buffer):
+        """Whether it's a command or an element that names a buffer."""
+        if self.kind == "command":
+            return buffer in named_by(self.content)
+        return self.buffer == buffer
+
+    def covers(self, buffer, byte):
+        """Whether a byte is one of those that an element's accesses are limited to."""
+        if self.buffer is None:
+            return True
+        offset, size = self.content[7:]
+        return self.buffer == buffer and offset <= byte and (size == "whole" or byte < offset + size)
+
+    def half(self):
+        """Which half of an ownership transfer an element is, if it is one."""
+        if self.buffer is None or self.content[4] == self.content[5]:
+            return None
+        family = family_of(self.point.queue)
+        if family == self.content[4]:
+            return "release"
+        return "acquire" if family == self.content[5] else "neither"
+
+    def reaches(self, name, buffer, byte):
+        """Whether it's a host entry of this name, a flush or an invalidation, that reaches a byte."""
+        if not self.on_host or self.content[0] != name or self.content[1] != buffer:
+            return False
+        first, last = reached(self.content)
+        return first <= byte // ATOM and (last is None or byte // ATOM <= last)
+
+    def borders(self, buffer):
+        """Where the bytes of a buffer begin and end that it covers as an element, or reaches."""
+        if self.buffer == buffer:
+            offset, size = self.content[7:]
+            return [offset] if size == "whole" else [offset, offset + size]
+        if self.on_host and self.content[0] in ("flush", "invalidate") and self.content[1] == buffer:
+            first, last = reached(self.content)
+            return [ATOM * first] if last is None else [ATOM * first, ATOM * (last + 1)]
         return []
 
     def leads_to(self, later):
@@ -99,7 +162,7 @@ class Point:
             return [Node(self, self.kind, self.content)]
         name = self.content[0]
         if name == "barrier":
-            return [Node(self, "element", element, ("barrier",)) for element in self.content[1]]
+            return [Node(self, "element", e, ("barrier",)) for e in self.content[1] + self.content[2]]
         if name in ("set", "await"):
             roles = ((name, self.content[1], k) for k in range(len(self.content[2])))
             return [Node(self, "element", e, role) for e, role in zip(self.content[2], roles)]

@@ -6,8 +6,8 @@
 Each trace is drawn from the seed and its number (drawing.py), and run with `--order first`, with `last`,
 and with the seeds 0 to 15: output, exit status and standard error have to be the same. They also have to
 be those of the slow reading (slow_reading.py), unless `--orders-only` is given. The first difference is
-made as small as leaving out entries, batches and commands makes it, and printed; the exit status is then
-1. At the end it is printed what was drawn. `--only N` runs trace N alone, and prints it.
+made as small as leaving out entries, batches, commands and elements makes it, and printed; the exit status
+is then 1. At the end it is printed what was drawn. `--only N` runs trace N alone, and prints it.
 """
 
 import argparse
@@ -51,7 +51,7 @@ def difference(program, trace, heaps, with_reading, orders=ORDERS):
 
 
 def smaller(trace):
-    """The traces with one entry, batch, wait, command or signal left out."""
+    """The traces with one entry, batch, wait, command, element or signal left out."""
     for e, entry in enumerate(trace):
         yield trace[:e] + trace[e + 1 :]
         if entry[0] == "submit":
@@ -64,8 +64,16 @@ def smaller_batches(batches):
         yield batches[:b] + batches[b + 1 :]
         for k, items in enumerate(batch):
             for i in range(len(items)):
-                fewer = batch[:k] + [items[:i] + items[i + 1 :]] + batch[k + 1 :]
-                yield batches[:b] + [fewer] + batches[b + 1 :]
+                for less in ([], *smaller_item(items[i])):
+                    fewer = batch[:k] + [items[:i] + less + items[i + 1 :]] + batch[k + 1 :]
+                    yield batches[:b] + [fewer] + batches[b + 1 :]
+
+
+def smaller_item(item):
+    """A barrier with one element left out, as a list of it; nothing of other items."""
+    for k in (1, 2) if item[0] == "barrier" else ():
+        for i in range(len(item[k])):
+            yield [[*item[:k], item[k][:i] + item[k][i + 1 :], *item[k + 1 :]]]
 
 
 def shrunk(program, trace, heaps, with_reading, found):
@@ -109,12 +117,22 @@ def count_accepted(reading, counts):
     counts["with batches that are never started"] += bool(reading.waiting)
     counts["with events awaited"] += any(n.role and n.role[0] == "await" for n in reading.nodes)
     names = {n.content[0] for n in reading.nodes if n.kind in ("host", "command")}
-    for name in ("memory", "write", "update", "copy", "destroy", "free", "unmap"):
+    for name in ("memory", "write", "flush", "invalidate", "update", "copy", "destroy", "free", "unmap"):
         counts[f"with {name}"] += name in names
+    elements = [n for n in reading.nodes if n.kind == "element" and n.buffer is not None]
+    counts["with elements on ranges of buffers"] += any(n.half() is None for n in elements)
+    counts["with releases"] += any(n.half() == "release" for n in elements)
+    counts["with acquires"] += any(n.half() == "acquire" for n in elements)
     counts["with reads"] += bool(reading.reads)
     origins = [sources(reading, host_read) for host_read in reading.reads]
     counts["with reads of bytes from several pieces"] += any(len(p) > 1 for p, _ in origins)
     counts["with reads of bytes from several queues"] += any(len(q) > 1 for _, q in origins)
+    through_cache = [q for r, (_, q) in zip(reading.reads, origins) if reading.is_cached(r[2])]
+    counts["with reads through the cache"] += bool(through_cache)
+    counts["with reads through the cache of bytes from a queue"] += any(q - {None} for q in through_cache)
+    counts["with reads through the cache of bytes from a queue and the host"] += any(
+        None in q and len(q) > 1 for q in through_cache
+    )
     counts["stopped, for want of room"] += reading.stop is not None
 
 

@@ -3,13 +3,11 @@
 Each is a question to a reading (slow_reading.py) about a point that comes and the numbers of its nodes.
 """
 
-from points import ALL_COMMANDS, HOST, TRANSFER
+from points import ALL_COMMANDS, ATOM, HOST, TRANSFER, family_of, named_by
+from seeing import sees
 
 STAGES = TRANSFER | HOST | ALL_COMMANDS
 ACCESSES = 2048 | 4096 | 8192 | 16384 | 32768 | 65536
-# The accesses that are reads, and writes, by commands and by the host.
-READS_OF = {"command": 2048 | 32768, "host": 8192 | 32768}
-WRITES_OF = {"command": 4096 | 65536, "host": 16384 | 65536}
 MOST_BYTES = 67_108_864
 
 
@@ -29,9 +27,9 @@ def asked(point):
     if point.kind in ("wait", "signal"):
         return [(content[0], "semaphore")]
     kinds = {"set": "event", "await": "event", "free": "memory"}
-    kinds |= dict.fromkeys(("fill", "update", "map", "unmap", "read", "write", "destroy"), "buffer")
-    if content[0] == "copy":
-        return [(content[1], "buffer"), (content[2], "buffer")]
+    kinds |= dict.fromkeys(("map", "unmap", "read", "write", "flush", "invalidate", "destroy"), "buffer")
+    if point.kind == "command" and content[0] not in kinds:
+        return [(buffer, "buffer") for buffer in named_by(content)]
     if content[0] == "buffer":
         return [(content[5][1], "memory")] if content[5][0] == "memory" else []
     if content[0] in kinds:
@@ -75,9 +73,10 @@ def fills_none(reading, fill):
     return fill[3] == 0 or fill[3] == "whole" and 0 < left < 4
 
 
-def fills_past(reading, fill):
-    size = reading.size_of(fill[1])
-    return size <= fill[2] if fill[3] == "whole" else size < fill[2] + fill[3]
+def leaves(reading, buffer, offset, size):
+    """Whether a range isn't inside a buffer."""
+    length = reading.size_of(buffer)
+    return length <= offset if size == "whole" else length < offset + size
 
 
 def misaligned(reading, fill):
@@ -93,15 +92,14 @@ def ends_past(reading, entry):
     return entry[5][2] + rounded(entry[2]) > reading.made[entry[5][1]][1][3]
 
 
+def is_misplaced(reading, entry):
+    return entry[5][2] % (ATOM if reading.made[entry[5][1]][1][2] == 2 else 16) != 0
+
+
 def is_aliased(reading, entry):
     _, memory, offset = entry[5]
     others = [o for o in reading.live("buffer") if o[5][0] == "memory" and o[5][1] == memory]
     return any(max(offset, o[5][2]) < min(offset + rounded(entry[2]), o[5][2] + rounded(o[2])) for o in others)
-
-
-def type_of(reading, buffer):
-    place = reading.made[buffer][1][5]
-    return place[1] if place[0] == "dedicated" else reading.made[place[1]][1][2]
 
 
 def reaches_past(reading, item):
@@ -157,10 +155,39 @@ def stage(reading, point, own):
     elements = [node for node in nodes if node.kind == "element"]
     return any(
         bad_masks(*node.content[:2])
-        or bad_masks(*node.content[2:])
+        or bad_masks(*node.content[2:4])
         or node.role[0] != "barrier" and node.content[0] & HOST
         for node in elements
     )
+
+
+def is_partial(reading, element):
+    """Whether an element transfers less than its whole buffer."""
+    _, _, _, _, source, destination, buffer, offset, size = element
+    return source != destination and (offset != 0 or size not in ("whole", reading.size_of(buffer)))
+
+
+def owner_pair(reading, point, own):
+    """Whether an element doesn't fit; each is judged by the owners that those before it leave."""
+    owners = reading.owners.copy()
+    for number in own:
+        node = reading.nodes[number]
+        half = node.half() if node.kind == "element" else None
+        if half is not None:
+            if half == "neither" or max(node.content[4:6]) > 1 or not reading.is_exclusive(node.buffer):
+                return True
+            _, released = owners.get(node.buffer, (None, None))
+            if released is not None if half == "release" else not completes(reading, number, released):
+                return True
+            owners[node.buffer] = (family_of(point.queue), number if half == "release" else None)
+    return False
+
+
+def completes(reading, acquire, release):
+    """Whether an acquire has an equal release that comes before it."""
+    if release is None or reading.nodes[release].content[4:7] != reading.nodes[acquire].content[4:7]:
+        return False
+    return reading.comes_before(release, acquire)
 
 
 def event_state(reading, point, own):
@@ -193,42 +220,54 @@ def signal_order(reading, point, own):
     return False
 
 
-def conflicts(reading, own, mine, earlier, judged):
-    """Whether an earlier access meets one of these and isn't judged well; two of the host never are."""
-    by_host = reading.nodes[own[0]].on_host
+def conflicts(reading, own, mine, earlier, is_judged_well):
+    """Whether an earlier access has a byte of these and isn't judged well by its node, the buffer and the
+    byte; two of the host always are."""
+    by_host = mine and reading.nodes[own[0]].on_host
     for number, *ranged in earlier:
         if by_host and reading.nodes[number].on_host:
             continue
-        if any(meets(ranged, own_range) for own_range in mine) and not judged(number):
-            return True
+        for own_range in mine:
+            both = common(reading, ranged, own_range)
+            if any(not is_judged_well(number, ranged[0], byte) for byte in both):
+                return True
     return False
 
 
+def common(reading, first, second):
+    """Of the bytes that two ranges have in common, one of each part that no element, flush or
+    invalidation treats in two ways."""
+    if not meets(first, second):
+        return []
+    low, high = max(first[1], second[1]), min(first[2], second[2])
+    borders = {border for node in reading.nodes for border in node.borders(first[0])}
+    return [low, *sorted(border for border in borders if low < border < high)]
+
+
+def accesses(point, reads_or_writes):
+    return reads_or_writes(point.content) if point.kind in ("host", "command") else []
+
+
 def hazard_war(reading, point, own):
-    if point.kind not in ("host", "command"):
-        return False
-    mine = reading.writes_of(point.content)
-    return conflicts(reading, own, mine, reading.reads_made, lambda n: reading.comes_before(n, own[0])) if mine else False
+    mine = accesses(point, reading.writes_of)
+    return conflicts(reading, own, mine, reading.reads_made, lambda n, b, k: reading.comes_before(n, own[0]))
 
 
 def hazard_raw(reading, point, own):
-    if point.kind not in ("host", "command"):
-        return False
-    mine = reading.reads_of(point.content)
-    return conflicts(reading, own, mine, reading.writes, lambda n: reading.sees(n, own[0], READS_OF)) if mine else False
+    mine = accesses(point, reading.reads_of)
+    return conflicts(reading, own, mine, reading.writes, lambda *w: sees(reading, own[0], "read", *w))
 
 
 def hazard_waw(reading, point, own):
-    if point.kind not in ("host", "command"):
-        return False
-    mine = reading.writes_of(point.content)
-    return conflicts(reading, own, mine, reading.writes, lambda n: reading.sees(n, own[0], WRITES_OF)) if mine else False
+    mine = accesses(point, reading.writes_of)
+    return conflicts(reading, own, mine, reading.writes, lambda *w: sees(reading, own[0], "write", *w))
 
 
 def read_undefined(reading, entry):
     return 0 in reading.defined[entry[1]][entry[2] : entry[2] + entry[3]]
 
 
+NEED_A_MAPPING = ("read", "write", "flush", "invalidate", "unmap")
 RULES = [
     ("NEW_ID", new_id),
     ("LIVE_ID", live_id),
@@ -240,10 +279,13 @@ RULES = [
             host_entry("buffer")(lambda r, e: e[2] == 0),
             host_entry("read")(lambda r, e: e[3] == 0),
             host_entry("write")(lambda r, e: not e[3]),
+            host_entry("flush")(lambda r, e: e[3] == 0),
+            host_entry("invalidate")(lambda r, e: e[3] == 0),
             host_entry("wait")(lambda r, e: not e[1]),
             command("fill")(fills_none),
             command("update")(lambda r, c: not 0 < len(c[3]) // 2 <= 65_536),
             command("copy")(lambda r, c: not c[3] or any(region[2] == 0 for region in c[3])),
+            command("barrier")(lambda r, c: any(element[8] == 0 for element in c[2])),
         ),
     ),
     (
@@ -270,16 +312,19 @@ RULES = [
         ),
     ),
     ("BIND_RANGE", bound(ends_past)),
-    ("BIND_ALIGN", bound(lambda r, e: e[5][2] % 16 != 0)),
+    ("BIND_ALIGN", bound(is_misplaced)),
     ("ALIASED", bound(is_aliased)),
     (
         "RANGE",
         either(
             host_entry("read")(reaches_past),
             host_entry("write")(reaches_past),
-            command("fill")(fills_past),
+            host_entry("flush")(lambda r, e: leaves(r, *e[1:])),
+            host_entry("invalidate")(lambda r, e: leaves(r, *e[1:])),
+            command("fill")(lambda r, c: leaves(r, *c[1:4])),
             command("update")(reaches_past),
             command("copy")(reaches_past),
+            command("barrier")(lambda r, c: any(leaves(r, *element[6:]) for element in c[2])),
         ),
     ),
     (
@@ -291,6 +336,8 @@ RULES = [
     ),
     ("OVERLAP", command("copy")(overlaps)),
     ("STAGE", stage),
+    ("OWNER_WHOLE", command("barrier")(lambda r, c: any(is_partial(r, element) for element in c[2]))),
+    ("OWNER_PAIR", owner_pair),
     ("EVENT_STATE", event_state),
     ("EVENT_DEPENDENCY", event_dependency),
     ("SIGNAL_VALUE", signal_value),
@@ -299,12 +346,12 @@ RULES = [
     (
         "MAP_STATE",
         either(
-            *(host_entry(name)(lambda r, e: not r.is_mapped(e[1])) for name in ("read", "write", "unmap")),
+            *(host_entry(name)(lambda r, e: not r.is_mapped(e[1])) for name in NEED_A_MAPPING),
             host_entry("map")(bad_map),
             host_entry("destroy")(bad_end),
         ),
     ),
-    ("HOST_VISIBLE", host_entry("map")(lambda r, e: type_of(r, e[1]) == 0)),
+    ("HOST_VISIBLE", host_entry("map")(lambda r, e: r.type_of(e[1]) == 0)),
     ("HAZARD_WAR", hazard_war),
     ("HAZARD_RAW", hazard_raw),
     ("HAZARD_WAW", hazard_waw),

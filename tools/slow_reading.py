@@ -1,12 +1,12 @@
 """A slow reading of traces: what one answers, by plain walks over all that came before.
 
 It is written from docs/FORMAT.md alone, for the forms that `replay` takes today, and shares nothing with
-the program: each buffer has one private map of bytes, and commands take effect one at a time, in
-reference order. Each node keeps the set of all nodes before it.
+the program: each buffer has one private map of bytes, also where the host reaches it through a cache, and
+commands take effect one at a time, in reference order. Each node keeps the set of all nodes before it.
 """
 
-from points import HOST, Batch, Point
-from rules import RULES, WRITES_OF, rounded
+from points import ATOM, Batch, Point, family_of, named_by, reached
+from rules import RULES, rounded
 
 MOST_OBJECTS = 4_096
 
@@ -32,6 +32,9 @@ class Reading:
         self.maps = {}
         self.values = {}
         self.defined = {}
+        # Of buffers in cached memory the bytes that the host has written and not flushed.
+        self.dirty = {}
+        # The family that owns an exclusive buffer, with the node of its release where it has released it.
         self.owners = {}
         # Each access: its node, its buffer, and its bytes from the first to the one after the last.
         self.writes = []
@@ -49,6 +52,7 @@ class Reading:
         other.maps = self.maps.copy()
         other.values = {i: b.copy() for i, b in self.values.items()}
         other.defined = {i: b.copy() for i, b in self.defined.items()}
+        other.dirty = {i: b.copy() for i, b in self.dirty.items()}
         other.signals = {i: s.copy() for i, s in self.signals.items()}
         other.sets = {i: s.copy() for i, s in self.sets.items()}
         return other
@@ -119,32 +123,6 @@ class Reading:
     def reaches(self, first, second):
         return first == second or self.comes_before(first, second)
 
-    def sees(self, writer, reader, masks):
-        """Whether an access by a node sees the write of an earlier one."""
-        kind = self.nodes[reader].kind
-        mask = masks[kind]
-        by_host = self.nodes[writer].on_host
-        ends = [q for q in range(len(self.nodes)) if self.shows(q, reader, kind, mask, by_host)]
-        for start, node in enumerate(self.nodes):
-            if by_host:
-                if not node.is_submit or not self.comes_before(writer, start):
-                    continue
-            elif not self.edges[start] >> writer & 1 or not makes_available(node):
-                continue
-            if any(self.reaches(start, end) and self.reaches(end, reader) for end in ends):
-                return True
-        return False
-
-    def shows(self, number, reader, kind, mask, by_host):
-        """Whether a node makes available writes visible to an access by a later one."""
-        node = self.nodes[number]
-        element = node.kind == "element" and node.role[0] != "set" and node.content[3] & mask
-        if kind == "host":
-            to_host = element and node.content[2] & HOST
-            return bool(to_host and self.comes_before(number, reader))
-        shown = element or node.kind == "wait" or by_host and node.is_submit
-        return bool(shown and self.edges[reader] >> number & 1)
-
     # ---- points
 
     def come(self, point):
@@ -169,6 +147,8 @@ class Reading:
             self.host_effect(point.content, own)
         elif point.kind == "command" and name in ("fill", "update", "copy"):
             self.change(point, own[0])
+        elif point.kind == "command" and name == "barrier":
+            self.hand_over(own)
         elif point.kind == "command" and name == "set":
             self.sets.setdefault(point.content[1], []).append((point.queue, point.content[2]))
 
@@ -186,19 +166,35 @@ class Reading:
             self.end(entry[1])
         elif entry[0] == "write":
             _, buffer, offset, text = entry
-            self.give(buffer, offset, [(value, 1) for value in bytes.fromhex(text)])
+            given = bytes.fromhex(text)
+            self.give(buffer, offset, [(value, 1) for value in given])
+            if self.is_cached(buffer):
+                self.dirty[buffer][offset : offset + len(given)] = b"\x01" * len(given)
             self.writes += [(own[0], *r) for r in self.writes_of(entry)]
+        elif entry[0] in ("flush", "invalidate"):
+            self.clean(entry)
         elif entry[0] == "read":
             _, buffer, offset, size = entry
             self.reads_made += [(own[0], *r) for r in self.reads_of(entry)]
             read = bytes(self.values[buffer][offset : offset + size])
             self.reads.append((self.count, read, buffer, offset, len(self.writes)))
 
+    def clean(self, entry):
+        """A flush, or an invalidation, which loses the bytes that the host has written and not flushed."""
+        name, buffer, _, _ = entry
+        first, last = reached(entry)
+        low, size = ATOM * first, self.size_of(buffer)
+        for byte in range(low, size if last is None else min(size, ATOM * (last + 1))):
+            if self.dirty[buffer][byte] and name == "invalidate":
+                self.defined[buffer][byte] = 0
+            self.dirty[buffer][byte] = 0
+
     def make(self, entry):
         """A buffer gets undefined bytes; a memory object, a buffer's own too, room where its heap has some."""
         if entry[0] == "buffer":
             self.values[entry[1]] = bytearray(entry[2])
             self.defined[entry[1]] = bytearray(entry[2])
+            self.dirty[entry[1]] = bytearray(entry[2])
         heap, size = self.allocated(entry)
         if heap is None:
             return
@@ -234,16 +230,29 @@ class Reading:
         self.defined[buffer][offset : offset + len(given)] = bytes(is_so for _, is_so in given)
 
     def use(self, buffer, family):
-        if self.made[buffer][1][4] == "exclusive":
-            if self.owners.get(buffer, family) != family:
+        """A family uses a buffer: of an exclusive one it loses what another family has owned or released."""
+        if self.is_exclusive(buffer):
+            owner, _ = self.owners.get(buffer, (family, None))
+            if owner != family:
                 self.defined[buffer] = bytearray(len(self.defined[buffer]))
-            self.owners[buffer] = family
+            self.owners[buffer] = (family, None)
+
+    def hand_over(self, own):
+        """The elements of a barrier release buffers, and acquire them."""
+        for number in own:
+            node = self.nodes[number]
+            family = family_of(node.point.queue)
+            if node.half() == "release":
+                self.use(node.buffer, family)
+                self.owners[node.buffer] = (family, number)
+            elif node.half() == "acquire":
+                self.owners[node.buffer] = (family, None)
 
     def change(self, point, number):
         """A fill, an update or a copy takes effect."""
         command = point.content
         for buffer in command[1:3] if command[0] == "copy" else command[1:2]:
-            self.use(buffer, 0 if point.queue < 2 else 1)
+            self.use(buffer, family_of(point.queue))
         for buffer, low, given in self.given(command):
             self.give(buffer, low, given)
         self.writes += [(number, *r) for r in self.writes_of(command)]
@@ -300,6 +309,18 @@ class Reading:
         """The entries that made what is live of a kind."""
         return [entry for thing, (_, entry) in self.made.items() if self.is_live(thing, kind)]
 
+    def type_of(self, buffer):
+        """The memory type of a buffer."""
+        place = self.made[buffer][1][5]
+        return place[1] if place[0] == "dedicated" else self.made[place[1]][1][2]
+
+    def is_cached(self, buffer):
+        """Whether the host reaches a buffer through a cache."""
+        return self.type_of(buffer) == 2
+
+    def is_exclusive(self, buffer):
+        return self.made[buffer][1][4] == "exclusive"
+
     def is_mapped(self, buffer):
         return buffer in self.made and self.maps.get(self.mapping(buffer), 0) > 0
 
@@ -307,7 +328,8 @@ class Reading:
         """Whether a submitted command that names a buffer isn't known complete at a host entry's node."""
         for command in self.submitted:
             if buffer in named_by(command.content):
-                nodes = [k for k, n in enumerate(self.nodes) if n.kind == "command" and same_place(n.point, command)]
+                own = (k for k, node in enumerate(self.nodes) if same_place(node.point, command))
+                nodes = [k for k in own if self.nodes[k].names(buffer)]
                 if not nodes or not all(self.comes_before(k, host) for k in nodes):
                     return True
         return False
@@ -326,22 +348,8 @@ class Reading:
         return lines + f"stopped {self.stop} NO_ROOM\n", 3
 
 
-def named_by(command):
-    """The buffers that a command names."""
-    if command[0] == "copy":
-        return command[1:3]
-    return command[1:2] if command[0] in ("fill", "update") else []
-
-
 def same_place(point, other):
     return (point.entry, point.batch, point.place) == (other.entry, other.batch, other.place)
-
-
-def makes_available(node):
-    """Whether a node makes commands' writes available that have an edge to it."""
-    if node.kind == "signal":
-        return True
-    return bool(node.kind == "element" and node.role[0] != "await" and node.content[1] & WRITES_OF["command"])
 
 
 def read(trace, heaps):
