@@ -96,6 +96,14 @@ impl Shape {
         })
     }
 
+    /// The image, which breaks no rule on sizes.
+    pub fn image(&self) -> ImageInfo
+        ensures image { result ≡ self.now }
+        ensures shaped { bad_image self.now ≡ false }
+    {
+        self.image
+    }
+
     /// What the image asks of the memory that it is put in.
     pub fn requirements(&self) -> Need
         ensures need { result ≡ image_need self.now }

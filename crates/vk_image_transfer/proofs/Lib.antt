@@ -1,0 +1,9 @@
+pub mod Writing
+pub mod Grids
+pub mod Running
+pub mod Places
+pub mod Keeping
+pub mod ImageRows
+pub mod Clears
+pub mod BufferRows
+pub mod Copies

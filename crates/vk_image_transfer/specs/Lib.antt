@@ -1,0 +1,4 @@
+pub mod Held
+pub mod Rows
+pub mod Pieces
+pub mod Inner
