@@ -29,9 +29,11 @@ mod LimitedLemmas
 mod CachedLemmas
 mod PartLemmas
 mod ServeLemmas
-mod UnseenLemmas
+mod UnitLemmas
+pub mod UnseenLemmas
 mod FollowLemmas
 pub mod SiblingLemmas
+mod BarrierLemmas
 mod StampedLemmas
 pub mod PlaceLemmas
 mod SubmissionLemmas

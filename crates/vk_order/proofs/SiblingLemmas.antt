@@ -43,11 +43,11 @@ module _ (p : Point) where
   own j e = record { number = j; point = p; act = Depends Barrier e }
 
   -- what is there when elements have come
-  cases : (es : List Element) (ns : List Node) (k : Node) → Contains (with_acts p (map (Depends Barrier) es) ns) k → Contains ns k ⊎ ((j : ℕ) × (d : Element) × (k ≡ own j d))
+  pub cases : (es : List Element) (ns : List Node) (k : Node) → Contains (with_acts p (map (Depends Barrier) es) ns) k → Contains ns k ⊎ ((j : ℕ) × (d : Element) × (k ≡ own j d) × (length ns ≤ j))
   cases [] ns k c = inl c
   cases (e ∷ es) ns k c = ⊎_elim
-      (λ there. ⊎_elim (λ same. inr (length ns, e, sym same)) (λ old. inl old) (contains-cons (own (length ns) e) ns k there))
-      (λ new. inr new)
+      (λ there. ⊎_elim (λ same. inr (length ns, e, sym same, omega arith)) (λ old. inl old) (contains-cons (own (length ns) e) ns k there))
+      (λ new. inr (new.0, new.1, new.2, let le = new.3 in omega arith))
       (cases es (own (length ns) e ∷ ns) k c)
 
   same_here : same_place p p ≡ true
@@ -65,11 +65,11 @@ module _ (p : Point) where
   both_off false false x y = refl
 
   -- no element leads to another of the barrier
-  no_edge : (all : List Node) (e d : Element) (j : ℕ) → IsNumbered (own (length all) e ∷ all) → Contains all (own j d) → edge all (own j d) (own (length all) e) ≡ false
+  pub no_edge : (all : List Node) (e d : Element) (j : ℕ) → IsNumbered (own (length all) e ∷ all) → Contains all (own j d) → edge all (own j d) (own (length all) e) ≡ false
   no_edge all e d j numbers c = edge_barrier (own (length all) e) all numbers e refl (own j d) c ∙ rw (same_here, eq-eqb p.queue p.queue refl) (both_off _ _ _ _)
 
   -- older nodes lead to it as if it came alone
-  same_edge : (all ns : List Node) (e : Element) (k : Node) → IsNumbered (own (length all) e ∷ all) → IsNumbered ns → Contains all k → Contains ns k → edge all k (own (length all) e) ≡ edge ns k (own (length ns) e)
+  pub same_edge : (all ns : List Node) (e : Element) (k : Node) → IsNumbered (own (length all) e ∷ all) → IsNumbered ns → Contains all k → Contains ns k → edge all k (own (length all) e) ≡ edge ns k (own (length ns) e)
   same_edge all ns e k numbers old c d = edge_barrier (own (length all) e) all numbers e refl k c ∙ sym (edge_barrier (own (length ns) e) ns (refl, old) e refl k d)
 
   module _ (ns : List Node) (numbers : IsNumbered ns) (es : List Element) (e : Element) where

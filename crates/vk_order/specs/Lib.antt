@@ -1,5 +1,6 @@
 pub mod PointViews
 pub mod Bytes
+pub mod Units
 pub mod Queries
 pub mod Wide
 pub mod Frontiers
@@ -11,5 +12,6 @@ pub mod Places
 pub mod Prefixes
 pub mod Submission
 pub mod Visibility
+pub mod Barriers
 pub mod Counterexamples
 pub mod Inner

@@ -2,9 +2,11 @@
 use Rattle.std.specs.Prelude.{◌≡◌, ◌≤◌, ◌∷◌, ℕ, List, Bool, IsTrue, Some}
 use Rattle.vk_model.specs.World.Bytes.{Byte}
 use Rattle.vk_model.specs.Sync.Node.{Node}
-use Rattle.vk_model.specs.Sync.Seen.{seen}
+use Rattle.vk_model.specs.Sync.Before.{IsNumbered}
+use Rattle.vk_model.specs.Sync.Seen.{seen, Access as Kind}
 use Rattle.vk_order.specs.declared.access.Access.{Access}
 use Rattle.vk_order.specs.declared.frontier.Frontier.{Frontier}
+use Rattle.vk_order.specs.declared.parts.Part.{Part}
 use Rattle.vk_order.specs.declared.parts.Spot.{Spot}
 use Rattle.vk_order.specs.declared.sights.Sight.{Sight}
 use Rattle.vk_order.specs.Frontiers.{IsFrontier, IsSight}
@@ -12,9 +14,17 @@ use Rattle.vk_order.specs.Limited.{IsWrite}
 use Rattle.vk_order.specs.Lines.{line_of}
 use Rattle.vk_order.specs.Wide.{access_of, is_answered}
 use Rattle.vk_order.specs.Inner.Clocks.{place}
+use Rattle.vk_order.specs.Inner.Parts.{IsPart}
+use Rattle.vk_order.specs.Inner.Tallies.{lines_of}
 
 -- Of the write of a byte by the node of a spot, before which at least `from` nodes came: whether an access of the byte by the node that a sight is of, a command or a host entry that needs no invalidation, sees it. Dependencies may be on parts of memory (Vulkan, "Execution and Memory Dependencies").
 abbrev pub SaysSeen : Frontier → Sight → Spot → ℕ → Access → Byte → Bool → Type 0
 SaysSeen f s write from access b answer =
     (ns : List Node) (n w : Node) (cached : Byte → Bool) → IsFrontier f ns → IsSight ns n s → IsWrite cached ns w b → line_of w ≡ Some write.line → place ns write.line w.number ≡ write.place → from ≤ w.number
     → IsTrue (is_answered cached n.act (access_of access) b) → answer ≡ seen cached (n ∷ ns) w n (access_of access) b
+
+-- The same of an access by the transition of a part, which comes next.
+abbrev pub SaysSeenAt : Frontier → Part → Spot → ℕ → Byte → Bool → Type 0
+SaysSeenAt f part write from b answer =
+    (ns : List Node) (n w : Node) (cached : Byte → Bool) (k : Kind) → IsNumbered (n ∷ ns) → IsFrontier f ns → IsPart (n ∷ ns) (lines_of f.tallies.items) n part → IsWrite cached ns w b
+    → line_of w ≡ Some write.line → place ns write.line w.number ≡ write.place → from ≤ w.number → answer ≡ seen cached (n ∷ ns) w n k b

@@ -284,7 +284,14 @@ impl Frontier {
     pub(crate) fn parts_of(&self, byte: Byte) -> &[Part]
         ensures { result.now ≡ parts_at self.now.parts (world.resource_at (byte_of byte)) }
     {
-        self.parts.of(byte.resource())
+        self.parts_on(byte.resource())
+    }
+
+    /// The dependencies on parts of a resource.
+    pub(crate) fn parts_on(&self, resource: u32) -> &[Part]
+        ensures { result.now ≡ parts_at self.now.parts resource }
+    {
+        self.parts.of(resource)
     }
 
     /// Whether parts make a write available, and what one of them marks is known at a node that

@@ -3,6 +3,7 @@ ghost use Rattle.vk_order.specs.Prefixes.{HostPrefix, WaitPrefix, SignalPrefix, 
 ghost use Rattle.vk_order.specs.Places.{ApartIsPlaced};
 ghost use Rattle.vk_order.specs.Submission.{CommandsFollow, OrderedAreSubmitted, OrderIsSubmitted};
 ghost use Rattle.vk_order.specs.Visibility.{CommandsSeen, HostSeen, SeenThrough, LastWriteSeen};
+ghost use Rattle.vk_order.specs.Barriers.{ElementsComeAlone, ElementsSeeAlone};
 ghost use Rattle.vk_order.specs.Limited.{LimitedSeen};
 ghost use Rattle.vk_order.specs.Cached.{FlushedSeen, UnflushedSeen, InvalidatedSeen, UninvalidatedSeen};
 ghost use Rattle.vk_order.specs.Counterexamples.{Counterexamples};
@@ -60,6 +61,13 @@ pub fn last_write_seen()
 {
     growth_keeps();
 }
+
+/// The elements of one barrier don't lead to one another: what is before each of them, and what it
+/// sees as a transition, is what it would be alone.
+pub fn elements_are_alone()
+    ensures before { ElementsComeAlone }
+    ensures seen { ElementsSeeAlone }
+{}
 
 /// Where dependencies may be on parts of memory, an access by a node that comes next sees a write
 /// exactly where the write, or a dependency on a part that makes it available, reaches a node that

@@ -24,6 +24,7 @@ mod seen;
 mod sights;
 mod tallies;
 mod transitions;
+mod units;
 mod unseen;
 mod writes;
 
@@ -31,12 +32,14 @@ pub use access::Access;
 pub use bytes::{Byte, ByteAccess};
 pub use frontier::Frontier;
 pub use laws::{
-    commands_follow, commands_seen, counterexamples, elements_are_together, flushed_seen,
-    host_seen, invalidated_seen, last_write_seen, limited_seen, prefixes, seen_through,
+    commands_follow, commands_seen, counterexamples, elements_are_alone, elements_are_together,
+    flushed_seen, host_seen, invalidated_seen, last_write_seen, limited_seen, prefixes,
+    seen_through,
 };
 pub use lines::Line;
 pub use parts::{Part, Spot};
 pub use point::{Act, Action, Point};
 pub use points::Points;
 pub use sights::Sight;
+pub use units::Units;
 pub use unseen::SeenUntil;

@@ -1,4 +1,4 @@
-ghost use Rattle.std.specs.Prelude.{◌≡◌, ◌≤◌, ◌∷◌, ◌&&◌, ◌↔◌, ℕ, List, Bool, IfOk, Some, length, IsTrue, Contains};
+ghost use Rattle.std.specs.Prelude.{◌≡◌, ◌≤◌, ◌∷◌, ◌&&◌, ◌↔◌, ◌<◌, ℕ, List, Bool, true, false, IfOk, IfSome, IfNone, Some, length, IsTrue, Contains};
 ghost use Rattle.vk_model.specs.World.Bytes as world;
 ghost use Rattle.vk_model.specs.Sync.Node.{Node};
 ghost use Rattle.vk_model.specs.Sync.Edge.{edge, is_command};
@@ -12,6 +12,8 @@ ghost use Rattle.vk_order.specs.Inner.Clocks.{place};
 ghost use Rattle.vk_order.specs.Inner.Parts.{parts_at, AreFrom, IsPart, IsOwnPart};
 ghost use Rattle.vk_order.specs.Inner.Tallies.{lines_of};
 ghost use Rattle.vk_order.specs.Frontiers.{IsFrontier, IsSight, IsFrom};
+ghost use Rattle.vk_order.specs.SeenWrites.{SaysSeenAt};
+ghost use Rattle.vk_order.specs.Units.{HaveNumbers, unit_byte};
 
 use crate::acts::Row;
 use crate::bytes::Byte;
@@ -19,6 +21,8 @@ use crate::frontier::Frontier;
 use crate::parts::{Part, Spot, parts_from};
 use crate::point::{Act, Point};
 use crate::sights::Sight;
+use crate::units::{Units, element_until};
+use crate::unseen::parts_until;
 use std::alloc::AllocError;
 
 impl Frontier {
@@ -46,8 +50,7 @@ impl Frontier {
     /// Whether an access of a byte by the transition of a part that comes next sees the write of it
     /// by a node, before which at least `from` nodes came.
     pub fn is_seen_at(&self, part: &Part, write: Spot, from: usize, byte: Byte) -> bool
-        ensures { (ns : List Node) (n w : Node) (cached : world.Byte → Bool) (k : AnyAccess) → IsNumbered (n ∷ ns) → IsFrontier self.now ns → IsPart (n ∷ ns) (lines_of self.now.tallies.items) n part.now → IsWrite cached ns w (byte_of byte)
-            → line_of w ≡ Some write.line → place ns write.line w.number ≡ write.place → from ≤ w.number → result ≡ seen cached (n ∷ ns) w n k (byte_of byte) }
+        ensures { SaysSeenAt self.now part.now write from (byte_of byte) result }
     {
         if self.reaches(part, write) {
             return true;
@@ -57,6 +60,38 @@ impl Frontier {
         }
         let parts = parts_from(self.parts_of(byte), from);
         self.is_marked_at(part, parts, write, byte)
+    }
+
+    /// The first unit, from `low` on and before `high`, of which an access by the transition of a
+    /// part that comes next doesn't see the write by a node. It is asked as `is_seen_at` is, and
+    /// once for the units in a row that the same parts are on.
+    pub fn first_unseen_at(
+        &self,
+        part: &Part,
+        write: Spot,
+        from: usize,
+        units: Units,
+        low: u64,
+        high: u64,
+    ) -> Option<u64>
+        requires { HaveNumbers units high }
+        ensures within { IfSome result (λ k. (low ≤ k) × (k < high)) }
+        ensures unseen { IfSome result (λ k. SaysSeenAt self.now part.now write from (unit_byte units k) false) }
+        ensures seen { IfNone result ((k : ℕ) → low ≤ k → k < high → SaysSeenAt self.now part.now write from (unit_byte units k) true) }
+    {
+        if self.reaches(part, write) {
+            return None;
+        }
+        let parts = parts_from(self.parts_on(units.resource()), from);
+        let mut at = low;
+        while at < high {
+            if !self.is_seen_at(part, write, from, units.byte(at)) {
+                return Some(at);
+            }
+            let until = parts_until(parts, units, at, high);
+            at = element_until(&part.element, units, at, until);
+        }
+        None
     }
 
     /// Whether parts make a write available, and what one of them marks is known at another one

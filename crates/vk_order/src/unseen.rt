@@ -1,15 +1,15 @@
 ghost use Rattle.std.specs.Prelude.{◌≡◌, ◌<◌, ◌≤◌, ◌⊎◌, ◌&&◌, ℕ, Bool, List, Some, true, false, IfSome, IfNone, IsTrue, Contains, length, slice_get};
 ghost use Rattle.vk_model.specs.World.Bytes as world;
-ghost use Rattle.vk_model.specs.World.Bytes.{in_buffer};
 ghost use Rattle.vk_model.specs.Sync.Node.{Node};
 ghost use Rattle.vk_model.specs.Sync.Edge.{edge, is_command};
 ghost use Rattle.vk_model.specs.Sync.Before.{IsNumbered};
-ghost use Rattle.vk_model.specs.Sync.Seen.{covers, has_byte, makes_writes_available};
+ghost use Rattle.vk_model.specs.Sync.Seen.{covers, makes_writes_available};
 ghost use Rattle.vk_order.specs.declared.parts.Part.{Part as AnyPart};
 ghost use Rattle.vk_order.specs.Bytes.{byte_of};
 ghost use Rattle.vk_order.specs.Limited.{Reaches};
 ghost use Rattle.vk_order.specs.Lines.{line_of};
 ghost use Rattle.vk_order.specs.SeenWrites.{SaysSeen};
+ghost use Rattle.vk_order.specs.Units.{HaveNumbers, unit_byte, units_resource};
 ghost use Rattle.vk_order.specs.Wide.{access_of};
 ghost use Rattle.vk_order.specs.Inner.Alone.{AlwaysShows};
 ghost use Rattle.vk_order.specs.Inner.Clocks.{place};
@@ -21,78 +21,51 @@ use crate::bytes::Byte;
 use crate::frontier::Frontier;
 use crate::parts::{Part, Spot, parts_from};
 use crate::sights::Sight;
-use vk_model::{Element, Length};
+use crate::units::{Units, element_until};
 
-/// Up to where, and at most to an end, a range of a buffer has the bytes from one on or has none of
+/// Up to where, and at most to an end, each of some parts is on the units as on one, or on none of
 /// them.
-fn range_until(offset: u64, size: Length, at: u64, end: u64) -> u64
-    requires { at < end }
+pub(crate) fn parts_until(parts: &[Part], units: Units, at: u64, end: u64) -> u64
+    requires order { at < end }
+    requires numbers { HaveNumbers units end }
     ensures further { at < result }
     ensures within { result ≤ end }
-    ensures alike { (k : ℕ) → at ≤ k → k < result → has_byte offset size k ≡ has_byte offset size at }
-{
-    if at < offset {
-        return offset.min(end);
-    }
-    match size {
-        Length::Bytes(bytes) if at - offset < bytes => offset.saturating_add(bytes).min(end),
-        _ => end,
-    }
-}
-
-/// The same of the range of an element.
-fn element_until(element: &Element, buffer: u32, at: u64, end: u64) -> u64
-    requires { at < end }
-    ensures further { at < result }
-    ensures within { result ≤ end }
-    ensures alike { (k : ℕ) → at ≤ k → k < result → covers element.now (in_buffer buffer k) ≡ covers element.now (in_buffer buffer at) }
-{
-    match element {
-        Element::Buffer(range) => range_until(range.offset, range.size, at, end),
-        _ => end,
-    }
-}
-
-/// The same of each of some parts.
-fn parts_until(parts: &[Part], buffer: u32, at: u64, end: u64) -> u64
-    requires { at < end }
-    ensures further { at < result }
-    ensures within { result ≤ end }
-    ensures alike { (x : AnyPart) → Contains parts.now x → (k : ℕ) → at ≤ k → k < result → covers x.element (in_buffer buffer k) ≡ covers x.element (in_buffer buffer at) }
+    ensures alike { (x : AnyPart) → Contains parts.now x → (k : ℕ) → at ≤ k → k < result → covers x.element (unit_byte units k) ≡ covers x.element (unit_byte units at) }
 {
     let mut until = end;
     for part in parts {
-        until = element_until(&part.element, buffer, at, until);
+        until = element_until(&part.element, units, at, until);
     }
     until
 }
 
-/// Bytes in a row that are seen alike.
+/// Units in a row that are seen alike.
 #[derive(Clone, Copy)]
 pub struct SeenUntil {
-    /// The byte after the last one.
+    /// The unit after the last one.
     pub end: u64,
     /// Whether they are seen.
     pub is_seen: bool,
 }
 
 impl Frontier {
-    /// Whether an access of the byte `low` of a buffer by the node that a sight is of sees the write
-    /// by a node, and up to where, and at most to `high`, this is so. It is asked as `is_seen` is.
+    /// Whether an access of unit `low` by the node that a sight is of sees the write by a node, and
+    /// up to where, and at most to `high`, this is so. It is asked as `is_seen` is.
     pub fn seen_until(
         &self,
         sight: &Sight,
         write: Spot,
         from: usize,
-        buffer: u32,
+        units: Units,
         low: u64,
         high: u64,
         access: Access,
     ) -> SeenUntil
-        requires { low < high }
+        requires order { low < high }
+        requires numbers { HaveNumbers units high }
         ensures further { low < result.end }
         ensures within { result.end ≤ high }
-        ensures seen { (k : ℕ) → low ≤ k → k < result.end → SaysSeen self.now sight.now write from access (in_buffer buffer k) result.is_seen }
+        ensures seen { (k : ℕ) → low ≤ k → k < result.end → SaysSeen self.now sight.now write from access (unit_byte units k) result.is_seen }
     {
         if sight.shows(write, access) {
             return SeenUntil {
@@ -100,56 +73,57 @@ impl Frontier {
                 is_seen: true,
             };
         }
-        let byte = Byte::Buffer { buffer, at: low };
-        let parts = parts_from(self.parts_of(byte), from);
+        let byte = units.byte(low);
+        let parts = parts_from(self.parts_on(units.resource()), from);
         SeenUntil {
-            end: parts_until(parts, buffer, low, high),
+            end: parts_until(parts, units, low, high),
             is_seen: self.is_seen(sight, write, from, byte, access),
         }
     }
 
-    /// The first byte of a range of a buffer, from `low` on and before `high`, of which an access
+    /// The first unit, from `low` on and before `high`, of which an access
     /// by the node that a sight is of doesn't see the write by a node. It is asked as `is_seen` is,
-    /// and once for the bytes in a row that one part shows, or that the same parts are on.
+    /// and once for the units in a row that one part shows, or that the same parts are on.
     pub fn first_unseen(
         &self,
         sight: &Sight,
         write: Spot,
         from: usize,
-        buffer: u32,
+        units: Units,
         low: u64,
         high: u64,
         access: Access,
     ) -> Option<u64>
+        requires { HaveNumbers units high }
         ensures within { IfSome result (λ k. (low ≤ k) × (k < high)) }
-        ensures unseen { IfSome result (λ k. SaysSeen self.now sight.now write from access (in_buffer buffer k) false) }
-        ensures seen { IfNone result ((k : ℕ) → low ≤ k → k < high → SaysSeen self.now sight.now write from access (in_buffer buffer k) true) }
+        ensures unseen { IfSome result (λ k. SaysSeen self.now sight.now write from access (unit_byte units k) false) }
+        ensures seen { IfNone result ((k : ℕ) → low ≤ k → k < high → SaysSeen self.now sight.now write from access (unit_byte units k) true) }
     {
         if sight.shows(write, access) {
             return None;
         }
-        let parts = parts_from(self.parts_of(Byte::Buffer { buffer, at: low }), from);
+        let parts = parts_from(self.parts_on(units.resource()), from);
         let mut at = low;
         let mut near = 0;
         while at < high {
-            match self.shown_until(sight, parts, near, write, buffer, at, high, access) {
+            match self.shown_until(sight, parts, near, write, units, at, high, access) {
                 Some((index, until)) => {
                     near = index;
                     at = until;
                 }
                 None => {
-                    let byte = Byte::Buffer { buffer, at };
+                    let byte = units.byte(at);
                     if !self.is_seen(sight, write, from, byte, access) {
                         return Some(at);
                     }
-                    at = parts_until(parts, buffer, at, high);
+                    at = parts_until(parts, units, at, high);
                 }
             }
         }
         None
     }
 
-    /// Up to where, and at most to an end, a part shows the write by itself from a byte on; and the
+    /// Up to where, and at most to an end, a part shows the write by itself from a unit on; and the
     /// part's index, of those that do one that is near another.
     fn shown_until(
         &self,
@@ -157,19 +131,20 @@ impl Frontier {
         parts: &[Part],
         near: usize,
         write: Spot,
-        buffer: u32,
+        units: Units,
         at: u64,
         end: u64,
         access: Access,
     ) -> Option<(usize, u64)>
-        requires { at < end }
+        requires order { at < end }
+        requires numbers { HaveNumbers units end }
         ensures further { IfSome result (λ r. at < r.1) }
-        ensures seen { IfSome result (λ r. (from : ℕ) → (AreInOrder (parts_at self.now.parts buffer) → AreFrom from (parts_at self.now.parts buffer) parts.now)
-            → (k : ℕ) → at ≤ k → k < r.1 → SaysSeen self.now sight.now write from access (in_buffer buffer k) true) }
+        ensures seen { IfSome result (λ r. (from : ℕ) → (AreInOrder (parts_at self.now.parts (units_resource units)) → AreFrom from (parts_at self.now.parts (units_resource units)) parts.now)
+            → (k : ℕ) → at ≤ k → k < r.1 → SaysSeen self.now sight.now write from access (unit_byte units k) true) }
     {
-        let byte = Byte::Buffer { buffer, at };
+        let byte = units.byte(at);
         let index = self.shown_by(sight, parts, near, write, byte, access)?;
-        let until = element_until(&parts[index].element, buffer, at, end);
+        let until = element_until(&parts[index].element, units, at, end);
         Some((index, until))
     }
 
