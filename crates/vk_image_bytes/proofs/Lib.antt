@@ -1,0 +1,4 @@
+pub mod Levels
+mod Keeping
+pub mod Numbering
+pub mod Reached
