@@ -1,3 +1,4 @@
 pub mod Numbers
 pub mod Subresources
+pub mod Ranges
 pub mod Inner

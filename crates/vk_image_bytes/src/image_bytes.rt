@@ -109,8 +109,35 @@ impl ImageBytes {
         self.image.levels - 1
     }
 
+    /// How many levels each layer has.
+    pub(crate) fn levels(&self) -> u32
+        ensures count { result ≡ self.now.levels }
+        ensures above { 0 < result }
+        ensures within { result ≤ 13 }
+    {
+        self.image.levels
+    }
+
+    /// How many layers the image has.
+    pub(crate) fn layers(&self) -> u32
+        ensures count { result ≡ self.now.layers }
+        ensures above { 0 < result }
+        ensures within { result ≤ 256 }
+    {
+        self.image.layers
+    }
+
+    /// The bytes of a layer before one of its levels.
+    pub(crate) fn level_first(&self, level: u32) -> u64
+        requires { level ≤ self.now.levels }
+        ensures first { result ≡ numbers.level_first self.now level }
+        ensures within { result ≤ numbers.layer_byte_count self.now }
+    {
+        self.firsts[level as usize]
+    }
+
     /// The bytes of a layer.
-    fn layer_len(&self) -> u64
+    pub(crate) fn layer_len(&self) -> u64
         ensures count { result ≡ numbers.layer_byte_count self.now }
         ensures above { 0 < result }
         ensures within { result ≤ 13 * 268435456 }

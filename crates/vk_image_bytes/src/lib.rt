@@ -2,5 +2,7 @@
 #![tactic(auto)]
 
 mod image_bytes;
+mod ranges;
 
 pub use image_bytes::{ImageBytes, Subresources};
+pub use ranges::ByteRanges;
