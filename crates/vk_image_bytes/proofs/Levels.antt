@@ -88,3 +88,7 @@ pub firsts_more : (m : ImageInfo) (firsts : List ℕ) (n v : ℕ) → ((k : ℕ)
     → (k : ℕ) → k ≤ n + 1 → get_or (set firsts (n + 1) v) k 0 ≡ level_first m k
 unfolding level_first
 firsts_more m = starts_more (level_byte_count m)
+
+-- a row of a level has 4,096 texels at most
+pub few_columns : (m : ImageInfo) (k : ℕ) → bad_image m ≡ false → level_width m k ≤ 4096
+few_columns m k good = few_texels m.width k (counts m good).width.few

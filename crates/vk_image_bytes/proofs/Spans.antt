@@ -1,5 +1,5 @@
 -- The numbers of the bytes of a range of levels and layers.
-use Rattle.std.proofs.Common.{◌≡◌, ℕ, zero, suc, ◌+◌, ◌-◌, ◌*◌, ◌<◌, ◌≤◌, Bool, true, false, ◌==◌, ◌&&◌, min, refl, ap, sym, subst, ◌∙◌, arith, inl, inr}
+use Rattle.std.proofs.Common.{◌≡◌, ℕ, ◌+◌, ◌-◌, ◌*◌, ◌<◌, ◌≤◌, Bool, true, ◌==◌, ◌&&◌, min, refl, ap, sym, subst, ◌∙◌, arith, inl, inr}
 use Rattle.std.specs.Prelude.{Contains, nat_le, nat_lt}
 use Rattle.std.proofs.lemmas.Bool.{cases_lt, le-leb, lt-ltb, leb-true, ltb-true, eq-eqb, and_parts, and_from}
 use Rattle.std.proofs.lemmas.Nat.{mul-le, same_from_place}
@@ -12,7 +12,7 @@ use Rattle.vk_model.proofs.Lists.Truths.{bool_same}
 use Rattle.vk_image_bytes.specs.declared.ranges.ByteRanges.{ByteRanges}
 use Rattle.vk_image_bytes.specs.Numbers.{level_first, layer_byte_count, byte_count, layer_at, level_at, before_in_level, numbered, byte_of}
 use Rattle.vk_image_bytes.specs.Ranges.{has_number, AreRanges}
-use Rattle.vk_image_bytes.proofs.Levels.{level_more, level_zero, level_rises}
+use Rattle.vk_image_bytes.proofs.Levels.{level_more, level_rises}
 use Rattle.vk_image_bytes.proofs.Numbering.{Lies, lies, in_layer}
 
 -- ---- what is within

@@ -1,9 +1,12 @@
 ghost use Rattle.std.specs.Prelude.{◌≡◌, ◌≤◌, ◌<◌, ◌+◌, ◌*◌, ◌^◌, ℕ, false};
+ghost use Rattle.vk_model.specs.Trace.Image as image;
 ghost use Rattle.vk_model.specs.Rules.Sizes.{bad_image};
 ghost use Rattle.vk_image_bytes.specs.Numbers as numbers;
 ghost use Rattle.vk_image_bytes.specs.Subresources.{AreOf};
 ghost use Rattle.vk_image_bytes.specs.Inner.Kept.{AreFirsts};
+ghost use Rattle.vk_image_bytes.specs.Inner.Rows.{image_places};
 
+use crate::rows::Places;
 use std::marker::Model;
 use vk_image_tiles::{level_height, level_width, texel_size};
 use vk_model::ImageInfo;
@@ -109,9 +112,38 @@ impl ImageBytes {
         self.image.levels - 1
     }
 
+    /// The bytes of a texel.
+    pub(crate) fn texel_len(&self) -> u64
+        ensures size { result ≡ image.texel self.now.format }
+        ensures above { 0 < result }
+        ensures within { result ≤ 16 }
+    {
+        self.texel
+    }
+
+    /// Where the rows of a level of a layer begin, from a texel on.
+    pub(crate) fn places(&self, level: u32, layer: u32, x: u32, y: u32) -> Places
+        requires level_there { level < self.now.levels }
+        requires layer_there { layer < self.now.layers }
+        ensures { result ≡ image_places self.now level layer x y }
+    {
+        let width = u64::from(level_width(&self.image, level));
+        let texels = u64::from(y) * width + u64::from(x);
+        let texel = self.texel_len();
+        let len = self.layer_len();
+        let before = u64::from(layer) * len;
+        let in_layer = self.level_first(level) + texels * texel;
+        Places {
+            first: before + in_layer,
+            row: width * texel,
+            layer: len,
+        }
+    }
+
     /// How many levels each layer has.
     pub(crate) fn levels(&self) -> u32
         ensures count { result ≡ self.now.levels }
+        ensures shaped { bad_image self.now ≡ false }
         ensures above { 0 < result }
         ensures within { result ≤ 13 }
     {

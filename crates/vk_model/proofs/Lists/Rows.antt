@@ -1,5 +1,5 @@
 -- Lists of rows, each of which has as many items, as one list. Other crates cite it.
-use Rattle.std.proofs.Common.{◌≡◌, ℕ, zero, suc, ◌+◌, ◌*◌, ◌/◌, ◌%◌, ◌<◌, ◌≤◌, List, [], ◌∷◌, ◌++◌, map, refl, ap, sym, ◌∙◌, arith, add-zero, zero-add}
+use Rattle.std.proofs.Common.{◌≡◌, ℕ, zero, suc, ◌+◌, ◌*◌, ◌/◌, ◌%◌, ◌<◌, List, [], ◌∷◌, ◌++◌, map, refl, ap, sym, ◌∙◌, arith, add-zero, zero-add, append-nil}
 use Rattle.std.proofs.lemmas.Grind.{flat_map-append}
 use Rattle.std.proofs.lemmas.Nat.{div-mul-add, mod-mul-add}
 use Rattle.std.specs.List.{flat_map, range_with_len}
@@ -55,12 +55,35 @@ mapped_rows g m n =
     flat_same (λ i. map (λ j. g i j) (below n)) (λ i. flat_map (λ j. g i j ∷ []) (below n)) (below m) (λ i. sym (single (λ j. g i j) (below n)))
     ∙ flat_rows (λ i j. g i j ∷ []) 0 m n ∙ ap (λ (k : ℕ). flat_map (λ q. g (q / n) (q % n) ∷ []) (range_with_len k (m * n))) none ∙ single (λ k. g (k / n) (k % n)) (below (m * n))
 
--- what two functions make of numbers below n, where they make the same of each
-pub map_same : {X : Type 0} (f g : ℕ → X) (a n : ℕ) → ((k : ℕ) → a ≤ k → k < a + n → f k ≡ g k) → map f (range_with_len a n) ≡ map g (range_with_len a n)
-map_same f g a zero same = refl
-map_same {X} f g a (suc n) same =
-    ap (λ (x : X). x ∷ map f (range_with_len (a + 1) n)) (same a (omega arith) (omega arith))
-    ∙ ap (λ (xs : List X). g a ∷ xs) (map_same f g (a + 1) n (λ k low high. same k (omega arith) (omega arith)))
+-- the same of maps
+pub map_shifted : {X : Type 0} (f g : ℕ → X) (a b n : ℕ) → ((k : ℕ) → k < n → f (a + k) ≡ g (b + k)) → map f (range_with_len a n) ≡ map g (range_with_len b n)
+map_shifted f g a b zero same = refl
+map_shifted {X} f g a b (suc n) same =
+    let here : f a ≡ g b = ap f (sym (add-zero a)) ∙ same 0 (omega arith) ∙ ap g (add-zero b) in
+    ap (λ (x : X). x ∷ map f (range_with_len (a + 1) n)) here
+    ∙ ap (λ (xs : List X). g b ∷ xs) (map_shifted f g (a + 1) (b + 1) n (λ k lt. ap f (next a k) ∙ same (suc k) (omega arith) ∙ ap g (sym (next b k))))
+  where
+    next : (i k : ℕ) → i + 1 + k ≡ i + suc k
+    next i k = omega arith
+
+-- and of numbers below n
+pub map_below : {X : Type 0} (f g : ℕ → X) (n : ℕ) → ((k : ℕ) → k < n → f k ≡ g k) → map f (below n) ≡ map g (below n)
+map_below f g n same = map_shifted f g 0 0 n (λ k lt. let at : 0 + k ≡ k = omega arith in rw at (same k lt))
 
 pub flat_below : {X : Type 0} (f g : ℕ → List X) (n : ℕ) → ((k : ℕ) → k < n → f k ≡ g k) → flat_map f (below n) ≡ flat_map g (below n)
 flat_below f g n same = flat_shifted f g 0 0 n (λ k lt. let at : 0 + k ≡ k = omega arith in rw at (same k lt))
+
+-- one number more
+pub flat_more : {X : Type 0} (f : ℕ → List X) (n : ℕ) → flat_map f (below (n + 1)) ≡ flat_map f (below n) ++ f n
+flat_more f n =
+    let at : 0 + n ≡ n = omega arith in
+    ap (λ (l : List ℕ). flat_map f l) (range_append 0 n 1) ∙ flat_map-append f (below n) (range_with_len (0 + n) 1) ∙ rw at (ap (λ l. flat_map f (below n) ++ l) (append-nil (f n)))
+
+-- lists of lists
+pub flat_flat : {A B X : Type 0} (g : B → List X) (f : A → List B) (xs : List A) → flat_map g (flat_map f xs) ≡ flat_map (λ x. flat_map g (f x)) xs
+flat_flat g f [] = refl
+flat_flat {A} {B} {X} g f (x ∷ xs) = flat_map-append g (f x) (flat_map f xs) ∙ ap (λ (l : List X). flat_map g (f x) ++ l) (flat_flat g f xs)
+
+pub flat_mapped : {A B X : Type 0} (g : B → List X) (f : A → B) (xs : List A) → flat_map g (map f xs) ≡ flat_map (λ x. g (f x)) xs
+flat_mapped g f [] = refl
+flat_mapped {A} {B} {X} g f (x ∷ xs) = ap (λ (l : List X). g (f x) ++ l) (flat_mapped g f xs)

@@ -1,6 +1,5 @@
-use Rattle.std.proofs.Common.{◌≡◌, arith, get_or, ap, ◌∙◌}
+use Rattle.std.proofs.Common.{arith}
 use Rattle.vk_image_tiles.proofs.LevelBounds.{counts}
-use Rattle.vk_image_bytes.specs.Numbers.{level_first}
 use Rattle.vk_image_bytes.proofs.Keeping.{kept_at}
 use Rattle.vk_image_bytes.proofs.Levels.{level_rises}
 use Rattle.vk_image_bytes.proofs.image_bytes.ImageBytes.level_first.Goals as goal

@@ -1,4 +1,4 @@
-use Rattle.std.proofs.Common.{◌≡◌, ap, arith, ◌∙◌, sym}
+use Rattle.std.proofs.Common.{arith, ◌∙◌}
 use Rattle.vk_image_bytes.proofs.Spans.{Clipped, parts_are, whole_are}
 use Rattle.vk_image_bytes.proofs.image_bytes.ImageBytes.ranges.Goals as goal
 
