@@ -1,4 +1,3 @@
-pub mod Changes
 pub mod PastLemmas
 pub mod SignalSteps
 pub mod NextPoint
@@ -8,5 +7,4 @@ pub mod AccessSteps
 pub mod CacheSteps
 pub mod CopySteps
 pub mod PassSteps
-pub mod Searches
 pub mod Stretches

@@ -20,12 +20,13 @@ use Rattle.vk_model.specs.Trace.Point.{Past}
 use Rattle.vk_history.specs.declared.contents.BufferContents.{BufferContents}
 use Rattle.vk_history.specs.declared.contents.Contents.{Contents}
 use Rattle.vk_history.specs.declared.stretches.Stretch.{Stretch}
-use Rattle.vk_history.specs.declared.touches.LastTouches.{LastTouches}
-use Rattle.vk_history.specs.declared.touches.Spot.{Spot}
-use Rattle.vk_history.specs.declared.touches.Touch.{Touch}
-use Rattle.vk_history.specs.declared.touches.Touch.TheVariants as touch
-use Rattle.vk_history.specs.Remembered.{untouched, with_touch, with_flush, with_invalidation}
-use Rattle.vk_history.specs.Touched.{touched}
+use Rattle.vk_touches.specs.declared.touches.LastTouches.{LastTouches}
+use Rattle.vk_touches.specs.declared.touches.Spot.{Spot}
+use Rattle.vk_touches.specs.declared.touches.Touch.{Touch}
+use Rattle.vk_touches.specs.declared.touches.Touch.TheVariants as touch
+use Rattle.vk_touches.specs.Remembered.{untouched}
+use Rattle.vk_touches.specs.TouchedRanges.{touching, flushing, invalidating, sees_at, reads_at, writes_at}
+use Rattle.vk_touches.specs.Touched.{touched}
 
 -- ---- changes
 
@@ -65,25 +66,9 @@ assigns test value k d = if test k then value else d
 abbrev pub defines : (ℕ → Bool) → ℕ → Bool → Bool
 defines test = assigns test true
 
--- What a byte remembers, where one that passes a test was touched by the node of a spot.
-abbrev pub touching : (ℕ → Bool) → Touch → Spot → ℕ → LastTouches → LastTouches
-touching test way s k t = if test k then with_touch t way s else t
-
--- What a byte remembers, where the host entry of a spot has flushed one that passes a test.
-abbrev pub flushing : (ℕ → Bool) → Spot → ℕ → LastTouches → LastTouches
-flushing test s k t = if test k then with_flush t s else t
-
--- What a byte remembers, where a host entry has invalidated one that passes a test, and sees its last write by a command where another test says so.
-abbrev pub invalidating : (ℕ → Bool) → (ℕ → Bool) → ℕ → LastTouches → LastTouches
-invalidating test sees k t = if test k then with_invalidation t (sees k) else t
-
 -- Whether it is so of a byte.
 abbrev pub is_on : List Bool → ℕ → Bool
 is_on xs k = holds (slice_get xs k) (λ d. d)
-
--- Whether a byte is remembered as one whose last invalidation sees its last write by a command.
-abbrev pub sees_at : List LastTouches → ℕ → Bool
-sees_at ts k = holds (slice_get ts k) (λ t. t.is_invalidated)
 
 -- Whether a use by a family loses all.
 abbrev pub is_lost : BufferContents → ℕ → Bool
@@ -131,22 +116,7 @@ pub record AreLost (new old dirty : List Bool) (low high : ℕ) : Type 0 where
   pub size : length new ≡ length old
   pub values : (k : ℕ) → slice_get new k ≡ option_map (assigns (dirty_between dirty low high) false k) (slice_get old k)
 
--- After the bytes from one on and below another were invalidated, of which what is remembered says whether their last writes are seen.
-pub record AreInvalidated (sees : ℕ → Bool → LastTouches → Type 0) (old new : List LastTouches) (low high : ℕ) : Type 0 where
-  pub further : low < high
-  pub inside : (k : ℕ) (t : LastTouches) → low ≤ k → k < high → slice_get old k ≡ Some t → (answer : Bool) × (slice_get new k ≡ Some (with_invalidation t answer)) × sees k answer t
-  pub before : (k : ℕ) → k < low → slice_get new k ≡ slice_get old k
-  pub after : (k : ℕ) → high ≤ k → slice_get new k ≡ slice_get old k
-
 -- ---- copies
-
--- Whether some region of a copy reads byte k.
-abbrev pub reads_at : List BufferCopy → ℕ → Bool
-reads_at gs k = list_any (λ g. within g.source_offset g.size k) gs
-
--- Whether some region of a copy writes byte k.
-abbrev pub writes_at : List BufferCopy → ℕ → Bool
-writes_at gs k = list_any (λ g. within g.destination_offset g.size k) gs
 
 -- Whether a stretch has byte k of the destination.
 abbrev pub has_place : ℕ → Stretch → Bool

@@ -1,13 +1,10 @@
 pub mod Supported
 pub mod PointViews
 pub mod Judged
-pub mod Remembered
-pub mod Touched
 pub mod Made
 pub mod Ended
 pub mod Contents
 pub mod Changes
-pub mod Conflicts
 pub mod Layouts
 pub mod Counted
 pub mod Uses

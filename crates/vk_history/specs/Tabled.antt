@@ -22,7 +22,7 @@ use Rattle.vk_history.specs.Counted.{AreMappings, AreOccupants, AreDefrags}
 use Rattle.vk_history.specs.Ended.{AreEndings}
 use Rattle.vk_history.specs.Layouts.{AreCurrent}
 use Rattle.vk_history.specs.Made.{Numbered, last_maker, Set, last_set}
-use Rattle.vk_history.specs.Touched.{last_signaler, signal_spot}
+use Rattle.vk_touches.specs.Touched.{last_signaler, signal_spot}
 use Rattle.vk_history.specs.Uses.{AreUses}
 use Rattle.vk_history.specs.Owners.{AreOwners}
 

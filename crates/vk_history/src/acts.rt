@@ -1,6 +1,6 @@
 ghost use Rattle.std.specs.Prelude.{◌≡◌};
 ghost use Rattle.vk_order.specs.PointViews.{act_of, action_of};
-ghost use Rattle.vk_history.specs.Touched.{act_next};
+ghost use Rattle.vk_touches.specs.Touched.{act_next};
 
 use vk_order::{Act, Action, Point};
 

@@ -11,26 +11,27 @@ ghost use Rattle.vk_model.specs.World.Ownership.{family_of};
 ghost use Rattle.vk_layouts.specs.Owned.{transfer_of};
 ghost use Rattle.vk_order.specs.Frontiers.{IsFrontier};
 ghost use Rattle.vk_order.specs.PointViews.{point_of};
-ghost use Rattle.vk_history.specs.Conflicts.{SeesWrite};
+ghost use Rattle.vk_touches.specs.Conflicts.{SeesWrite};
 ghost use Rattle.vk_history.specs.Judged.{IsJudged};
 ghost use Rattle.vk_history.specs.Tabled.{AreObjects};
-ghost use Rattle.vk_history.specs.Touched.{next_spot};
+ghost use Rattle.vk_touches.specs.Touched.{next_spot};
 ghost use Rattle.vk_history.specs.Contents.{AreContents, AreAllAt, AreOnBuffers, IsPassed, is_on_buffer, IsMade, IsTaken, IsRead, IsSet, IsFlushed, IsInvalidated, IsWritten, IsLent, IsPasted, BecomesIn, IsWrittenBy, IsLentWith};
 
-use crate::accesses::BufferAccess;
 use crate::acts::act_of;
 use crate::changes::{Change, change_by};
 use crate::families::family_of;
 use crate::objects::Objects;
-use crate::ranges::{assign, touch};
-use crate::stretches::{Stretch, copies, define_all, touch_destinations, touch_sources};
-use crate::touches::{LastTouches, Spot, Touch};
+use crate::ranges::assign;
+use crate::stretches::{Stretch, copies, define_all};
 use std::alloc::{AllocError, Global};
 use std::collections::BTreeMap;
 use vk_layouts::Transfer;
 use vk_model::{BufferCopy, BufferInfo, Element, Length, Sharing};
 use vk_order::{Access, Frontier, Point};
 use vk_ranges::RangeMap;
+use vk_touches::{
+    BufferAccess, LastTouches, Spot, Touch, touch, touch_destinations, touch_sources,
+};
 
 /// What is known of the bytes of a buffer.
 #[derive(Drop)]

@@ -17,15 +17,14 @@ ghost use Rattle.vk_history.specs.PointViews.{past};
 ghost use Rattle.vk_history.specs.Judged.{IsJudged};
 ghost use Rattle.vk_history.specs.Ended.{first_end};
 ghost use Rattle.vk_history.specs.Made.{last_maker, last_set, earlier_than};
-ghost use Rattle.vk_history.specs.Touched.{last_signaler, signal_spot, next_node, act_next};
-ghost use Rattle.vk_history.specs.Conflicts.{IsAccess};
+ghost use Rattle.vk_touches.specs.Touched.{last_signaler, signal_spot, next_node, act_next};
+ghost use Rattle.vk_touches.specs.Conflicts.{IsAccess};
 ghost use Rattle.vk_history.specs.Contents.{AreContentsIn};
 ghost use Rattle.vk_history.specs.Tabled.{spot_view, set_view, maker_view};
 
 mod pools;
 mod resources;
 
-use crate::accesses::BufferAccess;
 use crate::acts::act_of;
 use crate::contents::BufferContents;
 use crate::events::EventSet;
@@ -37,6 +36,7 @@ use std::alloc::{AllocError, Global};
 use std::marker::Model;
 use vk_model::{BufferInfo, Entry, ImageInfo, MemoryInfo, Place, PoolInfo};
 use vk_order::{Access, Action, Point, Sight};
+use vk_touches::BufferAccess;
 
 /// What has happened: the first `count` of the points, which break no rule. What the rules ask of it
 /// is kept in tables.

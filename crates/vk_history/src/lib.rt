@@ -5,7 +5,6 @@
 //! which layouts images are, and which bytes are defined and were accessed by whom.
 #![tactic(auto)]
 
-mod accesses;
 mod acts;
 mod bound;
 mod changes;
@@ -17,7 +16,6 @@ mod endings;
 mod events;
 mod families;
 mod flushes;
-mod found;
 mod history;
 mod last_uses;
 mod layouts;
@@ -25,7 +23,6 @@ mod mappings;
 mod objects;
 mod occupants;
 mod owners;
-mod parts;
 mod passes;
 mod places;
 mod ranges;
@@ -34,17 +31,14 @@ mod semaphores;
 mod stretches;
 mod supported;
 mod tables;
-mod touches;
 mod used;
 mod uses;
 
-pub use accesses::BufferAccess;
 pub use changes::{Change, change_by};
 pub use contents::BufferContents;
 pub use elements::is_transition;
 pub use events::EventSet;
 pub use families::family_of;
-pub use found::Conflicts;
 pub use history::History;
 pub use owners::{Owned, Release};
 pub use semaphores::{Signals, signal_of};

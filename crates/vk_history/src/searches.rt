@@ -1,12 +1,9 @@
 ghost use Rattle.std.specs.Prelude.{◌≡◌, ◌+◌, ◌≤◌, not, length};
-ghost use Rattle.vk_order.specs.declared.lines.Line.TheVariants.{Host as OfHost};
-ghost use Rattle.vk_history.specs.Conflicts.{Misses, MissesRead, MissesWrite, IsEarly, HasEarlyRead, HasEarlyCommand, IsRefused, SaysFollows, FoundIn, FoundAt};
+ghost use Rattle.vk_touches.specs.Conflicts.{Misses, MissesRead, MissesWrite, IsEarly, HasEarlyCommand, FoundIn, FoundAt};
 
-use crate::accesses::BufferAccess;
 use crate::contents::BufferContents;
-use crate::parts::Part;
-use crate::touches::{LastTouches, QueueReads};
-use vk_order::{Line, Sight};
+use vk_order::Sight;
+use vk_touches::{BufferAccess, Part, has_early_read, is_early};
 
 impl BufferContents {
     /// Whether a byte of a range has a last write, by a command or the host, that an access by a
@@ -68,33 +65,5 @@ impl BufferContents {
         self.defined
             .find(part.low, part.high, |is_defined| !*is_defined)
             .is_some()
-    }
-}
-
-fn is_early(last: &LastTouches, sight: &Sight) -> bool
-    ensures { IsEarly sight.now result last.now }
-{
-    let of_host = is_ahead(last.host_read, sight, Line::Host);
-    let of_commands = has_early_read(&last.reads, sight);
-    of_host || of_commands
-}
-
-fn has_early_read(reads: &QueueReads, sight: &Sight) -> bool
-    ensures { HasEarlyRead sight.now result reads.now }
-{
-    let on_first = is_ahead(reads.first, sight, Line::Commands(0));
-    let on_second = is_ahead(reads.second, sight, Line::Commands(1));
-    let on_third = is_ahead(reads.third, sight, Line::Commands(2));
-    let on_fourth = is_ahead(reads.fourth, sight, Line::Commands(3));
-    on_first || on_second || on_third || on_fourth
-}
-
-/// Whether there is a node of a line that doesn't come before.
-fn is_ahead(last: Option<usize>, sight: &Sight, line: Line) -> bool
-    ensures { IsRefused (SaysFollows sight.now line) result last }
-{
-    match last {
-        Some(place) => !sight.follows(line, place),
-        None => false,
     }
 }

@@ -7,7 +7,7 @@ ghost use Rattle.vk_model.specs.Trace.Point.{Past};
 ghost use Rattle.vk_model.specs.Trace.Order.{signaled, signal_of};
 ghost use Rattle.vk_model.specs.Sync.Node.{nodes};
 ghost use Rattle.vk_order.specs.PointViews.{point_of, action_of};
-ghost use Rattle.vk_history.specs.Touched.{last_signaler, class_next, next_place, signal_spot};
+ghost use Rattle.vk_touches.specs.Touched.{last_signaler, class_next, next_place, signal_spot};
 ghost use Rattle.vk_history.specs.Tabled.{AreSemaphores, spot_view, greatest_of};
 
 use std::alloc::{AllocError, Global};

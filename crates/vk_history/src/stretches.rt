@@ -1,13 +1,11 @@
 ghost use Rattle.std.specs.Prelude.{◌≡◌, ◌+◌, ◌≤◌, ◌∷◌, [], ℕ, OnOk, IfOk, length, slice_get, unwrap_or};
 ghost use Rattle.std.specs.Option.{option_map, option_or};
-ghost use Rattle.vk_history.specs.Contents.{AreCopied, touching, reads_at, writes_at, stretch_at, copied_at};
+ghost use Rattle.vk_history.specs.Contents.{AreCopied, stretch_at, copied_at};
 
-use crate::parts::Part;
-use crate::ranges::touch;
-use crate::touches::{LastTouches, Spot, Touch};
 use std::alloc::{AllocError, Global};
 use vk_model::BufferCopy;
 use vk_ranges::RangeMap;
+use vk_touches::Part;
 
 /// Bytes in a row that a region of a copy takes from its source, and whether they are defined there.
 #[derive(Clone, Copy)]
@@ -84,36 +82,4 @@ fn define_stretch(defined: &mut RangeMap<bool>, stretch: &Stretch) -> Result<(),
         defined.len(),
     );
     defined.assign(part.low, part.high, stretch.is_defined)
-}
-
-/// Remembers that the node of a spot has touched what the regions of a copy read.
-pub fn touch_sources(
-    touches: &mut RangeMap<LastTouches>,
-    regions: &[BufferCopy],
-    way: Touch,
-    spot: Spot,
-) -> Result<(), AllocError>
-    ensures len { length touches.new ≡ length touches.old }
-    ensures values { OnOk result ((k : ℕ) → slice_get touches.new k ≡ option_map (touching (reads_at regions.now) way spot k) (slice_get touches.old k)) }
-{
-    for region in regions {
-        touch(touches, region.source_offset, region.size, way, spot)?;
-    }
-    Ok(())
-}
-
-/// Remembers that it has touched what they write.
-pub fn touch_destinations(
-    touches: &mut RangeMap<LastTouches>,
-    regions: &[BufferCopy],
-    way: Touch,
-    spot: Spot,
-) -> Result<(), AllocError>
-    ensures len { length touches.new ≡ length touches.old }
-    ensures values { OnOk result ((k : ℕ) → slice_get touches.new k ≡ option_map (touching (writes_at regions.now) way spot k) (slice_get touches.old k)) }
-{
-    for region in regions {
-        touch(touches, region.destination_offset, region.size, way, spot)?;
-    }
-    Ok(())
 }

@@ -2,7 +2,7 @@ ghost use Rattle.std.specs.Prelude.{◌≡◌, ◌∷◌, OnOk, []};
 ghost use Rattle.vk_model.specs.Trace.Point.{Past};
 ghost use Rattle.vk_order.specs.PointViews.{point_of};
 ghost use Rattle.vk_history.specs.Judged.{IsJudged};
-ghost use Rattle.vk_history.specs.Touched.{class_next};
+ghost use Rattle.vk_touches.specs.Touched.{class_next};
 ghost use Rattle.vk_history.specs.Tabled.{IsTabled};
 
 use crate::bound::BoundMemories;
@@ -16,10 +16,10 @@ use crate::objects::Objects;
 use crate::occupants::Occupants;
 use crate::owners::Owners;
 use crate::semaphores::Semaphores;
-use crate::touches::Spot;
 use crate::uses::Uses;
 use std::alloc::{AllocError, Global};
 use vk_order::{Action, Frontier, Line, Point};
+use vk_touches::Spot;
 
 /// What is asked of the past.
 #[derive(Drop)]

@@ -6,7 +6,7 @@ ghost use Rattle.vk_model.specs.Sync.Node.{nodes, Hosts};
 ghost use Rattle.vk_model.specs.Sync.Complete as complete;
 ghost use Rattle.vk_order.specs.PointViews.{point_of};
 ghost use Rattle.vk_order.specs.Frontiers.{IsFrontier, IsSight};
-ghost use Rattle.vk_history.specs.Touched.{next_node};
+ghost use Rattle.vk_touches.specs.Touched.{next_node};
 ghost use Rattle.vk_history.specs.Counted.{count_at};
 ghost use Rattle.vk_history.specs.Uses.{AreUses, times_submitted};
 

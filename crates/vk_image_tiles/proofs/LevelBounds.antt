@@ -25,18 +25,43 @@ counted most n inside =
     let some = eqb-false n 0 parts.0 in
     record { some = omega arith; few = ltb-false most n parts.1 }
 
+-- ---- how many levels
+
+one_at_most : (b : Bool) → (if b then 1 else 0) ≤ 1
+one_at_most true = omega arith
+one_at_most false = omega arith
+
+single : (i : ImageInfo) → bad_levels kind.Linear i ≡ false → i.levels ≡ 1
+single i good = eqb-true i.levels 1 (both (i.levels == 1) (i.layers == 1) good)
+  where
+    both : (a b : Bool) → not (a && b) ≡ false → a ≡ true
+    both true b e = refl
+    both false b e = absurd cc
+
+thirteen : (w h : ℕ) → most_levels w h ≤ 13
+thirteen w h =
+    let one : (k : ℕ) → (if nat_le (2 ^ k) (max w h) then 1 else 0) ≤ 1 = λ k. one_at_most (nat_le (2 ^ k) (max w h)) in
+    omega (arith, one 0, one 1, one 2, one 3, one 4, one 5, one 6, one 7, one 8, one 9, one 10, one 11, one 12)
+
+levels_counted : (k : Kind) (i : ImageInfo) → bad_levels k i ≡ false → Counted 13 i.levels
+levels_counted kind.Linear i good = let one = single i good in record { some = omega arith; few = omega arith }
+levels_counted kind.Optimal i good =
+    let c = counted (most_levels i.width i.height) i.levels good in
+    record { some = c.some; few = omega (arith, c.few, thirteen i.width i.height) }
+
 -- the counts of an image of a good shape
 pub record IsCounted (i : ImageInfo) : Type 0 where
   pub width : Counted 4096 i.width
   pub height : Counted 4096 i.height
   pub layers : Counted 256 i.layers
+  pub levels : Counted 13 i.levels
 
 pub counts : (i : ImageInfo) → bad_image i ≡ false → IsCounted i
 counts i good =
     let three = or_parts (is_outside 4096 i.width || is_outside 4096 i.height || is_outside 256 i.layers) (bad_levels i.tiling i) good in
     let two = or_parts (is_outside 4096 i.width || is_outside 4096 i.height) (is_outside 256 i.layers) three.0 in
     let one = or_parts (is_outside 4096 i.width) (is_outside 4096 i.height) two.0 in
-    record { width = counted 4096 i.width one.0; height = counted 4096 i.height one.1; layers = counted 256 i.layers two.1 }
+    record { width = counted 4096 i.width one.0; height = counted 4096 i.height one.1; layers = counted 256 i.layers two.1; levels = levels_counted i.tiling i three.1 }
 
 pub some_bytes : (f : Format) → 0 < texel f
 some_bytes format.R8Uint = omega arith
@@ -70,31 +95,9 @@ level_within i k good =
     let texels : tiles_across i k * tiles_down i k * 64 ≤ 512 * 512 * 64 = mul-le (tiles_across i k * tiles_down i k) 64 (512 * 512) 64 tiles (omega arith) in
     rounded (tiles_across i k * tiles_down i k * 64 * texel i.format) (mul-le (tiles_across i k * tiles_down i k * 64) (texel i.format) (512 * 512 * 64) 16 texels (few_bytes i.format))
 
--- ---- how many levels
-
-one_at_most : (b : Bool) → (if b then 1 else 0) ≤ 1
-one_at_most true = omega arith
-one_at_most false = omega arith
-
-single : (i : ImageInfo) → bad_levels kind.Linear i ≡ false → i.levels ≡ 1
-single i good = eqb-true i.levels 1 (both (i.levels == 1) (i.layers == 1) good)
-  where
-    both : (a b : Bool) → not (a && b) ≡ false → a ≡ true
-    both true b e = refl
-    both false b e = absurd cc
-
-thirteen : (w h : ℕ) → most_levels w h ≤ 13
-thirteen w h =
-    let one : (k : ℕ) → (if nat_le (2 ^ k) (max w h) then 1 else 0) ≤ 1 = λ k. one_at_most (nat_le (2 ^ k) (max w h)) in
-    omega (arith, one 0, one 1, one 2, one 3, one 4, one 5, one 6, one 7, one 8, one 9, one 10, one 11, one 12)
-
-levels_counted : (k : Kind) (i : ImageInfo) → bad_levels k i ≡ false → i.levels ≤ 13
-levels_counted kind.Linear i good = let one = single i good in omega arith
-levels_counted kind.Optimal i good = omega (arith, (counted (most_levels i.width i.height) i.levels good).few, thirteen i.width i.height)
-
--- levels and layers of a good shape
+-- a level of a good shape
 pub few_levels : (i : ImageInfo) (level : ℕ) → bad_image i ≡ false → level < i.levels → level ≤ 13
-few_levels i level good there = omega (arith, levels_counted i.tiling i (or_parts (is_outside 4096 i.width || is_outside 4096 i.height || is_outside 256 i.layers) (bad_levels i.tiling i) good).1)
+few_levels i level good there = omega (arith, (counts i good).levels.few)
 
 -- where the next level starts
 pub starts_more : (f : ℕ → ℕ) (starts : List ℕ) (n v : ℕ) → ((k : ℕ) → k ≤ n → get_or starts k 0 ≡ sum_by f (below k)) → n + 1 < length starts → v ≡ get_or starts n 0 + f n

@@ -2,3 +2,4 @@ pub mod Truths
 pub mod Members
 pub mod Pairs
 pub mod Grids
+pub mod Rows

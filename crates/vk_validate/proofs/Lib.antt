@@ -1,6 +1,5 @@
 pub mod Points
 pub mod Making
-pub mod Touching
 pub mod Transitions
 pub mod Judging
 pub mod Writing

@@ -8,7 +8,7 @@ ghost use Rattle.vk_history.specs.Supported.{is_supported_action};
 ghost use Rattle.vk_history.specs.PointViews.{past};
 ghost use Rattle.vk_history.specs.Judged.{early_rules, late_rules, first_among};
 ghost use Rattle.vk_validate.specs.Inner.Early.{breaks_early, AreSearched};
-ghost use Rattle.vk_history.specs.Conflicts.{AreConflicts};
+ghost use Rattle.vk_touches.specs.Conflicts.{AreConflicts};
 
 mod binding;
 mod hazards;
@@ -24,9 +24,10 @@ mod synchronization;
 mod traces;
 
 use std::alloc::AllocError;
-use vk_history::{Conflicts, History};
+use vk_history::History;
 use vk_model::Rule;
 use vk_order::Point;
+use vk_touches::Conflicts;
 
 /// Whether a point breaks the rules that need memory to be judged.
 #[derive(Clone, Copy)]

@@ -23,20 +23,21 @@ use Rattle.vk_model.specs.Sync.Access.{is_in, targets, origins, bytes_of, host_r
 use Rattle.vk_model.proofs.Lists.Members.{contains-head}
 use Rattle.vk_history.specs.declared.contents.BufferContents.{BufferContents}
 use Rattle.vk_history.specs.declared.contents.Contents.{Contents}
-use Rattle.vk_history.specs.declared.touches.Touch.{Touch}
-use Rattle.vk_history.specs.declared.touches.Touch.TheVariants as touch
+use Rattle.vk_touches.specs.declared.touches.Touch.{Touch}
+use Rattle.vk_touches.specs.declared.touches.Touch.TheVariants as touch
 use Rattle.vk_history.specs.Supported.{is_supported_action, is_supported_entry}
 use Rattle.vk_history.specs.Judged.{IsJudged}
-use Rattle.vk_history.specs.Remembered.{with_touch}
-use Rattle.vk_history.specs.Touched.{touches, touched, next_spot}
-use Rattle.vk_history.specs.Contents.{AreContents, AreContentsIn, BecomesIn, IsRead, IsSet, IsWritten, IsWrittenBy, is_defined, is_defined_in, is_dirty, as_before, assigns, defines, touching, left_of, owner_after, holder_of}
+use Rattle.vk_touches.specs.Remembered.{with_touch}
+use Rattle.vk_touches.specs.Touched.{touches, touched, next_spot}
+use Rattle.vk_history.specs.Contents.{AreContents, AreContentsIn, BecomesIn, IsRead, IsSet, IsWritten, IsWrittenBy, is_defined, is_defined_in, is_dirty, as_before, assigns, defines, left_of, owner_after, holder_of}
+use Rattle.vk_touches.specs.TouchedRanges.{touching}
 use Rattle.vk_history.specs.declared.changes.Change.TheVariants as change
 use Rattle.vk_history.specs.Changes.{Fits, is_quiet}
 use Rattle.vk_history.proofs.Points.Forms.{entry_cases, command_cases, action_cases}
 use Rattle.vk_history.proofs.Points.Pasts.{supported-cons}
 use Rattle.vk_history.proofs.Points.Ranges.{byte_in, fill-targets, fill-origins, update-targets, update-origins}
 use Rattle.vk_history.proofs.Making.Worlds.{used_dirty, values_define, turned_about}
-use Rattle.vk_history.proofs.Touching.Remembering.{touched_by_host, touched_by_command, merged_host_read, merged_host_write, merged_command}
+use Rattle.vk_touches.proofs.Touching.Remembering.{touched_by_host, touched_by_command, merged_host_read, merged_host_write, merged_command}
 use Rattle.vk_history.proofs.Kept.NextPoint.{there_on_host, there_for_command}
 use Rattle.vk_history.proofs.Kept.ContentSteps.{IsStill, still_here, untouched, one_changed, next_of, of_contents, taken_owner, left_is, used_apart}
 

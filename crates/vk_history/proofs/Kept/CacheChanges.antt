@@ -6,9 +6,10 @@ use Rattle.std.proofs.lemmas.Bool.{cases_lt, lt-ltb, le-leb, lt-leb, le-ltb}
 use Rattle.std.proofs.lemmas.Option.{slice_get_past, slice_get-get_or}
 use Rattle.vk_ranges.specs.Overlaps.{Piece, AreRunsOf}
 use Rattle.vk_model.specs.Basics.{holds, within}
-use Rattle.vk_history.specs.declared.touches.LastTouches.{LastTouches}
-use Rattle.vk_history.specs.Remembered.{untouched, with_invalidation}
-use Rattle.vk_history.specs.Contents.{assigns, invalidating, is_on, sees_at, dirty_between, AreLost, AreInvalidated}
+use Rattle.vk_touches.specs.declared.touches.LastTouches.{LastTouches}
+use Rattle.vk_touches.specs.Remembered.{untouched, with_invalidation}
+use Rattle.vk_history.specs.Contents.{assigns, is_on, dirty_between, AreLost}
+use Rattle.vk_touches.specs.TouchedRanges.{invalidating, sees_at, AreInvalidated}
 
 -- ---- what is lost
 
@@ -119,65 +120,3 @@ lost_where now old dirty low high test is all k = all.values k ∙ ap (λ (t : B
     both true false = refl
     both false true = refl
     both false false = refl
-
--- ---- what is remembered
-
-module _ (sees : ℕ → Bool → LastTouches → Type 0) where
-  -- of the bytes from one on and below another it is remembered
-  pub record AreInvalidatedTo (old new : List LastTouches) (low at : ℕ) : Type 0 where
-    pub above : low ≤ at
-    pub size : length new ≡ length old
-    pub inside : (k : ℕ) (t : LastTouches) → low ≤ k → k < at → slice_get old k ≡ Some t → (answer : Bool) × (slice_get new k ≡ Some (with_invalidation t answer)) × sees k answer t
-    pub before : (k : ℕ) → k < low → slice_get new k ≡ slice_get old k
-    pub after : (k : ℕ) → at ≤ k → slice_get new k ≡ slice_get old k
-
-  pub invalidated_start : (old : List LastTouches) (low : ℕ) → AreInvalidatedTo old old low low
-  invalidated_start old low = record { above = omega arith; size = refl; inside = λ k t from to. absurd (omega (arith, from, to)); before = λ k lt. refl; after = λ k ge. refl }
-
-  pub invalidated_next : (old now next : List LastTouches) (low at end : ℕ) → AreInvalidatedTo old now low at → length next ≡ length now → AreInvalidated sees now next at end → AreInvalidatedTo old next low end
-  invalidated_next old now next low at end so_far size one =
-      let above = so_far.above in
-      let further = one.further in
-      record {
-        above = omega (arith, above, further);
-        size = size ∙ so_far.size;
-        inside = λ k t from to was. ⊎_elim
-            (λ lt. let h = so_far.inside k t from lt was in (h.0, one.before k lt ∙ h.1, h.2))
-            (λ ge. one.inside k t ge to (so_far.after k ge ∙ was))
-            (cases_lt k at);
-        before = λ k lt. one.before k (omega (arith, above, lt)) ∙ so_far.before k lt;
-        after = λ k ge. one.after k ge ∙ so_far.after k (omega (arith, further, ge));
-      }
-
-  module _ (old new : List LastTouches) (low high : ℕ) (fits : high ≤ length old) (test : ℕ → Bool) (is : (k : ℕ) → k < length old → test k ≡ (nat_le low k && nat_lt k high)) (at : ℕ) (end : high ≤ at) (all : AreInvalidatedTo old new low at) (short : at ≤ high) where
-    there : (k : ℕ) (t : LastTouches) → slice_get old k ≡ Some t → k < length old
-    there k t e = ⊎_elim (λ lt. lt) (λ none. absurd (let bad : None ≡ Some t = sym (slice_get_past old k none) ∙ e in cc)) (cases_lt k (length old))
-
-    found : (k : ℕ) (t : LastTouches) → slice_get old k ≡ Some t → (b : Bool) → test k ≡ b → slice_get new k ≡ Some (if b then with_invalidation t (sees_at new k) else t)
-    found k t e b h = ⊎_elim
-        (λ lt. let f : false ≡ b = sym (is k (there k t e) ∙ rw (lt-leb low k lt) refl) ∙ h in rw (← f) (all.before k lt ∙ e))
-        (λ ge. ⊎_elim
-        (λ lt. let f : true ≡ b = sym (is k (there k t e) ∙ rw (le-leb low k ge, lt-ltb k high lt) refl) ∙ h in
-        let g = all.inside k t ge (omega (arith, lt, end)) e in
-        rw (← f) (g.1 ∙ ap (λ (r : Bool). Some (with_invalidation t r)) (sym (ap (λ (o : Option LastTouches). holds o (λ u. u.is_invalidated)) g.1))))
-        (λ past. let f : false ≡ b = sym (is k (there k t e) ∙ rw (le-leb low k ge, le-ltb k high past) refl) ∙ h in rw (← f) (all.after k (omega (arith, past, short)) ∙ e))
-        (cases_lt k high))
-        (cases_lt k low)
-
-    pub invalidated_values : (k : ℕ) → slice_get new k ≡ option_map (invalidating test (sees_at new) k) (slice_get old k)
-    invalidated_values k = go (slice_get old k) refl where
-      go : (o : Option LastTouches) → slice_get old k ≡ o → slice_get new k ≡ option_map (invalidating test (sees_at new) k) o
-      go None e = all.after k (⊎_elim
-          (λ lt. absurd (let bad : Some (get_or old k untouched) ≡ None = sym (slice_get-get_or old k untouched (omega (arith, lt, fits, short))) ∙ e in cc))
-          (λ ge. ge)
-          (cases_lt k at)) ∙ e
-      go (Some t) e = found k t e (test k) refl
-
-    pub invalidated_answers : (k : ℕ) (t : LastTouches) → test k ≡ true → slice_get old k ≡ Some t → sees k (sees_at new k) t
-    invalidated_answers k t h e = ⊎_elim
-        (λ lt. absurd (let bad : false ≡ true = sym (is k (there k t e) ∙ rw (lt-leb low k lt) refl) ∙ h in cc))
-        (λ ge. ⊎_elim
-        (λ lt. let g = all.inside k t ge (omega (arith, lt, end)) e in subst (λ (r : Bool). sees k r t) (sym (ap (λ (o : Option LastTouches). holds o (λ u. u.is_invalidated)) g.1)) g.2)
-        (λ past. absurd (let bad : false ≡ true = sym (is k (there k t e) ∙ rw (le-leb low k ge, le-ltb k high past) refl) ∙ h in cc))
-        (cases_lt k high))
-        (cases_lt k low)

@@ -25,17 +25,18 @@ use Rattle.vk_order.specs.Wide.{is_answered}
 use Rattle.vk_order.specs.Inner.Clocks.{place}
 use Rattle.vk_order.specs.declared.access.Access.{Access}
 use Rattle.vk_order.specs.declared.access.Access.TheVariants as access
-use Rattle.vk_history.specs.declared.accesses.BufferAccess.{BufferAccess}
+use Rattle.vk_touches.specs.declared.accesses.BufferAccess.{BufferAccess}
 use Rattle.vk_history.specs.declared.contents.BufferContents.{BufferContents}
 use Rattle.vk_history.specs.declared.contents.Contents.{Contents}
-use Rattle.vk_history.specs.declared.touches.Touch.TheVariants as touch
+use Rattle.vk_touches.specs.declared.touches.Touch.TheVariants as touch
 use Rattle.vk_history.specs.Judged.{IsJudged}
-use Rattle.vk_history.specs.Conflicts.{SaysSeen, SeesWrite}
-use Rattle.vk_history.specs.Touched.{touched, next_spot, next_node, act_next, last_touch, spot_of}
-use Rattle.vk_history.specs.Contents.{AreContents, AreContentsOf, BecomesIn, IsFlushed, IsInvalidated, holder_of, is_defined, is_dirty, is_on, sees_at, as_before, assigns, flushing, invalidating}
+use Rattle.vk_touches.specs.Conflicts.{SaysSeen, SeesWrite}
+use Rattle.vk_touches.specs.Touched.{touched, next_spot, next_node, act_next, last_touch, spot_of}
+use Rattle.vk_history.specs.Contents.{AreContents, AreContentsOf, BecomesIn, IsFlushed, IsInvalidated, holder_of, is_defined, is_dirty, is_on, as_before, assigns}
+use Rattle.vk_touches.specs.TouchedRanges.{sees_at, flushing, invalidating}
 use Rattle.vk_history.proofs.Making.Worlds.{turned_about}
-use Rattle.vk_history.proofs.Touching.Flushing.{writer_is}
-use Rattle.vk_history.proofs.Touching.Remembering.{touched_by_flush, touched_by_invalidation}
+use Rattle.vk_touches.proofs.Touching.Flushing.{writer_is}
+use Rattle.vk_touches.proofs.Touching.Remembering.{touched_by_flush, touched_by_invalidation}
 use Rattle.vk_history.proofs.Kept.NextPoint.{there_on_host}
 use Rattle.vk_history.proofs.Kept.ContentSteps.{one_changed, next_of}
 

@@ -23,14 +23,14 @@ use Rattle.vk_model.specs.Trace.Point.{Past, Point, Action, Host, host_of, entri
 use Rattle.vk_model.proofs.Lists.Truths.{clash, bool_same}
 use Rattle.vk_history.specs.declared.contents.BufferContents.{BufferContents}
 use Rattle.vk_history.specs.declared.contents.Contents.{Contents}
-use Rattle.vk_history.specs.declared.touches.LastTouches.{LastTouches}
-use Rattle.vk_history.specs.declared.touches.Touch.{Touch}
-use Rattle.vk_history.specs.declared.touches.Touch.TheVariants as touch
+use Rattle.vk_touches.specs.declared.touches.LastTouches.{LastTouches}
+use Rattle.vk_touches.specs.declared.touches.Touch.{Touch}
+use Rattle.vk_touches.specs.declared.touches.Touch.TheVariants as touch
 use Rattle.vk_history.specs.Judged.{IsJudged}
-use Rattle.vk_history.specs.Touched.{touches, touched, act_next}
+use Rattle.vk_touches.specs.Touched.{touches, touched, act_next}
 use Rattle.vk_history.specs.Contents.{AreContents, AreContentsIn, AreContentsOf, IsFresh, IsMade, IsChanged, BecomesIn, is_lost, left_of, owner_after, holder_of, is_defined, is_defined_in, is_dirty}
 use Rattle.vk_history.proofs.Making.Worlds.{used_owner, used_value, loses}
-use Rattle.vk_history.proofs.Touching.Remembering.{touched_by_none}
+use Rattle.vk_touches.proofs.Touching.Remembering.{touched_by_none}
 use Rattle.vk_history.proofs.Kept.NextPoint.{judged_rest, made_kept, was_unmade}
 
 -- ---- contents and a world

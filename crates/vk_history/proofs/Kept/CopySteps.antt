@@ -21,15 +21,16 @@ use Rattle.vk_model.proofs.Lists.Truths.{clash}
 use Rattle.vk_history.specs.declared.contents.BufferContents.{BufferContents}
 use Rattle.vk_history.specs.declared.contents.Contents.{Contents}
 use Rattle.vk_history.specs.declared.stretches.Stretch.{Stretch}
-use Rattle.vk_history.specs.declared.touches.LastTouches.{LastTouches}
-use Rattle.vk_history.specs.declared.touches.Touch.TheVariants as touch
+use Rattle.vk_touches.specs.declared.touches.LastTouches.{LastTouches}
+use Rattle.vk_touches.specs.declared.touches.Touch.TheVariants as touch
 use Rattle.vk_history.specs.Judged.{IsJudged}
-use Rattle.vk_history.specs.Remembered.{with_touch}
-use Rattle.vk_history.specs.Touched.{touched, next_spot}
-use Rattle.vk_history.specs.Contents.{AreContents, AreContentsIn, AreContentsOf, IsChanged, BecomesIn, IsLent, IsLentWith, IsPasted, AreCopied, ReadWithin, as_before, is_defined, is_defined_in, is_dirty, stretch_at, reads_at, writes_at, touching, left_of, holder_of, owner_after}
+use Rattle.vk_touches.specs.Remembered.{with_touch}
+use Rattle.vk_touches.specs.Touched.{touched, next_spot}
+use Rattle.vk_history.specs.Contents.{AreContents, AreContentsIn, AreContentsOf, IsChanged, BecomesIn, IsLent, IsLentWith, IsPasted, AreCopied, ReadWithin, as_before, is_defined, is_defined_in, is_dirty, stretch_at, left_of, holder_of, owner_after}
+use Rattle.vk_touches.specs.TouchedRanges.{reads_at, writes_at, touching}
 use Rattle.vk_history.proofs.Points.Ranges.{copy-targets, copy-origins}
 use Rattle.vk_history.proofs.Making.Worlds.{copy_leaves, used_owner, used_value, used_dirty, loses, turned_about}
-use Rattle.vk_history.proofs.Touching.Remembering.{touched_by_command, merged_command}
+use Rattle.vk_touches.proofs.Touching.Remembering.{touched_by_command, merged_command}
 use Rattle.vk_history.proofs.Kept.NextPoint.{there_for_command, copy_source}
 use Rattle.vk_history.proofs.Kept.ContentSteps.{IsOf, IsUntouched, untouched, next_of, of_contents, taken_owner, left_is, used_apart}
 

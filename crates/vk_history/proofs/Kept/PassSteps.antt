@@ -21,15 +21,15 @@ use Rattle.vk_model.proofs.Lists.Members.{all_passes, contains-head, flat_has}
 use Rattle.vk_model.proofs.Lists.Truths.{clash}
 use Rattle.vk_history.specs.declared.contents.BufferContents.{BufferContents}
 use Rattle.vk_history.specs.declared.contents.Contents.{Contents}
-use Rattle.vk_history.specs.declared.touches.Touch.{Touch}
-use Rattle.vk_history.specs.declared.touches.Touch.TheVariants as touch
+use Rattle.vk_touches.specs.declared.touches.Touch.{Touch}
+use Rattle.vk_touches.specs.declared.touches.Touch.TheVariants as touch
 use Rattle.vk_history.specs.Judged.{IsJudged}
 use Rattle.vk_history.specs.Supported.{is_supported_action, is_supported_element}
 use Rattle.vk_history.proofs.Points.Pasts.{supported-cons}
-use Rattle.vk_history.specs.Touched.{touches, touched}
+use Rattle.vk_touches.specs.Touched.{touches, touched}
 use Rattle.vk_history.specs.Contents.{AreContents, AreContentsInAt, AreAllAt, AreOnBuffers, is_on_buffer, IsPassed, BecomesIn, holder_of, is_defined_in, is_dirty_in}
 use Rattle.vk_history.proofs.Making.Worlds.{used_dirty}
-use Rattle.vk_history.proofs.Touching.Remembering.{touched_by_none}
+use Rattle.vk_touches.proofs.Touching.Remembering.{touched_by_none}
 use Rattle.vk_history.proofs.Kept.NextPoint.{there_for_command}
 use Rattle.vk_history.proofs.Kept.ContentSteps.{used_apart, same_buffer, same_size, same_mode, same_cache}
 

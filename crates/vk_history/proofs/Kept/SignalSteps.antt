@@ -12,10 +12,10 @@ use Rattle.vk_model.specs.Sync.Node.{Act, Hosts, Signals as SignalsAct}
 use Rattle.vk_order.specs.Lines.{class_of}
 use Rattle.vk_order.specs.declared.lines.Line.{Line}
 use Rattle.vk_history.specs.declared.semaphores.Semaphores.{Semaphores}
-use Rattle.vk_history.specs.Touched.{next_node, next_place, line_next, signaler_next, last_signaler, signal_spot}
+use Rattle.vk_touches.specs.Touched.{next_node, next_place, line_next, signaler_next, last_signaler, signal_spot}
 use Rattle.vk_history.specs.Tabled.{AreSemaphores, spot_view, greatest_of}
 use Rattle.vk_history.proofs.Kept.PastLemmas.{signaled-some, signaled-none}
-use Rattle.vk_history.proofs.Touching.Spots.{same_signaler, new_signaler}
+use Rattle.vk_touches.proofs.Touching.Spots.{same_signaler, new_signaler}
 
 turned : (a b : ℕ) (t : Bool) → (a == b) ≡ t → (b == a) ≡ t
 turned a b true e = eq-eqb b a (sym (eqb-true a b e))

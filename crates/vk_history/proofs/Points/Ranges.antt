@@ -16,7 +16,7 @@ use Rattle.vk_model.specs.World.ByteWrites.{ByteWrite, Value, From, byte_write, 
 use Rattle.vk_model.specs.Trace.Point.{Past}
 use Rattle.vk_model.specs.Sync.Access.{is_in, bytes_of, targets, origin, origins}
 use Rattle.vk_model.proofs.Lists.Members.{any_map}
-use Rattle.vk_history.specs.Contents.{reads_at, writes_at}
+use Rattle.vk_touches.specs.TouchedRanges.{reads_at, writes_at}
 use Rattle.vk_model.proofs.Lists.Truths.{bool_same}
 
 -- no number of a range passes

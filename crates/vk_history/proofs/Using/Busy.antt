@@ -23,7 +23,7 @@ use Rattle.vk_laws.proofs.Living.Unended.{runs_of}
 use Rattle.vk_laws.proofs.Nodes.Points.{at_point, comes_at}
 use Rattle.vk_history.proofs.Living.Counting.{any_counted}
 use Rattle.vk_history.proofs.Using.Lasts.{is_left}
-use Rattle.vk_history.specs.Touched.{next_node}
+use Rattle.vk_touches.specs.Touched.{next_node}
 use Rattle.vk_history.specs.Uses.{names_it, times_named, times_waiting}
 use Rattle.vk_history.proofs.Using.Waiting.{quiet_node, place_itself, has_some_node, none_counted}
 

@@ -5,7 +5,7 @@ ghost use Rattle.vk_model.specs.Sync.Node.{Node, nodes, Hosts, Depends, Barrier}
 ghost use Rattle.vk_model.specs.Sync.Before.{before};
 ghost use Rattle.vk_model.specs.Sync.Complete.{is_busy};
 ghost use Rattle.vk_order.specs.Frontiers.{IsSight};
-ghost use Rattle.vk_history.specs.Touched.{next_node};
+ghost use Rattle.vk_touches.specs.Touched.{next_node};
 ghost use Rattle.vk_model.specs.Trace.Objects.{is_exclusive};
 ghost use Rattle.vk_order.specs.Inner.Clocks.{place};
 ghost use Rattle.vk_order.specs.Lines.{line_of};

@@ -5,7 +5,7 @@ use Rattle.std.proofs.Math.Seq.{take-length}
 use Rattle.std.proofs.lemmas.List.{take_more}
 use Rattle.std.proofs.lemmas.Option.{slice_get-get_or}
 use Rattle.vk_model.proofs.Lists.Members.{contains-cons, contains-head, contains-tail, only_one, place_has}
-use Rattle.vk_history.specs.Conflicts.{FoundAmong}
+use Rattle.vk_touches.specs.Conflicts.{FoundAmong}
 
 module _ {A : Type 0} (is : Bool → A → Type 0) where
   in_either : (xs ys : List A) (a : A) → Contains (xs ++ ys) a → Contains xs a ⊎ Contains ys a

@@ -14,8 +14,8 @@ use Rattle.vk_model.specs.Sync.Complete.{is_busy, some_busy}
 use Rattle.vk_model.proofs.Lists.Members.{some_member, member_passes, filtered}
 use Rattle.vk_model.proofs.Lists.Truths.{bool_same}
 use Rattle.vk_laws.proofs.Living.Alive.{is_alive, among_live}
-use Rattle.vk_history.specs.Touched.{next_node}
-use Rattle.vk_validate.proofs.Touching.LastHazards.{one_next}
+use Rattle.vk_touches.specs.Touched.{next_node}
+use Rattle.vk_touches.proofs.Touching.LastHazards.{one_next}
 
 -- of a list, only a number itself counts
 only_itself : (r : ℕ) (f : ℕ → Bool) (xs : List ℕ) → list_any (λ s. r == s && f s) xs ≡ (list_any (λ s. r == s) xs && f r)

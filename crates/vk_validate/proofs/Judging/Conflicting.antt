@@ -38,24 +38,24 @@ use Rattle.vk_order.specs.declared.lines.Line.{Line}
 use Rattle.vk_order.specs.declared.lines.Line.TheVariants.{Host as OfHost, Commands as OfCommands}
 use Rattle.vk_order.specs.declared.sights.Sight.{Sight}
 use Rattle.vk_history.specs.declared.contents.BufferContents.{BufferContents}
-use Rattle.vk_history.specs.declared.touches.LastTouches.{LastTouches}
-use Rattle.vk_history.specs.declared.touches.Spot.{Spot}
-use Rattle.vk_history.specs.declared.touches.Touch.{Touch}
-use Rattle.vk_history.specs.declared.touches.Touch.TheVariants as touch
+use Rattle.vk_touches.specs.declared.touches.LastTouches.{LastTouches}
+use Rattle.vk_touches.specs.declared.touches.Spot.{Spot}
+use Rattle.vk_touches.specs.declared.touches.Touch.{Touch}
+use Rattle.vk_touches.specs.declared.touches.Touch.TheVariants as touch
 use Rattle.vk_history.specs.Supported.{is_supported_action}
 use Rattle.vk_history.specs.Judged.{IsJudged}
-use Rattle.vk_history.specs.Touched.{next_node, act_next, last_touch, last_place, last_spot, first_flush, last_invalidation, is_invalidated, spot_of, touched}
+use Rattle.vk_touches.specs.Touched.{next_node, act_next, last_touch, last_place, last_spot, first_flush, last_invalidation, is_invalidated, spot_of, touched}
 use Rattle.vk_history.specs.Contents.{AreContentsOf}
-use Rattle.vk_history.specs.declared.accesses.BufferAccess.{BufferAccess}
-use Rattle.vk_history.specs.Conflicts.{Misses, MissesRead, MissesWrite, MissesFlush, MissesHostWrite, IsEarly, HasEarlyCommand, IsRefused, SaysSeen, SaysFollows, FoundAt, FoundAmong}
-use Rattle.vk_history.proofs.Touching.LastNodes.{next_there}
-use Rattle.vk_history.proofs.Touching.Flushing.{invalidation_is, invalidation_last}
-use Rattle.vk_history.proofs.Touching.FirstFlushes.{IsFirst, NoneAfter, Says, flush_is}
+use Rattle.vk_touches.specs.declared.accesses.BufferAccess.{BufferAccess}
+use Rattle.vk_touches.specs.Conflicts.{Misses, MissesRead, MissesWrite, MissesFlush, MissesHostWrite, IsEarly, HasEarlyCommand, IsRefused, SaysSeen, SaysFollows, FoundAt, FoundAmong}
+use Rattle.vk_touches.proofs.Touching.LastNodes.{next_there}
+use Rattle.vk_touches.proofs.Touching.Flushing.{invalidation_is, invalidation_last}
+use Rattle.vk_touches.proofs.Touching.FirstFlushes.{IsFirst, NoneAfter, Says, flush_is}
 use Rattle.vk_history.proofs.Points.Ranges.{one_of, none_of}
 use Rattle.vk_validate.proofs.Writing.Spread.{any_flat}
 use Rattle.vk_validate.proofs.Points.SupportedNodes.{supported_node, known_writer, known_reader, queue_low}
-use Rattle.vk_validate.proofs.Touching.LastHazards.{KnownWriters, KnownReaders, StaysCached, some_last, write_ways, read_ways, unseen, early, raw_is, waw_is, war_is, nodes_with, older_there}
-use Rattle.vk_validate.proofs.Touching.LastAccesses.{Touches, last_touch_is}
+use Rattle.vk_touches.proofs.Touching.LastHazards.{KnownWriters, KnownReaders, StaysCached, some_last, write_ways, read_ways, unseen, early, raw_is, waw_is, war_is, nodes_with, older_there}
+use Rattle.vk_touches.proofs.Touching.LastAccesses.{Touches, last_touch_is}
 
 -- ---- what is found in a list
 

@@ -31,18 +31,18 @@ use Rattle.vk_order.specs.declared.access.Access.{Access}
 use Rattle.vk_order.specs.declared.access.Access.TheVariants as access
 use Rattle.vk_order.specs.declared.sights.Sight.{Sight}
 use Rattle.vk_history.specs.declared.contents.BufferContents.{BufferContents}
-use Rattle.vk_history.specs.declared.found.Conflicts.{Conflicts}
+use Rattle.vk_touches.specs.declared.found.Conflicts.{Conflicts}
 use Rattle.vk_history.specs.Supported.{is_supported_action, is_supported_command}
 use Rattle.vk_history.specs.Changes.{is_quiet}
-use Rattle.vk_history.specs.declared.accesses.BufferAccess.{BufferAccess}
-use Rattle.vk_history.specs.Conflicts.{AreConflicts, IsAccess, FoundIn, FoundAt, FoundAmong, Misses, MissesRead, MissesWrite, IsEarly, HasEarlyCommand}
+use Rattle.vk_touches.specs.declared.accesses.BufferAccess.{BufferAccess}
+use Rattle.vk_touches.specs.Conflicts.{AreConflicts, IsAccess, FoundIn, FoundAt, FoundAmong, Misses, MissesRead, MissesWrite, IsEarly, HasEarlyCommand}
 use Rattle.vk_history.specs.Contents.{AreContentsOf, is_defined}
 use Rattle.vk_history.specs.Judged.{IsJudged, early_rules, first_among}
-use Rattle.vk_history.specs.Touched.{next_node, act_next, touched}
+use Rattle.vk_touches.specs.Touched.{next_node, act_next, touched}
 use Rattle.vk_history.proofs.Points.Forms.{entry_cases, command_cases, action_cases}
 use Rattle.vk_history.proofs.Points.Ranges.{fill-targets, fill-origins, update-targets, update-origins, copy-targets-flat, copy-origins-flat}
 use Rattle.vk_validate.proofs.Points.SupportedNodes.{is_supported_act, supported_acts, is_calm, calm, calm_acts, calm_accesses}
-use Rattle.vk_validate.proofs.Touching.LastHazards.{StaysCached}
+use Rattle.vk_touches.proofs.Touching.LastHazards.{StaysCached}
 use Rattle.vk_validate.proofs.Judging.Quiet.{no_war, no_raw, no_waw}
 use Rattle.vk_validate.proofs.Judging.Conflicting.{any_found, range_found, regions_found, missed_by, early_by, command_misses, host_misses, host_reads, command_early, host_early, raw_rule, waw_rule, war_rule}
 

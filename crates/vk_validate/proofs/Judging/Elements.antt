@@ -22,10 +22,10 @@ use Rattle.vk_model.proofs.Sync.Numbers.{numbered}
 use Rattle.vk_order.specs.Wide.{IsApartFrom}
 use Rattle.vk_order.proofs.SiblingLemmas.{own, before_alone, before_stays, numbered_with, earlier_with}
 use Rattle.vk_queues.proofs.NewPoints.{ordered_new}
-use Rattle.vk_history.specs.Touched.{next_node}
+use Rattle.vk_touches.specs.Touched.{next_node}
 use Rattle.vk_validate.specs.declared.halves.Changed.{Changed}
 use Rattle.vk_validate.specs.Inner.Owners.{ComesAfter, AreChanged, Judges}
-use Rattle.vk_validate.proofs.Touching.NextNodes.{lined, next_nodes-lined}
+use Rattle.vk_touches.proofs.Touching.NextNodes.{lined, next_nodes-lined}
 
 -- the nodes of a barrier's elements
 abbrev pub nodes_with : Point → List Node → List Element → List Node

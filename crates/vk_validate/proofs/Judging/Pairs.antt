@@ -13,7 +13,7 @@ use Rattle.vk_model.specs.World.Effect.{world}
 use Rattle.vk_model.specs.Trace.Point.{Past, Point, Action, Host, Wait, Run, Signal}
 use Rattle.vk_model.specs.Sync.Node.{Node, Act, Hosts, Waits, Signals, Runs, Depends, Role, acts, nodes, SetOf, AwaitOf}
 use Rattle.vk_model.specs.Rules.Owners.{some_bad_pair, bad_pair, element_in, after_some, breaks_owner_pair}
-use Rattle.vk_validate.proofs.Touching.NextNodes.{lined, next_nodes-lined}
+use Rattle.vk_touches.proofs.Touching.NextNodes.{lined, next_nodes-lined}
 
 -- whether an act transfers nothing
 abbrev keeps_owners : Act → Bool

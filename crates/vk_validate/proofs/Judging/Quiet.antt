@@ -8,7 +8,7 @@ use Rattle.vk_model.specs.Sync.Node.{Node, Act, nodes, acts, next_nodes}
 use Rattle.vk_model.specs.Sync.Access.{hazard, war, raw, waw, share, reads, precedes, reads_of, writes_of}
 use Rattle.vk_model.specs.Rules.Hazards.{breaks_hazard_war, breaks_hazard_raw, breaks_hazard_waw}
 use Rattle.vk_model.proofs.Lists.Members.{none_passes_any}
-use Rattle.vk_validate.proofs.Touching.LastHazards.{next_acted}
+use Rattle.vk_touches.proofs.Touching.LastHazards.{next_acted}
 
 share_none : (bs : List Byte) → share bs [] ≡ false
 share_none bs = none_passes_any _ bs (λ b c. refl)

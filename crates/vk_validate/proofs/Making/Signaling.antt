@@ -15,9 +15,9 @@ use Rattle.vk_laws.proofs.Nodes.Actions.{runs_or_idle}
 use Rattle.vk_order.specs.Lines.{line_of, class_of}
 use Rattle.vk_order.specs.Inner.Clocks.{place}
 use Rattle.vk_order.specs.declared.lines.Line.{Line}
-use Rattle.vk_history.specs.Touched.{next_node, act_next, last_signaler, signal_spot}
-use Rattle.vk_validate.proofs.Touching.LastHazards.{nodes_with}
-use Rattle.vk_validate.proofs.Touching.LastSignals.{signal_order_is, no_signal_order, signaler_at}
+use Rattle.vk_touches.specs.Touched.{next_node, act_next, last_signaler, signal_spot}
+use Rattle.vk_touches.proofs.Touching.LastHazards.{nodes_with}
+use Rattle.vk_touches.proofs.Touching.LastSignals.{signal_order_is, no_signal_order, signaler_at}
 
 -- a signal's point has one act
 pub record IsSignal (d : Action) (s : ℕ) : Type 0 where

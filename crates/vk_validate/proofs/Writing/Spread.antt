@@ -18,16 +18,6 @@ pub any_flat : {A B : Type 0} (f : B → Bool) (h : A → List B) (xs : List A) 
 any_flat f h [] = refl
 any_flat f h (x ∷ xs) = list_any-append f (h x) (flat_map h xs) ∙ ap (λ b. list_any f (h x) || b) (any_flat f h xs)
 
--- a part that is the same for all
-pub any_and : {A : Type 0} (t : A → Bool) (v : Bool) (xs : List A) → list_any (λ x. t x && v) xs ≡ (list_any t xs && v)
-any_and t v [] = refl
-any_and t v (x ∷ xs) = ap (λ b. t x && v || b) (any_and t v xs) ∙ spread (t x) (list_any t xs) v where
-  spread : (a b v : Bool) → (a && v || (b && v)) ≡ ((a || b) && v)
-  spread true b true = refl
-  spread true true false = refl
-  spread true false false = refl
-  spread false b v = refl
-
 pub any_numbers : (f : ℕ → Bool) (v : Bool) → ((k : ℕ) → f k ≡ v) → (a n : ℕ) → list_any f (range_with_len a n) ≡ (nat_lt 0 n && v)
 any_numbers f v same a zero = refl
 any_numbers f v same a (suc n) = rw (same a, any_numbers f v same (a + 1) n, lt-ltb 0 (suc n) (omega arith)) (go v (nat_lt 0 n)) where

@@ -21,7 +21,8 @@ use Rattle.vk_model.specs.World.Ownership.{is_transition, releases, transfer, fa
 use Rattle.vk_model.specs.Sync.Access.{targets, bytes_of, image_bytes, transition_bytes}
 use Rattle.vk_model.proofs.Lists.Members.{any_same, any_map}
 use Rattle.vk_validate.specs.Inner.RuleParts.{some_bytes, some_subresource, some_texel, some_copied}
-use Rattle.vk_validate.proofs.Writing.Spread.{any_flat, any_and, any_below, any_texel, any_subresource, any_enumerated}
+use Rattle.vk_touches.proofs.Tests.{any_and}
+use Rattle.vk_validate.proofs.Writing.Spread.{any_flat, any_below, any_texel, any_subresource, any_enumerated}
 
 some_items : {A : Type 0} (xs : List A) → list_any (λ x. true) xs ≡ nat_lt 0 (length xs)
 some_items [] = refl

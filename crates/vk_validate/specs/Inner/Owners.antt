@@ -13,7 +13,7 @@ use Rattle.vk_model.specs.Sync.Edge.{earlier}
 use Rattle.vk_model.specs.Sync.Before.{before}
 use Rattle.vk_model.specs.Rules.Owners.{is_released, is_released_for, is_release_of, releases_resource, bad_families, bad_pair}
 use Rattle.vk_order.specs.Wide.{IsApartFrom}
-use Rattle.vk_history.specs.Touched.{next_node}
+use Rattle.vk_touches.specs.Touched.{next_node}
 use Rattle.vk_validate.specs.declared.halves.Changed.{Changed}
 
 -- Node n is of an element that comes at a point after some others of its barrier: it comes after the earlier points as if it came alone, and where those others don't release a resource, its last release is the last of the earlier points (profile).

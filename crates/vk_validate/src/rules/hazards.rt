@@ -8,12 +8,13 @@ ghost use Rattle.vk_history.specs.Supported.{is_supported_action};
 ghost use Rattle.vk_history.specs.PointViews.{past};
 ghost use Rattle.vk_history.specs.Judged.{early_rules, first_among};
 ghost use Rattle.vk_history.specs.Changes.{Fits};
-ghost use Rattle.vk_history.specs.Conflicts.{AreConflicts, FoundIn, FoundAt, FoundAmong, Misses, IsEarly};
+ghost use Rattle.vk_touches.specs.Conflicts.{AreConflicts, FoundIn, FoundAt, FoundAmong, Misses, IsEarly};
 
 use std::alloc::AllocError;
-use vk_history::{BufferAccess, BufferContents, Change, Conflicts, History, change_by};
+use vk_history::{BufferContents, Change, History, change_by};
 use vk_model::{BufferCopy, Length};
 use vk_order::{Access, Point, Sight, flushed_seen, host_seen, invalidated_seen, prefixes};
+use vk_touches::{BufferAccess, Conflicts};
 
 /// What a point that breaks no rule before those on accesses finds wrong with the bytes that it
 /// accesses: HAZARD_WAR, HAZARD_RAW, HAZARD_WAW and READ_UNDEFINED. The only error is want of memory.

@@ -1,6 +1,6 @@
 use Rattle.std.proofs.Common.{false}
 use Rattle.vk_model.specs.World.Effect.{in_atoms}
-use Rattle.vk_history.proofs.Kept.Changes.{on_three, assigned_where}
+use Rattle.vk_touches.proofs.PartChanges.{on_three, assigned_where}
 use Rattle.vk_history.proofs.ranges.clear.Goals as goal
 
 pub returns-clause-values : goal.returns-clause-values

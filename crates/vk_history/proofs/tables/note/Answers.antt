@@ -4,8 +4,8 @@ use Rattle.vk_model.specs.Sync.Node.{nodes}
 use Rattle.vk_order.specs.PointViews.{point_of}
 use Rattle.vk_queues.proofs.NewPoints.{ordered_new}
 use Rattle.vk_order.specs.declared.lines.Line.{Line}
-use Rattle.vk_history.specs.declared.touches.Spot.{Spot}
-use Rattle.vk_history.specs.Touched.{next_place}
+use Rattle.vk_touches.specs.declared.touches.Spot.{Spot}
+use Rattle.vk_touches.specs.Touched.{next_place}
 use Rattle.vk_history.proofs.tables.note.Goals as goal
 
 pub returns : goal.returns

@@ -2,7 +2,7 @@ use Rattle.std.proofs.Common.{ap, sym, ◌∙◌, ℕ}
 use Rattle.vk_model.specs.World.Ownership.{Stays, Release, Acquire, transfer}
 use Rattle.vk_order.specs.PointViews.{point_of}
 use Rattle.vk_history.specs.PointViews.{past}
-use Rattle.vk_history.proofs.Kept.Changes.{if_ok}
+use Rattle.vk_touches.proofs.PartChanges.{if_ok}
 use Rattle.vk_validate.proofs.Judging.Halves.{owner_judges}
 use Rattle.vk_validate.proofs.halves.is_bad_half_of.Goals as goal
 

@@ -12,7 +12,7 @@ use Rattle.vk_order.specs.declared.parts.Spot.{Spot}
 use Rattle.vk_history.specs.declared.owners.Owned.{Owned}
 use Rattle.vk_history.specs.Owners.{Kept, kept_of, IsOwned, IsLastRelease}
 use Rattle.vk_history.specs.PointViews.{past}
-use Rattle.vk_history.proofs.Kept.Changes.{if_ok}
+use Rattle.vk_touches.proofs.PartChanges.{if_ok}
 use Rattle.vk_validate.proofs.halves.is_second_half.Goals as goal
 
 some_same : {A : Type 0} {a b : A} → Some a ≡ Some b → a ≡ b

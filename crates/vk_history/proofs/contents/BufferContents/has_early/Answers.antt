@@ -1,6 +1,6 @@
 use Rattle.std.proofs.Common.{rules, ◌≡◌, ◌+◌, arith}
-use Rattle.vk_history.specs.Conflicts.{IsEarly}
-use Rattle.vk_history.proofs.Kept.Searches.{found_by}
+use Rattle.vk_touches.specs.Conflicts.{IsEarly}
+use Rattle.vk_touches.proofs.Searches.{found_by}
 use Rattle.vk_history.proofs.contents.BufferContents.has_early.Goals as goal
 
 pub returns : goal.returns

@@ -1,5 +1,5 @@
 use Rattle.std.proofs.Common.{◌≡◌, ◌+◌, ℕ, subst, arith}
-use Rattle.vk_history.specs.Conflicts.{FoundAt, Misses}
+use Rattle.vk_touches.specs.Conflicts.{FoundAt, Misses}
 use Rattle.vk_history.proofs.contents.BufferContents.has_missed.Goals as goal
 
 pub returns : goal.returns

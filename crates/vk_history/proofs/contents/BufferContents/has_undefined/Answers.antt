@@ -1,5 +1,5 @@
 use Rattle.std.proofs.Common.{rules, ◌≡◌, ◌+◌, not, arith}
-use Rattle.vk_history.proofs.Kept.Searches.{found_by}
+use Rattle.vk_touches.proofs.Searches.{found_by}
 use Rattle.vk_history.proofs.contents.BufferContents.has_undefined.Goals as goal
 
 pub returns : goal.returns

@@ -4,16 +4,16 @@ use Rattle.vk_model.specs.Sync.Node.{nodes}
 use Rattle.vk_model.specs.Sync.Edge.{is_element}
 use Rattle.vk_order.proofs.PlaceLemmas.{apart_from}
 use Rattle.vk_order.specs.PointViews.{point_of}
-use Rattle.vk_history.specs.declared.touches.Spot.{Spot}
+use Rattle.vk_touches.specs.declared.touches.Spot.{Spot}
 use Rattle.std.specs.Ordering.{nat_cmp}
 use Rattle.std.specs.BTreeMap.{get}
-use Rattle.vk_history.specs.Touched.{next_spot, next_node, act_next}
+use Rattle.vk_touches.specs.Touched.{next_spot, next_node, act_next}
 use Rattle.vk_history.specs.Contents.{AreAllAt, BecomesIn, IsRead, IsSet, IsFlushed, IsWrittenBy, IsLentWith, IsPasted}
 use Rattle.std.specs.List.{fold}
 use Rattle.vk_model.specs.World.Effect.{world, after_element}
 use Rattle.vk_history.proofs.Kept.PassSteps.{passed_step}
 use Rattle.vk_model.specs.World.Ownership.{family_of}
-use Rattle.vk_history.proofs.Kept.Changes.{on_three}
+use Rattle.vk_touches.proofs.PartChanges.{on_three}
 use Rattle.vk_history.proofs.Kept.ContentSteps.{buffer_made}
 use Rattle.vk_history.proofs.Kept.CopySteps.{copy_step}
 use Rattle.vk_history.proofs.Kept.CacheSteps.{flush_change, invalidation_change}

@@ -5,7 +5,7 @@ use Rattle.vk_model.specs.declared.command.Element.{Element}
 use Rattle.vk_model.specs.World.Effect.{after_element}
 use Rattle.vk_model.specs.World.Ownership.{Transfer}
 use Rattle.vk_history.specs.Contents.{AreAllAt, BecomesIn, IsPassed, is_on_buffer}
-use Rattle.vk_history.proofs.Kept.Changes.{on_three}
+use Rattle.vk_touches.proofs.PartChanges.{on_three}
 use Rattle.vk_history.proofs.Kept.PassSteps.{passed_one}
 use Rattle.vk_history.proofs.contents.Contents.pass.Goals as goal
 

@@ -2,8 +2,8 @@ use Rattle.std.proofs.Common.{ap, sym}
 use Rattle.vk_model.specs.Sync.Node.{nodes}
 use Rattle.vk_order.specs.PointViews.{point_of, action_of}
 use Rattle.vk_history.specs.PointViews.{past}
-use Rattle.vk_history.specs.Touched.{next_node, act_next}
-use Rattle.vk_history.proofs.Kept.Changes.{if_ok}
+use Rattle.vk_touches.specs.Touched.{next_node, act_next}
+use Rattle.vk_touches.proofs.PartChanges.{if_ok}
 use Rattle.vk_history.proofs.history.History.sight.Goals as goal
 
 pub returns : goal.returns

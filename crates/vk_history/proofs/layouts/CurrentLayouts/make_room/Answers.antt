@@ -1,7 +1,7 @@
 use Rattle.std.proofs.Common.{◌∙◌, ap, sym, Some}
 use Rattle.std.specs.Prelude.{option_and_then, option_map}
 use Rattle.vk_model.specs.Trace.Objects.{image_in}
-use Rattle.vk_history.proofs.Kept.Changes.{on_three}
+use Rattle.vk_touches.proofs.PartChanges.{on_three}
 use Rattle.vk_history.proofs.Transitions.Keeping.{room_made, none_there}
 use Rattle.vk_history.proofs.layouts.CurrentLayouts.make_room.Goals as goal
 

@@ -1,6 +1,6 @@
 use Rattle.vk_order.specs.PointViews.{point_of}
 use Rattle.vk_model.specs.World.Effect.{world}
-use Rattle.vk_history.proofs.Kept.Changes.{on_three}
+use Rattle.vk_touches.proofs.PartChanges.{on_three}
 use Rattle.vk_history.proofs.Transitions.Elements.{point_kept}
 use Rattle.vk_history.proofs.Transitions.Named.{elements_there, grown}
 use Rattle.vk_history.proofs.layouts.CurrentLayouts.note_with.Goals as goal

@@ -1,7 +1,7 @@
 use Rattle.std.proofs.Common.{ap, sym, ◌∙◌, ◌||◌, nat_lt}
 use Rattle.std.specs.List.{list_any}
 use Rattle.vk_model.specs.Sync.Node.{Hosts, nodes}
-use Rattle.vk_history.specs.Touched.{next_node}
+use Rattle.vk_touches.specs.Touched.{next_node}
 use Rattle.vk_history.proofs.Using.Lasts.{is_left}
 use Rattle.vk_history.proofs.Using.Busy.{busy_is}
 use Rattle.vk_history.proofs.uses.Uses.is_busy.Goals as goal

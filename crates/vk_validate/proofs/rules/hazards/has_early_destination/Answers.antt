@@ -1,6 +1,6 @@
 use Rattle.std.proofs.Common.{◌≤◌, ◌+◌, Bool, length}
 use Rattle.vk_model.specs.declared.command.BufferCopy.{BufferCopy}
-use Rattle.vk_history.specs.Conflicts.{FoundIn, IsEarly}
+use Rattle.vk_touches.specs.Conflicts.{FoundIn, IsEarly}
 use Rattle.vk_validate.proofs.Judging.Among.{none_next, some_here, none_at_all}
 use Rattle.vk_validate.proofs.rules.hazards.has_early_destination.Goals as goal
 

@@ -1,6 +1,6 @@
 use Rattle.std.proofs.Common.{◌≤◌, ◌+◌, Bool, false, length, take}
 use Rattle.vk_model.specs.declared.command.BufferCopy.{BufferCopy}
-use Rattle.vk_history.specs.Conflicts.{FoundAmong, FoundIn, IsEarly}
+use Rattle.vk_touches.specs.Conflicts.{FoundAmong, FoundIn, IsEarly}
 use Rattle.vk_validate.proofs.rules.hazards.has_early_destination.Given as goal
 
 abbrev pub invariant-loop-region : goal.invariant-loop-region

@@ -7,7 +7,7 @@ use Rattle.vk_model.proofs.Lists.Truths.{clash}
 use Rattle.vk_order.specs.PointViews.{point_of}
 use Rattle.vk_order.proofs.PlaceLemmas.{apart_from}
 use Rattle.vk_history.specs.PointViews.{past}
-use Rattle.vk_history.specs.Touched.{next_node, act_next}
+use Rattle.vk_touches.specs.Touched.{next_node, act_next}
 use Rattle.vk_history.proofs.Kept.NextPoint.{command_there, copy_reads_fit, copy_writes_fit}
 use Rattle.vk_history.proofs.Kept.CopySteps.{source_named, destination_named}
 use Rattle.vk_validate.proofs.Judging.Conflicts.{early_live, early_range, copy_conflicts}

@@ -8,8 +8,8 @@ use Rattle.vk_model.proofs.Lists.Truths.{clash}
 use Rattle.vk_order.specs.PointViews.{point_of}
 use Rattle.vk_order.proofs.PlaceLemmas.{apart_from}
 use Rattle.vk_history.specs.PointViews.{past}
-use Rattle.vk_history.specs.Conflicts.{FoundIn, FoundAt, MissesWrite, HasEarlyCommand}
-use Rattle.vk_history.specs.Touched.{next_node, act_next}
+use Rattle.vk_touches.specs.Conflicts.{FoundIn, FoundAt, MissesWrite, HasEarlyCommand}
+use Rattle.vk_touches.specs.Touched.{next_node, act_next}
 use Rattle.vk_history.proofs.Kept.NextPoint.{host_there, set_fits}
 use Rattle.vk_validate.proofs.Judging.Conflicts.{early_live, early_range, set_conflicts}
 use Rattle.vk_validate.proofs.rules.hazards.of_host_write.Goals as goal

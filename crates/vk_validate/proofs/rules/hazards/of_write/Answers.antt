@@ -9,8 +9,8 @@ use Rattle.vk_model.proofs.Lists.Truths.{clash}
 use Rattle.vk_order.specs.PointViews.{point_of}
 use Rattle.vk_order.proofs.PlaceLemmas.{apart_from}
 use Rattle.vk_history.specs.PointViews.{past}
-use Rattle.vk_history.specs.Conflicts.{FoundIn, FoundAt, Misses, IsEarly}
-use Rattle.vk_history.specs.Touched.{next_node, act_next}
+use Rattle.vk_touches.specs.Conflicts.{FoundIn, FoundAt, Misses, IsEarly}
+use Rattle.vk_touches.specs.Touched.{next_node, act_next}
 use Rattle.vk_history.proofs.Kept.NextPoint.{command_there, fill_fits, update_fits}
 use Rattle.vk_validate.proofs.Judging.Conflicts.{early_live, early_range, fill_conflicts, update_conflicts}
 use Rattle.vk_validate.proofs.rules.hazards.of_write.Goals as goal

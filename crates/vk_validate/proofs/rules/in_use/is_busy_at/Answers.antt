@@ -6,7 +6,7 @@ use Rattle.vk_order.specs.Frontiers.{IsSight}
 use Rattle.vk_order.specs.PointViews.{point_of}
 use Rattle.vk_order.proofs.PlaceLemmas.{apart_from}
 use Rattle.vk_history.specs.PointViews.{past}
-use Rattle.vk_history.specs.Touched.{next_node, act_next}
+use Rattle.vk_touches.specs.Touched.{next_node, act_next}
 use Rattle.vk_validate.proofs.Judging.Busy.{destroyed_busy}
 use Rattle.vk_validate.proofs.rules.in_use.is_busy_at.Goals as goal
 

@@ -2,7 +2,7 @@ use Rattle.vk_model.specs.Sync.Node.{nodes}
 use Rattle.vk_order.specs.PointViews.{point_of, action_of}
 use Rattle.vk_order.proofs.PlaceLemmas.{apart_from}
 use Rattle.vk_history.specs.PointViews.{past}
-use Rattle.vk_history.specs.Touched.{next_node, act_next}
+use Rattle.vk_touches.specs.Touched.{next_node, act_next}
 use Rattle.vk_validate.proofs.Making.Signaling.{is_signal, ordered_by, ordered_first}
 use Rattle.vk_validate.proofs.rules.synchronization.is_unordered.Goals as goal
 

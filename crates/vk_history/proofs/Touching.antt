@@ -1,5 +1,0 @@
-pub mod LastNodes
-pub mod Spots
-pub mod Flushing
-pub mod FirstFlushes
-pub mod Remembering

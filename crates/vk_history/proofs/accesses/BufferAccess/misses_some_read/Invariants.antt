@@ -1,7 +1,0 @@
-use Rattle.vk_ranges.specs.Overlaps.{pieces_left}
-use Rattle.vk_history.specs.Conflicts.{MissesRead}
-use Rattle.vk_history.proofs.Kept.Searches.{IsSearched}
-use Rattle.vk_history.proofs.accesses.BufferAccess.misses_some_read.Given as goal
-
-abbrev pub invariant-loop-run : goal.invariant-loop-run
-invariant-loop-run l = IsSearched (MissesRead l.is_cached l.self) l.touches l.low l.high (pieces_left l.run-iterator)

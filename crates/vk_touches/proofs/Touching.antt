@@ -1,0 +1,9 @@
+pub mod LastNodes
+pub mod Spots
+pub mod Flushing
+pub mod FirstFlushes
+pub mod Remembering
+pub mod NextNodes
+pub mod LastAccesses
+pub mod LastHazards
+pub mod LastSignals

@@ -1,0 +1,126 @@
+-- What is found wrong with the bytes that a point accesses.
+use Rattle.std.specs.Prelude.{◌≡◌, ◌⊎◌, ◌≤◌, ◌<◌, ◌∷◌, ◌||◌, ◌&&◌, ℕ, List, Bool, true, false, not, Contains, slice_get, is_some, Option, Some, None}
+use Rattle.vk_model.specs.World.Bytes.{in_buffer}
+use Rattle.vk_model.specs.Trace.Point.{Past, Point}
+use Rattle.vk_model.specs.Sync.Node.{Node, nodes}
+use Rattle.vk_model.specs.Sync.Before.{before}
+use Rattle.vk_model.specs.Rules.Hazards.{breaks_hazard_war, breaks_hazard_raw, breaks_hazard_waw, breaks_read_undefined}
+use Rattle.vk_order.specs.Lines.{line_of}
+use Rattle.vk_order.specs.SeenWrites as order
+use Rattle.vk_order.specs.Frontiers.{IsFrontier, IsSight}
+use Rattle.vk_order.specs.Inner.Clocks.{place}
+use Rattle.vk_order.specs.declared.access.Access.{Access}
+use Rattle.vk_order.specs.declared.lines.Line.{Line}
+use Rattle.vk_order.specs.declared.lines.Line.TheVariants.{Host as OfHost, Commands as OfCommands}
+use Rattle.vk_order.specs.declared.sights.Sight.{Sight}
+use Rattle.vk_touches.specs.declared.accesses.BufferAccess.{BufferAccess}
+use Rattle.vk_touches.specs.declared.found.Conflicts.{Conflicts}
+use Rattle.vk_touches.specs.declared.touches.LastTouches.{LastTouches}
+use Rattle.vk_touches.specs.declared.touches.QueueReads.{QueueReads}
+use Rattle.vk_touches.specs.declared.touches.Spot.{Spot}
+
+-- ---- what an access sees
+
+-- Of a buffer, by the sight of the node that comes next.
+pub record IsAccess (past : Past) (s : Sight) (b : ℕ) (kind : Access) (x : BufferAccess) : Type 0 where
+  pub frontier : IsFrontier x.frontier.now (nodes past)
+  pub sight : x.sight.now ≡ s
+  pub buffer : x.buffer ≡ b
+  pub access : x.access ≡ kind
+
+-- Of the write of byte k of the buffer by the node of a spot: whether the access sees it.
+abbrev pub SaysSeen : BufferAccess → ℕ → Bool → Spot → Type 0
+SaysSeen x k answer w = order.SaysSeen x.frontier.now x.sight.now (record { line = w.line; place = w.place }) w.number x.access (in_buffer x.buffer k) answer
+
+-- Of whether a node of a line is before.
+abbrev pub SaysFollows : Sight → Line → Bool → ℕ → Type 0
+SaysFollows s l answer k = (ns : List Node) (n m : Node) → IsSight ns n s → Contains ns m → line_of m ≡ Some l → place ns l m.number ≡ k → answer ≡ before (n ∷ ns) m n
+
+-- ---- what is wrong with a byte
+
+-- Whether there is one of which a sight says no.
+pub record IsRefused {A : Type 0} (says : Bool → A → Type 0) (answer : Bool) (last : Option A) : Type 0 where
+  pub none : last ≡ None → answer ≡ false
+  pub some : (a : A) → last ≡ Some a → says (not answer) a
+
+-- Of byte k, whether the last write by a command isn't seen.
+abbrev pub MissesWrite : BufferAccess → ℕ → Bool → LastTouches → Type 0
+MissesWrite x k answer t = IsRefused (SaysSeen x k) answer t.write
+
+-- Of byte k, whether there is a last write by a command, and it is seen.
+pub record SeesWrite (x : BufferAccess) (k : ℕ) (answer : Bool) (t : LastTouches) : Type 0 where
+  pub none : t.write ≡ None → answer ≡ false
+  pub some : (w : Spot) → t.write ≡ Some w → SaysSeen x k answer w
+
+-- The same of a read by the host: of cached memory the last invalidation has to see the write (Vulkan, "Host Access to Device Memory Objects").
+abbrev pub MissesRead : Bool → BufferAccess → ℕ → Bool → LastTouches → Type 0
+MissesRead false x k answer t = MissesWrite x k answer t
+MissesRead true x k answer t = answer ≡ (is_some t.write && not t.is_invalidated)
+
+-- Whether the last write by the host to cached memory isn't seen: where it wasn't flushed, or the first flush since then isn't seen (Vulkan, "Host Access to Device Memory Objects").
+pub record MissesFlush (x : BufferAccess) (k : ℕ) (answer : Bool) (t : LastTouches) : Type 0 where
+  pub none : t.host_write ≡ None → answer ≡ false
+  pub unflushed : (w : Spot) → t.host_write ≡ Some w → t.flush ≡ None → answer ≡ true
+  pub flushed : (w f : Spot) → t.host_write ≡ Some w → t.flush ≡ Some f → SaysSeen x k (not answer) f
+
+-- Whether the last write by the host isn't seen.
+abbrev pub MissesHostWrite : Bool → BufferAccess → ℕ → Bool → LastTouches → Type 0
+MissesHostWrite false x k answer t = IsRefused (SaysSeen x k) answer t.host_write
+MissesHostWrite true x k answer t = MissesFlush x k answer t
+
+-- Whether one of the two isn't seen.
+abbrev pub Misses : Bool → BufferAccess → ℕ → Bool → LastTouches → Type 0
+Misses cached x k true t = MissesWrite x k true t ⊎ MissesHostWrite cached x k true t
+Misses cached x k false t = MissesWrite x k false t × MissesHostWrite cached x k false t
+
+-- Whether the last read by a command of some queue doesn't come before.
+pub record HasEarlyRead (s : Sight) (answer : Bool) (r : QueueReads) : Type 0 where
+  pub on_first : Bool
+  pub on_second : Bool
+  pub on_third : Bool
+  pub on_fourth : Bool
+  pub either : answer ≡ (on_first || on_second || on_third || on_fourth)
+  pub first : IsRefused (SaysFollows s (OfCommands 0)) on_first r.first
+  pub second : IsRefused (SaysFollows s (OfCommands 1)) on_second r.second
+  pub third : IsRefused (SaysFollows s (OfCommands 2)) on_third r.third
+  pub fourth : IsRefused (SaysFollows s (OfCommands 3)) on_fourth r.fourth
+
+-- The same of a byte.
+abbrev pub HasEarlyCommand : Sight → Bool → LastTouches → Type 0
+HasEarlyCommand s answer t = HasEarlyRead s answer t.reads
+
+-- Whether the last read by the host or by a command of some queue doesn't come before.
+pub record IsEarly (s : Sight) (answer : Bool) (t : LastTouches) : Type 0 where
+  pub of_host : Bool
+  pub of_commands : Bool
+  pub either : answer ≡ (of_host || of_commands)
+  pub host : IsRefused (SaysFollows s OfHost) of_host t.host_read
+  pub commands : HasEarlyCommand s of_commands t
+
+-- ---- what is found
+
+-- Whether some number from one on and below another is such, or none is.
+abbrev pub SomeBetween : (ℕ → Bool → Type 0) → Bool → ℕ → ℕ → Type 0
+SomeBetween is true low high = (k : ℕ) × (low ≤ k) × (k < high) × is k true
+SomeBetween is false low high = (k : ℕ) → low ≤ k → k < high → is k false
+
+-- Whether some item of a part is such at its index, or none is.
+abbrev pub FoundAt : {A : Type 0} → (ℕ → Bool → A → Type 0) → Bool → List A → ℕ → ℕ → Type 0
+FoundAt {A} is true xs low high = (k : ℕ) × (low ≤ k) × (k < high) × (a : A) × (slice_get xs k ≡ Some a) × is k true a
+FoundAt {A} is false xs low high = (k : ℕ) → low ≤ k → k < high → (a : A) × (slice_get xs k ≡ Some a) × is k false a
+
+-- The same wherever it is.
+abbrev pub FoundIn : {A : Type 0} → (Bool → A → Type 0) → Bool → List A → ℕ → ℕ → Type 0
+FoundIn is answer xs low high = FoundAt (λ k. is) answer xs low high
+
+-- Whether some item of a list is such, or none is.
+abbrev pub FoundAmong : {A : Type 0} → (Bool → A → Type 0) → Bool → List A → Type 0
+FoundAmong {A} is true xs = (a : A) × Contains xs a × is true a
+FoundAmong {A} is false xs = (a : A) → Contains xs a → is false a
+
+-- What is found is what the rules say.
+pub record AreConflicts (found : Conflicts) (past : Past) (p : Point) : Type 0 where
+  pub war : found.war ≡ breaks_hazard_war past p
+  pub raw : found.raw ≡ breaks_hazard_raw past p
+  pub waw : found.waw ≡ breaks_hazard_waw past p
+  pub undefined : found.undefined ≡ breaks_read_undefined past p

@@ -1,0 +1,4 @@
+pub mod Remembered
+pub mod Touched
+pub mod TouchedRanges
+pub mod Conflicts

@@ -1,0 +1,172 @@
+ghost use Rattle.std.specs.Prelude.{◌<◌, ◌≤◌, ℕ, length, not};
+ghost use Rattle.vk_touches.specs.Conflicts.{FoundAt, IsRefused, Misses, MissesFlush, MissesHostWrite, MissesRead, MissesWrite, SaysSeen, SeesWrite, SomeBetween};
+
+use crate::touches::{LastTouches, Spot};
+use vk_order::{Access, Frontier, SeenUntil, Sight};
+use vk_ranges::RangeMap;
+
+/// How the node of a point that comes next accesses a buffer, and what it sees.
+#[derive(Clone, Copy)]
+pub struct BufferAccess<'a> {
+    /// What is known of the nodes so far.
+    pub frontier: &'a Frontier,
+    /// What the node has before it, and what it sees.
+    pub sight: &'a Sight,
+    /// The id of the buffer.
+    pub buffer: u32,
+    /// How it is accessed.
+    pub access: Access,
+}
+
+impl BufferAccess<'_> {
+    /// Whether of some byte of a range the last write by a command or by the host isn't seen.
+    pub fn misses_some(
+        &self,
+        touches: &RangeMap<LastTouches>,
+        low: u64,
+        high: u64,
+        is_cached: bool,
+    ) -> bool
+        requires order { low ≤ high }
+        requires within { high ≤ length touches.now }
+        ensures { FoundAt (Misses is_cached self.now) result touches.now low high }
+    {
+        for run in touches.overlapping(low, high) {
+            if self.misses(run.start, run.end, run.value, is_cached) {
+                return true;
+            }
+        }
+        false
+    }
+
+    /// The same of the last writes by commands alone.
+    pub fn misses_some_write(&self, touches: &RangeMap<LastTouches>, low: u64, high: u64) -> bool
+        requires order { low ≤ high }
+        requires within { high ≤ length touches.now }
+        ensures { FoundAt (MissesWrite self.now) result touches.now low high }
+    {
+        for run in touches.overlapping(low, high) {
+            if self.misses_write(run.start, run.end, run.value.write) {
+                return true;
+            }
+        }
+        false
+    }
+
+    /// The same where the host reads.
+    pub fn misses_some_read(
+        &self,
+        touches: &RangeMap<LastTouches>,
+        low: u64,
+        high: u64,
+        is_cached: bool,
+    ) -> bool
+        requires order { low ≤ high }
+        requires within { high ≤ length touches.now }
+        ensures { FoundAt (MissesRead is_cached self.now) result touches.now low high }
+    {
+        for run in touches.overlapping(low, high) {
+            if self.misses_read(run.start, run.end, run.value, is_cached) {
+                return true;
+            }
+        }
+        false
+    }
+
+    /// Whether of some byte from `low` on and below `high` the last write by a command or by the
+    /// host, which is the same for all of them, isn't seen.
+    fn misses(&self, low: u64, high: u64, last: &LastTouches, is_cached: bool) -> bool
+        ensures { SomeBetween (λ k r. Misses is_cached self.now k r last.now) result low high }
+    {
+        self.misses_write(low, high, last.write)
+            || self.misses_host_write(low, high, last, is_cached)
+    }
+
+    /// The same of the last write by the host.
+    fn misses_host_write(&self, low: u64, high: u64, last: &LastTouches, is_cached: bool) -> bool
+        ensures { SomeBetween (λ k r. MissesHostWrite is_cached self.now k r last.now) result low high }
+    {
+        if is_cached {
+            self.misses_flush(low, high, last)
+        } else {
+            self.misses_write(low, high, last.host_write)
+        }
+    }
+
+    /// The same of the last write by the host to cached memory.
+    fn misses_flush(&self, low: u64, high: u64, last: &LastTouches) -> bool
+        ensures { SomeBetween (λ k r. MissesFlush self.now k r last.now) result low high }
+    {
+        if last.host_write.is_none() {
+            return false;
+        }
+        match last.flush {
+            Some(flush) => self.is_some_unseen(low, high, flush),
+            None => low < high,
+        }
+    }
+
+    /// Whether of some byte the last write by a command isn't read by the host.
+    fn misses_read(&self, low: u64, high: u64, last: &LastTouches, is_cached: bool) -> bool
+        ensures { SomeBetween (λ k r. MissesRead is_cached self.now k r last.now) result low high }
+    {
+        if is_cached {
+            low < high && last.write.is_some() && !last.is_invalidated
+        } else {
+            self.misses_write(low, high, last.write)
+        }
+    }
+
+    /// Whether the last write by a command is there and is seen, and up to where, and at most to
+    /// `high`, this is so.
+    pub fn sees_until(&self, low: u64, high: u64, last: &LastTouches) -> SeenUntil
+        requires { low < high }
+        ensures further { low < result.end }
+        ensures within { result.end ≤ high }
+        ensures seen { (k : ℕ) → low ≤ k → k < result.end → SeesWrite self.now k result.is_seen last.now }
+    {
+        let access = self.access;
+        match last.write {
+            Some(write) => self.frontier.seen_until(
+                self.sight,
+                write.in_line(),
+                write.number,
+                self.buffer,
+                low,
+                high,
+                access,
+            ),
+            None => SeenUntil {
+                end: high,
+                is_seen: false,
+            },
+        }
+    }
+
+    /// The same of one write.
+    fn misses_write(&self, low: u64, high: u64, last: Option<Spot>) -> bool
+        ensures { SomeBetween (λ k r. IsRefused (SaysSeen self.now k) r last) result low high }
+    {
+        match last {
+            Some(write) => self.is_some_unseen(low, high, write),
+            None => false,
+        }
+    }
+
+    /// Whether the write of some byte by the node of a spot isn't seen.
+    fn is_some_unseen(&self, low: u64, high: u64, write: Spot) -> bool
+        ensures { SomeBetween (λ k r. SaysSeen self.now k (not r) write) result low high }
+    {
+        let from = write.number;
+        let unseen = self.frontier.first_unseen(
+            self.sight,
+            write.in_line(),
+            from,
+            self.buffer,
+            low,
+            high,
+            self.access,
+        );
+        unseen.is_some()
+    }
+}

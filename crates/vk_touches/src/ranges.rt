@@ -1,0 +1,72 @@
+ghost use Rattle.std.specs.Prelude.{◌≡◌, ℕ, OnOk, length, slice_get};
+ghost use Rattle.std.specs.Option.{option_map};
+ghost use Rattle.vk_model.specs.Basics.{within};
+ghost use Rattle.vk_model.specs.World.Effect.{in_atoms};
+ghost use Rattle.vk_touches.specs.TouchedRanges.{touching, flushing, reads_at, writes_at};
+
+use crate::parts::Part;
+use crate::touches::{LastTouches, Spot, Touch};
+use std::alloc::AllocError;
+use vk_model::{BufferCopy, Length};
+use vk_ranges::RangeMap;
+
+/// Remembers that the node of a spot has touched the bytes of a range.
+pub fn touch(
+    touches: &mut RangeMap<LastTouches>,
+    offset: u64,
+    size: u64,
+    way: Touch,
+    spot: Spot,
+) -> Result<(), AllocError>
+    ensures len { length touches.new ≡ length touches.old }
+    ensures values { OnOk result ((k : ℕ) → slice_get touches.new k ≡ option_map (touching (within offset size) way spot k) (slice_get touches.old k)) }
+{
+    let part = Part::of(offset, 0, size, touches.len());
+    touches.update(part.low, part.high, |last| Ok(last.with(way, spot)))
+}
+
+/// Remembers that the node of a spot has touched what the regions of a copy read.
+pub fn touch_sources(
+    touches: &mut RangeMap<LastTouches>,
+    regions: &[BufferCopy],
+    way: Touch,
+    spot: Spot,
+) -> Result<(), AllocError>
+    ensures len { length touches.new ≡ length touches.old }
+    ensures values { OnOk result ((k : ℕ) → slice_get touches.new k ≡ option_map (touching (reads_at regions.now) way spot k) (slice_get touches.old k)) }
+{
+    for region in regions {
+        touch(touches, region.source_offset, region.size, way, spot)?;
+    }
+    Ok(())
+}
+
+/// Remembers that it has touched what they write.
+pub fn touch_destinations(
+    touches: &mut RangeMap<LastTouches>,
+    regions: &[BufferCopy],
+    way: Touch,
+    spot: Spot,
+) -> Result<(), AllocError>
+    ensures len { length touches.new ≡ length touches.old }
+    ensures values { OnOk result ((k : ℕ) → slice_get touches.new k ≡ option_map (touching (writes_at regions.now) way spot k) (slice_get touches.old k)) }
+{
+    for region in regions {
+        touch(touches, region.destination_offset, region.size, way, spot)?;
+    }
+    Ok(())
+}
+
+/// Remembers that the host entry of a spot has flushed the bytes of the atoms that a range reaches.
+pub fn flush_touches(
+    touches: &mut RangeMap<LastTouches>,
+    offset: u64,
+    size: Length,
+    spot: Spot,
+) -> Result<(), AllocError>
+    ensures len { length touches.new ≡ length touches.old }
+    ensures values { OnOk result ((k : ℕ) → slice_get touches.new k ≡ option_map (flushing (in_atoms offset size) spot k) (slice_get touches.old k)) }
+{
+    let part = Part::of_atoms(offset, size, touches.len());
+    touches.update(part.low, part.high, |last| Ok(last.flushed(spot)))
+}

@@ -1,4 +1,0 @@
-pub mod NextNodes
-pub mod LastAccesses
-pub mod LastHazards
-pub mod LastSignals
