@@ -1,11 +1,11 @@
 -- How many pieces come before each part of a command, and which part has a piece.
 use Rattle.std.proofs.Common.{◌≡◌, inl, inr, ℕ, zero, suc, ◌+◌, ◌-◌, ◌*◌, ◌<◌, ◌≤◌, List, [], ◌∷◌, ◌++◌, length, take, get_or, slice_index, slice_get, refl, ap, sym, ◌∙◌, arith, length-append, Option, Some, None}
 use Rattle.std.proofs.lemmas.Bool.{cases_lt}
-use Rattle.std.proofs.lemmas.List.{get_or_append_left, get_or_past, take_all}
+use Rattle.std.proofs.lemmas.List.{get_or_append_left, get_or_default, take_all}
 use Rattle.std.proofs.lemmas.List.Concat.{length-flat_map}
 use Rattle.std.proofs.lemmas.List.Sums.{sum_by-cons, sum_by_more, sum_by_more_le}
 use Rattle.std.proofs.Math.Seq.{get_or-append_seam}
-use Rattle.std.specs.List.{flat_map, sum_by}
+use Rattle.std.specs.List.{Contains, flat_map, sum_by}
 use Rattle.std.specs.Prelude.{Result, Ok, Err, IsErrOf}
 use Rattle.std.specs.Result.{IsErrAnd}
 use Rattle.vk_model.specs.declared.command.BufferCopy.{BufferCopy}
@@ -40,6 +40,21 @@ get-flat_map f (g ∷ gs) (suc i) j d lt small =
 pub sums_same : {X : Type 0} (f g : X → ℕ) (xs : List X) → ((x : X) → f x ≡ g x) → sum_by f xs ≡ sum_by g xs
 sums_same f g [] same = refl
 sums_same f g (x ∷ xs) same = omega (arith, sum_by-cons f x xs, sum_by-cons g x xs, same x, sums_same f g xs same)
+
+-- ---- parts with so many pieces each
+
+-- a part among all
+pub part_among : {X : Type 0} (xs : List X) (i : ℕ) (e : X) → i < length xs → Contains xs (get_or xs i e)
+part_among xs i e lt = (i, lt, sym (get_or_default xs i e (get_or xs i e) lt))
+
+module _ {X A : Type 0} (f : X → ℕ) (g : X → List A) (long : (x : X) → f x ≡ length (g x)) where
+  pub counted_length : (xs : List X) → sum_by f xs ≡ length (flat_map g xs)
+  counted_length xs = sums_same f (λ x. length (g x)) xs long ∙ sym (length-flat_map g xs)
+
+  pub found_at : (xs : List X) (i j n : ℕ) (e : X) → i < length xs → sum_by f (take i xs) + j ≡ n → j < f (get_or xs i e) → slice_get (flat_map g xs) n ≡ slice_get (g (get_or xs i e)) j
+  found_at xs i j n e lt whole low =
+      let sum : length (flat_map g (take i xs)) + j ≡ n = omega (arith, counted_length (take i xs), whole) in
+      ap (λ (k : ℕ). slice_get (flat_map g xs) k) (sym sum) ∙ get-flat_map g xs i j e lt (omega (arith, low, long (get_or xs i e)))
 
 -- ---- an error that is handed on
 
@@ -100,12 +115,7 @@ module _ {X : Type 0} (f : X → ℕ) (xs : List X) where
 
     -- of parts with so many pieces each
     pub piece_found : {A : Type 0} (g : X → List A) → ((x : X) → f x ≡ length (g x)) → slice_get (flat_map g xs) number ≡ slice_get (g (get_or xs part e)) at
-    piece_found g long =
-        let whole : length (flat_map g (take part xs)) + at ≡ number = omega (arith, length-flat_map g (take part xs), same_sum (take part xs), sum_before, low) in
-        ap (λ (k : ℕ). slice_get (flat_map g xs) k) (sym whole) ∙ get-flat_map g xs part at e part_there (omega (arith, number_there, long (get_or xs part e)))
-      where
-        same_sum : (ys : List X) → sum_by f ys ≡ sum_by (λ x. length (g x)) ys
-        same_sum ys = sums_same f (λ x. length (g x)) ys long
+    piece_found g long = found_at f g long xs part at number e part_there (omega (arith, sum_before, low)) number_there
 
 -- ---- regions of a copy between buffers
 
@@ -118,7 +128,7 @@ pub region_sized : (gs : List BufferCopy) (i : ℕ) (e : BufferCopy) (n : ℕ) �
 region_sized gs i e n counted = let g = get_or gs i e in counted (copy_writes 0 0 g) (length_copy 0 0 g)
 
 pub copy_count : (s d : ℕ) (gs : List BufferCopy) → sum_by region_count gs ≡ length (copy_pieces s d gs)
-copy_count s d gs = sums_same region_count (λ g. length (cut 4096 (copy_writes s d g))) gs (region_counted s d) ∙ sym (length-flat_map (λ g. cut 4096 (copy_writes s d g)) gs)
+copy_count s d gs = counted_length region_count (λ g. cut 4096 (copy_writes s d g)) (region_counted s d) gs
 
 module _ (gs : List BufferCopy) (before : List ℕ) (part number at : ℕ) (e : BufferCopy) (counted : AreCounted region_count gs (length gs) before) (inside : part + 1 < length before) (low : slice_index before part + at ≡ number) (high : number < slice_index before (part + 1)) where
   pub copy_found : (s d : ℕ) → copy_piece s d gs number ≡ region_piece s d (get_or gs part e) at

@@ -1,9 +1,8 @@
 use Rattle.std.proofs.Common.{◌≡◌, ◌<◌, List, length, get_or, ap, sym, subst, ◌∙◌, arith}
 use Rattle.std.specs.List.{Contains}
-use Rattle.std.proofs.lemmas.List.{get_or_default}
 use Rattle.vk_model.specs.declared.command.BufferCopy.{BufferCopy}
 use Rattle.vk_transfer.specs.Copies.{copy_pieces, copy_piece, region_count}
-use Rattle.vk_transfer.proofs.Counting.{whole_sum, first_none, part_there, copy_count, copy_found, copy_there}
+use Rattle.vk_transfer.proofs.Counting.{whole_sum, part_among, part_there, copy_count, copy_found, copy_there}
 use Rattle.vk_transfer.proofs.regions.CopyPieces.find.Goals as goal
 
 abbrev none : BufferCopy
@@ -22,9 +21,10 @@ returns-clause-piece c = λ s d.
 
 pub returns-clause-region : goal.returns-clause-region
 returns-clause-region c =
+    let gs = c.self.inside.regions.now in
     let part = c.find-found.result.part in
-    let there = part_there region_count c.self.inside.regions.now c.self.inside.counts part c.args.number c.find-found.result.number none c.self.invariant c.find-found.ensures.inside c.find-found.ensures.low c.find-found.ensures.high in
-    subst (λ (gs : List BufferCopy). Contains gs (get_or c.self.inside.regions.now part none)) c.self.view_is (part, there, sym (get_or_default c.self.inside.regions.now part none (get_or c.self.inside.regions.now part none) there))
+    subst (λ (l : List BufferCopy). Contains l (get_or gs part none)) c.self.view_is
+    (part_among gs part none (part_there region_count gs c.self.inside.counts part c.args.number c.find-found.result.number none c.self.invariant c.find-found.ensures.inside c.find-found.ensures.low c.find-found.ensures.high))
 
 pub returns-clause-number : goal.returns-clause-number
 returns-clause-number c = copy_there c.self.inside.regions.now c.self.inside.counts c.find-found.result.part c.args.number c.find-found.result.number none c.self.invariant c.find-found.ensures.inside c.find-found.ensures.low c.find-found.ensures.high
