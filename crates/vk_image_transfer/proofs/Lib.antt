@@ -7,3 +7,4 @@ pub mod ImageRows
 pub mod Clears
 pub mod BufferRows
 pub mod Copies
+pub mod AllPieces

@@ -8,9 +8,13 @@ mod copying_in;
 mod copying_out;
 mod lines;
 mod moving;
+mod ranges;
+mod regions;
 mod rows;
 
 pub use clearing::LevelClear;
 pub use copying_images::CopyImage;
 pub use copying_in::CopyIn;
 pub use copying_out::CopyOut;
+pub use ranges::{Clear, ClearRow};
+pub use regions::{ImageCopyRow, ImageCopyRows, RegionRow, RegionRows};

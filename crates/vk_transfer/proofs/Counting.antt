@@ -1,19 +1,20 @@
--- How many pieces of a copy come before each region, and which one has a number.
+-- How many pieces come before each part of a command, and which part has a piece.
 use Rattle.std.proofs.Common.{◌≡◌, inl, inr, ℕ, zero, suc, ◌+◌, ◌-◌, ◌*◌, ◌<◌, ◌≤◌, List, [], ◌∷◌, ◌++◌, length, take, get_or, slice_index, slice_get, refl, ap, sym, ◌∙◌, arith, length-append, Option, Some, None}
 use Rattle.std.proofs.lemmas.Bool.{cases_lt}
-use Rattle.std.proofs.lemmas.List.{get_or_append_left, get_or_default}
+use Rattle.std.proofs.lemmas.List.{get_or_append_left, get_or_default, take_all}
 use Rattle.std.proofs.lemmas.List.Concat.{length-flat_map}
-use Rattle.std.proofs.lemmas.List.Folds.{length-flat_map-take}
-use Rattle.std.proofs.lemmas.List.Sums.{sum_by_more}
+use Rattle.std.proofs.lemmas.List.Sums.{sum_by-cons, sum_by_more, sum_by_more_le}
 use Rattle.std.proofs.Math.Seq.{get_or-append_seam}
-use Rattle.std.specs.List.{flat_map}
+use Rattle.std.specs.List.{Contains, flat_map, sum_by}
+use Rattle.std.specs.Prelude.{Result, Ok, Err, IsErrOf}
+use Rattle.std.specs.Result.{IsErrAnd}
 use Rattle.vk_model.specs.declared.command.BufferCopy.{BufferCopy}
 use Rattle.vk_model.specs.World.ByteWrites.{ByteWrite, copy_writes}
 use Rattle.vk_model.specs.Run.Pieces.{cut}
-use Rattle.vk_transfer.specs.Copies.{copy_pieces, copy_piece, region_piece}
-use Rattle.vk_transfer.specs.Inner.Counted.{AreCounted}
+use Rattle.vk_transfer.specs.Copies.{copy_pieces, copy_piece, region_piece, region_count}
+use Rattle.vk_transfer.specs.Counted.{AreCounted, all_counted}
 use Rattle.vk_transfer.proofs.CopiedBytes.{length_copy}
-use Rattle.vk_transfer.proofs.Ranges.{piece_below}
+use Rattle.vk_transfer.proofs.Ranges.{piece_below, piece_counted}
 
 -- ---- items of lists that are put together
 
@@ -26,7 +27,7 @@ get-right : {X : Type 0} (xs ys : List X) (i : ℕ) → slice_get (xs ++ ys) (le
 get-right [] ys i = let none : 0 + i ≡ i = omega arith in ap (λ (k : ℕ). slice_get ys k) none
 get-right (x ∷ xs) ys i = let more : suc (length xs) + i ≡ suc (length xs + i) = omega arith in ap (λ (k : ℕ). slice_get (x ∷ (xs ++ ys)) k) more ∙ get-right xs ys i
 
-get-flat_map : {X A : Type 0} (f : X → List A) (gs : List X) (i j : ℕ) (d : X) → i < length gs → j < length (f (get_or gs i d)) → slice_get (flat_map f gs) (length (flat_map f (take i gs)) + j) ≡ slice_get (f (get_or gs i d)) j
+pub get-flat_map : {X A : Type 0} (f : X → List A) (gs : List X) (i j : ℕ) (d : X) → i < length gs → j < length (f (get_or gs i d)) → slice_get (flat_map f gs) (length (flat_map f (take i gs)) + j) ≡ slice_get (f (get_or gs i d)) j
 get-flat_map f [] i j d lt small = absurd (omega arith)
 get-flat_map f (g ∷ gs) zero j d lt small = let none : 0 + j ≡ j = omega arith in ap (λ (k : ℕ). slice_get (f g ++ flat_map f gs) k) none ∙ get-left (f g) (flat_map f gs) j small
 get-flat_map f (g ∷ gs) (suc i) j d lt small =
@@ -34,74 +35,104 @@ get-flat_map f (g ∷ gs) (suc i) j d lt small =
     let sum : length (f g ++ flat_map f (take i gs)) + j ≡ length (f g) + (rest + j) = omega (arith, length-append (f g) (flat_map f (take i gs))) in
     ap (λ (k : ℕ). slice_get (f g ++ flat_map f gs) k) sum ∙ get-right (f g) (flat_map f gs) (rest + j) ∙ get-flat_map f gs i j d (omega arith) small
 
+-- ---- sums
+
+pub sums_same : {X : Type 0} (f g : X → ℕ) (xs : List X) → ((x : X) → f x ≡ g x) → sum_by f xs ≡ sum_by g xs
+sums_same f g [] same = refl
+sums_same f g (x ∷ xs) same = omega (arith, sum_by-cons f x xs, sum_by-cons g x xs, same x, sums_same f g xs same)
+
+-- ---- parts with so many pieces each
+
+-- a part among all
+pub part_among : {X : Type 0} (xs : List X) (i : ℕ) (e : X) → i < length xs → Contains xs (get_or xs i e)
+part_among xs i e lt = (i, lt, sym (get_or_default xs i e (get_or xs i e) lt))
+
+module _ {X A : Type 0} (f : X → ℕ) (g : X → List A) (long : (x : X) → f x ≡ length (g x)) where
+  pub counted_length : (xs : List X) → sum_by f xs ≡ length (flat_map g xs)
+  counted_length xs = sums_same f (λ x. length (g x)) xs long ∙ sym (length-flat_map g xs)
+
+  pub found_at : (xs : List X) (i j n : ℕ) (e : X) → i < length xs → sum_by f (take i xs) + j ≡ n → j < f (get_or xs i e) → slice_get (flat_map g xs) n ≡ slice_get (g (get_or xs i e)) j
+  found_at xs i j n e lt whole low =
+      let sum : length (flat_map g (take i xs)) + j ≡ n = omega (arith, counted_length (take i xs), whole) in
+      ap (λ (k : ℕ). slice_get (flat_map g xs) k) (sym sum) ∙ get-flat_map g xs i j e lt (omega (arith, low, long (get_or xs i e)))
+
+-- ---- an error that is handed on
+
+pub same_error : {A E : Type 0} (r : Result A E) (e x : E) → IsErrOf r x → IsErrAnd r (λ y. y ≡ e) → e ≡ x
+same_error (Ok a) e x is handed = absurd handed
+same_error {A} {E} (Err y) e x is handed = let same : y ≡ x = cc in sym handed ∙ same
+
 -- ---- counts
 
-module _ (s d : ℕ) (gs : List BufferCopy) where
-  abbrev cuts : BufferCopy → List (List ByteWrite)
-  cuts g = cut 4096 (copy_writes s d g)
+module _ {X : Type 0} (f : X → ℕ) (xs : List X) where
+  pub none_counted : AreCounted f xs 0 (0 ∷ [])
+  none_counted = record { long = refl; sums = λ i le. first i le }
+    where
+      first : (i : ℕ) → i ≤ 0 → slice_index (0 ∷ []) i ≡ sum_by f (take i xs)
+      first zero le = refl
+      first (suc i) le = absurd (omega arith)
 
-  pub counted_more : (i : ℕ) (e : BufferCopy) → i < length gs → length (copy_pieces s d (take (i + 1) gs)) ≡ length (copy_pieces s d (take i gs)) + length (cuts (get_or gs i e))
-  counted_more i e lt =
-      length-flat_map cuts (take (i + 1) gs) ∙ sum_by_more (λ g. length (cuts g)) gs i e lt
-      ∙ ap (λ (k : ℕ). k + length (cuts (get_or gs i e))) (sym (length-flat_map cuts (take i gs)))
+  pub all_sum : (count : ℕ) (before : List ℕ) → AreCounted f xs count before → all_counted before ≡ sum_by f (take count xs)
+  all_sum count before counted = let last : length before - 1 ≡ count = omega (arith, counted.long) in ap (λ (k : ℕ). slice_index before k) last ∙ counted.sums count (omega arith)
 
-  -- the piece of a number, by the region where the counts pass it
-  pub piece_found : (number i : ℕ) (e : BufferCopy) → i < length gs → length (copy_pieces s d (take i gs)) ≤ number → number < length (copy_pieces s d (take (i + 1) gs))
-      → copy_piece s d gs number ≡ region_piece s d (get_or gs i e) (number - length (copy_pieces s d (take i gs)))
-  piece_found number i e lt low high =
-      let before = length (copy_pieces s d (take i gs)) in
-      let whole : before + (number - before) ≡ number = omega (arith, low) in
-      let small : number - before < length (cuts (get_or gs i e)) = omega (arith, counted_more i e lt, low, high) in
-      let found : slice_get (copy_pieces s d gs) number ≡ slice_get (cuts (get_or gs i e)) (number - before) =
-      ap (λ (k : ℕ). slice_get (copy_pieces s d gs) k) (sym whole) ∙ get-flat_map cuts gs i (number - before) e lt small in
-      ap (λ (p : Option (List ByteWrite)). elim p [ None ↦ [] | Some ms ↦ ms ]) found
+  pub whole_sum : (before : List ℕ) → AreCounted f xs (length xs) before → all_counted before ≡ sum_by f xs
+  whole_sum before counted = all_sum (length xs) before counted ∙ ap (λ (l : List X). sum_by f l) (take_all (length xs) xs (omega arith))
 
-  pub number_below : (number i : ℕ) (e : BufferCopy) → i < length gs → length (copy_pieces s d (take i gs)) ≤ number → number < length (copy_pieces s d (take (i + 1) gs))
-      → 4096 * (number - length (copy_pieces s d (take i gs))) < (get_or gs i e).size
-  number_below number i e lt low high =
-      let g = get_or gs i e in
-      piece_below (copy_writes s d g) g.size (number - length (copy_pieces s d (take i gs))) (length_copy s d g) (omega (arith, counted_more i e lt, low, high))
+  pub first_none : (before : List ℕ) → AreCounted f xs (length xs) before → slice_index before 0 ≡ 0
+  first_none before counted = counted.sums 0 (omega arith)
 
--- a region more is counted
-pub count_pushed : (gs : List BufferCopy) (k count : ℕ) (before : List ℕ) → AreCounted gs k before → ((s d : ℕ) → count ≡ length (copy_pieces s d (take (k + 1) gs))) → AreCounted gs (k + 1) (before ++ count ∷ [])
-count_pushed gs k count before counted is = record {
-  long = omega (arith, length-append before (count ∷ []), counted.long);
-  pieces = λ s d i le. elim (cases_lt i (k + 1)) [
-    | inl lt ↦ get_or_append_left before (count ∷ []) 0 i (omega (arith, counted.long, lt)) ∙ counted.pieces s d i (omega (arith, lt))
-    | inr ge ↦
-        let last : i ≡ length before = omega (arith, counted.long, le, ge) in
-        let here : i ≡ k + 1 = omega (arith, le, ge) in
-        ap (λ (j : ℕ). slice_index (before ++ count ∷ []) j) last ∙ get_or-append_seam before count [] 0 ∙ is s d ∙ ap (λ (j : ℕ). length (copy_pieces s d (take j gs))) (sym here)
-  ];
-}
+  -- one more part
+  module _ (k n : ℕ) (e : X) (before : List ℕ) (lt : k < length xs) (counted : AreCounted f xs k before) (is : n ≡ f (get_or xs k e)) where
+    more_is : all_counted before + n ≡ sum_by f (take (k + 1) xs)
+    more_is = omega (arith, all_sum k before counted, is, sum_by_more f xs k e lt)
 
--- the pieces of the next region, added to those so far
-module _ (gs : List BufferCopy) (k count n : ℕ) (e : BufferCopy) (lt : k < length gs) (so_far : (s d : ℕ) → count ≡ length (copy_pieces s d (take k gs))) (next : (ms : List ByteWrite) → length ms ≡ (get_or gs k e).size → n ≡ length (cut 4096 ms)) where
-  pub count_next : (s d : ℕ) → count + n ≡ length (copy_pieces s d (take (k + 1) gs))
-  count_next s d = let same = so_far s d in let more = next (copy_writes s d (get_or gs k e)) (length_copy s d (get_or gs k e)) in omega (arith, same, more, counted_more s d gs k e lt)
+    pub more_counted : AreCounted f xs (k + 1) (before ++ (all_counted before + n) ∷ [])
+    more_counted = record {
+      long = omega (arith, length-append before ((all_counted before + n) ∷ []), counted.long);
+      sums = λ i le. elim (cases_lt i (k + 1)) [
+        | inl low ↦ get_or_append_left before ((all_counted before + n) ∷ []) 0 i (omega (arith, counted.long, low)) ∙ counted.sums i (omega (arith, low))
+        | inr ge ↦
+            let last : i ≡ length before = omega (arith, counted.long, le, ge) in
+            let here : i ≡ k + 1 = omega (arith, le, ge) in
+            ap (λ (j : ℕ). slice_index (before ++ (all_counted before + n) ∷ []) j) last ∙ get_or-append_seam before (all_counted before + n) [] 0 ∙ more_is ∙ ap (λ (j : ℕ). sum_by f (take j xs)) (sym here)
+      ];
+    }
 
-  pub count_within : (s d : ℕ) → count + n ≤ length (copy_pieces s d gs)
-  count_within s d = let same = so_far s d in let more = next (copy_writes s d (get_or gs k e)) (length_copy s d (get_or gs k e)) in omega (arith, same, more, length-flat_map-take (cuts s d gs) gs k e lt)
+    pub more_within : all_counted before + n ≤ sum_by f xs
+    more_within = omega (arith, all_sum k before counted, is, sum_by_more_le f xs k e lt)
 
--- the piece of a number, by the counts, where one of them was read
-module _ (gs : List BufferCopy) (before steps : List ℕ) (number i count : ℕ) (e : BufferCopy) (counted : AreCounted gs (length gs) before) (same : steps ≡ before) (inside : i + 1 < length steps) (low : slice_index steps i ≤ number) (high : number < slice_index steps (i + 1)) (read : count ≡ get_or before i count) where
-  here : i < length gs
-  here = omega (arith, counted.long, inside, ap (λ (l : List ℕ). length l) same)
+  -- ---- the part that has a piece
 
-  at_start : (s d : ℕ) → slice_index before i ≡ length (copy_pieces s d (take i gs))
-  at_start s d = counted.pieces s d i (omega (arith, here))
+  module _ (before : List ℕ) (part number at : ℕ) (e : X) (counted : AreCounted f xs (length xs) before) (inside : part + 1 < length before) (low : slice_index before part + at ≡ number) (high : number < slice_index before (part + 1)) where
+    pub part_there : part < length xs
+    part_there = omega (arith, counted.long, inside)
 
-  is_count : count ≡ slice_index before i
-  is_count = read ∙ get_or_default before i count 0 (omega (arith, counted.long, here))
+    sum_before : slice_index before part ≡ sum_by f (take part xs)
+    sum_before = counted.sums part (omega (arith, part_there))
 
-  below : (s d : ℕ) → length (copy_pieces s d (take i gs)) ≤ number
-  below s d = rw (same, at_start s d) at low
+    pub number_there : at < f (get_or xs part e)
+    number_there = omega (arith, counted.sums (part + 1) (omega (arith, part_there)), sum_by_more f xs part e part_there, sum_before, low, high)
 
-  above : (s d : ℕ) → number < length (copy_pieces s d (take (i + 1) gs))
-  above s d = rw (same, counted.pieces s d (i + 1) (omega (arith, here))) at high
+    -- of parts with so many pieces each
+    pub piece_found : {A : Type 0} (g : X → List A) → ((x : X) → f x ≡ length (g x)) → slice_get (flat_map g xs) number ≡ slice_get (g (get_or xs part e)) at
+    piece_found g long = found_at f g long xs part at number e part_there (omega (arith, sum_before, low)) number_there
 
-  pub piece_at : (s d : ℕ) → copy_piece s d gs number ≡ region_piece s d (get_or gs i e) (number - count)
-  piece_at s d = piece_found s d gs number i e here (below s d) (above s d) ∙ ap (λ (k : ℕ). region_piece s d (get_or gs i e) (number - k)) (sym (is_count ∙ at_start s d))
+-- ---- regions of a copy between buffers
 
-  pub piece_there : 4096 * (number - count) < (get_or gs i e).size
-  piece_there = let start = is_count ∙ at_start 0 0 in omega (arith, start, number_below 0 0 gs number i e here (below 0 0) (above 0 0))
+-- a region has as many pieces for all buffers
+pub region_counted : (s d : ℕ) (g : BufferCopy) → region_count g ≡ length (cut 4096 (copy_writes s d g))
+region_counted s d g = piece_counted (copy_writes 0 0 g) g.size (length_copy 0 0 g) ∙ sym (piece_counted (copy_writes s d g) g.size (length_copy s d g))
+
+-- as it was counted for any byte writes of that size
+pub region_sized : (gs : List BufferCopy) (i : ℕ) (e : BufferCopy) (n : ℕ) → ((ms : List ByteWrite) → length ms ≡ (get_or gs i e).size → n ≡ length (cut 4096 ms)) → n ≡ region_count (get_or gs i e)
+region_sized gs i e n counted = let g = get_or gs i e in counted (copy_writes 0 0 g) (length_copy 0 0 g)
+
+pub copy_count : (s d : ℕ) (gs : List BufferCopy) → sum_by region_count gs ≡ length (copy_pieces s d gs)
+copy_count s d gs = counted_length region_count (λ g. cut 4096 (copy_writes s d g)) (region_counted s d) gs
+
+module _ (gs : List BufferCopy) (before : List ℕ) (part number at : ℕ) (e : BufferCopy) (counted : AreCounted region_count gs (length gs) before) (inside : part + 1 < length before) (low : slice_index before part + at ≡ number) (high : number < slice_index before (part + 1)) where
+  pub copy_found : (s d : ℕ) → copy_piece s d gs number ≡ region_piece s d (get_or gs part e) at
+  copy_found s d = ap (λ (p : Option (List ByteWrite)). elim p [ None ↦ [] | Some ms ↦ ms ]) (piece_found region_count gs before part number at e counted inside low high (λ g. cut 4096 (copy_writes s d g)) (region_counted s d))
+
+  pub copy_there : 4096 * at < (get_or gs part e).size
+  copy_there = let g = get_or gs part e in piece_below (copy_writes 0 0 g) g.size at (length_copy 0 0 g) (number_there region_count gs before part number at e counted inside low high)

@@ -5,4 +5,4 @@ pub mod Spliced
 pub mod FillPieces
 pub mod UpdatePieces
 pub mod CopiedBytes
-mod Counting
+pub mod Counting

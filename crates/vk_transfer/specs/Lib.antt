@@ -2,4 +2,4 @@ pub mod Ran
 pub mod Fills
 pub mod Updates
 pub mod Copies
-pub mod Inner
+pub mod Counted

@@ -2,12 +2,14 @@
 #![tactic(auto)]
 
 mod copying;
+mod counts;
 mod filling;
 mod pieces;
 mod regions;
 mod updating;
 
 pub use copying::RegionCopy;
+pub use counts::{CopyError, Counts, FoundPart};
 pub use filling::Fill;
-pub use regions::{CopyError, CopyPieces, FoundPiece};
+pub use regions::{CopyPieces, FoundPiece};
 pub use updating::Update;

@@ -1,24 +1,27 @@
-use Rattle.std.proofs.Common.{◌≡◌, ℕ, ◌+◌, List, length, take, sym, subst, ◌∙◌, arith}
+use Rattle.std.proofs.Common.{◌≡◌, ℕ, ◌+◌, List, length, ap, sym, subst, arith}
 use Rattle.vk_model.specs.declared.command.BufferCopy.{BufferCopy}
-use Rattle.vk_transfer.specs.Copies.{copy_pieces}
-use Rattle.vk_transfer.specs.Inner.Counted.{AreCounted}
-use Rattle.vk_transfer.proofs.Counting.{count_next, count_within, count_pushed}
+use Rattle.vk_transfer.specs.Copies.{region_count}
+use Rattle.vk_transfer.specs.Counted.{AreCounted}
+use Rattle.vk_transfer.proofs.Counting.{same_error, copy_count, region_sized, more_counted, more_within}
+use Rattle.std.specs.Prelude.{Err}
+use Rattle.vk_transfer.specs.declared.counts.CopyError.{CopyError}
+use Rattle.vk_transfer.specs.declared.counts.CopyError.TheVariants.{TooManyPieces}
 use Rattle.vk_transfer.proofs.regions.CopyPieces.new.Goals as goal
 
 abbrev none : BufferCopy
 none = record { source_offset = 0; destination_offset = 0; size = 0 }
 
-pub returns-in-None-clause-many : goal.returns-in-None-clause-many
-returns-in-None-clause-many c = λ is s d. let within = count_within c.args.regions.now c.loop-region.region-index c.loop-region.count c.piece_count.result none c.loop-region-test.true c.loop-region.invariant.so_far c.piece_count.ensures s d in omega (arith, within, c.in-None.ensures)
+pub returns-in_err-add-clause-many : goal.returns-in_err-add-clause-many
+returns-in_err-add-clause-many c = λ is s d.
+    let gs = c.args.regions.now in
+    let i = c.loop-region.region-index in
+    let within = more_within region_count gs i c.piece_count.result none c.loop-region.counts c.loop-region-test.true c.loop-region.invariant (region_sized gs i none c.piece_count.result c.piece_count.ensures) in
+    let many = c.in_err-add.ensures.many (ap (λ (e : CopyError). Err e) (same_error c.from_residual-in_err-add.result c.in_err-add.field-0.0 TooManyPieces is c.from_residual-in_err-add.ensures.1)) in
+    omega (arith, within, many, copy_count s d gs)
 
 pub loop-region-preserved : goal.loop-region-preserved
 loop-region-preserved c =
     let gs = c.args.regions.now in
-    let k = c.loop-region.region-index in
-    let at = c.loop-region.invariant in
-    let sum : c.in-Some.more ≡ c.loop-region.count + c.piece_count.result = omega (arith, c.in-Some.ensures) in
-    let next : (s d : ℕ) → c.in-Some.more ≡ length (copy_pieces s d (take (k + 1) gs)) = λ s d. sum ∙ count_next gs k c.loop-region.count c.piece_count.result none c.loop-region-test.true at.so_far c.piece_count.ensures s d in
-    record {
-      counted = subst (λ (l : List ℕ). AreCounted gs (k + 1) l) (sym c.in_ok-push-2.ensures.items) (count_pushed gs k c.in-Some.more c.loop-region.before.items at.counted next);
-      so_far = next;
-    }
+    let i = c.loop-region.region-index in
+    subst (λ (l : List ℕ). AreCounted region_count gs (i + 1) l) (sym c.in_ok-add.ensures.more)
+    (more_counted region_count gs i c.piece_count.result none c.loop-region.counts c.loop-region-test.true c.loop-region.invariant (region_sized gs i none c.piece_count.result c.piece_count.ensures))

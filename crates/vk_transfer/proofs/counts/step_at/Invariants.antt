@@ -1,5 +1,5 @@
 use Rattle.std.proofs.Common.{◌≤◌, ◌<◌, ◌-◌, slice_index, length}
-use Rattle.vk_transfer.proofs.regions.step_at.Given as goal
+use Rattle.vk_transfer.proofs.counts.step_at.Given as goal
 
 abbrev pub invariant-loop-high : goal.invariant-loop-high
 invariant-loop-high l = record {

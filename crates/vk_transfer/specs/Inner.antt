@@ -1,2 +1,0 @@
--- What only the contracts within the crate cite.
-pub mod Counted

@@ -1,0 +1,144 @@
+ghost use Rattle.std.specs.Prelude.{◌≡◌, ◌+◌, ◌-◌, ◌^◌, ◌<◌, ◌≤◌, [], ◌∷◌, ◌++◌, ℕ, List, length, slice_index, IfOk, OnOk, IsErrOf};
+ghost use Rattle.vk_transfer.specs.Counted.{all_counted};
+
+use std::alloc::{AllocError, AllocFailed, Global};
+use std::marker::Model;
+use thiserror::Error;
+
+/// Why the pieces of a copy could not be counted.
+#[derive(Clone, Copy, Debug, Drop, PartialEq, Eq, Error)]
+pub enum CopyError {
+    /// They are more than a number of 64 bits says.
+    #[error("too many pieces")]
+    TooManyPieces,
+    /// The program's own memory could not grow.
+    #[error("no memory")]
+    NoMemory,
+}
+
+impl From<AllocError> for CopyError {
+    ghost use Rattle.vk_transfer.specs.declared.counts.CopyError.TheVariants.{NoMemory};
+    ghost use Rattle.std.specs.Prelude.{◌≡◌};
+
+    ghost from_gives = { λ _ e. e ≡ NoMemory };
+
+    fn from(_refused: AllocError) -> CopyError {
+        CopyError::NoMemory
+    }
+}
+
+impl<T: Drop> From<AllocFailed<T>> for CopyError {
+    ghost use Rattle.vk_transfer.specs.declared.counts.CopyError.TheVariants.{NoMemory};
+    ghost use Rattle.std.specs.Prelude.{◌≡◌};
+
+    ghost from_gives = { λ _ e. e ≡ NoMemory };
+
+    fn from(_refused: AllocFailed<T>) -> CopyError {
+        CopyError::NoMemory
+    }
+}
+
+/// How many pieces come before each part of a command, to find the part that has a piece. Contracts
+/// see these numbers; the last is how many pieces there are.
+#[derive(Drop)]
+pub struct Counts {
+    before: Vec<u64>,
+}
+
+impl Model for Counts {
+    ghost use Rattle.std.specs.Prelude.{List, ℕ, ◌<◌, length};
+
+    ghost Value = { List ℕ };
+
+    ghost view = { λ c. c.before.items };
+
+    ghost invariant = { λ c. 0 < length c.before.items };
+}
+
+/// The part that has a piece.
+#[derive(Clone, Copy, Debug, Drop, PartialEq, Eq)]
+pub struct FoundPart {
+    /// The number of the part.
+    pub part: usize,
+    /// The number of the piece among those of the part.
+    pub number: u64,
+}
+
+impl Counts {
+    ghost use Rattle.vk_transfer.specs.declared.counts.CopyError.TheVariants.{TooManyPieces};
+
+    /// No parts yet.
+    ///
+    /// # Errors
+    /// Only want of memory.
+    pub fn new(alloc: Global) -> Result<Counts, CopyError>
+        ensures counts { IfOk result (λ c. c ≡ 0 ∷ []) }
+        ensures few { IsErrOf result TooManyPieces → ⊥ }
+    {
+        let mut before = Vec::new(alloc);
+        before.push(0)?;
+        Ok(Counts { before })
+    }
+
+    /// Counts one more part, of so many pieces.
+    ///
+    /// # Errors
+    /// Where all together are more than a number of 64 bits says, and want of memory. Nothing is
+    /// counted then.
+    pub fn add(&mut self, pieces: u64) -> Result<(), CopyError>
+        ensures more { OnOk result (self.new ≡ self.old ++ (all_counted self.old + pieces) ∷ []) }
+        ensures many { IsErrOf result TooManyPieces → 2 ^ 64 ≤ all_counted self.old + pieces }
+    {
+        match self.all().checked_add(pieces) {
+            Some(more) => {
+                self.before.push(more)?;
+                Ok(())
+            }
+            None => Err(CopyError::TooManyPieces),
+        }
+    }
+
+    /// How many pieces all parts have.
+    pub fn all(&self) -> u64
+        ensures { result ≡ all_counted self.now }
+    {
+        self.before[self.before.len() - 1]
+    }
+
+    /// Finds the part that has the piece of a number. Its time grows with the digits of the number
+    /// of parts.
+    pub fn find(&self, number: u64) -> FoundPart
+        requires first { slice_index self.now 0 ≤ number }
+        requires last { number < all_counted self.now }
+        ensures inside { result.part + 1 < length self.now }
+        ensures low { slice_index self.now result.part + result.number ≡ number }
+        ensures high { number < slice_index self.now (result.part + 1) }
+    {
+        let part = step_at(&self.before, number);
+        FoundPart {
+            part,
+            number: number - self.before[part],
+        }
+    }
+}
+
+/// Where a number lies between two that follow each other.
+fn step_at(steps: &[u64], number: u64) -> usize
+    requires first { slice_index steps.now 0 ≤ number }
+    requires last { number < slice_index steps.now (length steps.now - 1) }
+    ensures inside { result + 1 < length steps.now }
+    ensures low { slice_index steps.now result ≤ number }
+    ensures high { number < slice_index steps.now (result + 1) }
+{
+    let mut low = 0;
+    let mut high = steps.len() - 1;
+    while high - low > 1 {
+        let middle = low + (high - low) / 2;
+        if steps[middle] <= number {
+            low = middle;
+        } else {
+            high = middle;
+        }
+    }
+    low
+}
