@@ -208,6 +208,14 @@ pub record AreContentsAt (c : BufferContents) (past : Past) (w : World) (r : ℕ
 abbrev pub AreContentsOf : BufferContents → Past → ℕ → Type 0
 AreContentsOf c past r = AreContentsAt c past (world past) r
 
+-- The contents of buffer b.
+pub record AreBufferContents (c : BufferContents) (past : Past) (b : ℕ) : Type 0 where
+  pub defined_size : length c.defined ≡ buffer_size past b
+  pub touches_size : length c.touches ≡ buffer_size past b
+  pub cache : c.is_cached ≡ is_cached past b
+  pub defined : (k : ℕ) → k < buffer_size past b → slice_get c.defined k ≡ Some (is_defined past b k)
+  pub touches : (k : ℕ) → k < buffer_size past b → slice_get c.touches k ≡ Some (touched past (in_buffer b k))
+
 -- What is no resource has no owner and no defined or dirty byte in a world, and nobody touched it.
 pub record IsFreshAt (past : Past) (w : World) (r : ℕ) : Type 0 where
   pub unmade : is_some (resource past r) ≡ false

@@ -22,7 +22,10 @@ use Rattle.vk_touches.specs.TouchedRanges.{reads_at, writes_at}
 use Rattle.vk_image_bytes.specs.Copies.{numbered_writes}
 use Rattle.vk_image_bytes.specs.Numbers.{byte_of, byte_count}
 use Rattle.vk_image_bytes.proofs.Numbering.{numbers_same}
-use Rattle.vk_history.specs.Contents.{byte_at, size_at}
+use Rattle.vk_model.specs.World.Effect.{world}
+use Rattle.vk_touches.specs.Touched.{touched}
+use Rattle.vk_history.specs.declared.contents.BufferContents.{BufferContents}
+use Rattle.vk_history.specs.Contents.{byte_at, size_at, has_value, AreContentsOf, AreBufferContents}
 use Rattle.vk_history.proofs.Points.Ranges.{byte_in, to-map, none_of, one_of, some_of}
 
 -- ---- what a byte is of
@@ -77,6 +80,16 @@ module _ (past : Past) (b : ℕ) (there : is_some (buffer past b) ≡ true) wher
   pub size_of_buffer : size_at past b ≡ buffer_size past b
   unfolding size_at
   size_of_buffer = rw (size_at, buffer_no_image) refl
+
+  -- the contents of a buffer
+  pub of_buffer : (c : BufferContents) → AreContentsOf c past b → AreBufferContents c past b
+  of_buffer c a = record {
+    defined_size = a.defined_size ∙ size_of_buffer;
+    touches_size = a.touches_size ∙ size_of_buffer;
+    cache = a.cache;
+    defined = λ k lt. a.defined k (rw size_of_buffer lt) ∙ ap (λ (x : Byte). Some (has_value (world past) x)) (byte_of_buffer k);
+    touches = λ k lt. a.touches k (rw size_of_buffer lt) ∙ ap (λ (x : Byte). Some (touched past x)) (byte_of_buffer k);
+  }
 
 module _ (past : Past) (i : ℕ) (m : ImageInfo) (is : image past i ≡ Some m) where
   pub byte_of_image : (k : ℕ) → byte_at past i k ≡ byte_of m i k
