@@ -1,3 +1,4 @@
 pub mod JudgedIds
 pub mod Worlds
 pub mod Ended
+pub mod Numbers

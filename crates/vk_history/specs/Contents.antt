@@ -1,4 +1,4 @@
--- What is kept of the bytes of buffers.
+-- What is kept of the bytes of buffers and images.
 use Rattle.std.specs.Prelude.{IsTrue, All, ◌≡◌, ◌≤◌, ◌<◌, ◌+◌, ◌-◌, ℕ, List, length, slice_get, Bool, true, false, not, ◌&&◌, ◌==◌, nat_le, nat_lt, if◌then◌else◌, Option, Some, None, is_some, is_none, unwrap_or, option_and_then, Contains}
 use Rattle.std.specs.Option.{option_map}
 use Rattle.std.specs.List.{list_any, find}
@@ -9,14 +9,15 @@ use Rattle.vk_model.specs.declared.command.BufferElement.{BufferElement}
 use Rattle.vk_model.specs.declared.command.Element.{Element}
 use Rattle.vk_model.specs.declared.command.Element.TheVariants as element
 use Rattle.vk_model.specs.declared.command.Length.{Length}
-use Rattle.vk_model.specs.declared.resource.BufferInfo.{BufferInfo}
+use Rattle.vk_model.specs.declared.resource.Sharing.{Sharing}
 use Rattle.vk_model.specs.Basics.{holds, within}
-use Rattle.vk_model.specs.World.Bytes.{in_buffer, World, Owner, Nobody, Family, Released}
+use Rattle.vk_model.specs.World.Bytes.{Byte, in_buffer, resource_at, World, Owner, Nobody, Family, Released}
 use Rattle.vk_model.specs.World.ByteWrites.{buffer_size, fill_size}
-use Rattle.vk_model.specs.World.Effect.{world, in_atoms, after_buffer_element}
+use Rattle.vk_model.specs.World.Effect.{world, in_atoms, used, set_owner, after_buffer_element}
 use Rattle.vk_model.specs.World.Ownership.{family_of, Transfer}
-use Rattle.vk_model.specs.Trace.Objects.{buffer, is_cached, is_exclusive, is_exclusive_mode}
+use Rattle.vk_model.specs.Trace.Objects.{buffer, image, resource, is_cached, is_exclusive, is_exclusive_mode}
 use Rattle.vk_model.specs.Trace.Point.{Past}
+use Rattle.vk_image_bytes.specs.Numbers.{byte_count, byte_of}
 use Rattle.vk_history.specs.declared.contents.BufferContents.{BufferContents}
 use Rattle.vk_history.specs.declared.contents.Contents.{Contents}
 use Rattle.vk_history.specs.declared.stretches.Stretch.{Stretch}
@@ -30,16 +31,16 @@ use Rattle.vk_touches.specs.Touched.{touched}
 
 -- ---- changes
 
--- The contents of a buffer that was just made, in memory with a cache or without.
-pub record IsMade (c : BufferContents) (info : BufferInfo) (cached : Bool) : Type 0 where
-  pub defined_size : length c.defined ≡ info.size
-  pub dirty_size : length c.dirty ≡ info.size
-  pub touches_size : length c.touches ≡ info.size
-  pub undefined : (k : ℕ) → k < info.size → slice_get c.defined k ≡ Some false
-  pub clean : (k : ℕ) → k < info.size → slice_get c.dirty k ≡ Some false
+-- The contents of a resource that was just made, with so many bytes, in memory with a cache or without.
+pub record IsMade (c : BufferContents) (size : ℕ) (sharing : Sharing) (cached : Bool) : Type 0 where
+  pub defined_size : length c.defined ≡ size
+  pub dirty_size : length c.dirty ≡ size
+  pub touches_size : length c.touches ≡ size
+  pub undefined : (k : ℕ) → k < size → slice_get c.defined k ≡ Some false
+  pub clean : (k : ℕ) → k < size → slice_get c.dirty k ≡ Some false
   pub cache : c.is_cached ≡ cached
-  pub unread : (k : ℕ) → k < info.size → slice_get c.touches k ≡ Some untouched
-  pub mode : c.is_exclusive ≡ is_exclusive_mode info.sharing
+  pub unread : (k : ℕ) → k < size → slice_get c.touches k ≡ Some untouched
+  pub mode : c.is_exclusive ≡ is_exclusive_mode sharing
   pub nobody : c.owner ≡ None
 
 -- After a change: the owner, whether each byte is defined, whether it is dirty, and what it remembers, by what was so before.
@@ -94,9 +95,9 @@ IsRead old new o n s = IsChanged old new old.owner as_before as_before (touching
 abbrev pub IsSet : BufferContents → BufferContents → ℕ → ℕ → Spot → Type 0
 IsSet old new o n s = IsChanged old new old.owner (defines (within o n)) (assigns (within o n) old.is_cached) (touching (within o n) touch.HostWrite s)
 
--- After a command of a family has given a range values.
-abbrev pub IsWritten : BufferContents → BufferContents → ℕ → ℕ → ℕ → Spot → Type 0
-IsWritten old new o n family s = IsChanged old new (owner_after old family) (λ k d. defines (within o n) k (left_of old family k d)) as_before (touching (within o n) touch.Write s)
+-- After a command of a family has given the bytes values that pass a test.
+abbrev pub IsWritten : BufferContents → BufferContents → (ℕ → Bool) → ℕ → Spot → Type 0
+IsWritten old new test family s = IsChanged old new (owner_after old family) (λ k d. defines test k (left_of old family k d)) as_before (touching test touch.Write s)
 
 -- After the host has flushed a range: the bytes that it reaches are clean.
 abbrev pub IsFlushed : BufferContents → BufferContents → ℕ → Length → Spot → Type 0
@@ -156,7 +157,7 @@ BecomesIn is (Some old) (Some new) = is old new
 
 -- After a command of a queue has given a range values, in a buffer of its size.
 abbrev pub IsWrittenBy : ℕ → Length → ℕ → Spot → BufferContents → BufferContents → Type 0
-IsWrittenBy o n q s old new = IsWritten old new o (fill_size (length old.defined) o n) (family_of q) s
+IsWrittenBy o n q s old new = IsWritten old new (within o (fill_size (length old.defined) o n)) (family_of q) s
 
 -- After a source was read, with what was found there.
 abbrev pub IsLentWith : List BufferCopy → List Stretch → ℕ → Spot → BufferContents → BufferContents → Type 0
@@ -170,65 +171,77 @@ holder_of Nobody = None
 holder_of (Family f) = Some f
 holder_of (Released f e) = Some f
 
+-- Whether a byte is defined in a world.
+abbrev pub has_value : World → Byte → Bool
+has_value w b = not (is_none (w.value b))
+
 -- Whether byte k of a buffer is defined.
 abbrev pub is_defined_in : World → ℕ → ℕ → Bool
-is_defined_in w b k = not (is_none (w.value (in_buffer b k)))
+is_defined_in w b k = has_value w (in_buffer b k)
 
 -- The same after what has happened.
 abbrev pub is_defined : Past → ℕ → ℕ → Bool
 is_defined past b k = is_defined_in (world past) b k
 
--- Whether byte k of a buffer is dirty.
-abbrev pub is_dirty_in : World → ℕ → ℕ → Bool
-is_dirty_in w b k = w.dirty (in_buffer b k)
+-- The byte of a number: byte k of a buffer, or of an image (profile).
+unfoldable pub byte_at : Past → ℕ → ℕ → Byte
+byte_at past r k = elim (image past r) [ None ↦ in_buffer r k | Some m ↦ byte_of m r k ]
 
--- The same after what has happened.
-abbrev pub is_dirty : Past → ℕ → ℕ → Bool
-is_dirty past b k = is_dirty_in (world past) b k
+-- How many bytes a resource has that are numbered (profile).
+unfoldable pub size_at : Past → ℕ → ℕ
+size_at past r = elim (image past r) [ None ↦ buffer_size past r | Some m ↦ byte_count m ]
 
--- The contents of buffer b, where a world has its bytes and its owner.
-pub record AreContentsAt (c : BufferContents) (past : Past) (w : World) (b : ℕ) : Type 0 where
-  pub made : is_some (buffer past b) ≡ true
-  pub defined_size : length c.defined ≡ buffer_size past b
-  pub dirty_size : length c.dirty ≡ buffer_size past b
-  pub touches_size : length c.touches ≡ buffer_size past b
-  pub mode : c.is_exclusive ≡ is_exclusive past b
-  pub cache : c.is_cached ≡ is_cached past b
-  pub owner : c.owner ≡ holder_of (w.owner b)
-  pub defined : (k : ℕ) → k < buffer_size past b → slice_get c.defined k ≡ Some (is_defined_in w b k)
-  pub dirty : (k : ℕ) → k < buffer_size past b → slice_get c.dirty k ≡ Some (is_dirty_in w b k)
-  pub touches : (k : ℕ) → k < buffer_size past b → slice_get c.touches k ≡ Some (touched past (in_buffer b k))
+-- The contents of resource r, where a world has its bytes and its owner.
+pub record AreContentsAt (c : BufferContents) (past : Past) (w : World) (r : ℕ) : Type 0 where
+  pub made : is_some (resource past r) ≡ true
+  pub defined_size : length c.defined ≡ size_at past r
+  pub dirty_size : length c.dirty ≡ size_at past r
+  pub touches_size : length c.touches ≡ size_at past r
+  pub mode : c.is_exclusive ≡ is_exclusive past r
+  pub cache : c.is_cached ≡ is_cached past r
+  pub owner : c.owner ≡ holder_of (w.owner r)
+  pub defined : (k : ℕ) → k < size_at past r → slice_get c.defined k ≡ Some (has_value w (byte_at past r k))
+  pub dirty : (k : ℕ) → k < size_at past r → slice_get c.dirty k ≡ Some (w.dirty (byte_at past r k))
+  pub touches : (k : ℕ) → k < size_at past r → slice_get c.touches k ≡ Some (touched past (byte_at past r k))
+
+-- The contents of resource r.
+abbrev pub AreContentsOf : BufferContents → Past → ℕ → Type 0
+AreContentsOf c past r = AreContentsAt c past (world past) r
 
 -- The contents of buffer b.
-abbrev pub AreContentsOf : BufferContents → Past → ℕ → Type 0
-AreContentsOf c past b = AreContentsAt c past (world past) b
+pub record AreBufferContents (c : BufferContents) (past : Past) (b : ℕ) : Type 0 where
+  pub defined_size : length c.defined ≡ buffer_size past b
+  pub touches_size : length c.touches ≡ buffer_size past b
+  pub cache : c.is_cached ≡ is_cached past b
+  pub defined : (k : ℕ) → k < buffer_size past b → slice_get c.defined k ≡ Some (is_defined past b k)
+  pub touches : (k : ℕ) → k < buffer_size past b → slice_get c.touches k ≡ Some (touched past (in_buffer b k))
 
--- What is no buffer has no owner and no dirty byte in a world, and nobody touched it.
-pub record IsFreshAt (past : Past) (w : World) (b : ℕ) : Type 0 where
-  pub unmade : is_some (buffer past b) ≡ false
-  pub owner : w.owner b ≡ Nobody
-  pub undefined : (k : ℕ) → is_defined_in w b k ≡ false
-  pub clean : (k : ℕ) → is_dirty_in w b k ≡ false
-  pub unused : (k : ℕ) → touched past (in_buffer b k) ≡ untouched
+-- What is no resource has no owner and no defined or dirty byte in a world, and nobody touched it.
+pub record IsFreshAt (past : Past) (w : World) (r : ℕ) : Type 0 where
+  pub unmade : is_some (resource past r) ≡ false
+  pub owner : w.owner r ≡ Nobody
+  pub undefined : (b : Byte) → resource_at b ≡ r → has_value w b ≡ false
+  pub clean : (b : Byte) → resource_at b ≡ r → w.dirty b ≡ false
+  pub unused : (b : Byte) → resource_at b ≡ r → touched past b ≡ untouched
 
 -- The same after what has happened.
 abbrev pub IsFresh : Past → ℕ → Type 0
-IsFresh past b = IsFreshAt past (world past) b
+IsFresh past r = IsFreshAt past (world past) r
 
--- The contents of what may be a buffer, in a world.
+-- The contents of what may be a resource, in a world.
 abbrev pub AreContentsInAt : Option BufferContents → Past → World → ℕ → Type 0
-AreContentsInAt None past w b = IsFreshAt past w b
-AreContentsInAt (Some c) past w b = AreContentsAt c past w b
+AreContentsInAt None past w r = IsFreshAt past w r
+AreContentsInAt (Some c) past w r = AreContentsAt c past w r
 
--- The contents of what may be a buffer.
+-- The contents of what may be a resource.
 abbrev pub AreContentsIn : Option BufferContents → Past → ℕ → Type 0
-AreContentsIn o past b = AreContentsInAt o past (world past) b
+AreContentsIn o past r = AreContentsInAt o past (world past) r
 
--- The contents of all buffers, in a world.
+-- The contents of all resources, in a world.
 abbrev pub AreAllAt : Contents → Past → World → Type 0
-AreAllAt contents past w = (b : ℕ) → AreContentsInAt (get nat_cmp contents.buffers b) past w b
+AreAllAt contents past w = (r : ℕ) → AreContentsInAt (get nat_cmp contents.buffers r) past w r
 
--- The contents of all buffers.
+-- The contents of all resources.
 abbrev pub AreContents : Contents → Past → Type 0
 AreContents contents past = AreAllAt contents past (world past)
 
@@ -237,12 +250,16 @@ AreContents contents past = AreAllAt contents past (world past)
 -- Whether an element is on all memory, or on a buffer that is there.
 abbrev pub is_on_buffer : Past → Element → Bool
 is_on_buffer past (element.Memory d) = true
-is_on_buffer past (element.Buffer e) = is_some (buffer past e.buffer)
+is_on_buffer past (element.Buffer e) = is_some (resource past e.buffer)
 is_on_buffer past (element.Image e) = false
 
 -- All elements are.
 abbrev pub AreOnBuffers : Past → List Element → Type 0
 AreOnBuffers past es = All (λ e. IsTrue (is_on_buffer past e)) es
+
+-- After a use by a family, and a release.
+abbrev pub IsReleased : ℕ → BufferContents → BufferContents → Type 0
+IsReleased f old new = (past : Past) (w : World) (r : ℕ) (e : Element) → AreContentsAt old past w r → AreContentsAt new past (set_owner r (Released f e) (used past f r w)) r
 
 -- After what an element on the buffer does on a queue of a family, wherever it is.
 abbrev pub IsPassed : ℕ → Transfer → BufferContents → BufferContents → Type 0

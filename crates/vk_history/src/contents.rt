@@ -3,6 +3,7 @@ ghost use Rattle.std.specs.Option.{option_map};
 ghost use Rattle.std.specs.List.{fold};
 ghost use Rattle.std.specs.Ordering.{nat_cmp};
 ghost use Rattle.std.specs.BTreeMap.{get};
+ghost use Rattle.vk_model.specs.Basics.{within};
 ghost use Rattle.vk_model.specs.Trace.Point.{Past};
 ghost use Rattle.vk_model.specs.Sync.Node.{nodes};
 ghost use Rattle.vk_model.specs.World.Bytes.{World};
@@ -26,7 +27,7 @@ use crate::stretches::{Stretch, copies, define_all};
 use std::alloc::{AllocError, Global};
 use std::collections::BTreeMap;
 use vk_layouts::Transfer;
-use vk_model::{BufferCopy, BufferInfo, Element, Length, Sharing};
+use vk_model::{BufferCopy, Element, Length, Sharing};
 use vk_order::{Access, Frontier, Point};
 use vk_ranges::RangeMap;
 use vk_touches::{
@@ -51,16 +52,21 @@ pub struct BufferContents {
 }
 
 impl BufferContents {
-    /// Of a buffer that was made, in memory with a cache or without.
-    fn new(alloc: Global, info: &BufferInfo, is_cached: bool) -> Result<BufferContents, AllocError>
-        ensures { IfOk result (λ contents. IsMade contents info.now is_cached) }
+    /// Of a resource of so many bytes that was made, in memory with a cache or without.
+    fn new(
+        alloc: Global,
+        size: u64,
+        sharing: Sharing,
+        is_cached: bool,
+    ) -> Result<BufferContents, AllocError>
+        ensures { IfOk result (λ contents. IsMade contents size sharing is_cached) }
     {
         Ok(BufferContents {
-            defined: RangeMap::new(alloc, info.size, false)?,
-            dirty: RangeMap::new(alloc, info.size, false)?,
-            touches: RangeMap::new(alloc, info.size, LastTouches::none())?,
+            defined: RangeMap::new(alloc, size, false)?,
+            dirty: RangeMap::new(alloc, size, false)?,
+            touches: RangeMap::new(alloc, size, LastTouches::none())?,
             is_cached,
-            is_exclusive: matches!(info.sharing, Sharing::Exclusive),
+            is_exclusive: matches!(sharing, Sharing::Exclusive),
             owner: None,
         })
     }
@@ -84,7 +90,7 @@ impl BufferContents {
 
     /// After a command has given bytes values on a queue of a family.
     fn write(&mut self, offset: u64, size: u64, family: u32, spot: Spot) -> Result<(), AllocError>
-        ensures { OnOk result (IsWritten self.old self.new offset size family spot) }
+        ensures { OnOk result (IsWritten self.old self.new (within offset size) family spot) }
     {
         self.take_over(family)?;
         assign(&mut self.defined, offset, size, true)?;
@@ -174,7 +180,10 @@ impl Contents {
         let queue = point.queue;
         match change_by(point) {
             Change::Nothing => Ok(()),
-            Change::Made(buffer, info) => self.make(buffer, info, objects.is_cached(buffer)),
+            Change::Made(buffer, info) => {
+                let is_cached = objects.is_cached(buffer);
+                self.make(buffer, info.size, info.sharing, is_cached)
+            }
             Change::HostRead(buffer, offset, size) => self.read(buffer, offset, size, spot),
             Change::HostWritten(buffer, offset, size) => self.set(buffer, offset, size, spot),
             Change::Flushed(buffer, offset, size) => self.flush(buffer, offset, size, spot),
@@ -235,13 +244,19 @@ impl Contents {
         }
     }
 
-    fn make(&mut self, buffer: u32, info: &BufferInfo, is_cached: bool) -> Result<(), AllocError>
-        ensures here { OnOk result (IfSome (get nat_cmp self.new.buffers buffer) (λ contents. IsMade contents info.now is_cached)) }
-        ensures present { OnOk result (IsSome (get nat_cmp self.new.buffers buffer)) }
-        ensures others { OnOk result ((other : ℕ) → other ≢ buffer → get nat_cmp self.new.buffers other ≡ get nat_cmp self.old.buffers other) }
+    fn make(
+        &mut self,
+        resource: u32,
+        size: u64,
+        sharing: Sharing,
+        is_cached: bool,
+    ) -> Result<(), AllocError>
+        ensures here { OnOk result (IfSome (get nat_cmp self.new.buffers resource) (λ contents. IsMade contents size sharing is_cached)) }
+        ensures present { OnOk result (IsSome (get nat_cmp self.new.buffers resource)) }
+        ensures others { OnOk result ((other : ℕ) → other ≢ resource → get nat_cmp self.new.buffers other ≡ get nat_cmp self.old.buffers other) }
     {
-        let contents = BufferContents::new(self.alloc, info, is_cached)?;
-        self.buffers.insert(buffer, contents)?;
+        let contents = BufferContents::new(self.alloc, size, sharing, is_cached)?;
+        self.buffers.insert(resource, contents)?;
         Ok(())
     }
 

@@ -1,7 +1,6 @@
 ghost use Rattle.std.specs.Prelude.{OnOk};
-ghost use Rattle.vk_model.specs.World.Ownership as ownership;
 ghost use Rattle.vk_layouts.specs.Owned.{transfer_of};
-ghost use Rattle.vk_history.specs.Contents.{IsPassed};
+ghost use Rattle.vk_history.specs.Contents.{IsPassed, IsReleased};
 
 use crate::contents::BufferContents;
 use std::alloc::AllocError;
@@ -14,7 +13,10 @@ impl BufferContents {
         ensures { OnOk result (IsPassed family (transfer_of transfer) self.old self.new) }
     {
         match transfer {
-            Transfer::Release => self.release(family),
+            Transfer::Release => {
+                self.release(family)?;
+                Ok(())
+            }
             Transfer::Acquire => {
                 self.owner = Some(family);
                 Ok(())
@@ -25,7 +27,7 @@ impl BufferContents {
 
     /// After a release by a family.
     fn release(&mut self, family: u32) -> Result<(), AllocError>
-        ensures { OnOk result (IsPassed family ownership.Release self.old self.new) }
+        ensures { OnOk result (IsReleased family self.old self.new) }
     {
         self.take_over(family)?;
         self.owner = Some(family);

@@ -8,10 +8,9 @@ use Rattle.std.proofs.lemmas.Bool.{eq-eqb}
 use Rattle.vk_model.specs.declared.command.Length.{Length}
 use Rattle.vk_model.specs.declared.entry.Entry.TheVariants as entry
 use Rattle.vk_model.specs.Basics.{holds}
-use Rattle.vk_model.specs.World.Bytes.{Byte, in_buffer}
-use Rattle.vk_model.specs.World.ByteWrites.{buffer_size}
+use Rattle.vk_model.specs.World.Bytes.{Byte, in_buffer, in_image, resource_at}
 use Rattle.vk_model.specs.World.Effect.{world, after_action, flushed, invalidated, in_atoms, reaches}
-use Rattle.vk_model.specs.Trace.Objects.{buffer, is_cached}
+use Rattle.vk_model.specs.Trace.Objects.{buffer, resource, is_cached}
 use Rattle.vk_model.specs.Trace.Point.{Past, Point, Action, Host}
 use Rattle.vk_model.specs.Sync.Node.{Node, Act, nodes, acts, with_acts}
 use Rattle.vk_model.specs.Sync.Edge.{is_element, is_host}
@@ -32,22 +31,24 @@ use Rattle.vk_touches.specs.declared.touches.Touch.TheVariants as touch
 use Rattle.vk_history.specs.Judged.{IsJudged}
 use Rattle.vk_touches.specs.Conflicts.{SaysSeen, SeesWrite}
 use Rattle.vk_touches.specs.Touched.{touched, next_spot, next_node, act_next, last_touch, spot_of}
-use Rattle.vk_history.specs.Contents.{AreContents, AreContentsOf, BecomesIn, IsFlushed, IsInvalidated, holder_of, is_defined, is_dirty, is_on, as_before, assigns}
+use Rattle.vk_history.specs.Contents.{AreContents, AreContentsOf, BecomesIn, IsFlushed, IsInvalidated, holder_of, has_value, byte_at, size_at, is_on, as_before, assigns}
 use Rattle.vk_touches.specs.TouchedRanges.{sees_at, flushing, invalidating}
 use Rattle.vk_history.proofs.Making.Worlds.{turned_about}
 use Rattle.vk_touches.proofs.Touching.Flushing.{writer_is}
 use Rattle.vk_touches.proofs.Touching.Remembering.{touched_by_flush, touched_by_invalidation}
 use Rattle.vk_history.proofs.Kept.NextPoint.{there_on_host}
 use Rattle.vk_history.proofs.Kept.ContentSteps.{one_changed, next_of}
+use Rattle.vk_history.proofs.Making.Numbers.{byte_of_buffer, buffer_is_resource}
 
 -- ---- which bytes are reached
 
 module _ (b o : ℕ) (n : Length) where
-  in_own : (k : ℕ) → reaches b o n (in_buffer b k) ≡ in_atoms o n k
-  in_own k = rw (eq-eqb b b refl) refl
+  in_own : (past : Past) → is_some (buffer past b) ≡ true → (k : ℕ) → reaches b o n (byte_at past b k) ≡ in_atoms o n k
+  in_own past there k = ap (reaches b o n) (byte_of_buffer past b there k) ∙ rw (eq-eqb b b refl) refl
 
-  in_other : (c k : ℕ) → (c == b) ≡ false → reaches b o n (in_buffer c k) ≡ false
-  in_other c k e = rw (turned_about b c, e) refl
+  in_other : (r : ℕ) (c : Byte) → (r == b) ≡ false → resource_at c ≡ r → reaches b o n c ≡ false
+  in_other r (in_buffer c k) e own = rw (turned_about b c, own, e) refl
+  in_other r (in_image i l a x y p) e own = refl
 
 if_both : (t u d : Bool) → (if t then (if u then false else d) else d) ≡ (if t && u then false else d)
 if_both true u d = refl
@@ -56,7 +57,7 @@ if_both false u d = refl
 -- ---- a flush
 
 module _ (past : Past) (p : Point) (j : IsJudged (p ∷ past)) (b o : ℕ) (n : Length) (is : p.action ≡ Host (entry.Flush b o n)) where
-  flush_made : (c : ℕ) → buffer (p ∷ past) c ≡ buffer past c
+  flush_made : (c : ℕ) → resource (p ∷ past) c ≡ resource past c
   flush_made c = rw is refl
 
   flush_owned : (c : ℕ) → (world (p ∷ past)).owner c ≡ (world past).owner c
@@ -65,40 +66,43 @@ module _ (past : Past) (p : Point) (j : IsJudged (p ∷ past)) (b o : ℕ) (n : 
     go true = refl
     go false = refl
 
-  flush_valued : (c k : ℕ) → is_defined (p ∷ past) c k ≡ is_defined past c k
-  flush_valued c k = ap (λ (e : Action). not (is_none ((after_action past p.queue e (world past)).value (in_buffer c k)))) is ∙ go (is_cached past b) where
-    go : (t : Bool) → not (is_none ((if t then flushed (reaches b o n) (world past) else world past).value (in_buffer c k))) ≡ is_defined past c k
+  flush_valued : (c : Byte) → has_value (world (p ∷ past)) c ≡ has_value (world past) c
+  flush_valued c = ap (λ (e : Action). not (is_none ((after_action past p.queue e (world past)).value c))) is ∙ go (is_cached past b) where
+    go : (t : Bool) → not (is_none ((if t then flushed (reaches b o n) (world past) else world past).value c)) ≡ has_value (world past) c
     go true = refl
     go false = refl
 
-  flush_dirty : (c k : ℕ) (t : Bool) → reaches b o n (in_buffer c k) ≡ t → is_dirty (p ∷ past) c k ≡ (if is_cached past b && t then false else is_dirty past c k)
-  flush_dirty c k t e = ap (λ (e : Action). (after_action past p.queue e (world past)).dirty (in_buffer c k)) is ∙ go (is_cached past b) where
-    go : (u : Bool) → (if u then flushed (reaches b o n) (world past) else world past).dirty (in_buffer c k) ≡ (if u && t then false else is_dirty past c k)
-    go true = ap (λ (t : Bool). if t then false else is_dirty past c k) e
+  flush_dirty : (c : Byte) (t : Bool) → reaches b o n c ≡ t → (world (p ∷ past)).dirty c ≡ (if is_cached past b && t then false else (world past).dirty c)
+  flush_dirty c t e = ap (λ (e : Action). (after_action past p.queue e (world past)).dirty c) is ∙ go (is_cached past b) where
+    go : (u : Bool) → (if u then flushed (reaches b o n) (world past) else world past).dirty c ≡ (if u && t then false else (world past).dirty c)
+    go true = ap (λ (t : Bool). if t then false else (world past).dirty c) e
     go false = refl
 
   never : (t : Bool) → (t && false) ≡ false
   never true = refl
   never false = refl
 
+  flush_there : is_some (buffer past b) ≡ true
+  flush_there = there_on_host past p j (entry.Flush b o n) is b (contains-head _ [])
+
   pub flush_change : (old new : Contents) → BecomesIn (λ u v. IsFlushed u v o n (next_spot past p)) (get nat_cmp old.buffers b) (get nat_cmp new.buffers b)
       → ((other : ℕ) → other ≢ b → get nat_cmp new.buffers other ≡ get nat_cmp old.buffers other) → AreContents old past → AreContents new (p ∷ past)
-  flush_change old new here others = one_changed past p j b (there_on_host past p j (entry.Flush b o n) is b (contains-head _ [])) (λ u v. IsFlushed u v o n (next_spot past p)) old new here others
-      (λ u v a h. next_of past p j b u v u.owner as_before (assigns (λ k. u.is_cached && in_atoms o n k) false) (flushing (in_atoms o n) (next_spot past p)) a h (a.owner ∙ sym (ap holder_of (flush_owned b))) (λ k lt. sym (flush_valued b k))
-      (λ k lt. ap (λ (t : Bool). if t && in_atoms o n k then false else is_dirty past b k) a.cache ∙ sym (flush_dirty b k (in_atoms o n k) (in_own b o n k)))
-      (λ k lt. sym (touched_by_flush past p (in_buffer b k) b o n is (in_atoms o n k) (in_own b o n k))))
-      (λ c e. record {
-        unmade = λ none. ap is_some (flush_made c) ∙ none;
-        owner = flush_owned c;
-        defined = flush_valued c;
-        dirty = λ k. flush_dirty c k false (in_other b o n c k e) ∙ ap (λ (t : Bool). if t then false else is_dirty past c k) (never (is_cached past b));
-        touches = λ k. touched_by_flush past p (in_buffer c k) b o n is false (in_other b o n c k e);
+  flush_change old new here others = one_changed past p j b (buffer_is_resource past b flush_there) (λ u v. IsFlushed u v o n (next_spot past p)) old new here others
+      (λ u v a h. next_of past p j b u v u.owner as_before (assigns (λ k. u.is_cached && in_atoms o n k) false) (flushing (in_atoms o n) (next_spot past p)) a h (a.owner ∙ sym (ap holder_of (flush_owned b))) (λ k lt. sym (flush_valued (byte_at past b k)))
+      (λ k lt. ap (λ (t : Bool). if t && in_atoms o n k then false else (world past).dirty (byte_at past b k)) a.cache ∙ sym (flush_dirty (byte_at past b k) (in_atoms o n k) (in_own b o n past flush_there k)))
+      (λ k lt. sym (touched_by_flush past p (byte_at past b k) b o n is (in_atoms o n k) (in_own b o n past flush_there k))))
+      (λ r e. record {
+        unmade = λ none. ap is_some (flush_made r) ∙ none;
+        owner = flush_owned r;
+        defined = λ c own. flush_valued c;
+        dirty = λ c own. flush_dirty c false (in_other b o n r c e own) ∙ ap (λ (t : Bool). if t then false else (world past).dirty c) (never (is_cached past b));
+        touches = λ c own. touched_by_flush past p c b o n is false (in_other b o n r c e own);
       })
 
 -- ---- an invalidation
 
 module _ (past : Past) (p : Point) (j : IsJudged (p ∷ past)) (b o : ℕ) (n : Length) (is : p.action ≡ Host (entry.Invalidate b o n)) where
-  invalidation_made : (c : ℕ) → buffer (p ∷ past) c ≡ buffer past c
+  invalidation_made : (c : ℕ) → resource (p ∷ past) c ≡ resource past c
   invalidation_made c = rw is refl
 
   invalidation_owned : (c : ℕ) → (world (p ∷ past)).owner c ≡ (world past).owner c
@@ -107,20 +111,20 @@ module _ (past : Past) (p : Point) (j : IsJudged (p ∷ past)) (b o : ℕ) (n : 
     go true = refl
     go false = refl
 
-  invalidation_valued : (c k : ℕ) (t : Bool) → reaches b o n (in_buffer c k) ≡ t → is_defined (p ∷ past) c k ≡ (if is_cached past b && t && is_dirty past c k then false else is_defined past c k)
-  invalidation_valued c k t e = ap (λ (e : Action). not (is_none ((after_action past p.queue e (world past)).value (in_buffer c k)))) is ∙ go (is_cached past b) where
-    lost : (u : Bool) → not (is_none (let v : Option ℕ = if u then None else (world past).value (in_buffer c k) in v)) ≡ (if u then false else is_defined past c k)
+  invalidation_valued : (c : Byte) (t : Bool) → reaches b o n c ≡ t → has_value (world (p ∷ past)) c ≡ (if is_cached past b && t && (world past).dirty c then false else has_value (world past) c)
+  invalidation_valued c t e = ap (λ (e : Action). not (is_none ((after_action past p.queue e (world past)).value c))) is ∙ go (is_cached past b) where
+    lost : (u : Bool) → not (is_none (let v : Option ℕ = if u then None else (world past).value c in v)) ≡ (if u then false else has_value (world past) c)
     lost true = refl
     lost false = refl
 
-    go : (u : Bool) → not (is_none ((if u then invalidated (reaches b o n) (world past) else world past).value (in_buffer c k))) ≡ (if u && t && is_dirty past c k then false else is_defined past c k)
-    go true = lost (reaches b o n (in_buffer c k) && is_dirty past c k) ∙ ap (λ (t : Bool). if t && is_dirty past c k then false else is_defined past c k) e
+    go : (u : Bool) → not (is_none ((if u then invalidated (reaches b o n) (world past) else world past).value c)) ≡ (if u && t && (world past).dirty c then false else has_value (world past) c)
+    go true = lost (reaches b o n c && (world past).dirty c) ∙ ap (λ (t : Bool). if t && (world past).dirty c then false else has_value (world past) c) e
     go false = refl
 
-  invalidation_dirty : (c k : ℕ) (t : Bool) → reaches b o n (in_buffer c k) ≡ t → is_dirty (p ∷ past) c k ≡ (if is_cached past b && t then false else is_dirty past c k)
-  invalidation_dirty c k t e = ap (λ (e : Action). (after_action past p.queue e (world past)).dirty (in_buffer c k)) is ∙ go (is_cached past b) where
-    go : (u : Bool) → (if u then invalidated (reaches b o n) (world past) else world past).dirty (in_buffer c k) ≡ (if u && t then false else is_dirty past c k)
-    go true = ap (λ (t : Bool). if t then false else is_dirty past c k) e
+  invalidation_dirty : (c : Byte) (t : Bool) → reaches b o n c ≡ t → (world (p ∷ past)).dirty c ≡ (if is_cached past b && t then false else (world past).dirty c)
+  invalidation_dirty c t e = ap (λ (e : Action). (after_action past p.queue e (world past)).dirty c) is ∙ go (is_cached past b) where
+    go : (u : Bool) → (if u then invalidated (reaches b o n) (world past) else world past).dirty c ≡ (if u && t then false else (world past).dirty c)
+    go true = ap (λ (t : Bool). if t then false else (world past).dirty c) e
     go false = refl
 
   none_lost : (t d : Bool) → (t && false && d) ≡ false
@@ -162,22 +166,32 @@ module _ (past : Past) (p : Point) (j : IsJudged (p ∷ past)) (b o : ℕ) (n : 
       go None e = sym (h.none (ap (option_map (spot_of past)) e))
       go (Some v) e = ap (λ ns. seen.seen uncached ns v y seen.Read byte) now_too ∙ sym (seen_is v e)
 
-    dirty_is : (u : BufferContents) → AreContentsOf u past b → (k : ℕ) → k < buffer_size past b → is_on u.dirty k ≡ is_dirty past b k
+    dirty_is : (u : BufferContents) → AreContentsOf u past b → (k : ℕ) → k < size_at past b → is_on u.dirty k ≡ (world past).dirty (byte_at past b k)
     dirty_is u a k lt = ap (λ (o : Option Bool). holds o (λ d. d)) (a.dirty k lt)
+
+    there : is_some (buffer past b) ≡ true
+    there = there_on_host past p j (entry.Invalidate b o n) is b (contains-head _ [])
+
+    -- the answer of a byte, by its number
+    answered : (k : ℕ) (answer : Bool) → SeesWrite x k answer (touched past (byte_at past b k)) → holds (last_touch touch.Write past (byte_at past b k)) (λ v. seen.seen uncached (nodes (p ∷ past)) v (next_node past p (act_next p.action)) seen.Read (byte_at past b k)) ≡ answer
+    answered k answer h =
+        subst (λ (c : Byte). holds (last_touch touch.Write past c) (λ v. seen.seen uncached (nodes (p ∷ past)) v (next_node past p (act_next p.action)) seen.Read c) ≡ answer) (sym (byte_of_buffer past b there k))
+        (answer_is k answer (subst (λ (c : Byte). SeesWrite x k answer (touched past c)) (byte_of_buffer past b there k) h))
 
     pub invalidation_change : (old new : Contents) → BecomesIn (λ u v. IsInvalidated (SeesWrite x) u v o n) (get nat_cmp old.buffers x.buffer) (get nat_cmp new.buffers x.buffer)
         → ((other : ℕ) → other ≢ x.buffer → get nat_cmp new.buffers other ≡ get nat_cmp old.buffers other) → AreContents old past → AreContents new (p ∷ past)
-    invalidation_change old new here others = one_changed past p j b (there_on_host past p j (entry.Invalidate b o n) is b (contains-head _ [])) (λ u v. IsInvalidated (SeesWrite x) u v o n) old new
+    invalidation_change old new here others = one_changed past p j b (buffer_is_resource past b there) (λ u v. IsInvalidated (SeesWrite x) u v o n) old new
         (subst (λ (c : ℕ). BecomesIn (λ u v. IsInvalidated (SeesWrite x) u v o n) (get nat_cmp old.buffers c) (get nat_cmp new.buffers c)) of here)
         (subst (λ (c : ℕ). (other : ℕ) → other ≢ c → get nat_cmp new.buffers other ≡ get nat_cmp old.buffers other) of others)
         (λ u v a h. next_of past p j b u v u.owner (assigns (λ k. u.is_cached && in_atoms o n k && is_on u.dirty k) false) (assigns (λ k. u.is_cached && in_atoms o n k) false) (invalidating (in_atoms o n) (sees_at v.touches)) a h.changed (a.owner ∙ sym (ap holder_of (invalidation_owned b)))
-        (λ k lt. ap (λ (d : Bool). if u.is_cached && in_atoms o n k && d then false else is_defined past b k) (dirty_is u a k lt) ∙ ap (λ (t : Bool). if t && in_atoms o n k && is_dirty past b k then false else is_defined past b k) a.cache ∙ sym (invalidation_valued b k (in_atoms o n k) (in_own b o n k)))
-        (λ k lt. ap (λ (t : Bool). if t && in_atoms o n k then false else is_dirty past b k) a.cache ∙ sym (invalidation_dirty b k (in_atoms o n k) (in_own b o n k)))
-        (λ k lt. sym (touched_by_invalidation past p (in_buffer b k) b o n is (in_atoms o n k) (sees_at v.touches k) (in_own b o n k) (λ reached. answer_is k (sees_at v.touches k) (h.answers k (touched past (in_buffer b k)) reached (a.touches k lt))))))
-        (λ c e. record {
-          unmade = λ none. ap is_some (invalidation_made c) ∙ none;
-          owner = invalidation_owned c;
-          defined = λ k. invalidation_valued c k false (in_other b o n c k e) ∙ ap (λ (t : Bool). if t then false else is_defined past c k) (none_lost (is_cached past b) (is_dirty past c k));
-          dirty = λ k. invalidation_dirty c k false (in_other b o n c k e) ∙ ap (λ (t : Bool). if t then false else is_dirty past c k) (none_clean (is_cached past b));
-          touches = λ k. touched_by_invalidation past p (in_buffer c k) b o n is false false (in_other b o n c k e) (λ bad. absurd cc);
+        (λ k lt. ap (λ (d : Bool). if u.is_cached && in_atoms o n k && d then false else has_value (world past) (byte_at past b k)) (dirty_is u a k lt)
+        ∙ ap (λ (t : Bool). if t && in_atoms o n k && (world past).dirty (byte_at past b k) then false else has_value (world past) (byte_at past b k)) a.cache ∙ sym (invalidation_valued (byte_at past b k) (in_atoms o n k) (in_own b o n past there k)))
+        (λ k lt. ap (λ (t : Bool). if t && in_atoms o n k then false else (world past).dirty (byte_at past b k)) a.cache ∙ sym (invalidation_dirty (byte_at past b k) (in_atoms o n k) (in_own b o n past there k)))
+        (λ k lt. sym (touched_by_invalidation past p (byte_at past b k) b o n is (in_atoms o n k) (sees_at v.touches k) (in_own b o n past there k) (λ reached. answered k (sees_at v.touches k) (h.answers k (touched past (byte_at past b k)) reached (a.touches k lt))))))
+        (λ r e. record {
+          unmade = λ none. ap is_some (invalidation_made r) ∙ none;
+          owner = invalidation_owned r;
+          defined = λ c own. invalidation_valued c false (in_other b o n r c e own) ∙ ap (λ (t : Bool). if t then false else has_value (world past) c) (none_lost (is_cached past b) ((world past).dirty c));
+          dirty = λ c own. invalidation_dirty c false (in_other b o n r c e own) ∙ ap (λ (t : Bool). if t then false else (world past).dirty c) (none_clean (is_cached past b));
+          touches = λ c own. touched_by_invalidation past p c b o n is false false (in_other b o n r c e own) (λ bad. absurd cc);
         })

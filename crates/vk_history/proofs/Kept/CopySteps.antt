@@ -1,20 +1,24 @@
 -- What is kept of the bytes of buffers after a copy.
-use Rattle.std.proofs.Common.{◌≡◌, ◌≢◌, ◌+◌, ◌-◌, ℕ, List, [], ◌∷◌, length, slice_get, Bool, true, false, not, ◌&&◌, ◌==◌, refl, ap, sym, ◌∙◌, subst, arith, Option, Some, None}
+use Rattle.std.proofs.Common.{◌≡◌, ◌≢◌, ◌<◌, ◌≤◌, ◌+◌, ◌-◌, ℕ, List, [], ◌∷◌, length, slice_get, Bool, true, false, not, ◌&&◌, ◌==◌, refl, ap, sym, ◌∙◌, subst, arith, Option, Some, None}
 use Rattle.std.specs.Prelude.{Contains, is_some, is_none, if◌then◌else◌, unwrap_or, option_and_then, nat_le, nat_lt}
 use Rattle.std.specs.Option.{option_map}
-use Rattle.std.specs.List.{find}
+use Rattle.std.specs.List.{find, flat_map}
 use Rattle.std.specs.Ordering.{nat_cmp}
 use Rattle.std.specs.BTreeMap.{get}
 use Rattle.std.proofs.lemmas.Bool.{eq-eqb, eqb-true, eqb-false, and_parts, leb-true, ltb-true}
 use Rattle.vk_model.specs.declared.command.BufferCopy.{BufferCopy}
+use Rattle.vk_model.specs.declared.command.Cmd.{Cmd}
 use Rattle.vk_model.specs.declared.command.Cmd.TheVariants as cmd
 use Rattle.vk_model.specs.Rules.Ids.{is_buffer, asked_by_command}
 use Rattle.vk_model.specs.Basics.{within}
-use Rattle.vk_model.specs.World.Bytes.{in_buffer, Family, World, Owner}
-use Rattle.vk_model.specs.World.ByteWrites.{buffer_size}
-use Rattle.vk_model.specs.World.Effect.{world, after_action, used, is_other}
+use Rattle.vk_model.specs.World.Bytes.{Byte, in_buffer, resource_at, Family, World, Owner}
+use Rattle.vk_model.specs.World.ByteWrites.{From, byte_write, byte_writes, copy_writes}
+use Rattle.vk_model.specs.Sync.Access.{is_in, targets, origins}
+use Rattle.vk_model.proofs.Lists.Rows.{flat_same, map_below}
+use Rattle.vk_image_bytes.specs.Copies.{numbered_writes}
+use Rattle.vk_model.specs.World.Effect.{world, after_action, after_command, after_writes, used, is_other}
 use Rattle.vk_model.specs.World.Ownership.{family_of}
-use Rattle.vk_model.specs.Trace.Objects.{buffer, is_exclusive}
+use Rattle.vk_model.specs.Trace.Objects.{resource, is_exclusive}
 use Rattle.vk_model.specs.Trace.Point.{Past, Point, Action, Run}
 use Rattle.vk_model.proofs.Lists.Members.{found, contains-head, contains-tail}
 use Rattle.vk_model.proofs.Lists.Truths.{clash}
@@ -26,12 +30,12 @@ use Rattle.vk_touches.specs.declared.touches.Touch.TheVariants as touch
 use Rattle.vk_history.specs.Judged.{IsJudged}
 use Rattle.vk_touches.specs.Remembered.{with_touch}
 use Rattle.vk_touches.specs.Touched.{touched, next_spot}
-use Rattle.vk_history.specs.Contents.{AreContents, AreContentsIn, AreContentsOf, IsChanged, BecomesIn, IsLent, IsLentWith, IsPasted, AreCopied, ReadWithin, as_before, is_defined, is_defined_in, is_dirty, stretch_at, left_of, holder_of, owner_after}
+use Rattle.vk_history.specs.Contents.{AreContents, AreContentsIn, AreContentsOf, IsChanged, BecomesIn, IsLent, IsLentWith, IsPasted, AreCopied, ReadWithin, as_before, stretch_at, left_of, holder_of, owner_after, has_value, byte_at, size_at}
 use Rattle.vk_touches.specs.TouchedRanges.{reads_at, writes_at, touching}
-use Rattle.vk_history.proofs.Points.Ranges.{copy-targets, copy-origins}
-use Rattle.vk_history.proofs.Making.Worlds.{copy_leaves, used_owner, used_value, used_dirty, loses, turned_about}
+use Rattle.vk_history.proofs.Making.Numbers.{IsNumbered, numbered_at, byte_of_buffer, size_of_buffer, buffer_is_resource, copies-targets, copies-targets-other, copies-origins, copies-origins-other}
+use Rattle.vk_history.proofs.Making.Worlds.{copy_leaves, unwritten, used_owner, used_value, used_dirty, loses, turned_about}
 use Rattle.vk_touches.proofs.Touching.Remembering.{touched_by_command, merged_command}
-use Rattle.vk_history.proofs.Kept.NextPoint.{there_for_command, copy_source}
+use Rattle.vk_history.proofs.Kept.NextPoint.{there_for_command, copy_source, copy_destination}
 use Rattle.vk_history.proofs.Kept.ContentSteps.{IsOf, IsUntouched, untouched, next_of, of_contents, taken_owner, left_is, used_apart}
 
 -- two changes, one after the other
@@ -56,12 +60,12 @@ taken_of : (past : Past) (f b : ℕ) (w : World) (u v : BufferContents) (t : ℕ
 taken_of past f b w u v t a h = record {
   mode = h.mode ∙ a.mode;
   owner = h.owned ∙ taken_owner past f w b u a;
-  defined = λ k lt. h.defined k ∙ ap (option_map (left_of u f k)) (a.defined k lt) ∙ ap Some (left_is past f w b u a k);
+  defined = λ k lt. h.defined k ∙ ap (option_map (left_of u f k)) (a.defined k lt) ∙ ap Some (left_is past f w b u a k (byte_at past b k) ((numbered_at past b).own k));
 }
 
--- what a second use by the family leaves of the first one's buffer
-used_again : (past : Past) (f s d : ℕ) (w : World) (k : ℕ) → is_defined_in (used past f d (used past f s w)) s k ≡ is_defined_in (used past f s w) s k
-used_again past f s d w k = ap not (used_value past f d (used past f s w) s k ∙ by (s == d) refl) where
+-- what a second use by the family leaves of the first one's resource
+used_again : (past : Past) (f s d : ℕ) (w : World) (c : Byte) → resource_at c ≡ s → has_value (used past f d (used past f s w)) c ≡ has_value (used past f s w) c
+used_again past f s d w c own = ap not (used_value past f d (used past f s w) c ∙ ap (λ (r : ℕ). if r == d && loses past f d after then true else is_none (after.value c)) own ∙ by (s == d) refl) where
   after : World
   after = used past f s w
 
@@ -71,7 +75,7 @@ used_again past f s d w k = ap not (used_value past f d (used past f s w) s k �
     go true = rw (eq-eqb f f refl) refl
     go false = refl
 
-  by : (t : Bool) → (s == d) ≡ t → (if t && loses past f d after then true else is_none (after.value (in_buffer s k))) ≡ is_none (after.value (in_buffer s k))
+  by : (t : Bool) → (s == d) ≡ t → (if t && loses past f d after then true else is_none (after.value c)) ≡ is_none (after.value c)
   by true e = rw (lost (eqb-true s d e)) refl
   by false e = refl
 
@@ -82,7 +86,19 @@ source_named s d = contains-head (s, is_buffer) ((d, is_buffer) ∷ [])
 pub destination_named : (s d : ℕ) → Contains (asked_by_command (cmd.Copy s d [])) (d, is_buffer)
 destination_named s d = contains-tail (s, is_buffer) ((d, is_buffer) ∷ []) (d, is_buffer) (contains-head (d, is_buffer) [])
 
-module _ (past : Past) (p : Point) (j : IsJudged (p ∷ past)) (s d : ℕ) (gs : List BufferCopy) (is : p.action ≡ Run (cmd.Copy s d gs)) where
+-- a command that copies numbers from one resource to another, or within one
+pub record CopiesNumbers (past : Past) (p : Point) (c : Cmd) (s d : ℕ) (gs : List BufferCopy) : Type 0 where
+  pub owner : (w : World) (r : ℕ) → (after_command past (family_of p.queue) c w).owner r ≡ (used past (family_of p.queue) d (used past (family_of p.queue) s w)).owner r
+  pub dirty : (w : World) (byte : Byte) → (after_command past (family_of p.queue) c w).dirty byte ≡ (used past (family_of p.queue) d (used past (family_of p.queue) s w)).dirty byte
+  pub value : (w : World) (byte : Byte) → (after_command past (family_of p.queue) c w).value byte ≡ after_writes (byte_writes past c) (used past (family_of p.queue) d (used past (family_of p.queue) s w)).value byte
+  pub writes : byte_writes past c ≡ flat_map (numbered_writes (byte_at past s) (byte_at past d)) gs
+  pub writes_now : byte_writes (p ∷ past) c ≡ byte_writes past c
+  pub source_there : is_some (resource past s) ≡ true
+  pub destination_there : is_some (resource past d) ≡ true
+  pub reads_fit : (g : BufferCopy) → Contains gs g → g.source_offset + g.size ≤ size_at past s
+  pub writes_fit : (g : BufferCopy) → Contains gs g → g.destination_offset + g.size ≤ size_at past d
+
+module _ (past : Past) (p : Point) (j : IsJudged (p ∷ past)) (c : Cmd) (s d : ℕ) (gs : List BufferCopy) (is : p.action ≡ Run c) (copies : CopiesNumbers past p c s d gs) where
   abbrev family : ℕ
   family = family_of p.queue
 
@@ -96,66 +112,99 @@ module _ (past : Past) (p : Point) (j : IsJudged (p ∷ past)) (s d : ℕ) (gs :
   abbrev first_with : ℕ → Option BufferCopy
   first_with k = find (λ g. within g.destination_offset g.size k) gs
 
-  made : (b : ℕ) → buffer (p ∷ past) b ≡ buffer past b
-  made b = rw is refl
+  -- byte k of the source, and of the destination
+  abbrev from : ℕ → Byte
+  from k = byte_at past s k
+
+  abbrev to : ℕ → Byte
+  to k = byte_at past d k
+
+  sources : IsNumbered from (size_at past s) s
+  sources = numbered_at past s
+
+  destinations : IsNumbered to (size_at past d) d
+  destinations = numbered_at past d
+
+  kept : (b : ℕ) → resource (p ∷ past) b ≡ resource past b
+  kept b = rw is refl
 
   owned : (b : ℕ) → (world (p ∷ past)).owner b ≡ ready.owner b
-  owned b = ap (λ (e : Action). (after_action past p.queue e (world past)).owner b) is
+  owned b = ap (λ (e : Action). (after_action past p.queue e (world past)).owner b) is ∙ copies.owner (world past) b
 
-  soiled : (b k : ℕ) → is_dirty (p ∷ past) b k ≡ is_dirty past b k
-  soiled b k = ap (λ (e : Action). (after_action past p.queue e (world past)).dirty (in_buffer b k)) is ∙ used_dirty past family d lent (in_buffer b k) ∙ used_dirty past family s (world past) (in_buffer b k)
+  soiled : (b : Byte) → (world (p ∷ past)).dirty b ≡ (world past).dirty b
+  soiled b = ap (λ (e : Action). (after_action past p.queue e (world past)).dirty b) is ∙ copies.dirty (world past) b ∙ used_dirty past family d lent b ∙ used_dirty past family s (world past) b
 
-  valued : (b k : ℕ) → is_defined (p ∷ past) b k ≡ (if b == d then elim (first_with k) [ None ↦ is_defined_in ready b k | Some g ↦ is_defined_in ready s (g.source_offset + (k - g.destination_offset)) ] else is_defined_in ready b k)
-  valued b k = ap (λ (e : Action). not (is_none ((after_action past p.queue e (world past)).value (in_buffer b k)))) is ∙ ap not (copy_leaves ready.value s d gs b k) ∙ go (b == d) (first_with k) where
-    go : (t : Bool) (o : Option BufferCopy) → not (if t then elim o [ None ↦ is_none (ready.value (in_buffer b k)) | Some g ↦ is_none (ready.value (in_buffer s (g.source_offset + (k - g.destination_offset)))) ] else is_none (ready.value (in_buffer b k)))
-        ≡ (if t then elim o [ None ↦ is_defined_in ready b k | Some g ↦ is_defined_in ready s (g.source_offset + (k - g.destination_offset)) ] else is_defined_in ready b k)
-    go true None = refl
-    go true (Some g) = refl
-    go false o = refl
+  given : (b : Byte) → has_value (world (p ∷ past)) b ≡ not (is_none (after_writes (flat_map (numbered_writes from to) gs) ready.value b))
+  given b =
+      ap (λ (e : Action). not (is_none ((after_action past p.queue e (world past)).value b))) is ∙ ap (λ (v : Option ℕ). not (is_none v)) (copies.value (world past) b)
+      ∙ ap (λ ms. not (is_none (after_writes ms ready.value b))) copies.writes
 
-  remembers : (b k : ℕ) (w r : Bool) → (b == d && writes_at gs k) ≡ w → (b == s && reads_at gs k) ≡ r
-      → touched (p ∷ past) (in_buffer b k) ≡ (let t : LastTouches = if r then with_touch (touched past (in_buffer b k)) (touch.Read p.queue) (next_spot past p) else touched past (in_buffer b k) in if w then with_touch t touch.Write (next_spot past p) else t)
-  remembers b k w r we re = touched_by_command past p (in_buffer b k) (cmd.Copy s d gs) is w r (copy-targets s d gs b k ∙ we) (copy-origins s d gs b k ∙ re) ∙ merged_command w r p.queue (touched past (in_buffer b k)) (next_spot past p)
+  valued : (k : ℕ) → k < size_at past d → has_value (world (p ∷ past)) (to k) ≡ elim (first_with k) [ None ↦ has_value ready (to k) | Some g ↦ has_value ready (from (g.source_offset + (k - g.destination_offset))) ]
+  valued k lt = given (to k) ∙ ap not (copy_leaves from to (size_at past d) destinations.apart ready.value gs copies.writes_fit k lt) ∙ go (first_with k) where
+    go : (o : Option BufferCopy) → not (elim o [ None ↦ is_none (ready.value (to k)) | Some g ↦ is_none (ready.value (from (g.source_offset + (k - g.destination_offset)))) ]) ≡ elim o [ None ↦ has_value ready (to k) | Some g ↦ has_value ready (from (g.source_offset + (k - g.destination_offset))) ]
+    go None = refl
+    go (Some g) = refl
+
+  valued_other : (b : Byte) → (resource_at b == d) ≡ false → has_value (world (p ∷ past)) b ≡ has_value ready b
+  valued_other b ne = given b ∙ ap (λ (v : Option ℕ). not (is_none v)) (unwritten ready.value b (flat_map (numbered_writes from to) gs) (copies-targets-other from to gs (size_at past d) d destinations b ne))
+
+  remembers : (b : Byte) (w r : Bool) → is_in b (targets (flat_map (numbered_writes from to) gs)) ≡ w → is_in b (origins (flat_map (numbered_writes from to) gs)) ≡ r
+      → touched (p ∷ past) b ≡ (let t : LastTouches = if r then with_touch (touched past b) (touch.Read p.queue) (next_spot past p) else touched past b in if w then with_touch t touch.Write (next_spot past p) else t)
+  remembers b w r we re =
+      touched_by_command past p b c is w r (ap (λ ms. is_in b (targets ms)) (copies.writes_now ∙ copies.writes) ∙ we) (ap (λ ms. is_in b (origins ms)) (copies.writes_now ∙ copies.writes) ∙ re)
+      ∙ merged_command w r p.queue (touched past b) (next_spot past p)
+
+  writes_to : (k : ℕ) → k < size_at past d → is_in (to k) (targets (flat_map (numbered_writes from to) gs)) ≡ writes_at gs k
+  writes_to = copies-targets from to gs (size_at past d) d destinations copies.writes_fit
+
+  reads_from : (k : ℕ) → k < size_at past s → is_in (from k) (origins (flat_map (numbered_writes from to) gs)) ≡ reads_at gs k
+  reads_from = copies-origins from to gs (size_at past s) s sources copies.reads_fit
+
+  no_write : (b : Byte) (r : ℕ) → resource_at b ≡ r → (r == d) ≡ false → is_in b (targets (flat_map (numbered_writes from to) gs)) ≡ false
+  no_write b r own ne = copies-targets-other from to gs (size_at past d) d destinations b (rw own ne)
+
+  no_read : (b : Byte) (r : ℕ) → resource_at b ≡ r → (r == s) ≡ false → is_in b (origins (flat_map (numbered_writes from to) gs)) ≡ false
+  no_read b r own ne = copies-origins-other from to gs (size_at past s) s sources b (rw own ne)
 
   -- what was found in the source
-  module _ (v : BufferContents) (of : IsOf past v lent s) (size : length v.defined ≡ buffer_size past s) (ss : List Stretch) (copied : AreCopied ss v.defined gs) where
+  module _ (v : BufferContents) (of : IsOf past v lent s) (size : length v.defined ≡ size_at past s) (ss : List Stretch) (copied : AreCopied ss v.defined gs) where
     reads_within : ReadWithin gs (length v.defined)
-    reads_within g c = rw size (copy_source past p j s d gs is g c)
+    reads_within g c = rw size (copies.reads_fit g c)
 
-    found_at : (k : ℕ) → stretch_at ss k ≡ option_map (λ g. is_defined_in lent s (g.source_offset + (k - g.destination_offset))) (first_with k)
+    found_at : (k : ℕ) → stretch_at ss k ≡ option_map (λ g. has_value lent (from (g.source_offset + (k - g.destination_offset)))) (first_with k)
     found_at k = copied reads_within k ∙ go (first_with k) refl where
-      go : (o : Option BufferCopy) → first_with k ≡ o → option_and_then (λ g. slice_get v.defined (g.source_offset + (k - g.destination_offset))) o ≡ option_map (λ g. is_defined_in lent s (g.source_offset + (k - g.destination_offset))) o
+      go : (o : Option BufferCopy) → first_with k ≡ o → option_and_then (λ g. slice_get v.defined (g.source_offset + (k - g.destination_offset))) o ≡ option_map (λ g. has_value lent (from (g.source_offset + (k - g.destination_offset)))) o
       go None e = refl
       go (Some g) e =
           let member = found (λ g. within g.destination_offset g.size k) gs g e in
           let parts = and_parts (nat_le g.destination_offset k) (nat_lt k (g.destination_offset + g.size)) member.1 in
           let low = leb-true g.destination_offset k parts.0 in
           let high = ltb-true k (g.destination_offset + g.size) parts.1 in
-          let fits = copy_source past p j s d gs is g member.0 in
+          let fits = copies.reads_fit g member.0 in
           of.defined (g.source_offset + (k - g.destination_offset)) (omega (arith, low, high, fits))
 
     -- so the destination is defined as the copy leaves it
-    pasted_is : (m : BufferContents) → IsOf past m lent d → (k : ℕ) → unwrap_or (stretch_at ss k) (left_of m family k (is_defined_in lent d k)) ≡ is_defined (p ∷ past) d k
-    pasted_is m om k =
-        ap (unwrap_or (stretch_at ss k)) (left_is past family lent d m om k) ∙ ap (λ (o : Option Bool). unwrap_or o (is_defined_in ready d k)) (found_at k)
-        ∙ go (first_with k) ∙ sym (valued d k ∙ ap (λ (t : Bool). if t then elim (first_with k) [ None ↦ is_defined_in ready d k | Some g ↦ is_defined_in ready s (g.source_offset + (k - g.destination_offset)) ] else is_defined_in ready d k) (eq-eqb d d refl))
+    pasted_is : (m : BufferContents) → IsOf past m lent d → (k : ℕ) → k < size_at past d → unwrap_or (stretch_at ss k) (left_of m family k (has_value lent (to k))) ≡ has_value (world (p ∷ past)) (to k)
+    pasted_is m om k lt =
+        ap (unwrap_or (stretch_at ss k)) (left_is past family lent d m om k (to k) (destinations.own k)) ∙ ap (λ (o : Option Bool). unwrap_or o (has_value ready (to k))) (found_at k)
+        ∙ go (first_with k) ∙ sym (valued k lt)
       where
-        go : (o : Option BufferCopy) → unwrap_or (option_map (λ g. is_defined_in lent s (g.source_offset + (k - g.destination_offset))) o) (is_defined_in ready d k) ≡ elim o [ None ↦ is_defined_in ready d k | Some g ↦ is_defined_in ready s (g.source_offset + (k - g.destination_offset)) ]
+        go : (o : Option BufferCopy) → unwrap_or (option_map (λ g. has_value lent (from (g.source_offset + (k - g.destination_offset)))) o) (has_value ready (to k)) ≡ elim o [ None ↦ has_value ready (to k) | Some g ↦ has_value ready (from (g.source_offset + (k - g.destination_offset))) ]
         go None = refl
-        go (Some g) = sym (used_again past family s d (world past) (g.source_offset + (k - g.destination_offset)))
+        go (Some g) = sym (used_again past family s d (world past) (from (g.source_offset + (k - g.destination_offset))) (sources.own (g.source_offset + (k - g.destination_offset))))
 
-  -- ---- another buffer than the two
+  -- ---- another resource than the two
 
   apart : (b : ℕ) → (b == s) ≡ false → (b == d) ≡ false → IsUntouched past p j b
   apart b es ed =
       let one = used_apart past family (world past) s b es in
       let two = used_apart past family lent d b ed in
       record {
-        unmade = λ none. ap is_some (made b) ∙ none;
+        unmade = λ none. ap is_some (kept b) ∙ none;
         owner = owned b ∙ two.0 ∙ one.0;
-        defined = λ k. valued b k ∙ rw ed (two.1 k ∙ one.1 k);
-        dirty = soiled b;
-        touches = λ k. remembers b k false false (rw ed refl) (rw es refl);
+        defined = λ c own. valued_other c (rw own ed) ∙ two.1 c own ∙ one.1 c own;
+        dirty = λ c own. soiled c;
+        touches = λ c own. remembers c false false (no_write c b own ed) (no_read c b own es);
       }
 
   -- ---- the source alone
@@ -165,25 +214,25 @@ module _ (past : Past) (p : Point) (j : IsJudged (p ∷ past)) (s d : ℕ) (gs :
       let two = used_apart past family lent d s ne in
       next_of past p j s u v (owner_after u family) (left_of u family) as_before (touching (reads_at gs) (touch.Read p.queue) (next_spot past p)) a h
       (taken_owner past family (world past) s u (of_contents past s u a) ∙ sym (ap holder_of (owned s ∙ two.0)))
-      (λ k lt. left_is past family (world past) s u (of_contents past s u a) k ∙ sym (valued s k ∙ rw ne (two.1 k)))
-      (λ k lt. sym (soiled s k))
-      (λ k lt. sym (remembers s k false (reads_at gs k) (rw ne refl) (rw (eq-eqb s s refl) refl)))
+      (λ k lt. left_is past family (world past) s u (of_contents past s u a) k (from k) (sources.own k) ∙ sym (valued_other (from k) (rw (sources.own k) ne) ∙ two.1 (from k) (sources.own k)))
+      (λ k lt. sym (soiled (from k)))
+      (λ k lt. sym (remembers (from k) false (reads_at gs k) (no_write (from k) s (sources.own k) ne) (reads_from k lt)))
 
   -- ---- the destination alone
 
-  destination_next : (d == s) ≡ false → (v : BufferContents) → IsOf past v lent s → length v.defined ≡ buffer_size past s → (ss : List Stretch) → AreCopied ss v.defined gs
+  destination_next : (d == s) ≡ false → (v : BufferContents) → IsOf past v lent s → length v.defined ≡ size_at past s → (ss : List Stretch) → AreCopied ss v.defined gs
       → (u x : BufferContents) → AreContentsOf u past d → IsPasted u x gs ss family (next_spot past p) → AreContentsOf x (p ∷ past) d
   destination_next ne v of size ss copied u x a h =
       let one = used_apart past family (world past) s d ne in
       let before = of_contents past d u a in
-      let mid : IsOf past u lent d = record { mode = a.mode; owner = a.owner ∙ sym (ap holder_of one.0); defined = λ k lt. a.defined k lt ∙ ap Some (sym (one.1 k)) } in
+      let mid : IsOf past u lent d = record { mode = a.mode; owner = a.owner ∙ sym (ap holder_of one.0); defined = λ k lt. a.defined k lt ∙ ap Some (sym (one.1 (to k) (destinations.own k))) } in
       next_of past p j d u x (owner_after u family) (λ k e. unwrap_or (stretch_at ss k) (left_of u family k e)) as_before (touching (writes_at gs) touch.Write (next_spot past p)) a h
       (taken_owner past family lent d u mid ∙ sym (ap holder_of (owned d)))
-      (λ k lt. ap (λ (e : Bool). unwrap_or (stretch_at ss k) (left_of u family k e)) (sym (one.1 k)) ∙ pasted_is v of size ss copied u mid k)
-      (λ k lt. sym (soiled d k))
-      (λ k lt. sym (remembers d k (writes_at gs k) false (rw (eq-eqb d d refl) refl) (rw ne refl)))
+      (λ k lt. ap (λ (e : Bool). unwrap_or (stretch_at ss k) (left_of u family k e)) (sym (one.1 (to k) (destinations.own k))) ∙ pasted_is v of size ss copied u mid k lt)
+      (λ k lt. sym (soiled (to k)))
+      (λ k lt. sym (remembers (to k) (writes_at gs k) false (writes_to k lt) (no_read (to k) d (destinations.own k) ne)))
 
-  -- ---- between two buffers
+  -- ---- between two resources
 
   pub between : (s == d) ≡ false → (d == s) ≡ false → (ss : List Stretch) (old mid new : Contents) → BecomesIn (IsLentWith gs ss p.queue (next_spot past p)) (get nat_cmp old.buffers s) (get nat_cmp mid.buffers s)
       → ((other : ℕ) → other ≢ s → get nat_cmp mid.buffers other ≡ get nat_cmp old.buffers other)
@@ -191,7 +240,7 @@ module _ (past : Past) (p : Point) (j : IsJudged (p ∷ past)) (s d : ℕ) (gs :
       → ((other : ℕ) → other ≢ d → get nat_cmp new.buffers other ≡ get nat_cmp mid.buffers other) → AreContents old past → AreContents new (p ∷ past)
   between sd ds ss old mid new lends kept pastes left are b = by (b == d) refl (b == s) refl where
     source : (u v : Option BufferContents) → BecomesIn (IsLentWith gs ss p.queue (next_spot past p)) u v → AreContentsIn u past s → (x : BufferContents) × (y : BufferContents) × (v ≡ Some y) × AreContentsOf x past s × IsLentWith gs ss p.queue (next_spot past p) x y
-    source None v h fresh = clash (there_for_command past p j (cmd.Copy s d gs) is s (source_named s d)) fresh.unmade
+    source None v h fresh = clash copies.source_there fresh.unmade
     source (Some u) None h a = absurd h
     source (Some u) (Some v) h a = (u, v, refl, a, h)
 
@@ -202,7 +251,7 @@ module _ (past : Past) (p : Point) (j : IsJudged (p ∷ past)) (s d : ℕ) (gs :
     lent_of = taken_of past family s (world past) here.0 here.1 (touching (reads_at gs) (touch.Read p.queue) (next_spot past p)) (of_contents past s here.0 here.3) here.4.0
 
     destination : (u x : Option BufferContents) → BecomesIn (λ u v. IsPasted u v gs ss family (next_spot past p)) u x → AreContentsIn u past d → AreContentsIn x (p ∷ past) d
-    destination None x h fresh = clash (there_for_command past p j (cmd.Copy s d gs) is d (destination_named s d)) fresh.unmade
+    destination None x h fresh = clash copies.destination_there fresh.unmade
     destination (Some u) None h a = absurd h
     destination (Some u) (Some x) h a = destination_next ds here.1 lent_of (here.4.0.defined_size ∙ here.3.defined_size) ss here.4.1 u x a h
 
@@ -214,9 +263,9 @@ module _ (past : Past) (p : Point) (j : IsJudged (p ∷ past)) (s d : ℕ) (gs :
     by false e true g = subst (λ (x : ℕ). AreContentsIn (get nat_cmp new.buffers x) (p ∷ past) x) (sym (eqb-true b s g)) (subst (λ (o : Option BufferContents). AreContentsIn o (p ∷ past) s) (sym (left s (eqb-false s d sd) ∙ here.2)) (source_next sd here.0 here.1 here.3 here.4.0))
     by false e false g = subst (λ (o : Option BufferContents). AreContentsIn o (p ∷ past) b) (sym (left b (eqb-false b d e) ∙ kept b (eqb-false b s g))) (untouched past p j (get nat_cmp old.buffers b) b (apart b g e) (are b))
 
--- ---- within one buffer
+-- ---- within one resource
 
-module _ (past : Past) (p : Point) (j : IsJudged (p ∷ past)) (s : ℕ) (gs : List BufferCopy) (is : p.action ≡ Run (cmd.Copy s s gs)) (ss : List Stretch) where
+module _ (past : Past) (p : Point) (j : IsJudged (p ∷ past)) (c : Cmd) (s : ℕ) (gs : List BufferCopy) (is : p.action ≡ Run c) (copies : CopiesNumbers past p c s s gs) (ss : List Stretch) where
   both_next : (u v x : BufferContents) → AreContentsOf u past s → IsLentWith gs ss p.queue (next_spot past p) u v → IsPasted v x gs ss (family_of p.queue) (next_spot past p) → AreContentsOf x (p ∷ past) s
   both_next u v x a lends pastes =
       let f : ℕ = family_of p.queue in
@@ -225,10 +274,10 @@ module _ (past : Past) (p : Point) (j : IsJudged (p ∷ past)) (s : ℕ) (gs : L
       let pasted : ℕ → Bool → Bool = λ k e. unwrap_or (stretch_at ss k) (left_of v f k e) in
       let of = taken_of past f s (world past) u v reads (of_contents past s u a) lends.0 in
       next_of past p j s u x (owner_after v f) (λ k e. pasted k (left_of u f k e)) as_before (λ k t. writes k (reads k t)) a (afterwards u v x (owner_after u f) (owner_after v f) (left_of u f) pasted reads writes lends.0 pastes)
-      (taken_owner past f (used past f s (world past)) s v of ∙ sym (ap holder_of (owned past p j s s gs is s)))
-      (λ k lt. ap (pasted k) (left_is past f (world past) s u (of_contents past s u a) k) ∙ pasted_is past p j s s gs is v of (lends.0.defined_size ∙ a.defined_size) ss lends.1 v of k)
-      (λ k lt. sym (soiled past p j s s gs is s k))
-      (λ k lt. sym (remembers past p j s s gs is s k (writes_at gs k) (reads_at gs k) (rw (eq-eqb s s refl) refl) (rw (eq-eqb s s refl) refl)))
+      (taken_owner past f (used past f s (world past)) s v of ∙ sym (ap holder_of (owned past p j c s s gs is copies s)))
+      (λ k lt. ap (pasted k) (left_is past f (world past) s u (of_contents past s u a) k (byte_at past s k) ((numbered_at past s).own k)) ∙ pasted_is past p j c s s gs is copies v of (lends.0.defined_size ∙ a.defined_size) ss lends.1 v of k lt)
+      (λ k lt. sym (soiled past p j c s s gs is copies (byte_at past s k)))
+      (λ k lt. sym (remembers past p j c s s gs is copies (byte_at past s k) (writes_at gs k) (reads_at gs k) (writes_to past p j c s s gs is copies k lt) (reads_from past p j c s s gs is copies k lt)))
 
   pub within_one : (old mid new : Contents) → BecomesIn (IsLentWith gs ss p.queue (next_spot past p)) (get nat_cmp old.buffers s) (get nat_cmp mid.buffers s)
       → ((other : ℕ) → other ≢ s → get nat_cmp mid.buffers other ≡ get nat_cmp old.buffers other)
@@ -236,27 +285,45 @@ module _ (past : Past) (p : Point) (j : IsJudged (p ∷ past)) (s : ℕ) (gs : L
       → ((other : ℕ) → other ≢ s → get nat_cmp new.buffers other ≡ get nat_cmp mid.buffers other) → AreContents old past → AreContents new (p ∷ past)
   within_one old mid new lends kept pastes left are b = by (b == s) refl where
     known : (u v x : Option BufferContents) → AreContentsIn u past s → BecomesIn (IsLentWith gs ss p.queue (next_spot past p)) u v → BecomesIn (λ u v. IsPasted u v gs ss (family_of p.queue) (next_spot past p)) v x → AreContentsIn x (p ∷ past) s
-    known None v x fresh h g = clash (there_for_command past p j (cmd.Copy s s gs) is s (source_named s s)) fresh.unmade
+    known None v x fresh h g = clash copies.source_there fresh.unmade
     known (Some u) None x a h g = absurd h
     known (Some u) (Some v) None a h g = absurd g
     known (Some u) (Some v) (Some x) a h g = both_next u v x a h g
 
     by : (t : Bool) → (b == s) ≡ t → AreContentsIn (get nat_cmp new.buffers b) (p ∷ past) b
     by true e = subst (λ (x : ℕ). AreContentsIn (get nat_cmp new.buffers x) (p ∷ past) x) (sym (eqb-true b s e)) (known (get nat_cmp old.buffers s) (get nat_cmp mid.buffers s) (get nat_cmp new.buffers s) (are s) lends pastes)
-    by false e = subst (λ (o : Option BufferContents). AreContentsIn o (p ∷ past) b) (sym (left b (eqb-false b s e) ∙ kept b (eqb-false b s e))) (untouched past p j (get nat_cmp old.buffers b) b (apart past p j s s gs is b e e) (are b))
+    by false e = subst (λ (o : Option BufferContents). AreContentsIn o (p ∷ past) b) (sym (left b (eqb-false b s e) ∙ kept b (eqb-false b s e))) (untouched past p j (get nat_cmp old.buffers b) b (apart past p j c s s gs is copies b e e) (are b))
 
 -- ---- a copy
 
-pub copy_step : (past : Past) (p : Point) (j : IsJudged (p ∷ past)) (s d : ℕ) (gs : List BufferCopy) → p.action ≡ Run (cmd.Copy s d gs) → (ss : List Stretch) (old mid new : Contents)
+pub copies_step : (past : Past) (p : Point) (j : IsJudged (p ∷ past)) (c : Cmd) (s d : ℕ) (gs : List BufferCopy) → p.action ≡ Run c → CopiesNumbers past p c s d gs → (ss : List Stretch) (old mid new : Contents)
     → BecomesIn (IsLentWith gs ss p.queue (next_spot past p)) (get nat_cmp old.buffers s) (get nat_cmp mid.buffers s)
     → ((other : ℕ) → other ≢ s → get nat_cmp mid.buffers other ≡ get nat_cmp old.buffers other)
     → BecomesIn (λ u v. IsPasted u v gs ss (family_of p.queue) (next_spot past p)) (get nat_cmp mid.buffers d) (get nat_cmp new.buffers d)
     → ((other : ℕ) → other ≢ d → get nat_cmp new.buffers other ≡ get nat_cmp mid.buffers other) → AreContents old past → AreContents new (p ∷ past)
-copy_step past p j s d gs is ss old mid new lends kept pastes left are = by (s == d) refl where
+copies_step past p j c s d gs is copies ss old mid new lends kept pastes left are = by (s == d) refl where
   by : (t : Bool) → (s == d) ≡ t → AreContents new (p ∷ past)
   by true e =
       let same : d ≡ s = sym (eqb-true s d e) in
-      within_one past p j s gs (subst (λ (x : ℕ). p.action ≡ Run (cmd.Copy s x gs)) same is) ss old mid new lends kept
+      within_one past p j c s gs is (subst (λ (x : ℕ). CopiesNumbers past p c s x gs) same copies) ss old mid new lends kept
       (subst (λ (x : ℕ). BecomesIn (λ u v. IsPasted u v gs ss (family_of p.queue) (next_spot past p)) (get nat_cmp mid.buffers x) (get nat_cmp new.buffers x)) same pastes)
       (subst (λ (x : ℕ). (other : ℕ) → other ≢ x → get nat_cmp new.buffers other ≡ get nat_cmp mid.buffers other) same left) are
-  by false e = between past p j s d gs is e (turned_about d s ∙ e) ss old mid new lends kept pastes left are
+  by false e = between past p j c s d gs is copies e (turned_about d s ∙ e) ss old mid new lends kept pastes left are
+
+-- a copy between buffers copies their numbers
+pub buffers_copied : (past : Past) (p : Point) (j : IsJudged (p ∷ past)) (s d : ℕ) (gs : List BufferCopy) → p.action ≡ Run (cmd.Copy s d gs) → CopiesNumbers past p (cmd.Copy s d gs) s d gs
+buffers_copied past p j s d gs is =
+    let source = there_for_command past p j (cmd.Copy s d gs) is s (source_named s d) in
+    let destination = there_for_command past p j (cmd.Copy s d gs) is d (destination_named s d) in
+    record {
+      owner = λ w r. refl;
+      dirty = λ w byte. refl;
+      value = λ w byte. refl;
+      writes = flat_same (copy_writes s d) (numbered_writes (byte_at past s) (byte_at past d)) gs (λ g. map_below (λ k. byte_write (in_buffer d (g.destination_offset + k)) (From (in_buffer s (g.source_offset + k)))) (λ k. byte_write (byte_at past d (g.destination_offset + k)) (From (byte_at past s (g.source_offset + k)))) g.size
+          (λ k lt. rw (byte_of_buffer past d destination (g.destination_offset + k), byte_of_buffer past s source (g.source_offset + k)) refl));
+      writes_now = refl;
+      source_there = buffer_is_resource past s source;
+      destination_there = buffer_is_resource past d destination;
+      reads_fit = λ g c. rw (size_of_buffer past s source) (copy_source past p j s d gs is g c);
+      writes_fit = λ g c. rw (size_of_buffer past d destination) (copy_destination past p j s d gs is g c);
+    }

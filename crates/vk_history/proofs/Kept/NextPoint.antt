@@ -138,3 +138,6 @@ module _ (past : Past) (p : Point) (j : IsJudged (p ∷ past)) where
 
   pub copy_source : (s d : ℕ) (gs : List BufferCopy) → p.action ≡ Run (cmd.Copy s d gs) → (g : BufferCopy) → Contains gs g → g.source_offset + g.size ≤ buffer_size past s
   copy_source = copy_reads_fit past p (judged_rest past p j).faultless live_id within_range
+
+  pub copy_destination : (s d : ℕ) (gs : List BufferCopy) → p.action ≡ Run (cmd.Copy s d gs) → (g : BufferCopy) → Contains gs g → g.destination_offset + g.size ≤ buffer_size past d
+  copy_destination = copy_writes_fit past p (judged_rest past p j).faultless live_id within_range

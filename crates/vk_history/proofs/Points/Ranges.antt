@@ -61,7 +61,7 @@ byte_in b k c o s = any_map (same_byte (in_buffer b k)) (λ j. in_buffer c (o + 
       let high : k < o + s = ltb-true k (o + s) inside.1 in
       one_of (λ j. b == c && k == o + j) 0 s (k - o) (omega arith) (omega (arith, low, high)) (rw (parts.0, eq-eqb k (o + (k - o)) (let e : k ≡ o + (k - o) = omega (arith, low) in e)) refl)
 
-to-map : {A : Type 0} (f : A → ByteWrite) (xs : List A) → targets (map f xs) ≡ map (λ x. (f x).to) xs
+pub to-map : {A : Type 0} (f : A → ByteWrite) (xs : List A) → targets (map f xs) ≡ map (λ x. (f x).to) xs
 to-map f [] = refl
 to-map f (x ∷ xs) = ap (λ (bs : List Byte). (f x).to ∷ bs) (to-map f xs)
 

@@ -45,7 +45,7 @@ use Rattle.vk_touches.specs.declared.touches.Touch.TheVariants as touch
 use Rattle.vk_history.specs.Supported.{is_supported_action}
 use Rattle.vk_history.specs.Judged.{IsJudged}
 use Rattle.vk_touches.specs.Touched.{next_node, act_next, last_touch, last_place, last_spot, first_flush, last_invalidation, is_invalidated, spot_of, touched}
-use Rattle.vk_history.specs.Contents.{AreContentsOf}
+use Rattle.vk_history.specs.Contents.{AreBufferContents}
 use Rattle.vk_touches.specs.declared.accesses.BufferAccess.{BufferAccess}
 use Rattle.vk_touches.specs.Conflicts.{Misses, MissesRead, MissesWrite, MissesFlush, MissesHostWrite, IsEarly, HasEarlyCommand, IsRefused, SaysSeen, SaysFollows, FoundAt, FoundAmong}
 use Rattle.vk_touches.proofs.Touching.LastNodes.{next_there}
@@ -67,7 +67,7 @@ any_found is xs o n true test found same =
 any_found is xs o n false test found same = none_of (λ k. test (o + k)) 0 n (λ k low high. let at = found (o + k) (omega arith) (omega (arith, high)) in same (o + k) (omega arith) (omega (arith, high)) false at.0 at.1 at.2)
 
 -- of bytes of a buffer
-module _ (past : Past) (b : ℕ) (is : ℕ → Bool → LastTouches → Type 0) (test : Byte → Bool) (same : (k : ℕ) (r : Bool) → is k r (touched past (in_buffer b k)) → test (in_buffer b k) ≡ r) (c : BufferContents) (are : AreContentsOf c past b) where
+module _ (past : Past) (b : ℕ) (is : ℕ → Bool → LastTouches → Type 0) (test : Byte → Bool) (same : (k : ℕ) (r : Bool) → is k r (touched past (in_buffer b k)) → test (in_buffer b k) ≡ r) (c : BufferContents) (are : AreBufferContents c past b) where
   pub range_found : (o n : ℕ) → o + n ≤ buffer_size past b → (r : Bool) → (o + n ≤ length c.touches → FoundAt is r c.touches o (o + n)) → list_any test (bytes_of b o n) ≡ r
   range_found o n fits r found =
       any_map test (λ k. in_buffer b (o + k)) (below n)

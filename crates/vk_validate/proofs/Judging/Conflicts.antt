@@ -36,7 +36,7 @@ use Rattle.vk_history.specs.Supported.{is_supported_action, is_supported_command
 use Rattle.vk_history.specs.Changes.{is_quiet}
 use Rattle.vk_touches.specs.declared.accesses.BufferAccess.{BufferAccess}
 use Rattle.vk_touches.specs.Conflicts.{AreConflicts, IsAccess, FoundIn, FoundAt, FoundAmong, Misses, MissesRead, MissesWrite, IsEarly, HasEarlyCommand}
-use Rattle.vk_history.specs.Contents.{AreContentsOf, is_defined}
+use Rattle.vk_history.specs.Contents.{AreBufferContents, is_defined}
 use Rattle.vk_history.specs.Judged.{IsJudged, early_rules, first_among}
 use Rattle.vk_touches.specs.Touched.{next_node, act_next, touched}
 use Rattle.vk_history.proofs.Points.Forms.{entry_cases, command_cases, action_cases}
@@ -127,13 +127,13 @@ module _ (past : Past) (judged : IsJudged past) (p : Point) (b o n : ℕ) (is : 
   answered_as x reads k off = subst (λ (b : Access). IsTrue (is_answered (λ c. is_cached (p ∷ past) (resource_at c)) (act_next p.action) (access_of b) (in_buffer x.buffer k))) (sym reads)
       (subst (λ (d : Action). IsTrue (is_answered (λ c. is_cached (p ∷ past) (resource_at c)) (act_next d) Read (in_buffer x.buffer k))) (sym is) (ap not off))
 
-  cached_here : (c : BufferContents) → AreContentsOf c past b → (x : BufferAccess) → x.buffer ≡ b → c.is_cached ≡ is_cached (p ∷ past) x.buffer
+  cached_here : (c : BufferContents) → AreBufferContents c past b → (x : BufferAccess) → x.buffer ≡ b → c.is_cached ≡ is_cached (p ∷ past) x.buffer
   cached_here c are x on = are.cache ∙ sym (read_keeps b) ∙ ap (is_cached (p ∷ past)) (sym on)
 
   no_writes : (a : Act) → Contains (acts p.action) a → (q : ℕ) → writes_of (p ∷ past) q a ≡ []
   no_writes a m q = subst (λ (b : Act). writes_of (p ∷ past) q b ≡ []) (only_one (Hosts (entry.Read b o n)) a (subst (λ (d : Action). Contains (acts d) a) is m)) refl
 
-  pub read_conflicts : HostSeen → InvalidatedSeen → UninvalidatedSeen → (c : BufferContents) → AreContentsOf c past b → o + n ≤ buffer_size past b → (s : Sight) → IsSight (nodes past) (next_node past p (act_next p.action)) s → (x : BufferAccess) → IsAccess past s b access.Read x → (raw undefined : Bool)
+  pub read_conflicts : HostSeen → InvalidatedSeen → UninvalidatedSeen → (c : BufferContents) → AreBufferContents c past b → o + n ≤ buffer_size past b → (s : Sight) → IsSight (nodes past) (next_node past p (act_next p.action)) s → (x : BufferAccess) → IsAccess past s b access.Read x → (raw undefined : Bool)
       → (o + n ≤ length c.touches → FoundAt (MissesRead c.is_cached x) raw c.touches o (o + n)) → (o + n ≤ length c.defined → FoundIn (λ r d. r ≡ not d) undefined c.defined o (o + n))
       → AreConflicts (record { war = false; raw = raw; waw = false; undefined = undefined }) past p
   read_conflicts law invalidated uninvalidated c are fits s sights x by raw undefined missed unknown = record {
@@ -181,7 +181,7 @@ module _ (past : Past) (judged : IsJudged past) (p : Point) (b o : ℕ) (bytes :
   set_bytes : writes (p ∷ past) (next_node past p (act_next p.action)) ≡ bytes_of b o (length bytes)
   set_bytes = ap (λ (d : Action). writes_of (p ∷ past) p.queue (act_next d)) is
 
-  pub set_conflicts : HostSeen → LinePrefix → (c : BufferContents) → AreContentsOf c past b → o + length bytes ≤ buffer_size past b → (s : Sight) → IsSight (nodes past) (next_node past p (act_next p.action)) s → (x : BufferAccess) → IsAccess past s b access.Write x → (war waw : Bool)
+  pub set_conflicts : HostSeen → LinePrefix → (c : BufferContents) → AreBufferContents c past b → o + length bytes ≤ buffer_size past b → (s : Sight) → IsSight (nodes past) (next_node past p (act_next p.action)) s → (x : BufferAccess) → IsAccess past s b access.Write x → (war waw : Bool)
       → (o + length bytes ≤ length c.touches → FoundIn (HasEarlyCommand s) war c.touches o (o + length bytes)) → (o + length bytes ≤ length c.touches → FoundAt (MissesWrite x) waw c.touches o (o + length bytes))
       → AreConflicts (record { war = war; raw = false; waw = waw; undefined = false }) past p
   set_conflicts law line c are fits s sights x by war waw ahead missed = record {
@@ -239,7 +239,7 @@ module _ (past : Past) (judged : IsJudged past) (p : Point) (c : Cmd) (is : p.ac
     early_is b k r h = command_early past judged p run_now run_steady run_alone run_keeps s sights run_device (in_buffer b k) r h
 
     -- one that gives a range values
-    pub values_conflicts : (b o n : ℕ) → origins (byte_writes past c) ≡ [] → targets (byte_writes past c) ≡ bytes_of b o n → (u : BufferContents) → AreContentsOf u past b → o + n ≤ buffer_size past b → (x : BufferAccess) → IsAccess past s b access.Write x → (war waw : Bool)
+    pub values_conflicts : (b o n : ℕ) → origins (byte_writes past c) ≡ [] → targets (byte_writes past c) ≡ bytes_of b o n → (u : BufferContents) → AreBufferContents u past b → o + n ≤ buffer_size past b → (x : BufferAccess) → IsAccess past s b access.Write x → (war waw : Bool)
         → (o + n ≤ length u.touches → FoundIn (IsEarly s) war u.touches o (o + n)) → (o + n ≤ length u.touches → FoundAt (Misses u.is_cached x) waw u.touches o (o + n))
         → AreConflicts (record { war = war; raw = false; waw = waw; undefined = false }) past p
     values_conflicts b o n none bytes u are fits x by war waw ahead missed = record {
@@ -251,7 +251,7 @@ module _ (past : Past) (judged : IsJudged past) (p : Point) (c : Cmd) (is : p.ac
 
     -- a copy
     pub regions_conflicts : (b d : ℕ) (gs : List BufferCopy) → origins (byte_writes past c) ≡ flat_map (λ g. bytes_of b g.source_offset g.size) gs → targets (byte_writes past c) ≡ flat_map (λ g. bytes_of d g.destination_offset g.size) gs
-        → (u v : BufferContents) → AreContentsOf u past b → AreContentsOf v past d → ((g : BufferCopy) → Contains gs g → g.source_offset + g.size ≤ buffer_size past b) → ((g : BufferCopy) → Contains gs g → g.destination_offset + g.size ≤ buffer_size past d)
+        → (u v : BufferContents) → AreBufferContents u past b → AreBufferContents v past d → ((g : BufferCopy) → Contains gs g → g.source_offset + g.size ≤ buffer_size past b) → ((g : BufferCopy) → Contains gs g → g.destination_offset + g.size ≤ buffer_size past d)
         → (x : BufferAccess) → IsAccess past s b access.Read x → (y : BufferAccess) → IsAccess past s d access.Write y → (war raw waw : Bool)
         → FoundAmong (λ r g. g.destination_offset + g.size ≤ length v.touches → FoundIn (IsEarly s) r v.touches g.destination_offset (g.destination_offset + g.size)) war gs
         → FoundAmong (λ r g. g.source_offset + g.size ≤ length u.touches → FoundAt (Misses u.is_cached x) r u.touches g.source_offset (g.source_offset + g.size)) raw gs
@@ -267,19 +267,19 @@ module _ (past : Past) (judged : IsJudged past) (p : Point) (c : Cmd) (is : p.ac
 -- ---- fills, updates and copies
 
 module _ (past : Past) (judged : IsJudged past) (p : Point) (law : HostSeen) (flushed : FlushedSeen) (unflushed : UnflushedSeen) (line : LinePrefix) (s : Sight) (sights : IsSight (nodes past) (next_node past p (act_next p.action)) s) where
-  pub fill_conflicts : (b o : ℕ) (n : Length) (w : ℕ) → p.action ≡ Run (cmd.Fill b o n w) → (u : BufferContents) → AreContentsOf u past b → o + fill_size (buffer_size past b) o n ≤ buffer_size past b → (x : BufferAccess) → IsAccess past s b access.Write x → (war waw : Bool)
+  pub fill_conflicts : (b o : ℕ) (n : Length) (w : ℕ) → p.action ≡ Run (cmd.Fill b o n w) → (u : BufferContents) → AreBufferContents u past b → o + fill_size (buffer_size past b) o n ≤ buffer_size past b → (x : BufferAccess) → IsAccess past s b access.Write x → (war waw : Bool)
       → (o + fill_size (buffer_size past b) o n ≤ length u.touches → FoundIn (IsEarly s) war u.touches o (o + fill_size (buffer_size past b) o n))
       → (o + fill_size (buffer_size past b) o n ≤ length u.touches → FoundAt (Misses u.is_cached x) waw u.touches o (o + fill_size (buffer_size past b) o n))
       → AreConflicts (record { war = war; raw = false; waw = waw; undefined = false }) past p
   fill_conflicts b o n w is = values_conflicts past judged p (cmd.Fill b o n w) is refl refl law flushed unflushed line s sights b o (fill_size (buffer_size past b) o n) (fill-origins past b o n w) (fill-targets past b o n w)
 
-  pub update_conflicts : (b o : ℕ) (bytes : List ℕ) → p.action ≡ Run (cmd.Update b o bytes) → (u : BufferContents) → AreContentsOf u past b → o + length bytes ≤ buffer_size past b → (x : BufferAccess) → IsAccess past s b access.Write x → (war waw : Bool)
+  pub update_conflicts : (b o : ℕ) (bytes : List ℕ) → p.action ≡ Run (cmd.Update b o bytes) → (u : BufferContents) → AreBufferContents u past b → o + length bytes ≤ buffer_size past b → (x : BufferAccess) → IsAccess past s b access.Write x → (war waw : Bool)
       → (o + length bytes ≤ length u.touches → FoundIn (IsEarly s) war u.touches o (o + length bytes)) → (o + length bytes ≤ length u.touches → FoundAt (Misses u.is_cached x) waw u.touches o (o + length bytes))
       → AreConflicts (record { war = war; raw = false; waw = waw; undefined = false }) past p
   update_conflicts b o bytes is = values_conflicts past judged p (cmd.Update b o bytes) is refl refl law flushed unflushed line s sights b o (length bytes) (update-origins past b o bytes) (update-targets past b o bytes)
 
   pub copy_conflicts : (b d : ℕ) (gs : List BufferCopy) → p.action ≡ Run (cmd.Copy b d gs)
-      → (u v : BufferContents) → AreContentsOf u past b → AreContentsOf v past d → ((g : BufferCopy) → Contains gs g → g.source_offset + g.size ≤ buffer_size past b) → ((g : BufferCopy) → Contains gs g → g.destination_offset + g.size ≤ buffer_size past d)
+      → (u v : BufferContents) → AreBufferContents u past b → AreBufferContents v past d → ((g : BufferCopy) → Contains gs g → g.source_offset + g.size ≤ buffer_size past b) → ((g : BufferCopy) → Contains gs g → g.destination_offset + g.size ≤ buffer_size past d)
       → (x : BufferAccess) → IsAccess past s b access.Read x → (y : BufferAccess) → IsAccess past s d access.Write y → (war raw waw : Bool)
       → FoundAmong (λ r g. g.destination_offset + g.size ≤ length v.touches → FoundIn (IsEarly s) r v.touches g.destination_offset (g.destination_offset + g.size)) war gs
       → FoundAmong (λ r g. g.source_offset + g.size ≤ length u.touches → FoundAt (Misses u.is_cached x) r u.touches g.source_offset (g.source_offset + g.size)) raw gs

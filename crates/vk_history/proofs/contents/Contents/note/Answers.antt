@@ -1,4 +1,5 @@
 use Rattle.std.proofs.Common.{ℕ, ◌∷◌, refl, ap, sym, subst}
+use Rattle.vk_model.specs.declared.command.Cmd.TheVariants as cmd
 use Rattle.vk_model.specs.Trace.Point.{Action}
 use Rattle.vk_model.specs.Sync.Node.{nodes}
 use Rattle.vk_model.specs.Sync.Edge.{is_element}
@@ -15,7 +16,7 @@ use Rattle.vk_history.proofs.Kept.PassSteps.{passed_step}
 use Rattle.vk_model.specs.World.Ownership.{family_of}
 use Rattle.vk_touches.proofs.PartChanges.{on_three}
 use Rattle.vk_history.proofs.Kept.ContentSteps.{buffer_made}
-use Rattle.vk_history.proofs.Kept.CopySteps.{copy_step}
+use Rattle.vk_history.proofs.Kept.CopySteps.{copies_step, buffers_copied}
 use Rattle.vk_history.proofs.Kept.CacheSteps.{flush_change, invalidation_change}
 use Rattle.vk_history.proofs.Kept.AccessSteps.{quiet_step, read_step, set_step, written_step}
 use Rattle.vk_history.proofs.contents.Contents.note.Goals as goal
@@ -25,7 +26,7 @@ returns-in-Nothing c = λ past j spot_is objects frontier are. quiet_step past (
 
 pub returns-in-Made : goal.returns-in-Made
 returns-in-Made c = on_three c.make.result c.make.ensures.here c.make.ensures.present c.make.ensures.others (λ here present others past j spot_is objects frontier are.
-    buffer_made past (point_of c.args.point.now) j c.in-Made.buffer c.in-Made.info.now c.in-Made.ensures c.args.self.now c.make.new.self c.is_cached.result (c.is_cached.ensures (point_of c.args.point.now ∷ past) objects) here present others are)
+    buffer_made past (point_of c.args.point.now) j c.in-Made.buffer c.in-Made.info.now c.in-Made.ensures c.args.self.now c.make.new.self c.is_cached-is_cached.result (c.is_cached-is_cached.ensures (point_of c.args.point.now ∷ past) objects) here present others are)
 
 pub returns-in-HostRead : goal.returns-in-HostRead
 returns-in-HostRead c = on_three c.read.result c.read.ensures.here c.read.ensures.others c.read.ensures.here (λ here others more past j spot_is objects frontier are.
@@ -63,7 +64,7 @@ returns-in_ok-paste-in-Copied c = λ past j spot_is objects frontier are.
     let old = c.args.self.now in
     let mid = c.lend.new.self in
     let new = c.paste.new.self in
-    copy_step past p j s d gs c.in-Copied.ensures ss old mid new
+    copies_step past p j (cmd.Copy s d gs) s d gs c.in-Copied.ensures (buffers_copied past p j s d gs c.in-Copied.ensures) ss old mid new
     (subst (λ (t : Spot). BecomesIn (IsLentWith gs ss p.queue t) (get nat_cmp old.buffers s) (get nat_cmp mid.buffers s)) spot_is c.in_ok-stretches-in-Copied.ensures.here)
     c.in_ok-stretches-in-Copied.ensures.others
     (subst (λ (t : Spot). BecomesIn (λ u v. IsPasted u v gs ss (family_of p.queue) t) (get nat_cmp mid.buffers d) (get nat_cmp new.buffers d)) spot_is c.in_ok-paste-in-Copied.ensures.here)

@@ -8,6 +8,7 @@ use Rattle.vk_order.specs.PointViews.{point_of}
 use Rattle.vk_order.proofs.PlaceLemmas.{apart_from}
 use Rattle.vk_history.specs.PointViews.{past}
 use Rattle.vk_touches.specs.Touched.{next_node, act_next}
+use Rattle.vk_history.proofs.Making.Numbers.{buffer_is_resource, of_buffer}
 use Rattle.vk_history.proofs.Kept.NextPoint.{command_there, copy_reads_fit, copy_writes_fit}
 use Rattle.vk_history.proofs.Kept.CopySteps.{source_named, destination_named}
 use Rattle.vk_validate.proofs.Judging.Conflicts.{early_live, early_range, copy_conflicts}
@@ -17,13 +18,13 @@ pub returns-in_default : goal.returns-in_default
 returns-in_default c =
     let earlier = past c.args.history.now in
     let p = point_of c.args.point.now in
-    clash (command_there earlier p c.is_judged.ensures.faultless (early_live earlier p c.requires.early) (early_range earlier p c.requires.early) (cmd.Copy c.args.source c.args.destination c.args.regions.now) c.requires.copies c.args.source (source_named c.args.source c.args.destination)) c.in_default.ensures.unmade
+    clash (buffer_is_resource earlier c.args.source (command_there earlier p c.is_judged.ensures.faultless (early_live earlier p c.requires.early) (early_range earlier p c.requires.early) (cmd.Copy c.args.source c.args.destination c.args.regions.now) c.requires.copies c.args.source (source_named c.args.source c.args.destination))) c.in_default.ensures.unmade
 
 pub returns-in_default-contents : goal.returns-in_default-contents
 returns-in_default-contents c =
     let earlier = past c.args.history.now in
     let p = point_of c.args.point.now in
-    clash (command_there earlier p c.is_judged.ensures.faultless (early_live earlier p c.requires.early) (early_range earlier p c.requires.early) (cmd.Copy c.args.source c.args.destination c.args.regions.now) c.requires.copies c.args.destination (destination_named c.args.source c.args.destination)) c.in_default-contents.ensures.unmade
+    clash (buffer_is_resource earlier c.args.destination (command_there earlier p c.is_judged.ensures.faultless (early_live earlier p c.requires.early) (early_range earlier p c.requires.early) (cmd.Copy c.args.source c.args.destination c.args.regions.now) c.requires.copies c.args.destination (destination_named c.args.source c.args.destination))) c.in_default-contents.ensures.unmade
 
 pub returns : goal.returns
 returns c =
@@ -33,7 +34,9 @@ returns c =
     let live = early_live earlier p c.requires.early in
     let range = early_range earlier p c.requires.early in
     let sights = c.in_ok-sight.ensures (apart_from (nodes earlier) (next_node earlier p (act_next p.action)) (ap (λ (d : Action). is_element (act_next d)) is)) in
-    copy_conflicts earlier c.is_judged.ensures p c.host_seen.ensures c.flushed_seen.ensures.flushed c.flushed_seen.ensures.unflushed c.prefixes.ensures.line c.in_ok-sight.sight sights c.args.source c.args.destination c.args.regions.now is c.in-Some.from.now c.in-Some-contents.to.now c.in-Some.ensures c.in-Some-contents.ensures
+    copy_conflicts earlier c.is_judged.ensures p c.host_seen.ensures c.flushed_seen.ensures.flushed c.flushed_seen.ensures.unflushed c.prefixes.ensures.line c.in_ok-sight.sight sights c.args.source c.args.destination c.args.regions.now is c.in-Some.from.now c.in-Some-contents.to.now
+    (of_buffer earlier c.args.source (command_there earlier p c.is_judged.ensures.faultless (early_live earlier p c.requires.early) (early_range earlier p c.requires.early) (cmd.Copy c.args.source c.args.destination c.args.regions.now) is c.args.source (source_named c.args.source c.args.destination)) c.in-Some.from.now c.in-Some.ensures)
+    (of_buffer earlier c.args.destination (command_there earlier p c.is_judged.ensures.faultless (early_live earlier p c.requires.early) (early_range earlier p c.requires.early) (cmd.Copy c.args.source c.args.destination c.args.regions.now) is c.args.destination (destination_named c.args.source c.args.destination)) c.in-Some-contents.to.now c.in-Some-contents.ensures)
     (copy_reads_fit earlier p c.is_judged.ensures.faultless live range c.args.source c.args.destination c.args.regions.now is)
     (copy_writes_fit earlier p c.is_judged.ensures.faultless live range c.args.source c.args.destination c.args.regions.now is)
     c.access-reads.result c.access-reads.ensures c.access-writes.result c.access-writes.ensures c.has_early_destination.result c.has_missed_source.result c.has_missed_destination.result c.has_early_destination.ensures c.has_missed_source.ensures c.has_missed_destination.ensures

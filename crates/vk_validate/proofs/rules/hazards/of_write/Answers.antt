@@ -11,6 +11,7 @@ use Rattle.vk_order.proofs.PlaceLemmas.{apart_from}
 use Rattle.vk_history.specs.PointViews.{past}
 use Rattle.vk_touches.specs.Conflicts.{FoundIn, FoundAt, Misses, IsEarly}
 use Rattle.vk_touches.specs.Touched.{next_node, act_next}
+use Rattle.vk_history.proofs.Making.Numbers.{buffer_is_resource, of_buffer}
 use Rattle.vk_history.proofs.Kept.NextPoint.{command_there, fill_fits, update_fits}
 use Rattle.vk_validate.proofs.Judging.Conflicts.{early_live, early_range, fill_conflicts, update_conflicts}
 use Rattle.vk_validate.proofs.rules.hazards.of_write.Goals as goal
@@ -21,7 +22,8 @@ returns-in_ok-sight-in-Some c = elim c.requires.writes [
       let earlier = past c.args.history.now in
       let p = point_of c.args.point.now in
       let is = fill.1 in
-      let are = c.in-Some.ensures in
+      let there = command_there earlier p c.is_judged.ensures.faultless (early_live earlier p c.requires.early) (early_range earlier p c.requires.early) (cmd.Fill c.args.buffer c.args.offset c.args.size fill.0) is c.args.buffer (contains-head _ []) in
+      let are = of_buffer earlier c.args.buffer there c.in-Some.contents.now c.in-Some.ensures in
       let touches = c.in-Some.contents.now.touches in
       let s = c.in_ok-sight-in-Some.sight in
       let bytes : c.filled-bytes.result ≡ fill_size (buffer_size earlier c.args.buffer) c.args.offset c.args.size = c.filled-bytes.ensures ∙ ap (λ (n : ℕ). fill_size n c.args.offset c.args.size) (c.len.ensures ∙ are.defined_size) in
@@ -34,7 +36,8 @@ returns-in_ok-sight-in-Some c = elim c.requires.writes [
       let earlier = past c.args.history.now in
       let p = point_of c.args.point.now in
       let is = update.1 in
-      let are = c.in-Some.ensures in
+      let there = command_there earlier p c.is_judged.ensures.faultless (early_live earlier p c.requires.early) (early_range earlier p c.requires.early) (cmd.Update c.args.buffer c.args.offset update.0) is c.args.buffer (contains-head _ []) in
+      let are = of_buffer earlier c.args.buffer there c.in-Some.contents.now c.in-Some.ensures in
       let touches = c.in-Some.contents.now.touches in
       let s = c.in_ok-sight-in-Some.sight in
       let bytes : c.filled-bytes.result ≡ length update.0 = c.filled-bytes.ensures ∙ ap (fill_size c.len.result c.args.offset) update.2 in
@@ -50,9 +53,9 @@ returns-in-None c = elim c.requires.writes [
   | inl fill ↦
       let earlier = past c.args.history.now in
       let p = point_of c.args.point.now in
-      clash (command_there earlier p c.is_judged.ensures.faultless (early_live earlier p c.requires.early) (early_range earlier p c.requires.early) (cmd.Fill c.args.buffer c.args.offset c.args.size fill.0) fill.1 c.args.buffer (contains-head _ [])) c.in-None.ensures.unmade
+      clash (buffer_is_resource earlier c.args.buffer (command_there earlier p c.is_judged.ensures.faultless (early_live earlier p c.requires.early) (early_range earlier p c.requires.early) (cmd.Fill c.args.buffer c.args.offset c.args.size fill.0) fill.1 c.args.buffer (contains-head _ []))) c.in-None.ensures.unmade
   | inr update ↦
       let earlier = past c.args.history.now in
       let p = point_of c.args.point.now in
-      clash (command_there earlier p c.is_judged.ensures.faultless (early_live earlier p c.requires.early) (early_range earlier p c.requires.early) (cmd.Update c.args.buffer c.args.offset update.0) update.1 c.args.buffer (contains-head _ [])) c.in-None.ensures.unmade
+      clash (buffer_is_resource earlier c.args.buffer (command_there earlier p c.is_judged.ensures.faultless (early_live earlier p c.requires.early) (early_range earlier p c.requires.early) (cmd.Update c.args.buffer c.args.offset update.0) update.1 c.args.buffer (contains-head _ []))) c.in-None.ensures.unmade
 ]
