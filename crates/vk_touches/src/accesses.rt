@@ -1,8 +1,9 @@
 ghost use Rattle.std.specs.Prelude.{◌<◌, ◌≤◌, ℕ, length, not};
 ghost use Rattle.vk_touches.specs.Conflicts.{FoundAt, IsRefused, Misses, MissesFlush, MissesHostWrite, MissesRead, MissesWrite, SaysSeen, SeesWrite, SomeBetween};
+ghost use Rattle.vk_order.specs.declared.units.Units.TheVariants as units;
 
 use crate::touches::{LastTouches, Spot};
-use vk_order::{Access, Frontier, SeenUntil, Sight};
+use vk_order::{Access, Frontier, SeenUntil, Sight, Units};
 use vk_ranges::RangeMap;
 
 /// How the node of a point that comes next accesses a buffer, and what it sees.
@@ -19,6 +20,15 @@ pub struct BufferAccess<'a> {
 }
 
 impl BufferAccess<'_> {
+    /// The bytes of the buffer, one after another.
+    fn units(&self) -> Units
+        ensures { result ≡ units.Bytes self.now.buffer }
+    {
+        Units::Bytes {
+            buffer: self.buffer,
+        }
+    }
+
     /// Whether of some byte of a range the last write by a command or by the host isn't seen.
     pub fn misses_some(
         &self,
@@ -131,7 +141,7 @@ impl BufferAccess<'_> {
                 self.sight,
                 write.in_line(),
                 write.number,
-                self.buffer,
+                self.units(),
                 low,
                 high,
                 access,
@@ -162,7 +172,7 @@ impl BufferAccess<'_> {
             self.sight,
             write.in_line(),
             from,
-            self.buffer,
+            self.units(),
             low,
             high,
             self.access,
