@@ -1,6 +1,5 @@
 ghost use Rattle.std.specs.Prelude.{◌<◌, ◌≤◌, ℕ, length, not};
 ghost use Rattle.vk_touches.specs.Conflicts.{FoundAt, IsRefused, Misses, MissesFlush, MissesHostWrite, MissesRead, MissesWrite, SaysSeen, SeesWrite, SomeBetween};
-ghost use Rattle.vk_order.specs.declared.units.Units.TheVariants as units;
 
 use crate::touches::{LastTouches, Spot};
 use vk_order::{Access, Frontier, SeenUntil, Sight, Units};
@@ -20,15 +19,6 @@ pub struct BufferAccess<'a> {
 }
 
 impl BufferAccess<'_> {
-    /// The bytes of the buffer, one after another.
-    fn units(&self) -> Units
-        ensures { result ≡ units.Bytes self.now.buffer }
-    {
-        Units::Bytes {
-            buffer: self.buffer,
-        }
-    }
-
     /// Whether of some byte of a range the last write by a command or by the host isn't seen.
     pub fn misses_some(
         &self,
@@ -141,7 +131,9 @@ impl BufferAccess<'_> {
                 self.sight,
                 write.in_line(),
                 write.number,
-                self.units(),
+                Units::Bytes {
+                    buffer: self.buffer,
+                },
                 low,
                 high,
                 access,
@@ -172,7 +164,9 @@ impl BufferAccess<'_> {
             self.sight,
             write.in_line(),
             from,
-            self.units(),
+            Units::Bytes {
+                buffer: self.buffer,
+            },
             low,
             high,
             self.access,
