@@ -124,7 +124,7 @@ pub buffer_made : (y : Entry) (info : BufferInfo) → buffer_in y ≡ Some info 
 buffer_made (entry.Buffer i b) info is = let same : b ≡ info = cc in (ap (λ (z : BufferInfo). Some z.size) same, refl, ap (λ (z : BufferInfo). Some (of_buffer z)) same)
 buffer_made _ info is = absurd cc
 
-some_sized : (x : Option Placed) (n : ℕ) → option_map (λ (p : Placed). p.size) x ≡ Some n → (p : Placed) × (x ≡ Some p) × (p.size ≡ n)
+pub some_sized : (x : Option Placed) (n : ℕ) → option_map (λ (p : Placed). p.size) x ≡ Some n → (p : Placed) × (x ≡ Some p) × (p.size ≡ n)
 some_sized None n is = absurd cc
 some_sized (Some p) n is = (p, refl, cc)
 
