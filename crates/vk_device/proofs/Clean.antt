@@ -17,16 +17,14 @@ use Rattle.vk_model.specs.World.ByteWrites.{buffer_size, fill_size}
 use Rattle.vk_model.specs.declared.command.Length.{Length}
 use Rattle.vk_model.specs.declared.command.Length.TheVariants as length_of
 use Rattle.vk_model.specs.declared.command.Cmd.TheVariants as cmd
-use Rattle.vk_model.specs.declared.command.Element.{Element}
-use Rattle.vk_model.specs.declared.command.Element.TheVariants as element
 use Rattle.vk_model.specs.declared.entry.Entry.TheVariants as entry
 use Rattle.vk_model.specs.declared.resource.BufferInfo.{BufferInfo}
 use Rattle.vk_model.specs.declared.resource.Place.{Place}
 use Rattle.vk_model.specs.declared.resource.Place.TheVariants as place
-use Rattle.vk_history.specs.Supported.{is_supported, is_supported_action, is_supported_place, is_supported_element}
+use Rattle.vk_history.specs.Supported.{is_supported, is_supported_action, is_supported_place}
 use Rattle.vk_device.specs.Inner.Clean.{IsClean}
 use Rattle.vk_device.specs.Inner.Fits.{FitsAction, AllFit}
-use Rattle.vk_resources.specs.Fits.{FitsFill, NoImages, FitsCommand, IsUnused, FitsPlace, FitsRange, FitsLength, FitsEntry}
+use Rattle.vk_resources.specs.Fits.{FitsFill, FitsCommand, IsUnused, FitsPlace, FitsRange, FitsLength, FitsEntry}
 use Rattle.vk_transfer.specs.Copies.{FitsBuffers}
 use Rattle.vk_model.specs.Basics.{holds}
 use Rattle.vk_model.specs.Rules.Ids.{is_buffer, is_memory as makes_memory, is_resource, asked_by_entry, breaks_live_id}
@@ -46,7 +44,7 @@ use Rattle.vk_laws.proofs.Living.Alive.{is_alive, Ending, ending, host_names_liv
 use Rattle.vk_laws.proofs.Living.Ends.{Ended, idle, other, when_ended}
 use Rattle.std.proofs.Math.Nat.{div-add-mod, div-mul-le_self, mul-div_cancel, mod-lt}
 use Rattle.vk_model.specs.declared.command.Cmd.{Cmd}
-use Rattle.vk_model.specs.Trace.Objects.{made, made_by, ended, live, buffer, buffer_in, bound_at, of_buffer}
+use Rattle.vk_model.specs.Trace.Objects.{made, made_by, ended, live, buffer, buffer_in, bound_at, Resource, resource_in, of_buffer}
 use Rattle.vk_model.specs.declared.entry.Entry.{Entry}
 
 -- a point breaks no rule
@@ -267,23 +265,17 @@ fill_point past p b o n w is none =
 
 -- ---- the other forms
 
-no_images : (es : List Element) → list_all is_supported_element es ≡ true → NoImages es
-no_images [] e = tt
-no_images (element.Memory d ∷ es) e = no_images es (and_parts (is_supported_element (element.Memory d)) (list_all is_supported_element es) e).1
-no_images (element.Buffer b ∷ es) e = no_images es (and_parts (is_supported_element (element.Buffer b)) (list_all is_supported_element es) e).1
-no_images (element.Image b ∷ es) e = absurd cc
-
 -- a place that breaks no rule on binding
-place_fits : (past : Past) (p : Point) (i : ℕ) (b : BufferInfo) → p.action ≡ Host (entry.Buffer i b) → BreaksNone past p → (q : Place) → b.place ≡ q → is_supported_place q ≡ true → FitsPlace past b q
-place_fits past p i b is none (place.Dedicated t) at supported = tt
-place_fits past p i b is none (place.Memory m o) at supported = (
-  names_live past p none (entry.Buffer i b) m makes_memory is (rw at (contains-head (m, makes_memory) [])),
-  rw at at (bound_within past p none (entry.Buffer i b) is),
-  rw at at (bound_apart past p none (entry.Buffer i b) is),
-  subst (λ (q : Place). holds (bound_at q) (λ s. is_misplaced past (of_buffer b) s.0 s.1) ≡ false) at (bound_aligned past p none (entry.Buffer i b) is),
+place_fits : (past : Past) (p : Point) (x : Entry) (r : Resource) → p.action ≡ Host x → resource_in x ≡ Some r → ((m o : ℕ) → r.place ≡ place.Memory m o → Contains (asked_by_entry x) (m, makes_memory)) → BreaksNone past p → (q : Place) → r.place ≡ q → is_supported_place q ≡ true → FitsPlace past r q
+place_fits past p x r is makes asks none (place.Dedicated t) at supported = tt
+place_fits past p x r is makes asks none (place.Memory m o) at supported = (
+  names_live past p none x m makes_memory is (asks m o at),
+  rw (makes, at) at (bound_within past p none x is),
+  rw (makes, at) at (bound_apart past p none x is),
+  subst (λ (q : Place). holds (bound_at q) (λ s. is_misplaced past r s.0 s.1) ≡ false) at (rw makes at (bound_aligned past p none x is)),
 )
-place_fits past p i b is none (place.Pool q) at supported = absurd cc
-place_fits past p i b is none (place.PoolUpper q) at supported = absurd cc
+place_fits past p x r is makes asks none (place.Pool q) at supported = absurd cc
+place_fits past p x r is makes asks none (place.PoolUpper q) at supported = absurd cc
 
 rounded_bound : (size : ℕ) → (size + 15) / 16 * 16 ≤ 67108864 → size ≤ 67108864
 rounded_bound size le = let parts = div-add-mod (size + 15) 16 in let rest : (size + 15) % 16 < 16 = mod-lt (size + 15) (omega arith) in omega arith
@@ -293,7 +285,7 @@ buffer_point past p i b is supported fresh none = record {
   unused = new_id past p none fresh (entry.Buffer i b) i is refl;
   some = not_zero b.size (entry_size past p none (entry.Buffer i b) is);
   bounded = rounded_bound b.size (not_above 67108864 ((b.size + 15) / 16 * 16) (memory_size past p none (entry.Buffer i b) is));
-  place = place_fits past p i b is none b.place refl supported;
+  place = place_fits past p (entry.Buffer i b) (of_buffer b) is refl (λ m o at. rw at (contains-head (m, makes_memory) [])) none b.place refl supported;
 }
 
 memory_point : (past : Past) (p : Point) (i : ℕ) (m : MemoryInfo) → p.action ≡ Host (entry.Memory i m) → IsFresh past → BreaksNone past p → FitsEntry past (entry.Memory i m)
@@ -353,7 +345,7 @@ fits_command : (past : Past) (p : Point) (c : Cmd) → p.action ≡ Run c → is
 fits_command past p (cmd.Fill b o n w) is supported none = fill_point past p b o n w is none
 fits_command past p (cmd.Update b o bytes) is supported none = update_point past p b o bytes is none
 fits_command past p (cmd.Copy s d gs) is supported none = copy_point past p s d gs is none
-fits_command past p (cmd.Barrier es) is supported none = no_images es supported
+fits_command past p (cmd.Barrier es) is supported none = tt
 fits_command past p (cmd.Clear i l color rs) is supported none = absurd cc
 fits_command past p (cmd.CopyIn b i l gs) is supported none = absurd cc
 fits_command past p (cmd.CopyOut i l b gs) is supported none = absurd cc

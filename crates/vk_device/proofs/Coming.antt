@@ -31,14 +31,16 @@ use Rattle.vk_queues.specs.IsWaiting.{IsWaiting}
 use Rattle.vk_offers.specs.IsOffers.{ComesNext, IsOffers, commands_in, is_run}
 use Rattle.vk_offers.specs.Laws.{OrderComesNext}
 use Rattle.vk_resources.specs.Fits.{FitsCommand, FitsFill, NamesLive}
-use Rattle.vk_resources.specs.Held.{Held, placed_in, object_in, IsThere, IsWithin}
+use Rattle.vk_resources.specs.Held.{Held, placed_in, shape_in, object_in, IsThere}
+use Rattle.vk_resources.proofs.Lying.{where_lies}
 use Rattle.vk_resources.specs.declared.resources.Placed.{Placed}
 use Rattle.vk_resources.specs.Matches.{MatchesLive}
 use Rattle.vk_resources.proofs.Matching.{matches_same}
 use Rattle.vk_transfer.specs.Copies.{FitsBuffers}
 use Rattle.vk_model.specs.Laws.{GrowthKeeps}
 use Rattle.vk_model.specs.Run.Pieces.{cut, pieces}
-use Rattle.vk_model.specs.World.Bytes.{Byte, in_buffer, in_image}
+use Rattle.vk_model.specs.declared.resource.ImageInfo.{ImageInfo}
+use Rattle.vk_model.specs.World.Bytes.{Byte, in_buffer, resource_at}
 use Rattle.vk_model.specs.World.ByteWrites.{Value, byte_write, fill_size}
 use Rattle.vk_model.specs.Sync.Node.{Node, Act, Runs, acts, with_acts, nodes}
 use Rattle.vk_model.proofs.Lists.Members.{contains-head}
@@ -325,15 +327,18 @@ advanced t steps s x xs d new w points i atoms h same counts waiting waits are a
 
 -- ---- a new device
 
-pub nothing_held : (r : Held) → r.owned ≡ [] → r.buffers ≡ [] → MatchesLive [] r
-nothing_held r owned buffers = record {
-  sizes = λ b. ap (λ (bs : List (ℕ × Placed)). option_map (λ (p : Placed). p.size) (placed_in bs b)) buffers;
-  places = λ b p i at is. absurd cc;
+pub nothing_held : (r : Held) → r.owned ≡ [] → r.resources ≡ [] → r.shapes ≡ [] → MatchesLive [] r
+nothing_held r owned resources shapes = record {
+  sizes = λ b. ap (λ (bs : List (ℕ × Placed)). option_map (λ (p : Placed). p.size) (placed_in bs b)) resources;
+  shapes = λ i. ap (λ (l : List (ℕ × ImageInfo)). shape_in l i) shapes;
+  places = λ b p r at is. absurd cc;
   owned = λ i. ap (λ (os : List (ℕ × ℕ)). is_some (object_in os i)) owned;
   memories = λ k number x is has. absurd cc;
   types = λ i number t is has. absurd cc;
 }
 
-pub none_there : (r : Held) → r.buffers ≡ [] → (c : Byte) → IsThere r c → ⊥
-none_there r buffers (in_buffer b k) there = subst (λ (bs : List (ℕ × Placed)). IsWithin (placed_in bs b) k) buffers there
-none_there r buffers (in_image i l a x y p) there = there
+pub none_there : (r : Held) → r.resources ≡ [] → (c : Byte) → IsThere r c → ⊥
+none_there r resources c there =
+    let l = where_lies r c there in
+    let both : Some l.place ≡ None = sym l.here ∙ ap (λ (bs : List (ℕ × Placed)). placed_in bs (resource_at c)) resources in
+    cc

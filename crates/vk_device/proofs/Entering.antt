@@ -14,10 +14,10 @@ use Rattle.vk_model.specs.Run.Caches as caches
 use Rattle.vk_model.specs.Run.Caches.{Cell, value_through}
 use Rattle.vk_model.specs.Run.CachedRuns.{in_atoms, turned_over, after_atoms, after_host}
 use Rattle.vk_model.specs.Run.Picks.{Picked, before_entry, atom_picks}
-use Rattle.vk_model.specs.Trace.Objects.{made, ended, ended_by, live, buffer_in}
+use Rattle.vk_model.specs.Trace.Objects.{Resource, made, ended, ended_by, live, image_in, resource_in}
 use Rattle.vk_model.specs.Trace.Order.{Front, host, order_from, order}
 use Rattle.vk_model.specs.Trace.Point.{Past}
-use Rattle.vk_model.specs.World.Bytes.{Byte, in_buffer, in_image}
+use Rattle.vk_model.specs.World.Bytes.{Byte, in_buffer, in_image, resource_at}
 use Rattle.vk_model.specs.World.Effect.{world}
 use Rattle.vk_model.specs.World.Meaning.{read_in}
 use Rattle.vk_model.proofs.Trace.Growing.{order_append}
@@ -29,10 +29,12 @@ use Rattle.vk_resources.specs.declared.applied.Applied.TheVariants as applied
 use Rattle.vk_resources.specs.declared.resources.Placed.{Placed}
 use Rattle.vk_resources.specs.Done.{Goes, DoneBy, ReadsBytes}
 use Rattle.vk_resources.specs.Fits.{FitsEntry}
-use Rattle.vk_resources.specs.Held.{Held, placed, placed_in, byte_at, host_at, seen_at, IsThere, IsWithin, HasCell}
-use Rattle.vk_resources.specs.Matches.{MatchesLive}
-use Rattle.vk_resources.proofs.Matching.{live_of_placed, placed_of_live}
-use Rattle.vk_resources.proofs.CachedBytes.{where_is}
+use Rattle.vk_resources.specs.Held.{Held, placed, placed_in, shape_in, shape_of, flat, form_of, byte_at, host_at, seen_at, IsThere, HasCell}
+use Rattle.vk_resources.specs.Matches.{MatchesLive, size_made}
+use Rattle.vk_resources.proofs.Matching.{live_of_placed, resource_of_placed, some_sized, flat_parts}
+use Rattle.vk_resources.proofs.Lying.{where_lies, lies_there, buffer_lies, there_stays}
+use Rattle.vk_image_transfer.specs.Held.{place_of}
+use Rattle.vk_model.specs.declared.resource.ImageInfo.{ImageInfo}
 use Rattle.vk_resources.proofs.HostAccesses.{range_there}
 use Rattle.vk_resources.proofs.Fitting.{live_made}
 use Rattle.vk_device.specs.declared.device.Device.{Device}
@@ -66,36 +68,41 @@ fits_some d x sound runs stand r = (r.2.front.past, fits_next r.2.count x r.2.fr
 
 -- ---- what is new
 
--- a buffer that an entry hasn't made was made before it
-makes_other : (past : Past) (e : ℕ) (x : Entry) (b : ℕ) (info : BufferInfo) → ((i : ℕ) (y : BufferInfo) → x ≡ entry.Buffer i y → ⊥) → FitsEntry past x → option_and_then buffer_in (made (host e x ∷ past) b) ≡ Some info → option_and_then buffer_in (made past b) ≡ Some info
-makes_other past e (entry.Buffer i y) b info other fits is = absurd (other i y refl)
-makes_other past e (entry.Memory i y) b info other fits is = go (b == i) is
+-- a resource that an entry hasn't made was made before it
+makes_other : (past : Past) (e : ℕ) (x : Entry) (b : ℕ) (info : Resource) → ((i : ℕ) (y : BufferInfo) → x ≡ entry.Buffer i y → ⊥) → ((i : ℕ) (y : ImageInfo) → x ≡ entry.Image i y → ⊥) → FitsEntry past x → option_and_then resource_in (made (host e x ∷ past) b) ≡ Some info → option_and_then resource_in (made past b) ≡ Some info
+makes_other past e (entry.Buffer i y) b info other image fits is = absurd (other i y refl)
+makes_other past e (entry.Image i y) b info other image fits is = absurd (image i y refl)
+makes_other past e (entry.Memory i y) b info other image fits is = go (b == i) is
   where
-    go : (t : Bool) → option_and_then buffer_in (cond t (Some (entry.Memory i y)) (made past b)) ≡ Some info → option_and_then buffer_in (made past b) ≡ Some info
+    go : (t : Bool) → option_and_then resource_in (cond t (Some (entry.Memory i y)) (made past b)) ≡ Some info → option_and_then resource_in (made past b) ≡ Some info
     go true is = absurd cc
     go false is = is
-makes_other past e (entry.Semaphore i v) b info other fits is = go (b == i) is
+makes_other past e (entry.Semaphore i v) b info other image fits is = go (b == i) is
   where
-    go : (t : Bool) → option_and_then buffer_in (cond t (Some (entry.Semaphore i v)) (made past b)) ≡ Some info → option_and_then buffer_in (made past b) ≡ Some info
+    go : (t : Bool) → option_and_then resource_in (cond t (Some (entry.Semaphore i v)) (made past b)) ≡ Some info → option_and_then resource_in (made past b) ≡ Some info
     go true is = absurd cc
     go false is = is
-makes_other past e (entry.Event i) b info other fits is = go (b == i) is
+makes_other past e (entry.Event i) b info other image fits is = go (b == i) is
   where
-    go : (t : Bool) → option_and_then buffer_in (cond t (Some (entry.Event i)) (made past b)) ≡ Some info → option_and_then buffer_in (made past b) ≡ Some info
+    go : (t : Bool) → option_and_then resource_in (cond t (Some (entry.Event i)) (made past b)) ≡ Some info → option_and_then resource_in (made past b) ≡ Some info
     go true is = absurd cc
     go false is = is
-makes_other past e (entry.Free m) b info other fits is = is
-makes_other past e (entry.Destroy r) b info other fits is = is
-makes_other past e (entry.Map r) b info other fits is = is
-makes_other past e (entry.Unmap r) b info other fits is = is
-makes_other past e (entry.Write r o bytes) b info other fits is = is
-makes_other past e (entry.Read r o n) b info other fits is = is
-makes_other past e (entry.Flush r o n) b info other fits is = is
-makes_other past e (entry.Invalidate r o n) b info other fits is = is
-makes_other past e (entry.Signal v n) b info other fits is = is
-makes_other past e (entry.Wait ws) b info other fits is = is
-makes_other past e (entry.Submit q bs) b info other fits is = is
-makes_other past e _ b info other fits is = absurd fits
+makes_other past e (entry.Free m) b info other image fits is = is
+makes_other past e (entry.Destroy r) b info other image fits is = is
+makes_other past e (entry.Map r) b info other image fits is = is
+makes_other past e (entry.Unmap r) b info other image fits is = is
+makes_other past e (entry.Write r o bytes) b info other image fits is = is
+makes_other past e (entry.Read r o n) b info other image fits is = is
+makes_other past e (entry.Flush r o n) b info other image fits is = is
+makes_other past e (entry.Invalidate r o n) b info other image fits is = is
+makes_other past e (entry.Signal v n) b info other image fits is = is
+makes_other past e (entry.Wait ws) b info other image fits is = is
+makes_other past e (entry.Submit q bs) b info other image fits is = is
+makes_other past e _ b info other image fits is = absurd fits
+
+made_some : (o : Option Entry) (r : Resource) → option_and_then resource_in o ≡ Some r → is_some o ≡ true
+made_some None r h = absurd cc
+made_some (Some y) r h = refl
 
 module _ (e : ℕ) (past : Past) (x : Entry) (clean : IsClean (host e x ∷ past)) where
   -- what was made is the same object with the entry
@@ -103,86 +110,81 @@ module _ (e : ℕ) (past : Past) (x : Entry) (clean : IsClean (host e x ∷ past
   made_same b y is = made_next past (host e x) clean b y is
 
   -- what is live then and was made is live before
-  lived : (b : ℕ) (info : BufferInfo) → IsTrue (is_some (made past b)) → option_and_then buffer_in (live (host e x ∷ past) b) ≡ Some info → option_and_then buffer_in (live past b) ≡ Some info
-  lived b info there is = go (made past b) refl there
+  lived : (b : ℕ) (y : Entry) → IsTrue (is_some (made past b)) → live (host e x ∷ past) b ≡ Some y → live past b ≡ Some y
+  lived b y there is = go (made past b) refl there
     where
-      unended : (t u : Bool) → option_and_then buffer_in (if t || u then None else made (host e x ∷ past) b) ≡ Some info → (u ≡ false) × (option_and_then buffer_in (made (host e x ∷ past) b) ≡ Some info)
+      unended : (t u : Bool) → (if t || u then None else made (host e x ∷ past) b) ≡ Some y → (u ≡ false) × (made (host e x ∷ past) b ≡ Some y)
       unended true u is = absurd cc
       unended false true is = absurd cc
       unended false false is = (refl, is)
 
-      go : (o : Option Entry) → made past b ≡ o → IsTrue (is_some o) → option_and_then buffer_in (live past b) ≡ Some info
+      go : (o : Option Entry) → made past b ≡ o → IsTrue (is_some o) → live past b ≡ Some y
       go None at some = absurd cc
-      go (Some y) at some =
+      go (Some z) at some =
           let parts = unended (among b (ended_by x)) (ended past b) is in
-          rw (parts.0, at) (ap (option_and_then buffer_in) (sym (made_same b y at)) ∙ parts.1)
+          rw (parts.0, at) (sym (made_same b z at) ∙ parts.1)
 
   module _ (old new : Held) (m : MatchesLive past old) (goes : Goes e x past old new) where
     was_there : (c : Byte) → IsTrue (is_made past c) → IsThere new c → IsThere old c
-    was_there (in_buffer b k) made_it there =
-        let w = where_is new b k there in
-        let l = live_of_placed (live (host e x ∷ past)) new b w.0 goes.0 w.1 in
-        let info = lived b l.info made_it l.is in
-        let p = placed_of_live (live past) old b l.info m info in
-        let size = p.2 in
-        let whole = l.size in
-        let low = w.2 in
-        subst (λ (o : Option Placed). IsWithin o k) (sym p.1) (omega (arith, size, whole, low))
-    was_there (in_image i l a u v z) made_it there = there
+    was_there c made_it there =
+        let l = where_lies new c there in
+        let k = live_of_placed (live (host e x ∷ past)) new (resource_at c) l.place goes.0 l.here in
+        let before = lived (resource_at c) k.made made_it k.alive_is in
+        let p = some_sized (placed old (resource_at c)) l.place.size (m.sizes (resource_at c) ∙ ap (option_and_then size_made) before ∙ k.size) in
+        let shape : shape_of old (resource_at c) ≡ shape_of new (resource_at c) =
+        m.shapes (resource_at c) ∙ ap (option_and_then image_in) (before ∙ sym k.alive_is) ∙ sym (goes.0.shapes (resource_at c)) in
+        lies_there old c (record {
+          place = p.0;
+          at = l.at;
+          here = p.1;
+          is = ap (λ (i : Option ImageInfo). place_of (form_of i p.0.size) c) shape ∙ ap (λ (n : ℕ). place_of (form_of (shape_of new (resource_at c)) n) c) p.2 ∙ l.is;
+        })
 
-  -- only a buffer that it makes is new
-  none_new : (new : Held) → MatchesLive (host e x ∷ past) new → ((i : ℕ) (y : BufferInfo) → x ≡ entry.Buffer i y → ⊥) → (c : Byte) → IsThere new c → is_made past c ≡ false → ⊥
-  none_new new m other (in_image i l a u v z) there unmade = there
-  none_new new m other (in_buffer b k) there unmade =
-      let w = where_is new b k there in
-      let l = live_of_placed (live (host e x ∷ past)) new b w.0 m w.1 in
-      clash (made_some (made past b) l.info (makes_other past e x b l.info other (fits_next e x past clean) (live_made buffer_in (host e x ∷ past) b l.info l.is))) unmade
-    where
-      made_some : (o : Option Entry) (info : BufferInfo) → option_and_then buffer_in o ≡ Some info → is_some o ≡ true
-      made_some None info h = absurd cc
-      made_some (Some y) info h = refl
+  -- only a resource that it makes is new
+  none_new : (new : Held) → MatchesLive (host e x ∷ past) new → ((i : ℕ) (y : BufferInfo) → x ≡ entry.Buffer i y → ⊥) → ((i : ℕ) (y : ImageInfo) → x ≡ entry.Image i y → ⊥) → (c : Byte) → IsThere new c → is_made past c ≡ false → ⊥
+  none_new new m other image c there unmade =
+      let l = where_lies new c there in
+      let k = live_of_placed (live (host e x ∷ past)) new (resource_at c) l.place m l.here in
+      clash
+      (made_some (made past (resource_at c)) k.resource
+      (makes_other past e x (resource_at c) k.resource other image (fits_next e x past clean) (live_made resource_in (host e x ∷ past) (resource_at c) k.resource (resource_of_placed (live (host e x ∷ past)) (resource_at c) l.place k))))
+      unmade
 
 -- what is there was made
 there_made : (past : Past) (r : Held) → MatchesLive past r → (c : Byte) → IsThere r c → is_made past c ≡ true
-there_made past r m (in_image i l a u v z) there = absurd there
-there_made past r m (in_buffer b k) there =
-    let w = where_is r b k there in
-    let l = live_of_placed (live past) r b w.0 m w.1 in
-    made_some (made past b) l.info (live_made buffer_in past b l.info l.is)
-  where
-    made_some : (o : Option Entry) (info : BufferInfo) → option_and_then buffer_in o ≡ Some info → is_some o ≡ true
-    made_some None info h = absurd cc
-    made_some (Some y) info h = refl
+there_made past r m c there =
+    let l = where_lies r c there in
+    let k = live_of_placed (live past) r (resource_at c) l.place m l.here in
+    made_some (made past (resource_at c)) k.resource (live_made resource_in past (resource_at c) k.resource (resource_of_placed (live past) (resource_at c) l.place k))
 
--- where buffers stay, so does what is there
-same_there : (old new : Held) → new.buffers ≡ old.buffers → (c : Byte) → IsThere new c → IsThere old c
-same_there old new same (in_buffer b k) there = subst (λ (bs : List (ℕ × Placed)). IsWithin (placed_in bs b) k) same there
-same_there old new same (in_image i l a u v z) there = there
+-- where resources stay, so does what is there
+same_there : (old new : Held) → new.resources ≡ old.resources → new.shapes ≡ old.shapes → (c : Byte) → IsThere new c → IsThere old c
+same_there old new same shapes c there = there_stays new old c (ap (λ (bs : List (ℕ × Placed)). placed_in bs (resource_at c)) (sym same)) (ap (λ (l : List (ℕ × ImageInfo)). shape_in l (resource_at c)) (sym shapes)) there
 
--- a byte of a new buffer is what memory held there
-new_cell : (past : Past) (mid new : Held) (x : Entry) (atoms : List ℕ) (c : Byte) (cell : Cell) → HasCell new c cell → (((i : ℕ) (y : BufferInfo) → x ≡ entry.Buffer i y → ⊥) → ⊥) → HasCell new c (after_host past [] x c (if in_atoms (touched_by x) atoms c then turned_over cell else cell))
+-- a byte of a new resource is what memory held there
+new_cell : (past : Past) (mid new : Held) (x : Entry) (atoms : List ℕ) (c : Byte) (cell : Cell) → HasCell new c cell → (((i : ℕ) (y : BufferInfo) → x ≡ entry.Buffer i y → ⊥) → ((i : ℕ) (y : ImageInfo) → x ≡ entry.Image i y → ⊥) → ⊥) → HasCell new c (after_host past [] x c (if in_atoms (touched_by x) atoms c then turned_over cell else cell))
 new_cell past mid new (entry.Buffer i y) atoms c cell has made = has
-new_cell past mid new (entry.Pool i x) atoms c cell has made = absurd (made (λ i y e. absurd cc))
-new_cell past mid new (entry.Image i x) atoms c cell has made = absurd (made (λ i y e. absurd cc))
-new_cell past mid new (entry.Memory i x) atoms c cell has made = absurd (made (λ i y e. absurd cc))
-new_cell past mid new (entry.Free m) atoms c cell has made = absurd (made (λ i y e. absurd cc))
-new_cell past mid new (entry.Destroy r) atoms c cell has made = absurd (made (λ i y e. absurd cc))
-new_cell past mid new (entry.DropPool q) atoms c cell has made = absurd (made (λ i y e. absurd cc))
-new_cell past mid new (entry.Map b) atoms c cell has made = absurd (made (λ i y e. absurd cc))
-new_cell past mid new (entry.Unmap b) atoms c cell has made = absurd (made (λ i y e. absurd cc))
-new_cell past mid new (entry.Write b o bytes) atoms c cell has made = absurd (made (λ i y e. absurd cc))
-new_cell past mid new (entry.Read b o n) atoms c cell has made = absurd (made (λ i y e. absurd cc))
-new_cell past mid new (entry.Flush b o n) atoms c cell has made = absurd (made (λ i y e. absurd cc))
-new_cell past mid new (entry.Invalidate b o n) atoms c cell has made = absurd (made (λ i y e. absurd cc))
-new_cell past mid new (entry.Semaphore i v) atoms c cell has made = absurd (made (λ i y e. absurd cc))
-new_cell past mid new (entry.Event i) atoms c cell has made = absurd (made (λ i y e. absurd cc))
-new_cell past mid new (entry.Signal v n) atoms c cell has made = absurd (made (λ i y e. absurd cc))
-new_cell past mid new (entry.Wait ws) atoms c cell has made = absurd (made (λ i y e. absurd cc))
-new_cell past mid new (entry.Submit q bs) atoms c cell has made = absurd (made (λ i y e. absurd cc))
-new_cell past mid new (entry.Defrag i q n m) atoms c cell has made = absurd (made (λ i y e. absurd cc))
-new_cell past mid new (entry.Pass d) atoms c cell has made = absurd (made (λ i y e. absurd cc))
-new_cell past mid new (entry.EndPass d kept lost) atoms c cell has made = absurd (made (λ i y e. absurd cc))
-new_cell past mid new (entry.EndDefrag d) atoms c cell has made = absurd (made (λ i y e. absurd cc))
+new_cell past mid new (entry.Pool i x) atoms c cell has made = absurd (made (λ i y e. absurd cc) (λ i y e. absurd cc))
+new_cell past mid new (entry.Image i x) atoms c cell has made = has
+new_cell past mid new (entry.Memory i x) atoms c cell has made = absurd (made (λ i y e. absurd cc) (λ i y e. absurd cc))
+new_cell past mid new (entry.Free m) atoms c cell has made = absurd (made (λ i y e. absurd cc) (λ i y e. absurd cc))
+new_cell past mid new (entry.Destroy r) atoms c cell has made = absurd (made (λ i y e. absurd cc) (λ i y e. absurd cc))
+new_cell past mid new (entry.DropPool q) atoms c cell has made = absurd (made (λ i y e. absurd cc) (λ i y e. absurd cc))
+new_cell past mid new (entry.Map b) atoms c cell has made = absurd (made (λ i y e. absurd cc) (λ i y e. absurd cc))
+new_cell past mid new (entry.Unmap b) atoms c cell has made = absurd (made (λ i y e. absurd cc) (λ i y e. absurd cc))
+new_cell past mid new (entry.Write b o bytes) atoms c cell has made = absurd (made (λ i y e. absurd cc) (λ i y e. absurd cc))
+new_cell past mid new (entry.Read b o n) atoms c cell has made = absurd (made (λ i y e. absurd cc) (λ i y e. absurd cc))
+new_cell past mid new (entry.Flush b o n) atoms c cell has made = absurd (made (λ i y e. absurd cc) (λ i y e. absurd cc))
+new_cell past mid new (entry.Invalidate b o n) atoms c cell has made = absurd (made (λ i y e. absurd cc) (λ i y e. absurd cc))
+new_cell past mid new (entry.Semaphore i v) atoms c cell has made = absurd (made (λ i y e. absurd cc) (λ i y e. absurd cc))
+new_cell past mid new (entry.Event i) atoms c cell has made = absurd (made (λ i y e. absurd cc) (λ i y e. absurd cc))
+new_cell past mid new (entry.Signal v n) atoms c cell has made = absurd (made (λ i y e. absurd cc) (λ i y e. absurd cc))
+new_cell past mid new (entry.Wait ws) atoms c cell has made = absurd (made (λ i y e. absurd cc) (λ i y e. absurd cc))
+new_cell past mid new (entry.Submit q bs) atoms c cell has made = absurd (made (λ i y e. absurd cc) (λ i y e. absurd cc))
+new_cell past mid new (entry.Defrag i q n m) atoms c cell has made = absurd (made (λ i y e. absurd cc) (λ i y e. absurd cc))
+new_cell past mid new (entry.Pass d) atoms c cell has made = absurd (made (λ i y e. absurd cc) (λ i y e. absurd cc))
+new_cell past mid new (entry.EndPass d kept lost) atoms c cell has made = absurd (made (λ i y e. absurd cc) (λ i y e. absurd cc))
+new_cell past mid new (entry.EndDefrag d) atoms c cell has made = absurd (made (λ i y e. absurd cc) (λ i y e. absurd cc))
 
 -- ---- the run goes on with it
 
@@ -217,7 +219,7 @@ host_done t steps s x xs atoms d mid new anything go_on h may are clean touched 
     holds_at : (c : Byte) → IsThere new c → (made_it : Bool) → is_made past c ≡ made_it → HasCell new c (cells_of (memory_after_entry past atoms [] x between) c)
     holds_at c there true is =
         let at_mid = was_there s.count past x clean mid new (touched.matches past h.led.matches) goes c is there in
-        let before = same_there d.resources mid touched.buffers c at_mid in
+        let before = same_there d.resources mid touched.resources touched.shapes c at_mid in
         let led = h.led.holds c before in
         let had : HasCell d.resources c (cells_of between c) = record { held = rw is led.held; region = rw is led.region } in
         as_memory c (goes.1 c (after_atoms x atoms (cells_of between) c) at_mid there (touched.cells c (cells_of between c) before had))
@@ -229,8 +231,8 @@ host_done t steps s x xs atoms d mid new anything go_on h may are clean touched 
         bare : host_at new c ≡ None
         bare = goes.2 c there absent
 
-        made_buffer : (((i : ℕ) (y : BufferInfo) → x ≡ entry.Buffer i y → ⊥) → ⊥)
-        made_buffer other = none_new s.count past x clean new goes.0 other c there is
+        made_buffer : (((i : ℕ) (y : BufferInfo) → x ≡ entry.Buffer i y → ⊥) → ((i : ℕ) (y : ImageInfo) → x ≡ entry.Image i y → ⊥) → ⊥)
+        made_buffer other image = none_new s.count past x clean new goes.0 other image c there is
 
 -- what it answers, and has done
 pub goes_of : (a : Applied) (e : ℕ) (x : Entry) (past : Past) (old new : Held) → (a ≡ applied.NoRoom → ⊥) → DoneBy a e x past old new → Goes e x past old new
@@ -261,14 +263,15 @@ reads_of t steps s x xs atoms d mid new law clean h touched (applied.Bytes bytes
         law t steps s h.led.memory b o n xs atoms h.sound.faultless h.led.run is
         ∙ ap (λ (l : List ℕ). (s.count, l) ∷ []) (sym (reads ∙ map_below (λ k. seen_at mid (in_buffer b (o + k))) (λ k. host_view (memory_after_atoms (entry.Read b o n) atoms h.led.memory) (in_buffer b (o + k))) n byte))
       where
-        at : (p : Placed) × (placed d.resources b ≡ Some p) × (o + n ≤ p.size)
+        at : (p : Placed) × (flat d.resources b ≡ Some p) × (o + n ≤ p.size)
         at = range_there s.front.past d.resources h.led.matches b o n fits
 
         byte : (k : ℕ) → k < n → seen_at mid (in_buffer b (o + k)) ≡ host_view (memory_after_atoms (entry.Read b o n) atoms h.led.memory) (in_buffer b (o + k))
         byte k lt =
             let c : Byte = in_buffer b (o + k) in
             let room = at.2 in
-            let there : IsThere d.resources c = subst (λ (p : Option Placed). IsWithin p (o + k)) (sym at.1) (omega (arith, room, lt)) in
+            let parts = flat_parts (shape_of d.resources b) (placed d.resources b) at.0 at.1 in
+            let there : IsThere d.resources c = lies_there d.resources c (buffer_lies d.resources b at.0 parts.1 parts.0 (o + k) (omega (arith, room, lt))) in
             let cell = touched.cells c (cells_of h.led.memory c) there (h.led.holds c there) in
             ap (λ (v : ℕ). value_through (host_at mid c) v) (sym cell.region) ∙ ap (λ (g : Option caches.Held). value_through g (after_atoms (entry.Read b o n) atoms (cells_of h.led.memory) c).region) (sym cell.held)
     go _ is fits touched reads = absurd reads

@@ -17,7 +17,7 @@ use Rattle.vk_model.specs.Sync.Node.{Node, Act, Runs, Depends, acts, nodes}
 use Rattle.vk_model.proofs.Lists.Members.{none_in, contains-cons, contains-head, map_has, mapped_from, flat_from, range_from, part_has, member_passes, found}
 use Rattle.vk_order.proofs.ElementPlaces.{with_member}
 use Rattle.vk_resources.specs.Fits.{FitsFill, FitsCommand, FitsEntry, NamesLive}
-use Rattle.vk_model.specs.World.Bytes.{Byte, in_buffer, in_image, same_byte}
+use Rattle.vk_model.specs.World.Bytes.{Byte, in_buffer, in_image, resource_at, same_byte}
 use Rattle.vk_model.specs.World.ByteWrites.{ByteWrite, byte_write, byte_writes, copy_writes, buffer_size, Source, Value, From}
 use Rattle.vk_model.specs.Basics.{below}
 use Rattle.vk_model.specs.Laws.{PiecesAreByteWrites}
@@ -47,7 +47,10 @@ use Rattle.vk_offers.proofs.Offering.{same_offers}
 use Rattle.vk_offers.proofs.Commands.{command_at}
 use Rattle.vk_transfer.specs.Ran.{given, stored, HaveRun}
 use Rattle.vk_resources.specs.declared.resources.Placed.{Placed}
-use Rattle.vk_resources.specs.Held.{Held, byte_at, host_at, holding_in, placed, placed_in, IsThere, IsWithin}
+use Rattle.vk_resources.specs.Held.{Held, byte_at, host_at, holding_in, placed, placed_in, shape_in, shape_of, flat, IsThere}
+use Rattle.vk_resources.proofs.Lying.{lies_there, buffer_lies, there_stays}
+use Rattle.vk_resources.proofs.Matching.{flat_parts}
+use Rattle.vk_model.specs.declared.resource.ImageInfo.{ImageInfo}
 use Rattle.vk_map_cache.specs.Holdings.{Holdings}
 use Rattle.vk_resources.specs.Matches.{MatchesLive}
 use Rattle.vk_resources.proofs.Fitting.{named_there, same_size}
@@ -68,6 +71,7 @@ module _ (past : Past) (b : ℕ) (info : BufferInfo) (is : buffer past b ≡ Som
 
   stays_host : (e k p q : ℕ) (x : Entry) → FitsEntry past x → buffer (record { entry = e; batch = k; place = p; queue = q; action = Host x } ∷ past) b ≡ Some info
   stays_host e k p q (entry.Buffer i y) fit = other_id i fit.unused.unmade (Some (entry.Buffer i y)) (b == i) refl
+  stays_host e k p q (entry.Image i y) fit = other_id i fit.unused.unmade (Some (entry.Image i y)) (b == i) refl
   stays_host e k p q (entry.Memory i y) fit = other_id i fit.0.unmade (Some (entry.Memory i y)) (b == i) refl
   stays_host e k p q (entry.Semaphore i v) fit = other_id i fit.unmade (Some (entry.Semaphore i v)) (b == i) refl
   stays_host e k p q (entry.Event i) fit = other_id i fit.unmade (Some (entry.Event i)) (b == i) refl
@@ -201,12 +205,14 @@ module _ (past : Past) (done : List Name) (o : Offers) (is : IsOffers o past don
 
 module _ (past : Past) (s : Held) (m : MatchesLive past s) (together : PiecesAreByteWrites) where
   -- a byte below the size of a buffer that is held
-  within : (b k : ℕ) → IsSome (placed s b) → k < buffer_size past b → IsThere s (in_buffer b k)
-  within b k some lt = go (placed s b) refl some
+  within : (b k : ℕ) → IsSome (flat s b) → k < buffer_size past b → IsThere s (in_buffer b k)
+  within b k some lt = go (flat s b) refl some
     where
-      go : (o : Option Placed) → placed s b ≡ o → IsSome o → IsWithin o k
+      go : (o : Option Placed) → flat s b ≡ o → IsSome o → IsThere s (in_buffer b k)
       go None at some = absurd cc
-      go (Some p) at some = subst (λ (n : ℕ). k < n) (same_size past s m b p at) lt
+      go (Some p) at some =
+          let parts = flat_parts (shape_of s b) (placed s b) p at in
+          lies_there s (in_buffer b k) (buffer_lies s b p parts.1 parts.0 k (subst (λ (n : ℕ). k < n) (same_size past s m b p at) lt))
 
   -- a byte that a command copies is of a buffer that is there
   source_there : (c : Cmd) → FitsCommand past c → NamesLive past c → (w : ByteWrite) (e : Byte) → Contains (byte_writes past c) w → w.source ≡ From e → IsThere s e
@@ -246,10 +252,10 @@ module _ (t : List Entry) (steps : List Step) (s : Stage) (d : Device) (led : Le
   ms = named_piece s.front.past (name_of s.front.past piece)
 
   -- the device when it has run
-  pub has_run : PiecesGoOn → (new : Device) → HaveRun ms (byte_at d.resources) (byte_at new.resources) → MatchesLive s.front.past new.resources → new.resources.buffers ≡ d.resources.buffers → new.resources.cache ≡ d.resources.cache → new.works ≡ d.works
+  pub has_run : PiecesGoOn → (new : Device) → HaveRun ms (byte_at d.resources) (byte_at new.resources) → MatchesLive s.front.past new.resources → new.resources.resources ≡ d.resources.resources → new.resources.shapes ≡ d.resources.shapes → new.resources.cache ≡ d.resources.cache → new.works ≡ d.works
       → new.waiting ≡ d.waiting → new.count ≡ d.count → IsOffers new.offers s.front.past (name_of s.front.past piece ∷ s.done)
       → Led t (steps ++ RunPiece (name_of s.front.past piece) ∷ []) (record s { done = name_of s.front.past piece ∷ s.done }) new
-  has_run go_on new ran matches buffers cache works waiting count offers = record {
+  has_run go_on new ran matches resources shapes cache works waiting count offers = record {
     memory = memory_after_piece ms led.memory;
     run = go_on t steps s led.memory (name_of s.front.past piece) led.run (is_offered s.front.past s.done d.offers led.offers piece at);
     holds = λ c there. record {
@@ -265,11 +271,10 @@ module _ (t : List Entry) (steps : List Step) (s : Stage) (d : Device) (led : Le
   }
     where
       was : (c : Byte) → IsThere new.resources c → IsThere d.resources c
-      was (in_buffer b k) there = subst (λ (bs : List (ℕ × Placed)). IsWithin (placed_in bs b) k) buffers there
-      was (in_image i l a x y p) there = there
+      was c there = there_stays new.resources d.resources c (ap (λ (bs : List (ℕ × Placed)). placed_in bs (resource_at c)) (sym resources)) (ap (λ (l : List (ℕ × ImageInfo)). shape_in l (resource_at c)) (sym shapes)) there
 
       same_host : (c : Byte) → host_at new.resources c ≡ host_at d.resources c
-      same_host (in_buffer b k) = ap (λ (h : Holdings). holding_in h (placed new.resources b) k) cache ∙ ap (λ (bs : List (ℕ × Placed)). holding_in d.resources.cache (placed_in bs b) k) buffers
+      same_host (in_buffer b k) = ap (λ (h : Holdings). holding_in h (placed new.resources b) k) cache ∙ ap (λ (bs : List (ℕ × Placed)). holding_in d.resources.cache (placed_in bs b) k) resources
       same_host (in_image i l a x y p) = refl
 
   -- the bytes that it has written

@@ -8,14 +8,16 @@ use Rattle.std.proofs.lemmas.List.Folds.{list_any-append}
 use Rattle.vk_model.specs.declared.entry.Entry.{Entry}
 use Rattle.vk_model.specs.Basics.{among}
 use Rattle.vk_model.specs.Trace.Point.{Past}
-use Rattle.vk_model.specs.World.Bytes.{Byte, in_buffer, in_image}
+use Rattle.vk_model.specs.World.Bytes.{Byte, in_buffer, in_image, resource_at}
 use Rattle.vk_model.specs.Run.Caches.{Cell}
 use Rattle.vk_model.specs.Run.CachedRuns.{in_atoms, turned_over}
 use Rattle.vk_model.specs.Run.Runs.{touched_by, atom_count}
 use Rattle.vk_model.specs.Run.Picks.{atom_picks}
 use Rattle.vk_resources.specs.Done.{TurnsOver}
 use Rattle.vk_resources.specs.declared.resources.Placed.{Placed}
-use Rattle.vk_resources.specs.Held.{Held, placed_in, IsThere, IsWithin, HasCell}
+use Rattle.vk_resources.specs.Held.{Held, placed_in, shape_in, IsThere, HasCell}
+use Rattle.vk_resources.proofs.Lying.{there_stays}
+use Rattle.vk_model.specs.declared.resource.ImageInfo.{ImageInfo}
 use Rattle.vk_resources.specs.Matches.{MatchesLive}
 use Rattle.vk_device.specs.Inner.Ready.{HasTouched, Touches}
 
@@ -68,9 +70,8 @@ twice (Some b) atoms i (in_buffer j k) cell low = go (b == j) (k / 64 == i) refl
         or_false true = refl
         or_false false = refl
 
-same_there : (old new : Held) → new.buffers ≡ old.buffers → (c : Byte) → IsThere old c → IsThere new c
-same_there old new same (in_buffer b k) there = subst (λ (bs : List (ℕ × Placed)). IsWithin (placed_in bs b) k) (sym same) there
-same_there old new same (in_image i l a u v z) there = there
+same_there : (old new : Held) → new.resources ≡ old.resources → new.shapes ≡ old.shapes → (c : Byte) → IsThere old c → IsThere new c
+same_there old new same shapes c there = there_stays old new c (ap (λ (bs : List (ℕ × Placed)). placed_in bs (resource_at c)) same) (ap (λ (l : List (ℕ × ImageInfo)). shape_in l (resource_at c)) shapes) there
 
 -- ---- so far
 
@@ -91,7 +92,7 @@ module _ (answer : List ℕ → ℕ → ℕ) (next : List ℕ → ℕ → List �
     taken = [];
     low = refl;
     picks = refl;
-    touched = record { cells = λ c cell there has. rw (none_in (touched_by x) c) has; matches = λ past m. m; buffers = refl; same = λ e. refl };
+    touched = record { cells = λ c cell there has. rw (none_in (touched_by x) c) has; matches = λ past m. m; resources = refl; shapes = refl; same = λ e. refl };
   }
 
   lower : (atoms : List ℕ) (i : ℕ) → IsTrue (list_all (λ j. nat_lt j i) atoms) → IsTrue (list_all (λ j. nat_lt j (i + 1)) atoms)
@@ -138,8 +139,8 @@ module _ (answer : List ℕ → ℕ → ℕ) (next : List ℕ → ℕ → List �
     }
 
     -- it is
-    pub takes : (answer held 2 % 2 == 1) ≡ true → (new : Held) → TurnsOver x i mid new → ((past : Past) → MatchesLive past mid → MatchesLive past new) → new.buffers ≡ mid.buffers → SoFar answer next x count (i + 1) first (next held 2) old new
-    takes picked new turned matches buffers = record {
+    pub takes : (answer held 2 % 2 == 1) ≡ true → (new : Held) → TurnsOver x i mid new → ((past : Past) → MatchesLive past mid → MatchesLive past new) → new.resources ≡ mid.resources → new.shapes ≡ mid.shapes → SoFar answer next x count (i + 1) first (next held 2) old new
+    takes picked new turned matches resources shapes = record {
       left = one_left.0;
       counts = let c = so.counts in let one = one_left.1 in omega (arith, c, one);
       taken = so.taken ++ i ∷ [];
@@ -148,9 +149,10 @@ module _ (answer : List ℕ → ℕ → ℕ) (next : List ℕ → ℕ → List �
           ∙ ap (λ (l : List ℕ). (l, (atom_picks answer next one_left.0 (i + 1) (next held 2)).1)) (sym (append_assoc so.taken (i ∷ []) (atom_picks answer next one_left.0 (i + 1) (next held 2)).0));
       touched = record {
         cells = λ c cell there has. subst (λ (y : Cell). HasCell new c y) (twice (touched_by x) so.taken i c cell so.low)
-            (turned c (if in_atoms (touched_by x) so.taken c then turned_over cell else cell) (same_there old mid so.touched.buffers c there) (so.touched.cells c cell there has));
+            (turned c (if in_atoms (touched_by x) so.taken c then turned_over cell else cell) (same_there old mid so.touched.resources so.touched.shapes c there) (so.touched.cells c cell there has));
         matches = λ past m. matches past (so.touched.matches past m);
-        buffers = buffers ∙ so.touched.buffers;
+        resources = resources ∙ so.touched.resources;
+        shapes = shapes ∙ so.touched.shapes;
         same = λ e. absurd (not_empty so.taken e);
       };
     }
@@ -175,10 +177,10 @@ module _ (answer : List ℕ → ℕ → ℕ) (next : List ℕ → ℕ → List �
 
 -- the same by what the scheduler answered and holds then
 module _ (answer : List ℕ → ℕ → ℕ) (next : List ℕ → ℕ → List ℕ) (x : Entry) (count : ℕ) (first : List ℕ) (old : Held) (i : ℕ) (held after : List ℕ) (mid : Held) (below : i < count) (so : SoFar answer next x count i first held old mid) (picked : ℕ) (is : picked ≡ answer held 2) (so_next : after ≡ next held 2) where
-  pub took : picked % 2 ≡ 1 → (new : Held) → TurnsOver x i mid new → ((past : Past) → MatchesLive past mid → MatchesLive past new) → new.buffers ≡ mid.buffers → SoFar answer next x count (i + 1) first after old new
-  took one new turned matches buffers =
+  pub took : picked % 2 ≡ 1 → (new : Held) → TurnsOver x i mid new → ((past : Past) → MatchesLive past mid → MatchesLive past new) → new.resources ≡ mid.resources → new.shapes ≡ mid.shapes → SoFar answer next x count (i + 1) first after old new
+  took one new turned matches resources shapes =
       subst (λ (l : List ℕ). SoFar answer next x count (i + 1) first l old new) (sym so_next)
-      (takes answer next x count first old i held mid below so (subst (λ (n : ℕ). (n % 2 == 1) ≡ true) is (eq-eqb (picked % 2) 1 one)) new turned matches buffers)
+      (takes answer next x count first old i held mid below so (subst (λ (n : ℕ). (n % 2 == 1) ≡ true) is (eq-eqb (picked % 2) 1 one)) new turned matches resources shapes)
 
   pub skipped : (picked % 2 ≡ 1 → ⊥) → SoFar answer next x count (i + 1) first after old mid
   skipped other =

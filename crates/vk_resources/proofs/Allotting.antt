@@ -14,9 +14,9 @@ use Rattle.vk_model.specs.declared.resource.BufferInfo.{BufferInfo}
 use Rattle.vk_model.specs.declared.resource.MemoryInfo.{MemoryInfo}
 use Rattle.vk_model.specs.declared.resource.Place.{Place}
 use Rattle.vk_model.specs.declared.resource.Place.TheVariants as place
-use Rattle.vk_model.specs.Trace.Objects.{of_buffer}
+use Rattle.vk_model.specs.Trace.Objects.{Resource}
+use Rattle.vk_model.specs.declared.resource.ImageInfo.{ImageInfo}
 use Rattle.vk_model.specs.Trace.Point.{Past}
-use Rattle.vk_model.specs.Basics.{round_up}
 use Rattle.vk_model.specs.Memory.HeapSizes.{HeapSizes}
 use Rattle.vk_model.specs.Memory.Room.{heap_of, no_object}
 use Rattle.vk_model.specs.Memory.Allocations.{Allocated, OwnMemory, PoolMemory, heaps_of, pool_bytes, with_object, without, without_resident, FindsNoneAt, Gets}
@@ -25,8 +25,8 @@ use Rattle.vk_resources.specs.declared.applied.Applied.TheVariants as applied
 use Rattle.vk_resources.specs.Held.{Held, IsApart, object_in, object_of}
 use Rattle.vk_resources.specs.Allocating.{Allotted, allotted, kind_of, live_from, Fulfils, IsAllocated, Rooms, Allots}
 use Rattle.vk_resources.specs.Fits.{FitsEntry}
-use Rattle.vk_resources.specs.Inner.Steps.{Makes, MemoryMade, BufferMade, Ends, freed}
-use Rattle.vk_resources.proofs.Applying.{IsRest}
+use Rattle.vk_resources.specs.Inner.Steps.{Makes, MemoryMade, ResourceMade, Ends, freed}
+use Rattle.vk_resources.proofs.Applying.{IsRest, IsMaker}
 
 -- ---- the heaps
 
@@ -114,20 +114,18 @@ pub memory_rooms : (old new : Held) (y : Entry) (i : ℕ) (info : MemoryInfo) �
 memory_rooms old new y i info is a made = subst (λ (x : Entry). Rooms a old x) (sym is) (go a made)
   where
     go : (a : Applied) → MemoryMade a old new i info.memory_type info.size → Rooms a old (entry.Memory i info)
-    go applied.Done made = λ d al none. made.2 (found_full old d al info.memory_type info.size none)
+    go applied.Done made = λ d al none. made.3 (found_full old d al info.memory_type info.size none)
     go (applied.Bytes bytes) made = absurd made
     go applied.NoRoom made = λ d al. full_found old d al info.memory_type info.size made.1
 
-pub buffer_rooms : (old new : Held) (y : Entry) (i t : ℕ) (info : BufferInfo) → y ≡ entry.Buffer i info → info.place ≡ place.Dedicated t → (a : Applied) → BufferMade a old new i t info.size → Rooms a old y
-buffer_rooms old new y i t info is own a made = subst (λ (x : Entry). Rooms a old x) (sym is) (go a made)
-  where
-    go : (a : Applied) → BufferMade a old new i t info.size → Rooms a old (entry.Buffer i info)
-    go applied.Done made = λ d al none. made.2 (found_full old d al t (round_up info.size 16) (subst (λ (q : Place). FindsNoneAt d q (of_buffer info)) own none))
-    go (applied.Bytes bytes) made = absurd made
-    go applied.NoRoom made = λ d al. subst (λ (q : Place). FindsNoneAt d q (of_buffer info)) (sym own) (full_found old d al t (round_up info.size 16) made.1)
+module _ (old new : Held) (x : Entry) (i : ℕ) (r : Resource) (size : ℕ) (shape : Option ImageInfo) (maker : IsMaker x i r size shape) where
+  pub resource_rooms : (t : ℕ) → r.place ≡ place.Dedicated t → (a : Applied) → ResourceMade a old new i t size r.size shape → Rooms a old x
+  resource_rooms t own applied.Done made = λ d al none. made.2 (found_full old d al t r.size (subst (λ (q : Place). FindsNoneAt d q r) own (maker.found d none)))
+  resource_rooms t own (applied.Bytes bytes) made = absurd made
+  resource_rooms t own applied.NoRoom made = λ d al. maker.finds d (subst (λ (q : Place). FindsNoneAt d q r) (sym own) (full_found old d al t r.size made.1))
 
-pub bound_rooms : (old : Held) (y : Entry) (i k o : ℕ) (info : BufferInfo) → y ≡ entry.Buffer i info → info.place ≡ place.Memory k o → Rooms applied.Done old y
-bound_rooms old y i k o info is at = subst (λ (x : Entry). Rooms applied.Done old x) (sym is) (λ d al none. subst (λ (q : Place). FindsNoneAt d q (of_buffer info)) at none)
+  pub bound_rooms : (k o : ℕ) → r.place ≡ place.Memory k o → Rooms applied.Done old x
+  bound_rooms k o at = λ d al none. subst (λ (q : Place). FindsNoneAt d q r) at (maker.found d none)
 
 -- ---- one more object
 
@@ -151,7 +149,7 @@ live_push f k (Some p ∷ os) o =
 
 -- ---- what is allocated then
 
-module _ (old : Held) (d : Allocated) (al : IsAllocated old d) (apart : IsApart old.memory old.owned old.buffers) where
+module _ (old : Held) (d : Allocated) (al : IsAllocated old d) (apart : IsApart old.memory old.owned old.resources) where
   abbrev objects : kinds
   objects = map kind_of old.memory.objects
 
@@ -249,7 +247,7 @@ one_dropped f id k (Some o ∷ os) (suc j) there same only =
     next : (k n : ℕ) → k + suc n ≡ suc k + n
     next k n = omega arith
 
-module _ (old : Held) (d : Allocated) (al : IsAllocated old d) (apart : IsApart old.memory old.owned old.buffers) (new : Held) (r : ℕ) (ends : Ends old new r) where
+module _ (old : Held) (d : Allocated) (al : IsAllocated old d) (apart : IsApart old.memory old.owned old.resources) (new : Held) (r : ℕ) (ends : Ends old new r) where
   abbrev before : kinds
   before = map kind_of old.memory.objects
 
@@ -318,7 +316,7 @@ module _ (old : Held) (d : Allocated) (al : IsAllocated old d) (apart : IsApart 
 
 -- ---- as each entry asks
 
-pub memory_allots : (old new : Held) (y : Entry) (i : ℕ) (info : MemoryInfo) → y ≡ entry.Memory i info → object_of old i ≡ None → IsApart old.memory old.owned old.buffers → (a : Applied) → MemoryMade a old new i info.memory_type info.size → Allots a y old new
+pub memory_allots : (old new : Held) (y : Entry) (i : ℕ) (info : MemoryInfo) → y ≡ entry.Memory i info → object_of old i ≡ None → IsApart old.memory old.owned old.resources → (a : Applied) → MemoryMade a old new i info.memory_type info.size → Allots a y old new
 memory_allots old new y i info is absent apart a made = subst (λ (x : Entry). Allots a x old new) (sym is) (go a made)
   where
     go : (a : Applied) → MemoryMade a old new i info.memory_type info.size → Allots a (entry.Memory i info) old new
@@ -326,21 +324,22 @@ memory_allots old new y i info is absent apart a made = subst (λ (x : Entry). A
     go (applied.Bytes bytes) made = absurd made
     go applied.NoRoom made = λ d al. subst (λ (s : Held). IsAllocated s d) (sym made.0) al
 
-pub buffer_allots : (old new : Held) (y : Entry) (i t : ℕ) (info : BufferInfo) → y ≡ entry.Buffer i info → info.place ≡ place.Dedicated t → object_of old i ≡ None → IsApart old.memory old.owned old.buffers → (a : Applied) → BufferMade a old new i t info.size → Allots a y old new
-buffer_allots old new y i t info is own absent apart a made = subst (λ (x : Entry). Allots a x old new) (sym is) (go a made)
-  where
-    go : (a : Applied) → BufferMade a old new i t info.size → Allots a (entry.Buffer i info) old new
-    go applied.Done made = λ d al. (with_object i t (round_up info.size 16) d, subst (λ (q : Place). Gets d i (of_buffer info) q (with_object i t (round_up info.size 16) d)) (sym own) refl, more_allocated old d al apart new i t (round_up info.size 16) made.0 absent)
-    go (applied.Bytes bytes) made = absurd made
-    go applied.NoRoom made = λ d al. subst (λ (s : Held). IsAllocated s d) (sym made.0) al
-
 -- what is held the same is allocated the same
 pub same_allocated : (old new : Held) (d : Allocated) → allotted new ≡ allotted old → IsAllocated old d → IsAllocated new d
 same_allocated old new d same al = subst (λ (a : Allotted). Fulfils a d) (sym same) al
 
-pub bound_allots : (old new : Held) (y : Entry) (i k o : ℕ) (info : BufferInfo) → y ≡ entry.Buffer i info → info.place ≡ place.Memory k o → allotted new ≡ allotted old → Allots applied.Done y old new
-bound_allots old new y i k o info is at same =
-    subst (λ (x : Entry). Allots applied.Done x old new) (sym is) (λ d al. (d, subst (λ (q : Place). Gets d i (of_buffer info) q d) (sym at) refl, same_allocated old new d same al))
+module _ (old new : Held) (x : Entry) (i : ℕ) (r : Resource) (size : ℕ) (shape : Option ImageInfo) (maker : IsMaker x i r size shape) where
+  pub resource_allots : (t : ℕ) → r.place ≡ place.Dedicated t → object_of old i ≡ None → IsApart old.memory old.owned old.resources → (a : Applied) → ResourceMade a old new i t size r.size shape → Allots a x old new
+  resource_allots t own absent apart applied.Done made = λ d al. (
+    with_object i t r.size d,
+    maker.changes d (with_object i t r.size d) (subst (λ (q : Place). Gets d i r q (with_object i t r.size d)) (sym own) refl),
+    more_allocated old d al apart new i t r.size made.0 absent,
+  )
+  resource_allots t own absent apart (applied.Bytes bytes) made = absurd made
+  resource_allots t own absent apart applied.NoRoom made = λ d al. subst (λ (s : Held). IsAllocated s d) (sym made.0) al
+
+  pub bound_allots : (k o : ℕ) → r.place ≡ place.Memory k o → allotted new ≡ allotted old → Allots applied.Done x old new
+  bound_allots k o at same = λ d al. (d, maker.changes d d (subst (λ (q : Place). Gets d i r q d) (sym at) refl), same_allocated old new d same al)
 
 pub bound_same : (old new : Held) → new.memory ≡ old.memory → new.owned ≡ old.owned → allotted new ≡ allotted old
 bound_same old new memory owned = rw (memory, owned) refl
@@ -348,16 +347,16 @@ bound_same old new memory owned = rw (memory, owned) refl
 pub write_allots : (old new : Held) (y : Entry) (b o : ℕ) (bytes : List ℕ) → y ≡ entry.Write b o bytes → allotted new ≡ allotted old → Allots applied.Done y old new
 write_allots old new y b o bytes is same = subst (λ (x : Entry). Allots applied.Done x old new) (sym is) (λ d al. (d, refl, same_allocated old new d same al))
 
-pub free_allots : (old new : Held) (y : Entry) (m : ℕ) → y ≡ entry.Free m → IsApart old.memory old.owned old.buffers → Ends old new m → Allots applied.Done y old new
+pub free_allots : (old new : Held) (y : Entry) (m : ℕ) → y ≡ entry.Free m → IsApart old.memory old.owned old.resources → Ends old new m → Allots applied.Done y old new
 free_allots old new y m is apart ends = subst (λ (x : Entry). Allots applied.Done x old new) (sym is) (λ d al. (without m d, refl, less_allocated old d al apart new m ends))
 
-pub destroy_allots : (old new : Held) (y : Entry) (r : ℕ) → y ≡ entry.Destroy r → IsApart old.memory old.owned old.buffers → Ends old new r → Allots applied.Done y old new
+pub destroy_allots : (old new : Held) (y : Entry) (r : ℕ) → y ≡ entry.Destroy r → IsApart old.memory old.owned old.resources → Ends old new r → Allots applied.Done y old new
 destroy_allots old new y r is apart ends = subst (λ (x : Entry). Allots applied.Done x old new) (sym is) (λ d al. (without r d, refl, less_allocated old d al apart new r ends))
 
 pub rest_rooms : (s : Held) (y : Entry) → IsRest y → (past : Past) → FitsEntry past y → Rooms applied.Done s y
 rest_rooms s (entry.Memory i info) rest past fit = absurd rest
 rest_rooms s (entry.Buffer i info) rest past fit = absurd rest
-rest_rooms s (entry.Image i info) rest past fit = absurd fit
+rest_rooms s (entry.Image i info) rest past fit = absurd rest
 rest_rooms s _ rest past fit = λ d al none. none
 
 pub rest_allots : (s : Held) (y : Entry) → IsRest y → (past : Past) → FitsEntry past y → Allots applied.Done y s s
@@ -370,6 +369,7 @@ rest_allots s (entry.Wait ws) rest past fit = λ d al. (d, refl, al)
 rest_allots s (entry.Submit q bs) rest past fit = λ d al. (d, refl, al)
 rest_allots s (entry.Memory i info) rest past fit = absurd rest
 rest_allots s (entry.Buffer i info) rest past fit = absurd rest
+rest_allots s (entry.Image i info) rest past fit = absurd rest
 rest_allots s (entry.Free i) rest past fit = absurd rest
 rest_allots s (entry.Destroy i) rest past fit = absurd rest
 rest_allots s (entry.Write b o bytes) rest past fit = absurd rest
@@ -379,14 +379,15 @@ rest_allots s (entry.Invalidate b o n) rest past fit = absurd rest
 rest_allots s _ rest past fit = absurd fit
 
 -- what isn't the one or the other is done nothing for
-pub is_rest : (y : Entry) → ((i : ℕ) (info : MemoryInfo) → y ≡ entry.Memory i info → ⊥) → ((i : ℕ) (info : BufferInfo) → y ≡ entry.Buffer i info → ⊥) → ((m : ℕ) → y ≡ entry.Free m → ⊥) → ((r : ℕ) → y ≡ entry.Destroy r → ⊥)
+pub is_rest : (y : Entry) → ((i : ℕ) (info : MemoryInfo) → y ≡ entry.Memory i info → ⊥) → ((i : ℕ) (info : BufferInfo) → y ≡ entry.Buffer i info → ⊥) → ((i : ℕ) (info : ImageInfo) → y ≡ entry.Image i info → ⊥) → ((m : ℕ) → y ≡ entry.Free m → ⊥) → ((r : ℕ) → y ≡ entry.Destroy r → ⊥)
     → ((b o : ℕ) (bytes : List ℕ) → y ≡ entry.Write b o bytes → ⊥) → ((b o n : ℕ) → y ≡ entry.Read b o n → ⊥) → ((b o : ℕ) (n : Length) → y ≡ entry.Flush b o n → ⊥) → ((b o : ℕ) (n : Length) → y ≡ entry.Invalidate b o n → ⊥) → IsRest y
-is_rest (entry.Memory i info) memory buffer free destroy write read flush invalidate = memory i info refl
-is_rest (entry.Buffer i info) memory buffer free destroy write read flush invalidate = buffer i info refl
-is_rest (entry.Free m) memory buffer free destroy write read flush invalidate = free m refl
-is_rest (entry.Destroy r) memory buffer free destroy write read flush invalidate = destroy r refl
-is_rest (entry.Write b o bytes) memory buffer free destroy write read flush invalidate = write b o bytes refl
-is_rest (entry.Read b o n) memory buffer free destroy write read flush invalidate = read b o n refl
-is_rest (entry.Flush b o n) memory buffer free destroy write read flush invalidate = flush b o n refl
-is_rest (entry.Invalidate b o n) memory buffer free destroy write read flush invalidate = invalidate b o n refl
-is_rest _ memory buffer free destroy write read flush invalidate = tt
+is_rest (entry.Memory i info) memory buffer image free destroy write read flush invalidate = memory i info refl
+is_rest (entry.Buffer i info) memory buffer image free destroy write read flush invalidate = buffer i info refl
+is_rest (entry.Image i info) memory buffer image free destroy write read flush invalidate = image i info refl
+is_rest (entry.Free m) memory buffer image free destroy write read flush invalidate = free m refl
+is_rest (entry.Destroy r) memory buffer image free destroy write read flush invalidate = destroy r refl
+is_rest (entry.Write b o bytes) memory buffer image free destroy write read flush invalidate = write b o bytes refl
+is_rest (entry.Read b o n) memory buffer image free destroy write read flush invalidate = read b o n refl
+is_rest (entry.Flush b o n) memory buffer image free destroy write read flush invalidate = flush b o n refl
+is_rest (entry.Invalidate b o n) memory buffer image free destroy write read flush invalidate = invalidate b o n refl
+is_rest _ memory buffer image free destroy write read flush invalidate = tt

@@ -1,5 +1,5 @@
 -- What an entry does to resources, and what it is answered.
-use Rattle.std.proofs.Common.{◌≡◌, ℕ, suc, ◌+◌, ◌<◌, ◌≤◌, List, [], ◌∷◌, length, Bool, true, false, eqb, ◌==◌, cond, refl, ap, sym, ◌∙◌, subst, arith, Option, Some, None}
+use Rattle.std.proofs.Common.{◌≡◌, ℕ, suc, ◌+◌, ◌<◌, ◌≤◌, List, [], ◌∷◌, length, slice_index, Bool, true, false, eqb, ◌==◌, cond, refl, ap, sym, ◌∙◌, subst, arith, Option, Some, None}
 use Rattle.std.specs.Prelude.{if◌then◌else◌, IsSome, IsTrue, ⊤, is_some, option_map, option_and_then}
 use Rattle.std.proofs.lemmas.Bool.{eqb-true, eqb-false, false_from_ne_true}
 use Rattle.std.proofs.lemmas.List.{length-replicate}
@@ -12,27 +12,32 @@ use Rattle.vk_model.specs.declared.resource.BufferInfo.{BufferInfo}
 use Rattle.vk_model.specs.declared.resource.MemoryInfo.{MemoryInfo}
 use Rattle.vk_model.specs.declared.resource.Place.{Place}
 use Rattle.vk_model.specs.declared.resource.Place.TheVariants as place
-use Rattle.vk_model.specs.Basics.{holds, round_up}
+use Rattle.vk_model.specs.declared.resource.ImageInfo.{ImageInfo}
+use Rattle.vk_model.specs.Trace.Image.{image_size}
+use Rattle.vk_model.specs.Memory.Allocations.{Allocated, FindsNoneAt, FindsNoRoom, Gets, Changes}
+use Rattle.vk_model.specs.Run.Runs.{touched_by}
+use Rattle.vk_model.specs.Basics.{holds}
 use Rattle.vk_model.specs.Trace.Point.{Past}
 use Rattle.vk_model.specs.Trace.Order.{host}
-use Rattle.vk_model.specs.Trace.Objects.{made_by, ended_by, live, buffer_in, memory_in}
+use Rattle.vk_model.specs.Trace.Objects.{Resource, of_buffer, of_image, made_by, ended_by, live, image_in, resource_in, memory_in}
 use Rattle.vk_model.specs.Rules.Ids.{is_memory}
 use Rattle.vk_map_cache.specs.Holdings.{Holdings, held_at}
 use Rattle.vk_model.specs.Run.Caches as caches
 use Rattle.vk_model.specs.Run.Caches.{Cell, queue_agent, dropped, dropped_if}
 use Rattle.vk_model.specs.Run.CachedRuns.{after_host}
-use Rattle.vk_model.specs.World.Bytes.{Byte, in_buffer, in_image}
-use Rattle.vk_transfer.specs.Ran.{byte_in, AreApart}
+use Rattle.vk_model.specs.World.Bytes.{Byte, in_buffer, in_image, resource_at}
+use Rattle.vk_transfer.specs.Ran.{AreApart}
 use Rattle.vk_resources.specs.declared.applied.Applied.{Applied}
 use Rattle.vk_resources.specs.declared.applied.Applied.TheVariants as applied
 use Rattle.vk_resources.specs.declared.resources.Placed.{Placed}
-use Rattle.vk_resources.specs.Held.{Held, IsApart, Stands, placed, placed_in, object_in, object_of, host_at, holding_in, IsThere, IsWithin, HasCell}
-use Rattle.vk_resources.specs.Matches.{Matches, MatchesLive, LiesAt, has_memory, type_of_place}
-use Rattle.vk_resources.specs.Fits.{IsUnused, FitsEntry, FitsBuffer, FitsPlace}
-use Rattle.vk_resources.specs.Done.{LeavesCells, HoldsNoneNew, Goes, DoneBy}
-use Rattle.vk_resources.specs.Inner.Steps.{Makes, MemoryMade, BufferMade, Binds, BindReady, MadeOr, Puts, Ends}
-use Rattle.vk_resources.proofs.Placing.{kept_object, new_object, inside_of, turned, apart_put}
-use Rattle.vk_resources.proofs.CachedBytes.{where_is, host_of, clear_atoms, caching_put}
+use Rattle.vk_resources.specs.Held.{Held, IsApart, IsCaching, IsShaped, AreShaped, Stands, placed, placed_in, shape_in, shape_of, object_in, object_of, host_at, holding_in, IsThere, HasCell}
+use Rattle.vk_resources.specs.Matches.{Matches, MatchesLive, LiesAt, is_own, size_made, has_memory, type_made, type_of_place}
+use Rattle.vk_resources.specs.Fits.{IsUnused, FitsEntry, FitsPlace}
+use Rattle.vk_resources.specs.Done.{LeavesCells, HoldsNoneNew, Goes, DoneBy, ReadsNothing}
+use Rattle.vk_resources.specs.Inner.Steps.{Makes, MemoryMade, ResourceMade, ShapeReady, PutReady, Binds, BindReady, MadeOr, Puts, Ends}
+use Rattle.vk_resources.proofs.Placing.{kept_object, new_object, inside_of, one_number, turned, apart_put}
+use Rattle.vk_resources.proofs.Lying.{where_lies, where_is, byte_stays, there_stays}
+use Rattle.vk_resources.proofs.CachedBytes.{host_of, clear_atoms, caching_put}
 use Rattle.vk_resources.proofs.Matching.{home, unplaced, unowned, matches_same}
 use Rattle.vk_resources.proofs.Living.{live_new, live_end, live_same, not_live, Grows, grown, ended_matches, region_there}
 
@@ -40,6 +45,7 @@ use Rattle.vk_resources.proofs.Living.{live_new, live_end, live_same, not_live, 
 abbrev pub IsRest : Entry → Type 0
 IsRest (entry.Memory i info) = ⊥
 IsRest (entry.Buffer i info) = ⊥
+IsRest (entry.Image i info) = ⊥
 IsRest (entry.Free m) = ⊥
 IsRest (entry.Destroy r) = ⊥
 IsRest (entry.Write b o bytes) = ⊥
@@ -50,52 +56,54 @@ IsRest _ = ⊤
 
 -- ---- bytes that stay
 
--- a byte whose buffer stays where it is, in an object that keeps its bytes, and of which the same is held
-stays : (old new : Held) (b k : ℕ) (p : Placed) (cell : Cell) → placed old b ≡ Some p → placed new b ≡ placed old b → region_of new.memory p.object ≡ region_of old.memory p.object → host_at new (in_buffer b k) ≡ host_at old (in_buffer b k) → HasCell old (in_buffer b k) cell
-    → HasCell new (in_buffer b k) cell
-stays old new b k p cell here same region host has = record {
+-- where the cache and the place stay
+same_host : (old new : Held) (c : Byte) → placed new (resource_at c) ≡ placed old (resource_at c) → new.cache ≡ old.cache → host_at new c ≡ host_at old c
+same_host old new (in_image i l a x y z) place cache = refl
+same_host old new (in_buffer b k) place cache = ap (λ (h : Holdings). holding_in h (placed new b) k) cache ∙ ap (λ (o : Option Placed). holding_in old.cache o k) place
+
+-- a byte whose resource stays where it is, in an object that keeps its bytes, and of which the same is held
+stays : (old new : Held) (c : Byte) (cell : Cell) → placed new (resource_at c) ≡ placed old (resource_at c) → shape_of new (resource_at c) ≡ shape_of old (resource_at c)
+    → ((p : Placed) → placed old (resource_at c) ≡ Some p → region_of new.memory p.object ≡ region_of old.memory p.object) → host_at new c ≡ host_at old c → HasCell old c cell → HasCell new c cell
+stays old new c cell place shape region host has = record {
   held = has.held ∙ sym host;
-  region = has.region ∙ sym (rw (same, here) (ap (λ (r : List ℕ). byte_in (Some (record { region = r; start = p.offset; size = p.size })) k) region));
+  region = has.region ∙ sym (byte_stays old new c place shape (λ l. ap (λ (r : List ℕ). slice_index r (l.place.offset + l.at)) (region l.place l.here)));
 }
 
--- where the cache and the buffer stay
-same_host : (old new : Held) (b k : ℕ) → placed new b ≡ placed old b → new.cache ≡ old.cache → host_at new (in_buffer b k) ≡ host_at old (in_buffer b k)
-same_host old new b k place cache = ap (λ (h : Holdings). holding_in h (placed new b) k) cache ∙ ap (λ (o : Option Placed). holding_in old.cache o k) place
-
 -- of what was there before, where one more object is live
-grown_cells : (alive alive' : ℕ → Option Entry) (old new : Held) (id : ℕ) (x : Entry) → Grows alive alive' old new id x → Matches alive old → IsApart old.memory old.owned old.buffers
+grown_cells : (alive alive' : ℕ → Option Entry) (old new : Held) (id : ℕ) (x : Entry) → Grows alive alive' old new id x → Matches alive old → IsApart old.memory old.owned old.resources
     → ((number : ℕ) → IsLive old.memory number → region_of new.memory number ≡ region_of old.memory number) → new.cache ≡ old.cache → (c : Byte) (cell : Cell) → IsThere old c → HasCell old c cell → HasCell new c cell
-grown_cells alive alive' old new id x g m apart kept cache (in_image i l a u y z) cell there has = absurd there
-grown_cells alive alive' old new id x g m apart kept cache (in_buffer b k) cell there has =
-    let p = where_is old b k there in
-    let place = g.places b (other p.0 p.1) in
-    stays old new b k p.0 cell p.1 place (kept p.0.object (inside_of old.memory old.owned old.buffers apart b p.0 p.1).live) (same_host old new b k place cache) has
+grown_cells alive alive' old new id x g m apart kept cache c cell there has =
+    let place = g.places (resource_at c) other in
+    stays old new c cell place (g.shapes (resource_at c) other) (λ p at. kept p.object (inside_of old.memory old.owned old.resources apart (resource_at c) p at).live) (same_host old new c place cache) has
   where
-    other : (p : Placed) → placed old b ≡ Some p → b ≡ id → ⊥
-    other p at same =
-        let none : placed old id ≡ None = unplaced alive old id m (ap (option_and_then buffer_in) g.fresh) in
-        let both : Some p ≡ None = sym at ∙ ap (λ (j : ℕ). placed old j) same ∙ none in
+    other : resource_at c ≡ id → ⊥
+    other same =
+        let l = where_lies old c there in
+        let none : placed old id ≡ None = unplaced alive old id m (ap (option_and_then size_made) g.fresh) in
+        let both : Some l.place ≡ None = sym l.here ∙ ap (λ (j : ℕ). placed old j) same ∙ none in
         cc
 
--- nothing is new where buffers stay
-pub none_new : (old new : Held) → new.buffers ≡ old.buffers → HoldsNoneNew old new
-none_new old new same (in_buffer b k) there absent = absurd (absent (subst (λ (bs : List (ℕ × Placed)). IsWithin (placed_in bs b) k) same there))
-none_new old new same (in_image i l a x y z) there absent = absurd there
+-- nothing is new where resources stay
+pub none_new : (old new : Held) → new.resources ≡ old.resources → new.shapes ≡ old.shapes → HoldsNoneNew old new
+none_new old new same shapes c there absent =
+    absurd (absent (there_stays new old c (ap (λ (bs : List (ℕ × Placed)). placed_in bs (resource_at c)) (sym same)) (ap (λ (bs : List (ℕ × ImageInfo)). shape_in bs (resource_at c)) (sym shapes)) there))
 
 -- ---- new objects
 
--- nothing is held of an object that is neither a buffer nor a memory object
-pub other_goes : (s : Held) (past : Past) (e i : ℕ) (x : Entry) → made_by x ≡ Some i → ended_by x ≡ [] → buffer_in x ≡ None → memory_in x ≡ None → has_memory x ≡ false → IsUnused past i → MatchesLive past s → MatchesLive (host e x ∷ past) s
-other_goes s past e i x makes ends no_buffer no_memory alone unused m =
+-- nothing is held of an object that is neither a resource nor a memory object
+pub other_goes : (s : Held) (past : Past) (e i : ℕ) (x : Entry) → made_by x ≡ Some i → ended_by x ≡ [] → size_made x ≡ None → image_in x ≡ None → resource_in x ≡ None → memory_in x ≡ None → has_memory x ≡ false → IsUnused past i → MatchesLive past s → MatchesLive (host e x ∷ past) s
+other_goes s past e i x makes ends no_size no_image no_resource no_memory alone unused m =
     let none = not_live past i unused in
     grown (live past) (live (host e x ∷ past)) s s i x (record {
       now = live_new past e x i makes ends unused;
       fresh = none;
-      size = ap (λ (o : Option Placed). option_map (λ (p : Placed). p.size) o) (unplaced (live past) s i m (ap (option_and_then buffer_in) none)) ∙ ap (λ (o : Option BufferInfo). option_map (λ (i : BufferInfo). i.size) o) (sym no_buffer);
+      size = ap (λ (o : Option Placed). option_map (λ (p : Placed). p.size) o) (unplaced (live past) s i m (ap (option_and_then size_made) none)) ∙ sym no_size;
+      shaped = m.shapes i ∙ ap (option_and_then image_in) none ∙ sym no_image;
       places = λ b other. refl;
+      shapes = λ b other. refl;
       object = ap is_some (unowned (live past) s i m (ap (λ (o : Option Entry). holds o has_memory) none)) ∙ sym alone;
       objects = λ j other. refl;
-      lies = λ p info at is. let both : Some info ≡ None = sym is ∙ no_buffer in absurd cc;
+      lies = λ p r at is. let both : Some r ≡ None = sym is ∙ no_resource in absurd cc;
       bytes = λ number y is has. let both : Some y ≡ None = sym is ∙ no_memory in absurd cc;
       regions = λ j number has. refl;
       type_now = λ number t is has.
@@ -125,16 +133,19 @@ module _ (old new : Held) (id t size : ℕ) (makes : Makes old new id t size) wh
   made_kept : (number : ℕ) → IsLive old.memory number → region_of new.memory number ≡ region_of old.memory number
   made_kept number lives = rw makes.memory (ap bytes_of (kept_object old.memory (fresh t size) number lives))
 
-memory_grows : (old new : Held) (past : Past) (e i : ℕ) (info : MemoryInfo) → IsApart old.memory old.owned old.buffers → Makes old new i info.memory_type info.size → new.buffers ≡ old.buffers → IsUnused past i → MatchesLive past old
+memory_grows : (old new : Held) (past : Past) (e i : ℕ) (info : MemoryInfo) → IsApart old.memory old.owned old.resources → Makes old new i info.memory_type info.size → new.resources ≡ old.resources → new.shapes ≡ old.shapes → IsUnused past i → MatchesLive past old
     → Grows (live past) (live (host e (entry.Memory i info) ∷ past)) old new i (entry.Memory i info)
-memory_grows old new past e i info apart makes same unused m =
+memory_grows old new past e i info apart makes same shapes unused m =
     let none = not_live past i unused in
     let places : (b : ℕ) → placed new b ≡ placed old b = λ b. ap (λ (s : List (ℕ × Placed)). placed_in s b) same in
+    let images : (b : ℕ) → shape_of new b ≡ shape_of old b = λ b. ap (λ (s : List (ℕ × ImageInfo)). shape_in s b) shapes in
     record {
       now = live_new past e (entry.Memory i info) i refl refl unused;
       fresh = none;
-      size = ap (λ (o : Option Placed). option_map (λ (p : Placed). p.size) o) (places i ∙ unplaced (live past) old i m (ap (option_and_then buffer_in) none));
+      size = ap (λ (o : Option Placed). option_map (λ (p : Placed). p.size) o) (places i ∙ unplaced (live past) old i m (ap (option_and_then size_made) none));
+      shaped = images i ∙ m.shapes i ∙ ap (option_and_then image_in) none;
       places = λ b other. places b;
+      shapes = λ b other. images b;
       object = ap is_some makes.here;
       objects = makes.others;
       lies = λ p info at is. absurd cc;
@@ -144,64 +155,182 @@ memory_grows old new past e i info apart makes same unused m =
       types = λ j number has. type_kept old new i info.memory_type info.size makes number (apart.live j number has);
     }
 
-pub memory_done : (old new : Held) (y : Entry) (i : ℕ) (info : MemoryInfo) → y ≡ entry.Memory i info → IsApart old.memory old.owned old.buffers → (a : Applied) → MemoryMade a old new i info.memory_type info.size
+pub memory_done : (old new : Held) (y : Entry) (i : ℕ) (info : MemoryInfo) → y ≡ entry.Memory i info → IsApart old.memory old.owned old.resources → (a : Applied) → MemoryMade a old new i info.memory_type info.size
     → (e : ℕ) (past : Past) → MatchesLive past old → FitsEntry past y → DoneBy a e y past old new
 memory_done old new y i info is apart a made e past m fit =
     subst (λ (x : Entry). DoneBy a e x past old new) (sym is) (go a made (subst (λ (x : Entry). FitsEntry past x) is fit))
   where
     go : (a : Applied) → MemoryMade a old new i info.memory_type info.size → FitsEntry past (entry.Memory i info) → DoneBy a e (entry.Memory i info) past old new
     go applied.Done made fit =
-        let g = memory_grows old new past e i info apart made.0 made.1 fit.0 m in (
+        let g = memory_grows old new past e i info apart made.0 made.1 made.2 fit.0 m in (
           (
             grown (live past) (live (host e (entry.Memory i info) ∷ past)) old new i (entry.Memory i info) g m,
-            λ c cell there after has. grown_cells (live past) (live (host e (entry.Memory i info) ∷ past)) old new i (entry.Memory i info) g m apart (made_kept old new i info.memory_type info.size made.0) made.3 c cell there has,
-            none_new old new made.1,
+            λ c cell there after has. grown_cells (live past) (live (host e (entry.Memory i info) ∷ past)) old new i (entry.Memory i info) g m apart (made_kept old new i info.memory_type info.size made.0) made.4 c cell there has,
+            none_new old new made.1 made.2,
           ),
           λ b o n h. absurd cc,
         )
     go (applied.Bytes bytes) made fit = absurd made
     go applied.NoRoom made fit = (made.0, refl)
 
--- ---- new buffers
+-- ---- new buffers and images
 
--- a new buffer that lies where its place says
-buffer_grows : (old new : Held) (past : Past) (e i : ℕ) (info : BufferInfo) (p : Placed) → IsApart old.memory old.owned old.buffers → Puts old new i p → p.size ≡ info.size → is_some (object_of new i) ≡ has_memory (entry.Buffer i info) → ((j : ℕ) → (j ≡ i → ⊥) → object_of new j ≡ object_of old j)
-    → LiesAt (live (host e (entry.Buffer i info) ∷ past)) new i info.place p → ((number : ℕ) → IsLive old.memory number → region_of new.memory number ≡ region_of old.memory number) → ((number t : ℕ) → type_of_place info.place ≡ Some t → object_of new i ≡ Some number → type_of new.memory number ≡ t)
-    → ((number : ℕ) → IsLive old.memory number → type_of new.memory number ≡ type_of old.memory number) → IsUnused past i → Grows (live past) (live (host e (entry.Buffer i info) ∷ past)) old new i (entry.Buffer i info)
-buffer_grows old new past e i info p apart puts size object objects lies regions type types unused = record {
-  now = live_new past e (entry.Buffer i info) i refl refl unused;
-  fresh = not_live past i unused;
-  size = ap (λ (o : Option Placed). option_map (λ (p : Placed). p.size) o) puts.here ∙ ap (λ (n : ℕ). Some n) size;
-  places = puts.others;
-  object = object;
-  objects = objects;
-  lies = λ q b at is.
-      let one : info ≡ b = cc in
-      let both : Some q ≡ Some p = sym at ∙ puts.here in
-      let same : q ≡ p = cc in
-      subst (λ (b : BufferInfo). LiesAt (live (host e (entry.Buffer i info) ∷ past)) new i b.place q) one (subst (λ (q : Placed). LiesAt (live (host e (entry.Buffer i info) ∷ past)) new i info.place q) (sym same) lies);
-  bytes = λ number y is has. absurd cc;
-  regions = λ j number has. regions number (apart.live j number has);
-  type_now = type;
-  types = λ j number has. types number (apart.live j number has);
-}
+-- an entry that makes a resource, of so many bytes, and of a shape where it is an image
+pub record IsMaker (x : Entry) (i : ℕ) (r : Resource) (size : ℕ) (shape : Option ImageInfo) : Type 0 where
+  pub makes : made_by x ≡ Some i
+  pub ends : ended_by x ≡ []
+  pub resource : resource_in x ≡ Some r
+  pub sized : size_made x ≡ Some size
+  pub image : image_in x ≡ shape
+  pub no_memory : memory_in x ≡ None
+  pub owns : has_memory x ≡ is_own r.place
+  pub type : type_made x ≡ type_of_place r.place
+  pub untouched : touched_by x ≡ None
+  pub reads : ReadsNothing x
+  pub keeps : (past : Past) (c : Byte) (cell : Cell) → after_host past [] x c cell ≡ cell
+  pub finds : (d : Allocated) → FindsNoneAt d r.place r → FindsNoRoom d x
+  pub found : (d : Allocated) → FindsNoRoom d x → FindsNoneAt d r.place r
+  pub changes : (d e : Allocated) → Gets d i r r.place e → Changes d x e
+
+pub buffer_maker : (i : ℕ) (b : BufferInfo) → IsMaker (entry.Buffer i b) i (of_buffer b) b.size None
+buffer_maker i b = record { makes = refl; ends = refl; resource = refl; sized = refl; image = refl; no_memory = refl; owns = refl; type = refl; untouched = refl; reads = λ b o n h. absurd cc; keeps = λ past c cell. refl; finds = λ d f. f; found = λ d f. f; changes = λ d e g. g }
+
+pub image_maker : (i : ℕ) (m : ImageInfo) → IsMaker (entry.Image i m) i (of_image m) (image_size m m.tiling) (Some m)
+image_maker i m = record { makes = refl; ends = refl; resource = refl; sized = refl; image = refl; no_memory = refl; owns = refl; type = refl; untouched = refl; reads = λ b o n h. absurd cc; keeps = λ past c cell. refl; finds = λ d f. f; found = λ d f. f; changes = λ d e g. g }
 
 -- what isn't held
 unheld : (h : Option caches.Held) → (IsSome h → ⊥) → h ≡ None
 unheld None none = refl
 unheld (Some v) none = absurd (none refl)
 
--- a buffer is put into the memory object that was made for it
-pub own_put : (old n : Held) (id t size bytes number : ℕ) (buffers : List (ℕ × Placed)) → MadeOr (Some number) old n id t bytes → 0 < size → size ≤ bytes → placed old id ≡ None → Stands old → Stands n
-    → placed_in buffers id ≡ Some (record { size = size; object = number; offset = 0 }) → ((q : ℕ) → (q ≡ id → ⊥) → placed_in buffers q ≡ placed_in n.buffers q) → Stands (record n { buffers = buffers })
-own_put old n id t size bytes number buffers made some fits absent stood stands here others = (
-  apart_put n.memory n.owned n.buffers buffers id p here others (record { live = live; some = some; room = room }) beside stands.0,
-  caching_put n.memory n.buffers buffers n.cache id p (ap (λ (l : List (ℕ × Placed)). placed_in l id) made.2 ∙ absent) here others (λ is. refl) stands.1,
-)
-  where
-    p : Placed
-    p = record { size = size; object = number; offset = 0 }
+module _ (old new : Held) (x : Entry) (i : ℕ) (r : Resource) (size : ℕ) (shape : Option ImageInfo) (maker : IsMaker x i r size shape) where
+  -- a new resource that lies where its place says
+  resource_grows : (past : Past) (e : ℕ) (p : Placed) → IsApart old.memory old.owned old.resources → Puts old new i p shape → p.size ≡ size → is_some (object_of new i) ≡ is_own r.place → ((j : ℕ) → (j ≡ i → ⊥) → object_of new j ≡ object_of old j)
+      → LiesAt (live (host e x ∷ past)) new i r.place p → ((number : ℕ) → IsLive old.memory number → region_of new.memory number ≡ region_of old.memory number) → ((number t : ℕ) → type_of_place r.place ≡ Some t → object_of new i ≡ Some number → type_of new.memory number ≡ t)
+      → ((number : ℕ) → IsLive old.memory number → type_of new.memory number ≡ type_of old.memory number) → IsUnused past i → Grows (live past) (live (host e x ∷ past)) old new i x
+  resource_grows past e p apart puts sized object objects lies regions type types unused = record {
+    now = live_new past e x i maker.makes maker.ends unused;
+    fresh = not_live past i unused;
+    size = ap (λ (o : Option Placed). option_map (λ (p : Placed). p.size) o) puts.here ∙ ap (λ (n : ℕ). Some n) sized ∙ sym maker.sized;
+    shaped = puts.shaped ∙ sym maker.image;
+    places = puts.others;
+    shapes = puts.shapes;
+    object = object ∙ sym maker.owns;
+    objects = objects;
+    lies = λ q t at is.
+        let both : Some r ≡ Some t = sym maker.resource ∙ is in
+        let one : r ≡ t = cc in
+        let placed_both : Some q ≡ Some p = sym at ∙ puts.here in
+        let same : q ≡ p = cc in
+        subst (λ (t : Resource). LiesAt (live (host e x ∷ past)) new i t.place q) one (subst (λ (q : Placed). LiesAt (live (host e x ∷ past)) new i r.place q) (sym same) lies);
+    bytes = λ number y is has. let both : None ≡ Some y = sym maker.no_memory ∙ is in absurd cc;
+    regions = λ j number has. regions number (apart.live j number has);
+    type_now = λ number t is has. type number t (sym maker.type ∙ is) has;
+    types = λ j number has. types number (apart.live j number has);
+  }
 
+  -- the resource that is new is where nothing was held
+  new_unheld : (p : Placed) → Puts old new i p shape → new.cache ≡ old.cache → ((k : ℕ) → k < p.size → IsSome (held_at old.cache p.object (p.offset + k)) → ⊥) → HoldsNoneNew old new
+  new_unheld p puts cache none (in_image j l a x y z) there absent = refl
+  new_unheld p puts cache none (in_buffer b k) there absent = go (eqb b i) refl
+    where
+      go : (t : Bool) → eqb b i ≡ t → host_at new (in_buffer b k) ≡ None
+      go false e = let ne = eqb-false b i e in absurd (absent (there_stays new old (in_buffer b k) (sym (puts.others b ne)) (sym (puts.shapes b ne)) there))
+      go true e =
+          let w = where_is new b k there in
+          let both : Some w.0 ≡ Some p = sym w.1 ∙ ap (λ (j : ℕ). placed new j) (eqb-true b i e) ∙ puts.here in
+          let same : w.0 ≡ p = cc in
+          let at : placed new b ≡ Some p = w.1 ∙ ap (λ (q : Placed). Some q) same in
+          let lt : k < p.size = subst (λ (q : Placed). k < q.size) same w.2 in
+          host_of new b p at k lt ∙ ap (λ (h : Holdings). held_at h p.object (p.offset + k)) cache ∙ unheld (held_at old.cache p.object (p.offset + k)) (none k lt)
+
+  resource_goes : (past : Past) (e : ℕ) → Grows (live past) (live (host e x ∷ past)) old new i x → MatchesLive past old → IsApart old.memory old.owned old.resources
+      → ((number : ℕ) → IsLive old.memory number → region_of new.memory number ≡ region_of old.memory number) → new.cache ≡ old.cache → HoldsNoneNew old new → Goes e x past old new
+  resource_goes past e g m apart kept cache none = (
+    grown (live past) (live (host e x ∷ past)) old new i x g m,
+    λ c cell there after has. subst (λ (y : Cell). HasCell new c y) (sym (maker.keeps past c cell)) (grown_cells (live past) (live (host e x ∷ past)) old new i x g m apart kept cache c cell there has),
+    none,
+  )
+
+  pub resource_done : (t : ℕ) → r.place ≡ place.Dedicated t → Stands old → (a : Applied) → ResourceMade a old new i t size r.size shape → (e : ℕ) (past : Past) → MatchesLive past old → IsUnused past i → DoneBy a e x past old new
+  resource_done t own stands a made e past m unused = go a made
+    where
+      go : (a : Applied) → ResourceMade a old new i t size r.size shape → DoneBy a e x past old new
+      go applied.Done made =
+          let makes = made.0 in
+          let p : Placed = record { size = size; object = length old.memory.objects; offset = 0 } in
+          let g = resource_grows past e p stands.0 made.1 refl (rw own (ap is_some makes.here)) makes.others
+          (rw own (makes.here, refl)) (made_kept old new i t r.size makes) (type makes) (type_kept old new i t r.size makes) unused in (
+            resource_goes past e g m stands.0 (made_kept old new i t r.size makes) made.3 (new_unheld p made.1 made.3 none),
+            maker.reads,
+          )
+        where
+          type : Makes old new i t r.size → (number u : ℕ) → type_of_place r.place ≡ Some u → object_of new i ≡ Some number → type_of new.memory number ≡ u
+          type makes number u is has =
+              let both : ◌≡◌ {A = Option ℕ} (Some t) (Some u) = ap type_of_place (sym own) ∙ is in
+              let same : t ≡ u = cc in
+              made_type old new i t r.size makes number has ∙ same
+
+          -- no resource lies in an object that is new
+          none : (k : ℕ) → k < size → IsSome (held_at old.cache (length old.memory.objects) (0 + k)) → ⊥
+          none k lt held =
+              let w = stands.1.only (length old.memory.objects) (0 + k) held in
+              let low = live_below old.memory w.place.object (inside_of old.memory old.owned old.resources stands.0 w.id w.place w.here).live in
+              let at = w.object in
+              omega (arith, low, at)
+      go (applied.Bytes bytes) made = absurd made
+      go applied.NoRoom made = (made.0, maker.untouched)
+
+  pub bound_done : (k o : ℕ) → r.place ≡ place.Memory k o → Stands old → BindReady old k o size → Binds old new i k o size shape → (e : ℕ) (past : Past) → MatchesLive past old → IsUnused past i → FitsPlace past r (place.Memory k o) → DoneBy applied.Done e x past old new
+  bound_done k o at stands ready binds e past m unused fits =
+      let none = not_live past i unused in
+      let has_none : object_of old i ≡ None = unowned (live past) old i m (ap (λ (o : Option Entry). holds o has_memory) none) in
+      let alone : is_some (object_of new i) ≡ is_own r.place = rw at (ap is_some (objects i ∙ has_none)) in
+      let lives : IsTrue (holds (live (host e x ∷ past) k) is_memory) = rw (live_new past e x i maker.makes maker.ends unused k, other_entry fits.0 none) fits.0 in
+      let kept : (number : ℕ) → IsLive old.memory number → region_of new.memory number ≡ region_of old.memory number = λ number lives. ap (λ (n : MemoryState). region_of n number) binds.0 in
+      let g = resource_grows past e p stands.0 puts refl alone (λ j other. objects j) (subst (λ (q : Place). LiesAt (live (host e x ∷ past)) new i q p) (sym at) (lives, objects k ∙ ready.has, refl)) kept (type has_none) (λ number lives. ap (λ (n : MemoryState). type_of n number) binds.0) unused in
+      (resource_goes past e g m stands.0 kept binds.3 (new_unheld p puts binds.3 bare), maker.reads)
+    where
+      p : Placed
+      p = record { size = size; object = ready.number; offset = o }
+
+      puts : Puts old new i (record { size = size; object = ready.number; offset = o }) shape
+      puts = binds.2 ready.number ready.has
+
+      objects : (j : ℕ) → object_of new j ≡ object_of old j
+      objects j = ap (λ (owned : List (ℕ × ℕ)). object_in owned j) binds.1
+
+      type : object_of old i ≡ None → (number u : ℕ) → type_of_place r.place ≡ Some u → object_of new i ≡ Some number → type_of new.memory number ≡ u
+      type has_none number u is has = let both : ◌≡◌ {A = Option ℕ} (Some number) None = sym has ∙ objects i ∙ has_none in absurd cc
+
+      -- what is held there would be of a resource that shares an atom with this one
+      bare : (j : ℕ) → j < size → IsSome (held_at old.cache ready.number (o + j)) → ⊥
+      bare j lt held =
+          let w = stands.1.only ready.number (o + j) held in
+          let inside = inside_of old.memory old.owned old.resources stands.0 w.id w.place w.here in
+          let cached : type_of old.memory ready.number ≡ 2 = eqb-true (type_of old.memory ready.number) 2 (subst (λ (n : ℕ). (type_of old.memory n == 2) ≡ true) w.object w.cached) in
+          clear_atoms w.place (record { size = size; object = ready.number; offset = o }) j (stands.1.aligned w.id w.place w.here w.cached) (ready.aligned cached) inside.some
+          (turned o w.place.offset size w.place.size (ready.apart w.id w.place w.here w.object)) lt w.atom
+
+      other_entry : IsTrue (holds (live past k) is_memory) → live past i ≡ None → (k == i) ≡ false
+      other_entry memory none = false_from_ne_true (k == i) (λ h.
+          let gone : IsTrue (holds {A = Entry} None is_memory) = subst (λ (o : Option Entry). IsTrue (holds o is_memory)) (ap (live past) (eqb-true k i h) ∙ none) memory in
+          cc)
+
+-- ---- where a resource may be put
+
+-- in the memory object that was made for it
+pub own_ready : (old n : Held) (id t size bytes number : ℕ) (shape : Option ImageInfo) → MadeOr (Some number) old n id t bytes → 0 < size → size ≤ bytes → placed old id ≡ None → shape_of old id ≡ None → Stands old
+    → ShapeReady shape (record { size = size; object = number; offset = 0 }) → PutReady n id (record { size = size; object = number; offset = 0 }) shape
+own_ready old n id t size bytes number shape made some fits absent unshaped stood shaped = record {
+  absent = ap (λ (l : List (ℕ × Placed)). placed_in l id) made.2 ∙ absent;
+  unshaped = ap (λ (l : List (ℕ × ImageInfo)). shape_in l id) made.3 ∙ unshaped;
+  inside = record { live = live; some = some; room = room };
+  apart = beside;
+  aligned = λ is. refl;
+  shaped = shaped;
+}
+  where
     object_is : object_at n.memory number ≡ Some (fresh t bytes)
     object_is = rw (made.1.memory, made.0) (new_object old.memory (fresh t bytes))
 
@@ -211,128 +340,84 @@ own_put old n id t size bytes number buffers made some fits absent stood stands 
     room : 0 + size ≤ length (region_of n.memory number)
     room = let long : length (region_of n.memory number) ≡ bytes = ap (λ (o : Option Object). length (bytes_of o)) object_is ∙ length-replicate bytes 205 in omega (arith, fits, long)
 
-    -- no other buffer lies there
-    beside : (c : ℕ) (q : Placed) → (c ≡ id → ⊥) → placed_in n.buffers c ≡ Some q → q.object ≡ number → AreApart 0 size q.offset q.size
+    -- no other resource lies there
+    beside : (c : ℕ) (q : Placed) → (c ≡ id → ⊥) → placed n c ≡ Some q → q.object ≡ number → AreApart 0 size q.offset q.size
     beside c q ne at same =
-        let low = live_below old.memory q.object (inside_of old.memory old.owned old.buffers stood.0 c q (ap (λ (l : List (ℕ × Placed)). placed_in l c) (sym made.2) ∙ at)).live in
+        let low = live_below old.memory q.object (inside_of old.memory old.owned old.resources stood.0 c q (ap (λ (l : List (ℕ × Placed)). placed_in l c) (sym made.2) ∙ at)).live in
         let is = made.0 in
         absurd (omega (arith, low, same, is))
 
--- the buffer that is new is where nothing was held
-new_unheld : (old new : Held) (i : ℕ) (p : Placed) → Puts old new i p → new.cache ≡ old.cache → ((k : ℕ) → k < p.size → IsSome (held_at old.cache p.object (p.offset + k)) → ⊥) → HoldsNoneNew old new
-new_unheld old new i p puts cache none (in_image j l a x y z) there absent = absurd there
-new_unheld old new i p puts cache none (in_buffer b k) there absent = go (eqb b i) refl
-  where
-    go : (t : Bool) → eqb b i ≡ t → host_at new (in_buffer b k) ≡ None
-    go false e = absurd (absent (subst (λ (o : Option Placed). IsWithin o k) (puts.others b (eqb-false b i e)) there))
-    go true e =
-        let at : placed new b ≡ Some p = ap (λ (j : ℕ). placed new j) (eqb-true b i e) ∙ puts.here in
-        let lt : k < p.size = subst (λ (o : Option Placed). IsWithin o k) at there in
-        host_of new b p at k lt ∙ ap (λ (h : Holdings). held_at h p.object (p.offset + k)) cache ∙ unheld (held_at old.cache p.object (p.offset + k)) (none k lt)
+-- and where it is bound
+pub bound_ready : (s : Held) (id memory offset size number : ℕ) (shape : Option ImageInfo) → Stands s → BindReady s memory offset size → object_of s memory ≡ Some number → placed s id ≡ None → shape_of s id ≡ None
+    → ShapeReady shape (record { size = size; object = number; offset = offset }) → PutReady s id (record { size = size; object = number; offset = offset }) shape
+bound_ready s id memory offset size number shape stands ready has absent unshaped shaped =
+    let same : number ≡ ready.number = one_number (object_of s memory) number ready.number has ready.has in
+    record {
+      absent = absent;
+      unshaped = unshaped;
+      inside = record { live = stands.0.live memory number has; some = ready.some; room = subst (λ (n : ℕ). offset + size ≤ length (region_of s.memory n)) (sym same) ready.room };
+      apart = λ c q ne at object. ready.apart c q at (object ∙ same);
+      aligned = λ is. ready.aligned (subst (λ (n : ℕ). type_of s.memory n ≡ 2) same (eqb-true (type_of s.memory number) 2 is));
+      shaped = shaped;
+    }
 
-buffer_goes : (old new : Held) (past : Past) (e i : ℕ) (info : BufferInfo) → Grows (live past) (live (host e (entry.Buffer i info) ∷ past)) old new i (entry.Buffer i info) → MatchesLive past old → IsApart old.memory old.owned old.buffers
-    → ((number : ℕ) → IsLive old.memory number → region_of new.memory number ≡ region_of old.memory number) → new.cache ≡ old.cache → HoldsNoneNew old new → Goes e (entry.Buffer i info) past old new
-buffer_goes old new past e i info g m apart kept cache none = (
-  grown (live past) (live (host e (entry.Buffer i info) ∷ past)) old new i (entry.Buffer i info) g m,
-  λ c cell there after has. grown_cells (live past) (live (host e (entry.Buffer i info) ∷ past)) old new i (entry.Buffer i info) g m apart kept cache c cell there has,
-  none,
-)
+-- it is put there
+module _ (s : Held) (id : ℕ) (p : Placed) (shape : Option ImageInfo) (stands : Stands s) (ready : PutReady s id p shape) (resources : List (ℕ × Placed)) (here : placed_in resources id ≡ Some p) (others : (q : ℕ) → (q ≡ id → ⊥) → placed_in resources q ≡ placed_in s.resources q) where
+  pub put_places : IsApart s.memory s.owned resources × IsCaching s.memory resources s.cache
+  put_places = (
+    apart_put s.memory s.owned s.resources resources id p here others ready.inside ready.apart stands.0,
+    caching_put s.memory s.resources resources s.cache id p ready.absent here others ready.aligned stands.1,
+  )
 
-pub buffer_done : (old new : Held) (y : Entry) (i t : ℕ) (info : BufferInfo) → y ≡ entry.Buffer i info → info.place ≡ place.Dedicated t → Stands old → (a : Applied) → BufferMade a old new i t info.size
-    → (e : ℕ) (past : Past) → MatchesLive past old → FitsEntry past y → DoneBy a e y past old new
-buffer_done old new y i t info is own stands a made e past m fit =
-    subst (λ (x : Entry). DoneBy a e x past old new) (sym is) (go a made (subst (λ (x : Entry). FitsEntry past x) is fit))
-  where
-    go : (a : Applied) → BufferMade a old new i t info.size → FitsBuffer past i info → DoneBy a e (entry.Buffer i info) past old new
-    go applied.Done made fit =
-        let makes = made.0 in
-        let g = buffer_grows old new past e i info (record { size = info.size; object = length old.memory.objects; offset = 0 }) stands.0 made.1 refl (rw own (ap is_some makes.here)) makes.others
-        (rw own (makes.here, refl)) (made_kept old new i t (round_up info.size 16) makes) (type makes) (type_kept old new i t (round_up info.size 16) makes) fit.unused in (
-          buffer_goes old new past e i info g m stands.0 (made_kept old new i t (round_up info.size 16) makes) made.3 (new_unheld old new i (record { size = info.size; object = length old.memory.objects; offset = 0 }) made.1 made.3 none),
-          λ b o n h. absurd cc,
-        )
-      where
-        type : Makes old new i t (round_up info.size 16) → (number u : ℕ) → type_of_place info.place ≡ Some u → object_of new i ≡ Some number → type_of new.memory number ≡ u
-        type makes number u is has =
-            let both : ◌≡◌ {A = Option ℕ} (Some t) (Some u) = ap type_of_place (sym own) ∙ is in
-            let same : t ≡ u = cc in
-            made_type old new i t (round_up info.size 16) makes number has ∙ same
+  -- without its shape yet, or as a buffer
+  pub put_bare : AreShaped resources s.shapes
+  put_bare = record { each = λ i m q is at. go i m q is at (eqb i id) refl }
+    where
+      go : (i : ℕ) (m : ImageInfo) (q : Placed) → shape_of s i ≡ Some m → placed_in resources i ≡ Some q → (t : Bool) → eqb i id ≡ t → IsShaped m q
+      go i m q is at true e = let both : Some m ≡ None = sym is ∙ ap (λ (j : ℕ). shape_of s j) (eqb-true i id e) ∙ ready.unshaped in absurd cc
+      go i m q is at false e = stands.2.each i m q is (sym (others i (eqb-false i id e)) ∙ at)
 
-        -- no buffer lies in an object that is new
-        none : (k : ℕ) → k < info.size → IsSome (held_at old.cache (length old.memory.objects) (0 + k)) → ⊥
-        none k lt held =
-            let w = stands.1.only (length old.memory.objects) (0 + k) held in
-            let low = live_below old.memory w.place.object (inside_of old.memory old.owned old.buffers stands.0 w.id w.place w.here).live in
-            let at = w.object in
-            omega (arith, low, at)
-    go (applied.Bytes bytes) made fit = absurd made
-    go applied.NoRoom made fit = (made.0, refl)
-
-pub bound_done : (old new : Held) (y : Entry) (i k o : ℕ) (info : BufferInfo) → y ≡ entry.Buffer i info → info.place ≡ place.Memory k o → Stands old → BindReady old k o info.size → Binds old new i k o info.size
-    → (e : ℕ) (past : Past) → MatchesLive past old → FitsEntry past y → DoneBy applied.Done e y past old new
-bound_done old new y i k o info is at stands ready binds e past m fit = subst (λ (x : Entry). DoneBy applied.Done e x past old new) (sym is) (go (subst (λ (x : Entry). FitsEntry past x) is fit))
-  where
-    objects : (j : ℕ) → object_of new j ≡ object_of old j
-    objects j = ap (λ (owned : List (ℕ × ℕ)). object_in owned j) binds.1
-
-    go : FitsBuffer past i info → DoneBy applied.Done e (entry.Buffer i info) past old new
-    go fit =
-        let none = not_live past i fit.unused in
-        let placed_memory : IsTrue (holds (live past k) is_memory) = (subst (λ (q : Place). FitsPlace past info q) at fit.place).0 in
-        let p : Placed = record { size = info.size; object = ready.number; offset = o } in
-        let has_none : object_of old i ≡ None = unowned (live past) old i m (ap (λ (o : Option Entry). holds o has_memory) none) in
-        let alone : is_some (object_of new i) ≡ has_memory (entry.Buffer i info) = rw at (ap is_some (objects i ∙ has_none)) in
-        let lives : IsTrue (holds (live (host e (entry.Buffer i info) ∷ past) k) is_memory) =
-        rw (live_new past e (entry.Buffer i info) i refl refl fit.unused k, other_entry k placed_memory none) placed_memory in
-        let kept : (number : ℕ) → IsLive old.memory number → region_of new.memory number ≡ region_of old.memory number = λ number lives. ap (λ (n : MemoryState). region_of n number) binds.0 in
-        let g = buffer_grows old new past e i info p stands.0 (binds.2 ready.number ready.has) refl alone (λ j other. objects j) (subst (λ (q : Place). LiesAt (live (host e (entry.Buffer i info) ∷ past)) new i q p) (sym at) (lives, objects k ∙ ready.has, refl)) kept (type has_none) (λ number lives. ap (λ (n : MemoryState). type_of n number) binds.0) fit.unused in
-        (buffer_goes old new past e i info g m stands.0 kept binds.3 (new_unheld old new i p (binds.2 ready.number ready.has) binds.3 bare), λ b o n h. absurd cc)
-      where
-        type : object_of old i ≡ None → (number u : ℕ) → type_of_place info.place ≡ Some u → object_of new i ≡ Some number → type_of new.memory number ≡ u
-        type has_none number u is has = let both : ◌≡◌ {A = Option ℕ} (Some number) None = sym has ∙ objects i ∙ has_none in absurd cc
-
-        -- what is held there would be of a buffer that shares an atom with this one
-        bare : (j : ℕ) → j < info.size → IsSome (held_at old.cache ready.number (o + j)) → ⊥
-        bare j lt held =
-            let w = stands.1.only ready.number (o + j) held in
-            let inside = inside_of old.memory old.owned old.buffers stands.0 w.id w.place w.here in
-            let cached : type_of old.memory ready.number ≡ 2 = eqb-true (type_of old.memory ready.number) 2 (subst (λ (n : ℕ). (type_of old.memory n == 2) ≡ true) w.object w.cached) in
-            let p : Placed = record { size = info.size; object = ready.number; offset = o } in
-            clear_atoms w.place p j (stands.1.aligned w.id w.place w.here w.cached) (ready.aligned cached) inside.some
-            (turned o w.place.offset info.size w.place.size (ready.apart w.id w.place w.here w.object)) lt w.atom
-
-        other_entry : (k : ℕ) → IsTrue (holds (live past k) is_memory) → live past i ≡ None → (k == i) ≡ false
-        other_entry k memory none = false_from_ne_true (k == i) (λ h.
-            let gone : IsTrue (holds {A = Entry} None is_memory) = subst (λ (o : Option Entry). IsTrue (holds o is_memory)) (ap (live past) (eqb-true k i h) ∙ none) memory in
-            cc)
+  pub put_shaped : (m : ImageInfo) → shape ≡ Some m → (shapes : List (ℕ × ImageInfo)) → shape_in shapes id ≡ Some m → ((q : ℕ) → (q ≡ id → ⊥) → shape_in shapes q ≡ shape_in s.shapes q) → AreShaped resources shapes
+  put_shaped m is shapes now kept = record { each = λ i n q at_shape at. go i n q at_shape at (eqb i id) refl }
+    where
+      go : (i : ℕ) (n : ImageInfo) (q : Placed) → shape_in shapes i ≡ Some n → placed_in resources i ≡ Some q → (t : Bool) → eqb i id ≡ t → IsShaped n q
+      go i n q at_shape at false e = let ne = eqb-false i id e in stands.2.each i n q (sym (kept i ne) ∙ at_shape) (sym (others i ne) ∙ at)
+      go i n q at_shape at true e =
+          let both : Some n ≡ Some m = sym at_shape ∙ ap (λ (j : ℕ). shape_in shapes j) (eqb-true i id e) ∙ now in
+          let one : n ≡ m = cc in
+          let places : Some q ≡ Some p = sym at ∙ ap (λ (j : ℕ). placed_in resources j) (eqb-true i id e) ∙ here in
+          let same : q ≡ p = cc in
+          subst (λ (k : ImageInfo). IsShaped k q) (sym one) (subst (λ (z : Placed). IsShaped m z) (sym same) (subst (λ (o : Option ImageInfo). ShapeReady o p) is ready.shaped))
 
 -- ---- what ends
 
-pub end_goes : (old new : Held) (past : Past) (e r : ℕ) (x : Entry) → made_by x ≡ None → ended_by x ≡ r ∷ [] → ((c : Byte) (cell : Cell) → after_host past [] x c cell ≡ cell) → MatchesLive past old → IsApart old.memory old.owned old.buffers
-    → ((b : ℕ) (p : Placed) (i : BufferInfo) → (b ≡ r → ⊥) → placed old b ≡ Some p → option_and_then buffer_in (live past b) ≡ Some i → LiesAt (live past) old b i.place p → home b i.place ≡ r → ⊥) → Ends old new r → Goes e x past old new
+pub end_goes : (old new : Held) (past : Past) (e r : ℕ) (x : Entry) → made_by x ≡ None → ended_by x ≡ r ∷ [] → ((c : Byte) (cell : Cell) → after_host past [] x c cell ≡ cell) → MatchesLive past old → IsApart old.memory old.owned old.resources
+    → ((b : ℕ) (p : Placed) (t : Resource) → (b ≡ r → ⊥) → placed old b ≡ Some p → option_and_then resource_in (live past b) ≡ Some t → LiesAt (live past) old b t.place p → home b t.place ≡ r → ⊥) → Ends old new r → Goes e x past old new
 end_goes old new past e r x makes ends_it same m apart clear ends = (ended_matches (live past) (live (host e x ∷ past)) old new r now m apart clear ends, leaves, none)
   where
     now : (j : ℕ) → live (host e x ∷ past) j ≡ cond (j == r) None (live past j)
     now = live_end past e x r makes ends_it
 
     -- what is there afterwards is another
-    other : (b k : ℕ) → IsThere new (in_buffer b k) → b ≡ r → ⊥
-    other b k after is =
-        let p = where_is new b k after in
-        let both : Some p.0 ≡ None = sym p.1 ∙ ap (λ (j : ℕ). placed new j) is ∙ ends.no_buffer in
+    other : (c : Byte) → IsThere new c → resource_at c ≡ r → ⊥
+    other c after is =
+        let l = where_lies new c after in
+        let both : Some l.place ≡ None = sym l.here ∙ ap (λ (j : ℕ). placed new j) is ∙ ends.no_resource in
         cc
 
+    host_same : (c : Byte) → (resource_at c ≡ r → ⊥) → host_at new c ≡ host_at old c
+    host_same (in_image j l a z w p) ne = refl
+    host_same (in_buffer b k) ne = ends.held b k ne
+
     leaves : LeavesCells past x old new
-    leaves (in_image j l a z w p) cell there after has = absurd there
-    leaves (in_buffer b k) cell there after has =
-        let p = where_is old b k there in
-        let ne = other b k after in
-        subst (λ (y : Cell). HasCell new (in_buffer b k) y) (sym (same (in_buffer b k) cell))
-        (stays old new b k p.0 cell p.1 (ends.buffers b ne) (region_there (live past) (live (host e x ∷ past)) old new r now m apart clear ends b p.0 ne p.1) (ends.held b k ne) has)
+    leaves c cell there after has =
+        let ne = other c after in
+        subst (λ (y : Cell). HasCell new c y) (sym (same c cell))
+        (stays old new c cell (ends.resources (resource_at c) ne) (ends.shapes (resource_at c) ne)
+        (λ p at. region_there (live past) (live (host e x ∷ past)) old new r now m apart clear ends (resource_at c) p ne at) (host_same c ne) has)
 
     none : HoldsNoneNew old new
-    none (in_image j l a z w p) after absent = absurd after
-    none (in_buffer b k) after absent = absurd (absent (subst (λ (o : Option Placed). IsWithin o k) (ends.buffers b (other b k after)) after))
+    none c after absent = let ne = other c after in absurd (absent (there_stays new old c (sym (ends.resources (resource_at c) ne)) (sym (ends.shapes (resource_at c) ne)) after))
 
 -- ---- an entry that asks for nothing by itself
 
@@ -346,15 +431,16 @@ queue_drops s q c cell has = go (cell.held (suc q))
     go (Some (caches.Dirty v)) = has
 
 pub rest_done : (s : Held) (y : Entry) → IsRest y → (e : ℕ) (past : Past) → MatchesLive past s → FitsEntry past y → DoneBy applied.Done e y past s s
-rest_done s (entry.Semaphore i v) rest e past m fit = ((other_goes s past e i (entry.Semaphore i v) refl refl refl refl refl fit m, λ c cell there after has. has, none_new s s refl), λ b o n h. absurd cc)
-rest_done s (entry.Event i) rest e past m fit = ((other_goes s past e i (entry.Event i) refl refl refl refl refl fit m, λ c cell there after has. has, none_new s s refl), λ b o n h. absurd cc)
-rest_done s (entry.Map b) rest e past m fit = ((matches_same (live past) (live (host e (entry.Map b) ∷ past)) s (live_same past e (entry.Map b) refl refl) m, λ c cell there after has. has, none_new s s refl), λ b o n h. absurd cc)
-rest_done s (entry.Unmap b) rest e past m fit = ((matches_same (live past) (live (host e (entry.Unmap b) ∷ past)) s (live_same past e (entry.Unmap b) refl refl) m, λ c cell there after has. has, none_new s s refl), λ b o n h. absurd cc)
-rest_done s (entry.Signal v n) rest e past m fit = ((matches_same (live past) (live (host e (entry.Signal v n) ∷ past)) s (live_same past e (entry.Signal v n) refl refl) m, λ c cell there after has. has, none_new s s refl), λ b o n h. absurd cc)
-rest_done s (entry.Wait ws) rest e past m fit = ((matches_same (live past) (live (host e (entry.Wait ws) ∷ past)) s (live_same past e (entry.Wait ws) refl refl) m, λ c cell there after has. has, none_new s s refl), λ b o n h. absurd cc)
-rest_done s (entry.Submit q bs) rest e past m fit = ((matches_same (live past) (live (host e (entry.Submit q bs) ∷ past)) s (live_same past e (entry.Submit q bs) refl refl) m, λ c cell there after has. queue_drops s q c cell has, none_new s s refl), λ b o n h. absurd cc)
+rest_done s (entry.Semaphore i v) rest e past m fit = ((other_goes s past e i (entry.Semaphore i v) refl refl refl refl refl refl refl fit m, λ c cell there after has. has, none_new s s refl refl), λ b o n h. absurd cc)
+rest_done s (entry.Event i) rest e past m fit = ((other_goes s past e i (entry.Event i) refl refl refl refl refl refl refl fit m, λ c cell there after has. has, none_new s s refl refl), λ b o n h. absurd cc)
+rest_done s (entry.Map b) rest e past m fit = ((matches_same (live past) (live (host e (entry.Map b) ∷ past)) s (live_same past e (entry.Map b) refl refl) m, λ c cell there after has. has, none_new s s refl refl), λ b o n h. absurd cc)
+rest_done s (entry.Unmap b) rest e past m fit = ((matches_same (live past) (live (host e (entry.Unmap b) ∷ past)) s (live_same past e (entry.Unmap b) refl refl) m, λ c cell there after has. has, none_new s s refl refl), λ b o n h. absurd cc)
+rest_done s (entry.Signal v n) rest e past m fit = ((matches_same (live past) (live (host e (entry.Signal v n) ∷ past)) s (live_same past e (entry.Signal v n) refl refl) m, λ c cell there after has. has, none_new s s refl refl), λ b o n h. absurd cc)
+rest_done s (entry.Wait ws) rest e past m fit = ((matches_same (live past) (live (host e (entry.Wait ws) ∷ past)) s (live_same past e (entry.Wait ws) refl refl) m, λ c cell there after has. has, none_new s s refl refl), λ b o n h. absurd cc)
+rest_done s (entry.Submit q bs) rest e past m fit = ((matches_same (live past) (live (host e (entry.Submit q bs) ∷ past)) s (live_same past e (entry.Submit q bs) refl refl) m, λ c cell there after has. queue_drops s q c cell has, none_new s s refl refl), λ b o n h. absurd cc)
 rest_done s (entry.Memory i info) rest e past m fit = absurd rest
 rest_done s (entry.Buffer i info) rest e past m fit = absurd rest
+rest_done s (entry.Image i info) rest e past m fit = absurd rest
 rest_done s (entry.Free i) rest e past m fit = absurd rest
 rest_done s (entry.Destroy i) rest e past m fit = absurd rest
 rest_done s (entry.Write b o bytes) rest e past m fit = absurd rest

@@ -7,41 +7,35 @@ use Rattle.vk_map_cache.specs.Holdings.{Holdings, held_at, IsByte, Changes, give
 use Rattle.vk_map_cache.proofs.CellLemmas.{same_cell, given-outside}
 use Rattle.vk_memory.specs.MemoryState.{MemoryState, region_of, type_of, type_in}
 use Rattle.vk_memory.specs.declared.memories.Object.{Object}
+use Rattle.vk_model.specs.declared.resource.ImageInfo.{ImageInfo}
 use Rattle.vk_model.specs.declared.command.Length.{Length}
 use Rattle.vk_model.specs.declared.command.Length.TheVariants as length_of
 use Rattle.vk_model.specs.Run.Caches as caches
 use Rattle.vk_model.specs.Run.Caches.{Cell, forgotten}
 use Rattle.vk_model.specs.Run.CachedRuns.{after_host_write}
-use Rattle.vk_model.specs.World.Bytes.{Byte, in_buffer, in_image}
+use Rattle.vk_model.specs.World.Bytes.{Byte, in_buffer, in_image, resource_at}
 use Rattle.vk_model.specs.World.Effect.{in_atoms}
 use Rattle.vk_transfer.specs.Ran.{AreApart}
 use Rattle.vk_resources.specs.declared.resources.Placed.{Placed}
-use Rattle.vk_resources.specs.Held.{Held, IsApart, IsInside, IsCaching, IsCachedByte, IsInAtoms, Stands, is_cached_in, placed, placed_in, host_at, byte_at, IsThere, IsWithin, HasCell}
-use Rattle.vk_resources.specs.Inner.Steps.{MayReachTo, cached_at, changed_of, length_to}
+use Rattle.vk_resources.specs.Held.{Held, IsApart, IsInside, IsCaching, IsCachedByte, IsInAtoms, Stands, is_cached_in, placed, placed_in, shape_of, flat, flat_in, host_at, byte_at, IsThere, HasCell}
+use Rattle.vk_resources.specs.Inner.Steps.{MayReach, MayReachTo, cached_at, changed_of, length_to}
 use Rattle.vk_resources.proofs.Placing.{inside_of, kept_object}
+use Rattle.vk_resources.proofs.Lying.{Lies, byte_lies, buffer_lies, where_lies, where_is, where_image, lies_within, byte_stays}
 
 -- ---- the bytes of a buffer
 
-module _ (s : Held) (b : ℕ) (p : Placed) (here : placed s b ≡ Some p) (k : ℕ) (lt : k < p.size) where
-  pub host_of : host_at s (in_buffer b k) ≡ held_at s.cache p.object (p.offset + k)
-  host_of = rw (here, lt-ltb k p.size lt) refl
+pub host_of : (s : Held) (b : ℕ) (p : Placed) (here : placed s b ≡ Some p) (k : ℕ) (lt : k < p.size) → host_at s (in_buffer b k) ≡ held_at s.cache p.object (p.offset + k)
+host_of s b p here k lt = rw (here, lt-ltb k p.size lt) refl
 
+module _ (s : Held) (b : ℕ) (p : Placed) (here : placed s b ≡ Some p) (flat_is : shape_of s b ≡ None) (k : ℕ) (lt : k < p.size) where
   pub byte_of : byte_at s (in_buffer b k) ≡ slice_index (region_of s.memory p.object) (p.offset + k)
-  byte_of = rw (here, lt-ltb k p.size lt) refl
+  byte_of = byte_lies s (in_buffer b k) (buffer_lies s b p here flat_is k lt)
 
   pub as_byte : (cell : Cell) → HasCell s (in_buffer b k) cell → IsByte s.cache p.object (region_of s.memory p.object) (p.offset + k) cell
-  as_byte cell has = same_cell host_of byte_of has
+  as_byte cell has = same_cell (host_of s b p here k lt) byte_of has
 
   pub from_byte : (cell : Cell) → IsByte s.cache p.object (region_of s.memory p.object) (p.offset + k) cell → HasCell s (in_buffer b k) cell
-  from_byte cell is = same_cell (sym host_of) (sym byte_of) is
-
--- where a byte is there, so is its buffer
-pub where_is : (s : Held) (b k : ℕ) → IsThere s (in_buffer b k) → (p : Placed) × (placed s b ≡ Some p) × (k < p.size)
-where_is s b k there = go (placed s b) refl there
-  where
-    go : (o : Option Placed) → placed s b ≡ o → IsWithin o k → (p : Placed) × (placed s b ≡ Some p) × (k < p.size)
-    go None is lt = absurd lt
-    go (Some p) is lt = (p, is, lt)
+  from_byte cell is = same_cell (sym (host_of s b p here k lt)) (sym byte_of) is
 
 -- a buffer that is held in cached memory
 pub cached_here : (s : Held) (b : ℕ) (p : Placed) → cached_at s b ≡ Some p → (placed s b ≡ Some p) × (is_cached_in s.memory p ≡ true)
@@ -81,16 +75,16 @@ within_atoms p k low high = (omega (arith, low), omega (arith, high))
 -- ---- one buffer is changed
 
 -- types stay, so what is cached does
-pub caching_typed : (memory memory' : MemoryState) (buffers : List (ℕ × Placed)) (cache : Holdings) → ((b : ℕ) (p : Placed) → placed_in buffers b ≡ Some p → type_of memory' p.object ≡ type_of memory p.object) → IsCaching memory buffers cache → IsCaching memory' buffers cache
-caching_typed memory memory' buffers cache types c = record {
+pub caching_typed : (memory memory' : MemoryState) (resources : List (ℕ × Placed)) (cache : Holdings) → ((b : ℕ) (p : Placed) → placed_in resources b ≡ Some p → type_of memory' p.object ≡ type_of memory p.object) → IsCaching memory resources cache → IsCaching memory' resources cache
+caching_typed memory memory' resources cache types c = record {
   aligned = λ b p here is. c.aligned b p here (ap (λ (t : ℕ). t == 2) (sym (types b p here)) ∙ is);
   only = λ number k held. let w = c.only number k held in record { id = w.id; place = w.place; here = w.here; object = w.object; cached = ap (λ (t : ℕ). t == 2) (types w.id w.place w.here) ∙ w.cached; atom = w.atom };
 }
 
 -- a memory object more
-pub caching_more : (m : MemoryState) (o : Object) (owned : List (ℕ × ℕ)) (buffers : List (ℕ × Placed)) (cache : Holdings) → IsApart m owned buffers → IsCaching m buffers cache → IsCaching (record m { objects = m.objects ++ Some o ∷ [] }) buffers cache
-caching_more m o owned buffers cache apart c =
-    caching_typed m (record m { objects = m.objects ++ Some o ∷ [] }) buffers cache (λ b p here. ap type_in (kept_object m o p.object (inside_of m owned buffers apart b p here).live)) c
+pub caching_more : (m : MemoryState) (o : Object) (owned : List (ℕ × ℕ)) (resources : List (ℕ × Placed)) (cache : Holdings) → IsApart m owned resources → IsCaching m resources cache → IsCaching (record m { objects = m.objects ++ Some o ∷ [] }) resources cache
+caching_more m o owned resources cache apart c =
+    caching_typed m (record m { objects = m.objects ++ Some o ∷ [] }) resources cache (λ b p here. ap type_in (kept_object m o p.object (inside_of m owned resources apart b p here).live)) c
 
 -- a buffer more
 pub caching_put : (memory : MemoryState) (old new : List (ℕ × Placed)) (cache : Holdings) (id : ℕ) (p : Placed) → placed_in old id ≡ None → placed_in new id ≡ Some p → ((q : ℕ) → (q ≡ id → ⊥) → placed_in new q ≡ placed_in old q)
@@ -118,7 +112,7 @@ module _ (s : Held) (stands : Stands s) (b : ℕ) (p : Placed) (here : placed s 
     changed = record s { memory = memory; cache = cache }
 
     inside : IsInside s.memory p
-    inside = inside_of s.memory s.owned s.buffers stands.0 b p here
+    inside = inside_of s.memory s.owned s.resources stands.0 b p here
 
     -- what is held outside of its atoms stays
     held_outside : (k : ℕ) → (IsInAtoms p k → ⊥) → held_at cache p.object k ≡ held_at s.cache p.object k
@@ -127,36 +121,34 @@ module _ (s : Held) (stands : Stands s) (b : ℕ) (p : Placed) (here : placed s 
         let now = done.bytes k cell (record { held = refl; region = refl }) in
         sym now.held ∙ ap (λ (c : Cell). c.held 0) (outside k cell out)
 
-    pub changed_caching : IsCaching memory s.buffers cache
+    pub changed_caching : IsCaching memory s.resources cache
     changed_caching = record { aligned = typed.aligned; only = λ number k held. only number k held (eqb number p.object) refl }
       where
-        typed : IsCaching memory s.buffers s.cache
-        typed = caching_typed s.memory memory s.buffers s.cache (λ c q at. types q.object) stands.1
+        typed : IsCaching memory s.resources s.cache
+        typed = caching_typed s.memory memory s.resources s.cache (λ c q at. types q.object) stands.1
 
-        only : (number k : ℕ) → IsSome (held_at cache number k) → (t : Bool) → eqb number p.object ≡ t → IsCachedByte memory s.buffers number k
+        only : (number k : ℕ) → IsSome (held_at cache number k) → (t : Bool) → eqb number p.object ≡ t → IsCachedByte memory s.resources number k
         only number k held false e = typed.only number k (subst (λ (h : Option caches.Held). IsSome h) (done.others number k (eqb-false number p.object e)) held)
         only number k held true e =
             let same = eqb-true number p.object e in
             elim (in_atoms_or p k) [
               | inl at ↦ record { id = b; place = p; here = here; object = sym same; cached = ap (λ (t : ℕ). t == 2) (types p.object) ∙ cached; atom = at }
-              | inr out ↦ subst (λ (n : ℕ). IsCachedByte memory s.buffers n k) (sym same)
+              | inr out ↦ subst (λ (n : ℕ). IsCachedByte memory s.resources n k) (sym same)
                   (typed.only p.object k (subst (λ (h : Option caches.Held). IsSome h) (held_outside k out) (subst (λ (n : ℕ). IsSome (held_at cache n k)) same held)))
             ]
 
     -- other buffers
     module _ (c : ℕ) (q : Placed) (at : placed s c ≡ Some q) (other : b ≡ c → ⊥) (k : ℕ) (lt : k < q.size) where
-      clear : q.object ≡ p.object → IsInAtoms p (q.offset + k) → ⊥
+      pub clear : q.object ≡ p.object → IsInAtoms p (q.offset + k) → ⊥
       clear same in_it =
           let also : is_cached_in s.memory q ≡ true = ap (λ (o : ℕ). type_of s.memory o == 2) same ∙ cached in
           let some = inside.some in
           clear_atoms p q k (stands.1.aligned b p here cached) (stands.1.aligned c q at also) some (stands.0.apart b c p q other here at (sym same)) lt in_it
 
-      pub other_stays : (cell : Cell) → HasCell s (in_buffer c k) cell → HasCell changed (in_buffer c k) cell
-      other_stays cell has = from_byte changed c q at k lt cell (go (eqb q.object p.object) refl)
+      -- what is held of its byte, and what memory has there
+      pub byte_kept : (cell : Cell) → IsByte s.cache q.object (region_of s.memory q.object) (q.offset + k) cell → IsByte cache q.object (region_of memory q.object) (q.offset + k) cell
+      byte_kept cell was = go (eqb q.object p.object) refl
         where
-          was : IsByte s.cache q.object (region_of s.memory q.object) (q.offset + k) cell
-          was = as_byte s c q at k lt cell has
-
           go : (t : Bool) → eqb q.object p.object ≡ t → IsByte cache q.object (region_of memory q.object) (q.offset + k) cell
           go false e =
               let ne = eqb-false q.object p.object e in
@@ -168,28 +160,56 @@ module _ (s : Held) (stands : Stands s) (b : ℕ) (p : Placed) (here : placed s 
               subst (λ (o : ℕ). IsByte cache o (region_of memory o) (q.offset + k) cell) (sym same)
               (subst (λ (x : Cell). IsByte cache p.object (region_of memory p.object) (q.offset + k) x) (outside (q.offset + k) cell (clear same)) now)
 
-    -- the bytes of all buffers
-    pub changed_cells : (g : ℕ → Cell → Cell) → ((k : ℕ) (cell : Cell) → k < p.size → f (p.offset + k) cell ≡ g k cell) → (c : Byte) (cell : Cell) → IsThere s c → HasCell s c cell → HasCell changed c (changed_of b g c cell)
-    changed_cells g same (in_image i l a x y z) cell there has = absurd there
-    changed_cells g same (in_buffer c k) cell there has = go (eqb b c) refl
+      abbrev any_cell : Cell
+      any_cell = record { region = slice_index (region_of s.memory q.object) (q.offset + k); held = λ a. held_at s.cache q.object (q.offset + k) }
+
+      pub held_kept : held_at cache q.object (q.offset + k) ≡ held_at s.cache q.object (q.offset + k)
+      held_kept = sym (byte_kept any_cell (record { held = refl; region = refl })).held
+
+      pub value_kept : slice_index (region_of memory q.object) (q.offset + k) ≡ slice_index (region_of s.memory q.object) (q.offset + k)
+      value_kept = sym (byte_kept any_cell (record { held = refl; region = refl })).region
+
+    pub other_stays : (c k : ℕ) → (b ≡ c → ⊥) → IsThere s (in_buffer c k) → (cell : Cell) → HasCell s (in_buffer c k) cell → HasCell changed (in_buffer c k) cell
+    other_stays c k other there cell has =
+        let w = where_is s c k there in
+        from_byte changed c w.0 w.1 w.3 k w.2 cell (byte_kept c w.0 w.1 other k w.2 cell (as_byte s c w.0 w.1 w.3 k w.2 cell has))
+
+    -- a byte of an image, which is another resource
+    pub image_stays : shape_of s b ≡ None → (i l a x y z : ℕ) → IsThere s (in_image i l a x y z) → (cell : Cell) → HasCell s (in_image i l a x y z) cell → HasCell changed (in_image i l a x y z) cell
+    image_stays flat_is i l a x y z there cell has =
+        let w = where_lies s (in_image i l a x y z) there in
+        let m = where_image s i l a x y z w in
+        let other : b ≡ i → ⊥ = λ (same : b ≡ i). clash_shape m.0 (sym flat_is ∙ ap (λ (j : ℕ). shape_of s j) same ∙ m.1) in
+        record {
+          held = has.held;
+          region = has.region ∙ sym (byte_stays s changed (in_image i l a x y z) refl refl (λ v. value_kept i v.place v.here other v.at (lies_within s stands.2 (in_image i l a x y z) v)));
+        }
       where
-        at : (q : Placed) × (placed s c ≡ Some q) × (k < q.size)
+        clash_shape : (m : ImageInfo) → ◌≡◌ {A = Option ImageInfo} None (Some m) → ⊥
+        clash_shape m e = cc
+
+    -- the bytes of all buffers
+    pub changed_cells : shape_of s b ≡ None → (g : ℕ → Cell → Cell) → ((k : ℕ) (cell : Cell) → k < p.size → f (p.offset + k) cell ≡ g k cell) → (c : Byte) (cell : Cell) → IsThere s c → HasCell s c cell → HasCell changed c (changed_of b g c cell)
+    changed_cells flat_is g same (in_image i l a x y z) cell there has = image_stays flat_is i l a x y z there cell has
+    changed_cells flat_is g same (in_buffer c k) cell there has = go (eqb b c) refl
+      where
+        at : (q : Placed) × (placed s c ≡ Some q) × (k < q.size) × (shape_of s c ≡ None)
         at = where_is s c k there
 
         go : (t : Bool) → eqb b c ≡ t → HasCell changed (in_buffer c k) (if t then g k cell else cell)
-        go false e = other_stays c at.0 at.1 (eqb-false b c e) k at.2 cell has
+        go false e = other_stays c k (eqb-false b c e) there cell has
         go true e =
             let one = eqb-true b c e in
             let both : Some at.0 ≡ Some p = sym at.1 ∙ ap (λ (i : ℕ). placed s i) (sym one) ∙ here in
             let is : at.0 ≡ p = cc in
             let lt : k < p.size = subst (λ (q : Placed). k < q.size) is at.2 in
-            let was = as_byte s b p here k lt cell (subst (λ (i : ℕ). HasCell s (in_buffer i k) cell) (sym one) has) in
+            let was = as_byte s b p here flat_is k lt cell (subst (λ (i : ℕ). HasCell s (in_buffer i k) cell) (sym one) has) in
             subst (λ (i : ℕ). HasCell changed (in_buffer i k) (g k cell)) one
-            (from_byte changed b p here k lt (g k cell) (subst (λ (x : Cell). IsByte cache p.object (region_of memory p.object) (p.offset + k) x) (same k cell lt) (done.bytes (p.offset + k) cell was)))
+            (from_byte changed b p here flat_is k lt (g k cell) (subst (λ (x : Cell). IsByte cache p.object (region_of memory p.object) (p.offset + k) x) (same k cell lt) (done.bytes (p.offset + k) cell was)))
 
 -- where nothing is changed
 pub unchanged_cells : (s : Held) (b : ℕ) (g : ℕ → Cell → Cell) → ((k : ℕ) (cell : Cell) → g k cell ≡ cell) → (c : Byte) (cell : Cell) → IsThere s c → HasCell s c cell → HasCell s c (changed_of b g c cell)
-unchanged_cells s b g same (in_image i l a x y z) cell there has = absurd there
+unchanged_cells s b g same (in_image i l a x y z) cell there has = has
 unchanged_cells s b g same (in_buffer c k) cell there has = go (eqb b c)
   where
     go : (t : Bool) → HasCell s (in_buffer c k) (if t then g k cell else cell)
@@ -278,6 +298,28 @@ module _ (p : Placed) (aligned : p.offset % 64 ≡ 0) (o m : ℕ) (fits : o + m 
       let low : (p.offset + o) / 64 ≤ k / 64 = leb-true ((p.offset + o) / 64) (k / 64) inner.1 in
       let high : k / 64 ≤ (p.offset + o + m - 1) / 64 = leb-true (k / 64) ((p.offset + o + m - 1) / 64) outer.1 in
       out (omega (arith, low), omega (arith, high, fits, some)))
+
+-- a range that is reached in a buffer
+pub flat_reached : (shape : Option ImageInfo) (x : Option Placed) (o : ℕ) (n : Length) → MayReachTo (flat_in shape x) o n → shape ≡ None
+flat_reached None x o n may = refl
+flat_reached (Some m) x o (length_of.Bytes n) may = absurd may
+flat_reached (Some m) x o length_of.Whole may = absurd may
+
+pub flat_cached : (s : Held) (b : ℕ) (p : Placed) (o : ℕ) (n : Length) → cached_at s b ≡ Some p → MayReachTo (flat s b) o n → (shape_of s b ≡ None) × FitsIn p.size o n
+flat_cached s b p o n is may =
+    let none = flat_reached (shape_of s b) (placed s b) o n may in
+    (none, may_reach (flat s b) p o n (rw none (cached_here s b p is).0) may)
+
+pub flat_some : (shape : Option ImageInfo) (x : Option Placed) (o n : ℕ) → MayReach (flat_in shape x) o n → shape ≡ None
+flat_some shape x o n may = flat_reached shape x o (length_of.Bytes n) may
+
+-- the same of one in cached memory
+pub cached_range : (s : Held) (b o n : ℕ) → true ≡ is_some (cached_at s b) → MayReach (flat s b) o n → MayReach (cached_at s b) o n
+cached_range s b o n some may = go (cached_at s b) refl some
+  where
+    go : (x : Option Placed) → cached_at s b ≡ x → true ≡ is_some x → MayReach (cached_at s b) o n
+    go None is h = absurd cc
+    go (Some p) is h = subst (λ (x : Option Placed). MayReach x o n) (sym is) (flat_cached s b p o (length_of.Bytes n) is may).1
 
 -- a test that is the same
 pub tested : (f : Cell → Cell) (s t : Bool) (cell : Cell) → s ≡ t → (if s then f cell else cell) ≡ (if t then f cell else cell)

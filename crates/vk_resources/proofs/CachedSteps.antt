@@ -14,16 +14,17 @@ use Rattle.vk_model.specs.World.Bytes.{in_buffer}
 use Rattle.vk_model.specs.World.Effect.{in_atoms}
 use Rattle.vk_resources.specs.declared.resources.Placed.{Placed}
 use Rattle.vk_resources.specs.Allocating.{allotted}
-use Rattle.vk_resources.specs.Held.{Held, IsInside, IsInAtoms, IsCachedByte, Stands, is_cached_in, placed, placed_in, object_in, object_of, host_at, holding_in, byte_at}
+use Rattle.vk_resources.specs.Held.{Held, IsInside, IsInAtoms, IsCachedByte, Stands, is_cached_in, placed, placed_in, shape_in, shape_of, object_in, object_of, host_at, holding_in}
 use Rattle.vk_resources.specs.Inner.Steps.{KeepsPlaces, HasChanged, Forgets, IsEmpty, Ends, freed, cached_at, length_to}
 use Rattle.vk_resources.proofs.Placing.{inside_of, apart_rewritten, still_long, kept_apart, apart_ended}
-use Rattle.vk_resources.proofs.Splicing.{kinds_kept}
-use Rattle.vk_resources.proofs.CachedBytes.{cached_here, here_cached, caching_typed, host_of, other_stays, reached_outside, changed_caching, changed_cells, unchanged_cells, write_outside, write_inside, FitsIn, range_inside, range_outside, flush_inside, flush_outside, atom_inside, atom_outside, tested}
+use Rattle.vk_model.specs.declared.resource.ImageInfo.{ImageInfo}
+use Rattle.vk_resources.proofs.Lying.{kinds_kept}
+use Rattle.vk_resources.proofs.CachedBytes.{cached_here, here_cached, caching_typed, held_kept, reached_outside, changed_caching, changed_cells, unchanged_cells, write_outside, write_inside, FitsIn, range_inside, range_outside, flush_inside, flush_outside, atom_inside, atom_outside, tested}
 
 -- ---- nothing changes
 
 pub keeps_same : (s : Held) (cache : Holdings) → KeepsPlaces s (record s { cache = cache })
-keeps_same s cache = record { buffers = refl; same = refl; lengths = λ n. refl; types = λ n. refl }
+keeps_same s cache = record { resources = refl; shapes = refl; same = refl; lengths = λ n. refl; types = λ n. refl }
 
 -- the same is held of every byte
 pub same_stands : (s : Held) (cache : Holdings) → Stands s → HoldsSame s.cache cache → Stands (record s { cache = cache })
@@ -33,6 +34,7 @@ same_stands s cache stands same = (
     aligned = stands.1.aligned;
     only = λ number k held. stands.1.only number k (subst (λ (h : Option caches.Held). IsSome h) (same number k) held);
   },
+  stands.2,
 )
 
 -- a change of a buffer that isn't in cached memory
@@ -50,17 +52,17 @@ module _ (s : Held) (stands : Stands s) (b : ℕ) (p : Placed) (is : cached_at s
   cached = (cached_here s b p is).1
 
   inside : IsInside s.memory p
-  inside = inside_of s.memory s.owned s.buffers stands.0 b p here
+  inside = inside_of s.memory s.owned s.resources stands.0 b p here
 
   aligned : p.offset % 64 ≡ 0
   aligned = stands.1.aligned b p here cached
 
   -- what is so of the cache with memory as it is
-  in_cache : (f g : ℕ → Cell → Cell) (cache : Holdings) → Changes f p.object s.cache cache (region_of s.memory p.object) (region_of s.memory p.object) → ((k : ℕ) (cell : Cell) → (IsInAtoms p k → ⊥) → f k cell ≡ cell)
+  in_cache : shape_of s b ≡ None → (f g : ℕ → Cell → Cell) (cache : Holdings) → Changes f p.object s.cache cache (region_of s.memory p.object) (region_of s.memory p.object) → ((k : ℕ) (cell : Cell) → (IsInAtoms p k → ⊥) → f k cell ≡ cell)
       → ((k : ℕ) (cell : Cell) → k < p.size → f (p.offset + k) cell ≡ g k cell) → Stands (record s { cache = cache }) × HasChanged s (record s { cache = cache }) b g
-  in_cache f g cache done outside same = (
-    (stands.0, changed_caching s stands b p here cached s.memory cache (λ q. refl) (λ q other. refl) f done outside),
-    (keeps_same s cache, changed_cells s stands b p here cached s.memory cache (λ q. refl) (λ q other. refl) f done outside g same),
+  in_cache flat_is f g cache done outside same = (
+    (stands.0, changed_caching s stands b p here cached s.memory cache (λ q. refl) (λ q other. refl) f done outside, stands.2),
+    (keeps_same s cache, changed_cells s stands b p here cached s.memory cache (λ q. refl) (λ q other. refl) f done outside flat_is g same),
   )
 
   -- memory with other bytes in its memory object
@@ -73,7 +75,8 @@ module _ (s : Held) (stands : Stands s) (b : ℕ) (p : Placed) (is : cached_at s
 
     pub rewritten_keeps : KeepsPlaces s rewritten
     rewritten_keeps = record {
-      buffers = refl;
+      resources = refl;
+      shapes = refl;
       same = ap (λ (os : List (Option (ℕ × ℕ))). record (allotted s) { objects = os }) (kinds_kept s.memory p.object after);
       lengths = λ number. still_long s.memory p.object after inside.live long number;
       types = types;
@@ -82,17 +85,18 @@ module _ (s : Held) (stands : Stands s) (b : ℕ) (p : Placed) (is : cached_at s
     -- where the same is held
     pub rewritten_stands : HoldsSame s.cache cache → Stands rewritten
     rewritten_stands same = (
-      apart_rewritten s.memory p.object after inside.live long s.owned s.buffers stands.0,
-      caching_typed s.memory rewritten.memory s.buffers cache (λ c q at. types q.object) (same_stands s cache stands same).1,
+      apart_rewritten s.memory p.object after inside.live long s.owned s.resources stands.0,
+      caching_typed s.memory rewritten.memory s.resources cache (λ c q at. types q.object) (same_stands s cache stands same).1,
+      stands.2,
     )
 
   -- and with other bytes in its memory object
-  in_both : (f g : ℕ → Cell → Cell) (cache : Holdings) (after : List ℕ) → Changes f p.object s.cache cache (region_of s.memory p.object) after → ((k : ℕ) (cell : Cell) → (IsInAtoms p k → ⊥) → f k cell ≡ cell)
+  in_both : shape_of s b ≡ None → (f g : ℕ → Cell → Cell) (cache : Holdings) (after : List ℕ) → Changes f p.object s.cache cache (region_of s.memory p.object) after → ((k : ℕ) (cell : Cell) → (IsInAtoms p k → ⊥) → f k cell ≡ cell)
       → ((k : ℕ) (cell : Cell) → k < p.size → f (p.offset + k) cell ≡ g k cell)
       → Stands (record s { memory = with_region s.memory p.object after; cache = cache }) × HasChanged s (record s { memory = with_region s.memory p.object after; cache = cache }) b g
-  in_both f g cache after done outside same = (
-    (apart_rewritten s.memory p.object after inside.live done.size s.owned s.buffers stands.0, changed_caching s stands b p here cached memory cache (types cache after done.size) elsewhere f now outside),
-    (rewritten_keeps cache after done.size, changed_cells s stands b p here cached memory cache (types cache after done.size) elsewhere f now outside g same),
+  in_both flat_is f g cache after done outside same = (
+    (apart_rewritten s.memory p.object after inside.live done.size s.owned s.resources stands.0, changed_caching s stands b p here cached memory cache (types cache after done.size) elsewhere f now outside, stands.2),
+    (rewritten_keeps cache after done.size, changed_cells s stands b p here cached memory cache (types cache after done.size) elsewhere f now outside flat_is g same),
   )
     where
       memory : MemoryState
@@ -106,18 +110,18 @@ module _ (s : Held) (stands : Stands s) (b : ℕ) (p : Placed) (is : cached_at s
 
   -- ---- the calls
 
-  pub wrote : (o : ℕ) (bytes region : List ℕ) (cache : Holdings) → o + length bytes ≤ p.size → region ≡ region_of s.memory p.object → Changes (λ k. after_host_write true (given (p.offset + o) bytes k)) p.object s.cache cache region region
+  pub wrote : shape_of s b ≡ None → (o : ℕ) (bytes region : List ℕ) (cache : Holdings) → o + length bytes ≤ p.size → region ≡ region_of s.memory p.object → Changes (λ k. after_host_write true (given (p.offset + o) bytes k)) p.object s.cache cache region region
       → Stands (record s { cache = cache }) × HasChanged s (record s { cache = cache }) b (λ k. after_host_write true (given o bytes k))
-  wrote o bytes region cache fits at done =
-      in_cache (λ k. after_host_write true (given (p.offset + o) bytes k)) (λ k. after_host_write true (given o bytes k)) cache
+  wrote flat_is o bytes region cache fits at done =
+      in_cache flat_is (λ k. after_host_write true (given (p.offset + o) bytes k)) (λ k. after_host_write true (given o bytes k)) cache
       (subst (λ (r : List ℕ). Changes (λ k. after_host_write true (given (p.offset + o) bytes k)) p.object s.cache cache r r) at done) (write_outside p o bytes fits) (write_inside p o bytes fits)
 
-  module _ (o : ℕ) (n : Length) (fits : FitsIn p.size o n) where
+  module _ (flat_is : shape_of s b ≡ None) (o : ℕ) (n : Length) (fits : FitsIn p.size o n) where
     pub flushed : (region after : List ℕ) (cache : Holdings) → region ≡ region_of s.memory p.object → Changes (only_where (is_reached (length region) (p.offset + o) (length_to p.size o n)) (written_back 0)) p.object s.cache cache region after
         → Stands (record s { memory = with_region s.memory p.object after; cache = cache })
         × HasChanged s (record s { memory = with_region s.memory p.object after; cache = cache }) b (only_where (λ k. is_some (cached_at s b) && in_atoms o n k) (written_back 0))
     flushed region after cache at done =
-        in_both (only_where (is_reached (length (region_of s.memory p.object)) (p.offset + o) (length_to p.size o n)) (written_back 0)) (only_where (λ k. is_some (cached_at s b) && in_atoms o n k) (written_back 0)) cache after
+        in_both flat_is (only_where (is_reached (length (region_of s.memory p.object)) (p.offset + o) (length_to p.size o n)) (written_back 0)) (only_where (λ k. is_some (cached_at s b) && in_atoms o n k) (written_back 0)) cache after
         (subst (λ (r : List ℕ). Changes (only_where (is_reached (length r) (p.offset + o) (length_to p.size o n)) (written_back 0)) p.object s.cache cache r after) at done)
         (λ k cell out. tested (written_back 0) _ false cell (flush_outside s b p here cached aligned o n fits (length (region_of s.memory p.object)) inside.room k out))
         (λ k cell lt. tested (written_back 0) _ _ cell (flush_inside s b p here cached aligned o n fits (length (region_of s.memory p.object)) inside.room k lt))
@@ -125,14 +129,14 @@ module _ (s : Held) (stands : Stands s) (b : ℕ) (p : Placed) (is : cached_at s
     pub invalidated : (cache : Holdings) → ((region : List ℕ) → Changes (only_where (in_atoms (p.offset + o) (length_of.Bytes (length_to p.size o n))) (forgotten 0)) p.object s.cache cache region region)
         → Stands (record s { cache = cache }) × HasChanged s (record s { cache = cache }) b (only_where (λ k. is_some (cached_at s b) && in_atoms o n k) (forgotten 0))
     invalidated cache done =
-        in_cache (only_where (in_atoms (p.offset + o) (length_of.Bytes (length_to p.size o n))) (forgotten 0)) (only_where (λ k. is_some (cached_at s b) && in_atoms o n k) (forgotten 0)) cache (done (region_of s.memory p.object))
+        in_cache flat_is (only_where (in_atoms (p.offset + o) (length_of.Bytes (length_to p.size o n))) (forgotten 0)) (only_where (λ k. is_some (cached_at s b) && in_atoms o n k) (forgotten 0)) cache (done (region_of s.memory p.object))
         (λ k cell out. tested (forgotten 0) _ false cell (range_outside s b p here cached aligned o n fits k out)) (λ k cell lt. tested (forgotten 0) _ _ cell (range_inside s b p here cached aligned o n fits k lt))
 
-  pub turned_atom : (j : ℕ) (region after : List ℕ) (cache : Holdings) → j ≤ (p.size - 1) / 64 → region ≡ region_of s.memory p.object → Changes (only_where (is_in_atom (length region) (p.offset / 64 + j)) turned_over) p.object s.cache cache region after
+  pub turned_atom : shape_of s b ≡ None → (j : ℕ) (region after : List ℕ) (cache : Holdings) → j ≤ (p.size - 1) / 64 → region ≡ region_of s.memory p.object → Changes (only_where (is_in_atom (length region) (p.offset / 64 + j)) turned_over) p.object s.cache cache region after
       → Stands (record s { memory = with_region s.memory p.object after; cache = cache })
       × HasChanged s (record s { memory = with_region s.memory p.object after; cache = cache }) b (only_where (λ k. is_some (cached_at s b) && k / 64 == j) turned_over)
-  turned_atom j region after cache below at done =
-      in_both (only_where (is_in_atom (length (region_of s.memory p.object)) (p.offset / 64 + j)) turned_over) (only_where (λ k. is_some (cached_at s b) && k / 64 == j) turned_over) cache after
+  turned_atom flat_is j region after cache below at done =
+      in_both flat_is (only_where (is_in_atom (length (region_of s.memory p.object)) (p.offset / 64 + j)) turned_over) (only_where (λ k. is_some (cached_at s b) && k / 64 == j) turned_over) cache after
       (subst (λ (r : List ℕ). Changes (only_where (is_in_atom (length r) (p.offset / 64 + j)) turned_over) p.object s.cache cache r after) at done)
       (λ k cell out. tested turned_over _ false cell (atom_outside s b p here cached aligned j (length (region_of s.memory p.object)) below inside.some inside.room k out))
       (λ k cell lt. tested turned_over _ _ cell (atom_inside s b p here cached aligned j (length (region_of s.memory p.object)) below inside.some inside.room k lt))
@@ -146,7 +150,7 @@ module _ (s : Held) (stands : Stands s) (b : ℕ) (p : Placed) (is : cached_at s
         tested (forgotten 0) _ false cell (subst (λ (o : ℕ). in_atoms o (length_of.Bytes p.size) k ≡ false) start (reached_outside p aligned 0 p.size (omega arith) k out))
 
     pub forgot_stands : Stands (record s { cache = cache })
-    forgot_stands = (stands.0, changed_caching s stands b p here cached s.memory cache (λ q. refl) (λ q other. refl) _ (done (region_of s.memory p.object)) out_of_it)
+    forgot_stands = (stands.0, changed_caching s stands b p here cached s.memory cache (λ q. refl) (λ q other. refl) _ (done (region_of s.memory p.object)) out_of_it, stands.2)
 
     gone_at : (k : ℕ) → IsInAtoms p k → held_at cache p.object k ≡ None
     gone_at k at =
@@ -169,10 +173,7 @@ module _ (s : Held) (stands : Stands s) (b : ℕ) (p : Placed) (is : cached_at s
         at_place : (c k : ℕ) (q : Placed) → placed s c ≡ Some q → (b ≡ c → ⊥) → (t : Bool) → nat_lt k q.size ≡ t → (if t then held_at cache q.object (q.offset + k) else None) ≡ (if t then held_at s.cache q.object (q.offset + k) else None)
         at_place c k q at ne false e = refl
         at_place c k q at ne true e =
-            let lt = ltb-true k q.size e in
-            let cell : Cell = record { region = byte_at s (in_buffer c k); held = λ a. host_at s (in_buffer c k) } in
-            let stays = other_stays s stands b p here cached s.memory cache (λ q. refl) (λ q other. refl) _ (done (region_of s.memory p.object)) out_of_it c q at ne k lt cell (record { held = refl; region = refl }) in
-            sym (host_of (record s { cache = cache }) c q at k lt) ∙ sym stays.held ∙ host_of s c q at k lt
+            held_kept s stands b p here cached s.memory cache (λ q. refl) (λ q other. refl) _ (done (region_of s.memory p.object)) out_of_it c q at ne k (ltb-true k q.size e)
 
         others : (c k : ℕ) → (c ≡ b → ⊥) → (o : Option Placed) → placed s c ≡ o → host_at (record s { cache = cache }) (in_buffer c k) ≡ host_at s (in_buffer c k)
         others c k ne None at = rw at refl
@@ -213,7 +214,7 @@ module _ (s : Held) (id : ℕ) (cache : Holdings) (stands : Stands s) (mid : Sta
           let w = mid.1.only number k (rw at refl) in
           own (eqb w.id id) w refl
         where
-          own : (t : Bool) → (w : IsCachedByte s.memory s.buffers number k) → eqb w.id id ≡ t → Some h ≡ None
+          own : (t : Bool) → (w : IsCachedByte s.memory s.resources number k) → eqb w.id id ≡ t → Some h ≡ None
           own false w e = absurd (empty number w.id w.place has (eqb-false w.id id e) w.here w.object)
           own true w e =
               let same = eqb-true w.id id e in
@@ -221,14 +222,15 @@ module _ (s : Held) (id : ℕ) (cache : Holdings) (stands : Stands s) (mid : Sta
               let none = subst (λ (n : ℕ). held_at cache n k ≡ None) w.object (forgets.gone w.place k there w.atom) in
               sym at ∙ none
 
-  module _ (owned' : List (ℕ × ℕ)) (buffers' : List (ℕ × Placed)) (final : Holdings) (same : HoldsSame cache final)
-      (no_object : object_in owned' id ≡ None) (objects : (i : ℕ) → (i ≡ id → ⊥) → object_in owned' i ≡ object_in s.owned i) (no_buffer : placed_in buffers' id ≡ None) (places : (b : ℕ) → (b ≡ id → ⊥) → placed_in buffers' b ≡ placed_in s.buffers b)
+  module _ (owned' : List (ℕ × ℕ)) (resources' : List (ℕ × Placed)) (shapes' : List (ℕ × ImageInfo)) (final : Holdings) (same : HoldsSame cache final)
+      (no_object : object_in owned' id ≡ None) (objects : (i : ℕ) → (i ≡ id → ⊥) → object_in owned' i ≡ object_in s.owned i) (no_buffer : placed_in resources' id ≡ None) (places : (b : ℕ) → (b ≡ id → ⊥) → placed_in resources' b ≡ placed_in s.resources b)
+      (no_shape : shape_in shapes' id ≡ None) (shapes : (b : ℕ) → (b ≡ id → ⊥) → shape_in shapes' b ≡ shape_in s.shapes b)
     where
       abbrev pub ended : Held
-      ended = record { memory = freed s.memory (object_of s id); owned = owned'; buffers = buffers'; cache = final }
+      ended = record { memory = freed s.memory (object_of s id); owned = owned'; resources = resources'; shapes = shapes'; cache = final }
 
-      other : (b : ℕ) (p : Placed) → placed_in buffers' b ≡ Some p → b ≡ id → ⊥
-      other b p at is = let both : Some p ≡ None = sym at ∙ ap (λ (k : ℕ). placed_in buffers' k) is ∙ no_buffer in cc
+      other : (b : ℕ) (p : Placed) → placed_in resources' b ≡ Some p → b ≡ id → ⊥
+      other b p at is = let both : Some p ≡ None = sym at ∙ ap (λ (k : ℕ). placed_in resources' k) is ∙ no_buffer in cc
 
       -- another buffer lies in memory of the type that it was
       type_kept : (b : ℕ) (p : Placed) → (b ≡ id → ⊥) → placed s b ≡ Some p → type_of (freed s.memory (object_of s id)) p.object ≡ type_of s.memory p.object
@@ -240,7 +242,7 @@ module _ (s : Held) (id : ℕ) (cache : Holdings) (stands : Stands s) (mid : Sta
 
       pub ended_stands : Stands ended
       ended_stands = (
-        apart_ended s.memory s.owned owned' s.buffers buffers' id no_object objects no_buffer places empty stands.0,
+        apart_ended s.memory s.owned owned' s.resources resources' id no_object objects no_buffer places empty stands.0,
         record {
           aligned = λ b p at cached.
               let ne = other b p at in
@@ -248,12 +250,13 @@ module _ (s : Held) (id : ℕ) (cache : Holdings) (stands : Stands s) (mid : Sta
               stands.1.aligned b p was (ap (λ (t : ℕ). t == 2) (sym (type_kept b p ne was)) ∙ cached);
           only = λ number k held. only number k held (mid.1.only number k (subst (λ (h : Option caches.Held). IsSome h) (same number k) held));
         },
+        record { each = λ i m p is at. let ne = other i p at in stands.2.each i m p (sym (shapes i ne) ∙ is) (sym (places i ne) ∙ at) },
       )
         where
-          only : (number k : ℕ) → IsSome (held_at final number k) → IsCachedByte s.memory s.buffers number k → IsCachedByte ended.memory buffers' number k
+          only : (number k : ℕ) → IsSome (held_at final number k) → IsCachedByte s.memory s.resources number k → IsCachedByte ended.memory resources' number k
           only number k held w = go (eqb w.id id) refl
             where
-              go : (t : Bool) → eqb w.id id ≡ t → IsCachedByte ended.memory buffers' number k
+              go : (t : Bool) → eqb w.id id ≡ t → IsCachedByte ended.memory resources' number k
               go false e =
                   let ne = eqb-false w.id id e in
                   record { id = w.id; place = w.place; here = places w.id ne ∙ w.here; object = w.object; cached = ap (λ (t : ℕ). t == 2) (type_kept w.id w.place ne w.here) ∙ w.cached; atom = w.atom }
@@ -269,8 +272,10 @@ module _ (s : Held) (id : ℕ) (cache : Holdings) (stands : Stands s) (mid : Sta
         memory = refl;
         no_object = no_object;
         objects = objects;
-        no_buffer = no_buffer;
-        buffers = places;
+        no_resource = no_buffer;
+        resources = places;
+        no_shape = no_shape;
+        shapes = shapes;
         held = λ b k ne. held b k ne;
       }
         where
@@ -282,11 +287,12 @@ module _ (s : Held) (id : ℕ) (cache : Holdings) (stands : Stands s) (mid : Sta
               in_final (Some p) = ap (λ (h : Option caches.Held). if nat_lt k p.size then h else None) (same p.object (p.offset + k))
 
 -- the same of what is held when it is forgotten
-module _ (s n : Held) (id : ℕ) (memory : n.memory ≡ s.memory) (owned : n.owned ≡ s.owned) (buffers : n.buffers ≡ s.buffers) (stands : Stands s) (mid : Stands n) (forgets : Forgets s n id) (empty : IsEmpty s id) where
+module _ (s n : Held) (id : ℕ) (memory : n.memory ≡ s.memory) (owned : n.owned ≡ s.owned) (resources : n.resources ≡ s.resources) (shapes_same : n.shapes ≡ s.shapes) (stands : Stands s) (mid : Stands n) (forgets : Forgets s n id) (empty : IsEmpty s id) where
   as_cache : n ≡ record s { cache = n.cache }
   as_cache =
       ap (λ (m : MemoryState). record n { memory = m }) memory ∙ ap (λ (o : List (ℕ × ℕ)). record n { memory = s.memory; owned = o }) owned
-      ∙ ap (λ (b : List (ℕ × Placed)). record n { memory = s.memory; owned = s.owned; buffers = b }) buffers
+      ∙ ap (λ (b : List (ℕ × Placed)). record n { memory = s.memory; owned = s.owned; resources = b }) resources
+      ∙ ap (λ (b : List (ℕ × ImageInfo)). record n { memory = s.memory; owned = s.owned; resources = s.resources; shapes = b }) shapes_same
 
   stands_mid : Stands (record s { cache = n.cache })
   stands_mid = subst Stands as_cache mid
@@ -297,13 +303,15 @@ module _ (s n : Held) (id : ℕ) (memory : n.memory ≡ s.memory) (owned : n.own
   pub bare_object : (number : ℕ) → Some number ≡ object_in n.owned id → (k : ℕ) → held_at n.cache number k ≡ None
   bare_object number has k = object_bare s id n.cache stands stands_mid forgets_mid empty number k (sym (has ∙ ap (λ (o : List (ℕ × ℕ)). object_in o id) owned))
 
-  module _ (owned' : List (ℕ × ℕ)) (buffers' : List (ℕ × Placed)) (final : Holdings) (memory' : MemoryState) (same : HoldsSame n.cache final) (object : Option ℕ) (has : object ≡ object_in n.owned id) (is : memory' ≡ freed n.memory object)
-      (no_object : object_in owned' id ≡ None) (objects : (i : ℕ) → (i ≡ id → ⊥) → object_in owned' i ≡ object_in n.owned i) (no_buffer : placed_in buffers' id ≡ None) (places : (b : ℕ) → (b ≡ id → ⊥) → placed_in buffers' b ≡ placed_in n.buffers b)
+  module _ (owned' : List (ℕ × ℕ)) (resources' : List (ℕ × Placed)) (shapes' : List (ℕ × ImageInfo)) (final : Holdings) (memory' : MemoryState) (same : HoldsSame n.cache final) (object : Option ℕ) (has : object ≡ object_in n.owned id) (is : memory' ≡ freed n.memory object)
+      (no_object : object_in owned' id ≡ None) (objects : (i : ℕ) → (i ≡ id → ⊥) → object_in owned' i ≡ object_in n.owned i) (no_buffer : placed_in resources' id ≡ None) (places : (b : ℕ) → (b ≡ id → ⊥) → placed_in resources' b ≡ placed_in n.resources b)
+      (no_shape : shape_in shapes' id ≡ None) (shapes : (b : ℕ) → (b ≡ id → ⊥) → shape_in shapes' b ≡ shape_in n.shapes b)
     where
-      pub all_ended : Stands (record { memory = memory'; owned = owned'; buffers = buffers'; cache = final }) × Ends s (record { memory = memory'; owned = owned'; buffers = buffers'; cache = final }) id
+      pub all_ended : Stands (record { memory = memory'; owned = owned'; resources = resources'; shapes = shapes'; cache = final }) × Ends s (record { memory = memory'; owned = owned'; resources = resources'; shapes = shapes'; cache = final }) id
       all_ended =
           let objects' : (i : ℕ) → (i ≡ id → ⊥) → object_in owned' i ≡ object_in s.owned i = λ i ne. objects i ne ∙ ap (λ (o : List (ℕ × ℕ)). object_in o i) owned in
-          let places' : (b : ℕ) → (b ≡ id → ⊥) → placed_in buffers' b ≡ placed_in s.buffers b = λ b ne. places b ne ∙ ap (λ (l : List (ℕ × Placed)). placed_in l b) buffers in
+          let places' : (b : ℕ) → (b ≡ id → ⊥) → placed_in resources' b ≡ placed_in s.resources b = λ b ne. places b ne ∙ ap (λ (l : List (ℕ × Placed)). placed_in l b) resources in
+          let shapes'' : (b : ℕ) → (b ≡ id → ⊥) → shape_in shapes' b ≡ shape_in s.shapes b = λ b ne. shapes b ne ∙ ap (λ (l : List (ℕ × ImageInfo)). shape_in l b) shapes_same in
           let left : memory' ≡ freed s.memory (object_of s id) = is ∙ ap (λ (o : Option ℕ). freed n.memory o) (has ∙ ap (λ (o : List (ℕ × ℕ)). object_in o id) owned) ∙ ap (λ (m : MemoryState). freed m (object_of s id)) memory in
-          subst (λ (m : MemoryState). Stands (record { memory = m; owned = owned'; buffers = buffers'; cache = final }) × Ends s (record { memory = m; owned = owned'; buffers = buffers'; cache = final }) id) (sym left)
-          (ended_stands s id n.cache stands stands_mid forgets_mid empty owned' buffers' final same no_object objects' no_buffer places', ends s id n.cache stands stands_mid forgets_mid empty owned' buffers' final same no_object objects' no_buffer places')
+          subst (λ (m : MemoryState). Stands (record { memory = m; owned = owned'; resources = resources'; shapes = shapes'; cache = final }) × Ends s (record { memory = m; owned = owned'; resources = resources'; shapes = shapes'; cache = final }) id) (sym left)
+          (ended_stands s id n.cache stands stands_mid forgets_mid empty owned' resources' shapes' final same no_object objects' no_buffer places' no_shape shapes'', ends s id n.cache stands stands_mid forgets_mid empty owned' resources' shapes' final same no_object objects' no_buffer places' no_shape shapes'')

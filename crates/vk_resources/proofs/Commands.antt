@@ -1,5 +1,5 @@
 -- A piece of a command, on the bytes of all resources.
-use Rattle.std.proofs.Common.{◌≡◌, ℕ, ◌+◌, ◌-◌, ◌*◌, ◌/◌, ◌%◌, ◌<◌, ◌≤◌, List, length, refl, ap, sym, ◌∙◌, subst, arith, slice_index, Some}
+use Rattle.std.proofs.Common.{◌≡◌, ℕ, ◌+◌, ◌-◌, ◌*◌, ◌/◌, ◌%◌, ◌<◌, ◌≤◌, List, length, refl, ap, sym, ◌∙◌, subst, arith, slice_index, Some, None}
 use Rattle.std.proofs.Math.Nat.{mul-add-mod_self_left}
 use Rattle.std.proofs.lemmas.Bool.{lt-ltb}
 use Rattle.std.proofs.lemmas.List.Elements.{All-contains}
@@ -24,9 +24,11 @@ use Rattle.vk_transfer.proofs.FillPieces.{piece_writes}
 use Rattle.vk_transfer.proofs.UpdatePieces.{update_piece_writes}
 use Rattle.vk_transfer.proofs.Ranges.{writes}
 use Rattle.vk_resources.specs.declared.resources.Placed.{Placed}
-use Rattle.vk_resources.specs.Held.{Held, Stands, IsInside, placed, byte_at}
+use Rattle.vk_resources.specs.Held.{Held, Stands, IsInside, placed, shape_of, flat, byte_at}
 use Rattle.vk_resources.specs.Inner.Steps.{HasRun}
 use Rattle.vk_resources.proofs.Placing.{inside_of}
+use Rattle.vk_resources.proofs.CachedBytes.{byte_of as held_byte}
+use Rattle.vk_resources.proofs.Matching.{flat_parts}
 use Rattle.vk_resources.proofs.Splicing.{spliced_apart, spliced_caching, spliced_keeps, spliced_ran}
 
 -- the memory of what is held, with other bytes in an object
@@ -38,11 +40,17 @@ module _ (s : Held) (stands : Stands s) where
   abbrev pub Runs : ℕ → List ℕ → List ByteWrite → Type 0
   Runs object new ms = Stands (with_bytes s object new) × HasRun s (with_bytes s object new) ms
 
-  module _ (b : ℕ) (p : Placed) (here : placed s b ≡ Some p) where
+  module _ (b : ℕ) (p : Placed) (flat_at : flat s b ≡ Some p) where
+    flat_is : shape_of s b ≡ None
+    flat_is = (flat_parts (shape_of s b) (placed s b) p flat_at).0
+
+    here : placed s b ≡ Some p
+    here = (flat_parts (shape_of s b) (placed s b) p flat_at).1
+
     put_at : (at : ℕ) (bytes : List ℕ) (offset lo : ℕ) (source : ℕ → Source) → at + length bytes ≤ p.size → at ≡ offset + lo → ((j : ℕ) → lo ≤ j → j < lo + length bytes → slice_index bytes (j - lo) ≡ given (source j) (byte_at s))
         → Runs p.object (splice (region_of s.memory p.object) (p.offset + at) bytes) (writes b offset source lo (length bytes))
     put_at at bytes offset lo source fits place values =
-        ((spliced_apart s stands.0 b p here at bytes fits, spliced_caching s stands.0 b p here at bytes fits stands.1), (spliced_keeps s stands.0 b p here at bytes fits, spliced_ran s stands.0 b p here at bytes fits offset lo source place values, refl))
+        ((spliced_apart s stands.0 stands.2 b p here flat_is at bytes fits, spliced_caching s stands.0 stands.2 b p here flat_is at bytes fits stands.1, stands.2), (spliced_keeps s stands.0 stands.2 b p here flat_is at bytes fits, spliced_ran s stands.0 stands.2 b p here flat_is at bytes fits offset lo source place values, refl))
 
     put : (offset lo n : ℕ) (source : ℕ → Source) (bytes new : List ℕ) → length bytes ≡ n → offset + lo + n ≤ p.size → new ≡ splice (region_of s.memory p.object) (p.offset + offset + lo) bytes
         → ((j : ℕ) → lo ≤ j → j < lo + n → slice_index bytes (j - lo) ≡ given (source j) (byte_at s)) → Runs p.object new (writes b offset source lo n)
@@ -85,16 +93,19 @@ module _ (s : Held) (stands : Stands s) where
 
     -- ---- a copy from a buffer that lies anywhere
 
-    pub copy_ran : (a : ℕ) (q : Placed) (g : BufferCopy) (new : List ℕ) → placed s a ≡ Some q → g.source_offset + g.size ≤ q.size → g.destination_offset + g.size ≤ p.size
+    pub copy_ran : (a : ℕ) (q : Placed) (g : BufferCopy) (new : List ℕ) → flat s a ≡ Some q → g.source_offset + g.size ≤ q.size → g.destination_offset + g.size ≤ p.size
         → new ≡ splice (region_of s.memory p.object) (p.offset + g.destination_offset) (piece (region_of s.memory q.object) (q.offset + g.source_offset) g.size) → Runs p.object new (copy_writes a b g)
-    copy_ran a q g new there from to is =
+    copy_ran a q g new flat_there from to is =
         put g.destination_offset 0 g.size (λ k. From (in_buffer a (g.source_offset + k))) bytes new long (omega (arith, to)) (is ∙ ap (λ (k : ℕ). splice (region_of s.memory p.object) k bytes) place) value
       where
+        there : placed s a ≡ Some q
+        there = (flat_parts (shape_of s a) (placed s a) q flat_there).1
+
         bytes : List ℕ
         bytes = piece (region_of s.memory q.object) (q.offset + g.source_offset) g.size
 
         inside : IsInside s.memory q
-        inside = inside_of s.memory s.owned s.buffers stands.0 a q there
+        inside = inside_of s.memory s.owned s.resources stands.0 a q there
 
         place : p.offset + g.destination_offset ≡ p.offset + g.destination_offset + 0
         place = omega arith
@@ -106,9 +117,9 @@ module _ (s : Held) (stands : Stands s) where
         value j low high =
             let at : j - 0 ≡ q.offset + (g.source_offset + j) - (q.offset + g.source_offset) = omega arith in
             ap (λ (k : ℕ). slice_index bytes k) at ∙ get_or-piece (region_of s.memory q.object) (q.offset + g.source_offset) g.size (q.offset + (g.source_offset + j)) (omega arith) (omega (arith, high))
-            ∙ sym (rw (there, lt-ltb (g.source_offset + j) q.size (omega (arith, from, high))) refl)
+            ∙ sym (held_byte s a q there (flat_parts (shape_of s a) (placed s a) q flat_there).0 (g.source_offset + j) (omega (arith, from, high)))
 
-    pub copy_piece_ran : (a : ℕ) (q : Placed) (g : BufferCopy) (ms : List ByteWrite) (memory : MemoryState) → placed s a ≡ Some q → (g.source_offset + g.size ≤ q.size) × (g.destination_offset + g.size ≤ p.size) → ms ≡ copy_writes a b g
+    pub copy_piece_ran : (a : ℕ) (q : Placed) (g : BufferCopy) (ms : List ByteWrite) (memory : MemoryState) → flat s a ≡ Some q → (g.source_offset + g.size ≤ q.size) × (g.destination_offset + g.size ≤ p.size) → ms ≡ copy_writes a b g
         → memory ≡ with_region s.memory p.object (splice (region_of s.memory p.object) (p.offset + g.destination_offset) (piece (region_of s.memory q.object) (q.offset + g.source_offset) g.size))
         → Stands (record s { memory = memory }) × HasRun s (record s { memory = memory }) ms
     copy_piece_ran a q g ms memory there fits same is =

@@ -1,5 +1,7 @@
 -- What is asked of the resources by an entry that fits, and done for one that ends something.
-use Rattle.std.proofs.Common.{◌≡◌, ℕ, refl, ap, sym, subst, Option, None}
+use Rattle.std.proofs.Common.{◌≡◌, false, ℕ, ◌<◌, ◌≤◌, refl, ap, sym, ◌∙◌, subst, arith, Option, Some, None}
+use Rattle.std.proofs.lemmas.Bool.{le-ltb}
+use Rattle.std.specs.Prelude.{option_and_then}
 use Rattle.vk_model.specs.declared.entry.Entry.{Entry}
 use Rattle.vk_model.specs.declared.entry.Entry.TheVariants as entry
 use Rattle.vk_model.specs.declared.resource.BufferInfo.{BufferInfo}
@@ -8,14 +10,18 @@ use Rattle.vk_model.specs.declared.resource.Place.{Place}
 use Rattle.vk_model.specs.declared.resource.Place.TheVariants as place
 use Rattle.vk_model.specs.Basics.{holds}
 use Rattle.vk_model.specs.Trace.Point.{Past}
-use Rattle.vk_model.specs.Trace.Objects.{live}
+use Rattle.vk_model.specs.declared.resource.ImageInfo.{ImageInfo}
+use Rattle.vk_model.specs.Trace.Image.{image_size}
+use Rattle.vk_model.specs.Trace.Objects.{Resource, of_buffer, of_image, live, image_in}
+use Rattle.vk_image_tiles.specs.Shapes.{refusal}
+use Rattle.vk_model.specs.Rules.Sizes.{bad_image}
 use Rattle.vk_resources.specs.declared.applied.Applied.TheVariants as applied
-use Rattle.vk_resources.specs.Held.{Held, Stands, object_of}
-use Rattle.vk_resources.specs.Matches.{MatchesLive, has_memory}
-use Rattle.vk_resources.specs.Fits.{FitsEntry, FitsBuffer, FitsPlace}
+use Rattle.vk_resources.specs.Held.{Held, Stands, placed, shape_of, object_of}
+use Rattle.vk_resources.specs.Matches.{MatchesLive, size_made, has_memory}
+use Rattle.vk_resources.specs.Fits.{IsUnused, FitsEntry, FitsBuffer, FitsImage, FitsPlace}
 use Rattle.vk_resources.specs.Done.{DoneBy}
-use Rattle.vk_resources.specs.Inner.Steps.{BindReady, IsEmpty, Ends}
-use Rattle.vk_resources.proofs.Matching.{unowned}
+use Rattle.vk_resources.specs.Inner.Steps.{IsMaking, BindReady, IsEmpty, Ends}
+use Rattle.vk_resources.proofs.Matching.{unowned, unplaced}
 use Rattle.vk_resources.proofs.Living.{live_end, not_live, empty}
 use Rattle.vk_resources.proofs.Binding.{bind_ready, destroyed_clear, freed_clear}
 use Rattle.vk_resources.proofs.Applying.{end_goes}
@@ -25,15 +31,62 @@ use Rattle.vk_resources.proofs.Applying.{end_goes}
 pub memory_absent : (s : Held) (y : Entry) (i : ℕ) (info : MemoryInfo) → y ≡ entry.Memory i info → (past : Past) → MatchesLive past s → FitsEntry past y → object_of s i ≡ None
 memory_absent s y i info is past m fit = unowned (live past) s i m (ap (λ (o : Option Entry). holds o has_memory) (not_live past i (subst (λ (x : Entry). FitsEntry past x) is fit).0))
 
-pub buffer_absent : (s : Held) (y : Entry) (i : ℕ) (info : BufferInfo) → y ≡ entry.Buffer i info → (past : Past) → MatchesLive past s → FitsEntry past y → object_of s i ≡ None
-buffer_absent s y i info is past m fit =
-    let fits : FitsBuffer past i info = subst (λ (x : Entry). FitsEntry past x) is fit in
-    unowned (live past) s i m (ap (λ (o : Option Entry). holds o has_memory) (not_live past i fits.unused))
+-- what an entry that makes a resource is known to be of
+pub record MakerFits (past : Past) (i : ℕ) (r : Resource) (size : ℕ) (shape : Option ImageInfo) : Type 0 where
+  pub unused : IsUnused past i
+  pub some : 0 < size
+  pub less : size ≤ r.size
+  pub place : FitsPlace past r r.place
 
-pub entry_binds : (s : Held) (y : Entry) (i k o : ℕ) (info : BufferInfo) → y ≡ entry.Buffer i info → info.place ≡ place.Memory k o → (past : Past) → MatchesLive past s → FitsEntry past y → Stands s → BindReady s k o info.size
-entry_binds s y i k o info is at past m fit stands =
+pub buffer_fits : (y : Entry) (i : ℕ) (info : BufferInfo) → y ≡ entry.Buffer i info → (past : Past) → FitsEntry past y → MakerFits past i (of_buffer info) info.size None
+buffer_fits y i info is past fit =
     let fits : FitsBuffer past i info = subst (λ (x : Entry). FitsEntry past x) is fit in
-    bind_ready past s m stands.0 k o info at fits.some (subst (λ (q : Place). FitsPlace past info q) at fits.place)
+    record { unused = fits.unused; some = fits.some; less = omega arith; place = fits.place }
+
+pub image_fits : (y : Entry) (i : ℕ) (info : ImageInfo) → 0 < image_size info info.tiling → y ≡ entry.Image i info → (past : Past) → FitsEntry past y → MakerFits past i (of_image info) (image_size info info.tiling) (Some info)
+image_fits y i info some is past fit =
+    let fits : FitsImage past i info = subst (λ (x : Entry). FitsEntry past x) is fit in
+    record { unused = fits.unused; some = some; less = omega arith; place = fits.place }
+
+-- it breaks no rule on its shape
+pub image_good : (y : Entry) (i : ℕ) (info : ImageInfo) → y ≡ entry.Image i info → (past : Past) → FitsEntry past y → bad_image info ≡ false
+image_good y i info is past fit = let fits : FitsImage past i info = subst (λ (x : Entry). FitsEntry past x) is fit in fits.shaped
+
+-- a place that fits is one of two
+place_left : (past : Past) (r : Resource) (q : Place) → FitsPlace past r q → ((t : ℕ) → q ≡ place.Dedicated t → ⊥) → ((k o : ℕ) → q ≡ place.Memory k o → ⊥) → ⊥
+place_left past r (place.Dedicated t) fits own bound = own t refl
+place_left past r (place.Memory k o) fits own bound = bound k o refl
+place_left past r (place.Pool q) fits own bound = fits
+place_left past r (place.PoolUpper q) fits own bound = fits
+
+pub image_place : (y : Entry) (i : ℕ) (info : ImageInfo) → y ≡ entry.Image i info → (past : Past) → FitsEntry past y → ((t : ℕ) → info.place ≡ place.Dedicated t → ⊥) → ((k o : ℕ) → info.place ≡ place.Memory k o → ⊥) → ⊥
+image_place y i info is past fit own bound = let fits : FitsImage past i info = subst (λ (x : Entry). FitsEntry past x) is fit in place_left past (of_image info) info.place fits.place own bound
+
+-- an entry that makes no object isn't one of those
+pub makes_one : (y : Entry) → IsMaking y → ((i : ℕ) (m : MemoryInfo) → y ≡ entry.Memory i m → ⊥) → ((i : ℕ) (b : BufferInfo) → y ≡ entry.Buffer i b → ⊥) → ((i : ℕ) (m : ImageInfo) → y ≡ entry.Image i m → ⊥) → ⊥
+makes_one (entry.Memory i m) making memory buffer image = memory i m refl
+makes_one (entry.Buffer i b) making memory buffer image = buffer i b refl
+makes_one (entry.Image i m) making memory buffer image = image i m refl
+makes_one _ making memory buffer image = making
+
+-- an image that fits has a shape
+pub image_refusal : (y : Entry) (i : ℕ) (info : ImageInfo) → y ≡ entry.Image i info → (past : Past) → FitsEntry past y → refusal info ≡ None
+image_refusal y i info is past fit =
+    let fits : FitsImage past i info = subst (λ (x : Entry). FitsEntry past x) is fit in
+    rw (fits.shaped, le-ltb 67108864 (image_size info info.tiling) fits.bounded) refl
+
+module _ (s : Held) (past : Past) (m : MatchesLive past s) (i : ℕ) (r : Resource) (size : ℕ) (shape : Option ImageInfo) (fits : MakerFits past i r size shape) where
+  pub no_object : object_of s i ≡ None
+  no_object = unowned (live past) s i m (ap (λ (o : Option Entry). holds o has_memory) (not_live past i fits.unused))
+
+  pub no_place : placed s i ≡ None
+  no_place = unplaced (live past) s i m (ap (option_and_then size_made) (not_live past i fits.unused))
+
+  pub no_shape : shape_of s i ≡ None
+  no_shape = m.shapes i ∙ ap (option_and_then image_in) (not_live past i fits.unused)
+
+  pub binds_ready : (k o : ℕ) → r.place ≡ place.Memory k o → Stands s → BindReady s k o size
+  binds_ready k o at stands = bind_ready past s m stands.0 k o r size at fits.some fits.less (subst (λ (q : Place). FitsPlace past r q) at fits.place)
 
 -- ---- what ends
 
@@ -41,22 +94,22 @@ module _ (s : Held) (y : Entry) (m : ℕ) (is : y ≡ entry.Free m) (past : Past
   pub free_empty : IsEmpty s m
   free_empty =
       let fits = subst (λ (x : Entry). FitsEntry past x) is fit in
-      empty (live past) _ s s m (live_end past 0 (entry.Free m) m refl refl) matches stands.0 (λ b p i other at his lies. freed_clear past s matches m b p i other his fits.1 lies)
+      empty (live past) _ s s m (live_end past 0 (entry.Free m) m refl refl) matches stands.0 (λ b p t other at his lies. freed_clear past s matches m b p t other his fits.1 lies)
 
   pub free_done : (new : Held) → Ends s new m → (e : ℕ) → DoneBy applied.Done e y past s new
   free_done new ends e =
       let fits = subst (λ (x : Entry). FitsEntry past x) is fit in
       subst (λ (x : Entry). DoneBy applied.Done e x past s new) (sym is)
-      (end_goes s new past e m (entry.Free m) refl refl (λ c cell. refl) matches stands.0 (λ b p i other at his lies. freed_clear past s matches m b p i other his fits.1 lies) ends, λ b o n h. absurd cc)
+      (end_goes s new past e m (entry.Free m) refl refl (λ c cell. refl) matches stands.0 (λ b p t other at his lies. freed_clear past s matches m b p t other his fits.1 lies) ends, λ b o n h. absurd cc)
 
 module _ (s : Held) (y : Entry) (r : ℕ) (is : y ≡ entry.Destroy r) (past : Past) (matches : MatchesLive past s) (fit : FitsEntry past y) (stands : Stands s) where
   pub destroy_empty : IsEmpty s r
   destroy_empty =
       let fits = subst (λ (x : Entry). FitsEntry past x) is fit in
-      empty (live past) _ s s r (live_end past 0 (entry.Destroy r) r refl refl) matches stands.0 (λ b p i other at his lies. destroyed_clear past s matches r b p i other his fits lies)
+      empty (live past) _ s s r (live_end past 0 (entry.Destroy r) r refl refl) matches stands.0 (λ b p t other at his lies. destroyed_clear past s matches r b p t other his fits lies)
 
   pub destroy_done : (new : Held) → Ends s new r → (e : ℕ) → DoneBy applied.Done e y past s new
   destroy_done new ends e =
       let fits = subst (λ (x : Entry). FitsEntry past x) is fit in
       subst (λ (x : Entry). DoneBy applied.Done e x past s new) (sym is)
-      (end_goes s new past e r (entry.Destroy r) refl refl (λ c cell. refl) matches stands.0 (λ b p i other at his lies. destroyed_clear past s matches r b p i other his fits lies) ends, λ b o n h. absurd cc)
+      (end_goes s new past e r (entry.Destroy r) refl refl (λ c cell. refl) matches stands.0 (λ b p t other at his lies. destroyed_clear past s matches r b p t other his fits lies) ends, λ b o n h. absurd cc)

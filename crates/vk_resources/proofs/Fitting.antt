@@ -24,14 +24,14 @@ use Rattle.vk_transfer.proofs.FillPieces.{writes_size}
 use Rattle.vk_transfer.proofs.UpdatePieces.{length_update}
 use Rattle.vk_transfer.proofs.CopiedBytes.{length_copy}
 use Rattle.vk_resources.specs.declared.resources.Placed.{Placed}
-use Rattle.vk_resources.specs.Held.{Held, placed, byte_at}
+use Rattle.vk_resources.specs.Held.{Held, flat, byte_at}
 use Rattle.vk_resources.specs.Matches.{MatchesLive}
 use Rattle.vk_resources.specs.Fits.{FitsFill, FitsCommand, NamesLive}
 use Rattle.vk_resources.specs.Inner.Steps.{fill_of, CopyReady, HasRun}
 use Rattle.vk_resources.specs.Inner.Works.{AreCopied}
 use Rattle.vk_resources.specs.Done.{PieceReady}
 use Rattle.vk_transfer.specs.Ran.{HaveRun}
-use Rattle.vk_resources.proofs.Matching.{live_of_placed, placed_of_live}
+use Rattle.vk_resources.proofs.Matching.{live_of_flat, placed_of_live}
 
 -- what is live was made
 pub live_made : {A : Type 0} (kind : Entry → Option A) (past : Past) (i : ℕ) (x : A) → option_and_then kind (live past i) ≡ Some x → option_and_then kind (made past i) ≡ Some x
@@ -43,57 +43,57 @@ live_made {A} kind past i x is = go (ended past i) is
 
 module _ (past : Past) (s : Held) (m : MatchesLive past s) where
   -- a buffer that is held was made, of its size
-  made_placed : (b : ℕ) (p : Placed) → placed s b ≡ Some p → (info : BufferInfo) × (buffer past b ≡ Some info) × (p.size ≡ info.size)
-  made_placed b p here = let l = live_of_placed (live past) s b p m here in (l.info, live_made buffer_in past b l.info l.is, l.size)
+  made_placed : (b : ℕ) (p : Placed) → flat s b ≡ Some p → (info : BufferInfo) × (buffer past b ≡ Some info) × (p.size ≡ info.size)
+  made_placed b p here = let l = live_of_flat (live past) s b p m here in (l.0, live_made buffer_in past b l.0 l.1, l.2)
 
-  pub same_size : (b : ℕ) (p : Placed) → placed s b ≡ Some p → buffer_size past b ≡ p.size
+  pub same_size : (b : ℕ) (p : Placed) → flat s b ≡ Some p → buffer_size past b ≡ p.size
   same_size b p here = let l = made_placed b p here in rw (buffer_size, l.1) (sym l.2)
 
   -- and one that is named as live is held
-  pub named_there : (b : ℕ) → IsTrue (holds (live past b) is_buffer) → IsSome (placed s b)
+  pub named_there : (b : ℕ) → IsTrue (holds (live past b) is_buffer) → IsSome (flat s b)
   named_there b h = go (live past b) refl h
     where
-      by_info : (x : Option BufferInfo) → option_and_then buffer_in (live past b) ≡ x → IsTrue (is_some x) → IsSome (placed s b)
+      by_info : (x : Option BufferInfo) → option_and_then buffer_in (live past b) ≡ x → IsTrue (is_some x) → IsSome (flat s b)
       by_info None is h = absurd cc
       by_info (Some info) is h = let p = placed_of_live (live past) s b info m is in rw p.1 refl
 
-      go : (x : Option Entry) → live past b ≡ x → IsTrue (holds x is_buffer) → IsSome (placed s b)
+      go : (x : Option Entry) → live past b ≡ x → IsTrue (holds x is_buffer) → IsSome (flat s b)
       go None is h = absurd cc
       go (Some y) is h = by_info (buffer_in y) (ap (option_and_then buffer_in) is) h
 
   -- ---- a fill
 
   module _ (b o : ℕ) (n : Length) (w : ℕ) where
-    pub fill_pieces : (p : Placed) → placed s b ≡ Some p → pieces past (cmd.Fill b o n w) ≡ cut 4096 (fill_writes b (fill_of o n w p))
+    pub fill_pieces : (p : Placed) → flat s b ≡ Some p → pieces past (cmd.Fill b o n w) ≡ cut 4096 (fill_writes b (fill_of o n w p))
     fill_pieces p here = ap (λ (z : ℕ). cut 4096 (fill_writes b (record { offset = o; size = fill_size z o n; word = w }))) (same_size b p here)
 
-    pub fill_whole : (p : Placed) → placed s b ≡ Some p → FitsFill (buffer past b) o n → ((fill_of o n w p).size ≡ 4 * ((fill_of o n w p).size / 4)) × (o + (fill_of o n w p).size ≤ p.size)
+    pub fill_whole : (p : Placed) → flat s b ≡ Some p → FitsFill (buffer past b) o n → ((fill_of o n w p).size ≡ 4 * ((fill_of o n w p).size / 4)) × (o + (fill_of o n w p).size ≤ p.size)
     fill_whole p here fits =
         let l = made_placed b p here in
         let f = subst (λ (x : Option BufferInfo). FitsFill x o n) l.1 fits in
         (subst (λ (z : ℕ). fill_size z o n ≡ 4 * (fill_size z o n / 4)) (sym l.2) f.2, subst (λ (z : ℕ). o + fill_size z o n ≤ z) (sym l.2) f.1)
 
-    pub fill_below : (p : Placed) (k : ℕ) → placed s b ≡ Some p → k < length (pieces past (cmd.Fill b o n w)) → 4096 * k < (fill_of o n w p).size
+    pub fill_below : (p : Placed) (k : ℕ) → flat s b ≡ Some p → k < length (pieces past (cmd.Fill b o n w)) → 4096 * k < (fill_of o n w p).size
     fill_below p k here lt = piece_below (fill_writes b (fill_of o n w p)) (fill_of o n w p).size k (writes_size b (fill_of o n w p)) (subst (λ (ps : List (List ByteWrite)). k < length ps) (fill_pieces p here) lt)
 
-    pub fill_named : (p : Placed) (k : ℕ) (ms : List ByteWrite) → placed s b ≡ Some p → slice_get (pieces past (cmd.Fill b o n w)) k ≡ Some ms → fill_piece b (fill_of o n w p) k ≡ ms
+    pub fill_named : (p : Placed) (k : ℕ) (ms : List ByteWrite) → flat s b ≡ Some p → slice_get (pieces past (cmd.Fill b o n w)) k ≡ Some ms → fill_piece b (fill_of o n w p) k ≡ ms
     fill_named p k ms here is = let there : slice_get (cut 4096 (fill_writes b (fill_of o n w p))) k ≡ Some ms = sym (ap (λ (ps : List (List ByteWrite)). slice_get ps k) (fill_pieces p here)) ∙ is in rw (fill_piece, there) refl
 
 -- ---- how many pieces there are
 
 module _ (past : Past) (s : Held) (m : MatchesLive past s) (y : Cmd) where
-  pub fill_counted : (b o w : ℕ) (n : Length) (p : Placed) (count : ℕ) → y ≡ cmd.Fill b o n w → placed s b ≡ Some p → count ≡ length (cut 4096 (fill_writes b (fill_of o n w p))) → count ≡ length (pieces past y)
+  pub fill_counted : (b o w : ℕ) (n : Length) (p : Placed) (count : ℕ) → y ≡ cmd.Fill b o n w → flat s b ≡ Some p → count ≡ length (cut 4096 (fill_writes b (fill_of o n w p))) → count ≡ length (pieces past y)
   fill_counted b o w n p count is here counted = counted ∙ sym (ap length (fill_pieces past s m b o n w p here)) ∙ ap (λ (c : Cmd). length (pieces past c)) (sym is)
 
   -- a fill of what isn't held has none
-  pub fill_none : (b o w : ℕ) (n : Length) → y ≡ cmd.Fill b o n w → placed s b ≡ None → (0 < length (pieces past y) → NamesLive past y) → 0 ≡ length (pieces past y)
+  pub fill_none : (b o w : ℕ) (n : Length) → y ≡ cmd.Fill b o n w → flat s b ≡ None → (0 < length (pieces past y) → NamesLive past y) → 0 ≡ length (pieces past y)
   fill_none b o w n is none alive = go (length (pieces past y)) alive
     where
       go : (count : ℕ) → (0 < count → NamesLive past y) → 0 ≡ count
       go zero alive = refl
       go (suc count) alive =
           let named = subst (λ (c : Cmd). NamesLive past c) is (alive (omega arith)) b is_buffer (contains-head (b, is_buffer) []) in
-          let there : IsSome (placed s b) = named_there past s m b named in
+          let there : IsSome (flat s b) = named_there past s m b named in
           let no : IsSome {T = Placed} None = subst (λ (x : Option Placed). IsSome x) none there in
           absurd cc
 
@@ -107,7 +107,7 @@ pub update_counted : (past : Past) (y : Cmd) (b o : ℕ) (bytes : List ℕ) (u :
 update_counted past y b o bytes u count is at same counted = counted b ∙ ap length (update_same past b o bytes u at same) ∙ ap (λ (c : Cmd). length (pieces past c)) (sym is)
 
 module _ (past : Past) (s : Held) (m : MatchesLive past s) (b o : ℕ) (bytes : List ℕ) (u : Update) (at : u.offset ≡ o) (same : u.bytes.now ≡ bytes) where
-  pub update_inside : (p : Placed) → placed s b ≡ Some p → FitsCommand past (cmd.Update b o bytes) → u.offset + length u.bytes.now ≤ p.size
+  pub update_inside : (p : Placed) → flat s b ≡ Some p → FitsCommand past (cmd.Update b o bytes) → u.offset + length u.bytes.now ≤ p.size
   update_inside p here fits = rw (at, same) (subst (λ (z : ℕ). o + length bytes ≤ z) (same_size past s m b p here) fits)
 
   pub update_below : (k : ℕ) → k < length (pieces past (cmd.Update b o bytes)) → 4096 * k < length u.bytes.now
@@ -127,7 +127,7 @@ copies_long (g ∷ gs) s d =
     one s d g = piece_counted (copy_writes s d g) g.size (length_copy s d g) ∙ sym (piece_counted (copy_writes 0 0 g) g.size (length_copy 0 0 g))
 
 module _ (past : Past) (s : Held) (m : MatchesLive past s) (a b : ℕ) (gs : List BufferCopy) where
-  pub copy_ready : (p q : Placed) (k : ℕ) → placed s a ≡ Some p → placed s b ≡ Some q → FitsCommand past (cmd.Copy a b gs) → k < length (pieces past (cmd.Copy a b gs)) → CopyReady p q gs k
+  pub copy_ready : (p q : Placed) (k : ℕ) → flat s a ≡ Some p → flat s b ≡ Some q → FitsCommand past (cmd.Copy a b gs) → k < length (pieces past (cmd.Copy a b gs)) → CopyReady p q gs k
   copy_ready p q k from to fits lt = (
     subst (λ (n : ℕ). k < n) (copies_long gs a b) lt,
     subst (λ (z : ℕ). All (λ g. FitsBuffers g p.size z) gs) (same_size past s m b q to) (subst (λ (z : ℕ). All (λ g. FitsBuffers g z (buffer_size past b)) gs) (same_size past s m a p from) fits),
@@ -140,14 +140,14 @@ copy_named a b gs past k ms is = rw (copy_piece, is) refl
 
 module _ (s : Held) (y : Cmd) (k : ℕ) (ready : PieceReady s y k) where
   -- what it names is held
-  there : (c : Cmd) (b : ℕ) → y ≡ c → Contains (asked_by_command c) (b, is_buffer) → IsSome (placed s b)
+  there : (c : Cmd) (b : ℕ) → y ≡ c → Contains (asked_by_command c) (b, is_buffer) → IsSome (flat s b)
   there c b is named = named_there ready.past s ready.matches b (subst (λ (c : Cmd). NamesLive ready.past c) is ready.alive b is_buffer named)
 
   module _ (b o w : ℕ) (n : Length) (is : y ≡ cmd.Fill b o n w) where
-    pub fill_there : IsSome (placed s b)
+    pub fill_there : IsSome (flat s b)
     fill_there = there (cmd.Fill b o n w) b is (contains-head (b, is_buffer) [])
 
-    module _ (p : Placed) (here : placed s b ≡ Some p) (f : Fill) (of : f ≡ fill_of o n w p) where
+    module _ (p : Placed) (here : flat s b ≡ Some p) (f : Fill) (of : f ≡ fill_of o n w p) where
       pub fill_may : (f.size ≡ 4 * (f.size / 4)) × (f.offset + f.size ≤ p.size) × (4096 * k < f.size)
       fill_may =
           let whole = fill_whole ready.past s ready.matches b o n w p here (subst (λ (c : Cmd). FitsCommand ready.past c) is ready.fits) in
@@ -158,10 +158,10 @@ module _ (s : Held) (y : Cmd) (k : ℕ) (ready : PieceReady s y k) where
           subst (λ (xs : List ByteWrite). HaveRun xs (byte_at s) (byte_at new)) (ap (λ (g : Fill). fill_piece b g k) of ∙ fill_named past s m b o n w p k ms here (sym (ap (λ (c : Cmd). slice_get (pieces past c) k) is) ∙ at)) ran.1
 
   module _ (b o : ℕ) (bytes : List ℕ) (is : y ≡ cmd.Update b o bytes) where
-    pub update_there : IsSome (placed s b)
+    pub update_there : IsSome (flat s b)
     update_there = there (cmd.Update b o bytes) b is (contains-head (b, is_buffer) [])
 
-    module _ (p : Placed) (here : placed s b ≡ Some p) (u : Update) (at : u.offset ≡ o) (same : u.bytes.now ≡ bytes) where
+    module _ (p : Placed) (here : flat s b ≡ Some p) (u : Update) (at : u.offset ≡ o) (same : u.bytes.now ≡ bytes) where
       pub update_may : (u.offset + length u.bytes.now ≤ p.size) × (4096 * k < length u.bytes.now)
       update_may = (
         update_inside ready.past s ready.matches b o bytes u at same p here (subst (λ (c : Cmd). FitsCommand ready.past c) is ready.fits),
@@ -173,13 +173,13 @@ module _ (s : Held) (y : Cmd) (k : ℕ) (ready : PieceReady s y k) where
           subst (λ (xs : List ByteWrite). HaveRun xs (byte_at s) (byte_at new)) (update_named past s m b o bytes u at same k ms (sym (ap (λ (c : Cmd). slice_get (pieces past c) k) is) ∙ there)) ran.1
 
   module _ (a b : ℕ) (gs : List BufferCopy) (is : y ≡ cmd.Copy a b gs) where
-    pub source_there : IsSome (placed s a)
+    pub source_there : IsSome (flat s a)
     source_there = there (cmd.Copy a b gs) a is (contains-head (a, is_buffer) ((b, is_buffer) ∷ []))
 
-    pub destination_there : IsSome (placed s b)
+    pub destination_there : IsSome (flat s b)
     destination_there = there (cmd.Copy a b gs) b is (contains-tail (a, is_buffer) ((b, is_buffer) ∷ []) (b, is_buffer) (contains-head (b, is_buffer) []))
 
-    pub copy_may : (p q : Placed) → placed s a ≡ Some p → placed s b ≡ Some q → (regions : List BufferCopy) → regions ≡ gs → CopyReady p q regions k
+    pub copy_may : (p q : Placed) → flat s a ≡ Some p → flat s b ≡ Some q → (regions : List BufferCopy) → regions ≡ gs → CopyReady p q regions k
     copy_may p q from to regions same =
         subst (λ (rs : List BufferCopy). CopyReady p q rs k) (sym same)
         (copy_ready ready.past s ready.matches a b gs p q k from to (subst (λ (c : Cmd). FitsCommand ready.past c) is ready.fits) (subst (λ (c : Cmd). k < length (pieces ready.past c)) is ready.below))

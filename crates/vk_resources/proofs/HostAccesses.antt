@@ -24,12 +24,12 @@ use Rattle.vk_model.specs.Run.CachedRuns.{in_atoms, turned_over, after_host_writ
 use Rattle.vk_model.specs.Run.Runs.{touched_by, atom_count}
 use Rattle.vk_resources.specs.declared.applied.Applied.TheVariants as applied
 use Rattle.vk_resources.specs.declared.resources.Placed.{Placed}
-use Rattle.vk_resources.specs.Held.{Held, placed, is_cached_in, IsThere, HasCell, seen_at, host_at}
+use Rattle.vk_resources.specs.Held.{Held, placed, shape_of, flat, is_cached_in, IsThere, HasCell, seen_at, host_at}
 use Rattle.vk_resources.specs.Matches.{MatchesLive}
 use Rattle.vk_resources.specs.Fits.{FitsEntry, FitsRange, FitsLength}
 use Rattle.vk_resources.specs.Done.{LeavesCells, DoneBy, TurnsOver}
 use Rattle.vk_resources.specs.Inner.Steps.{HasChanged, MayReach, MayReachTo, HasAtom, cached_at, changed_of}
-use Rattle.vk_resources.proofs.Matching.{placed_of_live, matches_same, keeps_matches}
+use Rattle.vk_resources.proofs.Matching.{placed_of_live, flat_parts, flat_from, matches_same, keeps_matches}
 use Rattle.vk_resources.proofs.Living.{live_same}
 use Rattle.vk_resources.proofs.Fitting.{same_size}
 use Rattle.vk_resources.proofs.Binding.{same_cached}
@@ -40,38 +40,38 @@ use Rattle.vk_resources.proofs.Applying.{none_new}
 
 -- a range in a live buffer is one of a buffer that is held
 module _ (past : Past) (s : Held) (m : MatchesLive past s) (b : ℕ) where
-  pub range_there : (o n : ℕ) → FitsRange (option_and_then buffer_in (live past b)) o n → (p : Placed) × (placed s b ≡ Some p) × (o + n ≤ p.size)
+  pub range_there : (o n : ℕ) → FitsRange (option_and_then buffer_in (live past b)) o n → (p : Placed) × (flat s b ≡ Some p) × (o + n ≤ p.size)
   range_there o n fits = go (option_and_then buffer_in (live past b)) refl fits
     where
-      go : (x : Option BufferInfo) → option_and_then buffer_in (live past b) ≡ x → FitsRange x o n → (p : Placed) × (placed s b ≡ Some p) × (o + n ≤ p.size)
+      go : (x : Option BufferInfo) → option_and_then buffer_in (live past b) ≡ x → FitsRange x o n → (p : Placed) × (flat s b ≡ Some p) × (o + n ≤ p.size)
       go None is fits = absurd fits
       go (Some info) is fits = let p = placed_of_live (live past) s b info m is in let size = p.2 in (p.0, p.1, omega (arith, fits, size))
 
-  pub range_may : (o n : ℕ) → FitsRange (option_and_then buffer_in (live past b)) o n → MayReach (placed s b) o n
+  pub range_may : (o n : ℕ) → FitsRange (option_and_then buffer_in (live past b)) o n → MayReach (flat s b) o n
   range_may o n fits = let p = range_there o n fits in subst (λ (x : Option Placed). MayReach x o n) (sym p.1) p.2
 
-  pub length_may : (o : ℕ) (n : Length) → FitsLength (option_and_then buffer_in (live past b)) o n → MayReachTo (placed s b) o n
+  pub length_may : (o : ℕ) (n : Length) → FitsLength (option_and_then buffer_in (live past b)) o n → MayReachTo (flat s b) o n
   length_may o (length_of.Bytes n) fits = range_may o n fits
   length_may o length_of.Whole fits = go (option_and_then buffer_in (live past b)) refl fits
     where
-      go : (x : Option BufferInfo) → option_and_then buffer_in (live past b) ≡ x → FitsLength x o length_of.Whole → MayReachTo (placed s b) o length_of.Whole
+      go : (x : Option BufferInfo) → option_and_then buffer_in (live past b) ≡ x → FitsLength x o length_of.Whole → MayReachTo (flat s b) o length_of.Whole
       go None is fits = absurd fits
       go (Some info) is fits =
           let p = placed_of_live (live past) s b info m is in
           let size = p.2 in
           subst (λ (x : Option Placed). MayReachTo x o length_of.Whole) (sym p.1) (omega (arith, fits, size))
 
-  there_of : (n : Length) (o : ℕ) → FitsLength (option_and_then buffer_in (live past b)) o n → (p : Placed) × (placed s b ≡ Some p)
+  there_of : (n : Length) (o : ℕ) → FitsLength (option_and_then buffer_in (live past b)) o n → (p : Placed) × (flat s b ≡ Some p)
   there_of (length_of.Bytes n) o fits = let p = range_there o n fits in (p.0, p.1)
-  there_of length_of.Whole o fits = go (placed s b) refl (length_may o length_of.Whole fits)
+  there_of length_of.Whole o fits = go (flat s b) refl (length_may o length_of.Whole fits)
     where
-      go : (x : Option Placed) → placed s b ≡ x → MayReachTo x o length_of.Whole → (p : Placed) × (placed s b ≡ Some p)
+      go : (x : Option Placed) → flat s b ≡ x → MayReachTo x o length_of.Whole → (p : Placed) × (flat s b ≡ Some p)
       go None is may = absurd may
       go (Some p) is may = (p, is)
 
   -- whether it is cached
-  pub cached_is : (p : Placed) → placed s b ≡ Some p → is_some (cached_at s b) ≡ is_cached past b
-  cached_is p here = rw here (by_type (is_cached_in s.memory p)) ∙ sym (same_cached past s m b p here)
+  pub cached_is : (p : Placed) → flat s b ≡ Some p → is_some (cached_at s b) ≡ is_cached past b
+  cached_is p flat_here = let here = (flat_parts (shape_of s b) (placed s b) p flat_here).1 in rw here (by_type (is_cached_in s.memory p)) ∙ sym (same_cached past s m b p here)
     where
       by_type : (t : Bool) → is_some (if t then Some p else None) ≡ t
       by_type true = refl
@@ -80,11 +80,11 @@ module _ (past : Past) (s : Held) (m : MatchesLive past s) (b : ℕ) where
 one_buffer : (b c : ℕ) → ◌≡◌ {A = Option ℕ} (Some b) (Some c) → b ≡ c
 one_buffer b c is = cc
 
-touched_there : (past : Past) (s : Held) (m : MatchesLive past s) (x : Entry) (b : ℕ) → touched_by x ≡ Some b → FitsEntry past x → (p : Placed) × (placed s b ≡ Some p)
-touched_there past s m (entry.Write c o bytes) b is fits = let p = range_there past s m c o (length bytes) fits in (p.0, ap (λ (i : ℕ). placed s i) (sym (one_buffer c b is)) ∙ p.1)
-touched_there past s m (entry.Read c o n) b is fits = let p = range_there past s m c o n fits in (p.0, ap (λ (i : ℕ). placed s i) (sym (one_buffer c b is)) ∙ p.1)
-touched_there past s m (entry.Flush c o n) b is fits = let p = there_of past s m c n o fits in (p.0, ap (λ (i : ℕ). placed s i) (sym (one_buffer c b is)) ∙ p.1)
-touched_there past s m (entry.Invalidate c o n) b is fits = let p = there_of past s m c n o fits in (p.0, ap (λ (i : ℕ). placed s i) (sym (one_buffer c b is)) ∙ p.1)
+touched_there : (past : Past) (s : Held) (m : MatchesLive past s) (x : Entry) (b : ℕ) → touched_by x ≡ Some b → FitsEntry past x → (p : Placed) × (flat s b ≡ Some p)
+touched_there past s m (entry.Write c o bytes) b is fits = let p = range_there past s m c o (length bytes) fits in (p.0, ap (λ (i : ℕ). flat s i) (sym (one_buffer c b is)) ∙ p.1)
+touched_there past s m (entry.Read c o n) b is fits = let p = range_there past s m c o n fits in (p.0, ap (λ (i : ℕ). flat s i) (sym (one_buffer c b is)) ∙ p.1)
+touched_there past s m (entry.Flush c o n) b is fits = let p = there_of past s m c n o fits in (p.0, ap (λ (i : ℕ). flat s i) (sym (one_buffer c b is)) ∙ p.1)
+touched_there past s m (entry.Invalidate c o n) b is fits = let p = there_of past s m c n o fits in (p.0, ap (λ (i : ℕ). flat s i) (sym (one_buffer c b is)) ∙ p.1)
 touched_there past s m _ b is fits = absurd cc
 
 -- ---- its atoms
@@ -93,11 +93,15 @@ pub no_atoms : (past : Past) (x : Entry) → touched_by x ≡ None → 0 ≡ ato
 no_atoms past x is = rw (atom_count, is) refl
 
 module _ (past : Past) (s : Held) (m : MatchesLive past s) (x : Entry) (b : ℕ) (is : touched_by x ≡ Some b) (fits : FitsEntry past x) where
+  -- it is a buffer
+  pub is_flat : shape_of s b ≡ None
+  is_flat = let p = touched_there past s m x b is fits in (flat_parts (shape_of s b) (placed s b) p.0 p.1).0
+
   pub counted : (p : Placed) → cached_at s b ≡ Some p → atom_count past x ≡ (p.size + 63) / 64
   counted p at =
       let here = cached_here s b p at in
       let yes : is_cached past b ≡ true = same_cached past s m b p here.0 ∙ here.1 in
-      rw (atom_count, is, yes) (ap (λ (n : ℕ). (n + 63) / 64) (same_size past s m b p here.0))
+      rw (atom_count, is, yes) (ap (λ (n : ℕ). (n + 63) / 64) (same_size past s m b p (flat_from (shape_of s b) (placed s b) p is_flat here.0)))
 
   pub uncounted : cached_at s b ≡ None → 0 ≡ atom_count past x
   uncounted none =
@@ -136,9 +140,9 @@ module _ (past : Past) (s : Held) (m : MatchesLive past s) (x : Entry) (b : ℕ)
 
 pub write_done : (old new : Held) (y : Entry) (b o : ℕ) (bytes : List ℕ) → y ≡ entry.Write b o bytes → HasChanged old new b (λ k. after_host_write (is_some (cached_at old b)) (given o bytes k)) → (e : ℕ) (past : Past) → MatchesLive past old → FitsEntry past y → DoneBy applied.Done e y past old new
 write_done old new y b o bytes is wrote e past m fit = subst (λ (x : Entry). DoneBy applied.Done e x past old new) (sym is)
-    ((matches_same (live past) (live (host e (entry.Write b o bytes) ∷ past)) new (live_same past e (entry.Write b o bytes) refl refl) (keeps_matches (live past) old new wrote.0 m), leaves, none_new old new wrote.0.buffers), λ b o n h. absurd cc)
+    ((matches_same (live past) (live (host e (entry.Write b o bytes) ∷ past)) new (live_same past e (entry.Write b o bytes) refl refl) (keeps_matches (live past) old new wrote.0 m), leaves, none_new old new wrote.0.resources wrote.0.shapes), λ b o n h. absurd cc)
   where
-    there : (p : Placed) × (placed old b ≡ Some p)
+    there : (p : Placed) × (flat old b ≡ Some p)
     there = let p = range_there past old m b o (length bytes) (subst (λ (x : Entry). FitsEntry past x) is fit) in (p.0, p.1)
 
     leaves : LeavesCells past (entry.Write b o bytes) old new
@@ -162,7 +166,7 @@ module _ (old new : Held) (b o : ℕ) (n : Length) (f : Cell → Cell) (changed 
   reached : (c : Byte) (cell : Cell) → IsThere old c → HasCell old c cell → HasCell new c (if is_cached past b && reaches b o n c then f cell else cell)
   reached c cell there has = subst (λ (y : Cell). HasCell new c y) (same c) (changed.1 c cell there has)
     where
-      at : (p : Placed) × (placed old b ≡ Some p)
+      at : (p : Placed) × (flat old b ≡ Some p)
       at = there_of past old m b n o fits
 
       by_buffer : (t u v : Bool) → (if u then (if t && v then f cell else cell) else cell) ≡ (if t && (u && v) then f cell else cell)
@@ -185,7 +189,7 @@ flush_done old new y b o n is changed e past m fit =
       (
         matches_same (live past) (live (host e (entry.Flush b o n) ∷ past)) new (live_same past e (entry.Flush b o n) refl refl) (keeps_matches (live past) old new changed.0 m),
         λ c cell there after has. reached old new b o n (written_back 0) changed past m fits c cell there has,
-        none_new old new changed.0.buffers,
+        none_new old new changed.0.resources changed.0.shapes,
       ),
       λ b o n h. absurd cc,
     )
@@ -197,7 +201,7 @@ invalidate_done old new y b o n is changed e past m fit =
       (
         matches_same (live past) (live (host e (entry.Invalidate b o n) ∷ past)) new (live_same past e (entry.Invalidate b o n) refl refl) (keeps_matches (live past) old new changed.0 m),
         λ c cell there after has. reached old new b o n (forgotten 0) changed past m fits c cell there has,
-        none_new old new changed.0.buffers,
+        none_new old new changed.0.resources changed.0.shapes,
       ),
       λ b o n h. absurd cc,
     )
@@ -207,20 +211,26 @@ invalidate_done old new y b o n is changed e past m fit =
 pub read_done : (s : Held) (y : Entry) (b o n : ℕ) (bytes : List ℕ) → y ≡ entry.Read b o n → bytes ≡ map (λ k. seen_at s (in_buffer b (o + k))) (below n) → (e : ℕ) (past : Past) → MatchesLive past s → FitsEntry past y → DoneBy (applied.Bytes bytes) e y past s s
 read_done s y b o n bytes is got e past m fit =
     subst (λ (x : Entry). DoneBy (applied.Bytes bytes) e x past s s) (sym is)
-    ((matches_same (live past) (live (host e (entry.Read b o n) ∷ past)) s (live_same past e (entry.Read b o n) refl refl) m, λ c cell there after has. has, none_new s s refl), got)
+    ((matches_same (live past) (live (host e (entry.Read b o n) ∷ past)) s (live_same past e (entry.Read b o n) refl refl) m, λ c cell there after has. has, none_new s s refl refl), got)
 
 -- the bytes that were copied are those that the host sees
-pub seen_bytes : (s : Held) (b o : ℕ) (p : Placed) (out : List ℕ) (n : ℕ) → placed s b ≡ Some p → o + n ≤ p.size → length out ≡ n
+pub seen_bytes : (s : Held) (b o : ℕ) (p : Placed) (out : List ℕ) (n : ℕ) → flat s b ≡ Some p → o + n ≤ p.size → length out ≡ n
     → ((k : ℕ) → k < n → slice_index out k ≡ value_through (held_at s.cache p.object (p.offset + o + k)) (slice_index (region_of s.memory p.object) (p.offset + o + k))) → out ≡ map (λ k. seen_at s (in_buffer b (o + k))) (below n)
-seen_bytes s b o p out n here fits long each =
+seen_bytes s b o p out n flat_here fits long each =
     let f : ℕ → ℕ = λ k. seen_at s (in_buffer b (o + k)) in
     let size : length (map f (range_with_len 0 n)) ≡ n = length-map-range_with_len f 0 n in
     ext_get_or 0 out (map f (range_with_len 0 n)) (long ∙ sym size)
     (λ i lt. let lt' : i < n = omega (arith, lt, long) in byte i lt' ∙ sym (get_or-map-range_with_len f 0 n i i 0 lt' (omega arith)))
   where
+    flat_is : shape_of s b ≡ None
+    flat_is = (flat_parts (shape_of s b) (placed s b) p flat_here).0
+
+    here : placed s b ≡ Some p
+    here = (flat_parts (shape_of s b) (placed s b) p flat_here).1
+
     byte : (i : ℕ) → i < n → slice_index out i ≡ seen_at s (in_buffer b (o + i))
     byte i lt =
         let within : o + i < p.size = omega (arith, fits, lt) in
         let place : p.offset + o + i ≡ p.offset + (o + i) = omega arith in
         each i lt ∙ ap (λ (k : ℕ). value_through (held_at s.cache p.object k) (slice_index (region_of s.memory p.object) k)) place
-        ∙ sym (ap (λ (v : ℕ). value_through (host_at s (in_buffer b (o + i))) v) (byte_of s b p here (o + i) within) ∙ ap (λ (h : Option caches.Held). value_through h (slice_index (region_of s.memory p.object) (p.offset + (o + i)))) (host_of s b p here (o + i) within))
+        ∙ sym (ap (λ (v : ℕ). value_through (host_at s (in_buffer b (o + i))) v) (byte_of s b p here flat_is (o + i) within) ∙ ap (λ (h : Option caches.Held). value_through h (slice_index (region_of s.memory p.object) (p.offset + (o + i)))) (host_of s b p here (o + i) within))

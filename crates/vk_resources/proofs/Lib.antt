@@ -1,4 +1,5 @@
 mod Placing
+pub mod Lying
 pub mod CachedBytes
 mod Splicing
 mod CachedSteps
@@ -11,3 +12,4 @@ mod Applying
 pub mod HostAccesses
 mod Ending
 mod Allotting
+mod Making

@@ -4,20 +4,19 @@ use Rattle.std.specs.Prelude.{is_some, option_map, option_and_then, if◌then◌
 use Rattle.std.proofs.lemmas.Bool.{eqb-true, eqb-false}
 use Rattle.vk_memory.specs.MemoryState.{MemoryState, region_of, bytes_of, type_of, type_in}
 use Rattle.vk_model.specs.declared.entry.Entry.{Entry}
-use Rattle.vk_model.specs.declared.resource.BufferInfo.{BufferInfo}
 use Rattle.vk_model.specs.declared.resource.MemoryInfo.{MemoryInfo}
 use Rattle.vk_model.specs.declared.resource.Place.{Place}
 use Rattle.vk_model.specs.Basics.{holds}
 use Rattle.vk_model.specs.Trace.Point.{Past}
 use Rattle.vk_model.specs.Trace.Order.{host}
-use Rattle.vk_model.specs.Trace.Objects.{made, made_by, ended, ended_by, live, buffer_in, memory_in}
+use Rattle.vk_model.specs.Trace.Objects.{Resource, made, made_by, ended, ended_by, live, image_in, resource_in, memory_in}
 use Rattle.vk_resources.specs.declared.resources.Placed.{Placed}
-use Rattle.vk_resources.specs.Held.{Held, IsApart, placed, object_of}
-use Rattle.vk_resources.specs.Matches.{Matches, LiesAt, has_memory, type_made}
+use Rattle.vk_resources.specs.Held.{Held, IsApart, placed, shape_of, object_of}
+use Rattle.vk_resources.specs.Matches.{Matches, LiesAt, size_made, has_memory, type_made}
 use Rattle.vk_resources.specs.Fits.{IsUnused}
 use Rattle.vk_resources.specs.Inner.Steps.{IsEmpty, Ends, freed}
 use Rattle.vk_resources.proofs.Placing.{kept_apart}
-use Rattle.vk_resources.proofs.Matching.{home, lies_on, lies_in, live_of_placed, unowned}
+use Rattle.vk_resources.proofs.Matching.{home, lies_on, lies_in, live_of_placed, resource_of_placed, unowned}
 
 -- ---- the live object of each id
 
@@ -51,11 +50,13 @@ module _ (alive alive' : ℕ → Option Entry) (old new : Held) (id : ℕ) (x : 
   pub record Grows : Type 0 where
     pub now : (j : ℕ) → alive' j ≡ cond (j == id) (Some x) (alive j)
     pub fresh : alive id ≡ None
-    pub size : option_map (λ p. p.size) (placed new id) ≡ option_map (λ i. i.size) (buffer_in x)
+    pub size : option_map (λ p. p.size) (placed new id) ≡ size_made x
+    pub shaped : shape_of new id ≡ image_in x
     pub places : (b : ℕ) → (b ≡ id → ⊥) → placed new b ≡ placed old b
+    pub shapes : (b : ℕ) → (b ≡ id → ⊥) → shape_of new b ≡ shape_of old b
     pub object : is_some (object_of new id) ≡ has_memory x
     pub objects : (i : ℕ) → (i ≡ id → ⊥) → object_of new i ≡ object_of old i
-    pub lies : (p : Placed) (i : BufferInfo) → placed new id ≡ Some p → buffer_in x ≡ Some i → LiesAt alive' new id i.place p
+    pub lies : (p : Placed) (r : Resource) → placed new id ≡ Some p → resource_in x ≡ Some r → LiesAt alive' new id r.place p
     pub bytes : (number : ℕ) (y : MemoryInfo) → memory_in x ≡ Some y → object_of new id ≡ Some number → length (region_of new.memory number) ≡ y.size
     pub regions : (j number : ℕ) → object_of old j ≡ Some number → region_of new.memory number ≡ region_of old.memory number
     pub type_now : (number t : ℕ) → type_made x ≡ Some t → object_of new id ≡ Some number → type_of new.memory number ≡ t
@@ -71,7 +72,7 @@ module _ (alive alive' : ℕ → Option Entry) (old new : Held) (id : ℕ) (x : 
     had_none : object_of old id ≡ None
     had_none = unowned alive old id m (ap (λ (o : Option Entry). holds o has_memory) g.fresh)
 
-    -- where a buffer lies is no new object
+    -- where a resource lies is no new object
     home_old : (b : ℕ) (q : Place) (p : Placed) → LiesAt alive old b q p → home b q ≡ id → ⊥
     home_old b q p lies same = let both : ◌≡◌ {A = Option ℕ} (Some p.object) None = sym (lies_in alive old b q p lies) ∙ ap (λ (i : ℕ). object_of old i) same ∙ had_none in cc
 
@@ -85,23 +86,28 @@ module _ (alive alive' : ℕ → Option Entry) (old new : Held) (id : ℕ) (x : 
     pub grown : Matches alive' new
     grown = record {
       sizes = λ b. sizes b (eqb b id) refl;
-      places = λ b p i at is. lies b p i at is (eqb b id) refl;
+      shapes = λ b. shapes b (eqb b id) refl;
+      places = λ b p r at is. lies b p r at is (eqb b id) refl;
       owned = λ i. owned i (eqb i id) refl;
       memories = λ k number y is has. memories k number y is has (eqb k id) refl;
       types = λ k number t is has. types k number t is has (eqb k id) refl;
     }
       where
-        sizes : (b : ℕ) (t : Bool) → eqb b id ≡ t → option_map (λ (p : Placed). p.size) (placed new b) ≡ option_map (λ (i : BufferInfo). i.size) (option_and_then buffer_in (alive' b))
+        shapes : (b : ℕ) (t : Bool) → eqb b id ≡ t → shape_of new b ≡ option_and_then image_in (alive' b)
+        shapes b true e = rw (here b e) (ap (λ (j : ℕ). shape_of new j) (eqb-true b id e) ∙ g.shaped)
+        shapes b false e = rw (there b e) (g.shapes b (eqb-false b id e) ∙ m.shapes b)
+
+        sizes : (b : ℕ) (t : Bool) → eqb b id ≡ t → option_map (λ (p : Placed). p.size) (placed new b) ≡ option_and_then size_made (alive' b)
         sizes b true e = rw (here b e) (ap (λ (j : ℕ). option_map (λ (p : Placed). p.size) (placed new j)) (eqb-true b id e) ∙ g.size)
         sizes b false e = rw (there b e) (ap (λ (o : Option Placed). option_map (λ (p : Placed). p.size) o) (g.places b (eqb-false b id e)) ∙ m.sizes b)
 
-        lies : (b : ℕ) (p : Placed) (i : BufferInfo) → placed new b ≡ Some p → option_and_then buffer_in (alive' b) ≡ Some i → (t : Bool) → eqb b id ≡ t → LiesAt alive' new b i.place p
-        lies b p i at is true e =
+        lies : (b : ℕ) (p : Placed) (r : Resource) → placed new b ≡ Some p → option_and_then resource_in (alive' b) ≡ Some r → (t : Bool) → eqb b id ≡ t → LiesAt alive' new b r.place p
+        lies b p r at is true e =
             let same = eqb-true b id e in
-            subst (λ (j : ℕ). LiesAt alive' new j i.place p) (sym same) (g.lies p i (ap (λ (j : ℕ). placed new j) (sym same) ∙ at) (ap (option_and_then buffer_in) (sym (here b e)) ∙ is))
-        lies b p i at is false e =
-            let was = m.places b p i (sym (g.places b (eqb-false b id e)) ∙ at) (ap (option_and_then buffer_in) (sym (there b e)) ∙ is) in
-            lies_on alive alive' old new b i.place p was (g.objects (home b i.place) (home_old b i.place p was)) (home_there b i.place p was)
+            subst (λ (j : ℕ). LiesAt alive' new j r.place p) (sym same) (g.lies p r (ap (λ (j : ℕ). placed new j) (sym same) ∙ at) (ap (option_and_then resource_in) (sym (here b e)) ∙ is))
+        lies b p r at is false e =
+            let was = m.places b p r (sym (g.places b (eqb-false b id e)) ∙ at) (ap (option_and_then resource_in) (sym (there b e)) ∙ is) in
+            lies_on alive alive' old new b r.place p was (g.objects (home b r.place) (home_old b r.place p was)) (home_there b r.place p was)
 
         owned : (i : ℕ) (t : Bool) → eqb i id ≡ t → is_some (object_of new i) ≡ holds (alive' i) has_memory
         owned i true e = rw (here i e) (ap (λ (j : ℕ). is_some (object_of new j)) (eqb-true i id e) ∙ g.object)
@@ -121,14 +127,15 @@ module _ (alive alive' : ℕ → Option Entry) (old new : Held) (id : ℕ) (x : 
 
 -- ---- an object has ended
 
-module _ (alive alive' : ℕ → Option Entry) (old new : Held) (r : ℕ) (now : (j : ℕ) → alive' j ≡ cond (j == r) None (alive j)) (m : Matches alive old) (apart : IsApart old.memory old.owned old.buffers)
-    (clear : (b : ℕ) (p : Placed) (i : BufferInfo) → (b ≡ r → ⊥) → placed old b ≡ Some p → option_and_then buffer_in (alive b) ≡ Some i → LiesAt alive old b i.place p → home b i.place ≡ r → ⊥) where
-  -- no buffer lies in its memory object
+module _ (alive alive' : ℕ → Option Entry) (old new : Held) (r : ℕ) (now : (j : ℕ) → alive' j ≡ cond (j == r) None (alive j)) (m : Matches alive old) (apart : IsApart old.memory old.owned old.resources)
+    (clear : (b : ℕ) (p : Placed) (q : Resource) → (b ≡ r → ⊥) → placed old b ≡ Some p → option_and_then resource_in (alive b) ≡ Some q → LiesAt alive old b q.place p → home b q.place ≡ r → ⊥) where
+  -- no resource lies in its memory object
   pub empty : IsEmpty old r
   empty number b p has other at object =
       let l = live_of_placed alive old b p m at in
-      let lies = m.places b p l.info at l.is in
-      clear b p l.info other at l.is lies (apart.own (home b l.info.place) r number (lies_in alive old b l.info.place p lies ∙ ap (λ (k : ℕ). Some k) object) has)
+      let is = resource_of_placed alive b p l in
+      let lies = m.places b p l.resource at is in
+      clear b p l.resource other at is lies (apart.own (home b l.resource.place) r number (lies_in alive old b l.resource.place p lies ∙ ap (λ (k : ℕ). Some k) object) has)
 
   module _ (ends : Ends old new r) where
     gone : (j : ℕ) → eqb j r ≡ true → alive' j ≡ None
@@ -158,28 +165,33 @@ module _ (alive alive' : ℕ → Option Entry) (old new : Held) (r : ℕ) (now :
     pub ended_matches : Matches alive' new
     ended_matches = record {
       sizes = λ b. sizes b (eqb b r) refl;
-      places = λ b p i at is. lies b p i at is (eqb b r) refl;
+      shapes = λ b. shapes b (eqb b r) refl;
+      places = λ b p q at is. lies b p q at is (eqb b r) refl;
       owned = λ i. owned i (eqb i r) refl;
       memories = λ k number y is has. memories k number y is has (eqb k r) refl;
       types = λ k number t is has. types k number t is has (eqb k r) refl;
     }
       where
-        sizes : (b : ℕ) (t : Bool) → eqb b r ≡ t → option_map (λ (p : Placed). p.size) (placed new b) ≡ option_map (λ (i : BufferInfo). i.size) (option_and_then buffer_in (alive' b))
-        sizes b true e = rw (gone b e) (ap (λ (j : ℕ). option_map (λ (p : Placed). p.size) (placed new j)) (eqb-true b r e) ∙ ap (λ (o : Option Placed). option_map (λ (p : Placed). p.size) o) ends.no_buffer)
-        sizes b false e = rw (kept b e) (ap (λ (o : Option Placed). option_map (λ (p : Placed). p.size) o) (ends.buffers b (eqb-false b r e)) ∙ m.sizes b)
+        shapes : (b : ℕ) (t : Bool) → eqb b r ≡ t → shape_of new b ≡ option_and_then image_in (alive' b)
+        shapes b true e = rw (gone b e) (ap (λ (j : ℕ). shape_of new j) (eqb-true b r e) ∙ ends.no_shape)
+        shapes b false e = rw (kept b e) (ends.shapes b (eqb-false b r e) ∙ m.shapes b)
 
-        lies : (b : ℕ) (p : Placed) (i : BufferInfo) → placed new b ≡ Some p → option_and_then buffer_in (alive' b) ≡ Some i → (t : Bool) → eqb b r ≡ t → LiesAt alive' new b i.place p
-        lies b p i at is true e = let both : None ≡ Some i = ap (option_and_then buffer_in) (sym (gone b e)) ∙ is in absurd cc
-        lies b p i at is false e =
+        sizes : (b : ℕ) (t : Bool) → eqb b r ≡ t → option_map (λ (p : Placed). p.size) (placed new b) ≡ option_and_then size_made (alive' b)
+        sizes b true e = rw (gone b e) (ap (λ (j : ℕ). option_map (λ (p : Placed). p.size) (placed new j)) (eqb-true b r e) ∙ ap (λ (o : Option Placed). option_map (λ (p : Placed). p.size) o) ends.no_resource)
+        sizes b false e = rw (kept b e) (ap (λ (o : Option Placed). option_map (λ (p : Placed). p.size) o) (ends.resources b (eqb-false b r e)) ∙ m.sizes b)
+
+        lies : (b : ℕ) (p : Placed) (q : Resource) → placed new b ≡ Some p → option_and_then resource_in (alive' b) ≡ Some q → (t : Bool) → eqb b r ≡ t → LiesAt alive' new b q.place p
+        lies b p q at is true e = let both : None ≡ Some q = ap (option_and_then resource_in) (sym (gone b e)) ∙ is in absurd cc
+        lies b p q at is false e =
             let other = eqb-false b r e in
-            let at_old : placed old b ≡ Some p = sym (ends.buffers b other) ∙ at in
-            let is_old : option_and_then buffer_in (alive b) ≡ Some i = ap (option_and_then buffer_in) (sym (kept b e)) ∙ is in
-            let was = m.places b p i at_old is_old in
-            lies_on alive alive' old new b i.place p was (ends.objects (home b i.place) (clear b p i other at_old is_old was)) (home_kept (eqb (home b i.place) r) refl (clear b p i other at_old is_old was))
+            let at_old : placed old b ≡ Some p = sym (ends.resources b other) ∙ at in
+            let is_old : option_and_then resource_in (alive b) ≡ Some q = ap (option_and_then resource_in) (sym (kept b e)) ∙ is in
+            let was = m.places b p q at_old is_old in
+            lies_on alive alive' old new b q.place p was (ends.objects (home b q.place) (clear b p q other at_old is_old was)) (home_kept (eqb (home b q.place) r) refl (clear b p q other at_old is_old was))
           where
-            home_kept : (t : Bool) → eqb (home b i.place) r ≡ t → (home b i.place ≡ r → ⊥) → alive' (home b i.place) ≡ alive (home b i.place)
-            home_kept true e elsewhere = absurd (elsewhere (eqb-true (home b i.place) r e))
-            home_kept false e elsewhere = kept (home b i.place) e
+            home_kept : (t : Bool) → eqb (home b q.place) r ≡ t → (home b q.place ≡ r → ⊥) → alive' (home b q.place) ≡ alive (home b q.place)
+            home_kept true e elsewhere = absurd (elsewhere (eqb-true (home b q.place) r e))
+            home_kept false e elsewhere = kept (home b q.place) e
 
         owned : (i : ℕ) (t : Bool) → eqb i r ≡ t → is_some (object_of new i) ≡ holds (alive' i) has_memory
         owned i true e = rw (gone i e) (ap (λ (j : ℕ). is_some (object_of new j)) (eqb-true i r e) ∙ ap is_some ends.no_object)

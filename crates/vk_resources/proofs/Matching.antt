@@ -1,22 +1,25 @@
 -- What is held is what is live, as long as only bytes change.
-use Rattle.std.proofs.Common.{◌≡◌, ◌∙◌, ℕ, List, false, refl, ap, sym, subst, Option, Some, None}
+use Rattle.std.proofs.Common.{◌≡◌, ◌∙◌, ℕ, ◌≤◌, List, true, false, refl, arith, ap, sym, subst, Option, Some, None}
 use Rattle.std.specs.Prelude.{IsTrue, is_some, option_map, option_and_then}
 use Rattle.vk_model.specs.declared.entry.Entry.{Entry}
+use Rattle.vk_model.specs.declared.entry.Entry.TheVariants as entry
 use Rattle.vk_model.specs.declared.resource.BufferInfo.{BufferInfo}
 use Rattle.vk_model.specs.declared.resource.Place.{Place}
 use Rattle.vk_model.specs.declared.resource.Place.TheVariants as place
 use Rattle.vk_resources.specs.declared.resources.Placed.{Placed}
-use Rattle.vk_resources.specs.Held.{Held, placed, placed_in, object_in, object_of}
+use Rattle.vk_model.specs.declared.resource.ImageInfo.{ImageInfo}
+use Rattle.vk_resources.specs.Held.{Held, placed, placed_in, shape_in, shape_of, flat, flat_in, object_in, object_of}
 use Rattle.vk_model.specs.Basics.{holds}
-use Rattle.vk_model.specs.Trace.Objects.{buffer_in, memory_in}
+use Rattle.vk_model.specs.Trace.Objects.{Resource, of_buffer, of_image, buffer_in, image_in, resource_in, memory_in}
 use Rattle.vk_model.specs.Rules.Ids.{is_memory}
-use Rattle.vk_resources.specs.Matches.{Matches, LiesAt, has_memory, type_made}
+use Rattle.vk_model.specs.Trace.Image.{image_size}
+use Rattle.vk_resources.specs.Matches.{Matches, LiesAt, size_made, has_memory, type_made}
 use Rattle.vk_resources.specs.Allocating.{Allotted}
 use Rattle.vk_resources.specs.Inner.Steps.{KeepsPlaces}
 
--- ---- where a buffer lies
+-- ---- where a resource lies
 
--- the id whose memory object a buffer lies in
+-- the id whose memory object a resource lies in
 abbrev pub home : ℕ → Place → ℕ
 home b (place.Memory m o) = m
 home b _ = b
@@ -38,8 +41,9 @@ lies_in alive s b (place.PoolUpper q) p lies = absurd lies
 
 pub keeps_matches : (alive : ℕ → Option Entry) (old new : Held) → KeepsPlaces old new → Matches alive old → Matches alive new
 keeps_matches alive old new keeps m = record {
-  sizes = λ b. ap (λ (bs : List (ℕ × Placed)). option_map (λ (p : Placed). p.size) (placed_in bs b)) keeps.buffers ∙ m.sizes b;
-  places = λ b p i here is. lies_on alive alive old new b i.place p (m.places b p i (sym (ap (λ (bs : List (ℕ × Placed)). placed_in bs b) keeps.buffers) ∙ here) is) (objects (home b i.place)) refl;
+  sizes = λ b. ap (λ (bs : List (ℕ × Placed)). option_map (λ (p : Placed). p.size) (placed_in bs b)) keeps.resources ∙ m.sizes b;
+  shapes = λ i. ap (λ (l : List (ℕ × ImageInfo)). shape_in l i) keeps.shapes ∙ m.shapes i;
+  places = λ b p r here is. lies_on alive alive old new b r.place p (m.places b p r (sym (ap (λ (bs : List (ℕ × Placed)). placed_in bs b) keeps.resources) ∙ here) is) (objects (home b r.place)) refl;
   owned = λ i. ap is_some (objects i) ∙ m.owned i;
   memories = λ k number x is has. keeps.lengths number ∙ m.memories k number x is (sym (objects k) ∙ has);
   types = λ i number t is has. keeps.types number ∙ m.types i number t is (sym (objects i) ∙ has);
@@ -52,37 +56,105 @@ keeps_matches alive old new keeps m = record {
 
 pub matches_same : (alive alive' : ℕ → Option Entry) (s : Held) → ((i : ℕ) → alive' i ≡ alive i) → Matches alive s → Matches alive' s
 matches_same alive alive' s same m = record {
-  sizes = λ b. m.sizes b ∙ ap (λ (x : Option Entry). option_map (λ (i : BufferInfo). i.size) (option_and_then buffer_in x)) (sym (same b));
-  places = λ b p i here is. lies_on alive alive' s s b i.place p (m.places b p i here (ap (option_and_then buffer_in) (sym (same b)) ∙ is)) refl (same (home b i.place));
+  sizes = λ b. m.sizes b ∙ ap (option_and_then size_made) (sym (same b));
+  shapes = λ b. m.shapes b ∙ ap (option_and_then image_in) (sym (same b));
+  places = λ b p r here is. lies_on alive alive' s s b r.place p (m.places b p r here (ap (option_and_then resource_in) (sym (same b)) ∙ is)) refl (same (home b r.place));
   owned = λ i. m.owned i ∙ ap (λ (x : Option Entry). holds x has_memory) (sym (same i));
   memories = λ k number x is has. m.memories k number x (ap (option_and_then memory_in) (sym (same k)) ∙ is) has;
   types = λ i number t is has. m.types i number t (ap (option_and_then type_made) (sym (same i)) ∙ is) has;
 }
 
--- ---- a buffer that is held is live
+-- ---- what is held is live
+
+-- the resource that an entry makes has at least the bytes that it is given
+pub sized_resource : (y : Entry) (n : ℕ) → size_made y ≡ Some n → (r : Resource) × (resource_in y ≡ Some r) × (n ≤ r.size)
+sized_resource (entry.Buffer i b) n is = let same : b.size ≡ n = cc in (of_buffer b, refl, omega (arith, same))
+sized_resource (entry.Image i m) n is = let same : image_size m m.tiling ≡ n = cc in (of_image m, refl, omega (arith, same))
+sized_resource _ n is = absurd cc
 
 pub record LivePlaced (alive : ℕ → Option Entry) (b : ℕ) (p : Placed) : Type 0 where
-  pub info : BufferInfo
-  pub is : option_and_then buffer_in (alive b) ≡ Some info
-  pub size : p.size ≡ info.size
+  pub made : Entry
+  pub alive_is : alive b ≡ Some made
+  pub size : size_made made ≡ Some p.size
+  pub resource : Resource
+  pub resource_is : resource_in made ≡ Some resource
+  pub within : p.size ≤ resource.size
+
+-- the entry that made a live object
+pub is_live : {A : Type 0} (kind : Entry → Option A) (o : Option Entry) (x : A) → option_and_then kind o ≡ Some x → (y : Entry) × (o ≡ Some y) × (kind y ≡ Some x)
+is_live {A} kind None x h = absurd cc
+is_live {A} kind (Some y) x h = (y, refl, h)
 
 pub live_of_placed : (alive : ℕ → Option Entry) (s : Held) (b : ℕ) (p : Placed) → Matches alive s → placed s b ≡ Some p → LivePlaced alive b p
-live_of_placed alive s b p m here = go (option_and_then buffer_in (alive b)) refl (sym (ap (λ (x : Option Placed). option_map (λ (p : Placed). p.size) x) here) ∙ m.sizes b)
-  where
-    go : (x : Option BufferInfo) → option_and_then buffer_in (alive b) ≡ x → Some p.size ≡ option_map (λ (i : BufferInfo). i.size) x → LivePlaced alive b p
-    go None is same = absurd cc
-    go (Some info) is same = record { info = info; is = is; size = cc }
+live_of_placed alive s b p m here =
+    let l = is_live size_made (alive b) p.size (sym (m.sizes b) ∙ ap (λ (x : Option Placed). option_map (λ (p : Placed). p.size) x) here) in
+    let r = sized_resource l.0 p.size l.2 in
+    record { made = l.0; alive_is = l.1; size = l.2; resource = r.0; resource_is = r.1; within = r.2 }
 
-pub placed_of_live : (alive : ℕ → Option Entry) (s : Held) (b : ℕ) (info : BufferInfo) → Matches alive s → option_and_then buffer_in (alive b) ≡ Some info → (p : Placed) × (placed s b ≡ Some p) × (p.size ≡ info.size)
-placed_of_live alive s b info m is = go (placed s b) refl (m.sizes b ∙ ap (λ (x : Option BufferInfo). option_map (λ (i : BufferInfo). i.size) x) is)
-  where
-    go : (x : Option Placed) → placed s b ≡ x → option_map (λ (p : Placed). p.size) x ≡ Some info.size → (p : Placed) × (placed s b ≡ Some p) × (p.size ≡ info.size)
-    go None here same = absurd cc
-    go (Some p) here same = (p, here, cc)
+-- its resource, among what is live
+pub resource_of_placed : (alive : ℕ → Option Entry) (b : ℕ) (p : Placed) (l : LivePlaced alive b p) → option_and_then resource_in (alive b) ≡ Some l.resource
+resource_of_placed alive b p l = rw l.alive_is l.resource_is
 
--- what isn't a live buffer isn't held
-pub unplaced : (alive : ℕ → Option Entry) (s : Held) (b : ℕ) → Matches alive s → option_and_then buffer_in (alive b) ≡ None → placed s b ≡ None
-unplaced alive s b m none = go (placed s b) (m.sizes b ∙ ap (λ (x : Option BufferInfo). option_map (λ (i : BufferInfo). i.size) x) none)
+-- ---- of buffers
+
+-- a buffer that lies somewhere
+pub flat_parts : (shape : Option ImageInfo) (o : Option Placed) (p : Placed) → flat_in shape o ≡ Some p → (shape ≡ None) × (o ≡ Some p)
+flat_parts None o p is = (refl, is)
+flat_parts (Some m) o p is = absurd cc
+
+pub flat_from : (shape : Option ImageInfo) (o : Option Placed) (p : Placed) → shape ≡ None → o ≡ Some p → flat_in shape o ≡ Some p
+flat_from shape o p none is = rw none is
+
+-- what no image is and has a size is a buffer
+sized_buffer : (y : Entry) (n : ℕ) → size_made y ≡ Some n → image_in y ≡ None → (info : BufferInfo) × (buffer_in y ≡ Some info) × (n ≡ info.size)
+sized_buffer (entry.Buffer i b) n is none = (b, refl, let same : b.size ≡ n = cc in sym same)
+sized_buffer (entry.Image i m) n is none = absurd cc
+sized_buffer _ n is none = absurd cc
+
+pub live_of_flat : (alive : ℕ → Option Entry) (s : Held) (b : ℕ) (p : Placed) → Matches alive s → flat s b ≡ Some p → (info : BufferInfo) × (option_and_then buffer_in (alive b) ≡ Some info) × (p.size ≡ info.size)
+live_of_flat alive s b p m at =
+    let parts = flat_parts (shape_of s b) (placed s b) p at in
+    let l = live_of_placed alive s b p m parts.1 in
+    let none : image_in l.made ≡ None = ap (option_and_then image_in) (sym l.alive_is) ∙ sym (m.shapes b) ∙ parts.0 in
+    let info = sized_buffer l.made p.size l.size none in
+    (info.0, ap (option_and_then buffer_in) l.alive_is ∙ info.1, info.2)
+
+-- what an entry that makes a buffer makes
+pub buffer_made : (y : Entry) (info : BufferInfo) → buffer_in y ≡ Some info → (size_made y ≡ Some info.size) × (image_in y ≡ None) × (resource_in y ≡ Some (of_buffer info))
+buffer_made (entry.Buffer i b) info is = let same : b ≡ info = cc in (ap (λ (z : BufferInfo). Some z.size) same, refl, ap (λ (z : BufferInfo). Some (of_buffer z)) same)
+buffer_made _ info is = absurd cc
+
+pub some_sized : (x : Option Placed) (n : ℕ) → option_map (λ (p : Placed). p.size) x ≡ Some n → (p : Placed) × (x ≡ Some p) × (p.size ≡ n)
+some_sized None n is = absurd cc
+some_sized (Some p) n is = (p, refl, cc)
+
+pub placed_of_live : (alive : ℕ → Option Entry) (s : Held) (b : ℕ) (info : BufferInfo) → Matches alive s → option_and_then buffer_in (alive b) ≡ Some info → (p : Placed) × (flat s b ≡ Some p) × (p.size ≡ info.size)
+placed_of_live alive s b info m is =
+    let l = is_live buffer_in (alive b) info is in
+    let made = buffer_made l.0 info l.2 in
+    let none : shape_of s b ≡ None = m.shapes b ∙ ap (option_and_then image_in) l.1 ∙ made.1 in
+    let p = some_sized (placed s b) info.size (m.sizes b ∙ ap (option_and_then size_made) l.1 ∙ made.0) in
+    (p.0, flat_from (shape_of s b) (placed s b) p.0 none p.1, p.2)
+
+-- ---- of images
+
+-- what an entry that makes an image makes
+pub image_made : (y : Entry) (info : ImageInfo) → image_in y ≡ Some info → (size_made y ≡ Some (image_size info info.tiling)) × (resource_in y ≡ Some (of_image info))
+image_made (entry.Image i m) info is = let same : m ≡ info = cc in (ap (λ (z : ImageInfo). Some (image_size z z.tiling)) same, ap (λ (z : ImageInfo). Some (of_image z)) same)
+image_made _ info is = absurd cc
+
+pub image_of_live : (alive : ℕ → Option Entry) (s : Held) (i : ℕ) (info : ImageInfo) → Matches alive s → option_and_then image_in (alive i) ≡ Some info → (p : Placed) × (placed s i ≡ Some p) × (shape_of s i ≡ Some info) × (p.size ≡ image_size info info.tiling)
+image_of_live alive s i info m is =
+    let l = is_live image_in (alive i) info is in
+    let made = image_made l.0 info l.2 in
+    let p = some_sized (placed s i) (image_size info info.tiling) (m.sizes i ∙ ap (option_and_then size_made) l.1 ∙ made.0) in
+    (p.0, p.1, m.shapes i ∙ is, p.2)
+
+-- ---- what isn't live isn't held
+
+-- what is no live resource isn't held
+pub unplaced : (alive : ℕ → Option Entry) (s : Held) (b : ℕ) → Matches alive s → option_and_then size_made (alive b) ≡ None → placed s b ≡ None
+unplaced alive s b m none = go (placed s b) (m.sizes b ∙ none)
   where
     go : (x : Option Placed) → option_map (λ (p : Placed). p.size) x ≡ None → x ≡ None
     go None same = refl

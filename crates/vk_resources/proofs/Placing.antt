@@ -13,15 +13,15 @@ use Rattle.vk_memory.proofs.LiveObjects.{live_below, region_of-same, region_of-o
 use Rattle.vk_transfer.specs.Ran.{AreApart}
 use Rattle.vk_resources.specs.declared.resources.Placed.{Placed}
 use Rattle.vk_resources.specs.Held.{Held, IsApart, IsInside, placed_in, object_in, object_of}
-use Rattle.vk_resources.specs.Inner.Steps.{freed, BindReady}
+use Rattle.vk_resources.specs.Inner.Steps.{freed}
 
 -- what holds of a buffer before holds of it afterwards
 some_more : (x : Option Placed) (P Q : Placed → Type 0) → ((b : Placed) → x ≡ Some b → P b → Q b) → IfSome x P → IfSome x Q
 some_more None P Q more h = h
 some_more (Some b) P Q more h = more b refl h
 
-pub inside_of : (m : MemoryState) (owned : List (ℕ × ℕ)) (buffers : List (ℕ × Placed)) → IsApart m owned buffers → (b : ℕ) (p : Placed) → placed_in buffers b ≡ Some p → IsInside m p
-inside_of m owned buffers apart b p here = subst (λ (x : Option Placed). IfSome x (IsInside m)) here (apart.inside b)
+pub inside_of : (m : MemoryState) (owned : List (ℕ × ℕ)) (resources : List (ℕ × Placed)) → IsApart m owned resources → (b : ℕ) (p : Placed) → placed_in resources b ≡ Some p → IsInside m p
+inside_of m owned resources apart b p here = subst (λ (x : Option Placed). IfSome x (IsInside m)) here (apart.inside b)
 
 one_place : (x : Option Placed) (p q : Placed) → x ≡ Some p → x ≡ Some q → p ≡ q
 one_place x p q a b = let both : Some p ≡ Some q = sym a ∙ b in cc
@@ -64,9 +64,9 @@ module _ (m : MemoryState) (o : ℕ) (bytes : List ℕ) (live : IsLive m o) (lon
           (ap (λ (l : List ℕ). length l) (region_of-same m o bytes live) ∙ long)
       go false e = ap (λ (l : List ℕ). length l) (region_of-other m o q bytes (eqb-false q o e))
 
-  pub apart_rewritten : (owned : List (ℕ × ℕ)) (buffers : List (ℕ × Placed)) → IsApart m owned buffers → IsApart (with_region m o bytes) owned buffers
-  apart_rewritten owned buffers apart = record {
-    inside = λ id. some_more (placed_in buffers id) (IsInside m) (IsInside (with_region m o bytes)) (λ b here h. record {
+  pub apart_rewritten : (owned : List (ℕ × ℕ)) (resources : List (ℕ × Placed)) → IsApart m owned resources → IsApart (with_region m o bytes) owned resources
+  apart_rewritten owned resources apart = record {
+    inside = λ id. some_more (placed_in resources id) (IsInside m) (IsInside (with_region m o bytes)) (λ b here h. record {
       live = still_live b.object h.live;
       some = h.some;
       room = subst (λ (n : ℕ). b.offset + b.size ≤ n) (sym (still_long b.object)) h.room;
@@ -101,19 +101,19 @@ module _ (m : MemoryState) (o : Object) where
     room = subst (λ (x : Option Object). b.offset + b.size ≤ length (bytes_of x)) (sym (kept_object b.object h.live)) h.room;
   }
 
-  pub apart_more : (owned : List (ℕ × ℕ)) (buffers : List (ℕ × Placed)) → IsApart m owned buffers → IsApart more owned buffers
-  apart_more owned buffers apart = record {
-    inside = λ q. some_more (placed_in buffers q) (IsInside m) (IsInside more) (λ b here h. inside_more b h) (apart.inside q);
+  pub apart_more : (owned : List (ℕ × ℕ)) (resources : List (ℕ × Placed)) → IsApart m owned resources → IsApart more owned resources
+  apart_more owned resources apart = record {
+    inside = λ q. some_more (placed_in resources q) (IsInside m) (IsInside more) (λ b here h. inside_more b h) (apart.inside q);
     apart = apart.apart;
     live = λ id number has. live_more number (apart.live id number has);
     own = apart.own;
   }
 
   -- it is that of an id
-  pub apart_owned : (old new : List (ℕ × ℕ)) (buffers : List (ℕ × Placed)) (id : ℕ) → object_in new id ≡ Some (length m.objects) → ((q : ℕ) → (q ≡ id → ⊥) → object_in new q ≡ object_in old q)
-      → IsApart m old buffers → IsApart more new buffers
-  apart_owned old new buffers id here others apart = record {
-    inside = (apart_more old buffers apart).inside;
+  pub apart_owned : (old new : List (ℕ × ℕ)) (resources : List (ℕ × Placed)) (id : ℕ) → object_in new id ≡ Some (length m.objects) → ((q : ℕ) → (q ≡ id → ⊥) → object_in new q ≡ object_in old q)
+      → IsApart m old resources → IsApart more new resources
+  apart_owned old new resources id here others apart = record {
+    inside = (apart_more old resources apart).inside;
     apart = apart.apart;
     live = λ q number has. lives q number has (eqb q id) refl;
     own = λ i j number has_i has_j. owns i j number has_i has_j (eqb i id) (eqb j id) refl refl;
@@ -188,17 +188,17 @@ module _ (m : MemoryState) (number : ℕ) where
   live_less : (q : ℕ) → (q ≡ number → ⊥) → IsLive m q → IsLive less q
   live_less q ne h = subst (λ (x : Option Object). IsSome x) (sym (kept_apart q ne)) h
 
-module _ (m : MemoryState) (owned owned' : List (ℕ × ℕ)) (buffers buffers' : List (ℕ × Placed)) (id : ℕ)
+module _ (m : MemoryState) (owned owned' : List (ℕ × ℕ)) (resources resources' : List (ℕ × Placed)) (id : ℕ)
     (no_object : object_in owned' id ≡ None) (objects : (i : ℕ) → (i ≡ id → ⊥) → object_in owned' i ≡ object_in owned i)
-    (no_buffer : placed_in buffers' id ≡ None) (places : (b : ℕ) → (b ≡ id → ⊥) → placed_in buffers' b ≡ placed_in buffers b)
-    (empty : (number b : ℕ) (p : Placed) → object_in owned id ≡ Some number → (b ≡ id → ⊥) → placed_in buffers b ≡ Some p → p.object ≡ number → ⊥) (apart : IsApart m owned buffers) where
-  other : (b : ℕ) (p : Placed) → placed_in buffers' b ≡ Some p → b ≡ id → ⊥
-  other b p at same = let both : Some p ≡ None = sym at ∙ ap (λ (k : ℕ). placed_in buffers' k) same ∙ no_buffer in cc
+    (no_buffer : placed_in resources' id ≡ None) (places : (b : ℕ) → (b ≡ id → ⊥) → placed_in resources' b ≡ placed_in resources b)
+    (empty : (number b : ℕ) (p : Placed) → object_in owned id ≡ Some number → (b ≡ id → ⊥) → placed_in resources b ≡ Some p → p.object ≡ number → ⊥) (apart : IsApart m owned resources) where
+  other : (b : ℕ) (p : Placed) → placed_in resources' b ≡ Some p → b ≡ id → ⊥
+  other b p at same = let both : Some p ≡ None = sym at ∙ ap (λ (k : ℕ). placed_in resources' k) same ∙ no_buffer in cc
 
   other_object : (i number : ℕ) → object_in owned' i ≡ Some number → i ≡ id → ⊥
   other_object i number has same = let both : ◌≡◌ {A = Option ℕ} (Some number) None = sym has ∙ ap (λ (k : ℕ). object_in owned' k) same ∙ no_object in cc
 
-  was : (b : ℕ) (p : Placed) → placed_in buffers' b ≡ Some p → placed_in buffers b ≡ Some p
+  was : (b : ℕ) (p : Placed) → placed_in resources' b ≡ Some p → placed_in resources b ≡ Some p
   was b p at = sym (places b (other b p at)) ∙ at
 
   had : (i number : ℕ) → object_in owned' i ≡ Some number → object_in owned i ≡ Some number
@@ -208,34 +208,26 @@ module _ (m : MemoryState) (owned owned' : List (ℕ × ℕ)) (buffers buffers' 
   some_of None P each = tt
   some_of (Some p) P each = each p refl
 
-  ended : (o : Option ℕ) → object_in owned id ≡ o → IsApart (freed m o) owned' buffers'
+  ended : (o : Option ℕ) → object_in owned id ≡ o → IsApart (freed m o) owned' resources'
   ended o is = record {
-    inside = λ q. some_of (placed_in buffers' q) (IsInside (freed m o)) (λ p at. insides o is q p at);
+    inside = λ q. some_of (placed_in resources' q) (IsInside (freed m o)) (λ p at. insides o is q p at);
     apart = λ b c p q ne at_b at_c same. apart.apart b c p q ne (was b p at_b) (was c q at_c) same;
     live = λ i number has. lives o is i number has;
     own = λ i j number has_i has_j. apart.own i j number (had i number has_i) (had j number has_j);
   }
     where
-      insides : (o : Option ℕ) → object_in owned id ≡ o → (q : ℕ) (p : Placed) → placed_in buffers' q ≡ Some p → IsInside (freed m o) p
-      insides None is q p at = inside_of m owned buffers apart q p (was q p at)
-      insides (Some number) is q p at = inside_less m number p (empty number q p is (other q p at) (was q p at)) (inside_of m owned buffers apart q p (was q p at))
+      insides : (o : Option ℕ) → object_in owned id ≡ o → (q : ℕ) (p : Placed) → placed_in resources' q ≡ Some p → IsInside (freed m o) p
+      insides None is q p at = inside_of m owned resources apart q p (was q p at)
+      insides (Some number) is q p at = inside_less m number p (empty number q p is (other q p at) (was q p at)) (inside_of m owned resources apart q p (was q p at))
 
       lives : (o : Option ℕ) → object_in owned id ≡ o → (i n : ℕ) → object_in owned' i ≡ Some n → IsLive (freed m o) n
       lives None is i n has = apart.live i n (had i n has)
       lives (Some number) is i n has = live_less m number n (λ same. other_object i n has (apart.own i id n (had i n has) (is ∙ ap (λ (k : ℕ). Some k) (sym same)))) (apart.live i n (had i n has))
 
-  pub apart_ended : IsApart (freed m (object_in owned id)) owned' buffers'
+  pub apart_ended : IsApart (freed m (object_in owned id)) owned' resources'
   apart_ended = ended (object_in owned id) refl
 
 -- ---- maps by ids
 
 pub other_id : (id q : ℕ) → (q ≡ id → ⊥) → is_at (nat_cmp id) q ≡ false
 other_id id q other = grind (arith, common_steps)
-
-pub apart_bound : (s : Held) (new : List (ℕ × Placed)) (id memory offset size number : ℕ) → BindReady s memory offset size → object_of s memory ≡ Some number → placed_in new id ≡ Some (record { size = size; object = number; offset = offset })
-    → ((q : ℕ) → (q ≡ id → ⊥) → placed_in new q ≡ placed_in s.buffers q) → IsApart s.memory s.owned s.buffers → IsApart s.memory s.owned new
-apart_bound s new id memory offset size number ready has here others apart =
-    let same : number ≡ ready.number = one_number (object_of s memory) number ready.number has ready.has in
-    apart_put s.memory s.owned s.buffers new id (record { size = size; object = number; offset = offset }) here others
-    (record { live = apart.live memory number has; some = ready.some; room = subst (λ (n : ℕ). offset + size ≤ length (region_of s.memory n)) (sym same) ready.room })
-    (λ c q ne at object. ready.apart c q at (object ∙ same)) apart

@@ -3,18 +3,19 @@ use Rattle.std.specs.Prelude.{◌≡◌, ℕ, ◌+◌, ◌*◌, ◌/◌, ◌<◌
 use Rattle.std.specs.List.{list_any}
 use Rattle.vk_model.specs.declared.command.Cmd.{Cmd}
 use Rattle.vk_model.specs.declared.command.Cmd.TheVariants as cmd
-use Rattle.vk_model.specs.declared.command.Element.{Element}
-use Rattle.vk_model.specs.declared.command.Element.TheVariants as element
 use Rattle.vk_model.specs.declared.command.Length.{Length}
 use Rattle.vk_model.specs.declared.command.Length.TheVariants as length_of
 use Rattle.vk_model.specs.declared.entry.Entry.{Entry}
 use Rattle.vk_model.specs.declared.entry.Entry.TheVariants as entry
 use Rattle.vk_model.specs.declared.resource.BufferInfo.{BufferInfo}
+use Rattle.vk_model.specs.declared.resource.ImageInfo.{ImageInfo}
 use Rattle.vk_model.specs.declared.resource.Place.{Place}
 use Rattle.vk_model.specs.declared.resource.Place.TheVariants as place
 use Rattle.vk_model.specs.Basics.{holds}
 use Rattle.vk_model.specs.Trace.Point.{Past}
-use Rattle.vk_model.specs.Trace.Objects.{made, ended, live, live_resources, memory_of, buffer, buffer_in, of_buffer}
+use Rattle.vk_model.specs.Trace.Objects.{made, ended, live, live_resources, memory_of, buffer, buffer_in, Resource, of_buffer, of_image}
+use Rattle.vk_model.specs.Trace.Image.{image_size}
+use Rattle.vk_model.specs.Rules.Sizes.{bad_image}
 use Rattle.vk_model.specs.World.ByteWrites.{buffer_size, fill_size}
 use Rattle.vk_model.specs.Rules.Ids.{is_memory, is_resource, asked_by_command}
 use Rattle.vk_model.specs.Rules.Binding.{ends_past_memory, is_aliased, is_misplaced}
@@ -27,19 +28,12 @@ abbrev pub FitsFill : Option BufferInfo → ℕ → Length → Type 0
 FitsFill None o n = ⊥
 FitsFill (Some i) o n = (o ≤ i.size) × (o + fill_size i.size o n ≤ i.size) × (fill_size i.size o n ≡ 4 * (fill_size i.size o n / 4))
 
--- None of the elements of a barrier is on an image (Vulkan, "Pipeline Barriers").
-abbrev pub NoImages : List Element → Type 0
-NoImages [] = ⊤
-NoImages (element.Memory d ∷ es) = NoImages es
-NoImages (element.Buffer e ∷ es) = NoImages es
-NoImages (element.Image e ∷ es) = ⊥
-
--- A command fits: a fill, an update and each region of a copy between buffers lie in buffers that were made (Vulkan, "Filling Buffers", "Updating Buffers" and "Copying Data Between Buffers"); a barrier has no element on an image; a set or an await of an event asks nothing (Vulkan, "Events").
+-- A command fits: a fill, an update and each region of a copy between buffers lie in buffers that were made (Vulkan, "Filling Buffers", "Updating Buffers" and "Copying Data Between Buffers"); a barrier, and a set or an await of an event, ask nothing (Vulkan, "Pipeline Barriers" and "Events").
 abbrev pub FitsCommand : Past → Cmd → Type 0
 FitsCommand past (cmd.Fill b o n w) = FitsFill (buffer past b) o n
 FitsCommand past (cmd.Update b o bytes) = o + length bytes ≤ buffer_size past b
 FitsCommand past (cmd.Copy s d gs) = All (λ g. FitsBuffers g (buffer_size past s) (buffer_size past d)) gs
-FitsCommand past (cmd.Barrier es) = NoImages es
+FitsCommand past (cmd.Barrier es) = ⊤
 FitsCommand past (cmd.Set v ms) = ⊤
 FitsCommand past (cmd.Await v ms) = ⊤
 FitsCommand past _ = ⊥
@@ -55,18 +49,25 @@ pub record IsUnused (past : Past) (i : ℕ) : Type 0 where
   pub unmade : made past i ≡ None
   pub unended : ended past i ≡ false
 
--- A buffer has a memory object of its own, or is bound in one that is live, at an offset that is aligned, ends in it, and meets no live resource there (Vulkan, "Resource Memory Association" and "Memory Aliasing"; VMA, "Choosing memory type", on dedicated allocations).
-abbrev pub FitsPlace : Past → BufferInfo → Place → Type 0
-FitsPlace past info (place.Dedicated t) = ⊤
-FitsPlace past info (place.Memory m o) = IsTrue (holds (live past m) is_memory) × (ends_past_memory past (of_buffer info) m o ≡ false) × (is_aliased past (of_buffer info) m o ≡ false) × (is_misplaced past (of_buffer info) m o ≡ false)
-FitsPlace past info _ = ⊥
+-- A resource has a memory object of its own, or is bound in one that is live, at an offset that is aligned, ends in it, and meets no live resource there (Vulkan, "Resource Memory Association" and "Memory Aliasing"; VMA, "Choosing memory type", on dedicated allocations).
+abbrev pub FitsPlace : Past → Resource → Place → Type 0
+FitsPlace past r (place.Dedicated t) = ⊤
+FitsPlace past r (place.Memory m o) = IsTrue (holds (live past m) is_memory) × (ends_past_memory past r m o ≡ false) × (is_aliased past r m o ≡ false) × (is_misplaced past r m o ≡ false)
+FitsPlace past r _ = ⊥
 
 -- A new buffer is of a new id, of a size above 0 and up to 67,108,864 (profile), and its place fits.
 pub record FitsBuffer (past : Past) (i : ℕ) (info : BufferInfo) : Type 0 where
   pub unused : IsUnused past i
   pub some : 0 < info.size
   pub bounded : info.size ≤ 67108864
-  pub place : FitsPlace past info info.place
+  pub place : FitsPlace past (of_buffer info) info.place
+
+-- A new image is of a new id, breaks no rule on its shape, asks for at most 67,108,864 bytes (profile), and its place fits (Vulkan, "Images").
+pub record FitsImage (past : Past) (i : ℕ) (info : ImageInfo) : Type 0 where
+  pub unused : IsUnused past i
+  pub shaped : bad_image info ≡ false
+  pub bounded : image_size info info.tiling ≤ 67108864
+  pub place : FitsPlace past (of_image info) info.place
 
 -- Whether a live resource is bound to a memory object (Vulkan, "Resource Memory Association").
 abbrev pub is_occupied : Past → ℕ → Bool
@@ -86,6 +87,7 @@ FitsLength (Some i) o length_of.Whole = o < i.size
 -- An entry makes a new object, of some bytes; frees a live memory object to which no live resource is bound; destroys a live resource; writes, reads, flushes or invalidates in a live buffer; or asks nothing of the device (Vulkan, valid usage of these calls).
 abbrev pub FitsEntry : Past → Entry → Type 0
 FitsEntry past (entry.Buffer i info) = FitsBuffer past i info
+FitsEntry past (entry.Image i info) = FitsImage past i info
 FitsEntry past (entry.Memory i m) = IsUnused past i × (0 < m.size)
 FitsEntry past (entry.Free m) = IsTrue (holds (live past m) is_memory) × (is_occupied past m ≡ false)
 FitsEntry past (entry.Destroy r) = IsTrue (holds (live past r) is_resource)

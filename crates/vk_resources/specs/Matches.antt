@@ -3,16 +3,16 @@ use Rattle.std.specs.Prelude.{◌≡◌, ℕ, length, Bool, true, false, Option,
 use Rattle.vk_memory.specs.MemoryState.{region_of, type_of}
 use Rattle.vk_model.specs.declared.entry.Entry.{Entry}
 use Rattle.vk_model.specs.declared.entry.Entry.TheVariants as entry
-use Rattle.vk_model.specs.declared.resource.BufferInfo.{BufferInfo}
 use Rattle.vk_model.specs.declared.resource.MemoryInfo.{MemoryInfo}
 use Rattle.vk_model.specs.declared.resource.Place.{Place}
 use Rattle.vk_model.specs.declared.resource.Place.TheVariants as place
 use Rattle.vk_model.specs.Basics.{holds}
 use Rattle.vk_model.specs.Trace.Point.{Past}
-use Rattle.vk_model.specs.Trace.Objects.{live, buffer_in, memory_in}
+use Rattle.vk_model.specs.Trace.Image.{image_size}
+use Rattle.vk_model.specs.Trace.Objects.{Resource, live, image_in, resource_in, memory_in}
 use Rattle.vk_model.specs.Rules.Ids.{is_memory}
 use Rattle.vk_resources.specs.declared.resources.Placed.{Placed}
-use Rattle.vk_resources.specs.Held.{Held, placed, object_of}
+use Rattle.vk_resources.specs.Held.{Held, placed, shape_of, object_of}
 
 -- Whether a place is an allocation of its own (VMA, "Choosing memory type", on dedicated allocations).
 abbrev pub is_own : Place → Bool
@@ -38,17 +38,24 @@ type_made (entry.Buffer i b) = type_of_place b.place
 type_made (entry.Image i m) = type_of_place m.place
 type_made _ = None
 
+-- The bytes of the resource that an entry makes: those that were asked for of a buffer, those that it asks for of an image (Vulkan, "Buffers" and "Resource Memory Association").
+abbrev pub size_made : Entry → Option ℕ
+size_made (entry.Buffer i b) = Some b.size
+size_made (entry.Image i m) = Some (image_size m m.tiling)
+size_made _ = None
+
 module _ (alive : ℕ → Option Entry) (s : Held) where
-  -- A buffer lies where its place says: at the start of the memory object that it has of its own, or at its offset of one that the trace made, which is live (Vulkan, "Resource Memory Association"; VMA, "Dedicated allocations").
+  -- A resource lies where its place says: at the start of the memory object that it has of its own, or at its offset of one that the trace made, which is live (Vulkan, "Resource Memory Association"; VMA, "Dedicated allocations").
   abbrev pub LiesAt : ℕ → Place → Placed → Type 0
   LiesAt b (place.Dedicated t) p = (object_of s b ≡ Some p.object) × (p.offset ≡ 0)
   LiesAt b (place.Memory m o) p = IsTrue (holds (alive m) is_memory) × (object_of s m ≡ Some p.object) × (p.offset ≡ o)
   LiesAt b _ p = ⊥
 
-  -- The live objects of all ids, by the entries that made them: their buffers are those that are held, of the sizes that were asked for and at their places; their memory objects are held too, of the types and with as many bytes as were asked for, and no others (Vulkan, "Buffers" and "Device Memory").
+  -- The live objects of all ids, by the entries that made them: their buffers and images are those that are held, of the sizes that were asked for and at their places; their memory objects are held too, of the types and with as many bytes as were asked for, and no others (Vulkan, "Resource Creation" and "Device Memory").
   pub record Matches : Type 0 where
-    pub sizes : (b : ℕ) → option_map (λ p. p.size) (placed s b) ≡ option_map (λ i. i.size) (option_and_then buffer_in (alive b))
-    pub places : (b : ℕ) (p : Placed) (i : BufferInfo) → placed s b ≡ Some p → option_and_then buffer_in (alive b) ≡ Some i → LiesAt b i.place p
+    pub sizes : (i : ℕ) → option_map (λ p. p.size) (placed s i) ≡ option_and_then size_made (alive i)
+    pub shapes : (i : ℕ) → shape_of s i ≡ option_and_then image_in (alive i)
+    pub places : (i : ℕ) (p : Placed) (r : Resource) → placed s i ≡ Some p → option_and_then resource_in (alive i) ≡ Some r → LiesAt i r.place p
     pub owned : (i : ℕ) → is_some (object_of s i) ≡ holds (alive i) has_memory
     pub memories : (m number : ℕ) (x : MemoryInfo) → option_and_then memory_in (alive m) ≡ Some x → object_of s m ≡ Some number → length (region_of s.memory number) ≡ x.size
     pub types : (i number t : ℕ) → option_and_then type_made (alive i) ≡ Some t → object_of s i ≡ Some number → type_of s.memory number ≡ t

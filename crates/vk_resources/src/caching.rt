@@ -1,4 +1,4 @@
-ghost use Rattle.std.specs.Prelude.{◌≡◌, ℕ, ◌<◌, ◌+◌, ◌-◌, ◌≤◌, ◌&&◌, ◌/◌, ◌==◌, OnOk, Some, true, is_some, length, map};
+ghost use Rattle.std.specs.Prelude.{◌≡◌, ℕ, ◌<◌, ◌+◌, ◌-◌, ◌≤◌, ◌&&◌, ◌/◌, ◌==◌, OnOk, None, Some, true, is_some, length, map};
 ghost use Rattle.vk_model.specs.Basics.{below};
 ghost use Rattle.vk_model.specs.World.Bytes.{in_buffer};
 ghost use Rattle.vk_map_cache.specs.Holdings.{given, only_where};
@@ -50,7 +50,7 @@ fn atoms_in(size: u64) -> u64
 }
 
 impl Resources {
-    ghost use Rattle.vk_resources.specs.Held.{placed, seen_at, Stands};
+    ghost use Rattle.vk_resources.specs.Held.{shape_of, flat, seen_at, Stands};
     ghost use Rattle.vk_resources.specs.Matches.{MatchesLive};
     ghost use Rattle.vk_resources.specs.Allocating.{allotted};
     ghost use Rattle.vk_resources.specs.Fits.{FitsEntry};
@@ -64,7 +64,8 @@ impl Resources {
         offset: u64,
         bytes: &[u8],
     ) -> Result<(), AllocError>
-        requires { MayReach (cached_at self.old id) offset (length bytes.now) }
+        requires buffer { shape_of self.old id ≡ None }
+        requires range { MayReach (cached_at self.old id) offset (length bytes.now) }
         ensures { OnOk result (HasChanged self.old self.new id (λ k. after_host_write true (given offset bytes.now k))) }
     {
         if let Some(buffer) = self.cached(id) {
@@ -79,10 +80,10 @@ impl Resources {
     /// Copies bytes of a buffer that is there into `out`, as the host sees them. Of memory that isn't
     /// cached the cache holds nothing.
     pub(crate) fn copy_seen(&self, id: u32, offset: u64, out: &mut [u8])
-        requires { MayReach (placed self.now id) offset (length out.old) }
+        requires { MayReach (flat self.now id) offset (length out.old) }
         ensures { out.new ≡ map (λ k. seen_at self.now (in_buffer id (offset + k))) (below (length out.old)) }
     {
-        if let Some(buffer) = self.placed(id) {
+        if let Some(buffer) = self.buffer(id) {
             let region = self.memories.region(buffer.object);
             let _size = region.size();
             self.cache
@@ -93,7 +94,7 @@ impl Resources {
     /// Writes the dirty bytes back of the atoms that a range of a buffer reaches, where it is in cached
     /// memory.
     pub(crate) fn flush(&mut self, id: u32, offset: u64, size: Length)
-        requires { MayReachTo (placed self.old id) offset size }
+        requires { MayReachTo (flat self.old id) offset size }
         ensures { HasChanged self.old self.new id (only_where (λ k. is_some (cached_at self.old id) && in_atoms offset size k) (written_back 0)) }
     {
         if let Some(buffer) = self.cached(id) {
@@ -108,7 +109,7 @@ impl Resources {
     /// Holds nothing any more of the atoms that a range of a buffer reaches, where it is in cached
     /// memory.
     pub(crate) fn invalidate(&mut self, id: u32, offset: u64, size: Length)
-        requires { MayReachTo (placed self.old id) offset size }
+        requires { MayReachTo (flat self.old id) offset size }
         ensures { HasChanged self.old self.new id (only_where (λ k. is_some (cached_at self.old id) && in_atoms offset size k) (forgotten 0)) }
     {
         if let Some(buffer) = self.cached(id) {
@@ -119,11 +120,12 @@ impl Resources {
         }
     }
 
-    /// Holds nothing any more of a buffer, where it is in cached memory, and writes nothing back.
+    /// Holds nothing any more of a resource, where it is in cached memory, and writes nothing back.
     pub(crate) fn forget(&mut self, id: u32)
         ensures memory { self.new.memory ≡ self.old.memory }
         ensures owned { self.new.owned ≡ self.old.owned }
-        ensures buffers { self.new.buffers ≡ self.old.buffers }
+        ensures resources { self.new.resources ≡ self.old.resources }
+        ensures shapes { self.new.shapes ≡ self.old.shapes }
         ensures forgets { Forgets self.old self.new id }
         ensures stands { Stands self.old }
     {
@@ -157,7 +159,8 @@ impl Resources {
         requires { AtomReady self.old entry.now atom }
         ensures turned { OnOk result (TurnsOver entry.now atom self.old self.new) }
         ensures matches { (past : Past) → MatchesLive past self.old → MatchesLive past self.new }
-        ensures placed { self.new.buffers ≡ self.old.buffers }
+        ensures placed { self.new.resources ≡ self.old.resources }
+        ensures shapes { self.new.shapes ≡ self.old.shapes }
         ensures allotted { allotted self.new ≡ allotted self.old }
     {
         match accessed(entry) {
@@ -168,7 +171,8 @@ impl Resources {
 
     /// The same of an atom of a buffer in cached memory.
     fn turn_over_atom(&mut self, id: u32, atom: u64) -> Result<(), AllocError>
-        requires { HasAtom (cached_at self.old id) atom }
+        requires buffer { shape_of self.old id ≡ None }
+        requires atom { HasAtom (cached_at self.old id) atom }
         ensures turned { OnOk result (HasChanged self.old self.new id (only_where (λ k. is_some (cached_at self.old id) && k / 64 == atom) turned_over)) }
         ensures keeps { KeepsPlaces self.old self.new }
     {

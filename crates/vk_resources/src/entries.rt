@@ -8,19 +8,20 @@ ghost use Rattle.vk_model.specs.Trace.Point.{Past};
 use crate::applied::Applied;
 use crate::resources::{Placed, Resources};
 use std::alloc::AllocError;
+use vk_image_tiles::Shape;
 use vk_memory::MemoryError;
-use vk_model::{Entry, Place, Sequence};
+use vk_model::{Entry, Place, Sequence, texels_inside};
 
 /// Buffers are rounded up to this many bytes (profile).
 const BUFFER_UNIT: u64 = 16;
 
 impl Resources {
-    ghost use Rattle.vk_resources.specs.Held.{placed, object_of, seen_at, Stands};
+    ghost use Rattle.vk_resources.specs.Held.{placed, shape_of, flat, object_of, seen_at, Stands};
     ghost use Rattle.vk_resources.specs.Matches.{MatchesLive};
     ghost use Rattle.vk_resources.specs.Allocating.{Rooms, Allots};
     ghost use Rattle.vk_resources.specs.Fits.{FitsEntry};
     ghost use Rattle.vk_resources.specs.Done.{DoneBy, EntryReady};
-    ghost use Rattle.vk_resources.specs.Inner.Steps.{MayReach, HasChanged, cached_at, MadeOr, BufferMade, MemoryMade, BindReady, Binds, IsEmpty, Ends};
+    ghost use Rattle.vk_resources.specs.Inner.Steps.{IsMaking, MayReach, HasChanged, cached_at, MadeOr, ResourceMade, MemoryMade, ShapeReady, PutReady, Puts, BindReady, Binds, IsEmpty, Ends};
 
     /// Makes a memory object for an id, and answers its number; none where there is no room.
     fn allocate(&mut self, id: u32, memory_type: u32, size: u64) -> Result<Option<u64>, AllocError>
@@ -51,62 +52,86 @@ impl Resources {
         }
     }
 
-    /// Makes a buffer in a memory object of its own.
-    fn make_buffer(&mut self, id: u32, memory_type: u32, size: u64) -> Result<Applied, AllocError>
-        requires absent { object_of self.old id ≡ None }
-        requires unplaced { placed self.old id ≡ None }
-        requires some { 0 < size }
-        requires bounded { size ≤ 67108864 }
-        ensures made { IfOk result (λ a. BufferMade a self.old self.new id memory_type size) }
+    /// Puts a new resource somewhere, an image with its shape.
+    fn put(&mut self, id: u32, placed: Placed, shape: Option<Shape>) -> Result<(), AllocError>
+        // What the type's invariant says may be used to show it.
+        requires ready { Stands self.old → PutReady self.old id placed shape }
+        ensures put { OnOk result (Puts self.old self.new id placed shape) }
+        ensures memory { self.new.memory ≡ self.old.memory }
+        ensures owned { self.new.owned ≡ self.old.owned }
+        ensures cache { self.new.cache ≡ self.old.cache }
         ensures stands { Stands self.old }
     {
-        let bytes = (size + (BUFFER_UNIT - 1)) / BUFFER_UNIT * BUFFER_UNIT;
-        match self.allocate(id, memory_type, bytes)? {
+        self.resources.insert(id, placed)?;
+        if let Some(shape) = shape {
+            self.shapes.insert(id, shape)?;
+        }
+        Ok(())
+    }
+
+    /// Makes a resource of some bytes in a memory object of its own, of the bytes that it asks for.
+    fn make_resource(
+        &mut self,
+        id: u32,
+        memory_type: u32,
+        size: u64,
+        asked: u64,
+        shape: Option<Shape>,
+    ) -> Result<Applied, AllocError>
+        requires absent { object_of self.old id ≡ None }
+        requires unplaced { placed self.old id ≡ None }
+        requires unshaped { shape_of self.old id ≡ None }
+        requires some { 0 < size }
+        requires room { size ≤ asked }
+        requires shaped { (object : ℕ) → ShapeReady shape (record { size = size; object = object; offset = 0 }) }
+        ensures made { IfOk result (λ a. ResourceMade a self.old self.new id memory_type size asked shape) }
+        ensures stands { Stands self.old }
+    {
+        match self.allocate(id, memory_type, asked)? {
             Some(object) => {
                 let offset = 0;
-                self.buffers.insert(
-                    id,
-                    Placed {
-                        size,
-                        object,
-                        offset,
-                    },
-                )?;
+                let placed = Placed {
+                    size,
+                    object,
+                    offset,
+                };
+                self.put(id, placed, shape)?;
                 Ok(Applied::Done)
             }
             None => Ok(Applied::NoRoom),
         }
     }
 
-    /// Binds a new buffer at an offset of the memory object that an id has.
-    fn bind_buffer(
+    /// Binds a new resource at an offset of the memory object that an id has.
+    fn bind(
         &mut self,
         id: u32,
         memory: u32,
         offset: u64,
         size: u64,
+        shape: Option<Shape>,
     ) -> Result<(), AllocError>
         // What the type's invariant says may be used to show it.
         requires ready { Stands self.old → BindReady self.old memory offset size }
         requires absent { placed self.old id ≡ None }
-        ensures bound { OnOk result (Binds self.old self.new id memory offset size) }
+        requires unshaped { shape_of self.old id ≡ None }
+        requires shaped { (object : ℕ) → ShapeReady shape (record { size = size; object = object; offset = offset }) }
+        ensures bound { OnOk result (Binds self.old self.new id memory offset size shape) }
         ensures stands { Stands self.old }
     {
-        if let Some(object) = self.owned.get(&memory) {
-            let object = *object;
-            self.buffers.insert(
-                id,
-                Placed {
-                    size,
-                    object,
-                    offset,
-                },
-            )?;
-        }
-        Ok(())
+        let Some(object) = self.owned.get(&memory) else {
+            return Ok(());
+        };
+        let object = *object;
+        let placed = Placed {
+            size,
+            object,
+            offset,
+        };
+        self.put(id, placed, shape)
     }
 
-    /// Ends what an id has: its buffer, with what the host's cache holds of it, and its memory object,
+    /// Ends what an id has: its resource, with what the host's cache holds of it, and its memory object,
     /// which is freed, with the room that the cache has for it.
     fn end(&mut self, id: u32)
         requires { Stands self.old → IsEmpty self.old id }
@@ -114,7 +139,8 @@ impl Resources {
         ensures stands { Stands self.old }
     {
         self.forget(id);
-        self.buffers.remove(&id);
+        self.resources.remove(&id);
+        self.shapes.remove(&id);
         if let Some(object) = self.owned.remove(&id) {
             let size = self.memories.region(object).size();
             self.cache.drop_range(object, 0, size);
@@ -124,7 +150,7 @@ impl Resources {
 
     /// Writes bytes of the host to a buffer that is there.
     fn write(&mut self, id: u32, offset: u64, bytes: &[u8]) -> Result<(), AllocError>
-        requires { MayReach (placed self.old id) offset (length bytes.now) }
+        requires { MayReach (flat self.old id) offset (length bytes.now) }
         ensures { OnOk result (HasChanged self.old self.new id (λ k. after_host_write (is_some (cached_at self.old id)) (given offset bytes.now k))) }
     {
         if self.cached(id).is_some() {
@@ -136,10 +162,10 @@ impl Resources {
 
     /// Writes bytes of the host to a buffer that is there, as they are to be in memory at once.
     fn write_memory(&mut self, id: u32, offset: u64, bytes: &[u8])
-        requires { MayReach (placed self.old id) offset (length bytes.now) }
+        requires { MayReach (flat self.old id) offset (length bytes.now) }
         ensures { HasChanged self.old self.new id (λ k. after_host_write false (given offset bytes.now k)) }
     {
-        if let Some(buffer) = self.placed(id) {
+        if let Some(buffer) = self.buffer(id) {
             let region = self.memories.region_mut(buffer.object);
             // A region's size is a whole number of 64 bits, so the places in it are too.
             let _size = region.size();
@@ -149,12 +175,56 @@ impl Resources {
 
     /// Reads bytes of a buffer that is there, as the host sees them.
     fn read(&self, id: u32, offset: u64, size: u64) -> Result<Sequence<u8>, AllocError>
-        requires { MayReach (placed self.now id) offset size }
+        requires { MayReach (flat self.now id) offset size }
         ensures bytes { IfOk result (λ bytes. bytes ≡ map (λ k. seen_at self.now (in_buffer id (offset + k))) (below size)) }
     {
         let mut bytes = vec![in self.alloc; 0u8; size as usize]?;
         self.copy_seen(id, offset, &mut bytes);
         Ok(Sequence::new(bytes))
+    }
+
+    /// Makes the memory object, the buffer or the image that an entry makes.
+    fn make(&mut self, entry: &Entry) -> Result<Applied, AllocError>
+        requires ready { EntryReady self.old entry.now }
+        requires making { IsMaking entry.now }
+        ensures done { IfOk result (λ a. (e : ℕ) (past : Past) → MatchesLive past self.old → FitsEntry past entry.now → DoneBy a e entry.now past self.old self.new) }
+        ensures rooms { IfOk result (λ a. (past : Past) → FitsEntry past entry.now → Rooms a self.old entry.now) }
+        ensures allots { IfOk result (λ a. (past : Past) → MatchesLive past self.old → FitsEntry past entry.now → Allots a entry.now self.old self.new) }
+    {
+        match entry {
+            Entry::Memory { id, info } => self.make_memory(*id, info.memory_type, info.size),
+            Entry::Buffer { id, info } => {
+                let asked = (info.size + (BUFFER_UNIT - 1)) / BUFFER_UNIT * BUFFER_UNIT;
+                match info.place {
+                    Place::Dedicated { memory_type } => {
+                        self.make_resource(*id, memory_type, info.size, asked, None)
+                    }
+                    Place::Memory { memory, offset } => {
+                        self.bind(*id, memory, offset, info.size, None)?;
+                        Ok(Applied::Done)
+                    }
+                    _ => Ok(Applied::Done),
+                }
+            }
+            Entry::Image { id, info } => {
+                texels_inside();
+                let Ok(shape) = Shape::of(info) else {
+                    unreachable!()
+                };
+                let size = shape.requirements().size;
+                match info.place {
+                    Place::Dedicated { memory_type } => {
+                        self.make_resource(*id, memory_type, size, size, Some(shape))
+                    }
+                    Place::Memory { memory, offset } => {
+                        self.bind(*id, memory, offset, size, Some(shape))?;
+                        Ok(Applied::Done)
+                    }
+                    _ => Ok(Applied::Done),
+                }
+            }
+            _ => unreachable!(),
+        }
     }
 
     /// Does what an entry does to resources. Mappings are left to the rules: an entry that breaks none
@@ -166,15 +236,7 @@ impl Resources {
         ensures allots { IfOk result (λ a. (past : Past) → MatchesLive past self.old → FitsEntry past entry.now → Allots a entry.now self.old self.new) }
     {
         match entry {
-            Entry::Memory { id, info } => self.make_memory(*id, info.memory_type, info.size),
-            Entry::Buffer { id, info } => match info.place {
-                Place::Dedicated { memory_type } => self.make_buffer(*id, memory_type, info.size),
-                Place::Memory { memory, offset } => {
-                    self.bind_buffer(*id, memory, offset, info.size)?;
-                    Ok(Applied::Done)
-                }
-                _ => Ok(Applied::Done),
-            },
+            Entry::Memory { .. } | Entry::Buffer { .. } | Entry::Image { .. } => self.make(entry),
             Entry::Free { memory } => {
                 self.end(*memory);
                 Ok(Applied::Done)

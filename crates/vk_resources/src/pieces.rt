@@ -26,7 +26,7 @@ impl Resources {
     ghost use Rattle.vk_transfer.specs.Fills.{fill_piece};
     ghost use Rattle.vk_transfer.specs.Updates.{update_piece};
     ghost use Rattle.vk_transfer.specs.Copies.{copy_piece};
-    ghost use Rattle.vk_resources.specs.Held.{placed, byte_at};
+    ghost use Rattle.vk_resources.specs.Held.{flat, byte_at};
     ghost use Rattle.vk_resources.specs.Matches.{MatchesLive};
     ghost use Rattle.vk_resources.specs.Allocating.{allotted};
     ghost use Rattle.vk_resources.specs.Fits.{FitsCommand, NamesLive};
@@ -43,7 +43,7 @@ impl Resources {
                 offset,
                 size,
                 word,
-            } => match self.placed(*buffer) {
+            } => match self.buffer(*buffer) {
                 Some(placed) => filling(placed, *offset, *size, *word).pieces(),
                 None => 0,
             },
@@ -65,7 +65,8 @@ impl Resources {
         requires { PieceReady self.old work.now number }
         ensures ran { (past : Past) (ms : List ByteWrite) → MatchesLive past self.old → FitsCommand past work.now → slice_get (pieces past work.now) number ≡ Some ms → HaveRun ms (byte_at self.old) (byte_at self.new) }
         ensures matches { (past : Past) → MatchesLive past self.old → MatchesLive past self.new }
-        ensures placed { self.new.buffers ≡ self.old.buffers }
+        ensures placed { self.new.resources ≡ self.old.resources }
+        ensures shapes { self.new.shapes ≡ self.old.shapes }
         ensures cache { self.new.cache ≡ self.old.cache }
         ensures allotted { allotted self.new ≡ allotted self.old }
     {
@@ -113,7 +114,7 @@ impl Resources {
         requires whole { fill.size ≡ 4 * (fill.size / 4) }
         requires inside { fill.offset + fill.size ≤ buffer.size }
         requires piece { 4096 * number < fill.size }
-        ensures { (b : ℕ) → placed self.old b ≡ Some buffer → HasRun self.old self.new (fill_piece b fill number) }
+        ensures { (b : ℕ) → flat self.old b ≡ Some buffer → HasRun self.old self.new (fill_piece b fill number) }
     {
         fill.run_piece(
             number,
@@ -127,7 +128,7 @@ impl Resources {
         requires placed { IsPlaced self.old buffer }
         requires inside { update.now.offset + length update.now.bytes.now ≤ buffer.size }
         requires piece { 4096 * number < length update.now.bytes.now }
-        ensures { (b : ℕ) → placed self.old b ≡ Some buffer → HasRun self.old self.new (update_piece b update.now number) }
+        ensures { (b : ℕ) → flat self.old b ≡ Some buffer → HasRun self.old self.new (update_piece b update.now number) }
     {
         update.run_piece(
             number,
@@ -147,7 +148,7 @@ impl Resources {
         requires source { IsPlaced self.old source }
         requires destination { IsPlaced self.old destination }
         requires piece { CopyReady source destination pieces.now number }
-        ensures { (s d : ℕ) → placed self.old s ≡ Some source → placed self.old d ≡ Some destination → HasRun self.old self.new (copy_piece s d pieces.now number) }
+        ensures { (s d : ℕ) → flat self.old s ≡ Some source → flat self.old d ≡ Some destination → HasRun self.old self.new (copy_piece s d pieces.now number) }
     {
         let found = pieces.find(number);
         let piece = found.copy.piece(found.number);

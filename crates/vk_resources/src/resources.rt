@@ -5,6 +5,7 @@ ghost use Rattle.vk_heap.specs.Region.{piece};
 use std::alloc::Global;
 use std::collections::BTreeMap;
 use std::marker::Model;
+use vk_image_tiles::Shape;
 use vk_map_cache::HostCache;
 use vk_memory::Memories;
 use vk_model::Config;
@@ -16,14 +17,14 @@ pub struct Spot {
     pub memory: u64,
     /// Where it begins there, in bytes.
     pub offset: u64,
-    /// Its size in bytes, as it was asked for.
+    /// Its size in bytes: that of a buffer as it was asked for, of an image what it asks for.
     pub size: u64,
 }
 
-/// Where a buffer lies.
+/// Where a buffer or an image lies.
 #[derive(Clone, Copy)]
 pub struct Placed {
-    /// The buffer's size in bytes, as it was asked for.
+    /// Its size in bytes: that of a buffer as it was asked for, of an image what it asks for.
     pub size: u64,
     /// The number of the memory object.
     pub object: u64,
@@ -34,74 +35,90 @@ pub struct Placed {
 /// The type of memory that the host reaches through a cache that isn't coherent (profile).
 const CACHED_TYPE: u32 = 2;
 
-/// Buffers, the memory that they lie in, and the host's cache in front of it.
+/// Buffers and images, the memory that they lie in, and the host's cache in front of it.
 #[derive(Drop)]
 pub struct Resources {
     pub(crate) alloc: Global,
     pub(crate) memories: Memories,
-    /// The number of the memory object that an id has: one that the trace made, or a buffer's own.
+    /// The number of the memory object that an id has: one that the trace made, or a resource's own.
     pub(crate) owned: BTreeMap<u32, u64>,
-    pub(crate) buffers: BTreeMap<u32, Placed>,
+    /// Where each buffer and each image lies.
+    pub(crate) resources: BTreeMap<u32, Placed>,
+    /// Where the texels of each image lie in it.
+    pub(crate) shapes: BTreeMap<u32, Shape>,
     /// What the host has written there or read, and no queue sees.
     pub(crate) cache: HostCache,
 }
 
 impl Model for Resources {
     ghost use Rattle.std.specs.Prelude.{ℕ, List};
-    ghost use Rattle.vk_resources.specs.Held.{Held, IsApart, IsCaching};
+    ghost use Rattle.vk_resources.specs.Held.{Held, IsApart, IsCaching, AreShaped};
 
     ghost Value = { Held };
 
-    ghost view = { λ r. record { memory = r.memories; owned = r.owned.entries; buffers = r.buffers.entries; cache = r.cache } };
+    ghost view = { λ r. record { memory = r.memories; owned = r.owned.entries; resources = r.resources.entries; shapes = r.shapes.entries; cache = r.cache } };
 
-    ghost invariant = { λ r. IsApart r.memories r.owned.entries r.buffers.entries
-        × IsCaching r.memories r.buffers.entries r.cache };
+    ghost invariant = { λ r. IsApart r.memories r.owned.entries r.resources.entries
+        × IsCaching r.memories r.resources.entries r.cache
+        × AreShaped r.resources.entries r.shapes.entries };
 }
 
 impl Resources {
-    ghost use Rattle.vk_resources.specs.Held.{placed, spot_of};
+    ghost use Rattle.vk_resources.specs.Held.{placed, flat, spot_of};
     ghost use Rattle.vk_resources.specs.Inner.Steps.{cached_at};
 
-    /// No buffers, on heaps of these sizes. It takes no memory.
+    /// No resources, on heaps of these sizes. It takes no memory.
     pub fn new(alloc: Global, config: Config) -> Resources
         ensures memory { result.memory ≡ record { sizes = config; objects = [] } }
         ensures owned { result.owned ≡ [] }
-        ensures buffers { result.buffers ≡ [] }
+        ensures resources { result.resources ≡ [] }
+        ensures shapes { result.shapes ≡ [] }
         ensures cache { result.cache ≡ [] }
     {
         Resources {
             alloc,
             memories: Memories::new(alloc, config),
             owned: BTreeMap::new(alloc),
-            buffers: BTreeMap::new(alloc),
+            resources: BTreeMap::new(alloc),
+            shapes: BTreeMap::new(alloc),
             cache: HostCache::new(alloc),
         }
     }
 
-    /// Where a buffer lies, by its id; none where there is no such buffer.
-    pub(crate) fn placed(&self, buffer: u32) -> Option<Placed>
-        ensures { result ≡ placed self.now buffer }
+    /// Where a resource lies, by its id; none where there is no such resource.
+    pub(crate) fn placed(&self, resource: u32) -> Option<Placed>
+        ensures { result ≡ placed self.now resource }
     {
-        self.buffers.get(&buffer).copied()
+        self.resources.get(&resource).copied()
+    }
+
+    /// Where a buffer lies, by its id; none where there is no such buffer.
+    pub(crate) fn buffer(&self, id: u32) -> Option<Placed>
+        ensures { result ≡ flat self.now id }
+    {
+        match self.shapes.get(&id) {
+            Some(_) => None,
+            None => self.placed(id),
+        }
     }
 
     /// Where a buffer lies that is there.
-    pub(crate) fn there(&self, buffer: u32) -> Placed
-        requires { IsSome (placed self.now buffer) }
-        ensures { placed self.now buffer ≡ Some result }
+    pub(crate) fn there(&self, id: u32) -> Placed
+        requires { IsSome (flat self.now id) }
+        ensures { flat self.now id ≡ Some result }
     {
-        match self.placed(buffer) {
+        match self.buffer(id) {
             Some(placed) => placed,
             None => unreachable!(),
         }
     }
 
-    /// Where a buffer lies that is in cached memory; none where there is no such buffer, and where it is
-    /// in other memory.
-    pub(crate) fn cached(&self, buffer: u32) -> Option<Placed>
-        ensures { result ≡ cached_at self.now buffer }
+    /// Where a resource lies that is in cached memory; none where there is no such resource, and where
+    /// it is in other memory.
+    pub(crate) fn cached(&self, resource: u32) -> Option<Placed>
+        ensures { result ≡ cached_at self.now resource }
     {
-        let placed = self.placed(buffer)?;
+        let placed = self.placed(resource)?;
         if self.memories.memory_type(placed.object) == CACHED_TYPE {
             Some(placed)
         } else {
@@ -113,7 +130,7 @@ impl Resources {
     pub fn spot(&self, resource: u32) -> Option<Spot>
         ensures { result ≡ option_map spot_of (placed self.now resource) }
     {
-        match self.buffers.get(&resource) {
+        match self.resources.get(&resource) {
             Some(placed) => Some(Spot {
                 memory: placed.object,
                 offset: placed.offset,

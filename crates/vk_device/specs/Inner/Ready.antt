@@ -31,7 +31,8 @@ Waited d x (Some counts) = (t : List Entry) (steps : List Step) (s : Stage) (xs 
 pub record HasTouched (x : Entry) (atoms : List ℕ) (old new : Held) : Type 0 where
   pub cells : (c : Byte) (cell : Cell) → IsThere old c → HasCell old c cell → HasCell new c (if in_atoms (touched_by x) atoms c then turned_over cell else cell)
   pub matches : (past : Past) → MatchesLive past old → MatchesLive past new
-  pub buffers : new.buffers ≡ old.buffers
+  pub resources : new.resources ≡ old.resources
+  pub shapes : new.shapes ≡ old.shapes
   pub same : atoms ≡ [] → new ≡ old
 
 -- The scheduler was asked for each atom that the buffer has in the host's cache, and those have been taken up or given back that it picked (profile).

@@ -1,11 +1,13 @@
 -- What each step asks of resources, and what it changes there.
-use Rattle.std.specs.Prelude.{◌≡◌, ℕ, ◌+◌, ◌-◌, ◌/◌, ◌%◌, ◌<◌, ◌≤◌, ◌==◌, [], ◌∷◌, ◌++◌, length, List, Option, Some, None, option_and_then, if◌then◌else◌, All}
+use Rattle.std.specs.Prelude.{◌≡◌, ℕ, ◌+◌, ◌-◌, ◌/◌, ◌%◌, ◌<◌, ◌≤◌, ◌==◌, [], ◌∷◌, ◌++◌, length, List, Bool, true, Option, Some, None, option_and_then, if◌then◌else◌, All, ⊤}
 use Rattle.vk_memory.specs.MemoryState.{MemoryState, IsFull, fresh, region_of, type_of, with_object}
 use Rattle.vk_map_cache.specs.Holdings.{held_at}
 use Rattle.vk_model.specs.declared.command.Length.{Length}
 use Rattle.vk_model.specs.declared.command.Length.TheVariants as length_of
 use Rattle.vk_model.specs.declared.command.BufferCopy.{BufferCopy}
-use Rattle.vk_model.specs.Basics.{round_up}
+use Rattle.vk_model.specs.declared.entry.Entry.{Entry}
+use Rattle.vk_model.specs.declared.entry.Entry.TheVariants as entry
+use Rattle.vk_model.specs.declared.resource.ImageInfo.{ImageInfo}
 use Rattle.vk_model.specs.World.Bytes.{Byte, in_buffer, in_image}
 use Rattle.vk_model.specs.World.ByteWrites.{ByteWrite, fill_size}
 use Rattle.vk_model.specs.Run.Caches.{Cell}
@@ -16,21 +18,22 @@ use Rattle.vk_resources.specs.declared.applied.Applied.{Applied}
 use Rattle.vk_resources.specs.declared.applied.Applied.TheVariants as applied
 use Rattle.vk_resources.specs.declared.resources.Placed.{Placed}
 use Rattle.vk_resources.specs.Allocating.{allotted}
-use Rattle.vk_resources.specs.Held.{Held, placed, object_of, byte_at, host_at, is_cached_in, IsInAtoms, IsThere, HasCell}
+use Rattle.vk_resources.specs.Held.{Held, placed, shape_of, flat, object_of, IsInside, IsShaped, byte_at, host_at, is_cached_in, IsInAtoms, IsThere, HasCell}
 
 -- ---- bytes
 
 -- A buffer is one of those that are held.
 abbrev pub IsPlaced : Held → Placed → Type 0
-IsPlaced s p = (b : ℕ) × (placed s b ≡ Some p)
+IsPlaced s p = (b : ℕ) × (flat s b ≡ Some p)
 
 -- A fill of a placed buffer.
 abbrev pub fill_of : ℕ → Length → ℕ → Placed → Fill
 fill_of o n w p = record { offset = o; size = fill_size p.size o n; word = w }
 
--- Only bytes have changed: the buffers and the memory objects are what they were.
+-- Only bytes have changed: the resources and the memory objects are what they were.
 pub record KeepsPlaces (old new : Held) : Type 0 where
-  pub buffers : new.buffers ≡ old.buffers
+  pub resources : new.resources ≡ old.resources
+  pub shapes : new.shapes ≡ old.shapes
   pub same : allotted new ≡ allotted old
   pub lengths : (number : ℕ) → length (region_of new.memory number) ≡ length (region_of old.memory number)
   pub types : (number : ℕ) → type_of new.memory number ≡ type_of old.memory number
@@ -39,7 +42,7 @@ pub record KeepsPlaces (old new : Held) : Type 0 where
 abbrev pub HasRun : Held → Held → List ByteWrite → Type 0
 HasRun old new ms = KeepsPlaces old new × HaveRun ms (byte_at old) (byte_at new) × (new.cache ≡ old.cache)
 
--- Where a buffer lies that is in cached memory; none where there is no such buffer, and where it is in other memory.
+-- Where a resource lies that is in cached memory; none where there is no such resource, and where it is in other memory.
 abbrev pub cached_at : Held → ℕ → Option Placed
 cached_at s b = option_and_then (λ p. if is_cached_in s.memory p then Some p else None) (placed s b)
 
@@ -79,6 +82,13 @@ CopyReady p q gs k = (k < length (copy_pieces 0 0 gs)) × All (λ g. FitsBuffers
 
 -- ---- objects
 
+-- An entry makes a memory object, a buffer or an image (Vulkan, "Resource Creation" and "Device Memory").
+abbrev pub IsMaking : Entry → Type 0
+IsMaking (entry.Memory i m) = ⊤
+IsMaking (entry.Buffer i b) = ⊤
+IsMaking (entry.Image i m) = ⊤
+IsMaking _ = ⊥
+
 -- A new memory object is that of an id, which had none, and nothing else has changed (Vulkan, "Device Memory").
 pub record Makes (old new : Held) (id t size : ℕ) : Type 0 where
   pub memory : new.memory ≡ record old.memory { objects = old.memory.objects ++ Some (fresh t size) ∷ [] }
@@ -87,27 +97,44 @@ pub record Makes (old new : Held) (id t size : ℕ) : Type 0 where
 
 -- A memory object was made for an id, and this is its number; or nothing has changed, exactly where there is no room for it.
 abbrev pub MadeOr : Option ℕ → Held → Held → ℕ → ℕ → ℕ → Type 0
-MadeOr (Some number) old new id t size = (number ≡ length old.memory.objects) × Makes old new id t size × (new.buffers ≡ old.buffers) × (IsFull old.memory t size → ⊥) × (new.cache ≡ old.cache)
+MadeOr (Some number) old new id t size = (number ≡ length old.memory.objects) × Makes old new id t size × (new.resources ≡ old.resources) × (new.shapes ≡ old.shapes) × (IsFull old.memory t size → ⊥) × (new.cache ≡ old.cache)
 MadeOr None old new id t size = (new ≡ old) × IsFull old.memory t size
 
--- A buffer was put somewhere, and no other was.
-pub record Puts (old new : Held) (id : ℕ) (p : Placed) : Type 0 where
+-- A resource was put somewhere, of this shape where it is an image, and no other was.
+pub record Puts (old new : Held) (id : ℕ) (p : Placed) (shape : Option ImageInfo) : Type 0 where
   pub here : placed new id ≡ Some p
   pub others : (b : ℕ) → (b ≡ id → ⊥) → placed new b ≡ placed old b
+  pub shaped : shape_of new id ≡ shape
+  pub shapes : (b : ℕ) → (b ≡ id → ⊥) → shape_of new b ≡ shape_of old b
 
--- A buffer was made in a memory object of its own, of a multiple of 16 bytes (profile); or nothing has changed, exactly where there is no room for its memory object.
-abbrev pub BufferMade : Applied → Held → Held → ℕ → ℕ → ℕ → Type 0
-BufferMade applied.Done old new id t size = Makes old new id t (round_up size 16) × Puts old new id (record { size = size; object = length old.memory.objects; offset = 0 }) × (IsFull old.memory t (round_up size 16) → ⊥) × (new.cache ≡ old.cache)
-BufferMade (applied.Bytes bytes) old new id t size = ⊥
-BufferMade applied.NoRoom old new id t size = (new ≡ old) × IsFull old.memory t (round_up size 16)
+-- An image has the bytes that it asks for; a buffer asks nothing.
+abbrev pub ShapeReady : Option ImageInfo → Placed → Type 0
+ShapeReady None p = ⊤
+ShapeReady (Some m) p = IsShaped m p
+
+-- A resource may be put there: it is of an id that has none, has bytes in a live memory object, begins with an atom where the memory is cached, meets no other resource, and is as large as its shape asks (Vulkan, "Resource Memory Association" and "Memory Aliasing").
+pub record PutReady (s : Held) (id : ℕ) (p : Placed) (shape : Option ImageInfo) : Type 0 where
+  pub absent : placed s id ≡ None
+  pub unshaped : shape_of s id ≡ None
+  pub inside : IsInside s.memory p
+  pub apart : (c : ℕ) (q : Placed) → (c ≡ id → ⊥) → placed s c ≡ Some q → q.object ≡ p.object → AreApart p.offset p.size q.offset q.size
+  pub aligned : is_cached_in s.memory p ≡ true → p.offset % 64 ≡ 0
+  pub shaped : ShapeReady shape p
+
+-- A resource of some bytes was made in a memory object of its own, of as many bytes as it asks for; or nothing has changed, exactly where there is no room for its memory object.
+abbrev pub ResourceMade : Applied → Held → Held → (id t size asked : ℕ) → Option ImageInfo → Type 0
+ResourceMade applied.Done old new id t size asked shape =
+    Makes old new id t asked × Puts old new id (record { size = size; object = length old.memory.objects; offset = 0 }) shape × (IsFull old.memory t asked → ⊥) × (new.cache ≡ old.cache)
+ResourceMade (applied.Bytes bytes) old new id t size asked shape = ⊥
+ResourceMade applied.NoRoom old new id t size asked shape = (new ≡ old) × IsFull old.memory t asked
 
 -- A memory object was made; or nothing has changed, exactly where there is no room for it.
 abbrev pub MemoryMade : Applied → Held → Held → ℕ → ℕ → ℕ → Type 0
-MemoryMade applied.Done old new id t size = Makes old new id t size × (new.buffers ≡ old.buffers) × (IsFull old.memory t size → ⊥) × (new.cache ≡ old.cache)
+MemoryMade applied.Done old new id t size = Makes old new id t size × (new.resources ≡ old.resources) × (new.shapes ≡ old.shapes) × (IsFull old.memory t size → ⊥) × (new.cache ≡ old.cache)
 MemoryMade (applied.Bytes bytes) old new id t size = ⊥
 MemoryMade applied.NoRoom old new id t size = (new ≡ old) × IsFull old.memory t size
 
--- A buffer of this size may be bound at this offset of the memory object that an id has: it has bytes, ends there, begins with an atom where the memory is cached, and meets no other buffer (Vulkan, "Resource Memory Association" and "Memory Aliasing").
+-- A resource of this size may be bound at this offset of the memory object that an id has: it has bytes, ends there, begins with an atom where the memory is cached, and meets no other resource (Vulkan, "Resource Memory Association" and "Memory Aliasing").
 pub record BindReady (s : Held) (memory offset size : ℕ) : Type 0 where
   pub number : ℕ
   pub has : object_of s memory ≡ Some number
@@ -117,11 +144,11 @@ pub record BindReady (s : Held) (memory offset size : ℕ) : Type 0 where
   pub aligned : type_of s.memory number ≡ 2 → offset % 64 ≡ 0
 
 -- It was bound there, and nothing else has changed.
-abbrev pub Binds : Held → Held → ℕ → ℕ → ℕ → ℕ → Type 0
-Binds old new id memory offset size =
-    (new.memory ≡ old.memory) × (new.owned ≡ old.owned) × ((number : ℕ) → object_of old memory ≡ Some number → Puts old new id (record { size = size; object = number; offset = offset })) × (new.cache ≡ old.cache)
+abbrev pub Binds : Held → Held → (id memory offset size : ℕ) → Option ImageInfo → Type 0
+Binds old new id memory offset size shape =
+    (new.memory ≡ old.memory) × (new.owned ≡ old.owned) × ((number : ℕ) → object_of old memory ≡ Some number → Puts old new id (record { size = size; object = number; offset = offset }) shape) × (new.cache ≡ old.cache)
 
--- No buffer but that of an id itself lies in the memory object that the id has.
+-- No resource but that of an id itself lies in the memory object that the id has.
 abbrev pub IsEmpty : Held → ℕ → Type 0
 IsEmpty s id = (number b : ℕ) (p : Placed) → object_of s id ≡ Some number → (b ≡ id → ⊥) → placed s b ≡ Some p → p.object ≡ number → ⊥
 
@@ -130,16 +157,18 @@ abbrev pub freed : MemoryState → Option ℕ → MemoryState
 freed m None = m
 freed m (Some number) = with_object m number None
 
--- Nothing is held any more of a buffer in cached memory, nor of its atoms; what is held of others hasn't changed.
+-- Nothing is held any more of a resource in cached memory, nor of its atoms; what is held of others hasn't changed.
 pub record Forgets (old new : Held) (id : ℕ) : Type 0 where
   pub gone : (p : Placed) (k : ℕ) → cached_at old id ≡ Some p → IsInAtoms p k → held_at new.cache p.object k ≡ None
   pub others : (b k : ℕ) → (b ≡ id → ⊥) → host_at new (in_buffer b k) ≡ host_at old (in_buffer b k)
 
--- An id has ended: its buffer isn't there any more, nor what the host's cache held of it, nor the memory object that it had, and nothing else has changed (Vulkan, "Object Lifetime").
+-- An id has ended: its resource isn't there any more, nor what the host's cache held of it, nor the memory object that it had, and nothing else has changed (Vulkan, "Object Lifetime").
 pub record Ends (old new : Held) (id : ℕ) : Type 0 where
   pub memory : new.memory ≡ freed old.memory (object_of old id)
   pub no_object : object_of new id ≡ None
   pub objects : (i : ℕ) → (i ≡ id → ⊥) → object_of new i ≡ object_of old i
-  pub no_buffer : placed new id ≡ None
-  pub buffers : (b : ℕ) → (b ≡ id → ⊥) → placed new b ≡ placed old b
+  pub no_resource : placed new id ≡ None
+  pub resources : (b : ℕ) → (b ≡ id → ⊥) → placed new b ≡ placed old b
+  pub no_shape : shape_of new id ≡ None
+  pub shapes : (b : ℕ) → (b ≡ id → ⊥) → shape_of new b ≡ shape_of old b
   pub held : (b k : ℕ) → (b ≡ id → ⊥) → host_at new (in_buffer b k) ≡ host_at old (in_buffer b k)

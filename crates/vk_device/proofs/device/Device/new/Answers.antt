@@ -9,8 +9,8 @@ pub returns-clause-led : goal.returns-clause-led
 returns-clause-led c = λ t. record {
   memory = bare_memory (byte_at c.new.result);
   run = c.direct_runs_go_on.ensures.begins t (byte_at c.new.result);
-  holds = λ b there. absurd (none_there c.new.result c.new.ensures.buffers b there);
-  matches = nothing_held c.new.result c.new.ensures.owned c.new.ensures.buffers;
+  holds = λ b there. absurd (none_there c.new.result c.new.ensures.resources b there);
+  matches = nothing_held c.new.result c.new.ensures.owned c.new.ensures.resources c.new.ensures.shapes;
   works = ap (λ works. map Runs works) c.new-4.ensures.items;
   waits = c.new-2.ensures;
   counts = refl;

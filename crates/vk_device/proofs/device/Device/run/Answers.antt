@@ -38,7 +38,7 @@ returns-clause-ran c = λ t steps s led sound.
     let content = its_content t steps s c.args.self.now led c.args.piece among c.index.result.now here run sound.faultless c.commands_name_live.ensures fits c.offered_are_pieces.ensures.pieces in
     let sources = its_sources t steps s c.args.self.now led c.args.piece among c.index.result.now here run sound.faultless c.commands_name_live.ensures fits c.offered_are_pieces.ensures.pieces c.pieces_are_byte_writes.ensures in
     has_run t steps s c.args.self.now led c.args.piece among sources c.direct_runs_go_on.ensures.pieces _ (c.run_piece.ensures.ran s.front.past _ led.matches fit content) (c.run_piece.ensures.matches s.front.past led.matches)
-    c.run_piece.ensures.placed c.run_piece.ensures.cache refl refl refl (c.finish.ensures s.front.past s.done led.offers)
+    c.run_piece.ensures.placed c.run_piece.ensures.shapes c.run_piece.ensures.cache refl refl refl (c.finish.ensures s.front.past s.done led.offers)
 
 pub returns-clause-written : goal.returns-clause-written
 returns-clause-written c = λ t steps s b w v led sound.

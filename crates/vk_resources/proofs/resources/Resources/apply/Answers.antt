@@ -1,65 +1,10 @@
 use Rattle.std.proofs.Common.{ap, sym, ◌∙◌}
-use Rattle.std.proofs.lemmas.Result.{IfOk-weaker}
 use Rattle.vk_model.specs.declared.entry.Entry.TheVariants as entry
-use Rattle.vk_resources.proofs.Applying.{memory_done, buffer_done, bound_done, rest_done}
+use Rattle.vk_resources.proofs.Applying.{rest_done}
 use Rattle.vk_resources.proofs.HostAccesses.{write_done, flush_done, invalidate_done, read_done}
-use Rattle.vk_resources.proofs.Ending.{memory_absent, buffer_absent, entry_binds, free_empty, free_done, destroy_empty, destroy_done}
-use Rattle.vk_resources.proofs.Allotting.{memory_rooms, buffer_rooms, memory_allots, buffer_allots, bound_rooms, bound_allots, bound_same, free_allots, destroy_allots, rest_rooms, rest_allots, is_rest}
+use Rattle.vk_resources.proofs.Ending.{free_empty, free_done, destroy_empty, destroy_done}
+use Rattle.vk_resources.proofs.Allotting.{free_allots, destroy_allots, rest_rooms, rest_allots, is_rest}
 use Rattle.vk_resources.proofs.resources.Resources.apply.Goals as goal
-
--- ---- memory objects
-
-pub returns-in-Memory-clause-done : goal.returns-in-Memory-clause-done
-returns-in-Memory-clause-done c =
-    IfOk-weaker c.make_memory.result _ _ (λ a made. λ e past m fit. memory_done c.args.self.now c.make_memory.new.self c.args.entry.now c.in-Memory.id c.in-Memory.info c.in-Memory.is c.make_memory.ensures.stands.0 a made e past m fit) c.make_memory.ensures.made
-
-pub returns-in-Memory-clause-rooms : goal.returns-in-Memory-clause-rooms
-returns-in-Memory-clause-rooms c =
-    IfOk-weaker c.make_memory.result _ _ (λ a made. λ past fit. memory_rooms c.args.self.now c.make_memory.new.self c.args.entry.now c.in-Memory.id c.in-Memory.info c.in-Memory.is a made) c.make_memory.ensures.made
-
-pub returns-in-Memory-clause-allots : goal.returns-in-Memory-clause-allots
-returns-in-Memory-clause-allots c =
-    IfOk-weaker c.make_memory.result _ _ (λ a made. λ past m fit.
-    memory_allots c.args.self.now c.make_memory.new.self c.args.entry.now c.in-Memory.id c.in-Memory.info c.in-Memory.is (memory_absent c.args.self.now c.args.entry.now c.in-Memory.id c.in-Memory.info c.in-Memory.is past m fit) c.make_memory.ensures.stands.0 a made)
-    c.make_memory.ensures.made
-
--- ---- buffers
-
-pub returns-in-Dedicated-clause-done : goal.returns-in-Dedicated-clause-done
-returns-in-Dedicated-clause-done c =
-    IfOk-weaker c.make_buffer.result _ _ (λ a made. λ e past m fit.
-    buffer_done c.args.self.now c.make_buffer.new.self c.args.entry.now c.in-Buffer.id c.in-Dedicated.memory_type c.in-Buffer.info c.in-Buffer.is c.in-Dedicated.is c.make_buffer.ensures.stands a made e past m fit)
-    c.make_buffer.ensures.made
-
-pub returns-in-Dedicated-clause-rooms : goal.returns-in-Dedicated-clause-rooms
-returns-in-Dedicated-clause-rooms c =
-    IfOk-weaker c.make_buffer.result _ _ (λ a made. λ past fit. buffer_rooms c.args.self.now c.make_buffer.new.self c.args.entry.now c.in-Buffer.id c.in-Dedicated.memory_type c.in-Buffer.info c.in-Buffer.is c.in-Dedicated.is a made) c.make_buffer.ensures.made
-
-pub returns-in-Dedicated-clause-allots : goal.returns-in-Dedicated-clause-allots
-returns-in-Dedicated-clause-allots c =
-    IfOk-weaker c.make_buffer.result _ _ (λ a made. λ past m fit.
-    buffer_allots c.args.self.now c.make_buffer.new.self c.args.entry.now c.in-Buffer.id c.in-Dedicated.memory_type c.in-Buffer.info c.in-Buffer.is c.in-Dedicated.is
-    (buffer_absent c.args.self.now c.args.entry.now c.in-Buffer.id c.in-Buffer.info c.in-Buffer.is past m fit) c.make_buffer.ensures.stands.0 a made)
-    c.make_buffer.ensures.made
-
-pub bind_buffer-requires-clause-ready : goal.bind_buffer-requires-clause-ready
-bind_buffer-requires-clause-ready c = λ apart.
-    entry_binds c.args.self.now c.args.entry.now c.in-Buffer.id c.in-Memory-place.memory c.in-Memory-place.offset c.in-Buffer.info c.in-Buffer.is c.in-Memory-place.is c.requires.0 c.requires.1 c.requires.2 apart
-
-pub returns-in_ok-bind_buffer-in-Memory-place-clause-done : goal.returns-in_ok-bind_buffer-in-Memory-place-clause-done
-returns-in_ok-bind_buffer-in-Memory-place-clause-done c = λ e past m fit.
-    let s = c.args.self.now in
-    let y = c.args.entry.now in
-    bound_done s c.bind_buffer.new.self y c.in-Buffer.id c.in-Memory-place.memory c.in-Memory-place.offset c.in-Buffer.info c.in-Buffer.is c.in-Memory-place.is c.bind_buffer.ensures.stands
-    (entry_binds s y c.in-Buffer.id c.in-Memory-place.memory c.in-Memory-place.offset c.in-Buffer.info c.in-Buffer.is c.in-Memory-place.is past m fit c.bind_buffer.ensures.stands) c.in_ok-bind_buffer-in-Memory-place.ensures.bound e past m fit
-
-pub returns-in_ok-bind_buffer-in-Memory-place-clause-rooms : goal.returns-in_ok-bind_buffer-in-Memory-place-clause-rooms
-returns-in_ok-bind_buffer-in-Memory-place-clause-rooms c = λ past fit. bound_rooms c.args.self.now c.args.entry.now c.in-Buffer.id c.in-Memory-place.memory c.in-Memory-place.offset c.in-Buffer.info c.in-Buffer.is c.in-Memory-place.is
-
-pub returns-in_ok-bind_buffer-in-Memory-place-clause-allots : goal.returns-in_ok-bind_buffer-in-Memory-place-clause-allots
-returns-in_ok-bind_buffer-in-Memory-place-clause-allots c = λ past m fit.
-    bound_allots c.args.self.now c.bind_buffer.new.self c.args.entry.now c.in-Buffer.id c.in-Memory-place.memory c.in-Memory-place.offset c.in-Buffer.info c.in-Buffer.is c.in-Memory-place.is
-    (bound_same c.args.self.now c.bind_buffer.new.self c.in_ok-bind_buffer-in-Memory-place.ensures.bound.0 c.in_ok-bind_buffer-in-Memory-place.ensures.bound.1)
 
 -- ---- what ends
 
@@ -102,7 +47,7 @@ returns-in-Invalidate-clause-done c = λ e past m fit. invalidate_done c.args.se
 
 pub returns-in_default : goal.returns-in_default
 returns-in_default c =
-    let rest = is_rest c.args.entry.now c.in_default.not-Memory c.in_default.not-Buffer c.in_default.not-Free c.in_default.not-Destroy c.in_default.not-Write c.in_default.not-Read c.in_default.not-Flush c.in_default.not-Invalidate in
+    let rest = is_rest c.args.entry.now c.in_default.not-Memory c.in_default.not-Buffer c.in_default.not-Image c.in_default.not-Free c.in_default.not-Destroy c.in_default.not-Write c.in_default.not-Read c.in_default.not-Flush c.in_default.not-Invalidate in
     record {
       done = λ e past m fit. rest_done c.args.self.now c.args.entry.now rest e past m fit;
       rooms = λ past fit. rest_rooms c.args.self.now c.args.entry.now rest past fit;

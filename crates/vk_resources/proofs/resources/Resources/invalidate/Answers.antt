@@ -3,28 +3,26 @@ use Rattle.std.specs.Prelude.{is_some}
 use Rattle.vk_map_cache.specs.Holdings.{only_where}
 use Rattle.vk_model.specs.Run.Caches.{forgotten}
 use Rattle.vk_model.specs.World.Effect.{in_atoms}
-use Rattle.vk_resources.specs.Held.{Held, placed}
+use Rattle.vk_resources.specs.Held.{Held, flat}
 use Rattle.vk_resources.specs.Inner.Steps.{MayReachTo, HasChanged, cached_at}
-use Rattle.vk_resources.proofs.CachedBytes.{FitsIn, may_reach, cached_here}
+use Rattle.vk_resources.proofs.CachedBytes.{flat_cached}
 use Rattle.vk_resources.proofs.CachedSteps.{invalidated, uncached_kept}
 use Rattle.vk_resources.proofs.resources.Resources.invalidate.Goals as goal
 
 pub invariant_of-self : goal.invariant_of-self
 invariant_of-self c =
-    let s : Held = record { memory = c.self.inside.memories; owned = c.self.inside.owned.entries; buffers = c.self.inside.buffers.entries; cache = c.self.inside.cache } in
+    let s : Held = record { memory = c.self.inside.memories; owned = c.self.inside.owned.entries; resources = c.self.inside.resources.entries; shapes = c.self.inside.shapes.entries; cache = c.self.inside.cache } in
     let here : cached_at s c.args.id ≡ Some c.in-Some.buffer = ap (λ (h : Held). cached_at h c.args.id) c.self.view_is ∙ sym c.cached.ensures ∙ c.in-Some.is in
-    let fits : FitsIn c.in-Some.buffer.size c.args.offset c.args.size =
-    may_reach (placed s c.args.id) c.in-Some.buffer c.args.offset c.args.size (cached_here s c.args.id c.in-Some.buffer here).0 (subst (λ (h : Held). MayReachTo (placed h c.args.id) c.args.offset c.args.size) (sym c.self.view_is) c.requires) in
-    (invalidated s c.self.invariant c.args.id c.in-Some.buffer here c.args.offset c.args.size fits c.invalidate.new.self (rw c.reached-bytes.ensures at c.invalidate.ensures)).0
+    let both = flat_cached s c.args.id c.in-Some.buffer c.args.offset c.args.size here (subst (λ (h : Held). MayReachTo (flat h c.args.id) c.args.offset c.args.size) (sym c.self.view_is) c.requires) in
+    (invalidated s c.self.invariant c.args.id c.in-Some.buffer here both.0 c.args.offset c.args.size both.1 c.invalidate.new.self (rw c.reached-bytes.ensures at c.invalidate.ensures)).0
 
 pub returns-in-Some : goal.returns-in-Some
 returns-in-Some c =
-    let s : Held = record { memory = c.self.inside.memories; owned = c.self.inside.owned.entries; buffers = c.self.inside.buffers.entries; cache = c.self.inside.cache } in
+    let s : Held = record { memory = c.self.inside.memories; owned = c.self.inside.owned.entries; resources = c.self.inside.resources.entries; shapes = c.self.inside.shapes.entries; cache = c.self.inside.cache } in
     let here : cached_at s c.args.id ≡ Some c.in-Some.buffer = ap (λ (h : Held). cached_at h c.args.id) c.self.view_is ∙ sym c.cached.ensures ∙ c.in-Some.is in
-    let fits : FitsIn c.in-Some.buffer.size c.args.offset c.args.size =
-    may_reach (placed s c.args.id) c.in-Some.buffer c.args.offset c.args.size (cached_here s c.args.id c.in-Some.buffer here).0 (subst (λ (h : Held). MayReachTo (placed h c.args.id) c.args.offset c.args.size) (sym c.self.view_is) c.requires) in
+    let both = flat_cached s c.args.id c.in-Some.buffer c.args.offset c.args.size here (subst (λ (h : Held). MayReachTo (flat h c.args.id) c.args.offset c.args.size) (sym c.self.view_is) c.requires) in
     subst (λ (h : Held). HasChanged h (record s { cache = c.invalidate.new.self }) c.args.id (only_where (λ k. is_some (cached_at h c.args.id) && in_atoms c.args.offset c.args.size k) (forgotten 0))) c.self.view_is
-    (invalidated s c.self.invariant c.args.id c.in-Some.buffer here c.args.offset c.args.size fits c.invalidate.new.self (rw c.reached-bytes.ensures at c.invalidate.ensures)).1
+    (invalidated s c.self.invariant c.args.id c.in-Some.buffer here both.0 c.args.offset c.args.size both.1 c.invalidate.new.self (rw c.reached-bytes.ensures at c.invalidate.ensures)).1
 
 pub returns-in_default : goal.returns-in_default
 returns-in_default c = uncached_kept c.args.self.now c.args.id (in_atoms c.args.offset c.args.size) (forgotten 0) (sym c.in_default.ensures)

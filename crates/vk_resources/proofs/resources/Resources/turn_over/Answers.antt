@@ -2,11 +2,14 @@ use Rattle.std.proofs.Common.{sym}
 use Rattle.std.proofs.lemmas.Result.{on_ok_weaker}
 use Rattle.vk_model.specs.Trace.Objects.{live}
 use Rattle.vk_resources.proofs.Matching.{keeps_matches}
-use Rattle.vk_resources.proofs.HostAccesses.{has_atom, turns_over}
+use Rattle.vk_resources.proofs.HostAccesses.{is_flat, has_atom, turns_over}
 use Rattle.vk_resources.proofs.resources.Resources.turn_over.Goals as goal
 
-pub turn_over_atom-requires : goal.turn_over_atom-requires
-turn_over_atom-requires c = let r = c.requires in has_atom r.0 c.args.self.now r.1 c.args.entry.now c.in-Some.buffer (sym c.in-Some.ensures) r.2 c.args.atom r.3
+pub turn_over_atom-requires-clause-buffer : goal.turn_over_atom-requires-clause-buffer
+turn_over_atom-requires-clause-buffer c = let r = c.requires in is_flat r.0 c.args.self.now r.1 c.args.entry.now c.in-Some.buffer (sym c.in-Some.ensures) r.2
+
+pub turn_over_atom-requires-clause-atom : goal.turn_over_atom-requires-clause-atom
+turn_over_atom-requires-clause-atom c = let r = c.requires in has_atom r.0 c.args.self.now r.1 c.args.entry.now c.in-Some.buffer (sym c.in-Some.ensures) r.2 c.args.atom r.3
 
 pub returns-in-Some-clause-turned : goal.returns-in-Some-clause-turned
 returns-in-Some-clause-turned c =

@@ -1,0 +1,96 @@
+-- What an entry that makes a buffer or an image asks of the resources, and does to them.
+use Rattle.std.proofs.Common.{◌≡◌, ℕ, ◌<◌, ◌≤◌, Bool, true, false, not, ◌&&◌, ◌||◌, ◌==◌, refl, ap, sym, ◌∙◌, subst, arith, Option, Some, None}
+use Rattle.std.proofs.lemmas.Bool.{or_parts, eqb-true, eqb-false}
+use Rattle.vk_model.specs.declared.entry.Entry.{Entry}
+use Rattle.vk_model.specs.declared.entry.Entry.TheVariants as entry
+use Rattle.vk_model.specs.declared.resource.BufferInfo.{BufferInfo}
+use Rattle.vk_model.specs.declared.resource.ImageInfo.{ImageInfo}
+use Rattle.vk_model.specs.declared.resource.Kind.{Kind}
+use Rattle.vk_model.specs.declared.resource.Kind.TheVariants as kind
+use Rattle.vk_model.specs.declared.resource.Place.{Place}
+use Rattle.vk_model.specs.declared.resource.Place.TheVariants as place
+use Rattle.vk_model.specs.Rules.Sizes.{bad_image, bad_levels, is_outside}
+use Rattle.vk_model.specs.Trace.Image.{image_size, most_levels}
+use Rattle.vk_model.specs.Trace.Objects.{Resource, of_buffer, of_image}
+use Rattle.vk_model.specs.Trace.Point.{Past}
+use Rattle.vk_model.specs.Memory.PlaceLaws.{TexelByte, TexelsInside}
+use Rattle.vk_image_tiles.proofs.LevelBounds.{counts, some_bytes}
+use Rattle.vk_image_transfer.specs.Held.{ImageOf}
+use Rattle.vk_image_transfer.proofs.Places.{place_within}
+use Rattle.vk_resources.specs.declared.applied.Applied.{Applied}
+use Rattle.vk_resources.specs.declared.applied.Applied.TheVariants as applied
+use Rattle.vk_resources.specs.declared.resources.Placed.{Placed}
+use Rattle.vk_resources.specs.Allocating.{Rooms, Allots}
+use Rattle.vk_resources.specs.Held.{Held, IsShaped, Stands}
+use Rattle.vk_resources.specs.Matches.{MatchesLive}
+use Rattle.vk_resources.specs.Fits.{FitsEntry, FitsPlace}
+use Rattle.vk_resources.specs.Done.{DoneBy}
+use Rattle.vk_resources.specs.Inner.Steps.{ResourceMade, BindReady, Binds}
+use Rattle.vk_resources.proofs.Applying.{IsMaker, buffer_maker, image_maker, resource_done, bound_done}
+use Rattle.vk_resources.proofs.Allotting.{resource_rooms, resource_allots, bound_rooms, bound_allots, bound_same}
+use Rattle.vk_resources.proofs.Ending.{MakerFits, no_object, binds_ready, image_good}
+
+-- ---- the shape of an image
+
+levels_some : (k : Kind) (m : ImageInfo) → bad_levels k m ≡ false → 0 < m.levels
+levels_some kind.Linear m good = let one : m.levels ≡ 1 = eqb-true m.levels 1 (both (m.levels == 1) (m.layers == 1) good) in omega arith
+  where
+    both : (a b : Bool) → not (a && b) ≡ false → a ≡ true
+    both true b e = refl
+    both false b e = absurd cc
+levels_some kind.Optimal m good = let other = eqb-false m.levels 0 (or_parts (m.levels == 0) _ good).0 in omega arith
+
+-- an image has bytes
+pub image_some : TexelsInside → (m : ImageInfo) → bad_image m ≡ false → 0 < image_size m m.tiling
+image_some law m good =
+    let c = counts m good in
+    let levels = levels_some m.tiling m (or_parts (is_outside 4096 m.width || is_outside 4096 m.height || is_outside 256 m.layers) (bad_levels m.tiling m) good).1 in
+    let layers = c.layers.some in
+    let first : TexelByte = record { level = 0; layer = 0; x = 0; y = 0; texel_byte = 0 } in
+    let below = law m first (record { shaped = good; level_there = levels; layer_there = layers; x_there = omega arith; y_there = omega arith; texel_byte_there = some_bytes m.format }) in
+    omega (arith, below)
+
+pub image_shaped : TexelsInside → (m : ImageInfo) → bad_image m ≡ false → (p : Placed) → p.size ≡ image_size m m.tiling → IsShaped m p
+image_shaped law m good p size = record { shaped = good; size = size; inside = λ c k at. let low = place_within law (ImageOf m) good c k at in omega (arith, low, size) }
+
+-- an image that an entry makes has bytes
+pub some_of : TexelsInside → (y : Entry) (i : ℕ) (info : ImageInfo) → y ≡ entry.Image i info → (past : Past) → FitsEntry past y → 0 < image_size info info.tiling
+some_of law y i info is past fit = image_some law info (image_good y i info is past fit)
+
+-- ---- an entry that makes a resource
+
+module _ (s new : Held) (y x : Entry) (is : y ≡ x) (i : ℕ) (r : Resource) (size : ℕ) (shape : Option ImageInfo) (maker : IsMaker x i r size shape) (fits : (past : Past) → FitsEntry past y → MakerFits past i r size shape) (stands : Stands s) where
+  module _ (t : ℕ) (own : r.place ≡ place.Dedicated t) (a : Applied) (made : ResourceMade a s new i t size r.size shape) where
+    pub own_done : (e : ℕ) (past : Past) → MatchesLive past s → FitsEntry past y → DoneBy a e y past s new
+    own_done e past m fit = subst (λ (z : Entry). DoneBy a e z past s new) (sym is) (resource_done s new x i r size shape maker t own stands a made e past m (fits past fit).unused)
+
+    pub own_rooms : (past : Past) → FitsEntry past y → Rooms a s y
+    own_rooms past fit = subst (λ (z : Entry). Rooms a s z) (sym is) (resource_rooms s new x i r size shape maker t own a made)
+
+    pub own_allots : (past : Past) → MatchesLive past s → FitsEntry past y → Allots a y s new
+    own_allots past m fit = subst (λ (z : Entry). Allots a z s new) (sym is) (resource_allots s new x i r size shape maker t own (no_object s past m i r size shape (fits past fit)) stands.0 a made)
+
+  module _ (k o : ℕ) (at : r.place ≡ place.Memory k o) where
+    pub may_bind : (past : Past) → MatchesLive past s → FitsEntry past y → BindReady s k o size
+    may_bind past m fit = binds_ready s past m i r size shape (fits past fit) k o at stands
+
+    pub bind_rooms : (past : Past) → FitsEntry past y → Rooms applied.Done s y
+    bind_rooms past fit = subst (λ (z : Entry). Rooms applied.Done s z) (sym is) (bound_rooms s new x i r size shape maker k o at)
+
+    module _ (binds : Binds s new i k o size shape) where
+      pub bind_done : (e : ℕ) (past : Past) → MatchesLive past s → FitsEntry past y → DoneBy applied.Done e y past s new
+      bind_done e past m fit =
+          subst (λ (z : Entry). DoneBy applied.Done e z past s new) (sym is)
+          (bound_done s new x i r size shape maker k o at stands (may_bind past m fit) binds e past m (fits past fit).unused (subst (λ (q : Place). FitsPlace past r q) at (fits past fit).place))
+
+      pub bind_allots : (past : Past) → MatchesLive past s → FitsEntry past y → Allots applied.Done y s new
+      bind_allots past m fit = subst (λ (z : Entry). Allots applied.Done z s new) (sym is) (bound_allots s new x i r size shape maker k o at (bound_same s new binds.0 binds.1))
+
+-- what was made by the size that was asked, and of the shape that was given
+pub made_as : (a : Applied) (s new : Held) (i t n : ℕ) (shape info : ImageInfo) → n ≡ image_size info info.tiling → shape ≡ info → ResourceMade a s new i t n n (Some shape) → ResourceMade a s new i t (image_size info info.tiling) (of_image info).size (Some info)
+made_as a s new i t n shape info size same made =
+    subst (λ (m : ImageInfo). ResourceMade a s new i t (image_size info info.tiling) (image_size info info.tiling) (Some m)) same (subst (λ (k : ℕ). ResourceMade a s new i t k k (Some shape)) size made)
+
+pub binds_as : (s new : Held) (i k o n : ℕ) (shape info : ImageInfo) → n ≡ image_size info info.tiling → shape ≡ info → Binds s new i k o n (Some shape) → Binds s new i k o (image_size info info.tiling) (Some info)
+binds_as s new i k o n shape info size same binds =
+    subst (λ (m : ImageInfo). Binds s new i k o (image_size info info.tiling) (Some m)) same (subst (λ (z : ℕ). Binds s new i k o z (Some shape)) size binds)
