@@ -1,5 +1,5 @@
 -- The pieces of a clear, and the bytes of the image after one.
-use Rattle.std.proofs.Common.{◌≡◌, ℕ, zero, suc, ◌+◌, ◌*◌, ◌/◌, ◌%◌, ◌<◌, ◌≤◌, List, [], ◌∷◌, ◌++◌, map, length, false, eq-eqb, refl, ap, sym, subst, ◌∙◌, arith, zero-add, slice_index, Option, Some, None}
+use Rattle.std.proofs.Common.{◌≡◌, ℕ, zero, suc, ◌+◌, ◌*◌, ◌/◌, ◌%◌, ◌<◌, ◌≤◌, List, [], ◌∷◌, ◌++◌, map, length, false, eqb, eq-eqb, refl, ap, sym, subst, ◌∙◌, arith, zero-add, slice_index, Option, Some, None}
 use Rattle.std.specs.List.{flat_map}
 use Rattle.std.proofs.lemmas.List.{map-append}
 use Rattle.vk_model.specs.declared.command.SubresourceRange.{SubresourceRange}
@@ -10,11 +10,11 @@ use Rattle.vk_model.specs.Basics.{below, grid}
 use Rattle.vk_model.specs.Trace.Image.{texel, level_width, level_height}
 use Rattle.vk_model.specs.Rules.Sizes.{bad_image}
 use Rattle.vk_model.specs.Memory.PlaceLaws.{TexelsApart}
-use Rattle.vk_model.specs.World.Bytes.{in_image}
+use Rattle.vk_model.specs.World.Bytes.{Byte, in_image, resource_at}
 use Rattle.vk_model.specs.World.ByteWrites.{ByteWrite, Value, clear_write, color_byte}
 use Rattle.vk_model.specs.Run.Pieces.{cut, level_pieces}
 use Rattle.vk_transfer.specs.Ran.{HaveRun}
-use Rattle.vk_image_transfer.specs.Held.{image_at, one_held, bytes_held}
+use Rattle.vk_image_transfer.specs.Held.{Held, image_at, one_held, byte_held, bytes_held}
 use Rattle.vk_image_transfer.specs.Pieces.{piece_in}
 use Rattle.vk_image_transfer.specs.Rows.{AreWritten, image_row}
 use Rattle.vk_image_transfer.proofs.Grids.{grid_piece, grid_count}
@@ -81,14 +81,21 @@ module _ (i : ℕ) (color : List ℕ) (m : ImageInfo) (r : SubresourceRange) (le
     clear_is = ap (λ (l : List (List ByteWrite)). piece_in l number) as_grid
         ∙ ap (λ (o : Option (List ByteWrite)). or_none o) (grid_piece r.layers (level_height m level) (level_width m level) (texel m.format) write number some_bytes here)
 
+    -- of any resources that hold the image
+    pub clear_held : TexelsApart → bad_image m ≡ false → (start : ℕ) (old new : List ℕ) → RowThere m level layer 0 row (level_width m level)
+        → (held after : ℕ → Option Held) → held i ≡ Some (image_at old start m) → after i ≡ Some (image_at new start m) → ((c : Byte) → eqb i (resource_at c) ≡ false → byte_held (after (resource_at c)) c ≡ byte_held (held (resource_at c)) c)
+        → AreWritten old new (level_width m level) (texel m.format) (image_row m start level layer 0 row) (λ x p. color_byte m color p)
+        → HaveRun (piece_in (level_pieces i color m r level) number) (bytes_held held) (bytes_held after)
+    clear_held law good start old new there held after old_is new_is beside written =
+        rw clear_is
+        (image_ran m good start level layer 0 row (level_width m level) there law (texel_some m.format) i old new held after old_is new_is beside
+        (λ x p. in_image i level layer x row p) (λ x p. ap (λ (u : ℕ). in_image i level layer u row p) (sym (zero-add x))) (λ x p. Value (color_byte m color p)) (λ x p. color_byte m color p) written (λ x p lt low. refl))
+
     pub clear_ran : TexelsApart → bad_image m ≡ false → (start : ℕ) (old new : List ℕ) → RowThere m level layer 0 row (level_width m level)
         → AreWritten old new (level_width m level) (texel m.format) (image_row m start level layer 0 row) (λ x p. color_byte m color p)
         → HaveRun (piece_in (level_pieces i color m r level) number) (bytes_held (one_held i (image_at old start m))) (bytes_held (one_held i (image_at new start m)))
     clear_ran law good start old new there written =
-        rw clear_is
-        (image_ran m good start level layer 0 row (level_width m level) there law (texel_some m.format) i old new (one_held i (image_at old start m)) (one_held i (image_at new start m))
-        (only old) (only new) (λ c ne. rw ne refl)
-        (λ x p. in_image i level layer x row p) (λ x p. ap (λ (u : ℕ). in_image i level layer u row p) (sym (zero-add x))) (λ x p. Value (color_byte m color p)) (λ x p. color_byte m color p) written (λ x p lt low. refl))
+        clear_held law good start old new there (one_held i (image_at old start m)) (one_held i (image_at new start m)) (only old) (only new) (λ c ne. rw ne refl) written
       where
         only : (xs : List ℕ) → one_held i (image_at xs start m) i ≡ Some (image_at xs start m)
         only xs = rw (eq-eqb i i refl) refl

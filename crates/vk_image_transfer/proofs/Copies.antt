@@ -72,19 +72,28 @@ module _ (b i : ℕ) (m : ImageInfo) (g : BufferImageCopy) (number : ℕ) (wide 
   in_is = ap (λ (o : Option (List ByteWrite)). or_none o)
       (grid_piece g.layers g.height g.width (texel m.format) (λ z y x k. byte_write (image_texel i g z y x k) (From (in_buffer b (buffer_texel g (texel m.format) z y x k)))) number some_bytes here)
 
+  -- of any resources that hold the buffer and the image
+  pub in_held : TexelsApart → bad_image m ≡ false → (z_there : z < g.layers) (y_there : y < g.height) → RowThere m g.level (g.first_layer + z) g.x (g.y + y) g.width
+      → (source old new : List ℕ) (source_start start n : ℕ) → RegionFits g t n → (held after : ℕ → Option Held) → held b ≡ Some (buffer_at source source_start n) → held i ≡ Some (image_at old start m) → after i ≡ Some (image_at new start m)
+      → ((c : Byte) → eqb i (resource_at c) ≡ false → byte_held (after (resource_at c)) c ≡ byte_held (held (resource_at c)) c)
+      → AreWritten old new g.width t (image_row m start g.level (g.first_layer + z) g.x (g.y + y)) (λ x p. slice_index source (buffer_row g t source_start z y x + p))
+      → HaveRun (piece_in (copy_in_pieces b i m g) number) (bytes_held held) (bytes_held after)
+  in_held law good z_there y_there there source old new source_start start n fits held after source_is old_is new_is beside written =
+      rw in_is
+      (image_ran m good start g.level (g.first_layer + z) g.x (g.y + y) g.width there law (texel_some m.format) i old new held after old_is new_is beside
+      (λ x p. image_texel i g z y x p) (λ x p. refl) (λ x p. From (in_buffer b (buffer_texel g t z y x p))) (λ x p. slice_index source (buffer_row g t source_start z y x + p)) written
+      (λ x p lt low. sym (buffer_read g t source_start z y z_there y_there b n source held source_is fits x p lt low)))
+
   pub in_ran : b ≢ i → TexelsApart → bad_image m ≡ false → (z_there : z < g.layers) (y_there : y < g.height) → RowThere m g.level (g.first_layer + z) g.x (g.y + y) g.width
       → (source kept old new : List ℕ) (source_start start n : ℕ) → RegionFits g t n → ((c : Byte) → byte_held (Some (buffer_at kept source_start n)) c ≡ byte_held (Some (buffer_at source source_start n)) c)
       → AreWritten old new g.width t (image_row m start g.level (g.first_layer + z) g.x (g.y + y)) (λ x p. slice_index source (buffer_row g t source_start z y x + p))
       → HaveRun (piece_in (copy_in_pieces b i m g) number) (bytes_held (two_held b (buffer_at source source_start n) i (image_at old start m))) (bytes_held (two_held b (buffer_at kept source_start n) i (image_at new start m)))
   in_ran ne law good z_there y_there there source kept old new source_start start n fits same written =
-      let held = two_held b (buffer_at source source_start n) i (image_at old start m) in
-      rw in_is
-      (image_ran m good start g.level (g.first_layer + z) g.x (g.y + y) g.width there law (texel_some m.format) i old new
+      in_held law good z_there y_there there source old new source_start start n fits
       (two_held b (buffer_at source source_start n) i (image_at old start m)) (two_held b (buffer_at kept source_start n) i (image_at new start m))
+      (first_held b i ne (buffer_at source source_start n) (image_at old start m))
       (second_held b i (buffer_at source source_start n) (image_at old start m)) (second_held b i (buffer_at kept source_start n) (image_at new start m))
-      (beside_held b i (buffer_at source source_start n) (buffer_at kept source_start n) (image_at old start m) (image_at new start m) same)
-      (λ x p. image_texel i g z y x p) (λ x p. refl) (λ x p. From (in_buffer b (buffer_texel g t z y x p))) (λ x p. slice_index source (buffer_row g t source_start z y x + p)) written
-      (λ x p lt low. sym (buffer_read g t source_start z y z_there y_there b n source (two_held b (buffer_at source source_start n) i (image_at old start m)) (first_held b i ne (buffer_at source source_start n) (image_at old start m)) fits x p lt low)))
+      (beside_held b i (buffer_at source source_start n) (buffer_at kept source_start n) (image_at old start m) (image_at new start m) same) written
 
   -- ---- from the image to the buffer
 
@@ -92,18 +101,28 @@ module _ (b i : ℕ) (m : ImageInfo) (g : BufferImageCopy) (number : ℕ) (wide 
   out_is = ap (λ (o : Option (List ByteWrite)). or_none o)
       (grid_piece g.layers g.height g.width (texel m.format) (λ z y x k. byte_write (in_buffer b (buffer_texel g (texel m.format) z y x k)) (From (image_texel i g z y x k))) number some_bytes here)
 
+  -- of any resources that hold the image and the buffer
+  pub out_held : bad_image m ≡ false → (z_there : z < g.layers) (y_there : y < g.height) → RowThere m g.level (g.first_layer + z) g.x (g.y + y) g.width
+      → (source old new : List ℕ) (source_start start n : ℕ) → RegionFits g t n → (held after : ℕ → Option Held) → held i ≡ Some (image_at source source_start m) → held b ≡ Some (buffer_at old start n) → after b ≡ Some (buffer_at new start n)
+      → ((c : Byte) → eqb b (resource_at c) ≡ false → byte_held (after (resource_at c)) c ≡ byte_held (held (resource_at c)) c)
+      → AreWritten old new g.width t (buffer_row g t start z y) (λ x p. slice_index source (image_row m source_start g.level (g.first_layer + z) g.x (g.y + y) x + p))
+      → HaveRun (piece_in (copy_out_pieces i b m g) number) (bytes_held held) (bytes_held after)
+  out_held good z_there y_there there source old new source_start start n fits held after source_is old_is new_is beside written =
+      rw out_is
+      (buffer_ran g t start z y z_there y_there (texel_some m.format) b n fits old new held after old_is new_is beside
+      (λ x p. From (image_texel i g z y x p)) (λ x p. slice_index source (image_row m source_start g.level (g.first_layer + z) g.x (g.y + y) x + p)) written
+      (λ x p lt low. sym (row_read m good source_start g.level (g.first_layer + z) g.x (g.y + y) g.width there i source held source_is x p lt low)))
+
   pub out_ran : i ≢ b → bad_image m ≡ false → (z_there : z < g.layers) (y_there : y < g.height) → RowThere m g.level (g.first_layer + z) g.x (g.y + y) g.width
       → (source kept old new : List ℕ) (source_start start n : ℕ) → RegionFits g t n → ((c : Byte) → byte_held (Some (image_at kept source_start m)) c ≡ byte_held (Some (image_at source source_start m)) c)
       → AreWritten old new g.width t (buffer_row g t start z y) (λ x p. slice_index source (image_row m source_start g.level (g.first_layer + z) g.x (g.y + y) x + p))
       → HaveRun (piece_in (copy_out_pieces i b m g) number) (bytes_held (two_held i (image_at source source_start m) b (buffer_at old start n))) (bytes_held (two_held i (image_at kept source_start m) b (buffer_at new start n)))
   out_ran ne good z_there y_there there source kept old new source_start start n fits same written =
-      rw out_is
-      (buffer_ran g t start z y z_there y_there (texel_some m.format) b n fits old new
+      out_held good z_there y_there there source old new source_start start n fits
       (two_held i (image_at source source_start m) b (buffer_at old start n)) (two_held i (image_at kept source_start m) b (buffer_at new start n))
+      (first_held i b ne (image_at source source_start m) (buffer_at old start n))
       (second_held i b (image_at source source_start m) (buffer_at old start n)) (second_held i b (image_at kept source_start m) (buffer_at new start n))
-      (beside_held i b (image_at source source_start m) (image_at kept source_start m) (buffer_at old start n) (buffer_at new start n) same)
-      (λ x p. From (image_texel i g z y x p)) (λ x p. slice_index source (image_row m source_start g.level (g.first_layer + z) g.x (g.y + y) x + p)) written
-      (λ x p lt low. sym (row_read m good source_start g.level (g.first_layer + z) g.x (g.y + y) g.width there i source (two_held i (image_at source source_start m) b (buffer_at old start n)) (first_held i b ne (image_at source source_start m) (buffer_at old start n)) x p lt low)))
+      (beside_held i b (image_at source source_start m) (image_at kept source_start m) (buffer_at old start n) (buffer_at new start n) same) written
 
 -- ---- from an image to an image
 

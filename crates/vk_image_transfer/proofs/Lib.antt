@@ -7,4 +7,5 @@ pub mod ImageRows
 pub mod Clears
 pub mod BufferRows
 pub mod Copies
+pub mod PieceRows
 pub mod AllPieces

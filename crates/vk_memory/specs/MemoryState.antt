@@ -1,5 +1,5 @@
 -- The live memory objects, and how full the heaps are (Vulkan, "Device Memory").
-use Rattle.std.specs.Prelude.{ℕ, ◌+◌, ◌<◌, ◌≤◌, ◌==◌, ◌⊎◌, List, replicate, slice_index_or, slice_set, sum_by, Bool, true, false, if◌then◌else◌, Option, Some, None, IsSome}
+use Rattle.std.specs.Prelude.{◌≡◌, ℕ, ◌+◌, ◌<◌, ◌≤◌, ◌==◌, ◌⊎◌, List, replicate, slice_index_or, slice_set, sum_by, Bool, true, false, if◌then◌else◌, Option, Some, None, IsSome}
 use Rattle.vk_model.specs.Memory.HeapSizes.{HeapSizes}
 use Rattle.vk_memory.specs.declared.memories.Object.{Object}
 
@@ -103,3 +103,9 @@ with_region s number bytes = with_object s number (rewritten bytes (object_at s 
 -- The objects, with one of them mapped or not.
 abbrev pub with_mapped : MemoryState → ℕ → Bool → MemoryState
 with_mapped s number mapped = with_object s number (remapped mapped (object_at s number))
+
+-- The object of a number has other bytes, by a copy from the one of another number (Vulkan, "Copy Commands"): this holds of what was read there, what it had, and what it has.
+pub record IsCopied (copied : List ℕ → List ℕ → List ℕ → Type 0) (old new : MemoryState) (from to : ℕ) : Type 0 where
+  pub bytes : List ℕ
+  pub memory : new ≡ with_region old to bytes
+  pub holds : copied (region_of old from) (region_of old to) bytes

@@ -1,5 +1,6 @@
 ghost use Rattle.std.specs.Prelude.{◌≡◌, ◌<◌, [], ◌∷◌, ◌++◌, length, IfOk, IsOk, OnErr, IsErrOf};
 
+use crate::copying::RegionCopy;
 use std::alloc::{AllocError, AllocFailed, Global};
 use std::marker::Model;
 use thiserror::Error;
@@ -97,7 +98,7 @@ impl Model for Memories {
 }
 
 impl Memories {
-    ghost use Rattle.vk_memory.specs.MemoryState.{IsFull, IsLive, fresh, heap_size, on_first, sizes_on, region_of, with_object, with_region, with_mapped, is_mapped, type_of};
+    ghost use Rattle.vk_memory.specs.MemoryState.{IsFull, IsLive, fresh, heap_size, on_first, sizes_on, region_of, with_object, with_region, with_mapped, is_mapped, type_of, IsCopied};
     ghost use Rattle.std.specs.Borrow.{Lends, sem};
     ghost use Rattle.vk_memory.specs.contracts.memories.Memories.{the_row};
     ghost use Rattle.vk_heap.specs.contracts.region.Region.{the_row as region_row};
@@ -270,6 +271,28 @@ impl Memories {
                 source
                     .region
                     .copy_between(at, &mut object.region, to_at, len);
+                self.objects[to as usize] = Some(object);
+            }
+            _ => unreachable!(),
+        }
+    }
+
+    /// Copies from a live object to a live object, which may be that one, as the copy says.
+    pub fn copy_by<C: RegionCopy>(&mut self, from: u64, to: u64, copy: &C)
+        requires source { IsLive self.old from }
+        requires destination { IsLive self.old to }
+        requires within { from ≡ to → C.may_copy_within copy.now (region_of self.old to) }
+        requires between { ¬ (from ≡ to) → C.may_copy_between copy.now (region_of self.old from) (region_of self.old to) }
+        ensures { IsCopied (C.has_copied copy.now) self.old self.new from to }
+    {
+        if from == to {
+            copy.copy_within(self.region_mut(to));
+            return;
+        }
+        let taken = self.objects[to as usize].take();
+        match (&self.objects[from as usize], taken) {
+            (Some(source), Some(mut object)) => {
+                copy.copy_between(&source.region, &mut object.region);
                 self.objects[to as usize] = Some(object);
             }
             _ => unreachable!(),

@@ -13,14 +13,14 @@ use Rattle.vk_model.specs.declared.command.Length.TheVariants as length_of
 use Rattle.vk_model.specs.Run.Caches as caches
 use Rattle.vk_model.specs.Run.Caches.{Cell, forgotten}
 use Rattle.vk_model.specs.Run.CachedRuns.{after_host_write}
-use Rattle.vk_model.specs.World.Bytes.{Byte, in_buffer, in_image, resource_at}
+use Rattle.vk_model.specs.World.Bytes.{Byte, in_buffer, in_image}
 use Rattle.vk_model.specs.World.Effect.{in_atoms}
 use Rattle.vk_transfer.specs.Ran.{AreApart}
 use Rattle.vk_resources.specs.declared.resources.Placed.{Placed}
 use Rattle.vk_resources.specs.Held.{Held, IsApart, IsInside, IsCaching, IsCachedByte, IsInAtoms, Stands, is_cached_in, placed, placed_in, shape_of, flat, flat_in, host_at, byte_at, IsThere, HasCell}
 use Rattle.vk_resources.specs.Inner.Steps.{MayReach, MayReachTo, cached_at, changed_of, length_to}
 use Rattle.vk_resources.proofs.Placing.{inside_of, kept_object}
-use Rattle.vk_resources.proofs.Lying.{Lies, byte_lies, buffer_lies, where_lies, where_is, where_image, lies_within, byte_stays}
+use Rattle.vk_resources.proofs.Lying.{byte_lies, buffer_lies, where_lies, where_is, where_image, lies_within, byte_stays}
 
 -- ---- the bytes of a buffer
 

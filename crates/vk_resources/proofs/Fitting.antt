@@ -24,6 +24,8 @@ use Rattle.vk_transfer.proofs.FillPieces.{writes_size}
 use Rattle.vk_transfer.proofs.UpdatePieces.{length_update}
 use Rattle.vk_transfer.proofs.CopiedBytes.{length_copy}
 use Rattle.vk_resources.specs.declared.resources.Placed.{Placed}
+use Rattle.vk_resources.specs.declared.work.Regions.{Regions}
+use Rattle.vk_resources.specs.declared.work.Regions.TheVariants.{OfBuffers}
 use Rattle.vk_resources.specs.Held.{Held, flat, byte_at}
 use Rattle.vk_resources.specs.Matches.{MatchesLive}
 use Rattle.vk_resources.specs.Fits.{FitsFill, FitsCommand, NamesLive}
@@ -117,7 +119,7 @@ module _ (past : Past) (s : Held) (m : MatchesLive past s) (b o : ℕ) (bytes : 
   update_named k ms is = let there : slice_get (cut 4096 (update_writes b u)) k ≡ Some ms = ap (λ (ps : List (List ByteWrite)). slice_get ps k) (update_same past b o bytes u at same) ∙ is in rw (update_piece, there) refl
 
 -- how many pieces a copy has doesn't depend on its buffers
-copies_long : (gs : List BufferCopy) (s d : ℕ) → length (copy_pieces s d gs) ≡ length (copy_pieces 0 0 gs)
+pub copies_long : (gs : List BufferCopy) (s d : ℕ) → length (copy_pieces s d gs) ≡ length (copy_pieces 0 0 gs)
 copies_long [] s d = refl
 copies_long (g ∷ gs) s d =
     length-append (cut 4096 (copy_writes s d g)) (copy_pieces s d gs) ∙ ap (λ (n : ℕ). n + length (copy_pieces s d gs)) (one s d g) ∙ ap (λ (n : ℕ). length (cut 4096 (copy_writes 0 0 g)) + n) (copies_long gs s d)
@@ -190,5 +192,5 @@ module _ (s : Held) (y : Cmd) (k : ℕ) (ready : PieceReady s y k) where
         (ap (λ (rs : List BufferCopy). copy_piece a b rs k) same ∙ copy_named a b gs past k ms (sym (ap (λ (c : Cmd). slice_get (pieces past c) k) is) ∙ there)) ran.1
 
 -- the regions of a copy are those that it was made ready with
-pub regions_of : (y : Cmd) (o : Option (List BufferCopy)) (a b : ℕ) (gs regions : List BufferCopy) → AreCopied y o → y ≡ cmd.Copy a b gs → o ≡ Some regions → regions ≡ gs
-regions_of y o a b gs regions copied is at = subst (λ (x : Option (List BufferCopy)). AreCopied (cmd.Copy a b gs) x) at (subst (λ (c : Cmd). AreCopied c o) is copied)
+pub regions_of : (y : Cmd) (o : Regions) (a b : ℕ) (gs regions : List BufferCopy) → AreCopied y o → y ≡ cmd.Copy a b gs → o ≡ OfBuffers regions → regions ≡ gs
+regions_of y o a b gs regions copied is at = subst (λ (x : Regions). AreCopied (cmd.Copy a b gs) x) at (subst (λ (c : Cmd). AreCopied c o) is copied)

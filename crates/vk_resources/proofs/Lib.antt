@@ -4,8 +4,11 @@ pub mod CachedBytes
 mod Splicing
 mod CachedSteps
 mod Commands
+mod WrittenRows
+mod ImageSteps
 pub mod Matching
 pub mod Fitting
+pub mod ImageFitting
 mod Living
 mod Binding
 mod Applying

@@ -1,5 +1,5 @@
 -- Where the bytes of buffers and images lie, and what stays of them when one resource gets other bytes.
-use Rattle.std.proofs.Common.{◌≡◌, ◌⊎◌, inl, inr, ℕ, ◌+◌, ◌-◌, ◌<◌, ◌≤◌, List, length, map, Bool, true, false, eqb, nat_lt, refl, ap, sym, ◌∙◌, subst, arith, slice_index, Option, Some, None, if◌then◌else◌}
+use Rattle.std.proofs.Common.{◌≡◌, ◌⊎◌, inl, inr, ℕ, ◌+◌, ◌<◌, ◌≤◌, List, length, map, Bool, true, false, eqb, nat_lt, refl, ap, sym, ◌∙◌, subst, arith, slice_index, Option, Some, None, if◌then◌else◌}
 use Rattle.std.proofs.lemmas.Bool.{eqb-true, eqb-false, lt-ltb, ltb-true}
 use Rattle.std.proofs.Math.Seq.{map-set_same}
 use Rattle.std.specs.Prelude.{IsSome, option_map}
@@ -8,11 +8,11 @@ use Rattle.vk_memory.specs.MemoryState.{MemoryState, object_at, region_of, rewri
 use Rattle.vk_memory.proofs.LiveObjects.{region_of-same, region_of-other, type_of-same}
 use Rattle.vk_model.specs.declared.resource.ImageInfo.{ImageInfo}
 use Rattle.vk_model.specs.World.Bytes.{Byte, in_buffer, in_image, resource_at}
-use Rattle.vk_image_transfer.specs.Held.{BufferOf, ImageOf, place_of, byte_held}
+use Rattle.vk_image_transfer.specs.Held.{place_of, byte_held}
 use Rattle.vk_transfer.specs.Ran.{AreApart}
 use Rattle.vk_resources.specs.declared.resources.Placed.{Placed}
 use Rattle.vk_resources.specs.Allocating.{allotted, kind_of}
-use Rattle.vk_resources.specs.Held.{Held, IsApart, IsCaching, IsInside, AreShaped, Stands, placed, shape_of, form_of, lying_in, place_in, byte_at, IsThere}
+use Rattle.vk_resources.specs.Held.{Held, IsApart, IsInside, AreShaped, placed, shape_of, form_of, lying_in, place_in, byte_at, IsThere}
 use Rattle.vk_resources.specs.Inner.Steps.{KeepsPlaces}
 use Rattle.vk_resources.proofs.Placing.{apart_rewritten, inside_of, still_long}
 

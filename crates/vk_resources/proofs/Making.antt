@@ -1,17 +1,16 @@
 -- What an entry that makes a buffer or an image asks of the resources, and does to them.
-use Rattle.std.proofs.Common.{◌≡◌, ℕ, ◌<◌, ◌≤◌, Bool, true, false, not, ◌&&◌, ◌||◌, ◌==◌, refl, ap, sym, ◌∙◌, subst, arith, Option, Some, None}
+use Rattle.std.proofs.Common.{◌≡◌, ℕ, ◌<◌, Bool, true, false, not, ◌&&◌, ◌||◌, ◌==◌, refl, sym, subst, arith, Option, Some}
 use Rattle.std.proofs.lemmas.Bool.{or_parts, eqb-true, eqb-false}
 use Rattle.vk_model.specs.declared.entry.Entry.{Entry}
 use Rattle.vk_model.specs.declared.entry.Entry.TheVariants as entry
-use Rattle.vk_model.specs.declared.resource.BufferInfo.{BufferInfo}
 use Rattle.vk_model.specs.declared.resource.ImageInfo.{ImageInfo}
 use Rattle.vk_model.specs.declared.resource.Kind.{Kind}
 use Rattle.vk_model.specs.declared.resource.Kind.TheVariants as kind
 use Rattle.vk_model.specs.declared.resource.Place.{Place}
 use Rattle.vk_model.specs.declared.resource.Place.TheVariants as place
 use Rattle.vk_model.specs.Rules.Sizes.{bad_image, bad_levels, is_outside}
-use Rattle.vk_model.specs.Trace.Image.{image_size, most_levels}
-use Rattle.vk_model.specs.Trace.Objects.{Resource, of_buffer, of_image}
+use Rattle.vk_model.specs.Trace.Image.{image_size}
+use Rattle.vk_model.specs.Trace.Objects.{Resource, of_image}
 use Rattle.vk_model.specs.Trace.Point.{Past}
 use Rattle.vk_model.specs.Memory.PlaceLaws.{TexelByte, TexelsInside}
 use Rattle.vk_image_tiles.proofs.LevelBounds.{counts, some_bytes}
@@ -26,7 +25,7 @@ use Rattle.vk_resources.specs.Matches.{MatchesLive}
 use Rattle.vk_resources.specs.Fits.{FitsEntry, FitsPlace}
 use Rattle.vk_resources.specs.Done.{DoneBy}
 use Rattle.vk_resources.specs.Inner.Steps.{ResourceMade, BindReady, Binds}
-use Rattle.vk_resources.proofs.Applying.{IsMaker, buffer_maker, image_maker, resource_done, bound_done}
+use Rattle.vk_resources.proofs.Applying.{IsMaker, resource_done, bound_done}
 use Rattle.vk_resources.proofs.Allotting.{resource_rooms, resource_allots, bound_rooms, bound_allots, bound_same}
 use Rattle.vk_resources.proofs.Ending.{MakerFits, no_object, binds_ready, image_good}
 

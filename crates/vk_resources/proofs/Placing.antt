@@ -12,7 +12,7 @@ use Rattle.vk_memory.specs.MemoryState.{MemoryState, IsLive, object_at, region_o
 use Rattle.vk_memory.proofs.LiveObjects.{live_below, region_of-same, region_of-other}
 use Rattle.vk_transfer.specs.Ran.{AreApart}
 use Rattle.vk_resources.specs.declared.resources.Placed.{Placed}
-use Rattle.vk_resources.specs.Held.{Held, IsApart, IsInside, placed_in, object_in, object_of}
+use Rattle.vk_resources.specs.Held.{IsApart, IsInside, placed_in, object_in}
 use Rattle.vk_resources.specs.Inner.Steps.{freed}
 
 -- what holds of a buffer before holds of it afterwards

@@ -25,6 +25,10 @@ pub record PieceReady (s : Held) (c : Cmd) (k : ℕ) : Type 0 where
   pub alive : NamesLive past c
   pub below : k < length (pieces past c)
 
+-- Resources are those of some past, in which a command fits.
+abbrev pub CommandReady : Held → Cmd → Type 0
+CommandReady s c = (past : Past) × MatchesLive past s × FitsCommand past c
+
 -- Resources are those of some past, in which an entry fits.
 abbrev pub EntryReady : Held → Entry → Type 0
 EntryReady s x = (past : Past) × MatchesLive past s × FitsEntry past x

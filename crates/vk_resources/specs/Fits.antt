@@ -1,8 +1,11 @@
 -- What is taken for granted of the commands and entries that come. Those that break no rule and are of a supported form have it.
-use Rattle.std.specs.Prelude.{◌≡◌, ℕ, ◌+◌, ◌*◌, ◌/◌, ◌<◌, ◌≤◌, ◌==◌, List, [], ◌∷◌, All, Contains, length, Bool, false, Option, Some, None, IsTrue, option_and_then, ⊤}
+use Rattle.std.specs.Prelude.{◌≡◌, ℕ, ◌+◌, ◌*◌, ◌/◌, ◌<◌, ◌≤◌, ◌==◌, List, All, Contains, length, Bool, false, Option, Some, None, IsTrue, option_and_then, ⊤}
 use Rattle.std.specs.List.{list_any}
 use Rattle.vk_model.specs.declared.command.Cmd.{Cmd}
 use Rattle.vk_model.specs.declared.command.Cmd.TheVariants as cmd
+use Rattle.vk_model.specs.declared.command.BufferImageCopy.{BufferImageCopy}
+use Rattle.vk_model.specs.declared.command.ImageCopy.{ImageCopy}
+use Rattle.vk_model.specs.declared.command.SubresourceRange.{SubresourceRange}
 use Rattle.vk_model.specs.declared.command.Length.{Length}
 use Rattle.vk_model.specs.declared.command.Length.TheVariants as length_of
 use Rattle.vk_model.specs.declared.entry.Entry.{Entry}
@@ -13,12 +16,15 @@ use Rattle.vk_model.specs.declared.resource.Place.{Place}
 use Rattle.vk_model.specs.declared.resource.Place.TheVariants as place
 use Rattle.vk_model.specs.Basics.{holds}
 use Rattle.vk_model.specs.Trace.Point.{Past}
-use Rattle.vk_model.specs.Trace.Objects.{made, ended, live, live_resources, memory_of, buffer, buffer_in, Resource, of_buffer, of_image}
-use Rattle.vk_model.specs.Trace.Image.{image_size}
+use Rattle.vk_model.specs.Trace.Objects.{made, ended, live, live_resources, memory_of, buffer, buffer_in, image, Resource, of_buffer, of_image}
+use Rattle.vk_model.specs.Trace.Image.{texel, image_size}
 use Rattle.vk_model.specs.Rules.Sizes.{bad_image}
+use Rattle.vk_model.specs.World.Areas.{region_box, source_box, destination_box, boxes_meet}
 use Rattle.vk_model.specs.World.ByteWrites.{buffer_size, fill_size}
 use Rattle.vk_model.specs.Rules.Ids.{is_memory, is_resource, asked_by_command}
 use Rattle.vk_model.specs.Rules.Binding.{ends_past_memory, is_aliased, is_misplaced}
+use Rattle.vk_image_transfer.specs.Pieces.{RangeFits}
+use Rattle.vk_image_transfer.specs.Rows.{BoxFits, RegionFits}
 use Rattle.vk_transfer.specs.Copies.{FitsBuffers}
 
 -- ---- commands
@@ -28,15 +34,38 @@ abbrev pub FitsFill : Option BufferInfo → ℕ → Length → Type 0
 FitsFill None o n = ⊥
 FitsFill (Some i) o n = (o ≤ i.size) × (o + fill_size i.size o n ≤ i.size) × (fill_size i.size o n ≡ 4 * (fill_size i.size o n / 4))
 
--- A command fits: a fill, an update and each region of a copy between buffers lie in buffers that were made (Vulkan, "Filling Buffers", "Updating Buffers" and "Copying Data Between Buffers"); a barrier, and a set or an await of an event, ask nothing (Vulkan, "Pipeline Barriers" and "Events").
+-- The ranges of a clear are the image's, and no more than it has subresources, since no two meet (Vulkan, "Clearing Images Outside a Render Pass Instance"; that they don't meet: profile).
+abbrev pub FitsClear : Option ImageInfo → List SubresourceRange → Type 0
+FitsClear None rs = ⊥
+FitsClear (Some m) rs = All (RangeFits m) rs × (length rs ≤ m.levels * m.layers)
+
+-- Each region of a copy between a buffer and an image lies in an image that was made, and its texels in a buffer of this size (Vulkan, "Copying Data Between Buffers and Images").
+abbrev pub FitsRegions : Option ImageInfo → ℕ → List BufferImageCopy → Type 0
+FitsRegions None size gs = ⊥
+FitsRegions (Some m) size gs = All (λ g. BoxFits m (region_box g) × RegionFits g (texel m.format) size) gs
+
+-- The boxes that are read and written within one image don't meet; others have nothing in common (Vulkan, "Copying Data Between Images").
+abbrev pub KeepsApart : (s d : ℕ) → ImageCopy → Type 0
+KeepsApart s d g = s ≡ d → boxes_meet (source_box g) (destination_box g) ≡ false
+
+-- Each region of a copy between images lies in both, which were made and have texels of one size (Vulkan, "Copying Data Between Images", also on size-compatible formats).
+abbrev pub FitsImages : (s d : ℕ) → Option ImageInfo → Option ImageInfo → List ImageCopy → Type 0
+FitsImages s d None to gs = ⊥
+FitsImages s d (Some from) None gs = ⊥
+FitsImages s d (Some from) (Some to) gs = (texel from.format ≡ texel to.format) × All (λ g. BoxFits from (source_box g) × BoxFits to (destination_box g) × KeepsApart s d g) gs
+
+-- A command fits: a fill, an update and each region of a copy lie in buffers and images that were made, as do the ranges of a clear (Vulkan, "Clear Commands" and "Copy Commands"); a barrier, and a set or an await of an event, ask nothing (Vulkan, "Pipeline Barriers" and "Events").
 abbrev pub FitsCommand : Past → Cmd → Type 0
 FitsCommand past (cmd.Fill b o n w) = FitsFill (buffer past b) o n
 FitsCommand past (cmd.Update b o bytes) = o + length bytes ≤ buffer_size past b
 FitsCommand past (cmd.Copy s d gs) = All (λ g. FitsBuffers g (buffer_size past s) (buffer_size past d)) gs
+FitsCommand past (cmd.Clear i l color rs) = FitsClear (image past i) rs
+FitsCommand past (cmd.CopyIn b i l gs) = FitsRegions (image past i) (buffer_size past b) gs
+FitsCommand past (cmd.CopyOut i l b gs) = FitsRegions (image past i) (buffer_size past b) gs
+FitsCommand past (cmd.CopyImage s l d m gs) = FitsImages s d (image past s) (image past d) gs
 FitsCommand past (cmd.Barrier es) = ⊤
 FitsCommand past (cmd.Set v ms) = ⊤
 FitsCommand past (cmd.Await v ms) = ⊤
-FitsCommand past _ = ⊥
 
 -- Each object that a command names is live, and of the kind that it needs (Vulkan, "Object Lifetime").
 abbrev pub NamesLive : Past → Cmd → Type 0

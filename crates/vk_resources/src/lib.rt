@@ -4,8 +4,10 @@
 mod applied;
 mod caching;
 mod entries;
+mod images;
 mod pieces;
 mod resources;
+mod rows;
 mod work;
 
 pub use applied::Applied;

@@ -4,7 +4,8 @@ ghost use Rattle.vk_model.specs.World.ByteWrites.{ByteWrite};
 ghost use Rattle.vk_model.specs.Run.Pieces.{pieces};
 
 use crate::resources::{Placed, Resources};
-use crate::work::Work;
+use crate::work::{Regions, Work};
+use vk_image_transfer::Clear;
 use vk_model::{Cmd, Length};
 use vk_transfer::{CopyPieces, Fill, Update};
 
@@ -30,11 +31,12 @@ impl Resources {
     ghost use Rattle.vk_resources.specs.Matches.{MatchesLive};
     ghost use Rattle.vk_resources.specs.Allocating.{allotted};
     ghost use Rattle.vk_resources.specs.Fits.{FitsCommand, NamesLive};
-    ghost use Rattle.vk_resources.specs.Done.{PieceReady};
+    ghost use Rattle.vk_resources.specs.Done.{CommandReady, PieceReady};
     ghost use Rattle.vk_resources.specs.Inner.Steps.{IsPlaced, HasRun, CopyReady};
 
-    /// How many pieces a command is run in. Fills, updates and copies between buffers alone have any yet.
+    /// How many pieces a command is run in.
     pub fn pieces(&self, work: &Work<'_>) -> u64
+        requires { CommandReady self.now work.now }
         ensures { (past : Past) → MatchesLive past self.now → FitsCommand past work.now → (0 < length (pieces past work.now) → NamesLive past work.now) → result ≡ length (pieces past work.now) }
     {
         match work.command {
@@ -52,11 +54,20 @@ impl Resources {
                 bytes: bytes.as_slice(),
             }
             .pieces(),
-            Cmd::Copy { .. } => match &work.copies {
-                Some(pieces) => pieces.pieces(),
-                None => unreachable!(),
+            Cmd::Clear {
+                image,
+                color,
+                ranges,
+                ..
+            } => match self.shapes.get(image) {
+                Some(shape) => Clear {
+                    ranges: ranges.as_slice(),
+                    color: *color,
+                }
+                .pieces(shape),
+                None => 0,
             },
-            _ => 0,
+            _ => work.regions.pieces(),
         }
     }
 
@@ -99,12 +110,12 @@ impl Resources {
             } => {
                 let from = self.there(*source);
                 let to = self.there(*destination);
-                match &work.copies {
-                    Some(pieces) => self.run_copy(from, to, pieces, number),
-                    None => unreachable!(),
+                match &work.regions {
+                    Regions::OfBuffers(pieces) => self.run_copy(from, to, pieces, number),
+                    _ => unreachable!(),
                 }
             }
-            _ => {}
+            _ => self.run_for_images(work, number),
         }
     }
 

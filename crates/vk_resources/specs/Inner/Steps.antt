@@ -1,5 +1,5 @@
 -- What each step asks of resources, and what it changes there.
-use Rattle.std.specs.Prelude.{◌≡◌, ℕ, ◌+◌, ◌-◌, ◌/◌, ◌%◌, ◌<◌, ◌≤◌, ◌==◌, [], ◌∷◌, ◌++◌, length, List, Bool, true, Option, Some, None, option_and_then, if◌then◌else◌, All, ⊤}
+use Rattle.std.specs.Prelude.{◌≡◌, ℕ, ◌+◌, ◌-◌, ◌/◌, ◌%◌, ◌<◌, ◌≤◌, ◌==◌, [], ◌∷◌, ◌++◌, length, List, true, Option, Some, None, option_and_then, if◌then◌else◌, All, ⊤}
 use Rattle.vk_memory.specs.MemoryState.{MemoryState, IsFull, fresh, region_of, type_of, with_object}
 use Rattle.vk_map_cache.specs.Holdings.{held_at}
 use Rattle.vk_model.specs.declared.command.Length.{Length}

@@ -8,7 +8,7 @@ pub returns : goal.returns
 returns c =
     let s : MemoryState = record { sizes = record { heap0 = c.self.inside.heap0.size; heap1 = c.self.inside.heap1.size }; objects = c.self.inside.objects.items } in
     let live : (number : ℕ) → IsLive c.args.self.now number → IsLive s number = λ number. subst (λ (m : MemoryState). IsLive m number) (sym c.self.view_is) in
-    copied_to s c.args.from c.args.to c.args.at c.args.to_at c.args.len c.in-Some-Some.source c.in-Some-Some.object c.take-taken.new.self c.index_mut.result.now c.index.result.now c.copy_between.new.into
+    copied_to s c.args.from c.args.to c.in-Some-Some.source c.in-Some-Some.object c.take-taken.new.self c.index_mut.result.now c.index.result.now
     (live c.args.from c.requires.source.0) (live c.args.to c.requires.destination.0) c.if-from-to.false
-    (sym c.in-Some-Some.is-1 ∙ c.take-taken.ensures.value ∙ c.index_mut.ensures.value) (sym c.in-Some-Some.is-0 ∙ c.index.ensures) c.copy_between.ensures
+    (sym c.in-Some-Some.is-1 ∙ c.take-taken.ensures.value ∙ c.index_mut.ensures.value) (sym c.in-Some-Some.is-0 ∙ c.index.ensures) c.args.at c.args.to_at c.args.len c.copy_between.new.into c.copy_between.ensures
     ∙ ap (λ (m : MemoryState). with_region m c.args.to (splice (region_of m c.args.to) c.args.to_at (piece (region_of m c.args.from) c.args.at c.args.len))) c.self.view_is

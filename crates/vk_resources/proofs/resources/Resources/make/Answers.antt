@@ -1,4 +1,4 @@
-use Rattle.std.proofs.Common.{◌≡◌, ℕ, ◌<◌, false, ap, sym, ◌∙◌, subst, arith, Some, None}
+use Rattle.std.proofs.Common.{◌≡◌, ℕ, false, ap, sym, ◌∙◌, subst, arith, Some, None}
 use Rattle.std.proofs.lemmas.Result.{IfOk-weaker}
 use Rattle.vk_model.specs.declared.entry.Entry.TheVariants as entry
 use Rattle.vk_model.specs.declared.resource.ImageInfo.{ImageInfo}
@@ -6,7 +6,6 @@ use Rattle.vk_model.specs.declared.resource.Need.{Need}
 use Rattle.vk_model.specs.Rules.Sizes.{bad_image}
 use Rattle.vk_model.specs.Trace.Image.{image_size}
 use Rattle.vk_model.specs.Trace.Objects.{of_buffer, of_image}
-use Rattle.vk_resources.specs.declared.resources.Placed.{Placed}
 use Rattle.vk_resources.specs.Inner.Steps.{BindReady}
 use Rattle.vk_resources.proofs.Applying.{memory_done, buffer_maker, image_maker}
 use Rattle.vk_resources.proofs.Ending.{memory_absent, buffer_fits, image_fits, image_good, image_place, makes_one}

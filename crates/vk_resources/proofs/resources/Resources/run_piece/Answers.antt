@@ -59,17 +59,22 @@ there-from-requires c = source_there c.args.self.now c.args.work.now c.args.numb
 
 pub run_copy-requires-clause-piece : goal.run_copy-requires-clause-piece
 run_copy-requires-clause-piece c =
-    copy_may c.args.self.now c.args.work.now c.args.number c.requires c.in-Copy.source c.in-Copy.destination c.in-Copy.regions (sym c.work.view_is ∙ c.in-Copy.is) c.there-from.result c.there-to.result c.there-from.ensures c.there-to.ensures c.in-Some.pieces
-    (regions_of c.work.inside.command.now c.work.inside.copies c.in-Copy.source c.in-Copy.destination c.in-Copy.regions c.in-Some.pieces c.work.invariant c.in-Copy.is c.in-Some.is)
+    copy_may c.args.self.now c.args.work.now c.args.number c.requires c.in-Copy.source c.in-Copy.destination c.in-Copy.regions (sym c.work.view_is ∙ c.in-Copy.is) c.there-from.result c.there-to.result c.there-from.ensures c.there-to.ensures c.in-OfBuffers.pieces
+    (regions_of c.work.inside.command.now c.work.inside.regions c.in-Copy.source c.in-Copy.destination c.in-Copy.regions c.in-OfBuffers.pieces c.work.invariant c.in-Copy.is c.in-OfBuffers.is)
 
-pub returns-in-Some-clause-matches : goal.returns-in-Some-clause-matches
-returns-in-Some-clause-matches c = λ past m. keeps_matches (live past) c.args.self.now c.run_copy.new.self (c.run_copy.ensures c.in-Copy.source c.in-Copy.destination c.there-from.ensures c.there-to.ensures).0 m
+pub returns-in-OfBuffers-clause-matches : goal.returns-in-OfBuffers-clause-matches
+returns-in-OfBuffers-clause-matches c = λ past m. keeps_matches (live past) c.args.self.now c.run_copy.new.self (c.run_copy.ensures c.in-Copy.source c.in-Copy.destination c.there-from.ensures c.there-to.ensures).0 m
 
 pub there-to-requires : goal.there-to-requires
 there-to-requires c = destination_there c.args.self.now c.args.work.now c.args.number c.requires c.in-Copy.source c.in-Copy.destination c.in-Copy.regions (sym c.work.view_is ∙ c.in-Copy.is)
 
-pub returns-in-Some-clause-ran : goal.returns-in-Some-clause-ran
-returns-in-Some-clause-ran c = λ past ms m fits at.
-    copy_made c.args.self.now c.args.work.now c.args.number c.requires c.in-Copy.source c.in-Copy.destination c.in-Copy.regions (sym c.work.view_is ∙ c.in-Copy.is) c.run_copy.new.self c.in-Some.pieces
-    (regions_of c.work.inside.command.now c.work.inside.copies c.in-Copy.source c.in-Copy.destination c.in-Copy.regions c.in-Some.pieces c.work.invariant c.in-Copy.is c.in-Some.is)
+pub returns-in-OfBuffers-clause-ran : goal.returns-in-OfBuffers-clause-ran
+returns-in-OfBuffers-clause-ran c = λ past ms m fits at.
+    copy_made c.args.self.now c.args.work.now c.args.number c.requires c.in-Copy.source c.in-Copy.destination c.in-Copy.regions (sym c.work.view_is ∙ c.in-Copy.is) c.run_copy.new.self c.in-OfBuffers.pieces
+    (regions_of c.work.inside.command.now c.work.inside.regions c.in-Copy.source c.in-Copy.destination c.in-Copy.regions c.in-OfBuffers.pieces c.work.invariant c.in-Copy.is c.in-OfBuffers.is)
     (c.run_copy.ensures c.in-Copy.source c.in-Copy.destination c.there-from.ensures c.there-to.ensures) past ms at
+
+-- ---- images
+
+pub returns-in_default-clause-matches : goal.returns-in_default-clause-matches
+returns-in_default-clause-matches c = λ past m. keeps_matches (live past) c.args.self.now c.run_for_images.new.self c.run_for_images.ensures.keeps m
