@@ -1,6 +1,8 @@
 pub mod Tests
 pub mod PartChanges
+pub mod ByteUnits
 pub mod Searches
 pub mod RegionTouches
 pub mod Invalidating
 pub mod Touching
+pub mod Judging

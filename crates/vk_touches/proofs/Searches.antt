@@ -4,7 +4,7 @@ use Rattle.std.specs.Prelude.{IfSome, IfNone, is_some, is_none}
 use Rattle.std.specs.Option.{IsSomeAnd}
 use Rattle.std.proofs.lemmas.Bool.{cases_lt}
 use Rattle.vk_ranges.specs.Overlaps.{Piece, AreRunsOf}
-use Rattle.vk_touches.specs.declared.accesses.BufferAccess.{BufferAccess}
+use Rattle.vk_touches.specs.declared.accesses.ResourceAccess.{ResourceAccess}
 use Rattle.vk_touches.specs.declared.touches.LastTouches.{LastTouches}
 use Rattle.vk_touches.specs.declared.touches.Spot.{Spot}
 use Rattle.vk_touches.specs.Conflicts.{FoundIn, FoundAt, SomeBetween, IsRefused, SaysSeen, MissesFlush}
@@ -26,12 +26,6 @@ module _ {A : Type 0} (is : Bool → A → Type 0) (xs : List A) where
 
 -- ---- of some bytes in a row
 
--- what a search for the first unseen one finds
-pub some_unseen : (says : ℕ → Bool → Type 0) (low high : ℕ) (found : Option ℕ) → IfSome found (λ k. (low ≤ k) × (k < high)) → IfSome found (λ k. says k false) → IfNone found ((k : ℕ) → low ≤ k → k < high → says k true)
-    → (r : Bool) → r ≡ is_some found → SomeBetween (λ k t. says k (not t)) r low high
-some_unseen says low high (Some k) within unseen seen r is = subst (λ (t : Bool). SomeBetween (λ k t. says k (not t)) t low high) (sym is) (k, within.0, within.1, unseen)
-some_unseen says low high None within unseen seen r is = subst (λ (t : Bool). SomeBetween (λ k t. says k (not t)) t low high) (sym is) seen
-
 module _ {A : Type 0} (says : ℕ → Bool → A → Type 0) where
   pub refused_between : (last : Option A) (a : A) → last ≡ Some a → (low high : ℕ) (r : Bool) → SomeBetween (λ k t. says k (not t) a) r low high → SomeBetween (λ k t. IsRefused (says k) t last) r low high
   refused_between last a is low high true h = (h.0, h.1, h.2, record { none = λ e. absurd cc; some = λ b e. subst (λ (x : A). says h.0 false x) (inside a b (sym is ∙ e)) h.3 }) where
@@ -45,7 +39,7 @@ module _ {A : Type 0} (says : ℕ → Bool → A → Type 0) where
   none_refused low high = λ k from to. record { none = λ e. refl; some = λ a e. absurd cc }
 
 -- where memory is cached, the first flush stands for the last host write
-module _ (x : BufferAccess) (t : LastTouches) (written : is_none t.host_write ≡ false) (f : Spot) (flushed : t.flush ≡ Some f) where
+module _ (x : ResourceAccess) (t : LastTouches) (written : is_none t.host_write ≡ false) (f : Spot) (flushed : t.flush ≡ Some f) where
   by_flush : (k : ℕ) (r : Bool) → SaysSeen x k (not r) f → MissesFlush x k r t
   by_flush k r h = record {
     none = λ e. absurd (let bad : true ≡ false = rw e at written in cc);

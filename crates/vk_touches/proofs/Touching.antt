@@ -1,9 +1,14 @@
 pub mod LastNodes
 pub mod Spots
+pub mod TransitionBytes
+pub mod LastTransitions
 pub mod Flushing
 pub mod FirstFlushes
 pub mod Remembering
+pub mod BarrierSteps
 pub mod NextNodes
 pub mod LastAccesses
+pub mod AllTransitions
 pub mod LastHazards
+pub mod BarrierHazards
 pub mod LastSignals

@@ -1,10 +1,10 @@
 -- What is found wrong with the bytes that a point accesses.
-use Rattle.std.specs.Prelude.{◌≡◌, ◌⊎◌, ◌≤◌, ◌<◌, ◌∷◌, ◌||◌, ◌&&◌, ℕ, List, Bool, true, false, not, Contains, slice_get, is_some, Option, Some, None}
-use Rattle.vk_model.specs.World.Bytes.{in_buffer}
+use Rattle.std.specs.Prelude.{◌≡◌, ◌⊎◌, ◌≤◌, ◌<◌, ◌+◌, ◌*◌, ◌∷◌, ◌||◌, ◌&&◌, ℕ, List, Bool, true, false, not, Contains, slice_get, is_some, Option, Some, None}
 use Rattle.vk_model.specs.Trace.Point.{Past, Point}
 use Rattle.vk_model.specs.Sync.Node.{Node, nodes}
 use Rattle.vk_model.specs.Sync.Before.{before}
 use Rattle.vk_model.specs.Rules.Hazards.{breaks_hazard_war, breaks_hazard_raw, breaks_hazard_waw, breaks_read_undefined}
+use Rattle.vk_image_bytes.specs.declared.ranges.ByteRanges.{ByteRanges}
 use Rattle.vk_order.specs.Lines.{line_of}
 use Rattle.vk_order.specs.SeenWrites as order
 use Rattle.vk_order.specs.Frontiers.{IsFrontier, IsSight}
@@ -13,24 +13,31 @@ use Rattle.vk_order.specs.declared.access.Access.{Access}
 use Rattle.vk_order.specs.declared.lines.Line.{Line}
 use Rattle.vk_order.specs.declared.lines.Line.TheVariants.{Host as OfHost, Commands as OfCommands}
 use Rattle.vk_order.specs.declared.sights.Sight.{Sight}
-use Rattle.vk_touches.specs.declared.accesses.BufferAccess.{BufferAccess}
+use Rattle.vk_touches.specs.declared.accesses.ResourceAccess.{ResourceAccess}
+use Rattle.vk_touches.specs.declared.bytes.Bytes.{Bytes}
 use Rattle.vk_touches.specs.declared.found.Conflicts.{Conflicts}
 use Rattle.vk_touches.specs.declared.touches.LastTouches.{LastTouches}
 use Rattle.vk_touches.specs.declared.touches.QueueReads.{QueueReads}
 use Rattle.vk_touches.specs.declared.touches.Spot.{Spot}
+use Rattle.vk_touches.specs.declared.transitions.TransitionAccess.{TransitionAccess}
+use Rattle.vk_touches.specs.Bytes.{numbered_byte}
 
 -- ---- what an access sees
 
--- Of a buffer, by the sight of the node that comes next.
-pub record IsAccess (past : Past) (s : Sight) (b : ℕ) (kind : Access) (x : BufferAccess) : Type 0 where
+-- Of a resource, by the sight of the node that comes next.
+pub record IsAccess (past : Past) (s : Sight) (b : Bytes) (kind : Access) (x : ResourceAccess) : Type 0 where
   pub frontier : IsFrontier x.frontier.now (nodes past)
   pub sight : x.sight.now ≡ s
-  pub buffer : x.buffer ≡ b
+  pub bytes : x.bytes ≡ b
   pub access : x.access ≡ kind
 
--- Of the write of byte k of the buffer by the node of a spot: whether the access sees it.
-abbrev pub SaysSeen : BufferAccess → ℕ → Bool → Spot → Type 0
-SaysSeen x k answer w = order.SaysSeen x.frontier.now x.sight.now (record { line = w.line; place = w.place }) w.number x.access (in_buffer x.buffer k) answer
+-- Of the write of byte k of the resource by the node of a spot: whether the access sees it.
+abbrev pub SaysSeen : ResourceAccess → ℕ → Bool → Spot → Type 0
+SaysSeen x k answer w = order.SaysSeen x.frontier.now x.sight.now (record { line = w.line; place = w.place }) w.number x.access (numbered_byte x.bytes k) answer
+
+-- The same where the access is a transition's, by what is known at its element.
+abbrev pub SaysSeenAt : TransitionAccess → ℕ → Bool → Spot → Type 0
+SaysSeenAt x k answer w = order.SaysSeenAt x.frontier.now x.part.now (record { line = w.line; place = w.place }) w.number (numbered_byte x.bytes k) answer
 
 -- Of whether a node of a line is before.
 abbrev pub SaysFollows : Sight → Line → Bool → ℕ → Type 0
@@ -44,34 +51,43 @@ pub record IsRefused {A : Type 0} (says : Bool → A → Type 0) (answer : Bool)
   pub some : (a : A) → last ≡ Some a → says (not answer) a
 
 -- Of byte k, whether the last write by a command isn't seen.
-abbrev pub MissesWrite : BufferAccess → ℕ → Bool → LastTouches → Type 0
+abbrev pub MissesWrite : ResourceAccess → ℕ → Bool → LastTouches → Type 0
 MissesWrite x k answer t = IsRefused (SaysSeen x k) answer t.write
 
 -- Of byte k, whether there is a last write by a command, and it is seen.
-pub record SeesWrite (x : BufferAccess) (k : ℕ) (answer : Bool) (t : LastTouches) : Type 0 where
+pub record SeesWrite (x : ResourceAccess) (k : ℕ) (answer : Bool) (t : LastTouches) : Type 0 where
   pub none : t.write ≡ None → answer ≡ false
   pub some : (w : Spot) → t.write ≡ Some w → SaysSeen x k answer w
 
 -- The same of a read by the host: of cached memory the last invalidation has to see the write (Vulkan, "Host Access to Device Memory Objects").
-abbrev pub MissesRead : Bool → BufferAccess → ℕ → Bool → LastTouches → Type 0
+abbrev pub MissesRead : Bool → ResourceAccess → ℕ → Bool → LastTouches → Type 0
 MissesRead false x k answer t = MissesWrite x k answer t
 MissesRead true x k answer t = answer ≡ (is_some t.write && not t.is_invalidated)
 
 -- Whether the last write by the host to cached memory isn't seen: where it wasn't flushed, or the first flush since then isn't seen (Vulkan, "Host Access to Device Memory Objects").
-pub record MissesFlush (x : BufferAccess) (k : ℕ) (answer : Bool) (t : LastTouches) : Type 0 where
+pub record MissesFlush (x : ResourceAccess) (k : ℕ) (answer : Bool) (t : LastTouches) : Type 0 where
   pub none : t.host_write ≡ None → answer ≡ false
   pub unflushed : (w : Spot) → t.host_write ≡ Some w → t.flush ≡ None → answer ≡ true
   pub flushed : (w f : Spot) → t.host_write ≡ Some w → t.flush ≡ Some f → SaysSeen x k (not answer) f
 
 -- Whether the last write by the host isn't seen.
-abbrev pub MissesHostWrite : Bool → BufferAccess → ℕ → Bool → LastTouches → Type 0
+abbrev pub MissesHostWrite : Bool → ResourceAccess → ℕ → Bool → LastTouches → Type 0
 MissesHostWrite false x k answer t = IsRefused (SaysSeen x k) answer t.host_write
 MissesHostWrite true x k answer t = MissesFlush x k answer t
 
--- Whether one of the two isn't seen.
-abbrev pub Misses : Bool → BufferAccess → ℕ → Bool → LastTouches → Type 0
-Misses cached x k true t = MissesWrite x k true t ⊎ MissesHostWrite cached x k true t
-Misses cached x k false t = MissesWrite x k false t × MissesHostWrite cached x k false t
+-- Whether the last transition isn't seen.
+abbrev pub MissesTransition : ResourceAccess → ℕ → Bool → LastTouches → Type 0
+MissesTransition x k answer t = IsRefused (SaysSeen x k) answer t.transition
+
+-- Whether one of the three isn't seen.
+abbrev pub Misses : Bool → ResourceAccess → ℕ → Bool → LastTouches → Type 0
+Misses cached x k true t = MissesWrite x k true t ⊎ (MissesHostWrite cached x k true t ⊎ MissesTransition x k true t)
+Misses cached x k false t = MissesWrite x k false t × MissesHostWrite cached x k false t × MissesTransition x k false t
+
+-- Whether the last write by a command, or the last transition, isn't seen by a transition.
+abbrev pub MissesAt : TransitionAccess → ℕ → Bool → LastTouches → Type 0
+MissesAt x k true t = IsRefused (SaysSeenAt x k) true t.write ⊎ IsRefused (SaysSeenAt x k) true t.transition
+MissesAt x k false t = IsRefused (SaysSeenAt x k) false t.write × IsRefused (SaysSeenAt x k) false t.transition
 
 -- Whether the last read by a command of some queue doesn't come before.
 pub record HasEarlyRead (s : Sight) (answer : Bool) (r : QueueReads) : Type 0 where
@@ -89,13 +105,19 @@ pub record HasEarlyRead (s : Sight) (answer : Bool) (r : QueueReads) : Type 0 wh
 abbrev pub HasEarlyCommand : Sight → Bool → LastTouches → Type 0
 HasEarlyCommand s answer t = HasEarlyRead s answer t.reads
 
--- Whether the last read by the host or by a command of some queue doesn't come before.
+-- Whether the last transition of a byte, which reads it, doesn't come before.
+abbrev pub HasEarlyTransition : Sight → Bool → LastTouches → Type 0
+HasEarlyTransition s answer t = IsRefused (λ a w. SaysFollows s w.line a w.place) answer t.transition
+
+-- Whether the last read by the host or by a command of some queue, or the last transition, doesn't come before.
 pub record IsEarly (s : Sight) (answer : Bool) (t : LastTouches) : Type 0 where
   pub of_host : Bool
   pub of_commands : Bool
-  pub either : answer ≡ (of_host || of_commands)
+  pub of_transition : Bool
+  pub either : answer ≡ (of_host || of_commands || of_transition)
   pub host : IsRefused (SaysFollows s OfHost) of_host t.host_read
   pub commands : HasEarlyCommand s of_commands t
+  pub transition : HasEarlyTransition s of_transition t
 
 -- ---- what is found
 
@@ -112,6 +134,11 @@ FoundAt {A} is false xs low high = (k : ℕ) → low ≤ k → k < high → (a :
 -- The same wherever it is.
 abbrev pub FoundIn : {A : Type 0} → (Bool → A → Type 0) → Bool → List A → ℕ → ℕ → Type 0
 FoundIn is answer xs low high = FoundAt (λ k. is) answer xs low high
+
+-- Whether one of some ranges of numbers is such, or none is.
+abbrev pub FoundInRanges : (Bool → (low high : ℕ) → Type 0) → Bool → ByteRanges → Type 0
+FoundInRanges is true s = (n : ℕ) × (n < s.count) × is true (s.first + n * s.step) (s.first + n * s.step + s.size)
+FoundInRanges is false s = (n : ℕ) → n < s.count → is false (s.first + n * s.step) (s.first + n * s.step + s.size)
 
 -- Whether some item of a list is such, or none is.
 abbrev pub FoundAmong : {A : Type 0} → (Bool → A → Type 0) → Bool → List A → Type 0

@@ -1,3 +1,4 @@
+pub mod Bytes
 pub mod Remembered
 pub mod Touched
 pub mod TouchedRanges

@@ -9,7 +9,7 @@ use Rattle.vk_touches.specs.declared.touches.LastTouches.{LastTouches}
 
 -- Of a byte that nobody touched.
 abbrev pub untouched : LastTouches
-untouched = record { write = None; is_invalidated = false; host_write = None; flush = None; host_read = None; reads = record { first = None; second = None; third = None; fourth = None } }
+untouched = record { write = None; is_invalidated = false; host_write = None; flush = None; transition = None; host_read = None; reads = record { first = None; second = None; third = None; fourth = None } }
 
 -- The last reads of each queue, after one by the command of a queue that has this place.
 abbrev pub with_read : QueueReads → ℕ → ℕ → QueueReads
@@ -30,6 +30,10 @@ with_touch t (touch.Read q) s = record t { reads = with_read t.reads q s.place }
 -- What it remembers after the host entry of a spot has flushed it: the first flush counts (Vulkan, "Host Access to Device Memory Objects").
 abbrev pub with_flush : LastTouches → Spot → LastTouches
 with_flush t s = record t { flush = option_or t.flush (Some s) }
+
+-- What it remembers after the layout transition of a spot has read and written it (Vulkan, "Image Layout Transitions").
+abbrev pub with_transition : LastTouches → Spot → LastTouches
+with_transition t s = record t { transition = Some s }
 
 -- What it remembers after a host entry has invalidated it, which sees the last write by a command or not: the last invalidation counts (Vulkan, "Host Access to Device Memory Objects").
 abbrev pub with_invalidation : LastTouches → Bool → LastTouches

@@ -1,6 +1,9 @@
 -- Which nodes touched a byte last, and which node signaled a semaphore last.
-use Rattle.std.specs.Prelude.{ℕ, [], ◌∷◌, length, Bool, false, ◌&&◌, ◌==◌, if◌then◌else◌, Option, Some, None, option_map}
+use Rattle.std.specs.Prelude.{ℕ, ◌+◌, List, [], ◌∷◌, length, Bool, false, ◌&&◌, ◌==◌, if◌then◌else◌, Option, Some, None, option_map}
+use Rattle.std.specs.List.{list_any}
 use Rattle.std.specs.Option.{option_or}
+use Rattle.vk_model.specs.declared.command.Cmd.TheVariants as cmd
+use Rattle.vk_model.specs.declared.command.Element.{Element}
 use Rattle.vk_model.specs.Basics.{holds}
 use Rattle.vk_model.specs.World.Bytes.{Byte}
 use Rattle.vk_model.specs.World.ByteWrites.{byte_writes}
@@ -8,7 +11,8 @@ use Rattle.vk_model.specs.Trace.Point.{Past, Point, Action, Host, Wait, Run, Sig
 use Rattle.vk_model.specs.Trace.Order.{signal_of}
 use Rattle.vk_model.specs.Sync.Node.{Node, Act, Hosts, Waits, Signals, Runs, nodes}
 use Rattle.vk_model.specs.Sync.Seen.{Read, seen, flushes, invalidates}
-use Rattle.vk_model.specs.Sync.Access.{is_in, targets, origins, host_reads, host_writes}
+use Rattle.vk_model.specs.Sync.Access.{is_in, targets, origins, host_reads, host_writes, transition_bytes}
+use Rattle.vk_order.specs.Barriers.{element_node}
 use Rattle.vk_order.specs.Cached.{uncached}
 use Rattle.vk_order.specs.Lines.{class_of}
 use Rattle.vk_order.specs.Inner.Clocks.{place}
@@ -86,6 +90,29 @@ last_invalidation past b = last_of (invalidation_next b) past
 abbrev pub is_invalidated : Past → Byte → Bool
 is_invalidated past b = holds (last_touch touch.Write past b) (λ v. holds (last_invalidation past b) (λ f. seen uncached (nodes past) v f Read b))
 
+-- Whether an element of a barrier on a queue is a transition of a byte (Vulkan, "Image Layout Transitions").
+abbrev pub is_transition_of : Past → ℕ → Byte → Element → Bool
+is_transition_of past q b e = is_in b (transition_bytes past q e)
+
+-- Whether a point that comes next has a barrier with such an element.
+abbrev pub has_transition : Byte → Past → Point → Action → Bool
+has_transition b past p (Run (cmd.Barrier es)) = list_any (is_transition_of (p ∷ past) p.queue b) es
+has_transition b past p _ = false
+
+-- Of elements of a point's barrier that have numbers from one on, the node of the last one that passes a test.
+abbrev pub last_element : Point → (Element → Bool) → ℕ → List Element → Option Node
+last_element p test k [] = None
+last_element p test k (e ∷ es) = option_or (last_element p test (k + 1) es) (only_if (test e) (element_node p k e))
+
+-- The node of the last element of the barrier of a point that comes next, of those that are transitions of a byte.
+abbrev pub transition_next : Byte → Past → Point → Action → Option Node
+transition_next b past p (Run (cmd.Barrier es)) = last_element p (is_transition_of (p ∷ past) p.queue b) (length (nodes past)) es
+transition_next b past p _ = None
+
+-- The last transition of a byte.
+abbrev pub last_transition : Past → Byte → Option Node
+last_transition past b = last_of (transition_next b) past
+
 -- The last node that signaled a semaphore.
 abbrev pub last_signaler : Past → ℕ → Option Node
 last_signaler past s = last_of (signaler_next s) past
@@ -126,17 +153,22 @@ last_place t past b = option_map (λ s. s.place) (last_spot t past b)
 abbrev pub flush_spot : Past → Byte → Option Spot
 flush_spot past b = option_map (spot_of past) (first_flush past b)
 
+-- Where the last transition of a byte is.
+abbrev pub transition_spot : Past → Byte → Option Spot
+transition_spot past b = option_map (spot_of past) (last_transition past b)
+
 -- The line of a signal, and its place in it.
 abbrev pub signal_spot : Past → Node → Line × ℕ
 signal_spot past v = (class_of v, place (nodes past) (class_of v) v.number)
 
--- What a byte remembers: of each way the last node that touched it, as the last one on a line stands for the earlier ones there (Vulkan, "Execution and Memory Dependencies", on data hazards); the first flush since the last host write, and whether the last invalidation sees the last write by a command.
+-- What a byte remembers: of each way the last node that touched it, as the last one on a line stands for the earlier ones there (Vulkan, "Execution and Memory Dependencies", on data hazards); the first flush since the last host write, the last transition, and whether the last invalidation sees the last write by a command.
 abbrev pub touched : Past → Byte → LastTouches
 touched past b = record {
   write = last_spot touch.Write past b;
   is_invalidated = is_invalidated past b;
   host_write = last_spot touch.HostWrite past b;
   flush = flush_spot past b;
+  transition = transition_spot past b;
   host_read = last_place touch.HostRead past b;
   reads = record { first = last_place (touch.Read 0) past b; second = last_place (touch.Read 1) past b; third = last_place (touch.Read 2) past b; fourth = last_place (touch.Read 3) past b };
 }

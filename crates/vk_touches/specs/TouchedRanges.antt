@@ -1,12 +1,12 @@
 -- What ranges of bytes remember after they were touched.
-use Rattle.std.specs.Prelude.{◌≡◌, ◌≤◌, ◌<◌, ℕ, List, slice_get, Bool, if◌then◌else◌, Some}
+use Rattle.std.specs.Prelude.{◌≡◌, ◌≤◌, ◌<◌, ◌&&◌, ℕ, List, slice_get, Bool, nat_le, nat_lt, if◌then◌else◌, Some}
 use Rattle.std.specs.List.{list_any}
 use Rattle.vk_model.specs.declared.command.BufferCopy.{BufferCopy}
 use Rattle.vk_model.specs.Basics.{holds, within}
 use Rattle.vk_touches.specs.declared.touches.LastTouches.{LastTouches}
 use Rattle.vk_touches.specs.declared.touches.Spot.{Spot}
 use Rattle.vk_touches.specs.declared.touches.Touch.{Touch}
-use Rattle.vk_touches.specs.Remembered.{with_touch, with_flush, with_invalidation}
+use Rattle.vk_touches.specs.Remembered.{with_touch, with_flush, with_transition, with_invalidation}
 
 -- What a byte remembers, where one that passes a test was touched by the node of a spot.
 abbrev pub touching : (ℕ → Bool) → Touch → Spot → ℕ → LastTouches → LastTouches
@@ -15,6 +15,14 @@ touching test way s k t = if test k then with_touch t way s else t
 -- What a byte remembers, where the host entry of a spot has flushed one that passes a test.
 abbrev pub flushing : (ℕ → Bool) → Spot → ℕ → LastTouches → LastTouches
 flushing test s k t = if test k then with_flush t s else t
+
+-- Whether a number is from one on and below another.
+abbrev pub is_between : (low high : ℕ) → ℕ → Bool
+is_between low high k = nat_le low k && nat_lt k high
+
+-- What a byte remembers, where the layout transition of a spot has read and written one that passes a test.
+abbrev pub transitioning : (ℕ → Bool) → Spot → ℕ → LastTouches → LastTouches
+transitioning test s k t = if test k then with_transition t s else t
 
 -- What a byte remembers, where a host entry has invalidated one that passes a test, and sees its last write by a command where another test says so.
 abbrev pub invalidating : (ℕ → Bool) → (ℕ → Bool) → ℕ → LastTouches → LastTouches

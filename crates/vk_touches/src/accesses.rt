@@ -1,25 +1,28 @@
 ghost use Rattle.std.specs.Prelude.{◌<◌, ◌≤◌, ℕ, length, not};
+ghost use Rattle.vk_touches.specs.Bytes.{HaveNumbers};
 ghost use Rattle.vk_touches.specs.Conflicts.{FoundAt, IsRefused, Misses, MissesFlush, MissesHostWrite, MissesRead, MissesWrite, SaysSeen, SeesWrite, SomeBetween};
 
+use crate::bytes::Bytes;
 use crate::touches::{LastTouches, Spot};
-use vk_order::{Access, Frontier, SeenUntil, Sight, Units};
+use vk_order::{Access, Frontier, SeenUntil, Sight};
 use vk_ranges::RangeMap;
 
-/// How the node of a point that comes next accesses a buffer, and what it sees.
+/// How the node of a point that comes next accesses a resource, and what it sees.
 #[derive(Clone, Copy)]
-pub struct BufferAccess<'a> {
+pub struct ResourceAccess<'a> {
     /// What is known of the nodes so far.
     pub frontier: &'a Frontier,
     /// What the node has before it, and what it sees.
     pub sight: &'a Sight,
-    /// The id of the buffer.
-    pub buffer: u32,
+    /// The bytes of the resource.
+    pub bytes: Bytes<'a>,
     /// How it is accessed.
     pub access: Access,
 }
 
-impl BufferAccess<'_> {
-    /// Whether of some byte of a range the last write by a command or by the host isn't seen.
+impl ResourceAccess<'_> {
+    /// Whether of some byte of a range the last write by a command or by the host, or the last
+    /// transition, isn't seen.
     pub fn misses_some(
         &self,
         touches: &RangeMap<LastTouches>,
@@ -29,6 +32,7 @@ impl BufferAccess<'_> {
     ) -> bool
         requires order { low ≤ high }
         requires within { high ≤ length touches.now }
+        requires numbers { HaveNumbers self.now.bytes high }
         ensures { FoundAt (Misses is_cached self.now) result touches.now low high }
     {
         for run in touches.overlapping(low, high) {
@@ -43,6 +47,7 @@ impl BufferAccess<'_> {
     pub fn misses_some_write(&self, touches: &RangeMap<LastTouches>, low: u64, high: u64) -> bool
         requires order { low ≤ high }
         requires within { high ≤ length touches.now }
+        requires numbers { HaveNumbers self.now.bytes high }
         ensures { FoundAt (MissesWrite self.now) result touches.now low high }
     {
         for run in touches.overlapping(low, high) {
@@ -63,6 +68,7 @@ impl BufferAccess<'_> {
     ) -> bool
         requires order { low ≤ high }
         requires within { high ≤ length touches.now }
+        requires numbers { HaveNumbers self.now.bytes high }
         ensures { FoundAt (MissesRead is_cached self.now) result touches.now low high }
     {
         for run in touches.overlapping(low, high) {
@@ -74,16 +80,19 @@ impl BufferAccess<'_> {
     }
 
     /// Whether of some byte from `low` on and below `high` the last write by a command or by the
-    /// host, which is the same for all of them, isn't seen.
+    /// host or the last transition, which are the same for all of them, isn't seen.
     fn misses(&self, low: u64, high: u64, last: &LastTouches, is_cached: bool) -> bool
+        requires { HaveNumbers self.now.bytes high }
         ensures { SomeBetween (λ k r. Misses is_cached self.now k r last.now) result low high }
     {
         self.misses_write(low, high, last.write)
             || self.misses_host_write(low, high, last, is_cached)
+            || self.misses_write(low, high, last.transition)
     }
 
     /// The same of the last write by the host.
     fn misses_host_write(&self, low: u64, high: u64, last: &LastTouches, is_cached: bool) -> bool
+        requires { HaveNumbers self.now.bytes high }
         ensures { SomeBetween (λ k r. MissesHostWrite is_cached self.now k r last.now) result low high }
     {
         if is_cached {
@@ -95,6 +104,7 @@ impl BufferAccess<'_> {
 
     /// The same of the last write by the host to cached memory.
     fn misses_flush(&self, low: u64, high: u64, last: &LastTouches) -> bool
+        requires { HaveNumbers self.now.bytes high }
         ensures { SomeBetween (λ k r. MissesFlush self.now k r last.now) result low high }
     {
         if last.host_write.is_none() {
@@ -108,6 +118,7 @@ impl BufferAccess<'_> {
 
     /// Whether of some byte the last write by a command isn't read by the host.
     fn misses_read(&self, low: u64, high: u64, last: &LastTouches, is_cached: bool) -> bool
+        requires { HaveNumbers self.now.bytes high }
         ensures { SomeBetween (λ k r. MissesRead is_cached self.now k r last.now) result low high }
     {
         if is_cached {
@@ -120,24 +131,14 @@ impl BufferAccess<'_> {
     /// Whether the last write by a command is there and is seen, and up to where, and at most to
     /// `high`, this is so.
     pub fn sees_until(&self, low: u64, high: u64, last: &LastTouches) -> SeenUntil
-        requires { low < high }
+        requires order { low < high }
+        requires numbers { HaveNumbers self.now.bytes high }
         ensures further { low < result.end }
         ensures within { result.end ≤ high }
         ensures seen { (k : ℕ) → low ≤ k → k < result.end → SeesWrite self.now k result.is_seen last.now }
     {
-        let access = self.access;
         match last.write {
-            Some(write) => self.frontier.seen_until(
-                self.sight,
-                write.in_line(),
-                write.number,
-                Units::Bytes {
-                    buffer: self.buffer,
-                },
-                low,
-                high,
-                access,
-            ),
+            Some(write) => self.sees_write_until(low, high, write),
             None => SeenUntil {
                 end: high,
                 is_seen: false,
@@ -145,8 +146,34 @@ impl BufferAccess<'_> {
         }
     }
 
+    /// The same of the write by the node of a spot.
+    fn sees_write_until(&self, low: u64, high: u64, write: Spot) -> SeenUntil
+        requires order { low < high }
+        requires numbers { HaveNumbers self.now.bytes high }
+        ensures further { low < result.end }
+        ensures within { result.end ≤ high }
+        ensures seen { (k : ℕ) → low ≤ k → k < result.end → SaysSeen self.now k result.is_seen write }
+    {
+        let access = self.access;
+        let run = self.bytes.units(low, high);
+        let seen = self.frontier.seen_until(
+            self.sight,
+            write.in_line(),
+            write.number,
+            run.units,
+            run.low,
+            run.high,
+            access,
+        );
+        SeenUntil {
+            end: self.bytes.before_unit(low, high, seen.end),
+            is_seen: seen.is_seen,
+        }
+    }
+
     /// The same of one write.
     fn misses_write(&self, low: u64, high: u64, last: Option<Spot>) -> bool
+        requires { HaveNumbers self.now.bytes high }
         ensures { SomeBetween (λ k r. IsRefused (SaysSeen self.now k) r last) result low high }
     {
         match last {
@@ -157,18 +184,21 @@ impl BufferAccess<'_> {
 
     /// Whether the write of some byte by the node of a spot isn't seen.
     fn is_some_unseen(&self, low: u64, high: u64, write: Spot) -> bool
+        requires { HaveNumbers self.now.bytes high }
         ensures { SomeBetween (λ k r. SaysSeen self.now k (not r) write) result low high }
     {
+        if low >= high {
+            return false;
+        }
         let from = write.number;
+        let run = self.bytes.units(low, high);
         let unseen = self.frontier.first_unseen(
             self.sight,
             write.in_line(),
             from,
-            Units::Bytes {
-                buffer: self.buffer,
-            },
-            low,
-            high,
+            run.units,
+            run.low,
+            run.high,
             self.access,
         );
         unseen.is_some()

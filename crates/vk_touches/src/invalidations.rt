@@ -2,10 +2,11 @@ ghost use Rattle.std.specs.Prelude.{◌≡◌, ◌<◌, ◌≤◌, ℕ, OnOk, If
 ghost use Rattle.std.specs.Option.{option_map};
 ghost use Rattle.vk_model.specs.World.Effect.{in_atoms};
 ghost use Rattle.vk_touches.specs.declared.touches.LastTouches.{LastTouches as AnyTouches};
+ghost use Rattle.vk_touches.specs.Bytes.{HaveNumbers};
 ghost use Rattle.vk_touches.specs.Conflicts.{SeesWrite};
 ghost use Rattle.vk_touches.specs.TouchedRanges.{AreInvalidated, invalidating, sees_at};
 
-use crate::accesses::BufferAccess;
+use crate::accesses::ResourceAccess;
 use crate::parts::Part;
 use crate::touches::LastTouches;
 use std::alloc::AllocError;
@@ -18,8 +19,9 @@ pub fn invalidate_touches(
     touches: &mut RangeMap<LastTouches>,
     offset: u64,
     size: Length,
-    by: &BufferAccess<'_>,
+    by: &ResourceAccess<'_>,
 ) -> Result<(), AllocError>
+    requires { HaveNumbers by.now.bytes (length touches.old) }
     ensures len { length touches.new ≡ length touches.old }
     ensures values { OnOk result ((k : ℕ) → slice_get touches.new k ≡ option_map (invalidating (in_atoms offset size) (sees_at touches.new) k) (slice_get touches.old k)) }
     ensures answers { OnOk result ((k : ℕ) (t : AnyTouches) → in_atoms offset size k ≡ true → slice_get touches.old k ≡ Some t → SeesWrite by.now k (sees_at touches.new k) t) }
@@ -38,10 +40,11 @@ fn invalidate_next(
     touches: &mut RangeMap<LastTouches>,
     low: u64,
     high: u64,
-    by: &BufferAccess<'_>,
+    by: &ResourceAccess<'_>,
 ) -> Result<u64, AllocError>
     requires order { low < high }
     requires within { high ≤ length touches.old }
+    requires numbers { HaveNumbers by.now.bytes high }
     ensures len { length touches.new ≡ length touches.old }
     ensures next { IfOk result (λ end. AreInvalidated (SeesWrite by.now) touches.old touches.new low end × (end ≤ high)) }
 {

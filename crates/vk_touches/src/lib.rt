@@ -1,22 +1,27 @@
 //! Who touched a byte last, and what an access finds wrong with that.
 //!
 //! A byte remembers the last node that touched it in each way: the last command that wrote it, the
-//! last host entry that did, who read it last, and what was flushed and invalidated since. In a past
-//! without a fault these decide for all earlier nodes, so what is kept of a byte doesn't grow.
+//! last host entry that did, who read it last, its last layout transition, and what was flushed and
+//! invalidated since. In a past without a fault these decide for all earlier nodes, so what is kept
+//! of a byte doesn't grow.
 #![tactic(auto)]
 
 mod accesses;
+mod bytes;
 mod early;
 mod found;
 mod invalidations;
 mod parts;
 mod ranges;
 mod touches;
+mod transitions;
 
-pub use accesses::BufferAccess;
+pub use accesses::ResourceAccess;
+pub use bytes::Bytes;
 pub use early::{has_early_read, is_early};
 pub use found::Conflicts;
 pub use invalidations::invalidate_touches;
 pub use parts::Part;
-pub use ranges::{flush_touches, touch, touch_destinations, touch_sources};
+pub use ranges::{flush_touches, touch, touch_destinations, touch_sources, touch_transition};
 pub use touches::{LastTouches, QueueReads, Spot, Touch};
+pub use transitions::TransitionAccess;

@@ -1,8 +1,8 @@
-ghost use Rattle.std.specs.Prelude.{◌≡◌, ℕ, OnOk, length, slice_get};
+ghost use Rattle.std.specs.Prelude.{◌≡◌, ◌≤◌, ℕ, OnOk, length, slice_get};
 ghost use Rattle.std.specs.Option.{option_map};
 ghost use Rattle.vk_model.specs.Basics.{within};
 ghost use Rattle.vk_model.specs.World.Effect.{in_atoms};
-ghost use Rattle.vk_touches.specs.TouchedRanges.{touching, flushing, reads_at, writes_at};
+ghost use Rattle.vk_touches.specs.TouchedRanges.{touching, flushing, transitioning, is_between, reads_at, writes_at};
 
 use crate::parts::Part;
 use crate::touches::{LastTouches, Spot, Touch};
@@ -69,4 +69,20 @@ pub fn flush_touches(
 {
     let part = Part::of_atoms(offset, size, touches.len());
     touches.update(part.low, part.high, |last| Ok(last.flushed(spot)))
+}
+
+/// Remembers that the layout transition of a spot has read and written the bytes from `low` on and
+/// below `high`.
+pub fn touch_transition(
+    touches: &mut RangeMap<LastTouches>,
+    low: u64,
+    high: u64,
+    spot: Spot,
+) -> Result<(), AllocError>
+    requires order { low ≤ high }
+    requires within { high ≤ length touches.old }
+    ensures len { length touches.new ≡ length touches.old }
+    ensures values { OnOk result ((k : ℕ) → slice_get touches.new k ≡ option_map (transitioning (is_between low high) spot k) (slice_get touches.old k)) }
+{
+    touches.update(low, high, |last| Ok(last.transitioned(spot)))
 }

@@ -62,6 +62,8 @@ pub struct LastTouches {
     pub host_write: Option<Spot>,
     /// The first host entry that flushed it since then.
     pub flush: Option<Spot>,
+    /// The last layout transition of it.
+    pub transition: Option<Spot>,
     /// The last host entry that read it, by how many came before it.
     pub host_read: Option<usize>,
     /// The last command of each queue that read it.
@@ -106,6 +108,7 @@ impl LastTouches {
             is_invalidated: false,
             host_write: None,
             flush: None,
+            transition: None,
             host_read: None,
             reads: QueueReads {
                 first: None,
@@ -148,6 +151,16 @@ impl LastTouches {
     {
         LastTouches {
             flush: self.flush.or(Some(spot)),
+            ..self
+        }
+    }
+
+    /// After the layout transition of a spot has read and written the byte.
+    pub fn transitioned(self, spot: Spot) -> LastTouches
+        ensures { result ≡ remembered.with_transition self spot }
+    {
+        LastTouches {
+            transition: Some(spot),
             ..self
         }
     }
@@ -196,6 +209,9 @@ impl RangeValue for LastTouches {
             return false;
         }
         if !self.host_write.is_same(&other.host_write) || !self.flush.is_same(&other.flush) {
+            return false;
+        }
+        if !self.transition.is_same(&other.transition) {
             return false;
         }
         self.host_read.is_same(&other.host_read) && self.reads.is_same(&other.reads)

@@ -1,10 +1,12 @@
 -- What a byte remembers after a point.
-use Rattle.std.proofs.Common.{arith, ◌<◌, ◌≡◌, ℕ, zero, suc, ◌∷◌, Bool, true, false, ◌&&◌, ◌==◌, refl, ap, ◌∙◌, Option, Some, None}
+use Rattle.std.proofs.Common.{arith, ◌<◌, ◌≡◌, ℕ, zero, suc, List, ◌∷◌, Bool, true, false, ◌&&◌, ◌==◌, refl, ap, ◌∙◌, Option, Some, None}
 use Rattle.std.specs.Prelude.{if◌then◌else◌}
-use Rattle.std.specs.Option.{option_map, option_or}
+use Rattle.std.specs.Option.{option_map, option_map_or, option_or}
 use Rattle.std.proofs.lemmas.Bool.{eqb-true, false_from_ne_true}
 use Rattle.std.proofs.Math.Bool.{and-false}
 use Rattle.vk_model.specs.declared.command.Cmd.{Cmd}
+use Rattle.vk_model.specs.declared.command.Cmd.TheVariants as cmd
+use Rattle.vk_model.specs.declared.command.Element.{Element}
 use Rattle.vk_model.specs.declared.command.Length.{Length}
 use Rattle.vk_model.specs.declared.entry.Entry.{Entry}
 use Rattle.vk_model.specs.declared.entry.Entry.TheVariants as entry
@@ -13,7 +15,7 @@ use Rattle.vk_model.specs.World.Bytes.{Byte}
 use Rattle.vk_model.specs.World.ByteWrites.{byte_writes}
 use Rattle.vk_model.specs.Trace.Point.{Past, Point, Action, Host, Run}
 use Rattle.vk_model.specs.World.Effect.{reaches}
-use Rattle.vk_model.specs.Sync.Node.{Hosts, nodes}
+use Rattle.vk_model.specs.Sync.Node.{Node, Hosts, nodes}
 use Rattle.vk_model.specs.Sync.Seen.{Read, seen, flushes, invalidates}
 use Rattle.vk_order.specs.Cached.{uncached}
 use Rattle.vk_model.specs.Sync.Access.{is_in, targets, origins, host_reads, host_writes}
@@ -21,9 +23,10 @@ use Rattle.vk_touches.specs.declared.touches.LastTouches.{LastTouches}
 use Rattle.vk_touches.specs.declared.touches.Spot.{Spot}
 use Rattle.vk_touches.specs.declared.touches.Touch.{Touch}
 use Rattle.vk_touches.specs.declared.touches.Touch.TheVariants as touch
-use Rattle.vk_touches.specs.Remembered.{with_touch, with_flush, with_invalidation}
-use Rattle.vk_touches.specs.Touched.{touches, touched, last_spot, last_place, last_touch, next_node, act_next, next_spot}
+use Rattle.vk_touches.specs.Remembered.{with_touch, with_flush, with_transition, with_invalidation}
+use Rattle.vk_touches.specs.Touched.{touches, has_transition, touched, last_spot, last_place, last_touch, transition_next, transition_spot, spot_of, next_node, act_next, next_spot}
 use Rattle.vk_touches.proofs.Touching.Flushing.{flush_step, invalidated_step}
+use Rattle.vk_touches.proofs.Touching.LastTransitions.{transition_stays, transition_step}
 use Rattle.vk_touches.proofs.Touching.Spots.{last_step}
 
 -- ---- in general
@@ -35,15 +38,16 @@ merged w hw hr r f i sees t s = record {
   is_invalidated = if w then false else if i then sees else t.is_invalidated;
   host_write = if hw then Some s else t.host_write;
   flush = if hw then None else if f then option_or t.flush (Some s) else t.flush;
+  transition = t.transition;
   host_read = if hr then Some s.place else t.host_read;
   reads = record { first = if r 0 then Some s.place else t.reads.first; second = if r 1 then Some s.place else t.reads.second; third = if r 2 then Some s.place else t.reads.third; fourth = if r 3 then Some s.place else t.reads.fourth };
 }
 
-abbrev built : Option Spot → Bool → (hw f : Option Spot) → (hr i j k l : Option ℕ) → LastTouches
-built w iv hw f hr i j k l = record { write = w; is_invalidated = iv; host_write = hw; flush = f; host_read = hr; reads = record { first = i; second = j; third = k; fourth = l } }
+abbrev built : Option Spot → Bool → (hw f x : Option Spot) → (hr i j k l : Option ℕ) → LastTouches
+built w iv hw f x hr i j k l = record { write = w; is_invalidated = iv; host_write = hw; flush = f; transition = x; host_read = hr; reads = record { first = i; second = j; third = k; fourth = l } }
 
-all_same : (w v : Option Spot) (c d : Bool) (a x g h : Option Spot) (z y i m j n k o l q : Option ℕ) → w ≡ v → c ≡ d → a ≡ x → g ≡ h → z ≡ y → i ≡ m → j ≡ n → k ≡ o → l ≡ q → built w c a g z i j k l ≡ built v d x h y m n o q
-all_same w v c d a x g h z y i m j n k o l q e1 e2 e3 e4 e5 e6 e7 e8 e9 = rw (e1, e2, e3, e4, e5, e6, e7, e8, e9) refl
+all_same : (w v : Option Spot) (c d : Bool) (a x g h : Option Spot) (s : Option Spot) (z y i m j n k o l q : Option ℕ) → w ≡ v → c ≡ d → a ≡ x → g ≡ h → z ≡ y → i ≡ m → j ≡ n → k ≡ o → l ≡ q → built w c a g s z i j k l ≡ built v d x h s y m n o q
+all_same w v c d a x g h s z y i m j n k o l q e1 e2 e3 e4 e5 e6 e7 e8 e9 = rw (e1, e2, e3, e4, e5, e6, e7, e8, e9) refl
 
 module _ (past : Past) (p : Point) (b : Byte) where
   place_step : (t : Touch) → last_place t (p ∷ past) b ≡ (if touches t b past p p.action then Some (next_spot past p).place else last_place t past b)
@@ -57,27 +61,32 @@ module _ (past : Past) (p : Point) (b : Byte) where
   by_action d = merged (touches touch.Write b past p d) (touches touch.HostWrite b past p d) (touches touch.HostRead b past p d) (λ q. touches (touch.Read q) b past p d) (flushes (act_next d) b) (invalidates (act_next d) b)
       (holds (last_touch touch.Write past b) (λ v. seen uncached (nodes (p ∷ past)) v (next_node past p (act_next d)) Read b)) (touched past b) (next_spot past p)
 
-  touched_step : touched (p ∷ past) b ≡ by_action p.action
+  -- all but the last transition
+  touched_step : touched (p ∷ past) b ≡ record (by_action p.action) { transition = transition_spot (p ∷ past) b }
   touched_step =
-      all_same _ _ _ _ _ _ _ _ _ _ _ _ _ _ _ _ _ _ (last_step touch.Write past p b) (invalidated_step past p b) (last_step touch.HostWrite past p b) (flush_step past p b) (place_step touch.HostRead) (place_step (touch.Read 0)) (place_step (touch.Read 1)) (place_step (touch.Read 2)) (place_step (touch.Read 3))
+      all_same _ _ _ _ _ _ _ _ (transition_spot (p ∷ past) b) _ _ _ _ _ _ _ _ _ _ (last_step touch.Write past p b) (invalidated_step past p b) (last_step touch.HostWrite past p b) (flush_step past p b) (place_step touch.HostRead) (place_step (touch.Read 0)) (place_step (touch.Read 1)) (place_step (touch.Read 2)) (place_step (touch.Read 3))
 
-  touched_as : (d : Action) → p.action ≡ d → touched (p ∷ past) b ≡ by_action d
-  touched_as d is = touched_step ∙ ap by_action is
+  -- a point that has no transition of the byte, by an action
+  touched_as : (d : Action) → p.action ≡ d → has_transition b past p d ≡ false → touched (p ∷ past) b ≡ by_action d
+  touched_as d is none =
+      touched_step
+      ∙ ap (λ (s : Option Spot). record (by_action p.action) { transition = s }) (transition_stays past p b (ap (has_transition b past p) is ∙ none))
+      ∙ ap by_action is
 
   -- ---- by what the point is
 
   -- a point that touches nothing
-  pub touched_by_none : (d : Action) → p.action ≡ d → ((t : Touch) → touches t b past p d ≡ false) → flushes (act_next d) b ≡ false → invalidates (act_next d) b ≡ false → touched (p ∷ past) b ≡ touched past b
-  touched_by_none d is none unflushed valid = touched_as d is ∙ rw (none touch.Write, none touch.HostWrite, none touch.HostRead, none (touch.Read 0), none (touch.Read 1), none (touch.Read 2), none (touch.Read 3), unflushed, valid) refl
+  pub touched_by_none : (d : Action) → p.action ≡ d → has_transition b past p d ≡ false → ((t : Touch) → touches t b past p d ≡ false) → flushes (act_next d) b ≡ false → invalidates (act_next d) b ≡ false → touched (p ∷ past) b ≡ touched past b
+  touched_by_none d is still none unflushed valid = touched_as d is still ∙ rw (none touch.Write, none touch.HostWrite, none touch.HostRead, none (touch.Read 0), none (touch.Read 1), none (touch.Read 2), none (touch.Read 3), unflushed, valid) refl
 
   -- a host entry that neither flushes nor invalidates
   pub touched_by_host : (x : Entry) → p.action ≡ Host x → (w r : Bool) → is_in b (host_writes x) ≡ w → is_in b (host_reads x) ≡ r → flushes (Hosts x) b ≡ false → invalidates (Hosts x) b ≡ false
       → touched (p ∷ past) b ≡ merged false w r (λ q. false) false false false (touched past b) (next_spot past p)
-  touched_by_host x is w r we re unflushed valid = touched_as (Host x) is ∙ rw (we, re, unflushed, valid) refl
+  touched_by_host x is w r we re unflushed valid = touched_as (Host x) is refl ∙ rw (we, re, unflushed, valid) refl
 
   -- a flush
   pub touched_by_flush : (c o : ℕ) (n : Length) → p.action ≡ Host (entry.Flush c o n) → (t : Bool) → reaches c o n b ≡ t → touched (p ∷ past) b ≡ (if t then with_flush (touched past b) (next_spot past p) else touched past b)
-  touched_by_flush c o n is t e = touched_as (Host (entry.Flush c o n)) is ∙ rw e (go t) where
+  touched_by_flush c o n is t e = touched_as (Host (entry.Flush c o n)) is refl ∙ rw e (go t) where
     go : (t : Bool) → merged false false false (λ q. false) t false false (touched past b) (next_spot past p) ≡ (if t then with_flush (touched past b) (next_spot past p) else touched past b)
     go true = refl
     go false = refl
@@ -86,7 +95,7 @@ module _ (past : Past) (p : Point) (b : Byte) where
   pub touched_by_invalidation : (c o : ℕ) (n : Length) → p.action ≡ Host (entry.Invalidate c o n) → (t sees : Bool) → reaches c o n b ≡ t
       → (t ≡ true → holds (last_touch touch.Write past b) (λ v. seen uncached (nodes (p ∷ past)) v (next_node past p (act_next p.action)) Read b) ≡ sees)
       → touched (p ∷ past) b ≡ (if t then with_invalidation (touched past b) sees else touched past b)
-  touched_by_invalidation c o n is t sees e answer = touched_step ∙ ap (λ (d : Action). merged (touches touch.Write b past p d) (touches touch.HostWrite b past p d) (touches touch.HostRead b past p d) (λ q. touches (touch.Read q) b past p d) (flushes (act_next d) b) (invalidates (act_next d) b)
+  touched_by_invalidation c o n is t sees e answer = touched_step ∙ ap (λ (s : Option Spot). record (by_action p.action) { transition = s }) (transition_stays past p b (ap (has_transition b past p) is)) ∙ ap (λ (d : Action). merged (touches touch.Write b past p d) (touches touch.HostWrite b past p d) (touches touch.HostRead b past p d) (λ q. touches (touch.Read q) b past p d) (flushes (act_next d) b) (invalidates (act_next d) b)
       (holds (last_touch touch.Write past b) (λ v. seen uncached (nodes (p ∷ past)) v (next_node past p (act_next p.action)) Read b)) (touched past b) (next_spot past p)) is ∙ rw e (go t answer) where
         go : (t : Bool) → (t ≡ true → holds (last_touch touch.Write past b) (λ v. seen uncached (nodes (p ∷ past)) v (next_node past p (act_next p.action)) Read b) ≡ sees)
             → merged false false false (λ q. false) false t (holds (last_touch touch.Write past b) (λ v. seen uncached (nodes (p ∷ past)) v (next_node past p (act_next p.action)) Read b)) (touched past b) (next_spot past p)
@@ -94,10 +103,25 @@ module _ (past : Past) (p : Point) (b : Byte) where
         go true h = ap (with_invalidation (touched past b)) (h refl)
         go false h = refl
 
-  -- a command
-  pub touched_by_command : (c : Cmd) → p.action ≡ Run c → (w r : Bool) → is_in b (targets (byte_writes (p ∷ past) c)) ≡ w → is_in b (origins (byte_writes (p ∷ past) c)) ≡ r
+  -- a command, which is no barrier with a transition of the byte
+  pub touched_by_command : (c : Cmd) → p.action ≡ Run c → has_transition b past p (Run c) ≡ false → (w r : Bool) → is_in b (targets (byte_writes (p ∷ past) c)) ≡ w → is_in b (origins (byte_writes (p ∷ past) c)) ≡ r
       → touched (p ∷ past) b ≡ merged w false false (λ q. p.queue == q && r) false false false (touched past b) (next_spot past p)
-  touched_by_command c is w r we re = touched_as (Run c) is ∙ rw (we, re) refl
+  touched_by_command c is still w r we re = touched_as (Run c) is still ∙ rw (we, re) refl
+
+  -- a barrier
+  pub touched_by_barrier : (es : List Element) → p.action ≡ Run (cmd.Barrier es)
+      → touched (p ∷ past) b ≡ option_map_or (λ v. with_transition (touched past b) (spot_of (p ∷ past) v)) (transition_next b past p (Run (cmd.Barrier es))) (touched past b)
+  touched_by_barrier es is =
+      touched_step
+      ∙ ap (λ (d : Action). record (by_action d) { transition = transition_spot (p ∷ past) b }) is
+      ∙ rw (and-false (p.queue == 0), and-false (p.queue == 1), and-false (p.queue == 2), and-false (p.queue == 3)) (ap (λ (s : Option Spot). record (touched past b) { transition = s }) moved ∙ go (transition_next b past p (Run (cmd.Barrier es))))
+    where
+      moved : transition_spot (p ∷ past) b ≡ option_or (option_map (spot_of (p ∷ past)) (transition_next b past p (Run (cmd.Barrier es)))) (transition_spot past b)
+      moved = transition_step past p b ∙ ap (λ (d : Action). option_or (option_map (spot_of (p ∷ past)) (transition_next b past p d)) (transition_spot past b)) is
+
+      go : (o : Option Node) → record (touched past b) { transition = option_or (option_map (spot_of (p ∷ past)) o) (transition_spot past b) } ≡ option_map_or (λ v. with_transition (touched past b) (spot_of (p ∷ past) v)) o (touched past b)
+      go None = refl
+      go (Some v) = refl
 
 -- ---- one by one
 
