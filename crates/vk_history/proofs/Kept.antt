@@ -1,10 +1,17 @@
 pub mod PastLemmas
 pub mod SignalSteps
 pub mod NextPoint
+pub mod ImageRules
 pub mod ContentSteps
 pub mod CacheChanges
 pub mod AccessSteps
 pub mod CacheSteps
 pub mod CopySteps
+pub mod ImageRanges
+pub mod Moving
+pub mod ImageSteps
+pub mod ImageCopies
+pub mod Barriers
 pub mod PassSteps
+pub mod PassingAll
 pub mod Stretches

@@ -1,10 +1,10 @@
 -- Who owns resources, as nodes come.
-use Rattle.std.proofs.Common.{◌≡◌, ◌≤◌, ◌<◌, ◌+◌, ℕ, ◌==◌, List, [], ◌∷◌, ◌++◌, Bool, true, false, not, ◌&&◌, ◌||◌, IsTrue, length, refl, ap, sym, ◌∙◌, subst, arith, Option, Some, None, map, drop, take, get_or}
-use Rattle.std.specs.Prelude.{Contains, if◌then◌else◌}
-use Rattle.std.specs.List.{list_any, fold, find, enumerate_from}
-use Rattle.std.proofs.lemmas.Bool.{eqb-true, eqb-false, eq-eqb}
+use Rattle.std.proofs.Common.{◌≡◌, ◌≤◌, ◌<◌, ◌+◌, ℕ, ◌==◌, List, [], ◌∷◌, Bool, true, false, ◌&&◌, ◌||◌, length, refl, ap, sym, ◌∙◌, subst, arith, Option, Some, None, map, drop, get_or}
+use Rattle.std.specs.Prelude.{if◌then◌else◌}
+use Rattle.std.specs.List.{fold, enumerate_from}
+use Rattle.std.proofs.lemmas.Bool.{eqb-true, eq-eqb}
 use Rattle.std.proofs.lemmas.List.{drop_all, drop_more}
-use Rattle.vk_model.specs.Basics.{among, holds, option_list}
+use Rattle.vk_model.specs.Basics.{among, holds}
 use Rattle.vk_model.specs.declared.command.Cmd.{Cmd}
 use Rattle.vk_model.specs.declared.command.Cmd.TheVariants as cmd
 use Rattle.vk_model.specs.declared.command.Dependency.{Dependency}
@@ -16,13 +16,12 @@ use Rattle.vk_model.specs.declared.entry.Entry.{Entry}
 use Rattle.vk_model.specs.declared.entry.Entry.TheVariants as entry
 use Rattle.vk_model.specs.declared.entry.SemaphoreSubmit.{SemaphoreSubmit}
 use Rattle.vk_model.specs.Trace.Objects.{is_exclusive, is_cached}
-use Rattle.vk_model.specs.Trace.Point.{Past, Point, Action, Host, Wait, Run, Signal}
+use Rattle.vk_model.specs.Trace.Point.{Past, Point, Action, Host, Wait, Signal}
 use Rattle.vk_model.specs.World.Bytes as world
 use Rattle.vk_model.specs.World.Bytes.{World}
-use Rattle.vk_model.specs.World.ByteWrites.{byte_writes}
 use Rattle.vk_model.specs.World.Effect as effect
 use Rattle.vk_model.specs.World.Effect.{used, set_owner, after_writes, after_host, after_action, after_command, flushed, invalidated, reaches, transitioned}
-use Rattle.vk_model.specs.World.Ownership.{Transfer, Stays, Release, Acquire, Neither, transfer, family_of, uses, named_by, families_of, is_transition, releases, is_release, elements_of}
+use Rattle.vk_model.specs.World.Ownership.{Transfer, Stays, Release, Acquire, Neither, transfer, family_of, uses, named_by, families_of, is_transition, releases, is_release}
 use Rattle.vk_model.specs.Rules.Owners.{is_released, is_release_of, element_in}
 use Rattle.vk_model.specs.Sync.Node.{Node, Act, Hosts, Waits, Signals, Runs, Depends, Role, Barrier, with_acts, command_acts, acts, nodes}
 use Rattle.vk_model.specs.Sync.Before.{IsNumbered}
@@ -41,7 +40,7 @@ use Rattle.vk_history.specs.declared.owners.Owners.{Owners}
 use Rattle.vk_history.specs.Tabled.{AreObjects}
 use Rattle.vk_history.specs.Uses.{AreElementCounts}
 use Rattle.vk_history.specs.Counted.{is_id}
-use Rattle.vk_history.specs.Owners.{Kept, owner_now, kept_at, IsLastRelease, IsOwned, AreOwned, AreOwners, owned_by, released_by, is_taken, is_transition_of, after_half, half_of, after_element}
+use Rattle.vk_history.specs.Owners.{Kept, owner_now, kept_at, IsLastRelease, IsOwned, AreOwned, AreOwners, owned_by, released_by, is_transition_of, after_half, half_of, after_element}
 
 -- ---- uses
 

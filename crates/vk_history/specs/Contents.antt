@@ -1,29 +1,31 @@
 -- What is kept of the bytes of buffers and images.
-use Rattle.std.specs.Prelude.{IsTrue, All, ◌≡◌, ◌≤◌, ◌<◌, ◌+◌, ◌-◌, ℕ, List, length, slice_get, Bool, true, false, not, ◌&&◌, ◌==◌, nat_le, nat_lt, if◌then◌else◌, Option, Some, None, is_some, is_none, unwrap_or, option_and_then, Contains}
+use Rattle.std.specs.Prelude.{◌≢◌, ◌*◌, ◌^◌, ◌≡◌, ◌≤◌, ◌<◌, ◌+◌, ◌-◌, ℕ, List, length, slice_get, Bool, true, false, not, ◌&&◌, ◌==◌, nat_le, nat_lt, if◌then◌else◌, Option, Some, None, is_some, is_none, unwrap_or, option_and_then, Contains}
 use Rattle.std.specs.Option.{option_map}
 use Rattle.std.specs.List.{list_any, find}
 use Rattle.std.specs.Ordering.{nat_cmp}
 use Rattle.std.specs.BTreeMap.{get}
 use Rattle.vk_model.specs.declared.command.BufferCopy.{BufferCopy}
-use Rattle.vk_model.specs.declared.command.BufferElement.{BufferElement}
-use Rattle.vk_model.specs.declared.command.Element.{Element}
-use Rattle.vk_model.specs.declared.command.Element.TheVariants as element
 use Rattle.vk_model.specs.declared.command.Length.{Length}
+use Rattle.vk_model.specs.declared.command.SubresourceRange.{SubresourceRange}
+use Rattle.vk_model.specs.declared.resource.ImageInfo.{ImageInfo}
 use Rattle.vk_model.specs.declared.resource.Sharing.{Sharing}
 use Rattle.vk_model.specs.Basics.{holds, within}
 use Rattle.vk_model.specs.World.Bytes.{Byte, in_buffer, resource_at, World, Owner, Nobody, Family, Released}
 use Rattle.vk_model.specs.World.ByteWrites.{buffer_size, fill_size}
-use Rattle.vk_model.specs.World.Effect.{world, in_atoms, used, set_owner, after_buffer_element}
-use Rattle.vk_model.specs.World.Ownership.{family_of, Transfer}
-use Rattle.vk_model.specs.Trace.Objects.{buffer, image, resource, is_cached, is_exclusive, is_exclusive_mode}
+use Rattle.vk_model.specs.World.Effect.{world, in_atoms, in_range}
+use Rattle.vk_model.specs.World.Ownership.{family_of}
+use Rattle.vk_model.specs.Trace.Objects.{image, resource, is_cached, is_exclusive, is_exclusive_mode}
 use Rattle.vk_model.specs.Trace.Point.{Past}
+use Rattle.vk_image_bytes.specs.declared.ranges.ByteRanges.{ByteRanges}
 use Rattle.vk_image_bytes.specs.Numbers.{byte_count, byte_of}
-use Rattle.vk_history.specs.declared.contents.BufferContents.{BufferContents}
+use Rattle.vk_history.specs.declared.resource_contents.ResourceContents.{ResourceContents}
 use Rattle.vk_history.specs.declared.contents.Contents.{Contents}
 use Rattle.vk_history.specs.declared.stretches.Stretch.{Stretch}
+use Rattle.vk_touches.specs.declared.bytes.Bytes.{Bytes}
+use Rattle.vk_touches.specs.declared.bytes.Bytes.TheVariants as bytes
+use Rattle.vk_touches.specs.Bytes.{numbered_byte, HaveNumbers}
 use Rattle.vk_touches.specs.declared.touches.LastTouches.{LastTouches}
 use Rattle.vk_touches.specs.declared.touches.Spot.{Spot}
-use Rattle.vk_touches.specs.declared.touches.Touch.{Touch}
 use Rattle.vk_touches.specs.declared.touches.Touch.TheVariants as touch
 use Rattle.vk_touches.specs.Remembered.{untouched}
 use Rattle.vk_touches.specs.TouchedRanges.{touching, flushing, invalidating, sees_at, reads_at, writes_at}
@@ -31,8 +33,8 @@ use Rattle.vk_touches.specs.Touched.{touched}
 
 -- ---- changes
 
--- The contents of a resource that was just made, with so many bytes, in memory with a cache or without.
-pub record IsMade (c : BufferContents) (size : ℕ) (sharing : Sharing) (cached : Bool) : Type 0 where
+-- The contents of a resource that was just made, with so many bytes, in memory with a cache or without; of an image by its numbers.
+pub record IsMade (c : ResourceContents) (size : ℕ) (sharing : Sharing) (cached : Bool) (of : Option ImageInfo) : Type 0 where
   pub defined_size : length c.defined ≡ size
   pub dirty_size : length c.dirty ≡ size
   pub touches_size : length c.touches ≡ size
@@ -41,15 +43,17 @@ pub record IsMade (c : BufferContents) (size : ℕ) (sharing : Sharing) (cached 
   pub cache : c.is_cached ≡ cached
   pub unread : (k : ℕ) → k < size → slice_get c.touches k ≡ Some untouched
   pub mode : c.is_exclusive ≡ is_exclusive_mode sharing
+  pub image : c.image ≡ of
   pub nobody : c.owner ≡ None
 
 -- After a change: the owner, whether each byte is defined, whether it is dirty, and what it remembers, by what was so before.
-pub record IsChanged (old new : BufferContents) (owner : Option ℕ) (define soil : ℕ → Bool → Bool) (touch : ℕ → LastTouches → LastTouches) : Type 0 where
+pub record IsChanged (old new : ResourceContents) (owner : Option ℕ) (define soil : ℕ → Bool → Bool) (touch : ℕ → LastTouches → LastTouches) : Type 0 where
   pub defined_size : length new.defined ≡ length old.defined
   pub dirty_size : length new.dirty ≡ length old.dirty
   pub touches_size : length new.touches ≡ length old.touches
   pub mode : new.is_exclusive ≡ old.is_exclusive
   pub cache : new.is_cached ≡ old.is_cached
+  pub image : new.image ≡ old.image
   pub owned : new.owner ≡ owner
   pub defined : (k : ℕ) → slice_get new.defined k ≡ option_map (define k) (slice_get old.defined k)
   pub dirty : (k : ℕ) → slice_get new.dirty k ≡ option_map (soil k) (slice_get old.dirty k)
@@ -72,39 +76,65 @@ abbrev pub is_on : List Bool → ℕ → Bool
 is_on xs k = holds (slice_get xs k) (λ d. d)
 
 -- Whether a use by a family loses all.
-abbrev pub is_lost : BufferContents → ℕ → Bool
+abbrev pub is_lost : ResourceContents → ℕ → Bool
 is_lost c family = c.is_exclusive && holds c.owner (λ o. not (o == family))
 
 -- What a use by a family leaves defined.
-abbrev pub left_of : BufferContents → ℕ → ℕ → Bool → Bool
+abbrev pub left_of : ResourceContents → ℕ → ℕ → Bool → Bool
 left_of c family k d = if is_lost c family then false else d
 
 -- Who owns a buffer after a use by a family.
-abbrev pub owner_after : BufferContents → ℕ → Option ℕ
+abbrev pub owner_after : ResourceContents → ℕ → Option ℕ
 owner_after c family = if c.is_exclusive then Some family else c.owner
 
 -- After a use by a family.
-abbrev pub IsTaken : BufferContents → BufferContents → ℕ → Type 0
+abbrev pub IsTaken : ResourceContents → ResourceContents → ℕ → Type 0
 IsTaken old new family = IsChanged old new (owner_after old family) (left_of old family) as_before (λ k t. t)
 
 -- After the host has read a range.
-abbrev pub IsRead : BufferContents → BufferContents → ℕ → ℕ → Spot → Type 0
+abbrev pub IsRead : ResourceContents → ResourceContents → ℕ → ℕ → Spot → Type 0
 IsRead old new o n s = IsChanged old new old.owner as_before as_before (touching (within o n) touch.HostRead s)
 
 -- After the host has written a range: its bytes are dirty where the memory is cached.
-abbrev pub IsSet : BufferContents → BufferContents → ℕ → ℕ → Spot → Type 0
+abbrev pub IsSet : ResourceContents → ResourceContents → ℕ → ℕ → Spot → Type 0
 IsSet old new o n s = IsChanged old new old.owner (defines (within o n)) (assigns (within o n) old.is_cached) (touching (within o n) touch.HostWrite s)
 
 -- After a command of a family has given the bytes values that pass a test.
-abbrev pub IsWritten : BufferContents → BufferContents → (ℕ → Bool) → ℕ → Spot → Type 0
+abbrev pub IsWritten : ResourceContents → ResourceContents → (ℕ → Bool) → ℕ → Spot → Type 0
 IsWritten old new test family s = IsChanged old new (owner_after old family) (λ k d. defines test k (left_of old family k d)) as_before (touching test touch.Write s)
 
+-- After a command of a family has cleared levels and layers: it gives values to exactly those bytes of an image that are in one of the ranges (Vulkan, "Clearing Images Outside a Render Pass Instance").
+pub record IsCleared (rs : List SubresourceRange) (family : ℕ) (s : Spot) (old new : ResourceContents) : Type 0 where
+  pub hits : ℕ → Bool
+  pub reached : (m : ImageInfo) → old.image ≡ Some m → (i k : ℕ) → k < byte_count m → hits k ≡ list_any (λ r. in_range i r (byte_of m i k)) rs
+  pub written : IsWritten old new hits family s
+
+-- The same after a command of a queue.
+abbrev pub IsClearedBy : List SubresourceRange → ℕ → Spot → ResourceContents → ResourceContents → Type 0
+IsClearedBy rs q s old new = IsCleared rs (family_of q) s old new
+
+-- After a command has given the bytes of some levels and layers values.
+pub record IsDefined (r : SubresourceRange) (s : Spot) (old new : ResourceContents) : Type 0 where
+  pub hits : ℕ → Bool
+  pub reached : (m : ImageInfo) → old.image ≡ Some m → (i k : ℕ) → k < byte_count m → hits k ≡ in_range i r (byte_of m i k)
+  pub changed : IsChanged old new old.owner (defines hits) as_before (touching hits touch.Write s)
+
+-- After the bytes of some levels and layers were lost.
+pub record IsDiscarded (r : SubresourceRange) (old new : ResourceContents) : Type 0 where
+  pub hits : ℕ → Bool
+  pub reached : (m : ImageInfo) → old.image ≡ Some m → (i k : ℕ) → k < byte_count m → hits k ≡ in_range i r (byte_of m i k)
+  pub changed : IsChanged old new old.owner (assigns hits false) as_before (λ k t. t)
+
+-- Ranges begin at numbers of 64 bits.
+abbrev pub AreShort : ByteRanges → Type 0
+AreShort ranges = (n : ℕ) → n < ranges.count → ranges.first + n * ranges.step < 2 ^ 64
+
 -- After the host has flushed a range: the bytes that it reaches are clean.
-abbrev pub IsFlushed : BufferContents → BufferContents → ℕ → Length → Spot → Type 0
+abbrev pub IsFlushed : ResourceContents → ResourceContents → ℕ → Length → Spot → Type 0
 IsFlushed old new o n s = IsChanged old new old.owner as_before (assigns (λ k. old.is_cached && in_atoms o n k) false) (flushing (in_atoms o n) s)
 
 -- After the host has invalidated a range: the dirty bytes that it reaches are lost, and what is kept of those reached says whether their last writes are seen.
-pub record IsInvalidated (sees : ℕ → Bool → LastTouches → Type 0) (old new : BufferContents) (o : ℕ) (n : Length) : Type 0 where
+pub record IsInvalidated (sees : ℕ → Bool → LastTouches → Type 0) (old new : ResourceContents) (o : ℕ) (n : Length) : Type 0 where
   pub changed : IsChanged old new old.owner (assigns (λ k. old.is_cached && in_atoms o n k && is_on old.dirty k) false) (assigns (λ k. old.is_cached && in_atoms o n k) false) (invalidating (in_atoms o n) (sees_at new.touches))
   pub answers : (k : ℕ) (t : LastTouches) → in_atoms o n k ≡ true → slice_get old.touches k ≡ Some t → sees k (sees_at new.touches k) t
 
@@ -140,28 +170,43 @@ abbrev pub AreCopied : List Stretch → List Bool → List BufferCopy → Type 0
 AreCopied ss xs gs = ReadWithin gs (length xs) → (k : ℕ) → stretch_at ss k ≡ copied_at xs gs k
 
 -- The source of a copy, after a command of a queue has read it.
-abbrev pub IsLent : BufferContents → BufferContents → List BufferCopy → ℕ → Spot → Type 0
+abbrev pub IsLent : ResourceContents → ResourceContents → List BufferCopy → ℕ → Spot → Type 0
 IsLent old new gs q s = IsChanged old new (owner_after old (family_of q)) (left_of old (family_of q)) as_before (touching (reads_at gs) (touch.Read q) s)
 
 -- The destination of a copy, after a command of a family has written stretches of its source there.
-abbrev pub IsPasted : BufferContents → BufferContents → List BufferCopy → List Stretch → ℕ → Spot → Type 0
+abbrev pub IsPasted : ResourceContents → ResourceContents → List BufferCopy → List Stretch → ℕ → Spot → Type 0
 IsPasted old new gs ss family s = IsChanged old new (owner_after old family) (λ k d. unwrap_or (stretch_at ss k) (left_of old family k d)) as_before (touching (writes_at gs) touch.Write s)
 
 -- ---- of a buffer that may not be there
 
 -- What becomes of it, by what becomes of one that is there.
-abbrev pub BecomesIn : (BufferContents → BufferContents → Type 0) → Option BufferContents → Option BufferContents → Type 0
+abbrev pub BecomesIn : (ResourceContents → ResourceContents → Type 0) → Option ResourceContents → Option ResourceContents → Type 0
 BecomesIn is None new = new ≡ None
 BecomesIn is (Some old) None = ⊥
 BecomesIn is (Some old) (Some new) = is old new
 
 -- After a command of a queue has given a range values, in a buffer of its size.
-abbrev pub IsWrittenBy : ℕ → Length → ℕ → Spot → BufferContents → BufferContents → Type 0
+abbrev pub IsWrittenBy : ℕ → Length → ℕ → Spot → ResourceContents → ResourceContents → Type 0
 IsWrittenBy o n q s old new = IsWritten old new (within o (fill_size (length old.defined) o n)) (family_of q) s
 
 -- After a source was read, with what was found there.
-abbrev pub IsLentWith : List BufferCopy → List Stretch → ℕ → Spot → BufferContents → BufferContents → Type 0
+abbrev pub IsLentWith : List BufferCopy → List Stretch → ℕ → Spot → ResourceContents → ResourceContents → Type 0
 IsLentWith gs ss q s old new = IsLent old new gs q s × AreCopied ss new.defined gs
+
+-- ---- of all resources
+
+-- After a command of a queue has copied numbers from one resource to another, or within one: its source is read, and what was found there is written.
+pub record AreCopiedNumbers (old new : Contents) (s d : ℕ) (gs : List BufferCopy) (q : ℕ) (t : Spot) : Type 0 where
+  pub lent : Contents
+  pub stretches : List Stretch
+  pub source : BecomesIn (IsLentWith gs stretches q t) (get nat_cmp old.resources s) (get nat_cmp lent.resources s)
+  pub source_alone : (other : ℕ) → other ≢ s → get nat_cmp lent.resources other ≡ get nat_cmp old.resources other
+  pub destination : BecomesIn (λ u v. IsPasted u v gs stretches (family_of q) t) (get nat_cmp lent.resources d) (get nat_cmp new.resources d)
+  pub destination_alone : (other : ℕ) → other ≢ d → get nat_cmp new.resources other ≡ get nat_cmp lent.resources other
+
+-- The image that some contents are of, by which its bytes are numbered.
+abbrev pub image_kept : Contents → ℕ → Option ImageInfo
+image_kept contents i = option_and_then (λ c. c.image) (get nat_cmp contents.resources i)
 
 -- ---- what it says of a past
 
@@ -191,76 +236,63 @@ byte_at past r k = elim (image past r) [ None ↦ in_buffer r k | Some m ↦ byt
 unfoldable pub size_at : Past → ℕ → ℕ
 size_at past r = elim (image past r) [ None ↦ buffer_size past r | Some m ↦ byte_count m ]
 
--- The contents of resource r, where a world has its bytes and its owner.
-pub record AreContentsAt (c : BufferContents) (past : Past) (w : World) (r : ℕ) : Type 0 where
+-- These are the bytes of resource r, and all of its numbers are theirs.
+pub record AreBytesOf (past : Past) (r : ℕ) (b : Bytes) : Type 0 where
+  pub byte : (k : ℕ) → numbered_byte b k ≡ byte_at past r k
+  pub numbers : HaveNumbers b (size_at past r)
+  pub of_buffer : image past r ≡ None → b ≡ bytes.Buffer r
+
+-- The contents of resource r, where a world has its bytes and its owner, and each byte remembers this.
+pub record AreContentsAt (c : ResourceContents) (past : Past) (w : World) (t : Byte → LastTouches) (r : ℕ) : Type 0 where
   pub made : is_some (resource past r) ≡ true
   pub defined_size : length c.defined ≡ size_at past r
   pub dirty_size : length c.dirty ≡ size_at past r
   pub touches_size : length c.touches ≡ size_at past r
+  pub image : c.image ≡ image past r
   pub mode : c.is_exclusive ≡ is_exclusive past r
   pub cache : c.is_cached ≡ is_cached past r
   pub owner : c.owner ≡ holder_of (w.owner r)
   pub defined : (k : ℕ) → k < size_at past r → slice_get c.defined k ≡ Some (has_value w (byte_at past r k))
   pub dirty : (k : ℕ) → k < size_at past r → slice_get c.dirty k ≡ Some (w.dirty (byte_at past r k))
-  pub touches : (k : ℕ) → k < size_at past r → slice_get c.touches k ≡ Some (touched past (byte_at past r k))
+  pub touches : (k : ℕ) → k < size_at past r → slice_get c.touches k ≡ Some (t (byte_at past r k))
 
 -- The contents of resource r.
-abbrev pub AreContentsOf : BufferContents → Past → ℕ → Type 0
-AreContentsOf c past r = AreContentsAt c past (world past) r
+abbrev pub AreContentsOf : ResourceContents → Past → ℕ → Type 0
+AreContentsOf c past r = AreContentsAt c past (world past) (touched past) r
 
 -- The contents of buffer b.
-pub record AreBufferContents (c : BufferContents) (past : Past) (b : ℕ) : Type 0 where
+pub record AreBufferContents (c : ResourceContents) (past : Past) (b : ℕ) : Type 0 where
   pub defined_size : length c.defined ≡ buffer_size past b
   pub touches_size : length c.touches ≡ buffer_size past b
   pub cache : c.is_cached ≡ is_cached past b
   pub defined : (k : ℕ) → k < buffer_size past b → slice_get c.defined k ≡ Some (is_defined past b k)
   pub touches : (k : ℕ) → k < buffer_size past b → slice_get c.touches k ≡ Some (touched past (in_buffer b k))
 
--- What is no resource has no owner and no defined or dirty byte in a world, and nobody touched it.
-pub record IsFreshAt (past : Past) (w : World) (r : ℕ) : Type 0 where
+-- What is no resource has no owner and no defined or dirty byte in a world, and nobody touched it, as its bytes remember.
+pub record IsFreshAt (past : Past) (w : World) (t : Byte → LastTouches) (r : ℕ) : Type 0 where
   pub unmade : is_some (resource past r) ≡ false
   pub owner : w.owner r ≡ Nobody
   pub undefined : (b : Byte) → resource_at b ≡ r → has_value w b ≡ false
   pub clean : (b : Byte) → resource_at b ≡ r → w.dirty b ≡ false
-  pub unused : (b : Byte) → resource_at b ≡ r → touched past b ≡ untouched
+  pub unused : (b : Byte) → resource_at b ≡ r → t b ≡ untouched
 
 -- The same after what has happened.
 abbrev pub IsFresh : Past → ℕ → Type 0
-IsFresh past r = IsFreshAt past (world past) r
+IsFresh past r = IsFreshAt past (world past) (touched past) r
 
 -- The contents of what may be a resource, in a world.
-abbrev pub AreContentsInAt : Option BufferContents → Past → World → ℕ → Type 0
-AreContentsInAt None past w r = IsFreshAt past w r
-AreContentsInAt (Some c) past w r = AreContentsAt c past w r
+abbrev pub AreContentsInAt : Option ResourceContents → Past → World → (Byte → LastTouches) → ℕ → Type 0
+AreContentsInAt None past w t r = IsFreshAt past w t r
+AreContentsInAt (Some c) past w t r = AreContentsAt c past w t r
 
 -- The contents of what may be a resource.
-abbrev pub AreContentsIn : Option BufferContents → Past → ℕ → Type 0
-AreContentsIn o past r = AreContentsInAt o past (world past) r
+abbrev pub AreContentsIn : Option ResourceContents → Past → ℕ → Type 0
+AreContentsIn o past r = AreContentsInAt o past (world past) (touched past) r
 
 -- The contents of all resources, in a world.
-abbrev pub AreAllAt : Contents → Past → World → Type 0
-AreAllAt contents past w = (r : ℕ) → AreContentsInAt (get nat_cmp contents.buffers r) past w r
+abbrev pub AreAllAt : Contents → Past → World → (Byte → LastTouches) → Type 0
+AreAllAt contents past w t = (r : ℕ) → AreContentsInAt (get nat_cmp contents.resources r) past w t r
 
 -- The contents of all resources.
 abbrev pub AreContents : Contents → Past → Type 0
-AreContents contents past = AreAllAt contents past (world past)
-
--- ---- elements of barriers
-
--- Whether an element is on all memory, or on a buffer that is there.
-abbrev pub is_on_buffer : Past → Element → Bool
-is_on_buffer past (element.Memory d) = true
-is_on_buffer past (element.Buffer e) = is_some (resource past e.buffer)
-is_on_buffer past (element.Image e) = false
-
--- All elements are.
-abbrev pub AreOnBuffers : Past → List Element → Type 0
-AreOnBuffers past es = All (λ e. IsTrue (is_on_buffer past e)) es
-
--- After a use by a family, and a release.
-abbrev pub IsReleased : ℕ → BufferContents → BufferContents → Type 0
-IsReleased f old new = (past : Past) (w : World) (r : ℕ) (e : Element) → AreContentsAt old past w r → AreContentsAt new past (set_owner r (Released f e) (used past f r w)) r
-
--- After what an element on the buffer does on a queue of a family, wherever it is.
-abbrev pub IsPassed : ℕ → Transfer → BufferContents → BufferContents → Type 0
-IsPassed f t old new = (past : Past) (w : World) (e : BufferElement) → AreContentsAt old past w e.buffer → AreContentsAt new past (after_buffer_element past f e t w) e.buffer
+AreContents contents past = AreAllAt contents past (world past) (touched past)

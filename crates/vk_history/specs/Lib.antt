@@ -10,4 +10,5 @@ pub mod Counted
 pub mod Uses
 pub mod Owners
 pub mod Bound
+pub mod Passing
 pub mod Tabled

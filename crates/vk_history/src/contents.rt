@@ -1,150 +1,38 @@
-ghost use Rattle.std.specs.Prelude.{◌≡◌, ◌≢◌, ◌∷◌, [], ℕ, OnOk, IfOk, IfSome, IsSome, IsTrue, Option};
+ghost use Rattle.std.specs.Prelude.{◌≡◌, ◌≢◌, ◌∷◌, [], ℕ, OnOk, IfSome, IsSome, IsTrue, None, false, Some};
 ghost use Rattle.std.specs.Option.{option_map};
-ghost use Rattle.std.specs.List.{fold};
 ghost use Rattle.std.specs.Ordering.{nat_cmp};
 ghost use Rattle.std.specs.BTreeMap.{get};
-ghost use Rattle.vk_model.specs.Basics.{within};
 ghost use Rattle.vk_model.specs.Trace.Point.{Past};
+ghost use Rattle.vk_model.specs.Rules.Sizes.{bad_image};
+ghost use Rattle.vk_model.specs.Rules.Table.{fault};
 ghost use Rattle.vk_model.specs.Sync.Node.{nodes};
-ghost use Rattle.vk_model.specs.World.Bytes.{World};
-ghost use Rattle.vk_model.specs.World.Effect.{after_element};
-ghost use Rattle.vk_model.specs.World.Ownership.{family_of};
-ghost use Rattle.vk_layouts.specs.Owned.{transfer_of};
+ghost use Rattle.vk_image_bytes.specs.Numbers.{byte_count};
 ghost use Rattle.vk_order.specs.Frontiers.{IsFrontier};
 ghost use Rattle.vk_order.specs.PointViews.{point_of};
+ghost use Rattle.vk_order.specs.declared.access.Access.TheVariants.{Read as AsRead};
+ghost use Rattle.vk_touches.specs.declared.bytes.Bytes.TheVariants.{Buffer as OfBuffer};
 ghost use Rattle.vk_touches.specs.Conflicts.{SeesWrite};
-ghost use Rattle.vk_history.specs.Judged.{IsJudged};
 ghost use Rattle.vk_history.specs.Tabled.{AreObjects};
 ghost use Rattle.vk_touches.specs.Touched.{next_spot};
-ghost use Rattle.vk_history.specs.Contents.{AreContents, AreAllAt, AreOnBuffers, IsPassed, is_on_buffer, IsMade, IsTaken, IsRead, IsSet, IsFlushed, IsInvalidated, IsWritten, IsLent, IsPasted, BecomesIn, IsWrittenBy, IsLentWith};
+ghost use Rattle.vk_history.specs.Contents.{AreContents, IsMade, IsRead, IsSet, IsFlushed, IsInvalidated, BecomesIn, IsWrittenBy, IsClearedBy};
 
 use crate::acts::act_of;
 use crate::changes::{Change, change_by};
 use crate::families::family_of;
 use crate::objects::Objects;
-use crate::ranges::assign;
-use crate::stretches::{Stretch, copies, define_all};
+use crate::resource_contents::{ResourceContents, write_all};
 use std::alloc::{AllocError, Global};
 use std::collections::BTreeMap;
-use vk_layouts::Transfer;
-use vk_model::{BufferCopy, Element, Length, Sharing};
-use vk_order::{Access, Frontier, Point};
-use vk_ranges::RangeMap;
-use vk_touches::{
-    BufferAccess, LastTouches, Spot, Touch, touch, touch_destinations, touch_sources,
-};
+use vk_image_tiles::has_bad_shape;
+use vk_model::{BufferInfo, ImageInfo, Length, SubresourceRange};
+use vk_order::{Access, Frontier, Point, Sight};
+use vk_touches::{Bytes, ResourceAccess, Spot};
 
-/// What is known of the bytes of a buffer.
-#[derive(Drop)]
-pub struct BufferContents {
-    /// Whether each byte is defined.
-    pub defined: RangeMap<bool>,
-    /// Whether the host has written each byte to its cache, and not flushed it.
-    pub dirty: RangeMap<bool>,
-    /// Who touched each byte last.
-    pub touches: RangeMap<LastTouches>,
-    /// Whether the host reaches it through a cache.
-    pub is_cached: bool,
-    /// Whether one queue family at a time owns it.
-    pub is_exclusive: bool,
-    /// The queue family that owns it or has released it, if one does.
-    pub owner: Option<u32>,
-}
-
-impl BufferContents {
-    /// Of a resource of so many bytes that was made, in memory with a cache or without.
-    fn new(
-        alloc: Global,
-        size: u64,
-        sharing: Sharing,
-        is_cached: bool,
-    ) -> Result<BufferContents, AllocError>
-        ensures { IfOk result (λ contents. IsMade contents size sharing is_cached) }
-    {
-        Ok(BufferContents {
-            defined: RangeMap::new(alloc, size, false)?,
-            dirty: RangeMap::new(alloc, size, false)?,
-            touches: RangeMap::new(alloc, size, LastTouches::none())?,
-            is_cached,
-            is_exclusive: matches!(sharing, Sharing::Exclusive),
-            owner: None,
-        })
-    }
-
-    /// After a host entry has read bytes.
-    fn read(&mut self, offset: u64, size: u64, spot: Spot) -> Result<(), AllocError>
-        ensures { OnOk result (IsRead self.old self.new offset size spot) }
-    {
-        touch(&mut self.touches, offset, size, Touch::HostRead, spot)
-    }
-
-    /// After a host entry has written bytes.
-    fn set(&mut self, offset: u64, size: u64, spot: Spot) -> Result<(), AllocError>
-        ensures { OnOk result (IsSet self.old self.new offset size spot) }
-    {
-        assign(&mut self.defined, offset, size, true)?;
-        assign(&mut self.dirty, offset, size, self.is_cached)?;
-        touch(&mut self.touches, offset, size, Touch::HostWrite, spot)?;
-        Ok(())
-    }
-
-    /// After a command has given bytes values on a queue of a family.
-    fn write(&mut self, offset: u64, size: u64, family: u32, spot: Spot) -> Result<(), AllocError>
-        ensures { OnOk result (IsWritten self.old self.new (within offset size) family spot) }
-    {
-        self.take_over(family)?;
-        assign(&mut self.defined, offset, size, true)?;
-        touch(&mut self.touches, offset, size, Touch::Write, spot)?;
-        Ok(())
-    }
-
-    /// After a command of a queue has read the regions of a copy.
-    fn lend(&mut self, regions: &[BufferCopy], queue: u32, spot: Spot) -> Result<(), AllocError>
-        ensures { OnOk result (IsLent self.old self.new regions.now queue spot) }
-    {
-        self.take_over(family_of(queue))?;
-        touch_sources(&mut self.touches, regions, Touch::Read(queue), spot)?;
-        Ok(())
-    }
-
-    /// After a command has written the regions of a copy on a queue of a family.
-    fn paste(
-        &mut self,
-        regions: &[BufferCopy],
-        stretches: Vec<Stretch>,
-        family: u32,
-        spot: Spot,
-    ) -> Result<(), AllocError>
-        ensures { OnOk result (IsPasted self.old self.new regions.now stretches.items family spot) }
-    {
-        self.take_over(family)?;
-        define_all(&mut self.defined, stretches)?;
-        touch_destinations(&mut self.touches, regions, Touch::Write, spot)?;
-        Ok(())
-    }
-
-    /// A use by a queue family: of an exclusive buffer that another one owns all is lost, and the
-    /// family owns it from then on.
-    pub(crate) fn take_over(&mut self, family: u32) -> Result<(), AllocError>
-        ensures { OnOk result (IsTaken self.old self.new family) }
-    {
-        if !self.is_exclusive {
-            return Ok(());
-        }
-        if self.owner.is_some_and(|owner| owner != family) {
-            let len = self.defined.len();
-            self.defined.assign(0, len, false)?;
-        }
-        self.owner = Some(family);
-        Ok(())
-    }
-}
-
-/// What is known of the bytes of each buffer.
+/// What is known of the bytes of each resource.
 #[derive(Drop)]
 pub struct Contents {
-    alloc: Global,
-    buffers: BTreeMap<u32, BufferContents>,
+    pub(crate) alloc: Global,
+    pub(crate) resources: BTreeMap<u32, ResourceContents>,
 }
 
 impl Contents {
@@ -154,15 +42,15 @@ impl Contents {
     {
         Contents {
             alloc,
-            buffers: BTreeMap::new(alloc),
+            resources: BTreeMap::new(alloc),
         }
     }
 
-    /// What is known of the bytes of a buffer.
-    pub fn of(&self, buffer: u32) -> Option<&BufferContents>
-        ensures { option_map (λ c. c.now) result ≡ get nat_cmp self.now.buffers buffer }
+    /// What is known of the bytes of a resource.
+    pub fn of(&self, resource: u32) -> Option<&ResourceContents>
+        ensures { option_map (λ c. c.now) result ≡ get nat_cmp self.now.resources resource }
     {
-        self.buffers.get(&buffer)
+        self.resources.get(&resource)
     }
 
     /// Takes the next point, whose node has this spot, by the objects after it and what is known of
@@ -174,107 +62,89 @@ impl Contents {
         objects: &Objects<'_>,
         frontier: &Frontier,
     ) -> Result<(), AllocError>
-        ensures { OnOk result ((past : Past) → IsJudged (point_of point.now ∷ past) → spot ≡ next_spot past (point_of point.now)
+        ensures { OnOk result ((past : Past) → fault (point_of point.now ∷ past) ≡ None → spot ≡ next_spot past (point_of point.now)
             → AreObjects objects.now (point_of point.now ∷ past) → IsFrontier frontier.now (nodes past) → AreContents self.old past → AreContents self.new (point_of point.now ∷ past)) }
     {
         let queue = point.queue;
         match change_by(point) {
             Change::Nothing => Ok(()),
-            Change::Made(buffer, info) => {
-                let is_cached = objects.is_cached(buffer);
-                self.make(buffer, info.size, info.sharing, is_cached)
+            Change::Made(buffer, info) => self.make(buffer, info, objects.is_cached(buffer)),
+            Change::ImageMade(image, info) => {
+                self.make_image(image, info, objects.is_cached(image))
             }
             Change::HostRead(buffer, offset, size) => self.read(buffer, offset, size, spot),
             Change::HostWritten(buffer, offset, size) => self.set(buffer, offset, size, spot),
             Change::Flushed(buffer, offset, size) => self.flush(buffer, offset, size, spot),
             Change::Invalidated(buffer, offset, size) => {
                 let sight = &frontier.sight(point, &act_of(point))?;
-                let by = BufferAccess {
-                    frontier,
-                    sight,
-                    buffer,
-                    access: Access::Read,
-                };
-                self.invalidate(offset, size, &by)
+                let by = reading(frontier, sight, buffer);
+                self.invalidate(buffer, offset, size, &by)
             }
             Change::Written(buffer, offset, size) => self.write(buffer, offset, size, queue, spot),
+            Change::Cleared(image, ranges) => self.clear(image, ranges, queue, spot),
             Change::Copied(source, destination, regions) => {
-                let stretches = self.lend(source, regions, queue, spot)?;
-                self.paste(destination, regions, stretches, queue, spot)?;
-                Ok(())
+                self.copy(source, destination, regions, queue, spot)
             }
-            Change::Passed(elements) => self.pass_all(family_of(queue), elements),
+            Change::CopiedIn(buffer, image, regions) => {
+                let copies = self.copies_in(image, regions)?;
+                self.copy(buffer, image, copies.as_slice(), queue, spot)
+            }
+            Change::CopiedOut(image, buffer, regions) => {
+                let copies = self.copies_out(image, regions)?;
+                self.copy(image, buffer, copies.as_slice(), queue, spot)
+            }
+            Change::CopiedImage(source, destination, regions) => {
+                let copies = self.copies_between(source, destination, regions)?;
+                self.copy(source, destination, copies.as_slice(), queue, spot)
+            }
+            Change::Passed(elements) => self.pass_all(queue, elements, frontier),
         }
     }
 
-    /// What the elements of a barrier do on a queue of a family, one after another.
-    fn pass_all(&mut self, family: u32, elements: &[Element]) -> Result<(), AllocError>
-        ensures { OnOk result ((past : Past) (w : World) → AreOnBuffers past elements.now → AreAllAt self.old past w → AreAllAt self.new past (fold (after_element past family) w elements.now)) }
+    fn make(&mut self, buffer: u32, info: &BufferInfo, is_cached: bool) -> Result<(), AllocError>
+        ensures here { OnOk result (IfSome (get nat_cmp self.new.resources buffer) (λ contents. IsMade contents info.now.size info.now.sharing is_cached None)) }
+        ensures present { OnOk result (IsSome (get nat_cmp self.new.resources buffer)) }
+        ensures others { OnOk result ((other : ℕ) → other ≢ buffer → get nat_cmp self.new.resources other ≡ get nat_cmp self.old.resources other) }
     {
-        for element in elements {
-            self.pass(family, element)?;
-        }
+        let contents = ResourceContents::of_buffer(self.alloc, info, is_cached)?;
+        self.resources.insert(buffer, contents)?;
         Ok(())
     }
 
-    fn pass(&mut self, family: u32, element: &Element) -> Result<(), AllocError>
-        ensures { OnOk result ((past : Past) (w : World) → IsTrue (is_on_buffer past element.now) → AreAllAt self.old past w → AreAllAt self.new past (after_element past family w element.now)) }
-    {
-        match element {
-            Element::Buffer(range) => {
-                let transfer = Transfer::of(family, range.families);
-                self.pass_buffer(range.buffer, family, transfer)
-            }
-            _ => Ok(()),
-        }
-    }
-
-    fn pass_buffer(
+    /// An image of a shape that breaks no rule.
+    fn make_image(
         &mut self,
-        buffer: u32,
-        family: u32,
-        transfer: Transfer,
-    ) -> Result<(), AllocError>
-        ensures here { OnOk result (BecomesIn (IsPassed family (transfer_of transfer)) (get nat_cmp self.old.buffers buffer) (get nat_cmp self.new.buffers buffer)) }
-        ensures others { OnOk result ((other : ℕ) → other ≢ buffer → get nat_cmp self.new.buffers other ≡ get nat_cmp self.old.buffers other) }
-    {
-        match self.buffers.get_mut(&buffer) {
-            Some(contents) => contents.pass(family, transfer),
-            None => Ok(()),
-        }
-    }
-
-    fn make(
-        &mut self,
-        resource: u32,
-        size: u64,
-        sharing: Sharing,
+        image: u32,
+        info: &ImageInfo,
         is_cached: bool,
     ) -> Result<(), AllocError>
-        ensures here { OnOk result (IfSome (get nat_cmp self.new.buffers resource) (λ contents. IsMade contents size sharing is_cached)) }
-        ensures present { OnOk result (IsSome (get nat_cmp self.new.buffers resource)) }
-        ensures others { OnOk result ((other : ℕ) → other ≢ resource → get nat_cmp self.new.buffers other ≡ get nat_cmp self.old.buffers other) }
+        ensures here { OnOk result (bad_image info.now ≡ false → IfSome (get nat_cmp self.new.resources image) (λ contents. IsMade contents (byte_count info.now) info.now.sharing is_cached (Some info.now))) }
+        ensures present { OnOk result (bad_image info.now ≡ false → IsSome (get nat_cmp self.new.resources image)) }
+        ensures others { OnOk result ((other : ℕ) → other ≢ image → get nat_cmp self.new.resources other ≡ get nat_cmp self.old.resources other) }
     {
-        let contents = BufferContents::new(self.alloc, size, sharing, is_cached)?;
-        self.buffers.insert(resource, contents)?;
+        if has_bad_shape(info) {
+            return Ok(());
+        }
+        let contents = ResourceContents::of_image(self.alloc, info, is_cached)?;
+        self.resources.insert(image, contents)?;
         Ok(())
     }
 
     fn read(&mut self, buffer: u32, offset: u64, size: u64, spot: Spot) -> Result<(), AllocError>
-        ensures here { OnOk result (BecomesIn (λ old new. IsRead old new offset size spot) (get nat_cmp self.old.buffers buffer) (get nat_cmp self.new.buffers buffer)) }
-        ensures others { OnOk result ((other : ℕ) → other ≢ buffer → get nat_cmp self.new.buffers other ≡ get nat_cmp self.old.buffers other) }
+        ensures here { OnOk result (BecomesIn (λ old new. IsRead old new offset size spot) (get nat_cmp self.old.resources buffer) (get nat_cmp self.new.resources buffer)) }
+        ensures others { OnOk result ((other : ℕ) → other ≢ buffer → get nat_cmp self.new.resources other ≡ get nat_cmp self.old.resources other) }
     {
-        match self.buffers.get_mut(&buffer) {
+        match self.resources.get_mut(&buffer) {
             Some(contents) => contents.read(offset, size, spot),
             None => Ok(()),
         }
     }
 
     fn set(&mut self, buffer: u32, offset: u64, size: u64, spot: Spot) -> Result<(), AllocError>
-        ensures here { OnOk result (BecomesIn (λ old new. IsSet old new offset size spot) (get nat_cmp self.old.buffers buffer) (get nat_cmp self.new.buffers buffer)) }
-        ensures others { OnOk result ((other : ℕ) → other ≢ buffer → get nat_cmp self.new.buffers other ≡ get nat_cmp self.old.buffers other) }
+        ensures here { OnOk result (BecomesIn (λ old new. IsSet old new offset size spot) (get nat_cmp self.old.resources buffer) (get nat_cmp self.new.resources buffer)) }
+        ensures others { OnOk result ((other : ℕ) → other ≢ buffer → get nat_cmp self.new.resources other ≡ get nat_cmp self.old.resources other) }
     {
-        match self.buffers.get_mut(&buffer) {
+        match self.resources.get_mut(&buffer) {
             Some(contents) => contents.set(offset, size, spot),
             None => Ok(()),
         }
@@ -287,10 +157,10 @@ impl Contents {
         size: Length,
         spot: Spot,
     ) -> Result<(), AllocError>
-        ensures here { OnOk result (BecomesIn (λ old new. IsFlushed old new offset size spot) (get nat_cmp self.old.buffers buffer) (get nat_cmp self.new.buffers buffer)) }
-        ensures others { OnOk result ((other : ℕ) → other ≢ buffer → get nat_cmp self.new.buffers other ≡ get nat_cmp self.old.buffers other) }
+        ensures here { OnOk result (BecomesIn (λ old new. IsFlushed old new offset size spot) (get nat_cmp self.old.resources buffer) (get nat_cmp self.new.resources buffer)) }
+        ensures others { OnOk result ((other : ℕ) → other ≢ buffer → get nat_cmp self.new.resources other ≡ get nat_cmp self.old.resources other) }
     {
-        match self.buffers.get_mut(&buffer) {
+        match self.resources.get_mut(&buffer) {
             Some(contents) => contents.flush(offset, size, spot),
             None => Ok(()),
         }
@@ -299,14 +169,16 @@ impl Contents {
     /// Invalidates a range of a buffer, by an entry of the host that reads as this says.
     fn invalidate(
         &mut self,
+        buffer: u32,
         offset: u64,
         size: Length,
-        by: &BufferAccess<'_>,
+        by: &ResourceAccess<'_>,
     ) -> Result<(), AllocError>
-        ensures here { OnOk result (BecomesIn (λ old new. IsInvalidated (SeesWrite by.now) old new offset size) (get nat_cmp self.old.buffers by.now.buffer) (get nat_cmp self.new.buffers by.now.buffer)) }
-        ensures others { OnOk result ((other : ℕ) → other ≢ by.now.buffer → get nat_cmp self.new.buffers other ≡ get nat_cmp self.old.buffers other) }
+        requires { by.now.bytes ≡ OfBuffer buffer }
+        ensures here { OnOk result (BecomesIn (λ old new. IsInvalidated (SeesWrite by.now) old new offset size) (get nat_cmp self.old.resources buffer) (get nat_cmp self.new.resources buffer)) }
+        ensures others { OnOk result ((other : ℕ) → other ≢ buffer → get nat_cmp self.new.resources other ≡ get nat_cmp self.old.resources other) }
     {
-        match self.buffers.get_mut(&by.buffer) {
+        match self.resources.get_mut(&buffer) {
             Some(contents) => contents.invalidate(offset, size, by),
             None => Ok(()),
         }
@@ -320,74 +192,43 @@ impl Contents {
         queue: u32,
         spot: Spot,
     ) -> Result<(), AllocError>
-        ensures here { OnOk result (BecomesIn (IsWrittenBy offset size queue spot) (get nat_cmp self.old.buffers buffer) (get nat_cmp self.new.buffers buffer)) }
-        ensures others { OnOk result ((other : ℕ) → other ≢ buffer → get nat_cmp self.new.buffers other ≡ get nat_cmp self.old.buffers other) }
+        ensures here { OnOk result (BecomesIn (IsWrittenBy offset size queue spot) (get nat_cmp self.old.resources buffer) (get nat_cmp self.new.resources buffer)) }
+        ensures others { OnOk result ((other : ℕ) → other ≢ buffer → get nat_cmp self.new.resources other ≡ get nat_cmp self.old.resources other) }
     {
-        match self.buffers.get_mut(&buffer) {
+        match self.resources.get_mut(&buffer) {
             Some(contents) => write_all(contents, offset, size, queue, spot),
             None => Ok(()),
         }
     }
 
-    /// Reads the regions of a copy in its source, and answers what is found there.
-    fn lend(
+    fn clear(
         &mut self,
-        source: u32,
-        regions: &[BufferCopy],
-        queue: u32,
-        spot: Spot,
-    ) -> Result<Vec<Stretch>, AllocError>
-        ensures here { IfOk result (λ stretches. BecomesIn (IsLentWith regions.now stretches.items queue spot) (get nat_cmp self.old.buffers source) (get nat_cmp self.new.buffers source)) }
-        ensures others { OnOk result ((other : ℕ) → other ≢ source → get nat_cmp self.new.buffers other ≡ get nat_cmp self.old.buffers other) }
-    {
-        let alloc = self.alloc;
-        match self.buffers.get_mut(&source) {
-            Some(contents) => lend_all(contents, alloc, regions, queue, spot),
-            None => Ok(Vec::new(alloc)),
-        }
-    }
-
-    /// Writes what was found in a copy's source to its destination.
-    fn paste(
-        &mut self,
-        destination: u32,
-        regions: &[BufferCopy],
-        stretches: Vec<Stretch>,
+        image: u32,
+        ranges: &[SubresourceRange],
         queue: u32,
         spot: Spot,
     ) -> Result<(), AllocError>
-        ensures here { OnOk result (BecomesIn (λ old new. IsPasted old new regions.now stretches.items (family_of queue) spot) (get nat_cmp self.old.buffers destination) (get nat_cmp self.new.buffers destination)) }
-        ensures others { OnOk result ((other : ℕ) → other ≢ destination → get nat_cmp self.new.buffers other ≡ get nat_cmp self.old.buffers other) }
+        ensures here { OnOk result (BecomesIn (IsClearedBy ranges.now queue spot) (get nat_cmp self.old.resources image) (get nat_cmp self.new.resources image)) }
+        ensures others { OnOk result ((other : ℕ) → other ≢ image → get nat_cmp self.new.resources other ≡ get nat_cmp self.old.resources other) }
     {
-        match self.buffers.get_mut(&destination) {
-            Some(contents) => contents.paste(regions, stretches, family_of(queue), spot),
+        match self.resources.get_mut(&image) {
+            Some(contents) => contents.clear(ranges, family_of(queue), spot),
             None => Ok(()),
         }
     }
 }
 
-fn write_all(
-    contents: &mut BufferContents,
-    offset: u64,
-    size: Length,
-    queue: u32,
-    spot: Spot,
-) -> Result<(), AllocError>
-    ensures { OnOk result (IsWrittenBy offset size queue spot contents.old contents.new) }
+/// How a node that comes next reads a buffer.
+fn reading<'b>(frontier: &'b Frontier, sight: &'b Sight, buffer: u32) -> ResourceAccess<'b>
+    ensures bytes { result.bytes ≡ OfBuffer buffer }
+    ensures access { result.access ≡ AsRead }
+    ensures frontier { result.frontier.now ≡ frontier.now }
+    ensures sight { result.sight.now ≡ sight.now }
 {
-    let bytes = size.filled(contents.defined.len(), offset);
-    contents.write(offset, bytes, family_of(queue), spot)
-}
-
-fn lend_all(
-    contents: &mut BufferContents,
-    alloc: Global,
-    regions: &[BufferCopy],
-    queue: u32,
-    spot: Spot,
-) -> Result<Vec<Stretch>, AllocError>
-    ensures { IfOk result (λ stretches. IsLentWith regions.now stretches.items queue spot contents.old contents.new) }
-{
-    contents.lend(regions, queue, spot)?;
-    copies(&contents.defined, alloc, regions)
+    ResourceAccess {
+        frontier,
+        sight,
+        bytes: Bytes::Buffer(buffer),
+        access: Access::Read,
+    }
 }

@@ -1,17 +1,18 @@
 ghost use Rattle.std.specs.Prelude.{◌≡◌, ◌≤◌, ◌&&◌, ℕ, OnOk, length, slice_get, false};
 ghost use Rattle.std.specs.Option.{option_map};
 ghost use Rattle.vk_model.specs.World.Effect.{in_atoms};
+ghost use Rattle.vk_touches.specs.Bytes.{HaveNumbers};
 ghost use Rattle.vk_touches.specs.Conflicts.{SeesWrite};
 ghost use Rattle.vk_history.specs.Contents.{IsFlushed, IsInvalidated, AreLost, assigns, is_on};
 
-use crate::contents::BufferContents;
 use crate::ranges::{assign, clear};
+use crate::resource_contents::ResourceContents;
 use std::alloc::AllocError;
 use vk_model::Length;
 use vk_ranges::RangeMap;
-use vk_touches::{BufferAccess, Part, Spot, flush_touches, invalidate_touches};
+use vk_touches::{Part, ResourceAccess, Spot, flush_touches, invalidate_touches};
 
-impl BufferContents {
+impl ResourceContents {
     /// After a host entry has flushed a range: what it reaches is dirty no more.
     pub fn flush(&mut self, offset: u64, size: Length, spot: Spot) -> Result<(), AllocError>
         ensures { OnOk result (IsFlushed self.old self.new offset size spot) }
@@ -28,8 +29,9 @@ impl BufferContents {
         &mut self,
         offset: u64,
         size: Length,
-        by: &BufferAccess<'_>,
+        by: &ResourceAccess<'_>,
     ) -> Result<(), AllocError>
+        requires { HaveNumbers by.now.bytes (length self.old.touches) }
         ensures { OnOk result (IsInvalidated (SeesWrite by.now) self.old self.new offset size) }
     {
         if self.is_cached {

@@ -19,24 +19,24 @@ ghost use Rattle.vk_history.specs.Ended.{first_end};
 ghost use Rattle.vk_history.specs.Made.{last_maker, last_set, earlier_than};
 ghost use Rattle.vk_touches.specs.Touched.{last_signaler, signal_spot, next_node, act_next};
 ghost use Rattle.vk_touches.specs.Conflicts.{IsAccess};
-ghost use Rattle.vk_history.specs.Contents.{AreContentsIn};
+ghost use Rattle.vk_history.specs.Contents.{AreContentsIn, AreBytesOf};
 ghost use Rattle.vk_history.specs.Tabled.{spot_view, set_view, maker_view};
 
 mod pools;
 mod resources;
 
 use crate::acts::act_of;
-use crate::contents::BufferContents;
 use crate::events::EventSet;
 use crate::objects::Maker;
 use crate::places::pool_at;
+use crate::resource_contents::ResourceContents;
 use crate::semaphores::Signals;
 use crate::tables::{Tables, note};
 use std::alloc::{AllocError, Global};
 use std::marker::Model;
 use vk_model::{BufferInfo, Entry, ImageInfo, MemoryInfo, Place, PoolInfo};
 use vk_order::{Access, Action, Point, Sight};
-use vk_touches::BufferAccess;
+use vk_touches::ResourceAccess;
 
 /// What has happened: the first `count` of the points, which break no rule. What the rules ask of it
 /// is kept in tables.
@@ -321,11 +321,11 @@ impl<'a> History<'a> {
         }
     }
 
-    /// What is known of the bytes of a buffer.
-    pub fn contents(&self, buffer: u32) -> Option<&BufferContents>
-        ensures { AreContentsIn (option_map (λ c. c.now) result) (past self.now) buffer }
+    /// What is known of the bytes of a resource.
+    pub fn contents(&self, resource: u32) -> Option<&ResourceContents>
+        ensures { AreContentsIn (option_map (λ c. c.now) result) (past self.now) resource }
     {
-        self.tables.contents.of(buffer)
+        self.tables.contents.of(resource)
     }
 
     /// What the node of a point that comes next has before it, and what it sees.
@@ -336,14 +336,20 @@ impl<'a> History<'a> {
         self.tables.frontier.sight(point, &act_of(point))
     }
 
-    /// How the node that a sight is of accesses a buffer, where it comes next.
-    pub fn access<'b>(&'b self, sight: &'b Sight, buffer: u32, access: Access) -> BufferAccess<'b>
-        ensures { IsAccess (past self.now) sight.now buffer access result }
+    /// How the node that a sight is of accesses a resource, where it comes next.
+    pub fn access<'b>(
+        &'b self,
+        sight: &'b Sight,
+        resource: u32,
+        access: Access,
+    ) -> ResourceAccess<'b>
+        ensures access { IsAccess (past self.now) sight.now result.bytes access result }
+        ensures bytes { AreBytesOf (past self.now) resource result.bytes }
     {
-        BufferAccess {
+        ResourceAccess {
             frontier: &self.tables.frontier,
             sight,
-            buffer,
+            bytes: self.bytes(resource),
             access,
         }
     }

@@ -1,14 +1,16 @@
 ghost use Rattle.std.specs.Prelude.{◌≡◌, ◌+◌, ◌≤◌, not, length};
-ghost use Rattle.vk_touches.specs.Conflicts.{Misses, MissesRead, MissesWrite, IsEarly, HasEarlyCommand, FoundIn, FoundAt};
+ghost use Rattle.vk_touches.specs.Bytes.{HaveNumbers};
+ghost use Rattle.vk_touches.specs.Conflicts.{Misses, MissesAt, MissesRead, MissesWrite, IsEarly, HasEarlyCommand, FoundIn, FoundAt};
 
-use crate::contents::BufferContents;
+use crate::resource_contents::ResourceContents;
 use vk_order::Sight;
-use vk_touches::{BufferAccess, Part, has_early_read, is_early};
+use vk_touches::{Part, ResourceAccess, TransitionAccess, has_early_read, is_early};
 
-impl BufferContents {
-    /// Whether a byte of a range has a last write, by a command or the host, that an access by a
-    /// command doesn't see.
-    pub fn has_missed(&self, offset: u64, size: u64, by: &BufferAccess<'_>) -> bool
+impl ResourceContents {
+    /// Whether a byte of a range has a last write, by a command or the host, or a last layout
+    /// transition that an access by a command doesn't see.
+    pub fn has_missed(&self, offset: u64, size: u64, by: &ResourceAccess<'_>) -> bool
+        requires { HaveNumbers by.now.bytes (length self.now.touches) }
         ensures { offset + size ≤ length self.now.touches → FoundAt (Misses self.now.is_cached by.now) result self.now.touches offset (offset + size) }
     {
         let part = Part::of(offset, 0, size, self.touches.len());
@@ -16,7 +18,8 @@ impl BufferContents {
     }
 
     /// Whether one has a last write by a command that a read by the host doesn't see.
-    pub fn has_missed_read(&self, offset: u64, size: u64, by: &BufferAccess<'_>) -> bool
+    pub fn has_missed_read(&self, offset: u64, size: u64, by: &ResourceAccess<'_>) -> bool
+        requires { HaveNumbers by.now.bytes (length self.now.touches) }
         ensures { offset + size ≤ length self.now.touches → FoundAt (MissesRead self.now.is_cached by.now) result self.now.touches offset (offset + size) }
     {
         let part = Part::of(offset, 0, size, self.touches.len());
@@ -24,15 +27,26 @@ impl BufferContents {
     }
 
     /// Whether one has a last write by a command that a write by the host doesn't see.
-    pub fn has_missed_write(&self, offset: u64, size: u64, by: &BufferAccess<'_>) -> bool
+    pub fn has_missed_write(&self, offset: u64, size: u64, by: &ResourceAccess<'_>) -> bool
+        requires { HaveNumbers by.now.bytes (length self.now.touches) }
         ensures { offset + size ≤ length self.now.touches → FoundAt (MissesWrite by.now) result self.now.touches offset (offset + size) }
     {
         let part = Part::of(offset, 0, size, self.touches.len());
         by.misses_some_write(&self.touches, part.low, part.high)
     }
 
-    /// Whether one has a last read, by the host or by a command of some queue, that doesn't come
-    /// before a command.
+    /// Whether one has a last write by a command or a last layout transition that another layout
+    /// transition doesn't see.
+    pub fn has_missed_at(&self, offset: u64, size: u64, by: &TransitionAccess<'_>) -> bool
+        requires { HaveNumbers by.now.bytes (length self.now.touches) }
+        ensures { offset + size ≤ length self.now.touches → FoundAt (MissesAt by.now) result self.now.touches offset (offset + size) }
+    {
+        let part = Part::of(offset, 0, size, self.touches.len());
+        by.misses_some(&self.touches, part.low, part.high)
+    }
+
+    /// Whether one has a last read, by the host or by a command of some queue, or a last layout
+    /// transition that doesn't come before a command.
     pub fn has_early(&self, offset: u64, size: u64, sight: &Sight) -> bool
         ensures { offset + size ≤ length self.now.touches → FoundIn (IsEarly sight.now) result self.now.touches offset (offset + size) }
     {

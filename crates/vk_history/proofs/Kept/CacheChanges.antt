@@ -1,15 +1,12 @@
 -- What a flush and an invalidation change of the bytes that they reach.
-use Rattle.std.proofs.Common.{◌≡◌, ◌<◌, ◌≤◌, ◌+◌, ◌-◌, ℕ, List, [], ◌∷◌, length, slice_get, get_or, Bool, true, false, ◌&&◌, refl, ap, sym, ◌∙◌, subst, arith, Option, Some, None, ⊎_elim}
+use Rattle.std.proofs.Common.{◌≡◌, ◌<◌, ◌≤◌, ◌+◌, ◌-◌, ℕ, List, [], ◌∷◌, length, slice_get, Bool, true, false, ◌&&◌, refl, ap, sym, ◌∙◌, arith, Option, Some, None, ⊎_elim}
 use Rattle.std.specs.Prelude.{if◌then◌else◌, nat_le, nat_lt}
 use Rattle.std.specs.Option.{option_map}
 use Rattle.std.proofs.lemmas.Bool.{cases_lt, lt-ltb, le-leb, lt-leb, le-ltb}
-use Rattle.std.proofs.lemmas.Option.{slice_get_past, slice_get-get_or}
+use Rattle.std.proofs.lemmas.Option.{slice_get_past}
 use Rattle.vk_ranges.specs.Overlaps.{Piece, AreRunsOf}
 use Rattle.vk_model.specs.Basics.{holds, within}
-use Rattle.vk_touches.specs.declared.touches.LastTouches.{LastTouches}
-use Rattle.vk_touches.specs.Remembered.{untouched, with_invalidation}
 use Rattle.vk_history.specs.Contents.{assigns, is_on, dirty_between, AreLost}
-use Rattle.vk_touches.specs.TouchedRanges.{invalidating, sees_at, AreInvalidated}
 
 -- ---- what is lost
 

@@ -24,11 +24,14 @@ use Rattle.vk_order.specs.Wide.{is_answered}
 use Rattle.vk_order.specs.Inner.Clocks.{place}
 use Rattle.vk_order.specs.declared.access.Access.{Access}
 use Rattle.vk_order.specs.declared.access.Access.TheVariants as access
-use Rattle.vk_touches.specs.declared.accesses.BufferAccess.{BufferAccess}
-use Rattle.vk_history.specs.declared.contents.BufferContents.{BufferContents}
+use Rattle.vk_touches.specs.declared.accesses.ResourceAccess.{ResourceAccess}
+use Rattle.vk_touches.specs.declared.bytes.Bytes.{Bytes}
+use Rattle.vk_touches.specs.declared.bytes.Bytes.TheVariants as bytes
+use Rattle.vk_touches.specs.Bytes.{numbered_byte}
+use Rattle.vk_history.specs.declared.resource_contents.ResourceContents.{ResourceContents}
 use Rattle.vk_history.specs.declared.contents.Contents.{Contents}
 use Rattle.vk_touches.specs.declared.touches.Touch.TheVariants as touch
-use Rattle.vk_history.specs.Judged.{IsJudged}
+use Rattle.vk_model.specs.Rules.Table.{fault}
 use Rattle.vk_touches.specs.Conflicts.{SaysSeen, SeesWrite}
 use Rattle.vk_touches.specs.Touched.{touched, next_spot, next_node, act_next, last_touch, spot_of}
 use Rattle.vk_history.specs.Contents.{AreContents, AreContentsOf, BecomesIn, IsFlushed, IsInvalidated, holder_of, has_value, byte_at, size_at, is_on, as_before, assigns}
@@ -56,7 +59,7 @@ if_both false u d = refl
 
 -- ---- a flush
 
-module _ (past : Past) (p : Point) (j : IsJudged (p ∷ past)) (b o : ℕ) (n : Length) (is : p.action ≡ Host (entry.Flush b o n)) where
+module _ (past : Past) (p : Point) (clean : fault (p ∷ past) ≡ None) (b o : ℕ) (n : Length) (is : p.action ≡ Host (entry.Flush b o n)) where
   flush_made : (c : ℕ) → resource (p ∷ past) c ≡ resource past c
   flush_made c = rw is refl
 
@@ -83,12 +86,12 @@ module _ (past : Past) (p : Point) (j : IsJudged (p ∷ past)) (b o : ℕ) (n : 
   never false = refl
 
   flush_there : is_some (buffer past b) ≡ true
-  flush_there = there_on_host past p j (entry.Flush b o n) is b (contains-head _ [])
+  flush_there = there_on_host past p clean (entry.Flush b o n) is b (contains-head _ [])
 
-  pub flush_change : (old new : Contents) → BecomesIn (λ u v. IsFlushed u v o n (next_spot past p)) (get nat_cmp old.buffers b) (get nat_cmp new.buffers b)
-      → ((other : ℕ) → other ≢ b → get nat_cmp new.buffers other ≡ get nat_cmp old.buffers other) → AreContents old past → AreContents new (p ∷ past)
-  flush_change old new here others = one_changed past p j b (buffer_is_resource past b flush_there) (λ u v. IsFlushed u v o n (next_spot past p)) old new here others
-      (λ u v a h. next_of past p j b u v u.owner as_before (assigns (λ k. u.is_cached && in_atoms o n k) false) (flushing (in_atoms o n) (next_spot past p)) a h (a.owner ∙ sym (ap holder_of (flush_owned b))) (λ k lt. sym (flush_valued (byte_at past b k)))
+  pub flush_change : (old new : Contents) → BecomesIn (λ u v. IsFlushed u v o n (next_spot past p)) (get nat_cmp old.resources b) (get nat_cmp new.resources b)
+      → ((other : ℕ) → other ≢ b → get nat_cmp new.resources other ≡ get nat_cmp old.resources other) → AreContents old past → AreContents new (p ∷ past)
+  flush_change old new here others = one_changed past p clean b (buffer_is_resource past b flush_there) (λ u v. IsFlushed u v o n (next_spot past p)) old new here others
+      (λ u v a h. next_of past p clean b u v u.owner as_before (assigns (λ k. u.is_cached && in_atoms o n k) false) (flushing (in_atoms o n) (next_spot past p)) a h (a.owner ∙ sym (ap holder_of (flush_owned b))) (λ k lt. sym (flush_valued (byte_at past b k)))
       (λ k lt. ap (λ (t : Bool). if t && in_atoms o n k then false else (world past).dirty (byte_at past b k)) a.cache ∙ sym (flush_dirty (byte_at past b k) (in_atoms o n k) (in_own b o n past flush_there k)))
       (λ k lt. sym (touched_by_flush past p (byte_at past b k) b o n is (in_atoms o n k) (in_own b o n past flush_there k))))
       (λ r e. record {
@@ -101,7 +104,7 @@ module _ (past : Past) (p : Point) (j : IsJudged (p ∷ past)) (b o : ℕ) (n : 
 
 -- ---- an invalidation
 
-module _ (past : Past) (p : Point) (j : IsJudged (p ∷ past)) (b o : ℕ) (n : Length) (is : p.action ≡ Host (entry.Invalidate b o n)) where
+module _ (past : Past) (p : Point) (clean : fault (p ∷ past) ≡ None) (b o : ℕ) (n : Length) (is : p.action ≡ Host (entry.Invalidate b o n)) where
   invalidation_made : (c : ℕ) → resource (p ∷ past) c ≡ resource past c
   invalidation_made c = rw is refl
 
@@ -135,7 +138,7 @@ module _ (past : Past) (p : Point) (j : IsJudged (p ∷ past)) (b o : ℕ) (n : 
   none_clean true = refl
   none_clean false = refl
 
-  module _ (x : BufferAccess) (of : x.buffer ≡ b) (reads : x.access ≡ access.Read) (frontier : IsFrontier x.frontier.now (nodes past)) (sight : IsSight (nodes past) (next_node past p (act_next p.action)) x.sight.now) where
+  module _ (x : ResourceAccess) (of : x.bytes ≡ bytes.Buffer b) (reads : x.access ≡ access.Read) (frontier : IsFrontier x.frontier.now (nodes past)) (sight : IsSight (nodes past) (next_node past p (act_next p.action)) x.sight.now) where
     -- what is answered of a byte is whether the invalidation sees its last write
     answer_is : (k : ℕ) (answer : Bool) → SeesWrite x k answer (touched past (in_buffer b k)) → holds (last_touch touch.Write past (in_buffer b k)) (λ v. seen.seen uncached (nodes (p ∷ past)) v (next_node past p (act_next p.action)) seen.Read (in_buffer b k)) ≡ answer
     answer_is k answer h = go (last_touch touch.Write past byte) refl where
@@ -157,7 +160,7 @@ module _ (past : Past) (p : Point) (j : IsJudged (p ∷ past)) (b o : ℕ) (n : 
           let says : SaysSeen x k answer (spot_of past v) = h.some (spot_of past v) (ap (option_map (spot_of past)) e) in
           let here : order.SaysSeen x.frontier.now x.sight.now (record { line = class_of v; place = place (nodes past) (class_of v) v.number }) v.number access.Read byte answer =
           subst (λ (a : Access). order.SaysSeen x.frontier.now x.sight.now (record { line = class_of v; place = place (nodes past) (class_of v) v.number }) v.number a byte answer) reads
-          (subst (λ (c : ℕ). order.SaysSeen x.frontier.now x.sight.now (record { line = class_of v; place = place (nodes past) (class_of v) v.number }) v.number x.access (in_buffer c k) answer) of says) in
+          (subst (λ (c : Bytes). order.SaysSeen x.frontier.now x.sight.now (record { line = class_of v; place = place (nodes past) (class_of v) v.number }) v.number x.access (numbered_byte c k) answer) of says) in
           here (nodes past) y v uncached frontier sight
           (record { there = w.there; uncached = rw (ap is_host w.runs) refl; limited = rw (ap is_element w.runs) refl })
           (ap (line_on v.point.queue) w.runs ∙ ap Some (sym (ap (class_on v.point.queue) w.runs))) refl (omega arith) asked
@@ -166,11 +169,11 @@ module _ (past : Past) (p : Point) (j : IsJudged (p ∷ past)) (b o : ℕ) (n : 
       go None e = sym (h.none (ap (option_map (spot_of past)) e))
       go (Some v) e = ap (λ ns. seen.seen uncached ns v y seen.Read byte) now_too ∙ sym (seen_is v e)
 
-    dirty_is : (u : BufferContents) → AreContentsOf u past b → (k : ℕ) → k < size_at past b → is_on u.dirty k ≡ (world past).dirty (byte_at past b k)
+    dirty_is : (u : ResourceContents) → AreContentsOf u past b → (k : ℕ) → k < size_at past b → is_on u.dirty k ≡ (world past).dirty (byte_at past b k)
     dirty_is u a k lt = ap (λ (o : Option Bool). holds o (λ d. d)) (a.dirty k lt)
 
     there : is_some (buffer past b) ≡ true
-    there = there_on_host past p j (entry.Invalidate b o n) is b (contains-head _ [])
+    there = there_on_host past p clean (entry.Invalidate b o n) is b (contains-head _ [])
 
     -- the answer of a byte, by its number
     answered : (k : ℕ) (answer : Bool) → SeesWrite x k answer (touched past (byte_at past b k)) → holds (last_touch touch.Write past (byte_at past b k)) (λ v. seen.seen uncached (nodes (p ∷ past)) v (next_node past p (act_next p.action)) seen.Read (byte_at past b k)) ≡ answer
@@ -178,12 +181,11 @@ module _ (past : Past) (p : Point) (j : IsJudged (p ∷ past)) (b o : ℕ) (n : 
         subst (λ (c : Byte). holds (last_touch touch.Write past c) (λ v. seen.seen uncached (nodes (p ∷ past)) v (next_node past p (act_next p.action)) seen.Read c) ≡ answer) (sym (byte_of_buffer past b there k))
         (answer_is k answer (subst (λ (c : Byte). SeesWrite x k answer (touched past c)) (byte_of_buffer past b there k) h))
 
-    pub invalidation_change : (old new : Contents) → BecomesIn (λ u v. IsInvalidated (SeesWrite x) u v o n) (get nat_cmp old.buffers x.buffer) (get nat_cmp new.buffers x.buffer)
-        → ((other : ℕ) → other ≢ x.buffer → get nat_cmp new.buffers other ≡ get nat_cmp old.buffers other) → AreContents old past → AreContents new (p ∷ past)
-    invalidation_change old new here others = one_changed past p j b (buffer_is_resource past b there) (λ u v. IsInvalidated (SeesWrite x) u v o n) old new
-        (subst (λ (c : ℕ). BecomesIn (λ u v. IsInvalidated (SeesWrite x) u v o n) (get nat_cmp old.buffers c) (get nat_cmp new.buffers c)) of here)
-        (subst (λ (c : ℕ). (other : ℕ) → other ≢ c → get nat_cmp new.buffers other ≡ get nat_cmp old.buffers other) of others)
-        (λ u v a h. next_of past p j b u v u.owner (assigns (λ k. u.is_cached && in_atoms o n k && is_on u.dirty k) false) (assigns (λ k. u.is_cached && in_atoms o n k) false) (invalidating (in_atoms o n) (sees_at v.touches)) a h.changed (a.owner ∙ sym (ap holder_of (invalidation_owned b)))
+    pub invalidation_change : (old new : Contents) → BecomesIn (λ u v. IsInvalidated (SeesWrite x) u v o n) (get nat_cmp old.resources b) (get nat_cmp new.resources b)
+        → ((other : ℕ) → other ≢ b → get nat_cmp new.resources other ≡ get nat_cmp old.resources other) → AreContents old past → AreContents new (p ∷ past)
+    invalidation_change old new here others = one_changed past p clean b (buffer_is_resource past b there) (λ u v. IsInvalidated (SeesWrite x) u v o n) old new
+        here others
+        (λ u v a h. next_of past p clean b u v u.owner (assigns (λ k. u.is_cached && in_atoms o n k && is_on u.dirty k) false) (assigns (λ k. u.is_cached && in_atoms o n k) false) (invalidating (in_atoms o n) (sees_at v.touches)) a h.changed (a.owner ∙ sym (ap holder_of (invalidation_owned b)))
         (λ k lt. ap (λ (d : Bool). if u.is_cached && in_atoms o n k && d then false else has_value (world past) (byte_at past b k)) (dirty_is u a k lt)
         ∙ ap (λ (t : Bool). if t && in_atoms o n k && (world past).dirty (byte_at past b k) then false else has_value (world past) (byte_at past b k)) a.cache ∙ sym (invalidation_valued (byte_at past b k) (in_atoms o n k) (in_own b o n past there k)))
         (λ k lt. ap (λ (t : Bool). if t && in_atoms o n k then false else (world past).dirty (byte_at past b k)) a.cache ∙ sym (invalidation_dirty (byte_at past b k) (in_atoms o n k) (in_own b o n past there k)))

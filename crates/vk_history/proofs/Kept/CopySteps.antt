@@ -22,15 +22,16 @@ use Rattle.vk_model.specs.Trace.Objects.{resource, is_exclusive}
 use Rattle.vk_model.specs.Trace.Point.{Past, Point, Action, Run}
 use Rattle.vk_model.proofs.Lists.Members.{found, contains-head, contains-tail}
 use Rattle.vk_model.proofs.Lists.Truths.{clash}
-use Rattle.vk_history.specs.declared.contents.BufferContents.{BufferContents}
+use Rattle.vk_history.specs.declared.resource_contents.ResourceContents.{ResourceContents}
 use Rattle.vk_history.specs.declared.contents.Contents.{Contents}
 use Rattle.vk_history.specs.declared.stretches.Stretch.{Stretch}
 use Rattle.vk_touches.specs.declared.touches.LastTouches.{LastTouches}
+use Rattle.vk_touches.specs.declared.touches.Spot.{Spot}
 use Rattle.vk_touches.specs.declared.touches.Touch.TheVariants as touch
-use Rattle.vk_history.specs.Judged.{IsJudged}
+use Rattle.vk_model.specs.Rules.Table.{fault}
 use Rattle.vk_touches.specs.Remembered.{with_touch}
-use Rattle.vk_touches.specs.Touched.{touched, next_spot}
-use Rattle.vk_history.specs.Contents.{AreContents, AreContentsIn, AreContentsOf, IsChanged, BecomesIn, IsLent, IsLentWith, IsPasted, AreCopied, ReadWithin, as_before, stretch_at, left_of, holder_of, owner_after, has_value, byte_at, size_at}
+use Rattle.vk_touches.specs.Touched.{touched, next_spot, has_transition}
+use Rattle.vk_history.specs.Contents.{AreContents, AreContentsIn, AreContentsOf, IsChanged, BecomesIn, IsLent, IsLentWith, IsPasted, AreCopied, AreCopiedNumbers, ReadWithin, as_before, stretch_at, left_of, holder_of, owner_after, has_value, byte_at, size_at}
 use Rattle.vk_touches.specs.TouchedRanges.{reads_at, writes_at, touching}
 use Rattle.vk_history.proofs.Making.Numbers.{IsNumbered, numbered_at, byte_of_buffer, size_of_buffer, buffer_is_resource, copies-targets, copies-targets-other, copies-origins, copies-origins-other}
 use Rattle.vk_history.proofs.Making.Worlds.{copy_leaves, unwritten, used_owner, used_value, used_dirty, loses, turned_about}
@@ -39,13 +40,14 @@ use Rattle.vk_history.proofs.Kept.NextPoint.{there_for_command, copy_source, cop
 use Rattle.vk_history.proofs.Kept.ContentSteps.{IsOf, IsUntouched, untouched, next_of, of_contents, taken_owner, left_is, used_apart}
 
 -- two changes, one after the other
-afterwards : (a b c : BufferContents) (o1 o2 : Option ℕ) (d1 d2 : ℕ → Bool → Bool) (t1 t2 : ℕ → LastTouches → LastTouches) → IsChanged a b o1 d1 as_before t1 → IsChanged b c o2 d2 as_before t2 → IsChanged a c o2 (λ k d. d2 k (d1 k d)) as_before (λ k t. t2 k (t1 k t))
+afterwards : (a b c : ResourceContents) (o1 o2 : Option ℕ) (d1 d2 : ℕ → Bool → Bool) (t1 t2 : ℕ → LastTouches → LastTouches) → IsChanged a b o1 d1 as_before t1 → IsChanged b c o2 d2 as_before t2 → IsChanged a c o2 (λ k d. d2 k (d1 k d)) as_before (λ k t. t2 k (t1 k t))
 afterwards a b c o1 o2 d1 d2 t1 t2 h g = record {
   defined_size = g.defined_size ∙ h.defined_size;
   dirty_size = g.dirty_size ∙ h.dirty_size;
   touches_size = g.touches_size ∙ h.touches_size;
   mode = g.mode ∙ h.mode;
   cache = g.cache ∙ h.cache;
+  image = g.image ∙ h.image;
   owned = g.owned;
   defined = λ k. g.defined k ∙ ap (option_map (d2 k)) (h.defined k) ∙ twice (d1 k) (d2 k) (slice_get a.defined k);
   dirty = λ k. g.dirty k ∙ ap (option_map (as_before k)) (h.dirty k) ∙ twice (as_before k) (as_before k) (slice_get a.dirty k);
@@ -56,7 +58,7 @@ afterwards a b c o1 o2 d1 d2 t1 t2 h g = record {
   twice f g (Some x) = refl
 
 -- what a use leaves of contents
-taken_of : (past : Past) (f b : ℕ) (w : World) (u v : BufferContents) (t : ℕ → LastTouches → LastTouches) → IsOf past u w b → IsChanged u v (owner_after u f) (left_of u f) as_before t → IsOf past v (used past f b w) b
+taken_of : (past : Past) (f b : ℕ) (w : World) (u v : ResourceContents) (t : ℕ → LastTouches → LastTouches) → IsOf past u w b → IsChanged u v (owner_after u f) (left_of u f) as_before t → IsOf past v (used past f b w) b
 taken_of past f b w u v t a h = record {
   mode = h.mode ∙ a.mode;
   owner = h.owned ∙ taken_owner past f w b u a;
@@ -93,12 +95,13 @@ pub record CopiesNumbers (past : Past) (p : Point) (c : Cmd) (s d : ℕ) (gs : L
   pub value : (w : World) (byte : Byte) → (after_command past (family_of p.queue) c w).value byte ≡ after_writes (byte_writes past c) (used past (family_of p.queue) d (used past (family_of p.queue) s w)).value byte
   pub writes : byte_writes past c ≡ flat_map (numbered_writes (byte_at past s) (byte_at past d)) gs
   pub writes_now : byte_writes (p ∷ past) c ≡ byte_writes past c
+  pub unmoved : (byte : Byte) → has_transition byte past p (Run c) ≡ false
   pub source_there : is_some (resource past s) ≡ true
   pub destination_there : is_some (resource past d) ≡ true
   pub reads_fit : (g : BufferCopy) → Contains gs g → g.source_offset + g.size ≤ size_at past s
   pub writes_fit : (g : BufferCopy) → Contains gs g → g.destination_offset + g.size ≤ size_at past d
 
-module _ (past : Past) (p : Point) (j : IsJudged (p ∷ past)) (c : Cmd) (s d : ℕ) (gs : List BufferCopy) (is : p.action ≡ Run c) (copies : CopiesNumbers past p c s d gs) where
+module _ (past : Past) (p : Point) (clean : fault (p ∷ past) ≡ None) (c : Cmd) (s d : ℕ) (gs : List BufferCopy) (is : p.action ≡ Run c) (copies : CopiesNumbers past p c s d gs) where
   abbrev family : ℕ
   family = family_of p.queue
 
@@ -151,7 +154,7 @@ module _ (past : Past) (p : Point) (j : IsJudged (p ∷ past)) (c : Cmd) (s d : 
   remembers : (b : Byte) (w r : Bool) → is_in b (targets (flat_map (numbered_writes from to) gs)) ≡ w → is_in b (origins (flat_map (numbered_writes from to) gs)) ≡ r
       → touched (p ∷ past) b ≡ (let t : LastTouches = if r then with_touch (touched past b) (touch.Read p.queue) (next_spot past p) else touched past b in if w then with_touch t touch.Write (next_spot past p) else t)
   remembers b w r we re =
-      touched_by_command past p b c is w r (ap (λ ms. is_in b (targets ms)) (copies.writes_now ∙ copies.writes) ∙ we) (ap (λ ms. is_in b (origins ms)) (copies.writes_now ∙ copies.writes) ∙ re)
+      touched_by_command past p b c is (copies.unmoved b) w r (ap (λ ms. is_in b (targets ms)) (copies.writes_now ∙ copies.writes) ∙ we) (ap (λ ms. is_in b (origins ms)) (copies.writes_now ∙ copies.writes) ∙ re)
       ∙ merged_command w r p.queue (touched past b) (next_spot past p)
 
   writes_to : (k : ℕ) → k < size_at past d → is_in (to k) (targets (flat_map (numbered_writes from to) gs)) ≡ writes_at gs k
@@ -167,7 +170,7 @@ module _ (past : Past) (p : Point) (j : IsJudged (p ∷ past)) (c : Cmd) (s d : 
   no_read b r own ne = copies-origins-other from to gs (size_at past s) s sources b (rw own ne)
 
   -- what was found in the source
-  module _ (v : BufferContents) (of : IsOf past v lent s) (size : length v.defined ≡ size_at past s) (ss : List Stretch) (copied : AreCopied ss v.defined gs) where
+  module _ (v : ResourceContents) (of : IsOf past v lent s) (size : length v.defined ≡ size_at past s) (ss : List Stretch) (copied : AreCopied ss v.defined gs) where
     reads_within : ReadWithin gs (length v.defined)
     reads_within g c = rw size (copies.reads_fit g c)
 
@@ -184,7 +187,7 @@ module _ (past : Past) (p : Point) (j : IsJudged (p ∷ past)) (c : Cmd) (s d : 
           of.defined (g.source_offset + (k - g.destination_offset)) (omega (arith, low, high, fits))
 
     -- so the destination is defined as the copy leaves it
-    pasted_is : (m : BufferContents) → IsOf past m lent d → (k : ℕ) → k < size_at past d → unwrap_or (stretch_at ss k) (left_of m family k (has_value lent (to k))) ≡ has_value (world (p ∷ past)) (to k)
+    pasted_is : (m : ResourceContents) → IsOf past m lent d → (k : ℕ) → k < size_at past d → unwrap_or (stretch_at ss k) (left_of m family k (has_value lent (to k))) ≡ has_value (world (p ∷ past)) (to k)
     pasted_is m om k lt =
         ap (unwrap_or (stretch_at ss k)) (left_is past family lent d m om k (to k) (destinations.own k)) ∙ ap (λ (o : Option Bool). unwrap_or o (has_value ready (to k))) (found_at k)
         ∙ go (first_with k) ∙ sym (valued k lt)
@@ -195,7 +198,7 @@ module _ (past : Past) (p : Point) (j : IsJudged (p ∷ past)) (c : Cmd) (s d : 
 
   -- ---- another resource than the two
 
-  apart : (b : ℕ) → (b == s) ≡ false → (b == d) ≡ false → IsUntouched past p j b
+  apart : (b : ℕ) → (b == s) ≡ false → (b == d) ≡ false → IsUntouched past p clean b
   apart b es ed =
       let one = used_apart past family (world past) s b es in
       let two = used_apart past family lent d b ed in
@@ -209,10 +212,10 @@ module _ (past : Past) (p : Point) (j : IsJudged (p ∷ past)) (c : Cmd) (s d : 
 
   -- ---- the source alone
 
-  source_next : (s == d) ≡ false → (u v : BufferContents) → AreContentsOf u past s → IsLent u v gs p.queue (next_spot past p) → AreContentsOf v (p ∷ past) s
+  source_next : (s == d) ≡ false → (u v : ResourceContents) → AreContentsOf u past s → IsLent u v gs p.queue (next_spot past p) → AreContentsOf v (p ∷ past) s
   source_next ne u v a h =
       let two = used_apart past family lent d s ne in
-      next_of past p j s u v (owner_after u family) (left_of u family) as_before (touching (reads_at gs) (touch.Read p.queue) (next_spot past p)) a h
+      next_of past p clean s u v (owner_after u family) (left_of u family) as_before (touching (reads_at gs) (touch.Read p.queue) (next_spot past p)) a h
       (taken_owner past family (world past) s u (of_contents past s u a) ∙ sym (ap holder_of (owned s ∙ two.0)))
       (λ k lt. left_is past family (world past) s u (of_contents past s u a) k (from k) (sources.own k) ∙ sym (valued_other (from k) (rw (sources.own k) ne) ∙ two.1 (from k) (sources.own k)))
       (λ k lt. sym (soiled (from k)))
@@ -220,13 +223,13 @@ module _ (past : Past) (p : Point) (j : IsJudged (p ∷ past)) (c : Cmd) (s d : 
 
   -- ---- the destination alone
 
-  destination_next : (d == s) ≡ false → (v : BufferContents) → IsOf past v lent s → length v.defined ≡ size_at past s → (ss : List Stretch) → AreCopied ss v.defined gs
-      → (u x : BufferContents) → AreContentsOf u past d → IsPasted u x gs ss family (next_spot past p) → AreContentsOf x (p ∷ past) d
+  destination_next : (d == s) ≡ false → (v : ResourceContents) → IsOf past v lent s → length v.defined ≡ size_at past s → (ss : List Stretch) → AreCopied ss v.defined gs
+      → (u x : ResourceContents) → AreContentsOf u past d → IsPasted u x gs ss family (next_spot past p) → AreContentsOf x (p ∷ past) d
   destination_next ne v of size ss copied u x a h =
       let one = used_apart past family (world past) s d ne in
       let before = of_contents past d u a in
       let mid : IsOf past u lent d = record { mode = a.mode; owner = a.owner ∙ sym (ap holder_of one.0); defined = λ k lt. a.defined k lt ∙ ap Some (sym (one.1 (to k) (destinations.own k))) } in
-      next_of past p j d u x (owner_after u family) (λ k e. unwrap_or (stretch_at ss k) (left_of u family k e)) as_before (touching (writes_at gs) touch.Write (next_spot past p)) a h
+      next_of past p clean d u x (owner_after u family) (λ k e. unwrap_or (stretch_at ss k) (left_of u family k e)) as_before (touching (writes_at gs) touch.Write (next_spot past p)) a h
       (taken_owner past family lent d u mid ∙ sym (ap holder_of (owned d)))
       (λ k lt. ap (λ (e : Bool). unwrap_or (stretch_at ss k) (left_of u family k e)) (sym (one.1 (to k) (destinations.own k))) ∙ pasted_is v of size ss copied u mid k lt)
       (λ k lt. sym (soiled (to k)))
@@ -234,87 +237,94 @@ module _ (past : Past) (p : Point) (j : IsJudged (p ∷ past)) (c : Cmd) (s d : 
 
   -- ---- between two resources
 
-  pub between : (s == d) ≡ false → (d == s) ≡ false → (ss : List Stretch) (old mid new : Contents) → BecomesIn (IsLentWith gs ss p.queue (next_spot past p)) (get nat_cmp old.buffers s) (get nat_cmp mid.buffers s)
-      → ((other : ℕ) → other ≢ s → get nat_cmp mid.buffers other ≡ get nat_cmp old.buffers other)
-      → BecomesIn (λ u v. IsPasted u v gs ss family (next_spot past p)) (get nat_cmp mid.buffers d) (get nat_cmp new.buffers d)
-      → ((other : ℕ) → other ≢ d → get nat_cmp new.buffers other ≡ get nat_cmp mid.buffers other) → AreContents old past → AreContents new (p ∷ past)
+  pub between : (s == d) ≡ false → (d == s) ≡ false → (ss : List Stretch) (old mid new : Contents) → BecomesIn (IsLentWith gs ss p.queue (next_spot past p)) (get nat_cmp old.resources s) (get nat_cmp mid.resources s)
+      → ((other : ℕ) → other ≢ s → get nat_cmp mid.resources other ≡ get nat_cmp old.resources other)
+      → BecomesIn (λ u v. IsPasted u v gs ss family (next_spot past p)) (get nat_cmp mid.resources d) (get nat_cmp new.resources d)
+      → ((other : ℕ) → other ≢ d → get nat_cmp new.resources other ≡ get nat_cmp mid.resources other) → AreContents old past → AreContents new (p ∷ past)
   between sd ds ss old mid new lends kept pastes left are b = by (b == d) refl (b == s) refl where
-    source : (u v : Option BufferContents) → BecomesIn (IsLentWith gs ss p.queue (next_spot past p)) u v → AreContentsIn u past s → (x : BufferContents) × (y : BufferContents) × (v ≡ Some y) × AreContentsOf x past s × IsLentWith gs ss p.queue (next_spot past p) x y
+    source : (u v : Option ResourceContents) → BecomesIn (IsLentWith gs ss p.queue (next_spot past p)) u v → AreContentsIn u past s → (x : ResourceContents) × (y : ResourceContents) × (v ≡ Some y) × AreContentsOf x past s × IsLentWith gs ss p.queue (next_spot past p) x y
     source None v h fresh = clash copies.source_there fresh.unmade
     source (Some u) None h a = absurd h
     source (Some u) (Some v) h a = (u, v, refl, a, h)
 
-    here : (x : BufferContents) × (y : BufferContents) × (get nat_cmp mid.buffers s ≡ Some y) × AreContentsOf x past s × IsLentWith gs ss p.queue (next_spot past p) x y
-    here = source (get nat_cmp old.buffers s) (get nat_cmp mid.buffers s) lends (are s)
+    here : (x : ResourceContents) × (y : ResourceContents) × (get nat_cmp mid.resources s ≡ Some y) × AreContentsOf x past s × IsLentWith gs ss p.queue (next_spot past p) x y
+    here = source (get nat_cmp old.resources s) (get nat_cmp mid.resources s) lends (are s)
 
     lent_of : IsOf past here.1 lent s
     lent_of = taken_of past family s (world past) here.0 here.1 (touching (reads_at gs) (touch.Read p.queue) (next_spot past p)) (of_contents past s here.0 here.3) here.4.0
 
-    destination : (u x : Option BufferContents) → BecomesIn (λ u v. IsPasted u v gs ss family (next_spot past p)) u x → AreContentsIn u past d → AreContentsIn x (p ∷ past) d
+    destination : (u x : Option ResourceContents) → BecomesIn (λ u v. IsPasted u v gs ss family (next_spot past p)) u x → AreContentsIn u past d → AreContentsIn x (p ∷ past) d
     destination None x h fresh = clash copies.destination_there fresh.unmade
     destination (Some u) None h a = absurd h
     destination (Some u) (Some x) h a = destination_next ds here.1 lent_of (here.4.0.defined_size ∙ here.3.defined_size) ss here.4.1 u x a h
 
-    same_mid : get nat_cmp mid.buffers d ≡ get nat_cmp old.buffers d
+    same_mid : get nat_cmp mid.resources d ≡ get nat_cmp old.resources d
     same_mid = kept d (eqb-false d s ds)
 
-    by : (t : Bool) → (b == d) ≡ t → (r : Bool) → (b == s) ≡ r → AreContentsIn (get nat_cmp new.buffers b) (p ∷ past) b
-    by true e r g = subst (λ (x : ℕ). AreContentsIn (get nat_cmp new.buffers x) (p ∷ past) x) (sym (eqb-true b d e)) (destination (get nat_cmp mid.buffers d) (get nat_cmp new.buffers d) pastes (subst (λ (o : Option BufferContents). AreContentsIn o past d) (sym same_mid) (are d)))
-    by false e true g = subst (λ (x : ℕ). AreContentsIn (get nat_cmp new.buffers x) (p ∷ past) x) (sym (eqb-true b s g)) (subst (λ (o : Option BufferContents). AreContentsIn o (p ∷ past) s) (sym (left s (eqb-false s d sd) ∙ here.2)) (source_next sd here.0 here.1 here.3 here.4.0))
-    by false e false g = subst (λ (o : Option BufferContents). AreContentsIn o (p ∷ past) b) (sym (left b (eqb-false b d e) ∙ kept b (eqb-false b s g))) (untouched past p j (get nat_cmp old.buffers b) b (apart b g e) (are b))
+    by : (t : Bool) → (b == d) ≡ t → (r : Bool) → (b == s) ≡ r → AreContentsIn (get nat_cmp new.resources b) (p ∷ past) b
+    by true e r g = subst (λ (x : ℕ). AreContentsIn (get nat_cmp new.resources x) (p ∷ past) x) (sym (eqb-true b d e)) (destination (get nat_cmp mid.resources d) (get nat_cmp new.resources d) pastes (subst (λ (o : Option ResourceContents). AreContentsIn o past d) (sym same_mid) (are d)))
+    by false e true g = subst (λ (x : ℕ). AreContentsIn (get nat_cmp new.resources x) (p ∷ past) x) (sym (eqb-true b s g)) (subst (λ (o : Option ResourceContents). AreContentsIn o (p ∷ past) s) (sym (left s (eqb-false s d sd) ∙ here.2)) (source_next sd here.0 here.1 here.3 here.4.0))
+    by false e false g = subst (λ (o : Option ResourceContents). AreContentsIn o (p ∷ past) b) (sym (left b (eqb-false b d e) ∙ kept b (eqb-false b s g))) (untouched past p clean (get nat_cmp old.resources b) b (apart b g e) (are b))
 
 -- ---- within one resource
 
-module _ (past : Past) (p : Point) (j : IsJudged (p ∷ past)) (c : Cmd) (s : ℕ) (gs : List BufferCopy) (is : p.action ≡ Run c) (copies : CopiesNumbers past p c s s gs) (ss : List Stretch) where
-  both_next : (u v x : BufferContents) → AreContentsOf u past s → IsLentWith gs ss p.queue (next_spot past p) u v → IsPasted v x gs ss (family_of p.queue) (next_spot past p) → AreContentsOf x (p ∷ past) s
+module _ (past : Past) (p : Point) (clean : fault (p ∷ past) ≡ None) (c : Cmd) (s : ℕ) (gs : List BufferCopy) (is : p.action ≡ Run c) (copies : CopiesNumbers past p c s s gs) (ss : List Stretch) where
+  both_next : (u v x : ResourceContents) → AreContentsOf u past s → IsLentWith gs ss p.queue (next_spot past p) u v → IsPasted v x gs ss (family_of p.queue) (next_spot past p) → AreContentsOf x (p ∷ past) s
   both_next u v x a lends pastes =
       let f : ℕ = family_of p.queue in
       let reads : ℕ → LastTouches → LastTouches = touching (reads_at gs) (touch.Read p.queue) (next_spot past p) in
       let writes : ℕ → LastTouches → LastTouches = touching (writes_at gs) touch.Write (next_spot past p) in
       let pasted : ℕ → Bool → Bool = λ k e. unwrap_or (stretch_at ss k) (left_of v f k e) in
       let of = taken_of past f s (world past) u v reads (of_contents past s u a) lends.0 in
-      next_of past p j s u x (owner_after v f) (λ k e. pasted k (left_of u f k e)) as_before (λ k t. writes k (reads k t)) a (afterwards u v x (owner_after u f) (owner_after v f) (left_of u f) pasted reads writes lends.0 pastes)
-      (taken_owner past f (used past f s (world past)) s v of ∙ sym (ap holder_of (owned past p j c s s gs is copies s)))
-      (λ k lt. ap (pasted k) (left_is past f (world past) s u (of_contents past s u a) k (byte_at past s k) ((numbered_at past s).own k)) ∙ pasted_is past p j c s s gs is copies v of (lends.0.defined_size ∙ a.defined_size) ss lends.1 v of k lt)
-      (λ k lt. sym (soiled past p j c s s gs is copies (byte_at past s k)))
-      (λ k lt. sym (remembers past p j c s s gs is copies (byte_at past s k) (writes_at gs k) (reads_at gs k) (writes_to past p j c s s gs is copies k lt) (reads_from past p j c s s gs is copies k lt)))
+      next_of past p clean s u x (owner_after v f) (λ k e. pasted k (left_of u f k e)) as_before (λ k t. writes k (reads k t)) a (afterwards u v x (owner_after u f) (owner_after v f) (left_of u f) pasted reads writes lends.0 pastes)
+      (taken_owner past f (used past f s (world past)) s v of ∙ sym (ap holder_of (owned past p clean c s s gs is copies s)))
+      (λ k lt. ap (pasted k) (left_is past f (world past) s u (of_contents past s u a) k (byte_at past s k) ((numbered_at past s).own k)) ∙ pasted_is past p clean c s s gs is copies v of (lends.0.defined_size ∙ a.defined_size) ss lends.1 v of k lt)
+      (λ k lt. sym (soiled past p clean c s s gs is copies (byte_at past s k)))
+      (λ k lt. sym (remembers past p clean c s s gs is copies (byte_at past s k) (writes_at gs k) (reads_at gs k) (writes_to past p clean c s s gs is copies k lt) (reads_from past p clean c s s gs is copies k lt)))
 
-  pub within_one : (old mid new : Contents) → BecomesIn (IsLentWith gs ss p.queue (next_spot past p)) (get nat_cmp old.buffers s) (get nat_cmp mid.buffers s)
-      → ((other : ℕ) → other ≢ s → get nat_cmp mid.buffers other ≡ get nat_cmp old.buffers other)
-      → BecomesIn (λ u v. IsPasted u v gs ss (family_of p.queue) (next_spot past p)) (get nat_cmp mid.buffers s) (get nat_cmp new.buffers s)
-      → ((other : ℕ) → other ≢ s → get nat_cmp new.buffers other ≡ get nat_cmp mid.buffers other) → AreContents old past → AreContents new (p ∷ past)
+  pub within_one : (old mid new : Contents) → BecomesIn (IsLentWith gs ss p.queue (next_spot past p)) (get nat_cmp old.resources s) (get nat_cmp mid.resources s)
+      → ((other : ℕ) → other ≢ s → get nat_cmp mid.resources other ≡ get nat_cmp old.resources other)
+      → BecomesIn (λ u v. IsPasted u v gs ss (family_of p.queue) (next_spot past p)) (get nat_cmp mid.resources s) (get nat_cmp new.resources s)
+      → ((other : ℕ) → other ≢ s → get nat_cmp new.resources other ≡ get nat_cmp mid.resources other) → AreContents old past → AreContents new (p ∷ past)
   within_one old mid new lends kept pastes left are b = by (b == s) refl where
-    known : (u v x : Option BufferContents) → AreContentsIn u past s → BecomesIn (IsLentWith gs ss p.queue (next_spot past p)) u v → BecomesIn (λ u v. IsPasted u v gs ss (family_of p.queue) (next_spot past p)) v x → AreContentsIn x (p ∷ past) s
+    known : (u v x : Option ResourceContents) → AreContentsIn u past s → BecomesIn (IsLentWith gs ss p.queue (next_spot past p)) u v → BecomesIn (λ u v. IsPasted u v gs ss (family_of p.queue) (next_spot past p)) v x → AreContentsIn x (p ∷ past) s
     known None v x fresh h g = clash copies.source_there fresh.unmade
     known (Some u) None x a h g = absurd h
     known (Some u) (Some v) None a h g = absurd g
     known (Some u) (Some v) (Some x) a h g = both_next u v x a h g
 
-    by : (t : Bool) → (b == s) ≡ t → AreContentsIn (get nat_cmp new.buffers b) (p ∷ past) b
-    by true e = subst (λ (x : ℕ). AreContentsIn (get nat_cmp new.buffers x) (p ∷ past) x) (sym (eqb-true b s e)) (known (get nat_cmp old.buffers s) (get nat_cmp mid.buffers s) (get nat_cmp new.buffers s) (are s) lends pastes)
-    by false e = subst (λ (o : Option BufferContents). AreContentsIn o (p ∷ past) b) (sym (left b (eqb-false b s e) ∙ kept b (eqb-false b s e))) (untouched past p j (get nat_cmp old.buffers b) b (apart past p j c s s gs is copies b e e) (are b))
+    by : (t : Bool) → (b == s) ≡ t → AreContentsIn (get nat_cmp new.resources b) (p ∷ past) b
+    by true e = subst (λ (x : ℕ). AreContentsIn (get nat_cmp new.resources x) (p ∷ past) x) (sym (eqb-true b s e)) (known (get nat_cmp old.resources s) (get nat_cmp mid.resources s) (get nat_cmp new.resources s) (are s) lends pastes)
+    by false e = subst (λ (o : Option ResourceContents). AreContentsIn o (p ∷ past) b) (sym (left b (eqb-false b s e) ∙ kept b (eqb-false b s e))) (untouched past p clean (get nat_cmp old.resources b) b (apart past p clean c s s gs is copies b e e) (are b))
 
 -- ---- a copy
 
-pub copies_step : (past : Past) (p : Point) (j : IsJudged (p ∷ past)) (c : Cmd) (s d : ℕ) (gs : List BufferCopy) → p.action ≡ Run c → CopiesNumbers past p c s d gs → (ss : List Stretch) (old mid new : Contents)
-    → BecomesIn (IsLentWith gs ss p.queue (next_spot past p)) (get nat_cmp old.buffers s) (get nat_cmp mid.buffers s)
-    → ((other : ℕ) → other ≢ s → get nat_cmp mid.buffers other ≡ get nat_cmp old.buffers other)
-    → BecomesIn (λ u v. IsPasted u v gs ss (family_of p.queue) (next_spot past p)) (get nat_cmp mid.buffers d) (get nat_cmp new.buffers d)
-    → ((other : ℕ) → other ≢ d → get nat_cmp new.buffers other ≡ get nat_cmp mid.buffers other) → AreContents old past → AreContents new (p ∷ past)
-copies_step past p j c s d gs is copies ss old mid new lends kept pastes left are = by (s == d) refl where
+pub copies_step : (past : Past) (p : Point) (clean : fault (p ∷ past) ≡ None) (c : Cmd) (s d : ℕ) (gs : List BufferCopy) → p.action ≡ Run c → CopiesNumbers past p c s d gs → (ss : List Stretch) (old mid new : Contents)
+    → BecomesIn (IsLentWith gs ss p.queue (next_spot past p)) (get nat_cmp old.resources s) (get nat_cmp mid.resources s)
+    → ((other : ℕ) → other ≢ s → get nat_cmp mid.resources other ≡ get nat_cmp old.resources other)
+    → BecomesIn (λ u v. IsPasted u v gs ss (family_of p.queue) (next_spot past p)) (get nat_cmp mid.resources d) (get nat_cmp new.resources d)
+    → ((other : ℕ) → other ≢ d → get nat_cmp new.resources other ≡ get nat_cmp mid.resources other) → AreContents old past → AreContents new (p ∷ past)
+copies_step past p clean c s d gs is copies ss old mid new lends kept pastes left are = by (s == d) refl where
   by : (t : Bool) → (s == d) ≡ t → AreContents new (p ∷ past)
   by true e =
       let same : d ≡ s = sym (eqb-true s d e) in
-      within_one past p j c s gs is (subst (λ (x : ℕ). CopiesNumbers past p c s x gs) same copies) ss old mid new lends kept
-      (subst (λ (x : ℕ). BecomesIn (λ u v. IsPasted u v gs ss (family_of p.queue) (next_spot past p)) (get nat_cmp mid.buffers x) (get nat_cmp new.buffers x)) same pastes)
-      (subst (λ (x : ℕ). (other : ℕ) → other ≢ x → get nat_cmp new.buffers other ≡ get nat_cmp mid.buffers other) same left) are
-  by false e = between past p j c s d gs is copies e (turned_about d s ∙ e) ss old mid new lends kept pastes left are
+      within_one past p clean c s gs is (subst (λ (x : ℕ). CopiesNumbers past p c s x gs) same copies) ss old mid new lends kept
+      (subst (λ (x : ℕ). BecomesIn (λ u v. IsPasted u v gs ss (family_of p.queue) (next_spot past p)) (get nat_cmp mid.resources x) (get nat_cmp new.resources x)) same pastes)
+      (subst (λ (x : ℕ). (other : ℕ) → other ≢ x → get nat_cmp new.resources other ≡ get nat_cmp mid.resources other) same left) are
+  by false e = between past p clean c s d gs is copies e (turned_about d s ∙ e) ss old mid new lends kept pastes left are
+
+-- the same of what a command of its queue copies
+pub copied_step : (past : Past) (p : Point) (clean : fault (p ∷ past) ≡ None) (c : Cmd) (s d : ℕ) (gs : List BufferCopy) → p.action ≡ Run c → CopiesNumbers past p c s d gs → (t : Spot) → t ≡ next_spot past p → (old new : Contents)
+    → AreCopiedNumbers old new s d gs p.queue t → AreContents old past → AreContents new (p ∷ past)
+copied_step past p clean c s d gs is copies t spot_is old new copied are =
+    let now : AreCopiedNumbers old new s d gs p.queue (next_spot past p) = subst (λ (t : Spot). AreCopiedNumbers old new s d gs p.queue t) spot_is copied in
+    copies_step past p clean c s d gs is copies now.stretches old now.lent new now.source now.source_alone now.destination now.destination_alone are
 
 -- a copy between buffers copies their numbers
-pub buffers_copied : (past : Past) (p : Point) (j : IsJudged (p ∷ past)) (s d : ℕ) (gs : List BufferCopy) → p.action ≡ Run (cmd.Copy s d gs) → CopiesNumbers past p (cmd.Copy s d gs) s d gs
-buffers_copied past p j s d gs is =
-    let source = there_for_command past p j (cmd.Copy s d gs) is s (source_named s d) in
-    let destination = there_for_command past p j (cmd.Copy s d gs) is d (destination_named s d) in
+pub buffers_copied : (past : Past) (p : Point) (clean : fault (p ∷ past) ≡ None) (s d : ℕ) (gs : List BufferCopy) → p.action ≡ Run (cmd.Copy s d gs) → CopiesNumbers past p (cmd.Copy s d gs) s d gs
+buffers_copied past p clean s d gs is =
+    let source = there_for_command past p clean (cmd.Copy s d gs) is s (source_named s d) in
+    let destination = there_for_command past p clean (cmd.Copy s d gs) is d (destination_named s d) in
     record {
       owner = λ w r. refl;
       dirty = λ w byte. refl;
@@ -322,8 +332,9 @@ buffers_copied past p j s d gs is =
       writes = flat_same (copy_writes s d) (numbered_writes (byte_at past s) (byte_at past d)) gs (λ g. map_below (λ k. byte_write (in_buffer d (g.destination_offset + k)) (From (in_buffer s (g.source_offset + k)))) (λ k. byte_write (byte_at past d (g.destination_offset + k)) (From (byte_at past s (g.source_offset + k)))) g.size
           (λ k lt. rw (byte_of_buffer past d destination (g.destination_offset + k), byte_of_buffer past s source (g.source_offset + k)) refl));
       writes_now = refl;
+      unmoved = λ byte. refl;
       source_there = buffer_is_resource past s source;
       destination_there = buffer_is_resource past d destination;
-      reads_fit = λ g c. rw (size_of_buffer past s source) (copy_source past p j s d gs is g c);
-      writes_fit = λ g c. rw (size_of_buffer past d destination) (copy_destination past p j s d gs is g c);
+      reads_fit = λ g c. rw (size_of_buffer past s source) (copy_source past p clean s d gs is g c);
+      writes_fit = λ g c. rw (size_of_buffer past d destination) (copy_destination past p clean s d gs is g c);
     }

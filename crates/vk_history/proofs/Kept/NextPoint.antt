@@ -14,10 +14,11 @@ use Rattle.vk_model.specs.declared.rule.Rule.{Rule}
 use Rattle.vk_model.specs.declared.rule.Rule.TheVariants as rule
 use Rattle.vk_model.specs.Basics.{holds}
 use Rattle.vk_model.specs.Trace.Point.{Past, Point, Action, Host, Run, host_of, command_of}
-use Rattle.vk_model.specs.Trace.Objects.{made, made_by, live, ended, buffer}
+use Rattle.vk_model.specs.declared.resource.ImageInfo.{ImageInfo}
+use Rattle.vk_model.specs.Trace.Objects.{made, made_by, live, ended, buffer, image, image_in}
 use Rattle.vk_model.specs.World.Areas.{Area, Bytes, areas_read, areas_written}
 use Rattle.vk_model.specs.World.ByteWrites.{buffer_size, fill_size}
-use Rattle.vk_model.specs.Rules.Ids.{breaks_new_id, breaks_live_id, is_dead, is_buffer, until, asked_by, asked_by_entry, asked_by_command, lists_stray}
+use Rattle.vk_model.specs.Rules.Ids.{breaks_new_id, breaks_live_id, is_dead, is_buffer, is_image, until, asked_by, asked_by_entry, asked_by_command, lists_stray}
 use Rattle.vk_model.specs.Rules.Ranges.{breaks_range, area_past, host_past, command_past}
 use Rattle.vk_model.specs.Rules.Table.{fault, breaks}
 use Rattle.vk_model.specs.Rules.Fault.{newest}
@@ -32,19 +33,23 @@ use Rattle.vk_history.proofs.Points.Pasts.{supported-cons}
 pub judged_rest : (past : Past) (p : Point) → IsJudged (p ∷ past) → IsJudged past
 judged_rest past p j = record { supported = (supported-cons p past j.supported).1; ordered = j.ordered.1; faultless = (fault-cons_none past p j.faultless).0 }
 
--- a buffer that is named is there
-live_there : (past : Past) (b : ℕ) → holds (live past b) is_buffer ≡ true → (x : Entry) × (made past b ≡ Some x) × (is_buffer x ≡ true)
-live_there past b h = go (ended past b) (made past b) refl h where
-  go : (t : Bool) (m : Option Entry) → made past b ≡ m → holds (if t then None else m) is_buffer ≡ true → (x : Entry) × (made past b ≡ Some x) × (is_buffer x ≡ true)
+-- what came before a point without a fault has none
+pub fault_rest : (past : Past) (p : Point) → fault (p ∷ past) ≡ None → fault past ≡ None
+fault_rest past p clean = (fault-cons_none past p clean).0
+
+-- what is named is there, of the kind asked
+live_there : (past : Past) (r : ℕ) (kind : Entry → Bool) → holds (live past r) kind ≡ true → (x : Entry) × (made past r ≡ Some x) × (kind x ≡ true)
+live_there past r kind h = go (ended past r) (made past r) refl h where
+  go : (t : Bool) (m : Option Entry) → made past r ≡ m → holds (if t then None else m) kind ≡ true → (x : Entry) × (made past r ≡ Some x) × (kind x ≡ true)
   go true m e h = absurd cc
   go false None e h = absurd cc
   go false (Some x) e h = (x, e, h)
 
-not_dead : (past : Past) (xs : List (ℕ × (Entry → Bool))) (rest : Bool) → (list_any (is_dead past) xs || rest) ≡ false → (b : ℕ) → Contains xs (b, is_buffer) → holds (live past b) is_buffer ≡ true
-not_dead past xs rest none b c = go (holds (live past b) is_buffer) refl where
-  go : (t : Bool) → holds (live past b) is_buffer ≡ t → t ≡ true
+not_dead : (past : Past) (xs : List (ℕ × (Entry → Bool))) (rest : Bool) → (list_any (is_dead past) xs || rest) ≡ false → (r : ℕ) (kind : Entry → Bool) → Contains xs (r, kind) → holds (live past r) kind ≡ true
+not_dead past xs rest none r kind c = go (holds (live past r) kind) refl where
+  go : (t : Bool) → holds (live past r) kind ≡ t → t ≡ true
   go true e = refl
-  go false e = let dead : list_any (is_dead past) xs ≡ true = member_passes (is_dead past) xs (b, is_buffer) c (ap not e) in absurd (let bad : true ≡ false = rw dead at none in cc)
+  go false e = let dead : list_any (is_dead past) xs ≡ true = member_passes (is_dead past) xs (r, kind) c (ap not e) in absurd (let bad : true ≡ false = rw dead at none in cc)
 
 -- what doesn't end past a buffer lies in it
 area_in : (past : Past) (xs : List Area) → list_any (area_past past) xs ≡ false → (b o n : ℕ) → Contains xs (Bytes b o n) → o + n ≤ buffer_size past b
@@ -60,19 +65,22 @@ right_false false b e = e
 
 -- by what its rules on ids and ranges say
 module _ (past : Past) (p : Point) (faultless : fault past ≡ None) (live_id : breaks_live_id past p ≡ false) (within_range : breaks_range past p ≡ false) where
-  -- the buffers that an entry or a command names are there
+  -- the buffers that an entry names are there
   pub host_there : (x : Entry) → p.action ≡ Host x → (b : ℕ) → Contains (asked_by_entry x) (b, is_buffer) → is_some (buffer past b) ≡ true
   host_there x is b c =
-      let alive = not_dead past (asked_by_entry x) _ (subst (λ (d : Action). (list_any (is_dead (if is_some (host_of d) then past else until p.entry past)) (asked_by d) || holds (host_of d) (lists_stray past)) ≡ false) is live_id) b c in
-      let m = live_there past b alive in
+      let alive = not_dead past (asked_by_entry x) _ (subst (λ (d : Action). (list_any (is_dead (if is_some (host_of d) then past else until p.entry past)) (asked_by d) || holds (host_of d) (lists_stray past)) ≡ false) is live_id) b is_buffer c in
+      let m = live_there past b is_buffer alive in
       rw (m.1) (m.2)
 
+  -- and what a command names
+  pub named_by_command : (c : Cmd) → p.action ≡ Run c → (r : ℕ) (kind : Entry → Bool) → Contains (asked_by_command c) (r, kind) → (x : Entry) × (made past r ≡ Some x) × (kind x ≡ true)
+  named_by_command c is r kind m =
+      let alive = not_dead (until p.entry past) (asked_by_command c) _ (subst (λ (d : Action). (list_any (is_dead (if is_some (host_of d) then past else until p.entry past)) (asked_by d) || holds (host_of d) (lists_stray past)) ≡ false) is live_id) r kind m in
+      let was = live_there (until p.entry past) r kind alive in
+      (was.0, made_until p.entry past r was.0 (new_ids past (unbroken_of_none past faultless)) was.1, was.2)
+
   pub command_there : (c : Cmd) → p.action ≡ Run c → (b : ℕ) → Contains (asked_by_command c) (b, is_buffer) → is_some (buffer past b) ≡ true
-  command_there c is b m =
-      let alive = not_dead (until p.entry past) (asked_by_command c) _ (subst (λ (d : Action). (list_any (is_dead (if is_some (host_of d) then past else until p.entry past)) (asked_by d) || holds (host_of d) (lists_stray past)) ≡ false) is live_id) b m in
-      let was = live_there (until p.entry past) b alive in
-      let now : made past b ≡ Some was.0 = made_until p.entry past b was.0 (new_ids past (unbroken_of_none past faultless)) was.1 in
-      rw now (was.2)
+  command_there c is b m = let was = named_by_command c is b is_buffer m in rw (was.1) (was.2)
 
   -- the ranges that they name lie in their buffers
   host_in : (x : Entry) → p.action ≡ Host x → host_past past x ≡ false
@@ -103,9 +111,9 @@ module _ (past : Past) (p : Point) (faultless : fault past ≡ None) (live_id : 
   pub copy_writes_fit : (s d : ℕ) (gs : List BufferCopy) → p.action ≡ Run (cmd.Copy s d gs) → (g : BufferCopy) → Contains gs g → g.destination_offset + g.size ≤ buffer_size past d
   copy_writes_fit s d gs is g c = area_in past (areas_written past (cmd.Copy s d gs)) (areas_in (cmd.Copy s d gs) is).1 d g.destination_offset g.size (map_has (λ (g : BufferCopy). Bytes d g.destination_offset g.size) gs g c)
 
-module _ (past : Past) (p : Point) (j : IsJudged (p ∷ past)) where
+module _ (past : Past) (p : Point) (clean : fault (p ∷ past) ≡ None) where
   pub unbroken : (r : Rule) → breaks r past p ≡ false
-  unbroken r = false_from_ne_true (breaks r past p) (λ h. unbroken_of_none (p ∷ past) j.faultless past p r (newest, h))
+  unbroken r = false_from_ne_true (breaks r past p) (λ h. unbroken_of_none (p ∷ past) clean past p r (newest, h))
 
   pub new_id : breaks_new_id past p ≡ false
   unfolding breaks
@@ -131,13 +139,23 @@ module _ (past : Past) (p : Point) (j : IsJudged (p ∷ past)) where
     go (Some y) e = absurd (let broken : breaks_new_id past p ≡ true = rw (is, by, e) refl in let bad : true ≡ false = sym broken ∙ new_id in cc)
 
   pub there_on_host : (x : Entry) → p.action ≡ Host x → (b : ℕ) → Contains (asked_by_entry x) (b, is_buffer) → is_some (buffer past b) ≡ true
-  there_on_host = host_there past p (judged_rest past p j).faultless live_id within_range
+  there_on_host = host_there past p (fault_rest past p clean) live_id within_range
 
   pub there_for_command : (c : Cmd) → p.action ≡ Run c → (b : ℕ) → Contains (asked_by_command c) (b, is_buffer) → is_some (buffer past b) ≡ true
-  there_for_command = command_there past p (judged_rest past p j).faultless live_id within_range
+  there_for_command = command_there past p (fault_rest past p clean) live_id within_range
 
   pub copy_source : (s d : ℕ) (gs : List BufferCopy) → p.action ≡ Run (cmd.Copy s d gs) → (g : BufferCopy) → Contains gs g → g.source_offset + g.size ≤ buffer_size past s
-  copy_source = copy_reads_fit past p (judged_rest past p j).faultless live_id within_range
+  copy_source = copy_reads_fit past p (fault_rest past p clean) live_id within_range
 
   pub copy_destination : (s d : ℕ) (gs : List BufferCopy) → p.action ≡ Run (cmd.Copy s d gs) → (g : BufferCopy) → Contains gs g → g.destination_offset + g.size ≤ buffer_size past d
-  copy_destination = copy_writes_fit past p (judged_rest past p j).faultless live_id within_range
+  copy_destination = copy_writes_fit past p (fault_rest past p clean) live_id within_range
+
+  -- the image that a command names
+  pub image_for_command : (c : Cmd) → p.action ≡ Run c → (i : ℕ) → Contains (asked_by_command c) (i, is_image) → (m : ImageInfo) × (image past i ≡ Some m)
+  image_for_command c is i named =
+      let was = named_by_command past p (fault_rest past p clean) live_id within_range c is i is_image named in
+      go (image_in was.0) refl was.1 was.2
+    where
+      go : {x : Entry} (o : Option ImageInfo) → image_in x ≡ o → made past i ≡ Some x → is_some (image_in x) ≡ true → (m : ImageInfo) × (image past i ≡ Some m)
+      go None e made some = absurd (let bad : false ≡ true = rw e at some in cc)
+      go (Some m) e made some = (m, rw made e)

@@ -1,26 +1,19 @@
 -- Stretches that the regions of a copy find in their source.
-use Rattle.std.proofs.Common.{◌≡◌, ◌<◌, ◌≤◌, ◌+◌, ◌-◌, ℕ, List, [], ◌∷◌, ◌++◌, length, slice_get, take, get_or, cond, subst, zero, suc, Bool, true, false, ◌&&◌, ◌||◌, ◌==◌, refl, ap, sym, ◌∙◌, arith, Option, Some, None, ⊎_elim}
+use Rattle.std.proofs.Common.{◌≡◌, ◌<◌, ◌≤◌, ◌+◌, ◌-◌, ℕ, List, [], ◌∷◌, ◌++◌, length, slice_get, take, get_or, cond, subst, zero, suc, Bool, true, false, ◌&&◌, refl, ap, sym, ◌∙◌, arith, Option, Some, None, ⊎_elim}
 use Rattle.std.specs.Prelude.{Contains, if◌then◌else◌, nat_le, nat_lt, unwrap_or, option_and_then}
 use Rattle.std.specs.Option.{option_map, option_or}
-use Rattle.std.specs.List.{find, list_any}
+use Rattle.std.specs.List.{find}
 use Rattle.std.proofs.lemmas.Bool.{cases_lt, lt-ltb, le-leb, lt-leb, le-ltb, and_parts, leb-true, ltb-true}
-use Rattle.std.proofs.Math.Bool.{and-false, or-false}
+use Rattle.std.proofs.Math.Bool.{and-false}
 use Rattle.std.proofs.lemmas.List.{take_more}
-use Rattle.std.proofs.lemmas.List.Folds.{find-append, list_any-append}
+use Rattle.std.proofs.lemmas.List.Folds.{find-append}
 use Rattle.std.proofs.lemmas.Option.{slice_get-get_or}
 use Rattle.vk_ranges.specs.Overlaps.{Piece, AreRunsOf}
 use Rattle.vk_model.specs.declared.command.BufferCopy.{BufferCopy}
 use Rattle.vk_model.specs.Basics.{within}
 use Rattle.vk_model.proofs.Lists.Members.{found, place_has, none_in, contains-cons, contains-head, contains-tail}
 use Rattle.vk_history.specs.declared.stretches.Stretch.{Stretch}
-use Rattle.vk_touches.specs.declared.touches.LastTouches.{LastTouches}
-use Rattle.vk_touches.specs.declared.touches.QueueReads.{QueueReads}
-use Rattle.vk_touches.specs.declared.touches.Spot.{Spot}
-use Rattle.vk_touches.specs.declared.touches.Touch.{Touch}
-use Rattle.vk_touches.specs.declared.touches.Touch.TheVariants as touch
-use Rattle.vk_touches.specs.Remembered.{with_touch}
 use Rattle.vk_history.specs.Contents.{stretch_at, has_place, copied_at, ReadWithin}
-use Rattle.vk_touches.specs.TouchedRanges.{touching}
 
 -- ---- stretches
 

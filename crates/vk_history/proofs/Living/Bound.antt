@@ -305,7 +305,7 @@ module _ (past : Past) (p : Point) (j : IsJudged (p ∷ past)) where
 
     small : info.size ≤ 67108864
     unfolding breaks
-    small = ltb-false 67108864 info.size (or_parts (info.size == 0) (nat_lt 67108864 info.size) (rw is at (unbroken past p j rule.MemorySize))).1
+    small = ltb-false 67108864 info.size (or_parts (info.size == 0) (nat_lt 67108864 info.size) (rw is at (unbroken past p j.faultless rule.MemorySize))).1
 
     new_memory : (old : BoundMemories) → AreBound old past → IsBoundIn (record { size = info.size; memory_type = info.memory_type; bound = [] }) (p ∷ past) i
     new_memory old are = record {

@@ -160,7 +160,7 @@ module _ (past : Past) (p : Point) (j : IsJudged (p ∷ past)) (old : Defrags) (
   -- no entry breaks PASS_STATE
   state : passes.breaks_pass_state past p ≡ false
   unfolding breaks
-  state = unbroken past p j rule.PassState
+  state = unbroken past p j.faultless rule.PassState
 
   -- the defragmentation of a pass goes on, where it isn't ended
   going_on : (x : Entry) → p.action ≡ Host x → (o : OpenPass) → old.pass ≡ Some o → among o.defrag (ended_by x) ≡ false → pool_of_defrag (p ∷ past) o.defrag ≡ Some o.pool

@@ -165,11 +165,11 @@ module _ (past : Past) (p : Point) (j : IsJudged (p ∷ past)) where
 
   pub live_now : breaks_live_id past p ≡ false
   unfolding breaks
-  live_now = unbroken past p j rule.LiveId
+  live_now = unbroken past p j.faultless rule.LiveId
 
   pub no_overlap : breaks_overlap past p ≡ false
   unfolding breaks
-  no_overlap = unbroken past p j rule.Overlap
+  no_overlap = unbroken past p j.faultless rule.Overlap
 
   -- what was made stays what it is
   pub made_old : (i : ℕ) → is_some (made past i) ≡ true → made (p ∷ past) i ≡ made past i

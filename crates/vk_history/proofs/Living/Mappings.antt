@@ -88,7 +88,7 @@ module _ (past : Past) (p : Point) (j : IsJudged (p ∷ past)) (old new : Mappin
   -- what is unmapped was mapped
   unmappable : (b : ℕ) → p.action ≡ Host (entry.Unmap b) → is_mapped past b ≡ true
   unfolding breaks
-  unmappable b is = not-false (is_mapped past b) (rw is at (unbroken past p j rule.MapState))
+  unmappable b is = not-false (is_mapped past b) (rw is at (unbroken past p j.faultless rule.MapState))
 
   enough : (x : Entry) → p.action ≡ Host x → AreMappings old past → (k : ℕ) → cond (is_mapping past (unmaps x) k) 1 0 ≤ count_at old.mapped k
   enough x is are k = go (unmaps x) refl where

@@ -1,8 +1,8 @@
 -- The bytes of resources by their numbers.
-use Rattle.std.proofs.Common.{◌≡◌, ◌<◌, ◌≤◌, ◌+◌, ◌-◌, ℕ, zero, suc, List, [], ◌∷◌, ◌++◌, map, Bool, true, false, ◌&&◌, ◌||◌, ◌==◌, refl, ap, sym, subst, ◌∙◌, arith, Option, Some, None, inl, inr, ◌⊎◌, eq-eqb}
-use Rattle.std.specs.Prelude.{is_some, is_none, option_and_then, nat_le, nat_lt, Contains}
+use Rattle.std.proofs.Common.{◌≡◌, ◌<◌, ◌≤◌, ◌+◌, ◌-◌, ℕ, List, [], ◌∷◌, ◌++◌, map, Bool, true, false, ◌&&◌, ◌==◌, refl, ap, sym, ◌∙◌, arith, Option, Some, None, eq-eqb}
+use Rattle.std.specs.Prelude.{is_some, option_and_then, nat_le, nat_lt, Contains}
 use Rattle.std.specs.List.{list_any, flat_map}
-use Rattle.std.proofs.lemmas.Bool.{eqb-true, eqb-false, and_parts, leb-true, ltb-true, le-leb, lt-ltb, false_from_ne_true}
+use Rattle.std.proofs.lemmas.Bool.{eqb-true, and_parts, leb-true, ltb-true, le-leb, lt-ltb}
 use Rattle.std.proofs.lemmas.List.{map-append}
 use Rattle.std.proofs.lemmas.List.Elements.{filter_map-append}
 use Rattle.std.proofs.lemmas.List.Folds.{list_any-append}
@@ -24,7 +24,7 @@ use Rattle.vk_image_bytes.specs.Numbers.{byte_of, byte_count}
 use Rattle.vk_image_bytes.proofs.Numbering.{numbers_same}
 use Rattle.vk_model.specs.World.Effect.{world}
 use Rattle.vk_touches.specs.Touched.{touched}
-use Rattle.vk_history.specs.declared.contents.BufferContents.{BufferContents}
+use Rattle.vk_history.specs.declared.resource_contents.ResourceContents.{ResourceContents}
 use Rattle.vk_history.specs.Contents.{byte_at, size_at, has_value, AreContentsOf, AreBufferContents}
 use Rattle.vk_history.proofs.Points.Ranges.{byte_in, to-map, none_of, one_of, some_of}
 
@@ -82,7 +82,7 @@ module _ (past : Past) (b : ℕ) (there : is_some (buffer past b) ≡ true) wher
   size_of_buffer = rw (size_at, buffer_no_image) refl
 
   -- the contents of a buffer
-  pub of_buffer : (c : BufferContents) → AreContentsOf c past b → AreBufferContents c past b
+  pub of_buffer : (c : ResourceContents) → AreContentsOf c past b → AreBufferContents c past b
   of_buffer c a = record {
     defined_size = a.defined_size ∙ size_of_buffer;
     touches_size = a.touches_size ∙ size_of_buffer;
@@ -99,6 +99,17 @@ module _ (past : Past) (i : ℕ) (m : ImageInfo) (is : image past i ≡ Some m) 
   pub size_of_image : size_at past i ≡ byte_count m
   unfolding size_at
   size_of_image = rw (size_at, is) refl
+
+-- an image is a resource
+image_kind : (x : Entry) → is_some (image_in x) ≡ true → is_some (resource_in x) ≡ true
+image_kind (entry.Image i m) e = refl
+image_kind _ e = absurd cc
+
+pub image_is_resource : (past : Past) (i : ℕ) → is_some (image past i) ≡ true → is_some (resource past i) ≡ true
+image_is_resource past i there = go (made past i) there where
+  go : (o : Option Entry) → is_some (option_and_then image_in o) ≡ true → is_some (option_and_then resource_in o) ≡ true
+  go None e = absurd cc
+  go (Some x) e = image_kind x e
 
 -- what is made of one entry is numbered alike
 module _ (past later : Past) (r : ℕ) (same : made later r ≡ made past r) where

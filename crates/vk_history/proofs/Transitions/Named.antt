@@ -53,11 +53,11 @@ some_image x is = go (image_in x) refl is where
 module _ (past : Past) (p : Point) (j : IsJudged (p ∷ past)) where
   subresource : breaks_subresource past p ≡ false
   unfolding breaks
-  subresource = unbroken past p j rule.Subresource
+  subresource = unbroken past p j.faultless rule.Subresource
 
   module _ (es : List Element) (is : p.action ≡ Run (cmd.Barrier es)) where
     alive : list_any (is_dead (until p.entry past)) (flat_map asked_by_element es) ≡ false
-    alive = (or_parts _ _ (subst (λ (d : Action). (list_any (is_dead (if is_some (host_of d) then past else until p.entry past)) (asked_by d) || holds (host_of d) (lists_stray past)) ≡ false) is (live_id past p j))).0
+    alive = (or_parts _ _ (subst (λ (d : Action). (list_any (is_dead (if is_some (host_of d) then past else until p.entry past)) (asked_by d) || holds (host_of d) (lists_stray past)) ≡ false) is (live_id past p j.faultless))).0
 
     inside : list_any (bad_element past) es ≡ false
     inside = subst (λ (d : Action). holds (command_of d) (bad_subresource past) ≡ false) is subresource
@@ -100,4 +100,4 @@ module _ (past : Past) (p : Point) (j : IsJudged (p ∷ past)) where
       made_image i m is = go (made past i) refl is where
         go : (o : Option Entry) → made past i ≡ o → option_and_then image_in o ≡ Some m → image (p ∷ past) i ≡ Some m
         go None e h = absurd cc
-        go (Some x) e h = rw (made_kept past p j i x e) h
+        go (Some x) e h = rw (made_kept past p j.faultless i x e) h

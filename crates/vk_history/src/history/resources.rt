@@ -4,9 +4,9 @@ ghost use Rattle.vk_model.specs.declared.entry.Entry.{Entry as AnyEntry};
 ghost use Rattle.vk_model.specs.Sync.Node.{Node, nodes, Hosts, Depends, Barrier};
 ghost use Rattle.vk_model.specs.Sync.Before.{before};
 ghost use Rattle.vk_model.specs.Sync.Complete.{is_busy};
-ghost use Rattle.vk_order.specs.Frontiers.{IsSight};
+ghost use Rattle.vk_order.specs.Frontiers.{IsFrontier, IsSight};
 ghost use Rattle.vk_touches.specs.Touched.{next_node};
-ghost use Rattle.vk_model.specs.Trace.Objects.{is_exclusive};
+ghost use Rattle.vk_model.specs.Trace.Objects.{is_exclusive, image};
 ghost use Rattle.vk_order.specs.Inner.Clocks.{place};
 ghost use Rattle.vk_order.specs.Lines.{line_of};
 ghost use Rattle.vk_order.specs.PointViews.{point_of};
@@ -14,13 +14,15 @@ ghost use Rattle.vk_order.specs.Wide.{IsApartFrom};
 ghost use Rattle.vk_history.specs.Owners.{IsOwned, kept_of};
 ghost use Rattle.vk_model.specs.World.Effect.{world};
 ghost use Rattle.vk_model.specs.Rules.Layouts.{has_other_layout};
+ghost use Rattle.vk_history.specs.Contents.{AreBytesOf};
 ghost use Rattle.vk_history.specs.PointViews.{past};
 
 use crate::history::History;
 use crate::owners::Owned;
 use std::alloc::AllocError;
 use vk_model::{Element, Layout, SubresourceRange};
-use vk_order::{Act, Point, Sight, Spot};
+use vk_order::{Act, Part, Point, Sight, Spot};
+use vk_touches::{Bytes, TransitionAccess};
 
 impl<'a> History<'a> {
     /// Whether all subresources of a range of an image are in a layout.
@@ -67,5 +69,40 @@ impl<'a> History<'a> {
     {
         let sight = self.tables.frontier.sight(point, &Act::Barrier(element))?;
         Ok(sight.follows(spot.line, spot.place))
+    }
+
+    /// The bytes of a resource, by their numbers.
+    pub fn bytes(&self, resource: u32) -> Bytes<'_>
+        ensures { AreBytesOf (past self.now) resource result }
+    {
+        match self.image(resource) {
+            Some(info) => self.image_bytes(resource, info.levels),
+            None => Bytes::Buffer(resource),
+        }
+    }
+
+    /// Those of an image, which has so many levels.
+    fn image_bytes(&self, id: u32, levels: u32) -> Bytes<'_>
+        requires { option_map (λ m. m.levels) (image (past self.now) id) ≡ Some levels }
+        ensures { AreBytesOf (past self.now) id result }
+    {
+        match self.tables.contents.image(id) {
+            Some(bytes) => Bytes::Image { id, levels, bytes },
+            None => unreachable!(),
+        }
+    }
+
+    /// How an element of a barrier that comes next, at which this is known, accesses an image as a
+    /// layout transition.
+    pub fn transition_access<'b>(&'b self, part: &'b Part, image: u32) -> TransitionAccess<'b>
+        ensures frontier { IsFrontier result.frontier.now (nodes (past self.now)) }
+        ensures part { result.part.now ≡ part.now }
+        ensures bytes { AreBytesOf (past self.now) image result.bytes }
+    {
+        TransitionAccess {
+            frontier: &self.tables.frontier,
+            part,
+            bytes: self.bytes(image),
+        }
     }
 }

@@ -1,4 +1,4 @@
-use Rattle.std.proofs.Common.{◌≡◌, ℕ, [], if◌then◌else◌, ◌&&◌, Some, ap, sym, ◌∙◌, subst}
+use Rattle.std.proofs.Common.{◌≡◌, ℕ, [], if◌then◌else◌, ◌&&◌, Some, sym, subst}
 use Rattle.std.specs.Prelude.{◌++◌}
 use Rattle.vk_model.specs.Basics.{among, option_list}
 use Rattle.vk_model.specs.Trace.Objects.{is_exclusive}

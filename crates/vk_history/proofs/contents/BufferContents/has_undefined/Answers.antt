@@ -1,9 +1,0 @@
-use Rattle.std.proofs.Common.{rules, ◌≡◌, ◌+◌, not, arith}
-use Rattle.vk_touches.proofs.Searches.{found_by}
-use Rattle.vk_history.proofs.contents.BufferContents.has_undefined.Goals as goal
-
-pub returns : goal.returns
-returns c = λ fits.
-    let high : c.of-part.result.high ≡ c.args.offset + c.args.size = let h = c.of-part.ensures.high in let l = c.len.ensures in omega (arith, h, l, fits) in
-    let low : c.of-part.result.low ≡ c.args.offset = let l = c.of-part.ensures.low in omega (arith, l, high) in
-    found_by (λ r d. r ≡ not d) c.args.self.now.defined c.of-part.result.low c.of-part.result.high _ _ low high c.find.result c.find.ensures.within c.find.ensures.passes c.find.ensures.none c.is_some.result c.is_some.ensures (λ a h. search rules) (λ a h. search rules)

@@ -1,0 +1,10 @@
+use Rattle.std.proofs.Common.{◌≡◌, ◌+◌, ℕ, subst, arith}
+use Rattle.vk_touches.specs.Conflicts.{FoundAt, MissesWrite}
+use Rattle.vk_history.proofs.resource_contents.ResourceContents.has_missed_write.Goals as goal
+
+pub returns : goal.returns
+returns c = λ fits.
+    let high : c.of-part.result.high ≡ c.args.offset + c.args.size = let h = c.of-part.ensures.high in let l = c.len.ensures in omega (arith, h, l, fits) in
+    let low : c.of-part.result.low ≡ c.args.offset = let l = c.of-part.ensures.low in omega (arith, l, high) in
+    subst (λ (h : ℕ). FoundAt (MissesWrite c.args.by.now) c.misses_some_write.result c.args.self.now.touches c.args.offset h) high
+    (subst (λ (l : ℕ). FoundAt (MissesWrite c.args.by.now) c.misses_some_write.result c.args.self.now.touches l c.of-part.result.high) low c.misses_some_write.ensures)
