@@ -1,24 +1,24 @@
 -- What the rules promise of the points of a clean past.
-use Rattle.std.proofs.Common.{◌≡◌, ◌≢◌, ℕ, length, ◌++◌, subst, ◌+◌, ◌-◌, ◌*◌, ◌/◌, ◌%◌, ◌<◌, ◌≤◌, List, [], ◌∷◌, Bool, true, false, not, ◌||◌, ◌==◌, nat_lt, nat_le, refl, ap, sym, ◌∙◌, arith, Option, Some, None}
-use Rattle.std.specs.Prelude.{IsTrue, Contains, All, is_some, map, option_and_then}
+use Rattle.std.proofs.Common.{◌≡◌, ℕ, length, ◌++◌, subst, ◌+◌, ◌-◌, ◌*◌, ◌/◌, ◌%◌, ◌<◌, ◌≤◌, List, [], ◌∷◌, Bool, true, false, ◌||◌, ◌==◌, nat_lt, nat_le, refl, ap, sym, ◌∙◌, arith, Option, Some, None}
+use Rattle.std.specs.Prelude.{IsTrue, Contains, All, map, option_and_then}
 use Rattle.std.specs.List.{list_all, list_any}
 use Rattle.vk_model.specs.Trace.Order.{Front, after_entry, order_from, host}
 use Rattle.vk_model.proofs.Trace.Growing.{entry_grows, order_grows}
-use Rattle.std.proofs.lemmas.Bool.{ltb-false, leb-false, eqb-false, eqb-true, false_from_ne_true, or_parts, and_parts}
-use Rattle.vk_model.specs.declared.rule.Rule.{Rule}
+use Rattle.std.proofs.lemmas.Bool.{leb-false, eqb-true, false_from_ne_true, or_parts, and_parts}
 use Rattle.vk_model.specs.declared.rule.Rule.TheVariants as rule
-use Rattle.vk_model.specs.Trace.Point.{Past, Point, Action, Host, Wait, Run, Signal, host_of}
+use Rattle.vk_model.specs.Trace.Point.{Past, Point, Action, Host, Wait, Run, Signal}
 use Rattle.vk_model.specs.Rules.Table.{breaks}
 use Rattle.vk_model.specs.Rules.Fault.{newest, older}
-use Rattle.vk_model.specs.Rules.Ids.{breaks_new_id}
-use Rattle.vk_model.specs.Rules.Sizes.{breaks_size, bad_entry_size, bad_command_size, fills_none, breaks_memory_size, bad_memory_size}
-use Rattle.vk_model.specs.Rules.Ranges.{breaks_range, ends_past, host_past, command_past, area_past, fills_from_end, breaks_align, misaligned, off_4_length}
+use Rattle.vk_model.specs.Rules.Sizes.{fills_none}
+use Rattle.vk_model.specs.Rules.Ranges.{ends_past, area_past, fills_from_end, off_4_length}
 use Rattle.vk_model.specs.World.ByteWrites.{buffer_size, fill_size}
 use Rattle.vk_model.specs.declared.command.Length.{Length}
 use Rattle.vk_model.specs.declared.command.Length.TheVariants as length_of
 use Rattle.vk_model.specs.declared.command.Cmd.TheVariants as cmd
 use Rattle.vk_model.specs.declared.entry.Entry.TheVariants as entry
 use Rattle.vk_model.specs.declared.resource.BufferInfo.{BufferInfo}
+use Rattle.vk_model.specs.declared.resource.ImageInfo.{ImageInfo}
+use Rattle.vk_model.specs.Trace.Image.{image_size}
 use Rattle.vk_model.specs.declared.resource.Place.{Place}
 use Rattle.vk_model.specs.declared.resource.Place.TheVariants as place
 use Rattle.vk_history.specs.Supported.{is_supported, is_supported_action, is_supported_place}
@@ -27,128 +27,31 @@ use Rattle.vk_device.specs.Inner.Fits.{FitsAction, AllFit}
 use Rattle.vk_resources.specs.Fits.{FitsFill, FitsCommand, IsUnused, FitsPlace, FitsRange, FitsLength, FitsEntry}
 use Rattle.vk_transfer.specs.Copies.{FitsBuffers}
 use Rattle.vk_model.specs.Basics.{holds}
-use Rattle.vk_model.specs.Rules.Ids.{is_buffer, is_memory as makes_memory, is_resource, asked_by_entry, breaks_live_id}
-use Rattle.vk_model.specs.Rules.Hazards.{ends_used, breaks_in_use}
-use Rattle.vk_model.specs.Rules.Binding.{on_bound, ends_past_memory, is_aliased, is_misplaced, breaks_bind_range, breaks_aliased, breaks_bind_align}
+use Rattle.vk_model.specs.Rules.Ids.{is_buffer, is_memory as makes_memory, is_resource, asked_by_entry}
+use Rattle.vk_model.specs.Rules.Binding.{is_misplaced}
 use Rattle.vk_model.specs.Rules.Fault.{Comes}
-use Rattle.vk_model.specs.World.Areas.{Area, Bytes, areas_read, areas_written}
+use Rattle.vk_model.specs.World.Areas.{Area, Bytes}
 use Rattle.vk_model.specs.declared.command.BufferCopy.{BufferCopy}
 use Rattle.vk_model.specs.declared.resource.MemoryInfo.{MemoryInfo}
-use Rattle.vk_model.proofs.Lists.Members.{contains-head, contains-tail, map_has, member_passes}
+use Rattle.vk_model.proofs.Lists.Members.{contains-head, map_has, member_passes}
 use Rattle.vk_model.proofs.Lists.Truths.{clash}
-use Rattle.std.proofs.lemmas.List.Elements.{All-nil, All-cons, Contains-append_left, Contains-append_right}
+use Rattle.std.proofs.lemmas.List.Elements.{Contains-append_left, Contains-append_right}
 use Rattle.std.proofs.lemmas.List.{append_assoc}
 use Rattle.vk_laws.proofs.Nodes.NoHazard.{split_at}
 use Rattle.vk_laws.proofs.Nodes.Steady.{IsNew, made_step, made_up}
-use Rattle.vk_laws.proofs.Living.Alive.{is_alive, Ending, ending, host_names_live}
+use Rattle.vk_laws.proofs.Living.Alive.{is_alive, Ending, ending}
 use Rattle.vk_laws.proofs.Living.Ends.{Ended, idle, other, when_ended}
 use Rattle.std.proofs.Math.Nat.{div-add-mod, div-mul-le_self, mul-div_cancel, mod-lt}
 use Rattle.vk_model.specs.declared.command.Cmd.{Cmd}
-use Rattle.vk_model.specs.Trace.Objects.{made, made_by, ended, live, buffer, buffer_in, bound_at, Resource, resource_in, of_buffer}
+use Rattle.vk_model.specs.Trace.Objects.{made, made_by, ended, live, buffer, buffer_in, bound_at, Resource, resource_in, of_buffer, of_image}
 use Rattle.vk_model.specs.declared.entry.Entry.{Entry}
-
--- a point breaks no rule
-abbrev pub BreaksNone : Past → Point → Type 0
-BreaksNone past p = (r : Rule) → breaks r past p ≡ false
-
-pub breaks_none : (past : Past) (p : Point) → IsClean (p ∷ past) → BreaksNone past p
-breaks_none past p clean r = false_from_ne_true (breaks r past p) (clean.sound past p r newest)
-
--- ---- what the supported forms get of it
-
-not_some : {A : Type 0} (o : Option A) → is_some o ≡ false → o ≡ None
-not_some None e = refl
-not_some (Some x) e = absurd cc
-
-not-false : (b : Bool) → not b ≡ false → b ≡ true
-not-false true e = refl
-not-false false e = absurd cc
-
--- a test that is false of a sum says that it doesn't pass the bound
-not_above : (n m : ℕ) → nat_lt n m ≡ false → m ≤ n
-not_above n m e = ltb-false n m e
-
-not_zero : (n : ℕ) → (n == 0) ≡ false → 0 < n
-not_zero n e = let apart : n ≢ 0 = eqb-false n 0 e in omega arith
+use Rattle.vk_device.proofs.CleanImages.{clear_point, copy_in_point, copy_out_point, copy_image_point}
+use Rattle.vk_device.proofs.Unbroken.{BreaksNone, breaks_none, not-false, not_above, not_zero, new_made, entry_size, command_size, memory_size, entry_range, command_range, command_align, names_live, used_none, bound_within, bound_apart, bound_aligned, all_from, areas_inside}
 
 -- Whether a fill to the end begins at the end or past it.
 abbrev ends_at : ℕ → ℕ → Length → Bool
 ends_at size o (length_of.Bytes n) = false
 ends_at size o length_of.Whole = nat_le size o
-
-module _ (past : Past) (p : Point) (none : BreaksNone past p) where
-  new_made : (x : Entry) (i : ℕ) → p.action ≡ Host x → made_by x ≡ Some i → made past i ≡ None
-  unfolding breaks
-  new_made x i is makes =
-      let unbroken : breaks_new_id past p ≡ false = none rule.NewId in
-      not_some (made past i) (rw (is, makes) at unbroken)
-
-  entry_size : (x : Entry) → p.action ≡ Host x → bad_entry_size x ≡ false
-  unfolding breaks
-  entry_size x is =
-      let unbroken : breaks_size past p ≡ false = none rule.Size in
-      (or_parts (bad_entry_size x) false (rw is at unbroken)).0
-
-  command_size : (c : Cmd) → p.action ≡ Run c → bad_command_size past c ≡ false
-  unfolding breaks
-  command_size c is =
-      let unbroken : breaks_size past p ≡ false = none rule.Size in
-      rw is at unbroken
-
-  memory_size : (x : Entry) → p.action ≡ Host x → bad_memory_size x ≡ false
-  unfolding breaks
-  memory_size x is =
-      let unbroken : breaks_memory_size past p ≡ false = none rule.MemorySize in
-      rw is at unbroken
-
-  entry_range : (x : Entry) → p.action ≡ Host x → host_past past x ≡ false
-  unfolding breaks
-  entry_range x is =
-      let unbroken : breaks_range past p ≡ false = none rule.Range in
-      (or_parts (host_past past x) false (rw is at unbroken)).0
-
-  command_range : (c : Cmd) → p.action ≡ Run c → command_past past c ≡ false
-  unfolding breaks
-  command_range c is =
-      let unbroken : breaks_range past p ≡ false = none rule.Range in
-      rw is at unbroken
-
-  command_align : (c : Cmd) → p.action ≡ Run c → misaligned past p.queue c ≡ false
-  unfolding breaks
-  command_align c is =
-      let unbroken : breaks_align past p ≡ false = none rule.Align in
-      rw is at unbroken
-
--- ---- live objects
-
-module _ (past : Past) (p : Point) (none : BreaksNone past p) where
-  names_live : (x : Entry) (i : ℕ) (kind : Entry → Bool) → p.action ≡ Host x → Contains (asked_by_entry x) (i, kind) → IsTrue (holds (live past i) kind)
-  unfolding breaks
-  names_live x i kind is c = host_names_live past p x is (λ h. let un : breaks_live_id past p ≡ false = none rule.LiveId in clash h un) i kind c
-
-  used_none : (x : Entry) → p.action ≡ Host x → ends_used past p x ≡ false
-  unfolding breaks
-  used_none x is =
-      let unbroken : breaks_in_use past p ≡ false = none rule.InUse in
-      subst (λ (d : Action). holds (host_of d) (ends_used past p) ≡ false) is unbroken
-
-  bound_within : (x : Entry) → p.action ≡ Host x → on_bound (ends_past_memory past) x ≡ false
-  unfolding breaks
-  bound_within x is =
-      let unbroken : breaks_bind_range past p ≡ false = none rule.BindRange in
-      rw is at unbroken
-
-  bound_apart : (x : Entry) → p.action ≡ Host x → on_bound (is_aliased past) x ≡ false
-  unfolding breaks
-  bound_apart x is =
-      let unbroken : breaks_aliased past p ≡ false = none rule.Aliased in
-      rw is at unbroken
-
-  bound_aligned : (x : Entry) → p.action ≡ Host x → on_bound (is_misplaced past) x ≡ false
-  unfolding breaks
-  bound_aligned x is =
-      let unbroken : breaks_bind_align past p ≡ false = none rule.BindAlign in
-      rw is at unbroken
 
 -- a range within the buffer of an id that is live
 live_range : (past : Past) (b o n : ℕ) → IsTrue (holds (live past b) is_buffer) → o + n ≤ buffer_size past b → FitsRange (option_and_then buffer_in (live past b)) o n
@@ -168,7 +71,7 @@ live_length past b o length_of.Whole alive range = let a = is_alive past b is_bu
     go _ h range = absurd cc
 
 -- an id that wasn't made hasn't been ended
-abbrev IsFresh : Past → Type 0
+abbrev pub IsFresh : Past → Type 0
 IsFresh past = (i : ℕ) → made past i ≡ None → ended past i ≡ false
 
 new_clean : (past : Past) → IsClean past → IsNew past
@@ -288,6 +191,15 @@ buffer_point past p i b is supported fresh none = record {
   place = place_fits past p (entry.Buffer i b) (of_buffer b) is refl (λ m o at. rw at (contains-head (m, makes_memory) [])) none b.place refl supported;
 }
 
+-- an image, for when its form is supported
+pub image_point : (past : Past) (p : Point) (i : ℕ) (m : ImageInfo) → p.action ≡ Host (entry.Image i m) → is_supported_place m.place ≡ true → IsFresh past → BreaksNone past p → FitsEntry past (entry.Image i m)
+image_point past p i m is supported fresh none = record {
+  unused = new_id past p none fresh (entry.Image i m) i is refl;
+  shaped = entry_size past p none (entry.Image i m) is;
+  bounded = not_above 67108864 (image_size m m.tiling) (memory_size past p none (entry.Image i m) is);
+  place = place_fits past p (entry.Image i m) (of_image m) is refl (λ k o at. rw at (contains-head (k, makes_memory) [])) none m.place refl supported;
+}
+
 memory_point : (past : Past) (p : Point) (i : ℕ) (m : MemoryInfo) → p.action ≡ Host (entry.Memory i m) → IsFresh past → BreaksNone past p → FitsEntry past (entry.Memory i m)
 memory_point past p i m is fresh none = (new_id past p none fresh (entry.Memory i m) i is refl, not_zero m.size (or_parts (m.size == 0) (nat_lt 67108864 m.size) (memory_size past p none (entry.Memory i m) is)).0)
 
@@ -317,15 +229,6 @@ fits_entry past p (entry.EndDefrag d) is supported fresh none = absurd cc
 
 -- ---- updates and copies
 
--- what holds of each item holds of all
-all_from : {A : Type 0} (P : A → Type 0) (xs : List A) → ((x : A) → Contains xs x → P x) → All P xs
-all_from P [] each = All-nil P
-all_from P (x ∷ xs) each = All-cons P x xs (each x (contains-head x xs)) (all_from P xs (λ y c. each y (contains-tail x xs y c)))
-
--- the areas that a command reads and writes lie in their buffers
-areas_inside : (past : Past) (p : Point) (c : Cmd) → p.action ≡ Run c → BreaksNone past p → list_any (area_past past) (areas_read past c ++ areas_written past c) ≡ false
-areas_inside past p c is none = (or_parts _ _ (or_parts _ _ (or_parts _ _ (command_range past p none c is)).0).0).0
-
 update_point : (past : Past) (p : Point) (b o : ℕ) (bytes : List ℕ) → p.action ≡ Run (cmd.Update b o bytes) → BreaksNone past p → FitsCommand past (cmd.Update b o bytes)
 update_point past p b o bytes is none = not_above (buffer_size past b) (o + length bytes) (or_parts _ false (areas_inside past p (cmd.Update b o bytes) is none)).0
 
@@ -341,23 +244,23 @@ copy_point past p s d gs is none = all_regions gs (areas_inside past p (cmd.Copy
         fails : (a : Area) → Contains (map (λ g. Bytes s g.source_offset g.size) gs ++ map (λ g. Bytes d g.destination_offset g.size) gs) a → area_past past a ≡ false
         fails a c = false_from_ne_true (area_past past a) (λ h. clash (member_passes (area_past past) (map (λ g. Bytes s g.source_offset g.size) gs ++ map (λ g. Bytes d g.destination_offset g.size) gs) a c h) inside)
 
-fits_command : (past : Past) (p : Point) (c : Cmd) → p.action ≡ Run c → is_supported_action (Run c) ≡ true → BreaksNone past p → FitsCommand past c
-fits_command past p (cmd.Fill b o n w) is supported none = fill_point past p b o n w is none
-fits_command past p (cmd.Update b o bytes) is supported none = update_point past p b o bytes is none
-fits_command past p (cmd.Copy s d gs) is supported none = copy_point past p s d gs is none
-fits_command past p (cmd.Barrier es) is supported none = tt
-fits_command past p (cmd.Clear i l color rs) is supported none = absurd cc
-fits_command past p (cmd.CopyIn b i l gs) is supported none = absurd cc
-fits_command past p (cmd.CopyOut i l b gs) is supported none = absurd cc
-fits_command past p (cmd.CopyImage a l b m gs) is supported none = absurd cc
-fits_command past p (cmd.Set v ms) is supported none = tt
-fits_command past p (cmd.Await v ms) is supported none = tt
+fits_command : (past : Past) (p : Point) (c : Cmd) → p.action ≡ Run c → IsNew past → BreaksNone past p → FitsCommand past c
+fits_command past p (cmd.Fill b o n w) is new none = fill_point past p b o n w is none
+fits_command past p (cmd.Update b o bytes) is new none = update_point past p b o bytes is none
+fits_command past p (cmd.Copy s d gs) is new none = copy_point past p s d gs is none
+fits_command past p (cmd.Barrier es) is new none = tt
+fits_command past p (cmd.Clear i l color rs) is new none = clear_point past p new none i l color rs is
+fits_command past p (cmd.CopyIn b i l gs) is new none = copy_in_point past p new none b i l gs is
+fits_command past p (cmd.CopyOut i l b gs) is new none = copy_out_point past p new none i b l gs is
+fits_command past p (cmd.CopyImage a l b m gs) is new none = copy_image_point past p new none a b l m gs is
+fits_command past p (cmd.Set v ms) is new none = tt
+fits_command past p (cmd.Await v ms) is new none = tt
 
-fits_action : (past : Past) (p : Point) (d : Action) → p.action ≡ d → is_supported_action d ≡ true → IsFresh past → BreaksNone past p → FitsAction past d
-fits_action past p (Host x) is supported fresh none = fits_entry past p x is supported fresh none
-fits_action past p (Run c) is supported fresh none = fits_command past p c is supported none
-fits_action past p (Wait s) is supported fresh none = tt
-fits_action past p (Signal s) is supported fresh none = tt
+fits_action : (past : Past) (p : Point) (d : Action) → p.action ≡ d → is_supported_action d ≡ true → IsNew past → IsFresh past → BreaksNone past p → FitsAction past d
+fits_action past p (Host x) is supported new fresh none = fits_entry past p x is supported fresh none
+fits_action past p (Run c) is supported new fresh none = fits_command past p c is new none
+fits_action past p (Wait s) is supported new fresh none = tt
+fits_action past p (Signal s) is supported new fresh none = tt
 
 -- ---- what is older is clean too
 
@@ -373,7 +276,7 @@ pub fits_clean : (past : Past) → IsClean past → AllFit past
 unfolding is_supported
 fits_clean [] clean = tt
 fits_clean (p ∷ past) clean =
-    (fits_action past p p.action refl (and_parts (is_supported_action p.action) (list_all (λ q. is_supported_action q.action) past) clean.supported).0 (fresh_clean past (clean_older past p clean)) (breaks_none past p clean), fits_clean past (clean_older past p clean))
+    (fits_action past p p.action refl (and_parts (is_supported_action p.action) (list_all (λ q. is_supported_action q.action) past) clean.supported).0 (new_clean past (clean_older past p clean)) (fresh_clean past (clean_older past p clean)) (breaks_none past p clean), fits_clean past (clean_older past p clean))
 
 -- what comes before others, which may be batches that are started
 pub clean_newer : (newer past : Past) → IsClean (newer ++ past) → IsClean past

@@ -1,7 +1,7 @@
 -- The points that come with an entry, on a device.
 use Rattle.std.proofs.Common.{◌≡◌, ℕ, suc, ◌+◌, ◌%◌, ◌<◌, ◌≤◌, ◌==◌, true, false, Option, Some, None, map, List, [], ◌∷◌, ◌++◌, length, take, drop, get_or, reverse, refl, ap, sym, ◌∙◌, subst, arith}
 use Rattle.std.specs.Prelude.{All, Contains, IsTrue, is_some, option_map, option_and_then, if◌then◌else◌}
-use Rattle.std.specs.List.{find, list_any}
+use Rattle.std.specs.List.{find, flat_map, list_any}
 use Rattle.std.proofs.lemmas.Bool.{false_from_ne_true}
 use Rattle.std.proofs.lemmas.Grind.{take_at_read, common_steps}
 use Rattle.std.proofs.lemmas.List.{length-reverse, take_all, append_assoc, append_cancel_right, drop_at, take-append-drop, map-append}
@@ -15,7 +15,7 @@ use Rattle.vk_model.specs.Basics.{holds, among, below, byte_of}
 use Rattle.vk_model.specs.Laws.{OrderIsOrdered, OrderHasEntries, NoFaultIsSound}
 use Rattle.vk_model.specs.Rules.Fault.{IsUnbroken}
 use Rattle.vk_model.specs.Run.Runs.{Name, is_done, Step, Stage, Apply, applied}
-use Rattle.vk_model.specs.Trace.Objects.{made_by, ended_by, live, buffer_in}
+use Rattle.vk_model.specs.Trace.Objects.{made_by, ended_by, live, buffer_in, image_in}
 use Rattle.vk_model.specs.Trace.Order.{Front, host, after_entry, order_from, order}
 use Rattle.vk_model.specs.Trace.Point.{Past, Point, Action, Run, entries}
 use Rattle.vk_model.specs.Trace.Structure.{IsOrdered}
@@ -30,7 +30,7 @@ use Rattle.vk_queues.specs.PointViews.{add, past_after}
 use Rattle.vk_queues.specs.IsWaiting.{IsWaiting}
 use Rattle.vk_offers.specs.IsOffers.{ComesNext, IsOffers, commands_in, is_run}
 use Rattle.vk_offers.specs.Laws.{OrderComesNext}
-use Rattle.vk_resources.specs.Fits.{FitsCommand, FitsFill, NamesLive}
+use Rattle.vk_resources.specs.Fits.{FitsCommand, FitsFill, FitsClear, FitsRegions, FitsImages, NamesLive}
 use Rattle.vk_resources.specs.Held.{Held, placed_in, shape_in, object_in, IsThere}
 use Rattle.vk_resources.proofs.Lying.{where_lies}
 use Rattle.vk_resources.specs.declared.resources.Placed.{Placed}
@@ -38,10 +38,10 @@ use Rattle.vk_resources.specs.Matches.{MatchesLive}
 use Rattle.vk_resources.proofs.Matching.{matches_same}
 use Rattle.vk_transfer.specs.Copies.{FitsBuffers}
 use Rattle.vk_model.specs.Laws.{GrowthKeeps}
-use Rattle.vk_model.specs.Run.Pieces.{cut, pieces}
+use Rattle.vk_model.specs.Run.Pieces.{cut, row_bytes, clear_pieces, pieces}
 use Rattle.vk_model.specs.declared.resource.ImageInfo.{ImageInfo}
 use Rattle.vk_model.specs.World.Bytes.{Byte, in_buffer, resource_at}
-use Rattle.vk_model.specs.World.ByteWrites.{Value, byte_write, fill_size}
+use Rattle.vk_model.specs.World.ByteWrites.{Value, byte_write, fill_size, copy_in_writes, copy_out_writes, copy_image_writes}
 use Rattle.vk_model.specs.Sync.Node.{Node, Act, Runs, acts, with_acts, nodes}
 use Rattle.vk_model.proofs.Lists.Members.{contains-head}
 use Rattle.vk_laws.specs.Lifetimes.{CommandsNameLive}
@@ -50,11 +50,11 @@ use Rattle.vk_laws.proofs.Nodes.Prefixes.{old_has}
 use Rattle.vk_offers.specs.Inner.Starting.{is_run_in_pieces}
 use Rattle.vk_offers.proofs.Commands.{command_node}
 use Rattle.vk_offers.proofs.Growing.{run_acts, others_stay, none_run}
-use Rattle.vk_device.proofs.Running.{later_fits}
+use Rattle.vk_device.proofs.Staying.{later_fits}
 use Rattle.vk_device.specs.declared.device.Device.{Device}
 use Rattle.vk_device.specs.Inner.Clean.{IsClean}
 use Rattle.vk_device.specs.Inner.Fits.{FitsAction, AllFit}
-use Rattle.vk_device.specs.Inner.Ready.{HostDone, CommandFits}
+use Rattle.vk_device.specs.Inner.Ready.{HostDone, CommandFits, PrepareReady}
 use Rattle.vk_device.specs.Led.{Led, AreWorks, IsSoundTrace}
 use Rattle.vk_device.proofs.Clean.{fits_clean, clean_newer}
 use Rattle.vk_device.proofs.Limits.{below_limit}
@@ -120,6 +120,10 @@ buffer_by l b = option_and_then buffer_in (find (λ x. holds (made_by x) (λ j. 
 abbrev size_by : List Entry → ℕ → ℕ
 size_by l b = elim (buffer_by l b) [ None ↦ 0 | Some i ↦ i.size ]
 
+-- and the image of one
+abbrev image_by : List Entry → ℕ → Option ImageInfo
+image_by l i = option_and_then image_in (find (λ x. holds (made_by x) (λ j. i == j)) l)
+
 command_stays : (past all : Past) (c : Cmd) → entries all ≡ entries past → FitsCommand past c → FitsCommand all c
 command_stays past all (cmd.Fill b o n w) same fits = subst (λ (l : List Entry). FitsFill (buffer_by l b) o n) (sym same) fits
 command_stays past all (cmd.Update b o bytes) same fits = subst (λ (l : List Entry). o + length bytes ≤ size_by l b) (sym same) fits
@@ -127,10 +131,10 @@ command_stays past all (cmd.Copy a b gs) same fits = subst (λ (l : List Entry).
 command_stays past all (cmd.Barrier es) same fits = fits
 command_stays past all (cmd.Set v ms) same fits = tt
 command_stays past all (cmd.Await v ms) same fits = tt
-command_stays past all (cmd.Clear i l color rs) same fits = absurd fits
-command_stays past all (cmd.CopyIn b i l gs) same fits = absurd fits
-command_stays past all (cmd.CopyOut i l b gs) same fits = absurd fits
-command_stays past all (cmd.CopyImage a l b m gs) same fits = absurd fits
+command_stays past all (cmd.Clear i l color rs) same fits = subst (λ (l : List Entry). FitsClear (image_by l i) rs) (sym same) fits
+command_stays past all (cmd.CopyIn b i l gs) same fits = subst (λ (l : List Entry). FitsRegions (image_by l i) (size_by l b) gs) (sym same) fits
+command_stays past all (cmd.CopyOut i l b gs) same fits = subst (λ (l : List Entry). FitsRegions (image_by l i) (size_by l b) gs) (sym same) fits
+command_stays past all (cmd.CopyImage a l b m gs) same fits = subst (λ (l : List Entry). FitsImages a b (image_by l a) (image_by l b) gs) (sym same) fits
 
 -- and so are the pieces of a command that fits
 count_stays : (past all : Past) (c : Cmd) → entries all ≡ entries past → FitsCommand past c → length (pieces all c) ≡ length (pieces past c)
@@ -141,10 +145,10 @@ count_stays past all (cmd.Copy a b gs) same fits = refl
 count_stays past all (cmd.Barrier es) same fits = refl
 count_stays past all (cmd.Set v ms) same fits = refl
 count_stays past all (cmd.Await v ms) same fits = refl
-count_stays past all (cmd.Clear i l color rs) same fits = absurd fits
-count_stays past all (cmd.CopyIn b i l gs) same fits = absurd fits
-count_stays past all (cmd.CopyOut i l b gs) same fits = absurd fits
-count_stays past all (cmd.CopyImage a l b m gs) same fits = absurd fits
+count_stays past all (cmd.Clear i l color rs) same fits = ap (λ (l : List Entry). length (flat_map (clear_pieces i color (image_by l i)) rs)) same
+count_stays past all (cmd.CopyIn b i l gs) same fits = ap (λ (l : List Entry). length (flat_map (λ g. cut (row_bytes (image_by l i) g.width) (copy_in_writes b i (image_by l i) g)) gs)) same
+count_stays past all (cmd.CopyOut i l b gs) same fits = ap (λ (l : List Entry). length (flat_map (λ g. cut (row_bytes (image_by l i) g.width) (copy_out_writes i b (image_by l i) g)) gs)) same
+count_stays past all (cmd.CopyImage a l b m gs) same fits = ap (λ (l : List Entry). length (flat_map (λ g. cut (row_bytes (image_by l b) g.width) (copy_image_writes a b (image_by l b) g)) gs)) same
 
 fits_at : (newer past : Past) (p : Point) → AllFit (newer ++ p ∷ past) → FitsAction past p.action
 fits_at [] past p fit = fit.0
@@ -286,6 +290,10 @@ module _ (t : List Entry) (e : ℕ) (x : Entry) (f : Front) (r : Held) (h : IsCo
     -- as it was made ready
     pub prepared_next : (count : ℕ) → OrderComesNext → GrowthKeeps → (q : Held) → q ≡ r → ((past : Past) (c : Cmd) → (point_of p).action ≡ Run c → is_run c ≡ true → CommandFits past c q → count ≡ length (pieces past c)) → ComesNext past (point_of p) count
     prepared_next count law keeps q same has = comes_next count law (λ c is_c runs. has (point_of p ∷ past) c is_c runs (subst (λ (h : Held). CommandFits (point_of p ∷ past) c h) (sym same) (command_fits keeps c is_c runs)))
+
+    -- the resources are ready for its command
+    pub prepare_ready : GrowthKeeps → (d : Device) → d.resources ≡ r → PrepareReady d (point_of p)
+    prepare_ready keeps d same c is_c runs = let f = command_fits keeps c is_c runs in (point_of p ∷ past, subst (λ (h : Held). MatchesLive (point_of p ∷ past) h) (sym same) f.matches, f.fits)
 
 -- ---- the commands that were made ready
 

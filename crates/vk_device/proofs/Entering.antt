@@ -17,7 +17,7 @@ use Rattle.vk_model.specs.Run.Picks.{Picked, before_entry, atom_picks}
 use Rattle.vk_model.specs.Trace.Objects.{Resource, made, ended, ended_by, live, image_in, resource_in}
 use Rattle.vk_model.specs.Trace.Order.{Front, host, order_from, order}
 use Rattle.vk_model.specs.Trace.Point.{Past}
-use Rattle.vk_model.specs.World.Bytes.{Byte, in_buffer, in_image, resource_at}
+use Rattle.vk_model.specs.World.Bytes.{Byte, in_buffer, resource_at}
 use Rattle.vk_model.specs.World.Effect.{world}
 use Rattle.vk_model.specs.World.Meaning.{read_in}
 use Rattle.vk_model.proofs.Trace.Growing.{order_append}

@@ -1,6 +1,10 @@
+pub mod Unbroken
+pub mod CleanImages
 mod Clean
 mod Limits
 mod Standing
+mod Staying
+mod Sources
 mod Running
 mod Picking
 mod Coming

@@ -9,7 +9,8 @@ use Rattle.vk_model.specs.Rules.Traces.{breaks_limit}
 use Rattle.vk_model.specs.Trace.Order.{Front, after_entry, host}
 use Rattle.vk_model.specs.Trace.Point.{Past, Action, Host, Wait, Run, Signal, host_of, entries}
 use Rattle.vk_device.specs.Inner.Clean.{IsClean}
-use Rattle.vk_device.proofs.Clean.{breaks_none, clean_entry}
+use Rattle.vk_device.proofs.Unbroken.{breaks_none}
+use Rattle.vk_device.proofs.Clean.{clean_entry}
 
 entry_count : (past : Past) → length (entries past) ≤ length past
 entry_count [] = omega arith

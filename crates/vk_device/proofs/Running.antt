@@ -1,28 +1,20 @@
 -- A piece that runs on a device.
-use Rattle.std.proofs.Common.{◌≡◌, ◌+◌, ◌<◌, ◌≤◌, arith, length, false, inl, inr, ℕ, suc, List, [], ◌∷◌, ◌++◌, map, Bool, true, ◌==◌, eq-eqb, refl, ap, sym, ◌∙◌, subst, cond, IsTrue, Option, Some, None}
+use Rattle.std.proofs.Common.{◌≡◌, arith, length, false, inl, inr, ℕ, suc, List, [], ◌∷◌, ◌++◌, map, ◌==◌, eq-eqb, refl, ap, sym, ◌∙◌, subst, IsTrue, Option, Some, None}
 use Rattle.std.proofs.lemmas.Bool.{eqb-true, not-true}
 use Rattle.std.proofs.lemmas.List.{length-map}
-use Rattle.std.proofs.lemmas.List.Elements.{All-weaker, All-contains}
-use Rattle.std.specs.Prelude.{Contains, IsSome, slice_get, option_and_then}
+use Rattle.std.specs.Prelude.{Contains, slice_get}
 use Rattle.std.specs.List.{enumerate_from}
 use Rattle.vk_model.specs.declared.command.Cmd.{Cmd}
 use Rattle.vk_model.specs.declared.command.Cmd.TheVariants as cmd
-use Rattle.vk_model.specs.declared.command.Length.{Length}
 use Rattle.vk_model.specs.declared.entry.Entry.{Entry}
-use Rattle.vk_model.specs.declared.entry.Entry.TheVariants as entry
-use Rattle.vk_model.specs.declared.resource.BufferInfo.{BufferInfo}
-use Rattle.vk_model.specs.Trace.Point.{Past, Point, Action, Host, Wait, Run, Signal}
-use Rattle.vk_model.specs.Trace.Objects.{made, buffer, buffer_in}
+use Rattle.vk_model.specs.Trace.Point.{Past, Action, Host, Wait, Run, Signal}
 use Rattle.vk_model.specs.Sync.Node.{Node, Act, Runs, Depends, acts, nodes}
-use Rattle.vk_model.proofs.Lists.Members.{none_in, contains-cons, contains-head, map_has, mapped_from, flat_from, range_from, part_has, member_passes, found}
+use Rattle.vk_model.proofs.Lists.Members.{none_in, contains-cons, map_has, mapped_from, member_passes, found}
 use Rattle.vk_order.proofs.ElementPlaces.{with_member}
-use Rattle.vk_resources.specs.Fits.{FitsFill, FitsCommand, FitsEntry, NamesLive}
-use Rattle.vk_model.specs.World.Bytes.{Byte, in_buffer, in_image, resource_at, same_byte}
-use Rattle.vk_model.specs.World.ByteWrites.{ByteWrite, byte_write, byte_writes, copy_writes, buffer_size, Source, Value, From}
-use Rattle.vk_model.specs.Basics.{below}
+use Rattle.vk_resources.specs.Fits.{FitsCommand, NamesLive}
+use Rattle.vk_model.specs.World.Bytes.{Byte, in_buffer, in_image, resource_at}
+use Rattle.vk_model.specs.World.ByteWrites.{ByteWrite, Source, Value, From}
 use Rattle.vk_model.specs.Laws.{PiecesAreByteWrites}
-use Rattle.vk_model.specs.Rules.Ids.{is_buffer}
-use Rattle.vk_transfer.specs.Copies.{FitsBuffers}
 use Rattle.vk_laws.proofs.Running.OfferedPieces.{offered_of}
 use Rattle.vk_offers.proofs.Growing.{get_some}
 use Rattle.vk_offers.proofs.Steps.{get_mapped, piece_low, piece_of}
@@ -47,82 +39,16 @@ use Rattle.vk_offers.proofs.Offering.{same_offers}
 use Rattle.vk_offers.proofs.Commands.{command_at}
 use Rattle.vk_transfer.specs.Ran.{given, stored, HaveRun}
 use Rattle.vk_resources.specs.declared.resources.Placed.{Placed}
-use Rattle.vk_resources.specs.Held.{Held, byte_at, host_at, holding_in, placed, placed_in, shape_in, shape_of, flat, IsThere}
-use Rattle.vk_resources.proofs.Lying.{lies_there, buffer_lies, there_stays}
-use Rattle.vk_resources.proofs.Matching.{flat_parts}
+use Rattle.vk_resources.specs.Held.{byte_at, host_at, holding_in, placed, placed_in, shape_in, IsThere}
+use Rattle.vk_resources.proofs.Lying.{there_stays}
 use Rattle.vk_model.specs.declared.resource.ImageInfo.{ImageInfo}
 use Rattle.vk_map_cache.specs.Holdings.{Holdings}
 use Rattle.vk_resources.specs.Matches.{MatchesLive}
-use Rattle.vk_resources.proofs.Fitting.{named_there, same_size}
 use Rattle.vk_device.specs.declared.device.Device.{Device}
 use Rattle.vk_device.specs.Led.{Led, AreWorks}
 use Rattle.vk_device.specs.Inner.Fits.{FitsAction, AllFit}
-
--- ---- a command fits as long as resources stay
-
--- a buffer that was made stays when a point comes
-module _ (past : Past) (b : ℕ) (info : BufferInfo) (is : buffer past b ≡ Some info) where
-  other_id : (i : ℕ) → made past i ≡ None → (x : Option Entry) (t : Bool) → (b == i) ≡ t → option_and_then buffer_in (cond t x (made past b)) ≡ Some info
-  other_id i none x true e =
-      let same = eqb-true b i e in
-      let never : option_and_then buffer_in None ≡ Some info = subst (λ (y : Option Entry). option_and_then buffer_in y ≡ Some info) none (subst (λ (k : ℕ). buffer past k ≡ Some info) same is) in
-      absurd cc
-  other_id i none x false e = is
-
-  stays_host : (e k p q : ℕ) (x : Entry) → FitsEntry past x → buffer (record { entry = e; batch = k; place = p; queue = q; action = Host x } ∷ past) b ≡ Some info
-  stays_host e k p q (entry.Buffer i y) fit = other_id i fit.unused.unmade (Some (entry.Buffer i y)) (b == i) refl
-  stays_host e k p q (entry.Image i y) fit = other_id i fit.unused.unmade (Some (entry.Image i y)) (b == i) refl
-  stays_host e k p q (entry.Memory i y) fit = other_id i fit.0.unmade (Some (entry.Memory i y)) (b == i) refl
-  stays_host e k p q (entry.Semaphore i v) fit = other_id i fit.unmade (Some (entry.Semaphore i v)) (b == i) refl
-  stays_host e k p q (entry.Event i) fit = other_id i fit.unmade (Some (entry.Event i)) (b == i) refl
-  stays_host e k p q (entry.Free m) fit = is
-  stays_host e k p q (entry.Destroy r) fit = is
-  stays_host e k p q (entry.Unmap r) fit = is
-  stays_host e k p q (entry.Write r o bytes) fit = is
-  stays_host e k p q (entry.Map r) fit = is
-  stays_host e k p q (entry.Read r o n) fit = is
-  stays_host e k p q (entry.Signal s v) fit = is
-  stays_host e k p q (entry.Wait ws) fit = is
-  stays_host e k p q (entry.Submit r bs) fit = is
-  stays_host e k p q (entry.Flush r o n) fit = is
-  stays_host e k p q (entry.Invalidate r o n) fit = is
-  stays_host e k p q _ fit = absurd fit
-
-  stays : (e k p q : ℕ) (a : Action) → FitsAction past a → buffer (record { entry = e; batch = k; place = p; queue = q; action = a } ∷ past) b ≡ Some info
-  stays e k p q (Host x) fit = stays_host e k p q x fit
-  stays e k p q (Wait s) fit = is
-  stays e k p q (Run c) fit = is
-  stays e k p q (Signal s) fit = is
-
-later_fill : (past : Past) (p : Point) (b o : ℕ) (n : Length) → FitsAction past p.action → FitsFill (buffer past b) o n → FitsFill (buffer (p ∷ past) b) o n
-later_fill past p b o n fit fits = go (buffer past b) refl fits
-  where
-    go : (x : Option BufferInfo) → buffer past b ≡ x → FitsFill x o n → FitsFill (buffer (p ∷ past) b) o n
-    go None e f = absurd f
-    go (Some info) e f = subst (λ (y : Option BufferInfo). FitsFill y o n) (sym (stays past b info e p.entry p.batch p.place p.queue p.action fit)) f
-
--- its size doesn't get less
-later_size : (past : Past) (p : Point) (b : ℕ) → FitsAction past p.action → buffer_size past b ≤ buffer_size (p ∷ past) b
-later_size past p b fit = go (buffer past b) refl
-  where
-    go : (x : Option BufferInfo) → buffer past b ≡ x → buffer_size past b ≤ buffer_size (p ∷ past) b
-    go None e = rw (buffer_size, e) (omega arith)
-    go (Some info) e = rw (buffer_size, e, stays past b info e p.entry p.batch p.place p.queue p.action fit) (omega arith)
-
-pub later_fits : (past : Past) (p : Point) (c : Cmd) → FitsAction past p.action → FitsCommand past c → FitsCommand (p ∷ past) c
-later_fits past p (cmd.Fill b o n w) fit fits = later_fill past p b o n fit fits
-later_fits past p (cmd.Update b o bytes) fit fits = let grows = later_size past p b fit in omega (arith, grows, fits)
-later_fits past p (cmd.Copy s d gs) fit fits =
-    All-weaker (λ g. FitsBuffers g (buffer_size past s) (buffer_size past d)) (λ g. FitsBuffers g (buffer_size (p ∷ past) s) (buffer_size (p ∷ past) d)) (λ g f.
-    let from = later_size past p s fit in
-    let to = later_size past p d fit in
-    let first = f.0 in
-    let second = f.1 in
-    (omega (arith, from, first), omega (arith, to, second))) gs fits
-later_fits past p (cmd.Barrier es) fit fits = fits
-later_fits past p (cmd.Set v ms) fit fits = fits
-later_fits past p (cmd.Await v ms) fit fits = fits
-later_fits past p _ fit fits = absurd fits
+use Rattle.vk_device.proofs.Staying.{later_fits}
+use Rattle.vk_device.proofs.Sources.{sources_there}
 
 -- ---- the command of a node
 
@@ -200,42 +126,6 @@ module _ (past : Past) (done : List Name) (o : Offers) (is : IsOffers o past don
       let left = (offered_of past done (name_of past piece) is_offered).fresh in
       let number : (name_of past piece).0 ≡ n.number = ap number_of here in
       subst (λ (k : ℕ). is_done done (k, piece.index) ≡ false) number (not-true (is_done done (name_of past piece)) left)
-
--- ---- what it copies
-
-module _ (past : Past) (s : Held) (m : MatchesLive past s) (together : PiecesAreByteWrites) where
-  -- a byte below the size of a buffer that is held
-  within : (b k : ℕ) → IsSome (flat s b) → k < buffer_size past b → IsThere s (in_buffer b k)
-  within b k some lt = go (flat s b) refl some
-    where
-      go : (o : Option Placed) → flat s b ≡ o → IsSome o → IsThere s (in_buffer b k)
-      go None at some = absurd cc
-      go (Some p) at some =
-          let parts = flat_parts (shape_of s b) (placed s b) p at in
-          lies_there s (in_buffer b k) (buffer_lies s b p parts.1 parts.0 k (subst (λ (n : ℕ). k < n) (same_size past s m b p at) lt))
-
-  -- a byte that a command copies is of a buffer that is there
-  source_there : (c : Cmd) → FitsCommand past c → NamesLive past c → (w : ByteWrite) (e : Byte) → Contains (byte_writes past c) w → w.source ≡ From e → IsThere s e
-  source_there (cmd.Fill b o n v) fits alive w e among is = let f = mapped_from _ (below _) w among in let both : From e ≡ Value _ = sym is ∙ ap (λ (x : ByteWrite). x.source) (sym f.2) in absurd cc
-  source_there (cmd.Update b o bytes) fits alive w e among is = let f = mapped_from _ (enumerate_from 0 bytes) w among in let both : From e ≡ Value f.0.1 = sym is ∙ ap (λ (x : ByteWrite). x.source) (sym f.2) in absurd cc
-  source_there (cmd.Copy a d gs) fits alive w e among is =
-      let g = flat_from (copy_writes a d) gs w among in
-      let f = mapped_from (λ k. byte_write (in_buffer d (g.0.destination_offset + k)) (From (in_buffer a (g.0.source_offset + k)))) (below g.0.size) w g.2 in
-      let both : From e ≡ From (in_buffer a (g.0.source_offset + f.0)) = sym is ∙ ap (λ (x : ByteWrite). x.source) (sym f.2) in
-      let one : e ≡ in_buffer a (g.0.source_offset + f.0) = cc in
-      let range = All-contains (λ g. FitsBuffers g (buffer_size past a) (buffer_size past d)) gs g.0 fits g.1 in
-      let first = range.0 in
-      let low = (range_from 0 g.0.size f.0 f.1).1 in
-      rw one (within a (g.0.source_offset + f.0) (named_there past s m a (alive a is_buffer (contains-head (a, is_buffer) ((d, is_buffer) ∷ [])))) (omega (arith, first, low)))
-  source_there (cmd.Barrier es) fits alive w e among is = absurd (none_in w among)
-  source_there (cmd.Set v ms) fits alive w e among is = absurd (none_in w among)
-  source_there (cmd.Await v ms) fits alive w e among is = absurd (none_in w among)
-  source_there _ fits alive w e among is = absurd fits
-
-  pub sources_there : (c : Cmd) (k : ℕ) (ms : List ByteWrite) → FitsCommand past c → NamesLive past c → slice_get (pieces past c) k ≡ Some ms → (b : Byte) (w : ByteWrite) (e : Byte) → write_to b ms ≡ Some w → w.source ≡ From e → IsThere s e
-  sources_there c k ms fits alive piece b w e write is =
-      let hit = found (λ (x : ByteWrite). same_byte x.to b) ms w write in
-      source_there c fits alive w e (subst (λ (all : List ByteWrite). Contains all w) (together past c) (part_has (pieces past c) k ms w piece hit.0)) is
 
 -- what is stored is so by other bytes that are the same where they are copied from
 stored_same : (old bytes : Byte → ℕ) (o : Option ByteWrite) (c : Byte) → (o ≡ None → old c ≡ bytes c) → ((m : ByteWrite) (e : Byte) → o ≡ Some m → m.source ≡ From e → old e ≡ bytes e) → stored o old c ≡ byte_after bytes o c

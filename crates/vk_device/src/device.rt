@@ -49,7 +49,7 @@ pub struct Device<'a> {
 impl<'a> Device<'a> {
     ghost use Rattle.vk_model.specs.Run.Runs.{start};
     ghost use Rattle.vk_device.specs.Led.{Led, IsBefore, IsNext, MayRun, HasRun, HasWritten, Applies, Reads};
-    ghost use Rattle.vk_device.specs.Inner.Ready.{Prepares, Waited, MayAsk, Goes, Picks, HostDone, AdvanceReady, Touches};
+    ghost use Rattle.vk_device.specs.Inner.Ready.{PrepareReady, Prepares, Waited, MayAsk, Goes, Picks, HostDone, AdvanceReady, Touches};
     ghost use Rattle.vk_resources.specs.Allocating.{allotted};
     ghost use Rattle.vk_device.specs.declared.applied.ApplyError.TheVariants.{NoMemory, Failed};
 
@@ -94,6 +94,7 @@ impl<'a> Device<'a> {
 
     /// Makes the command of a point ready, if it is run in pieces, and answers how many they are.
     fn prepare(&mut self, point: &Point<'a>) -> Result<u64, AllocError>
+        requires { PrepareReady self.old (point_of point.now) }
         ensures prepared { IfOk result (λ total. Prepares self.old self.new (point_of point.now) total) }
         ensures resources { self.new.resources ≡ self.old.resources }
         ensures failed { self.new.failed ≡ self.old.failed }

@@ -3,6 +3,7 @@ pub mod Busy
 pub mod Named
 pub mod Among
 pub mod Conflicting
+pub mod OwnBytes
 pub mod Quiet
 pub mod Conflicts
 pub mod Pairs

@@ -18,6 +18,7 @@ use Rattle.vk_offers.specs.IsOffers.{IsOffers, CountsBefore, host_node, is_free_
 use Rattle.vk_resources.specs.Held.{Held, IsThere, HasCell}
 use Rattle.vk_resources.specs.Matches.{MatchesLive}
 use Rattle.vk_resources.specs.Fits.{FitsCommand, NamesLive}
+use Rattle.vk_resources.specs.Done.{CommandReady}
 use Rattle.vk_device.specs.declared.device.Device.{Device}
 use Rattle.vk_device.specs.Led.{Led, AreWorks, IsBefore, IsSoundTrace}
 
@@ -62,6 +63,10 @@ pub record CommandFits (past : Past) (c : Cmd) (resources : Held) : Type 0 where
   pub matches : MatchesLive past resources
   pub fits : FitsCommand past c
   pub alive : 0 < length (pieces past c) → NamesLive past c
+
+-- The resources are those of some past in which the command of a point fits, where it is a clear or a copy.
+abbrev pub PrepareReady : Device → Point → Type 0
+PrepareReady d p = (c : Cmd) → p.action ≡ Run c → is_run c ≡ true → CommandReady d.resources c
 
 -- A point that comes was made ready: it is run in so many pieces where it is a clear or a copy, which is among those that are ready then, and nothing else has changed.
 pub record Prepares (old new : Device) (p : Point) (total : ℕ) : Type 0 where

@@ -1,10 +1,9 @@
 -- OWNER_PAIR: the elements of a barrier, one after another.
-use Rattle.std.proofs.Common.{◌≡◌, ◌≤◌, ◌<◌, ◌+◌, ℕ, List, [], ◌∷◌, ◌++◌, map, length, Bool, true, false, ◌&&◌, ◌||◌, IsTrue, refl, ap, sym, ◌∙◌, subst, arith, get_or, drop, append_assoc, Option, Some, None}
+use Rattle.std.proofs.Common.{◌≡◌, ◌+◌, ℕ, List, [], ◌∷◌, ◌++◌, map, length, Bool, true, false, ◌&&◌, ◌||◌, refl, ap, sym, ◌∙◌, arith, append_assoc, None}
 use Rattle.std.specs.Prelude.{Contains}
 use Rattle.std.specs.List.{list_any, find}
 use Rattle.std.specs.Ordering.{nat_cmp}
 use Rattle.std.specs.BTreeMap.{get}
-use Rattle.std.proofs.lemmas.List.{drop_all, drop_more}
 use Rattle.vk_model.specs.declared.command.Cmd.TheVariants as cmd
 use Rattle.vk_model.specs.declared.command.Element.{Element}
 use Rattle.vk_model.specs.Trace.Point.{Past, Point, Action, Run}
@@ -14,8 +13,8 @@ use Rattle.vk_model.specs.World.Effect.{world, after_element}
 use Rattle.vk_model.specs.World.Ownership.{family_of}
 use Rattle.vk_model.specs.Rules.Fault.{newest}
 use Rattle.vk_model.specs.Rules.Owners.{some_bad_pair, bad_pair, breaks_owner_pair, is_release_of, releases_resource}
-use Rattle.vk_model.specs.Sync.Node.{Node, Act, Depends, Barrier, with_acts, acts, nodes, same_place}
-use Rattle.vk_model.specs.Sync.Edge.{earlier, is_element, siblings}
+use Rattle.vk_model.specs.Sync.Node.{Node, Depends, Barrier, with_acts, acts, nodes, same_place}
+use Rattle.vk_model.specs.Sync.Edge.{earlier, is_element}
 use Rattle.vk_model.specs.Sync.Before.{before, IsNumbered}
 use Rattle.vk_model.proofs.Lists.Members.{contains-head}
 use Rattle.vk_model.proofs.Sync.Numbers.{numbered}

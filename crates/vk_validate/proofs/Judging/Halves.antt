@@ -1,5 +1,5 @@
 -- OWNER_PAIR of one element, which names a resource and families.
-use Rattle.std.proofs.Common.{◌≡◌, ℕ, List, Bool, true, false, ◌||◌, ◌&&◌, not, refl, ap, sym, ◌∙◌, Option, Some}
+use Rattle.std.proofs.Common.{◌≡◌, ℕ, List, Bool, false, ◌||◌, ◌&&◌, not, refl, ap, sym, ◌∙◌, Option, Some}
 use Rattle.std.specs.Prelude.{nat_lt}
 use Rattle.vk_model.specs.declared.command.Element.{Element}
 use Rattle.vk_model.specs.declared.command.Families.{Families}

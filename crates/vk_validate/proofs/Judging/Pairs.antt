@@ -1,5 +1,5 @@
 -- OWNER_PAIR: what is no barrier transfers nothing.
-use Rattle.std.proofs.Common.{◌≡◌, ◌+◌, ℕ, List, [], ◌∷◌, map, length, Bool, true, refl, false, ap, ◌∙◌}
+use Rattle.std.proofs.Common.{◌≡◌, ◌+◌, ℕ, List, [], ◌∷◌, map, length, Bool, true, refl, false, ap}
 use Rattle.std.specs.List.{list_all, enumerate_from}
 use Rattle.std.proofs.lemmas.Bool.{and_parts}
 use Rattle.vk_model.specs.declared.command.Cmd.{Cmd}

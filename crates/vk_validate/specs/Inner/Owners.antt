@@ -1,5 +1,5 @@
 -- OWNER_PAIR, element by element of a barrier.
-use Rattle.std.specs.Prelude.{◌≡◌, ◌+◌, ℕ, List, [], ◌∷◌, ◌++◌, length, map, take, drop, Bool, true, false, not, ◌&&◌, IsTrue, Contains, Option, Some, None}
+use Rattle.std.specs.Prelude.{◌≡◌, ℕ, List, [], ◌∷◌, ◌++◌, Bool, true, false, Contains, Option, Some, None}
 use Rattle.std.specs.List.{list_any, find}
 use Rattle.std.specs.Ordering.{nat_cmp}
 use Rattle.std.specs.BTreeMap.{get}
@@ -7,11 +7,11 @@ use Rattle.vk_model.specs.declared.command.Element.{Element}
 use Rattle.vk_model.specs.Trace.Point.{Past, Point}
 use Rattle.vk_model.specs.World.Bytes.{World, Owner, Family, Released}
 use Rattle.vk_model.specs.World.Effect.{world, after_element}
-use Rattle.vk_model.specs.World.Ownership.{Transfer, Stays, Release, Acquire, Neither, family_of, is_release, transfer_on}
+use Rattle.vk_model.specs.World.Ownership.{family_of, is_release}
 use Rattle.vk_model.specs.Sync.Node.{Node, Depends, Barrier, nodes}
 use Rattle.vk_model.specs.Sync.Edge.{earlier}
 use Rattle.vk_model.specs.Sync.Before.{before}
-use Rattle.vk_model.specs.Rules.Owners.{is_released, is_released_for, is_release_of, releases_resource, bad_families, bad_pair}
+use Rattle.vk_model.specs.Rules.Owners.{is_released, is_release_of, releases_resource}
 use Rattle.vk_order.specs.Wide.{IsApartFrom}
 use Rattle.vk_touches.specs.Touched.{next_node}
 use Rattle.vk_validate.specs.declared.halves.Changed.{Changed}

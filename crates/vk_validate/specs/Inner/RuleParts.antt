@@ -1,16 +1,15 @@
 -- Parts of rules, as single functions answer them.
-use Rattle.std.specs.Prelude.{◌≡◌, ℕ, ◌+◌, ◌*◌, ◌%◌, ◌==◌, ◌&&◌, ◌||◌, List, Bool, false, not, nat_lt, Option, option_and_then}
+use Rattle.std.specs.Prelude.{◌≡◌, ℕ, ◌+◌, ◌*◌, ◌%◌, ◌==◌, ◌&&◌, ◌||◌, List, Bool, not, nat_lt, Option, option_and_then}
 use Rattle.std.specs.List.{list_any}
 use Rattle.vk_model.specs.declared.command.BufferCopy.{BufferCopy}
 use Rattle.vk_model.specs.declared.command.BufferImageCopy.{BufferImageCopy}
 use Rattle.vk_model.specs.declared.command.ImageCopy.{ImageCopy}
 use Rattle.vk_model.specs.declared.command.SubresourceRange.{SubresourceRange}
 use Rattle.vk_model.specs.declared.entry.Entry.{Entry}
-use Rattle.vk_model.specs.declared.entry.Entry.TheVariants as entry
 use Rattle.vk_model.specs.declared.resource.Place.{Place}
 use Rattle.vk_model.specs.Basics.{holds, below}
 use Rattle.vk_model.specs.Trace.Image.{texel}
-use Rattle.vk_model.specs.Trace.Objects.{Resource, image, pool, memory, pool_at, bound_at, type_at, memory_of, pool_of, live_resources}
+use Rattle.vk_model.specs.Trace.Objects.{Resource, image, pool, memory, pool_at, bound_at, type_at}
 use Rattle.vk_model.specs.Trace.Point.{Past, Point}
 use Rattle.vk_model.specs.Memory.Suballocation.{ranges_meet}
 use Rattle.vk_model.specs.World.Areas.{Box, row_start, row_count}

@@ -8,13 +8,14 @@ ghost use Rattle.vk_history.specs.Supported.{is_supported_action};
 ghost use Rattle.vk_history.specs.PointViews.{past};
 ghost use Rattle.vk_history.specs.Judged.{early_rules, first_among};
 ghost use Rattle.vk_history.specs.Changes.{Fits};
+ghost use Rattle.vk_touches.specs.Bytes.{HaveNumbers};
 ghost use Rattle.vk_touches.specs.Conflicts.{AreConflicts, FoundIn, FoundAt, FoundAmong, Misses, IsEarly};
 
 use std::alloc::AllocError;
-use vk_history::{BufferContents, Change, History, change_by};
+use vk_history::{Change, History, ResourceContents, change_by};
 use vk_model::{BufferCopy, Length};
 use vk_order::{Access, Point, Sight, flushed_seen, host_seen, invalidated_seen, prefixes};
-use vk_touches::{BufferAccess, Conflicts};
+use vk_touches::{Conflicts, ResourceAccess};
 
 /// What a point that breaks no rule before those on accesses finds wrong with the bytes that it
 /// accesses: HAZARD_WAR, HAZARD_RAW, HAZARD_WAW and READ_UNDEFINED. The only error is want of memory.
@@ -27,6 +28,7 @@ pub fn conflicts(history: &History<'_>, point: &Point<'_>) -> Result<Conflicts, 
     match change_by(point) {
         Change::Nothing => Ok(Conflicts::NONE),
         Change::Made(_, _) => Ok(Conflicts::NONE),
+        Change::ImageMade(_, _) => Ok(Conflicts::NONE),
         Change::Passed(_) => Ok(Conflicts::NONE),
         Change::HostRead(buffer, offset, size) => of_host_read(
             history, point, buffer, offset, size,
@@ -37,9 +39,13 @@ pub fn conflicts(history: &History<'_>, point: &Point<'_>) -> Result<Conflicts, 
         Change::Flushed(_, _, _) => Ok(Conflicts::NONE),
         Change::Invalidated(_, _, _) => Ok(Conflicts::NONE),
         Change::Written(buffer, offset, size) => of_write(history, point, buffer, offset, size),
+        Change::Cleared(_, _) => Ok(Conflicts::NONE),
         Change::Copied(source, destination, regions) => {
             of_copy(history, point, source, destination, regions)
         }
+        Change::CopiedIn(_, _, _) => Ok(Conflicts::NONE),
+        Change::CopiedOut(_, _, _) => Ok(Conflicts::NONE),
+        Change::CopiedImage(_, _, _) => Ok(Conflicts::NONE),
     }
 }
 
@@ -167,10 +173,11 @@ fn of_copy(
 
 /// Whether what some region reads has a last write that isn't seen.
 fn has_missed_source(
-    contents: &BufferContents,
+    contents: &ResourceContents,
     regions: &[BufferCopy],
-    by: &BufferAccess<'_>,
+    by: &ResourceAccess<'_>,
 ) -> bool
+    requires { HaveNumbers by.now.bytes (length contents.now.touches) }
     ensures { FoundAmong (λ r g. g.source_offset + g.size ≤ length contents.now.touches → FoundAt (Misses contents.now.is_cached by.now) r contents.now.touches g.source_offset (g.source_offset + g.size)) result regions.now }
 {
     for region in regions {
@@ -183,10 +190,11 @@ fn has_missed_source(
 
 /// Whether what some region writes has a last write that isn't seen.
 fn has_missed_destination(
-    contents: &BufferContents,
+    contents: &ResourceContents,
     regions: &[BufferCopy],
-    by: &BufferAccess<'_>,
+    by: &ResourceAccess<'_>,
 ) -> bool
+    requires { HaveNumbers by.now.bytes (length contents.now.touches) }
     ensures { FoundAmong (λ r g. g.destination_offset + g.size ≤ length contents.now.touches → FoundAt (Misses contents.now.is_cached by.now) r contents.now.touches g.destination_offset (g.destination_offset + g.size)) result regions.now }
 {
     for region in regions {
@@ -198,7 +206,7 @@ fn has_missed_destination(
 }
 
 /// Whether what some region writes has a last read that doesn't come before.
-fn has_early_destination(contents: &BufferContents, regions: &[BufferCopy], sight: &Sight) -> bool
+fn has_early_destination(contents: &ResourceContents, regions: &[BufferCopy], sight: &Sight) -> bool
     ensures { FoundAmong (λ r g. g.destination_offset + g.size ≤ length contents.now.touches → FoundIn (IsEarly sight.now) r contents.now.touches g.destination_offset (g.destination_offset + g.size)) result regions.now }
 {
     for region in regions {

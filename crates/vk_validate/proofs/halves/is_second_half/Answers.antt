@@ -1,5 +1,4 @@
 use Rattle.std.proofs.Common.{◌≡◌, ◌&&◌, Bool, true, refl, ap, sym, ◌∙◌, subst, Some, None, Option, option_map}
-use Rattle.std.specs.List.{find}
 use Rattle.vk_model.specs.Basics.{holds}
 use Rattle.vk_model.specs.Sync.Before.{before}
 use Rattle.vk_model.specs.Sync.Node.{Node, nodes}
@@ -7,10 +6,9 @@ use Rattle.vk_model.specs.Rules.Owners.{is_released_for, is_release_of, release_
 use Rattle.vk_model.specs.World.Bytes as world
 use Rattle.vk_model.specs.World.Effect as effect
 use Rattle.vk_model.proofs.Lists.Members.{found}
-use Rattle.vk_order.specs.PointViews.{point_of}
 use Rattle.vk_order.specs.declared.parts.Spot.{Spot}
 use Rattle.vk_history.specs.declared.owners.Owned.{Owned}
-use Rattle.vk_history.specs.Owners.{Kept, kept_of, IsOwned, IsLastRelease}
+use Rattle.vk_history.specs.Owners.{kept_of, IsOwned, IsLastRelease}
 use Rattle.vk_history.specs.PointViews.{past}
 use Rattle.vk_touches.proofs.PartChanges.{if_ok}
 use Rattle.vk_validate.proofs.halves.is_second_half.Goals as goal

@@ -6,11 +6,21 @@ use Rattle.vk_offers.specs.declared.offers.Offers.{Offers}
 use Rattle.vk_offers.specs.IsOffers.{IsOffers}
 use Rattle.vk_resources.specs.Allocating.{allotted}
 use Rattle.vk_device.specs.Led.{AreWorks}
-use Rattle.vk_device.proofs.Coming.{coming, prepared_next, past_more, advanced, arrived}
+use Rattle.vk_device.proofs.Coming.{coming, prepare_ready, prepared_next, past_more, advanced, arrived}
 use Rattle.vk_device.proofs.device.Device.advance.Goals as goal
 
 pub loop-point-init : goal.loop-point-init
 loop-point-init c = record { resources = refl; waiting = refl; count = refl; failed = refl; offers = λ t steps s xs atoms h. h.offers; works = λ t steps s xs atoms h. h.works }
+
+pub prepare-requires : goal.prepare-requires
+prepare-requires c =
+    let r = c.requires in
+    let h = r.5 in
+    let come = coming r.0 r.1 r.2 c.args.entry.now r.3 c.args.self.now c.order_is_structured.ensures.ordered c.order_is_structured.ensures.entries c.no_fault_is_sound.ensures c.direct_runs_are_runs.ensures c.defined_runs_stand.ensures c.commands_name_live.ensures h in
+    let are : past_after r.2.front.past c.as_slice-point-items.result.now ≡ (after_entry r.2.count c.args.entry.now r.2.front).past =
+    rw c.as_slice-point-items.ensures.value (arrived c.args.self.now r.2 c.args.entry.now c.in_ok-points.points.items h.counts (c.in_ok-points.ensures r.2.front h.waits).0) in
+    prepare_ready r.0 r.2.count c.args.entry.now r.2.front c.args.self.now.resources come c.as_slice-point-items.result.now are c.loop-point.point-index c.point-item.result c.point-item.is (omega (arith, c.loop-point-test.true))
+    c.growth_keeps.ensures c.loop-point.self c.loop-point.invariant.resources
 
 pub add-requires : goal.add-requires
 add-requires c =

@@ -5,6 +5,7 @@ use Rattle.vk_model.specs.Trace.Point.{Action, Run}
 use Rattle.vk_model.proofs.Lists.Truths.{clash}
 use Rattle.vk_order.specs.PointViews.{point_of}
 use Rattle.vk_offers.specs.Inner.Starting.{is_run_in_pieces}
+use Rattle.vk_resources.specs.Done.{CommandReady}
 use Rattle.vk_device.specs.Led.{AreWorks}
 use Rattle.vk_device.specs.Inner.Ready.{CommandFits}
 use Rattle.vk_device.proofs.Coming.{works_more, works_same}
@@ -21,6 +22,11 @@ returns-in_default-clause-prepared c = record {
   offers = refl;
   count = refl;
 }
+
+pub pieces-pieces-requires : goal.pieces-pieces-requires
+pieces-pieces-requires c =
+    let some = c.in-Some.ensures.some in
+    subst (λ (w : Cmd). CommandReady c.args.self.now.resources w) (sym c.in_ok-work.ensures) (c.requires c.in-Some.command.now some.0 some.1)
 
 pub returns-clause-prepared : goal.returns-clause-prepared
 returns-clause-prepared c =

@@ -1,5 +1,4 @@
-use Rattle.std.proofs.Common.{◌≡◌, sym, subst}
-use Rattle.vk_model.specs.Trace.Point.{Action}
+use Rattle.std.proofs.Common.{sym, subst}
 use Rattle.vk_order.specs.PointViews.{point_of, action_of}
 use Rattle.vk_order.specs.declared.point.Action.{Action as Acts}
 use Rattle.vk_history.specs.PointViews.{past}

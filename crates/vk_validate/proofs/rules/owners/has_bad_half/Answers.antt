@@ -1,6 +1,4 @@
-use Rattle.std.proofs.Common.{◌≡◌, sym, ◌∙◌}
-use Rattle.vk_model.specs.Trace.Point.{Action, Run}
-use Rattle.vk_model.specs.declared.command.Cmd.{Cmd}
+use Rattle.std.proofs.Common.{sym, ◌∙◌}
 use Rattle.vk_order.specs.PointViews.{point_of}
 use Rattle.vk_history.specs.PointViews.{past}
 use Rattle.vk_validate.proofs.Judging.Pairs.{no_owner_pair, run_same}

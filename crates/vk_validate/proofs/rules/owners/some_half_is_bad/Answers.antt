@@ -1,4 +1,4 @@
-use Rattle.std.proofs.Common.{◌≡◌, ◌∷◌, ◌+◌, ℕ, List, Bool, true, false, ap, sym, ◌∙◌, subst, drop}
+use Rattle.std.proofs.Common.{◌≡◌, ◌∷◌, ◌+◌, List, Bool, ap, sym, ◌∙◌, subst, drop}
 use Rattle.std.proofs.lemmas.List.{drop_all, drop_more}
 use Rattle.vk_model.specs.declared.command.Element.{Element}
 use Rattle.vk_model.specs.Rules.Owners.{bad_pair}
