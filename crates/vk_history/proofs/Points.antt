@@ -1,4 +1,3 @@
-pub mod Forms
 pub mod Fills
 pub mod Pasts
 pub mod Ranges

@@ -11,4 +11,5 @@ pub mod Uses
 pub mod Owners
 pub mod Bound
 pub mod Passing
+pub mod Known
 pub mod Tabled

@@ -1,41 +1,22 @@
--- The forms that are supported so far: buffers in memory of their own or of the trace's, fills, updates and copies of them, host reads and writes, flushes and invalidations, dependencies by barriers on all memory and on buffers and by events, and semaphores, on all queues.
+-- The forms that are supported so far: buffers and images in memory of their own or of the trace's, all commands on them, host reads and writes, flushes and invalidations, and semaphores, events and queues; pools and defragmentation are not.
 use Rattle.std.specs.Prelude.{Bool, true, false}
 use Rattle.std.specs.List.{list_all}
-use Rattle.vk_model.specs.declared.command.Cmd.{Cmd}
-use Rattle.vk_model.specs.declared.command.Cmd.TheVariants as cmd
-use Rattle.vk_model.specs.declared.command.Element.{Element}
-use Rattle.vk_model.specs.declared.command.Element.TheVariants as element
 use Rattle.vk_model.specs.declared.entry.Entry.{Entry}
 use Rattle.vk_model.specs.declared.entry.Entry.TheVariants as entry
 use Rattle.vk_model.specs.declared.resource.Place.{Place}
 use Rattle.vk_model.specs.declared.resource.Place.TheVariants as place
 use Rattle.vk_model.specs.Trace.Point.{Past, Action, Host, Wait, Run, Signal}
 
--- A place in memory of a buffer's own, or in a memory object of the trace.
+-- A place in memory of a resource's own, or in a memory object of the trace.
 abbrev pub is_supported_place : Place → Bool
 is_supported_place (place.Dedicated t) = true
 is_supported_place (place.Memory m o) = true
 is_supported_place _ = false
 
--- Whether an element is on all memory or on a buffer.
-abbrev pub is_supported_element : Element → Bool
-is_supported_element (element.Memory d) = true
-is_supported_element (element.Buffer e) = true
-is_supported_element (element.Image e) = false
-
--- Whether a command is of a supported form: a fill, an update, a copy between buffers, a barrier on all memory and on buffers, a set or an await (profile).
-abbrev pub is_supported_command : Cmd → Bool
-is_supported_command (cmd.Fill b o n w) = true
-is_supported_command (cmd.Update b o bytes) = true
-is_supported_command (cmd.Copy s d gs) = true
-is_supported_command (cmd.Barrier es) = list_all is_supported_element es
-is_supported_command (cmd.Set v ms) = true
-is_supported_command (cmd.Await v ms) = true
-is_supported_command _ = false
-
 -- Whether an entry is of a supported form; what a submit carries is judged point by point.
 abbrev pub is_supported_entry : Entry → Bool
 is_supported_entry (entry.Buffer i b) = is_supported_place b.place
+is_supported_entry (entry.Image i m) = is_supported_place m.place
 is_supported_entry (entry.Memory i m) = true
 is_supported_entry (entry.Free m) = true
 is_supported_entry (entry.Destroy r) = true
@@ -52,11 +33,11 @@ is_supported_entry (entry.Wait ws) = true
 is_supported_entry (entry.Submit q bs) = true
 is_supported_entry _ = false
 
--- Whether what happens at a point is of a supported form (profile).
+-- Whether what happens at a point is of a supported form: a command is, whatever it does (profile).
 abbrev pub is_supported_action : Action → Bool
 is_supported_action (Host x) = is_supported_entry x
 is_supported_action (Wait s) = true
-is_supported_action (Run c) = is_supported_command c
+is_supported_action (Run c) = true
 is_supported_action (Signal s) = true
 
 -- Whether every point of a past is of a supported form.

@@ -22,6 +22,7 @@ ghost use Rattle.vk_touches.specs.Conflicts.{IsAccess};
 ghost use Rattle.vk_history.specs.Contents.{AreContentsIn, AreBytesOf};
 ghost use Rattle.vk_history.specs.Tabled.{spot_view, set_view, maker_view};
 
+mod copies;
 mod pools;
 mod resources;
 

@@ -12,6 +12,7 @@ mod contents;
 mod copying;
 mod counts;
 mod defrags;
+mod element_parts;
 mod element_spots;
 mod elements;
 mod endings;
@@ -40,6 +41,7 @@ mod used;
 mod uses;
 
 pub use changes::{Change, change_by};
+pub use element_parts::ElementPart;
 pub use elements::is_transition;
 pub use events::EventSet;
 pub use families::family_of;

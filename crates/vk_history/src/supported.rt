@@ -1,9 +1,8 @@
 ghost use Rattle.std.specs.Prelude.{◌≡◌};
-ghost use Rattle.std.specs.List.{list_all};
 ghost use Rattle.vk_history.specs.Supported as supported;
 ghost use Rattle.vk_order.specs.PointViews.{action_of};
 
-use vk_model::{Cmd, Element, Entry, Place};
+use vk_model::{Entry, Place};
 use vk_order::{Action, Point};
 
 /// Whether the rules of this crate cover the point's form. The others have rules that are not written
@@ -13,8 +12,7 @@ pub fn is_supported(point: &Point<'_>) -> bool
 {
     match point.action {
         Action::Host(entry) => is_supported_entry(entry),
-        Action::Run(command) => is_supported_command(command),
-        Action::Wait(_) | Action::Signal(_) => true,
+        Action::Wait(_) | Action::Run(_) | Action::Signal(_) => true,
     }
 }
 
@@ -23,6 +21,7 @@ fn is_supported_entry(entry: &Entry) -> bool
 {
     match entry {
         Entry::Buffer { info, .. } => is_supported_place(info.place),
+        Entry::Image { info, .. } => is_supported_place(info.place),
         Entry::Memory { .. }
         | Entry::Free { .. }
         | Entry::Destroy { .. }
@@ -47,34 +46,5 @@ fn is_supported_place(place: Place) -> bool
     match place {
         Place::Dedicated { .. } | Place::Memory { .. } => true,
         _ => false,
-    }
-}
-
-fn is_supported_command(command: &Cmd) -> bool
-    ensures { result ≡ supported.is_supported_command command.now }
-{
-    match command {
-        Cmd::Fill { .. }
-        | Cmd::Update { .. }
-        | Cmd::Copy { .. }
-        | Cmd::Set { .. }
-        | Cmd::Await { .. } => true,
-        Cmd::Barrier { elements } => are_supported(elements.as_slice()),
-        _ => false,
-    }
-}
-
-fn are_supported(elements: &[Element]) -> bool
-    ensures { result ≡ list_all supported.is_supported_element elements.now }
-{
-    elements.iter().all(|element| is_supported_element(element))
-}
-
-fn is_supported_element(element: &Element) -> bool
-    ensures { result ≡ supported.is_supported_element element.now }
-{
-    match element {
-        Element::Memory(_) | Element::Buffer(_) => true,
-        Element::Image(_) => false,
     }
 }

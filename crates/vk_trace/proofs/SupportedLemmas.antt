@@ -1,29 +1,18 @@
 -- Whatever is a trace has only supported forms.
 use Rattle.std.proofs.Common.{◌≡◌, ℕ, zero, suc, ◌+◌, ◌&&◌, ◌++◌, map, length, List, [], ◌∷◌, Bool, true, false, not, ◌==◌, refl, ap, subst, Option, Some, None, IsTrue}
 use Rattle.std.specs.Prelude.{⊤, bytes_eq, if◌then◌else◌, unwrap_or, option_map}
-use Rattle.std.specs.List.{list_all, filter}
 use Rattle.serde_json.specs.Data.{Data}
-use Rattle.vk_model.specs.declared.command.Cmd.{Cmd}
-use Rattle.vk_model.specs.declared.command.Cmd.TheVariants as cmd
-use Rattle.vk_model.specs.declared.command.Element.{Element}
-use Rattle.vk_model.specs.declared.command.Element.TheVariants as element
-use Rattle.vk_model.specs.declared.command.BufferElement.{BufferElement}
-use Rattle.vk_model.specs.declared.command.Dependency.{Dependency}
-use Rattle.vk_model.specs.declared.entry.Batch.{Batch}
 use Rattle.vk_model.specs.declared.entry.Entry.{Entry}
 use Rattle.vk_model.specs.declared.entry.Entry.TheVariants as entry
-use Rattle.vk_model.specs.declared.entry.SemaphoreSubmit.{SemaphoreSubmit}
 use Rattle.vk_model.specs.declared.resource.Place.{Place}
 use Rattle.vk_model.specs.declared.resource.Place.TheVariants as place
 use Rattle.vk_model.specs.Trace.Point.{Past, Action, Wait, Run, Signal}
-use Rattle.vk_model.specs.Trace.Order.{SubmittedBatch, Front, host, actions, started, batches_from, batches_of, is_met, same_batch, next_batch, start_batch, settled, after_entry, order_from, order}
-use Rattle.vk_history.specs.Supported.{is_supported, is_supported_action, is_supported_entry, is_supported_command, is_supported_place, is_supported_element}
-use Rattle.vk_model.specs.Basics.{among}
-use Rattle.vk_model.proofs.Lists.Pairs.{Each, each_append, each_from, each_has}
-use Rattle.vk_model.proofs.Lists.Members.{filtered}
+use Rattle.vk_model.specs.Trace.Order.{SubmittedBatch, Front, host, actions, started, batches_of, next_batch, start_batch, settled, after_entry, order_from, order}
+use Rattle.vk_history.specs.Supported.{is_supported, is_supported_action, is_supported_entry, is_supported_place}
+use Rattle.vk_model.proofs.Lists.Pairs.{Each}
 use Rattle.vk_history.proofs.Points.Pasts.{supported-next}
-use Rattle.vk_trace.specs.Members.{Reader, Row, ◌>>=◌, array_members, first_member, no_member, from, ◌<*>◌, only, members, at_word, after_word, word_and_members, tagged, each_member, list_of, empty_list, bytes_value, u32_value, u64_value}
-use Rattle.vk_trace.specs.Trace.{copy_region, dependency_value, buffer_element, command_rows, command_value, semaphore_submit, batch_value, semaphore_value, place_rows, place_value, sharing_value, length_or_whole, buffer, memory, entry_rows, entry_value, IsTrace}
+use Rattle.vk_trace.specs.Members.{Reader, Row, ◌>>=◌, array_members, first_member, no_member, from, ◌<*>◌, only, members, at_word, after_word, word_and_members, tagged, each_member, list_of, bytes_value, u32_value, u64_value}
+use Rattle.vk_trace.specs.Trace.{batch_value, semaphore_value, place_rows, place_value, sharing_value, format_value, tiling_value, length_or_whole, buffer, image, memory, entry_rows, entry_value, IsTrace}
 
 -- ---- what holds of all that a reader gives
 
@@ -109,44 +98,6 @@ list_makes P read makes d xs h =
 
 -- ---- what holds of the forms of a trace
 
--- the elements of a barrier that is read
-elements_pass : (ms : List Dependency) (us : List BufferElement) → list_all is_supported_element (map element.Memory ms ++ map element.Buffer us) ≡ true
-elements_pass [] [] = refl
-elements_pass [] (u ∷ us) = elements_pass [] us
-elements_pass (m ∷ ms) us = elements_pass ms us
-
-abbrev IsSupportedCommand : Cmd → Type 0
-IsSupportedCommand c = is_supported_command c ≡ true
-
-command_makes : Makes IsSupportedCommand command_value
-unfolding command_value command_rows
-command_makes = tagged_makes IsSupportedCommand command_rows (
-  any_makes IsSupportedCommand _ u32_value (any_makes _ _ length_or_whole (any_makes _ _ u64_value (any_makes _ _ u32_value (from_makes _ cmd.Fill (λ b o n w. refl))))),
-  (
-    any_makes IsSupportedCommand _ bytes_value (any_makes _ _ u64_value (any_makes _ _ u32_value (from_makes _ cmd.Update (λ b o bytes. refl)))),
-    (
-      any_makes IsSupportedCommand _ (list_of copy_region) (any_makes _ _ u32_value (any_makes _ _ u32_value (from_makes _ cmd.Copy (λ s d gs. refl)))),
-      (
-        any_makes IsSupportedCommand _ empty_list (any_makes _ _ (list_of buffer_element) (any_makes _ _ (list_of dependency_value) (from_makes _ _ (λ ms us _. elements_pass ms us)))),
-        (
-          any_makes IsSupportedCommand _ (list_of dependency_value) (any_makes _ _ u32_value (from_makes _ cmd.Set (λ v ms. refl))),
-          (any_makes IsSupportedCommand _ (list_of dependency_value) (any_makes _ _ u32_value (from_makes _ cmd.Await (λ v ms. refl))), tt),
-        ),
-      ),
-    ),
-  ),
-)
-
--- a batch of commands that are supported
-abbrev pub IsSupportedBatch : Batch → Type 0
-IsSupportedBatch b = Each IsSupportedCommand b.commands
-
-batch_makes : Makes IsSupportedBatch batch_value
-unfolding batch_value
-batch_makes = members_make IsSupportedBatch _ (
-    any_makes IsSupportedBatch _ (list_of semaphore_submit) (more_makes _ (Each IsSupportedCommand) _ (list_of command_value) (any_makes _ _ _ (from_makes _ _ (λ ws cs each ss. each))) (list_makes _ command_value command_makes))
-    )
-
 abbrev IsSupportedPlace : Place → Type 0
 IsSupportedPlace p = is_supported_place p ≡ true
 
@@ -154,48 +105,45 @@ place_makes : Makes IsSupportedPlace place_value
 unfolding place_value place_rows
 place_makes = tagged_makes IsSupportedPlace place_rows (any_makes IsSupportedPlace _ u32_value (from_makes _ place.Dedicated (λ t. refl)), (any_makes IsSupportedPlace _ u64_value (any_makes _ _ u32_value (from_makes _ place.Memory (λ m o. refl))), tt))
 
--- an entry, and the batches that it submits
-pub record IsSupportedEntry (x : Entry) : Type 0 where
-  pub host : is_supported_entry x ≡ true
-  pub batches : (past : Past) (e : ℕ) → Each (λ (t : SubmittedBatch). IsSupportedBatch t.content) (batches_of past e x)
-
-of_batches : (past : Past) (e q k : ℕ) (bs : List Batch) → Each IsSupportedBatch bs → Each (λ (t : SubmittedBatch). IsSupportedBatch t.content) (batches_from past e q k bs)
-of_batches past e q k [] each = tt
-of_batches past e q k (b ∷ bs) each = (each.0, of_batches past e q (k + 1) bs each.1)
+abbrev IsSupportedEntry : Entry → Type 0
+IsSupportedEntry x = is_supported_entry x ≡ true
 
 entry_makes : Makes IsSupportedEntry entry_value
 unfolding entry_value entry_rows
 entry_makes = tagged_makes IsSupportedEntry entry_rows (
-  more_makes IsSupportedEntry IsSupportedPlace _ place_value (any_makes _ _ sharing_value (any_makes _ _ u32_value (any_makes _ _ u64_value (any_makes _ _ u32_value (from_makes _ buffer (λ i n u s p own. record { host = own; batches = λ past e. tt })))))) place_makes,
+  more_makes IsSupportedEntry IsSupportedPlace _ place_value (any_makes _ _ sharing_value (any_makes _ _ u32_value (any_makes _ _ u64_value (any_makes _ _ u32_value (from_makes _ buffer (λ i n u s p own. own)))))) place_makes,
   (
-    any_makes IsSupportedEntry _ u64_value (any_makes _ _ u32_value (any_makes _ _ u32_value (from_makes _ memory (λ i t n. record { host = refl; batches = λ past e. tt })))),
+    more_makes IsSupportedEntry IsSupportedPlace _ place_value (any_makes _ _ sharing_value (any_makes _ _ u32_value (any_makes _ _ tiling_value (any_makes _ _ u32_value (any_makes _ _ u32_value (any_makes _ _ u32_value (any_makes _ _ u32_value (any_makes _ _ format_value (any_makes _ _ u32_value (from_makes _ image (λ i f w h k l t u s p own. own))))))))))) place_makes,
     (
-      any_makes IsSupportedEntry _ u32_value (from_makes _ entry.Free (λ m. record { host = refl; batches = λ past e. tt })),
+      any_makes IsSupportedEntry _ u64_value (any_makes _ _ u32_value (any_makes _ _ u32_value (from_makes _ memory (λ i t n. refl)))),
       (
-        any_makes IsSupportedEntry _ u32_value (from_makes _ entry.Destroy (λ r. record { host = refl; batches = λ past e. tt })),
+        any_makes IsSupportedEntry _ u32_value (from_makes _ entry.Free (λ m. refl)),
         (
-          any_makes IsSupportedEntry _ u32_value (from_makes _ entry.Map (λ b. record { host = refl; batches = λ past e. tt })),
+          any_makes IsSupportedEntry _ u32_value (from_makes _ entry.Destroy (λ r. refl)),
           (
-            any_makes IsSupportedEntry _ u32_value (from_makes _ entry.Unmap (λ b. record { host = refl; batches = λ past e. tt })),
+            any_makes IsSupportedEntry _ u32_value (from_makes _ entry.Map (λ b. refl)),
             (
-              any_makes IsSupportedEntry _ bytes_value (any_makes _ _ u64_value (any_makes _ _ u32_value (from_makes _ entry.Write (λ b o bytes. record { host = refl; batches = λ past e. tt })))),
+              any_makes IsSupportedEntry _ u32_value (from_makes _ entry.Unmap (λ b. refl)),
               (
-                any_makes IsSupportedEntry _ u64_value (any_makes _ _ u64_value (any_makes _ _ u32_value (from_makes _ entry.Read (λ b o n. record { host = refl; batches = λ past e. tt })))),
+                any_makes IsSupportedEntry _ bytes_value (any_makes _ _ u64_value (any_makes _ _ u32_value (from_makes _ entry.Write (λ b o bytes. refl)))),
                 (
-                  any_makes IsSupportedEntry _ length_or_whole (any_makes _ _ u64_value (any_makes _ _ u32_value (from_makes _ entry.Flush (λ b o n. record { host = refl; batches = λ past e. tt })))),
+                  any_makes IsSupportedEntry _ u64_value (any_makes _ _ u64_value (any_makes _ _ u32_value (from_makes _ entry.Read (λ b o n. refl)))),
                   (
-                    any_makes IsSupportedEntry _ length_or_whole (any_makes _ _ u64_value (any_makes _ _ u32_value (from_makes _ entry.Invalidate (λ b o n. record { host = refl; batches = λ past e. tt })))),
+                    any_makes IsSupportedEntry _ length_or_whole (any_makes _ _ u64_value (any_makes _ _ u32_value (from_makes _ entry.Flush (λ b o n. refl)))),
                     (
-                      any_makes IsSupportedEntry _ u64_value (any_makes _ _ u32_value (from_makes _ entry.Semaphore (λ i v. record { host = refl; batches = λ past e. tt }))),
+                      any_makes IsSupportedEntry _ length_or_whole (any_makes _ _ u64_value (any_makes _ _ u32_value (from_makes _ entry.Invalidate (λ b o n. refl)))),
                       (
-                        any_makes IsSupportedEntry _ u32_value (from_makes _ entry.Event (λ i. record { host = refl; batches = λ past e. tt })),
+                        any_makes IsSupportedEntry _ u64_value (any_makes _ _ u32_value (from_makes _ entry.Semaphore (λ i v. refl))),
                         (
-                          any_makes IsSupportedEntry _ u64_value (any_makes _ _ u32_value (from_makes _ entry.Signal (λ v n. record { host = refl; batches = λ past e. tt }))),
+                          any_makes IsSupportedEntry _ u32_value (from_makes _ entry.Event (λ i. refl)),
                           (
-                            any_makes IsSupportedEntry _ (list_of semaphore_value) (from_makes _ entry.Wait (λ ws. record { host = refl; batches = λ past e. tt })),
+                            any_makes IsSupportedEntry _ u64_value (any_makes _ _ u32_value (from_makes _ entry.Signal (λ v n. refl))),
                             (
-                              more_makes IsSupportedEntry (Each IsSupportedBatch) _ (list_of batch_value) (any_makes _ _ _ (from_makes _ entry.Submit (λ q bs each. record { host = refl; batches = λ past e. of_batches past e q 0 bs each }))) (list_makes _ batch_value batch_makes),
-                              tt,
+                              any_makes IsSupportedEntry _ (list_of semaphore_value) (from_makes _ entry.Wait (λ ws. refl)),
+                              (
+                                any_makes IsSupportedEntry _ (list_of batch_value) (any_makes _ _ u32_value (from_makes _ entry.Submit (λ q bs. refl))),
+                                tt,
+                              ),
                             ),
                           ),
                         ),
@@ -214,59 +162,30 @@ entry_makes = tagged_makes IsSupportedEntry entry_rows (
 
 -- ---- every point of a trace
 
-actions_supported : {A : Type 0} (of : A → Action) (t : SubmittedBatch) (k : ℕ) (xs : List A) (past : Past) → Each (λ x. is_supported_action (of x) ≡ true) xs → is_supported past ≡ true → is_supported (actions of t k xs past) ≡ true
-actions_supported of t k [] past each before = before
-actions_supported of t k (x ∷ xs) past each before = actions_supported of t (k + 1) xs _ each.1 (supported-next (record { entry = t.entry; batch = t.batch; place = k; queue = t.queue; action = of x }) past each.0 before)
+actions_supported : {A : Type 0} (of : A → Action) → ((x : A) → is_supported_action (of x) ≡ true) → (t : SubmittedBatch) (k : ℕ) (xs : List A) (past : Past) → is_supported past ≡ true → is_supported (actions of t k xs past) ≡ true
+actions_supported of each t k [] past before = before
+actions_supported of each t k (x ∷ xs) past before = actions_supported of each t (k + 1) xs _ (supported-next (record { entry = t.entry; batch = t.batch; place = k; queue = t.queue; action = of x }) past (each x) before)
 
-submits : (of : SemaphoreSubmit → Action) → ((x : SemaphoreSubmit) → is_supported_action (of x) ≡ true) → (xs : List SemaphoreSubmit) → Each (λ x. is_supported_action (of x) ≡ true) xs
-submits of each [] = tt
-submits of each (x ∷ xs) = (each x, submits of each xs)
+started_supported : (t : SubmittedBatch) (past : Past) → is_supported past ≡ true → is_supported (started t past) ≡ true
+started_supported t past before = actions_supported Signal (λ s. refl) t 0 t.content.signals _ (actions_supported Run (λ c. refl) t 0 t.content.commands _ (actions_supported Wait (λ s. refl) t 0 t.content.waits past before))
 
-started_supported : (t : SubmittedBatch) (past : Past) → IsSupportedBatch t.content → is_supported past ≡ true → is_supported (started t past) ≡ true
-started_supported t past batch before =
-    actions_supported Signal t 0 t.content.signals _ (submits Signal (λ x. refl) t.content.signals)
-    (actions_supported Run t 0 t.content.commands _ batch (actions_supported Wait t 0 t.content.waits past (submits Wait (λ x. refl) t.content.waits) before))
+start_supported : (o : Option SubmittedBatch) (f : Front) → is_supported f.past ≡ true → is_supported (start_batch o f).past ≡ true
+start_supported None f before = before
+start_supported (Some t) f before = started_supported t f.past before
 
-abbrev Content : SubmittedBatch → Type 0
-Content t = IsSupportedBatch t.content
-
--- what has happened is supported, and so is what waits
-record IsSupportedFront (f : Front) : Type 0 where
-  past : is_supported f.past ≡ true
-  waiting : Each Content f.waiting
-
-next_supported : (past : Past) (queues : List ℕ) (ts : List SubmittedBatch) (t : SubmittedBatch) → Each Content ts → next_batch past queues ts ≡ Some t → IsSupportedBatch t.content
-next_supported past queues [] t each h = absurd cc
-next_supported past queues (u ∷ ts) t each h = go (not (among u.queue queues) && list_all (is_met past) u.waits) (next_supported past (u.queue ∷ queues) ts t each.1) h
-  where
-    go : (b : Bool) → (next_batch past (u.queue ∷ queues) ts ≡ Some t → IsSupportedBatch t.content) → (if b then Some u else next_batch past (u.queue ∷ queues) ts) ≡ Some t → IsSupportedBatch t.content
-    go true later e = let same : u ≡ t = cc in subst (λ (v : SubmittedBatch). IsSupportedBatch v.content) same each.0
-    go false later e = later e
-
-start_supported : (o : Option SubmittedBatch) (f : Front) → ((t : SubmittedBatch) → o ≡ Some t → IsSupportedBatch t.content) → IsSupportedFront f → IsSupportedFront (start_batch o f)
-start_supported None f batch before = before
-start_supported (Some t) f batch before = record {
-  past = started_supported t f.past (batch t refl) before.past;
-  waiting = each_from Content (filter (λ u. not (same_batch t u)) f.waiting) (λ u c. each_has Content f.waiting u before.waiting (filtered (λ v. not (same_batch t v)) f.waiting u c).0);
-}
-
-settled_supported : (n : ℕ) (f : Front) → IsSupportedFront f → IsSupportedFront (settled n f)
+settled_supported : (n : ℕ) (f : Front) → is_supported f.past ≡ true → is_supported (settled n f).past ≡ true
 settled_supported zero f before = before
-settled_supported (suc n) f before =
-    settled_supported n _ (start_supported (next_batch f.past [] f.waiting) f (λ t is. next_supported f.past [] f.waiting t before.waiting is) before)
+settled_supported (suc n) f before = settled_supported n _ (start_supported (next_batch f.past [] f.waiting) f before)
 
-order_supported : (e : ℕ) (f : Front) (xs : List Entry) → Each IsSupportedEntry xs → IsSupportedFront f → IsSupportedFront (order_from e f xs)
+order_supported : (e : ℕ) (f : Front) (xs : List Entry) → Each IsSupportedEntry xs → is_supported f.past ≡ true → is_supported (order_from e f xs).past ≡ true
 order_supported e f [] each before = before
 order_supported e f (x ∷ xs) each before =
     let now : Front = record { past = host e x ∷ f.past; waiting = f.waiting ++ batches_of f.past e x } in
-    order_supported (e + 1) (after_entry e x f) xs each.1 (settled_supported (length now.waiting) now (record {
-      past = supported-next (host e x) f.past each.0.host before.past;
-      waiting = each_append Content f.waiting (batches_of f.past e x) before.waiting (each.0.batches f.past e);
-    }))
+    order_supported (e + 1) (after_entry e x f) xs each.1 (settled_supported (length now.waiting) now (supported-next (host e x) f.past each.0 before))
 
 nothing_supported : is_supported [] ≡ true
 unfolding is_supported
 nothing_supported = refl
 
 pub trace_supported : (bytes : List ℕ) (t : List Entry) → IsTrace bytes t → IsTrue (is_supported (order t))
-trace_supported bytes t is = (order_supported 0 (record { past = []; waiting = [] }) t (list_makes IsSupportedEntry entry_value entry_makes is.value t is.means) (record { past = nothing_supported; waiting = tt })).past
+trace_supported bytes t is = order_supported 0 (record { past = []; waiting = [] }) t (list_makes IsSupportedEntry entry_value entry_makes is.value t is.means) nothing_supported

@@ -87,10 +87,6 @@ each_member read (d ∷ ds) = read d >>= λ x. each_member read ds >>= λ xs. So
 unfoldable pub list_of : {A : Type 0} → Reader A → Reader (List A)
 list_of read d = array_members d >>= each_member read
 
--- An array without members.
-unfoldable pub empty_list : Reader (Unit {0})
-empty_list d = array_members d >>= no_member
-
 -- What was decoded, if anything was.
 abbrev pub decoded : Result (List ℕ) FromHexError → Option (List ℕ)
 decoded (Ok bytes) = Some bytes

@@ -6,6 +6,10 @@ use Rattle.serde_json.specs.Read.{read}
 use Rattle.serde_json.specs.Find.{as_str}
 use Rattle.vk_model.specs.declared.resource.Sharing.{Sharing}
 use Rattle.vk_model.specs.declared.resource.Sharing.TheVariants.{Exclusive, Concurrent}
+use Rattle.vk_model.specs.declared.layout.Format.{Format}
+use Rattle.vk_model.specs.declared.layout.Format.TheVariants.{R8Uint, R8G8Uint, R8G8B8A8Uint, R16Uint, R32Uint, R32G32Uint, R32G32B32A32Uint}
+use Rattle.vk_model.specs.declared.resource.Kind.{Kind}
+use Rattle.vk_model.specs.declared.resource.Kind.TheVariants.{Linear, Optimal}
 use Rattle.vk_model.specs.declared.resource.Place.{Place}
 use Rattle.vk_model.specs.declared.resource.Place.TheVariants.{Dedicated, Memory as InMemory}
 use Rattle.vk_model.specs.declared.command.BufferCopy.{BufferCopy}
@@ -13,15 +17,19 @@ use Rattle.vk_model.specs.declared.command.Length.{Length}
 use Rattle.vk_model.specs.declared.command.Length.TheVariants.{Bytes, Whole}
 use Rattle.vk_model.specs.declared.command.Dependency.{Dependency}
 use Rattle.vk_model.specs.declared.command.BufferElement.{BufferElement}
-use Rattle.vk_model.specs.declared.command.Element.TheVariants.{Memory, Buffer as OnBuffer}
+use Rattle.vk_model.specs.declared.command.BufferImageCopy.{BufferImageCopy}
+use Rattle.vk_model.specs.declared.command.ImageCopy.{ImageCopy}
+use Rattle.vk_model.specs.declared.command.ImageElement.{ImageElement}
+use Rattle.vk_model.specs.declared.command.SubresourceRange.{SubresourceRange}
+use Rattle.vk_model.specs.declared.command.Element.TheVariants.{Memory, Buffer as OnBuffer, Image as OnImage}
 use Rattle.vk_model.specs.declared.command.Cmd.{Cmd}
-use Rattle.vk_model.specs.declared.command.Cmd.TheVariants.{Fill, Update, Copy, Barrier, Set, Await}
+use Rattle.vk_model.specs.declared.command.Cmd.TheVariants.{Fill, Update, Copy, Clear, CopyIn, CopyOut, CopyImage, Barrier, Set, Await}
 use Rattle.vk_model.specs.declared.entry.SemaphoreValue.{SemaphoreValue}
 use Rattle.vk_model.specs.declared.entry.SemaphoreSubmit.{SemaphoreSubmit}
 use Rattle.vk_model.specs.declared.entry.Batch.{Batch}
 use Rattle.vk_model.specs.declared.entry.Entry.{Entry}
-use Rattle.vk_model.specs.declared.entry.Entry.TheVariants.{Buffer, Memory as MemoryObject, Free, Destroy, Map, Unmap, Write, Read, Flush, Invalidate, Semaphore, Event, Signal, Wait, Submit}
-use Rattle.vk_trace.specs.Members.{Reader, Row, ◌>>=◌, from, ◌<*>◌, members, at_word, one_word, tagged, list_of, empty_list, bytes_value, u64_value, u32_value}
+use Rattle.vk_model.specs.declared.entry.Entry.TheVariants.{Buffer, Image, Memory as MemoryObject, Free, Destroy, Map, Unmap, Write, Read, Flush, Invalidate, Semaphore, Event, Signal, Wait, Submit}
+use Rattle.vk_trace.specs.Members.{Reader, Row, ◌>>=◌, from, ◌<*>◌, members, at_word, one_word, tagged, list_of, bytes_value, u64_value, u32_value}
 
 -- A number of bytes, or the word that means all to the end (`VK_WHOLE_SIZE`) (profile).
 unfoldable pub length_or_whole : Reader Length
@@ -50,7 +58,62 @@ buffer_element = members (from element <*> u32_value <*> u32_value <*> u32_value
 unfoldable pub copy_region : Reader BufferCopy
 copy_region = members (from (λ source destination size. record { source_offset = source; destination_offset = destination; size = size }) <*> u64_value <*> u64_value <*> u64_value)
 
--- The words of commands and the members after each; elements of images are not supported yet (profile).
+-- First level, levels, first layer, layers, as in `VkImageSubresourceRange` (profile).
+unfoldable pub subresource_range : Reader SubresourceRange
+subresource_range = members (from range <*> u32_value <*> u32_value <*> u32_value <*> u32_value)
+  where
+    range : ℕ → ℕ → ℕ → ℕ → SubresourceRange
+    range first_level levels first_layer layers = record { first_level = first_level; levels = levels; first_layer = first_layer; layers = layers }
+
+-- The same as of a dependency, source family, destination family, image, old layout, new layout, levels and layers, as in `VkImageMemoryBarrier2` (profile).
+unfoldable pub image_element : Reader ImageElement
+image_element = members (from element <*> u32_value <*> u32_value <*> u32_value <*> u32_value <*> u32_value <*> u32_value <*> u32_value <*> u32_value <*> u32_value <*> subresource_range)
+  where
+    element : ℕ → ℕ → ℕ → ℕ → ℕ → ℕ → ℕ → ℕ → ℕ → SubresourceRange → ImageElement
+    element a b c d source destination image old new range = record { dependency = dependency a b c d; families = record { source = source; destination = destination }; image = image; old_layout = old; new_layout = new; range = range }
+
+-- Buffer offset, row length, image height, level, first layer, layers, x, y, width, height, as in `VkBufferImageCopy2` (profile).
+unfoldable pub buffer_image_region : Reader BufferImageCopy
+buffer_image_region = members (from region <*> u64_value <*> u32_value <*> u32_value <*> u32_value <*> u32_value <*> u32_value <*> u32_value <*> u32_value <*> u32_value <*> u32_value)
+  where
+    region : ℕ → ℕ → ℕ → ℕ → ℕ → ℕ → ℕ → ℕ → ℕ → ℕ → BufferImageCopy
+    region offset row_length image_height level first_layer layers x y width height = record {
+      buffer_offset = offset;
+      row_length = row_length;
+      image_height = image_height;
+      level = level;
+      first_layer = first_layer;
+      layers = layers;
+      x = x;
+      y = y;
+      width = width;
+      height = height;
+    }
+
+-- Source level, source first layer, destination level, destination first layer, layers, source x, source y, destination x, destination y, width, height, as in `VkImageCopy2` (profile).
+unfoldable pub image_region : Reader ImageCopy
+image_region = members (from region <*> u32_value <*> u32_value <*> u32_value <*> u32_value <*> u32_value <*> u32_value <*> u32_value <*> u32_value <*> u32_value <*> u32_value <*> u32_value)
+  where
+    region : ℕ → ℕ → ℕ → ℕ → ℕ → ℕ → ℕ → ℕ → ℕ → ℕ → ℕ → ImageCopy
+    region source_level source_first_layer destination_level destination_first_layer layers source_x source_y destination_x destination_y width height = record {
+      source_level = source_level;
+      source_first_layer = source_first_layer;
+      destination_level = destination_level;
+      destination_first_layer = destination_first_layer;
+      layers = layers;
+      source_x = source_x;
+      source_y = source_y;
+      destination_x = destination_x;
+      destination_y = destination_y;
+      width = width;
+      height = height;
+    }
+
+-- The four components of a color, as in `VkClearColorValue` (profile).
+unfoldable pub color_value : Reader (List ℕ)
+color_value = members (from (λ r g b a. r ∷ g ∷ b ∷ a ∷ []) <*> u32_value <*> u32_value <*> u32_value <*> u32_value)
+
+-- The words of commands and the members after each (profile).
 unfoldable pub command_rows : List (List ℕ × Row Cmd)
 command_rows
     -- buffer, offset, size, word
@@ -59,8 +122,16 @@ command_rows
     ∷ (codes "update", from Update <*> u32_value <*> u64_value <*> bytes_value)
     -- source, destination, regions
     ∷ (codes "copy", from Copy <*> u32_value <*> u32_value <*> list_of copy_region)
+    -- image, layout, components, ranges
+    ∷ (codes "clear", from Clear <*> u32_value <*> u32_value <*> color_value <*> list_of subresource_range)
+    -- buffer, image, layout, regions
+    ∷ (codes "copy_in", from CopyIn <*> u32_value <*> u32_value <*> u32_value <*> list_of buffer_image_region)
+    -- image, layout, buffer, regions
+    ∷ (codes "copy_out", from CopyOut <*> u32_value <*> u32_value <*> u32_value <*> list_of buffer_image_region)
+    -- source, layout, destination, layout, regions
+    ∷ (codes "copy_image", from CopyImage <*> u32_value <*> u32_value <*> u32_value <*> u32_value <*> list_of image_region)
     -- elements of memory, of buffers, of images
-    ∷ (codes "barrier", from (λ memory buffers _. Barrier (map Memory memory ++ map OnBuffer buffers)) <*> list_of dependency_value <*> list_of buffer_element <*> empty_list)
+    ∷ (codes "barrier", from (λ memory buffers images. Barrier (map Memory memory ++ map OnBuffer buffers ++ map OnImage images)) <*> list_of dependency_value <*> list_of buffer_element <*> list_of image_element)
     -- event, elements
     ∷ (codes "set", from Set <*> u32_value <*> list_of dependency_value)
     -- event, elements
@@ -104,6 +175,19 @@ place_value = tagged place_rows
 unfoldable pub sharing_value : Reader Sharing
 sharing_value = one_word ((codes "exclusive", Exclusive) ∷ (codes "concurrent", Concurrent) ∷ [])
 
+-- The names of formats, as of `VkFormat` (profile).
+unfoldable pub format_value : Reader Format
+format_value = one_word ((codes "R8_UINT", R8Uint) ∷ (codes "R8G8_UINT", R8G8Uint) ∷ (codes "R8G8B8A8_UINT", R8G8B8A8Uint) ∷ (codes "R16_UINT", R16Uint) ∷ (codes "R32_UINT", R32Uint) ∷ (codes "R32G32_UINT", R32G32Uint) ∷ (codes "R32G32B32A32_UINT", R32G32B32A32Uint) ∷ [])
+
+-- The words of `VkImageTiling` (profile).
+unfoldable pub tiling_value : Reader Kind
+tiling_value = one_word ((codes "optimal", Optimal) ∷ (codes "linear", Linear) ∷ [])
+
+-- An image of an id, a format, a width, a height, levels, layers, a tiling, a usage, a sharing and a place (profile).
+abbrev pub image : ℕ → Format → ℕ → ℕ → ℕ → ℕ → Kind → ℕ → Sharing → Place → Entry
+image id format width height levels layers tiling usage sharing place =
+    Image id (record { format = format; width = width; height = height; levels = levels; layers = layers; tiling = tiling; usage = record { 0 = usage }; sharing = sharing; place = place })
+
 -- A buffer of an id, a size, a usage, a sharing and a place (profile).
 abbrev pub buffer : ℕ → ℕ → ℕ → Sharing → Place → Entry
 buffer id size usage sharing place = Buffer id (record { size = size; usage = record { 0 = usage }; sharing = sharing; place = place })
@@ -117,11 +201,13 @@ unfoldable pub entry_rows : List (List ℕ × Row Entry)
 entry_rows
     -- id, size, usage, sharing, place
     = (codes "buffer", from buffer <*> u32_value <*> u64_value <*> u32_value <*> sharing_value <*> place_value)
+    -- id, format, width, height, levels, layers, tiling, usage, sharing, place
+    ∷ (codes "image", from image <*> u32_value <*> format_value <*> u32_value <*> u32_value <*> u32_value <*> u32_value <*> tiling_value <*> u32_value <*> sharing_value <*> place_value)
     -- id, memory type, size
     ∷ (codes "memory", from memory <*> u32_value <*> u32_value <*> u64_value)
     -- memory object
     ∷ (codes "free", from Free <*> u32_value)
-    -- buffer
+    -- buffer or image
     ∷ (codes "destroy", from Destroy <*> u32_value)
     -- buffer
     ∷ (codes "map", from Map <*> u32_value)

@@ -2,17 +2,18 @@ ghost use Rattle.std.specs.Prelude.{◌≡◌, ◌++◌, OnOk, map, codes};
 ghost use Rattle.serde_json.specs.View.{view};
 ghost use Rattle.vk_trace.specs.Members.{after_word};
 ghost use Rattle.vk_trace.specs.Trace.{length_or_whole, copy_region, dependency_value, buffer_element, command_rows, command_value};
-ghost use Rattle.vk_model.specs.declared.command.Element.TheVariants.{Memory, Buffer};
+ghost use Rattle.vk_model.specs.declared.command.Element.TheVariants.{Memory, Buffer, Image};
 ghost use Rattle.vk_trace.specs.Inner.Gives.{Gives};
 
 use crate::errors::ReadTraceError;
+use crate::images::{clear_of, copy_image_of, copy_in_of, copy_out_of};
 use crate::members::{Member, Reading, end, first, first_bytes, list_members, word_first};
 use bitflags::Flags;
 use serde_json::Value;
 use std::alloc::{AllocError, Global};
 use vk_model::{
-    Accesses, BufferCopy, BufferElement, Cmd, Dependency, Element, Families, Length, Sequence,
-    Stages,
+    Accesses, BufferCopy, BufferElement, Cmd, Dependency, Element, Families, ImageElement, Length,
+    Sequence, Stages,
 };
 
 impl Member for Length {
@@ -110,6 +111,10 @@ impl Member for Cmd {
             "fill" => fill_of(alloc, rest),
             "update" => update_of(alloc, rest),
             "copy" => copy_of(alloc, rest),
+            "clear" => clear_of(alloc, rest),
+            "copy_in" => copy_in_of(alloc, rest),
+            "copy_out" => copy_out_of(alloc, rest),
+            "copy_image" => copy_image_of(alloc, rest),
             "barrier" => barrier_of(alloc, rest),
             "set" => set_of(alloc, rest),
             "await" => await_of(alloc, rest),
@@ -171,11 +176,12 @@ fn barrier_of(alloc: Global, rest: &[Value]) -> Reading<Cmd>
 {
     let (memory, rest) = first::<Sequence<Dependency>>(alloc, rest)?;
     let (buffers, rest) = first::<Sequence<BufferElement>>(alloc, rest)?;
-    let ((), rest) = first::<()>(alloc, rest)?;
+    let (images, rest) = first::<Sequence<ImageElement>>(alloc, rest)?;
     end(rest)?;
     let mut elements = Vec::new(alloc);
     push_memory(&mut elements, memory.as_slice())?;
     push_buffers(&mut elements, buffers.as_slice())?;
+    push_images(&mut elements, images.as_slice())?;
     Ok(Cmd::Barrier {
         elements: Sequence::new(elements),
     })
@@ -197,6 +203,16 @@ fn push_buffers(elements: &mut Vec<Element>, buffers: &[BufferElement]) -> Resul
 {
     for on_buffer in buffers {
         elements.push(Element::Buffer(*on_buffer))?;
+    }
+    Ok(())
+}
+
+/// Adds dependencies on parts of images.
+fn push_images(elements: &mut Vec<Element>, images: &[ImageElement]) -> Result<(), AllocError>
+    ensures { OnOk result (elements.new.items ≡ elements.old.items ++ map Image images.now) }
+{
+    for on_image in images {
+        elements.push(Element::Image(*on_image))?;
     }
     Ok(())
 }

@@ -5,6 +5,7 @@ ghost use Rattle.vk_trace.specs.Trace.{sharing_value, place_rows, place_value, s
 ghost use Rattle.vk_trace.specs.Inner.Gives.{Gives};
 
 use crate::errors::ReadTraceError;
+use crate::images::image_of;
 use crate::members::{Member, Reading, end, first, first_bytes, list_members, text_of, word_first};
 use bitflags::Flags;
 use serde_json::Value;
@@ -117,6 +118,7 @@ impl Member for Entry {
         let (word, rest) = word_first(value)?;
         match word {
             "buffer" => buffer_of(alloc, rest),
+            "image" => image_of(alloc, rest),
             "memory" => memory_of(alloc, rest),
             "free" => free_of(alloc, rest),
             "destroy" => destroy_of(alloc, rest),

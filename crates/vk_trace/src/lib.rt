@@ -4,6 +4,7 @@
 mod commands;
 mod entries;
 mod errors;
+mod images;
 mod members;
 mod printing;
 mod reading;

@@ -2,7 +2,7 @@ ghost use Rattle.std.specs.Prelude.{map, Option};
 ghost use Rattle.serde_json.specs.Find.{as_str};
 ghost use Rattle.serde_json.specs.Data.{Data};
 ghost use Rattle.serde_json.specs.View.{view};
-ghost use Rattle.vk_trace.specs.Members.{array_members, first_member, no_member, word_and_members, each_member, list_of, empty_list, bytes_value, u64_value, u32_value};
+ghost use Rattle.vk_trace.specs.Members.{array_members, first_member, no_member, word_and_members, each_member, list_of, bytes_value, u64_value, u32_value};
 ghost use Rattle.vk_trace.specs.Inner.Gives.{Gives};
 
 use crate::errors::ReadTraceError;
@@ -113,16 +113,6 @@ impl<T: Member> Member for Sequence<T> {
     fn member(alloc: Global, value: &Value) -> Reading<Sequence<T>> {
         let values = list_members(value)?;
         Ok(Sequence::new(each(alloc, values)?))
-    }
-}
-
-/// An array without members.
-impl Member for () {
-    ghost means = { empty_list };
-
-    #[tactic(auto, unfolding(crate::specs::Members::empty_list))]
-    fn member(_alloc: Global, value: &Value) -> Reading<()> {
-        end(list_members(value)?)
     }
 }
 

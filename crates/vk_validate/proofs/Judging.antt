@@ -5,9 +5,14 @@ pub mod Among
 pub mod Conflicting
 pub mod OwnBytes
 pub mod Quiet
+pub mod Early
+pub mod CalmConflicts
 pub mod Conflicts
+pub mod Copying
+pub mod Clearing
 pub mod Pairs
 pub mod Halves
 pub mod Elements
+pub mod Transitioning
 pub mod Rules
 pub mod Faults

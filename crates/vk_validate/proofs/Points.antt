@@ -1,4 +1,5 @@
 pub mod Areas
 pub mod Reaching
 pub mod Lying
-pub mod SupportedNodes
+pub mod Queues
+pub mod Calm

@@ -110,7 +110,7 @@ fn changes_some(history: &History<'_>, queue: u32, on_image: &ImageElement) -> b
 }
 
 /// Whether an element on a queue is the first half of an ownership transfer.
-fn is_release(queue: u32, families: Families) -> bool
+pub(crate) fn is_release(queue: u32, families: Families) -> bool
     ensures { result ≡ releases (transfer (family_of queue) families) }
 {
     families.source != families.destination && families.source == family_of(queue)

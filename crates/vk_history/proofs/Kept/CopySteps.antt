@@ -36,7 +36,7 @@ use Rattle.vk_touches.specs.TouchedRanges.{reads_at, writes_at, touching}
 use Rattle.vk_history.proofs.Making.Numbers.{IsNumbered, numbered_at, byte_of_buffer, size_of_buffer, buffer_is_resource, copies-targets, copies-targets-other, copies-origins, copies-origins-other}
 use Rattle.vk_history.proofs.Making.Worlds.{copy_leaves, unwritten, used_owner, used_value, used_dirty, loses, turned_about}
 use Rattle.vk_touches.proofs.Touching.Remembering.{touched_by_command, merged_command}
-use Rattle.vk_history.proofs.Kept.NextPoint.{there_for_command, copy_source, copy_destination}
+use Rattle.vk_history.proofs.Kept.NextPoint.{IsWithin, command_there, copy_reads_fit, copy_writes_fit}
 use Rattle.vk_history.proofs.Kept.ContentSteps.{IsOf, IsUntouched, untouched, next_of, of_contents, taken_owner, left_is, used_apart}
 
 -- two changes, one after the other
@@ -321,10 +321,10 @@ copied_step past p clean c s d gs is copies t spot_is old new copied are =
     copies_step past p clean c s d gs is copies now.stretches old now.lent new now.source now.source_alone now.destination now.destination_alone are
 
 -- a copy between buffers copies their numbers
-pub buffers_copied : (past : Past) (p : Point) (clean : fault (p ∷ past) ≡ None) (s d : ℕ) (gs : List BufferCopy) → p.action ≡ Run (cmd.Copy s d gs) → CopiesNumbers past p (cmd.Copy s d gs) s d gs
-buffers_copied past p clean s d gs is =
-    let source = there_for_command past p clean (cmd.Copy s d gs) is s (source_named s d) in
-    let destination = there_for_command past p clean (cmd.Copy s d gs) is d (destination_named s d) in
+pub buffers_copied : (past : Past) (p : Point) (fit : IsWithin past p) (s d : ℕ) (gs : List BufferCopy) → p.action ≡ Run (cmd.Copy s d gs) → CopiesNumbers past p (cmd.Copy s d gs) s d gs
+buffers_copied past p fit s d gs is =
+    let source = command_there past p fit.faultless fit.live fit.range (cmd.Copy s d gs) is s (source_named s d) in
+    let destination = command_there past p fit.faultless fit.live fit.range (cmd.Copy s d gs) is d (destination_named s d) in
     record {
       owner = λ w r. refl;
       dirty = λ w byte. refl;
@@ -335,6 +335,6 @@ buffers_copied past p clean s d gs is =
       unmoved = λ byte. refl;
       source_there = buffer_is_resource past s source;
       destination_there = buffer_is_resource past d destination;
-      reads_fit = λ g c. rw (size_of_buffer past s source) (copy_source past p clean s d gs is g c);
-      writes_fit = λ g c. rw (size_of_buffer past d destination) (copy_destination past p clean s d gs is g c);
+      reads_fit = λ g c. rw (size_of_buffer past s source) (copy_reads_fit past p fit.faultless fit.live fit.range s d gs is g c);
+      writes_fit = λ g c. rw (size_of_buffer past d destination) (copy_writes_fit past p fit.faultless fit.live fit.range s d gs is g c);
     }

@@ -14,7 +14,6 @@ use Rattle.vk_model.specs.declared.entry.Entry.{Entry}
 use Rattle.vk_model.specs.declared.entry.Entry.TheVariants as entry
 use Rattle.vk_model.specs.declared.resource.ImageInfo.{ImageInfo}
 use Rattle.vk_model.specs.Rules.Ids.{is_buffer, is_image}
-use Rattle.vk_model.specs.Rules.Table.{fault}
 use Rattle.vk_model.specs.Trace.Objects.{made, buffer, image, image_in, resource, resource_in}
 use Rattle.vk_model.specs.Trace.Point.{Past, Point, Run}
 use Rattle.vk_model.specs.World.Bytes.{Byte, in_buffer}
@@ -28,7 +27,7 @@ use Rattle.vk_history.specs.declared.resource_contents.ResourceContents.{Resourc
 use Rattle.vk_touches.specs.declared.bytes.Bytes.TheVariants as bytes
 use Rattle.vk_history.specs.Contents.{AreBytesOf, AreContents, AreContentsIn, image_kept, byte_at}
 use Rattle.vk_history.proofs.Making.Numbers.{byte_of_buffer, size_of_buffer, byte_of_image, size_of_image, buffer_is_resource, image_is_resource}
-use Rattle.vk_history.proofs.Kept.NextPoint.{there_for_command, image_for_command, fault_rest}
+use Rattle.vk_history.proofs.Kept.NextPoint.{IsWithin, command_there, image_there}
 use Rattle.vk_history.proofs.Kept.ImageRules.{buffer_small, copy_in_inside, copy_out_inside, copy_image_between}
 use Rattle.vk_history.proofs.Kept.CopySteps.{CopiesNumbers}
 
@@ -75,26 +74,26 @@ pub renamed : (from to source destination : ℕ → Byte) → ((k : ℕ) → fro
 renamed from to source destination same_from same_to gs = flat_same (numbered_writes from to) (numbered_writes source destination) gs (λ g. map_below (λ k. byte_write (to (g.destination_offset + k)) (From (from (g.source_offset + k)))) (λ k. byte_write (destination (g.destination_offset + k)) (From (source (g.source_offset + k)))) g.size
     (λ k lt. rw (same_from (g.source_offset + k), same_to (g.destination_offset + k)) refl))
 
-module _ (past : Past) (p : Point) (clean : fault (p ∷ past) ≡ None) where
-  image_there : (i : ℕ) (m : ImageInfo) → image past i ≡ Some m → is_some (resource past i) ≡ true
-  image_there i m of = image_is_resource past i (ap is_some of)
+module _ (past : Past) (p : Point) (fit : IsWithin past p) where
+  image_stands : (i : ℕ) (m : ImageInfo) → image past i ≡ Some m → is_some (resource past i) ≡ true
+  image_stands i m of = image_is_resource past i (ap is_some of)
 
   -- ---- from a buffer to an image
 
   module _ (b i l : ℕ) (regions : List BufferImageCopy) (is : p.action ≡ Run (cmd.CopyIn b i l regions)) where
     in_there : is_some (buffer past b) ≡ true
-    in_there = there_for_command past p clean (cmd.CopyIn b i l regions) is b (contains-head (b, is_buffer) ((i, is_image) ∷ []))
+    in_there = command_there past p fit.faultless fit.live fit.range (cmd.CopyIn b i l regions) is b (contains-head (b, is_buffer) ((i, is_image) ∷ []))
 
     in_image_of : (m : ImageInfo) × (image past i ≡ Some m)
-    in_image_of = image_for_command past p clean (cmd.CopyIn b i l regions) is i (contains-tail (b, is_buffer) ((i, is_image) ∷ []) (i, is_image) (contains-head (i, is_image) []))
+    in_image_of = image_there past p fit.faultless fit.live fit.range (cmd.CopyIn b i l regions) is i (contains-tail (b, is_buffer) ((i, is_image) ∷ []) (i, is_image) (contains-head (i, is_image) []))
 
-    pub copied_in : (contents : Contents) → AreContents contents past → (gs : List BufferCopy)
-        → ((m : ImageInfo) → image_kept contents i ≡ Some m → (c size : ℕ) → size < 2 ^ 64 → AreInside m size regions → AreCopies (in_buffer c) (byte_of m i) size (byte_count m) (flat_map (copy_in_writes c i (Some m)) regions) gs)
+    pub copied_in : (gs : List BufferCopy)
+        → ((m : ImageInfo) → image past i ≡ Some m → (c size : ℕ) → size < 2 ^ 64 → AreInside m size regions → AreCopies (in_buffer c) (byte_of m i) size (byte_count m) (flat_map (copy_in_writes c i (Some m)) regions) gs)
         → CopiesNumbers past p (cmd.CopyIn b i l regions) b i gs
-    copied_in contents are gs copies =
+    copied_in gs copies =
         let m : ImageInfo = in_image_of.0 in
         let of = in_image_of.1 in
-        let c = copies m (kept_image contents past are i ∙ of) b (buffer_size past b) (buffer_small past (fault_rest past p clean) b in_there) (copy_in_inside past p clean b i l regions is m of) in
+        let c = copies m of b (buffer_size past b) (buffer_small past fit.faultless b in_there) (copy_in_inside past p fit b i l regions is m of) in
         record {
           owner = λ w r. refl;
           dirty = λ w byte. refl;
@@ -104,7 +103,7 @@ module _ (past : Past) (p : Point) (clean : fault (p ∷ past) ≡ None) where
           writes_now = same_image;
           unmoved = λ byte. refl;
           source_there = buffer_is_resource past b in_there;
-          destination_there = image_there i m of;
+          destination_there = image_stands i m of;
           reads_fit = λ g k. rw (size_of_buffer past b in_there) (c.reads_within g k);
           writes_fit = λ g k. rw (size_of_image past i m of) (c.writes_within g k);
         }
@@ -116,18 +115,18 @@ module _ (past : Past) (p : Point) (clean : fault (p ∷ past) ≡ None) where
 
   module _ (i l b : ℕ) (regions : List BufferImageCopy) (is : p.action ≡ Run (cmd.CopyOut i l b regions)) where
     out_there : is_some (buffer past b) ≡ true
-    out_there = there_for_command past p clean (cmd.CopyOut i l b regions) is b (contains-tail (i, is_image) ((b, is_buffer) ∷ []) (b, is_buffer) (contains-head (b, is_buffer) []))
+    out_there = command_there past p fit.faultless fit.live fit.range (cmd.CopyOut i l b regions) is b (contains-tail (i, is_image) ((b, is_buffer) ∷ []) (b, is_buffer) (contains-head (b, is_buffer) []))
 
     out_image_of : (m : ImageInfo) × (image past i ≡ Some m)
-    out_image_of = image_for_command past p clean (cmd.CopyOut i l b regions) is i (contains-head (i, is_image) ((b, is_buffer) ∷ []))
+    out_image_of = image_there past p fit.faultless fit.live fit.range (cmd.CopyOut i l b regions) is i (contains-head (i, is_image) ((b, is_buffer) ∷ []))
 
-    pub copied_out : (contents : Contents) → AreContents contents past → (gs : List BufferCopy)
-        → ((m : ImageInfo) → image_kept contents i ≡ Some m → (c size : ℕ) → size < 2 ^ 64 → AreInside m size regions → AreCopies (byte_of m i) (in_buffer c) (byte_count m) size (flat_map (copy_out_writes i c (Some m)) regions) gs)
+    pub copied_out : (gs : List BufferCopy)
+        → ((m : ImageInfo) → image past i ≡ Some m → (c size : ℕ) → size < 2 ^ 64 → AreInside m size regions → AreCopies (byte_of m i) (in_buffer c) (byte_count m) size (flat_map (copy_out_writes i c (Some m)) regions) gs)
         → CopiesNumbers past p (cmd.CopyOut i l b regions) i b gs
-    copied_out contents are gs copies =
+    copied_out gs copies =
         let m : ImageInfo = out_image_of.0 in
         let of = out_image_of.1 in
-        let c = copies m (kept_image contents past are i ∙ of) b (buffer_size past b) (buffer_small past (fault_rest past p clean) b out_there) (copy_out_inside past p clean i l b regions is m of) in
+        let c = copies m of b (buffer_size past b) (buffer_small past fit.faultless b out_there) (copy_out_inside past p fit i l b regions is m of) in
         record {
           owner = λ w r. refl;
           dirty = λ w byte. refl;
@@ -136,7 +135,7 @@ module _ (past : Past) (p : Point) (clean : fault (p ∷ past) ≡ None) where
               ∙ renamed (byte_of m i) (in_buffer b) (byte_at past i) (byte_at past b) (λ k. sym (byte_of_image past i m of k)) (λ k. sym (byte_of_buffer past b out_there k)) gs;
           writes_now = same_image;
           unmoved = λ byte. refl;
-          source_there = image_there i m of;
+          source_there = image_stands i m of;
           destination_there = buffer_is_resource past b out_there;
           reads_fit = λ g k. rw (size_of_image past i m of) (c.reads_within g k);
           writes_fit = λ g k. rw (size_of_buffer past b out_there) (c.writes_within g k);
@@ -149,20 +148,20 @@ module _ (past : Past) (p : Point) (clean : fault (p ∷ past) ≡ None) where
 
   module _ (s l d k : ℕ) (regions : List ImageCopy) (is : p.action ≡ Run (cmd.CopyImage s l d k regions)) where
     read_of : (m : ImageInfo) × (image past s ≡ Some m)
-    read_of = image_for_command past p clean (cmd.CopyImage s l d k regions) is s (contains-head (s, is_image) ((d, is_image) ∷ []))
+    read_of = image_there past p fit.faultless fit.live fit.range (cmd.CopyImage s l d k regions) is s (contains-head (s, is_image) ((d, is_image) ∷ []))
 
     written_of : (m : ImageInfo) × (image past d ≡ Some m)
-    written_of = image_for_command past p clean (cmd.CopyImage s l d k regions) is d (contains-tail (s, is_image) ((d, is_image) ∷ []) (d, is_image) (contains-head (d, is_image) []))
+    written_of = image_there past p fit.faultless fit.live fit.range (cmd.CopyImage s l d k regions) is d (contains-tail (s, is_image) ((d, is_image) ∷ []) (d, is_image) (contains-head (d, is_image) []))
 
-    pub copied_image : (contents : Contents) → AreContents contents past → (gs : List BufferCopy)
-        → ((m n : ImageInfo) → image_kept contents s ≡ Some m → image_kept contents d ≡ Some n → AreBetween m n regions → AreCopies (byte_of m s) (byte_of n d) (byte_count m) (byte_count n) (flat_map (copy_image_writes s d (Some n)) regions) gs)
+    pub copied_image : (gs : List BufferCopy)
+        → ((m n : ImageInfo) → image past s ≡ Some m → image past d ≡ Some n → AreBetween m n regions → AreCopies (byte_of m s) (byte_of n d) (byte_count m) (byte_count n) (flat_map (copy_image_writes s d (Some n)) regions) gs)
         → CopiesNumbers past p (cmd.CopyImage s l d k regions) s d gs
-    copied_image contents are gs copies =
+    copied_image gs copies =
         let m : ImageInfo = read_of.0 in
         let n : ImageInfo = written_of.0 in
         let of = read_of.1 in
         let to = written_of.1 in
-        let c = copies m n (kept_image contents past are s ∙ of) (kept_image contents past are d ∙ to) (copy_image_between past p clean s l d k regions is m n of to) in
+        let c = copies m n of to (copy_image_between past p fit s l d k regions is m n of to) in
         record {
           owner = λ w r. refl;
           dirty = λ w byte. refl;
@@ -171,8 +170,8 @@ module _ (past : Past) (p : Point) (clean : fault (p ∷ past) ≡ None) where
               ∙ renamed (byte_of m s) (byte_of n d) (byte_at past s) (byte_at past d) (λ k. sym (byte_of_image past s m of k)) (λ k. sym (byte_of_image past d n to k)) gs;
           writes_now = same_image;
           unmoved = λ byte. refl;
-          source_there = image_there s m of;
-          destination_there = image_there d n to;
+          source_there = image_stands s m of;
+          destination_there = image_stands d n to;
           reads_fit = λ g k. rw (size_of_image past s m of) (c.reads_within g k);
           writes_fit = λ g k. rw (size_of_image past d n to) (c.writes_within g k);
         }

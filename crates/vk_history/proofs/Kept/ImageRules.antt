@@ -19,13 +19,13 @@ use Rattle.vk_model.specs.Trace.Objects.{made, made_by, image, image_in, buffer,
 use Rattle.vk_model.specs.Trace.Point.{Past, Point, Action, Host, Wait, Run, Signal, entries, host_of, command_of}
 use Rattle.vk_model.specs.World.Areas.{Area, Box, Rows, Texels, areas_read, areas_written, region_rows, region_box, source_box, destination_box}
 use Rattle.vk_model.specs.World.ByteWrites.{buffer_size}
-use Rattle.vk_model.specs.Rules.Ranges.{breaks_format, breaks_subresource, bad_area, bad_box, bad_subresource, area_past, command_past, host_past, region_past, texels_differ}
+use Rattle.vk_model.specs.Rules.Ranges.{bad_area, bad_box, bad_subresource, area_past, command_past, host_past, region_past, texels_differ}
 use Rattle.vk_model.specs.Rules.Sizes.{bad_image, bad_entry_size, bad_memory_size}
 use Rattle.vk_model.specs.Rules.Table.{fault, breaks}
 use Rattle.vk_model.proofs.Lists.Members.{member_passes, map_has}
 use Rattle.vk_model.proofs.Lists.Truths.{clash}
 use Rattle.vk_image_bytes.specs.Copies.{AreInside, AreBetween}
-use Rattle.vk_history.proofs.Kept.NextPoint.{unbroken, within_range, fault_rest}
+use Rattle.vk_history.proofs.Kept.NextPoint.{IsWithin, unbroken, fault_rest}
 
 -- ---- what was made
 
@@ -90,22 +90,14 @@ module _ (past : Past) (clean : fault past ≡ None) where
 fails : {X : Type 0} (f : X → Bool) (xs : List X) (x : X) → list_any f xs ≡ false → Contains xs x → f x ≡ false
 fails f xs x none c = false_from_ne_true (f x) (λ yes. clash (member_passes f xs x c yes) none)
 
-module _ (past : Past) (p : Point) (clean : fault (p ∷ past) ≡ None) (c : Cmd) (is : p.action ≡ Run c) where
-  subresource : breaks_subresource past p ≡ false
-  unfolding breaks
-  subresource = unbroken past p clean rule.Subresource
-
-  format : breaks_format past p ≡ false
-  unfolding breaks
-  format = unbroken past p clean rule.Format
-
+module _ (past : Past) (p : Point) (fit : IsWithin past p) (c : Cmd) (is : p.action ≡ Run c) where
   -- the areas that it reads and writes lie in images and buffers
   good_areas : list_any (bad_area past) (areas_read past c ++ areas_written past c) ≡ false
-  good_areas = (or_parts _ _ (subst (λ (d : Action). holds (command_of d) (bad_subresource past) ≡ false) is subresource)).0
+  good_areas = (or_parts _ _ (subst (λ (d : Action). holds (command_of d) (bad_subresource past) ≡ false) is fit.subresource)).0
 
   near_areas : list_any (area_past past) (areas_read past c ++ areas_written past c) ≡ false
   near_areas =
-      let whole : command_past past c ≡ false = subst (λ (d : Action). (holds (host_of d) (host_past past) || holds (command_of d) (command_past past)) ≡ false) is (within_range past p clean) in
+      let whole : command_past past c ≡ false = subst (λ (d : Action). (holds (host_of d) (host_past past) || holds (command_of d) (command_past past)) ≡ false) is fit.range in
       (or_parts _ _ (or_parts _ _ (or_parts _ _ whole).0).0).0
 
   parts : (test : Area → Bool) → list_any test (areas_read past c ++ areas_written past c) ≡ false → (list_any test (areas_read past c) ≡ false) × (list_any test (areas_written past c) ≡ false)
@@ -127,29 +119,29 @@ module _ (past : Past) (p : Point) (clean : fault (p ∷ past) ≡ None) (c : Cm
 rows_has : (past : Past) (b i : ℕ) (m : ImageInfo) (gs : List BufferImageCopy) (g : BufferImageCopy) → image past i ≡ Some m → Contains gs g → Contains (region_rows past b i gs) (Rows b (texel m.format) g)
 rows_has past b i m gs g of c = subst (λ (o : Option ImageInfo). Contains (let rows : List Area = elim o [ None ↦ [] | Some m ↦ map (Rows b (texel m.format)) gs ] in rows) (Rows b (texel m.format) g)) (sym of) (map_has (Rows b (texel m.format)) gs g c)
 
-module _ (past : Past) (p : Point) (clean : fault (p ∷ past) ≡ None) where
+module _ (past : Past) (p : Point) (fit : IsWithin past p) where
   -- the regions of a copy from a buffer lie in both
   pub copy_in_inside : (b i l : ℕ) (gs : List BufferImageCopy) → p.action ≡ Run (cmd.CopyIn b i l gs) → (m : ImageInfo) → image past i ≡ Some m → AreInside m (buffer_size past b) gs
   copy_in_inside b i l gs is m of g c = record {
-    box = written_good past p clean (cmd.CopyIn b i l gs) is i m of (region_box g) (map_has (λ g. Texels i (region_box g)) gs g c);
-    rows = read_near past p clean (cmd.CopyIn b i l gs) is b (texel m.format) g (rows_has past b i m gs g of c);
+    box = written_good past p fit (cmd.CopyIn b i l gs) is i m of (region_box g) (map_has (λ g. Texels i (region_box g)) gs g c);
+    rows = read_near past p fit (cmd.CopyIn b i l gs) is b (texel m.format) g (rows_has past b i m gs g of c);
   }
 
   -- and those of one to a buffer
   pub copy_out_inside : (i l b : ℕ) (gs : List BufferImageCopy) → p.action ≡ Run (cmd.CopyOut i l b gs) → (m : ImageInfo) → image past i ≡ Some m → AreInside m (buffer_size past b) gs
   copy_out_inside i l b gs is m of g c = record {
-    box = read_good past p clean (cmd.CopyOut i l b gs) is i m of (region_box g) (map_has (λ g. Texels i (region_box g)) gs g c);
-    rows = written_near past p clean (cmd.CopyOut i l b gs) is b (texel m.format) g (rows_has past b i m gs g of c);
+    box = read_good past p fit (cmd.CopyOut i l b gs) is i m of (region_box g) (map_has (λ g. Texels i (region_box g)) gs g c);
+    rows = written_near past p fit (cmd.CopyOut i l b gs) is b (texel m.format) g (rows_has past b i m gs g of c);
   }
 
   -- those of a copy of images lie in them, and their texels have one size
   pub copy_image_between : (s l d k : ℕ) (gs : List ImageCopy) → p.action ≡ Run (cmd.CopyImage s l d k gs) → (m n : ImageInfo) → image past s ≡ Some m → image past d ≡ Some n → AreBetween m n gs
   copy_image_between s l d k gs is m n read written = record {
     texels = eqb-true (texel m.format) (texel n.format) (not-false (texel m.format == texel n.format) same);
-    sources = λ g c. read_good past p clean (cmd.CopyImage s l d k gs) is s m read (source_box g) (map_has (λ g. Texels s (source_box g)) gs g c);
-    destinations = λ g c. written_good past p clean (cmd.CopyImage s l d k gs) is d n written (destination_box g) (map_has (λ g. Texels d (destination_box g)) gs g c);
+    sources = λ g c. read_good past p fit (cmd.CopyImage s l d k gs) is s m read (source_box g) (map_has (λ g. Texels s (source_box g)) gs g c);
+    destinations = λ g c. written_good past p fit (cmd.CopyImage s l d k gs) is d n written (destination_box g) (map_has (λ g. Texels d (destination_box g)) gs g c);
   } where
     same : not (texel m.format == texel n.format) ≡ false
     same =
-        let differ : texels_differ past (cmd.CopyImage s l d k gs) ≡ false = subst (λ (d : Action). holds (command_of d) (texels_differ past) ≡ false) is (format past p clean (cmd.CopyImage s l d k gs) is) in
+        let differ : texels_differ past (cmd.CopyImage s l d k gs) ≡ false = subst (λ (d : Action). holds (command_of d) (texels_differ past) ≡ false) is fit.format in
         rw (read, written) at differ

@@ -51,7 +51,7 @@ module _ (i : ℕ) (color : List ℕ) (m : ImageInfo) where
   abbrev bytes : SubresourceRange → List Byte
   bytes r = map (λ p. p.0) (subresource_bytes i m r)
 
-  one_targets : (ps : List (Byte × ℕ)) → targets (map (clear_write m color) ps) ≡ map (λ p. p.0) ps
+  pub one_targets : (ps : List (Byte × ℕ)) → targets (map (clear_write m color) ps) ≡ map (λ p. p.0) ps
   one_targets [] = refl
   one_targets (p ∷ ps) = ap (λ (bs : List Byte). p.0 ∷ bs) (one_targets ps)
 
@@ -60,7 +60,7 @@ module _ (i : ℕ) (color : List ℕ) (m : ImageInfo) where
   one_origins (p ∷ ps) = one_origins ps
 
   -- it reads nothing
-  clear_origins : (rs : List SubresourceRange) → origins (flat_map (clear_writes i color (Some m)) rs) ≡ []
+  pub clear_origins : (rs : List SubresourceRange) → origins (flat_map (clear_writes i color (Some m)) rs) ≡ []
   clear_origins [] = refl
   clear_origins (r ∷ rs) =
       filter_map-append (λ (w : ByteWrite). origin w.source) (clear_writes i color (Some m) r) (flat_map (clear_writes i color (Some m)) rs)

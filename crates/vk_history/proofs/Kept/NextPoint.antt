@@ -19,7 +19,7 @@ use Rattle.vk_model.specs.Trace.Objects.{made, made_by, live, ended, buffer, ima
 use Rattle.vk_model.specs.World.Areas.{Area, Bytes, areas_read, areas_written}
 use Rattle.vk_model.specs.World.ByteWrites.{buffer_size, fill_size}
 use Rattle.vk_model.specs.Rules.Ids.{breaks_new_id, breaks_live_id, is_dead, is_buffer, is_image, until, asked_by, asked_by_entry, asked_by_command, lists_stray}
-use Rattle.vk_model.specs.Rules.Ranges.{breaks_range, area_past, host_past, command_past}
+use Rattle.vk_model.specs.Rules.Ranges.{breaks_range, breaks_format, breaks_subresource, area_past, host_past, command_past}
 use Rattle.vk_model.specs.Rules.Table.{fault, breaks}
 use Rattle.vk_model.specs.Rules.Fault.{newest}
 use Rattle.vk_model.proofs.Rules.Fault.{unbroken_of_none, fault-cons_none}
@@ -36,6 +36,14 @@ judged_rest past p j = record { supported = (supported-cons p past j.supported).
 -- what came before a point without a fault has none
 pub fault_rest : (past : Past) (p : Point) → fault (p ∷ past) ≡ None → fault past ≡ None
 fault_rest past p clean = (fault-cons_none past p clean).0
+
+-- a point that comes next breaks none of the rules on what it names and reaches
+pub record IsWithin (past : Past) (p : Point) : Type 0 where
+  pub faultless : fault past ≡ None
+  pub live : breaks_live_id past p ≡ false
+  pub range : breaks_range past p ≡ false
+  pub format : breaks_format past p ≡ false
+  pub subresource : breaks_subresource past p ≡ false
 
 -- what is named is there, of the kind asked
 live_there : (past : Past) (r : ℕ) (kind : Entry → Bool) → holds (live past r) kind ≡ true → (x : Entry) × (made past r ≡ Some x) × (kind x ≡ true)
@@ -81,6 +89,13 @@ module _ (past : Past) (p : Point) (faultless : fault past ≡ None) (live_id : 
 
   pub command_there : (c : Cmd) → p.action ≡ Run c → (b : ℕ) → Contains (asked_by_command c) (b, is_buffer) → is_some (buffer past b) ≡ true
   command_there c is b m = let was = named_by_command c is b is_buffer m in rw (was.1) (was.2)
+
+  -- an image that it names
+  pub image_there : (c : Cmd) → p.action ≡ Run c → (i : ℕ) → Contains (asked_by_command c) (i, is_image) → (m : ImageInfo) × (image past i ≡ Some m)
+  image_there c is i named = let was = named_by_command c is i is_image named in go (image_in was.0) refl was.1 was.2 where
+    go : {x : Entry} (o : Option ImageInfo) → image_in x ≡ o → made past i ≡ Some x → is_some (image_in x) ≡ true → (m : ImageInfo) × (image past i ≡ Some m)
+    go None e made some = absurd (let bad : false ≡ true = rw e at some in cc)
+    go (Some m) e made some = (m, rw made e)
 
   -- the ranges that they name lie in their buffers
   host_in : (x : Entry) → p.action ≡ Host x → host_past past x ≡ false
@@ -144,18 +159,11 @@ module _ (past : Past) (p : Point) (clean : fault (p ∷ past) ≡ None) where
   pub there_for_command : (c : Cmd) → p.action ≡ Run c → (b : ℕ) → Contains (asked_by_command c) (b, is_buffer) → is_some (buffer past b) ≡ true
   there_for_command = command_there past p (fault_rest past p clean) live_id within_range
 
-  pub copy_source : (s d : ℕ) (gs : List BufferCopy) → p.action ≡ Run (cmd.Copy s d gs) → (g : BufferCopy) → Contains gs g → g.source_offset + g.size ≤ buffer_size past s
-  copy_source = copy_reads_fit past p (fault_rest past p clean) live_id within_range
-
-  pub copy_destination : (s d : ℕ) (gs : List BufferCopy) → p.action ≡ Run (cmd.Copy s d gs) → (g : BufferCopy) → Contains gs g → g.destination_offset + g.size ≤ buffer_size past d
-  copy_destination = copy_writes_fit past p (fault_rest past p clean) live_id within_range
-
   -- the image that a command names
   pub image_for_command : (c : Cmd) → p.action ≡ Run c → (i : ℕ) → Contains (asked_by_command c) (i, is_image) → (m : ImageInfo) × (image past i ≡ Some m)
-  image_for_command c is i named =
-      let was = named_by_command past p (fault_rest past p clean) live_id within_range c is i is_image named in
-      go (image_in was.0) refl was.1 was.2
-    where
-      go : {x : Entry} (o : Option ImageInfo) → image_in x ≡ o → made past i ≡ Some x → is_some (image_in x) ≡ true → (m : ImageInfo) × (image past i ≡ Some m)
-      go None e made some = absurd (let bad : false ≡ true = rw e at some in cc)
-      go (Some m) e made some = (m, rw made e)
+  image_for_command = image_there past p (fault_rest past p clean) live_id within_range
+
+  -- so all that it names is there, and it reaches past nothing
+  pub clean_within : IsWithin past p
+  unfolding breaks
+  clean_within = record { faultless = fault_rest past p clean; live = live_id; range = within_range; format = unbroken rule.Format; subresource = unbroken rule.Subresource }

@@ -181,7 +181,7 @@ module _ (byte : ℕ → Byte) (size r : ℕ) (numbered : IsNumbered byte size r
 -- ---- what copies of numbers write and read
 
 module _ (from to : ℕ → Byte) where
-  targets_flat : (gs : List BufferCopy) → targets (flat_map (numbered_writes from to) gs) ≡ flat_map (λ g. map (λ j. to (g.destination_offset + j)) (below g.size)) gs
+  pub targets_flat : (gs : List BufferCopy) → targets (flat_map (numbered_writes from to) gs) ≡ flat_map (λ g. map (λ j. to (g.destination_offset + j)) (below g.size)) gs
   targets_flat [] = refl
   targets_flat (g ∷ gs) =
       map-append (λ (m : ByteWrite). m.to) (numbered_writes from to g) (flat_map (numbered_writes from to) gs)
@@ -191,7 +191,7 @@ module _ (from to : ℕ → Byte) where
   one_origins g [] = refl
   one_origins g (k ∷ ks) = ap (λ (bs : List Byte). from (g.source_offset + k) ∷ bs) (one_origins g ks)
 
-  origins_flat : (gs : List BufferCopy) → origins (flat_map (numbered_writes from to) gs) ≡ flat_map (λ g. map (λ j. from (g.source_offset + j)) (below g.size)) gs
+  pub origins_flat : (gs : List BufferCopy) → origins (flat_map (numbered_writes from to) gs) ≡ flat_map (λ g. map (λ j. from (g.source_offset + j)) (below g.size)) gs
   origins_flat [] = refl
   origins_flat (g ∷ gs) =
       filter_map-append (λ (m : ByteWrite). origin m.source) (numbered_writes from to g) (flat_map (numbered_writes from to) gs)

@@ -4,7 +4,7 @@ ghost use Rattle.vk_model.specs.declared.entry.Entry.{Entry as AnyEntry};
 ghost use Rattle.vk_model.specs.Sync.Node.{Node, nodes, Hosts, Depends, Barrier};
 ghost use Rattle.vk_model.specs.Sync.Before.{before};
 ghost use Rattle.vk_model.specs.Sync.Complete.{is_busy};
-ghost use Rattle.vk_order.specs.Frontiers.{IsFrontier, IsSight};
+ghost use Rattle.vk_order.specs.Frontiers.{IsSight};
 ghost use Rattle.vk_touches.specs.Touched.{next_node};
 ghost use Rattle.vk_model.specs.Trace.Objects.{is_exclusive, image};
 ghost use Rattle.vk_order.specs.Inner.Clocks.{place};
@@ -15,14 +15,16 @@ ghost use Rattle.vk_history.specs.Owners.{IsOwned, kept_of};
 ghost use Rattle.vk_model.specs.World.Effect.{world};
 ghost use Rattle.vk_model.specs.Rules.Layouts.{has_other_layout};
 ghost use Rattle.vk_history.specs.Contents.{AreBytesOf};
+ghost use Rattle.vk_history.specs.Known.{IsKnownAt};
 ghost use Rattle.vk_history.specs.PointViews.{past};
 
+use crate::element_parts::ElementPart;
 use crate::history::History;
 use crate::owners::Owned;
 use std::alloc::AllocError;
 use vk_model::{Element, Layout, SubresourceRange};
-use vk_order::{Act, Part, Point, Sight, Spot};
-use vk_touches::{Bytes, TransitionAccess};
+use vk_order::{Act, Point, Sight, Spot};
+use vk_touches::Bytes;
 
 impl<'a> History<'a> {
     /// Whether all subresources of a range of an image are in a layout.
@@ -67,8 +69,35 @@ impl<'a> History<'a> {
         ensures { IfOk result (λ r. (m n : Node) → n ≡ next_node (past self.now) (point_of point.now) (Depends Barrier element.now) → IsApartFrom (nodes (past self.now)) n
             → Contains (nodes (past self.now)) m → line_of m ≡ Some spot.line → place (nodes (past self.now)) spot.line m.number ≡ spot.place → r ≡ before (n ∷ nodes (past self.now)) m n) }
     {
-        let sight = self.tables.frontier.sight(point, &Act::Barrier(element))?;
+        let sight = self.element_sight(point, element)?;
         Ok(sight.follows(spot.line, spot.place))
+    }
+
+    /// What an element of a barrier that comes next has before it, and what it sees.
+    pub fn element_sight(&self, point: &Point<'_>, element: &Element) -> Result<Sight, AllocError>
+        ensures { IfOk result (λ s. (n : Node) → n ≡ next_node (past self.now) (point_of point.now) (Depends Barrier element.now) → IsApartFrom (nodes (past self.now)) n → IsSight (nodes (past self.now)) n s) }
+    {
+        self.tables.frontier.sight(point, &Act::Barrier(element))
+    }
+
+    /// What is known at such an element, where it is on a part of memory.
+    pub fn element_part(
+        &self,
+        point: &Point<'_>,
+        element: &Element,
+    ) -> Result<Option<ElementPart<'_>>, AllocError>
+        ensures { IfOk result (λ known. (n : Node) → n ≡ next_node (past self.now) (point_of point.now) (Depends Barrier element.now) → IsApartFrom (nodes (past self.now)) n → IsKnownAt (past self.now) n known) }
+    {
+        let act = Act::Barrier(element);
+        let sight = self.tables.frontier.sight(point, &act)?;
+        let known = self.tables.frontier.part(point, &act, &sight)?;
+        match known {
+            Some(part) => Ok(Some(ElementPart {
+                frontier: &self.tables.frontier,
+                part,
+            })),
+            None => Ok(None),
+        }
     }
 
     /// The bytes of a resource, by their numbers.
@@ -89,20 +118,6 @@ impl<'a> History<'a> {
         match self.tables.contents.image(id) {
             Some(bytes) => Bytes::Image { id, levels, bytes },
             None => unreachable!(),
-        }
-    }
-
-    /// How an element of a barrier that comes next, at which this is known, accesses an image as a
-    /// layout transition.
-    pub fn transition_access<'b>(&'b self, part: &'b Part, image: u32) -> TransitionAccess<'b>
-        ensures frontier { IsFrontier result.frontier.now (nodes (past self.now)) }
-        ensures part { result.part.now ≡ part.now }
-        ensures bytes { AreBytesOf (past self.now) image result.bytes }
-    {
-        TransitionAccess {
-            frontier: &self.tables.frontier,
-            part,
-            bytes: self.bytes(image),
         }
     }
 }

@@ -1,11 +1,12 @@
 -- What is found among the items of a list, one after another.
-use Rattle.std.proofs.Common.{◌≡◌, ◌<◌, ◌≤◌, ◌+◌, ℕ, List, [], ◌∷◌, ◌++◌, length, take, get_or, Bool, true, false, subst, ap, ◌∙◌, arith, ⊎_elim, inl, inr, ◌⊎◌}
+use Rattle.std.proofs.Common.{◌≡◌, ◌<◌, ◌≤◌, ◌+◌, ◌*◌, ℕ, List, [], ◌∷◌, ◌++◌, length, take, get_or, Bool, true, false, below_more, subst, ap, ◌∙◌, arith, ⊎_elim, inl, inr, ◌⊎◌}
 use Rattle.std.specs.Prelude.{Contains}
 use Rattle.std.proofs.Math.Seq.{take-length}
 use Rattle.std.proofs.lemmas.List.{take_more}
 use Rattle.std.proofs.lemmas.Option.{slice_get-get_or}
 use Rattle.vk_model.proofs.Lists.Members.{contains-cons, contains-head, contains-tail, only_one, place_has}
-use Rattle.vk_touches.specs.Conflicts.{FoundAmong}
+use Rattle.vk_image_bytes.specs.declared.ranges.ByteRanges.{ByteRanges}
+use Rattle.vk_touches.specs.Conflicts.{FoundAmong, FoundInRanges}
 
 module _ {A : Type 0} (is : Bool → A → Type 0) where
   in_either : (xs ys : List A) (a : A) → Contains (xs ++ ys) a → Contains xs a ⊎ Contains ys a
@@ -26,3 +27,22 @@ module _ {A : Type 0} (is : Bool → A → Type 0) where
   -- no item is
   pub none_at_all : (xs : List A) (i : ℕ) → i ≤ length xs → length xs ≤ i → FoundAmong is false (take i xs) → FoundAmong is false xs
   none_at_all xs i first last none = let all : i ≡ length xs = omega (arith, first, last) in subst (λ (l : List A). FoundAmong is false l) (ap (λ (n : ℕ). take n xs) all ∙ take-length xs) none
+
+-- ---- ranges of numbers, one after another
+
+module _ (is : Bool → (low high : ℕ) → Type 0) (s : ByteRanges) where
+  -- none of the first ones is such
+  abbrev pub NoneBelow : ℕ → Type 0
+  NoneBelow i = (n : ℕ) → n < i → is false (s.first + n * s.step) (s.first + n * s.step + s.size)
+
+  -- nor is the next
+  pub none_further : (i low : ℕ) → low ≡ s.first + i * s.step → NoneBelow i → is false low (low + s.size) → NoneBelow (i + 1)
+  none_further i low at first next = below_more (λ n. is false (s.first + n * s.step) (s.first + n * s.step + s.size)) i first (subst (λ (l : ℕ). is false l (l + s.size)) at next)
+
+  -- the next is
+  pub some_range : (i low : ℕ) → low ≡ s.first + i * s.step → i < s.count → is true low (low + s.size) → FoundInRanges is true s
+  some_range i low at lt h = (i, lt, subst (λ (l : ℕ). is true l (l + s.size)) at h)
+
+  -- none of them is
+  pub none_in_all : (i : ℕ) → s.count ≤ i → NoneBelow i → FoundInRanges is false s
+  none_in_all i all none = λ n lt. none n (omega (arith, lt, all))

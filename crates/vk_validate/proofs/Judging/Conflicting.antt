@@ -28,7 +28,7 @@ use Rattle.vk_touches.specs.Touched.{next_node, act_next, touched}
 use Rattle.vk_touches.proofs.Touching.LastHazards.{StaysCached, OnQueues, raw_is, waw_is, war_is}
 use Rattle.vk_touches.proofs.Judging.Ways as ways
 use Rattle.vk_history.specs.Judged.{IsJudged}
-use Rattle.vk_validate.proofs.Points.SupportedNodes.{queue_low}
+use Rattle.vk_validate.proofs.Points.Queues.{queue_low}
 
 -- a sight that an access has
 pub sight_of : (past : Past) (n : Node) (s : Sight) (b : Bytes) (a : Access) (x : ResourceAccess) → IsAccess past s b a x → IsSight (nodes past) n s → IsSight (nodes past) n x.sight.now

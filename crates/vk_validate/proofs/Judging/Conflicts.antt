@@ -1,7 +1,7 @@
 -- What is wrong with the bytes that a point accesses, by what it does.
-use Rattle.std.proofs.Common.{◌≡◌, ◌≤◌, ◌+◌, ℕ, List, [], ◌∷◌, slice_get, length, cond, Bool, true, false, not, refl, ap, sym, ◌∙◌, subst, Some, None, zero, suc, arith}
+use Rattle.std.proofs.Common.{◌≡◌, ◌≤◌, ◌+◌, ℕ, List, [], ◌∷◌, map, length, Bool, true, false, not, refl, ap, sym, ◌∙◌, subst, Some, arith}
 use Rattle.std.specs.Prelude.{Contains, IsTrue, is_none}
-use Rattle.std.specs.List.{find, list_any, flat_map}
+use Rattle.std.specs.List.{list_any, flat_map}
 use Rattle.vk_model.specs.declared.command.BufferCopy.{BufferCopy}
 use Rattle.vk_model.specs.declared.command.Cmd.{Cmd}
 use Rattle.vk_model.specs.declared.command.Cmd.TheVariants as cmd
@@ -9,19 +9,16 @@ use Rattle.vk_model.specs.declared.command.Length.{Length}
 use Rattle.vk_model.specs.declared.entry.Entry.TheVariants as entry
 use Rattle.vk_model.specs.declared.rule.Rule.TheVariants as rule
 use Rattle.vk_model.specs.World.Bytes.{Byte, in_buffer, resource_at}
-use Rattle.vk_model.specs.World.ByteWrites.{buffer_size, fill_size, byte_writes}
+use Rattle.vk_model.specs.World.ByteWrites.{buffer_size, fill_size, byte_writes, subresource_bytes}
 use Rattle.vk_model.specs.World.Effect.{world}
-use Rattle.vk_model.specs.Trace.Objects.{is_cached}
+use Rattle.vk_model.specs.Trace.Objects.{image, is_cached}
 use Rattle.vk_model.specs.Trace.Point.{Past, Point, Action, Host, Run}
 use Rattle.vk_model.specs.Sync.Node.{Act, Hosts, Runs, acts, nodes}
 use Rattle.vk_model.specs.Sync.Edge.{is_host}
 use Rattle.vk_model.specs.Sync.Seen.{Read, invalidates}
 use Rattle.vk_model.specs.Sync.Access.{reads, writes, reads_of, writes_of, bytes_of, targets, origins}
-use Rattle.vk_model.specs.Rules.Ids.{breaks_live_id}
-use Rattle.vk_model.specs.Rules.Ranges.{breaks_range}
 use Rattle.vk_model.specs.Rules.Hazards.{breaks_hazard_war, breaks_hazard_raw, breaks_hazard_waw, breaks_read_undefined}
-use Rattle.vk_model.specs.Rules.Table.{breaks}
-use Rattle.vk_model.proofs.Lists.Members.{all_passes, only_one}
+use Rattle.vk_model.proofs.Lists.Members.{only_one}
 use Rattle.vk_order.specs.Frontiers.{IsSight}
 use Rattle.vk_order.specs.Prefixes.{LinePrefix}
 use Rattle.vk_order.specs.Cached.{FlushedSeen, UnflushedSeen, InvalidatedSeen, UninvalidatedSeen}
@@ -31,19 +28,14 @@ use Rattle.vk_order.specs.declared.access.Access.{Access}
 use Rattle.vk_order.specs.declared.access.Access.TheVariants as access
 use Rattle.vk_order.specs.declared.sights.Sight.{Sight}
 use Rattle.vk_history.specs.declared.resource_contents.ResourceContents.{ResourceContents}
-use Rattle.vk_touches.specs.declared.found.Conflicts.{Conflicts}
-use Rattle.vk_history.specs.Supported.{is_supported_action}
-use Rattle.vk_history.specs.Changes.{is_quiet}
 use Rattle.vk_touches.specs.declared.accesses.ResourceAccess.{ResourceAccess}
 use Rattle.vk_touches.specs.declared.bytes.Bytes.{Bytes}
 use Rattle.vk_touches.specs.Bytes.{numbered_byte}
 use Rattle.vk_touches.specs.Conflicts.{AreConflicts, IsAccess, FoundIn, FoundAt, FoundAmong, Misses, MissesRead, MissesWrite, IsEarly, HasEarlyCommand}
-use Rattle.vk_history.specs.Contents.{AreBufferContents, is_defined}
-use Rattle.vk_history.specs.Judged.{IsJudged, early_rules, first_among}
+use Rattle.vk_history.specs.Contents.{AreBytesOf, AreContentsOf, AreBufferContents, is_defined, byte_at, size_at}
+use Rattle.vk_history.specs.Judged.{IsJudged}
 use Rattle.vk_touches.specs.Touched.{next_node, act_next, touched}
-use Rattle.vk_history.proofs.Points.Forms.{entry_cases, command_cases, action_cases}
-use Rattle.vk_history.proofs.Points.Ranges.{fill-targets, fill-origins, update-targets, update-origins, copy-targets-flat, copy-origins-flat}
-use Rattle.vk_validate.proofs.Points.SupportedNodes.{is_supported_act, supported_acts, is_calm, calm, calm_acts, calm_accesses}
+use Rattle.vk_history.proofs.Points.Ranges.{fill-targets, fill-origins, update-targets, update-origins}
 use Rattle.vk_touches.proofs.Touching.LastHazards.{StaysCached}
 use Rattle.vk_validate.proofs.Judging.Quiet.{no_war, no_raw, no_waw}
 use Rattle.vk_validate.proofs.Judging.Conflicting.{sight_of, missed_by, early_by, missed_is, raw_rule, waw_rule, war_rule}
@@ -51,53 +43,12 @@ use Rattle.vk_touches.proofs.Judging.Ways as ways
 use Rattle.vk_touches.proofs.Judging.Found.{any_found, numbers_found}
 use Rattle.vk_touches.proofs.Judging.Commands as found
 use Rattle.vk_touches.proofs.Judging.Commands.{IsKept}
-
--- ---- what isn't broken
-
-none_passes : {A : Type 0} (test : A → Bool) (xs : List A) (x : A) (i : ℕ) → find test xs ≡ None → slice_get xs i ≡ Some x → test x ≡ false
-none_passes test [] x i none at = absurd cc
-none_passes {A} test (y ∷ ys) x i none at = go (test y) refl none i at (λ k. none_passes test ys x k) where
-  go : (b : Bool) → test y ≡ b → cond b (Some y) (find test ys) ≡ None → (i : ℕ) → slice_get (y ∷ ys) i ≡ Some x → ((k : ℕ) → find test ys ≡ None → slice_get ys k ≡ Some x → test x ≡ false) → test x ≡ false
-  go true e none i at rest = absurd cc
-  go false e none zero at rest = let same : y ≡ x = cc in ap test (sym same) ∙ e
-  go false e none (suc i) at rest = rest i none at
-
-module _ (past : Past) (p : Point) (early : first_among early_rules past p ≡ None) where
-  pub early_live : breaks_live_id past p ≡ false
-  unfolding breaks
-  early_live = none_passes (λ r. breaks r past p) early_rules rule.LiveId 1 early refl
-
-  pub early_range : breaks_range past p ≡ false
-  unfolding breaks
-  early_range = none_passes (λ r. breaks r past p) early_rules rule.Range 12 early refl
-
--- ---- a point that accesses no bytes
-
-module _ (past : Past) (p : Point) (now : is_supported_action p.action ≡ true) where
-  abbrev nothing : Conflicts
-  nothing = record { war = false; raw = false; waw = false; undefined = false }
-
-  pub calm_conflicts : calm p.action ≡ true → AreConflicts nothing past p
-  calm_conflicts is_so = record {
-    war = sym (no_war past p (λ a c q. (quiet_act a c q).1));
-    raw = sym (no_raw past p (λ a c q. (quiet_act a c q).0));
-    waw = sym (no_waw past p (λ a c q. (quiet_act a c q).1));
-    undefined = undefined p.action now is_so;
-  } where
-    quiet_act : (a : Act) → Contains (acts p.action) a → (q : ℕ) → (reads_of (p ∷ past) q a ≡ []) × (writes_of (p ∷ past) q a ≡ [])
-    quiet_act a c q = calm_accesses (p ∷ past) q a (all_passes is_supported_act (acts p.action) a (supported_acts p.action now) c) (all_passes is_calm (acts p.action) a (calm_acts p.action now is_so) c)
-
-    undefined : (d : Action) → is_supported_action d ≡ true → calm d ≡ true → false ≡ breaks_read_undefined past (record p { action = d })
-    undefined = let P : Action → Type 0 = λ d. calm d ≡ true → false ≡ breaks_read_undefined past (record p { action = d }) in
-        action_cases P (entry_cases (λ x. P (Host x)) (λ i b t at c. refl) (λ i b m o at c. refl) (λ i m c. refl) (λ m c. refl) (λ r c. refl) (λ b c. refl) (λ b c. refl) (λ b o bytes c. refl) (λ b o n c. absurd cc) (λ b o n c. refl) (λ b o n c. refl) (λ i v c. refl) (λ i c. refl) (λ s v c. refl) (λ ws c. refl) (λ q bs c. refl)) (λ s c. refl)
-        (command_cases (λ c. P (Run c)) (λ b o n w c. refl) (λ b o bytes c. refl) (λ s d gs c. refl) (λ es all c. refl) (λ v ms c. refl) (λ v ms c. refl)) (λ s c. refl)
-
-  pub quiet_conflicts : is_quiet p.action ≡ true → AreConflicts nothing past p
-  quiet_conflicts h = calm_conflicts (go p.action now h) where
-    go : (d : Action) → is_supported_action d ≡ true → is_quiet d ≡ true → calm d ≡ true
-    go = let P : Action → Type 0 = λ d. is_quiet d ≡ true → calm d ≡ true in
-        action_cases P (entry_cases (λ x. P (Host x)) (λ i b t at c. refl) (λ i b m o at c. refl) (λ i m c. refl) (λ m c. refl) (λ r c. refl) (λ b c. refl) (λ b c. refl) (λ b o bytes c. absurd cc) (λ b o n c. absurd cc) (λ b o n c. absurd cc) (λ b o n c. absurd cc) (λ i v c. refl) (λ i c. refl) (λ s v c. refl) (λ ws c. refl) (λ q bs c. refl)) (λ s c. refl)
-        (command_cases (λ c. P (Run c)) (λ b o n w c. absurd cc) (λ b o bytes c. absurd cc) (λ s d gs c. absurd cc) (λ es all c. refl) (λ v ms c. refl) (λ v ms c. refl)) (λ s c. refl)
+use Rattle.vk_model.specs.declared.command.SubresourceRange.{SubresourceRange}
+use Rattle.vk_model.specs.declared.resource.ImageInfo.{ImageInfo}
+use Rattle.vk_image_bytes.specs.Copies.{numbered_writes}
+use Rattle.vk_history.proofs.Making.Numbers.{numbered_at, byte_of_image, size_of_image, targets_flat, origins_flat}
+use Rattle.vk_touches.proofs.Judging.Covered.{AreThere}
+use Rattle.vk_validate.specs.Inner.Subresources.{FoundInSubresources}
 
 -- ---- a host read
 
@@ -239,8 +190,11 @@ module _ (past : Past) (judged : IsJudged past) (p : Point) (c : Cmd) (is : p.ac
     run_ahead : (b : Byte) (r : Bool) → IsEarly s r (touched past b) → run_early b ≡ r
     run_ahead = ways.command_early past judged.faultless p run_steady run_alone run_keeps s sights run_device
 
-    kept : (u : ResourceContents) (b : ℕ) → AreBufferContents u past b → (x : ResourceAccess) → ((k : ℕ) → numbered_byte x.bytes k ≡ in_buffer b k) → IsKept past x.bytes (in_buffer b) (buffer_size past b) u.is_cached u.touches
-    kept u b are x of = record { named = of; remembered = are.touches; cache = λ k. are.cache }
+    kept_of_buffer : (u : ResourceContents) (b : ℕ) → AreBufferContents u past b → (x : ResourceAccess) → ((k : ℕ) → numbered_byte x.bytes k ≡ in_buffer b k) → IsKept past x.bytes (in_buffer b) (buffer_size past b) u.is_cached u.touches
+    kept_of_buffer u b are x of = record { named = of; remembered = are.touches; cache = λ k. are.cache }
+
+    kept : (u : ResourceContents) (r : ℕ) → AreContentsOf u past r → (own : Bytes) → AreBytesOf past r own → IsKept past own (byte_at past r) (size_at past r) u.is_cached u.touches
+    kept u r are own of = record { named = of.byte; remembered = are.touches; cache = λ k. are.cache ∙ ap (is_cached past) (sym ((numbered_at past r).own k)) }
 
     -- one that gives a range of a buffer values
     pub values_conflicts : (b o n : ℕ) → origins (byte_writes past c) ≡ [] → targets (byte_writes past c) ≡ bytes_of b o n → (u : ResourceContents) → AreBufferContents u past b → o + n ≤ buffer_size past b
@@ -249,29 +203,39 @@ module _ (past : Past) (judged : IsJudged past) (p : Point) (c : Cmd) (is : p.ac
         → AreConflicts (record { war = war; raw = false; waw = waw; undefined = false }) past p
     values_conflicts b o n none bytes u are fits x by of early unseen ahead missed =
         found.values_conflicts past p (origins (byte_writes past c)) (targets (byte_writes past c)) run_missed run_early raw waw war run_undefined s run_misses run_ahead
-        x.bytes (in_buffer b) (buffer_size past b) u.is_cached u.touches (kept u b are x of) o n fits none bytes x by early unseen (ahead (rw are.touches_size fits)) (missed (rw are.touches_size fits))
+        x.bytes (in_buffer b) (buffer_size past b) u.is_cached u.touches (kept_of_buffer u b are x of) o n fits none bytes x by early unseen (ahead (rw are.touches_size fits)) (missed (rw are.touches_size fits))
 
-    -- a copy between buffers
-    pub regions_conflicts : (b d : ℕ) (gs : List BufferCopy) → origins (byte_writes past c) ≡ flat_map (λ g. bytes_of b g.source_offset g.size) gs → targets (byte_writes past c) ≡ flat_map (λ g. bytes_of d g.destination_offset g.size) gs
-        → (u v : ResourceContents) → AreBufferContents u past b → AreBufferContents v past d → ((g : BufferCopy) → Contains gs g → g.source_offset + g.size ≤ buffer_size past b) → ((g : BufferCopy) → Contains gs g → g.destination_offset + g.size ≤ buffer_size past d)
-        → (x : ResourceAccess) → IsAccess past s x.bytes access.Read x → ((k : ℕ) → numbered_byte x.bytes k ≡ in_buffer b k) → (y : ResourceAccess) → IsAccess past s y.bytes access.Write y → ((k : ℕ) → numbered_byte y.bytes k ≡ in_buffer d k) → (war raw waw : Bool)
+    -- a clear
+    pub cleared_conflicts : (m : ImageInfo) (i : ℕ) (rs : List SubresourceRange) → image past i ≡ Some m → ((r : SubresourceRange) → Contains rs r → AreThere m r) → origins (byte_writes past c) ≡ [] → targets (byte_writes past c) ≡ flat_map (λ r. map (λ p. p.0) (subresource_bytes i m r)) rs
+        → (u : ResourceContents) → AreContentsOf u past i → (x : ResourceAccess) → IsAccess past s x.bytes access.Write x → AreBytesOf past i x.bytes → (war waw : Bool)
+        → FoundAmong (FoundInSubresources (λ r low high. FoundIn (IsEarly s) r u.touches low high) m) war rs → FoundAmong (FoundInSubresources (λ r low high. FoundAt (Misses u.is_cached x) r u.touches low high) m) waw rs
+        → AreConflicts (record { war = war; raw = false; waw = waw; undefined = false }) past p
+    cleared_conflicts m i rs of fits none bytes u are x by own =
+        found.clear_conflicts past p (origins (byte_writes past c)) (targets (byte_writes past c)) run_missed run_early raw waw war run_undefined s run_misses run_ahead
+        x.bytes (byte_at past i) (size_at past i) u.is_cached u.touches (kept u i are x.bytes own) m i rs (byte_of_image past i m of) (size_of_image past i m of) fits none bytes x by
+
+    -- a copy of numbers
+    pub numbers_conflicts : (b d : ℕ) (gs : List BufferCopy) → byte_writes past c ≡ flat_map (numbered_writes (byte_at past b) (byte_at past d)) gs
+        → (u v : ResourceContents) → AreContentsOf u past b → AreContentsOf v past d → ((g : BufferCopy) → Contains gs g → g.source_offset + g.size ≤ size_at past b) → ((g : BufferCopy) → Contains gs g → g.destination_offset + g.size ≤ size_at past d)
+        → (x : ResourceAccess) → IsAccess past s x.bytes access.Read x → AreBytesOf past b x.bytes → (y : ResourceAccess) → IsAccess past s y.bytes access.Write y → AreBytesOf past d y.bytes → (war raw waw : Bool)
         → FoundAmong (λ r g. g.destination_offset + g.size ≤ length v.touches → FoundIn (IsEarly s) r v.touches g.destination_offset (g.destination_offset + g.size)) war gs
         → FoundAmong (λ r g. g.source_offset + g.size ≤ length u.touches → FoundAt (Misses u.is_cached x) r u.touches g.source_offset (g.source_offset + g.size)) raw gs
         → FoundAmong (λ r g. g.destination_offset + g.size ≤ length v.touches → FoundAt (Misses v.is_cached y) r v.touches g.destination_offset (g.destination_offset + g.size)) waw gs
         → AreConflicts (record { war = war; raw = raw; waw = waw; undefined = false }) past p
-    regions_conflicts b d gs from to u v are_u are_v fits_u fits_v x x_by x_of y y_by y_of early unread unwritten ahead missed_read missed_write =
+    numbers_conflicts b d gs copies u v are_u are_v fits_u fits_v x x_by x_of y y_by y_of early unread unwritten ahead missed_read missed_write =
         found.copy_conflicts past p (origins (byte_writes past c)) (targets (byte_writes past c)) run_missed run_early raw waw war run_undefined s run_misses run_ahead
-        x.bytes y.bytes (in_buffer b) (in_buffer d) (buffer_size past b) (buffer_size past d) u.is_cached v.is_cached u.touches v.touches (kept u b are_u x x_of) (kept v d are_v y y_of) gs from to fits_u fits_v x x_by y y_by early unread unwritten
+        x.bytes y.bytes (byte_at past b) (byte_at past d) (size_at past b) (size_at past d) u.is_cached v.is_cached u.touches v.touches (kept u b are_u x.bytes x_of) (kept v d are_v y.bytes y_of) gs
+        (ap origins copies ∙ origins_flat (byte_at past b) (byte_at past d) gs) (ap targets copies ∙ targets_flat (byte_at past b) (byte_at past d) gs) fits_u fits_v x x_by y y_by early unread unwritten
         (within gs (λ g. g.destination_offset + g.size ≤ length v.touches) (λ g k. rw are_v.touches_size (fits_v g k)) (λ r g. FoundIn (IsEarly s) r v.touches g.destination_offset (g.destination_offset + g.size)) early ahead)
         (within gs (λ g. g.source_offset + g.size ≤ length u.touches) (λ g k. rw are_u.touches_size (fits_u g k)) (λ r g. FoundAt (Misses u.is_cached x) r u.touches g.source_offset (g.source_offset + g.size)) unread missed_read)
         (within gs (λ g. g.destination_offset + g.size ≤ length v.touches) (λ g k. rw are_v.touches_size (fits_v g k)) (λ r g. FoundAt (Misses v.is_cached y) r v.touches g.destination_offset (g.destination_offset + g.size)) unwritten missed_write)
       where
-        -- of regions that lie in a buffer
+        -- of copies that lie in a resource
         within : (gs : List BufferCopy) (fit : BufferCopy → Type 0) → ((g : BufferCopy) → Contains gs g → fit g) → (is : Bool → BufferCopy → Type 0) → (r : Bool) → FoundAmong (λ r g. fit g → is r g) r gs → FoundAmong is r gs
         within gs fit fits is true h = (h.0, h.1, h.2 (fits h.0 h.1))
         within gs fit fits is false h = λ g k. h g k (fits g k)
 
--- ---- fills, updates and copies
+-- ---- fills and updates
 
 module _ (past : Past) (judged : IsJudged past) (p : Point) (law : HostSeen) (flushed : FlushedSeen) (unflushed : UnflushedSeen) (line : LinePrefix) (s : Sight) (sights : IsSight (nodes past) (next_node past p (act_next p.action)) s) where
   pub fill_conflicts : (b o : ℕ) (n : Length) (w : ℕ) → p.action ≡ Run (cmd.Fill b o n w) → (u : ResourceContents) → AreBufferContents u past b → o + fill_size (buffer_size past b) o n ≤ buffer_size past b
@@ -286,12 +250,3 @@ module _ (past : Past) (judged : IsJudged past) (p : Point) (law : HostSeen) (fl
       → (o + length bytes ≤ length u.touches → FoundIn (IsEarly s) war u.touches o (o + length bytes)) → (o + length bytes ≤ length u.touches → FoundAt (Misses u.is_cached x) waw u.touches o (o + length bytes))
       → AreConflicts (record { war = war; raw = false; waw = waw; undefined = false }) past p
   update_conflicts b o bytes is = values_conflicts past judged p (cmd.Update b o bytes) is refl law flushed unflushed line s sights b o (length bytes) (update-origins past b o bytes) (update-targets past b o bytes)
-
-  pub copy_conflicts : (b d : ℕ) (gs : List BufferCopy) → p.action ≡ Run (cmd.Copy b d gs)
-      → (u v : ResourceContents) → AreBufferContents u past b → AreBufferContents v past d → ((g : BufferCopy) → Contains gs g → g.source_offset + g.size ≤ buffer_size past b) → ((g : BufferCopy) → Contains gs g → g.destination_offset + g.size ≤ buffer_size past d)
-      → (x : ResourceAccess) → IsAccess past s x.bytes access.Read x → ((k : ℕ) → numbered_byte x.bytes k ≡ in_buffer b k) → (y : ResourceAccess) → IsAccess past s y.bytes access.Write y → ((k : ℕ) → numbered_byte y.bytes k ≡ in_buffer d k) → (war raw waw : Bool)
-      → FoundAmong (λ r g. g.destination_offset + g.size ≤ length v.touches → FoundIn (IsEarly s) r v.touches g.destination_offset (g.destination_offset + g.size)) war gs
-      → FoundAmong (λ r g. g.source_offset + g.size ≤ length u.touches → FoundAt (Misses u.is_cached x) r u.touches g.source_offset (g.source_offset + g.size)) raw gs
-      → FoundAmong (λ r g. g.destination_offset + g.size ≤ length v.touches → FoundAt (Misses v.is_cached y) r v.touches g.destination_offset (g.destination_offset + g.size)) waw gs
-      → AreConflicts (record { war = war; raw = raw; waw = waw; undefined = false }) past p
-  copy_conflicts b d gs is = regions_conflicts past judged p (cmd.Copy b d gs) is refl law flushed unflushed line s sights b d gs (copy-origins-flat b d gs) (copy-targets-flat b d gs)

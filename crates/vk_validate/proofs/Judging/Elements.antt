@@ -62,7 +62,7 @@ module _ (past : Past) (p : Point) (ordered : IsOrdered (p ∷ past)) (es : List
   all_are : all ≡ nodes_with p ns es
   all_are = ap (λ (d : Action). with_acts p (acts d) ns) barrier
 
-  apart : (e : Element) → IsApartFrom ns (next_node past p (Depends Barrier e))
+  pub apart : (e : Element) → IsApartFrom ns (next_node past p (Depends Barrier e))
   apart e k c = go (is_element k.act) refl where
     go : (b : Bool) → is_element k.act ≡ b → (is_element k.act && true && same_place k.point p) ≡ false
     go true h = rw h (ordered_new (p ∷ past) past p ordered newest (cmd.Barrier es) barrier k c h)

@@ -1,12 +1,18 @@
 -- The rules that no point of a supported form breaks.
 use Rattle.std.proofs.Common.{◌≡◌, true, false, refl}
-use Rattle.vk_model.specs.Trace.Point.{Past, Point, Action, Host, Run}
+use Rattle.vk_model.specs.declared.entry.Entry.TheVariants as entry
+use Rattle.vk_model.specs.Trace.Point.{Past, Point, Action, Host, Wait, Run, Signal}
 use Rattle.vk_model.specs.Rules.Passes.{breaks_pass_busy}
 use Rattle.vk_history.specs.Supported.{is_supported_action}
-use Rattle.vk_history.proofs.Points.Forms.{entry_cases, command_cases, action_cases}
 
 module _ (past : Past) (p : Point) (supported : is_supported_action p.action ≡ true) where
+  by_action : (d : Action) → is_supported_action d ≡ true → breaks_pass_busy past (record p { action = d }) ≡ false
+  by_action (Host (entry.Pass d)) h = absurd cc
+  by_action (Host (entry.EndPass d kept lost)) h = absurd cc
+  by_action (Host _) h = refl
+  by_action (Wait s) h = refl
+  by_action (Run c) h = refl
+  by_action (Signal s) h = refl
+
   pub no_pass_busy : breaks_pass_busy past p ≡ false
-  no_pass_busy =
-      let P : Action → Type 0 = λ d. breaks_pass_busy past (record p { action = d }) ≡ false in
-      action_cases P (entry_cases (λ x. P (Host x)) (λ i b t is. refl) (λ i b m o is. refl) (λ i m. refl) (λ m. refl) (λ r. refl) (λ b. refl) (λ b. refl) (λ b o bytes. refl) (λ b o n. refl) (λ b o n. refl) (λ b o n. refl) (λ i v. refl) (λ i. refl) (λ s v. refl) (λ ws. refl) (λ q bs. refl)) (λ w. refl) (command_cases (λ c. P (Run c)) (λ b o n w. refl) (λ b o bytes. refl) (λ s d gs. refl) (λ es all. refl) (λ v ms. refl) (λ v ms. refl)) (λ s. refl) p.action supported
+  no_pass_busy = by_action p.action supported

@@ -1,4 +1,4 @@
-use Rattle.std.proofs.Common.{ℕ, List, ◌∷◌, refl, ap, sym, subst}
+use Rattle.std.proofs.Common.{ℕ, List, ◌∷◌, ◌∙◌, refl, ap, sym, subst}
 use Rattle.vk_model.specs.declared.command.BufferCopy.{BufferCopy}
 use Rattle.vk_model.specs.declared.command.Cmd.TheVariants as cmd
 use Rattle.vk_model.specs.Trace.Point.{Action}
@@ -21,7 +21,8 @@ use Rattle.vk_history.proofs.Kept.ContentSteps.{buffer_made, image_made}
 use Rattle.vk_history.proofs.Kept.CopySteps.{copied_step, buffers_copied}
 use Rattle.vk_history.proofs.Kept.ImageRules.{made_good}
 use Rattle.vk_history.proofs.Kept.ImageSteps.{cleared_step}
-use Rattle.vk_history.proofs.Kept.ImageCopies.{copied_in, copied_out, copied_image}
+use Rattle.vk_history.proofs.Kept.ImageCopies.{kept_image, copied_in, copied_out, copied_image}
+use Rattle.vk_history.proofs.Kept.NextPoint.{clean_within}
 use Rattle.vk_history.proofs.Kept.CacheSteps.{flush_change, invalidation_change}
 use Rattle.vk_history.proofs.Kept.AccessSteps.{quiet_step, read_step, set_step, written_step}
 use Rattle.vk_history.proofs.contents.Contents.note.Goals as goal
@@ -106,7 +107,7 @@ returns-in-Copied c = on_three c.copy.result c.copy.ensures c.copy.ensures c.cop
     let s = c.in-Copied.source in
     let d = c.in-Copied.destination in
     let gs = c.in-Copied.regions.now in
-    copied_step past p clean (cmd.Copy s d gs) s d gs c.in-Copied.ensures (buffers_copied past p clean s d gs c.in-Copied.ensures) c.args.spot spot_is c.args.self.now c.copy.new.self copied are)
+    copied_step past p clean (cmd.Copy s d gs) s d gs c.in-Copied.ensures (buffers_copied past p (clean_within past p clean) s d gs c.in-Copied.ensures) c.args.spot spot_is c.args.self.now c.copy.new.self copied are)
 
 pub returns-in_ok-copies-in-CopiedIn : goal.returns-in_ok-copies-in-CopiedIn
 returns-in_ok-copies-in-CopiedIn c = on_three c.copy-in-CopiedIn.result c.copy-in-CopiedIn.ensures c.copy-in-CopiedIn.ensures c.copy-in-CopiedIn.ensures (λ copied more again past clean spot_is objects frontier are.
@@ -116,7 +117,7 @@ returns-in_ok-copies-in-CopiedIn c = on_three c.copy-in-CopiedIn.result c.copy-i
     let regions = c.in-CopiedIn.regions.now in
     let gs = c.in_ok-copies-in-CopiedIn.copies.items in
     let fits = c.in-CopiedIn.ensures in
-    copied_step past p clean (cmd.CopyIn b i fits.0 regions) b i gs fits.1 (copied_in past p clean b i fits.0 regions fits.1 c.args.self.now are gs c.in_ok-copies-in-CopiedIn.ensures) c.args.spot spot_is c.args.self.now c.copy-in-CopiedIn.new.self
+    copied_step past p clean (cmd.CopyIn b i fits.0 regions) b i gs fits.1 (copied_in past p (clean_within past p clean) b i fits.0 regions fits.1 gs (λ m of. c.in_ok-copies-in-CopiedIn.ensures m (kept_image c.args.self.now past are i ∙ of))) c.args.spot spot_is c.args.self.now c.copy-in-CopiedIn.new.self
     (subst (λ (xs : List BufferCopy). AreCopiedNumbers c.args.self.now c.copy-in-CopiedIn.new.self b i xs p.queue c.args.spot) c.as_slice.ensures.value copied) are)
 
 pub returns-in_ok-copies-in-CopiedOut : goal.returns-in_ok-copies-in-CopiedOut
@@ -127,7 +128,7 @@ returns-in_ok-copies-in-CopiedOut c = on_three c.copy-in-CopiedOut.result c.copy
     let regions = c.in-CopiedOut.regions.now in
     let gs = c.in_ok-copies-in-CopiedOut.copies.items in
     let fits = c.in-CopiedOut.ensures in
-    copied_step past p clean (cmd.CopyOut i fits.0 b regions) i b gs fits.1 (copied_out past p clean i fits.0 b regions fits.1 c.args.self.now are gs c.in_ok-copies-in-CopiedOut.ensures) c.args.spot spot_is c.args.self.now c.copy-in-CopiedOut.new.self
+    copied_step past p clean (cmd.CopyOut i fits.0 b regions) i b gs fits.1 (copied_out past p (clean_within past p clean) i fits.0 b regions fits.1 gs (λ m of. c.in_ok-copies-in-CopiedOut.ensures m (kept_image c.args.self.now past are i ∙ of))) c.args.spot spot_is c.args.self.now c.copy-in-CopiedOut.new.self
     (subst (λ (xs : List BufferCopy). AreCopiedNumbers c.args.self.now c.copy-in-CopiedOut.new.self i b xs p.queue c.args.spot) c.as_slice-in-CopiedOut.ensures.value copied) are)
 
 pub returns-in_ok-copies-in-CopiedImage : goal.returns-in_ok-copies-in-CopiedImage
@@ -138,5 +139,5 @@ returns-in_ok-copies-in-CopiedImage c = on_three c.copy-in-CopiedImage.result c.
     let regions = c.in-CopiedImage.regions.now in
     let gs = c.in_ok-copies-in-CopiedImage.copies.items in
     let fits = c.in-CopiedImage.ensures in
-    copied_step past p clean (cmd.CopyImage s fits.0 d fits.1 regions) s d gs fits.2 (copied_image past p clean s fits.0 d fits.1 regions fits.2 c.args.self.now are gs c.in_ok-copies-in-CopiedImage.ensures) c.args.spot spot_is c.args.self.now c.copy-in-CopiedImage.new.self
+    copied_step past p clean (cmd.CopyImage s fits.0 d fits.1 regions) s d gs fits.2 (copied_image past p (clean_within past p clean) s fits.0 d fits.1 regions fits.2 gs (λ m n of to. c.in_ok-copies-in-CopiedImage.ensures m n (kept_image c.args.self.now past are s ∙ of) (kept_image c.args.self.now past are d ∙ to))) c.args.spot spot_is c.args.self.now c.copy-in-CopiedImage.new.self
     (subst (λ (xs : List BufferCopy). AreCopiedNumbers c.args.self.now c.copy-in-CopiedImage.new.self s d xs p.queue c.args.spot) c.as_slice-in-CopiedImage.ensures.value copied) are)

@@ -12,7 +12,8 @@ use Rattle.vk_touches.specs.Conflicts.{FoundIn, FoundAt, MissesWrite, HasEarlyCo
 use Rattle.vk_touches.specs.Touched.{next_node, act_next}
 use Rattle.vk_history.proofs.Making.Numbers.{buffer_is_resource, of_buffer}
 use Rattle.vk_history.proofs.Kept.NextPoint.{host_there, set_fits}
-use Rattle.vk_validate.proofs.Judging.Conflicts.{early_live, early_range, set_conflicts}
+use Rattle.vk_validate.proofs.Judging.Conflicts.{set_conflicts}
+use Rattle.vk_validate.proofs.Judging.Early.{early_live, early_range}
 use Rattle.vk_validate.proofs.Judging.OwnBytes.{buffer_bytes, kept_numbers}
 use Rattle.vk_validate.proofs.rules.hazards.of_host_write.Goals as goal
 

@@ -13,7 +13,8 @@ use Rattle.vk_touches.specs.Conflicts.{FoundIn, FoundAt, Misses, IsEarly}
 use Rattle.vk_touches.specs.Touched.{next_node, act_next}
 use Rattle.vk_history.proofs.Making.Numbers.{buffer_is_resource, of_buffer}
 use Rattle.vk_history.proofs.Kept.NextPoint.{command_there, fill_fits, update_fits}
-use Rattle.vk_validate.proofs.Judging.Conflicts.{early_live, early_range, fill_conflicts, update_conflicts}
+use Rattle.vk_validate.proofs.Judging.Conflicts.{fill_conflicts, update_conflicts}
+use Rattle.vk_validate.proofs.Judging.Early.{early_live, early_range}
 use Rattle.vk_validate.proofs.Judging.OwnBytes.{buffer_bytes, kept_numbers}
 use Rattle.vk_validate.proofs.rules.hazards.of_write.Goals as goal
 

@@ -1,0 +1,16 @@
+use Rattle.std.proofs.Common.{Bool, true, false, subst}
+use Rattle.vk_model.specs.declared.command.Element.{Element}
+use Rattle.vk_order.specs.PointViews.{point_of}
+use Rattle.vk_history.specs.PointViews.{past}
+use Rattle.vk_validate.specs.Inner.Transitions.{FindsEarly}
+use Rattle.vk_validate.proofs.Judging.Among.{none_next, some_here, none_at_all}
+use Rattle.vk_validate.proofs.rules.hazards.barriers.has_early_transition.Goals as goal
+
+pub loop-element-preserved : goal.loop-element-preserved
+loop-element-preserved c = none_next (FindsEarly (past c.args.history.now) (point_of c.args.point.now)) c.args.elements.now c.loop-element.element-index _ c.loop-element-test.true c.loop-element.invariant (subst (λ (e : Element). FindsEarly (past c.args.history.now) (point_of c.args.point.now) false e) c.element-item.is (subst (λ (b : Bool). FindsEarly (past c.args.history.now) (point_of c.args.point.now) b c.element-item.result) c.if-is_early.false c.in_ok-is_early.ensures))
+
+pub returns-then-is_early : goal.returns-then-is_early
+returns-then-is_early c = some_here (FindsEarly (past c.args.history.now) (point_of c.args.point.now)) c.args.elements.now c.loop-element.element-index _ c.loop-element-test.true (subst (λ (e : Element). FindsEarly (past c.args.history.now) (point_of c.args.point.now) true e) c.element-item.is (subst (λ (b : Bool). FindsEarly (past c.args.history.now) (point_of c.args.point.now) b c.element-item.result) c.if-is_early.true c.in_ok-is_early.ensures))
+
+pub returns : goal.returns
+returns c = none_at_all (FindsEarly (past c.args.history.now) (point_of c.args.point.now)) c.args.elements.now c.loop-element.element-index c.loop-element.auto.element-index-end c.loop-element-test.false c.loop-element.invariant

@@ -1,7 +1,0 @@
-use Rattle.std.proofs.Common.{◌≤◌, ◌+◌, Bool, false, length, take}
-use Rattle.vk_model.specs.declared.command.BufferCopy.{BufferCopy}
-use Rattle.vk_touches.specs.Conflicts.{FoundAmong, FoundAt, Misses}
-use Rattle.vk_validate.proofs.rules.hazards.has_missed_destination.Given as goal
-
-abbrev pub invariant-loop-region : goal.invariant-loop-region
-invariant-loop-region l = FoundAmong (λ (r : Bool) (g : BufferCopy). g.destination_offset + g.size ≤ length l.contents.touches → FoundAt (Misses l.contents.is_cached l.by) r l.contents.touches g.destination_offset (g.destination_offset + g.size)) false (take l.region-index l.regions)
