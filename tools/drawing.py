@@ -27,6 +27,8 @@ class Drawing(Courses):
                 self.memory(memory)
         for number in range(self.random.randint(1, 3)):
             self.buffer(1 + number)
+        for _ in range(self.random.choice((0, 0, 1, 2, 2, 3))):
+            self.new_image()
         for semaphore in (*SEMAPHORES, HOST_SEMAPHORE, NEVER_SIGNALED):
             initial = self.random.choice((0, 0, 0, 5))
             self.last_values[semaphore] = initial
@@ -90,7 +92,7 @@ class Drawing(Courses):
             if self.chance(0.005):
                 self.never_started()
             if self.chance(0.2 if self.heaps[1] == SMALL_HEAP else 0.03):
-                self.new_buffer()
+                self.random.choice((self.new_buffer, self.new_image))()
         if self.chance(0.9):
             self.host_signal()
             self.finish_queues()
@@ -108,6 +110,8 @@ class Drawing(Courses):
         steps = [self.submit] * 16 + [self.host_signal, self.host_wait, self.host_wait, self.map, self.map]
         steps += [self.finish_queues, self.held_back, self.twice_made, self.end_buffer, self.end_memory]
         steps += [self.clean, self.forget, self.odd_reach, self.end_named, *[self.hand_over] * 4]
+        if self.pictures:
+            steps += [self.change_image] * 14 + [self.read_image] * 6 + [self.end_image]
         steps += [self.read_back, self.read_back, self.upload, self.upload, self.lose, self.write_over]
         steps += [self.ranged, self.ranged, self.late_release, self.take_over, self.take_over]
         steps += [lambda: self.host_read(False), self.host_write] * 3
@@ -124,8 +128,11 @@ class Drawing(Courses):
             "MAP_STATE": [self.odd_reach, self.end_buffer],
             "BIND_ALIGN": [self.new_buffer],
             "BIND_RANGE": [self.new_buffer],
-            "ALIASED": [self.new_buffer],
+            "ALIASED": [self.new_buffer, self.new_image],
         }
+        if self.pictures:
+            of_images = ("LAYOUT", "OLD_LAYOUT", "FORMAT", "SUBRESOURCE", "OVERLAP", "OWNER_WHOLE")
+            near |= dict.fromkeys(of_images, [self.change_image])
         odd = [self.odd_reach] if on_host else [self.bare_barrier]
         near |= dict.fromkeys(("SIZE", "RANGE", "LIVE_ID", "STAGE"), odd)
         return steps + 10 * near.get(kept, []) * (self.slips > 0)

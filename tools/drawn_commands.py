@@ -1,6 +1,7 @@
 """Draws commands: fills, updates, copies, barriers, ownership transfers, and sets and awaits of events."""
 
-from growing import EVENTS, MOST, SEMAPHORES, UNKNOWN, Growing
+from drawn_images import Images
+from growing import EVENTS, MOST, SEMAPHORES, UNKNOWN
 from points import ALL_COMMANDS, HOST, TRANSFER, family_of, named_by
 
 SOURCES = ((TRANSFER, 4096), (ALL_COMMANDS, 65536), (TRANSFER, 65536), (ALL_COMMANDS, 6144))
@@ -13,7 +14,7 @@ EQUAL_FAMILIES = ((0, 0), (1, 1), (4_294_967_295, 4_294_967_295), (5, 5))
 ODD_FAMILIES = ((0, 2), (2, 0), (2, 3), (0, 4_294_967_295), (4_294_967_295, 1), (0, 1), (1, 0))
 
 
-class Commands(Growing):
+class Commands(Images):
     """The commands of a trace that grows."""
 
     # ---- elements of barriers
@@ -186,6 +187,8 @@ class Commands(Growing):
             kind = self.random.random()
             if not self.sizes:
                 drawn.append(["barrier", self.elements(), [], []])
+            elif self.pictures and self.chance(0.45):
+                drawn += self.image_transfer(queue) if self.chance(0.15) else self.image_commands(queue)
             elif kind < 0.54:
                 drawn.append(self.random.choice((self.fill, self.fill, self.update, self.copy, self.copy))())
             elif kind < 0.72 and (queue < 2 or self.slip()):

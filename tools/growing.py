@@ -23,6 +23,7 @@ KEPT = (
     *((rule, ON_HOST) for rule in ("BIND_ALIGN", "BIND_RANGE", "ALIASED", "HOST_VISIBLE", "MEMORY_TYPE")),
     *((rule, IN_BATCHES) for rule in ("ALIGN", "OVERLAP", "USAGE", "EVENT_STATE", "EVENT_DEPENDENCY")),
     *(("SIGNAL_VALUE", None), ("SIGNAL_ORDER", None), ("USAGE", ON_HOST), ("QUEUE_KIND", IN_BATCHES)),
+    *((rule, IN_BATCHES) for rule in ("LAYOUT", "OLD_LAYOUT", "FORMAT", "SUBRESOURCE") * 2),
     *((rule, ON_HOST) for rule in ("NEW_ID", "QUEUE", "MEMORY_SIZE", "WAIT_NEVER")),
 )
 TO_HOST = ((TRANSFER, 4096, HOST, 8192), (TRANSFER, 4096, HOST, 24576))

@@ -23,12 +23,19 @@ def reached(entry):
 
 
 def named_by(command):
-    """The buffers that a command or one of its elements names."""
-    if command[0] == "copy":
+    """The buffers and images that a command or one of its elements names; of a copy its source first."""
+    if command[0] in ("copy", "copy_in"):
         return command[1:3]
+    if command[0] in ("copy_out", "copy_image"):
+        return command[1:4:2]
     if command[0] == "barrier":
-        return [element[6] for element in command[2]]
-    return command[1:2] if command[0] in ("fill", "update") else []
+        return [element[6] for element in command[2] + command[3]]
+    return command[1:2] if command[0] in ("fill", "update", "clear") else []
+
+
+def is_on_image(element):
+    """Whether an element of a barrier is on an image."""
+    return len(element) == 10
 
 
 class Node:
@@ -41,8 +48,10 @@ class Node:
         self.role = role
         self.on_host = kind == "host"
         self.is_submit = self.on_host and content[0] == "submit"
-        # The buffer that an element is limited to.
+        # The buffer or the image that an element is limited to.
         self.buffer = content[6] if kind == "element" and len(content) > 4 else None
+        # Of an image the bytes of each subresource, from the first to the one after the last.
+        self.parts = []
         self.first_scope = self.second_scope = None
         if kind == "command":
             self.first_scope = self.second_scope = TRANSFER
@@ -80,6 +89,8 @@ class Node:
         """Whether a byte is one of those that an element's accesses are limited to."""
         if self.buffer is None:
             return True
+        if is_on_image(self.content):
+            return self.buffer == buffer and any(low <= byte < high for low, high in self.parts)
         offset, size = self.content[7:]
         return self.buffer == buffer and offset <= byte and (size == "whole" or byte < offset + size)
 
@@ -92,6 +103,13 @@ class Node:
             return "release"
         return "acquire" if family == self.content[5] else "neither"
 
+    def is_transition(self):
+        """Whether it's a layout transition that takes effect here: that of an ownership transfer does at
+        its acquire."""
+        if self.kind != "element" or not is_on_image(self.content):
+            return False
+        return self.content[7] != self.content[8] and self.half() != "release"
+
     def reaches(self, name, buffer, byte):
         """Whether it's a host entry of this name, a flush or an invalidation, that reaches a byte."""
         if not self.on_host or self.content[0] != name or self.content[1] != buffer:
@@ -101,6 +119,8 @@ class Node:
 
     def borders(self, buffer):
         """Where the bytes of a buffer begin and end that it covers as an element, or reaches."""
+        if self.buffer == buffer and is_on_image(self.content):
+            return [border for part in self.parts for border in part]
         if self.buffer == buffer:
             offset, size = self.content[7:]
             return [offset] if size == "whole" else [offset, offset + size]
@@ -162,7 +182,7 @@ class Point:
             return [Node(self, self.kind, self.content)]
         name = self.content[0]
         if name == "barrier":
-            return [Node(self, "element", e, ("barrier",)) for e in self.content[1] + self.content[2]]
+            return [Node(self, "element", e, ("barrier",)) for e in sum(self.content[1:], [])]
         if name in ("set", "await"):
             roles = ((name, self.content[1], k) for k in range(len(self.content[2])))
             return [Node(self, "element", e, role) for e, role in zip(self.content[2], roles)]

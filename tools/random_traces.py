@@ -71,7 +71,7 @@ def smaller_batches(batches):
 
 def smaller_item(item):
     """A barrier with one element left out, as a list of it; nothing of other items."""
-    for k in (1, 2) if item[0] == "barrier" else ():
+    for k in (1, 2, 3) if item[0] == "barrier" else ():
         for i in range(len(item[k])):
             yield [[*item[:k], item[k][:i] + item[k][i + 1 :], *item[k + 1 :]]]
 
@@ -123,6 +123,10 @@ def count_accepted(reading, counts):
     counts["with elements on ranges of buffers"] += any(n.half() is None for n in elements)
     counts["with releases"] += any(n.half() == "release" for n in elements)
     counts["with acquires"] += any(n.half() == "acquire" for n in elements)
+    for name in ("clear", "copy_in", "copy_out", "copy_image"):
+        counts[f"with {name}"] += name in names
+    counts["with layout transitions"] += any(n.is_transition() for n in elements)
+    counts["with halves of transfers of images"] += any(n.half() is not None for n in elements if n.parts)
     counts["with reads"] += bool(reading.reads)
     origins = [sources(reading, host_read) for host_read in reading.reads]
     counts["with reads of bytes from several pieces"] += any(len(p) > 1 for p, _ in origins)

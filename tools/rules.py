@@ -3,21 +3,27 @@
 Each is a question to a reading (slow_reading.py) about a point that comes and the numbers of its nodes.
 """
 
-from points import ALL_COMMANDS, ATOM, HOST, TRANSFER, family_of, named_by
+from entries import aligned, is_tiled, place_of, rounded, usage_of
+from image_rules import bad_layout, bad_subresource, image_overlaps, misplaced_regions, old_layout
+from image_rules import regions_past, texels_differ
+from points import ALL_COMMANDS, ATOM, HOST, TRANSFER, family_of, is_on_image, named_by
 from seeing import sees
+from shapes import Shape
 
 STAGES = TRANSFER | HOST | ALL_COMMANDS
 ACCESSES = 2048 | 4096 | 8192 | 16384 | 32768 | 65536
 MOST_BYTES = 67_108_864
-
-
-def rounded(size):
-    """The bytes that a buffer takes of its heap."""
-    return (size + 15) // 16 * 16
+PAGE = 1_024
+NAMED_KINDS = {
+    "clear": ("image",),
+    "copy_in": ("buffer", "image"),
+    "copy_out": ("image", "buffer"),
+    "copy_image": ("image", "image"),
+}
 
 
 def new_id(reading, point, own):
-    makes = point.kind == "host" and point.content[0] in ("buffer", "memory", "semaphore", "event")
+    makes = point.kind == "host" and point.content[0] in ("buffer", "image", "memory", "semaphore", "event")
     return makes and point.content[1] in reading.made
 
 
@@ -27,11 +33,15 @@ def asked(point):
     if point.kind in ("wait", "signal"):
         return [(content[0], "semaphore")]
     kinds = {"set": "event", "await": "event", "free": "memory"}
-    kinds |= dict.fromkeys(("map", "unmap", "read", "write", "flush", "invalidate", "destroy"), "buffer")
+    kinds |= dict.fromkeys(("map", "unmap", "read", "write", "flush", "invalidate"), "buffer")
+    kinds |= {"destroy": "resource"}
+    if point.kind == "command" and content[0] == "barrier":
+        elements = content[2] + content[3]
+        return [(element[6], "image" if is_on_image(element) else "buffer") for element in elements]
     if point.kind == "command" and content[0] not in kinds:
-        return [(buffer, "buffer") for buffer in named_by(content)]
-    if content[0] == "buffer":
-        return [(content[5][1], "memory")] if content[5][0] == "memory" else []
+        return list(zip(named_by(content), NAMED_KINDS.get(content[0], ("buffer", "buffer"))))
+    if content[0] in ("buffer", "image"):
+        return [(place_of(content)[1], "memory")] if place_of(content)[0] == "memory" else []
     if content[0] in kinds:
         return [(content[1], kinds[content[0]])]
     if content[0] == "signal":
@@ -65,7 +75,7 @@ def either(*rules):
 
 
 def queue_kind(reading, point, own):
-    return point.kind == "command" and point.content[0] in ("set", "await") and point.queue >= 2
+    return point.kind == "command" and point.content[0] in ("clear", "set", "await") and point.queue >= 2
 
 
 def fills_none(reading, fill):
@@ -84,22 +94,63 @@ def misaligned(reading, fill):
 
 
 def bound(rule):
-    """A rule on buffers that are bound in a memory object of the trace."""
-    return host_entry("buffer")(lambda r, e: e[5][0] == "memory" and rule(r, e))
+    """A rule on resources that are bound in a memory object of the trace."""
+    return resource(lambda r, e: place_of(e)[0] == "memory" and rule(r, e))
+
+
+def on_command(rule):
+    """A rule on all commands."""
+    return lambda reading, point, own: point.kind == "command" and rule(reading, point.content)
+
+
+def resource(rule):
+    """A rule on entries that make a buffer or an image."""
+    return either(host_entry("buffer")(rule), host_entry("image")(rule))
 
 
 def ends_past(reading, entry):
-    return entry[5][2] + rounded(entry[2]) > reading.made[entry[5][1]][1][3]
+    _, memory, offset = place_of(entry)
+    return offset + rounded(entry) > reading.made[memory][1][3]
 
 
 def is_misplaced(reading, entry):
-    return entry[5][2] % (ATOM if reading.made[entry[5][1]][1][2] == 2 else 16) != 0
+    _, memory, offset = place_of(entry)
+    return offset % aligned(entry) != 0 or reading.made[memory][1][2] == 2 and offset % ATOM != 0
 
 
 def is_aliased(reading, entry):
-    _, memory, offset = entry[5]
-    others = [o for o in reading.live("buffer") if o[5][0] == "memory" and o[5][1] == memory]
-    return any(max(offset, o[5][2]) < min(offset + rounded(entry[2]), o[5][2] + rounded(o[2])) for o in others)
+    _, memory, _ = place_of(entry)
+    others = (o for o in reading.live("resource") if place_of(o)[0] == "memory" and place_of(o)[1] == memory)
+    return any(share_memory(entry, other) for other in others)
+
+
+def share_memory(first, second):
+    """Whether two resources of one memory object have a byte in common, or a page where just one of them
+    is tiled."""
+    unit = 1 if is_tiled(first) == is_tiled(second) else PAGE
+    (low, high), (other_low, other_high) = pages(first, unit), pages(second, unit)
+    return max(low, other_low) < min(high, other_high)
+
+
+def pages(entry, unit):
+    """The pages of so many bytes that a resource reaches, from the first to the one after the last."""
+    low = place_of(entry)[2]
+    return low // unit, (low + rounded(entry) - 1) // unit + 1
+
+
+def bad_type(reading, entry):
+    """Whether a memory type isn't there, or isn't allowed for a resource."""
+    return reading.type_at(place_of(entry)) > (0 if is_tiled(entry) else 2)
+
+
+def lacks_usage(reading, command):
+    """Whether a command names a resource without the usage that it needs."""
+    names = named_by(command)
+    if command[0] == "barrier":
+        changed = [e for e in command[3] if e[7] != e[8]]
+        return any(lacks(reading, e[6], e[8] - 5) for e in changed if e[8] in (6, 7))
+    is_copy = command[0] in ("copy", "copy_in", "copy_out", "copy_image")
+    return bool(names) and (lacks(reading, names[-1], 2) or is_copy and lacks(reading, names[0], 1))
 
 
 def reaches_past(reading, item):
@@ -116,16 +167,16 @@ def overlaps(reading, copy):
     return twice or any(meets(w, r) for w in writes for r in reads)
 
 
-def lacks(reading, buffer, bit):
-    return not reading.made[buffer][1][3] & bit
+def lacks(reading, resource, bit):
+    return not usage_of(reading.made[resource][1]) & bit
 
 
 def bad_map(reading, entry):
-    return reading.made[entry[1]][1][5][0] == "memory" and reading.is_mapped(entry[1])
+    return place_of(reading.made[entry[1]][1])[0] == "memory" and reading.is_mapped(entry[1])
 
 
 def bad_end(reading, entry):
-    return reading.made[entry[1]][1][5][0] == "dedicated" and reading.is_mapped(entry[1])
+    return place_of(reading.made[entry[1]][1])[0] == "dedicated" and reading.is_mapped(entry[1])
 
 
 def in_use(reading, point, own):
@@ -135,7 +186,8 @@ def in_use(reading, point, own):
     if name == "destroy":
         return reading.is_busy(thing, own[0])
     if name == "free":
-        return any(e[5][0] == "memory" and e[5][1] == thing for e in reading.live("buffer"))
+        places = [place_of(entry) for entry in reading.live("resource")]
+        return any(place[0] == "memory" and place[1] == thing for place in places)
     return False
 
 
@@ -162,7 +214,10 @@ def stage(reading, point, own):
 
 
 def is_partial(reading, element):
-    """Whether an element transfers less than its whole buffer."""
+    """Whether an element transfers less than its whole resource."""
+    if is_on_image(element):
+        shape = reading.shapes[element[6]]
+        return element[4] != element[5] and list(element[9]) != [0, shape.levels, 0, shape.layers]
     _, _, _, _, source, destination, buffer, offset, size = element
     return source != destination and (offset != 0 or size not in ("whole", reading.size_of(buffer)))
 
@@ -185,7 +240,10 @@ def owner_pair(reading, point, own):
 
 def completes(reading, acquire, release):
     """Whether an acquire has an equal release that comes before it."""
-    if release is None or reading.nodes[release].content[4:7] != reading.nodes[acquire].content[4:7]:
+    if release is None:
+        return False
+    halves = [reading.nodes[number].content for number in (release, acquire)]
+    if len({tuple(half[4 : 9 if is_on_image(half) else 7]) for half in halves}) > 1:
         return False
     return reading.comes_before(release, acquire)
 
@@ -248,19 +306,34 @@ def accesses(point, reads_or_writes):
     return reads_or_writes(point.content) if point.kind in ("host", "command") else []
 
 
+def judged(reading, own, reads_or_writes, is_bad):
+    """Whether it's so of what one of a point's nodes reads or writes: a transition does both."""
+    for number in own:
+        node = reading.nodes[number]
+        mine = accesses(node.point, reads_or_writes)
+        if node.kind == "element":
+            mine = [(node.buffer, *part) for part in node.parts] if node.is_transition() else []
+        if is_bad([number], mine):
+            return True
+    return False
+
+
 def hazard_war(reading, point, own):
-    mine = accesses(point, reading.writes_of)
-    return conflicts(reading, own, mine, reading.reads_made, lambda n, b, k: reading.comes_before(n, own[0]))
+    return judged(reading, own, reading.writes_of, lambda at, mine: conflicts(
+        reading, at, mine, reading.reads_made, lambda n, b, k: reading.comes_before(n, at[0])
+    ))
 
 
 def hazard_raw(reading, point, own):
-    mine = accesses(point, reading.reads_of)
-    return conflicts(reading, own, mine, reading.writes, lambda *w: sees(reading, own[0], "read", *w))
+    return judged(reading, own, reading.reads_of, lambda at, mine: conflicts(
+        reading, at, mine, reading.writes, lambda *w: sees(reading, at[0], "read", *w)
+    ))
 
 
 def hazard_waw(reading, point, own):
-    mine = accesses(point, reading.writes_of)
-    return conflicts(reading, own, mine, reading.writes, lambda *w: sees(reading, own[0], "write", *w))
+    return judged(reading, own, reading.writes_of, lambda at, mine: conflicts(
+        reading, at, mine, reading.writes, lambda *w: sees(reading, at[0], "write", *w)
+    ))
 
 
 def read_undefined(reading, entry):
@@ -277,6 +350,8 @@ RULES = [
         "SIZE",
         either(
             host_entry("buffer")(lambda r, e: e[2] == 0),
+            host_entry("image")(lambda r, e: Shape(e).is_bad()),
+            *(command(name)(lambda r, c: not c[-1]) for name in NAMED_KINDS),
             host_entry("read")(lambda r, e: e[3] == 0),
             host_entry("write")(lambda r, e: not e[3]),
             host_entry("flush")(lambda r, e: e[3] == 0),
@@ -291,23 +366,21 @@ RULES = [
     (
         "USAGE",
         either(
-            host_entry("buffer")(lambda r, e: e[3] == 0 or e[3] > 3),
-            command("fill")(lambda r, c: lacks(r, c[1], 2)),
-            command("update")(lambda r, c: lacks(r, c[1], 2)),
-            command("copy")(lambda r, c: lacks(r, c[1], 1) or lacks(r, c[2], 2)),
+            resource(lambda r, e: not 0 < usage_of(e) <= 3),
+            on_command(lacks_usage),
         ),
     ),
     (
         "MEMORY_TYPE",
         either(
-            host_entry("buffer")(lambda r, e: e[5][0] == "dedicated" and e[5][1] > 2),
+            resource(bad_type),
             host_entry("memory")(lambda r, e: e[2] > 2),
         ),
     ),
     (
         "MEMORY_SIZE",
         either(
-            host_entry("buffer")(lambda r, e: rounded(e[2]) > MOST_BYTES),
+            resource(lambda r, e: rounded(e) > MOST_BYTES),
             host_entry("memory")(lambda r, e: not 0 < e[3] <= MOST_BYTES),
         ),
     ),
@@ -324,6 +397,8 @@ RULES = [
             command("fill")(lambda r, c: leaves(r, *c[1:4])),
             command("update")(reaches_past),
             command("copy")(reaches_past),
+            command("copy_in")(regions_past),
+            command("copy_out")(regions_past),
             command("barrier")(lambda r, c: any(leaves(r, *element[6:]) for element in c[2])),
         ),
     ),
@@ -332,11 +407,22 @@ RULES = [
         either(
             command("fill")(misaligned),
             command("update")(lambda r, c: c[2] % 4 != 0 or len(c[3]) // 2 % 4 != 0),
+            misplaced_regions,
         ),
     ),
-    ("OVERLAP", command("copy")(overlaps)),
+    (
+        "OVERLAP",
+        either(
+            command("copy")(overlaps),
+            *(command(name)(image_overlaps) for name in (*NAMED_KINDS, "barrier")),
+        ),
+    ),
+    ("FORMAT", command("copy_image")(texels_differ)),
+    ("SUBRESOURCE", on_command(bad_subresource)),
     ("STAGE", stage),
-    ("OWNER_WHOLE", command("barrier")(lambda r, c: any(is_partial(r, element) for element in c[2]))),
+    ("LAYOUT", on_command(bad_layout)),
+    ("OLD_LAYOUT", old_layout),
+    ("OWNER_WHOLE", command("barrier")(lambda r, c: any(is_partial(r, e) for e in c[2] + c[3]))),
     ("OWNER_PAIR", owner_pair),
     ("EVENT_STATE", event_state),
     ("EVENT_DEPENDENCY", event_dependency),

@@ -28,8 +28,11 @@ def sees(reading, reader, access, writer, buffer, byte):
 
 def keeps(reading, number, writer, buffer, byte):
     """Whether a node makes an earlier write available: a command's where an edge leads to it, the host's
-    as a later submit, on cached memory one after a flush that follows the write."""
+    as a later submit, on cached memory one after a flush that follows the write; a transition does so
+    itself."""
     node = reading.nodes[number]
+    if reading.nodes[writer].is_transition():
+        return number == writer
     if reading.nodes[writer].on_host:
         if not node.is_submit or not reading.comes_before(writer, number):
             return False
@@ -40,7 +43,9 @@ def keeps(reading, number, writer, buffer, byte):
 def shows(reading, number, writer, reader, access, buffer, byte):
     """Whether a node makes an available write visible to an access by a later one: a command's where an
     edge leads from it, the host's as an element to the host, for a read of cached memory one that an
-    invalidation follows."""
+    invalidation follows; to a transition it's visible itself."""
+    if reading.nodes[reader].is_transition():
+        return number == reader
     node, kind = reading.nodes[number], reading.nodes[reader].kind
     element = makes_visible(node, MASKS[access, kind], buffer, byte)
     if kind == "host":

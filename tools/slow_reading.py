@@ -1,12 +1,15 @@
 """A slow reading of traces: what one answers, by plain walks over all that came before.
 
 It is written from docs/FORMAT.md alone, for the forms that `replay` takes today, and shares nothing with
-the program: each buffer has one private map of bytes, also where the host reaches it through a cache, and
-commands take effect one at a time, in reference order. Each node keeps the set of all nodes before it.
+the program: each buffer and each image has one private map of bytes, also where the host reaches it through
+a cache, and commands take effect one at a time, in reference order. The bytes of an image are numbered as
+shapes.py says. Each node keeps the set of all nodes before it.
 """
 
-from points import ATOM, Batch, Point, family_of, named_by, reached
-from rules import RULES, rounded
+from entries import place_of, rounded, sharing_of
+from points import ATOM, Batch, Point, family_of, is_on_image, named_by, reached
+from rules import RULES
+from shapes import Shape, box_of, buffer_rows, destination_box, source_box
 
 MOST_OBJECTS = 4_096
 
@@ -36,6 +39,9 @@ class Reading:
         self.dirty = {}
         # The family that owns an exclusive buffer, with the node of its release where it has released it.
         self.owners = {}
+        # The shapes of images, and the current layouts of their subresources that had a transition.
+        self.shapes = {}
+        self.layouts = {}
         # Each access: its node, its buffer, and its bytes from the first to the one after the last.
         self.writes = []
         self.reads_made = []
@@ -55,6 +61,7 @@ class Reading:
         other.dirty = {i: b.copy() for i, b in self.dirty.items()}
         other.signals = {i: s.copy() for i, s in self.signals.items()}
         other.sets = {i: s.copy() for i, s in self.sets.items()}
+        other.layouts = {i: l.copy() for i, l in self.layouts.items()}
         return other
 
     # ---- order
@@ -104,6 +111,8 @@ class Reading:
         for number in range(len(self.nodes)):
             if edges >> number & 1:
                 before |= self.before[number]
+        if node.kind == "element" and node.buffer in self.shapes and is_on_image(node.content):
+            node.parts = list(self.shapes[node.buffer].subresources(node.content[9]))
         self.nodes.append(node)
         self.edges.append(edges)
         self.before.append(before)
@@ -145,7 +154,7 @@ class Reading:
             self.signals.setdefault(semaphore, []).append((value, own[0]))
         elif point.kind == "host":
             self.host_effect(point.content, own)
-        elif point.kind == "command" and name in ("fill", "update", "copy"):
+        elif point.kind == "command" and name not in ("barrier", "set", "await"):
             self.change(point, own[0])
         elif point.kind == "command" and name == "barrier":
             self.hand_over(own)
@@ -153,14 +162,14 @@ class Reading:
             self.sets.setdefault(point.content[1], []).append((point.queue, point.content[2]))
 
     def host_effect(self, entry, own):
-        if entry[0] in ("buffer", "memory", "semaphore", "event"):
+        if entry[0] in ("buffer", "image", "memory", "semaphore", "event"):
             self.made[entry[1]] = (self.count, entry)
         if entry[0] == "semaphore":
             self.counters[entry[1]] = entry[2]
         elif entry[0] in ("map", "unmap"):
             thing = self.mapping(entry[1])
             self.maps[thing] = self.maps.get(thing, 0) + (1 if entry[0] == "map" else -1)
-        elif entry[0] in ("buffer", "memory"):
+        elif entry[0] in ("buffer", "image", "memory"):
             self.make(entry)
         elif entry[0] in ("destroy", "free"):
             self.end(entry[1])
@@ -190,11 +199,14 @@ class Reading:
             self.dirty[buffer][byte] = 0
 
     def make(self, entry):
-        """A buffer gets undefined bytes; a memory object, a buffer's own too, room where its heap has some."""
-        if entry[0] == "buffer":
-            self.values[entry[1]] = bytearray(entry[2])
-            self.defined[entry[1]] = bytearray(entry[2])
-            self.dirty[entry[1]] = bytearray(entry[2])
+        """A resource gets undefined bytes; a memory object, also a resource's own, room where its heap has
+        some."""
+        if entry[0] == "image":
+            self.shapes[entry[1]] = Shape(entry)
+            self.layouts[entry[1]] = {}
+        if entry[0] in ("buffer", "image"):
+            for table in (self.values, self.defined, self.dirty):
+                table[entry[1]] = bytearray(self.size_of(entry[1]))
         heap, size = self.allocated(entry)
         if heap is None:
             return
@@ -215,14 +227,14 @@ class Reading:
         """The heap and the bytes that an entry allocates; no heap where it allocates nothing."""
         if entry[0] == "memory":
             return (0 if entry[2] == 0 else 1), entry[3]
-        if entry[0] == "buffer" and entry[5][0] == "dedicated":
-            return (0 if entry[5][1] == 0 else 1), rounded(entry[2])
+        if entry[0] in ("buffer", "image") and place_of(entry)[0] == "dedicated":
+            return (0 if place_of(entry)[1] == 0 else 1), rounded(entry)
         return None, 0
 
-    def mapping(self, buffer):
-        """What is mapped with a buffer: the memory object of its place, or itself."""
-        place = self.made[buffer][1][5]
-        return place[1] if place[0] == "memory" else buffer
+    def mapping(self, resource):
+        """What is mapped with a resource: the memory object of its place, or itself."""
+        place = place_of(self.made[resource][1])
+        return place[1] if place[0] == "memory" else resource
 
     def give(self, buffer, offset, given):
         """Gives bytes of a buffer values, each with whether it is defined."""
@@ -238,21 +250,41 @@ class Reading:
             self.owners[buffer] = (family, None)
 
     def hand_over(self, own):
-        """The elements of a barrier release buffers, and acquire them."""
+        """The elements of a barrier release resources and acquire them, and change layouts."""
         for number in own:
             node = self.nodes[number]
             family = family_of(node.point.queue)
             if node.half() == "release":
                 self.use(node.buffer, family)
                 self.owners[node.buffer] = (family, number)
-            elif node.half() == "acquire":
+            elif node.half() is None and node.is_transition():
+                self.use(node.buffer, family)
+            if node.is_transition():
+                self.transition(number)
+            if node.half() == "acquire":
                 self.owners[node.buffer] = (family, None)
 
+    def transition(self, number):
+        """Subresources get their new layout, and lose their bytes where the old one was UNDEFINED. All of
+        them are read and written."""
+        node = self.nodes[number]
+        _, _, _, _, _, _, image, old, new, part = node.content
+        for low, high in self.shapes[image].subresources(part):
+            self.layouts[image][low] = new
+            if old == 0:
+                self.defined[image][low:high] = bytes(high - low)
+        self.writes += [(number, image, *part) for part in node.parts]
+        self.reads_made += [(number, image, *part) for part in node.parts]
+
+    def current_layouts(self, image, part):
+        """The layouts that the subresources of levels and layers have."""
+        return {self.layouts[image].get(low, 0) for low, _ in self.shapes[image].subresources(part)}
+
     def change(self, point, number):
-        """A fill, an update or a copy takes effect."""
+        """A fill, an update, a clear or a copy takes effect."""
         command = point.content
-        for buffer in command[1:3] if command[0] == "copy" else command[1:2]:
-            self.use(buffer, family_of(point.queue))
+        for resource in named_by(command):
+            self.use(resource, family_of(point.queue))
         for buffer, low, given in self.given(command):
             self.give(buffer, low, given)
         self.writes += [(number, *r) for r in self.writes_of(command)]
@@ -266,9 +298,15 @@ class Reading:
             return [(command[1], low, [(value, 1) for value in word * ((high - low) // 4)])]
         if command[0] == "update":
             return [(command[1], command[2], [(value, 1) for value in bytes.fromhex(command[3])])]
-        _, source, destination, regions = command
+        if command[0] == "clear":
+            _, image, _, color, _ = command
+            shape = self.shapes[image]
+            texel = [(value, 1) for value in shape.colored(color)]
+            return [(image, low, texel * ((high - low) // shape.texel)) for _, low, high in self.writes_of(command)]
+        source, destination = named_by(command)
         values, defined = self.values[source], self.defined[source]
-        taken = ((to, range(at, at + size)) for at, to, size in regions)
+        rows = zip(self.reads_of(command), self.writes_of(command))
+        taken = ((to, range(low, high)) for (_, low, high), (_, to, _) in rows)
         return [(destination, to, [(values[k], defined[k]) for k in places]) for to, places in taken]
 
     def writes_of(self, item):
@@ -279,7 +317,12 @@ class Reading:
             return [(item[1], item[2], item[2] + len(item[3]) // 2)]
         if item[0] == "copy":
             return [(item[2], to, to + size) for _, to, size in item[3]]
-        return []
+        if item[0] == "clear":
+            parts = (part for each in item[4] for part in self.shapes[item[1]].subresources(each))
+            return [(item[1], *part) for part in parts]
+        if item[0] in ("copy_in", "copy_image"):
+            return self.rows_of(item, named_by(item)[1], destination_box)
+        return self.buffer_ranges(item) if item[0] == "copy_out" else []
 
     def reads_of(self, item):
         """The ranges that it reads."""
@@ -287,7 +330,22 @@ class Reading:
             return [(item[1], item[2], item[2] + item[3])]
         if item[0] == "copy":
             return [(item[1], at, at + size) for at, _, size in item[3]]
-        return []
+        if item[0] in ("copy_out", "copy_image"):
+            return self.rows_of(item, item[1], source_box)
+        return self.buffer_ranges(item) if item[0] == "copy_in" else []
+
+    def rows_of(self, copy, image, box):
+        """The ranges of an image's bytes that a copy reads or writes, row by row."""
+        box = box if copy[0] == "copy_image" else box_of
+        rows = (row for region in copy[-1] for row in self.shapes[image].rows(*box(region)))
+        return [(image, *row) for row in rows]
+
+    def buffer_ranges(self, copy):
+        """The ranges of a buffer's bytes that a copy with an image reads or writes, row by row."""
+        source, destination = named_by(copy)
+        buffer, image = (source, destination) if copy[0] == "copy_in" else (destination, source)
+        texel = self.shapes[image].texel
+        return [(buffer, *row) for region in copy[-1] for row in buffer_rows(region, texel)]
 
     def filled(self, fill):
         """The bytes of a fill, from the first to the one after the last."""
@@ -303,15 +361,18 @@ class Reading:
         number, entry = self.made.get(thing, (0, [None]))
         end = self.ended.get(thing)
         has_ended = end is not None and (until is None or end < until)
-        return entry[0] == kind and (until is None or number < until) and not has_ended
+        kinds = ("buffer", "image") if kind == "resource" else (kind,)
+        return entry[0] in kinds and (until is None or number < until) and not has_ended
 
     def live(self, kind):
         """The entries that made what is live of a kind."""
         return [entry for thing, (_, entry) in self.made.items() if self.is_live(thing, kind)]
 
-    def type_of(self, buffer):
-        """The memory type of a buffer."""
-        place = self.made[buffer][1][5]
+    def type_of(self, resource):
+        """The memory type of a resource."""
+        return self.type_at(place_of(self.made[resource][1]))
+
+    def type_at(self, place):
         return place[1] if place[0] == "dedicated" else self.made[place[1]][1][2]
 
     def is_cached(self, buffer):
@@ -319,7 +380,7 @@ class Reading:
         return self.type_of(buffer) == 2
 
     def is_exclusive(self, buffer):
-        return self.made[buffer][1][4] == "exclusive"
+        return sharing_of(self.made[buffer][1]) == "exclusive"
 
     def is_mapped(self, buffer):
         return buffer in self.made and self.maps.get(self.mapping(buffer), 0) > 0
@@ -334,8 +395,9 @@ class Reading:
                     return True
         return False
 
-    def size_of(self, buffer):
-        return self.made[buffer][1][2]
+    def size_of(self, resource):
+        """How many bytes a buffer or an image has."""
+        return self.shapes[resource].bytes() if resource in self.shapes else self.made[resource][1][2]
 
     def answer(self):
         """What is printed, and the exit status."""
