@@ -34,6 +34,9 @@ pub(crate) fn parts_until(parts: &[Part], units: Units, at: u64, end: u64) -> u6
 {
     let mut until = end;
     for part in parts {
+        if until - at == 1 {
+            return until;
+        }
         until = element_until(&part.element, units, at, until);
     }
     until
