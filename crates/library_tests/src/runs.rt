@@ -7,8 +7,10 @@ use std::test::Fail;
 use vk_model::{At, Config, First, Last, Rule, Scheduler, Seeded};
 use vk_trace::{Outcome, RunError, Status, Watched, run, text};
 
+mod image_table;
 mod table;
 
+use image_table::IMAGES;
 use table::{
     CACHED_ACCESSES, CACHES, Ending, FILL_AND_READ, NO_MEMORY, NO_TRACE, NO_TRACES, REFUSED,
     REPLAYED, TRACES, TWO_FILLS, UPLOADS,
@@ -137,6 +139,14 @@ fn uploads(rt: HostRuntime) {
 fn caches(rt: HostRuntime) {
     let alloc = rt.alloc();
     for (input, output, ending) in CACHES {
+        expect_in_orders(&rt, alloc, input.as_bytes(), output, ending);
+    }
+}
+
+#[test]
+fn images(rt: HostRuntime) {
+    let alloc = rt.alloc();
+    for (input, output, ending) in IMAGES {
         expect_in_orders(&rt, alloc, input.as_bytes(), output, ending);
     }
 }
