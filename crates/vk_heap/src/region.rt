@@ -100,6 +100,7 @@ impl Region {
     }
 
     /// Copies `len` bytes from byte `at` on to `into`, from its byte `to` on, and keeps all others.
+    #[inline(always)]
     pub fn copy_between(&self, at: u64, into: &mut Region, to: u64, len: u64)
         requires from { at + len ≤ length self.now }
         requires room { to + len ≤ length into.old }
@@ -107,7 +108,12 @@ impl Region {
     {
         let bytes = self.block.as_slice();
         let start = at as usize;
-        into.write(to, &bytes[start..start + len as usize]);
+        // Where the compiler knows the length there is no call: texels come in pairs of so many bytes.
+        match len {
+            8 => into.write(to, &bytes[start..start + 8]),
+            16 => into.write(to, &bytes[start..start + 16]),
+            _ => into.write(to, &bytes[start..start + len as usize]),
+        }
     }
 
     /// Copies `len` bytes from byte `at` on, as they were, to byte `to` on, and keeps all others.

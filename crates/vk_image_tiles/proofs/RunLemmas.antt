@@ -1,10 +1,28 @@
 -- The stretches of a row that lie together.
-use Rattle.std.proofs.Common.{◌≡◌, ◌≢◌, ℕ, zero, suc, ◌+◌, ◌-◌, ◌*◌, ◌%◌, ◌<◌, ◌≤◌, refl, sym, subst, arith}
+use Rattle.std.proofs.Common.{[], ◌∷◌, ◌≡◌, ◌≢◌, ℕ, zero, suc, ◌+◌, ◌-◌, ◌*◌, ◌%◌, ◌<◌, ◌≤◌, refl, ap, sym, ◌∙◌, subst, arith, slice_index}
 use Rattle.std.proofs.lemmas.Nat.{same_from_place}
 use Rattle.vk_model.specs.declared.resource.Kind.{Kind}
 use Rattle.vk_model.specs.declared.resource.Kind.TheVariants as kind
 use Rattle.vk_image_tiles.specs.declared.rows.Run.{Run}
-use Rattle.vk_image_tiles.specs.Rows.{TexelRow, EndWithin, IsRun, texels_to, place_in}
+use Rattle.vk_model.specs.Memory.Addresses.{number_in_tile}
+use Rattle.vk_image_tiles.specs.Rows.{TexelRow, ArePairs, EndWithin, IsRun, texels_to, place_in}
+
+-- the pairs of eight texels at these places of their tile
+pairs_of_steps : (place : ℕ → ℕ) (texel x at : ℕ) → at ≡ place x → ((j : ℕ) → j < 8 → place (x + j) ≡ place x + number_in_tile j 0 * texel)
+    → ArePairs place texel x (at ∷ (at + 4 * texel) ∷ (at + 16 * texel) ∷ (at + 20 * texel) ∷ [])
+pairs_of_steps place texel x at is step k low =
+    let first = step (2 * k) (omega arith) in
+    let after : x + 2 * k + 1 ≡ x + (2 * k + 1) = omega arith in
+    let second = ap place after ∙ step (2 * k + 1) (omega arith) in
+    each k low first second
+  where
+    each : (k : ℕ) → k < 4 → place (x + 2 * k) ≡ place x + number_in_tile (2 * k) 0 * texel → place (x + 2 * k + 1) ≡ place x + number_in_tile (2 * k + 1) 0 * texel
+        → (place (x + 2 * k) ≡ slice_index (at ∷ (at + 4 * texel) ∷ (at + 16 * texel) ∷ (at + 20 * texel) ∷ []) k) × (place (x + 2 * k + 1) ≡ slice_index (at ∷ (at + 4 * texel) ∷ (at + 16 * texel) ∷ (at + 20 * texel) ∷ []) k + texel)
+    each zero low first second = (omega (arith, is, first), omega (arith, is, second))
+    each (suc zero) low first second = (omega (arith, is, first), omega (arith, is, second))
+    each (suc (suc zero)) low first second = (omega (arith, is, first), omega (arith, is, second))
+    each (suc (suc (suc zero))) low first second = (omega (arith, is, first), omega (arith, is, second))
+    each (suc (suc (suc (suc k)))) low first second = absurd (omega arith)
 
 module _ (first texel : ℕ) where
   abbrev linear_row : TexelRow
@@ -64,6 +82,24 @@ module _ (first texel : ℕ) where
       each : (k : ℕ) → k < 1 → place_in tiled_row (x + k) ≡ place_in tiled_row x + k * texel
       each zero few = let same : x + 0 ≡ x = omega arith in rw same (omega arith)
       each (suc k) few = absurd (omega arith)
+
+  tile_step : (x : ℕ) → x % 8 ≡ 0 → (j : ℕ) → j < 8 → texels_to kind.Optimal (x + j) ≡ texels_to kind.Optimal x + number_in_tile j 0
+  tile_step x whole zero low = omega arith
+  tile_step x whole (suc zero) low = omega arith
+  tile_step x whole (suc (suc zero)) low = omega arith
+  tile_step x whole (suc (suc (suc zero))) low = omega arith
+  tile_step x whole (suc (suc (suc (suc zero)))) low = omega arith
+  tile_step x whole (suc (suc (suc (suc (suc zero))))) low = omega arith
+  tile_step x whole (suc (suc (suc (suc (suc (suc zero)))))) low = omega arith
+  tile_step x whole (suc (suc (suc (suc (suc (suc (suc zero))))))) low = omega arith
+  tile_step x whole (suc (suc (suc (suc (suc (suc (suc (suc k)))))))) low = absurd (omega arith)
+
+  in_tile : (x : ℕ) → x % 8 ≡ 0 → (j : ℕ) → j < 8 → place_in tiled_row (x + j) ≡ place_in tiled_row x + number_in_tile j 0 * texel
+  in_tile x whole j low = let step : texels_to kind.Optimal (x + j) ≡ texels_to kind.Optimal x + number_in_tile j 0 = tile_step x whole j low in rw step (omega arith)
+
+  -- a row of a tile has four pairs
+  pub tile_pairs : (x at : ℕ) → at ≡ place_in tiled_row x → x % 8 ≡ 0 → ArePairs (place_in tiled_row) texel x (at ∷ (at + 4 * texel) ∷ (at + 16 * texel) ∷ (at + 20 * texel) ∷ [])
+  tile_pairs x at is whole = pairs_of_steps (place_in tiled_row) texel x at is (in_tile x whole)
 
 -- a run of a row whose tiling, start and length are known
 pub run_as : (row : TexelRow) (k : Kind) (x end at texels n : ℕ) → row.tiling ≡ k → at ≡ place_in row x → texels ≡ n

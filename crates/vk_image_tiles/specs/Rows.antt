@@ -1,5 +1,5 @@
 -- Rows of texels, and the stretches of them that lie together.
-use Rattle.std.specs.Prelude.{◌≡◌, ◌≢◌, ℕ, ◌+◌, ◌*◌, ◌/◌, ◌<◌, ◌≤◌}
+use Rattle.std.specs.Prelude.{◌≡◌, ◌≢◌, ℕ, ◌+◌, ◌*◌, ◌/◌, ◌<◌, ◌≤◌, List, slice_index}
 use Rattle.vk_model.specs.declared.resource.Kind.{Kind}
 use Rattle.vk_model.specs.declared.resource.Kind.TheVariants as kind
 use Rattle.vk_model.specs.Memory.Addresses.{number_in_tile}
@@ -31,3 +31,7 @@ pub record IsRun (row : TexelRow) (x end : ℕ) (run : Run) : Type 0 where
   pub ends : x + run.texels ≤ end
   pub together : (k : ℕ) → k < run.texels → place_in row (x + k) ≡ run.at + k * row.texel
   pub longest : x + run.texels < end → place_in row (x + run.texels) ≢ run.at + run.texels * row.texel
+
+-- Of eight texels from texel x on, each of some bytes and at its place, the first and the second lie one after another, and so on, and these are the places of the four pairs.
+abbrev pub ArePairs : (ℕ → ℕ) → (texel x : ℕ) → List ℕ → Type 0
+ArePairs place texel x starts = (k : ℕ) → k < 4 → (place (x + 2 * k) ≡ slice_index starts k) × (place (x + 2 * k + 1) ≡ slice_index starts k + texel)

@@ -1,6 +1,6 @@
-ghost use Rattle.std.specs.Prelude.{◌≡◌, ◌≤◌, ◌<◌, ◌+◌, ◌*◌, ◌/◌};
+ghost use Rattle.std.specs.Prelude.{◌≡◌, ◌≤◌, ◌<◌, ◌+◌, ◌*◌, ◌/◌, IfSome};
 ghost use Rattle.vk_model.specs.Memory.Addresses.{number_in_tile};
-ghost use Rattle.vk_image_tiles.specs.Rows.{IsRun, place_in};
+ghost use Rattle.vk_image_tiles.specs.Rows.{ArePairs, IsRun, place_in};
 
 use std::marker::Model;
 use vk_model::Kind;
@@ -76,6 +76,22 @@ impl Row {
         Run {
             at: self.address(x),
             texels,
+        }
+    }
+
+    /// Of the eight texels from `x` on, which lie together two by two, the first byte of each pair,
+    /// counted from the image's. In an optimal image they are one row of a tile, or `None`.
+    pub fn pairs(&self, x: u32) -> Option<[u64; 4]>
+        ensures { IfSome result (ArePairs (place_in self.now) self.now.texel x) }
+    {
+        let at = self.address(x);
+        let texel = self.texel;
+        match self.tiling {
+            Kind::Linear => Some([at, at + 2 * texel, at + 4 * texel, at + 6 * texel]),
+            Kind::Optimal if x % 8 == 0 => {
+                Some([at, at + 4 * texel, at + 16 * texel, at + 20 * texel])
+            }
+            Kind::Optimal => None,
         }
     }
 }

@@ -3,7 +3,7 @@ use Rattle.std.proofs.Common.{◌≡◌, inl, inr, ℕ, zero, suc, ◌+◌, ◌-
 use Rattle.std.proofs.lemmas.Bool.{cases_lt}
 use Rattle.std.proofs.lemmas.List.FromFn.{length-range_with_len, get_or-range_with_len}
 use Rattle.std.proofs.lemmas.Nat.{mul-le, shr_le}
-use Rattle.std.specs.List.{flat_map, sum_by, range_with_len}
+use Rattle.std.specs.List.{sum_by, range_with_len}
 use Rattle.vk_model.specs.declared.command.BufferImageCopy.{BufferImageCopy}
 use Rattle.vk_model.specs.declared.command.ImageCopy.{ImageCopy}
 use Rattle.vk_model.specs.declared.command.SubresourceRange.{SubresourceRange}
@@ -15,7 +15,7 @@ use Rattle.vk_model.specs.World.ByteWrites.{ByteWrite}
 use Rattle.vk_model.specs.Run.Pieces.{level_pieces, clear_pieces}
 use Rattle.vk_model.specs.Rules.Sizes.{bad_image}
 use Rattle.vk_image_tiles.proofs.Levels.{sum_more}
-use Rattle.vk_image_tiles.proofs.LevelBounds.{counts, few_levels}
+use Rattle.vk_image_tiles.proofs.LevelBounds.{few_levels}
 use Rattle.vk_transfer.specs.Counted.{AreCounted}
 use Rattle.vk_transfer.proofs.Counting.{counted_length, found_at, piece_found}
 use Rattle.vk_image_transfer.specs.Pieces.{piece_in, copy_in_pieces, copy_out_pieces, copy_image_pieces, all_copied_in, all_copied_out, all_copied, all_cleared, copy_rows, level_rows, range_rows, RangeFits}

@@ -1,5 +1,5 @@
 -- The rows that pieces write: they are there, and lie in what is written.
-use Rattle.std.proofs.Common.{◌≡◌, ℕ, zero, suc, ◌+◌, ◌*◌, ◌/◌, ◌%◌, ◌<◌, ap, sym, ◌∙◌, arith}
+use Rattle.std.proofs.Common.{ℕ, zero, suc, ◌+◌, ◌*◌, ◌/◌, ◌%◌, ◌<◌, arith}
 use Rattle.std.proofs.lemmas.Nat.{div_below, mod_below}
 use Rattle.vk_model.specs.declared.command.SubresourceRange.{SubresourceRange}
 use Rattle.vk_model.specs.declared.resource.ImageInfo.{ImageInfo}

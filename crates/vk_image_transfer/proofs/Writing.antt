@@ -6,7 +6,9 @@ use Rattle.std.proofs.lemmas.Grind.{common_steps, elements}
 use Rattle.std.proofs.lemmas.Nat.{div-add-mod', div_below, mod_below, mul-add-lt, mul-le}
 use Rattle.vk_heap.specs.Region.{splice, piece}
 use Rattle.vk_heap.proofs.SpliceLemmas.{length-splice, splice-in, splice-out, length-piece, get_or-piece}
+use Rattle.vk_image_tiles.specs.Rows.{ArePairs}
 use Rattle.vk_image_transfer.specs.Rows.{AreWritten}
+use Rattle.vk_image_transfer.specs.Inner.Lines.{pair_copied, pairs_copied}
 
 pub none_written : (old : List ℕ) (t : ℕ) (place : ℕ → ℕ) (value : ℕ → ℕ → ℕ) → AreWritten old old 0 t place value
 none_written old t place value = record { size = refl; there = λ x p lt. absurd (omega arith); kept = λ k out. refl }
@@ -151,3 +153,37 @@ filled t w place color old mid new n m at size some fits apart so_far few in_old
     rw (is, to_is, size_is)
     (more_written t w place (λ x p. slice_index color p) some apart old mid (take (m * t) color) n m so_far (length_taken color (m * t) few) in_mid fits together
     (λ k p lt low. let inside : k * t + p < t * m = mul-add-lt k t p m lt low in taken color (m * t) (k * t + p) (omega (arith, inside)) few ∙ repeats k p low (omega (arith, inside, few))))
+
+-- ---- texels that are copied by pairs
+
+module _ (t w : ℕ) (place from : ℕ → ℕ) (source old : List ℕ) (some : 0 < t) (apart : (x p u q : ℕ) → x < w → u < w → p < t → q < t → place x + p ≡ place u + q → x ≡ u)
+    (room : (x : ℕ) → x < w → place x + t ≤ length old) (there : (x : ℕ) → x < w → from x + t ≤ length source) (n : ℕ) (fits : n + 8 ≤ w) (reads writes : List ℕ) where
+  -- pair k of a line lies together
+  pair_together : (f : ℕ → ℕ) (starts : List ℕ) → ArePairs f t n starts → (k : ℕ) → k < 4 → (j : ℕ) → j < 2 → f (n + 2 * k + j) ≡ f (n + 2 * k) + j * t
+  pair_together f starts pairs k low zero few = let same : n + 2 * k + 0 ≡ n + 2 * k = omega arith in rw same (omega arith)
+  pair_together f starts pairs k low (suc zero) few = let pair = pairs k low in omega (arith, pair.0, pair.1)
+  pair_together f starts pairs k low (suc (suc j)) few = absurd (omega arith)
+
+  -- a pair ends in what holds its texels
+  pub pair_ends : (f : ℕ → ℕ) (starts : List ℕ) (size : ℕ) → ArePairs f t n starts → ((x : ℕ) → x < w → f x + t ≤ size) → (k : ℕ) → k < 4 → slice_index starts k + 2 * t ≤ size
+  pair_ends f starts size pairs inside k low = let pair = pairs k low in let last = inside (n + 2 * k + 1) (omega arith) in omega (arith, pair.1, last)
+
+  pair_moved : ArePairs place t n writes → ArePairs from t n reads → (mid : List ℕ) (k : ℕ) → k < 4 → AreWritten old mid (n + 2 * k) t place (λ x p. slice_index source (from x + p))
+      → AreWritten old (pair_copied source reads writes (2 * t) k mid) (n + 2 * k + 2) t place (λ x p. slice_index source (from x + p))
+  pair_moved to of mid k low so_far =
+      moved t w place from source old mid source (pair_copied source reads writes (2 * t) k mid) (n + 2 * k) 2 (slice_index writes k) (slice_index reads k) (2 * t) some (omega arith) (omega arith) apart so_far room there
+      (pair_together place writes to k low) (pair_together from reads of k low) (λ x p lt less. refl) (sym (to k low).0) (sym (of k low).0) refl refl
+
+  written_to : (a b : ℕ) (new : List ℕ) → a ≡ b → AreWritten old new a t place (λ x p. slice_index source (from x + p)) → AreWritten old new b t place (λ x p. slice_index source (from x + p))
+  written_to a b new same = subst (λ (c : ℕ). AreWritten old new c t place (λ x p. slice_index source (from x + p))) same
+
+  pub pairs_moved : (mid : List ℕ) → ArePairs place t n writes → ArePairs from t n reads → AreWritten old mid n t place (λ x p. slice_index source (from x + p))
+      → AreWritten old (pairs_copied source reads writes (2 * t) mid) (n + 8) t place (λ x p. slice_index source (from x + p))
+  pairs_moved mid to of so_far =
+      let one = pair_moved to of mid 0 (omega arith) (written_to n (n + 2 * 0) mid (omega arith) so_far) in
+      let two = pair_moved to of (pair_copied source reads writes (2 * t) 0 mid) 1 (omega arith) (written_to (n + 2 * 0 + 2) (n + 2 * 1) (pair_copied source reads writes (2 * t) 0 mid) (omega arith) one) in
+      let three = pair_moved to of (pair_copied source reads writes (2 * t) 1 (pair_copied source reads writes (2 * t) 0 mid)) 2 (omega arith)
+      (written_to (n + 2 * 1 + 2) (n + 2 * 2) (pair_copied source reads writes (2 * t) 1 (pair_copied source reads writes (2 * t) 0 mid)) (omega arith) two) in
+      let four = pair_moved to of (pair_copied source reads writes (2 * t) 2 (pair_copied source reads writes (2 * t) 1 (pair_copied source reads writes (2 * t) 0 mid))) 3 (omega arith)
+      (written_to (n + 2 * 2 + 2) (n + 2 * 3) (pair_copied source reads writes (2 * t) 2 (pair_copied source reads writes (2 * t) 1 (pair_copied source reads writes (2 * t) 0 mid))) (omega arith) three) in
+      written_to (n + 2 * 3 + 2) (n + 8) (pairs_copied source reads writes (2 * t) mid) (omega arith) four

@@ -1,4 +1,5 @@
-ghost use Rattle.std.specs.Prelude.{◌≡◌, ◌+◌, ◌*◌, ◌^◌, ◌<◌, ◌≤◌, ℕ};
+ghost use Rattle.std.specs.Prelude.{◌≡◌, ◌+◌, ◌*◌, ◌^◌, ◌<◌, ◌≤◌, ℕ, IfSome};
+ghost use Rattle.vk_image_tiles.specs.Rows.{ArePairs};
 ghost use Rattle.vk_image_transfer.specs.Inner.Lines.{line_place, line_texel, line_first};
 
 use vk_image_tiles::Row;
@@ -54,6 +55,30 @@ impl Line {
                     at: start + run.at,
                     texels: run.texels,
                 }
+            }
+        }
+    }
+
+    /// Of the eight texels from `x` on, where they lie together two by two, the first byte of each
+    /// pair.
+    pub(crate) fn pairs(&self, x: u32) -> Option<[u64; 4]>
+        requires numbers { line_first self.now + x + 8 ≤ 4294967296 }
+        requires places { (k : ℕ) → k < 8 → line_place self.now (x + k) < 2 ^ 64 }
+        ensures { IfSome result (ArePairs (line_place self.now) (line_texel self.now) x) }
+    {
+        match *self {
+            Line::Buffer { at, texel } => {
+                let first = at + u64::from(x) * texel;
+                Some([
+                    first,
+                    first + 2 * texel,
+                    first + 4 * texel,
+                    first + 6 * texel,
+                ])
+            }
+            Line::Image { start, first, row } => {
+                let [one, two, three, four] = row.pairs(first + x)?;
+                Some([start + one, start + two, start + three, start + four])
             }
         }
     }

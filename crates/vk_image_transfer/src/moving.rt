@@ -1,10 +1,13 @@
 ghost use Rattle.std.specs.Prelude.{◌≡◌, ◌+◌, ◌*◌, ◌<◌, ◌≤◌, ℕ, length, slice_index};
-ghost use Rattle.vk_image_transfer.specs.Inner.Lines.{line_place, LineFits, LineApart};
+ghost use Rattle.vk_image_transfer.specs.Inner.Lines.{line_place, pairs_copied, LineFits, LineApart};
 ghost use Rattle.vk_image_transfer.specs.Rows.{AreWritten, RowsApart};
 
 use crate::colors::COLORED;
 use crate::lines::Line;
 use vk_heap::Region;
+
+/// The texels of four pairs.
+const PAIRED: u32 = 8;
 
 /// Copies the first texels of a line of one region to a line of another.
 pub(crate) fn copy_texels(
@@ -25,12 +28,39 @@ pub(crate) fn copy_texels(
     let _sizes = (source.size(), destination.size());
     let mut x = 0;
     while x < texels {
-        let read = from.together(x, texels);
-        let written = to.together(x, x + read.texels);
-        let size = u64::from(written.texels) * texel;
-        source.copy_between(read.at, destination, written.at, size);
-        x += written.texels;
+        if texels - x >= PAIRED
+            && let Some(reads) = from.pairs(x)
+            && let Some(writes) = to.pairs(x)
+        {
+            copy_pairs(source, &reads, destination, &writes, 2 * texel);
+            x += PAIRED;
+        } else {
+            let read = from.together(x, texels);
+            let written = to.together(x, x + read.texels);
+            let size = u64::from(written.texels) * texel;
+            source.copy_between(read.at, destination, written.at, size);
+            x += written.texels;
+        }
     }
+}
+
+/// Copies four pairs of texels, which have so many bytes each, from where they begin to where they
+/// begin.
+fn copy_pairs(
+    source: &Region,
+    reads: &[u64; 4],
+    destination: &mut Region,
+    writes: &[u64; 4],
+    size: u64,
+)
+    requires read { (k : ℕ) → k < 4 → slice_index reads.now k + size ≤ length source.now }
+    requires room { (k : ℕ) → k < 4 → slice_index writes.now k + size ≤ length destination.old }
+    ensures { destination.new ≡ pairs_copied source.now reads.now writes.now size destination.old }
+{
+    source.copy_between(reads[0], destination, writes[0], size);
+    source.copy_between(reads[1], destination, writes[1], size);
+    source.copy_between(reads[2], destination, writes[2], size);
+    source.copy_between(reads[3], destination, writes[3], size);
 }
 
 /// Copies the first texels of a line to another line of the same region, which shares none of their

@@ -1,5 +1,6 @@
 -- Texels in a line, each at its place in a region.
-use Rattle.std.specs.Prelude.{◌≡◌, ℕ, ◌+◌, ◌*◌, ◌<◌, ◌≤◌, ◌==◌, if◌then◌else◌}
+use Rattle.std.specs.Prelude.{◌≡◌, ℕ, ◌+◌, ◌*◌, ◌<◌, ◌≤◌, ◌==◌, if◌then◌else◌, List, slice_index}
+use Rattle.vk_heap.specs.Region.{splice, piece}
 use Rattle.vk_image_tiles.specs.Rows.{place_in}
 use Rattle.vk_image_transfer.specs.declared.lines.Line.{Line}
 use Rattle.vk_image_transfer.specs.declared.lines.Line.TheVariants as line
@@ -32,3 +33,12 @@ LineApart l count t = (x p u q : ℕ) → x < count → u < count → p < t → 
 -- How many rows a region has; none where it has no texel.
 abbrev pub rows_of : (width height layers : ℕ) → ℕ
 rows_of width height layers = if width == 0 then 0 else layers * height
+
+-- A region of memory with the bytes of pair k of some texels copied, from where they begin in another one.
+abbrev pub pair_copied : List ℕ → (reads writes : List ℕ) → (size k : ℕ) → List ℕ → List ℕ
+pair_copied source reads writes size k bytes = splice bytes (slice_index writes k) (piece source (slice_index reads k) size)
+
+-- The same of four pairs, one after another.
+abbrev pub pairs_copied : List ℕ → (reads writes : List ℕ) → (size : ℕ) → List ℕ → List ℕ
+pairs_copied source reads writes size bytes =
+    pair_copied source reads writes size 3 (pair_copied source reads writes size 2 (pair_copied source reads writes size 1 (pair_copied source reads writes size 0 bytes)))

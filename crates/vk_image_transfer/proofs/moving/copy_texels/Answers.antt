@@ -1,7 +1,22 @@
-use Rattle.std.proofs.Common.{◌≡◌, ◌≤◌, ℕ, ap, ◌+◌, ◌*◌, length, refl, arith}
+use Rattle.std.proofs.Common.{List, ◌≡◌, ◌≤◌, ℕ, ap, sym, subst, ◌+◌, ◌*◌, length, slice_index, refl, arith}
+use Rattle.vk_image_tiles.specs.Rows.{ArePairs}
 use Rattle.vk_image_transfer.specs.Inner.Lines.{line_place, line_texel}
-use Rattle.vk_image_transfer.proofs.Writing.{first_at, together_at, run_ends, moved, all_written}
+use Rattle.vk_image_transfer.specs.Rows.{AreWritten}
+use Rattle.vk_image_transfer.proofs.Writing.{first_at, together_at, run_ends, moved, pairs_moved, all_written}
 use Rattle.vk_image_transfer.proofs.moving.copy_texels.Goals as goal
+
+pub loop-x-preserved-in-loop-x : goal.loop-x-preserved-in-loop-x
+loop-x-preserved-in-loop-x c =
+    let left = c.if-texels-x-ge-PAIRED.true in
+    let within = c.loop-x.invariant.within in
+    let fits : c.loop-x.x + 8 ≤ c.args.texels = omega (arith, left, within) in
+    let to : ArePairs (line_place c.args.to.now) c.args.texel c.loop-x.x c.in-Some-pairs.writes = subst (λ (t : ℕ). ArePairs (line_place c.args.to.now) t c.loop-x.x c.in-Some-pairs.writes) c.requires.room.texel c.in-Some-pairs.ensures in
+    let of : ArePairs (line_place c.args.from.now) c.args.texel c.loop-x.x c.in-Some.reads = subst (λ (t : ℕ). ArePairs (line_place c.args.from.now) t c.loop-x.x c.in-Some.reads) c.requires.read.texel c.in-Some.ensures in
+    record {
+      within = fits;
+      written = subst (λ (bytes : List ℕ). AreWritten c.args.destination.now bytes (c.loop-x.x + 8) c.args.texel (line_place c.args.to.now) (λ x p. slice_index c.args.source.now (line_place c.args.from.now x + p))) (sym c.copy_pairs.ensures)
+          (pairs_moved c.args.texel c.args.texels (line_place c.args.to.now) (line_place c.args.from.now) c.args.source.now c.args.destination.now c.requires.some c.requires.apart c.requires.room.inside c.requires.read.inside c.loop-x.x fits c.in-Some.reads c.in-Some-pairs.writes c.loop-x.destination to of c.loop-x.invariant.written);
+    }
 
 pub overflow_mul-size : goal.overflow_mul-size
 overflow_mul-size c =

@@ -1,5 +1,4 @@
-use Rattle.std.proofs.Common.{◌≡◌, ◌*◌, ap, ◌∙◌, arith}
-use Rattle.vk_image_transfer.specs.Pieces.{level_rows}
+use Rattle.std.proofs.Common.{arith}
 use Rattle.vk_image_transfer.proofs.AllPieces.{level_few, more_rows, rows_read}
 use Rattle.vk_image_transfer.proofs.ranges.rows_of.Goals as goal
 

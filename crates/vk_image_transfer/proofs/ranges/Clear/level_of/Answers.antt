@@ -1,4 +1,4 @@
-use Rattle.std.proofs.Common.{◌≡◌, arith}
+use Rattle.std.proofs.Common.{arith}
 use Rattle.vk_image_transfer.proofs.AllPieces.{more_rows, rows_read}
 use Rattle.vk_image_transfer.proofs.ranges.Clear.level_of.Goals as goal
 

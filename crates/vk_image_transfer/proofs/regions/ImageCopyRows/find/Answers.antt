@@ -1,4 +1,4 @@
-use Rattle.std.proofs.Common.{List, length, get_or, ap, sym, subst, ◌∙◌}
+use Rattle.std.proofs.Common.{List, get_or, ap, sym, subst, ◌∙◌}
 use Rattle.std.specs.List.{Contains}
 use Rattle.vk_model.specs.declared.command.ImageCopy.{ImageCopy}
 use Rattle.vk_image_transfer.specs.Pieces.{piece_in, all_copied, copy_rows}
