@@ -1,19 +1,15 @@
 -- The elements of one barrier: each comes after the nodes that it would come after alone.
-use Rattle.std.proofs.Common.{◌≡◌, ◌⊎◌, inl, inr, ℕ, ◌≤◌, ◌<◌, ◌+◌, List, [], ◌∷◌, ◌++◌, length, Bool, true, false, ◌||◌, ◌&&◌, not, ◌==◌, IsTrue, Some, refl, ap, sym, ◌∙◌, subst, arith, ⊎_elim, map}
+use Rattle.std.proofs.Common.{◌≡◌, ◌⊎◌, inl, inr, ℕ, ◌≤◌, List, [], ◌∷◌, length, Bool, true, false, ◌||◌, ◌&&◌, not, IsTrue, refl, ap, sym, ◌∙◌, subst, arith, ⊎_elim, map}
 use Rattle.std.specs.Prelude.{Contains, nat_lt}
-use Rattle.std.specs.List.{find, filter, list_any}
+use Rattle.std.specs.List.{filter}
 use Rattle.std.proofs.lemmas.Bool.{eq-eqb, lt-ltb, le-ltb}
 use Rattle.vk_model.specs.declared.command.Element.{Element}
-use Rattle.vk_model.specs.Basics.{holds}
 use Rattle.vk_model.specs.Trace.Point.{Point}
-use Rattle.vk_model.specs.World.Ownership.{named_by}
 use Rattle.vk_model.specs.Sync.Node.{Node, Act, Depends, Barrier, with_acts, same_place}
 use Rattle.vk_model.specs.Sync.Edge.{edge, earlier}
 use Rattle.vk_model.specs.Sync.Before.{before, IsNumbered}
 use Rattle.vk_model.proofs.Lists.Members.{contains-cons, contains-tail}
 use Rattle.vk_model.proofs.Lists.Truths.{clash}
-use Rattle.vk_model.proofs.Sync.Numbers.{number_below}
-use Rattle.vk_order.specs.Prefixes.{Leads}
 use Rattle.vk_order.proofs.ByEdges.{by_last, by_edge, old_before, edge_barrier}
 
 -- two tests that hold together are equal

@@ -32,9 +32,9 @@ use Rattle.vk_order.specs.Inner.Clocks.{same_line}
 use Rattle.vk_order.specs.Inner.Kept.{clock_at}
 use Rattle.vk_order.specs.Inner.Tallies.{lines_of}
 use Rattle.vk_order.specs.Inner.Parts.{IsPart, part_of, parts_at, AreFrom, AreInOrder, asked_of, opens, Serves}
-use Rattle.vk_order.specs.Inner.Alone.{AlwaysShows}
+use Rattle.vk_order.specs.Inner.Alone.{AlwaysShows, AlwaysMarks}
 use Rattle.vk_order.specs.Inner.Rows.{KnowsOne}
-use Rattle.vk_order.proofs.KnownRows.{at_old}
+use Rattle.vk_order.proofs.KnownRows.{at_old, old_edge}
 use Rattle.vk_order.proofs.LimitedLemmas.{seen_by_transition}
 use Rattle.vk_order.proofs.ServeLemmas.{seen_served, answered_any, sent_covers, open_covers, part_reached, reach_later}
 
@@ -174,6 +174,17 @@ reached_each f part write from b reaches = λ ns n w cached k numbers is own wro
     let reached = part_reached (n ∷ ns) numbers (lines_of f.tallies.items) n part own w write.line write.place (contains-tail n ns w wrote.there) on (at_old ns n numbers write.line w wrote.there ∙ at) in
     sym (law.1 (w, inl refl, reached.0 reaches))
 
+-- a byte that one part is on as on one of which it makes the write available, where that is known at the transition
+pub marked_alone : (f : Frontier) (part : Part) (write : Spot) (from : ℕ) (b c : Byte) (x : Part) → (AreInOrder (parts_at f.parts (resource_at b)) → Contains (parts_at f.parts (resource_at b)) x)
+    → covers x.element c ≡ covers x.element b → AlwaysMarks f part write b x → SaysSeenAt f part write from c true
+marked_alone f part write from b c x kept same marks = λ ns n w cached k numbers is own wrote on at le.
+    let of = is.parts.each (resource_at b) x (kept (is.parts.ordered (resource_at b))) in
+    let alone = marks ns n w of.0 uncached numbers own of.1 wrote.there on at in
+    let first = and_parts (is_command w.act && makes_writes_available uncached ns of.0 b of.0.act) (edge ns w of.0) alone.0 in
+    let second = and_parts (is_command w.act) (makes_writes_available uncached ns of.0 b of.0.act) first.0 in
+    let sends = sends_alike (n ∷ ns) n of.0 k b c uncached cached (x.element, of.1.act, same) second.1 in
+    sym ((seen_by_transition ns n numbers cached w k c wrote Barrier part.element own.act).1 (of.0, inr (second.0, contains-tail n ns of.0 of.1.there, of.1.limited, sends, old_edge ns n numbers w of.0 of.1.there ∙ first.1), alone.1))
+
 module _ (f : Frontier) (part : Part) (from : ℕ) (b c : Byte) (alike : AreAlike f from b c) (own_alike : covers part.element c ≡ covers part.element b)
     (ns : List Node) (n w : Node) (k : seen.Access) (numbers : IsNumbered (n ∷ ns)) (is : IsFrontier f ns) (own : IsPart (n ∷ ns) (lines_of f.tallies.items) n part) (le : from ≤ w.number) where
   mark_alike : (was cached : Byte → Bool) (m : Node) → IsMark was (n ∷ ns) b w m → IsMark cached (n ∷ ns) c w m
@@ -218,6 +229,13 @@ pub units_shown : (f : Frontier) (s : Sight) (write : Spot) (from : ℕ) (access
 units_shown f s write from access (units.Bytes b) at next x = shown_alone f s write from access (in_buffer b at) (in_buffer b next) x
 units_shown f s write from access (units.Subresources i levels) at next x =
     shown_alone f s write from access (in_image i (at % levels) (at / levels) 0 0 0) (in_image i (next % levels) (next / levels) 0 0 0) x
+
+-- a unit that one part is on as on one of which it makes the write available, where that is known at the transition
+pub units_marked : (f : Frontier) (part : Part) (write : Spot) (from : ℕ) (u : Units) (at next : ℕ) (x : Part) → (AreInOrder (parts_at f.parts (units_resource u)) → Contains (parts_at f.parts (units_resource u)) x)
+    → covers x.element (unit_byte u next) ≡ covers x.element (unit_byte u at) → AlwaysMarks f part write (unit_byte u at) x → SaysSeenAt f part write from (unit_byte u next) true
+units_marked f part write from (units.Bytes b) at next x = marked_alone f part write from (in_buffer b at) (in_buffer b next) x
+units_marked f part write from (units.Subresources i levels) at next x =
+    marked_alone f part write from (in_image i (at % levels) (at / levels) 0 0 0) (in_image i (next % levels) (next / levels) 0 0 0) x
 
 -- a unit that the same parts are on is seen alike by a transition
 pub units_alike_at : (f : Frontier) (part : Part) (write : Spot) (from : ℕ) (u : Units) (at next : ℕ) (kept parts : List Part) → kept ≡ parts_at f.parts (units_resource u) → (AreInOrder kept → AreFrom from kept parts)

@@ -1,19 +1,21 @@
-ghost use Rattle.std.specs.Prelude.{◌≡◌, ◌≤◌, ◌∷◌, ◌&&◌, ◌↔◌, ◌<◌, ℕ, List, Bool, true, false, IfOk, IfSome, IfNone, Some, length, IsTrue, Contains};
+ghost use Rattle.std.specs.Prelude.{◌≡◌, ◌≤◌, ◌∷◌, ◌&&◌, ◌↔◌, ◌<◌, ℕ, List, Bool, true, false, IfOk, IfSome, IfNone, Some, length, slice_get, IsTrue, Contains};
 ghost use Rattle.vk_model.specs.World.Bytes as world;
 ghost use Rattle.vk_model.specs.Sync.Node.{Node};
 ghost use Rattle.vk_model.specs.Sync.Edge.{edge, is_command};
 ghost use Rattle.vk_model.specs.Sync.Before.{IsNumbered};
 ghost use Rattle.vk_model.specs.Sync.Seen.{Access as AnyAccess, seen, makes_writes_available};
+ghost use Rattle.vk_order.specs.declared.parts.Part.{Part as AnyPart};
 ghost use Rattle.vk_order.specs.PointViews.{act_of, point_of};
 ghost use Rattle.vk_order.specs.Bytes.{byte_of};
 ghost use Rattle.vk_order.specs.Lines.{line_of};
 ghost use Rattle.vk_order.specs.Limited.{is_limited, Reaches, IsWrite};
+ghost use Rattle.vk_order.specs.Inner.Alone.{AlwaysMarks, NeverMarks};
 ghost use Rattle.vk_order.specs.Inner.Clocks.{place};
-ghost use Rattle.vk_order.specs.Inner.Parts.{parts_at, AreFrom, IsPart, IsOwnPart};
+ghost use Rattle.vk_order.specs.Inner.Parts.{parts_at, AreInOrder, AreFrom, IsPart, IsOwnPart};
 ghost use Rattle.vk_order.specs.Inner.Tallies.{lines_of};
 ghost use Rattle.vk_order.specs.Frontiers.{IsFrontier, IsSight, IsFrom};
 ghost use Rattle.vk_order.specs.SeenWrites.{SaysSeenAt};
-ghost use Rattle.vk_order.specs.Units.{HaveNumbers, unit_byte};
+ghost use Rattle.vk_order.specs.Units.{HaveNumbers, unit_byte, units_resource};
 
 use crate::acts::Row;
 use crate::bytes::Byte;
@@ -85,13 +87,39 @@ impl Frontier {
         let parts = parts_from(self.parts_on(units.resource()), from);
         let mut at = low;
         while at < high {
-            if !self.is_seen_at(part, write, from, units.byte(at)) {
-                return Some(at);
+            match self.marked_until(part, parts, write, units, at, high) {
+                Some(until) => at = until,
+                None => {
+                    if !self.is_seen_at(part, write, from, units.byte(at)) {
+                        return Some(at);
+                    }
+                    let until = parts_until(parts, units, at, high);
+                    at = element_until(&part.element, units, at, until);
+                }
             }
-            let until = parts_until(parts, units, at, high);
-            at = element_until(&part.element, units, at, until);
         }
         None
+    }
+
+    /// Up to where, and at most to an end, one of some parts makes a write available from a unit on,
+    /// and what it marks is known at another part that comes next.
+    fn marked_until(
+        &self,
+        part: &Part,
+        parts: &[Part],
+        write: Spot,
+        units: Units,
+        at: u64,
+        end: u64,
+    ) -> Option<u64>
+        requires order { at < end }
+        requires numbers { HaveNumbers units end }
+        ensures further { IfSome result (λ until. at < until) }
+        ensures seen { IfSome result (λ until. (from : ℕ) → (AreInOrder (parts_at self.now.parts (units_resource units)) → AreFrom from (parts_at self.now.parts (units_resource units)) parts.now)
+            → (k : ℕ) → at ≤ k → k < until → SaysSeenAt self.now part.now write from (unit_byte units k) true) }
+    {
+        let index = self.marked_by(part, parts, write, units.byte(at))?;
+        Some(element_until(&parts[index].element, units, at, end))
     }
 
     /// Whether parts make a write available, and what one of them marks is known at another one
@@ -101,19 +129,28 @@ impl Frontier {
             → from ≤ w.number → Contains ns w → line_of w ≡ Some write.line → place ns write.line w.number ≡ write.place
             → IsTrue result ↔ ((m : Node) × Contains ns m × IsTrue (is_limited m.act) × IsTrue (is_command w.act && makes_writes_available cached ns m (byte_of byte) m.act && edge ns w m) × Reaches (n ∷ ns) m n) }
     {
-        for mark in parts {
-            if self.is_mark_at(part, mark, write, byte) {
-                return true;
+        self.marked_by(part, parts, write, byte).is_some()
+    }
+
+    /// The index of the first of some parts that makes a write available, and of which what it marks
+    /// is known at another part that comes next.
+    fn marked_by(&self, part: &Part, parts: &[Part], write: Spot, byte: Byte) -> Option<usize>
+        ensures within { IfSome result (λ i. i < length parts.now) }
+        ensures marks { IfSome result (λ i. (x : AnyPart) → slice_get parts.now i ≡ Some x → AlwaysMarks self.now part.now write (byte_of byte) x) }
+        ensures none { IfNone result ((x : AnyPart) → Contains parts.now x → NeverMarks self.now part.now write (byte_of byte) x) }
+    {
+        for index in 0..parts.len() {
+            if self.is_mark_at(part, &parts[index], write, byte) {
+                return Some(index);
             }
         }
-        false
+        None
     }
 
     /// Whether one part makes a write available, and what it marks is known at another one.
     fn is_mark_at(&self, part: &Part, mark: &Part, write: Spot, byte: Byte) -> bool
-        ensures { (ns : List Node) (n w m : Node) (cached : world.Byte → Bool) → IsNumbered (n ∷ ns) → IsPart (n ∷ ns) (lines_of self.now.tallies.items) n part.now → IsPart ns (lines_of self.now.tallies.items) m mark.now
-            → Contains ns w → line_of w ≡ Some write.line → place ns write.line w.number ≡ write.place
-            → IsTrue result ↔ (IsTrue (is_command w.act && makes_writes_available cached ns m (byte_of byte) m.act && edge ns w m) × Reaches (n ∷ ns) m n) }
+        ensures marks { result ≡ true → AlwaysMarks self.now part.now write (byte_of byte) mark.now }
+        ensures none { result ≡ false → NeverMarks self.now part.now write (byte_of byte) mark.now }
     {
         mark.marks(write, byte) && self.reaches(part, mark.spot())
     }

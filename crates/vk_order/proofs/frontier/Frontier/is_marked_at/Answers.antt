@@ -1,56 +1,57 @@
-use Rattle.std.proofs.Common.{◌≡◌, ◌&&◌, Some, ⊎_elim, refl, ap, sym, ◌∙◌, subst, length, arith}
+use Rattle.std.proofs.Common.{◌≡◌, ◌↔◌, ◌≤◌, ◌<◌, ◌∷◌, ◌&&◌, ℕ, List, Bool, Option, Some, None, IsTrue, IfSome, IfNone, ⊎_elim, refl, sym, subst, length, arith, is_some}
 use Rattle.std.specs.Prelude.{slice_get, Contains}
-use Rattle.std.proofs.lemmas.Bool.{cases_lt, and_parts}
-use Rattle.std.proofs.lemmas.Option.{slice_get_read, slice_get-get_or}
-use Rattle.vk_model.specs.World.Bytes.{resource_at}
+use Rattle.std.proofs.lemmas.Bool.{and_parts}
+use Rattle.std.proofs.lemmas.Option.{slice_get_cases}
+use Rattle.vk_model.specs.World.Bytes.{Byte, resource_at}
+use Rattle.vk_model.specs.Sync.Node.{Node}
 use Rattle.vk_model.specs.Sync.Edge.{edge, is_command}
+use Rattle.vk_model.specs.Sync.Before.{IsNumbered}
 use Rattle.vk_model.specs.Sync.Seen.{makes_writes_available}
 use Rattle.vk_model.proofs.Sync.Paths.{edge_forward}
 use Rattle.vk_model.proofs.Lists.Members.{place_has}
-use Rattle.vk_model.proofs.Lists.Truths.{no, clash}
+use Rattle.vk_model.proofs.Lists.Truths.{no}
+use Rattle.vk_order.specs.declared.frontier.Frontier.{Frontier}
 use Rattle.vk_order.specs.declared.parts.Part.{Part}
+use Rattle.vk_order.specs.declared.parts.Spot.{Spot}
 use Rattle.vk_order.specs.Bytes.{byte_of}
-use Rattle.vk_order.specs.Inner.Parts.{IsPart}
+use Rattle.vk_order.specs.Lines.{line_of}
+use Rattle.vk_order.specs.Limited.{is_limited, Reaches}
+use Rattle.vk_order.specs.Frontiers.{IsFrontier}
+use Rattle.vk_order.specs.Inner.Alone.{AlwaysMarks, NeverMarks}
+use Rattle.vk_order.specs.Inner.Clocks.{place}
+use Rattle.vk_order.specs.Inner.Parts.{IsPart, AreFrom, parts_at}
 use Rattle.vk_order.specs.Inner.Tallies.{lines_of}
 use Rattle.vk_order.proofs.ServeLemmas.{sent_covers}
 use Rattle.vk_order.proofs.frontier.Frontier.is_marked_at.Goals as goal
 
-inside : (a b : Part) → Some a ≡ Some b → a ≡ b
-inside a b e = cc
-
-pub returns-then-is_mark_at : goal.returns-then-is_mark_at
-returns-then-is_mark_at c = λ ns n w cached from numbers is part parts le hw on at.
-    let xs = c.args.parts.now in
-    let i = c.loop-mark.mark-index in
-    let x = c.mark-item.result in
-    let there : slice_get xs i ≡ Some x = slice_get_read xs (length xs) i x refl c.loop-mark-test.true c.mark-item.is in
-    let of = is.parts.each (resource_at (byte_of c.args.byte)) x (parts.within x (place_has xs i x there)) in
-    let both = (c.is_mark_at.ensures ns n w of.0 cached numbers part of.1 hw on at).0 c.if-is_mark_at.true in
-    ((λ h. (of.0, of.1.there, of.1.limited, both.0, both.1)), (λ s. refl))
-
-pub loop-mark-preserved : goal.loop-mark-preserved
-loop-mark-preserved c = λ ns n w m cached numbers part hw on at i x lt e kept both.
-    ⊎_elim
-    (λ low. c.loop-mark.invariant ns n w m cached numbers part hw on at i x low e kept both)
-    (λ high.
-    let xs = c.args.parts.now in
-    let k = c.loop-mark.mark-index in
-    let here : slice_get xs k ≡ Some c.mark-item.result = slice_get_read xs (length xs) k c.mark-item.result refl c.loop-mark-test.true c.mark-item.is in
-    let at_k : k ≡ i = omega arith in
-    let same : x ≡ c.mark-item.result = inside x c.mark-item.result (sym e ∙ ap (slice_get xs) (sym at_k) ∙ here) in
-    clash ((c.is_mark_at.ensures ns n w m cached numbers part (subst (λ (y : Part). IsPart ns (lines_of c.args.self.now.tallies.items) m y) same kept) hw on at).1 both) c.if-is_mark_at.false)
-    (cases_lt i c.loop-mark.mark-index)
+module _ (f : Frontier) (part : Part) (write : Spot) (b : Byte) (xs : List Part) (ns : List Node) (n w : Node) (cached : Byte → Bool) (from : ℕ) (numbers : IsNumbered (n ∷ ns)) (is : IsFrontier f ns) (own : IsPart (n ∷ ns) (lines_of f.tallies.items) n part)
+    (among : AreFrom from (parts_at f.parts (resource_at b)) xs) (le : from ≤ w.number) (hw : Contains ns w) (on : line_of w ≡ Some write.line) (at : place ns write.line w.number ≡ write.place) where
+  by_index : (r : Option ℕ) → IfSome r (λ i. i < length xs) → IfSome r (λ i. (x : Part) → slice_get xs i ≡ Some x → AlwaysMarks f part write b x) → IfNone r ((x : Part) → Contains xs x → NeverMarks f part write b x)
+      → IsTrue (is_some r) ↔ ((m : Node) × Contains ns m × IsTrue (is_limited m.act) × IsTrue (is_command w.act && makes_writes_available cached ns m b m.act && edge ns w m) × Reaches (n ∷ ns) m n)
+  by_index (Some i) lt marks none = (
+    (λ h. ⊎_elim
+        (λ there.
+        let of = is.parts.each (resource_at b) there.0 (among.within there.0 (place_has xs i there.0 there.2)) in
+        let both = marks there.0 there.2 ns n w of.0 cached numbers own of.1 hw on at in
+        (of.0, of.1.there, of.1.limited, both.0, both.1))
+        (λ past. let far = past.0 in absurd (omega arith))
+        (slice_get_cases xs i).1),
+    (λ h. refl),
+  )
+  by_index None lt marks none = (
+    (λ h. no h),
+    (λ (m, hm, lim, marked, reached).
+        let e = and_parts (is_command w.act && makes_writes_available cached ns m b m.act) (edge ns w m) marked in
+        let sends = (and_parts (is_command w.act) (makes_writes_available cached ns m b m.act) e.0).1 in
+        let kept = is.parts.all (resource_at b) m hm (sent_covers cached ns b m m.act lim sends) in
+        let up = edge_forward ns w m e.1 in
+        let has : Contains xs kept.0 = among.newer kept.0 kept.1 (let of = kept.2.number in omega arith) in
+        absurd (none kept.0 has ns n w m cached numbers own kept.2 hw on at (marked, reached))),
+  )
 
 pub returns : goal.returns
-returns c = λ ns n w cached from numbers is part parts le hw on at. (
-  (λ h. no h),
-  (λ (m, hm, lim, marks, reached).
-      let xs = c.args.parts.now in
-      let b = byte_of c.args.byte in
-      let sends = (and_parts (is_command w.act) (makes_writes_available cached ns m b m.act) (and_parts (is_command w.act && makes_writes_available cached ns m b m.act) (edge ns w m) marks).0).1 in
-      let kept = is.parts.all (resource_at b) m hm (sent_covers cached ns b m m.act lim sends) in
-      let up = edge_forward ns w m (and_parts (is_command w.act && makes_writes_available cached ns m b m.act) (edge ns w m) marks).1 in
-      let has : Contains xs kept.0 = parts.newer kept.0 kept.1 (let of = kept.2.number in omega arith) in
-      let there : slice_get xs has.0 ≡ Some kept.0 = slice_get-get_or xs has.0 kept.0 has.1 ∙ ap Some has.2 in
-      absurd (c.loop-mark.invariant ns n w m cached numbers part hw on at has.0 kept.0 (let i = has.1 in let j = c.loop-mark-test.false in omega arith) there kept.2 (marks, reached))),
-)
+returns c = λ ns n w cached from numbers is part parts le hw on at.
+    subst
+    (λ (t : Bool). IsTrue t ↔ ((m : Node) × Contains ns m × IsTrue (is_limited m.act) × IsTrue (is_command w.act && makes_writes_available cached ns m (byte_of c.args.byte) m.act && edge ns w m) × Reaches (n ∷ ns) m n))
+    (sym c.is_some.ensures)
+    (by_index c.args.self.now c.args.part.now c.args.write (byte_of c.args.byte) c.args.parts.now ns n w cached from numbers is part parts le hw on at c.marked_by.result c.marked_by.ensures.within c.marked_by.ensures.marks c.marked_by.ensures.none)
