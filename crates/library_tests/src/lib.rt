@@ -27,4 +27,6 @@ mod ready;
 #[cfg(test)]
 mod runs;
 #[cfg(test)]
+mod texels;
+#[cfg(test)]
 mod transfer;

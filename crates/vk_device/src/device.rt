@@ -1,9 +1,9 @@
-ghost use Rattle.std.specs.Prelude.{◌≡◌, ℕ, ◌⊎◌, ◌++◌, ◌∷◌, ◌+◌, ◌≤◌, [], List, length, map, option_map, true, false, IfOk, IfErr, IsTrue, OnErr, OnOk, if◌then◌else◌};
+ghost use Rattle.std.specs.Prelude.{◌≡◌, ℕ, ◌⊎◌, ◌++◌, ◌∷◌, ◌+◌, ◌≤◌, [], List, length, map, option_map, true, false, IfOk, IfSome, IfErr, IsTrue, OnErr, OnOk, if◌then◌else◌};
 ghost use Rattle.vk_model.specs.Trace.Point.{Past};
 ghost use Rattle.vk_model.specs.Run.Runs.{Step, Stage, Apply, applied, offered};
 ghost use Rattle.vk_memory.specs.MemoryState.{IsLive, region_of};
 ghost use Rattle.vk_heap.specs.Region.{piece};
-ghost use Rattle.vk_resources.specs.Held.{placed, spot_of};
+ghost use Rattle.vk_resources.specs.Held.{placed, spot_of, IsSpotIn};
 ghost use Rattle.vk_resources.specs.Allocating.{Rooms, Allots};
 ghost use Rattle.vk_offers.specs.IsOffers.{name_of};
 ghost use Rattle.vk_sync.specs.Ready.{ready};
@@ -313,9 +313,11 @@ impl<'a> Device<'a> {
         Ok(())
     }
 
-    /// Where a resource lies, by its id; none where there is no such resource.
+    /// Where a resource lies, by its id, inside a live memory object; none where there is no such
+    /// resource.
     pub fn spot(&self, resource: u32) -> Option<Spot>
-        ensures { result ≡ option_map spot_of (placed self.now.resources resource) }
+        ensures there { result ≡ option_map spot_of (placed self.now.resources resource) }
+        ensures inside { IfSome result (IsSpotIn self.now.resources.memory) }
     {
         self.resources.spot(resource)
     }

@@ -158,3 +158,9 @@ seen_at s c = value_through (host_at s c) (byte_at s c)
 -- Where a resource lies in memory (Vulkan, "Resource Memory Association").
 abbrev pub spot_of : Placed → Spot
 spot_of p = record { memory = p.object; offset = p.offset; size = p.size }
+
+-- Such a place has bytes, all of which are of a memory object that is live (Vulkan, "Resource Memory Association").
+pub record IsSpotIn (memory : MemoryState) (s : Spot) : Type 0 where
+  pub live : IsLive memory s.memory
+  pub some : 0 < s.size
+  pub room : s.offset + s.size ≤ length (region_of memory s.memory)

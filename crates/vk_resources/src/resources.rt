@@ -1,4 +1,4 @@
-ghost use Rattle.std.specs.Prelude.{◌≡◌, ℕ, ◌+◌, ◌≤◌, [], List, Option, Some, IsSome, length, option_map};
+ghost use Rattle.std.specs.Prelude.{◌≡◌, ℕ, ◌+◌, ◌≤◌, [], List, Option, Some, IfSome, IsSome, length, option_map};
 ghost use Rattle.vk_memory.specs.MemoryState.{IsLive, region_of};
 ghost use Rattle.vk_heap.specs.Region.{piece};
 
@@ -64,7 +64,7 @@ impl Model for Resources {
 }
 
 impl Resources {
-    ghost use Rattle.vk_resources.specs.Held.{placed, flat, spot_of};
+    ghost use Rattle.vk_resources.specs.Held.{placed, flat, spot_of, IsSpotIn};
     ghost use Rattle.vk_resources.specs.Inner.Steps.{cached_at};
 
     /// No resources, on heaps of these sizes. It takes no memory.
@@ -126,9 +126,11 @@ impl Resources {
         }
     }
 
-    /// Where a resource lies, by its id; none where there is no such resource.
+    /// Where a resource lies, by its id, inside a live memory object; none where there is no such
+    /// resource.
     pub fn spot(&self, resource: u32) -> Option<Spot>
-        ensures { result ≡ option_map spot_of (placed self.now resource) }
+        ensures there { result ≡ option_map spot_of (placed self.now resource) }
+        ensures inside { IfSome result (IsSpotIn self.now.memory) }
     {
         match self.resources.get(&resource) {
             Some(placed) => Some(Spot {
