@@ -1,0 +1,63 @@
+-- Lemmas on records of slots as two lists.
+use Rattle.std.proofs.Common.{◌≡◌, ℕ, zero, suc, ◌-◌, List, [], ◌∷◌, ◌++◌, length, get_or, set, map, drop, replicate, Option, None, refl, sym, ap, ◌∙◌}
+use Rattle.std.proofs.lemmas.List.{length-map, map-set, map-append, drop-replicate}
+use Rattle.std.proofs.Math.Seq.{map-set_same}
+use Rattle.vk_nodes.specs.declared.node.Node.{Node}
+use Rattle.vk_nodes.specs.declared.slot.Slot.{Slot}
+use Rattle.vk_nodes.specs.Inner.Columns.{Columns, columns, seen, entry, empty_slot}
+
+pub map-replicate : {A B : Type 0} (f : A → B) (n : ℕ) (a : A) → map f (replicate n a) ≡ replicate n (f a)
+map-replicate f zero a = refl
+map-replicate f (suc n) a = ap (λ l. f a ∷ l) (map-replicate f n a)
+
+pub map-drop : {A B : Type 0} (f : A → B) (n : ℕ) (l : List A) → map f (drop n l) ≡ drop n (map f l)
+map-drop f zero l = refl
+map-drop f (suc n) [] = refl
+map-drop f (suc n) (x ∷ l) = map-drop f n l
+
+module _ (slots all : List Slot) (v : Columns) (view : columns slots ≡ v) (is : all ≡ slots) (k : ℕ) (x : Slot) where
+  pub nodes-set : map seen (set all k x) ≡ set v.nodes k (seen x)
+  nodes-set = map-set seen all k x ∙ ap (λ (l : List Slot). set (map seen l) k (seen x)) is ∙ ap (λ (w : Columns). set w.nodes k (seen x)) view
+
+  pub names-set : map entry (set all k x) ≡ set v.names k (entry x)
+  names-set = map-set entry all k x ∙ ap (λ (l : List Slot). set (map entry l) k (entry x)) is ∙ ap (λ (w : Columns). set w.names k (entry x)) view
+
+  pub nodes-kept : seen x ≡ seen (get_or all k empty_slot) → map seen (set all k x) ≡ v.nodes
+  nodes-kept e = map-set_same seen all k x empty_slot e ∙ ap (λ (l : List Slot). map seen l) is ∙ ap (λ (w : Columns). w.nodes) view
+
+  pub names-kept : entry x ≡ entry (get_or all k empty_slot) → map entry (set all k x) ≡ v.names
+  names-kept e = map-set_same entry all k x empty_slot e ∙ ap (λ (l : List Slot). map entry l) is ∙ ap (λ (w : Columns). w.names) view
+
+module _ (slots : List Slot) (n : ℕ) (e : Slot) (is_empty : e ≡ empty_slot) (all : slots ≡ replicate n e) where
+  pub nodes-new : map seen slots ≡ replicate n None
+  nodes-new = ap (λ (l : List Slot). map seen l) all ∙ map-replicate seen n e ∙ ap (λ (x : Slot). replicate n (seen x)) is_empty
+
+  pub names-new : map entry slots ≡ replicate n 0
+  names-new = ap (λ (l : List Slot). map entry l) all ∙ map-replicate entry n e ∙ ap (λ (x : Slot). replicate n (entry x)) is_empty
+
+-- records copied over the first of others
+module _ (new some mid all : List Slot) (old : Columns) (view : columns all ≡ old) (from : mid ≡ all) (over : new ≡ some ++ drop (length some) mid) where
+  is : new ≡ some ++ drop (length some) all
+  is = over ∙ ap (λ (l : List Slot). some ++ drop (length some) l) from
+
+  pub nodes-over : map seen new ≡ map seen some ++ drop (length some) old.nodes
+  nodes-over = ap (λ (l : List Slot). map seen l) is ∙ map-append seen some (drop (length some) all) ∙ ap (λ (l : List (Option Node)). map seen some ++ l) (map-drop seen (length some) all ∙ ap (λ (w : Columns). drop (length some) w.nodes) view)
+
+  pub names-over : map entry new ≡ map entry some ++ drop (length some) old.names
+  names-over = ap (λ (l : List Slot). map entry l) is ∙ map-append entry some (drop (length some) all) ∙ ap (λ (l : List ℕ). map entry some ++ l) (map-drop entry (length some) all ∙ ap (λ (w : Columns). drop (length some) w.names) view)
+
+-- records copied over the first of fresh ones
+module _ (some all : List Slot) (old : Columns) (size : ℕ) (view : columns all ≡ old) (is : some ≡ all) where
+  long : length some ≡ length old.nodes
+  long = sym (length-map some seen) ∙ ap (λ (l : List Slot). length (map seen l)) is ∙ ap (λ (w : Columns). length w.nodes) view
+
+  rest : {A : Type 0} (fresh : List A) (a : A) → fresh ≡ replicate size a → drop (length some) fresh ≡ replicate (size - length old.nodes) a
+  rest fresh a e = ap (λ l. drop (length some) l) e ∙ drop-replicate (length some) size a ∙ ap (λ (n : ℕ). replicate (size - n) a) long
+
+  pub nodes-longer : (fresh new : List (Option Node)) → fresh ≡ replicate size None → new ≡ map seen some ++ drop (length some) fresh → new ≡ old.nodes ++ replicate (size - length old.nodes) None
+  nodes-longer fresh new e h =
+      h ∙ ap (λ (l : List Slot). map seen l ++ drop (length some) fresh) is ∙ ap (λ (w : Columns). w.nodes ++ drop (length some) fresh) view ∙ ap (λ (l : List (Option Node)). old.nodes ++ l) (rest fresh None e)
+
+  pub names-longer : (fresh new : List ℕ) → fresh ≡ replicate size 0 → new ≡ map entry some ++ drop (length some) fresh → new ≡ old.names ++ replicate (size - length old.nodes) 0
+  names-longer fresh new e h =
+      h ∙ ap (λ (l : List Slot). map entry l ++ drop (length some) fresh) is ∙ ap (λ (w : Columns). w.names ++ drop (length some) fresh) view ∙ ap (λ (l : List ℕ). old.names ++ l) (rest fresh 0 e)

@@ -1,0 +1,8 @@
+pub mod SlotLemmas
+mod ColumnLemmas
+mod StackLemmas
+mod FilledLemmas
+mod BlockRows
+mod BlockValues
+mod BlockWalks
+mod BlockCrossing

@@ -1,0 +1,9 @@
+use Rattle.std.proofs.Common.{refl}
+use Rattle.vk_nodes.proofs.ColumnLemmas.{nodes-set, names-kept}
+use Rattle.vk_nodes.proofs.store.Store.release.Goals as goal
+
+pub returns-clause-nodes : goal.returns-clause-nodes
+returns-clause-nodes c = nodes-set _ _ _ c.self.view_is c.as_mut_slice-slots.ensures.value.0 _ _
+
+pub returns-clause-names : goal.returns-clause-names
+returns-clause-names c = names-kept _ _ _ c.self.view_is c.as_mut_slice-slots.ensures.value.0 _ _ refl

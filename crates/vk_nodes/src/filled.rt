@@ -1,0 +1,137 @@
+ghost use Rattle.std.specs.Prelude.{◌≡◌, ◌<◌, ◌+◌, ◌^◌, ◌++◌, IfOk, IsOk, OnErr, MatchOption, length, replicate, set, get_or};
+ghost use Rattle.vk_nodes.specs.Slots.{IsHeld, AllHeld, Hands, free_count};
+
+use crate::node::Node;
+use crate::store::Store;
+use std::alloc::{AllocError, Global};
+use std::marker::Model;
+
+/// How many records there are at first, at least.
+const FIRST: usize = 16;
+
+/// The most records that there can be, each named by 32 bits.
+const MOST: usize = u32::MAX as usize;
+
+/// Slots in a store, which may have more records than there are slots. The free ones among the
+/// slots that were used are a stack: its entries are the names in the first records.
+#[derive(Drop)]
+pub(crate) struct Filled {
+    store: Store,
+    slots: usize,
+    used: usize,
+    free: usize,
+}
+
+impl Model for Filled {
+    ghost use Rattle.std.specs.Prelude.{List, Option};
+    ghost use Rattle.vk_nodes.specs.declared.node.Node.{Node};
+    ghost use Rattle.vk_nodes.specs.Inner.IsFilled.{IsFilled, slots_seen};
+
+    ghost Value = { List (Option Node) };
+
+    ghost view = { λ f. slots_seen f.used f.slots f.store.nodes };
+
+    ghost invariant = { IsFilled };
+}
+
+impl Filled {
+    /// So many slots, all free. The only error is want of memory.
+    pub(crate) fn new(alloc: Global, slots: usize) -> Result<Filled, AllocError>
+        requires { slots < 2 ^ 32 }
+        ensures { IfOk result (λ f. f ≡ replicate slots None) }
+    {
+        let store = Store::new(alloc, slots.max(FIRST))?;
+        Ok(Filled {
+            store,
+            slots,
+            used: 0,
+            free: 0,
+        })
+    }
+
+    /// How many slots there are.
+    pub(crate) fn slots(&self) -> usize
+        ensures count { result ≡ length self.now }
+        ensures few { result < 2 ^ 32 }
+    {
+        self.slots
+    }
+
+    /// How many of them are free.
+    pub(crate) fn free_slots(&self) -> usize
+        ensures { result ≡ free_count self.now }
+    {
+        self.free + (self.slots - self.used)
+    }
+
+    /// Adds free slots. The only error is want of memory, and changes nothing.
+    pub(crate) fn reserve(&mut self, more: usize) -> Result<(), AllocError>
+        requires { length self.old + more < 2 ^ 32 }
+        ensures ok { IsOk result → self.new ≡ self.old ++ replicate more None }
+        ensures err { OnErr result (self.new ≡ self.old) }
+    {
+        let slots = self.slots + more;
+        let size = self.store.size();
+        if slots > size {
+            self.store = self.store.longer(slots.max((2 * size).min(MOST)))?;
+        }
+        self.slots = slots;
+        Ok(())
+    }
+
+    /// A slot that was free, and now holds an empty node.
+    pub(crate) fn take(&mut self) -> Option<u32>
+        ensures { MatchOption result ((AllHeld self.old) × (self.new ≡ self.old)) (λ slot. Hands self.old self.new slot) }
+    {
+        if self.free > 0 {
+            self.free -= 1;
+            let slot = self.store.name(self.free);
+            self.store.hold(slot as usize, Node::empty());
+            return Some(slot);
+        }
+        if self.used < self.slots {
+            let slot = self.used;
+            self.used += 1;
+            self.store.hold(slot, Node::empty());
+            return Some(slot as u32);
+        }
+        None
+    }
+
+    /// Frees a slot.
+    pub(crate) fn give(&mut self, slot: u32)
+        requires { IsHeld self.old slot }
+        ensures { self.new ≡ set self.old slot None }
+    {
+        self.store.release(slot as usize);
+        self.store.set_name(self.free, slot);
+        self.free += 1;
+    }
+
+    /// The node in a slot.
+    pub(crate) fn get(&self, slot: u32) -> Node
+        requires { IsHeld self.now slot }
+        ensures { get_or self.now slot None ≡ Some result }
+    {
+        self.store.node(slot as usize)
+    }
+
+    /// The node in a slot, or none where the slot is free or there is no such slot.
+    pub(crate) fn find(&self, slot: u32) -> Option<Node>
+        ensures { result ≡ get_or self.now slot None }
+    {
+        if (slot as usize) < self.used {
+            self.store.find(slot as usize)
+        } else {
+            None
+        }
+    }
+
+    /// Puts another node into a slot.
+    pub(crate) fn set(&mut self, slot: u32, node: Node)
+        requires { IsHeld self.old slot }
+        ensures { self.new ≡ set self.old slot (Some node) }
+    {
+        self.store.hold(slot as usize, node);
+    }
+}

@@ -1,0 +1,12 @@
+//! Slots of nodes in raw memory.
+#![tactic(auto)]
+
+mod block;
+mod filled;
+mod node;
+mod nodes;
+mod slot;
+mod store;
+
+pub use node::{Node, RangeState};
+pub use nodes::Nodes;
