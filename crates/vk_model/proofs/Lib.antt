@@ -4,4 +4,4 @@ pub mod World
 pub mod Sync
 pub mod Rules
 mod Run
-mod Memory
+pub mod Memory

@@ -1,6 +1,7 @@
 pub mod HeapSizes
 pub mod Addresses
 pub mod Suballocation
+pub mod TakenRanges
 pub mod Room
 pub mod LinearBlocks
 pub mod MoveTargets

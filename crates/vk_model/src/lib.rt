@@ -42,5 +42,5 @@ pub use rule::{At, Rule};
 pub use scheduler::{First, Last, Scheduler, Seeded};
 pub use sequence::Sequence;
 pub use statistics::Statistics;
-pub use suballoc::{SubFault, Suballoc};
+pub use suballoc::{SubFault, Suballoc, TakenRange};
 pub use subresource::SubresourceLayout;

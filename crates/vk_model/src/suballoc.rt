@@ -12,6 +12,17 @@ pub enum SubFault {
     NoMemory,
 }
 
+/// A range of bytes that is taken in a block, as `VmaVirtualAllocationInfo`.
+#[derive(Clone, Copy, PartialEq, Eq, Debug)]
+pub struct TakenRange {
+    /// Where it starts in the block, in bytes.
+    pub start: u64,
+    /// Its bytes.
+    pub size: u64,
+    /// How the bytes of its resource lie.
+    pub kind: Kind,
+}
+
 /// Places allocations in one block of memory, as a block of a VMA pool. Contracts see the ranges that
 /// are taken.
 pub trait Suballoc {
