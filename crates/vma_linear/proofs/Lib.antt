@@ -1,0 +1,9 @@
+mod SlotLists
+mod Searching
+mod Tidying
+mod Following
+mod Finding
+mod Places
+mod BlockSteps
+mod Widths
+mod SoundBlocks

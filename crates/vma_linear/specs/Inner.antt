@@ -1,0 +1,4 @@
+pub mod Slots
+pub mod Gaps
+pub mod Blocks
+pub mod Widest
