@@ -1,0 +1,4 @@
+mod WalkLemmas
+mod PoolLemmas
+mod RoomLemmas
+mod FreeLemmas

@@ -1,0 +1,57 @@
+-- What pools are asked, and what they are seen as.
+use Rattle.std.specs.Prelude.{◌≡◌, ◌⊎◌, ℕ, ◌%◌, ◌^◌, ◌<◌, ◌==◌, List, [], ◌∷◌, ◌++◌, length, get_or, take, drop, ◌+◌, Any, Bool, Some, if◌then◌else◌}
+use Rattle.vk_model.specs.declared.resource.PoolInfo.{PoolInfo}
+use Rattle.vk_model.specs.Memory.Suballocation.{Request, IsTakenAt}
+use Rattle.vk_model.specs.Memory.Room.{Heaps}
+use Rattle.vk_model.specs.Memory.MoveTargets.{BlockStart}
+use Rattle.vk_model.specs.Memory.Pools.{Pool, Gives, block_taken, pool_with}
+use Rattle.vk_memory.specs.MemoryState.{MemoryState, fresh, sizes_on, live_count}
+
+-- What a pool may be made with: blocks of some bytes, in units of 16 (profile).
+pub record IsPoolInfo (info : PoolInfo) : Type 0 where
+  pub some : 0 < info.block_size
+  pub units : info.block_size % 16 ≡ 0
+  pub small : info.block_size < 2 ^ 40
+
+-- A pool, and the number of the memory object that each of its blocks is, in their order (VMA, "Custom memory pools").
+pub record Kept : Type 0 where
+  pub pool : Pool
+  pub memories : List ℕ
+
+-- A pool gave a request this place in a block that it has; the memory objects of its blocks are as they were.
+pub record TakesOld (old new : Kept) (r : Request) (upper : Bool) (s : BlockStart) : Type 0 where
+  pub given : Gives old.pool r upper s
+  pub has : s.block < old.pool.next
+  pub pool : new.pool ≡ pool_with old.pool r upper s
+  pub memories : new.memories ≡ old.memories
+
+-- A pool gave a request this place in a new block, which is a new memory object.
+pub record TakesNew (old new : Kept) (before after : MemoryState) (r : Request) (upper : Bool) (s : BlockStart) : Type 0 where
+  pub given : Gives old.pool r upper s
+  pub is_new : s.block ≡ old.pool.next
+  pub pool : new.pool ≡ pool_with old.pool r upper s
+  pub memories : new.memories ≡ old.memories ++ length before.objects ∷ []
+  pub object : after ≡ record before { objects = before.objects ++ Some (fresh old.pool.info.memory_type old.pool.info.block_size) ∷ [] }
+
+-- A pool gave a request this place, in a block that it has, where no memory object is new, or in a new one.
+abbrev pub Takes : Kept → Kept → MemoryState → MemoryState → Request → Bool → BlockStart → Type 0
+Takes old new before after r upper s = (TakesOld old new r upper s × (after ≡ before)) ⊎ TakesNew old new before after r upper s
+
+-- The heaps of memory objects: their sizes, what is used of each, and how many objects are live (Vulkan, "Device Memory").
+abbrev pub heaps : MemoryState → Heaps
+heaps m = record {
+  limit = λ h. if h == 0 then m.sizes.heap0 else m.sizes.heap1;
+  used = λ h. sizes_on (h == 0) m.objects;
+  objects = live_count m.objects;
+}
+
+-- A range of a pool is taken that starts at this place.
+abbrev pub HasTaken : Pool → BlockStart → Type 0
+HasTaken p s = Any (λ b. (b.number ≡ s.block) × IsTakenAt s.start (block_taken b.block)) p.blocks
+
+-- One of some numbers is left out.
+pub record Loses (old new : List ℕ) (gone : ℕ) : Type 0 where
+  pub index : ℕ
+  pub there : index < length old
+  pub is : get_or old index 0 ≡ gone
+  pub left : new ≡ take index old ++ drop (index + 1) old

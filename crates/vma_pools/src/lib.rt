@@ -1,0 +1,8 @@
+//! Pools of memory: blocks of which ranges are taken.
+#![tactic(auto)]
+
+mod blocks;
+mod pool;
+mod room;
+
+pub use room::PoolBlock;

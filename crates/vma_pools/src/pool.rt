@@ -1,0 +1,170 @@
+ghost use Rattle.std.specs.Prelude.{◌≡◌, [], ◌<◌, ◌≤◌, ◌^◌, nat_le, length, All, IfNone, IfSome, IfOk, IsOk, OnErr, IsErrOf};
+ghost use Rattle.vk_model.specs.Memory.Suballocation.{IsRequest};
+ghost use Rattle.vk_model.specs.Memory.Room.{BlockHolds, NoRoomInPool};
+ghost use Rattle.vk_model.specs.Memory.Pools.{empty_pool, pool_without, state_of};
+ghost use Rattle.vma_pools.specs.Pools.{HasTaken, Loses, TakesOld, TakesNew};
+ghost use Rattle.vma_pools.specs.Pools.{Takes, heaps};
+ghost use Rattle.vk_memory.specs.MemoryState.{IsFull};
+ghost use Rattle.vma_pools.specs.Pools.{IsPoolInfo};
+
+use crate::blocks::{Held, begin_block, index_of, take_in};
+use crate::room::PoolBlock;
+use std::alloc::Global;
+use std::marker::Model;
+use vk_memory::{Memories, MemoryError};
+use vk_model::{Kind, PoolInfo, SubFault, blocks_give, pool_stays};
+
+/// A place in a pool.
+#[derive(Clone, Copy, Debug, PartialEq, Eq)]
+pub struct PoolPlace {
+    /// The number of the block.
+    pub block: u64,
+    /// Where it starts there, in bytes.
+    pub start: u64,
+}
+
+/// A pool: its blocks by rising number, each a memory object.
+#[derive(Drop)]
+pub(crate) struct PoolOf<B: PoolBlock> {
+    info: PoolInfo,
+    blocks: Vec<Held<B>>,
+    next: u64,
+}
+
+impl<B: PoolBlock> Model for PoolOf<B> {
+    ghost use Rattle.vk_model.specs.Memory.Pools.{IsPool};
+    ghost use Rattle.vma_pools.specs.Pools.{Kept, IsPoolInfo};
+
+    ghost Value = { Kept };
+
+    ghost use Rattle.vma_pools.specs.Inner.Walk.{kept_of};
+
+    ghost view = { λ p. kept_of B.block p.info p.blocks.items p.next };
+
+    ghost invariant = { λ p. IsPool (kept_of B.block p.info p.blocks.items p.next).pool × IsPoolInfo p.info };
+}
+
+impl<B: PoolBlock> PoolOf<B> {
+    /// A pool without blocks.
+    pub(crate) fn new(alloc: Global, info: PoolInfo) -> PoolOf<B>
+        requires { IsPoolInfo info }
+        ensures { result ≡ record { pool = empty_pool info; memories = [] } }
+    {
+        PoolOf {
+            info,
+            blocks: Vec::new(alloc),
+            next: 0,
+        }
+    }
+
+    /// Takes a range of the first block that holds the request.
+    pub(crate) fn take(
+        &mut self,
+        bytes: u64,
+        align: u64,
+        kind: Kind,
+        upper: bool,
+    ) -> Result<PoolPlace, SubFault>
+        requires { IsRequest bytes align }
+        ensures ok { IfOk result (λ s. TakesOld self.old self.new (record { size = bytes; align = align; kind = kind }) upper (record { block = s.block; start = s.start })) }
+        ensures no_room { IsErrOf result SubFault.NoRoom → All (λ b. BlockHolds b.block (record { size = bytes; align = align; kind = kind }) upper → ⊥) self.old.pool.blocks }
+        ensures err { OnErr result (self.new ≡ self.old) }
+    {
+        pool_stays();
+        let (index, start) = take_in(&mut self.blocks, bytes, align, kind, upper)?;
+        let block = self.blocks[index].number;
+        Ok(PoolPlace { block, start })
+    }
+    /// Takes a range of a new block, where no block holds the request.
+    pub(crate) fn take_new(
+        &mut self,
+        alloc: Global,
+        memories: &mut Memories,
+        bytes: u64,
+        align: u64,
+        kind: Kind,
+        upper: bool,
+    ) -> Result<PoolPlace, MemoryError>
+        requires request { IsRequest bytes align }
+        requires fits { bytes ≤ self.old.pool.info.block_size }
+        requires none { All (λ b. BlockHolds b.block (record { size = bytes; align = align; kind = kind }) upper → ⊥) self.old.pool.blocks }
+        requires numbers { self.old.pool.next < 2 ^ 32 }
+        ensures ok { IfOk result (λ s. TakesNew self.old self.new memories.old memories.new (record { size = bytes; align = align; kind = kind }) upper (record { block = s.block; start = s.start })) }
+        ensures room { IsOk result → IsFull memories.old self.old.pool.info.memory_type self.old.pool.info.block_size → ⊥ }
+        ensures full { IsErrOf result MemoryError.NoRoom → IsFull memories.old self.old.pool.info.memory_type self.old.pool.info.block_size }
+        ensures pool { OnErr result (self.new ≡ self.old) }
+        ensures memories { OnErr result (memories.new ≡ memories.old) }
+    {
+        pool_stays();
+        self.blocks.reserve(1)?;
+        let fresh = begin_block::<B>(alloc, self.info, bytes, align, kind, upper)?;
+        let memory = memories.allocate(self.info.memory_type, self.info.block_size)?;
+        let block = self.next;
+        self.blocks.push_reserved(Held {
+            number: block,
+            memory,
+            block: fresh.block,
+        });
+        self.next += 1;
+        Ok(PoolPlace {
+            block,
+            start: fresh.start,
+        })
+    }
+    /// Whether the pool has as many blocks as it may have.
+    fn is_at_limit(&self) -> bool
+        ensures { result ≡ nat_le self.now.pool.info.block_limit (length self.now.pool.blocks) }
+    {
+        self.info.block_limit as usize <= self.blocks.len()
+    }
+
+    /// Takes a range of the first block that holds the request, or of a new one where none does.
+    pub(crate) fn allocate(
+        &mut self,
+        alloc: Global,
+        memories: &mut Memories,
+        bytes: u64,
+        align: u64,
+        kind: Kind,
+        upper: bool,
+    ) -> Result<PoolPlace, MemoryError>
+        requires request { IsRequest bytes align }
+        requires fits { bytes ≤ self.old.pool.info.block_size }
+        requires numbers { self.old.pool.next < 2 ^ 32 }
+        ensures ok { IfOk result (λ s. Takes self.old self.new memories.old memories.new (record { size = bytes; align = align; kind = kind }) upper (record { block = s.block; start = s.start })) }
+        ensures room { IsOk result → NoRoomInPool (heaps memories.old) (state_of self.old.pool) (record { size = bytes; align = align; kind = kind }) upper → ⊥ }
+        ensures no_room { IsErrOf result MemoryError.NoRoom → NoRoomInPool (heaps memories.old) (state_of self.old.pool) (record { size = bytes; align = align; kind = kind }) upper }
+        ensures pool { OnErr result (self.new ≡ self.old) }
+        ensures memories { OnErr result (memories.new ≡ memories.old) }
+    {
+        blocks_give();
+        match self.take(bytes, align, kind, upper) {
+            Ok(place) => Ok(place),
+            Err(SubFault::NoMemory) => Err(MemoryError::NoMemory),
+            Err(SubFault::NoRoom) => {
+                if self.is_at_limit() {
+                    return Err(MemoryError::NoRoom);
+                }
+                self.take_new(alloc, memories, bytes, align, kind, upper)
+            }
+        }
+    }
+    /// Gives back a range, and answers the memory object of its block where that has gone, since
+    /// nothing is left of it.
+    pub(crate) fn free(&mut self, place: PoolPlace) -> Option<u64>
+        requires { HasTaken self.old.pool (record { block = place.block; start = place.start }) }
+        ensures pool { self.new.pool ≡ pool_without self.old.pool (record { block = place.block; start = place.start }) }
+        ensures kept { IfNone result (self.new.memories ≡ self.old.memories) }
+        ensures gone { IfSome result (λ memory. Loses self.old.memories self.new.memories memory) }
+    {
+        pool_stays();
+        let index = index_of(&self.blocks, place.block);
+        let held = &mut self.blocks[index];
+        held.block.free(place.start);
+        if !held.block.is_empty() {
+            return None;
+        }
+        let gone = self.blocks.remove(index);
+        Some(gone.memory)
+    }
+}
