@@ -1,6 +1,5 @@
 -- Blocks of which the same is taken, in whatever order it is listed.
-use Rattle.std.specs.Prelude.{◌≡◌, ℕ, List, ⊤, IsPermutation}
-use Rattle.vk_model.specs.Memory.Suballocation.{Taken}
+use Rattle.std.specs.Prelude.{◌≡◌, ⊤, IsPermutation}
 use Rattle.vk_model.specs.Memory.Room.{Block, General, Stack}
 
 -- Two blocks have one size and the same ranges; of linear ones the order of the ranges counts too (VMA, "Custom memory pools" and "Linear allocation algorithm").
