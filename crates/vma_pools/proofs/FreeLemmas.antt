@@ -7,8 +7,10 @@ use Rattle.std.proofs.lemmas.List.Elements.{All-head, All-tail}
 use Rattle.std.proofs.lemmas.List.{length-map, map-set, get_or-set_same}
 use Rattle.std.proofs.Math.Seq.{map-set_same}
 use Rattle.vk_model.specs.declared.resource.PoolInfo.{PoolInfo}
-use Rattle.vk_model.specs.Memory.PlaceLaws.{PoolStays}
 use Rattle.vma_pools.specs.Pools.{Kept, Loses}
+use Rattle.vma_blocks.specs.Alike.{IsAlike}
+use Rattle.vma_pools.specs.Alike.{AreAlike, IsAlikePool}
+use Rattle.vma_pools.proofs.PoolAlike.{are-set, are-filtered}
 use Rattle.vma_pools.proofs.PoolLemmas.{in_block-set}
 use Rattle.vk_model.specs.Memory.Suballocation.{IsTakenAt}
 use Rattle.vk_model.specs.Memory.Room.{Block, is_none_left}
@@ -124,7 +126,7 @@ map-cut f [] (suc i) = refl
 map-cut f (x ∷ xs) zero = refl
 map-cut f (x ∷ xs) (suc i) = ap (λ l. f x ∷ l) (map-cut f xs i)
 
-module _ {B : Type 0} (block : B → Block) (law : PoolStays) (info : PoolInfo) (xs : List (Held B)) (next : ℕ) (h : IsPool (kept_of block info xs next).pool) (now : Kept) (view : kept_of block info xs next ≡ now) (i : ℕ) (x : Held B) (is : x ≡ get_or xs i x) (lt : i < length xs) (s : BlockStart) (number : (get_or xs i x).number ≡ s.block) (v : B) (freed : block v ≡ block_without (block x.block) s.start) where
+module _ {B : Type 0} (block : B → Block) (info : PoolInfo) (xs : List (Held B)) (next : ℕ) (h : IsPool (kept_of block info xs next).pool) (now : Kept) (view : kept_of block info xs next ≡ now) (i : ℕ) (x : Held B) (is : x ≡ get_or xs i x) (lt : i < length xs) (s : BlockStart) (number : (get_or xs i x).number ≡ s.block) (v : B) (freed : IsAlike (block_without (block x.block) s.start) (block v)) where
   abbrev after : Held B
   after = record { number = x.number; memory = x.memory; block = v }
 
@@ -146,25 +148,28 @@ module _ {B : Type 0} (block : B → Block) (law : PoolStays) (info : PoolInfo) 
   number-is : (get_or blocks i no_block).number ≡ s.block
   number-is = ap (λ (b : PoolBlock). b.number) (get_or-map-in (numbered block) xs i x no_block lt) ∙ number
 
-  changed : in_block (λ k. block_without k s.start) s.block blocks ≡ set blocks i (numbered block after)
-  changed =
+  in-set : in_block (λ k. block_without k s.start) s.block blocks ≡ set blocks i (record { number = x.number; block = block_without (block x.block) s.start })
+  in-set =
       ap (λ (n : ℕ). in_block (λ k. block_without k s.start) n blocks) (sym number-is)
       ∙ in_block-set (λ k. block_without k s.start) blocks i h.rising within
       ∙ ap (λ (b : PoolBlock). set blocks i (record b { block = block_without b.block s.start })) at_index
-      ∙ ap (λ (k : Block). set blocks i (record { number = x.number; block = k })) (sym freed)
+
+  changed : AreAlike (filter has_some_taken (in_block (λ k. block_without k s.start) s.block blocks)) (filter has_some_taken (set blocks i (numbered block after)))
+  changed =
+      are-filtered (in_block (λ k. block_without k s.start) s.block blocks) (set blocks i (numbered block after))
+      (subst (λ (l : List PoolBlock). AreAlike l (set blocks i (numbered block after))) (sym in-set)
+      (are-set blocks i (record { number = x.number; block = block_without (block x.block) s.start }) (numbered block after) (refl, freed)))
 
   -- something is left of the block
   module _ (left : false ≡ is_none_left (block_taken (block v))) where
-    kept-is : (kept_of block info (set xs i after) next).pool ≡ pool_without p s
-    kept-is =
-        ap (λ (bs : List PoolBlock). record p { blocks = bs })
-        (seen-set ∙ sym (left-kept blocks i (numbered block after) within h.none_empty (ap (λ (b : Bool). not b) (sym left))) ∙ ap (λ (bs : List PoolBlock). filter has_some_taken bs) (sym changed))
-
-    pub kept-pool : IsPool (kept_of block info (set xs i after) next).pool
-    kept-pool = subst IsPool (sym kept-is) (law.given_back p s h)
-
-    pub kept-freed : (kept_of block info (set xs i after) next).pool ≡ pool_without now.pool s
-    kept-freed = kept-is ∙ ap (λ (k : Kept). pool_without k.pool s) view
+    pub kept-freed : IsAlikePool (pool_without now.pool s) (kept_of block info (set xs i after) next).pool
+    kept-freed =
+        subst (λ (k : Kept). IsAlikePool (pool_without k.pool s) (kept_of block info (set xs i after) next).pool) view (record {
+          info = refl;
+          blocks = subst (λ (l : List PoolBlock). AreAlike (filter has_some_taken (in_block (λ k. block_without k s.start) s.block blocks)) l)
+              (left-kept blocks i (numbered block after) within h.none_empty (ap (λ (b : Bool). not b) (sym left)) ∙ sym seen-set) changed;
+          next = refl;
+        })
 
     pub kept-objects : objects (set xs i after) ≡ now.memories
     kept-objects = map-set_same (λ (y : Held B). y.memory) xs i after x (ap (λ (y : Held B). y.memory) is) ∙ ap (λ (k : Kept). k.memories) view
@@ -177,16 +182,15 @@ module _ {B : Type 0} (block : B → Block) (law : PoolStays) (info : PoolInfo) 
     new-is : new ≡ take i xs ++ drop (suc i) xs
     new-is = cut ∙ ap (λ (n : ℕ). take i (set xs i after) ++ drop n (set xs i after)) next-index ∙ cut-set xs i after
 
-    gone-is : (kept_of block info new next).pool ≡ pool_without p s
-    gone-is =
-        ap (λ (bs : List PoolBlock). record p { blocks = bs })
-        (ap (λ (l : List (Held B)). seen block l) new-is ∙ map-cut (numbered block) xs i ∙ sym (none-kept blocks i (numbered block after) within h.none_empty (ap (λ (b : Bool). not b) (sym left))) ∙ ap (λ (bs : List PoolBlock). filter has_some_taken bs) (sym changed))
-
-    pub gone-pool : IsPool (kept_of block info new next).pool
-    gone-pool = subst IsPool (sym gone-is) (law.given_back p s h)
-
-    pub gone-freed : (kept_of block info new next).pool ≡ pool_without now.pool s
-    gone-freed = gone-is ∙ ap (λ (k : Kept). pool_without k.pool s) view
+    pub gone-freed : IsAlikePool (pool_without now.pool s) (kept_of block info new next).pool
+    gone-freed =
+        subst (λ (k : Kept). IsAlikePool (pool_without k.pool s) (kept_of block info new next).pool) view (record {
+          info = refl;
+          blocks = subst (λ (l : List PoolBlock). AreAlike (filter has_some_taken (in_block (λ k. block_without k s.start) s.block blocks)) l)
+              (none-kept blocks i (numbered block after) within h.none_empty (ap (λ (b : Bool). not b) (sym left))
+              ∙ sym (map-cut (numbered block) xs i) ∙ sym (ap (λ (l : List (Held B)). seen block l) new-is)) changed;
+          next = refl;
+        })
 
     pub gone-loses : (gone : Held B) → gone ≡ get_or (set xs i after) i gone → Loses now.memories (objects new) gone.memory
     gone-loses gone e =

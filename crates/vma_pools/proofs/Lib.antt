@@ -1,4 +1,6 @@
+pub mod PoolAlike
 mod WalkLemmas
 mod PoolLemmas
 mod RoomLemmas
 mod FreeLemmas
+mod KindLemmas

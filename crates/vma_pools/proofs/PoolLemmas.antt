@@ -9,7 +9,9 @@ use Rattle.vk_model.specs.Memory.Suballocation.{Request}
 use Rattle.vk_model.specs.Memory.Room.{Block, BlockHolds}
 use Rattle.vk_model.specs.Memory.MoveTargets.{BlockStart}
 use Rattle.vk_model.specs.Memory.Pools.{PoolBlock, Pool, BlockGives, GivesFrom, Gives, IsPool, block_with, with_change, in_block, pool_with, new_block}
-use Rattle.vk_model.specs.Memory.PlaceLaws.{PoolStays}
+use Rattle.vma_blocks.specs.Alike.{IsAlike}
+use Rattle.vma_pools.specs.Alike.{AreAlike, IsAlikePool}
+use Rattle.vma_pools.proofs.PoolAlike.{are-refl, are-length, are-at, are-appended}
 use Rattle.vma_pools.specs.Pools.{Kept, TakesOld, TakesNew}
 use Rattle.vma_pools.specs.declared.blocks.Held.{Held}
 use Rattle.vma_pools.specs.Inner.Walk.{numbered, seen, objects, kept_of, no_block, block_at, NoneBefore, IsTaken}
@@ -67,7 +69,7 @@ number-below [] i next lt all = absurd (omega (arith, lt))
 number-below (b ∷ bs) zero next lt all = All-head (λ c. c.number < next) b bs all
 number-below (b ∷ bs) (suc i) next lt all = number-below bs i next (omega (arith, lt)) (All-tail (λ c. c.number < next) b bs all)
 
-module _ (law : PoolStays) (p : Pool) (h : IsPool p) (new : List PoolBlock) (r : Request) (upper : Bool) (i start : ℕ) (t : IsTaken p.blocks new r upper i start) where
+module _ (p : Pool) (h : IsPool p) (new : List PoolBlock) (r : Request) (upper : Bool) (i start : ℕ) (t : IsTaken p.blocks new r upper i start) where
   abbrev place : BlockStart
   place = record { block = (get_or p.blocks i no_block).number; start = start }
 
@@ -77,21 +79,21 @@ module _ (law : PoolStays) (p : Pool) (h : IsPool p) (new : List PoolBlock) (r :
   has : (get_or p.blocks i no_block).number < p.next
   has = number-below p.blocks i p.next t.there h.before_next
 
-  pool-is : record p { blocks = new } ≡ pool_with p r upper place
-  pool-is =
+  changed-is : record p { blocks = set p.blocks i (record (get_or p.blocks i no_block) { block = block_with (block_at p.blocks i) r upper start }) } ≡ pool_with p r upper place
+  changed-is =
       let differ : (place.block == p.next) ≡ false = ne_eqb place.block p.next (λ e. omega (arith, e, has)) in
-      ap (λ (bs : List PoolBlock). record p { blocks = bs }) (t.changed ∙ sym (in_block-set (λ b. block_with b r upper start) p.blocks i h.rising t.there))
+      ap (λ (bs : List PoolBlock). record p { blocks = bs }) (sym (in_block-set (λ b. block_with b r upper start) p.blocks i h.rising t.there))
       ∙ sym (ap (λ (v : Bool). if v then record p { blocks = p.blocks ++ record { number = p.next; block = block_with (new_block p.info) r upper start } ∷ []; next = p.next + 1 } else record p { blocks = in_block (λ b. block_with b r upper start) place.block p.blocks }) differ)
 
-  pub taken-pool : 0 < r.size → IsPool (record p { blocks = new })
-  taken-pool some = subst IsPool (sym pool-is) (law.taken p r upper place some h given)
+  pool-is : IsAlikePool (pool_with p r upper place) (record p { blocks = new })
+  pool-is = subst (λ (q : Pool). IsAlikePool q (record p { blocks = new })) changed-is (record { info = refl; blocks = t.changed; next = refl })
 
   pub takes-old : (old memories : List ℕ) → memories ≡ old → (s : BlockStart) → s ≡ place → TakesOld (record { pool = p; memories = old }) (record { pool = record p { blocks = new }; memories = memories }) r upper s
   takes-old old memories e s is =
       record {
         given = subst (λ (x : BlockStart). Gives p r upper x) (sym is) given;
         has = subst (λ (x : BlockStart). x.block < p.next) (sym is) has;
-        pool = pool-is ∙ ap (λ (x : BlockStart). pool_with p r upper x) (sym is);
+        pool = subst (λ (x : BlockStart). IsAlikePool (pool_with p r upper x) (record p { blocks = new })) (sym is) pool-is;
         memories = e;
       }
 
@@ -101,12 +103,14 @@ none-holds (b ∷ bs) r upper none = All-cons (λ c. BlockHolds c.block r upper 
 
 -- ---- the same of the blocks that are held
 
-module _ {B : Type 0} (block : B → Block) (law : PoolStays) (info : PoolInfo) (old new fit : List (Held B)) (next : ℕ) (h : IsPool (kept_of block info old next).pool) (r : Request) (upper : Bool) (i start : ℕ) (t : IsTaken (seen block old) (seen block new) r upper i start) (fits : fit ≡ new) where
+module _ {B : Type 0} (block : B → Block) (info : PoolInfo) (old new fit : List (Held B)) (next : ℕ) (h : IsPool (kept_of block info old next).pool) (r : Request) (upper : Bool) (i start : ℕ) (t : IsTaken (seen block old) (seen block new) r upper i start) (fits : fit ≡ new) where
+  abbrev put : PoolBlock
+  put = record (get_or (seen block old) i no_block) { block = block_with (block_at (seen block old) i) r upper start }
+
   long : length new ≡ length old
   long =
-      sym (length-map new (numbered block)) ∙ ap (λ (l : List PoolBlock). length l) t.changed
-      ∙ length-set (seen block old) i (record (get_or (seen block old) i no_block) { block = block_with (block_at (seen block old) i) r upper start })
-      ∙ length-map old (numbered block)
+      sym (length-map new (numbered block)) ∙ are-length (set (seen block old) i put) (seen block new) t.changed
+      ∙ length-set (seen block old) i put ∙ length-map old (numbered block)
 
   within : i < length new
   within = omega (arith, t.there, long, length-map old (numbered block))
@@ -114,19 +118,17 @@ module _ {B : Type 0} (block : B → Block) (law : PoolStays) (info : PoolInfo) 
   number-is : (x : Held B) → x ≡ get_or fit i x → x.number ≡ (get_or (seen block old) i no_block).number
   number-is x e =
       ap (λ (y : Held B). y.number) (e ∙ ap (λ (l : List (Held B)). get_or l i x) fits)
-      ∙ ap (λ (b : PoolBlock). b.number) (sym (get_or-map-in (numbered block) new i x no_block within) ∙ ap (λ (l : List PoolBlock). get_or l i no_block) t.changed
-      ∙ get_or-set_same (seen block old) i (record (get_or (seen block old) i no_block) { block = block_with (block_at (seen block old) i) r upper start }) no_block t.there)
-
-  pub fit-pool : 0 < r.size → IsPool (kept_of block info fit next).pool
-  fit-pool some = subst (λ (l : List (Held B)). IsPool (kept_of block info l next).pool) (sym fits) (taken-pool law (kept_of block info old next).pool h (seen block new) r upper i start t some)
+      ∙ ap (λ (b : PoolBlock). b.number) (sym (get_or-map-in (numbered block) new i x no_block within))
+      ∙ (are-at (set (seen block old) i put) (seen block new) t.changed i no_block).0
+      ∙ ap (λ (b : PoolBlock). b.number) (get_or-set_same (seen block old) i put no_block t.there)
 
   pub fit-takes : objects new ≡ objects old → (now : Kept) → kept_of block info old next ≡ now → (x : Held B) → x ≡ get_or fit i x → TakesOld now (kept_of block info fit next) r upper (record { block = x.number; start = start })
   fit-takes objs now view x e =
       let s : BlockStart = record { block = x.number; start = start } in
-      let is : s ≡ place law (kept_of block info old next).pool h (seen block new) r upper i start t = ap (λ (n : ℕ). record { block = n; start = start }) (number-is x e) in
+      let is : s ≡ place (kept_of block info old next).pool h (seen block new) r upper i start t = ap (λ (n : ℕ). record { block = n; start = start }) (number-is x e) in
       subst (λ (k : Kept). TakesOld k (kept_of block info fit next) r upper s) view
       (subst (λ (l : List (Held B)). TakesOld (kept_of block info old next) (kept_of block info l next) r upper s) (sym fits)
-      (takes-old law (kept_of block info old next).pool h (seen block new) r upper i start t (objects old) (objects new) objs s is))
+      (takes-old (kept_of block info old next).pool h (seen block new) r upper i start t (objects old) (objects new) objs s is))
 
 -- ---- a new block
 
@@ -136,7 +138,7 @@ gives-new info next [] r upper start none gives = (refl, gives)
 gives-new info next (b ∷ bs) r upper start none gives =
     inr (All-head (λ c. BlockHolds c.block r upper → ⊥) b bs none, gives-new info next bs r upper start (All-tail (λ c. BlockHolds c.block r upper → ⊥) b bs none) gives)
 
-module _ {B : Type 0} (block : B → Block) (law : PoolStays) (info : PoolInfo) (old new : List (Held B)) (next memory : ℕ) (b : B) (h : IsPool (kept_of block info old next).pool) (r : Request) (upper : Bool) (start : ℕ) (none : All (λ b. BlockHolds b.block r upper → ⊥) (seen block old)) (gives : BlockGives (new_block info) r upper start) (taken : block b ≡ block_with (new_block info) r upper start)
+module _ {B : Type 0} (block : B → Block) (info : PoolInfo) (old new : List (Held B)) (next memory : ℕ) (b : B) (r : Request) (upper : Bool) (start : ℕ) (none : All (λ b. BlockHolds b.block r upper → ⊥) (seen block old)) (gives : BlockGives (new_block info) r upper start) (taken : IsAlike (block_with (new_block info) r upper start) (block b))
     (is : new ≡ old ++ record { number = next; memory = memory; block = b } ∷ []) where
   abbrev p : Pool
   p = (kept_of block info old next).pool
@@ -144,21 +146,21 @@ module _ {B : Type 0} (block : B → Block) (law : PoolStays) (info : PoolInfo) 
   abbrev there : BlockStart
   there = record { block = next; start = start }
 
-  gives-there : Gives p r upper there
+  pub gives-there : Gives p r upper there
   gives-there = gives-new info next (seen block old) r upper start none gives
 
-  blocks-are : seen block new ≡ seen block old ++ record { number = next; block = block_with (new_block info) r upper start } ∷ []
+  abbrev asked : PoolBlock
+  asked = record { number = next; block = block_with (new_block info) r upper start }
+
+  blocks-are : AreAlike (seen block old ++ asked ∷ []) (seen block new)
   blocks-are =
-      ap (λ (l : List (Held B)). seen block l) is ∙ map-append (numbered block) old (record { number = next; memory = memory; block = b } ∷ [])
-      ∙ ap (λ (k : Block). seen block old ++ record { number = next; block = k } ∷ []) taken
+      subst (λ (l : List PoolBlock). AreAlike (seen block old ++ asked ∷ []) l) (sym (ap (λ (l : List (Held B)). seen block l) is ∙ map-append (numbered block) old (record { number = next; memory = memory; block = b } ∷ [])))
+      (are-appended (seen block old) (seen block old) (asked ∷ []) (record { number = next; block = block b } ∷ []) (are-refl (seen block old)) ((refl, taken), tt))
 
-  new-is : (kept_of block info new (next + 1)).pool ≡ pool_with p r upper there
+  pub new-is : IsAlikePool (pool_with p r upper there) (kept_of block info new (next + 1)).pool
   new-is =
-      ap (λ (bs : List PoolBlock). record { info = info; blocks = bs; next = next + 1 }) blocks-are
-      ∙ sym (ap (λ (v : Bool). if v then record p { blocks = p.blocks ++ record { number = p.next; block = block_with (new_block p.info) r upper start } ∷ []; next = p.next + 1 } else record p { blocks = in_block (λ k. block_with k r upper start) next p.blocks }) (eq-eqb next next refl))
-
-  pub new-pool : 0 < r.size → IsPool (kept_of block info new (next + 1)).pool
-  new-pool some = subst IsPool (sym new-is) (law.taken p r upper there some h gives-there)
+      subst (λ (v : Bool). IsAlikePool (if v then record p { blocks = p.blocks ++ record { number = p.next; block = block_with (new_block p.info) r upper start } ∷ []; next = p.next + 1 } else record p { blocks = in_block (λ k. block_with k r upper start) next p.blocks }) (kept_of block info new (next + 1)).pool)
+      (sym (eq-eqb next next refl)) (record { info = refl; blocks = blocks-are; next = refl })
 
   pub takes-new : (now : Kept) → kept_of block info old next ≡ now → (before after : MemoryState) → memory ≡ length before.objects
       → after ≡ record before { objects = before.objects ++ Some (fresh info.memory_type info.block_size) ∷ [] }

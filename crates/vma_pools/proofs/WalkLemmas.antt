@@ -6,8 +6,11 @@ use Rattle.std.proofs.Math.Seq.{map-set_same}
 use Rattle.vk_model.specs.Memory.Suballocation.{Request}
 use Rattle.vk_model.specs.Memory.Room.{Block, BlockHolds}
 use Rattle.vk_model.specs.Memory.Pools.{PoolBlock, BlockGives, block_with}
+use Rattle.vma_blocks.specs.Alike.{IsAlike}
+use Rattle.vma_pools.specs.Alike.{AreAlike}
 use Rattle.vma_pools.specs.declared.blocks.Held.{Held}
-use Rattle.vma_pools.specs.Inner.Walk.{numbered, seen, objects, no_block, NoneBefore, IsTaken}
+use Rattle.vma_pools.proofs.PoolAlike.{are-set}
+use Rattle.vma_pools.specs.Inner.Walk.{numbered, seen, objects, no_block, block_at, NoneBefore, IsTaken}
 
 pub get_or-map-in : {A B : Type 0} (f : A → B) (xs : List A) (i : ℕ) (d : A) (e : B) → i < length xs → get_or (map f xs) i e ≡ f (get_or xs i d)
 get_or-map-in f [] i d e lt = absurd (omega (arith, lt))
@@ -45,15 +48,15 @@ module _ {B : Type 0} (block : B → Block) (first now : List (Held B)) (i : ℕ
           | inr e ↦ refused (subst (λ (b : PoolBlock). BlockHolds b.block r upper) (ap (λ (j : ℕ). get_or (seen block first) j no_block) e ∙ at_index) holds)
         ]
 
-    pub is-taken : (start : ℕ) → BlockGives (block asked.block) r upper start → block v ≡ block_with (block asked.block) r upper start → IsTaken (seen block first) (seen block (set now i answered)) r upper i start
+    pub is-taken : (start : ℕ) → BlockGives (block asked.block) r upper start → IsAlike (block_with (block asked.block) r upper start) (block v) → IsTaken (seen block first) (seen block (set now i answered)) r upper i start
     is-taken start gives with =
         record {
           there = omega (arith, lt, length-map first (numbered block));
           before = none;
           gives = subst (λ (b : PoolBlock). BlockGives b.block r upper start) (sym at_index) gives;
           changed =
-              map-set (numbered block) now i answered
-              ∙ ap (λ (l : List PoolBlock). set l i (numbered block answered)) same
-              ∙ ap (λ (k : Block). set (seen block first) i (record { number = asked.number; block = k })) with
-              ∙ ap (λ (b : PoolBlock). set (seen block first) i (record b { block = block_with b.block r upper start })) (sym at_index);
+              subst (λ (l : List PoolBlock). AreAlike (set (seen block first) i (record (get_or (seen block first) i no_block) { block = block_with (block_at (seen block first) i) r upper start })) l)
+              (sym (map-set (numbered block) now i answered ∙ ap (λ (l : List PoolBlock). set l i (numbered block answered)) same))
+              (subst (λ (b : PoolBlock). AreAlike (set (seen block first) i (record b { block = block_with b.block r upper start })) (set (seen block first) i (numbered block answered))) (sym at_index)
+              (are-set (seen block first) i (record { number = asked.number; block = block_with (block asked.block) r upper start }) (numbered block answered) (refl, with)));
         }

@@ -1,17 +1,11 @@
 -- What pools are asked, and what they are seen as.
-use Rattle.std.specs.Prelude.{◌≡◌, ◌⊎◌, ℕ, ◌%◌, ◌^◌, ◌<◌, ◌==◌, List, [], ◌∷◌, ◌++◌, length, get_or, take, drop, ◌+◌, Any, Bool, Some, if◌then◌else◌}
-use Rattle.vk_model.specs.declared.resource.PoolInfo.{PoolInfo}
+use Rattle.std.specs.Prelude.{◌≡◌, ◌⊎◌, ℕ, ◌<◌, ◌==◌, List, [], ◌∷◌, ◌++◌, length, get_or, take, drop, ◌+◌, Any, Bool, Some, if◌then◌else◌}
 use Rattle.vk_model.specs.Memory.Suballocation.{Request, IsTakenAt}
 use Rattle.vk_model.specs.Memory.Room.{Heaps}
 use Rattle.vk_model.specs.Memory.MoveTargets.{BlockStart}
 use Rattle.vk_model.specs.Memory.Pools.{Pool, Gives, block_taken, pool_with}
+use Rattle.vma_pools.specs.Alike.{IsAlikePool}
 use Rattle.vk_memory.specs.MemoryState.{MemoryState, fresh, sizes_on, live_count}
-
--- What a pool may be made with: blocks of some bytes, in units of 16 (profile).
-pub record IsPoolInfo (info : PoolInfo) : Type 0 where
-  pub some : 0 < info.block_size
-  pub units : info.block_size % 16 ≡ 0
-  pub small : info.block_size < 2 ^ 40
 
 -- A pool, and the number of the memory object that each of its blocks is, in their order (VMA, "Custom memory pools").
 pub record Kept : Type 0 where
@@ -22,14 +16,14 @@ pub record Kept : Type 0 where
 pub record TakesOld (old new : Kept) (r : Request) (upper : Bool) (s : BlockStart) : Type 0 where
   pub given : Gives old.pool r upper s
   pub has : s.block < old.pool.next
-  pub pool : new.pool ≡ pool_with old.pool r upper s
+  pub pool : IsAlikePool (pool_with old.pool r upper s) new.pool
   pub memories : new.memories ≡ old.memories
 
 -- A pool gave a request this place in a new block, which is a new memory object.
 pub record TakesNew (old new : Kept) (before after : MemoryState) (r : Request) (upper : Bool) (s : BlockStart) : Type 0 where
   pub given : Gives old.pool r upper s
   pub is_new : s.block ≡ old.pool.next
-  pub pool : new.pool ≡ pool_with old.pool r upper s
+  pub pool : IsAlikePool (pool_with old.pool r upper s) new.pool
   pub memories : new.memories ≡ old.memories ++ length before.objects ∷ []
   pub object : after ≡ record before { objects = before.objects ++ Some (fresh old.pool.info.memory_type old.pool.info.block_size) ∷ [] }
 

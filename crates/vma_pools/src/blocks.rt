@@ -2,12 +2,13 @@ ghost use Rattle.std.specs.Prelude.{◌≡◌, ◌<◌, ◌≤◌, slice_index_o
 ghost use Rattle.vk_model.specs.Memory.Suballocation.{IsRequest};
 ghost use Rattle.vk_model.specs.Memory.Pools.{BlockGives, block_with, new_block};
 ghost use Rattle.vma_pools.specs.Inner.Walk.{seen, objects, NoneBefore, IsTaken};
-ghost use Rattle.vma_pools.specs.Pools.{IsPoolInfo};
+ghost use Rattle.vma_blocks.specs.Alike.{IsAlike};
+ghost use Rattle.vma_blocks.specs.PoolInfos.{IsPoolInfo};
 ghost use Rattle.vma_pools.specs.declared.blocks.Held.{Held};
 
-use crate::room::PoolBlock;
 use std::alloc::{AllocError, Global};
 use vk_model::{Kind, PoolInfo, SubFault, blocks_give};
+use vma_blocks::PoolBlock;
 
 /// A block of a pool.
 #[derive(Drop)]
@@ -68,7 +69,7 @@ pub(crate) fn begin_block<B: PoolBlock>(
     requires request { IsRequest bytes align }
     requires fits { bytes ≤ info.block_size }
     ensures gives { IfOk result (λ f. BlockGives (new_block info) (record { size = bytes; align = align; kind = kind }) upper f.start) }
-    ensures taken { IfOk result (λ f. B.block f.block ≡ block_with (new_block info) (record { size = bytes; align = align; kind = kind }) upper f.start) }
+    ensures taken { IfOk result (λ f. IsAlike (block_with (new_block info) (record { size = bytes; align = align; kind = kind }) upper f.start) (B.block f.block)) }
 {
     blocks_give();
     let mut block = B::make(alloc, info)?;

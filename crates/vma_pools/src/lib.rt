@@ -3,6 +3,3 @@
 
 mod blocks;
 mod pool;
-mod room;
-
-pub use room::PoolBlock;

@@ -5,14 +5,15 @@ ghost use Rattle.vk_model.specs.Memory.Pools.{empty_pool, pool_without, state_of
 ghost use Rattle.vma_pools.specs.Pools.{HasTaken, Loses, TakesOld, TakesNew};
 ghost use Rattle.vma_pools.specs.Pools.{Takes, heaps};
 ghost use Rattle.vk_memory.specs.MemoryState.{IsFull};
-ghost use Rattle.vma_pools.specs.Pools.{IsPoolInfo};
+ghost use Rattle.vma_blocks.specs.PoolInfos.{IsPoolInfo};
+ghost use Rattle.vma_pools.specs.Alike.{IsAlikePool};
 
 use crate::blocks::{Held, begin_block, index_of, take_in};
-use crate::room::PoolBlock;
 use std::alloc::Global;
 use std::marker::Model;
 use vk_memory::{Memories, MemoryError};
-use vk_model::{Kind, PoolInfo, SubFault, blocks_give, pool_stays};
+use vk_model::{Kind, PoolInfo, SubFault, blocks_give};
+use vma_blocks::PoolBlock;
 
 /// A place in a pool.
 #[derive(Clone, Copy, Debug, PartialEq, Eq)]
@@ -32,8 +33,8 @@ pub(crate) struct PoolOf<B: PoolBlock> {
 }
 
 impl<B: PoolBlock> Model for PoolOf<B> {
-    ghost use Rattle.vk_model.specs.Memory.Pools.{IsPool};
-    ghost use Rattle.vma_pools.specs.Pools.{Kept, IsPoolInfo};
+    ghost use Rattle.vma_pools.specs.Inner.Kinds.{IsKeptPool};
+    ghost use Rattle.vma_pools.specs.Pools.{Kept};
 
     ghost Value = { Kept };
 
@@ -41,7 +42,7 @@ impl<B: PoolBlock> Model for PoolOf<B> {
 
     ghost view = { λ p. kept_of B.block p.info p.blocks.items p.next };
 
-    ghost invariant = { λ p. IsPool (kept_of B.block p.info p.blocks.items p.next).pool × IsPoolInfo p.info };
+    ghost invariant = { λ p. IsKeptPool (kept_of B.block p.info p.blocks.items p.next).pool };
 }
 
 impl<B: PoolBlock> PoolOf<B> {
@@ -70,7 +71,6 @@ impl<B: PoolBlock> PoolOf<B> {
         ensures no_room { IsErrOf result SubFault.NoRoom → All (λ b. BlockHolds b.block (record { size = bytes; align = align; kind = kind }) upper → ⊥) self.old.pool.blocks }
         ensures err { OnErr result (self.new ≡ self.old) }
     {
-        pool_stays();
         let (index, start) = take_in(&mut self.blocks, bytes, align, kind, upper)?;
         let block = self.blocks[index].number;
         Ok(PoolPlace { block, start })
@@ -95,7 +95,6 @@ impl<B: PoolBlock> PoolOf<B> {
         ensures pool { OnErr result (self.new ≡ self.old) }
         ensures memories { OnErr result (memories.new ≡ memories.old) }
     {
-        pool_stays();
         self.blocks.reserve(1)?;
         let fresh = begin_block::<B>(alloc, self.info, bytes, align, kind, upper)?;
         let memory = memories.allocate(self.info.memory_type, self.info.block_size)?;
@@ -153,11 +152,10 @@ impl<B: PoolBlock> PoolOf<B> {
     /// nothing is left of it.
     pub(crate) fn free(&mut self, place: PoolPlace) -> Option<u64>
         requires { HasTaken self.old.pool (record { block = place.block; start = place.start }) }
-        ensures pool { self.new.pool ≡ pool_without self.old.pool (record { block = place.block; start = place.start }) }
+        ensures pool { IsAlikePool (pool_without self.old.pool (record { block = place.block; start = place.start })) self.new.pool }
         ensures kept { IfNone result (self.new.memories ≡ self.old.memories) }
         ensures gone { IfSome result (λ memory. Loses self.old.memories self.new.memories memory) }
     {
-        pool_stays();
         let index = index_of(&self.blocks, place.block);
         let held = &mut self.blocks[index];
         held.block.free(place.start);
