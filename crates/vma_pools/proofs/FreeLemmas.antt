@@ -83,7 +83,7 @@ module _ {B : Type 0} (block : B → Block) (xs : List (Held B)) where
       let m : i < length xs = omega (arith, less, lt) in
       omega (arith, rises i j (numbered block d) less l, ap (λ (b : PoolBlock). b.number) (get_or-map-in (numbered block) xs i d (numbered block d) m), ap (λ (b : PoolBlock). b.number) (get_or-map-in (numbered block) xs j d (numbered block d) lt))
 
-any-held : {A C : Type 0} (P : C → Type 0) (f : A → C) (xs : List A) → Any P (map f xs) → Any (λ x. P (f x)) xs
+pub any-held : {A C : Type 0} (P : C → Type 0) (f : A → C) (xs : List A) → Any P (map f xs) → Any (λ x. P (f x)) xs
 any-held P f [] a = absurd (omega (arith, a.2))
 any-held {A = A} {C = C} P f (x ∷ xs) a = at a.0 a.1 a.2 a.3 a.4 (λ b. any-held P f xs b)
   where

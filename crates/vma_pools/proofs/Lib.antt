@@ -4,3 +4,6 @@ mod PoolLemmas
 mod RoomLemmas
 mod FreeLemmas
 mod KindLemmas
+mod LowerLemmas
+mod TargetLemmas
+mod LargestLemmas

@@ -115,7 +115,7 @@ module _ {B : Type 0} (block : B → Block) (info : PoolInfo) (old new fit : Lis
   within : i < length new
   within = omega (arith, t.there, long, length-map old (numbered block))
 
-  number-is : (x : Held B) → x ≡ get_or fit i x → x.number ≡ (get_or (seen block old) i no_block).number
+  pub number-is : (x : Held B) → x ≡ get_or fit i x → x.number ≡ (get_or (seen block old) i no_block).number
   number-is x e =
       ap (λ (y : Held B). y.number) (e ∙ ap (λ (l : List (Held B)). get_or l i x) fits)
       ∙ ap (λ (b : PoolBlock). b.number) (sym (get_or-map-in (numbered block) new i x no_block within))

@@ -17,7 +17,7 @@ get_or-map-in f [] i d e lt = absurd (omega (arith, lt))
 get_or-map-in f (x ∷ xs) zero d e lt = refl
 get_or-map-in f (x ∷ xs) (suc i) d e lt = get_or-map-in f xs i d e (omega (arith, lt))
 
-below_next : (k i : ℕ) → k < i + 1 → (k < i) ⊎ (k ≡ i)
+pub below_next : (k i : ℕ) → k < i + 1 → (k < i) ⊎ (k ≡ i)
 below_next k i lt = elim (cases_lt k i) [ inl l ↦ inl l | inr g ↦ inr (omega (arith, g, lt)) ]
 
 module _ {B : Type 0} (block : B → Block) (first now : List (Held B)) (i : ℕ) (d : Held B) (v : B) (same : seen block now ≡ seen block first) (lt : i < length first) where
@@ -31,7 +31,7 @@ module _ {B : Type 0} (block : B → Block) (first now : List (Held B)) (i : ℕ
   long : length now ≡ length first
   long = sym (length-map now (numbered block)) ∙ ap (λ (l : List PoolBlock). length l) same ∙ length-map first (numbered block)
 
-  at_index : get_or (seen block first) i no_block ≡ numbered block asked
+  pub at_index : get_or (seen block first) i no_block ≡ numbered block asked
   at_index = ap (λ (l : List PoolBlock). get_or l i no_block) (sym same) ∙ get_or-map-in (numbered block) now i d no_block (omega (arith, lt, long))
 
   pub objects-kept : objects now ≡ objects first → objects (set now i answered) ≡ objects first
@@ -39,6 +39,14 @@ module _ {B : Type 0} (block : B → Block) (first now : List (Held B)) (i : ℕ
 
   pub seen-kept : block v ≡ block asked.block → seen block (set now i answered) ≡ seen block first
   seen-kept e = map-set_same (numbered block) now i answered d (ap (λ (k : Block). record { number = asked.number; block = k }) e) ∙ same
+
+  pub changed-at : (r : Request) (upper : Bool) (start : ℕ) → IsAlike (block_with (block asked.block) r upper start) (block v)
+      → AreAlike (set (seen block first) i (record (get_or (seen block first) i no_block) { block = block_with (block_at (seen block first) i) r upper start })) (seen block (set now i answered))
+  changed-at r upper start with =
+      subst (λ (l : List PoolBlock). AreAlike (set (seen block first) i (record (get_or (seen block first) i no_block) { block = block_with (block_at (seen block first) i) r upper start })) l)
+      (sym (map-set (numbered block) now i answered ∙ ap (λ (l : List PoolBlock). set l i (numbered block answered)) same))
+      (subst (λ (b : PoolBlock). AreAlike (set (seen block first) i (record b { block = block_with b.block r upper start })) (set (seen block first) i (numbered block answered))) (sym at_index)
+      (are-set (seen block first) i (record { number = asked.number; block = block_with (block asked.block) r upper start }) (numbered block answered) (refl, with)))
 
   module _ (r : Request) (upper : Bool) (none : NoneBefore (seen block first) r upper i) where
     pub none-next : (BlockHolds (block asked.block) r upper → ⊥) → NoneBefore (seen block first) r upper (i + 1)
@@ -54,9 +62,5 @@ module _ {B : Type 0} (block : B → Block) (first now : List (Held B)) (i : ℕ
           there = omega (arith, lt, length-map first (numbered block));
           before = none;
           gives = subst (λ (b : PoolBlock). BlockGives b.block r upper start) (sym at_index) gives;
-          changed =
-              subst (λ (l : List PoolBlock). AreAlike (set (seen block first) i (record (get_or (seen block first) i no_block) { block = block_with (block_at (seen block first) i) r upper start })) l)
-              (sym (map-set (numbered block) now i answered ∙ ap (λ (l : List PoolBlock). set l i (numbered block answered)) same))
-              (subst (λ (b : PoolBlock). AreAlike (set (seen block first) i (record b { block = block_with b.block r upper start })) (set (seen block first) i (numbered block answered))) (sym at_index)
-              (are-set (seen block first) i (record { number = asked.number; block = block_with (block asked.block) r upper start }) (numbered block answered) (refl, with)));
+          changed = changed-at r upper start with;
         }

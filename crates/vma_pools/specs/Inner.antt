@@ -1,3 +1,4 @@
 -- What only the contracts within the crate cite.
 pub mod Kinds
 pub mod Walk
+pub mod Lower

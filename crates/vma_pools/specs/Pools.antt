@@ -1,9 +1,9 @@
 -- What pools are asked, and what they are seen as.
-use Rattle.std.specs.Prelude.{◌≡◌, ◌⊎◌, ℕ, ◌<◌, ◌==◌, List, [], ◌∷◌, ◌++◌, length, get_or, take, drop, ◌+◌, Any, Bool, Some, if◌then◌else◌}
+use Rattle.std.specs.Prelude.{◌≡◌, ◌⊎◌, ℕ, ◌<◌, ◌==◌, List, [], ◌∷◌, ◌++◌, length, get_or, take, drop, ◌+◌, Any, Bool, Some, None, false, if◌then◌else◌}
 use Rattle.vk_model.specs.Memory.Suballocation.{Request, IsTakenAt}
 use Rattle.vk_model.specs.Memory.Room.{Heaps}
-use Rattle.vk_model.specs.Memory.MoveTargets.{BlockStart}
-use Rattle.vk_model.specs.Memory.Pools.{Pool, Gives, block_taken, pool_with}
+use Rattle.vk_model.specs.Memory.MoveTargets.{BlockStart, move_target}
+use Rattle.vk_model.specs.Memory.Pools.{Pool, PoolBlock, Gives, block_taken, numbered_blocks, pool_with}
 use Rattle.vma_pools.specs.Alike.{IsAlikePool}
 use Rattle.vk_memory.specs.MemoryState.{MemoryState, fresh, sizes_on, live_count}
 
@@ -42,6 +42,23 @@ heaps m = record {
 -- A range of a pool is taken that starts at this place.
 abbrev pub HasTaken : Pool → BlockStart → Type 0
 HasTaken p s = Any (λ b. (b.number ≡ s.block) × IsTakenAt s.start (block_taken b.block)) p.blocks
+
+-- What has a place in a pool has no move target (VMA, "Defragmentation").
+abbrev pub HasNoTarget : Pool → BlockStart → Request → Type 0
+HasNoTarget p from r = (id : ℕ) → move_target (numbered_blocks p.blocks) (record { id = id; from = from; request = r }) ≡ None
+
+-- The move target of what has a place in a pool is taken too; the memory objects of its blocks are as they were (VMA, "Defragmentation").
+pub record TakesTarget (old new : Kept) (from : BlockStart) (r : Request) (s : BlockStart) : Type 0 where
+  pub target : (id : ℕ) → move_target (numbered_blocks old.pool.blocks) (record { id = id; from = from; request = r }) ≡ Some s
+  pub pool : IsAlikePool (pool_with old.pool r false s) new.pool
+  pub memories : new.memories ≡ old.memories
+
+-- The block of a number is this memory object (VMA, "Custom memory pools").
+pub record IsMemoryOf (k : Kept) (number memory : ℕ) : Type 0 where
+  pub index : ℕ
+  pub there : index < length k.pool.blocks
+  pub numbered : (d : PoolBlock) → (get_or k.pool.blocks index d).number ≡ number
+  pub is : get_or k.memories index 0 ≡ memory
 
 -- One of some numbers is left out.
 pub record Loses (old new : List ℕ) (gone : ℕ) : Type 0 where

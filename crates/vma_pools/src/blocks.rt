@@ -1,6 +1,6 @@
 ghost use Rattle.std.specs.Prelude.{◌≡◌, ◌<◌, ◌≤◌, slice_index_or, All, AllPairs, Any, length, IfOk, OnErr, OnOk, IsErrOf};
 ghost use Rattle.vk_model.specs.Memory.Suballocation.{IsRequest};
-ghost use Rattle.vk_model.specs.Memory.Pools.{BlockGives, block_with, new_block};
+ghost use Rattle.vk_model.specs.Memory.Pools.{BlockGives, IsLargestIn, block_with, new_block, numbered_blocks};
 ghost use Rattle.vma_pools.specs.Inner.Walk.{seen, objects, NoneBefore, IsTaken};
 ghost use Rattle.vma_blocks.specs.Alike.{IsAlike};
 ghost use Rattle.vma_blocks.specs.PoolInfos.{IsPoolInfo};
@@ -98,4 +98,18 @@ pub(crate) fn index_of<B>(blocks: &[Held<B>], number: u64) -> usize
         }
     }
     low
+}
+
+/// The length in bytes of the longest free range of a block; 0 where there is no block.
+pub(crate) fn largest_in<B: PoolBlock>(blocks: &[Held<B>]) -> u64
+    ensures { IsLargestIn (numbered_blocks (seen B.block blocks.now)) result }
+{
+    let mut largest = 0;
+    for held in blocks {
+        let length = held.block.largest_free();
+        if largest < length {
+            largest = length;
+        }
+    }
+    largest
 }

@@ -2,4 +2,5 @@
 #![tactic(auto)]
 
 mod blocks;
+mod lower;
 mod pool;

@@ -1,18 +1,19 @@
-ghost use Rattle.std.specs.Prelude.{◌≡◌, [], ◌<◌, ◌≤◌, ◌^◌, nat_le, length, All, IfNone, IfSome, IfOk, IsOk, OnErr, IsErrOf};
+ghost use Rattle.std.specs.Prelude.{◌≡◌, [], ◌<◌, ◌≤◌, ◌^◌, nat_le, length, ◌+◌, All, Any, MatchOption, IfNone, IfSome, IfOk, IsOk, OnErr, IsErrOf};
 ghost use Rattle.vk_model.specs.Memory.Suballocation.{IsRequest};
 ghost use Rattle.vk_model.specs.Memory.Room.{BlockHolds, NoRoomInPool};
-ghost use Rattle.vk_model.specs.Memory.Pools.{empty_pool, pool_without, state_of};
-ghost use Rattle.vma_pools.specs.Pools.{HasTaken, Loses, TakesOld, TakesNew};
+ghost use Rattle.vk_model.specs.Memory.Pools.{IsLargestIn, empty_pool, numbered_blocks, pool_without, state_of};
+ghost use Rattle.vma_pools.specs.Pools.{HasNoTarget, HasTaken, IsMemoryOf, Loses, TakesTarget, TakesOld, TakesNew};
 ghost use Rattle.vma_pools.specs.Pools.{Takes, heaps};
 ghost use Rattle.vk_memory.specs.MemoryState.{IsFull};
 ghost use Rattle.vma_blocks.specs.PoolInfos.{IsPoolInfo};
 ghost use Rattle.vma_pools.specs.Alike.{IsAlikePool};
 
-use crate::blocks::{Held, begin_block, index_of, take_in};
-use std::alloc::Global;
+use crate::blocks::{Held, begin_block, index_of, largest_in, take_in};
+use crate::lower::{Mover, take_below};
+use std::alloc::{AllocError, Global};
 use std::marker::Model;
 use vk_memory::{Memories, MemoryError};
-use vk_model::{Kind, PoolInfo, SubFault, blocks_give};
+use vk_model::{Kind, PoolInfo, PoolKind, SubFault, blocks_give};
 use vma_blocks::PoolBlock;
 
 /// A place in a pool.
@@ -164,5 +165,62 @@ impl<B: PoolBlock> PoolOf<B> {
         }
         let gone = self.blocks.remove(index);
         Some(gone.memory)
+    }
+
+    /// Takes the move target of what is at a place: the lowest place of the first earlier block that
+    /// holds it, else the lowest of its own block that ends at or below its start; none where there is
+    /// no such place. The only error is want of memory.
+    pub(crate) fn take_lower(
+        &mut self,
+        from: PoolPlace,
+        bytes: u64,
+        align: u64,
+        kind: Kind,
+    ) -> Result<Option<PoolPlace>, AllocError>
+        requires request { IsRequest bytes align }
+        requires general { self.old.pool.info.kind ≡ PoolKind.Tlsf }
+        requires inside { from.start + bytes ≤ self.old.pool.info.block_size }
+        ensures ok { IfOk result (λ o. MatchOption o
+            (HasNoTarget self.old.pool (record { block = from.block; start = from.start }) (record { size = bytes; align = align; kind = kind }) × (self.new ≡ self.old))
+            (λ s. TakesTarget self.old self.new (record { block = from.block; start = from.start }) (record { size = bytes; align = align; kind = kind }) (record { block = s.block; start = s.start }))) }
+        ensures err { OnErr result (self.new ≡ self.old) }
+    {
+        let mover = Mover {
+            block: from.block,
+            start: from.start,
+            bytes,
+            align,
+            kind,
+        };
+        let (index, start) = match take_below(&mut self.blocks, self.info.block_size, mover)? {
+            Some(lower) => lower,
+            None => return Ok(None),
+        };
+        Ok(Some(PoolPlace {
+            block: self.blocks[index].number,
+            start,
+        }))
+    }
+
+    /// The length in bytes of the longest free range of a block; 0 where there is no block.
+    pub(crate) fn largest_free(&self) -> u64
+        ensures { IsLargestIn (numbered_blocks self.now.pool.blocks) result }
+    {
+        largest_in(&self.blocks)
+    }
+
+    /// How many blocks there are.
+    pub(crate) fn blocks(&self) -> u64
+        ensures { result ≡ length self.now.pool.blocks }
+    {
+        self.blocks.len() as u64
+    }
+
+    /// The number of the memory object that the block of a number is.
+    pub(crate) fn memory_of(&self, number: u64) -> u64
+        requires { Any (λ b. b.number ≡ number) self.now.pool.blocks }
+        ensures { IsMemoryOf self.now number result }
+    {
+        self.blocks[index_of(&self.blocks, number)].memory
     }
 }

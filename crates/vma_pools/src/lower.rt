@@ -1,0 +1,85 @@
+ghost use Rattle.std.specs.Prelude.{◌≡◌, ◌≤◌, length, All, Some, None, false, IfOk, OnErr, MatchOption};
+ghost use Rattle.vk_model.specs.Memory.Suballocation.{IsRequest};
+ghost use Rattle.vk_model.specs.Memory.Pools.{block_bytes, block_with};
+ghost use Rattle.vma_blocks.specs.Alike.{IsAlike, IsGeneral};
+ghost use Rattle.vma_pools.specs.Inner.Lower.{lower_in, IsLowerTaken, NoneLower};
+ghost use Rattle.vma_pools.specs.Inner.Walk.{seen, objects};
+
+use crate::blocks::Held;
+use std::alloc::AllocError;
+use vk_model::{Kind, SubFault};
+use vma_blocks::PoolBlock;
+
+/// What is to move to a lower place in a pool.
+#[derive(Clone, Copy)]
+pub(crate) struct Mover {
+    /// The number of its block.
+    pub(crate) block: u64,
+    /// Where it starts there, in bytes.
+    pub(crate) start: u64,
+    /// Its bytes.
+    pub(crate) bytes: u64,
+    /// Its alignment in bytes.
+    pub(crate) align: u64,
+    /// How its bytes lie.
+    pub(crate) kind: Kind,
+}
+
+/// Takes the lowest place that a block has for what is to move, and answers its start in bytes. The
+/// only error is want of memory.
+fn take_at<B: PoolBlock>(
+    block: &mut B,
+    number: u64,
+    size: u64,
+    mover: Mover,
+) -> Result<Option<u64>, AllocError>
+    requires request { IsRequest mover.bytes mover.align }
+    requires general { IsGeneral (B.block block.old) }
+    requires bytes { block_bytes (B.block block.old) ≡ size }
+    requires inside { mover.start ≤ size }
+    ensures ok { IfOk result (λ o. MatchOption o
+        ((lower_in (record { block = mover.block; start = mover.start }) (record { size = mover.bytes; align = mover.align; kind = mover.kind }) (record { number = number; block = B.block block.old }) ≡ None) × (B.block block.new ≡ B.block block.old))
+        (λ start. (lower_in (record { block = mover.block; start = mover.start }) (record { size = mover.bytes; align = mover.align; kind = mover.kind }) (record { number = number; block = B.block block.old }) ≡ Some (record { block = number; start = start }))
+        × IsAlike (block_with (B.block block.old) (record { size = mover.bytes; align = mover.align; kind = mover.kind }) false start) (B.block block.new))) }
+    ensures err { OnErr result (B.block block.new ≡ B.block block.old) }
+{
+    if mover.block < number {
+        return Ok(None);
+    }
+    let limit = if number == mover.block {
+        mover.start
+    } else {
+        size
+    };
+    match block.allocate_below(mover.bytes, mover.align, mover.kind, limit) {
+        Ok(start) => Ok(Some(start)),
+        Err(SubFault::NoRoom) => Ok(None),
+        Err(SubFault::NoMemory) => Err(AllocError),
+    }
+}
+
+/// Takes the lowest place of the first block that has one for what is to move, and answers the
+/// block's index and the start in bytes; none where no block has one.
+pub(crate) fn take_below<B: PoolBlock>(
+    blocks: &mut [Held<B>],
+    size: u64,
+    mover: Mover,
+) -> Result<Option<(usize, u64)>, AllocError>
+    requires request { IsRequest mover.bytes mover.align }
+    requires general { All (λ b. IsGeneral b.block × (block_bytes b.block ≡ size)) (seen B.block blocks.old) }
+    requires inside { mover.start ≤ size }
+    ensures ok { IfOk result (λ o. MatchOption o
+        (NoneLower (seen B.block blocks.old) (record { block = mover.block; start = mover.start }) (record { size = mover.bytes; align = mover.align; kind = mover.kind }) (length blocks.old) × (seen B.block blocks.new ≡ seen B.block blocks.old))
+        (λ t. IsLowerTaken (seen B.block blocks.old) (seen B.block blocks.new) (record { block = mover.block; start = mover.start }) (record { size = mover.bytes; align = mover.align; kind = mover.kind }) t.0 t.1)) }
+    ensures err { OnErr result (seen B.block blocks.new ≡ seen B.block blocks.old) }
+    ensures objects { objects blocks.new ≡ objects blocks.old }
+{
+    for i in 0..blocks.len() {
+        let held = &mut blocks[i];
+        match take_at(&mut held.block, held.number, size, mover)? {
+            Some(start) => return Ok(Some((i, start))),
+            None => {}
+        }
+    }
+    Ok(None)
+}
