@@ -1,4 +1,5 @@
 pub mod PoolAlike
+pub mod RangesAlike
 mod WalkLemmas
 mod PoolLemmas
 mod RoomLemmas
