@@ -167,9 +167,9 @@ impl<B: PoolBlock> PoolOf<B> {
         Some(gone.memory)
     }
 
-    /// Takes the move target of what is at a place: the lowest place of the first earlier block that
-    /// holds it, else the lowest of its own block that ends at or below its start; none where there is
-    /// no such place. The only error is want of memory.
+    /// Takes the move target of what is at a place: the lowest place of the first earlier block
+    /// that holds it, else the lowest of its own block that ends at or below its start; none where
+    /// there is no such place. The only error is want of memory.
     pub(crate) fn take_lower(
         &mut self,
         from: PoolPlace,
