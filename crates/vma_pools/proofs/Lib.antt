@@ -8,3 +8,9 @@ mod KindLemmas
 mod LowerLemmas
 mod TargetLemmas
 mod LargestLemmas
+pub mod RangeLemmas
+pub mod AlikeRanges
+mod NumberLemmas
+mod StateLemmas
+mod EndedLemmas
+mod CallLemmas

@@ -1,3 +1,5 @@
 pub mod Alike
 pub mod Pools
+pub mod Ranges
+pub mod State
 pub mod Inner

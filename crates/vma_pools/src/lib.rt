@@ -1,6 +1,12 @@
-//! Pools of memory: blocks of which ranges are taken.
+//! Pools of memory, and the allocations in them and in memory objects of their own.
 #![tactic(auto)]
 
+mod allocations;
 mod blocks;
 mod lower;
 mod pool;
+mod pools;
+
+pub use allocations::{Allocation, Asked, Home};
+pub use pool::PoolPlace;
+pub use pools::PoolsOf;

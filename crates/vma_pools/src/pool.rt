@@ -89,7 +89,7 @@ impl<B: PoolBlock> PoolOf<B> {
         requires request { IsRequest bytes align }
         requires fits { bytes ≤ self.old.pool.info.block_size }
         requires none { All (λ b. BlockHolds b.block (record { size = bytes; align = align; kind = kind }) upper → ⊥) self.old.pool.blocks }
-        requires numbers { self.old.pool.next < 2 ^ 32 }
+        requires numbers { self.old.pool.next < 2 ^ 63 }
         ensures ok { IfOk result (λ s. TakesNew self.old self.new memories.old memories.new (record { size = bytes; align = align; kind = kind }) upper (record { block = s.block; start = s.start })) }
         ensures room { IsOk result → IsFull memories.old self.old.pool.info.memory_type self.old.pool.info.block_size → ⊥ }
         ensures full { IsErrOf result MemoryError.NoRoom → IsFull memories.old self.old.pool.info.memory_type self.old.pool.info.block_size }
@@ -130,7 +130,7 @@ impl<B: PoolBlock> PoolOf<B> {
     ) -> Result<PoolPlace, MemoryError>
         requires request { IsRequest bytes align }
         requires fits { bytes ≤ self.old.pool.info.block_size }
-        requires numbers { self.old.pool.next < 2 ^ 32 }
+        requires numbers { self.old.pool.next < 2 ^ 63 }
         ensures ok { IfOk result (λ s. Takes self.old self.new memories.old memories.new (record { size = bytes; align = align; kind = kind }) upper (record { block = s.block; start = s.start })) }
         ensures room { IsOk result → NoRoomInPool (heaps memories.old) (state_of self.old.pool) (record { size = bytes; align = align; kind = kind }) upper → ⊥ }
         ensures no_room { IsErrOf result MemoryError.NoRoom → NoRoomInPool (heaps memories.old) (state_of self.old.pool) (record { size = bytes; align = align; kind = kind }) upper }

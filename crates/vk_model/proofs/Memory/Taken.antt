@@ -28,13 +28,13 @@ four true false c d = refl
 four false true c d = refl
 four false false c d = refl
 
-conflict_turned : (k : Kind) (a n : ℕ) (l : Kind) (b m : ℕ) → conflict k a n l b m ≡ conflict l b m k a n
+pub conflict_turned : (k : Kind) (a n : ℕ) (l : Kind) (b m : ℕ) → conflict k a n l b m ≡ conflict l b m k a n
 conflict_turned k a n l b m =
     ap (λ v. v || not (same_kind k l) && share_page a n b m) (four (nat_lt 0 n) (nat_lt 0 m) (nat_lt a (b + m)) (nat_lt b (a + n)))
     ∙ ap (λ v. ranges_meet b m a n || not v && share_page a n b m) (same_kind_turned k l)
     ∙ ap (λ v. ranges_meet b m a n || not (same_kind l k) && v) (four (nat_lt 0 n) (nat_lt 0 m) (nat_le (a / 1024) ((b + m - 1) / 1024)) (nat_le (b / 1024) ((a + n - 1) / 1024)))
 
-apart_turned : (t u : Taken) → IsApart t u → IsApart u t
+pub apart_turned : (t u : Taken) → IsApart t u → IsApart u t
 apart_turned t u apart = conflict_turned u.kind u.start u.size t.kind t.start t.size ∙ apart
 
 -- ---- sound blocks

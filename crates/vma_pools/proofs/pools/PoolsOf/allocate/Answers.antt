@@ -1,0 +1,39 @@
+use Rattle.std.proofs.Common.{List, Option, Some, [], ◌∷◌, ◌++◌, ◌≡◌, ◌<◌, ◌≤◌, ◌∙◌, set, arith, refl, ap, sym, subst}
+use Rattle.vk_model.specs.declared.suballoc.SubFault.{SubFault}
+use Rattle.vk_model.specs.Memory.Room.{NoRoomInPool}
+use Rattle.vk_model.specs.Memory.Pools.{state_of}
+use Rattle.vma_pools.specs.declared.allocations.Allocation.{Allocation}
+use Rattle.vma_pools.specs.declared.allocations.Home.TheVariants as home
+use Rattle.vma_pools.specs.Pools.{Kept, heaps}
+use Rattle.vma_pools.specs.State.{PoolsState, ArePools, IfKept, new_allocation, request_in, start_of}
+use Rattle.vma_pools.proofs.StateLemmas.{shared-added, taken-fine, takes-gives}
+use Rattle.vma_pools.proofs.CallLemmas.{kept-here, kept-and}
+use Rattle.vma_pools.proofs.pools.PoolsOf.allocate.Goals as goal
+
+pub allocate-requires-clause-numbers : goal.allocate-requires-clause-numbers
+allocate-requires-clause-numbers g c =
+    let f = c.self.inside in let p = c.args.pool in let k = c.in-Some.kept in
+    let s : PoolsState = record { pools = f.pools.items; allocations = f.allocations.items } in
+    let at = kept-here s p (λ k. c.args.asked.size ≤ k.pool.info.block_size) (subst (λ (t : PoolsState). IfKept t p (λ k. c.args.asked.size ≤ k.pool.info.block_size)) (sym c.self.view_is) c.requires.fits) c.index_mut.result.now k c.index_mut.ensures.value c.in-Some.is in
+    let low = c.self.invariant.blocks p k at in
+    omega (arith, low, f.allocations.ok, f.allocations.small)
+
+pub invariant_of-self-2 : goal.invariant_of-self-2
+invariant_of-self-2 g c =
+    let f = c.self.inside in let p = c.args.pool in let k = c.in-Some.kept in let asked = c.args.asked in let place = c.in_ok-place.place in let now = c.allocate.new.self in
+    let s : PoolsState = record { pools = f.pools.items; allocations = f.allocations.items } in
+    let at = kept-here s p (λ k. asked.size ≤ k.pool.info.block_size) (subst (λ (t : PoolsState). IfKept t p (λ k. asked.size ≤ k.pool.info.block_size)) (sym c.self.view_is) c.requires.fits) c.index_mut.result.now k c.index_mut.ensures.value c.in-Some.is in
+    let a : Allocation = new_allocation (home.Shared p place) asked in
+    let is = c.push_reserved.ensures.items ∙ ap (λ (l : List (Option Allocation)). l ++ Some a ∷ []) c.in_ok-reserve.ensures.items in
+    let takes = takes-gives k now c.args.memories.now c.allocate.new.memories (request_in asked) c.args.upper (start_of place) c.in_ok-place.ensures.ok in
+    let fine = taken-fine c.pool_stays.ensures k now (request_in asked) c.args.upper (start_of place) c.requires.request.some (c.self.invariant.pools p k at) takes.0 takes.1 in
+    subst (λ (l : List (Option Allocation)). ArePools (record { pools = set f.pools.items p (Some now); allocations = l })) (sym is)
+    (shared-added s c.self.invariant p k now at asked c.requires.request c.args.upper place takes.0 takes.1 fine)
+
+pub returns-clause-room : goal.returns-clause-room
+returns-clause-room g c is =
+    let f = c.self.inside in let p = c.args.pool in let k = c.in-Some.kept in let asked = c.args.asked in
+    let s : PoolsState = record { pools = f.pools.items; allocations = f.allocations.items } in
+    let at = kept-here s p (λ k. asked.size ≤ k.pool.info.block_size) (subst (λ (t : PoolsState). IfKept t p (λ k. asked.size ≤ k.pool.info.block_size)) (sym c.self.view_is) c.requires.fits) c.index_mut.result.now k c.index_mut.ensures.value c.in-Some.is in
+    subst (λ (t : PoolsState). IfKept t p (λ k. NoRoomInPool (heaps c.args.memories.now) (state_of k.pool) (request_in asked) c.args.upper → ⊥)) c.self.view_is
+    (kept-and s p k (λ k. NoRoomInPool (heaps c.args.memories.now) (state_of k.pool) (request_in asked) c.args.upper → ⊥) at (c.in_ok-place.ensures.room is))

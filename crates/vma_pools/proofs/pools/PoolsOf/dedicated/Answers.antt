@@ -1,0 +1,20 @@
+use Rattle.std.proofs.Common.{ℕ, List, Option, Some, [], ◌∷◌, ◌++◌, ◌≡◌, ◌∙◌, Bool, true, false, None, ap, sym, subst, refl}
+use Rattle.vma_pools.specs.declared.allocations.Allocation.{Allocation}
+use Rattle.vma_pools.specs.declared.allocations.Asked.{Asked}
+use Rattle.vma_pools.specs.declared.allocations.Home.TheVariants as home
+use Rattle.vma_pools.specs.State.{PoolsState, ArePools, new_allocation, held_place}
+use Rattle.vma_pools.proofs.StateLemmas.{own-added}
+use Rattle.vma_pools.proofs.pools.PoolsOf.dedicated.Goals as goal
+
+pub invariant_of-self-2 : goal.invariant_of-self-2
+invariant_of-self-2 g c =
+    let f = c.self.inside in
+    let s : PoolsState = record { pools = f.pools.items; allocations = f.allocations.items } in
+    let a : Allocation = new_allocation (home.Own c.in_ok-memory.memory) c.args.asked in
+    let is = c.push_reserved.ensures.items ∙ ap (λ (l : List (Option Allocation)). l ++ Some a ∷ []) c.in_ok-reserve.ensures.items in
+    subst (λ (l : List (Option Allocation)). ArePools (record { pools = f.pools.items; allocations = l })) (sym is)
+    (own-added s c.self.invariant a c.requires (own c.in_ok-memory.memory c.args.asked))
+  where
+    own : (n : ℕ) (asked : Asked) (r : Bool) → held_place r (new_allocation (home.Own n) asked) ≡ None
+    own n asked false = refl
+    own n asked true = refl

@@ -1,0 +1,12 @@
+use Rattle.std.proofs.Common.{ℕ, Option, Some, None, ◌≡◌, refl, subst}
+use Rattle.vma_pools.specs.State.{IfLive, IsEnded}
+use Rattle.vma_pools.proofs.EndedLemmas.{live-is}
+use Rattle.vma_pools.proofs.CallLemmas.{live-holds, ended-live}
+use Rattle.vma_pools.proofs.pools.PoolsOf.free.Goals as goal
+
+pub free-requires : goal.free-requires
+free-requires g c =
+    let s = c.args.self.now in let i = c.args.allocation in
+    let l = live-is s i (λ a. a.target ≡ None) c.requires.unreserved in
+    let ended = subst (λ (o : Option ℕ). IsEnded s c.end-gone.new.self i l.0.home o) c.in-Some.is (live-holds s i (λ a. IsEnded s c.end-gone.new.self i a.home c.end-gone.result) c.end-gone.ensures.ended l.0 l.1) in
+    ended-live s c.end-gone.ensures.always c.args.memories.now c.requires.backs i l.0 l.1 c.end-gone.new.self c.in-Some.memory l.0.home refl ended
