@@ -14,3 +14,4 @@ mod NumberLemmas
 mod StateLemmas
 mod EndedLemmas
 mod CallLemmas
+mod BacksLemmas

@@ -114,7 +114,7 @@ next-grows p r upper s = go (s.block == p.next)
     go true = omega arith
     go false = omega arith
 
-given-info : (p : Pool) (r : Request) (upper : Bool) (s : BlockStart) → (pool_with p r upper s).info ≡ p.info
+pub given-info : (p : Pool) (r : Request) (upper : Bool) (s : BlockStart) → (pool_with p r upper s).info ≡ p.info
 given-info p r upper s = go (s.block == p.next)
   where
     go : (v : Bool) → (if v then record p { blocks = p.blocks ++ record { number = p.next; block = block_with (new_block p.info) r upper s.start } ∷ []; next = p.next + 1 }

@@ -120,10 +120,21 @@ pub record IsObject (m : MemoryState) (number memory_type size : ℕ) : Type 0 w
   pub bytes : length (region_of m number) ≡ size
   pub kind : type_of m number ≡ memory_type
 
--- The memory objects of pools and allocations are live and of the sizes that they need (Vulkan, "Device Memory").
+-- Whose a memory object is: an allocation's own, or that of the block of a pool at an index (VMA, "Custom memory pools" and "Dedicated allocations").
+pub data Owner : Type 0 where
+  Alone : (allocation : ℕ) → Owner
+  BlockOf : (pool index : ℕ) → Owner
+
+-- The memory object of a number is whose.
+abbrev pub Has : PoolsState → Owner → ℕ → Type 0
+Has s (Alone i) n = (a : Allocation) × (allocation_at s i ≡ Some a) × (a.home ≡ home.Own n)
+Has s (BlockOf p j) n = (k : Kept) × (pool_at s p ≡ Some k) × (j < length k.memories) × (get_or k.memories j 0 ≡ n)
+
+-- The memory objects of pools and allocations are of the sizes that they need, and no two have one (Vulkan, "Device Memory").
 pub record Backs (s : PoolsState) (m : MemoryState) : Type 0 where
   pub own : (i : ℕ) (a : Allocation) (n : ℕ) → allocation_at s i ≡ Some a → a.home ≡ home.Own n → length (region_of m n) ≡ a.asked.size
-  pub blocks : (p : ℕ) (k : Kept) (i : ℕ) → pool_at s p ≡ Some k → i < length k.memories → IsObject m (get_or k.memories i 0) k.pool.info.memory_type k.pool.info.block_size
+  pub blocks : (p : ℕ) (k : Kept) (j : ℕ) → pool_at s p ≡ Some k → j < length k.memories → IsObject m (get_or k.memories j 0) k.pool.info.memory_type k.pool.info.block_size
+  pub apart : (x y : Owner) (n : ℕ) → Has s x n → Has s y n → x ≡ y
 
 -- The memory object of a block that has gone, if one has, is no more among those of the pool's blocks.
 abbrev pub LosesBlock : Option ℕ → Kept → Kept → Type 0

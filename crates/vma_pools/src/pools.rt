@@ -78,6 +78,7 @@ impl<B: PoolBlock> PoolsOf<B> {
         asked: Asked,
     ) -> Result<u64, MemoryError>
         requires { IsRequest asked.size asked.align }
+        ensures backs { Backs self.old memories.old → Backs self.new memories.new }
         ensures ok { IfOk result (λ a. IsOwn self.old self.new memories.old memories.new memory_type asked a) }
         ensures room { IsOk result → IsFull memories.old memory_type asked.size → ⊥ }
         ensures full { IsErrOf result MemoryError.NoRoom → IsFull memories.old memory_type asked.size }
@@ -107,6 +108,7 @@ impl<B: PoolBlock> PoolsOf<B> {
     ) -> Result<u64, MemoryError>
         requires request { IsRequest asked.size asked.align }
         requires fits { IfKept self.old pool (λ k. asked.size ≤ k.pool.info.block_size) }
+        ensures backs { Backs self.old memories.old → Backs self.new memories.new }
         ensures ok { IfOk result (λ a. IsShared self.old self.new memories.old memories.new pool asked upper a) }
         ensures room { IsOk result → IfKept self.old pool (λ k. NoRoomInPool (heaps memories.old) (state_of k.pool) (request_in asked) upper → ⊥) }
         ensures no_room { IsErrOf result MemoryError.NoRoom → IfKept self.old pool (λ k. NoRoomInPool (heaps memories.old) (state_of k.pool) (request_in asked) upper) }

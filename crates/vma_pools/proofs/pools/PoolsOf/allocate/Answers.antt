@@ -5,8 +5,9 @@ use Rattle.vk_model.specs.Memory.Pools.{state_of}
 use Rattle.vma_pools.specs.declared.allocations.Allocation.{Allocation}
 use Rattle.vma_pools.specs.declared.allocations.Home.TheVariants as home
 use Rattle.vma_pools.specs.Pools.{Kept, heaps}
-use Rattle.vma_pools.specs.State.{PoolsState, ArePools, IfKept, new_allocation, request_in, start_of}
+use Rattle.vma_pools.specs.State.{PoolsState, ArePools, Backs, IfKept, new_allocation, request_in, start_of}
 use Rattle.vma_pools.proofs.StateLemmas.{shared-added, taken-fine, takes-gives}
+use Rattle.vma_pools.proofs.BacksLemmas.{takes-backs}
 use Rattle.vma_pools.proofs.CallLemmas.{kept-here, kept-and}
 use Rattle.vma_pools.proofs.pools.PoolsOf.allocate.Goals as goal
 
@@ -37,3 +38,13 @@ returns-clause-room g c is =
     let at = kept-here s p (λ k. asked.size ≤ k.pool.info.block_size) (subst (λ (t : PoolsState). IfKept t p (λ k. asked.size ≤ k.pool.info.block_size)) (sym c.self.view_is) c.requires.fits) c.index_mut.result.now k c.index_mut.ensures.value c.in-Some.is in
     subst (λ (t : PoolsState). IfKept t p (λ k. NoRoomInPool (heaps c.args.memories.now) (state_of k.pool) (request_in asked) c.args.upper → ⊥)) c.self.view_is
     (kept-and s p k (λ k. NoRoomInPool (heaps c.args.memories.now) (state_of k.pool) (request_in asked) c.args.upper → ⊥) at (c.in_ok-place.ensures.room is))
+
+pub returns-clause-backs : goal.returns-clause-backs
+returns-clause-backs g c backs =
+    let f = c.self.inside in let p = c.args.pool in let k = c.in-Some.kept in let asked = c.args.asked in let place = c.in_ok-place.place in let now = c.allocate.new.self in let m = c.args.memories.now in
+    let s : PoolsState = record { pools = f.pools.items; allocations = f.allocations.items } in
+    let at = kept-here s p (λ k. asked.size ≤ k.pool.info.block_size) (subst (λ (t : PoolsState). IfKept t p (λ k. asked.size ≤ k.pool.info.block_size)) (sym c.self.view_is) c.requires.fits) c.index_mut.result.now k c.index_mut.ensures.value c.in-Some.is in
+    let a : Allocation = new_allocation (home.Shared p place) asked in
+    let is = c.push_reserved.ensures.items ∙ ap (λ (l : List (Option Allocation)). l ++ Some a ∷ []) c.in_ok-reserve.ensures.items in
+    subst (λ (l : List (Option Allocation)). Backs (record { pools = set f.pools.items p (Some now); allocations = l }) c.allocate.new.memories) (sym is)
+    (takes-backs s c.self.invariant m c.allocate.new.memories (subst (λ (t : PoolsState). Backs t m) (sym c.self.view_is) backs) p k now at place asked c.args.upper c.in_ok-place.ensures.ok)

@@ -1,9 +1,11 @@
-use Rattle.std.proofs.Common.{ℕ, List, Option, Some, [], ◌∷◌, ◌++◌, ◌≡◌, ◌∙◌, Bool, true, false, None, ap, sym, subst, refl}
+use Rattle.std.proofs.Common.{ℕ, List, length, Option, Some, [], ◌∷◌, ◌++◌, ◌≡◌, ◌∙◌, Bool, true, false, None, ap, sym, subst, refl}
 use Rattle.vma_pools.specs.declared.allocations.Allocation.{Allocation}
 use Rattle.vma_pools.specs.declared.allocations.Asked.{Asked}
 use Rattle.vma_pools.specs.declared.allocations.Home.TheVariants as home
-use Rattle.vma_pools.specs.State.{PoolsState, ArePools, new_allocation, held_place}
+use Rattle.vma_pools.specs.State.{PoolsState, ArePools, Backs, new_allocation, with_more, held_place}
+use Rattle.vk_memory.specs.MemoryState.{MemoryState}
 use Rattle.vma_pools.proofs.StateLemmas.{own-added}
+use Rattle.vma_pools.proofs.BacksLemmas.{own-backs}
 use Rattle.vma_pools.proofs.pools.PoolsOf.dedicated.Goals as goal
 
 pub invariant_of-self-2 : goal.invariant_of-self-2
@@ -18,3 +20,13 @@ invariant_of-self-2 g c =
     own : (n : ℕ) (asked : Asked) (r : Bool) → held_place r (new_allocation (home.Own n) asked) ≡ None
     own n asked false = refl
     own n asked true = refl
+
+pub returns-clause-backs : goal.returns-clause-backs
+returns-clause-backs g c backs =
+    let f = c.self.inside in let asked = c.args.asked in let m = c.args.memories.now in
+    let s : PoolsState = record { pools = f.pools.items; allocations = f.allocations.items } in
+    let a : Allocation = new_allocation (home.Own c.in_ok-memory.memory) asked in
+    let is = c.push_reserved.ensures.items ∙ ap (λ (l : List (Option Allocation)). l ++ Some a ∷ []) c.in_ok-reserve.ensures.items ∙ ap (λ (k : ℕ). f.allocations.items ++ Some (new_allocation (home.Own k) asked) ∷ []) c.in_ok-memory.ensures.ok.0 in
+    subst (λ (l : List (Option Allocation)). Backs (record { pools = f.pools.items; allocations = l }) c.allocate.new.self) (sym is)
+    (subst (λ (n : MemoryState). Backs (with_more s (new_allocation (home.Own (length m.objects)) asked)) n) (sym c.in_ok-memory.ensures.ok.1)
+    (own-backs s c.self.invariant m (subst (λ (t : PoolsState). Backs t m) (sym c.self.view_is) backs) c.args.memory_type asked))
