@@ -15,3 +15,4 @@ mod StateLemmas
 mod EndedLemmas
 mod CallLemmas
 mod BacksLemmas
+mod ReleaseLemmas

@@ -161,6 +161,7 @@ impl<B: PoolBlock> PoolsOf<B> {
         requires backs { Backs self.old memories.old }
         ensures ended { IfLive self.old allocation (λ a. IsEnded self.old self.new allocation a.home result) }
         ensures memories { memories.new ≡ released memories.old result }
+        ensures kept { Backs self.new memories.new }
     {
         let gone = self.end(allocation);
         if let Some(memory) = gone {
