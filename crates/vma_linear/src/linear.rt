@@ -1,6 +1,6 @@
 ghost use Rattle.std.specs.Prelude.{◌≡◌, ◌+◌, ◌<◌, ◌^◌, ◌++◌, ◌∷◌, [], Some, None, true, All, map, IfOk, OnErr, IsErrOf};
 ghost use Rattle.vk_model.specs.Memory.Suballocation.{IsRequest, IsLargestFree};
-ghost use Rattle.vk_model.specs.Memory.Room.{all_taken, stack_place, ring_place, lower_place, upper_place};
+ghost use Rattle.vk_model.specs.Memory.Room.{all_taken, is_none_left, stack_place, ring_place, lower_place, upper_place};
 ghost use Rattle.vk_model.specs.Memory.LinearBlocks.{empty_linear, after_lower, after_upper, after_free};
 ghost use Rattle.vma_linear.specs.Inner.Slots.{comes_before};
 ghost use Rattle.vk_model.specs.Memory.TakenRanges.{taken_of};
@@ -121,6 +121,13 @@ impl Linear {
         if self.lower.is_empty() {
             mem::swap(&mut self.lower, &mut self.wrapped);
         }
+    }
+
+    /// Whether nothing is taken.
+    pub fn is_empty(&self) -> bool
+        ensures { result ≡ is_none_left (all_taken self.now) }
+    {
+        self.lower.is_empty() && self.wrapped.is_empty() && self.upper.is_empty()
     }
 
     /// The ranges that are taken: those of the lower stack, those that went round, and those of the

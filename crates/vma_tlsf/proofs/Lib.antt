@@ -17,3 +17,6 @@ pub mod Freed
 pub mod Putting
 pub mod Longest
 pub mod Listing
+pub mod Emptiness
+pub mod Permutations
+pub mod GivenBack

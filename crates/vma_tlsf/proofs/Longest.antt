@@ -41,7 +41,7 @@ free_inside whole nodes start n h = leb-true (start + n) whole (and_parts (nat_l
 meets_none : (whole : ℕ) (nodes : List (Option Node)) (start n : ℕ) → IsTrue (is_free whole (taken_in nodes) start n) → list_any (Meets start n) (taken_in nodes) ≡ false
 meets_none whole nodes start n h = not-true (list_any (Meets start n) (taken_in nodes)) (and_parts (nat_le (start + n) whole) (not (list_any (Meets start n) (taken_in nodes))) h).1
 
-clear_here : (p : Taken → Bool) (v : Option Range) → ((q : Range) (l : Kind) → v ≡ Some q → q.state ≡ state_of l → p (record { start = q.start; size = q.size; kind = l }) ≡ false) → list_any p (taken_here v) ≡ false
+pub clear_here : (p : Taken → Bool) (v : Option Range) → ((q : Range) (l : Kind) → v ≡ Some q → q.state ≡ state_of l → p (record { start = q.start; size = q.size; kind = l }) ≡ false) → list_any p (taken_here v) ≡ false
 clear_here p v h = elim (seen_cases v) [
   | inl none ↦ ap (λ o. list_any p (taken_here o)) none
   | inr q ↦ elim (state_cases q.0.state) [

@@ -14,7 +14,7 @@ use Rattle.vma_tlsf.specs.Inner.Changes.{TakesMore, IsReleased}
 use Rattle.vma_tlsf.specs.Inner.Fits.{IsBlock}
 use Rattle.vma_tlsf.specs.Inner.Sound.{tested_sound}
 
-all_none : (p : Taken → Bool) (xs : List Taken) → All (λ x. p x ≡ false) xs → list_any p xs ≡ false
+pub all_none : (p : Taken → Bool) (xs : List Taken) → All (λ x. p x ≡ false) xs → list_any p xs ≡ false
 all_none p [] all = refl
 all_none p (x ∷ xs) all = rw (All-head (λ y. p y ≡ false) x xs all) (all_none p xs (All-tail (λ y. p y ≡ false) x xs all))
 

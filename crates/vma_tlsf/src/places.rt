@@ -1,7 +1,7 @@
 ghost use Rattle.std.specs.Prelude.{◌≡◌, ◌≤◌, ◌<◌, ◌^◌, ◌+◌, ℕ, Some, None, get_or, max, min, IsTrue, IfSome};
 ghost use Rattle.vk_nodes.specs.declared.node.RangeState.TheVariants.{Free};
 ghost use Rattle.vk_model.specs.Memory.Suballocation.{IsRequest, IsLargestFree};
-ghost use Rattle.vk_model.specs.Memory.Room.{fits};
+ghost use Rattle.vk_model.specs.Memory.Room.{fits, is_none_left};
 ghost use Rattle.vma_tlsf.specs.Inner.Chain.{range, seen, taken_in};
 ghost use Rattle.vma_tlsf.specs.Inner.Changes.{HasChain};
 ghost use Rattle.vma_tlsf.specs.Inner.Fits.{is_other, low_of, high_of, IsBlock, HasBlock, HasBlockFrom, IsFreeNode, IsLowestIn, IsPlaceFor, NoneBelow, free_size, IsNodeOf, IsLive, StartsAt, IsSlotAt};
@@ -250,6 +250,15 @@ pub(crate) fn longest_free(nodes: &Nodes, first: u32, size: u64) -> u64
         slot = after;
         node = nodes.get(slot);
     }
+}
+
+/// Whether nothing is taken: the first range is free, and as long as the block.
+pub(crate) fn is_all_free(nodes: &Nodes, first: u32, size: u64) -> bool
+    requires { IsBlock size first nodes.now }
+    ensures { result ≡ is_none_left (taken_in nodes.now) }
+{
+    let node = nodes.get(first);
+    free_bytes(node) == size
 }
 
 /// The smaller of two numbers.

@@ -11,7 +11,7 @@ ghost use Rattle.vk_model.specs.Memory.TakenRanges.{taken_of};
 use crate::changes::{put, release};
 use crate::lists::Lists;
 use crate::places::{
-    PAGE, Place, Want, find_place, longest_free, lowest_place, slot_from, smaller,
+    PAGE, Place, Want, find_place, is_all_free, longest_free, lowest_place, slot_from, smaller,
 };
 use crate::steps::fresh;
 use std::alloc::{AllocError, Global};
@@ -50,8 +50,9 @@ impl Model for Tlsf {
 }
 
 impl Tlsf {
-    ghost use Rattle.vk_model.specs.Memory.Suballocation.{IsRequest, Puts};
-    ghost use Rattle.vk_model.specs.Memory.Room.{lowest};
+    ghost use Rattle.vk_model.specs.Memory.Suballocation.{IsRequest, IsTakenAt, Puts};
+    ghost use Rattle.vk_model.specs.Memory.Room.{lowest, is_none_left};
+    ghost use Rattle.vk_model.specs.Memory.LinearBlocks.{others};
     ghost use Rattle.vma_tlsf.specs.Block.{taken as all_taken};
 
     /// A block of `size` bytes, of which nothing is taken.
@@ -127,6 +128,23 @@ impl Tlsf {
             found,
             want,
         )
+    }
+
+    /// Gives back the range that starts here.
+    pub fn give_back(&mut self, start: u64)
+        requires { IsTakenAt start (all_taken self.old) }
+        ensures freed { IsPermutation (others start (all_taken self.old)) (all_taken self.new) }
+        ensures block { self.new.size ≡ self.old.size }
+    {
+        let _block = &self.size;
+        self.free(start);
+    }
+
+    /// Whether nothing is taken.
+    pub fn is_empty(&self) -> bool
+        ensures { result ≡ is_none_left (all_taken self.now) }
+    {
+        is_all_free(&self.nodes, self.first, self.size)
     }
 
     /// The ranges that are taken, by place.
