@@ -3,6 +3,8 @@
 #![tactic(auto)]
 
 #[cfg(test)]
+mod blocks;
+#[cfg(test)]
 mod free_lists;
 #[cfg(test)]
 mod linear_blocks;

@@ -1,13 +1,13 @@
 -- What a block gives where a range was put, in words of what fits.
 use Rattle.std.proofs.Common.{◌≡◌, ℕ, ◌+◌, ◌%◌, ◌≤◌, List, ◌∷◌, Bool, false, not, ap, arith}
 use Rattle.std.specs.Prelude.{IsTrue, Result, Ok, Err, Some, IfOk, min}
-use Rattle.std.proofs.lemmas.List.Sorted.{IsPermutation-sym}
+use Rattle.std.proofs.lemmas.List.Sorted.{IsPermutation-sym, Contains-permutation}
 use Rattle.std.proofs.lemmas.List.Elements.{All-head}
 use Rattle.std.proofs.lemmas.Bool.{and_from, eq-eqb, le-leb}
 use Rattle.std.proofs.lemmas.Result.{IfOk-weaker}
-use Rattle.vk_model.specs.Memory.Suballocation.{Taken, Request, IsSound, IsApart, Puts, conflict, taken_at}
-use Rattle.vk_model.specs.Memory.Room.{General, fits, lowest}
-use Rattle.vk_model.specs.Memory.Pools.{BlockGives, block_with}
+use Rattle.vk_model.specs.Memory.Suballocation.{Taken, Request, IsSound, IsApart, IsTakenAt, Puts, conflict, taken_at}
+use Rattle.vk_model.specs.Memory.Room.{Block, General, Stack, fits, lowest}
+use Rattle.vk_model.specs.Memory.Pools.{BlockGives, block_taken, block_with}
 use Rattle.vk_model.specs.declared.suballoc.SubFault.{SubFault}
 use Rattle.vk_model.proofs.Memory.AllPairs.{pairs_first}
 use Rattle.vk_model.proofs.Memory.Taken.{sound_permuted}
@@ -36,3 +36,12 @@ pub lowest_put : (size now limit : ℕ) (old new : List Taken) (r : Request) (re
     → IfOk result (λ start. (lowest old r 0 (min limit size) ≡ Some start) × IsAlike (block_with (General size old) r false start) (General now new))
 lowest_put size now limit old new r (Ok start) same puts low = (low, put_alike size now old new r false start same puts)
 lowest_put size now limit old new r (Err e) same puts low = tt
+
+-- what is taken of a block is taken of one like it
+pub alike_taken : (k n : Block) (start : ℕ) → IsAlike k n → IsTakenAt start (block_taken k) → IsTakenAt start (block_taken n)
+alike_taken (General size taken) (General m others) start alike any =
+    let there = Contains-permutation taken others any.1 alike.1 (any.0, any.2, any.3) in
+    (there.0, any.1, there.1, there.2, any.4)
+alike_taken (General size taken) (Stack c) start alike any = absurd alike
+alike_taken (Stack b) (General m others) start alike any = absurd alike
+alike_taken (Stack b) (Stack c) start alike any = rw alike any
