@@ -1,0 +1,4 @@
+use Rattle.vma_blocks.proofs.any.AnyBlockPoolBlock.free.Goals as goal
+
+pub returns-in-Stack : goal.returns-in-Stack
+returns-in-Stack c = rw c.in-Stack.is c.give_back.ensures
