@@ -11,7 +11,7 @@ ghost use Rattle.vk_model.specs.Memory.TakenRanges.{taken_of};
 use crate::changes::{put, release};
 use crate::lists::Lists;
 use crate::places::{
-    PAGE, Place, Want, find_place, is_all_free, longest_free, lowest_place, slot_from, smaller,
+    Place, Want, find_place, is_all_free, longest_free, lowest_place, slot_from, smaller,
 };
 use crate::steps::fresh;
 use std::alloc::{AllocError, Global};
@@ -21,6 +21,12 @@ use vk_nodes::{Node, Nodes, RangeState};
 
 /// What a search of a block for resources of both kinds asks for more: two pages, in bytes.
 const TWO_PAGES: u64 = 2048;
+
+/// The bytes for which one slot that is likely to be near is remembered.
+const NEAR: u64 = 64;
+
+/// How far from these bytes the range of that slot may start.
+const MOST_APART: u64 = 1024;
 
 /// A block of memory of which ranges are taken.
 #[derive(Drop)]
@@ -33,7 +39,7 @@ pub struct Tlsf {
     /// The slot of the range that starts at 0.
     first: u32,
     lists: Lists,
-    /// For each page a slot whose range is likely to be near.
+    /// For each 64 bytes a slot whose range is likely to be near.
     near: Vec<u32>,
 }
 
@@ -79,7 +85,7 @@ impl Tlsf {
         requires more { more ≤ 2048 }
         ensures { IfOk result (λ t. t ≡ record { size = size; taken = [] }) }
     {
-        let near = vec![in alloc; 0; (size / PAGE + 1) as usize]?;
+        let near = vec![in alloc; 0; (size / NEAR + 1) as usize]?;
         let mut lists = Lists::new(alloc)?;
         let mut nodes = Nodes::new(alloc);
         let first = fresh(&mut nodes)?;
@@ -232,9 +238,9 @@ fn take(
     Ok(place.start)
 }
 
-/// Remembers a slot whose range is near the page of a start.
+/// Remembers a slot whose range is near a start.
 fn set_near(near: &mut Vec<u32>, start: u64, slot: u32) {
-    if let Some(place) = near.get_mut((start / PAGE) as usize) {
+    if let Some(place) = near.get_mut((start / NEAR) as usize) {
         *place = slot;
     }
 }
@@ -246,14 +252,25 @@ fn slot_near(nodes: &Nodes, near: &Vec<u32>, first: u32, start: u64) -> u32
     requires there { StartsAt nodes.now start }
     ensures { IsSlotAt nodes.now result start }
 {
-    if let Some(hint) = near.get((start / PAGE) as usize) {
-        if let Some(node) = nodes.find(*hint) {
-            if node.size > 0 {
-                return slot_from(nodes, *hint, start);
-            }
+    for place in (0..=start / NEAR).rev() {
+        if let Some(slot) = remembered(nodes, near, place) {
+            return slot_from(nodes, slot, start);
         }
     }
     slot_from(nodes, first, start)
+}
+
+/// The slot that is remembered here, if its range is still near.
+fn remembered(nodes: &Nodes, near: &Vec<u32>, place: u64) -> Option<u32>
+    ensures { IfSome result (λ slot. IsLive nodes.now slot) }
+{
+    let slot = *near.get(place as usize)?;
+    let node = nodes.find(slot)?;
+    if node.size > 0 && node.start.abs_diff(place.saturating_mul(NEAR)) <= MOST_APART {
+        Some(slot)
+    } else {
+        None
+    }
 }
 
 /// A free range of a whole block.
