@@ -10,7 +10,8 @@ use Rattle.vk_model.specs.Memory.Pools.{BlockGives, IsSoundBlock, block_bytes, b
 use Rattle.vk_model.specs.Basics.{below}
 use Rattle.vk_model.proofs.Memory.Taken.{sound_permuted}
 use Rattle.vma_blocks.specs.Alike.{IsAlike, IsGeneral}
-use Rattle.vma_blocks.proofs.Permutations.{IsPermutation-filter, Any-permutation}
+use Rattle.vma_tlsf.proofs.Permutations.{IsPermutation-filter}
+use Rattle.vma_blocks.proofs.Permutations.{Any-permutation}
 
 -- ---- an equivalence
 
