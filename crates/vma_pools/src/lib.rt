@@ -10,3 +10,7 @@ mod pools;
 pub use allocations::{Allocation, Asked, Home};
 pub use pool::PoolPlace;
 pub use pools::PoolsOf;
+use vma_blocks::AnyBlock;
+
+/// Pools whose blocks are placed by either algorithm.
+pub type Pools = PoolsOf<AnyBlock>;
