@@ -12,8 +12,9 @@ use Rattle.vma_pools.specs.declared.allocations.Home.{Home}
 use Rattle.vma_pools.specs.declared.allocations.Home.TheVariants as home
 use Rattle.vma_pools.specs.Pools.{Kept, HasTaken, Loses, IsMemoryOf}
 use Rattle.vma_pools.specs.Ranges.{HasRange}
-use Rattle.vma_pools.specs.State.{PoolsState, pool_at, allocation_at, shared_place, reserved_place, held_place, start_of, range_at, IsHeld, ArePools, Backs, IfLive, IfKept, IsSpotOf, LosesBlock, IsEnded}
+use Rattle.vma_pools.specs.State.{PoolsState, pool_at, allocation_at, shared_place, reserved_place, held_place, start_of, range_at, IsHeld, ArePools, ArePlacesApart, Backs, IfLive, IfKept, IsSpotOf, LosesBlock, IsEnded}
 use Rattle.vma_pools.proofs.NumberLemmas.{at-below, found-at}
+use Rattle.vma_pools.proofs.RangeLemmas.{ranges-apart}
 use Rattle.vma_pools.proofs.StateLemmas.{some-is}
 use Rattle.vma_pools.proofs.EndedLemmas.{kept-is, live-is}
 
@@ -108,3 +109,16 @@ loses-block (Some n) was now kept lost = lost
 pub ended-live : (s : PoolsState) (h : ArePools s) (m : MemoryState) → Backs s m → (i : ℕ) (a : Allocation) → allocation_at s i ≡ Some a → (new : PoolsState) (n : ℕ) (l : Home) → a.home ≡ l → IsEnded s new i l (Some n) → IsLive m n
 ended-live s h m backs i a live new n (home.Own k) lies ended = subst (λ (x : ℕ). IsLive m x) (some-is k n (sym ended.0)) (own-live s h m backs i a k live lies)
 ended-live s h m backs i a live new n (home.Shared p place) lies ended = block-live s h m backs p ended.was ended.there ended.now.memories n ended.objects
+
+-- ---- places of allocations
+
+pub places-apart : (s : PoolsState) → ArePools s → ArePlacesApart s
+places-apart s h i j r v p place other a b x y same differ =
+    let one = h.taken i r p place a x in let two = h.taken j v p other b y in
+    let k = some-is two.0 one.0 (sym two.1 ∙ one.1) in
+    let there = subst (λ (k : Kept). HasRange k.pool place.block (range_at other.start b)) k (subst (λ (n : ℕ). HasRange two.0.pool n (range_at other.start b)) (sym same) two.2) in
+    ranges-apart one.0.pool (h.pools p one.0 one.1).0 place.block (range_at place.start a) (range_at other.start b) one.2 there
+    (λ starts. differ (h.one i j r v p place a b x (subst (λ (q : PoolPlace). IsHeld s j v p q b) (place-is other place (sym same) (sym starts)) y)))
+  where
+    place-is : (x y : PoolPlace) → x.block ≡ y.block → x.start ≡ y.start → x ≡ y
+    place-is x y e f = ap (λ (n : ℕ). record { block = n; start = x.start }) e ∙ ap (λ (n : ℕ). record { block = y.block; start = n }) f

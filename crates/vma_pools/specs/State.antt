@@ -1,6 +1,6 @@
 -- Pools and allocations, as they are seen.
 use Rattle.std.specs.Prelude.{◌≡◌, ℕ, ◌<◌, ◌≤◌, List, [], ◌∷◌, ◌++◌, length, set, Bool, true, false, Option, Some, None, option_map, IsSomeAnd, slice_index_or, get_or}
-use Rattle.vk_model.specs.Memory.Suballocation.{Request, IsRequest, Taken, taken_at}
+use Rattle.vk_model.specs.Memory.Suballocation.{Request, IsRequest, IsApart, Taken, taken_at}
 use Rattle.vk_model.specs.Memory.MoveTargets.{BlockStart}
 use Rattle.vk_model.specs.Memory.Pools.{Pool, IsPool, pool_without}
 use Rattle.vk_memory.specs.MemoryState.{MemoryState, IsLive, region_of, type_of, fresh, with_object}
@@ -72,6 +72,12 @@ pub record ArePools (s : PoolsState) : Type 0 where
   pub taken : (i : ℕ) (r : Bool) (p : ℕ) (place : PoolPlace) (asked : Asked) → IsHeld s i r p place asked → (k : Kept) × (pool_at s p ≡ Some k) × HasRange k.pool place.block (range_at place.start asked)
   pub held : (p : ℕ) (k : Kept) (n : ℕ) (t : Taken) → pool_at s p ≡ Some k → HasRange k.pool n t → (i : ℕ) × (r : Bool) × (place : PoolPlace) × (asked : Asked) × IsHeld s i r p place asked × (place.block ≡ n) × (place.start ≡ t.start)
   pub one : (i j : ℕ) (r v : Bool) (p : ℕ) (place : PoolPlace) (asked other : Asked) → IsHeld s i r p place asked → IsHeld s j v p place other → (i ≡ j) × (r ≡ v)
+
+-- No two places in one block of a pool conflict that are taken for allocations (Vulkan, "Resource Memory Association", on memory aliasing; VMA, "Custom memory pools").
+abbrev pub ArePlacesApart : PoolsState → Type 0
+ArePlacesApart s =
+    (i j : ℕ) (r v : Bool) (p : ℕ) (place other : PoolPlace) (a b : Asked) → IsHeld s i r p place a → IsHeld s j v p other b → place.block ≡ other.block
+    → ((i ≡ j) × (r ≡ v) → ⊥) → IsApart (range_at place.start a) (range_at other.start b)
 
 -- ---- what calls are asked, and what they do
 

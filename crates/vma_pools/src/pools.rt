@@ -35,7 +35,7 @@ impl<B: PoolBlock> Model for PoolsOf<B> {
 
 impl<B: PoolBlock> PoolsOf<B> {
     ghost use Rattle.std.specs.Prelude.{◌↔◌, ◌+◌, ◌-◌, OnOk};
-    ghost use Rattle.vma_pools.specs.State.{ArePools, pool_at, allocation_at, request_in, with_allocation, IfKept, IfLive, IsUnused, Backs, IsOwn, IsShared, IsEnded, IsSpotOf, released};
+    ghost use Rattle.vma_pools.specs.State.{ArePools, ArePlacesApart, pool_at, allocation_at, request_in, with_allocation, IfKept, IfLive, IsUnused, Backs, IsOwn, IsShared, IsEnded, IsSpotOf, released};
 
     /// No pools and no allocations. It takes no memory.
     pub fn new(alloc: Global) -> PoolsOf<B>
@@ -222,5 +222,13 @@ impl<B: PoolBlock> PoolsOf<B> {
         }
         live.maps -= 1;
         Ok(())
+    }
+
+    /// Of the places that are taken for allocations in pools no two conflict: none share a byte, nor a
+    /// page where one is of an optimal image.
+    pub fn places_apart(&self)
+        ensures { ArePlacesApart self.now }
+    {
+        let _pools = &self.pools;
     }
 }
