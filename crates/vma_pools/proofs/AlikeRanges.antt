@@ -1,6 +1,6 @@
 -- Pools that are alike have the same ranges.
 use Rattle.std.proofs.Common.{◌≡◌, ℕ, ◌∙◌, sym, subst}
-use Rattle.std.specs.Prelude.{Any, Contains}
+use Rattle.std.specs.Prelude.{Contains}
 use Rattle.std.proofs.lemmas.List.Sorted.{Contains-permutation}
 use Rattle.vk_model.specs.Memory.Suballocation.{Taken}
 use Rattle.vk_model.specs.Memory.Room.{Block, General, Stack, Linear, all_taken}

@@ -1,19 +1,17 @@
 -- Each pool and allocation keeps a memory object of its own.
-use Rattle.std.proofs.Common.{◌≡◌, ℕ, zero, suc, ◌+◌, ◌<◌, ◌≤◌, List, [], ◌∷◌, ◌++◌, length, get_or, set, take, drop, replicate, Bool, Option, Some, None, refl, sym, ap, subst, ◌∙◌, arith, inl, inr, ◌⊎◌}
-use Rattle.std.specs.Prelude.{slice_index_or}
+use Rattle.std.proofs.Common.{◌≡◌, ℕ, ◌+◌, ◌<◌, List, [], ◌∷◌, ◌++◌, length, get_or, set, Bool, Option, Some, None, refl, sym, ap, subst, ◌∙◌, arith, inl, inr, ◌⊎◌}
 use Rattle.std.proofs.lemmas.Bool.{cases_eq, cases_lt}
 use Rattle.std.proofs.lemmas.List.{length-append, length-replicate, get_or_append_left}
 use Rattle.std.proofs.Math.Seq.{get_or-append_seam}
 use Rattle.vk_model.specs.declared.resource.PoolInfo.{PoolInfo}
 use Rattle.vk_memory.specs.declared.memories.Object.{Object}
-use Rattle.vk_memory.specs.MemoryState.{MemoryState, IsLive, bytes_of, object_at, region_of, type_of, type_in, fresh, with_object}
+use Rattle.vk_memory.specs.MemoryState.{MemoryState, bytes_of, object_at, region_of, type_of, type_in, fresh}
 use Rattle.vma_pools.specs.declared.pool.PoolPlace.{PoolPlace}
 use Rattle.vma_pools.specs.declared.allocations.Allocation.{Allocation}
 use Rattle.vma_pools.specs.declared.allocations.Asked.{Asked}
-use Rattle.vma_pools.specs.declared.allocations.Home.{Home}
 use Rattle.vma_pools.specs.declared.allocations.Home.TheVariants as home
-use Rattle.vma_pools.specs.Pools.{Kept, Loses, Takes}
-use Rattle.vma_pools.specs.State.{PoolsState, pool_at, allocation_at, IsObject, Owner, Alone, BlockOf, Has, ArePools, Backs, new_allocation, with_more, request_in, start_of}
+use Rattle.vma_pools.specs.Pools.{Kept, Takes}
+use Rattle.vma_pools.specs.State.{PoolsState, pool_at, IsObject, Owner, Alone, BlockOf, Has, ArePools, Backs, new_allocation, with_more, request_in, start_of}
 use Rattle.vma_pools.proofs.NumberLemmas.{at-more, at-old, at-new, at-below, at-set, at-other}
 use Rattle.vma_pools.proofs.StateLemmas.{some-is, given-info}
 

@@ -1,8 +1,8 @@
 -- What the calls on allocations find.
-use Rattle.std.proofs.Common.{◌≡◌, ℕ, ◌+◌, ◌<◌, ◌≤◌, List, length, get_or, Bool, false, true, Option, Some, None, refl, sym, ap, subst, ◌∙◌, arith}
+use Rattle.std.proofs.Common.{◌≡◌, ℕ, ◌<◌, List, length, get_or, Bool, false, true, Option, Some, None, refl, sym, ap, subst, ◌∙◌, arith}
 use Rattle.std.specs.Prelude.{Any, IfNone, IfSome, IsSome, IsSomeAnd, slice_index_or}
-use Rattle.vk_model.specs.Memory.Suballocation.{Taken, IsTakenAt}
-use Rattle.vk_model.specs.Memory.Pools.{PoolBlock, Pool, block_taken}
+use Rattle.vk_model.specs.Memory.Suballocation.{Taken}
+use Rattle.vk_model.specs.Memory.Pools.{Pool}
 use Rattle.vk_memory.specs.declared.memories.Object.{Object}
 use Rattle.vk_memory.specs.MemoryState.{MemoryState, IsLive, bytes_of, object_at, region_of}
 use Rattle.vk_model.specs.declared.resource.Spot.{Spot}

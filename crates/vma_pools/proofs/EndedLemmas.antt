@@ -1,29 +1,20 @@
 -- Pools and allocations stay as they always are when an allocation changes or has ended.
-use Rattle.std.proofs.Common.{◌≡◌, ℕ, zero, suc, ◌+◌, ◌<◌, ◌≤◌, List, [], ◌∷◌, ◌++◌, length, set, Bool, true, false, Option, Some, None, not, ◌&&◌, refl, sym, ap, subst, ◌∙◌, ◌==◌, arith, inl, inr, ◌⊎◌}
-use Rattle.std.specs.Prelude.{All, Contains, IsSome, IsSomeAnd, slice_index_or, unwrap_or, nat_lt, if◌then◌else◌}
-use Rattle.std.proofs.lemmas.Bool.{cases_eq, or_parts, and_from, lt-ltb, both_ways}
-use Rattle.std.proofs.lemmas.List.{length-append, length-set}
-use Rattle.std.proofs.lemmas.List.Sorted.{Contains-permutation, IsPermutation-sym}
-use Rattle.vk_model.proofs.Lists.Members.{none_in, contains-cons, contains-head, contains-tail}
-use Rattle.vk_model.specs.Memory.Room.{Block, General, Stack, Linear, all_taken}
-use Rattle.vma_blocks.specs.Alike.{IsAlike}
-use Rattle.vma_pools.specs.Alike.{AreAlike, IsAlikePool}
-use Rattle.vk_model.specs.declared.resource.PoolInfo.{PoolInfo}
-use Rattle.vk_model.specs.Memory.Suballocation.{Taken, Request, IsRequest, IsApart, ranges_meet, same_kind, share_page}
-use Rattle.vk_model.specs.Memory.Pools.{PoolBlock, Pool, empty_pool, IsPool, block_taken, block_with, new_block, in_block, Gives, pool_with, pool_without}
-use Rattle.vk_model.specs.Memory.PlaceLaws.{PoolStays}
-use Rattle.vma_blocks.specs.PoolInfos.{IsPoolInfo}
+use Rattle.std.proofs.Common.{◌≡◌, ℕ, ◌<◌, length, set, Bool, true, false, Option, Some, None, refl, sym, ap, subst, ◌∙◌, arith, inl, inr}
+use Rattle.std.specs.Prelude.{IsSome, IsSomeAnd, slice_index_or, unwrap_or}
+use Rattle.std.proofs.lemmas.Bool.{cases_eq}
+use Rattle.std.proofs.lemmas.List.{length-set}
+use Rattle.vma_pools.specs.Alike.{IsAlikePool}
+use Rattle.vk_model.specs.Memory.Suballocation.{IsRequest}
+use Rattle.vk_model.specs.Memory.Pools.{pool_without}
 use Rattle.vma_pools.specs.declared.pool.PoolPlace.{PoolPlace}
 use Rattle.vma_pools.specs.declared.allocations.Asked.{Asked}
 use Rattle.vma_pools.specs.declared.allocations.Allocation.{Allocation}
 use Rattle.vma_pools.specs.declared.allocations.Home.{Home}
-use Rattle.vma_pools.specs.declared.allocations.Home.TheVariants as home
-use Rattle.vk_model.specs.Memory.MoveTargets.{BlockStart}
 use Rattle.vma_pools.specs.Pools.{Kept}
 use Rattle.vma_pools.specs.Ranges.{HasRange}
-use Rattle.vma_pools.specs.State.{PoolsState, pool_at, allocation_at, held_place, shared_place, reserved_place, IfLive, IfKept, IsUnused, start_of, request_in, range_at, IsHeld, ArePools}
-use Rattle.vma_pools.proofs.RangeLemmas.{range-apart, range-new, range-kept, range-from, left-kept, left-from, ranges-apart}
-use Rattle.vma_pools.proofs.NumberLemmas.{at-more, at-old, at-new, at-below, at-set, at-other, found-at}
+use Rattle.vma_pools.specs.State.{PoolsState, pool_at, allocation_at, held_place, shared_place, reserved_place, IfLive, IfKept, IsUnused, start_of, range_at, IsHeld, ArePools}
+use Rattle.vma_pools.proofs.RangeLemmas.{left-kept, left-from}
+use Rattle.vma_pools.proofs.NumberLemmas.{at-below, at-set, at-other, found-at}
 use Rattle.vma_pools.proofs.AlikeRanges.{alike-range, range-alike}
 use Rattle.vma_pools.proofs.StateLemmas.{Fine, same-held, some-is}
 
@@ -193,19 +184,29 @@ module _ (s : PoolsState) (h : ArePools s) (i : ℕ) (a : Allocation) (live : al
       ];
       requests = ended-requests;
       taken = λ j r q pl b held. (let was = from-left j r q pl b held in let o = h.taken j r q pl b was in elim (cases_eq q p) [
-        | inl is ↦ (let k-is = some-is o.0 old (sym o.1 ∙ ap (λ (n : ℕ). pool_at s n) is ∙ there) in
-            (now, ap (λ (n : ℕ). pool_at left n) is ∙ left-here, alike-range (pool_without old.pool (start_of place)) now.pool same pl.block (range_at pl.start b)
-            (left-kept old.pool (h.pools p old there).0 (start_of place) pl.block (range_at pl.start b) (subst (λ (k : Kept). HasRange k.pool pl.block (range_at pl.start b)) k-is o.2)
-            (λ e f. ended-other j r q pl b (same-held left ended refl j r q pl b held)
-            (h.one j i r false p place b a.asked (subst (λ (x : PoolPlace). IsHeld s j r p x b) (place-is pl place e f) (subst (λ (m : ℕ). IsHeld s j r m pl b) is was)) mine).0))))
+        | inl is ↦ (let k-is = some-is o.0 old (sym o.1 ∙ ap (λ (n : ℕ). pool_at s n) is ∙ there) in (
+          now,
+          ap (λ (n : ℕ). pool_at left n) is ∙ left-here,
+          alike-range (pool_without old.pool (start_of place)) now.pool same pl.block (range_at pl.start b)
+              (left-kept old.pool (h.pools p old there).0 (start_of place) pl.block (range_at pl.start b) (subst (λ (k : Kept). HasRange k.pool pl.block (range_at pl.start b)) k-is o.2)
+              (λ e f. ended-other j r q pl b (same-held left ended refl j r q pl b held)
+              (h.one j i r false p place b a.asked (subst (λ (x : PoolPlace). IsHeld s j r p x b) (place-is pl place e f) (subst (λ (m : ℕ). IsHeld s j r m pl b) is was)) mine).0)),
+        ))
         | inr other ↦ (o.0, left-other q other ∙ o.1, o.2)
       ]);
       held = λ q k n t at range. elim (cases_eq q p) [
         | inl is ↦ (let k-is = some-is now k (sym left-here ∙ ap (λ (n : ℕ). pool_at left n) (sym is) ∙ at) in
             let f = left-from old.pool (h.pools p old there).0 (start_of place) n t (range-alike (pool_without old.pool (start_of place)) now.pool same n t (subst (λ (k : Kept). HasRange k.pool n t) (sym k-is) range)) in
-            let o = h.held p old n t there f.0 in
-            (o.0, o.1, o.2, o.3, subst (λ (m : ℕ). IsHeld left o.0 o.1 m o.2 o.3) (sym is)
-            (same-held ended left refl o.0 o.1 p o.2 o.3 (other-held s i None o.0 o.1 p o.2 o.3 (not-mine o.0 o.1 p o.2 o.3 o.4 (λ e same. f.1 (sym o.5 ∙ ap (λ (x : PoolPlace). x.block) same) (sym o.6 ∙ ap (λ (x : PoolPlace). x.start) same))) o.4)), o.5, o.6))
+            let o = h.held p old n t there f.0 in (
+              o.0,
+              o.1,
+              o.2,
+              o.3,
+              subst (λ (m : ℕ). IsHeld left o.0 o.1 m o.2 o.3) (sym is)
+                  (same-held ended left refl o.0 o.1 p o.2 o.3 (other-held s i None o.0 o.1 p o.2 o.3 (not-mine o.0 o.1 p o.2 o.3 o.4 (λ e same. f.1 (sym o.5 ∙ ap (λ (x : PoolPlace). x.block) same) (sym o.6 ∙ ap (λ (x : PoolPlace). x.start) same))) o.4)),
+              o.5,
+              o.6,
+            ))
         | inr other ↦ (let o = h.held q k n t (sym (left-other q other) ∙ at) range in
             (o.0, o.1, o.2, o.3, same-held ended left refl o.0 o.1 q o.2 o.3 (other-held s i None o.0 o.1 q o.2 o.3 (not-mine o.0 o.1 q o.2 o.3 o.4 (λ e same. other e)) o.4), o.5, o.6))
       ];

@@ -1,18 +1,16 @@
 -- Which ranges are taken in a pool when one more is, and when one is given back.
 use Rattle.std.proofs.Common.{◌≡◌, ℕ, ◌+◌, ◌<◌, ◌≤◌, List, [], ◌∷◌, ◌++◌, length, Bool, true, false, ◌==◌, not, zero, suc, refl, sym, ap, subst, ◌∙◌, arith, inl, inr, ◌⊎◌}
-use Rattle.std.specs.Prelude.{All, AllPairs, Contains, IsPermutation, IsTrue, if◌then◌else◌, nat_lt, slice_index_or}
-use Rattle.std.specs.List.{filter}
+use Rattle.std.specs.Prelude.{All, AllPairs, Contains, IsPermutation, IsTrue, if◌then◌else◌, slice_index_or}
 use Rattle.std.proofs.lemmas.List.Elements.{All-nil, filter-append, Contains-append_left, Contains-append_right, Contains-append_cases}
 use Rattle.std.proofs.lemmas.List.{append-nil}
 use Rattle.std.proofs.lemmas.List.Sorted.{Contains-permutation, IsPermutation-refl, IsPermutation-sym}
 use Rattle.std.proofs.lemmas.Bool.{cases_lt, both_ways, eqb-true, eq-eqb, ne_eqb, not-true, not_from_false}
-use Rattle.vk_model.specs.declared.resource.PoolInfo.{PoolInfo}
 use Rattle.vk_model.specs.declared.resource.PoolKind.{PoolKind}
 use Rattle.vk_model.specs.declared.resource.PoolKind.TheVariants as algorithm
 use Rattle.vk_model.specs.Memory.Suballocation.{Taken, Request, IsApart, IsSound, taken_at}
-use Rattle.vk_model.specs.Memory.Room.{Block, General, Stack, Linear, all_taken, is_none_left, BlockHolds}
+use Rattle.vk_model.specs.Memory.Room.{Block, General, Stack, Linear, all_taken, is_none_left}
 use Rattle.vk_model.specs.Memory.MoveTargets.{BlockStart}
-use Rattle.vk_model.specs.Memory.LinearBlocks.{after_lower, after_upper, after_free, lower_from_wrapped, others}
+use Rattle.vk_model.specs.Memory.LinearBlocks.{lower_from_wrapped, others}
 use Rattle.vk_model.specs.Memory.Pools.{PoolBlock, Pool, block_bytes, block_taken, empty_block, new_block, BlockGives, GivesFrom, Gives, block_with, with_change, in_block, pool_with, block_without, has_some_taken, pool_without, IsSoundBlock, IsPool}
 use Rattle.vk_model.proofs.Lists.Members.{none_in, contains-cons, contains-head, contains-tail, filtered, filter_has, map_has, mapped_from}
 use Rattle.vk_model.proofs.Memory.Taken.{apart_turned, fitting}
@@ -303,9 +301,10 @@ module _ (p : Pool) (h : IsPool p) (s : BlockStart) where
       one c there is false e =
           let other = changed-other without s.block c (λ same. both_ways (c.number == s.block) e (eq-eqb c.number s.block same)) in
           let is-c = sym is ∙ other in
-          let number = ap (λ (d : PoolBlock). d.number) (sym is-c) ∙ has.number in
-          (record { block = c; there = there; number = number; range = subst (λ (d : PoolBlock). Contains (block_taken d.block) u) is-c has.range },
-           λ same start. both_ways (c.number == s.block) e (eq-eqb c.number s.block (number ∙ same)))
+          let number = ap (λ (d : PoolBlock). d.number) (sym is-c) ∙ has.number in (
+            record { block = c; there = there; number = number; range = subst (λ (d : PoolBlock). Contains (block_taken d.block) u) is-c has.range },
+            λ same start. both_ways (c.number == s.block) e (eq-eqb c.number s.block (number ∙ same)),
+          )
 
 -- ---- ranges of one pool are apart
 

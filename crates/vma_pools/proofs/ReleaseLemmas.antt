@@ -1,5 +1,5 @@
 -- Each pool and allocation that stays keeps its memory object when one is freed.
-use Rattle.std.proofs.Common.{◌≡◌, ℕ, Bool, true, false, zero, suc, ◌+◌, ◌<◌, ◌≤◌, List, [], ◌∷◌, ◌++◌, length, get_or, set, take, drop, Option, Some, None, refl, sym, ap, subst, ◌∙◌, arith, ◌==◌, inl, inr, ◌⊎◌}
+use Rattle.std.proofs.Common.{◌≡◌, ℕ, Bool, true, false, zero, suc, ◌+◌, ◌<◌, List, [], ◌∷◌, ◌++◌, length, get_or, set, take, drop, Option, Some, None, refl, sym, ap, subst, ◌∙◌, arith, ◌==◌, inl, inr}
 use Rattle.std.specs.Prelude.{slice_index_or, if◌then◌else◌}
 use Rattle.std.proofs.lemmas.Bool.{cases_eq, both_ways, eqb-true, eq-eqb}
 use Rattle.vk_model.specs.declared.resource.PoolInfo.{PoolInfo}
@@ -10,7 +10,7 @@ use Rattle.vma_pools.specs.declared.allocations.Allocation.{Allocation}
 use Rattle.vma_pools.specs.declared.allocations.Home.{Home}
 use Rattle.vma_pools.specs.declared.allocations.Home.TheVariants as home
 use Rattle.vma_pools.specs.Pools.{Kept, Loses}
-use Rattle.vma_pools.specs.State.{PoolsState, pool_at, allocation_at, IsObject, Owner, Alone, BlockOf, Has, ArePools, Backs, LosesBlock, IsEnded, IsGivenBack, released}
+use Rattle.vma_pools.specs.State.{PoolsState, pool_at, allocation_at, Owner, Alone, BlockOf, Has, Backs, IsEnded, released}
 use Rattle.vma_pools.proofs.NumberLemmas.{at-below, at-set, at-other}
 use Rattle.vma_pools.proofs.StateLemmas.{some-is}
 
@@ -176,12 +176,13 @@ module _ (s : PoolsState) (m : MemoryState) (backs : Backs s m) (i : ℕ) (a : A
               let now-is = left-here q has.0 is has.1 in
               let index : loses.index + 1 ≡ suc loses.index = omega arith in
               let ms : has.0.memories ≡ take loses.index old.memories ++ drop (suc loses.index) old.memories =
-                  ap (λ (k : Kept). k.memories) (sym now-is) ∙ loses.left ∙ ap (λ (x : ℕ). take loses.index old.memories ++ drop x old.memories) index in
+              ap (λ (k : Kept). k.memories) (sym now-is) ∙ loses.left ∙ ap (λ (x : ℕ). take loses.index old.memories ++ drop x old.memories) index in
               let w = was-at old.memories loses.index j loses.there (subst (λ (l : List ℕ). j < length l) ms has.2) in
               let at : get_or old.memories (skip loses.index j) 0 ≡ k = sym w.1 ∙ ap (λ (l : List ℕ). get_or l j 0) (sym ms) ∙ has.3 in
-              let before : Has s (BlockOf p (skip loses.index j)) k = (old, there, w.0, at) in
-              (subst (λ (x : ℕ). Has s (BlockOf x (skip loses.index j)) k) (sym is) before,
-               kept-object m n k (λ f. skip-not loses.index j (block-is p (skip loses.index j) p loses.index (backs.apart (BlockOf p (skip loses.index j)) (BlockOf p loses.index) k before (old, there, loses.there, loses.is ∙ sym f))).1))
+              let before : Has s (BlockOf p (skip loses.index j)) k = (old, there, w.0, at) in (
+                subst (λ (x : ℕ). Has s (BlockOf x (skip loses.index j)) k) (sym is) before,
+                kept-object m n k (λ f. skip-not loses.index j (block-is p (skip loses.index j) p loses.index (backs.apart (BlockOf p (skip loses.index j)) (BlockOf p loses.index) k before (old, there, loses.there, loses.is ∙ sym f))).1),
+              )
           go false e =
               let other : q ≡ p → ⊥ = λ is. both_ways (q == p) e (eq-eqb q p is) in
               let before : Has s (BlockOf q j) k = (has.0, sym (left-other q other) ∙ has.1, has.2, has.3) in

@@ -1,16 +1,12 @@
 -- Pools and allocations stay as they always are when one more is made.
-use Rattle.std.proofs.Common.{◌≡◌, ℕ, zero, suc, ◌+◌, ◌<◌, ◌≤◌, List, [], ◌∷◌, ◌++◌, length, set, Bool, true, false, Option, Some, None, not, ◌&&◌, refl, sym, ap, subst, ◌∙◌, ◌==◌, arith, inl, inr, ◌⊎◌}
-use Rattle.std.specs.Prelude.{All, Contains, slice_index_or, unwrap_or, nat_lt, if◌then◌else◌}
+use Rattle.std.proofs.Common.{◌≡◌, ℕ, ◌+◌, ◌<◌, ◌≤◌, List, [], ◌∷◌, ◌++◌, length, set, Bool, true, false, Option, Some, None, not, ◌&&◌, refl, sym, ap, subst, ◌∙◌, ◌==◌, arith, inl, inr, ◌⊎◌}
+use Rattle.std.specs.Prelude.{slice_index_or, unwrap_or, nat_lt, if◌then◌else◌}
 use Rattle.std.proofs.lemmas.Bool.{cases_eq, or_parts, and_from, lt-ltb, both_ways}
-use Rattle.std.proofs.lemmas.List.{length-append, length-set}
-use Rattle.std.proofs.lemmas.List.Sorted.{Contains-permutation, IsPermutation-sym}
-use Rattle.vk_model.proofs.Lists.Members.{none_in, contains-cons, contains-head, contains-tail}
-use Rattle.vk_model.specs.Memory.Room.{Block, General, Stack, Linear, all_taken}
-use Rattle.vma_blocks.specs.Alike.{IsAlike}
-use Rattle.vma_pools.specs.Alike.{AreAlike, IsAlikePool}
+use Rattle.std.proofs.lemmas.List.{length-append}
+use Rattle.vma_pools.specs.Alike.{IsAlikePool}
 use Rattle.vk_model.specs.declared.resource.PoolInfo.{PoolInfo}
 use Rattle.vk_model.specs.Memory.Suballocation.{Taken, Request, IsRequest, IsApart, ranges_meet, same_kind, share_page}
-use Rattle.vk_model.specs.Memory.Pools.{PoolBlock, Pool, empty_pool, IsPool, block_taken, block_with, new_block, in_block, Gives, pool_with, pool_without}
+use Rattle.vk_model.specs.Memory.Pools.{Pool, empty_pool, IsPool, block_with, new_block, in_block, Gives, pool_with, pool_without}
 use Rattle.vk_model.specs.Memory.PlaceLaws.{PoolStays}
 use Rattle.vma_blocks.specs.PoolInfos.{IsPoolInfo}
 use Rattle.vma_pools.specs.declared.pool.PoolPlace.{PoolPlace}
@@ -23,7 +19,7 @@ use Rattle.vma_pools.specs.Pools.{Kept, Takes}
 use Rattle.vma_pools.proofs.PoolAlike.{alike-pool}
 use Rattle.vma_pools.specs.Ranges.{HasRange}
 use Rattle.vma_pools.specs.State.{PoolsState, pool_at, allocation_at, held_place, start_of, request_in, range_at, IsHeld, ArePools}
-use Rattle.vma_pools.proofs.RangeLemmas.{range-apart, range-new, range-kept, range-from, left-kept, left-from, ranges-apart}
+use Rattle.vma_pools.proofs.RangeLemmas.{range-apart, range-new, range-kept, range-from}
 use Rattle.vma_pools.proofs.NumberLemmas.{at-more, at-old, at-new, at-below, at-set, at-other}
 use Rattle.vma_pools.proofs.AlikeRanges.{alike-range, range-alike}
 
@@ -199,15 +195,21 @@ module _ (s : PoolsState) (h : ArePools s) (p : ℕ) (old now : Kept) (there : p
     requests = added-requests s h new asks;
     taken = λ i r q pl a held. elim (from-given i r q pl a held) [
       | inl was ↦ (let o = h.taken i r q pl a was in elim (cases_eq q p) [
-        | inl is ↦ (let k-is = some-is o.0 old (sym o.1 ∙ ap (λ (n : ℕ). pool_at s n) is ∙ there) in
-            (now, ap (λ (n : ℕ). pool_at given n) is ∙ given-here, alike-range (pool_with old.pool (request_in asked) upper (start_of place)) now.pool same pl.block (range_at pl.start a)
-            (range-kept old.pool old-pool (request_in asked) asks.some upper (start_of place) gives pl.block (range_at pl.start a) (subst (λ (k : Kept). HasRange k.pool pl.block (range_at pl.start a)) k-is o.2))))
+        | inl is ↦ (let k-is = some-is o.0 old (sym o.1 ∙ ap (λ (n : ℕ). pool_at s n) is ∙ there) in (
+          now,
+          ap (λ (n : ℕ). pool_at given n) is ∙ given-here,
+          alike-range (pool_with old.pool (request_in asked) upper (start_of place)) now.pool same pl.block (range_at pl.start a)
+              (range-kept old.pool old-pool (request_in asked) asks.some upper (start_of place) gives pl.block (range_at pl.start a) (subst (λ (k : Kept). HasRange k.pool pl.block (range_at pl.start a)) k-is o.2)),
+        ))
         | inr other ↦ (o.0, given-other q other ∙ o.1, o.2)
       ])
-      | inr one ↦ (let n = new-place r q pl one.1 in
-          (now, ap (λ (m : ℕ). pool_at given m) n.1 ∙ given-here, alike-range (pool_with old.pool (request_in asked) upper (start_of place)) now.pool same pl.block (range_at pl.start a)
-          (moved (pool_with old.pool (request_in asked) upper (start_of place)) place pl asked a (sym n.2) (sym one.2)
-          (range-new old.pool old-pool (request_in asked) asks.some upper (start_of place) gives))))
+      | inr one ↦ (let n = new-place r q pl one.1 in (
+        now,
+        ap (λ (m : ℕ). pool_at given m) n.1 ∙ given-here,
+        alike-range (pool_with old.pool (request_in asked) upper (start_of place)) now.pool same pl.block (range_at pl.start a)
+            (moved (pool_with old.pool (request_in asked) upper (start_of place)) place pl asked a (sym n.2) (sym one.2)
+            (range-new old.pool old-pool (request_in asked) asks.some upper (start_of place) gives)),
+      ))
     ];
     held = λ q k n t at range. elim (cases_eq q p) [
       | inl is ↦ (let k-is = some-is now k (sym given-here ∙ ap (λ (n : ℕ). pool_at given n) (sym is) ∙ at) in

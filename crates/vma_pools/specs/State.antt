@@ -2,8 +2,8 @@
 use Rattle.std.specs.Prelude.{◌≡◌, ℕ, ◌<◌, ◌≤◌, List, [], ◌∷◌, ◌++◌, length, set, Bool, true, false, Option, Some, None, option_map, IsSomeAnd, slice_index_or, get_or}
 use Rattle.vk_model.specs.Memory.Suballocation.{Request, IsRequest, IsApart, Taken, taken_at}
 use Rattle.vk_model.specs.Memory.MoveTargets.{BlockStart}
-use Rattle.vk_model.specs.Memory.Pools.{Pool, IsPool, pool_without}
-use Rattle.vk_memory.specs.MemoryState.{MemoryState, IsLive, region_of, type_of, fresh, with_object}
+use Rattle.vk_model.specs.Memory.Pools.{IsPool, pool_without}
+use Rattle.vk_memory.specs.MemoryState.{MemoryState, region_of, type_of, fresh, with_object}
 use Rattle.vma_blocks.specs.PoolInfos.{IsPoolInfo}
 use Rattle.vma_pools.specs.declared.pool.PoolPlace.{PoolPlace}
 use Rattle.vma_pools.specs.declared.allocations.Asked.{Asked}

@@ -122,7 +122,12 @@ impl<B: PoolBlock> PoolsOf<B> {
             unreachable!()
         };
         let place = kept.allocate(
-            self.alloc, memories, asked.size, asked.align, asked.kind, upper,
+            self.alloc,
+            memories,
+            asked.size,
+            asked.align,
+            asked.kind,
+            upper,
         )?;
         self.allocations.push_reserved(Some(Allocation {
             home: Home::Shared { pool, place },

@@ -1,10 +1,9 @@
-use Rattle.std.proofs.Common.{List, Option, Some, [], ◌∷◌, ◌++◌, ◌≡◌, ◌<◌, ◌≤◌, ◌∙◌, set, arith, refl, ap, sym, subst}
-use Rattle.vk_model.specs.declared.suballoc.SubFault.{SubFault}
+use Rattle.std.proofs.Common.{List, Option, Some, [], ◌∷◌, ◌++◌, ◌≤◌, ◌∙◌, set, arith, ap, sym, subst}
 use Rattle.vk_model.specs.Memory.Room.{NoRoomInPool}
 use Rattle.vk_model.specs.Memory.Pools.{state_of}
 use Rattle.vma_pools.specs.declared.allocations.Allocation.{Allocation}
 use Rattle.vma_pools.specs.declared.allocations.Home.TheVariants as home
-use Rattle.vma_pools.specs.Pools.{Kept, heaps}
+use Rattle.vma_pools.specs.Pools.{heaps}
 use Rattle.vma_pools.specs.State.{PoolsState, ArePools, Backs, IfKept, new_allocation, request_in, start_of}
 use Rattle.vma_pools.proofs.StateLemmas.{shared-added, taken-fine, takes-gives}
 use Rattle.vma_pools.proofs.BacksLemmas.{takes-backs}

@@ -1,6 +1,5 @@
-use Rattle.std.proofs.Common.{Option, Some, None, ◌≡◌, ◌<◌, length, refl, sym, subst}
+use Rattle.std.proofs.Common.{sym, subst}
 use Rattle.std.specs.Prelude.{IsSome}
-use Rattle.vma_pools.specs.Pools.{Kept}
 use Rattle.vma_pools.specs.State.{PoolsState, IsUnused, pool_at}
 use Rattle.vma_pools.proofs.NumberLemmas.{some-below}
 use Rattle.vma_pools.proofs.EndedLemmas.{pool-dropped}

@@ -1,5 +1,5 @@
-use Rattle.std.proofs.Common.{ℕ, Option, Some, None, ◌≡◌, ◌∙◌, refl, sym, ap, subst}
-use Rattle.vma_pools.specs.State.{IfLive, IsEnded, Backs, released}
+use Rattle.std.proofs.Common.{ℕ, Option, None, ◌≡◌, ◌∙◌, refl, sym, ap, subst}
+use Rattle.vma_pools.specs.State.{IsEnded, Backs, released}
 use Rattle.vk_memory.specs.MemoryState.{MemoryState}
 use Rattle.vma_pools.proofs.EndedLemmas.{live-is}
 use Rattle.vma_pools.proofs.ReleaseLemmas.{ended-backs}

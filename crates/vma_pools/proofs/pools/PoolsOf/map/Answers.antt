@@ -1,6 +1,6 @@
 use Rattle.std.specs.Prelude.{◌^◌}
-use Rattle.std.proofs.Common.{◌+◌, ◌-◌, ◌<◌, ◌≡◌, refl, sym, subst}
-use Rattle.vma_pools.specs.State.{PoolsState, ArePools, IfLive}
+use Rattle.std.proofs.Common.{◌+◌, ◌<◌, refl, sym, subst}
+use Rattle.vma_pools.specs.State.{PoolsState, IfLive}
 use Rattle.vma_pools.proofs.EndedLemmas.{live-here, same-places, turned-pools}
 use Rattle.vma_pools.proofs.pools.PoolsOf.map.Goals as goal
 

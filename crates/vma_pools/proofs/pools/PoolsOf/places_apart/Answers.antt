@@ -1,5 +1,5 @@
 use Rattle.std.proofs.Common.{subst}
-use Rattle.vma_pools.specs.State.{PoolsState, ArePlacesApart}
+use Rattle.vma_pools.specs.State.{ArePlacesApart}
 use Rattle.vma_pools.proofs.CallLemmas.{places-apart}
 use Rattle.vma_pools.proofs.pools.PoolsOf.places_apart.Goals as goal
 

@@ -1,4 +1,4 @@
-use Rattle.std.proofs.Common.{List, Option, Some, [], ◌∷◌, ◌++◌, ◌≡◌, ◌∙◌, ap, sym, subst}
+use Rattle.std.proofs.Common.{List, Option, Some, [], ◌∷◌, ◌++◌, ◌∙◌, ap, sym, subst}
 use Rattle.vma_pools.specs.Pools.{Kept}
 use Rattle.vma_pools.specs.State.{ArePools}
 use Rattle.vma_pools.proofs.StateLemmas.{pool-made}

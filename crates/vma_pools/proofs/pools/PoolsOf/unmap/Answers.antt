@@ -1,6 +1,6 @@
 use Rattle.std.specs.Prelude.{IsSome}
-use Rattle.std.proofs.Common.{◌+◌, ◌-◌, ◌<◌, ◌≡◌, refl, sym, subst}
-use Rattle.vma_pools.specs.State.{PoolsState, ArePools, allocation_at}
+use Rattle.std.proofs.Common.{◌-◌, refl, sym, subst}
+use Rattle.vma_pools.specs.State.{PoolsState, allocation_at}
 use Rattle.vma_pools.proofs.EndedLemmas.{some-live, same-places, turned-pools}
 use Rattle.vma_pools.proofs.pools.PoolsOf.unmap.Goals as goal
 
