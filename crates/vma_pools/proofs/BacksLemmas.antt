@@ -52,7 +52,7 @@ module _ (m : MemoryState) (t size : ℕ) where
 pub has-bytes : (s : PoolsState) (h : ArePools s) (m : MemoryState) → Backs s m → (x : Owner) (n : ℕ) → Has s x n → 0 < length (region_of m n)
 has-bytes s h m backs (Alone i) n has = let l = backs.own i has.0 n has.1 has.2 in let r = (h.requests i has.0 has.1).some in omega (arith, l, r)
 has-bytes s h m backs (BlockOf p j) n has =
-    let o = backs.blocks p has.0 j has.1 has.2 in let r = (h.pools p has.0 has.1).1.some in
+    let o = backs.blocks p has.0 j has.1 has.2 in let r = (h.pools p has.0 has.1).info.some in
     subst (λ (k : ℕ). 0 < length (region_of m k)) has.3 (omega (arith, o.bytes, r))
 
 -- ---- one more allocation with a memory object of its own

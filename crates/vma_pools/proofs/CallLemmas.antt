@@ -64,7 +64,7 @@ own-live s h m backs i a n live lies = sized-live m n a.asked.size (backs.own i 
 pub block-live : (s : PoolsState) (h : ArePools s) (m : MemoryState) → Backs s m → (p : ℕ) (k : Kept) → pool_at s p ≡ Some k → (new : List ℕ) (n : ℕ) → Loses k.memories new n → IsLive m n
 block-live s h m backs p k at new n loses =
     let o = backs.blocks p k loses.index at loses.there in
-    subst (λ (x : ℕ). IsLive m x) loses.is (sized-live m (get_or k.memories loses.index 0) k.pool.info.block_size o.bytes (h.pools p k at).1.some)
+    subst (λ (x : ℕ). IsLive m x) loses.is (sized-live m (get_or k.memories loses.index 0) k.pool.info.block_size o.bytes (h.pools p k at).info.some)
 
 -- ---- answers about what is live
 
@@ -117,7 +117,7 @@ places-apart s h i j r v p place other a b x y same differ =
     let one = h.taken i r p place a x in let two = h.taken j v p other b y in
     let k = some-is two.0 one.0 (sym two.1 ∙ one.1) in
     let there = subst (λ (k : Kept). HasRange k.pool place.block (range_at other.start b)) k (subst (λ (n : ℕ). HasRange two.0.pool n (range_at other.start b)) (sym same) two.2) in
-    ranges-apart one.0.pool (h.pools p one.0 one.1).0 place.block (range_at place.start a) (range_at other.start b) one.2 there
+    ranges-apart one.0.pool (h.pools p one.0 one.1).pool place.block (range_at place.start a) (range_at other.start b) one.2 there
     (λ starts. differ (h.one i j r v p place a b x (subst (λ (q : PoolPlace). IsHeld s j v p q b) (place-is other place (sym same) (sym starts)) y)))
   where
     place-is : (x y : PoolPlace) → x.block ≡ y.block → x.start ≡ y.start → x ≡ y

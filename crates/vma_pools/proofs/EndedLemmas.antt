@@ -188,7 +188,7 @@ module _ (s : PoolsState) (h : ArePools s) (i : ℕ) (a : Allocation) (live : al
           now,
           ap (λ (n : ℕ). pool_at left n) is ∙ left-here,
           alike-range (pool_without old.pool (start_of place)) now.pool same pl.block (range_at pl.start b)
-              (left-kept old.pool (h.pools p old there).0 (start_of place) pl.block (range_at pl.start b) (subst (λ (k : Kept). HasRange k.pool pl.block (range_at pl.start b)) k-is o.2)
+              (left-kept old.pool (h.pools p old there).pool (start_of place) pl.block (range_at pl.start b) (subst (λ (k : Kept). HasRange k.pool pl.block (range_at pl.start b)) k-is o.2)
               (λ e f. ended-other j r q pl b (same-held left ended refl j r q pl b held)
               (h.one j i r false p place b a.asked (subst (λ (x : PoolPlace). IsHeld s j r p x b) (place-is pl place e f) (subst (λ (m : ℕ). IsHeld s j r m pl b) is was)) mine).0)),
         ))
@@ -196,7 +196,7 @@ module _ (s : PoolsState) (h : ArePools s) (i : ℕ) (a : Allocation) (live : al
       ]);
       held = λ q k n t at range. elim (cases_eq q p) [
         | inl is ↦ (let k-is = some-is now k (sym left-here ∙ ap (λ (n : ℕ). pool_at left n) (sym is) ∙ at) in
-            let f = left-from old.pool (h.pools p old there).0 (start_of place) n t (range-alike (pool_without old.pool (start_of place)) now.pool same n t (subst (λ (k : Kept). HasRange k.pool n t) (sym k-is) range)) in
+            let f = left-from old.pool (h.pools p old there).pool (start_of place) n t (range-alike (pool_without old.pool (start_of place)) now.pool same n t (subst (λ (k : Kept). HasRange k.pool n t) (sym k-is) range)) in
             let o = h.held p old n t there f.0 in (
               o.0,
               o.1,

@@ -16,7 +16,8 @@ use Rattle.vma_pools.specs.declared.allocations.Home.TheVariants as home
 use Rattle.vk_model.specs.Memory.MoveTargets.{BlockStart}
 use Rattle.vk_memory.specs.MemoryState.{MemoryState}
 use Rattle.vma_pools.specs.Pools.{Kept, Takes}
-use Rattle.vma_pools.proofs.PoolAlike.{alike-pool}
+use Rattle.vma_pools.specs.Inner.Kinds.{IsKeptPool}
+use Rattle.vma_pools.proofs.KindLemmas.{stays-first, stays-taken, stays-freed}
 use Rattle.vma_pools.specs.Ranges.{HasRange}
 use Rattle.vma_pools.specs.State.{PoolsState, pool_at, allocation_at, held_place, start_of, request_in, range_at, IsHeld, ArePools}
 use Rattle.vma_pools.proofs.RangeLemmas.{range-apart, range-new, range-kept, range-from}
@@ -33,12 +34,12 @@ no-range info n t h = absurd (omega (arith, h.there.1))
 -- ---- one more pool
 
 abbrev pub Fine : Kept → Type 0
-Fine k = IsPool k.pool × IsPoolInfo k.pool.info
+Fine k = IsKeptPool k.pool
 
 pub some-is : {A : Type 0} (a b : A) → Some a ≡ Some b → a ≡ b
 some-is a b e = cc
 
-module _ (law : PoolStays) (s : PoolsState) (h : ArePools s) (info : PoolInfo) (fine : IsPoolInfo info) where
+module _ (s : PoolsState) (h : ArePools s) (info : PoolInfo) (fine : IsPoolInfo info) where
   abbrev made : Kept
   made = record { pool = empty_pool info; memories = [] }
 
@@ -47,7 +48,7 @@ module _ (law : PoolStays) (s : PoolsState) (h : ArePools s) (info : PoolInfo) (
 
   pub pool-made : ArePools more
   pool-made = record {
-    pools = λ p k at. elim (at-more s.pools (Some made) p k at) [ inl old ↦ h.pools p k old | inr new ↦ subst Fine (some-is made k new.1) (law.first info, fine) ];
+    pools = λ p k at. elim (at-more s.pools (Some made) p k at) [ inl old ↦ h.pools p k old | inr new ↦ subst Fine (some-is made k new.1) (stays-first info fine) ];
     blocks = λ p k at. elim (at-more s.pools (Some made) p k at) [ inl old ↦ h.blocks p k old | inr new ↦ subst (λ (k : Kept). k.pool.next ≤ length s.allocations) (some-is made k new.1) (omega arith) ];
     requests = h.requests;
     taken = λ i r p place asked held. let old = h.taken i r p place asked (same-held more s refl i r p place asked held) in (old.0, at-old s.pools (Some made) p old.0 old.1, old.2);
@@ -119,15 +120,12 @@ given-info p r upper s = go (s.block == p.next)
     go false = refl
 
 -- a pool stays fine when it has given a place
-pub taken-fine : (law : PoolStays) (old now : Kept) (r : Request) (upper : Bool) (s : BlockStart) → 0 < r.size → Fine old → Gives old.pool r upper s → IsAlikePool (pool_with old.pool r upper s) now.pool → Fine now
-taken-fine law old now r upper s some fine gives same = (
-  alike-pool (pool_with old.pool r upper s) now.pool same (law.taken old.pool r upper s some fine.0 gives),
-  subst IsPoolInfo (sym (same.info ∙ given-info old.pool r upper s)) fine.1,
-)
+pub taken-fine : (old now : Kept) (r : Request) (upper : Bool) (s : BlockStart) → 0 < r.size → Fine old → Gives old.pool r upper s → IsAlikePool (pool_with old.pool r upper s) now.pool → Fine now
+taken-fine old now r upper s some fine gives same = stays-taken old.pool now.pool r upper s some fine gives same
 
 -- and when a range was given back
-pub freed-fine : (law : PoolStays) (old now : Kept) (s : BlockStart) → Fine old → IsAlikePool (pool_without old.pool s) now.pool → Fine now
-freed-fine law old now s fine same = (alike-pool (pool_without old.pool s) now.pool same (law.given_back old.pool s fine.0), subst IsPoolInfo (sym same.info) fine.1)
+pub freed-fine : (old now : Kept) (s : BlockStart) → Fine old → IsAlikePool (pool_without old.pool s) now.pool → Fine now
+freed-fine old now s fine same = stays-freed old.pool now.pool s fine same
 
 pub takes-gives : (old now : Kept) (before after : MemoryState) (r : Request) (upper : Bool) (s : BlockStart) → Takes old now before after r upper s → Gives old.pool r upper s × IsAlikePool (pool_with old.pool r upper s) now.pool
 takes-gives old now before after r upper s (inl t) = (t.0.given, t.0.pool)
@@ -145,6 +143,76 @@ same-start start a b some few apart =
     both_ways (ranges_meet start a.size start b.size) (or_parts (ranges_meet start a.size start b.size) (not (same_kind a.kind b.kind) && share_page start a.size start b.size) apart).0
     (start-meets start a.size b.size some few)
 
+-- one more place is taken in a pool, for one more allocation or for one that is there
+module _ (s t : PoolsState) (h : ArePools s) (p : ℕ) (old now : Kept) (there : pool_at s p ≡ Some old) (asked : Asked) (asks : IsRequest asked.size asked.align) (upper : Bool) (place : PoolPlace)
+    (gives : Gives old.pool (request_in asked) upper (start_of place)) (same : IsAlikePool (pool_with old.pool (request_in asked) upper (start_of place)) now.pool) (fine : Fine now)
+    (here : pool_at t p ≡ Some now) (others : (q : ℕ) → (q ≡ p → ⊥) → pool_at t q ≡ pool_at s q)
+    (longer : length s.allocations ≤ length t.allocations) (bound : now.pool.next ≤ length t.allocations)
+    (requests : (i : ℕ) (a : Allocation) → allocation_at t i ≡ Some a → IsRequest a.asked.size a.asked.align)
+    (holder : ℕ) (which : Bool) (new : IsHeld t holder which p place asked)
+    (keep : (i : ℕ) (r : Bool) (q : ℕ) (pl : PoolPlace) (a : Asked) → IsHeld s i r q pl a → IsHeld t i r q pl a)
+    (from : (i : ℕ) (r : Bool) (q : ℕ) (pl : PoolPlace) (a : Asked) → IsHeld t i r q pl a → IsHeld s i r q pl a ⊎ ((i ≡ holder) × (r ≡ which) × (q ≡ p) × (pl ≡ place) × (a ≡ asked))) where
+  abbrev old-pool : IsPool old.pool
+  old-pool = (h.pools p old there).pool
+
+  abbrev taken : Pool
+  taken = pool_with old.pool (request_in asked) upper (start_of place)
+
+  here-is : (q : ℕ) (k : Kept) → q ≡ p → pool_at t q ≡ Some k → now ≡ k
+  here-is q k is at = some-is now k (sym here ∙ ap (λ (n : ℕ). pool_at t n) (sym is) ∙ at)
+
+  -- no other was there
+  none-there : (i : ℕ) (r : Bool) (a : Asked) → IsHeld s i r p place a → ⊥
+  none-there i r a held =
+      let was = h.taken i r p place a held in
+      let range = subst (λ (k : Kept). HasRange k.pool place.block (range_at place.start a)) (some-is was.0 old (sym was.1 ∙ there)) was.2 in
+      let some = subst (λ (b : Asked). IsRequest b.size b.align) held.asks (h.requests i held.allocation held.live) in
+      same-start place.start asked a asks.some some.some (range-apart old.pool old-pool (request_in asked) asks.some upper (start_of place) gives (range_at place.start a) range)
+
+  moved : (q : Pool) (x y : PoolPlace) (a b : Asked) → x ≡ y → a ≡ b → HasRange q x.block (range_at x.start a) → HasRange q y.block (range_at y.start b)
+  moved q x y a b e f has = subst (λ (c : Asked). HasRange q y.block (range_at y.start c)) f (subst (λ (z : PoolPlace). HasRange q z.block (range_at z.start a)) e has)
+
+  at-place : (i : ℕ) (r : Bool) (q : ℕ) (pl : PoolPlace) (a : Asked) → q ≡ p → pl ≡ place → IsHeld s i r q pl a → IsHeld s i r p place a
+  at-place i r q pl a e f held = subst (λ (x : PoolPlace). IsHeld s i r p x a) f (subst (λ (m : ℕ). IsHeld s i r m pl a) e held)
+
+  pub more-places : ArePools t
+  more-places = record {
+    pools = λ q k at. elim (cases_eq q p) [ inl is ↦ subst Fine (here-is q k is at) fine | inr other ↦ h.pools q k (sym (others q other) ∙ at) ];
+    blocks = λ q k at. elim (cases_eq q p) [
+      | inl is ↦ subst (λ (k : Kept). k.pool.next ≤ length t.allocations) (here-is q k is at) bound
+      | inr other ↦ (let l = h.blocks q k (sym (others q other) ∙ at) in omega (arith, l, longer))
+    ];
+    requests = requests;
+    taken = λ i r q pl a held. elim (from i r q pl a held) [
+      | inl was ↦ (let o = h.taken i r q pl a was in elim (cases_eq q p) [
+        | inl is ↦ (let k-is = some-is o.0 old (sym o.1 ∙ ap (λ (n : ℕ). pool_at s n) is ∙ there) in (
+          now,
+          ap (λ (n : ℕ). pool_at t n) is ∙ here,
+          alike-range taken now.pool same pl.block (range_at pl.start a)
+              (range-kept old.pool old-pool (request_in asked) asks.some upper (start_of place) gives pl.block (range_at pl.start a) (subst (λ (k : Kept). HasRange k.pool pl.block (range_at pl.start a)) k-is o.2)),
+        ))
+        | inr other ↦ (o.0, others q other ∙ o.1, o.2)
+      ])
+      | inr one ↦ (
+        now,
+        ap (λ (m : ℕ). pool_at t m) one.2 ∙ here,
+        alike-range taken now.pool same pl.block (range_at pl.start a)
+            (moved taken place pl asked a (sym one.3) (sym one.4) (range-new old.pool old-pool (request_in asked) asks.some upper (start_of place) gives)),
+      )
+    ];
+    held = λ q k n u at range. elim (cases_eq q p) [
+      | inl is ↦ elim (range-from old.pool old-pool (request_in asked) asks.some upper (start_of place) gives n u (range-alike taken now.pool same n u (subst (λ (k : Kept). HasRange k.pool n u) (sym (here-is q k is at)) range))) [
+        | inl one ↦ (holder, which, place, asked, subst (λ (m : ℕ). IsHeld t holder which m place asked) (sym is) new, sym one.0, ap (λ (v : Taken). v.start) (sym one.1))
+        | inr was ↦ (let o = h.held p old n u there was in (o.0, o.1, o.2, o.3, subst (λ (m : ℕ). IsHeld t o.0 o.1 m o.2 o.3) (sym is) (keep o.0 o.1 p o.2 o.3 o.4), o.5, o.6))
+      ]
+      | inr other ↦ (let o = h.held q k n u (sym (others q other) ∙ at) range in (o.0, o.1, o.2, o.3, keep o.0 o.1 q o.2 o.3 o.4, o.5, o.6))
+    ];
+    one = λ i j r v q pl a b x y. elim (from i r q pl a x) [
+      | inl old-x ↦ elim (from j v q pl b y) [ inl old-y ↦ h.one i j r v q pl a b old-x old-y | inr n ↦ absurd (none-there i r a (at-place i r q pl a n.2 n.3 old-x)) ]
+      | inr n ↦ elim (from j v q pl b y) [ inl old-y ↦ absurd (none-there j v b (at-place j v q pl b n.2 n.3 old-y)) | inr m ↦ (n.0 ∙ sym m.0, n.1 ∙ sym m.1) ]
+    ];
+  }
+
 module _ (s : PoolsState) (h : ArePools s) (p : ℕ) (old now : Kept) (there : pool_at s p ≡ Some old) (asked : Asked) (asks : IsRequest asked.size asked.align) (upper : Bool) (place : PoolPlace)
     (gives : Gives old.pool (request_in asked) upper (start_of place)) (same : IsAlikePool (pool_with old.pool (request_in asked) upper (start_of place)) now.pool) (fine : Fine now) where
   abbrev new : Allocation
@@ -152,9 +220,6 @@ module _ (s : PoolsState) (h : ArePools s) (p : ℕ) (old now : Kept) (there : p
 
   abbrev given : PoolsState
   given = record { pools = set s.pools p (Some now); allocations = s.allocations ++ Some new ∷ [] }
-
-  abbrev old-pool : IsPool old.pool
-  old-pool = (h.pools p old there).0
 
   given-here : pool_at given p ≡ Some now
   given-here = at-set s.pools p (Some now) (at-below s.pools p old there)
@@ -173,66 +238,11 @@ module _ (s : PoolsState) (h : ArePools s) (p : ℕ) (old now : Kept) (there : p
   new-place true q pl e = absurd cc
   new-place false q pl e = (refl, ap (λ (o : Option (ℕ × PoolPlace)). (unwrap_or o (q, pl)).0) (sym e), ap (λ (o : Option (ℕ × PoolPlace)). (unwrap_or o (q, pl)).1) (sym e))
 
-  -- no other was there
-  none-there : (i : ℕ) (r : Bool) (a : Asked) → IsHeld s i r p place a → ⊥
-  none-there i r a held =
-      let was = h.taken i r p place a held in
-      let range = subst (λ (k : Kept). HasRange k.pool place.block (range_at place.start a)) (some-is was.0 old (sym was.1 ∙ there)) was.2 in
-      let some = subst (λ (b : Asked). IsRequest b.size b.align) held.asks (h.requests i held.allocation held.live) in
-      same-start place.start asked a asks.some some.some (range-apart old.pool old-pool (request_in asked) asks.some upper (start_of place) gives (range_at place.start a) range)
+  from-given-place : (i : ℕ) (r : Bool) (q : ℕ) (pl : PoolPlace) (a : Asked) → IsHeld given i r q pl a → IsHeld s i r q pl a ⊎ ((i ≡ length s.allocations) × (r ≡ false) × (q ≡ p) × (pl ≡ place) × (a ≡ asked))
+  from-given-place i r q pl a held = elim (from-given i r q pl a held) [ inl old ↦ inl old | inr one ↦ (let n = new-place r q pl one.1 in inr (one.0, n.0, n.1, n.2, one.2)) ]
 
   pub shared-added : ArePools given
-  shared-added = record {
-    pools = λ q k at. elim (cases_eq q p) [
-      | inl is ↦ subst Fine (some-is now k (sym given-here ∙ ap (λ (n : ℕ). pool_at given n) (sym is) ∙ at)) fine
-      | inr other ↦ h.pools q k (sym (given-other q other) ∙ at)
-    ];
-    blocks = λ q k at. elim (cases_eq q p) [
-      | inl is ↦ (let k-is = some-is now k (sym given-here ∙ ap (λ (n : ℕ). pool_at given n) (sym is) ∙ at) in
-          omega (arith, h.blocks p old there, next-grows old.pool (request_in asked) upper (start_of place), same.next, ap (λ (k : Kept). k.pool.next) k-is, added-length s h new asks))
-      | inr other ↦ (let l = h.blocks q k (sym (given-other q other) ∙ at) in omega (arith, l, added-length s h new asks))
-    ];
-    requests = added-requests s h new asks;
-    taken = λ i r q pl a held. elim (from-given i r q pl a held) [
-      | inl was ↦ (let o = h.taken i r q pl a was in elim (cases_eq q p) [
-        | inl is ↦ (let k-is = some-is o.0 old (sym o.1 ∙ ap (λ (n : ℕ). pool_at s n) is ∙ there) in (
-          now,
-          ap (λ (n : ℕ). pool_at given n) is ∙ given-here,
-          alike-range (pool_with old.pool (request_in asked) upper (start_of place)) now.pool same pl.block (range_at pl.start a)
-              (range-kept old.pool old-pool (request_in asked) asks.some upper (start_of place) gives pl.block (range_at pl.start a) (subst (λ (k : Kept). HasRange k.pool pl.block (range_at pl.start a)) k-is o.2)),
-        ))
-        | inr other ↦ (o.0, given-other q other ∙ o.1, o.2)
-      ])
-      | inr one ↦ (let n = new-place r q pl one.1 in (
-        now,
-        ap (λ (m : ℕ). pool_at given m) n.1 ∙ given-here,
-        alike-range (pool_with old.pool (request_in asked) upper (start_of place)) now.pool same pl.block (range_at pl.start a)
-            (moved (pool_with old.pool (request_in asked) upper (start_of place)) place pl asked a (sym n.2) (sym one.2)
-            (range-new old.pool old-pool (request_in asked) asks.some upper (start_of place) gives)),
-      ))
-    ];
-    held = λ q k n t at range. elim (cases_eq q p) [
-      | inl is ↦ (let k-is = some-is now k (sym given-here ∙ ap (λ (n : ℕ). pool_at given n) (sym is) ∙ at) in
-          elim (range-from old.pool old-pool (request_in asked) asks.some upper (start_of place) gives n t (range-alike (pool_with old.pool (request_in asked) upper (start_of place)) now.pool same n t (subst (λ (k : Kept). HasRange k.pool n t) (sym k-is) range))) [
-            | inl one ↦ (length s.allocations, false, place, asked, record { allocation = new; live = at-new s.allocations (Some new); there = ap (λ (m : ℕ). Some (m, place)) (sym is); asks = refl }, sym one.0, ap (λ (u : Taken). u.start) (sym one.1))
-            | inr was ↦ (let o = h.held p old n t there was in (o.0, o.1, o.2, o.3, subst (λ (m : ℕ). IsHeld given o.0 o.1 m o.2 o.3) (sym is) (given-held o.0 o.1 p o.2 o.3 o.4), o.5, o.6))
-          ])
-      | inr other ↦ (let o = h.held q k n t (sym (given-other q other) ∙ at) range in (o.0, o.1, o.2, o.3, given-held o.0 o.1 q o.2 o.3 o.4, o.5, o.6))
-    ];
-    one = λ i j r v q pl a b x y. elim (from-given i r q pl a x) [
-      | inl old-x ↦ elim (from-given j v q pl b y) [
-        | inl old-y ↦ h.one i j r v q pl a b old-x old-y
-        | inr new-y ↦ (let n = new-place v q pl new-y.1 in absurd (none-there i r a (at-place i r q pl a n.1 n.2 old-x)))
-      ]
-      | inr new-x ↦ (let n = new-place r q pl new-x.1 in elim (from-given j v q pl b y) [
-        | inl old-y ↦ absurd (none-there j v b (at-place j v q pl b n.1 n.2 old-y))
-        | inr new-y ↦ (let m = new-place v q pl new-y.1 in (new-x.0 ∙ sym new-y.0, n.0 ∙ sym m.0))
-      ])
-    ];
-  }
-    where
-      moved : (q : Pool) (x y : PoolPlace) (a b : Asked) → x ≡ y → a ≡ b → HasRange q x.block (range_at x.start a) → HasRange q y.block (range_at y.start b)
-      moved q x y a b e f has = subst (λ (c : Asked). HasRange q y.block (range_at y.start c)) f (subst (λ (z : PoolPlace). HasRange q z.block (range_at z.start a)) e has)
-
-      at-place : (i : ℕ) (r : Bool) (q : ℕ) (pl : PoolPlace) (a : Asked) → q ≡ p → pl ≡ place → IsHeld s i r q pl a → IsHeld s i r p place a
-      at-place i r q pl a e f held = subst (λ (x : PoolPlace). IsHeld s i r p x a) f (subst (λ (m : ℕ). IsHeld s i r m pl a) e held)
+  shared-added =
+      let grows = next-grows old.pool (request_in asked) upper (start_of place) in let low = h.blocks p old there in let long = added-length s h new asks in
+      more-places s given h p old now there asked asks upper place gives same fine given-here given-other (omega (arith, long)) (omega (arith, low, grows, same.next, long)) (added-requests s h new asks)
+      (length s.allocations) false (record { allocation = new; live = at-new s.allocations (Some new); there = refl; asks = refl }) given-held from-given-place

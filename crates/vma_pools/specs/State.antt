@@ -13,6 +13,7 @@ use Rattle.vma_pools.specs.declared.allocations.Allocation.{Allocation}
 use Rattle.vma_pools.specs.Alike.{IsAlikePool}
 use Rattle.vma_pools.specs.Pools.{Kept, Takes, Loses, IsMemoryOf}
 use Rattle.vk_model.specs.declared.resource.Spot.{Spot}
+use Rattle.vma_pools.specs.Inner.Kinds.{IsKeptPool}
 use Rattle.vma_pools.specs.Ranges.{HasRange}
 
 -- Each pool and each allocation that was made, by their numbers, which rise and are never given again; none where it has ended (VMA, "Custom memory pools"; numbers: profile).
@@ -66,7 +67,7 @@ pub record IsHeld (s : PoolsState) (i : ℕ) (reserved : Bool) (pool : ℕ) (pla
 
 -- What always holds: pools are so; the ranges that are taken in them are those of allocations, one each; and no more blocks were made than allocations.
 pub record ArePools (s : PoolsState) : Type 0 where
-  pub pools : (p : ℕ) (k : Kept) → pool_at s p ≡ Some k → IsPool k.pool × IsPoolInfo k.pool.info
+  pub pools : (p : ℕ) (k : Kept) → pool_at s p ≡ Some k → IsKeptPool k.pool
   pub blocks : (p : ℕ) (k : Kept) → pool_at s p ≡ Some k → k.pool.next ≤ length s.allocations
   pub requests : (i : ℕ) (a : Allocation) → allocation_at s i ≡ Some a → IsRequest a.asked.size a.asked.align
   pub taken : (i : ℕ) (r : Bool) (p : ℕ) (place : PoolPlace) (asked : Asked) → IsHeld s i r p place asked → (k : Kept) × (pool_at s p ≡ Some k) × HasRange k.pool place.block (range_at place.start asked)

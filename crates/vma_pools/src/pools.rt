@@ -11,7 +11,7 @@ use crate::pool::PoolOf;
 use std::alloc::{AllocError, Global};
 use std::marker::Model;
 use vk_memory::{MapState, Memories, MemoryError};
-use vk_model::{PoolInfo, Spot, pool_stays};
+use vk_model::{PoolInfo, Spot};
 use vma_blocks::PoolBlock;
 
 /// Pools, and the allocations in them and in memory objects of their own, each by its number. Numbers
@@ -55,7 +55,6 @@ impl<B: PoolBlock> PoolsOf<B> {
             × (self.new ≡ record self.old { pools = self.old.pools ++ Some (record { pool = empty_pool info; memories = [] }) ∷ [] })) }
         ensures err { OnErr result (self.new ≡ self.old) }
     {
-        pool_stays();
         let number = self.pools.len();
         self.pools.push(Some(PoolOf::new(self.alloc, info)))?;
         Ok(number as u64)
@@ -115,7 +114,6 @@ impl<B: PoolBlock> PoolsOf<B> {
         ensures err { OnErr result (self.new ≡ self.old) }
         ensures memories { OnErr result (memories.new ≡ memories.old) }
     {
-        pool_stays();
         self.allocations.reserve(1)?;
         let number = self.allocations.len();
         let Some(kept) = &mut self.pools[pool as usize] else {
@@ -146,7 +144,6 @@ impl<B: PoolBlock> PoolsOf<B> {
         // What the type's invariant says.
         ensures always { ArePools self.old }
     {
-        pool_stays();
         let Some(ended) = self.allocations[allocation as usize].take() else {
             unreachable!()
         };

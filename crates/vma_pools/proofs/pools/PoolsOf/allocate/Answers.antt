@@ -26,7 +26,7 @@ invariant_of-self-2 g c =
     let a : Allocation = new_allocation (home.Shared p place) asked in
     let is = c.push_reserved.ensures.items ∙ ap (λ (l : List (Option Allocation)). l ++ Some a ∷ []) c.in_ok-reserve.ensures.items in
     let takes = takes-gives k now c.args.memories.now c.allocate.new.memories (request_in asked) c.args.upper (start_of place) c.in_ok-place.ensures.ok in
-    let fine = taken-fine c.pool_stays.ensures k now (request_in asked) c.args.upper (start_of place) c.requires.request.some (c.self.invariant.pools p k at) takes.0 takes.1 in
+    let fine = taken-fine k now (request_in asked) c.args.upper (start_of place) c.requires.request.some (c.self.invariant.pools p k at) takes.0 takes.1 in
     subst (λ (l : List (Option Allocation)). ArePools (record { pools = set f.pools.items p (Some now); allocations = l })) (sym is)
     (shared-added s c.self.invariant p k now at asked c.requires.request c.args.upper place takes.0 takes.1 fine)
 

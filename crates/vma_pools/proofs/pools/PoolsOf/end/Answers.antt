@@ -55,7 +55,7 @@ invariant_of-self-in-Shared g c =
     let now = c.free.new.self in
     subst (λ (o : Option Allocation). ArePools (record { pools = set f.pools.items p (Some now); allocations = set f.allocations.items i o })) (sym c.take.ensures.after)
     (shared-ended s c.self.invariant i a live p place (its-place a p place lies) (no-target a p place lies (live-holds s i (λ a. a.target ≡ None) asks a live)) k now there c.free.ensures.pool
-    (freed-fine c.pool_stays.ensures k now (start_of place) (c.self.invariant.pools p k there) c.free.ensures.pool))
+    (freed-fine k now (start_of place) (c.self.invariant.pools p k there) c.free.ensures.pool))
 
 pub returns-in-Some-index_mut-clause-ended : goal.returns-in-Some-index_mut-clause-ended
 returns-in-Some-index_mut-clause-ended g c =
