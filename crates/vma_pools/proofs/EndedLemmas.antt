@@ -104,6 +104,55 @@ module _ (s : PoolsState) (h : ArePools s) (i : ℕ) (a b : Allocation) (live : 
     one = λ j l r v p place asked other x y. h.one j l r v p place asked other (from-turned j r p place asked x) (from-turned l v p place other y);
   }
 
+-- a place that is taken in a pool is given back
+module _ (s t : PoolsState) (h : ArePools s) (p : ℕ) (old now : Kept) (there : pool_at s p ≡ Some old) (place : PoolPlace) (same : IsAlikePool (pool_without old.pool (start_of place)) now.pool) (fine : Fine now)
+    (here : pool_at t p ≡ Some now) (others : (q : ℕ) → (q ≡ p → ⊥) → pool_at t q ≡ pool_at s q)
+    (long : length t.allocations ≡ length s.allocations)
+    (requests : (i : ℕ) (a : Allocation) → allocation_at t i ≡ Some a → IsRequest a.asked.size a.asked.align)
+    (holder : ℕ) (which : Bool) (asked : Asked) (mine : IsHeld s holder which p place asked)
+    (from : (j : ℕ) (r : Bool) (q : ℕ) (pl : PoolPlace) (b : Asked) → IsHeld t j r q pl b → IsHeld s j r q pl b × ((j ≡ holder) × (r ≡ which) → ⊥))
+    (keep : (j : ℕ) (r : Bool) (q : ℕ) (pl : PoolPlace) (b : Asked) → IsHeld s j r q pl b → ((j ≡ holder) × (r ≡ which) → ⊥) → IsHeld t j r q pl b) where
+  left-is : (q : ℕ) (k : Kept) → q ≡ p → pool_at t q ≡ Some k → now ≡ k
+  left-is q k is at = some-is now k (sym here ∙ ap (λ (n : ℕ). pool_at t n) (sym is) ∙ at)
+
+  place-is : (x y : PoolPlace) → x.block ≡ y.block → x.start ≡ y.start → x ≡ y
+  place-is x y e f = ap (λ (n : ℕ). record { block = n; start = x.start }) e ∙ ap (λ (n : ℕ). record { block = y.block; start = n }) f
+
+  -- what is held at another start isn't what was given back
+  not-mine : (j : ℕ) (r : Bool) (q : ℕ) (pl : PoolPlace) (b : Asked) → IsHeld s j r q pl b → (q ≡ p → pl ≡ place → ⊥) → (j ≡ holder) × (r ≡ which) → ⊥
+  not-mine j r q pl b held other is =
+      let e : held_place r held.allocation ≡ held_place which mine.allocation =
+          ap (λ (v : Bool). held_place v held.allocation) is.1
+          ∙ ap (λ (a : Allocation). held_place which a) (some-is held.allocation mine.allocation (sym held.live ∙ ap (λ (n : ℕ). allocation_at s n) is.0 ∙ mine.live)) in
+      let f = sym held.there ∙ e ∙ mine.there in
+      other (ap (λ (o : Option (ℕ × PoolPlace)). (unwrap_or o (q, pl)).0) f) (ap (λ (o : Option (ℕ × PoolPlace)). (unwrap_or o (q, pl)).1) f)
+
+  pub less-places : ArePools t
+  less-places = record {
+    pools = λ q k at. elim (cases_eq q p) [ inl is ↦ subst Fine (left-is q k is at) fine | inr other ↦ h.pools q k (sym (others q other) ∙ at) ];
+    blocks = λ q k at. elim (cases_eq q p) [
+      | inl is ↦ (let l = h.blocks p old there in omega (arith, l, same.next, ap (λ (k : Kept). k.pool.next) (left-is q k is at), long))
+      | inr other ↦ (let l = h.blocks q k (sym (others q other) ∙ at) in omega (arith, l, long))
+    ];
+    requests = requests;
+    taken = λ j r q pl b held. (let f = from j r q pl b held in let o = h.taken j r q pl b f.0 in elim (cases_eq q p) [
+      | inl is ↦ (let k-is = some-is o.0 old (sym o.1 ∙ ap (λ (n : ℕ). pool_at s n) is ∙ there) in
+          (now, ap (λ (n : ℕ). pool_at t n) is ∙ here, alike-range (pool_without old.pool (start_of place)) now.pool same pl.block (range_at pl.start b)
+          (left-kept old.pool (h.pools p old there).pool (start_of place) pl.block (range_at pl.start b) (subst (λ (k : Kept). HasRange k.pool pl.block (range_at pl.start b)) k-is o.2)
+          (λ e g. f.1 (h.one j holder r which p place b asked (subst (λ (x : PoolPlace). IsHeld s j r p x b) (place-is pl place e g) (subst (λ (m : ℕ). IsHeld s j r m pl b) is f.0)) mine)))))
+      | inr other ↦ (o.0, others q other ∙ o.1, o.2)
+    ]);
+    held = λ q k n u at range. elim (cases_eq q p) [
+      | inl is ↦ (let f = left-from old.pool (h.pools p old there).pool (start_of place) n u (range-alike (pool_without old.pool (start_of place)) now.pool same n u (subst (λ (k : Kept). HasRange k.pool n u) (sym (left-is q k is at)) range)) in
+          let o = h.held p old n u there f.0 in
+          (o.0, o.1, o.2, o.3, subst (λ (m : ℕ). IsHeld t o.0 o.1 m o.2 o.3) (sym is)
+          (keep o.0 o.1 p o.2 o.3 o.4 (not-mine o.0 o.1 p o.2 o.3 o.4 (λ e g. f.1 (sym o.5 ∙ ap (λ (x : PoolPlace). x.block) g) (sym o.6 ∙ ap (λ (x : PoolPlace). x.start) g)))), o.5, o.6))
+      | inr other ↦ (let o = h.held q k n u (sym (others q other) ∙ at) range in
+          (o.0, o.1, o.2, o.3, keep o.0 o.1 q o.2 o.3 o.4 (not-mine o.0 o.1 q o.2 o.3 o.4 (λ e g. other e)), o.5, o.6))
+    ];
+    one = λ j l r v q pl b c x y. h.one j l r v q pl b c (from j r q pl b x).0 (from l v q pl c y).0;
+  }
+
 -- one that held nothing of a pool has ended
 module _ (s : PoolsState) (h : ArePools s) (i : ℕ) (a : Allocation) (live : allocation_at s i ≡ Some a) where
   abbrev ended : PoolsState
@@ -152,66 +201,21 @@ module _ (s : PoolsState) (h : ArePools s) (i : ℕ) (a : Allocation) (live : al
     left-other : (q : ℕ) → (q ≡ p → ⊥) → pool_at left q ≡ pool_at s q
     left-other q other = at-other s.pools p q (Some now) other
 
-    from-left : (j : ℕ) (r : Bool) (q : ℕ) (pl : PoolPlace) (b : Asked) → IsHeld left j r q pl b → IsHeld s j r q pl b
-    from-left j r q pl b held = from-ended j r q pl b (same-held left ended refl j r q pl b held)
+    from-left : (j : ℕ) (r : Bool) (q : ℕ) (pl : PoolPlace) (b : Asked) → IsHeld left j r q pl b → IsHeld s j r q pl b × ((j ≡ i) × (r ≡ false) → ⊥)
+    from-left j r q pl b held =
+        let in_ended = same-held left ended refl j r q pl b held in (from-ended j r q pl b in_ended, λ is. ended-other j r q pl b in_ended is.0)
 
-    mine : IsHeld s i false p place a.asked
-    mine = record { allocation = a; live = live; there = first; asks = refl }
-
-    -- what is held of another start isn't by this one
-    not-mine : (j : ℕ) (r : Bool) (q : ℕ) (pl : PoolPlace) (b : Asked) → IsHeld s j r q pl b → (q ≡ p → pl ≡ place → ⊥) → j ≡ i → ⊥
-    not-mine j r q pl b held other is = go r held
+    -- it held no other place
+    keep-left : (j : ℕ) (r : Bool) (q : ℕ) (pl : PoolPlace) (b : Asked) → IsHeld s j r q pl b → ((j ≡ i) × (r ≡ false) → ⊥) → IsHeld left j r q pl b
+    keep-left j r q pl b held other = same-held ended left refl j r q pl b (other-held s i None j r q pl b (λ is. go r held other is) held)
       where
-        go : (r : Bool) → IsHeld s j r q pl b → ⊥
-        go false held =
-            let e = sym first ∙ ap (λ (x : Allocation). held_place false x) (some-is a held.allocation (sym live ∙ ap (λ (n : ℕ). allocation_at s n) (sym is) ∙ held.live)) ∙ held.there in
-            other (ap (λ (o : Option (ℕ × PoolPlace)). (unwrap_or o (q, pl)).0) (sym e)) (ap (λ (o : Option (ℕ × PoolPlace)). (unwrap_or o (q, pl)).1) (sym e))
-        go true held = let e = sym second ∙ ap (λ (x : Allocation). held_place true x) (some-is a held.allocation (sym live ∙ ap (λ (n : ℕ). allocation_at s n) (sym is) ∙ held.live)) ∙ held.there in cc
-
-    place-is : (x y : PoolPlace) → x.block ≡ y.block → x.start ≡ y.start → x ≡ y
-    place-is x y e f = ap (λ (n : ℕ). record { block = n; start = x.start }) e ∙ ap (λ (n : ℕ). record { block = y.block; start = n }) f
+        go : (r : Bool) → IsHeld s j r q pl b → ((j ≡ i) × (r ≡ false) → ⊥) → j ≡ i → ⊥
+        go false held other is = other (is, refl)
+        go true held other is = let e = sym second ∙ ap (λ (x : Allocation). held_place true x) (some-is a held.allocation (sym live ∙ ap (λ (n : ℕ). allocation_at s n) (sym is) ∙ held.live)) ∙ held.there in cc
 
     pub shared-ended : ArePools left
-    shared-ended = record {
-      pools = λ q k at. elim (cases_eq q p) [
-        | inl is ↦ subst Fine (some-is now k (sym left-here ∙ ap (λ (n : ℕ). pool_at left n) (sym is) ∙ at)) fine
-        | inr other ↦ h.pools q k (sym (left-other q other) ∙ at)
-      ];
-      blocks = λ q k at. elim (cases_eq q p) [
-        | inl is ↦ (let k-is = some-is now k (sym left-here ∙ ap (λ (n : ℕ). pool_at left n) (sym is) ∙ at) in
-            omega (arith, h.blocks p old there, same.next, ap (λ (k : Kept). k.pool.next) k-is, changed-length s i None))
-        | inr other ↦ (let l = h.blocks q k (sym (left-other q other) ∙ at) in omega (arith, l, changed-length s i None))
-      ];
-      requests = ended-requests;
-      taken = λ j r q pl b held. (let was = from-left j r q pl b held in let o = h.taken j r q pl b was in elim (cases_eq q p) [
-        | inl is ↦ (let k-is = some-is o.0 old (sym o.1 ∙ ap (λ (n : ℕ). pool_at s n) is ∙ there) in (
-          now,
-          ap (λ (n : ℕ). pool_at left n) is ∙ left-here,
-          alike-range (pool_without old.pool (start_of place)) now.pool same pl.block (range_at pl.start b)
-              (left-kept old.pool (h.pools p old there).pool (start_of place) pl.block (range_at pl.start b) (subst (λ (k : Kept). HasRange k.pool pl.block (range_at pl.start b)) k-is o.2)
-              (λ e f. ended-other j r q pl b (same-held left ended refl j r q pl b held)
-              (h.one j i r false p place b a.asked (subst (λ (x : PoolPlace). IsHeld s j r p x b) (place-is pl place e f) (subst (λ (m : ℕ). IsHeld s j r m pl b) is was)) mine).0)),
-        ))
-        | inr other ↦ (o.0, left-other q other ∙ o.1, o.2)
-      ]);
-      held = λ q k n t at range. elim (cases_eq q p) [
-        | inl is ↦ (let k-is = some-is now k (sym left-here ∙ ap (λ (n : ℕ). pool_at left n) (sym is) ∙ at) in
-            let f = left-from old.pool (h.pools p old there).pool (start_of place) n t (range-alike (pool_without old.pool (start_of place)) now.pool same n t (subst (λ (k : Kept). HasRange k.pool n t) (sym k-is) range)) in
-            let o = h.held p old n t there f.0 in (
-              o.0,
-              o.1,
-              o.2,
-              o.3,
-              subst (λ (m : ℕ). IsHeld left o.0 o.1 m o.2 o.3) (sym is)
-                  (same-held ended left refl o.0 o.1 p o.2 o.3 (other-held s i None o.0 o.1 p o.2 o.3 (not-mine o.0 o.1 p o.2 o.3 o.4 (λ e same. f.1 (sym o.5 ∙ ap (λ (x : PoolPlace). x.block) same) (sym o.6 ∙ ap (λ (x : PoolPlace). x.start) same))) o.4)),
-              o.5,
-              o.6,
-            ))
-        | inr other ↦ (let o = h.held q k n t (sym (left-other q other) ∙ at) range in
-            (o.0, o.1, o.2, o.3, same-held ended left refl o.0 o.1 q o.2 o.3 (other-held s i None o.0 o.1 q o.2 o.3 (not-mine o.0 o.1 q o.2 o.3 o.4 (λ e same. other e)) o.4), o.5, o.6))
-      ];
-      one = λ j l r v q pl b c x y. h.one j l r v q pl b c (from-left j r q pl b x) (from-left l v q pl c y);
-    }
+    shared-ended =
+        less-places s left h p old now there place same fine left-here left-other (changed-length s i None) ended-requests i false a.asked (record { allocation = a; live = live; there = first; asks = refl }) from-left keep-left
 
 -- ---- a pool has ended
 
