@@ -60,10 +60,10 @@ module _ (s : PoolsState) (i : ℕ) (a : Option Allocation) where
   changed-length : length changed.allocations ≡ length s.allocations
   changed-length = length-set s.allocations i a
 
-  other-held : (j : ℕ) (r : Bool) (p : ℕ) (place : PoolPlace) (asked : Asked) → (j ≡ i → ⊥) → IsHeld s j r p place asked → IsHeld changed j r p place asked
+  pub other-held : (j : ℕ) (r : Bool) (p : ℕ) (place : PoolPlace) (asked : Asked) → (j ≡ i → ⊥) → IsHeld s j r p place asked → IsHeld changed j r p place asked
   other-held j r p place asked other held = record { allocation = held.allocation; live = at-other s.allocations i j a other ∙ held.live; there = held.there; asks = held.asks }
 
-  from-other : (j : ℕ) (r : Bool) (p : ℕ) (place : PoolPlace) (asked : Asked) → (j ≡ i → ⊥) → IsHeld changed j r p place asked → IsHeld s j r p place asked
+  pub from-other : (j : ℕ) (r : Bool) (p : ℕ) (place : PoolPlace) (asked : Asked) → (j ≡ i → ⊥) → IsHeld changed j r p place asked → IsHeld s j r p place asked
   from-other j r p place asked other held = record { allocation = held.allocation; live = sym (at-other s.allocations i j a other) ∙ held.live; there = held.there; asks = held.asks }
 
 -- another one that holds the same
@@ -122,8 +122,8 @@ module _ (s t : PoolsState) (h : ArePools s) (p : ℕ) (old now : Kept) (there :
   not-mine : (j : ℕ) (r : Bool) (q : ℕ) (pl : PoolPlace) (b : Asked) → IsHeld s j r q pl b → (q ≡ p → pl ≡ place → ⊥) → (j ≡ holder) × (r ≡ which) → ⊥
   not-mine j r q pl b held other is =
       let e : held_place r held.allocation ≡ held_place which mine.allocation =
-          ap (λ (v : Bool). held_place v held.allocation) is.1
-          ∙ ap (λ (a : Allocation). held_place which a) (some-is held.allocation mine.allocation (sym held.live ∙ ap (λ (n : ℕ). allocation_at s n) is.0 ∙ mine.live)) in
+      ap (λ (v : Bool). held_place v held.allocation) is.1
+      ∙ ap (λ (a : Allocation). held_place which a) (some-is held.allocation mine.allocation (sym held.live ∙ ap (λ (n : ℕ). allocation_at s n) is.0 ∙ mine.live)) in
       let f = sym held.there ∙ e ∙ mine.there in
       other (ap (λ (o : Option (ℕ × PoolPlace)). (unwrap_or o (q, pl)).0) f) (ap (λ (o : Option (ℕ × PoolPlace)). (unwrap_or o (q, pl)).1) f)
 
@@ -136,17 +136,27 @@ module _ (s t : PoolsState) (h : ArePools s) (p : ℕ) (old now : Kept) (there :
     ];
     requests = requests;
     taken = λ j r q pl b held. (let f = from j r q pl b held in let o = h.taken j r q pl b f.0 in elim (cases_eq q p) [
-      | inl is ↦ (let k-is = some-is o.0 old (sym o.1 ∙ ap (λ (n : ℕ). pool_at s n) is ∙ there) in
-          (now, ap (λ (n : ℕ). pool_at t n) is ∙ here, alike-range (pool_without old.pool (start_of place)) now.pool same pl.block (range_at pl.start b)
-          (left-kept old.pool (h.pools p old there).pool (start_of place) pl.block (range_at pl.start b) (subst (λ (k : Kept). HasRange k.pool pl.block (range_at pl.start b)) k-is o.2)
-          (λ e g. f.1 (h.one j holder r which p place b asked (subst (λ (x : PoolPlace). IsHeld s j r p x b) (place-is pl place e g) (subst (λ (m : ℕ). IsHeld s j r m pl b) is f.0)) mine)))))
+      | inl is ↦ (let k-is = some-is o.0 old (sym o.1 ∙ ap (λ (n : ℕ). pool_at s n) is ∙ there) in (
+        now,
+        ap (λ (n : ℕ). pool_at t n) is ∙ here,
+        alike-range (pool_without old.pool (start_of place)) now.pool same pl.block (range_at pl.start b)
+            (left-kept old.pool (h.pools p old there).pool (start_of place) pl.block (range_at pl.start b) (subst (λ (k : Kept). HasRange k.pool pl.block (range_at pl.start b)) k-is o.2)
+            (λ e g. f.1 (h.one j holder r which p place b asked (subst (λ (x : PoolPlace). IsHeld s j r p x b) (place-is pl place e g) (subst (λ (m : ℕ). IsHeld s j r m pl b) is f.0)) mine))),
+      ))
       | inr other ↦ (o.0, others q other ∙ o.1, o.2)
     ]);
     held = λ q k n u at range. elim (cases_eq q p) [
       | inl is ↦ (let f = left-from old.pool (h.pools p old there).pool (start_of place) n u (range-alike (pool_without old.pool (start_of place)) now.pool same n u (subst (λ (k : Kept). HasRange k.pool n u) (sym (left-is q k is at)) range)) in
-          let o = h.held p old n u there f.0 in
-          (o.0, o.1, o.2, o.3, subst (λ (m : ℕ). IsHeld t o.0 o.1 m o.2 o.3) (sym is)
-          (keep o.0 o.1 p o.2 o.3 o.4 (not-mine o.0 o.1 p o.2 o.3 o.4 (λ e g. f.1 (sym o.5 ∙ ap (λ (x : PoolPlace). x.block) g) (sym o.6 ∙ ap (λ (x : PoolPlace). x.start) g)))), o.5, o.6))
+          let o = h.held p old n u there f.0 in (
+            o.0,
+            o.1,
+            o.2,
+            o.3,
+            subst (λ (m : ℕ). IsHeld t o.0 o.1 m o.2 o.3) (sym is)
+                (keep o.0 o.1 p o.2 o.3 o.4 (not-mine o.0 o.1 p o.2 o.3 o.4 (λ e g. f.1 (sym o.5 ∙ ap (λ (x : PoolPlace). x.block) g) (sym o.6 ∙ ap (λ (x : PoolPlace). x.start) g)))),
+            o.5,
+            o.6,
+          ))
       | inr other ↦ (let o = h.held q k n u (sym (others q other) ∙ at) range in
           (o.0, o.1, o.2, o.3, keep o.0 o.1 q o.2 o.3 o.4 (not-mine o.0 o.1 q o.2 o.3 o.4 (λ e g. other e)), o.5, o.6))
     ];

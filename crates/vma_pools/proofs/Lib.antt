@@ -16,3 +16,4 @@ mod EndedLemmas
 mod CallLemmas
 mod BacksLemmas
 mod ReleaseLemmas
+mod MovingLemmas

@@ -7,7 +7,6 @@ use Rattle.vma_pools.specs.Alike.{IsAlikePool}
 use Rattle.vk_model.specs.declared.resource.PoolInfo.{PoolInfo}
 use Rattle.vk_model.specs.Memory.Suballocation.{Taken, Request, IsRequest, IsApart, ranges_meet, same_kind, share_page}
 use Rattle.vk_model.specs.Memory.Pools.{Pool, empty_pool, IsPool, block_with, new_block, in_block, Gives, pool_with, pool_without}
-use Rattle.vk_model.specs.Memory.PlaceLaws.{PoolStays}
 use Rattle.vma_blocks.specs.PoolInfos.{IsPoolInfo}
 use Rattle.vma_pools.specs.declared.pool.PoolPlace.{PoolPlace}
 use Rattle.vma_pools.specs.declared.allocations.Asked.{Asked}

@@ -89,6 +89,8 @@ module _ {B : Type 0} (block : B → Block) (info : PoolInfo) (old new fit : Lis
         let takes = lower-takes objs now view x e in
         let number : x.number ≡ (get_or (seen block old) i no_block).number = number-is block info old new fit next h.pool r false i start taken fits x e in
         record {
+          given = takes.given;
+          has = takes.has;
           target = λ id.
               subst (λ (k : Kept). move_target (numbered_blocks k.pool.blocks) (record { id = id; from = from; request = r }) ≡ Some (record { block = x.number; start = start })) view
               (target-found (record { id = id; from = from; request = r }) (seen block old) i (record { block = (get_or (seen block old) i no_block).number; start = start }) t.there t.before t.target

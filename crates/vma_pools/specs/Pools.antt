@@ -49,6 +49,8 @@ HasNoTarget p from r = (id : ℕ) → move_target (numbered_blocks p.blocks) (re
 
 -- The move target of what has a place in a pool is taken too; the memory objects of its blocks are as they were (VMA, "Defragmentation").
 pub record TakesTarget (old new : Kept) (from : BlockStart) (r : Request) (s : BlockStart) : Type 0 where
+  pub given : Gives old.pool r false s
+  pub has : s.block < old.pool.next
   pub target : (id : ℕ) → move_target (numbered_blocks old.pool.blocks) (record { id = id; from = from; request = r }) ≡ Some s
   pub pool : IsAlikePool (pool_with old.pool r false s) new.pool
   pub memories : new.memories ≡ old.memories

@@ -1,17 +1,17 @@
 -- Pools and allocations, as they are seen.
 use Rattle.std.specs.Prelude.{◌≡◌, ℕ, ◌<◌, ◌≤◌, List, [], ◌∷◌, ◌++◌, length, set, Bool, true, false, Option, Some, None, option_map, IsSomeAnd, slice_index_or, get_or}
 use Rattle.vk_model.specs.Memory.Suballocation.{Request, IsRequest, IsApart, Taken, taken_at}
+use Rattle.vk_model.specs.declared.resource.PoolKind.TheVariants as algorithm
 use Rattle.vk_model.specs.Memory.MoveTargets.{BlockStart}
-use Rattle.vk_model.specs.Memory.Pools.{IsPool, pool_without}
+use Rattle.vk_model.specs.Memory.Pools.{pool_without}
 use Rattle.vk_memory.specs.MemoryState.{MemoryState, region_of, type_of, fresh, with_object}
-use Rattle.vma_blocks.specs.PoolInfos.{IsPoolInfo}
 use Rattle.vma_pools.specs.declared.pool.PoolPlace.{PoolPlace}
 use Rattle.vma_pools.specs.declared.allocations.Asked.{Asked}
 use Rattle.vma_pools.specs.declared.allocations.Home.{Home}
 use Rattle.vma_pools.specs.declared.allocations.Home.TheVariants as home
 use Rattle.vma_pools.specs.declared.allocations.Allocation.{Allocation}
 use Rattle.vma_pools.specs.Alike.{IsAlikePool}
-use Rattle.vma_pools.specs.Pools.{Kept, Takes, Loses, IsMemoryOf}
+use Rattle.vma_pools.specs.Pools.{Kept, Takes, Loses, IsMemoryOf, HasNoTarget, TakesTarget}
 use Rattle.vk_model.specs.declared.resource.Spot.{Spot}
 use Rattle.vma_pools.specs.Inner.Kinds.{IsKeptPool}
 use Rattle.vma_pools.specs.Ranges.{HasRange}
@@ -166,6 +166,35 @@ IsEnded old new i (home.Shared p place) gone = IsGivenBack old new i p place gon
 abbrev pub released : MemoryState → Option ℕ → MemoryState
 released m None = m
 released m (Some n) = with_object m n None
+
+-- An allocation may move: it is in a pool that can be defragmented, and has no place reserved (VMA, "Defragmentation").
+abbrev pub IsMovable : PoolsState → Home → Option PoolPlace → Type 0
+IsMovable s (home.Shared p place) None = IfKept s p (λ k. k.pool.info.kind ≡ algorithm.Tlsf)
+IsMovable s _ _ = ⊥
+
+-- An allocation of a pool has no move target (VMA, "Defragmentation").
+pub record HasNoLower (s : PoolsState) (i : ℕ) : Type 0 where
+  pub allocation : Allocation
+  pub live : allocation_at s i ≡ Some allocation
+  pub pool : ℕ
+  pub from : PoolPlace
+  pub lies : allocation.home ≡ home.Shared pool from
+  pub kept : Kept
+  pub there : pool_at s pool ≡ Some kept
+  pub none : HasNoTarget kept.pool (start_of from) (request_in allocation.asked)
+
+-- The move target of an allocation is reserved for it, and taken in its pool (VMA, "Defragmentation").
+pub record IsReserved (old new : PoolsState) (i : ℕ) (target : PoolPlace) : Type 0 where
+  pub allocation : Allocation
+  pub live : allocation_at old i ≡ Some allocation
+  pub pool : ℕ
+  pub from : PoolPlace
+  pub lies : allocation.home ≡ home.Shared pool from
+  pub was : Kept
+  pub now : Kept
+  pub there : pool_at old pool ≡ Some was
+  pub takes : TakesTarget was now (start_of from) (request_in allocation.asked) (start_of target)
+  pub state : new ≡ record { pools = set old.pools pool (Some now); allocations = set old.allocations i (Some (record allocation { target = Some target })) }
 
 -- An allocation lies there: in its memory object, or in that of its block (Vulkan, "Resource Memory Association").
 abbrev pub IsSpotOf : PoolsState → Home → Asked → Spot → Type 0

@@ -4,6 +4,7 @@
 mod allocations;
 mod blocks;
 mod lower;
+mod moving;
 mod pool;
 mod pools;
 

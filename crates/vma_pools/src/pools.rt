@@ -19,8 +19,8 @@ use vma_blocks::PoolBlock;
 #[derive(Drop)]
 pub struct PoolsOf<B: PoolBlock> {
     alloc: Global,
-    pools: Vec<Option<PoolOf<B>>>,
-    allocations: Vec<Option<Allocation>>,
+    pub(crate) pools: Vec<Option<PoolOf<B>>>,
+    pub(crate) allocations: Vec<Option<Allocation>>,
 }
 
 impl<B: PoolBlock> Model for PoolsOf<B> {

@@ -1,0 +1,38 @@
+ghost use Rattle.std.specs.Prelude.{◌≡◌, IfOk, OnErr, MatchOption};
+ghost use Rattle.vma_pools.specs.State.{IfLive, IsMovable, HasNoLower, IsReserved};
+
+use crate::allocations::{Allocation, Home};
+use crate::pool::PoolPlace;
+use crate::pools::PoolsOf;
+use std::alloc::AllocError;
+use vma_blocks::PoolBlock;
+
+impl<B: PoolBlock> PoolsOf<B> {
+    /// Reserves the move target of an allocation in its pool: the lowest place of the first earlier
+    /// block that holds it, else the lowest of its own block that ends at or below its start; none
+    /// where there is no such place. The only error is want of memory.
+    pub fn reserve_lower(&mut self, allocation: u64) -> Result<Option<PoolPlace>, AllocError>
+        requires { IfLive self.old allocation (λ a. IsMovable self.old a.home a.target) }
+        ensures ok { IfOk result (λ o. MatchOption o (HasNoLower self.old allocation × (self.new ≡ self.old)) (λ target. IsReserved self.old self.new allocation target)) }
+        ensures err { OnErr result (self.new ≡ self.old) }
+    {
+        let Some(live) = self.allocations[allocation as usize] else {
+            unreachable!()
+        };
+        let Home::Shared { pool, place } = live.home else {
+            unreachable!()
+        };
+        let asked = live.asked;
+        let Some(kept) = &mut self.pools[pool as usize] else {
+            unreachable!()
+        };
+        let Some(target) = kept.take_lower(place, asked.size, asked.align, asked.kind)? else {
+            return Ok(None);
+        };
+        self.allocations[allocation as usize] = Some(Allocation {
+            target: Some(target),
+            ..live
+        });
+        Ok(Some(target))
+    }
+}
