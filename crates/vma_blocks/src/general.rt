@@ -12,12 +12,19 @@ use std::alloc::{AllocError, Global};
 use vk_model::{Kind, PoolInfo, SubFault, Suballoc};
 use vma_tlsf::Tlsf;
 
-/// A new block, for resources of both kinds, since a pool has buffers and images of both tilings.
+/// The memory type in which optimal images can lie beside buffers.
+const MIXED_TYPE: u32 = 0;
+
+/// A new block: for resources of both kinds where its memory type can have both.
 pub(crate) fn make(alloc: Global, info: PoolInfo) -> Result<Tlsf, AllocError>
     requires { IsPoolInfo info }
     ensures { IfOk result (λ b. general_block b ≡ General info.block_size []) }
 {
-    Tlsf::mixed(alloc, info.block_size)
+    if info.memory_type == MIXED_TYPE {
+        Tlsf::mixed(alloc, info.block_size)
+    } else {
+        Tlsf::new(alloc, info.block_size)
+    }
 }
 
 /// Takes a range, and answers its start in bytes.
