@@ -1,5 +1,5 @@
 -- A pool when a range of one of its blocks is given back.
-use Rattle.std.proofs.Common.{◌≡◌, ℕ, zero, suc, ◌+◌, ◌<◌, ◌≤◌, List, [], ◌∷◌, ◌++◌, length, get_or, set, map, take, drop, Bool, true, false, not, refl, sym, ap, subst, ◌∙◌, arith, inl, inr}
+use Rattle.std.proofs.Common.{◌≡◌, ℕ, zero, suc, ◌+◌, ◌<◌, ◌≤◌, List, [], ◌∷◌, ◌++◌, length, get_or, set, map, take, drop, Bool, true, false, not, Option, Some, None, refl, sym, ap, subst, ◌∙◌, arith, inl, inr}
 use Rattle.std.proofs.lemmas.Bool.{cases_lt}
 use Rattle.std.specs.Prelude.{All, AllPairs, Any, if◌then◌else◌, IsTrue}
 use Rattle.std.specs.List.{filter}
@@ -7,7 +7,7 @@ use Rattle.std.proofs.lemmas.List.Elements.{All-head, All-tail}
 use Rattle.std.proofs.lemmas.List.{length-map, map-set, get_or-set_same}
 use Rattle.std.proofs.Math.Seq.{map-set_same}
 use Rattle.vk_model.specs.declared.resource.PoolInfo.{PoolInfo}
-use Rattle.vma_pools.specs.Pools.{Kept, Loses}
+use Rattle.vma_pools.specs.Pools.{Kept, Loses, LosesOne, KeepsBlocks, block_numbers}
 use Rattle.vma_blocks.specs.Alike.{IsAlike}
 use Rattle.vma_pools.specs.Alike.{AreAlike, IsAlikePool}
 use Rattle.vma_pools.proofs.PoolAlike.{are-set, are-filtered}
@@ -126,6 +126,11 @@ map-cut f [] (suc i) = refl
 map-cut f (x ∷ xs) zero = refl
 map-cut f (x ∷ xs) (suc i) = ap (λ l. f x ∷ l) (map-cut f xs i)
 
+-- the numbers of the blocks that are held
+seen-numbers : {B : Type 0} (block : B → Block) (xs : List (Held B)) → map (λ b. b.number) (seen block xs) ≡ map (λ y. y.number) xs
+seen-numbers block [] = refl
+seen-numbers block (x ∷ xs) = ap (λ l. x.number ∷ l) (seen-numbers block xs)
+
 module _ {B : Type 0} (block : B → Block) (info : PoolInfo) (xs : List (Held B)) (next : ℕ) (h : IsPool (kept_of block info xs next).pool) (now : Kept) (view : kept_of block info xs next ≡ now) (i : ℕ) (x : Held B) (is : x ≡ get_or xs i x) (lt : i < length xs) (s : BlockStart) (number : (get_or xs i x).number ≡ s.block) (v : B) (freed : IsAlike (block_without (block x.block) s.start) (block v)) where
   abbrev after : Held B
   after = record { number = x.number; memory = x.memory; block = v }
@@ -174,6 +179,12 @@ module _ {B : Type 0} (block : B → Block) (info : PoolInfo) (xs : List (Held B
     pub kept-objects : objects (set xs i after) ≡ now.memories
     kept-objects = map-set_same (λ (y : Held B). y.memory) xs i after x (ap (λ (y : Held B). y.memory) is) ∙ ap (λ (k : Kept). k.memories) view
 
+    pub kept-blocks : KeepsBlocks None s.block now (kept_of block info (set xs i after) next)
+    kept-blocks = (
+      kept-objects,
+      seen-numbers block (set xs i after) ∙ map-set_same (λ (y : Held B). y.number) xs i after x (ap (λ (y : Held B). y.number) is) ∙ sym (seen-numbers block xs) ∙ ap (λ (k : Kept). block_numbers k.pool) view,
+    )
+
   -- nothing is left of it
   module _ (left : true ≡ is_none_left (block_taken (block v))) (new : List (Held B)) (cut : new ≡ take i (set xs i after) ++ drop (i + 1) (set xs i after)) where
     next-index : i + 1 ≡ suc i
@@ -199,4 +210,16 @@ module _ {B : Type 0} (block : B → Block) (info : PoolInfo) (xs : List (Held B
           there = omega (arith, lt, length-map xs (λ (y : Held B). y.memory));
           is = get_or-map-in (λ (y : Held B). y.memory) xs i x 0 lt ∙ ap (λ (y : Held B). y.memory) (sym is) ∙ ap (λ (y : Held B). y.memory) (sym (e ∙ get_or-set_same xs i after gone lt));
           left = ap (λ (l : List (Held B)). objects l) new-is ∙ map-cut (λ (y : Held B). y.memory) xs i ∙ ap (λ (n : ℕ). take i (objects xs) ++ drop n (objects xs)) (sym next-index);
+        })
+
+    pub gone-blocks : (gone : Held B) → gone ≡ get_or (set xs i after) i gone → KeepsBlocks (Some gone.memory) s.block now (kept_of block info new next)
+    gone-blocks gone e =
+        subst (λ (k : Kept). LosesOne k (kept_of block info new next) s.block gone.memory) view (record {
+          index = i;
+          there = omega (arith, lt, length-map xs (λ (y : Held B). y.memory));
+          is = get_or-map-in (λ (y : Held B). y.memory) xs i x 0 lt ∙ ap (λ (y : Held B). y.memory) (sym is) ∙ ap (λ (y : Held B). y.memory) (sym (e ∙ get_or-set_same xs i after gone lt));
+          numbered = ap (λ (ns : List ℕ). get_or ns i 0) (seen-numbers block xs) ∙ get_or-map-in (λ (y : Held B). y.number) xs i x 0 lt ∙ number;
+          memories = ap (λ (l : List (Held B)). objects l) new-is ∙ map-cut (λ (y : Held B). y.memory) xs i ∙ ap (λ (n : ℕ). take i (objects xs) ++ drop n (objects xs)) (sym next-index);
+          numbers = seen-numbers block new ∙ ap (λ (l : List (Held B)). map (λ y. y.number) l) new-is ∙ map-cut (λ (y : Held B). y.number) xs i
+              ∙ ap (λ (l : List ℕ). take i l ++ drop (suc i) l) (sym (seen-numbers block xs)) ∙ ap (λ (n : ℕ). take i (map (λ b. b.number) blocks) ++ drop n (map (λ b. b.number) blocks)) (sym next-index);
         })

@@ -2,7 +2,7 @@ pub mod PoolAlike
 pub mod RangesAlike
 mod WalkLemmas
 mod PoolLemmas
-mod RoomLemmas
+pub mod RoomLemmas
 mod FreeLemmas
 mod KindLemmas
 mod LowerLemmas
@@ -10,10 +10,10 @@ mod TargetLemmas
 mod LargestLemmas
 pub mod RangeLemmas
 pub mod AlikeRanges
-mod NumberLemmas
-mod StateLemmas
-mod EndedLemmas
-mod CallLemmas
-mod BacksLemmas
-mod ReleaseLemmas
+pub mod NumberLemmas
+pub mod StateLemmas
+pub mod EndedLemmas
+pub mod CallLemmas
+pub mod BacksLemmas
+pub mod ReleaseLemmas
 mod MovingLemmas

@@ -1,5 +1,5 @@
 -- What pools are asked, and what they are seen as.
-use Rattle.std.specs.Prelude.{◌≡◌, ◌⊎◌, ℕ, ◌<◌, ◌==◌, List, [], ◌∷◌, ◌++◌, length, get_or, take, drop, ◌+◌, Any, Bool, Some, None, false, if◌then◌else◌}
+use Rattle.std.specs.Prelude.{◌≡◌, ◌⊎◌, ℕ, ◌<◌, ◌==◌, List, [], ◌∷◌, ◌++◌, length, map, get_or, take, drop, ◌+◌, Any, Bool, Option, Some, None, false, if◌then◌else◌}
 use Rattle.vk_model.specs.Memory.Suballocation.{Request, IsTakenAt}
 use Rattle.vk_model.specs.Memory.Room.{Heaps}
 use Rattle.vk_model.specs.Memory.MoveTargets.{BlockStart, move_target}
@@ -68,3 +68,21 @@ pub record Loses (old new : List ℕ) (gone : ℕ) : Type 0 where
   pub there : index < length old
   pub is : get_or old index 0 ≡ gone
   pub left : new ≡ take index old ++ drop (index + 1) old
+
+-- The numbers of a pool's blocks.
+abbrev pub block_numbers : Pool → List ℕ
+block_numbers p = map (λ b. b.number) p.blocks
+
+-- The block of a number has gone, and the memory object that it was with it; the others are as they were (VMA, "Custom memory pools").
+pub record LosesOne (old new : Kept) (number gone : ℕ) : Type 0 where
+  pub index : ℕ
+  pub there : index < length old.memories
+  pub is : get_or old.memories index 0 ≡ gone
+  pub numbered : get_or (block_numbers old.pool) index 0 ≡ number
+  pub memories : new.memories ≡ take index old.memories ++ drop (index + 1) old.memories
+  pub numbers : block_numbers new.pool ≡ take index (block_numbers old.pool) ++ drop (index + 1) (block_numbers old.pool)
+
+-- A range of the block of a number was given back: all blocks are the memory objects that they were, or that block has gone with its memory object.
+abbrev pub KeepsBlocks : Option ℕ → ℕ → Kept → Kept → Type 0
+KeepsBlocks None number old new = (new.memories ≡ old.memories) × (block_numbers new.pool ≡ block_numbers old.pool)
+KeepsBlocks (Some gone) number old new = LosesOne old new number gone

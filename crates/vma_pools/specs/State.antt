@@ -11,7 +11,7 @@ use Rattle.vma_pools.specs.declared.allocations.Home.{Home}
 use Rattle.vma_pools.specs.declared.allocations.Home.TheVariants as home
 use Rattle.vma_pools.specs.declared.allocations.Allocation.{Allocation}
 use Rattle.vma_pools.specs.Alike.{IsAlikePool}
-use Rattle.vma_pools.specs.Pools.{Kept, Takes, Loses, IsMemoryOf, HasNoTarget, TakesTarget}
+use Rattle.vma_pools.specs.Pools.{Kept, Takes, Loses, KeepsBlocks, IsMemoryOf, HasNoTarget, TakesTarget}
 use Rattle.vk_model.specs.declared.resource.Spot.{Spot}
 use Rattle.vma_pools.specs.Inner.Kinds.{IsKeptPool}
 use Rattle.vma_pools.specs.Ranges.{HasRange}
@@ -155,6 +155,7 @@ pub record IsGivenBack (old new : PoolsState) (i pool : ℕ) (place : PoolPlace)
   pub there : pool_at old pool ≡ Some was
   pub pool_is : IsAlikePool (pool_without was.pool (start_of place)) now.pool
   pub objects : LosesBlock gone was now
+  pub blocks : KeepsBlocks gone place.block was now
   pub state : new ≡ record { pools = set old.pools pool (Some now); allocations = set old.allocations i None }
 
 -- An allocation has ended, and with it a memory object: its own, or that of a block of which nothing is taken then (Vulkan, "Object Lifetime"; VMA, "Custom memory pools").

@@ -2,7 +2,7 @@ ghost use Rattle.std.specs.Prelude.{◌≡◌, [], ◌<◌, ◌≤◌, ◌^◌, 
 ghost use Rattle.vk_model.specs.Memory.Suballocation.{IsRequest};
 ghost use Rattle.vk_model.specs.Memory.Room.{BlockHolds, NoRoomInPool};
 ghost use Rattle.vk_model.specs.Memory.Pools.{IsLargestIn, empty_pool, numbered_blocks, pool_without, state_of};
-ghost use Rattle.vma_pools.specs.Pools.{HasNoTarget, HasTaken, IsMemoryOf, Loses, TakesTarget, TakesOld, TakesNew};
+ghost use Rattle.vma_pools.specs.Pools.{HasNoTarget, HasTaken, IsMemoryOf, KeepsBlocks, Loses, TakesTarget, TakesOld, TakesNew};
 ghost use Rattle.vma_pools.specs.Pools.{Takes, heaps};
 ghost use Rattle.vk_memory.specs.MemoryState.{IsFull};
 ghost use Rattle.vma_blocks.specs.PoolInfos.{IsPoolInfo};
@@ -57,6 +57,13 @@ impl<B: PoolBlock> PoolOf<B> {
             blocks: Vec::new(alloc),
             next: 0,
         }
+    }
+
+    /// What the pool was made with.
+    pub(crate) fn info(&self) -> PoolInfo
+        ensures { result ≡ self.now.pool.info }
+    {
+        self.info
     }
 
     /// Takes a range of the first block that holds the request.
@@ -156,6 +163,7 @@ impl<B: PoolBlock> PoolOf<B> {
         ensures pool { IsAlikePool (pool_without self.old.pool (record { block = place.block; start = place.start })) self.new.pool }
         ensures kept { IfNone result (self.new.memories ≡ self.old.memories) }
         ensures gone { IfSome result (λ memory. Loses self.old.memories self.new.memories memory) }
+        ensures blocks { KeepsBlocks result place.block self.old self.new }
     {
         let index = index_of(&self.blocks, place.block);
         let held = &mut self.blocks[index];

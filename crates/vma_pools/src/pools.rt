@@ -60,6 +60,17 @@ impl<B: PoolBlock> PoolsOf<B> {
         Ok(number as u64)
     }
 
+    /// What a pool was made with.
+    pub fn info(&self, pool: u64) -> PoolInfo
+        requires { IsSome (pool_at self.now pool) }
+        ensures { IfKept self.now pool (λ k. result ≡ k.pool.info) }
+    {
+        let Some(kept) = &self.pools[pool as usize] else {
+            unreachable!()
+        };
+        kept.info()
+    }
+
     /// Ends a pool in which no allocation lies.
     pub fn drop_pool(&mut self, pool: u64)
         requires live { IsSome (pool_at self.old pool) }
@@ -230,6 +241,14 @@ impl<B: PoolBlock> PoolsOf<B> {
     /// page where one is of an optimal image.
     pub fn places_apart(&self)
         ensures { ArePlacesApart self.now }
+    {
+        let _pools = &self.pools;
+    }
+
+    /// What always holds of pools and allocations: the blocks of each pool are as the algorithm of the
+    /// pool leaves them, and the ranges that are taken there are those of allocations, one each.
+    pub fn are_pools(&self)
+        ensures { ArePools self.now }
     {
         let _pools = &self.pools;
     }

@@ -75,5 +75,6 @@ returns-in-Some-index_mut-clause-ended g c =
       there = there;
       pool_is = c.free.ensures.pool;
       objects = loses-block gone k now c.free.ensures.kept c.free.ensures.gone;
+      blocks = c.free.ensures.blocks;
       state = ap (λ (o : Option Allocation). record { pools = set f.pools.items p (Some now); allocations = set f.allocations.items i o }) c.take.ensures.after;
     })))
