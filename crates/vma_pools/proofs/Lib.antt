@@ -17,3 +17,5 @@ pub mod CallLemmas
 pub mod BacksLemmas
 pub mod ReleaseLemmas
 mod MovingLemmas
+pub mod SettledLemmas
+pub mod SettledBacks

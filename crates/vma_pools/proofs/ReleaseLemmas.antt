@@ -68,6 +68,105 @@ module _ (s t : PoolsState) (m after : MemoryState) (backs : Backs s m) (was : O
     apart = λ x z n a b. each x z (backs.apart (was x) (was z) n (from x n a).0 (from z n b).0);
   }
 
+-- ---- a range was given back
+
+-- a place of a pool was given back, and each allocation that stays is as it was
+module _ (s : PoolsState) (m : MemoryState) (backs : Backs s m) (p : ℕ) (old now : Kept) (there : pool_at s p ≡ Some old) (info : now.pool.info ≡ old.pool.info)
+    (allocations : List (Option Allocation)) (was : (j : ℕ) (b : Allocation) → slice_index_or allocations j None ≡ Some b → allocation_at s j ≡ Some b) where
+  abbrev left : PoolsState
+  left = record { pools = set s.pools p (Some now); allocations = allocations }
+
+  left-here : (q : ℕ) (k : Kept) → q ≡ p → pool_at left q ≡ Some k → now ≡ k
+  left-here q k is at = some-is now k (sym (at-set s.pools p (Some now) (at-below s.pools p old there)) ∙ ap (λ (n : ℕ). pool_at left n) (sym is) ∙ at)
+
+  left-other : (q : ℕ) → (q ≡ p → ⊥) → pool_at left q ≡ pool_at s q
+  left-other q other = at-other s.pools p q (Some now) other
+
+  left-block : (q : ℕ) (k : Kept) → pool_at left q ≡ Some k → (l : Kept) × (pool_at s q ≡ Some l) × (k.pool.info ≡ l.pool.info)
+  left-block q k at = elim (cases_eq q p) [
+    | inl is ↦ (old, ap (λ (n : ℕ). pool_at s n) is ∙ there, ap (λ (k : Kept). k.pool.info) (sym (left-here q k is at)) ∙ info)
+    | inr other ↦ (k, sym (left-other q other) ∙ at, refl)
+  ]
+
+  module _ (same : now.memories ≡ old.memories) where
+    same-from : (x : Owner) (k : ℕ) → Has left x k → Has s x k × (object_at m k ≡ object_at m k)
+    same-from (Alone j) k has = ((has.0, was j has.0 has.1, has.2), refl)
+    same-from (BlockOf q j) k has = elim (cases_eq q p) [
+      | inl is ↦ (let ms = ap (λ (k : Kept). k.memories) (sym (left-here q has.0 is has.1)) ∙ same in
+          ((old, ap (λ (n : ℕ). pool_at s n) is ∙ there, subst (λ (l : List ℕ). j < length l) ms has.2, subst (λ (l : List ℕ). get_or l j 0 ≡ k) ms has.3), refl))
+      | inr other ↦ ((has.0, sym (left-other q other) ∙ has.1, has.2, has.3), refl)
+    ]
+
+    pub same-left-backs : Backs left m
+    same-left-backs = kept-backs s left m m backs (λ x. x) (λ x z e. e) (λ j b at. (was j b at, refl)) left-block same-from (λ p j. (j, refl))
+
+  module _ (n : ℕ) (loses : Loses old.memories now.memories n) where
+    abbrev index-was : ℕ → ℕ → ℕ
+    index-was q j = if q == p then skip loses.index j else j
+
+    was-owner : Owner → Owner
+    was-owner (Alone j) = Alone j
+    was-owner (BlockOf q j) = BlockOf q (index-was q j)
+
+    block-is : (q j r k : ℕ) → BlockOf q j ≡ BlockOf r k → (q ≡ r) × (j ≡ k)
+    block-is q j r k e = (ap pool-of e, ap index-of e)
+      where
+        pool-of : Owner → ℕ
+        pool-of (Alone l) = 0
+        pool-of (BlockOf l x) = l
+
+        index-of : Owner → ℕ
+        index-of (Alone l) = 0
+        index-of (BlockOf l x) = x
+
+    index-same : (q j k : ℕ) → index-was q j ≡ index-was q k → j ≡ k
+    index-same q j k e = go (q == p) e
+      where
+        go : (v : Bool) → (if v then skip loses.index j else j) ≡ (if v then skip loses.index k else k) → j ≡ k
+        go true e = skip-same loses.index j k e
+        go false e = e
+
+    owner-same : (x z : Owner) → was-owner x ≡ was-owner z → x ≡ z
+    unfolding was-owner
+    owner-same (Alone j) (Alone k) e = e
+    owner-same (Alone j) (BlockOf q k) e = absurd cc
+    owner-same (BlockOf q j) (Alone k) e = absurd cc
+    owner-same (BlockOf q j) (BlockOf r k) e =
+        let f = block-is q (index-was q j) r (index-was r k) e in
+        ap (λ (x : ℕ). BlockOf x j) f.0 ∙ ap (λ (x : ℕ). BlockOf r x) (index-same r j k (ap (λ (x : ℕ). index-was x j) (sym f.0) ∙ f.1))
+
+    lost : Has s (BlockOf p loses.index) n
+    lost = (old, there, loses.there, loses.is)
+
+    gone-from : (x : Owner) (k : ℕ) → Has left x k → Has s (was-owner x) k × (object_at (with_object m n None) k ≡ object_at m k)
+    unfolding was-owner
+    gone-from (Alone j) k has =
+        let before : Has s (Alone j) k = (has.0, was j has.0 has.1, has.2) in
+        (before, kept-object m n k (λ e. let f = backs.apart (Alone j) (BlockOf p loses.index) k before (old, there, loses.there, loses.is ∙ sym e) in absurd (let g = f in cc)))
+    gone-from (BlockOf q j) k has = go (q == p) refl
+      where
+        go : (v : Bool) → (q == p) ≡ v → Has s (BlockOf q (if v then skip loses.index j else j)) k × (object_at (with_object m n None) k ≡ object_at m k)
+        go true e =
+            let is = eqb-true q p e in
+            let now-is = left-here q has.0 is has.1 in
+            let index : loses.index + 1 ≡ suc loses.index = omega arith in
+            let ms : has.0.memories ≡ take loses.index old.memories ++ drop (suc loses.index) old.memories =
+            ap (λ (k : Kept). k.memories) (sym now-is) ∙ loses.left ∙ ap (λ (x : ℕ). take loses.index old.memories ++ drop x old.memories) index in
+            let w = was-at old.memories loses.index j loses.there (subst (λ (l : List ℕ). j < length l) ms has.2) in
+            let at : get_or old.memories (skip loses.index j) 0 ≡ k = sym w.1 ∙ ap (λ (l : List ℕ). get_or l j 0) (sym ms) ∙ has.3 in
+            let before : Has s (BlockOf p (skip loses.index j)) k = (old, there, w.0, at) in (
+              subst (λ (x : ℕ). Has s (BlockOf x (skip loses.index j)) k) (sym is) before,
+              kept-object m n k (λ f. skip-not loses.index j (block-is p (skip loses.index j) p loses.index (backs.apart (BlockOf p (skip loses.index j)) (BlockOf p loses.index) k before (old, there, loses.there, loses.is ∙ sym f))).1),
+            )
+        go false e =
+            let other : q ≡ p → ⊥ = λ is. both_ways (q == p) e (eq-eqb q p is) in
+            let before : Has s (BlockOf q j) k = (has.0, sym (left-other q other) ∙ has.1, has.2, has.3) in
+            (before, kept-object m n k (λ f. other (block-is q j p loses.index (backs.apart (BlockOf q j) (BlockOf p loses.index) k before (old, there, loses.there, loses.is ∙ sym f))).0))
+
+    pub gone-left-backs : Backs left (with_object m n None)
+    unfolding was-owner
+    gone-left-backs = kept-backs s left m (with_object m n None) backs was-owner owner-same (λ j b at. (was j b at, refl)) left-block gone-from (λ p j. (index-was p j, refl))
+
 -- ---- an allocation has ended
 
 module _ (s : PoolsState) (m : MemoryState) (backs : Backs s m) (i : ℕ) (a : Allocation) (live : allocation_at s i ≡ Some a) where
@@ -96,105 +195,9 @@ module _ (s : PoolsState) (m : MemoryState) (backs : Backs s m) (i : ℕ) (a : A
     pub alone-ended-backs : Backs alone-ended (with_object m n None)
     alone-ended-backs = kept-backs s alone-ended m (with_object m n None) backs (λ x. x) (λ x z e. e) (λ j b at. (ended-was j b at, refl)) (λ p k at. (k, at, refl)) alone-from (λ p j. (j, refl))
 
-  -- one of a pool
-  module _ (p : ℕ) (old now : Kept) (there : pool_at s p ≡ Some old) (info : now.pool.info ≡ old.pool.info) (place : PoolPlace) (lies : a.home ≡ home.Shared p place) where
-    abbrev left : PoolsState
-    left = record { pools = set s.pools p (Some now); allocations = set s.allocations i None }
-
-    left-here : (q : ℕ) (k : Kept) → q ≡ p → pool_at left q ≡ Some k → now ≡ k
-    left-here q k is at = some-is now k (sym (at-set s.pools p (Some now) (at-below s.pools p old there)) ∙ ap (λ (n : ℕ). pool_at left n) (sym is) ∙ at)
-
-    left-other : (q : ℕ) → (q ≡ p → ⊥) → pool_at left q ≡ pool_at s q
-    left-other q other = at-other s.pools p q (Some now) other
-
-    left-block : (q : ℕ) (k : Kept) → pool_at left q ≡ Some k → (l : Kept) × (pool_at s q ≡ Some l) × (k.pool.info ≡ l.pool.info)
-    left-block q k at = elim (cases_eq q p) [
-      | inl is ↦ (old, ap (λ (n : ℕ). pool_at s n) is ∙ there, ap (λ (k : Kept). k.pool.info) (sym (left-here q k is at)) ∙ info)
-      | inr other ↦ (k, sym (left-other q other) ∙ at, refl)
-    ]
-
-    module _ (same : now.memories ≡ old.memories) where
-      same-from : (x : Owner) (k : ℕ) → Has left x k → Has s x k × (object_at m k ≡ object_at m k)
-      same-from (Alone j) k has = ((has.0, ended-was j has.0 has.1, has.2), refl)
-      same-from (BlockOf q j) k has = elim (cases_eq q p) [
-        | inl is ↦ (let ms = ap (λ (k : Kept). k.memories) (sym (left-here q has.0 is has.1)) ∙ same in
-            ((old, ap (λ (n : ℕ). pool_at s n) is ∙ there, subst (λ (l : List ℕ). j < length l) ms has.2, subst (λ (l : List ℕ). get_or l j 0 ≡ k) ms has.3), refl))
-        | inr other ↦ ((has.0, sym (left-other q other) ∙ has.1, has.2, has.3), refl)
-      ]
-
-      pub same-left-backs : Backs left m
-      same-left-backs = kept-backs s left m m backs (λ x. x) (λ x z e. e) (λ j b at. (ended-was j b at, refl)) left-block same-from (λ p j. (j, refl))
-
-    module _ (n : ℕ) (loses : Loses old.memories now.memories n) where
-      abbrev index-was : ℕ → ℕ → ℕ
-      index-was q j = if q == p then skip loses.index j else j
-
-      was-owner : Owner → Owner
-      was-owner (Alone j) = Alone j
-      was-owner (BlockOf q j) = BlockOf q (index-was q j)
-
-      block-is : (q j r k : ℕ) → BlockOf q j ≡ BlockOf r k → (q ≡ r) × (j ≡ k)
-      block-is q j r k e = (ap pool-of e, ap index-of e)
-        where
-          pool-of : Owner → ℕ
-          pool-of (Alone l) = 0
-          pool-of (BlockOf l x) = l
-
-          index-of : Owner → ℕ
-          index-of (Alone l) = 0
-          index-of (BlockOf l x) = x
-
-      index-same : (q j k : ℕ) → index-was q j ≡ index-was q k → j ≡ k
-      index-same q j k e = go (q == p) e
-        where
-          go : (v : Bool) → (if v then skip loses.index j else j) ≡ (if v then skip loses.index k else k) → j ≡ k
-          go true e = skip-same loses.index j k e
-          go false e = e
-
-      owner-same : (x z : Owner) → was-owner x ≡ was-owner z → x ≡ z
-      unfolding was-owner
-      owner-same (Alone j) (Alone k) e = e
-      owner-same (Alone j) (BlockOf q k) e = absurd cc
-      owner-same (BlockOf q j) (Alone k) e = absurd cc
-      owner-same (BlockOf q j) (BlockOf r k) e =
-          let f = block-is q (index-was q j) r (index-was r k) e in
-          ap (λ (x : ℕ). BlockOf x j) f.0 ∙ ap (λ (x : ℕ). BlockOf r x) (index-same r j k (ap (λ (x : ℕ). index-was x j) (sym f.0) ∙ f.1))
-
-      lost : Has s (BlockOf p loses.index) n
-      lost = (old, there, loses.there, loses.is)
-
-      gone-from : (x : Owner) (k : ℕ) → Has left x k → Has s (was-owner x) k × (object_at (with_object m n None) k ≡ object_at m k)
-      unfolding was-owner
-      gone-from (Alone j) k has =
-          let before : Has s (Alone j) k = (has.0, ended-was j has.0 has.1, has.2) in
-          (before, kept-object m n k (λ e. let f = backs.apart (Alone j) (BlockOf p loses.index) k before (old, there, loses.there, loses.is ∙ sym e) in absurd (let g = f in cc)))
-      gone-from (BlockOf q j) k has = go (q == p) refl
-        where
-          go : (v : Bool) → (q == p) ≡ v → Has s (BlockOf q (if v then skip loses.index j else j)) k × (object_at (with_object m n None) k ≡ object_at m k)
-          go true e =
-              let is = eqb-true q p e in
-              let now-is = left-here q has.0 is has.1 in
-              let index : loses.index + 1 ≡ suc loses.index = omega arith in
-              let ms : has.0.memories ≡ take loses.index old.memories ++ drop (suc loses.index) old.memories =
-              ap (λ (k : Kept). k.memories) (sym now-is) ∙ loses.left ∙ ap (λ (x : ℕ). take loses.index old.memories ++ drop x old.memories) index in
-              let w = was-at old.memories loses.index j loses.there (subst (λ (l : List ℕ). j < length l) ms has.2) in
-              let at : get_or old.memories (skip loses.index j) 0 ≡ k = sym w.1 ∙ ap (λ (l : List ℕ). get_or l j 0) (sym ms) ∙ has.3 in
-              let before : Has s (BlockOf p (skip loses.index j)) k = (old, there, w.0, at) in (
-                subst (λ (x : ℕ). Has s (BlockOf x (skip loses.index j)) k) (sym is) before,
-                kept-object m n k (λ f. skip-not loses.index j (block-is p (skip loses.index j) p loses.index (backs.apart (BlockOf p (skip loses.index j)) (BlockOf p loses.index) k before (old, there, loses.there, loses.is ∙ sym f))).1),
-              )
-          go false e =
-              let other : q ≡ p → ⊥ = λ is. both_ways (q == p) e (eq-eqb q p is) in
-              let before : Has s (BlockOf q j) k = (has.0, sym (left-other q other) ∙ has.1, has.2, has.3) in
-              (before, kept-object m n k (λ f. other (block-is q j p loses.index (backs.apart (BlockOf q j) (BlockOf p loses.index) k before (old, there, loses.there, loses.is ∙ sym f))).0))
-
-      pub gone-left-backs : Backs left (with_object m n None)
-      unfolding was-owner
-      gone-left-backs = kept-backs s left m (with_object m n None) backs was-owner owner-same (λ j b at. (ended-was j b at, refl)) left-block gone-from (λ p j. (index-was p j, refl))
-
   -- what is left backs what is left
   pub ended-backs : (new : PoolsState) (gone : Option ℕ) (l : Home) → a.home ≡ l → IsEnded s new i l gone → Backs new (released m gone)
   ended-backs new which (home.Own n) lies e =
       subst (λ (o : Option ℕ). Backs new (released m o)) (sym e.0) (subst (λ (t : PoolsState). Backs t (with_object m n None)) (sym e.1) (alone-ended-backs n lies))
-  ended-backs new None (home.Shared p place) lies e = subst (λ (t : PoolsState). Backs t m) (sym e.state) (same-left-backs p e.was e.now e.there e.pool_is.info place lies e.objects)
-  ended-backs new (Some n) (home.Shared p place) lies e = subst (λ (t : PoolsState). Backs t (with_object m n None)) (sym e.state) (gone-left-backs p e.was e.now e.there e.pool_is.info place lies n e.objects)
+  ended-backs new None (home.Shared p place) lies e = subst (λ (t : PoolsState). Backs t m) (sym e.state) (same-left-backs s m backs p e.was e.now e.there e.pool_is.info (set s.allocations i None) ended-was e.objects)
+  ended-backs new (Some n) (home.Shared p place) lies e = subst (λ (t : PoolsState). Backs t (with_object m n None)) (sym e.state) (gone-left-backs s m backs p e.was e.now e.there e.pool_is.info (set s.allocations i None) ended-was n e.objects)

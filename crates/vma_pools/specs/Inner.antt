@@ -2,3 +2,4 @@
 pub mod Kinds
 pub mod Walk
 pub mod Lower
+pub mod Settling

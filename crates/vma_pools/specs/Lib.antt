@@ -2,4 +2,5 @@ pub mod Alike
 pub mod Pools
 pub mod Ranges
 pub mod State
+pub mod Moves
 pub mod Inner

@@ -7,6 +7,7 @@ mod lower;
 mod moving;
 mod pool;
 mod pools;
+mod settling;
 
 pub use allocations::{Allocation, Asked, Home};
 pub use pool::PoolPlace;

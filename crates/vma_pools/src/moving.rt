@@ -1,5 +1,6 @@
 ghost use Rattle.std.specs.Prelude.{◌≡◌, IfOk, OnErr, MatchOption};
-ghost use Rattle.vma_pools.specs.State.{IfLive, IsMovable, HasNoLower, IsReserved};
+ghost use Rattle.vk_memory.specs.MemoryState.{MemoryState};
+ghost use Rattle.vma_pools.specs.State.{Backs, IfLive, IsMovable, HasNoLower, IsReserved};
 
 use crate::allocations::{Allocation, Home};
 use crate::pool::PoolPlace;
@@ -15,6 +16,8 @@ impl<B: PoolBlock> PoolsOf<B> {
         requires { IfLive self.old allocation (λ a. IsMovable self.old a.home a.target) }
         ensures ok { IfOk result (λ o. MatchOption o (HasNoLower self.old allocation × (self.new ≡ self.old)) (λ target. IsReserved self.old self.new allocation target)) }
         ensures err { OnErr result (self.new ≡ self.old) }
+        // The memory objects stay as they are, and so does what they are.
+        ensures backs { (m : MemoryState) → Backs self.old m → Backs self.new m }
     {
         let Some(live) = self.allocations[allocation as usize] else {
             unreachable!()
