@@ -17,5 +17,6 @@ pub mod CallLemmas
 pub mod BacksLemmas
 pub mod ReleaseLemmas
 mod MovingLemmas
+pub mod CountLemmas
 pub mod SettledLemmas
 pub mod SettledBacks

@@ -21,7 +21,7 @@ use Rattle.vma_pools.specs.Ranges.{HasRange}
 -- ---- one block
 
 -- what is taken is what was, and the new range
-given-permuted : (k : Block) (r : Request) (upper : Bool) (start : ℕ) → IsSoundBlock k → BlockGives k r upper start → IsPermutation (block_taken (block_with k r upper start)) (taken_at start r ∷ block_taken k)
+pub given-permuted : (k : Block) (r : Request) (upper : Bool) (start : ℕ) → IsSoundBlock k → BlockGives k r upper start → IsPermutation (block_taken (block_with k r upper start)) (taken_at start r ∷ block_taken k)
 given-permuted (General size taken) r upper start sound gives = IsPermutation-refl (taken_at start r ∷ taken)
 given-permuted (Stack b) r true start sound gives = ((linear_takes.upper b r sound).taken start gives).added
 given-permuted (Stack b) r false start sound gives = ((linear_takes.lower b r sound).taken start gives).added
@@ -103,11 +103,11 @@ module _ (blocks : List PoolBlock) (rising : AllPairs (λ b c. b.number < c.numb
 -- ---- a pool that gives a request a place
 
 -- the place is in a new block, or in one that the pool has
-data Place (p : Pool) (r : Request) (upper : Bool) (s : BlockStart) : Type 0 where
+pub data Place (p : Pool) (r : Request) (upper : Bool) (s : BlockStart) : Type 0 where
   NewBlock : s.block ≡ p.next → BlockGives (new_block p.info) r upper s.start → Place p r upper s
   OldBlock : (b : PoolBlock) → Contains p.blocks b → b.number ≡ s.block → BlockGives b.block r upper s.start → Place p r upper s
 
-given-place : (p : Pool) (r : Request) (upper : Bool) (s : BlockStart) → Gives p r upper s → Place p r upper s
+pub given-place : (p : Pool) (r : Request) (upper : Bool) (s : BlockStart) → Gives p r upper s → Place p r upper s
 given-place p r upper s gives = go p.blocks (λ b c. c) gives
   where
     go : (bs : List PoolBlock) → ((b : PoolBlock) → Contains bs b → Contains p.blocks b) → GivesFrom p.info p.next bs r upper s → Place p r upper s
@@ -116,32 +116,32 @@ given-place p r upper s gives = go p.blocks (λ b c. c) gives
     go (b ∷ bs) sub (inr later) = go bs (λ c at. sub c (contains-tail b bs c at)) later.1
 
 module _ (p : Pool) (h : IsPool p) (r : Request) (some : 0 < r.size) (upper : Bool) (s : BlockStart) (gives : Gives p r upper s) where
-  abbrev t : Taken
+  abbrev pub t : Taken
   t = taken_at s.start r
 
-  abbrev change : Block → Block
+  abbrev pub change : Block → Block
   change k = block_with k r upper s.start
 
-  abbrev fresh : PoolBlock
+  abbrev pub fresh : PoolBlock
   fresh = record { number = p.next; block = change (new_block p.info) }
 
-  new-is : s.block ≡ p.next → pool_with p r upper s ≡ record p { blocks = p.blocks ++ fresh ∷ []; next = p.next + 1 }
+  pub new-is : s.block ≡ p.next → pool_with p r upper s ≡ record p { blocks = p.blocks ++ fresh ∷ []; next = p.next + 1 }
   new-is same = ap (λ (v : Bool). if v then record p { blocks = p.blocks ++ fresh ∷ []; next = p.next + 1 } else record p { blocks = in_block change s.block p.blocks }) (eq-eqb s.block p.next same)
 
-  old-is : (s.block ≡ p.next → ⊥) → pool_with p r upper s ≡ record p { blocks = in_block change s.block p.blocks }
+  pub old-is : (s.block ≡ p.next → ⊥) → pool_with p r upper s ≡ record p { blocks = in_block change s.block p.blocks }
   old-is other = ap (λ (v : Bool). if v then record p { blocks = p.blocks ++ fresh ∷ []; next = p.next + 1 } else record p { blocks = in_block change s.block p.blocks }) (ne_eqb s.block p.next other)
 
-  old-number : (b : PoolBlock) → Contains p.blocks b → b.number ≡ s.block → s.block ≡ p.next → ⊥
+  pub old-number : (b : PoolBlock) → Contains p.blocks b → b.number ≡ s.block → s.block ≡ p.next → ⊥
   old-number b at same new = omega (arith, all-in (λ b. b.number < p.next) p.blocks b h.before_next at, same, new)
 
-  none-new : (k : Block) → k ≡ new_block p.info → block_taken k ≡ []
+  pub none-new : (k : Block) → k ≡ new_block p.info → block_taken k ≡ []
   none-new k e = ap block_taken e ∙ empty p.info.kind
     where
       empty : (a : PoolKind) → block_taken (empty_block a p.info) ≡ []
       empty algorithm.Tlsf = refl
       empty algorithm.Linear = refl
 
-  new-sound : IsSoundBlock (new_block p.info)
+  pub new-sound : IsSoundBlock (new_block p.info)
   new-sound = empty p.info.kind
     where
       empty : (a : PoolKind) → IsSoundBlock (empty_block a p.info)

@@ -62,7 +62,7 @@ alike-largest_in bs cs largest h is =
     Most : Numbered → Type 0
     Most b = (start n : ℕ) → IsTrue (is_free b.size b.taken start n) → n ≤ largest
 
-sums-alike : (f : Numbered → ℕ) → ((b c : PoolBlock) → IsAlikeBlock b c → f (ranges_of c) ≡ f (ranges_of b)) → (bs cs : List PoolBlock) → AreAlike bs cs
+pub sums-alike : (f : Numbered → ℕ) → ((b c : PoolBlock) → IsAlikeBlock b c → f (ranges_of c) ≡ f (ranges_of b)) → (bs cs : List PoolBlock) → AreAlike bs cs
     → sum_by f (numbered_blocks cs) ≡ sum_by f (numbered_blocks bs)
 sums-alike f same [] [] h = refl
 sums-alike f same (b ∷ bs) (c ∷ cs) h =

@@ -131,7 +131,7 @@ takes-gives old now before after r upper s (inl t) = (t.0.given, t.0.pool)
 takes-gives old now before after r upper s (inr t) = (t.given, t.pool)
 
 -- two ranges of some bytes that start at one place meet
-start-meets : (start n m : ℕ) → 0 < n → 0 < m → ranges_meet start n start m ≡ true
+pub start-meets : (start n m : ℕ) → 0 < n → 0 < m → ranges_meet start n start m ≡ true
 start-meets start n m some few =
     and_from (nat_lt 0 n && nat_lt 0 m && nat_lt start (start + m)) (nat_lt start (start + n))
     (and_from (nat_lt 0 n && nat_lt 0 m) (nat_lt start (start + m)) (and_from (nat_lt 0 n) (nat_lt 0 m) (lt-ltb 0 n some) (lt-ltb 0 m few)) (lt-ltb start (start + m) (omega (arith, few))))

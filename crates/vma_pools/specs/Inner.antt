@@ -3,3 +3,4 @@ pub mod Kinds
 pub mod Walk
 pub mod Lower
 pub mod Settling
+pub mod Counts
