@@ -18,5 +18,6 @@ pub mod BacksLemmas
 pub mod ReleaseLemmas
 mod MovingLemmas
 pub mod CountLemmas
+pub mod CountedLemmas
 pub mod SettledLemmas
 pub mod SettledBacks

@@ -3,6 +3,8 @@
 
 mod allocations;
 mod blocks;
+mod counted;
+mod listing;
 mod lower;
 mod moving;
 mod pool;

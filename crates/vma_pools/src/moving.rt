@@ -25,11 +25,10 @@ impl<B: PoolBlock> PoolsOf<B> {
         let Home::Shared { pool, place } = live.home else {
             unreachable!()
         };
-        let asked = live.asked;
         let Some(kept) = &mut self.pools[pool as usize] else {
             unreachable!()
         };
-        let Some(target) = kept.take_lower(place, asked.size, asked.align, asked.kind)? else {
+        let Some(target) = kept.take_lower(place, live.asked)? else {
             return Ok(None);
         };
         self.allocations[allocation as usize] = Some(Allocation {

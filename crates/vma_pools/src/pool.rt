@@ -47,6 +47,8 @@ impl<B: PoolBlock> Model for PoolOf<B> {
 }
 
 impl<B: PoolBlock> PoolOf<B> {
+    ghost use Rattle.vma_pools.specs.Inner.Kinds.{IsKeptPool};
+
     /// A pool without blocks.
     pub(crate) fn new(alloc: Global, info: PoolInfo) -> PoolOf<B>
         requires { IsPoolInfo info }
@@ -64,6 +66,13 @@ impl<B: PoolBlock> PoolOf<B> {
         ensures { result ≡ self.now.pool.info }
     {
         self.info
+    }
+
+    /// What always holds of a pool that is kept.
+    pub(crate) fn is_kept(&self)
+        ensures { IsKeptPool self.now.pool }
+    {
+        let _blocks = &self.blocks;
     }
 
     /// Takes a range of the first block that holds the request.

@@ -7,7 +7,7 @@ ghost use Rattle.vk_model.specs.Memory.Suballocation.{IsRequest};
 ghost use Rattle.vk_model.specs.Memory.Room.{NoRoomInPool};
 
 use crate::allocations::{Allocation, Asked, Home};
-use crate::pool::PoolOf;
+use crate::counted::CountedPool;
 use std::alloc::{AllocError, Global};
 use std::marker::Model;
 use vk_memory::{MapState, Memories, MemoryError};
@@ -19,7 +19,7 @@ use vma_blocks::PoolBlock;
 #[derive(Drop)]
 pub struct PoolsOf<B: PoolBlock> {
     alloc: Global,
-    pub(crate) pools: Vec<Option<PoolOf<B>>>,
+    pub(crate) pools: Vec<Option<CountedPool<B>>>,
     pub(crate) allocations: Vec<Option<Allocation>>,
 }
 
@@ -56,7 +56,7 @@ impl<B: PoolBlock> PoolsOf<B> {
         ensures err { OnErr result (self.new ≡ self.old) }
     {
         let number = self.pools.len();
-        self.pools.push(Some(PoolOf::new(self.alloc, info)))?;
+        self.pools.push(Some(CountedPool::new(self.alloc, info)))?;
         Ok(number as u64)
     }
 
@@ -130,14 +130,7 @@ impl<B: PoolBlock> PoolsOf<B> {
         let Some(kept) = &mut self.pools[pool as usize] else {
             unreachable!()
         };
-        let place = kept.allocate(
-            self.alloc,
-            memories,
-            asked.size,
-            asked.align,
-            asked.kind,
-            upper,
-        )?;
+        let place = kept.allocate(self.alloc, memories, asked, upper)?;
         self.allocations.push_reserved(Some(Allocation {
             home: Home::Shared { pool, place },
             asked,
@@ -161,7 +154,7 @@ impl<B: PoolBlock> PoolsOf<B> {
         match ended.home {
             Home::Own { memory } => Some(memory),
             Home::Shared { pool, place } => match &mut self.pools[pool as usize] {
-                Some(kept) => kept.free(place),
+                Some(kept) => kept.free(place, ended.asked),
                 None => unreachable!(),
             },
         }

@@ -76,7 +76,7 @@ impl<B: PoolBlock> PoolsOf<B> {
             ..live
         });
         match &mut self.pools[pool as usize] {
-            Some(kept) => kept.free(back),
+            Some(kept) => kept.free(back, live.asked),
             None => unreachable!(),
         }
     }

@@ -1,10 +1,10 @@
 use Rattle.std.proofs.Common.{Option, Some, None, ◌≡◌, ◌∙◌, set, arith, refl, ap, sym, subst}
 use Rattle.vma_pools.specs.declared.allocations.Allocation.{Allocation}
 use Rattle.vma_pools.specs.declared.allocations.Home.{Home}
-use Rattle.vma_pools.specs.State.{PoolsState, ArePools, IfLive, IsEnded, range_at, start_of}
+use Rattle.vma_pools.specs.State.{PoolsState, ArePools, IfLive, IsEnded, start_of}
 use Rattle.vma_pools.proofs.StateLemmas.{freed-fine}
 use Rattle.vma_pools.proofs.EndedLemmas.{live-here, own-ended, shared-ended}
-use Rattle.vma_pools.proofs.CallLemmas.{pool-below, not-none, found-pool, found-range, range-taken, live-and, live-holds, own-places, its-place, no-target, loses-block}
+use Rattle.vma_pools.proofs.CallLemmas.{pool-below, not-none, found-pool, found-range, live-and, live-holds, own-places, its-place, no-target, loses-block}
 use Rattle.vma_pools.proofs.pools.PoolsOf.end.Goals as goal
 
 pub invariant_of-self : goal.invariant_of-self
@@ -32,8 +32,7 @@ free-requires g c =
     let live = live-here s i (λ a. a.target ≡ None) asks c.index_mut.result.now a c.index_mut.ensures.value (sym c.take.ensures.value ∙ c.in-Some.is) in
     let p = c.in-Shared.pool in let place = c.in-Shared.place in let lies = c.in-Shared.is in
     let k = c.in-Some-index_mut.kept in
-    range-taken k.pool place (range_at place.start a.asked) refl
-    (found-range s c.self.invariant i a live p place lies c.index_mut-in-Shared.result.now c.index_mut-in-Shared.ensures.value k c.in-Some-index_mut.is)
+    found-range s c.self.invariant i a live p place lies c.index_mut-in-Shared.result.now c.index_mut-in-Shared.ensures.value k c.in-Some-index_mut.is
 
 pub unreachable-requires-in-None : goal.unreachable-requires-in-None
 unreachable-requires-in-None g c =

@@ -1,10 +1,10 @@
 use Rattle.std.proofs.Common.{Option, Some, None, ◌≡◌, ◌∙◌, set, arith, refl, ap, sym, subst}
-use Rattle.vma_pools.specs.State.{PoolsState, IfLive, range_at, start_of}
+use Rattle.vma_pools.specs.State.{PoolsState, IfLive, start_of}
 use Rattle.vma_pools.specs.Moves.{IsSettled}
 use Rattle.vma_pools.specs.Inner.Settling.{HasPlaces}
 use Rattle.vma_pools.proofs.StateLemmas.{freed-fine}
 use Rattle.vma_pools.proofs.EndedLemmas.{live-here}
-use Rattle.vma_pools.proofs.CallLemmas.{range-taken, live-and, live-holds, loses-block}
+use Rattle.vma_pools.proofs.CallLemmas.{live-and, live-holds, loses-block}
 use Rattle.vma_pools.proofs.SettledLemmas.{held-below, held-there, held-found, held-range, back-held, left-with, settled-pools}
 use Rattle.vma_pools.proofs.pools.PoolsOf.settle.Goals as goal
 
@@ -25,8 +25,7 @@ free-requires g c =
     let live = live-here s i (λ a. HasPlaces a p back stays) asks c.index.result.now a c.index.ensures c.in-Some.is in
     let has = back-held s i a live p back stays (live-holds s i (λ a. HasPlaces a p back stays) asks a live) in
     let k = c.in-Some-index_mut.kept in
-    range-taken k.pool back (range_at back.start a.asked) refl
-    (held-range s c.self.invariant i has.0 p back a.asked has.1 c.index_mut-2.result.now c.index_mut-2.ensures.value k c.in-Some-index_mut.is)
+    held-range s c.self.invariant i has.0 p back a.asked has.1 c.index_mut-2.result.now c.index_mut-2.ensures.value k c.in-Some-index_mut.is
 
 pub unreachable-requires-in-None : goal.unreachable-requires-in-None
 unreachable-requires-in-None g c =
