@@ -16,4 +16,4 @@ pub mod EndedLemmas
 pub mod CallLemmas
 pub mod BacksLemmas
 pub mod ReleaseLemmas
-mod MovingLemmas
+pub mod MovingLemmas

@@ -1,0 +1,15 @@
+mod Keyed
+mod Grown
+mod Heaps
+mod Owning
+mod Pooling
+mod Sharing
+mod Places
+mod Freed
+mod Releasing
+mod Spots
+mod Keeping
+mod SharedCalls
+mod Without
+mod GivenBack
+mod ReleasedCalls
