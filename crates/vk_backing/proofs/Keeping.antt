@@ -121,31 +121,30 @@ object_given m was now after r upper s (inr t) n o at = ap (λ (x : MemoryState)
 
 -- ---- where nothing of pools changes
 
-pub owned_keeps : (b : Backed) (owned : List (ℕ × ℕ)) (i : ℕ) (s : Spot) → LiesIn b i s → LiesIn (record b { owned = owned }) i s
-owned_keeps b owned i s l = record { number = l.number; has = l.has; allocation = l.allocation; live = l.live; pool = l.pool; place = l.place; lies = l.lies; kept = l.kept; there = l.there; memory = l.memory; offset = l.offset; size = l.size }
+pub owned_keeps : (b : Backed) (owned : List (ℕ × ℕ)) (i q : ℕ) (s : Spot) → LiesIn b i q s → LiesIn (record b { owned = owned }) i q s
+owned_keeps b owned i q s l = record { number = l.number; has = l.has; allocation = l.allocation; live = l.live; place = l.place; lies = l.lies; kept = l.kept; there = l.there; memory = l.memory; offset = l.offset; size = l.size }
 
-pub more_keeps : (b : Backed) (new : Option Kept) (numbers : List (ℕ × ℕ)) (i : ℕ) (s : Spot) → LiesIn b i s → LiesIn (record b { pools = record b.pools { pools = b.pools.pools ++ new ∷ [] }; numbers = numbers }) i s
-more_keeps b new numbers i s l = record { number = l.number; has = l.has; allocation = l.allocation; live = l.live; pool = l.pool; place = l.place; lies = l.lies; kept = l.kept; there = at-old b.pools.pools new l.pool l.kept l.there; memory = l.memory; offset = l.offset; size = l.size }
+pub more_keeps : (b : Backed) (new : Option Kept) (numbers : List (ℕ × ℕ)) (i q : ℕ) (s : Spot) → LiesIn b i q s → LiesIn (record b { pools = record b.pools { pools = b.pools.pools ++ new ∷ [] }; numbers = numbers }) i q s
+more_keeps b new numbers i q s l = record { number = l.number; has = l.has; allocation = l.allocation; live = l.live; place = l.place; lies = l.lies; kept = l.kept; there = at-old b.pools.pools new q l.kept l.there; memory = l.memory; offset = l.offset; size = l.size }
 
-pub less_keeps : (b : Backed) (p : ℕ) (k : Kept) → pool_at b.pools p ≡ Some k → k.pool.blocks ≡ [] → (numbers : List (ℕ × ℕ)) (i : ℕ) (s : Spot) → LiesIn b i s → LiesIn (record b { pools = record b.pools { pools = set b.pools.pools p None }; numbers = numbers }) i s
-less_keeps b p k at empty numbers i s l =
-    let away : l.pool ≡ p → ⊥ = λ (is : l.pool ≡ p). (
+pub less_keeps : (b : Backed) (p : ℕ) (k : Kept) → pool_at b.pools p ≡ Some k → k.pool.blocks ≡ [] → (numbers : List (ℕ × ℕ)) (i q : ℕ) (s : Spot) → LiesIn b i q s → LiesIn (record b { pools = record b.pools { pools = set b.pools.pools p None }; numbers = numbers }) i q s
+less_keeps b p k at empty numbers i q s l =
+    let away : q ≡ p → ⊥ = λ (is : q ≡ p). (
     let e = some-is l.kept k (sym l.there ∙ ap (λ (n : ℕ). pool_at b.pools n) is ∙ at) in
     omega (arith, l.memory.there, ap (λ (c : Kept). length c.pool.blocks) e, ap (λ (bs : List PoolBlock). length bs) empty)) in
-    record { number = l.number; has = l.has; allocation = l.allocation; live = l.live; pool = l.pool; place = l.place; lies = l.lies; kept = l.kept; there = at-other b.pools.pools p l.pool None away ∙ l.there; memory = l.memory; offset = l.offset; size = l.size }
+    record { number = l.number; has = l.has; allocation = l.allocation; live = l.live; place = l.place; lies = l.lies; kept = l.kept; there = at-other b.pools.pools p q None away ∙ l.there; memory = l.memory; offset = l.offset; size = l.size }
 
 -- ---- where a pool gives a place
 
 module _ (b : Backed) (m : MemoryState) (h : IsBacked b m) (p : ℕ) (was now : Kept) (there : pool_at b.pools p ≡ Some was) (place : PoolPlace) (asked : Asked) (upper : Bool) (after : MemoryState) (takes : Takes was now m after (request_in asked) upper (start_of place))
     (id : ℕ) (allocations : List (ℕ × ℕ)) (others : (i : ℕ) → (i ≡ id → ⊥) → number_in allocations i ≡ allocation_of b i) where
-  pub share_keeps : (i : ℕ) (s : Spot) → (i ≡ id → ⊥) → LiesIn b i s → LiesIn (sharing b m h p was now there place asked upper after takes allocations) i s
-  share_keeps i s other l = elim (cases_eq l.pool p) [
+  pub share_keeps : (i q : ℕ) (s : Spot) → (i ≡ id → ⊥) → LiesIn b i q s → LiesIn (sharing b m h p was now there place asked upper after takes allocations) i q s
+  share_keeps i q s other l = elim (cases_eq q p) [
     | inl is ↦ (let k = some-is l.kept was (sym l.there ∙ ap (λ (n : ℕ). pool_at b.pools n) is ∙ there) in record {
       number = l.number;
       has = others i other ∙ l.has;
       allocation = l.allocation;
       live = old_allocation b m h p was now there place asked upper after takes l.number l.allocation l.live;
-      pool = l.pool;
       place = l.place;
       lies = l.lies;
       kept = now;
@@ -159,11 +158,10 @@ module _ (b : Backed) (m : MemoryState) (h : IsBacked b m) (p : ℕ) (was now : 
       has = others i other ∙ l.has;
       allocation = l.allocation;
       live = old_allocation b m h p was now there place asked upper after takes l.number l.allocation l.live;
-      pool = l.pool;
       place = l.place;
       lies = l.lies;
       kept = l.kept;
-      there = pool_other b m h p was now there place asked upper after takes l.pool away ∙ l.there;
+      there = pool_other b m h p was now there place asked upper after takes q away ∙ l.there;
       memory = l.memory;
       offset = l.offset;
       size = l.size;
@@ -218,16 +216,15 @@ module _ (b : Backed) (m : MemoryState) (h : IsBacked b m) (a : ℕ) (x : Alloca
 
   module _ (after : IsBacked left (released m gone)) where
     -- whatever lies there then did
-    left_lay : (i : ℕ) (s : Spot) → LiesIn left i s → LiesIn b i s
-    left_lay i s l =
+    left_lay : (i q : ℕ) (s : Spot) → LiesIn left i q s → LiesIn b i q s
+    left_lay i q s l =
         let w = shared_was b m h a x live new p place gone g id its allocations none others i l.number l.has in
-        elim (back_was b m h a x live new p place gone g l.pool l.kept l.there) [
+        elim (back_was b m h a x live new p place gone g q l.kept l.there) [
           | inl here ↦ record {
             number = l.number;
             has = w.0;
             allocation = l.allocation;
             live = sym (back_allocation b m h a x live new p place gone g l.number w.1) ∙ l.live;
-            pool = l.pool;
             place = l.place;
             lies = l.lies;
             kept = g.was;
@@ -241,7 +238,6 @@ module _ (b : Backed) (m : MemoryState) (h : IsBacked b m) (a : ℕ) (x : Alloca
             has = w.0;
             allocation = l.allocation;
             live = sym (back_allocation b m h a x live new p place gone g l.number w.1) ∙ l.live;
-            pool = l.pool;
             place = l.place;
             lies = l.lies;
             kept = l.kept;
@@ -252,7 +248,8 @@ module _ (b : Backed) (m : MemoryState) (h : IsBacked b m) (a : ℕ) (x : Alloca
           }
         ]
 
-    pub back_keeps : (i : ℕ) (s : Spot) → (i ≡ id → ⊥) → LiesIn b i s → LiesIn left i s
-    back_keeps i s other l =
+    pub back_keeps : (i q : ℕ) (s : Spot) → (i ≡ id → ⊥) → LiesIn b i q s → LiesIn left i q s
+    back_keeps i q s other l =
         let t = (are_spots left (released m gone) after).there i l.number (others i other ∙ l.has) in
-        subst (λ (s : Spot). LiesIn left i s) ((are_spots b m h).one i t.0 s (left_lay i t.0 t.1) l) t.1
+        let o = (are_spots b m h).one i t.0 q t.1 s (left_lay i t.0 t.1 t.2) l in
+        subst (λ (s : Spot). LiesIn left i q s) o.1 (subst (λ (n : ℕ). LiesIn left i n t.1) o.0 t.2)

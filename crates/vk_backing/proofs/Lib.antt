@@ -1,15 +1,17 @@
 mod Keyed
-mod Grown
+pub mod Grown
 mod Heaps
-mod Owning
-mod Pooling
+pub mod Owning
+pub mod Pooling
 mod Sharing
 mod Places
-mod Freed
+pub mod Freed
 mod Releasing
-mod Spots
+pub mod Spots
 mod Keeping
+mod Infos
 mod SharedCalls
 mod Without
 mod GivenBack
 mod ReleasedCalls
+pub mod Rewritten

@@ -5,11 +5,12 @@ use Rattle.vk_model.specs.Memory.Allocations.{Allocated, without}
 use Rattle.vma_pools.specs.declared.allocations.Home.{Home}
 use Rattle.vma_pools.specs.State.{PoolsState, ArePools, Backs, IfLive, IsEnded, IsGivenBack, released}
 use Rattle.vma_pools.proofs.CallLemmas.{live-holds}
-use Rattle.vk_backing.specs.Backed.{Backed, number_in, allocation_of, LiesIn, IsBacked, IsShared, IsWhole}
+use Rattle.vk_backing.specs.Backed.{Backed, number_in, allocation_of, info_by, LiesIn, IsBacked, IsShared, IsWhole}
 use Rattle.vk_model.specs.declared.resource.Spot.{Spot}
 use Rattle.vk_backing.specs.Allotted.{allotted, Fulfils}
 use Rattle.vk_backing.proofs.Releasing.{back_released, back_whole}
 use Rattle.vk_backing.proofs.Keeping.{back_keeps}
+use Rattle.vk_backing.proofs.Infos.{back_infos}
 use Rattle.vk_backing.proofs.GivenBack.{back_allotted}
 
 module _ (b : Backed) (m : MemoryState) (h : IsBacked b m) (id a : ℕ) (its : allocation_of b id ≡ Some a) (new : PoolsState) (gone : Option ℕ) (ended : IfLive b.pools a (λ x. IsEnded b.pools new a x.home gone)) (allocations : List (ℕ × ℕ)) (none : number_in allocations id ≡ None) (others : (i : ℕ) → (i ≡ id → ⊥) → number_in allocations i ≡ allocation_of b i) where
@@ -34,7 +35,12 @@ module _ (b : Backed) (m : MemoryState) (h : IsBacked b m) (id a : ℕ) (its : a
       subst (λ (t : PoolsState). Fulfils (allotted (record b { pools = t; allocations = allocations }) (released m gone)) (without id d)) (sym given_back.state)
       (back_allotted b m h a s.allocation s.live new s.pool s.place s.lies gone given_back id its allocations none others s.id s.named d is)
 
-  pub shared_keeps : IsBacked (record b { pools = new; allocations = allocations }) (released m gone) → (i : ℕ) (t : Spot) → (i ≡ id → ⊥) → LiesIn b i t → LiesIn (record b { pools = new; allocations = allocations }) i t
-  shared_keeps after i t other l =
-      subst (λ (x : PoolsState). LiesIn (record b { pools = x; allocations = allocations }) i t) (sym given_back.state)
-      (back_keeps b m h a s.allocation s.live new s.pool s.place gone given_back id its allocations none others (subst (λ (x : PoolsState). IsBacked (record b { pools = x; allocations = allocations }) (released m gone)) given_back.state after) i t other l)
+  pub shared_keeps : IsBacked (record b { pools = new; allocations = allocations }) (released m gone) → (i q : ℕ) (t : Spot) → (i ≡ id → ⊥) → LiesIn b i q t → LiesIn (record b { pools = new; allocations = allocations }) i q t
+  shared_keeps after i q t other l =
+      subst (λ (x : PoolsState). LiesIn (record b { pools = x; allocations = allocations }) i q t) (sym given_back.state)
+      (back_keeps b m h a s.allocation s.live new s.pool s.place gone given_back id its allocations none others (subst (λ (x : PoolsState). IsBacked (record b { pools = x; allocations = allocations }) (released m gone)) given_back.state after) i q t other l)
+
+  pub shared_infos : (i : ℕ) → info_by (record b { pools = new; allocations = allocations }) i ≡ info_by b i
+  shared_infos i =
+      subst (λ (x : PoolsState). info_by (record b { pools = x; allocations = allocations }) i ≡ info_by b i) (sym given_back.state)
+      (back_infos b m h a s.allocation s.live new s.pool s.place gone given_back i)

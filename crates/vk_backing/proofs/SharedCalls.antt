@@ -16,11 +16,12 @@ use Rattle.vma_pools.specs.Pools.{Kept, IsMemoryOf, heaps}
 use Rattle.vma_pools.specs.State.{PoolsState, pool_at, allocation_at, IfKept, IfLive, ArePools, Backs, IsShared, IsSpotOf, request_in, start_of}
 use Rattle.vma_pools.proofs.EndedLemmas.{kept-is, live-is}
 use Rattle.vma_pools.proofs.StateLemmas.{some-is, given-info, takes-gives}
-use Rattle.vk_backing.specs.Backed.{Backed, number_in, object_of, pool_of, allocation_of, LiesIn, IsBacked, IsWhole}
+use Rattle.vk_backing.specs.Backed.{Backed, number_in, object_of, pool_of, allocation_of, info_by, LiesIn, IsBacked, IsWhole}
 use Rattle.vk_backing.specs.Allotted.{allotted, Fulfils}
 use Rattle.vk_backing.specs.Steps.{Asks}
 use Rattle.vk_backing.proofs.Sharing.{share_backed, named_was, share_whole, pool_here, new_allocated, given, given_pools}
-use Rattle.vk_backing.proofs.Spots.{home_pool, spot_object}
+use Rattle.vk_backing.proofs.Spots.{spot_object}
+use Rattle.vk_backing.proofs.Infos.{share_infos}
 use Rattle.vk_backing.proofs.Keeping.{share_keeps, object_given, gives_aligned}
 use Rattle.vk_backing.proofs.Places.{its, finds_none, none_found, gets, share_allotted}
 
@@ -76,25 +77,27 @@ module _ (b : Backed) (m : MemoryState) (h : IsBacked b m) (pool p : ℕ) (named
       its_pool : pool_at new p ≡ Some sh.now
       its_pool = ap (λ (s : PoolsState). pool_at s p) sh.state ∙ pool_here b m h p sh.was sh.now sh.there sh.place asked upper after sh.takes
 
-      pub named_lies : (spot : Spot) → IfLive new a (λ x. IsSpotOf new x.home x.asked spot) → LiesIn shared id spot
+      pub named_lies : (spot : Spot) → IfLive new a (λ x. IsSpotOf new x.home x.asked spot) → LiesIn shared id p spot
       named_lies spot placed =
           let l = live-is new a (λ x. IsSpotOf new x.home x.asked spot) placed in
           let of_it : IsSpotOf new it.home it.asked spot = subst (λ (x : Allocation). IsSpotOf new x.home x.asked spot) (some-is l.0 it (sym l.1 ∙ it_lives)) l.2 in
           let at = kept-holds new p (λ k. IsMemoryOf k sh.place.block spot.memory × (spot.offset ≡ sh.place.start) × (spot.size ≡ asked.size)) of_it sh.now its_pool in
-          record { number = a; has = here; allocation = it; live = it_lives; pool = p; place = sh.place; lies = refl; kept = sh.now; there = its_pool; memory = at.0; offset = at.1; size = at.2 }
+          record { number = a; has = here; allocation = it; live = it_lives; place = sh.place; lies = refl; kept = sh.now; there = its_pool; memory = at.0; offset = at.1; size = at.2 }
 
-      pub named_keeps : (i : ℕ) (s : Spot) → (i ≡ id → ⊥) → LiesIn b i s → LiesIn shared i s
-      named_keeps i s other l =
-          subst (λ (t : PoolsState). LiesIn (record b { pools = t; allocations = allocations }) i s) (sym sh.state)
-          (share_keeps b m h p sh.was sh.now sh.there sh.place asked upper after sh.takes id allocations others i s other l)
+      pub named_keeps : (i q : ℕ) (s : Spot) → (i ≡ id → ⊥) → LiesIn b i q s → LiesIn shared i q s
+      named_keeps i q s other l =
+          subst (λ (t : PoolsState). LiesIn (record b { pools = t; allocations = allocations }) i q s) (sym sh.state)
+          (share_keeps b m h p sh.was sh.now sh.there sh.place asked upper after sh.takes id allocations others i q s other l)
 
-      pub named_kind : (spot : Spot) → LiesIn shared id spot → type_of after spot.memory ≡ sh.was.pool.info.memory_type
+      pub named_infos : (i : ℕ) → info_by shared i ≡ info_by b i
+      named_infos i =
+          subst (λ (t : PoolsState). info_by (record b { pools = t; allocations = allocations }) i ≡ info_by b i) (sym sh.state)
+          (share_infos b m h p sh.was sh.now sh.there sh.place asked upper after sh.takes i)
+
+      pub named_kind : (spot : Spot) → LiesIn shared id p spot → type_of after spot.memory ≡ sh.was.pool.info.memory_type
       named_kind spot l =
-          let a-is = some-is l.number a (sym l.has ∙ here) in
-          let it-is = some-is l.allocation it (sym l.live ∙ ap (λ (n : ℕ). allocation_at new n) a-is ∙ it_lives) in
-          let p-is = home_pool l.pool p l.place sh.place (sym l.lies ∙ ap (λ (x : Allocation). x.home) it-is) in
-          let k-is = some-is l.kept sh.now (sym l.there ∙ ap (λ (n : ℕ). pool_at new n) p-is ∙ its_pool) in
-          (spot_object shared after named_backed id spot l).kind ∙ ap (λ (k : Kept). k.pool.info.memory_type) k-is
+          let k-is = some-is l.kept sh.now (sym l.there ∙ its_pool) in
+          (spot_object shared after named_backed id p spot l).kind ∙ ap (λ (k : Kept). k.pool.info.memory_type) k-is
           ∙ ap (λ (i : PoolInfo). i.memory_type) ((takes-gives sh.was sh.now m after (request_in asked) upper (start_of sh.place) sh.takes).1.info ∙ given-info sh.was.pool (request_in asked) upper (start_of sh.place))
 
       pub named_grows : (n : ℕ) (o : Object) → object_at m n ≡ Some o → object_at after n ≡ Some o

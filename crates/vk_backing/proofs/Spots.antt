@@ -69,44 +69,44 @@ block_index p j q l e = cc
 module _ (b : Backed) (m : MemoryState) (h : IsBacked b m) where
   -- ---- one resource
 
-  module _ (id : ℕ) (s : Spot) (l : LiesIn b id s) where
-    held : IsHeld b.pools l.number false l.pool l.place l.allocation.asked
+  module _ (id p : ℕ) (s : Spot) (l : LiesIn b id p s) where
+    held : IsHeld b.pools l.number false p l.place l.allocation.asked
     held = record { allocation = l.allocation; live = l.live; there = ap shared_place l.lies; asks = refl }
 
     in_block : HasRange l.kept.pool l.place.block (range_at l.place.start l.allocation.asked)
-    in_block = let t = h.pools.taken l.number false l.pool l.place l.allocation.asked held in subst (λ (k : Kept). HasRange k.pool l.place.block (range_at l.place.start l.allocation.asked)) (some-is t.0 l.kept (sym t.1 ∙ l.there)) t.2
+    in_block = let t = h.pools.taken l.number false p l.place l.allocation.asked held in subst (λ (k : Kept). HasRange k.pool l.place.block (range_at l.place.start l.allocation.asked)) (some-is t.0 l.kept (sym t.1 ∙ l.there)) t.2
 
     some_asked : 0 < l.allocation.asked.size
     some_asked = (h.pools.requests l.number l.allocation l.live).some
 
-    has_object : Has b.pools (BlockOf l.pool l.memory.index) s.memory
-    has_object = (l.kept, l.there, omega (arith, l.memory.there, h.matched l.pool l.kept l.there), l.memory.is)
+    has_object : Has b.pools (BlockOf p l.memory.index) s.memory
+    has_object = (l.kept, l.there, omega (arith, l.memory.there, h.matched p l.kept l.there), l.memory.is)
 
     pub spot_object : IsObject m s.memory l.kept.pool.info.memory_type l.kept.pool.info.block_size
-    spot_object = subst (λ (n : ℕ). IsObject m n l.kept.pool.info.memory_type l.kept.pool.info.block_size) l.memory.is (h.backs.blocks l.pool l.kept l.memory.index l.there (omega (arith, l.memory.there, h.matched l.pool l.kept l.there)))
+    spot_object = subst (λ (n : ℕ). IsObject m n l.kept.pool.info.memory_type l.kept.pool.info.block_size) l.memory.is (h.backs.blocks p l.kept l.memory.index l.there (omega (arith, l.memory.there, h.matched p l.kept l.there)))
 
     lives : IsLive m s.memory
-    lives = sized-live m s.memory l.kept.pool.info.block_size spot_object.bytes (h.pools.pools l.pool l.kept l.there).info.some
+    lives = sized-live m s.memory l.kept.pool.info.block_size spot_object.bytes (h.pools.pools p l.kept l.there).info.some
 
     fits_room : s.offset + s.size ≤ length (region_of m s.memory)
     fits_room =
-        let r = range-inside l.kept (h.pools.pools l.pool l.kept l.there) l.place.block (range_at l.place.start l.allocation.asked) in_block in
+        let r = range-inside l.kept (h.pools.pools p l.kept l.there) l.place.block (range_at l.place.start l.allocation.asked) in_block in
         omega (arith, r, spot_object.bytes, l.offset, l.size)
 
   -- ---- where it is
 
-  found : (id a : ℕ) → allocation_of b id ≡ Some a → (s : Spot) × LiesIn b id s
+  found : (id a : ℕ) → allocation_of b id ≡ Some a → (p : ℕ) × (s : Spot) × LiesIn b id p s
   found id a has =
       let x = h.shared id a has in
       let k = its-pool b.pools h.pools a x.allocation x.live x.pool x.place x.lies in
       let at = k.2.there in (
+        x.pool,
         record { memory = get_or k.0.memories at.0 0; offset = x.place.start; size = x.allocation.asked.size },
         record {
           number = a;
           has = has;
           allocation = x.allocation;
           live = x.live;
-          pool = x.pool;
           place = x.place;
           lies = x.lies;
           kept = k.0;
@@ -119,29 +119,29 @@ module _ (b : Backed) (m : MemoryState) (h : IsBacked b m) where
 
   -- ---- two descriptions of one
 
-  only_one : (id : ℕ) (s t : Spot) → LiesIn b id s → LiesIn b id t → s ≡ t
-  only_one id s t x y =
+  only_one : (id p q : ℕ) (s t : Spot) → LiesIn b id p s → LiesIn b id q t → (p ≡ q) × (s ≡ t)
+  only_one id o q s t x y =
       let n = some-is x.number y.number (sym x.has ∙ y.has) in
       let a = some-is x.allocation y.allocation (sym x.live ∙ ap (λ (i : ℕ). allocation_at b.pools i) n ∙ y.live) in
       let l = sym x.lies ∙ ap (λ (c : Allocation). c.home) a ∙ y.lies in
-      let p = home_pool x.pool y.pool x.place y.place l in let at = home_place x.pool y.pool x.place y.place l in
+      let p = home_pool o q x.place y.place l in let at = home_place o q x.place y.place l in
       let k = some-is x.kept y.kept (sym x.there ∙ ap (λ (i : ℕ). pool_at b.pools i) p ∙ y.there) in
       let other : IsMemoryOf x.kept x.place.block t.memory = subst (λ (c : Kept). IsMemoryOf c x.place.block t.memory) (sym k) (subst (λ (c : PoolPlace). IsMemoryOf y.kept c.block t.memory) (sym at) y.memory) in
-      same_spot s t (one_memory x.kept (h.pools.pools x.pool x.kept x.there).pool.rising x.place.block s.memory t.memory x.memory other) (x.offset ∙ ap (λ (c : PoolPlace). c.start) at ∙ sym y.offset) (x.size ∙ ap (λ (c : Allocation). c.asked.size) a ∙ sym y.size)
+      (p, same_spot s t (one_memory x.kept (h.pools.pools o x.kept x.there).pool.rising x.place.block s.memory t.memory x.memory other) (x.offset ∙ ap (λ (c : PoolPlace). c.start) at ∙ sym y.offset) (x.size ∙ ap (λ (c : Allocation). c.asked.size) a ∙ sym y.size))
 
   -- ---- two of them
 
-  apart : (i j : ℕ) (s t : Spot) → LiesIn b i s → LiesIn b j t → (i ≡ j → ⊥) → s.memory ≡ t.memory → (s.offset + s.size ≤ t.offset) ⊎ (t.offset + t.size ≤ s.offset)
-  apart i j s t x y differ same =
-      let owner = h.backs.apart (BlockOf x.pool x.memory.index) (BlockOf y.pool y.memory.index) s.memory (has_object i s x) (subst (λ (n : ℕ). Has b.pools (BlockOf y.pool y.memory.index) n) (sym same) (has_object j t y)) in
-      let p = block_pool x.pool x.memory.index y.pool y.memory.index owner in let k = block_index x.pool x.memory.index y.pool y.memory.index owner in
+  apart : (i j o q : ℕ) (s t : Spot) → LiesIn b i o s → LiesIn b j q t → (i ≡ j → ⊥) → s.memory ≡ t.memory → (s.offset + s.size ≤ t.offset) ⊎ (t.offset + t.size ≤ s.offset)
+  apart i j o q s t x y differ same =
+      let owner = h.backs.apart (BlockOf o x.memory.index) (BlockOf q y.memory.index) s.memory (has_object i o s x) (subst (λ (n : ℕ). Has b.pools (BlockOf q y.memory.index) n) (sym same) (has_object j q t y)) in
+      let p = block_pool o x.memory.index q y.memory.index owner in let k = block_index o x.memory.index q y.memory.index owner in
       let kept = some-is x.kept y.kept (sym x.there ∙ ap (λ (i : ℕ). pool_at b.pools i) p ∙ y.there) in
       let block : x.place.block ≡ y.place.block =
       sym (x.memory.numbered no_block) ∙ ap (λ (c : Kept). (get_or c.pool.blocks x.memory.index no_block).number) kept ∙ ap (λ (i : ℕ). (get_or y.kept.pool.blocks i no_block).number) k ∙ y.memory.numbered no_block in
-      let there = subst (λ (n : ℕ). IsHeld b.pools y.number false n y.place y.allocation.asked) (sym p) (held j t y) in
-      let clear = places-apart b.pools h.pools x.number y.number false false x.pool x.place y.place x.allocation.asked y.allocation.asked (held i s x) there block
+      let there = subst (λ (n : ℕ). IsHeld b.pools y.number false n y.place y.allocation.asked) (sym p) (held j q t y) in
+      let clear = places-apart b.pools h.pools x.number y.number false false o x.place y.place x.allocation.asked y.allocation.asked (held i o s x) there block
       (λ e. differ (h.one i j x.number x.has (y.has ∙ ap (λ (n : ℕ). Some n) (sym e.0)))) in
-      let sides = beside x.place.start x.allocation.asked.size y.place.start y.allocation.asked.size (some_asked i s x) (some_asked j t y) (or_parts (ranges_meet x.place.start x.allocation.asked.size y.place.start y.allocation.asked.size) _ clear).0 in
+      let sides = beside x.place.start x.allocation.asked.size y.place.start y.allocation.asked.size (some_asked i o s x) (some_asked j q t y) (or_parts (ranges_meet x.place.start x.allocation.asked.size y.place.start y.allocation.asked.size) _ clear).0 in
       elim sides [ inl low ↦ inl (omega (arith, low, x.offset, x.size, y.offset)) | inr high ↦ inr (omega (arith, high, y.offset, y.size, x.offset)) ]
 
   pub are_spots : AreSpots b m
@@ -149,8 +149,8 @@ module _ (b : Backed) (m : MemoryState) (h : IsBacked b m) where
     there = found;
     one = only_one;
     live = lives;
-    some = λ i s l. let r = some_asked i s l in omega (arith, r, l.size);
+    some = λ i p s l. let r = some_asked i p s l in omega (arith, r, l.size);
     room = fits_room;
-    unowned = λ i j s l has. h.apart j s.memory (BlockOf l.pool l.memory.index) has (has_object i s l);
+    unowned = λ i p j s l has. h.apart j s.memory (BlockOf p l.memory.index) has (has_object i p s l);
     apart = apart;
   }

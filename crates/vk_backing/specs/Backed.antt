@@ -1,11 +1,12 @@
 -- What backs ids with memory: memory objects of their own, pools, and allocations in pools.
 use Rattle.std.specs.Prelude.{◌≡◌, ℕ, List, length, Option, Some, None}
-use Rattle.std.specs.Option.{option_and_then}
+use Rattle.std.specs.Option.{option_and_then, option_map}
 use Rattle.std.specs.Ordering.{nat_cmp}
 use Rattle.std.specs.Map.{lookup}
 use Rattle.std.specs.BTreeMap.{is_at}
 use Rattle.vk_memory.specs.declared.memories.Object.{Object}
 use Rattle.vk_memory.specs.MemoryState.{MemoryState, IsLive, object_at}
+use Rattle.vk_model.specs.declared.resource.PoolInfo.{PoolInfo}
 use Rattle.vk_model.specs.declared.resource.Spot.{Spot}
 use Rattle.vma_pools.specs.declared.pool.PoolPlace.{PoolPlace}
 use Rattle.vma_pools.specs.declared.allocations.Allocation.{Allocation}
@@ -40,17 +41,20 @@ allocation_of b id = number_in b.allocations id
 abbrev pub pool_by : Backed → ℕ → Option Kept
 pool_by b id = option_and_then (pool_at b.pools) (pool_of b id)
 
+-- What the pool of an id was made with.
+abbrev pub info_by : Backed → ℕ → Option PoolInfo
+info_by b id = option_map (λ k. k.pool.info) (pool_by b id)
+
 -- The allocation of a resource in a pool.
 abbrev pub allocation_by : Backed → ℕ → Option Allocation
 allocation_by b id = option_and_then (allocation_at b.pools) (allocation_of b id)
 
--- A resource lies in a pool: here, in the memory object of a block (Vulkan, "Resource Memory Association"; VMA, "Custom memory pools").
-pub record LiesIn (b : Backed) (id : ℕ) (spot : Spot) : Type 0 where
+-- A resource lies in the pool of a number: here, in the memory object of a block (Vulkan, "Resource Memory Association"; VMA, "Custom memory pools").
+pub record LiesIn (b : Backed) (id pool : ℕ) (spot : Spot) : Type 0 where
   pub number : ℕ
   pub has : allocation_of b id ≡ Some number
   pub allocation : Allocation
   pub live : allocation_at b.pools number ≡ Some allocation
-  pub pool : ℕ
   pub place : PoolPlace
   pub lies : allocation.home ≡ home.Shared pool place
   pub kept : Kept

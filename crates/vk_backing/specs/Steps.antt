@@ -15,8 +15,8 @@ use Rattle.vma_pools.specs.declared.allocations.Allocation.{Allocation}
 use Rattle.vma_pools.specs.Pools.{Kept}
 use Rattle.vma_pools.specs.State as pools
 use Rattle.vma_pools.specs.State.{PoolsState, IfLive, IsEnded, released}
-use Rattle.vk_backing.specs.Backed.{Backed, object_of, pool_of, allocation_of, allocation_by, LiesIn}
-use Rattle.vk_backing.specs.Spots.{KeepsSpots}
+use Rattle.vk_backing.specs.Backed.{Backed, object_of, pool_of, allocation_of, info_by, allocation_by, LiesIn}
+use Rattle.vk_backing.specs.Spots.{KeepsSpots, KeepsInfos, KeepsAllInfos}
 use Rattle.vk_backing.specs.Allotted.{Allotted, Fulfils}
 
 -- ---- memory objects of ids
@@ -46,7 +46,9 @@ pub record MakesPool (old new : Backed) (id : ℕ) (info : PoolInfo) : Type 0 wh
   pub others : (i : ℕ) → (i ≡ id → ⊥) → pool_of new i ≡ pool_of old i
   pub owned : new.owned ≡ old.owned
   pub allocations : new.allocations ≡ old.allocations
-  pub keeps : (i : ℕ) (s : Spot) → LiesIn old i s → LiesIn new i s
+  pub keeps : (i p : ℕ) (s : Spot) → LiesIn old i p s → LiesIn new i p s
+  pub made_with : info_by new id ≡ Some info
+  pub infos : KeepsInfos old new id
 
 -- The pool of an id has ended, which had no blocks, and nothing else has changed (VMA, "Custom memory pools").
 pub record DropsPool (old new : Backed) (id : ℕ) : Type 0 where
@@ -60,7 +62,9 @@ pub record DropsPool (old new : Backed) (id : ℕ) : Type 0 where
   pub others : (i : ℕ) → (i ≡ id → ⊥) → pool_of new i ≡ pool_of old i
   pub owned : new.owned ≡ old.owned
   pub allocations : new.allocations ≡ old.allocations
-  pub keeps : (i : ℕ) (s : Spot) → LiesIn old i s → LiesIn new i s
+  pub keeps : (i p : ℕ) (s : Spot) → LiesIn old i p s → LiesIn new i p s
+  pub no_info : info_by new id ≡ None
+  pub infos : KeepsInfos old new id
 
 -- No resource lies in the pool of an id (Vulkan, "Object Lifetime").
 abbrev pub IsUnused : Backed → ℕ → Type 0
@@ -84,12 +88,13 @@ pub record Shares (old new : Backed) (before after : MemoryState) (id pool : ℕ
   pub owned : new.owned ≡ old.owned
   pub numbers : new.numbers ≡ old.numbers
   pub shared : pools.IsShared old.pools new.pools before after number (asked_on kept.pool.info.memory_type asked) upper allocation
-  pub lies : LiesIn new id spot
+  pub lies : LiesIn new id number spot
   pub size : spot.size ≡ asked.size
   pub kind : type_of after spot.memory ≡ kept.pool.info.memory_type
   pub aligned : kept.pool.info.memory_type ≡ 2 → spot.offset % 64 ≡ 0
   pub grows : (n : ℕ) (o : Object) → object_at before n ≡ Some o → object_at after n ≡ Some o
   pub keeps : KeepsSpots old new id
+  pub infos : KeepsAllInfos old new
 
 -- A resource has got a place, and this is where it lies; or nothing has changed.
 abbrev pub SharesOr : Option Spot → Backed → Backed → MemoryState → MemoryState → ℕ → ℕ → Asked → Bool → Type 0
@@ -113,6 +118,7 @@ pub record Releases (old new : Backed) (before after : MemoryState) (id : ℕ) (
   pub allocations : (i : ℕ) → (i ≡ id → ⊥) → allocation_of new i ≡ allocation_of old i
   pub numbers : new.numbers ≡ old.numbers
   pub keeps : KeepsSpots old new id
+  pub infos : KeepsAllInfos old new
   pub ends : EndsIn (object_of old id) (allocation_of old id) old.pools new.pools gone
 
 -- ---- what is allocated then

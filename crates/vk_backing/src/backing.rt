@@ -105,6 +105,7 @@ impl Backing {
     pub fn pool(&mut self, id: u32, info: PoolInfo) -> Result<(), AllocError>
         requires info { IsPoolInfo info }
         requires absent { pool_of self.old id ≡ None }
+        requires backed { (m : MemoryState) × IsBacked self.old m }
         ensures backed { (m : MemoryState) → IsBacked self.old m → IsBacked self.new m }
         ensures makes { OnOk result (MakesPool self.old self.new id info) }
         ensures whole { OnOk result (IsWhole self.old → IsWhole self.new) }

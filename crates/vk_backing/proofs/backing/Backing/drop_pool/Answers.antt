@@ -1,12 +1,13 @@
-use Rattle.std.proofs.Common.{not, ◌==◌, sym, subst, refl}
+use Rattle.std.proofs.Common.{None, ◌≡◌, not, ◌==◌, sym, subst, refl}
 use Rattle.std.specs.List.{filter}
 use Rattle.vma_pools.specs.State.{PoolsState, ArePools, pool_at}
-use Rattle.vk_backing.specs.Backed.{Backed, LiesIn, IsBacked, IsWhole}
+use Rattle.vk_backing.specs.Backed.{Backed, info_by, LiesIn, IsBacked, IsWhole}
 use Rattle.vk_backing.specs.Allotted.{allotted, Fulfils}
 use Rattle.vk_backing.specs.Steps.{IsUnused, DropsPool}
 use Rattle.vk_backing.proofs.Grown.{other_id, there_some}
 use Rattle.vk_backing.proofs.Pooling.{drop_backed, drop_allotted, unused_held, unused_empty}
 use Rattle.vk_backing.proofs.Keeping.{less_keeps}
+use Rattle.vk_backing.proofs.Infos.{less_info, less_infos}
 use Rattle.vk_backing.proofs.backing.Backing.drop_pool.Goals as goal
 
 pub drop_pool-requires-clause-live : goal.drop_pool-requires-clause-live
@@ -59,7 +60,9 @@ returns-in-Some-clause-drops c =
       others = λ i other. updates.2 i (other_id id i other);
       owned = refl;
       allocations = refl;
-      keeps = λ i s l. subst (λ (x : PoolsState). LiesIn (record b { pools = x; numbers = c.remove.new.self.entries }) i s) (sym c.drop_pool.ensures) (less_keeps b p k.0 k.1 empty c.remove.new.self.entries i s l);
+      keeps = λ i q s l. subst (λ (x : PoolsState). LiesIn (record b { pools = x; numbers = c.remove.new.self.entries }) i q s) (sym c.drop_pool.ensures) (less_keeps b p k.0 k.1 empty c.remove.new.self.entries i q s l);
+      no_info = subst (λ (x : PoolsState). info_by (record b { pools = x; numbers = c.remove.new.self.entries }) id ≡ None) (sym c.drop_pool.ensures) (less_info b m h id p (sym c.in-Some.ensures.value) c.remove.new.self.entries updates.1 (λ i other. updates.2 i (other_id id i other)));
+      infos = λ i other. subst (λ (x : PoolsState). info_by (record b { pools = x; numbers = c.remove.new.self.entries }) i ≡ info_by b i) (sym c.drop_pool.ensures) (less_infos b m h id p (sym c.in-Some.ensures.value) c.remove.new.self.entries updates.1 (λ i other. updates.2 i (other_id id i other)) i other);
     })
 
 pub returns-in-Some-clause-allots : goal.returns-in-Some-clause-allots

@@ -60,7 +60,7 @@ returns-clause-owns c =
         pools = refl;
         numbers = refl;
         allocations = refl;
-        keeps = λ i s other l. owned_keeps b c.insert.new.self.entries i s l;
+        keeps = λ i q s other l. owned_keeps b c.insert.new.self.entries i q s l;
       },
       c.in-Ok.ensures.room refl,
     )

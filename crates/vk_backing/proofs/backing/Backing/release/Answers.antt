@@ -9,7 +9,7 @@ use Rattle.vk_backing.specs.Steps.{Releases, EndsIn}
 use Rattle.vk_backing.proofs.Grown.{other_id}
 use Rattle.vk_backing.proofs.Releasing.{own_released, unshared}
 use Rattle.vk_backing.proofs.Without.{nothing_allotted, freed_allotted}
-use Rattle.vk_backing.proofs.ReleasedCalls.{shared_released, shared_whole, shared_allotted, shared_keeps}
+use Rattle.vk_backing.proofs.ReleasedCalls.{shared_released, shared_whole, shared_allotted, shared_keeps, shared_infos}
 use Rattle.vk_backing.proofs.Keeping.{owned_keeps}
 use Rattle.vk_backing.proofs.backing.Backing.release.Goals as goal
 
@@ -42,7 +42,8 @@ returns-in-Some-clause-releases c =
       no_allocation = unshared b m h c.args.id c.in-Some.object (sym c.in-Some.ensures.value) (allocation_of b c.args.id) refl;
       allocations = λ i other. refl;
       numbers = refl;
-      keeps = λ i s other l. owned_keeps b c.remove.new.self.entries i s l;
+      keeps = λ i q s other l. owned_keeps b c.remove.new.self.entries i q s l;
+      infos = λ i. refl;
       ends = subst (λ (o : Option ℕ). EndsIn o (allocation_of b c.args.id) b.pools b.pools (Some c.in-Some.object)) c.in-Some.ensures.value (refl, refl);
     })
 
@@ -119,7 +120,8 @@ returns-clause-releases c =
       no_allocation = updates.1;
       allocations = λ i other. updates.2 i (other_id c.args.id i other);
       numbers = refl;
-      keeps = λ i s other l. owned_keeps (record b { pools = c.free-gone.new.self; allocations = c.remove-2.new.self.entries }) c.remove.new.self.entries i s (shared_keeps b m h c.args.id c.in_ok-allocation.allocation (sym c.in_ok-allocation.ensures.value) c.free-gone.new.self c.free-gone.result c.free-gone.ensures.ended c.remove-2.new.self.entries updates.1 (λ i other. updates.2 i (other_id c.args.id i other)) after i s other l);
+      keeps = λ i q s other l. owned_keeps (record b { pools = c.free-gone.new.self; allocations = c.remove-2.new.self.entries }) c.remove.new.self.entries i q s (shared_keeps b m h c.args.id c.in_ok-allocation.allocation (sym c.in_ok-allocation.ensures.value) c.free-gone.new.self c.free-gone.result c.free-gone.ensures.ended c.remove-2.new.self.entries updates.1 (λ i other. updates.2 i (other_id c.args.id i other)) after i q s other l);
+      infos = λ i. shared_infos b m h c.args.id c.in_ok-allocation.allocation (sym c.in_ok-allocation.ensures.value) c.free-gone.new.self c.free-gone.result c.free-gone.ensures.ended c.remove-2.new.self.entries updates.1 (λ i other. updates.2 i (other_id c.args.id i other)) i;
       ends = subst (λ (o : Option ℕ). EndsIn o (allocation_of b c.args.id) b.pools c.free-gone.new.self c.free-gone.result) c.in_default.ensures.value
           (subst (λ (o : Option ℕ). EndsIn None o b.pools c.free-gone.new.self c.free-gone.result) c.in_ok-allocation.ensures.value c.free-gone.ensures.ended);
     })

@@ -8,7 +8,7 @@ use Rattle.vk_backing.specs.Backed.{Backed, object_of, allocation_of, IsBacked, 
 use Rattle.vk_backing.specs.Allotted.{allotted, Fulfils}
 use Rattle.vk_backing.specs.Steps.{Shares}
 use Rattle.vk_backing.proofs.Grown.{other_id}
-use Rattle.vk_backing.proofs.SharedCalls.{asks_is, kept-holds, none_shared, unnamed_backed, named_backed, named_whole, named_lies, named_allots, named_size, named_kind, named_aligned, named_grows, named_keeps}
+use Rattle.vk_backing.proofs.SharedCalls.{asks_is, kept-holds, none_shared, unnamed_backed, named_backed, named_whole, named_lies, named_allots, named_size, named_kind, named_aligned, named_grows, named_keeps, named_infos}
 use Rattle.vk_backing.proofs.Keeping.{atom_aligned}
 use Rattle.vk_backing.proofs.backing.Backing.share.Goals as goal
 
@@ -91,6 +91,8 @@ returns-clause-shares c =
       grows = named_grows b m h c.args.pool p (sym c.get.ensures.value ∙ sym c.in-Some.ensures) asked c.args.upper c.allocate.new.self c.allocate.new.memories c.in-Ok.allocation sh c.args.id (ap (λ (x : Backed). object_of x c.args.id) c.self.view_is ∙ c.requires.apart)
           c.are_pools.ensures (c.in-Ok.ensures.backs h.backs) (ap (λ (x : Backed). allocation_of x c.args.id) c.self.view_is ∙ c.requires.absent) c.insert.new.self.entries updates.1 (λ i other. updates.2 i (other_id c.args.id i other));
       keeps = named_keeps b m h c.args.pool p (sym c.get.ensures.value ∙ sym c.in-Some.ensures) asked c.args.upper c.allocate.new.self c.allocate.new.memories c.in-Ok.allocation sh c.args.id (ap (λ (x : Backed). object_of x c.args.id) c.self.view_is ∙ c.requires.apart)
+          c.are_pools.ensures (c.in-Ok.ensures.backs h.backs) (ap (λ (x : Backed). allocation_of x c.args.id) c.self.view_is ∙ c.requires.absent) c.insert.new.self.entries updates.1 (λ i other. updates.2 i (other_id c.args.id i other));
+      infos = named_infos b m h c.args.pool p (sym c.get.ensures.value ∙ sym c.in-Some.ensures) asked c.args.upper c.allocate.new.self c.allocate.new.memories c.in-Ok.allocation sh c.args.id (ap (λ (x : Backed). object_of x c.args.id) c.self.view_is ∙ c.requires.apart)
           c.are_pools.ensures (c.in-Ok.ensures.backs h.backs) (ap (λ (x : Backed). allocation_of x c.args.id) c.self.view_is ∙ c.requires.absent) c.insert.new.self.entries updates.1 (λ i other. updates.2 i (other_id c.args.id i other));
     })
 
