@@ -16,7 +16,7 @@ pub mod EndedLemmas
 pub mod CallLemmas
 pub mod BacksLemmas
 pub mod ReleaseLemmas
-mod MovingLemmas
+pub mod MovingLemmas
 pub mod CountLemmas
 pub mod CountedLemmas
 pub mod SettledLemmas

@@ -1,0 +1,127 @@
+use Rattle.std.proofs.Common.{◌≡◌, ℕ, List, sym, subst, refl, Option, Some, None}
+use Rattle.vk_memory.specs.MemoryState.{MemoryState}
+use Rattle.vk_model.specs.Memory.Allocations.{without}
+use Rattle.vma_pools.specs.State.{Backs}
+use Rattle.vma_pools.proofs.CallLemmas.{live-and}
+use Rattle.vk_backing.specs.Backed.{Backed, allocation_of, IsBacked, IsWhole}
+use Rattle.vk_backing.specs.Allotted.{allotted, Fulfils}
+use Rattle.vk_backing.specs.Steps.{Releases, EndsIn}
+use Rattle.vk_backing.proofs.Grown.{other_id}
+use Rattle.vk_backing.proofs.Releasing.{own_released, unshared}
+use Rattle.vk_backing.proofs.Without.{nothing_allotted, freed_allotted}
+use Rattle.vk_backing.proofs.ReleasedCalls.{shared_released, shared_whole, shared_allotted, shared_keeps, shared_infos}
+use Rattle.vk_backing.proofs.Keeping.{owned_keeps}
+use Rattle.vk_backing.proofs.backing.Backing.release.Goals as goal
+
+pub free-requires : goal.free-requires
+free-requires c =
+    let f = c.self.inside in let m = c.args.memories.now in
+    let b : Backed = record { owned = f.owned.entries; pools = f.pools; numbers = f.numbers.entries; allocations = f.allocations.entries } in
+    let h : IsBacked b m = subst (λ (x : Backed). IsBacked x m) (sym c.self.view_is) c.requires.backed in
+    h.live c.args.id c.in-Some.object (sym c.in-Some.ensures.value)
+
+pub returns-in-Some-clause-backed : goal.returns-in-Some-clause-backed
+returns-in-Some-clause-backed c =
+    let f = c.self.inside in let m = c.args.memories.now in
+    let b : Backed = record { owned = f.owned.entries; pools = f.pools; numbers = f.numbers.entries; allocations = f.allocations.entries } in
+    let h : IsBacked b m = subst (λ (x : Backed). IsBacked x m) (sym c.self.view_is) c.requires.backed in
+    let updates = c.in-Some.ensures.updates in
+    subst (λ (n : MemoryState). IsBacked (record b { owned = c.remove.new.self.entries }) n) (sym c.free.ensures)
+    (own_released b m h c.args.id c.in-Some.object (sym c.in-Some.ensures.value) c.remove.new.self.entries updates.1 (λ i other. updates.2 i (other_id c.args.id i other)))
+
+pub returns-in-Some-clause-releases : goal.returns-in-Some-clause-releases
+returns-in-Some-clause-releases c =
+    let f = c.self.inside in let m = c.args.memories.now in
+    let b : Backed = record { owned = f.owned.entries; pools = f.pools; numbers = f.numbers.entries; allocations = f.allocations.entries } in
+    let h : IsBacked b m = subst (λ (x : Backed). IsBacked x m) (sym c.self.view_is) c.requires.backed in
+    let updates = c.in-Some.ensures.updates in
+    subst (λ (x : Backed). Releases x (record b { owned = c.remove.new.self.entries }) m c.free.new.self c.args.id (Some c.in-Some.object)) c.self.view_is (record {
+      memory = c.free.ensures;
+      no_object = updates.1;
+      objects = λ i other. updates.2 i (other_id c.args.id i other);
+      no_allocation = unshared b m h c.args.id c.in-Some.object (sym c.in-Some.ensures.value) (allocation_of b c.args.id) refl;
+      allocations = λ i other. refl;
+      numbers = refl;
+      keeps = λ i q s other l. owned_keeps b c.remove.new.self.entries i q s l;
+      infos = λ i. refl;
+      ends = subst (λ (o : Option ℕ). EndsIn o (allocation_of b c.args.id) b.pools b.pools (Some c.in-Some.object)) c.in-Some.ensures.value (refl, refl);
+    })
+
+pub returns-in-Some-clause-allots : goal.returns-in-Some-clause-allots
+returns-in-Some-clause-allots c =
+    let f = c.self.inside in let m = c.args.memories.now in
+    let b : Backed = record { owned = f.owned.entries; pools = f.pools; numbers = f.numbers.entries; allocations = f.allocations.entries } in
+    let h : IsBacked b m = subst (λ (x : Backed). IsBacked x m) (sym c.self.view_is) c.requires.backed in
+    let updates = c.in-Some.ensures.updates in
+    λ d is.
+    subst (λ (n : MemoryState). Fulfils (allotted (record b { owned = c.remove.new.self.entries }) n) (without c.args.id d)) (sym c.free.ensures)
+    (freed_allotted b m h d (subst (λ (x : Backed). Fulfils (allotted x m) d) (sym c.self.view_is) is) c.args.id (unshared b m h c.args.id c.in-Some.object (sym c.in-Some.ensures.value) (allocation_of b c.args.id) refl)
+    c.in-Some.object (sym c.in-Some.ensures.value) c.remove.new.self.entries updates.1 (λ i other. updates.2 i (other_id c.args.id i other)))
+
+pub returns-in_err-allocation-clause-allots : goal.returns-in_err-allocation-clause-allots
+returns-in_err-allocation-clause-allots c =
+    let f = c.self.inside in let m = c.args.memories.now in
+    let b : Backed = record { owned = f.owned.entries; pools = f.pools; numbers = f.numbers.entries; allocations = f.allocations.entries } in
+    let h : IsBacked b m = subst (λ (x : Backed). IsBacked x m) (sym c.self.view_is) c.requires.backed in
+    λ d is.
+    subst (λ (o : List (ℕ × ℕ)). Fulfils (allotted (record b { owned = o; allocations = c.remove-2.new.self.entries }) m) (without c.args.id d)) (sym c.in_default.ensures.unchanged)
+    (subst (λ (l : List (ℕ × ℕ)). Fulfils (allotted (record b { allocations = l }) m) (without c.args.id d)) (sym c.in_err-allocation.ensures.unchanged)
+    (nothing_allotted b m h d (subst (λ (x : Backed). Fulfils (allotted x m) d) (sym c.self.view_is) is) c.args.id (sym c.in_err-allocation.ensures.value) (sym c.in_default.ensures.value)))
+
+pub free-gone-requires-clause-unreserved : goal.free-gone-requires-clause-unreserved
+free-gone-requires-clause-unreserved c =
+    let f = c.self.inside in let m = c.args.memories.now in
+    let b : Backed = record { owned = f.owned.entries; pools = f.pools; numbers = f.numbers.entries; allocations = f.allocations.entries } in
+    let h : IsBacked b m = subst (λ (x : Backed). IsBacked x m) (sym c.self.view_is) c.requires.backed in
+    let s = h.shared c.args.id c.in_ok-allocation.allocation (sym c.in_ok-allocation.ensures.value) in
+    live-and f.pools c.in_ok-allocation.allocation s.allocation (λ a. a.target ≡ None) s.live s.free
+
+pub returns-clause-backed : goal.returns-clause-backed
+returns-clause-backed c =
+    let f = c.self.inside in let m = c.args.memories.now in
+    let b : Backed = record { owned = f.owned.entries; pools = f.pools; numbers = f.numbers.entries; allocations = f.allocations.entries } in
+    let h : IsBacked b m = subst (λ (x : Backed). IsBacked x m) (sym c.self.view_is) c.requires.backed in
+    let updates = c.in_ok-allocation.ensures.updates in
+    subst (λ (o : List (ℕ × ℕ)). IsBacked (record b { owned = o; pools = c.free-gone.new.self; allocations = c.remove-2.new.self.entries }) c.free-gone.new.memories) (sym c.in_default.ensures.unchanged)
+    (subst (λ (n : MemoryState). IsBacked (record b { pools = c.free-gone.new.self; allocations = c.remove-2.new.self.entries }) n) (sym c.free-gone.ensures.memories)
+    (shared_released b m h c.args.id c.in_ok-allocation.allocation (sym c.in_ok-allocation.ensures.value) c.free-gone.new.self c.free-gone.result c.free-gone.ensures.ended c.remove-2.new.self.entries updates.1 (λ i other. updates.2 i (other_id c.args.id i other))
+    c.are_pools.ensures (subst (λ (n : MemoryState). Backs c.free-gone.new.self n) c.free-gone.ensures.memories c.free-gone.ensures.kept)))
+
+pub returns-clause-whole : goal.returns-clause-whole
+returns-clause-whole c =
+    let f = c.self.inside in let m = c.args.memories.now in
+    let b : Backed = record { owned = f.owned.entries; pools = f.pools; numbers = f.numbers.entries; allocations = f.allocations.entries } in
+    let h : IsBacked b m = subst (λ (x : Backed). IsBacked x m) (sym c.self.view_is) c.requires.backed in
+    let updates = c.in_ok-allocation.ensures.updates in
+    λ whole. shared_whole b m h c.args.id c.in_ok-allocation.allocation (sym c.in_ok-allocation.ensures.value) c.free-gone.new.self c.free-gone.result c.free-gone.ensures.ended c.remove-2.new.self.entries updates.1 (λ i other. updates.2 i (other_id c.args.id i other)) (subst IsWhole (sym c.self.view_is) whole)
+
+pub returns-clause-allots : goal.returns-clause-allots
+returns-clause-allots c =
+    let f = c.self.inside in let m = c.args.memories.now in
+    let b : Backed = record { owned = f.owned.entries; pools = f.pools; numbers = f.numbers.entries; allocations = f.allocations.entries } in
+    let h : IsBacked b m = subst (λ (x : Backed). IsBacked x m) (sym c.self.view_is) c.requires.backed in
+    let updates = c.in_ok-allocation.ensures.updates in
+    λ d is.
+    subst (λ (o : List (ℕ × ℕ)). Fulfils (allotted (record b { owned = o; pools = c.free-gone.new.self; allocations = c.remove-2.new.self.entries }) c.free-gone.new.memories) (without c.args.id d)) (sym c.in_default.ensures.unchanged)
+    (subst (λ (n : MemoryState). Fulfils (allotted (record b { pools = c.free-gone.new.self; allocations = c.remove-2.new.self.entries }) n) (without c.args.id d)) (sym c.free-gone.ensures.memories)
+    (shared_allotted b m h c.args.id c.in_ok-allocation.allocation (sym c.in_ok-allocation.ensures.value) c.free-gone.new.self c.free-gone.result c.free-gone.ensures.ended c.remove-2.new.self.entries updates.1 (λ i other. updates.2 i (other_id c.args.id i other)) d (subst (λ (x : Backed). Fulfils (allotted x m) d) (sym c.self.view_is) is)))
+
+pub returns-clause-releases : goal.returns-clause-releases
+returns-clause-releases c =
+    let f = c.self.inside in let m = c.args.memories.now in
+    let b : Backed = record { owned = f.owned.entries; pools = f.pools; numbers = f.numbers.entries; allocations = f.allocations.entries } in
+    let h : IsBacked b m = subst (λ (x : Backed). IsBacked x m) (sym c.self.view_is) c.requires.backed in
+    let updates = c.in_ok-allocation.ensures.updates in
+    let after = shared_released b m h c.args.id c.in_ok-allocation.allocation (sym c.in_ok-allocation.ensures.value) c.free-gone.new.self c.free-gone.result c.free-gone.ensures.ended c.remove-2.new.self.entries updates.1 (λ i other. updates.2 i (other_id c.args.id i other)) c.are_pools.ensures (subst (λ (n : MemoryState). Backs c.free-gone.new.self n) c.free-gone.ensures.memories c.free-gone.ensures.kept) in
+    subst (λ (x : Backed). Releases x (record b { owned = c.remove.new.self.entries; pools = c.free-gone.new.self; allocations = c.remove-2.new.self.entries }) m c.free-gone.new.memories c.args.id c.free-gone.result) c.self.view_is (record {
+      memory = c.free-gone.ensures.memories;
+      no_object = c.in_default.ensures.updates.1;
+      objects = λ i other. c.in_default.ensures.updates.2 i (other_id c.args.id i other);
+      no_allocation = updates.1;
+      allocations = λ i other. updates.2 i (other_id c.args.id i other);
+      numbers = refl;
+      keeps = λ i q s other l. owned_keeps (record b { pools = c.free-gone.new.self; allocations = c.remove-2.new.self.entries }) c.remove.new.self.entries i q s (shared_keeps b m h c.args.id c.in_ok-allocation.allocation (sym c.in_ok-allocation.ensures.value) c.free-gone.new.self c.free-gone.result c.free-gone.ensures.ended c.remove-2.new.self.entries updates.1 (λ i other. updates.2 i (other_id c.args.id i other)) after i q s other l);
+      infos = λ i. shared_infos b m h c.args.id c.in_ok-allocation.allocation (sym c.in_ok-allocation.ensures.value) c.free-gone.new.self c.free-gone.result c.free-gone.ensures.ended c.remove-2.new.self.entries updates.1 (λ i other. updates.2 i (other_id c.args.id i other)) i;
+      ends = subst (λ (o : Option ℕ). EndsIn o (allocation_of b c.args.id) b.pools c.free-gone.new.self c.free-gone.result) c.in_default.ensures.value
+          (subst (λ (o : Option ℕ). EndsIn None o b.pools c.free-gone.new.self c.free-gone.result) c.in_ok-allocation.ensures.value c.free-gone.ensures.ended);
+    })

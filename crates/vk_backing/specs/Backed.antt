@@ -1,0 +1,98 @@
+-- What backs ids with memory: memory objects of their own, pools, and allocations in pools.
+use Rattle.std.specs.Prelude.{◌≡◌, ℕ, List, length, Option, Some, None}
+use Rattle.std.specs.Option.{option_and_then, option_map}
+use Rattle.std.specs.Ordering.{nat_cmp}
+use Rattle.std.specs.Map.{lookup}
+use Rattle.std.specs.BTreeMap.{is_at}
+use Rattle.vk_memory.specs.declared.memories.Object.{Object}
+use Rattle.vk_memory.specs.MemoryState.{MemoryState, IsLive, object_at}
+use Rattle.vk_model.specs.declared.resource.PoolInfo.{PoolInfo}
+use Rattle.vk_model.specs.declared.resource.Spot.{Spot}
+use Rattle.vma_pools.specs.declared.pool.PoolPlace.{PoolPlace}
+use Rattle.vma_pools.specs.declared.allocations.Allocation.{Allocation}
+use Rattle.vma_pools.specs.declared.allocations.Home.TheVariants as home
+use Rattle.vma_pools.specs.Pools.{Kept, IsMemoryOf}
+use Rattle.vma_pools.specs.State.{PoolsState, pool_at, allocation_at, ArePools, Backs, Owner, Has}
+
+-- The number of the memory object that each id has of its own; the pools with their allocations; the number of each pool, by its id; and that of the allocation of each resource in a pool (Vulkan, "Device Memory"; VMA, "Custom memory pools").
+pub record Backed : Type 0 where
+  pub owned : List (ℕ × ℕ)
+  pub pools : PoolsState
+  pub numbers : List (ℕ × ℕ)
+  pub allocations : List (ℕ × ℕ)
+
+-- The number of an id; none where it has none.
+abbrev pub number_in : List (ℕ × ℕ) → ℕ → Option ℕ
+number_in numbers id = lookup (is_at (nat_cmp id)) numbers
+
+-- The number of the memory object that an id has of its own.
+abbrev pub object_of : Backed → ℕ → Option ℕ
+object_of b id = number_in b.owned id
+
+-- The number of a pool.
+abbrev pub pool_of : Backed → ℕ → Option ℕ
+pool_of b id = number_in b.numbers id
+
+-- The number of the allocation that a resource has in a pool.
+abbrev pub allocation_of : Backed → ℕ → Option ℕ
+allocation_of b id = number_in b.allocations id
+
+-- The pool of an id.
+abbrev pub pool_by : Backed → ℕ → Option Kept
+pool_by b id = option_and_then (pool_at b.pools) (pool_of b id)
+
+-- What the pool of an id was made with.
+abbrev pub info_by : Backed → ℕ → Option PoolInfo
+info_by b id = option_map (λ k. k.pool.info) (pool_by b id)
+
+-- The allocation of a resource in a pool.
+abbrev pub allocation_by : Backed → ℕ → Option Allocation
+allocation_by b id = option_and_then (allocation_at b.pools) (allocation_of b id)
+
+-- A resource lies in the pool of a number: here, in the memory object of a block (Vulkan, "Resource Memory Association"; VMA, "Custom memory pools").
+pub record LiesIn (b : Backed) (id pool : ℕ) (spot : Spot) : Type 0 where
+  pub number : ℕ
+  pub has : allocation_of b id ≡ Some number
+  pub allocation : Allocation
+  pub live : allocation_at b.pools number ≡ Some allocation
+  pub place : PoolPlace
+  pub lies : allocation.home ≡ home.Shared pool place
+  pub kept : Kept
+  pub there : pool_at b.pools pool ≡ Some kept
+  pub memory : IsMemoryOf kept place.block spot.memory
+  pub offset : spot.offset ≡ place.start
+  pub size : spot.size ≡ allocation.asked.size
+
+-- Each memory object has as many bytes as its size says.
+abbrev pub AreSized : MemoryState → Type 0
+AreSized m = (n : ℕ) (o : Object) → object_at m n ≡ Some o → length o.region ≡ o.size
+
+-- An allocation lies in a pool that an id has, and no place is reserved for it.
+pub record IsShared (b : Backed) (number : ℕ) : Type 0 where
+  pub allocation : Allocation
+  pub live : allocation_at b.pools number ≡ Some allocation
+  pub free : allocation.target ≡ None
+  pub pool : ℕ
+  pub place : PoolPlace
+  pub lies : allocation.home ≡ home.Shared pool place
+  pub id : ℕ
+  pub named : pool_of b id ≡ Some pool
+
+-- What always holds: pools and their allocations are so, and their memory objects of the sizes that they need; each number is had by one id, and is that of something live; no id has a memory object of its own that is another's or a block's, nor an allocation beside it (Vulkan, "Object Lifetime" and "Resource Memory Association").
+pub record IsBacked (b : Backed) (m : MemoryState) : Type 0 where
+  pub pools : ArePools b.pools
+  pub backs : Backs b.pools m
+  pub matched : (p : ℕ) (k : Kept) → pool_at b.pools p ≡ Some k → length k.memories ≡ length k.pool.blocks
+  pub sized : AreSized m
+  pub live : (id n : ℕ) → object_of b id ≡ Some n → IsLive m n
+  pub own : (i j n : ℕ) → object_of b i ≡ Some n → object_of b j ≡ Some n → i ≡ j
+  pub apart : (id n : ℕ) (x : Owner) → object_of b id ≡ Some n → Has b.pools x n → ⊥
+  pub either : (id n a : ℕ) → object_of b id ≡ Some n → allocation_of b id ≡ Some a → ⊥
+  pub named : (id p : ℕ) → pool_of b id ≡ Some p → (k : Kept) × (pool_at b.pools p ≡ Some k)
+  pub one_pool : (i j p : ℕ) → pool_of b i ≡ Some p → pool_of b j ≡ Some p → i ≡ j
+  pub shared : (id a : ℕ) → allocation_of b id ≡ Some a → IsShared b a
+  pub one : (i j a : ℕ) → allocation_of b i ≡ Some a → allocation_of b j ≡ Some a → i ≡ j
+
+-- Each allocation is that of a resource.
+abbrev pub IsWhole : Backed → Type 0
+IsWhole b = (a : ℕ) (x : Allocation) → allocation_at b.pools a ≡ Some x → (id : ℕ) × (allocation_of b id ≡ Some a)

@@ -1,0 +1,4 @@
+pub mod Backed
+pub mod Allotted
+pub mod Spots
+pub mod Steps

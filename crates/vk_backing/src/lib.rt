@@ -1,0 +1,7 @@
+//! What backs the memory objects, resources and pools of a trace, by their ids: memory objects of
+//! their own, and places in the blocks of pools.
+#![tactic(auto)]
+
+mod backing;
+
+pub use backing::Backing;
