@@ -21,3 +21,5 @@ pub mod CountLemmas
 pub mod CountedLemmas
 pub mod SettledLemmas
 pub mod SettledBacks
+pub mod ResidentLemmas
+mod ListingLemmas

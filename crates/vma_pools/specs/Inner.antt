@@ -4,3 +4,4 @@ pub mod Walk
 pub mod Lower
 pub mod Settling
 pub mod Counts
+pub mod Listed

@@ -18,7 +18,7 @@ use vma_blocks::PoolBlock;
 /// rise, and are never given again.
 #[derive(Drop)]
 pub struct PoolsOf<B: PoolBlock> {
-    alloc: Global,
+    pub(crate) alloc: Global,
     pub(crate) pools: Vec<Option<CountedPool<B>>>,
     pub(crate) allocations: Vec<Option<Allocation>>,
 }

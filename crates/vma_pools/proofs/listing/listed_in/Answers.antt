@@ -1,0 +1,13 @@
+use Rattle.std.proofs.Common.{List, [], ◌∷◌, ◌++◌, ◌≡◌, ◌∙◌, ap, sym}
+use Rattle.std.proofs.lemmas.List.{append-nil}
+use Rattle.vma_pools.proofs.ListingLemmas.{listed-more}
+use Rattle.vma_pools.proofs.listing.listed_in.Goals as goal
+use Rattle.vma_pools.proofs.listing.listed_in.Goals.{in-Some+in_ok-push, in_default}
+
+pub loop-number-preserved : goal.loop-number-preserved
+loop-number-preserved c =
+    let xs = c.args.allocations.now in let i = c.loop-number.number in let found = c.loop-number.found.items in let new = c.match-listed_at.found.items in
+    elim c.match-listed_at.branch [
+      | in-Some+in_ok-push w ↦ listed-more c.args.pool i xs found (w.in-Some.one ∷ []) new c.loop-number-test.true c.loop-number.invariant w.in-Some.ensures (ap (λ v. v.items) w.found-is ∙ w.in_ok-push.ensures.items)
+      | in_default w ↦ listed-more c.args.pool i xs found [] new c.loop-number-test.true c.loop-number.invariant w.in_default.ensures (ap (λ v. v.items) w.found-is ∙ sym (append-nil found))
+    ]
