@@ -2,6 +2,7 @@
 #![tactic(auto)]
 
 mod allocations;
+mod asking;
 mod blocks;
 mod counted;
 mod listing;
