@@ -118,8 +118,8 @@ fn a_block_is_empty_again(rt: HostRuntime) -> Result<(), Fail> {
     Ok(())
 }
 
-/// Where 1,024 bytes go in a block of 8,192 bytes that has a free range of that length before what is
-/// taken, and one of 7,152 behind it.
+/// Where 240 bytes go in a block of 8,192 bytes that has a free range of just that length before what
+/// is taken at a multiple of 256, and a long one behind it.
 fn beside_a_hole(alloc: Global, memory_type: u32) -> Result<u64, SubFault> {
     let info = PoolInfo {
         kind: PoolKind::Tlsf,
@@ -130,18 +130,17 @@ fn beside_a_hole(alloc: Global, memory_type: u32) -> Result<u64, SubFault> {
     let Ok(mut block) = AnyBlock::make(alloc, info) else {
         return Err(SubFault::NoMemory);
     };
-    let hole = block.allocate(1024, 16, Kind::Linear, false)?;
-    let _next = block.allocate(16, 16, Kind::Linear, false)?;
-    block.free(hole);
-    block.allocate(1024, 16, Kind::Linear, false)
+    let _first = block.allocate(16, 16, Kind::Linear, false)?;
+    let _second = block.allocate(256, 256, Kind::Linear, false)?;
+    block.allocate(240, 16, Kind::Linear, false)
 }
 
 /// Where optimal images can lie, on memory type 0, a search asks for two pages more, and so passes
 /// over a hole of just the length.
 #[test]
 fn blocks_of_one_kind_ask_for_no_page_more(rt: HostRuntime) {
-    assert_eq!(rt; beside_a_hole(rt.alloc(), 0), Ok(1040));
+    assert_eq!(rt; beside_a_hole(rt.alloc(), 0), Ok(512));
     for memory_type in [1, 2] {
-        assert_eq!(rt; beside_a_hole(rt.alloc(), memory_type), Ok(0));
+        assert_eq!(rt; beside_a_hole(rt.alloc(), memory_type), Ok(16));
     }
 }

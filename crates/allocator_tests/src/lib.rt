@@ -9,4 +9,6 @@ mod free_lists;
 #[cfg(test)]
 mod linear_blocks;
 #[cfg(test)]
+mod pools;
+#[cfg(test)]
 mod slots;

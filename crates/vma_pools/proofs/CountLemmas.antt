@@ -1,8 +1,8 @@
 -- How much of a pool's blocks is taken when a range more is, and when one is given back.
-use Rattle.std.proofs.Common.{◌≡◌, ℕ, zero, suc, ◌+◌, ◌<◌, List, [], ◌∷◌, ◌++◌, length, get_or, set, map, Bool, true, false, ◌==◌, ◌&&◌, not, refl, sym, ap, subst, ◌∙◌, arith, ◌⊎◌, inl, inr}
+use Rattle.std.proofs.Common.{◌≡◌, ℕ, zero, suc, ◌+◌, ◌<◌, List, [], ◌∷◌, ◌++◌, length, get_or, set, Bool, true, false, ◌&&◌, not, refl, sym, ap, subst, ◌∙◌, arith, inl, inr}
 use Rattle.std.specs.Prelude.{All, AllPairs, Contains, IsPermutation, if◌then◌else◌}
 use Rattle.std.specs.List.{filter, sum_by}
-use Rattle.std.proofs.lemmas.Bool.{cases_eq, both_ways, eqb-true, eq-eqb, ne_eqb, or_parts}
+use Rattle.std.proofs.lemmas.Bool.{cases_eq, both_ways, eq-eqb, ne_eqb, or_parts}
 use Rattle.std.proofs.lemmas.List.Elements.{All-head, All-tail}
 use Rattle.std.proofs.lemmas.List.Sorted.{length_permutation, sum_by-IsPermutation}
 use Rattle.std.proofs.lemmas.List.Sums.{sum_by-cons, sum_by_push, sum_by-set}
@@ -10,12 +10,12 @@ use Rattle.vk_model.specs.Memory.Suballocation.{Taken, Request, IsApart, taken_a
 use Rattle.vk_model.specs.Memory.Room.{Block, General, Stack, is_none_left}
 use Rattle.vk_model.specs.Memory.MoveTargets.{BlockStart, Numbered}
 use Rattle.vk_model.specs.Memory.LinearBlocks.{others}
-use Rattle.vk_model.specs.Memory.Pools.{PoolBlock, Pool, Gives, block_bytes, block_taken, block_with, block_without, in_block, pool_with, pool_without, has_some_taken, numbered_blocks, new_block, IsSoundBlock, IsPool}
-use Rattle.vk_model.proofs.Lists.Members.{contains-cons, contains-tail}
+use Rattle.vk_model.specs.Memory.Pools.{PoolBlock, Pool, Gives, block_taken, block_with, block_without, in_block, pool_with, pool_without, has_some_taken, numbered_blocks, new_block, IsSoundBlock, IsPool}
+use Rattle.vk_model.proofs.Lists.Members.{contains-cons}
 use Rattle.vk_model.proofs.Memory.Ranges.{none_left}
-use Rattle.vma_pools.specs.Alike.{AreAlike, IsAlikePool}
+use Rattle.vma_pools.specs.Alike.{IsAlikePool}
 use Rattle.vma_pools.specs.Ranges.{HasRange}
-use Rattle.vma_pools.specs.Inner.Walk.{no_block, block_at}
+use Rattle.vma_pools.specs.Inner.Walk.{no_block}
 use Rattle.vma_pools.specs.Inner.Lower.{ranges_of}
 use Rattle.vma_pools.proofs.PoolLemmas.{in_block-set}
 use Rattle.vma_pools.proofs.RangesAlike.{sums-alike}

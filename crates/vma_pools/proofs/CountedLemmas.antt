@@ -1,7 +1,7 @@
 -- The counts of a pool stay right when a range more is taken, and when one is given back.
-use Rattle.std.proofs.Common.{◌≡◌, ℕ, ◌+◌, ◌-◌, ◌*◌, ◌<◌, ◌≤◌, ◌^◌, List, [], ◌∷◌, ◌++◌, length, map, Bool, true, false, ◌==◌, refl, sym, ap, ◌∙◌, arith, ◌⊎◌, inl, inr}
+use Rattle.std.proofs.Common.{◌≡◌, ℕ, ◌+◌, ◌-◌, ◌*◌, ◌<◌, ◌≤◌, ◌^◌, List, [], ◌∷◌, ◌++◌, length, Bool, true, false, ◌==◌, sym, ap, ◌∙◌, arith}
 use Rattle.std.specs.Prelude.{All, if◌then◌else◌}
-use Rattle.std.specs.List.{filter, sum_by}
+use Rattle.std.specs.List.{sum_by}
 use Rattle.std.proofs.Math.Nat.{mul-le-mul_right, suc-mul, zero-mul}
 use Rattle.std.proofs.lemmas.Bool.{ne_eqb}
 use Rattle.std.proofs.lemmas.List.{length-append, length-map}
@@ -11,11 +11,10 @@ use Rattle.vk_model.specs.Memory.Suballocation.{Taken, Request}
 use Rattle.vk_model.specs.Memory.Room.{Block}
 use Rattle.vk_model.specs.Memory.MoveTargets.{BlockStart, Numbered}
 use Rattle.vk_model.specs.declared.resource.PoolInfo.{PoolInfo}
-use Rattle.vk_model.specs.declared.statistics.Statistics.{Statistics}
 use Rattle.vk_model.specs.Memory.Pools.{PoolBlock, Pool, Gives, AreStatistics, IsLargestIn, block_with, block_without, has_some_taken, in_block, new_block, numbered_blocks, pool_with, pool_without, with_change}
 use Rattle.vma_pools.specs.Alike.{IsAlikePool}
 use Rattle.vma_pools.specs.Ranges.{HasRange}
-use Rattle.vma_pools.specs.Inner.Counts.{IsCounted, range_bytes, range_count}
+use Rattle.vma_pools.specs.Inner.Counts.{IsCounted}
 use Rattle.vma_pools.specs.Inner.Kinds.{IsKeptPool, IsOfPool}
 use Rattle.vma_pools.specs.Inner.Lower.{ranges_of}
 use Rattle.vma_pools.proofs.PoolAlike.{are-length}

@@ -1,5 +1,5 @@
 -- Allocations of a pool in the order of their places.
-use Rattle.std.proofs.Common.{◌≡◌, ℕ, zero, suc, ◌+◌, ◌-◌, ◌<◌, ◌≤◌, List, [], ◌∷◌, ◌++◌, length, get_or, map, reverse, take, Option, None, refl, sym, ap, subst, ◌∙◌, arith, ◌⊎◌, inl, inr}
+use Rattle.std.proofs.Common.{◌≡◌, ℕ, zero, suc, ◌+◌, ◌-◌, ◌<◌, List, [], ◌∷◌, ◌++◌, length, get_or, map, reverse, take, Option, None, refl, sym, ap, subst, ◌∙◌, arith, inl, inr}
 use Rattle.std.specs.Prelude.{AllPairs, IsPermutation}
 use Rattle.std.specs.List.Sorted.{IsSortedByKey, IsStableByKey}
 use Rattle.std.specs.Ordering.{nat_cmp}
@@ -7,7 +7,7 @@ use Rattle.std.proofs.lemmas.Bool.{cases_eq}
 use Rattle.std.proofs.lemmas.List.{get_or-reverse, length-map, length-reverse, map-append}
 use Rattle.std.proofs.lemmas.List.Sorted.{IsNonDecreasingBy-from_sort, IsPermutation-map, IsPermutation-reverse, IsPermutation-trans, ties_still_rise}
 use Rattle.vk_model.specs.Memory.MoveTargets.{BlockStart, Resident}
-use Rattle.vk_model.specs.Memory.Pools.{IsByPlace, IsHigher}
+use Rattle.vk_model.specs.Memory.Pools.{IsHigher}
 use Rattle.vk_model.proofs.Memory.AllPairs.{pairs_permuted}
 use Rattle.vma_pools.specs.declared.listing.Listed.{Listed}
 use Rattle.vma_pools.specs.declared.allocations.Allocation.{Allocation}

@@ -5,7 +5,6 @@ use Rattle.std.proofs.lemmas.Bool.{cases_eq, both_ways, eqb-true, eq-eqb}
 use Rattle.vk_model.specs.declared.resource.PoolInfo.{PoolInfo}
 use Rattle.vk_memory.specs.declared.memories.Object.{Object}
 use Rattle.vk_memory.specs.MemoryState.{MemoryState, bytes_of, object_at, region_of, type_of, type_in, with_object}
-use Rattle.vma_pools.specs.declared.pool.PoolPlace.{PoolPlace}
 use Rattle.vma_pools.specs.declared.allocations.Allocation.{Allocation}
 use Rattle.vma_pools.specs.declared.allocations.Home.{Home}
 use Rattle.vma_pools.specs.declared.allocations.Home.TheVariants as home

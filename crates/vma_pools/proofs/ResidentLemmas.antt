@@ -1,16 +1,15 @@
 -- The allocations of a pool as its resources: each is where it lies, and no two are at one place.
-use Rattle.std.proofs.Common.{◌≡◌, ℕ, zero, suc, ◌+◌, ◌<◌, ◌≤◌, List, [], ◌∷◌, ◌++◌, length, get_or, map, reverse, take, drop, Bool, true, false, ◌==◌, Option, Some, None, refl, sym, ap, subst, ◌∙◌, arith, ◌⊎◌, inl, inr, ◌-◌}
-use Rattle.std.specs.Prelude.{All, AllPairs, IsPermutation, if◌then◌else◌, slice_index_or}
+use Rattle.std.proofs.Common.{◌≡◌, ℕ, zero, suc, ◌+◌, ◌<◌, List, [], ◌∷◌, ◌++◌, length, get_or, take, Bool, true, false, ◌==◌, Option, Some, None, refl, sym, ap, subst, ◌∙◌, arith}
+use Rattle.std.specs.Prelude.{All, AllPairs, if◌then◌else◌, slice_index_or}
 use Rattle.std.proofs.lemmas.Bool.{eqb-true}
 use Rattle.std.proofs.lemmas.List.{append-nil, append_assoc}
 use Rattle.std.proofs.lemmas.List.Elements.{All-nil, All-cons}
 use Rattle.vk_model.specs.Memory.MoveTargets.{BlockStart, Resident}
 use Rattle.vma_pools.specs.declared.pool.PoolPlace.{PoolPlace}
-use Rattle.vma_pools.specs.declared.allocations.Asked.{Asked}
 use Rattle.vma_pools.specs.declared.allocations.Allocation.{Allocation}
 use Rattle.vma_pools.specs.declared.allocations.Home.{Home}
 use Rattle.vma_pools.specs.declared.allocations.Home.TheVariants as home
-use Rattle.vma_pools.specs.State.{PoolsState, allocation_at, shared_place, start_of, request_in, IsHeld, ArePools}
+use Rattle.vma_pools.specs.State.{PoolsState, shared_place, start_of, request_in, IsHeld, ArePools}
 use Rattle.vma_pools.specs.Listing.{resident_in, resident_at, residents_from, residents_of}
 
 -- ---- one after another

@@ -1,5 +1,5 @@
 -- Each pool and allocation keeps its memory object when a place is reserved, and when one of two is given back.
-use Rattle.std.proofs.Common.{◌≡◌, ℕ, List, set, Bool, true, false, Option, Some, None, refl, sym, ap, subst, ◌∙◌, inl, inr, ◌⊎◌}
+use Rattle.std.proofs.Common.{◌≡◌, ℕ, List, set, false, Option, Some, None, refl, sym, ap, subst, ◌∙◌, inl, inr}
 use Rattle.std.specs.Prelude.{IfSome, slice_index_or}
 use Rattle.std.proofs.lemmas.Bool.{cases_eq}
 use Rattle.vk_memory.specs.MemoryState.{MemoryState, IsLive}

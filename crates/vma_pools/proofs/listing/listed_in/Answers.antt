@@ -1,4 +1,4 @@
-use Rattle.std.proofs.Common.{List, [], ◌∷◌, ◌++◌, ◌≡◌, ◌∙◌, ap, sym}
+use Rattle.std.proofs.Common.{[], ◌∷◌, ◌∙◌, ap, sym}
 use Rattle.std.proofs.lemmas.List.{append-nil}
 use Rattle.vma_pools.proofs.ListingLemmas.{listed-more}
 use Rattle.vma_pools.proofs.listing.listed_in.Goals as goal

@@ -1,5 +1,4 @@
-use Rattle.std.proofs.Common.{List, Option, Result, Ok, Err, ◌≡◌, ◌∙◌, ℕ, map, reverse, ap, sym, subst}
-use Rattle.std.specs.Prelude.{IfOk}
+use Rattle.std.proofs.Common.{List, Option, ◌≡◌, ◌∙◌, map, ap, subst}
 use Rattle.std.proofs.lemmas.Result.{IfOk-weaker}
 use Rattle.vma_pools.specs.declared.allocations.Allocation.{Allocation}
 use Rattle.vma_pools.specs.declared.listing.Listed.{Listed}

@@ -1,4 +1,4 @@
-use Rattle.std.proofs.Common.{Option, Some, None, ◌≡◌, ◌∙◌, set, arith, refl, ap, sym, subst}
+use Rattle.std.proofs.Common.{Option, Some, None, ◌≡◌, ◌∙◌, set, arith, ap, sym, subst}
 use Rattle.vma_pools.specs.declared.allocations.Allocation.{Allocation}
 use Rattle.vma_pools.specs.declared.allocations.Home.{Home}
 use Rattle.vma_pools.specs.State.{PoolsState, ArePools, IfLive, IsEnded, start_of}

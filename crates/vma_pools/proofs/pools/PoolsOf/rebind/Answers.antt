@@ -1,4 +1,4 @@
-use Rattle.std.proofs.Common.{◌≡◌, Some, sym, subst}
+use Rattle.std.proofs.Common.{sym, subst}
 use Rattle.vk_memory.specs.MemoryState.{MemoryState}
 use Rattle.vma_pools.specs.State.{Backs}
 use Rattle.vma_pools.specs.Moves.{IsMoving, IsSettled}

@@ -1,4 +1,4 @@
-use Rattle.std.proofs.Common.{Option, Some, None, ◌≡◌, ◌∙◌, set, arith, refl, ap, sym, subst}
+use Rattle.std.proofs.Common.{Some, set, arith, refl, sym, subst}
 use Rattle.vma_pools.specs.State.{PoolsState, IfLive, start_of}
 use Rattle.vma_pools.specs.Moves.{IsSettled}
 use Rattle.vma_pools.specs.Inner.Settling.{HasPlaces}
