@@ -4,8 +4,7 @@ use Rattle.std.specs.Prelude.{if◌then◌else◌, max, All, ⊤}
 use Rattle.std.proofs.lemmas.Bool.{cases_eq, ne_eqb, eq-eqb}
 use Rattle.std.proofs.lemmas.List.{length-map, get_or-map, get_or_append_left}
 use Rattle.std.proofs.lemmas.List.Elements.{All-head, All-tail}
-use Rattle.vk_memory.specs.declared.memories.Object.{Object}
-use Rattle.vk_memory.specs.MemoryState.{MemoryState, object_at}
+use Rattle.vk_memory.specs.MemoryState.{MemoryState}
 use Rattle.vk_model.specs.declared.resource.PoolInfo.{PoolInfo}
 use Rattle.vk_model.specs.declared.resource.PoolKind.{PoolKind}
 use Rattle.vk_model.specs.declared.resource.PoolKind.TheVariants as algorithm
@@ -26,7 +25,6 @@ use Rattle.vma_pools.proofs.NumberLemmas.{at-old, at-other}
 use Rattle.vma_pools.proofs.PoolAlike.{are-length, are-at}
 use Rattle.vma_pools.proofs.StateLemmas.{some-is}
 use Rattle.vk_backing.specs.Backed.{Backed, number_in, allocation_of, LiesIn, IsBacked}
-use Rattle.vk_backing.proofs.Grown.{grown_object}
 use Rattle.vk_backing.proofs.Spots.{are_spots}
 use Rattle.vk_backing.proofs.Sharing.{given_pools, sharing, pool_here, pool_other, old_allocation, blocks_old, blocks_new}
 use Rattle.vk_backing.proofs.Releasing.{back_here, back_was, back_allocation, backing, shared_was}
@@ -113,11 +111,6 @@ memory_given b m h p was now there after r upper s (inr t) n x of =
       numbered = λ d. (are-at (pool_with was.pool r upper s).blocks now.pool.blocks t.pool.blocks of.index d).0 ∙ number_new was.pool r upper s t.is_new of.index d of.there ∙ of.numbered d;
       is = ap (λ (l : List ℕ). get_or l of.index 0) t.memories ∙ get_or_append_left was.memories (length m.objects ∷ []) 0 of.index (omega (arith, of.there, w)) ∙ of.is;
     }
-
--- memory objects stay when a pool has given a place
-pub object_given : (m : MemoryState) (was now : Kept) (after : MemoryState) (r : Request) (upper : Bool) (s : BlockStart) → Takes was now m after r upper s → (n : ℕ) (o : Object) → object_at m n ≡ Some o → object_at after n ≡ Some o
-object_given m was now after r upper s (inl t) n o at = ap (λ (x : MemoryState). object_at x n) t.1 ∙ at
-object_given m was now after r upper s (inr t) n o at = ap (λ (x : MemoryState). object_at x n) t.object ∙ grown_object m was.pool.info.memory_type was.pool.info.block_size n o at
 
 -- ---- where nothing of pools changes
 

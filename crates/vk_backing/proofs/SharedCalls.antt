@@ -1,9 +1,8 @@
 -- What a call that puts a resource in a pool leaves.
 use Rattle.std.proofs.Common.{◌≡◌, ℕ, ◌%◌, List, Bool, ◌==◌, Some, None, refl, sym, ap, subst, ◌∙◌, inl}
 use Rattle.std.specs.Prelude.{if◌then◌else◌, max}
-use Rattle.vk_memory.specs.declared.memories.Object.{Object}
 use Rattle.vk_model.specs.declared.resource.PoolInfo.{PoolInfo}
-use Rattle.vk_memory.specs.MemoryState.{MemoryState, object_at, type_of}
+use Rattle.vk_memory.specs.MemoryState.{MemoryState, type_of}
 use Rattle.vk_model.specs.declared.resource.Kind.{Kind}
 use Rattle.vk_model.specs.declared.resource.Spot.{Spot}
 use Rattle.vk_model.specs.Trace.Objects.{Resource}
@@ -22,7 +21,7 @@ use Rattle.vk_backing.specs.Steps.{Asks}
 use Rattle.vk_backing.proofs.Sharing.{share_backed, named_was, share_whole, pool_here, new_allocated, given, given_pools}
 use Rattle.vk_backing.proofs.Spots.{spot_object}
 use Rattle.vk_backing.proofs.Infos.{share_infos}
-use Rattle.vk_backing.proofs.Keeping.{share_keeps, object_given, gives_aligned}
+use Rattle.vk_backing.proofs.Keeping.{share_keeps, gives_aligned}
 use Rattle.vk_backing.proofs.Places.{its, finds_none, none_found, gets, share_allotted}
 
 -- what a resource asks of blocks
@@ -99,9 +98,6 @@ module _ (b : Backed) (m : MemoryState) (h : IsBacked b m) (pool p : ℕ) (named
           let k-is = some-is l.kept sh.now (sym l.there ∙ its_pool) in
           (spot_object shared after named_backed id p spot l).kind ∙ ap (λ (k : Kept). k.pool.info.memory_type) k-is
           ∙ ap (λ (i : PoolInfo). i.memory_type) ((takes-gives sh.was sh.now m after (request_in asked) upper (start_of sh.place) sh.takes).1.info ∙ given-info sh.was.pool (request_in asked) upper (start_of sh.place))
-
-      pub named_grows : (n : ℕ) (o : Object) → object_at m n ≡ Some o → object_at after n ≡ Some o
-      named_grows n o at = object_given m sh.was sh.now after (request_in asked) upper (start_of sh.place) sh.takes n o at
 
       pub named_aligned : (spot : Spot) → IfLive new a (λ x. IsSpotOf new x.home x.asked spot) → spot.offset % asked.align ≡ 0
       named_aligned spot placed =

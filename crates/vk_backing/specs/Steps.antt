@@ -19,6 +19,10 @@ use Rattle.vk_backing.specs.Backed.{Backed, object_of, pool_of, allocation_of, i
 use Rattle.vk_backing.specs.Spots.{KeepsSpots, KeepsInfos, KeepsAllInfos}
 use Rattle.vk_backing.specs.Allotted.{Allotted, Fulfils}
 
+-- Memory objects stay as they are, but for new ones.
+abbrev pub Grows : MemoryState → MemoryState → Type 0
+Grows before after = (n : ℕ) (o : Object) → object_at before n ≡ Some o → object_at after n ≡ Some o
+
 -- ---- memory objects of ids
 
 -- An id has a new memory object of its own, and nothing else has changed (Vulkan, "Device Memory"; VMA, "Dedicated allocations").
@@ -92,7 +96,6 @@ pub record Shares (old new : Backed) (before after : MemoryState) (id pool : ℕ
   pub size : spot.size ≡ asked.size
   pub kind : type_of after spot.memory ≡ kept.pool.info.memory_type
   pub aligned : kept.pool.info.memory_type ≡ 2 → spot.offset % 64 ≡ 0
-  pub grows : (n : ℕ) (o : Object) → object_at before n ≡ Some o → object_at after n ≡ Some o
   pub keeps : KeepsSpots old new id
   pub infos : KeepsAllInfos old new
 

@@ -43,7 +43,7 @@ impl Backing {
     ghost use Rattle.vk_backing.specs.Backed.{Backed, object_of, pool_of, allocation_of, pool_by, IsBacked, IsWhole};
     ghost use Rattle.vk_backing.specs.Allotted.{allotted};
     ghost use Rattle.vk_backing.specs.Spots.{AreSpots};
-    ghost use Rattle.vk_backing.specs.Steps.{OwnsOr, OwnAllots, MakesPool, PoolAllots, DropsPool, DropAllots, IsUnused, SharesOr, ShareAllots, Asks, Releases, ReleaseAllots};
+    ghost use Rattle.vk_backing.specs.Steps.{Grows, OwnsOr, OwnAllots, MakesPool, PoolAllots, DropsPool, DropAllots, IsUnused, SharesOr, ShareAllots, Asks, Releases, ReleaseAllots};
 
     /// Nothing is backed. It takes no memory.
     pub fn new(alloc: Global) -> Backing
@@ -88,6 +88,7 @@ impl Backing {
         requires apart { allocation_of self.old id ≡ None }
         requires some { 0 < size }
         ensures backed { IsBacked self.new memories.new }
+        ensures grows { Grows memories.old memories.new }
         ensures owns { IfOk result (λ o. OwnsOr o self.old self.new memories.old memories.new id memory_type size) }
         ensures whole { IfOk result (λ o. IsWhole self.old → IsWhole self.new) }
         ensures allots { IfOk result (λ o. OwnAllots o (allotted self.old memories.old) (allotted self.new memories.new) id memory_type size) }
@@ -163,6 +164,7 @@ impl Backing {
         requires request { IsRequest asked.size asked.align }
         requires fits { IsSomeAnd (pool_by self.old pool) (λ k. asked.size ≤ k.pool.info.block_size) }
         ensures backed { IsBacked self.new memories.new }
+        ensures grows { Grows memories.old memories.new }
         ensures shares { IfOk result (λ o. SharesOr o self.old self.new memories.old memories.new id pool asked upper) }
         ensures whole { IfOk result (λ o. IsWhole self.old → IsWhole self.new) }
         ensures allots { IfOk result (λ o. (r : Resource) → Asks r asked → ShareAllots o (allotted self.old memories.old) (allotted self.new memories.new) id pool r upper) }

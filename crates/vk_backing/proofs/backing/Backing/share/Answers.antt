@@ -8,7 +8,7 @@ use Rattle.vk_backing.specs.Backed.{Backed, object_of, allocation_of, IsBacked, 
 use Rattle.vk_backing.specs.Allotted.{allotted, Fulfils}
 use Rattle.vk_backing.specs.Steps.{Shares}
 use Rattle.vk_backing.proofs.Grown.{other_id}
-use Rattle.vk_backing.proofs.SharedCalls.{asks_is, kept-holds, none_shared, unnamed_backed, named_backed, named_whole, named_lies, named_allots, named_size, named_kind, named_aligned, named_grows, named_keeps, named_infos}
+use Rattle.vk_backing.proofs.SharedCalls.{asks_is, kept-holds, none_shared, unnamed_backed, named_backed, named_whole, named_lies, named_allots, named_size, named_kind, named_aligned, named_keeps, named_infos}
 use Rattle.vk_backing.proofs.Keeping.{atom_aligned}
 use Rattle.vk_backing.proofs.backing.Backing.share.Goals as goal
 
@@ -88,8 +88,6 @@ returns-clause-shares c =
       aligned = λ cached. atom_aligned c.place.result.offset c.args.asked.align c.args.asked.size c.requires.request
           (subst (λ (n : ℕ). c.place.result.offset % n ≡ 0) (on ∙ ap (λ (t : ℕ). if t == 2 then max 64 c.args.asked.align else c.args.asked.align) cached) (named_aligned b m h c.args.pool p (sym c.get.ensures.value ∙ sym c.in-Some.ensures) asked c.args.upper c.allocate.new.self c.allocate.new.memories c.in-Ok.allocation sh c.args.id (ap (λ (x : Backed). object_of x c.args.id) c.self.view_is ∙ c.requires.apart)
           c.are_pools.ensures (c.in-Ok.ensures.backs h.backs) (ap (λ (x : Backed). allocation_of x c.args.id) c.self.view_is ∙ c.requires.absent) c.insert.new.self.entries updates.1 (λ i other. updates.2 i (other_id c.args.id i other)) c.place.result c.place.ensures));
-      grows = named_grows b m h c.args.pool p (sym c.get.ensures.value ∙ sym c.in-Some.ensures) asked c.args.upper c.allocate.new.self c.allocate.new.memories c.in-Ok.allocation sh c.args.id (ap (λ (x : Backed). object_of x c.args.id) c.self.view_is ∙ c.requires.apart)
-          c.are_pools.ensures (c.in-Ok.ensures.backs h.backs) (ap (λ (x : Backed). allocation_of x c.args.id) c.self.view_is ∙ c.requires.absent) c.insert.new.self.entries updates.1 (λ i other. updates.2 i (other_id c.args.id i other));
       keeps = named_keeps b m h c.args.pool p (sym c.get.ensures.value ∙ sym c.in-Some.ensures) asked c.args.upper c.allocate.new.self c.allocate.new.memories c.in-Ok.allocation sh c.args.id (ap (λ (x : Backed). object_of x c.args.id) c.self.view_is ∙ c.requires.apart)
           c.are_pools.ensures (c.in-Ok.ensures.backs h.backs) (ap (λ (x : Backed). allocation_of x c.args.id) c.self.view_is ∙ c.requires.absent) c.insert.new.self.entries updates.1 (λ i other. updates.2 i (other_id c.args.id i other));
       infos = named_infos b m h c.args.pool p (sym c.get.ensures.value ∙ sym c.in-Some.ensures) asked c.args.upper c.allocate.new.self c.allocate.new.memories c.in-Ok.allocation sh c.args.id (ap (λ (x : Backed). object_of x c.args.id) c.self.view_is ∙ c.requires.apart)
