@@ -1,5 +1,5 @@
 use crate::elements::{push_dependencies, push_elements};
-use crate::masks::push_stages;
+use crate::masks::push_mask;
 use crate::names::push_layout;
 use crate::ranges::{push_bytes, push_layers, push_length, push_more, push_subresources};
 use std::alloc::AllocError;
@@ -65,7 +65,7 @@ pub fn push_command(out: &mut String, command: &Cmd) -> Result<(), AllocError> {
             push_more(out, 1, regions.len(), "region")
         }
         Cmd::Barrier { elements } => {
-            push_count(out, "orders with", elements.len(), "element")?;
+            push_count(out, "is a barrier of", elements.len(), "element")?;
             push_elements(out, elements.as_slice())
         }
         Cmd::Set { event, elements } => {
@@ -95,7 +95,7 @@ pub fn command_name(command: &Cmd) -> &'static str {
     }
 }
 
-/// A count of things by a verb, as `orders with 2 elements`.
+/// A count of things by a verb, as `is a barrier of 2 elements`.
 fn push_count(out: &mut String, verb: &str, count: usize, what: &str) -> Result<(), AllocError> {
     match count {
         1 => write!(out, "{verb} 1 {what}"),
@@ -234,7 +234,7 @@ pub fn push_wait(out: &mut String, wait: &SemaphoreSubmit) -> Result<(), AllocEr
     let semaphore = wait.semaphore;
     let value = wait.value;
     write!(out, "waits for semaphore {semaphore} at {value}, before ")?;
-    push_stages(out, wait.stages)
+    push_mask(out, &wait.stages)
 }
 
 /// What a signal of a batch signals.
@@ -242,5 +242,5 @@ pub fn push_signal(out: &mut String, signal: &SemaphoreSubmit) -> Result<(), All
     let semaphore = signal.semaphore;
     let value = signal.value;
     write!(out, "signals semaphore {semaphore} to {value}, after ")?;
-    push_stages(out, signal.stages)
+    push_mask(out, &signal.stages)
 }

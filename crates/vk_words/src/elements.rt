@@ -1,4 +1,4 @@
-use crate::masks::{push_accesses, push_stages};
+use crate::masks::push_mask;
 use crate::names::push_layout;
 use crate::ranges::{push_length, push_more, push_subresources};
 use std::alloc::AllocError;
@@ -9,13 +9,13 @@ const MOST_ELEMENTS: usize = 4;
 
 /// The two scopes: stages, with accesses in parentheses.
 fn push_scopes(out: &mut String, dependency: Dependency) -> Result<(), AllocError> {
-    push_stages(out, dependency.source_stages)?;
+    push_mask(out, &dependency.source_stages)?;
     out.push_str(" (")?;
-    push_accesses(out, dependency.source_accesses)?;
+    push_mask(out, &dependency.source_accesses)?;
     out.push_str(") to ")?;
-    push_stages(out, dependency.destination_stages)?;
+    push_mask(out, &dependency.destination_stages)?;
     out.push_str(" (")?;
-    push_accesses(out, dependency.destination_accesses)?;
+    push_mask(out, &dependency.destination_accesses)?;
     out.push_str(")")
 }
 

@@ -1,4 +1,4 @@
-use crate::masks::push_usage;
+use crate::masks::push_mask;
 use crate::names::{format_name, sharing_name, tiling_name};
 use crate::ranges::{push_bytes, push_length, push_more};
 use std::alloc::AllocError;
@@ -134,7 +134,7 @@ fn push_use(
     place: Place,
 ) -> Result<(), AllocError> {
     out.push_str(", usage ")?;
-    push_usage(out, usage)?;
+    push_mask(out, &usage)?;
     let name = sharing_name(sharing);
     write!(out, ", {name}")?;
     push_place(out, place)

@@ -10,5 +10,6 @@ mod points;
 mod ranges;
 mod rules;
 
-pub use points::{point_words, push_at};
+pub use masks::push_mask;
+pub use points::{point_words, push_at, push_number};
 pub use rules::sentence;

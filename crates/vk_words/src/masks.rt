@@ -1,27 +1,44 @@
+ghost use Rattle.std.specs.Prelude.{◌≡◌, ◌++◌, OnOk, string_bytes};
+ghost use Rattle.vk_words.specs.MaskText.{bar_text, others_text, mask_text};
+
 use bitflags::Flags;
 use std::alloc::AllocError;
-use vk_model::{Accesses, Stages, Usage};
 
-/// The names of the stages, with bars between, and other bits as a number; `none` where no bit is set.
-pub fn push_stages(out: &mut String, stages: Stages) -> Result<(), AllocError> {
-    if stages.is_empty() {
-        return out.push_str("none");
+/// Adds the names of the flags whose bits are all set, in the order of their table, with bars between; bits
+/// that no flag has as a number in hex after them; and `none` where no bit is set.
+///
+/// # Errors
+///
+/// Where no memory is left.
+pub fn push_mask<F: Flags<Bits = u32>>(out: &mut String, mask: &F) -> Result<(), AllocError>
+    ensures { F.exact → OnOk result (string_bytes out.new ≡ string_bytes out.old ++ mask_text F.table (F.set_of mask.now)) }
+{
+    let mut begun = false;
+    let flags = F::flags();
+    for flag in flags {
+        if mask.contains(F::from_bits_retain(flag.value().bits())) {
+            push_bar(out, begun)?;
+            out.push_str(flag.name())?;
+            begun = true;
+        }
     }
-    bitflags::parser::to_writer(&stages, out).map_err(|_| AllocError)
+    push_others(out, begun, mask.bits() & !F::all().bits())
 }
 
-/// The names of the accesses, as those of stages.
-pub fn push_accesses(out: &mut String, accesses: Accesses) -> Result<(), AllocError> {
-    if accesses.is_empty() {
-        return out.push_str("none");
-    }
-    bitflags::parser::to_writer(&accesses, out).map_err(|_| AllocError)
+/// A bar, where something stands before it.
+fn push_bar(out: &mut String, begun: bool) -> Result<(), AllocError>
+    ensures { OnOk result (string_bytes out.new ≡ string_bytes out.old ++ bar_text begun) }
+{
+    if begun { out.push_str(" | ") } else { Ok(()) }
 }
 
-/// The names of the usages, as those of stages.
-pub fn push_usage(out: &mut String, usage: Usage) -> Result<(), AllocError> {
-    if usage.is_empty() {
-        return out.push_str("none");
+/// The bits that no flag has.
+fn push_others(out: &mut String, begun: bool, others: u32) -> Result<(), AllocError>
+    ensures { OnOk result (string_bytes out.new ≡ string_bytes out.old ++ others_text begun others) }
+{
+    if others == 0 {
+        return if begun { Ok(()) } else { out.push_str("none") };
     }
-    bitflags::parser::to_writer(&usage, out).map_err(|_| AllocError)
+    push_bar(out, begun)?;
+    write!(out, "0x{others:x}")
 }

@@ -109,7 +109,12 @@ fn push_signal_at(out: &mut String, queue: u32, batch: &Batch, k: usize) -> Resu
     write!(out, " (queue {queue})")
 }
 
-fn push_number(out: &mut String, n: usize) -> Result<(), AllocError>
+/// Adds a number in decimal.
+///
+/// # Errors
+///
+/// Where no memory is left.
+pub fn push_number(out: &mut String, n: usize) -> Result<(), AllocError>
     ensures { OnOk result (string_bytes out.new ≡ string_bytes out.old ++ decimal n) }
 {
     let mut buffer = Buffer::new();
