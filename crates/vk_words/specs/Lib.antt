@@ -1,0 +1,3 @@
+pub mod MaskText
+pub mod Points
+pub mod Sentences

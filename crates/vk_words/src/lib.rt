@@ -1,0 +1,15 @@
+//! The points of a trace, masks and rules, in words.
+#![tactic(auto)]
+
+mod commands;
+mod elements;
+mod entries;
+mod masks;
+mod names;
+mod points;
+mod ranges;
+mod rules;
+
+pub use masks::push_mask;
+pub use points::{point_words, push_at, push_number};
+pub use rules::sentence;
