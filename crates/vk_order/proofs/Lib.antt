@@ -6,16 +6,16 @@ pub mod ElementPlaces
 mod Visibility
 pub mod LastWriter
 mod ActLemmas
-mod RowLemmas
+pub mod RowLemmas
 mod AwaitingLemmas
 mod EdgeLemmas
 mod ClockLemmas
 mod LineTests
 mod KeptLemmas
-mod NamedLemmas
+pub mod NamedLemmas
 mod ListLemmas
 mod PointLemmas
-mod BeforeLemmas
+pub mod BeforeLemmas
 mod SetLemmas
 mod KnownRows
 mod RowJoins

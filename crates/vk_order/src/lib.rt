@@ -29,6 +29,7 @@ mod unseen;
 mod writes;
 
 pub use access::Access;
+pub use acts::Row;
 pub use bytes::{Byte, ByteAccess};
 pub use frontier::Frontier;
 pub use laws::{
@@ -40,6 +41,8 @@ pub use lines::Line;
 pub use parts::{Part, Spot};
 pub use point::{Act, Action, Point};
 pub use points::Points;
+pub use rows::rows_of;
 pub use sights::Sight;
 pub use units::Units;
 pub use unseen::SeenUntil;
+pub use writes::{is_acquire, is_release};

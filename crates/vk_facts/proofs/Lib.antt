@@ -1,0 +1,9 @@
+pub mod Members
+pub mod AreaLemmas
+pub mod CommandAreas
+pub mod AlikeLemmas
+pub mod RowNodes
+pub mod SeenAlike
+pub mod HazardLemmas
+pub mod MakerLemmas
+pub mod PastLemmas

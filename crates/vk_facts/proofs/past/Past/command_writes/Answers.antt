@@ -1,0 +1,46 @@
+use Rattle.std.proofs.Common.{ℕ, ◌+◌, ◌%◌, List, map, subst, ap, ◌∙◌}
+use Rattle.std.specs.List.{enumerate_from}
+use Rattle.vk_model.specs.Basics.{below, byte_of}
+use Rattle.vk_model.specs.World.Bytes.{in_buffer}
+use Rattle.vk_model.specs.Sync.Access.{targets}
+use Rattle.vk_facts.specs.Areas.{AreAreas}
+use Rattle.vk_model.specs.World.ByteWrites.{Value, byte_write, fill_size, clear_writes, copy_in_writes, copy_out_writes, copy_image_writes}
+use Rattle.vk_facts.proofs.CommandAreas.{written_as, written_by}
+use Rattle.vk_facts.proofs.past.Past.command_writes.Goals as goal
+
+pub returns-in_ok-areas-in-Clear : goal.returns-in_ok-areas-in-Clear
+returns-in_ok-areas-in-Clear c =
+    let w = c.in-Clear in
+    written_by c.args.self.now c.in_ok-areas-in-Clear.areas.items _ _ w.is
+    (written_as (λ o. clear_writes w.image w.color o) c.in_ok-areas-in-Clear.areas.items _ _ _ _ c.image.ensures c.as_slice-in-Clear.ensures (c.in_ok-areas-in-Clear.ensures w.color))
+
+pub returns-in_ok-areas-in-CopyIn : goal.returns-in_ok-areas-in-CopyIn
+returns-in_ok-areas-in-CopyIn c =
+    let w = c.in-CopyIn in
+    written_by c.args.self.now c.in_ok-areas-in-CopyIn.areas.items _ _ w.is
+    (written_as (copy_in_writes w.buffer w.image) c.in_ok-areas-in-CopyIn.areas.items _ _ _ _ c.image-info.ensures c.as_slice-in-CopyIn.ensures (c.in_ok-areas-in-CopyIn.ensures w.buffer))
+
+pub returns-in_ok-areas-in-CopyOut : goal.returns-in_ok-areas-in-CopyOut
+returns-in_ok-areas-in-CopyOut c =
+    let w = c.in-CopyOut in
+    written_by c.args.self.now c.in_ok-areas-in-CopyOut.areas.items _ _ w.is
+    (written_as (copy_out_writes w.image w.buffer) c.in_ok-areas-in-CopyOut.areas.items _ _ _ _ c.image-info-in-CopyOut.ensures c.as_slice-in-CopyOut.ensures (c.in_ok-areas-in-CopyOut.ensures w.image))
+
+pub returns-in_ok-areas-in-CopyImage : goal.returns-in_ok-areas-in-CopyImage
+returns-in_ok-areas-in-CopyImage c =
+    let w = c.in-CopyImage in
+    written_by c.args.self.now c.in_ok-areas-in-CopyImage.areas.items _ _ w.is
+    (written_as (copy_image_writes w.source w.destination) c.in_ok-areas-in-CopyImage.areas.items _ _ _ _ c.image-info-in-CopyImage.ensures c.as_slice-in-CopyImage.ensures (c.in_ok-areas-in-CopyImage.ensures w.source))
+
+pub returns-in_ok-areas-in-Fill : goal.returns-in_ok-areas-in-Fill
+returns-in_ok-areas-in-Fill c =
+    let w = c.in-Fill in
+    let size = c.filled-size.ensures ∙ ap (λ (m : ℕ). fill_size m w.offset w.size) c.buffer_size.ensures in
+    written_by c.args.self.now c.in_ok-areas-in-Fill.areas.items _ _ w.is
+    (subst (λ (n : ℕ). AreAreas c.in_ok-areas-in-Fill.areas.items (targets (map (λ k. byte_write (in_buffer w.buffer (w.offset + k)) (Value (byte_of w.word (k % 4)))) (below n)))) size (c.in_ok-areas-in-Fill.ensures w.word))
+
+pub returns-in_ok-areas-in-Update : goal.returns-in_ok-areas-in-Update
+returns-in_ok-areas-in-Update c =
+    let w = c.in-Update in
+    written_by c.args.self.now c.in_ok-areas-in-Update.areas.items _ _ w.is
+    (subst (λ (l : List ℕ). AreAreas c.in_ok-areas-in-Update.areas.items (targets (map (λ p. byte_write (in_buffer w.buffer (w.offset + p.0)) (Value p.1)) (enumerate_from 0 l)))) c.as_slice.ensures c.in_ok-areas-in-Update.ensures)

@@ -1,0 +1,4 @@
+-- What only the contracts within the crate cite.
+pub mod IsRead
+pub mod Parts
+pub mod Pairs

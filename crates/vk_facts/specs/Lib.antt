@@ -1,0 +1,5 @@
+pub mod Makers
+pub mod Areas
+pub mod Hazards
+pub mod Latest
+pub mod Inner
