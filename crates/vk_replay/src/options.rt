@@ -1,6 +1,6 @@
-use clap::error::ErrorKind;
-use clap::{Arg, ArgMatches, Command, Error, value_parser};
+use clap::{Arg, ArgMatches, Command, value_parser};
 use std::alloc::{AllocError, Global};
+use vk_console::OptionsError;
 use vk_model::Config;
 
 /// Which of the pieces and entries that may come next is picked.
@@ -21,31 +21,6 @@ pub struct Options {
     pub config: Config,
     /// Which order is tried.
     pub order: Order,
-}
-
-/// Why the command line asks for nothing.
-#[derive(Drop)]
-pub enum OptionsError {
-    /// An allocation failed.
-    NoMemory,
-    /// The arguments are refused, or ask for help; with the text to show.
-    Refused(Error),
-}
-
-impl From<AllocError> for OptionsError {
-    fn from(_refused: AllocError) -> OptionsError {
-        OptionsError::NoMemory
-    }
-}
-
-impl From<Error> for OptionsError {
-    fn from(error: Error) -> OptionsError {
-        if error.kind() == ErrorKind::OutOfMemory {
-            OptionsError::NoMemory
-        } else {
-            OptionsError::Refused(error)
-        }
-    }
 }
 
 /// Bytes of each heap where nothing else is said.

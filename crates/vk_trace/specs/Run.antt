@@ -62,7 +62,7 @@ IsOfReading ReadFault = Unit {0}
 IsOfReading (WriteFault n) = ⊥
 
 -- The input was read to its end, and looked at: it was answered, or is no trace.
-abbrev pub IsJudged : Result Status RunError → Type 0
+abbrev pub IsJudged : {S : Type 0} → Result S RunError → Type 0
 IsJudged (Ok status) = Unit {0}
 IsJudged (Err NotTrace) = Unit {0}
 IsJudged (Err _) = ⊥

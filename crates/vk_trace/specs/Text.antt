@@ -3,8 +3,7 @@ use Rattle.std.specs.Prelude.{ℕ, List, [], ◌++◌, codes, decimal, Option, S
 use Rattle.std.specs.List.{flat_map}
 use Rattle.hex.specs.Hex.{encode_lower}
 use Rattle.vk_model.specs.Rules.Names.{rule_name}
-use Rattle.vk_model.specs.declared.rule.At.{At}
-use Rattle.vk_model.specs.declared.rule.At.TheVariants.{Entry, Command, Wait, Signal}
+use Rattle.vk_words.specs.Points.{at_text}
 use Rattle.vk_trace.specs.declared.printing.Outcome.{Outcome}
 use Rattle.vk_trace.specs.declared.printing.Outcome.TheVariants.{Reads, Refused}
 
@@ -16,17 +15,6 @@ read_line r = decimal r.0 ++ codes " " ++ encode_lower r.1 ++ codes "\n"
 abbrev pub stop_line : Option ℕ → List ℕ
 stop_line None = []
 stop_line (Some e) = codes "stopped " ++ decimal e ++ codes " NO_ROOM\n"
-
--- An item of a batch by the entry, the batch, a mark, and its place in the list (profile).
-abbrev pub batch_item_text : ℕ → ℕ → List ℕ → ℕ → List ℕ
-batch_item_text e b mark k = decimal e ++ codes "." ++ decimal b ++ mark ++ decimal k
-
--- A point of a trace; all numbers count from 0 (profile).
-abbrev pub at_text : At → List ℕ
-at_text (Entry e) = decimal e
-at_text (Command e b c) = batch_item_text e b (codes ".") c
-at_text (Wait e b k) = batch_item_text e b (codes ".w") k
-at_text (Signal e b k) = batch_item_text e b (codes ".s") k
 
 -- A line for each read, in order, and the stop; or the first point that breaks a rule, with the rule (profile).
 abbrev pub lines_of : Outcome → List ℕ

@@ -15,5 +15,5 @@ mod watched;
 pub use errors::{ReadTraceError, RunError};
 pub use printing::{Outcome, text};
 pub use reading::read_trace;
-pub use running::{Answer, Status, answer_of, run};
+pub use running::{Answer, Status, answer_of, read_all, run, write_all};
 pub use watched::Watched;

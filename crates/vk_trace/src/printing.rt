@@ -1,10 +1,10 @@
-ghost use Rattle.std.specs.Prelude.{◌≡◌, ◌++◌, IfOk, OnOk, string_bytes, decimal};
+ghost use Rattle.std.specs.Prelude.{◌≡◌, ◌++◌, IfOk, OnOk, string_bytes};
 ghost use Rattle.std.specs.List.{flat_map};
-ghost use Rattle.vk_trace.specs.Text.{read_line, stop_line, batch_item_text, at_text, lines_of};
+ghost use Rattle.vk_trace.specs.Text.{read_line, stop_line, lines_of};
 
-use itoa::Buffer;
 use std::alloc::{AllocError, Global};
 use vk_model::{At, Rule, Sequence};
+use vk_words::{push_at, push_number};
 
 /// What there is to report of a trace. Entries are named by their place in the trace, from 0 on.
 #[derive(Debug, Drop)]
@@ -74,38 +74,4 @@ fn push_refusal(out: &mut String, at: At, rule: Rule) -> Result<(), AllocError>
     out.push_str(" ")?;
     out.push_str(rule.name())?;
     out.push_str("\n")
-}
-
-fn push_number(out: &mut String, n: usize) -> Result<(), AllocError>
-    ensures { OnOk result (string_bytes out.new ≡ string_bytes out.old ++ decimal n) }
-{
-    let mut buffer = Buffer::new();
-    out.push_str(buffer.format(n))
-}
-
-fn push_batch_item(
-    out: &mut String,
-    e: usize,
-    b: usize,
-    mark: &str,
-    k: usize,
-) -> Result<(), AllocError>
-    ensures { OnOk result (string_bytes out.new ≡ string_bytes out.old ++ batch_item_text e b mark.now k) }
-{
-    push_number(out, e)?;
-    out.push_str(".")?;
-    push_number(out, b)?;
-    out.push_str(mark)?;
-    push_number(out, k)
-}
-
-fn push_at(out: &mut String, at: At) -> Result<(), AllocError>
-    ensures { OnOk result (string_bytes out.new ≡ string_bytes out.old ++ at_text at) }
-{
-    match at {
-        At::Entry(e) => push_number(out, e),
-        At::Command(e, b, c) => push_batch_item(out, e, b, ".", c),
-        At::Wait(e, b, k) => push_batch_item(out, e, b, ".w", k),
-        At::Signal(e, b, k) => push_batch_item(out, e, b, ".s", k),
-    }
 }

@@ -103,8 +103,13 @@ fn zeroes(alloc: Global, size: usize) -> Result<Vec<u8>, AllocError>
     vec![in alloc; 0u8; size]
 }
 
-/// Reads to the end.
-fn read_all<R: Read>(alloc: Global, reader: &mut Watched<R>) -> Result<Vec<u8>, RunError>
+/// Reads the input of a trace to its end.
+///
+/// # Errors
+///
+/// `ReadFault` where a read failed, `TooLong` where the input has more than 16,777,216 bytes or no end after
+/// 1,048,576 reads, `NoMemory`.
+pub fn read_all<R: Read>(alloc: Global, reader: &mut Watched<R>) -> Result<Vec<u8>, RunError>
     requires { reader.old.failed ≡ false }
     ensures ok { IfOk result (λ v. IfSome (R.remaining reader.old.inner) (λ input. input ≡ v.items)) }
     ensures kinds { IfErr result IsOfReading }
@@ -189,7 +194,11 @@ fn outcome_of<S: Scheduler>(
 }
 
 /// Writes all the bytes.
-fn write_all<W: Write>(writer: &mut Watched<W>, bytes: &[u8]) -> Result<(), RunError>
+///
+/// # Errors
+///
+/// `WriteFault` where a write failed, with how many bytes were written before; they are the first ones.
+pub fn write_all<W: Write>(writer: &mut Watched<W>, bytes: &[u8]) -> Result<(), RunError>
     requires { writer.old.failed ≡ false }
     ensures ok { OnOk result (Appends (W.contents writer.old.inner) (W.contents writer.new.inner) bytes.now) }
     ensures unharmed { OnOk result (writer.new.failed ≡ false) }

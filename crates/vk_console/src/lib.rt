@@ -1,0 +1,9 @@
+//! What the programs share: the arguments of the command line, what is said on standard error, and the
+//! exit statuses of errors.
+#![tactic(auto)]
+
+mod command_line;
+mod statuses;
+
+pub use command_line::{OptionsError, arguments, complain, refuse};
+pub use statuses::{COMMAND_LINE_REFUSED, error_status};

@@ -1,0 +1,61 @@
+-- What is said of a trace. The forms are our own (profile).
+use Rattle.std.specs.Prelude.{◌≡◌, ℕ, List, ◌++◌, codes, Option, Some, None}
+use Rattle.vk_model.specs.declared.entry.Entry.{Entry}
+use Rattle.vk_model.specs.declared.rule.At.{At}
+use Rattle.vk_model.specs.declared.rule.Rule.{Rule}
+use Rattle.vk_model.specs.Rules.Names.{rule_name}
+use Rattle.vk_model.specs.Rules.Table.{first_fault}
+use Rattle.vk_words.specs.Points.{kind_text, at_text, BeginsWith}
+use Rattle.vk_words.specs.Sentences.{rule_sentence}
+use Rattle.vk_trace.specs.declared.printing.Outcome.TheVariants.{Refused as RefusedBy}
+use Rattle.vk_trace.specs.Trace.{IsTrace}
+use Rattle.vk_trace.specs.Text.{lines_of}
+use Rattle.vk_explain.specs.declared.forms.Form.{Form}
+use Rattle.vk_explain.specs.declared.forms.Form.TheVariants.{Text, Json}
+use Rattle.vk_explain.specs.declared.explaining.Judgment.{Judgment}
+use Rattle.vk_explain.specs.declared.explaining.Judgment.TheVariants.{Accepted, Refused}
+
+-- The verdict on a trace with this first fault (profile).
+abbrev pub judgment_of : Option (At × Rule) → Judgment
+judgment_of None = Accepted
+judgment_of (Some fault) = Refused
+
+-- The line with what a rule says (profile).
+abbrev pub rule_line : Rule → List ℕ
+rule_line rule = codes "  " ++ rule_name rule ++ codes ": " ++ rule_sentence rule ++ codes "\n"
+
+-- The text begins with the line of the refusal, as a replay writes it; then come what begins with the name of that point, and what that rule says (profile).
+pub record IsRefusalText (at : At) (rule : Rule) (text : List ℕ) : Type 0 where
+  pub point : List ℕ
+  pub named : BeginsWith (kind_text at ++ at_text at) point
+  pub told : BeginsWith (lines_of (RefusedBy at rule) ++ point ++ rule_line rule) text
+
+-- The text begins with a line that says that the trace is accepted (profile).
+abbrev pub IsAcceptanceText : List ℕ → Type 0
+IsAcceptanceText text = BeginsWith (codes "accepted\n") text
+
+-- The first members of the object on a refused trace (profile).
+abbrev pub json_verdict : At → Rule → List ℕ
+json_verdict at rule = codes "{\"verdict\":\"refused\",\"at\":\"" ++ at_text at ++ codes "\",\"rule\":\"" ++ rule_name rule ++ codes "\""
+
+-- The text begins with the verdict, the point and the rule (profile).
+abbrev pub IsRefusalJson : At → Rule → List ℕ → Type 0
+IsRefusalJson at rule text = BeginsWith (json_verdict at rule) text
+
+-- The text begins with the verdict (profile).
+abbrev pub IsAcceptanceJson : List ℕ → Type 0
+IsAcceptanceJson text = BeginsWith (codes "{\"verdict\":\"accepted\"") text
+
+-- What the text on a trace with this first fault says (profile).
+abbrev pub IsExplanation : Form → Option (At × Rule) → List ℕ → Type 0
+IsExplanation Text None text = IsAcceptanceText text
+IsExplanation Text (Some fault) text = IsRefusalText fault.0 fault.1 text
+IsExplanation Json None text = IsAcceptanceJson text
+IsExplanation Json (Some fault) text = IsRefusalJson fault.0 fault.1 text
+
+-- The input is a trace, and what is said of it is its verdict: accepted exactly where the definitions find no fault, else refused by its first fault.
+pub record Explains (form : Form) (input text : List ℕ) (judgment : Judgment) : Type 0 where
+  pub entries : List Entry
+  pub trace : IsTrace input entries
+  pub judged : judgment ≡ judgment_of (first_fault entries)
+  pub said : IsExplanation form (first_fault entries) text

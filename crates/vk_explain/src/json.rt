@@ -1,0 +1,130 @@
+ghost use Rattle.std.specs.Prelude.{◌≡◌, ◌++◌, codes, IfOk, string_bytes};
+ghost use Rattle.vk_explain.specs.Explained.{json_verdict, IsRefusalJson, IsAcceptanceJson};
+
+use crate::notes::{note_words, notes_of};
+use crate::places::place_of;
+use crate::summary::{Summary, summary_of};
+use serde_json::Value;
+use std::alloc::{AllocError, Global};
+use vk_model::{At, Entry, Rule};
+use vk_words::{point_words, push_at, sentence};
+
+/// The object on a refused trace: verdict, point, rule, the point's place in the input and in words, and
+/// what the rule says.
+pub fn refusal_json(
+    alloc: Global,
+    input: &[u8],
+    trace: &[Entry],
+    at: At,
+    rule: Rule,
+) -> Result<String, AllocError>
+    ensures { IfOk result (λ text. IsRefusalJson at rule (string_bytes text)) }
+{
+    let mut text = verdict_members(alloc, at, rule)?;
+    let members = point_members(alloc, input, trace, at, rule)?;
+    text.push_str(members.as_str())?;
+    Ok(text)
+}
+
+/// The members that say the verdict.
+fn verdict_members(alloc: Global, at: At, rule: Rule) -> Result<String, AllocError>
+    ensures { IfOk result (λ text. string_bytes text ≡ json_verdict at rule) }
+{
+    let mut text = String::from_str(alloc, "{\"verdict\":\"refused\",\"at\":\"")?;
+    push_at(&mut text, at)?;
+    text.push_str("\",\"rule\":\"")?;
+    text.push_str(rule.name())?;
+    text.push_str("\"")?;
+    Ok(text)
+}
+
+/// The members that say more of the point and its rule, and the end of the object.
+fn point_members(
+    alloc: Global,
+    input: &[u8],
+    trace: &[Entry],
+    at: At,
+    rule: Rule,
+) -> Result<String, AllocError> {
+    let mut members = String::new(alloc);
+    if let Some(place) = place_of(input, at) {
+        let line = place.line;
+        let column = place.column;
+        write!(members, ",\"line\":{line},\"column\":{column}")?;
+    }
+    members.push_str(",\"point\":")?;
+    let words = point_words(alloc, trace, at)?;
+    push_quoted(alloc, &mut members, words)?;
+    members.push_str(",\"sentence\":")?;
+    let said = String::from_str(alloc, sentence(rule))?;
+    push_quoted(alloc, &mut members, said)?;
+    push_notes(alloc, &mut members, trace)?;
+    members.push_str("}\n")?;
+    Ok(members)
+}
+
+/// The member with the notes on the trace.
+fn push_notes(alloc: Global, members: &mut String, trace: &[Entry]) -> Result<(), AllocError> {
+    members.push_str(",\"notes\":[")?;
+    let notes = notes_of(alloc, trace)?;
+    for (number, note) in notes.iter().enumerate() {
+        if number > 0 {
+            members.push_str(",")?;
+        }
+        let words = note_words(alloc, *note)?;
+        push_quoted(alloc, members, words)?;
+    }
+    members.push_str("]")
+}
+
+/// A text as a string of JSON.
+fn push_quoted(alloc: Global, out: &mut String, text: String) -> Result<(), AllocError> {
+    let quoted = Value::String(text).to_string(alloc)?;
+    out.push_str(quoted.as_str())
+}
+
+/// The object on an accepted trace: verdict, and what the trace has.
+pub fn acceptance_json(alloc: Global, trace: &[Entry]) -> Result<String, AllocError>
+    ensures { IfOk result (λ text. IsAcceptanceJson (string_bytes text)) }
+{
+    let mut text = String::from_str(alloc, "{\"verdict\":\"accepted\"")?;
+    let summary = summary_of(alloc, trace)?;
+    let members = summary_members(alloc, trace, &summary)?;
+    text.push_str(members.as_str())?;
+    Ok(text)
+}
+
+/// The members that say what the trace has, and the end of the object.
+fn summary_members(
+    alloc: Global,
+    trace: &[Entry],
+    summary: &Summary,
+) -> Result<String, AllocError> {
+    let mut members = String::new(alloc);
+    push_member(&mut members, "entries", summary.entries)?;
+    push_member(&mut members, "points", summary.points)?;
+    push_member(&mut members, "buffers", summary.buffers)?;
+    push_member(&mut members, "images", summary.images)?;
+    push_member(&mut members, "memory_objects", summary.memory_objects)?;
+    push_member(&mut members, "semaphores", summary.semaphores)?;
+    push_member(&mut members, "events", summary.events)?;
+    members.push_str(",\"queues\":[")?;
+    for (queue, submitted) in summary.queues.iter().enumerate() {
+        if queue > 0 {
+            members.push_str(",")?;
+        }
+        let batches = submitted.batches;
+        let commands = submitted.commands;
+        write!(members, "{{\"batches\":{batches},\"commands\":{commands}}}")?;
+    }
+    let bytes = summary.read_bytes;
+    write!(members, "],\"read_bytes\":{bytes}")?;
+    push_notes(alloc, &mut members, trace)?;
+    members.push_str("}\n")?;
+    Ok(members)
+}
+
+/// A member with a number.
+fn push_member(members: &mut String, name: &str, number: usize) -> Result<(), AllocError> {
+    write!(members, ",\"{name}\":{number}")
+}

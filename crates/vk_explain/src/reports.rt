@@ -1,0 +1,156 @@
+ghost use Rattle.std.specs.Prelude.{◌≡◌, ◌++◌, codes, IfOk, string_bytes};
+ghost use Rattle.vk_words.specs.Points.{kind_text, at_text, BeginsWith};
+ghost use Rattle.vk_explain.specs.Explained.{rule_line, IsRefusalText, IsAcceptanceText};
+
+use crate::notes::{MOST_NOTES, note_words, notes_of};
+use crate::places::place_of;
+use crate::summary::{Summary, summary_of};
+use std::alloc::{AllocError, Global};
+use vk_model::{At, Entry, Rule};
+use vk_trace::Outcome;
+use vk_words::{point_words, sentence};
+
+/// The lines on a refused trace: the verdict, the point in words, and what the rule says.
+pub fn refusal_text(
+    alloc: Global,
+    input: &[u8],
+    trace: &[Entry],
+    at: At,
+    rule: Rule,
+) -> Result<String, AllocError>
+    ensures { IfOk result (λ text. IsRefusalText at rule (string_bytes text)) }
+{
+    let mut text = vk_trace::text(alloc, &Outcome::Refused(at, rule))?;
+    let point = point_line(alloc, input, trace, at)?;
+    text.push_str(point.as_str())?;
+    let line = line_of_rule(alloc, rule)?;
+    text.push_str(line.as_str())?;
+    let notes = note_lines(alloc, trace)?;
+    text.push_str(notes.as_str())?;
+    Ok(text)
+}
+
+/// The line with the point in words, and where it is in the input.
+fn point_line(alloc: Global, input: &[u8], trace: &[Entry], at: At) -> Result<String, AllocError>
+    ensures { IfOk result (λ line. BeginsWith (kind_text at ++ at_text at) (string_bytes line)) }
+{
+    let mut line = point_words(alloc, trace, at)?;
+    let place = place_words(alloc, input, at)?;
+    line.push_str(place.as_str())?;
+    Ok(line)
+}
+
+/// Where the point is in the input, and the end of the line.
+fn place_words(alloc: Global, input: &[u8], at: At) -> Result<String, AllocError> {
+    match place_of(input, at) {
+        Some(place) => {
+            let line = place.line;
+            let column = place.column;
+            format!(in alloc; " (line {line}, column {column})\n")
+        }
+        None => String::from_str(alloc, "\n"),
+    }
+}
+
+/// The line with what the rule says.
+fn line_of_rule(alloc: Global, rule: Rule) -> Result<String, AllocError>
+    ensures { IfOk result (λ line. string_bytes line ≡ rule_line rule) }
+{
+    let mut line = String::from_str(alloc, "  ")?;
+    line.push_str(rule.name())?;
+    line.push_str(": ")?;
+    line.push_str(sentence(rule))?;
+    line.push_str("\n")?;
+    Ok(line)
+}
+
+/// The lines on an accepted trace: the verdict, and what the trace has.
+pub fn acceptance_text(alloc: Global, trace: &[Entry]) -> Result<String, AllocError>
+    ensures { IfOk result (λ text. IsAcceptanceText (string_bytes text)) }
+{
+    let mut text = String::from_str(alloc, "accepted\n")?;
+    let summary = summary_of(alloc, trace)?;
+    let lines = summary_lines(alloc, &summary)?;
+    text.push_str(lines.as_str())?;
+    let notes = note_lines(alloc, trace)?;
+    text.push_str(notes.as_str())?;
+    Ok(text)
+}
+
+/// A line for each note on the trace.
+fn note_lines(alloc: Global, trace: &[Entry]) -> Result<String, AllocError> {
+    let mut lines = String::new(alloc);
+    let notes = notes_of(alloc, trace)?;
+    for note in &notes {
+        lines.push_str("note: ")?;
+        let words = note_words(alloc, *note)?;
+        lines.push_str(words.as_str())?;
+        lines.push_str("\n")?;
+    }
+    if notes.len() >= MOST_NOTES {
+        lines.push_str("note: there may be more to note\n")?;
+    }
+    Ok(lines)
+}
+
+/// What a trace has, in lines.
+fn summary_lines(alloc: Global, summary: &Summary) -> Result<String, AllocError> {
+    let mut lines = String::new(alloc);
+    push_count(&mut lines, "", summary.entries, "entry", "entries")?;
+    push_count(&mut lines, ", ", summary.points, "point", "points")?;
+    push_made(&mut lines, summary)?;
+    for (queue, submitted) in summary.queues.iter().enumerate() {
+        if submitted.batches > 0 {
+            write!(lines, "\nqueue {queue}")?;
+            push_count(&mut lines, ": ", submitted.batches, "batch", "batches")?;
+            push_count(&mut lines, ", ", submitted.commands, "command", "commands")?;
+        }
+    }
+    let bytes = summary.read_bytes;
+    write!(lines, "\nthe host reads {bytes} bytes\n")?;
+    Ok(lines)
+}
+
+/// How many objects of each kind are made.
+fn push_made(lines: &mut String, summary: &Summary) -> Result<(), AllocError> {
+    let begun = push_objects(lines, false, summary.buffers, "buffer", "buffers")?;
+    let begun = push_objects(lines, begun, summary.images, "image", "images")?;
+    let objects = summary.memory_objects;
+    let begun = push_objects(lines, begun, objects, "memory object", "memory objects")?;
+    let begun = push_objects(lines, begun, summary.semaphores, "semaphore", "semaphores")?;
+    push_objects(lines, begun, summary.events, "event", "events")?;
+    Ok(())
+}
+
+/// How many objects of a kind are made, where there are some, and whether there were some so far.
+fn push_objects(
+    lines: &mut String,
+    begun: bool,
+    count: usize,
+    one: &str,
+    several: &str,
+) -> Result<bool, AllocError> {
+    if count == 0 {
+        return Ok(begun);
+    }
+    if begun {
+        push_count(lines, ", ", count, one, several)?;
+    } else {
+        push_count(lines, "\nmakes ", count, one, several)?;
+    }
+    Ok(true)
+}
+
+/// Something before it, a count, and what is counted.
+fn push_count(
+    lines: &mut String,
+    before: &str,
+    count: usize,
+    one: &str,
+    several: &str,
+) -> Result<(), AllocError> {
+    match count {
+        1 => write!(lines, "{before}1 {one}"),
+        _ => write!(lines, "{before}{count} {several}"),
+    }
+}

@@ -1,0 +1,93 @@
+use std::alloc::{AllocError, Global};
+use vk_model::{Batch, Entry};
+use vk_queues::reference_order;
+
+/// What is submitted to a queue.
+#[derive(Clone, Copy, Debug, PartialEq, Eq)]
+pub struct QueueSummary {
+    /// How many batches.
+    pub batches: usize,
+    /// How many commands they have.
+    pub commands: usize,
+}
+
+/// What a trace has.
+#[derive(Clone, Copy, Debug, PartialEq, Eq)]
+pub struct Summary {
+    /// How many entries.
+    pub entries: usize,
+    /// How many points: entries, and waits, commands and signals of the batches that are started.
+    pub points: usize,
+    /// How many buffers are made.
+    pub buffers: usize,
+    /// How many images are made.
+    pub images: usize,
+    /// How many memory objects are made.
+    pub memory_objects: usize,
+    /// How many semaphores are made.
+    pub semaphores: usize,
+    /// How many events are made.
+    pub events: usize,
+    /// What is submitted to the queues 0 to 3.
+    pub queues: [QueueSummary; 4],
+    /// How many bytes the host reads.
+    pub read_bytes: u64,
+}
+
+/// What a trace has. Counts stay at the greatest number of their type where they would pass it.
+///
+/// # Errors
+///
+/// Where no memory is left.
+pub fn summary_of(alloc: Global, trace: &[Entry]) -> Result<Summary, AllocError> {
+    let points = reference_order(alloc, trace)?;
+    let nothing = QueueSummary {
+        batches: 0,
+        commands: 0,
+    };
+    let mut summary = Summary {
+        entries: trace.len(),
+        points: points.len(),
+        buffers: 0,
+        images: 0,
+        memory_objects: 0,
+        semaphores: 0,
+        events: 0,
+        queues: [nothing, nothing, nothing, nothing],
+        read_bytes: 0,
+    };
+    for entry in trace {
+        summary.count(entry);
+    }
+    Ok(summary)
+}
+
+impl Summary {
+    /// Counts an entry.
+    fn count(&mut self, entry: &Entry) {
+        match entry {
+            Entry::Buffer { .. } => self.buffers = self.buffers.saturating_add(1),
+            Entry::Image { .. } => self.images = self.images.saturating_add(1),
+            Entry::Memory { .. } => self.memory_objects = self.memory_objects.saturating_add(1),
+            Entry::Semaphore { .. } => self.semaphores = self.semaphores.saturating_add(1),
+            Entry::Event { .. } => self.events = self.events.saturating_add(1),
+            Entry::Read { size, .. } => self.read_bytes = self.read_bytes.saturating_add(*size),
+            Entry::Submit { queue, batches } => self.count_batches(*queue, batches.as_slice()),
+            _ => {}
+        }
+    }
+
+    /// Counts the batches of a submit.
+    fn count_batches(&mut self, queue: u32, batches: &[Batch]) {
+        let queue = queue as usize;
+        if queue >= self.queues.len() {
+            return;
+        }
+        let mut counted = self.queues[queue];
+        for batch in batches {
+            counted.batches = counted.batches.saturating_add(1);
+            counted.commands = counted.commands.saturating_add(batch.commands.len());
+        }
+        self.queues[queue] = counted;
+    }
+}

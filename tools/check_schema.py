@@ -1,0 +1,71 @@
+#!/usr/bin/env python3
+"""Checks docs/trace.schema.json: that it is a schema, that the traces of examples/ and of docs/ fit it,
+and that what is no trace doesn't. It needs jsonschema (Debian: python3-jsonschema). Traces with pools,
+which no program takes yet, are no traces. Prints 'N passed, M failed'."""
+
+import json
+import pathlib
+import sys
+
+import jsonschema
+
+TOP = pathlib.Path(__file__).resolve().parent.parent
+
+# Texts that are JSON and no trace.
+NO_TRACES = [
+    '{}',
+    '[[]]',
+    '["map",1]',
+    '[["map"]]',
+    '[["map",1,2]]',
+    '[["map",-1]]',
+    '[["map",4294967296]]',
+    '[["map","1"]]',
+    '[["Map",1]]',
+    '[["write",1,0,"0"]]',
+    '[["write",1,0,"0g"]]',
+    '[["flush",1,0,"Whole"]]',
+    '[["read",1,0,"whole"]]',
+    '[["wait",[[1]]]]',
+    '[["submit",0,[[[],[]]]]]',
+    '[["submit",0,[[[],[["fill",1,0,16]],[]]]]]',
+    '[["submit",0,[[[],[["barrier",[[1,2,3]],[],[]]],[]]]]]',
+    '[["submit",0,[[[],[["set",1,[],[]]],[]]]]]',
+    '[["buffer",1,16,3,"shared",["dedicated",1]]]',
+    '[["buffer",1,16,3,"exclusive",["dedicated",1,0]]]',
+    '[["image",1,"R8_SINT",8,8,1,1,"optimal",3,"exclusive",["dedicated",0]]]',
+    '[["pool",1,"linear",1,1024,1]]',
+]
+
+
+def traces():
+    """Each trace with where it stands."""
+    for path in sorted((TOP / 'examples').glob('*.json')):
+        if not path.name.endswith('.explained.json'):
+            yield path.name, path.read_text()
+    for page in ('RULES.md', 'RULES_HAZARDS.md', 'WORKED_PAIRS.md', 'FORMAT.md'):
+        inside = False
+        for number, line in enumerate((TOP / 'docs' / page).read_text().splitlines(), 1):
+            if line.startswith('```'):
+                inside = line == '```json'
+            elif inside:
+                yield f'{page}:{number}', line
+
+
+def main():
+    schema = json.loads((TOP / 'docs' / 'trace.schema.json').read_text())
+    jsonschema.Draft202012Validator.check_schema(schema)
+    validator = jsonschema.Draft202012Validator(schema)
+    wanted = [(where, text, '["pool",' not in text) for where, text in traces()]
+    wanted += [(text, text, False) for text in NO_TRACES]
+    failed = 0
+    for where, text, fits in wanted:
+        if validator.is_valid(json.loads(text)) != fits:
+            failed += 1
+            print(f'{where}: {"no trace" if fits else "a trace"} by the schema')
+    print(f'{len(wanted) - failed} passed, {failed} failed')
+    return 1 if failed else 0
+
+
+if __name__ == '__main__':
+    sys.exit(main())
