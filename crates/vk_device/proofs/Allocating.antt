@@ -4,7 +4,8 @@ use Rattle.vk_model.specs.declared.entry.Entry.{Entry}
 use Rattle.vk_model.specs.Memory.Allocations.{Allocated, FindsNoRoom, Changes, Applied as AppliedAll}
 use Rattle.vk_resources.specs.declared.applied.Applied.{Applied}
 use Rattle.vk_resources.specs.declared.applied.Applied.TheVariants as applied
-use Rattle.vk_resources.specs.Allocating.{Allotted, Fulfils, allotted, Rooms, Allots, IsAllocated}
+use Rattle.vk_backing.specs.Allotted.{Allotted, Fulfils}
+use Rattle.vk_resources.specs.Allocating.{allotted, Rooms, Allots, IsAllocated}
 use Rattle.vk_resources.specs.Held.{Held}
 
 -- what is allotted the same is allocated the same

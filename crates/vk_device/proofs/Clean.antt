@@ -21,13 +21,14 @@ use Rattle.vk_model.specs.declared.resource.ImageInfo.{ImageInfo}
 use Rattle.vk_model.specs.Trace.Image.{image_size}
 use Rattle.vk_model.specs.declared.resource.Place.{Place}
 use Rattle.vk_model.specs.declared.resource.Place.TheVariants as place
-use Rattle.vk_history.specs.Supported.{is_supported, is_supported_action, is_supported_place}
+use Rattle.vk_history.specs.Supported.{is_supported, is_supported_action}
 use Rattle.vk_device.specs.Inner.Clean.{IsClean}
 use Rattle.vk_device.specs.Inner.Fits.{FitsAction, AllFit}
 use Rattle.vk_resources.specs.Fits.{FitsFill, FitsCommand, IsUnused, FitsPlace, FitsRange, FitsLength, FitsEntry}
 use Rattle.vk_transfer.specs.Copies.{FitsBuffers}
 use Rattle.vk_model.specs.Basics.{holds}
-use Rattle.vk_model.specs.Rules.Ids.{is_buffer, is_memory as makes_memory, is_resource, asked_by_entry}
+use Rattle.vk_model.specs.Rules.Ids.{is_buffer, is_memory as makes_memory, is_pool as makes_pool, is_resource, asked_by_entry, asked_by_place}
+use Rattle.vk_model.specs.Memory.Suballocation.{IsRequest}
 use Rattle.vk_model.specs.Rules.Binding.{is_misplaced}
 use Rattle.vk_model.specs.Rules.Fault.{Comes}
 use Rattle.vk_model.specs.World.Areas.{Area, Bytes}
@@ -43,8 +44,9 @@ use Rattle.vk_laws.proofs.Living.Alive.{is_alive, Ending, ending}
 use Rattle.vk_laws.proofs.Living.Ends.{Ended, idle, other, when_ended}
 use Rattle.std.proofs.Math.Nat.{div-add-mod, div-mul-le_self, mul-div_cancel, mod-lt}
 use Rattle.vk_model.specs.declared.command.Cmd.{Cmd}
-use Rattle.vk_model.specs.Trace.Objects.{made, made_by, ended, live, buffer, buffer_in, bound_at, Resource, resource_in, of_buffer, of_image}
+use Rattle.vk_model.specs.Trace.Objects.{made, made_by, ended, live, buffer, buffer_in, bound_at, pool_at, Resource, resource_in, of_buffer, of_image}
 use Rattle.vk_model.specs.declared.entry.Entry.{Entry}
+use Rattle.vk_device.proofs.CleanPools.{buffer_request, image_request, pool_fits, pool_point, drop_point}
 use Rattle.vk_device.proofs.CleanImages.{clear_point, copy_in_point, copy_out_point, copy_image_point}
 use Rattle.vk_device.proofs.Unbroken.{BreaksNone, breaks_none, not-false, not_above, not_zero, new_made, entry_size, command_size, memory_size, entry_range, command_range, command_align, names_live, used_none, bound_within, bound_apart, bound_aligned, all_from, areas_inside}
 
@@ -169,42 +171,48 @@ fill_point past p b o n w is none =
 -- ---- the other forms
 
 -- a place that breaks no rule on binding
-place_fits : (past : Past) (p : Point) (x : Entry) (r : Resource) → p.action ≡ Host x → resource_in x ≡ Some r → ((m o : ℕ) → r.place ≡ place.Memory m o → Contains (asked_by_entry x) (m, makes_memory)) → BreaksNone past p → (q : Place) → r.place ≡ q → is_supported_place q ≡ true → FitsPlace past r q
-place_fits past p x r is makes asks none (place.Dedicated t) at supported = tt
-place_fits past p x r is makes asks none (place.Memory m o) at supported = (
+place_fits : (past : Past) (p : Point) (x : Entry) (r : Resource) → p.action ≡ Host x → resource_in x ≡ Some r → ((m o : ℕ) → r.place ≡ place.Memory m o → Contains (asked_by_entry x) (m, makes_memory)) → ((k : ℕ) → pool_at r.place ≡ Some k → Contains (asked_by_entry x) (k, makes_pool)) → IsRequest r.size r.align → BreaksNone past p → (q : Place) → r.place ≡ q → FitsPlace past r q
+place_fits past p x r is makes asks pools request none (place.Dedicated t) at = tt
+place_fits past p x r is makes asks pools request none (place.Memory m o) at = (
   names_live past p none x m makes_memory is (asks m o at),
   rw (makes, at) at (bound_within past p none x is),
   rw (makes, at) at (bound_apart past p none x is),
   subst (λ (q : Place). holds (bound_at q) (λ s. is_misplaced past r s.0 s.1) ≡ false) at (rw makes at (bound_aligned past p none x is)),
 )
-place_fits past p x r is makes asks none (place.Pool q) at supported = absurd cc
-place_fits past p x r is makes asks none (place.PoolUpper q) at supported = absurd cc
+place_fits past p x r is makes asks pools request none (place.Pool q) at = pool_fits past p x r q is makes (ap pool_at at) (pools q (ap pool_at at)) none request
+place_fits past p x r is makes asks pools request none (place.PoolUpper q) at = pool_fits past p x r q is makes (ap pool_at at) (pools q (ap pool_at at)) none request
 
 rounded_bound : (size : ℕ) → (size + 15) / 16 * 16 ≤ 67108864 → size ≤ 67108864
 rounded_bound size le = let parts = div-add-mod (size + 15) 16 in let rest : (size + 15) % 16 < 16 = mod-lt (size + 15) (omega arith) in omega arith
 
-buffer_point : (past : Past) (p : Point) (i : ℕ) (b : BufferInfo) → p.action ≡ Host (entry.Buffer i b) → is_supported_place b.place ≡ true → IsFresh past → BreaksNone past p → FitsEntry past (entry.Buffer i b)
-buffer_point past p i b is supported fresh none = record {
+-- a place names its pool
+names_pool : (q : Place) (k : ℕ) → pool_at q ≡ Some k → Contains (asked_by_place q) (k, makes_pool)
+names_pool (place.Pool p) k at = let same : p ≡ k = cc in subst (λ (j : ℕ). Contains {X = ℕ × (Entry → Bool)} ((p, makes_pool) ∷ []) (j, makes_pool)) same (contains-head (p, makes_pool) [])
+names_pool (place.PoolUpper p) k at = let same : p ≡ k = cc in subst (λ (j : ℕ). Contains {X = ℕ × (Entry → Bool)} ((p, makes_pool) ∷ []) (j, makes_pool)) same (contains-head (p, makes_pool) [])
+names_pool (place.Dedicated t) k at = absurd cc
+names_pool (place.Memory m o) k at = absurd cc
+
+buffer_point : (past : Past) (p : Point) (i : ℕ) (b : BufferInfo) → p.action ≡ Host (entry.Buffer i b) → IsFresh past → BreaksNone past p → FitsEntry past (entry.Buffer i b)
+buffer_point past p i b is fresh none = record {
   unused = new_id past p none fresh (entry.Buffer i b) i is refl;
   some = not_zero b.size (entry_size past p none (entry.Buffer i b) is);
   bounded = rounded_bound b.size (not_above 67108864 ((b.size + 15) / 16 * 16) (memory_size past p none (entry.Buffer i b) is));
-  place = place_fits past p (entry.Buffer i b) (of_buffer b) is refl (λ m o at. rw at (contains-head (m, makes_memory) [])) none b.place refl supported;
+  place = place_fits past p (entry.Buffer i b) (of_buffer b) is refl (λ m o at. rw at (contains-head (m, makes_memory) [])) (names_pool b.place) (buffer_request b (not_zero b.size (entry_size past p none (entry.Buffer i b) is))) none b.place refl;
 }
 
--- an image, for when its form is supported
-pub image_point : (past : Past) (p : Point) (i : ℕ) (m : ImageInfo) → p.action ≡ Host (entry.Image i m) → is_supported_place m.place ≡ true → IsFresh past → BreaksNone past p → FitsEntry past (entry.Image i m)
-image_point past p i m is supported fresh none = record {
+image_point : (past : Past) (p : Point) (i : ℕ) (m : ImageInfo) → p.action ≡ Host (entry.Image i m) → IsFresh past → BreaksNone past p → FitsEntry past (entry.Image i m)
+image_point past p i m is fresh none = record {
   unused = new_id past p none fresh (entry.Image i m) i is refl;
   shaped = entry_size past p none (entry.Image i m) is;
   bounded = not_above 67108864 (image_size m m.tiling) (memory_size past p none (entry.Image i m) is);
-  place = place_fits past p (entry.Image i m) (of_image m) is refl (λ k o at. rw at (contains-head (k, makes_memory) [])) none m.place refl supported;
+  place = place_fits past p (entry.Image i m) (of_image m) is refl (λ k o at. rw at (contains-head (k, makes_memory) [])) (names_pool m.place) (image_request m (entry_size past p none (entry.Image i m) is)) none m.place refl;
 }
 
 memory_point : (past : Past) (p : Point) (i : ℕ) (m : MemoryInfo) → p.action ≡ Host (entry.Memory i m) → IsFresh past → BreaksNone past p → FitsEntry past (entry.Memory i m)
 memory_point past p i m is fresh none = (new_id past p none fresh (entry.Memory i m) i is refl, not_zero m.size (or_parts (m.size == 0) (nat_lt 67108864 m.size) (memory_size past p none (entry.Memory i m) is)).0)
 
 fits_entry : (past : Past) (p : Point) (x : Entry) → p.action ≡ Host x → is_supported_action (Host x) ≡ true → IsFresh past → BreaksNone past p → FitsEntry past x
-fits_entry past p (entry.Buffer i b) is supported fresh none = buffer_point past p i b is supported fresh none
+fits_entry past p (entry.Buffer i b) is supported fresh none = buffer_point past p i b is fresh none
 fits_entry past p (entry.Memory i m) is supported fresh none = memory_point past p i m is fresh none
 fits_entry past p (entry.Free m) is supported fresh none = free_point past p m is none
 fits_entry past p (entry.Destroy r) is supported fresh none = destroy_point past p r is none
@@ -217,9 +225,9 @@ fits_entry past p (entry.Event i) is supported fresh none = new_id past p none f
 fits_entry past p (entry.Signal s v) is supported fresh none = tt
 fits_entry past p (entry.Wait ws) is supported fresh none = tt
 fits_entry past p (entry.Submit q bs) is supported fresh none = tt
-fits_entry past p (entry.Pool i x) is supported fresh none = absurd cc
-fits_entry past p (entry.Image i x) is supported fresh none = image_point past p i x is supported fresh none
-fits_entry past p (entry.DropPool q) is supported fresh none = absurd cc
+fits_entry past p (entry.Pool i x) is supported fresh none = pool_point past p i x is (new_id past p none fresh (entry.Pool i x) i is refl) none
+fits_entry past p (entry.Image i x) is supported fresh none = image_point past p i x is fresh none
+fits_entry past p (entry.DropPool q) is supported fresh none = drop_point past p q is none
 fits_entry past p (entry.Flush b o n) is supported fresh none = flush_point past p b o n is none
 fits_entry past p (entry.Invalidate b o n) is supported fresh none = invalidate_point past p b o n is none
 fits_entry past p (entry.Defrag i q n m) is supported fresh none = absurd cc

@@ -1,5 +1,6 @@
 -- The points that come with an entry, on a device.
 use Rattle.std.proofs.Common.{◌≡◌, ℕ, suc, ◌+◌, ◌%◌, ◌<◌, ◌≤◌, ◌==◌, true, false, Option, Some, None, map, List, [], ◌∷◌, ◌++◌, length, take, drop, get_or, reverse, refl, ap, sym, ◌∙◌, subst, arith}
+use Rattle.std.proofs.lemmas.List.{get_or_past}
 use Rattle.std.specs.Prelude.{All, Contains, IsTrue, is_some, option_map, option_and_then, if◌then◌else◌}
 use Rattle.std.specs.List.{find, flat_map, list_any}
 use Rattle.std.proofs.lemmas.Bool.{false_from_ne_true}
@@ -31,7 +32,12 @@ use Rattle.vk_queues.specs.IsWaiting.{IsWaiting}
 use Rattle.vk_offers.specs.IsOffers.{ComesNext, IsOffers, commands_in, is_run}
 use Rattle.vk_offers.specs.Laws.{OrderComesNext}
 use Rattle.vk_resources.specs.Fits.{FitsCommand, FitsFill, FitsClear, FitsRegions, FitsImages, NamesLive}
-use Rattle.vk_resources.specs.Held.{Held, placed_in, shape_in, object_in, IsThere}
+use Rattle.vk_backing.specs.Backed as backing
+use Rattle.vk_backing.specs.Backed.{Backed, allocation_of, info_by}
+use Rattle.vma_pools.specs.declared.allocations.Allocation.{Allocation}
+use Rattle.vma_pools.specs.State.{allocation_at}
+use Rattle.vk_resources.specs.Held.{Held, placed_in, shape_in, IsThere}
+use Rattle.vk_device.specs.Empty.{nothing_backed}
 use Rattle.vk_resources.proofs.Lying.{where_lies}
 use Rattle.vk_resources.specs.declared.resources.Placed.{Placed}
 use Rattle.vk_resources.specs.Matches.{MatchesLive}
@@ -335,14 +341,17 @@ advanced t steps s x xs d new w points i atoms h same counts waiting waits are a
 
 -- ---- a new device
 
-pub nothing_held : (r : Held) → r.owned ≡ [] → r.resources ≡ [] → r.shapes ≡ [] → MatchesLive [] r
-nothing_held r owned resources shapes = record {
+pub nothing_held : (r : Held) → r.backed ≡ nothing_backed → r.resources ≡ [] → r.shapes ≡ [] → MatchesLive [] r
+nothing_held r backed resources shapes = record {
   sizes = λ b. ap (λ (bs : List (ℕ × Placed)). option_map (λ (p : Placed). p.size) (placed_in bs b)) resources;
   shapes = λ i. ap (λ (l : List (ℕ × ImageInfo)). shape_in l i) shapes;
   places = λ b p r at is. absurd cc;
-  owned = λ i. ap (λ (os : List (ℕ × ℕ)). is_some (object_in os i)) owned;
+  owned = λ i. ap (λ (b : Backed). is_some (backing.object_of b i)) backed;
   memories = λ k number x is has. absurd cc;
   types = λ i number t is has. absurd cc;
+  pools = λ i. ap (λ (b : Backed). info_by b i) backed;
+  pooled = λ i a has. let both : ◌≡◌ {A = Option ℕ} None (Some a) = ap (λ (b : Backed). allocation_of b i) (sym backed) ∙ has in absurd cc;
+  whole = λ a x is. let both : ◌≡◌ {A = Option Allocation} None (Some x) = sym (get_or_past [] a None (omega arith)) ∙ ap (λ (b : Backed). allocation_at b.pools a) (sym backed) ∙ is in absurd cc;
 }
 
 pub none_there : (r : Held) → r.resources ≡ [] → (c : Byte) → IsThere r c → ⊥

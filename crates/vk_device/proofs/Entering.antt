@@ -87,6 +87,12 @@ makes_other past e (entry.Event i) b info other image fits is = go (b == i) is
     go : (t : Bool) → option_and_then resource_in (cond t (Some (entry.Event i)) (made past b)) ≡ Some info → option_and_then resource_in (made past b) ≡ Some info
     go true is = absurd cc
     go false is = is
+makes_other past e (entry.Pool i y) b info other image fits is = go (b == i) is
+  where
+    go : (t : Bool) → option_and_then resource_in (cond t (Some (entry.Pool i y)) (made past b)) ≡ Some info → option_and_then resource_in (made past b) ≡ Some info
+    go true is = absurd cc
+    go false is = is
+makes_other past e (entry.DropPool q) b info other image fits is = is
 makes_other past e (entry.Free m) b info other image fits is = is
 makes_other past e (entry.Destroy r) b info other image fits is = is
 makes_other past e (entry.Map r) b info other image fits is = is

@@ -1,5 +1,6 @@
 pub mod Unbroken
 pub mod CleanImages
+mod CleanPools
 mod Clean
 mod Limits
 mod Standing

@@ -37,6 +37,8 @@ module _ {A : Type 0} (kind : Entry → Option A) (past : Past) (b : ℕ) (info 
   stays_host e k p q (entry.Memory i y) fit = other_id i fit.0.unmade (Some (entry.Memory i y)) (b == i) refl
   stays_host e k p q (entry.Semaphore i v) fit = other_id i fit.unmade (Some (entry.Semaphore i v)) (b == i) refl
   stays_host e k p q (entry.Event i) fit = other_id i fit.unmade (Some (entry.Event i)) (b == i) refl
+  stays_host e k p q (entry.Pool i y) fit = other_id i fit.0.unmade (Some (entry.Pool i y)) (b == i) refl
+  stays_host e k p q (entry.DropPool r) fit = is
   stays_host e k p q (entry.Free m) fit = is
   stays_host e k p q (entry.Destroy r) fit = is
   stays_host e k p q (entry.Unmap r) fit = is

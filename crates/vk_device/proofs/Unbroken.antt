@@ -14,7 +14,7 @@ use Rattle.vk_model.specs.Trace.Objects.{made, made_by, live}
 use Rattle.vk_model.specs.Rules.Table.{breaks}
 use Rattle.vk_model.specs.Rules.Fault.{newest}
 use Rattle.vk_model.specs.Rules.Ids.{breaks_new_id, breaks_live_id, asked_by_entry, asked_by_command, judged_in, is_dead, asked_by, lists_stray, until}
-use Rattle.vk_model.specs.Rules.Sizes.{breaks_size, bad_entry_size, bad_command_size, breaks_memory_size, bad_memory_size}
+use Rattle.vk_model.specs.Rules.Sizes.{breaks_size, bad_entry_size, bad_command_size, breaks_memory_size, bad_memory_size, breaks_pool_size, over_half}
 use Rattle.vk_model.specs.Rules.Ranges.{breaks_range, host_past, command_past, area_past, breaks_align, misaligned, breaks_overlap, command_overlaps, breaks_format, texels_differ, breaks_subresource, bad_subresource}
 use Rattle.vk_model.specs.Rules.Hazards.{ends_used, breaks_in_use}
 use Rattle.vk_model.specs.Rules.Binding.{on_bound, ends_past_memory, is_aliased, is_misplaced, breaks_bind_range, breaks_aliased, breaks_bind_align}
@@ -72,6 +72,12 @@ module _ (past : Past) (p : Point) (none : BreaksNone past p) where
   unfolding breaks
   memory_size x is =
       let unbroken : breaks_memory_size past p ≡ false = none rule.MemorySize in
+      rw is at unbroken
+
+  pub over_half_none : (x : Entry) → p.action ≡ Host x → over_half past x ≡ false
+  unfolding breaks
+  over_half_none x is =
+      let unbroken : breaks_pool_size past p ≡ false = none rule.PoolSize in
       rw is at unbroken
 
   pub entry_range : (x : Entry) → p.action ≡ Host x → host_past past x ≡ false

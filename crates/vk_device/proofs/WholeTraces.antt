@@ -1,7 +1,6 @@
 -- The entries of a trace, one after another.
 use Rattle.std.proofs.Common.{◌≡◌, ◌⊎◌, inr, ℕ, suc, ◌+◌, ◌<◌, ◌≤◌, List, [], ◌∷◌, ◌++◌, length, take, drop, map, Bool, true, false, ◌==◌, refl, ap, sym, ◌∙◌, subst, arith, get_or, append-nil, append_assoc, Option, Some, None, IsTrue, zero}
-use Rattle.std.specs.Prelude.{⊤, IsSome, slice_index_or}
-use Rattle.std.proofs.lemmas.List.{get_or_past}
+use Rattle.std.specs.Prelude.{⊤, if◌then◌else◌}
 use Rattle.std.proofs.lemmas.Bool.{eqb-true, eq-eqb}
 use Rattle.std.proofs.lemmas.Option.{slice_get-get_or}
 use Rattle.std.proofs.lemmas.Grind.{take_at_read, common_steps}
@@ -15,7 +14,7 @@ use Rattle.vk_model.proofs.Trace.Growing.{Quiet, entry_grows, order_append}
 use Rattle.vk_model.proofs.Lists.Pairs.{Each}
 use Rattle.vk_model.specs.World.Effect.{world}
 use Rattle.vk_model.specs.World.Meaning.{Reads, reads, read_by, read_in, meaning}
-use Rattle.vk_model.specs.Memory.Allocations.{Allocated, Reaches, FindsNoRoom, Changes, nothing_allocated}
+use Rattle.vk_model.specs.Memory.Allocations.{Allocated, Reaches, FindsNoRoom, Changes, nothing_allocated, heaps_of}
 use Rattle.vk_model.specs.Run.Runs.{Step, Stage, start}
 use Rattle.vk_model.specs.Run.Runs as runs
 use Rattle.vk_model.specs.Run.Picks.{Picked, before_entry, entry_picks, trace_picks}
@@ -25,9 +24,12 @@ use Rattle.vk_laws.specs.PickedRuns.{PicksLeadOn}
 use Rattle.vk_device.proofs.Allocating.{applied_more}
 use Rattle.vk_resources.specs.declared.applied.Applied.{Applied}
 use Rattle.vk_resources.specs.declared.applied.Applied.TheVariants as applied
-use Rattle.vk_resources.specs.Allocating.{IsAllocated, Fulfils, kind_of, Rooms, Allots}
-use Rattle.vk_resources.specs.Held.{object_in}
+use Rattle.vk_backing.specs.Allotted as backing
+use Rattle.vk_backing.specs.Allotted.{Allotted, Fulfils}
+use Rattle.vk_backing.specs.Backed.{Backed}
+use Rattle.vk_resources.specs.Allocating.{IsAllocated, allotted, Rooms, Allots}
 use Rattle.vk_memory.specs.MemoryState.{MemoryState}
+use Rattle.vk_device.specs.Empty.{nothing_backed}
 use Rattle.vk_device.specs.declared.device.Device.{Device}
 use Rattle.vk_device.specs.Led as led
 use Rattle.vk_device.specs.Led.{Led, IsBefore, IsNext, IsSoundTrace, Applies}
@@ -72,9 +74,9 @@ module _ (answer : List ℕ → ℕ → ℕ) (next : List ℕ → ℕ → List �
     pub reached : Reaches config (take i t) allocated
     pub rest : (stop : Option ℕ) → NotBefore i stop → trace_picks answer next (λ e. 0) stop (start t) held0 t ≡ after_steps steps (trace_picks answer next (λ e. 0) stop stage held stage.left)
 
-  pub replays_start : (d : Device) → Led t [] (start t) d → d.resources.memory ≡ record { sizes = config; objects = [] } → d.failed ≡ false → Replays 0 [] d held0
+  pub replays_start : (d : Device) → Led t [] (start t) d → d.resources.memory ≡ record { sizes = config; objects = [] } → d.resources.backed ≡ nothing_backed → d.failed ≡ false → Replays 0 [] d held0
   unfolding meaning
-  replays_start d led empty works = record {
+  replays_start d led empty bare works = record {
     steps = [];
     stage = start t;
     led = led;
@@ -83,14 +85,15 @@ module _ (answer : List ℕ → ℕ → ℕ) (next : List ℕ → ℕ → List �
     same = refl;
     works = works;
     allocated = nothing_allocated config;
-    has = subst (λ (m : MemoryState). Fulfils (record { sizes = m.sizes; objects = map kind_of m.objects; owned = d.resources.owned }) (nothing_allocated config)) (sym empty)
-        (record { sizes = refl; owner = λ n. n; owns = λ n there. none n there; objects = refl; no_pools = refl });
+    has = subst (λ (a : Allotted). Fulfils a (nothing_allocated config)) (sym (ap (λ (m : MemoryState). backing.allotted d.resources.backed m) empty ∙ ap (λ (b : Backed). backing.allotted b (record { sizes = config; objects = [] })) bare))
+        (record { sizes = refl; used = unused; count = refl; objects = λ id. refl; pools = λ id. refl });
     reached = refl;
     rest = λ stop not_before. refl;
   }
     where
-      none : (n : ℕ) → IsSome {T = ℕ × ℕ} (slice_index_or [] n None) → object_in d.resources.owned n ≡ Some n
-      none n there = let gone : IsSome {T = ℕ × ℕ} None = subst (λ (x : Option (ℕ × ℕ)). IsSome x) (get_or_past [] n None (omega arith)) there in absurd cc
+      unused : (first : Bool) → (heaps_of (nothing_allocated config)).used (if first then 0 else 1) ≡ 0
+      unused true = refl
+      unused false = refl
 
 -- the entries with one more
 front_more : (t : List Entry) (i : ℕ) (x : Entry) → x ≡ get_or t i x → i < length t → take (i + 1) t ≡ take i t ++ x ∷ []

@@ -1,3 +1,4 @@
+pub mod Empty
 pub mod Led
 pub mod Replays
 pub mod Inner

@@ -49,6 +49,7 @@ pub struct Device<'a> {
 impl<'a> Device<'a> {
     ghost use Rattle.vk_model.specs.Run.Runs.{start};
     ghost use Rattle.vk_device.specs.Led.{Led, IsBefore, IsNext, MayRun, HasRun, HasWritten, Applies, Reads};
+    ghost use Rattle.vk_device.specs.Empty.{nothing_backed};
     ghost use Rattle.vk_device.specs.Inner.Ready.{PrepareReady, Prepares, Waited, MayAsk, Goes, Picks, HostDone, AdvanceReady, Touches};
     ghost use Rattle.vk_resources.specs.Allocating.{allotted};
     ghost use Rattle.vk_device.specs.declared.applied.ApplyError.TheVariants.{NoMemory, Failed};
@@ -57,6 +58,7 @@ impl<'a> Device<'a> {
     pub fn new(alloc: Global, config: Config) -> Device<'a>
         ensures led { (t : List Entry) → Led t [] (start t) result }
         ensures empty { result.resources.memory ≡ record { sizes = config; objects = [] } }
+        ensures bare { result.resources.backed ≡ nothing_backed }
         ensures works { result.failed ≡ false }
     {
         direct_runs_go_on();

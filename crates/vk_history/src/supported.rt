@@ -2,7 +2,7 @@ ghost use Rattle.std.specs.Prelude.{◌≡◌};
 ghost use Rattle.vk_history.specs.Supported as supported;
 ghost use Rattle.vk_order.specs.PointViews.{action_of};
 
-use vk_model::{Entry, Place};
+use vk_model::Entry;
 use vk_order::{Action, Point};
 
 /// Whether the rules of this crate cover the point's form. The others have rules that are not written
@@ -20,31 +20,10 @@ fn is_supported_entry(entry: &Entry) -> bool
     ensures { result ≡ supported.is_supported_entry entry.now }
 {
     match entry {
-        Entry::Buffer { info, .. } => is_supported_place(info.place),
-        Entry::Image { info, .. } => is_supported_place(info.place),
-        Entry::Memory { .. }
-        | Entry::Free { .. }
-        | Entry::Destroy { .. }
-        | Entry::Map { .. }
-        | Entry::Unmap { .. }
-        | Entry::Write { .. }
-        | Entry::Read { .. }
-        | Entry::Flush { .. }
-        | Entry::Invalidate { .. }
-        | Entry::Semaphore { .. }
-        | Entry::Event { .. }
-        | Entry::Signal { .. }
-        | Entry::Wait { .. }
-        | Entry::Submit { .. } => true,
-        _ => false,
-    }
-}
-
-fn is_supported_place(place: Place) -> bool
-    ensures { result ≡ supported.is_supported_place place }
-{
-    match place {
-        Place::Dedicated { .. } | Place::Memory { .. } => true,
-        _ => false,
+        Entry::Defrag { .. }
+        | Entry::Pass { .. }
+        | Entry::EndPass { .. }
+        | Entry::EndDefrag { .. } => false,
+        _ => true,
     }
 }

@@ -19,7 +19,7 @@ use Rattle.vk_model.specs.Run.Runs.{touched_by}
 use Rattle.vk_model.specs.Basics.{holds}
 use Rattle.vk_model.specs.Trace.Point.{Past}
 use Rattle.vk_model.specs.Trace.Order.{host}
-use Rattle.vk_model.specs.Trace.Objects.{Resource, of_buffer, of_image, made_by, ended_by, live, image_in, resource_in, memory_in}
+use Rattle.vk_model.specs.Trace.Objects.{Resource, of_buffer, of_image, made_by, ended_by, live, image_in, resource_in, memory_in, pool_in, pool_at}
 use Rattle.vk_model.specs.Rules.Ids.{is_memory}
 use Rattle.vk_map_cache.specs.Holdings.{Holdings, held_at}
 use Rattle.vk_model.specs.Run.Caches as caches
@@ -30,22 +30,28 @@ use Rattle.vk_transfer.specs.Ran.{AreApart}
 use Rattle.vk_resources.specs.declared.applied.Applied.{Applied}
 use Rattle.vk_resources.specs.declared.applied.Applied.TheVariants as applied
 use Rattle.vk_resources.specs.declared.resources.Placed.{Placed}
-use Rattle.vk_resources.specs.Held.{Held, IsApart, IsCaching, IsShaped, AreShaped, Stands, placed, placed_in, shape_in, shape_of, object_in, object_of, host_at, holding_in, IsThere, HasCell}
-use Rattle.vk_resources.specs.Matches.{Matches, MatchesLive, LiesAt, is_own, size_made, has_memory, type_made, type_of_place}
+use Rattle.vk_resources.specs.Held.{Held, IsApart, IsCaching, IsShaped, AreShaped, Stands, placed, placed_in, shape_in, shape_of, object_of, LiesShared, host_at, holding_in, IsThere, HasCell}
+use Rattle.vma_pools.specs.State.{PoolsState}
+use Rattle.vk_model.specs.declared.resource.Spot.{Spot}
+use Rattle.vk_backing.specs.Backed as backing
+use Rattle.vk_backing.specs.Backed.{Backed, number_in, pool_of, allocation_of, info_by, LiesIn, IsBacked, IsWhole}
+use Rattle.vk_resources.specs.Matches.{Matches, MatchesLive, LiesAt, LiesOf, in_pool, is_own, size_made, has_memory, type_made, type_of_place}
 use Rattle.vk_resources.specs.Fits.{IsUnused, FitsEntry, FitsPlace}
 use Rattle.vk_resources.specs.Done.{LeavesCells, HoldsNoneNew, Goes, DoneBy, ReadsNothing}
 use Rattle.vk_resources.specs.Inner.Steps.{Makes, MemoryMade, ResourceMade, ShapeReady, PutReady, Binds, BindReady, MadeOr, Puts, Ends}
 use Rattle.vk_resources.proofs.Placing.{kept_object, new_object, inside_of, one_number, turned, apart_put}
 use Rattle.vk_resources.proofs.Lying.{where_lies, where_is, byte_stays, there_stays}
 use Rattle.vk_resources.proofs.CachedBytes.{host_of, clear_atoms, caching_put}
-use Rattle.vk_resources.proofs.Matching.{home, unplaced, unowned, matches_same}
-use Rattle.vk_resources.proofs.Living.{live_new, live_end, live_same, not_live, Grows, grown, ended_matches, region_there}
+use Rattle.vk_resources.proofs.Matching.{home, unplaced, unowned, unshared, matches_same}
+use Rattle.vk_resources.proofs.Living.{live_new, live_end, live_same, not_live, shared_on, Grows, grown, ended_matches, region_there}
 
 -- an entry that is done nothing for
 abbrev pub IsRest : Entry → Type 0
 IsRest (entry.Memory i info) = ⊥
 IsRest (entry.Buffer i info) = ⊥
 IsRest (entry.Image i info) = ⊥
+IsRest (entry.Pool p info) = ⊥
+IsRest (entry.DropPool p) = ⊥
 IsRest (entry.Free m) = ⊥
 IsRest (entry.Destroy r) = ⊥
 IsRest (entry.Write b o bytes) = ⊥
@@ -70,11 +76,11 @@ stays old new c cell place shape region host has = record {
 }
 
 -- of what was there before, where one more object is live
-grown_cells : (alive alive' : ℕ → Option Entry) (old new : Held) (id : ℕ) (x : Entry) → Grows alive alive' old new id x → Matches alive old → IsApart old.memory old.owned old.resources
+grown_cells : (alive alive' : ℕ → Option Entry) (old new : Held) (id : ℕ) (x : Entry) → Grows alive alive' old new id x → Matches alive old → IsApart old.memory old.backed old.resources
     → ((number : ℕ) → IsLive old.memory number → region_of new.memory number ≡ region_of old.memory number) → new.cache ≡ old.cache → (c : Byte) (cell : Cell) → IsThere old c → HasCell old c cell → HasCell new c cell
 grown_cells alive alive' old new id x g m apart kept cache c cell there has =
     let place = g.places (resource_at c) other in
-    stays old new c cell place (g.shapes (resource_at c) other) (λ p at. kept p.object (inside_of old.memory old.owned old.resources apart (resource_at c) p at).live) (same_host old new c place cache) has
+    stays old new c cell place (g.shapes (resource_at c) other) (λ p at. kept p.object (inside_of old.memory old.backed old.resources apart (resource_at c) p at).live) (same_host old new c place cache) has
   where
     other : resource_at c ≡ id → ⊥
     other same =
@@ -91,8 +97,8 @@ none_new old new same shapes c there absent =
 -- ---- new objects
 
 -- nothing is held of an object that is neither a resource nor a memory object
-pub other_goes : (s : Held) (past : Past) (e i : ℕ) (x : Entry) → made_by x ≡ Some i → ended_by x ≡ [] → size_made x ≡ None → image_in x ≡ None → resource_in x ≡ None → memory_in x ≡ None → has_memory x ≡ false → IsUnused past i → MatchesLive past s → MatchesLive (host e x ∷ past) s
-other_goes s past e i x makes ends no_size no_image no_resource no_memory alone unused m =
+pub other_goes : (s : Held) (past : Past) (e i : ℕ) (x : Entry) → made_by x ≡ Some i → ended_by x ≡ [] → size_made x ≡ None → image_in x ≡ None → resource_in x ≡ None → memory_in x ≡ None → pool_in x ≡ None → has_memory x ≡ false → IsUnused past i → MatchesLive past s → MatchesLive (host e x ∷ past) s
+other_goes s past e i x makes ends no_size no_image no_resource no_memory no_pool alone unused m =
     let none = not_live past i unused in
     grown (live past) (live (host e x ∷ past)) s s i x (record {
       now = live_new past e x i makes ends unused;
@@ -111,7 +117,36 @@ other_goes s past e i x makes ends no_size no_image no_resource no_memory alone 
           let both : ◌≡◌ {A = Option ℕ} (Some number) None = sym has ∙ none_there in
           absurd cc;
       types = λ j number has. refl;
+      info = m.pools i ∙ ap (option_and_then pool_in) none ∙ sym no_pool;
+      infos = λ j other. refl;
+      pooled = λ a has.
+          let none_there = unshared (live past) s i m (ap (λ (o : Option Entry). holds o in_pool) none) in
+          let both : ◌≡◌ {A = Option ℕ} (Some a) None = sym has ∙ none_there in
+          absurd cc;
+      allocations = λ j other. refl;
+      whole = λ w. w;
+      keeps = λ b r p other l. l;
     }) m
+
+-- what pools do where an id gets something that lies in no pool, or a place in one
+pub record PoolsGrow (old new : Held) (i : ℕ) (x : Entry) : Type 0 where
+  pub info : info_by new.backed i ≡ None
+  pub infos : (j : ℕ) → info_by new.backed j ≡ info_by old.backed j
+  pub pooled : (a : ℕ) → allocation_of new.backed i ≡ Some a → IsTrue (in_pool x)
+  pub allocations : (j : ℕ) → (j ≡ i → ⊥) → allocation_of new.backed j ≡ allocation_of old.backed j
+  pub whole : IsWhole old.backed → IsWhole new.backed
+  pub keeps : (b r : ℕ) (p : Placed) → (b ≡ i → ⊥) → LiesOf old.backed old.memory b r p → LiesOf new.backed new.memory b r p
+
+-- where it stays in its pool, whose number stays
+pub pool_keeps : (old new : Held) (b r : ℕ) (p : Placed) → IsBacked new.backed new.memory → pool_of new.backed r ≡ pool_of old.backed r → ((n : ℕ) (s : Spot) → LiesIn old.backed b n s → LiesIn new.backed b n s) → LiesOf old.backed old.memory b r p → LiesOf new.backed new.memory b r p
+pool_keeps old new b r p is same keeps l = (l.0, same ∙ l.1, shared_on is l.2 (keeps l.0 l.2.spot l.2.lies))
+
+-- what is new in a past has no pool
+pub no_info : (past : Past) (s : Held) (i : ℕ) → MatchesLive past s → IsUnused past i → info_by s.backed i ≡ None
+no_info past s i m unused = m.pools i ∙ ap (option_and_then pool_in) (not_live past i unused)
+
+pub no_allocation : (past : Past) (s : Held) (i : ℕ) → MatchesLive past s → IsUnused past i → allocation_of s.backed i ≡ None
+no_allocation past s i m unused = unshared (live past) s i m (ap (λ (o : Option Entry). holds o in_pool) (not_live past i unused))
 
 -- the object that was made has its bytes, and others keep theirs
 module _ (old new : Held) (id t size : ℕ) (makes : Makes old new id t size) where
@@ -133,12 +168,32 @@ module _ (old new : Held) (id t size : ℕ) (makes : Makes old new id t size) wh
   made_kept : (number : ℕ) → IsLive old.memory number → region_of new.memory number ≡ region_of old.memory number
   made_kept number lives = rw makes.memory (ap bytes_of (kept_object old.memory (fresh t size) number lives))
 
-memory_grows : (old new : Held) (past : Past) (e i : ℕ) (info : MemoryInfo) → IsApart old.memory old.owned old.resources → Makes old new i info.memory_type info.size → new.resources ≡ old.resources → new.shapes ≡ old.shapes → IsUnused past i → MatchesLive past old
+  made_infos : (i : ℕ) → info_by new.backed i ≡ info_by old.backed i
+  made_infos i = ap (λ (s : PoolsState). info_by (record new.backed { pools = s }) i) makes.owns.pools ∙ ap (λ (ns : List (ℕ × ℕ)). info_by (record old.backed { numbers = ns }) i) makes.owns.numbers
+
+  made_allocations : (i : ℕ) → allocation_of new.backed i ≡ allocation_of old.backed i
+  made_allocations i = ap (λ (ns : List (ℕ × ℕ)). number_in ns i) makes.owns.allocations
+
+  made_keeps : (b r : ℕ) (p : Placed) → (b ≡ id → ⊥) → LiesOf old.backed old.memory b r p → LiesOf new.backed new.memory b r p
+  made_keeps b r p other l = pool_keeps old new b r p makes.backed (ap (λ (ns : List (ℕ × ℕ)). number_in ns r) makes.owns.numbers) (λ n s lies. makes.owns.keeps b n s other lies) l
+
+  made_pools : (past : Past) (x : Entry) → MatchesLive past old → IsUnused past id → PoolsGrow old new id x
+  made_pools past x m unused = record {
+    info = made_infos id ∙ no_info past old id m unused;
+    infos = made_infos;
+    pooled = λ a has. let both : ◌≡◌ {A = Option ℕ} (Some a) None = sym has ∙ made_allocations id ∙ no_allocation past old id m unused in absurd cc;
+    allocations = λ j other. made_allocations j;
+    whole = makes.whole;
+    keeps = made_keeps;
+  }
+
+memory_grows : (old new : Held) (past : Past) (e i : ℕ) (info : MemoryInfo) → IsApart old.memory old.backed old.resources → Makes old new i info.memory_type info.size → new.resources ≡ old.resources → new.shapes ≡ old.shapes → IsUnused past i → MatchesLive past old
     → Grows (live past) (live (host e (entry.Memory i info) ∷ past)) old new i (entry.Memory i info)
 memory_grows old new past e i info apart makes same shapes unused m =
     let none = not_live past i unused in
     let places : (b : ℕ) → placed new b ≡ placed old b = λ b. ap (λ (s : List (ℕ × Placed)). placed_in s b) same in
     let images : (b : ℕ) → shape_of new b ≡ shape_of old b = λ b. ap (λ (s : List (ℕ × ImageInfo)). shape_in s b) shapes in
+    let pools = made_pools old new i info.memory_type info.size makes past (entry.Memory i info) m unused in
     record {
       now = live_new past e (entry.Memory i info) i refl refl unused;
       fresh = none;
@@ -150,12 +205,18 @@ memory_grows old new past e i info apart makes same shapes unused m =
       objects = makes.others;
       lies = λ p info at is. absurd cc;
       bytes = λ number y is has. let one : info ≡ y = cc in made_long old new i info.memory_type info.size makes number has ∙ ap (λ (z : MemoryInfo). z.size) one;
-      regions = λ j number has. made_kept old new i info.memory_type info.size makes number (apart.live j number has);
+      regions = λ j number has. made_kept old new i info.memory_type info.size makes number (apart.backed_is.live j number has);
       type_now = λ number t is has. made_type old new i info.memory_type info.size makes number has ∙ cc;
-      types = λ j number has. type_kept old new i info.memory_type info.size makes number (apart.live j number has);
+      types = λ j number has. type_kept old new i info.memory_type info.size makes number (apart.backed_is.live j number has);
+      info = pools.info;
+      infos = λ j other. pools.infos j;
+      pooled = pools.pooled;
+      allocations = pools.allocations;
+      whole = pools.whole;
+      keeps = pools.keeps;
     }
 
-pub memory_done : (old new : Held) (y : Entry) (i : ℕ) (info : MemoryInfo) → y ≡ entry.Memory i info → IsApart old.memory old.owned old.resources → (a : Applied) → MemoryMade a old new i info.memory_type info.size
+pub memory_done : (old new : Held) (y : Entry) (i : ℕ) (info : MemoryInfo) → y ≡ entry.Memory i info → IsApart old.memory old.backed old.resources → (a : Applied) → MemoryMade a old new i info.memory_type info.size
     → (e : ℕ) (past : Past) → MatchesLive past old → FitsEntry past y → DoneBy a e y past old new
 memory_done old new y i info is apart a made e past m fit =
     subst (λ (x : Entry). DoneBy a e x past old new) (sym is) (go a made (subst (λ (x : Entry). FitsEntry past x) is fit))
@@ -183,6 +244,8 @@ pub record IsMaker (x : Entry) (i : ℕ) (r : Resource) (size : ℕ) (shape : Op
   pub sized : size_made x ≡ Some size
   pub image : image_in x ≡ shape
   pub no_memory : memory_in x ≡ None
+  pub no_pool : pool_in x ≡ None
+  pub shares : in_pool x ≡ is_some (pool_at r.place)
   pub owns : has_memory x ≡ is_own r.place
   pub type : type_made x ≡ type_of_place r.place
   pub untouched : touched_by x ≡ None
@@ -193,10 +256,10 @@ pub record IsMaker (x : Entry) (i : ℕ) (r : Resource) (size : ℕ) (shape : Op
   pub changes : (d e : Allocated) → Gets d i r r.place e → Changes d x e
 
 pub buffer_maker : (i : ℕ) (b : BufferInfo) → IsMaker (entry.Buffer i b) i (of_buffer b) b.size None
-buffer_maker i b = record { makes = refl; ends = refl; resource = refl; sized = refl; image = refl; no_memory = refl; owns = refl; type = refl; untouched = refl; reads = λ b o n h. absurd cc; keeps = λ past c cell. refl; finds = λ d f. f; found = λ d f. f; changes = λ d e g. g }
+buffer_maker i b = record { makes = refl; ends = refl; resource = refl; sized = refl; image = refl; no_memory = refl; no_pool = refl; shares = refl; owns = refl; type = refl; untouched = refl; reads = λ b o n h. absurd cc; keeps = λ past c cell. refl; finds = λ d f. f; found = λ d f. f; changes = λ d e g. g }
 
 pub image_maker : (i : ℕ) (m : ImageInfo) → IsMaker (entry.Image i m) i (of_image m) (image_size m m.tiling) (Some m)
-image_maker i m = record { makes = refl; ends = refl; resource = refl; sized = refl; image = refl; no_memory = refl; owns = refl; type = refl; untouched = refl; reads = λ b o n h. absurd cc; keeps = λ past c cell. refl; finds = λ d f. f; found = λ d f. f; changes = λ d e g. g }
+image_maker i m = record { makes = refl; ends = refl; resource = refl; sized = refl; image = refl; no_memory = refl; no_pool = refl; shares = refl; owns = refl; type = refl; untouched = refl; reads = λ b o n h. absurd cc; keeps = λ past c cell. refl; finds = λ d f. f; found = λ d f. f; changes = λ d e g. g }
 
 -- what isn't held
 unheld : (h : Option caches.Held) → (IsSome h → ⊥) → h ≡ None
@@ -205,10 +268,10 @@ unheld (Some v) none = absurd (none refl)
 
 module _ (old new : Held) (x : Entry) (i : ℕ) (r : Resource) (size : ℕ) (shape : Option ImageInfo) (maker : IsMaker x i r size shape) where
   -- a new resource that lies where its place says
-  resource_grows : (past : Past) (e : ℕ) (p : Placed) → IsApart old.memory old.owned old.resources → Puts old new i p shape → p.size ≡ size → is_some (object_of new i) ≡ is_own r.place → ((j : ℕ) → (j ≡ i → ⊥) → object_of new j ≡ object_of old j)
+  pub resource_grows : (past : Past) (e : ℕ) (p : Placed) → IsApart old.memory old.backed old.resources → Puts old new i p shape → p.size ≡ size → is_some (object_of new i) ≡ is_own r.place → ((j : ℕ) → (j ≡ i → ⊥) → object_of new j ≡ object_of old j)
       → LiesAt (live (host e x ∷ past)) new i r.place p → ((number : ℕ) → IsLive old.memory number → region_of new.memory number ≡ region_of old.memory number) → ((number t : ℕ) → type_of_place r.place ≡ Some t → object_of new i ≡ Some number → type_of new.memory number ≡ t)
-      → ((number : ℕ) → IsLive old.memory number → type_of new.memory number ≡ type_of old.memory number) → IsUnused past i → Grows (live past) (live (host e x ∷ past)) old new i x
-  resource_grows past e p apart puts sized object objects lies regions type types unused = record {
+      → ((number : ℕ) → IsLive old.memory number → type_of new.memory number ≡ type_of old.memory number) → PoolsGrow old new i x → IsUnused past i → Grows (live past) (live (host e x ∷ past)) old new i x
+  resource_grows past e p apart puts sized object objects lies regions type types pools unused = record {
     now = live_new past e x i maker.makes maker.ends unused;
     fresh = not_live past i unused;
     size = ap (λ (o : Option Placed). option_map (λ (p : Placed). p.size) o) puts.here ∙ ap (λ (n : ℕ). Some n) sized ∙ sym maker.sized;
@@ -224,13 +287,19 @@ module _ (old new : Held) (x : Entry) (i : ℕ) (r : Resource) (size : ℕ) (sha
         let same : q ≡ p = cc in
         subst (λ (t : Resource). LiesAt (live (host e x ∷ past)) new i t.place q) one (subst (λ (q : Placed). LiesAt (live (host e x ∷ past)) new i r.place q) (sym same) lies);
     bytes = λ number y is has. let both : None ≡ Some y = sym maker.no_memory ∙ is in absurd cc;
-    regions = λ j number has. regions number (apart.live j number has);
+    regions = λ j number has. regions number (apart.backed_is.live j number has);
     type_now = λ number t is has. type number t (sym maker.type ∙ is) has;
-    types = λ j number has. types number (apart.live j number has);
+    types = λ j number has. types number (apart.backed_is.live j number has);
+    info = pools.info ∙ sym maker.no_pool;
+    infos = λ j other. pools.infos j;
+    pooled = pools.pooled;
+    allocations = pools.allocations;
+    whole = pools.whole;
+    keeps = pools.keeps;
   }
 
   -- the resource that is new is where nothing was held
-  new_unheld : (p : Placed) → Puts old new i p shape → new.cache ≡ old.cache → ((k : ℕ) → k < p.size → IsSome (held_at old.cache p.object (p.offset + k)) → ⊥) → HoldsNoneNew old new
+  pub new_unheld : (p : Placed) → Puts old new i p shape → new.cache ≡ old.cache → ((k : ℕ) → k < p.size → IsSome (held_at old.cache p.object (p.offset + k)) → ⊥) → HoldsNoneNew old new
   new_unheld p puts cache none (in_image j l a x y z) there absent = refl
   new_unheld p puts cache none (in_buffer b k) there absent = go (eqb b i) refl
     where
@@ -244,7 +313,7 @@ module _ (old new : Held) (x : Entry) (i : ℕ) (r : Resource) (size : ℕ) (sha
           let lt : k < p.size = subst (λ (q : Placed). k < q.size) same w.2 in
           host_of new b p at k lt ∙ ap (λ (h : Holdings). held_at h p.object (p.offset + k)) cache ∙ unheld (held_at old.cache p.object (p.offset + k)) (none k lt)
 
-  resource_goes : (past : Past) (e : ℕ) → Grows (live past) (live (host e x ∷ past)) old new i x → MatchesLive past old → IsApart old.memory old.owned old.resources
+  pub resource_goes : (past : Past) (e : ℕ) → Grows (live past) (live (host e x ∷ past)) old new i x → MatchesLive past old → IsApart old.memory old.backed old.resources
       → ((number : ℕ) → IsLive old.memory number → region_of new.memory number ≡ region_of old.memory number) → new.cache ≡ old.cache → HoldsNoneNew old new → Goes e x past old new
   resource_goes past e g m apart kept cache none = (
     grown (live past) (live (host e x ∷ past)) old new i x g m,
@@ -260,7 +329,7 @@ module _ (old new : Held) (x : Entry) (i : ℕ) (r : Resource) (size : ℕ) (sha
           let makes = made.0 in
           let p : Placed = record { size = size; object = length old.memory.objects; offset = 0 } in
           let g = resource_grows past e p stands.0 made.1 refl (rw own (ap is_some makes.here)) makes.others
-          (rw own (makes.here, refl)) (made_kept old new i t r.size makes) (type makes) (type_kept old new i t r.size makes) unused in (
+          (rw own (makes.here, refl)) (made_kept old new i t r.size makes) (type makes) (type_kept old new i t r.size makes) (made_pools old new i t r.size makes past x m unused) unused in (
             resource_goes past e g m stands.0 (made_kept old new i t r.size makes) made.3 (new_unheld p made.1 made.3 none),
             maker.reads,
           )
@@ -275,7 +344,7 @@ module _ (old new : Held) (x : Entry) (i : ℕ) (r : Resource) (size : ℕ) (sha
           none : (k : ℕ) → k < size → IsSome (held_at old.cache (length old.memory.objects) (0 + k)) → ⊥
           none k lt held =
               let w = stands.1.only (length old.memory.objects) (0 + k) held in
-              let low = live_below old.memory w.place.object (inside_of old.memory old.owned old.resources stands.0 w.id w.place w.here).live in
+              let low = live_below old.memory w.place.object (inside_of old.memory old.backed old.resources stands.0 w.id w.place w.here).live in
               let at = w.object in
               omega (arith, low, at)
       go (applied.Bytes bytes) made = absurd made
@@ -288,7 +357,7 @@ module _ (old new : Held) (x : Entry) (i : ℕ) (r : Resource) (size : ℕ) (sha
       let alone : is_some (object_of new i) ≡ is_own r.place = rw at (ap is_some (objects i ∙ has_none)) in
       let lives : IsTrue (holds (live (host e x ∷ past) k) is_memory) = rw (live_new past e x i maker.makes maker.ends unused k, other_entry fits.0 none) fits.0 in
       let kept : (number : ℕ) → IsLive old.memory number → region_of new.memory number ≡ region_of old.memory number = λ number lives. ap (λ (n : MemoryState). region_of n number) binds.0 in
-      let g = resource_grows past e p stands.0 puts refl alone (λ j other. objects j) (subst (λ (q : Place). LiesAt (live (host e x ∷ past)) new i q p) (sym at) (lives, objects k ∙ ready.has, refl)) kept (type has_none) (λ number lives. ap (λ (n : MemoryState). type_of n number) binds.0) unused in
+      let g = resource_grows past e p stands.0 puts refl alone (λ j other. objects j) (subst (λ (q : Place). LiesAt (live (host e x ∷ past)) new i q p) (sym at) (lives, objects k ∙ ready.has, refl)) kept (type has_none) (λ number lives. ap (λ (n : MemoryState). type_of n number) binds.0) (bound_pools past m unused) unused in
       (resource_goes past e g m stands.0 kept binds.3 (new_unheld p puts binds.3 bare), maker.reads)
     where
       p : Placed
@@ -298,7 +367,17 @@ module _ (old new : Held) (x : Entry) (i : ℕ) (r : Resource) (size : ℕ) (sha
       puts = binds.2 ready.number ready.has
 
       objects : (j : ℕ) → object_of new j ≡ object_of old j
-      objects j = ap (λ (owned : List (ℕ × ℕ)). object_in owned j) binds.1
+      objects j = ap (λ (x : Backed). backing.object_of x j) binds.1
+
+      bound_pools : (past : Past) → MatchesLive past old → IsUnused past i → PoolsGrow old new i x
+      bound_pools past m unused = record {
+        info = ap (λ (x : Backed). info_by x i) binds.1 ∙ no_info past old i m unused;
+        infos = λ j. ap (λ (x : Backed). info_by x j) binds.1;
+        pooled = λ a has. let both : ◌≡◌ {A = Option ℕ} (Some a) None = sym has ∙ ap (λ (x : Backed). allocation_of x i) binds.1 ∙ no_allocation past old i m unused in absurd cc;
+        allocations = λ j other. ap (λ (x : Backed). allocation_of x j) binds.1;
+        whole = λ w. subst IsWhole (sym binds.1) w;
+        keeps = λ b r p other l. subst (λ (x : Backed). LiesOf x new.memory b r p) (sym binds.1) (subst (λ (n : MemoryState). LiesOf old.backed n b r p) (sym binds.0) l);
+      }
 
       type : object_of old i ≡ None → (number u : ℕ) → type_of_place r.place ≡ Some u → object_of new i ≡ Some number → type_of new.memory number ≡ u
       type has_none number u is has = let both : ◌≡◌ {A = Option ℕ} (Some number) None = sym has ∙ objects i ∙ has_none in absurd cc
@@ -307,7 +386,7 @@ module _ (old new : Held) (x : Entry) (i : ℕ) (r : Resource) (size : ℕ) (sha
       bare : (j : ℕ) → j < size → IsSome (held_at old.cache ready.number (o + j)) → ⊥
       bare j lt held =
           let w = stands.1.only ready.number (o + j) held in
-          let inside = inside_of old.memory old.owned old.resources stands.0 w.id w.place w.here in
+          let inside = inside_of old.memory old.backed old.resources stands.0 w.id w.place w.here in
           let cached : type_of old.memory ready.number ≡ 2 = eqb-true (type_of old.memory ready.number) 2 (subst (λ (n : ℕ). (type_of old.memory n == 2) ≡ true) w.object w.cached) in
           clear_atoms w.place (record { size = size; object = ready.number; offset = o }) j (stands.1.aligned w.id w.place w.here w.cached) (ready.aligned cached) inside.some
           (turned o w.place.offset size w.place.size (ready.apart w.id w.place w.here w.object)) lt w.atom
@@ -343,7 +422,7 @@ own_ready old n id t size bytes number shape made some fits absent unshaped stoo
     -- no other resource lies there
     beside : (c : ℕ) (q : Placed) → (c ≡ id → ⊥) → placed n c ≡ Some q → q.object ≡ number → AreApart 0 size q.offset q.size
     beside c q ne at same =
-        let low = live_below old.memory q.object (inside_of old.memory old.owned old.resources stood.0 c q (ap (λ (l : List (ℕ × Placed)). placed_in l c) (sym made.2) ∙ at)).live in
+        let low = live_below old.memory q.object (inside_of old.memory old.backed old.resources stood.0 c q (ap (λ (l : List (ℕ × Placed)). placed_in l c) (sym made.2) ∙ at)).live in
         let is = made.0 in
         absurd (omega (arith, low, same, is))
 
@@ -355,7 +434,7 @@ bound_ready s id memory offset size number shape stands ready has absent unshape
     record {
       absent = absent;
       unshaped = unshaped;
-      inside = record { live = stands.0.live memory number has; some = ready.some; room = subst (λ (n : ℕ). offset + size ≤ length (region_of s.memory n)) (sym same) ready.room };
+      inside = record { live = stands.0.backed_is.live memory number has; some = ready.some; room = subst (λ (n : ℕ). offset + size ≤ length (region_of s.memory n)) (sym same) ready.room };
       apart = λ c q ne at object. ready.apart c q at (object ∙ same);
       aligned = λ is. ready.aligned (subst (λ (n : ℕ). type_of s.memory n ≡ 2) same (eqb-true (type_of s.memory number) 2 is));
       shaped = shaped;
@@ -363,9 +442,9 @@ bound_ready s id memory offset size number shape stands ready has absent unshape
 
 -- it is put there
 module _ (s : Held) (id : ℕ) (p : Placed) (shape : Option ImageInfo) (stands : Stands s) (ready : PutReady s id p shape) (resources : List (ℕ × Placed)) (here : placed_in resources id ≡ Some p) (others : (q : ℕ) → (q ≡ id → ⊥) → placed_in resources q ≡ placed_in s.resources q) where
-  pub put_places : IsApart s.memory s.owned resources × IsCaching s.memory resources s.cache
+  pub put_places : IsApart s.memory s.backed resources × IsCaching s.memory resources s.cache
   put_places = (
-    apart_put s.memory s.owned s.resources resources id p here others ready.inside ready.apart stands.0,
+    apart_put s.memory s.backed s.resources resources id p here others ready.inside ready.apart stands.0,
     caching_put s.memory s.resources resources s.cache id p ready.absent here others ready.aligned stands.1,
   )
 
@@ -391,9 +470,9 @@ module _ (s : Held) (id : ℕ) (p : Placed) (shape : Option ImageInfo) (stands :
 
 -- ---- what ends
 
-pub end_goes : (old new : Held) (past : Past) (e r : ℕ) (x : Entry) → made_by x ≡ None → ended_by x ≡ r ∷ [] → ((c : Byte) (cell : Cell) → after_host past [] x c cell ≡ cell) → MatchesLive past old → IsApart old.memory old.owned old.resources
+pub end_goes : (old new : Held) (past : Past) (e r : ℕ) (x : Entry) → made_by x ≡ None → ended_by x ≡ r ∷ [] → ((c : Byte) (cell : Cell) → after_host past [] x c cell ≡ cell) → MatchesLive past old → IsApart old.memory old.backed old.resources → option_and_then pool_in (live past r) ≡ None
     → ((b : ℕ) (p : Placed) (t : Resource) → (b ≡ r → ⊥) → placed old b ≡ Some p → option_and_then resource_in (live past b) ≡ Some t → LiesAt (live past) old b t.place p → home b t.place ≡ r → ⊥) → Ends old new r → Goes e x past old new
-end_goes old new past e r x makes ends_it same m apart clear ends = (ended_matches (live past) (live (host e x ∷ past)) old new r now m apart clear ends, leaves, none)
+end_goes old new past e r x makes ends_it same m apart no_pool clear ends = (ended_matches (live past) (live (host e x ∷ past)) old new r now m apart no_pool clear ends, leaves, none)
   where
     now : (j : ℕ) → live (host e x ∷ past) j ≡ cond (j == r) None (live past j)
     now = live_end past e x r makes ends_it
@@ -414,7 +493,7 @@ end_goes old new past e r x makes ends_it same m apart clear ends = (ended_match
         let ne = other c after in
         subst (λ (y : Cell). HasCell new c y) (sym (same c cell))
         (stays old new c cell (ends.resources (resource_at c) ne) (ends.shapes (resource_at c) ne)
-        (λ p at. region_there (live past) (live (host e x ∷ past)) old new r now m apart clear ends (resource_at c) p ne at) (host_same c ne) has)
+        (λ p at. region_there (live past) (live (host e x ∷ past)) old new r now m apart no_pool clear ends (resource_at c) p ne at) (host_same c ne) has)
 
     none : HoldsNoneNew old new
     none c after absent = let ne = other c after in absurd (absent (there_stays new old c (sym (ends.resources (resource_at c) ne)) (sym (ends.shapes (resource_at c) ne)) after))
@@ -431,8 +510,8 @@ queue_drops s q c cell has = go (cell.held (suc q))
     go (Some (caches.Dirty v)) = has
 
 pub rest_done : (s : Held) (y : Entry) → IsRest y → (e : ℕ) (past : Past) → MatchesLive past s → FitsEntry past y → DoneBy applied.Done e y past s s
-rest_done s (entry.Semaphore i v) rest e past m fit = ((other_goes s past e i (entry.Semaphore i v) refl refl refl refl refl refl refl fit m, λ c cell there after has. has, none_new s s refl refl), λ b o n h. absurd cc)
-rest_done s (entry.Event i) rest e past m fit = ((other_goes s past e i (entry.Event i) refl refl refl refl refl refl refl fit m, λ c cell there after has. has, none_new s s refl refl), λ b o n h. absurd cc)
+rest_done s (entry.Semaphore i v) rest e past m fit = ((other_goes s past e i (entry.Semaphore i v) refl refl refl refl refl refl refl refl fit m, λ c cell there after has. has, none_new s s refl refl), λ b o n h. absurd cc)
+rest_done s (entry.Event i) rest e past m fit = ((other_goes s past e i (entry.Event i) refl refl refl refl refl refl refl refl fit m, λ c cell there after has. has, none_new s s refl refl), λ b o n h. absurd cc)
 rest_done s (entry.Map b) rest e past m fit = ((matches_same (live past) (live (host e (entry.Map b) ∷ past)) s (live_same past e (entry.Map b) refl refl) m, λ c cell there after has. has, none_new s s refl refl), λ b o n h. absurd cc)
 rest_done s (entry.Unmap b) rest e past m fit = ((matches_same (live past) (live (host e (entry.Unmap b) ∷ past)) s (live_same past e (entry.Unmap b) refl refl) m, λ c cell there after has. has, none_new s s refl refl), λ b o n h. absurd cc)
 rest_done s (entry.Signal v n) rest e past m fit = ((matches_same (live past) (live (host e (entry.Signal v n) ∷ past)) s (live_same past e (entry.Signal v n) refl refl) m, λ c cell there after has. has, none_new s s refl refl), λ b o n h. absurd cc)
@@ -441,6 +520,8 @@ rest_done s (entry.Submit q bs) rest e past m fit = ((matches_same (live past) (
 rest_done s (entry.Memory i info) rest e past m fit = absurd rest
 rest_done s (entry.Buffer i info) rest e past m fit = absurd rest
 rest_done s (entry.Image i info) rest e past m fit = absurd rest
+rest_done s (entry.Pool i info) rest e past m fit = absurd rest
+rest_done s (entry.DropPool i) rest e past m fit = absurd rest
 rest_done s (entry.Free i) rest e past m fit = absurd rest
 rest_done s (entry.Destroy i) rest e past m fit = absurd rest
 rest_done s (entry.Write b o bytes) rest e past m fit = absurd rest

@@ -1,6 +1,6 @@
 -- What the rules on binding and ending say of the resources that are held.
 use Rattle.std.proofs.Common.{◌≡◌, ◌⊎◌, inl, inr, ℕ, ◌+◌, ◌<◌, ◌≤◌, Bool, true, false, not, ◌||◌, ◌&&◌, ◌%◌, ◌==◌, eq-eqb, refl, ap, sym, ◌∙◌, subst, arith, Option, Some, None}
-use Rattle.std.specs.Prelude.{IsTrue, Contains, is_some, option_and_then, if◌then◌else◌}
+use Rattle.std.specs.Prelude.{IsTrue, Contains, is_some, option_map, option_and_then, if◌then◌else◌}
 use Rattle.std.specs.List.{list_any, filter_map}
 use Rattle.std.proofs.lemmas.Bool.{eqb-true, ltb-false, lt-ltb, or_parts, false_from_ne_true, cases_lt}
 use Rattle.vk_model.proofs.Lists.Members.{found, chosen_has, filter_has, member_passes}
@@ -12,7 +12,7 @@ use Rattle.vk_model.specs.declared.resource.Place.{Place}
 use Rattle.vk_model.specs.declared.resource.Place.TheVariants as place
 use Rattle.vk_model.specs.Basics.{holds}
 use Rattle.vk_model.specs.Trace.Point.{Past, entries}
-use Rattle.vk_model.specs.Trace.Objects.{of_buffer, of_image, made, made_by, ended, live, live_resources, memory_in, resource_in, Resource, resource, memory_of, type_at, is_cached}
+use Rattle.vk_model.specs.Trace.Objects.{of_buffer, of_image, made, made_by, ended, live, live_resources, memory_in, pool_in, pool, resource_in, Resource, resource, memory_of, type_at, is_cached}
 use Rattle.vk_model.specs.Memory.Suballocation.{ranges_meet, same_kind, share_page}
 use Rattle.vk_model.specs.Rules.Ids.{is_memory, is_resource}
 use Rattle.vk_model.specs.Rules.Binding.{conflicts_with}
@@ -20,7 +20,12 @@ use Rattle.vk_memory.specs.MemoryState.{type_of}
 use Rattle.vk_transfer.specs.Ran.{AreApart}
 use Rattle.vk_resources.specs.declared.resources.Placed.{Placed}
 use Rattle.vk_resources.specs.Held.{Held, IsApart, is_cached_in, placed, object_of}
-use Rattle.vk_resources.specs.Matches.{MatchesLive, LiesAt, has_memory, type_made, type_of_place}
+use Rattle.vma_pools.specs.Pools.{Kept}
+use Rattle.vma_pools.specs.State.{pool_at}
+use Rattle.vk_model.specs.declared.resource.PoolInfo.{PoolInfo}
+use Rattle.vk_backing.specs.Backed.{info_by}
+use Rattle.vk_backing.proofs.Spots.{are_spots}
+use Rattle.vk_resources.specs.Matches.{MatchesLive, LiesAt, LiesOf, has_memory, type_made, type_of_place}
 use Rattle.vk_resources.specs.Fits.{FitsPlace, is_occupied}
 use Rattle.vk_resources.specs.Inner.Steps.{BindReady}
 use Rattle.vk_resources.proofs.Placing.{inside_of}
@@ -54,7 +59,7 @@ no_resource (Some _) h g = cc
 
 -- a resource that is live is one of the live resources
 module _ (past : Past) (c : ℕ) (y : Entry) (r : Resource) (alive_is : live past c ≡ Some y) (is : resource_in y ≡ Some r) where
-  resource_is : resource past c ≡ Some r
+  pub resource_is : resource past c ≡ Some r
   resource_is = rw (made_of_live past c y alive_is) is
 
   among_live : Contains (live_resources past) c
@@ -67,7 +72,7 @@ module _ (past : Past) (c : ℕ) (y : Entry) (r : Resource) (alive_is : live pas
       makes (Some i) h = ap (λ (k : ℕ). Some k) (sym (eqb-true c i h))
 
   -- which passes no test that no live resource passes
-  none_passes : (test : ℕ → Bool) → list_any test (live_resources past) ≡ false → test c ≡ false
+  pub none_passes : (test : ℕ → Bool) → list_any test (live_resources past) ≡ false → test c ≡ false
   none_passes test none = false_from_ne_true (test c) (λ h. clash (member_passes test (live_resources past) c among_live h) none)
 
 -- ---- two ranges that don't meet
@@ -99,6 +104,14 @@ own_type (entry.Buffer j b) r is = let same : of_buffer b ≡ r = cc in ap (λ (
 own_type (entry.Image j b) r is = let same : of_image b ≡ r = cc in ap (λ (z : Resource). type_of_place z.place) same
 own_type _ r is = absurd cc
 
+-- the memory type of a pool is that of its blocks
+of_pool : (past : Past) (s : Held) (m : MatchesLive past s) (p : Placed) (b q : ℕ) → LiesOf s.backed s.memory b q p → holds (option_map (λ x. x.memory_type) (pool past q)) (λ u. u == 2) ≡ is_cached_in s.memory p
+of_pool past s m p b q lies =
+    let info = lies.2.lies.kept.pool.info in
+    let by : info_by s.backed q ≡ Some info = ap (λ (o : Option ℕ). option_map (λ (k : Kept). k.pool.info) (option_and_then (pool_at s.backed.pools) o)) lies.1 ∙ ap (λ (o : Option Kept). option_map (λ (k : Kept). k.pool.info) o) lies.2.lies.there in
+    let made = live_made pool_in past q info (sym (m.pools q) ∙ by) in
+    ap (λ (o : Option PoolInfo). holds (option_map (λ (x : PoolInfo). x.memory_type) o) (λ u. u == 2)) made ∙ ap (λ (t : ℕ). t == 2) (sym lies.2.kind)
+
 -- whether host accesses to a resource go through a cache is so of its memory object
 pub same_cached : (past : Past) (s : Held) (m : MatchesLive past s) (b : ℕ) (p : Placed) → placed s b ≡ Some p → is_cached past b ≡ is_cached_in s.memory p
 same_cached past s m b p here =
@@ -112,10 +125,10 @@ same_cached past s m b p here =
         let x = live_memory (live past k) lies.0 in
         let has = m.types k p.object x.0.memory_type (memory_made (live past k) x.0 x.1) lies.1 in
         rw (live_made memory_in past k x.0 x.1) (ap (λ (u : ℕ). u == 2) (sym has))
-    go (place.Pool q) is lies = absurd lies
-    go (place.PoolUpper q) is lies = absurd lies
+    go (place.Pool q) is lies = of_pool past s m p b q lies
+    go (place.PoolUpper q) is lies = of_pool past s m p b q lies
 
-module _ (past : Past) (s : Held) (m : MatchesLive past s) (apart : IsApart s.memory s.owned s.resources) (k o : ℕ) (r : Resource) (size : ℕ) (at : r.place ≡ place.Memory k o) (some : 0 < size) (less : size ≤ r.size) (fits : FitsPlace past r (place.Memory k o)) where
+module _ (past : Past) (s : Held) (m : MatchesLive past s) (apart : IsApart s.memory s.backed s.resources) (k o : ℕ) (r : Resource) (size : ℕ) (at : r.place ≡ place.Memory k o) (some : 0 < size) (less : size ≤ r.size) (fits : FitsPlace past r (place.Memory k o)) where
   memory_info : (x : MemoryInfo) × (option_and_then memory_in (live past k) ≡ Some x) × (holds (live past k) has_memory ≡ true)
   memory_info = live_memory (live past k) fits.0
 
@@ -144,15 +157,17 @@ module _ (past : Past) (s : Held) (m : MatchesLive past s) (apart : IsApart s.me
   bound_beside c q at object =
       let l = live_of_placed (live past) s c q m at in
       let lies = m.places c q l.resource at (resource_of_placed (live past) c q l) in
-      let inside = inside_of s.memory s.owned s.resources apart c q at in
-      let same : home c l.resource.place ≡ k = apart.own (home c l.resource.place) k number_of.0 (lies_in (live past) s c l.resource.place q lies ∙ ap (λ (n : ℕ). Some n) object) number_of.1 in
-      go c q l inside.some l.resource.place refl lies same
+      let inside = inside_of s.memory s.backed s.resources apart c q at in
+      elim (lies_in (live past) s c l.resource.place q lies) [
+        | inl has ↦ (let same : home c l.resource.place ≡ k = apart.backed_is.own (home c l.resource.place) k number_of.0 (has ∙ ap (λ (n : ℕ). Some n) object) number_of.1 in go c q l inside.some l.resource.place refl lies same)
+        | inr shared ↦ absurd ((are_spots s.backed s.memory apart.backed_is).unowned c shared.0 k shared.1.spot shared.1.lies (number_of.1 ∙ ap (λ (n : ℕ). Some n) (sym object ∙ sym shared.1.object)))
+      ]
     where
       go : (c : ℕ) (q : Placed) (l : LivePlaced (live past) c q) → 0 < q.size → (p : Place) → l.resource.place ≡ p → LiesAt (live past) s c p q → home c p ≡ k → AreApart o size q.offset q.size
       go c q l more (place.Dedicated t) is lies same = absurd (no_resource_in (live past k) l.made l.resource fits.0 (ap (live past) (sym same) ∙ l.alive_is) l.resource_is)
       go c q l more (place.Memory k' o') is lies same = rw lies.2 (beside c q l o' (is ∙ ap (λ (i : ℕ). place.Memory i o') same) more)
-      go c q l more (place.Pool p) is lies same = absurd lies
-      go c q l more (place.PoolUpper p) is lies same = absurd lies
+      go c q l more (place.Pool p) is lies same = absurd (no_resource_in (live past k) l.made l.resource fits.0 (ap (live past) (sym same) ∙ l.alive_is) l.resource_is)
+      go c q l more (place.PoolUpper p) is lies same = absurd (no_resource_in (live past k) l.made l.resource fits.0 (ap (live past) (sym same) ∙ l.alive_is) l.resource_is)
 
   aligned : type_of s.memory number_of.0 ≡ 2 → o % 64 ≡ 0
   aligned is =
@@ -182,8 +197,8 @@ module _ (past : Past) (s : Held) (m : MatchesLive past s) (r b : ℕ) (p : Plac
       go : (q : Place) → LiesAt (live past) s b q p → home b q ≡ r → ⊥
       go (place.Dedicated t) lies same = other same
       go (place.Memory k o) lies same = no_resource (live past k) lies.0 (subst (λ (i : ℕ). IsTrue (holds (live past i) is_resource)) (sym same) resource)
-      go (place.Pool q) lies same = lies
-      go (place.PoolUpper q) lies same = lies
+      go (place.Pool q) lies same = other same
+      go (place.PoolUpper q) lies same = other same
 
   pub freed_clear : is_occupied past r ≡ false → LiesAt (live past) s b t.place p → home b t.place ≡ r → ⊥
   freed_clear none lies same = go t.place refl lies same
@@ -195,5 +210,5 @@ module _ (past : Past) (s : Held) (m : MatchesLive past s) (r b : ℕ) (p : Plac
           let free = none_passes past b y.0 t y.1 y.2 (λ i. holds (memory_of past i) (λ s. r == s)) none in
           let bound : (r == k) ≡ false = rw (resource_is past b y.0 t y.1 y.2, at) at free in
           clash (eq-eqb r k (sym same)) bound
-      go (place.Pool q) at lies same = lies
-      go (place.PoolUpper q) at lies same = lies
+      go (place.Pool q) at lies same = other same
+      go (place.PoolUpper q) at lies same = other same

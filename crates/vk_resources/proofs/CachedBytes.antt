@@ -16,10 +16,12 @@ use Rattle.vk_model.specs.Run.CachedRuns.{after_host_write}
 use Rattle.vk_model.specs.World.Bytes.{Byte, in_buffer, in_image}
 use Rattle.vk_model.specs.World.Effect.{in_atoms}
 use Rattle.vk_transfer.specs.Ran.{AreApart}
+use Rattle.vk_backing.specs.Backed.{Backed}
+use Rattle.vk_backing.specs.Steps.{Grows}
 use Rattle.vk_resources.specs.declared.resources.Placed.{Placed}
 use Rattle.vk_resources.specs.Held.{Held, IsApart, IsInside, IsCaching, IsCachedByte, IsInAtoms, Stands, is_cached_in, placed, placed_in, shape_of, flat, flat_in, host_at, byte_at, IsThere, HasCell}
 use Rattle.vk_resources.specs.Inner.Steps.{MayReach, MayReachTo, cached_at, changed_of, length_to}
-use Rattle.vk_resources.proofs.Placing.{inside_of, kept_object}
+use Rattle.vk_resources.proofs.Placing.{inside_of, grown_object}
 use Rattle.vk_resources.proofs.Lying.{byte_lies, buffer_lies, where_lies, where_is, where_image, lies_within, byte_stays}
 
 -- ---- the bytes of a buffer
@@ -82,9 +84,9 @@ caching_typed memory memory' resources cache types c = record {
 }
 
 -- a memory object more
-pub caching_more : (m : MemoryState) (o : Object) (owned : List (ℕ × ℕ)) (resources : List (ℕ × Placed)) (cache : Holdings) → IsApart m owned resources → IsCaching m resources cache → IsCaching (record m { objects = m.objects ++ Some o ∷ [] }) resources cache
-caching_more m o owned resources cache apart c =
-    caching_typed m (record m { objects = m.objects ++ Some o ∷ [] }) resources cache (λ b p here. ap type_in (kept_object m o p.object (inside_of m owned resources apart b p here).live)) c
+pub caching_grown : (m n : MemoryState) (grows : Grows m n) (backed : Backed) (resources : List (ℕ × Placed)) (cache : Holdings) → IsApart m backed resources → IsCaching m resources cache → IsCaching n resources cache
+caching_grown m n grows backed resources cache apart c =
+    caching_typed m n resources cache (λ b p here. ap type_in (grown_object m n grows p.object (inside_of m backed resources apart b p here).live)) c
 
 -- a buffer more
 pub caching_put : (memory : MemoryState) (old new : List (ℕ × Placed)) (cache : Holdings) (id : ℕ) (p : Placed) → placed_in old id ≡ None → placed_in new id ≡ Some p → ((q : ℕ) → (q ≡ id → ⊥) → placed_in new q ≡ placed_in old q)
@@ -112,7 +114,7 @@ module _ (s : Held) (stands : Stands s) (b : ℕ) (p : Placed) (here : placed s 
     changed = record s { memory = memory; cache = cache }
 
     inside : IsInside s.memory p
-    inside = inside_of s.memory s.owned s.resources stands.0 b p here
+    inside = inside_of s.memory s.backed s.resources stands.0 b p here
 
     -- what is held outside of its atoms stays
     held_outside : (k : ℕ) → (IsInAtoms p k → ⊥) → held_at cache p.object k ≡ held_at s.cache p.object k

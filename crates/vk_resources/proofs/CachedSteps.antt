@@ -1,9 +1,9 @@
 -- Each call on the host's cache, as a step of what is held.
-use Rattle.std.proofs.Common.{◌≡◌, ℕ, ◌+◌, ◌-◌, ◌/◌, ◌%◌, ◌<◌, ◌≤◌, ◌==◌, List, [], length, slice_index, Bool, true, false, eqb, nat_lt, nat_le, ◌&&◌, refl, ap, sym, ◌∙◌, subst, arith, Option, Some, None, if◌then◌else◌}
+use Rattle.std.proofs.Common.{◌≡◌, ℕ, ◌+◌, ◌-◌, ◌/◌, ◌%◌, ◌<◌, ◌≤◌, ◌==◌, List, [], length, slice_index, Bool, true, false, eqb, nat_lt, nat_le, ◌&&◌, refl, ap, sym, ◌∙◌, subst, arith, inl, inr, Option, Some, None, if◌then◌else◌}
 use Rattle.std.proofs.lemmas.Bool.{and_from, lt-ltb, ltb-true, le-leb, eqb-true, eqb-false}
 use Rattle.std.specs.Prelude.{IsSome, is_some}
 use Rattle.vk_map_cache.specs.Holdings.{Holdings, held_at, Changes, HoldsSame, given, only_where, is_reached, is_in_atom}
-use Rattle.vk_memory.specs.MemoryState.{MemoryState, region_of, type_of, type_in, with_region}
+use Rattle.vk_memory.specs.MemoryState.{MemoryState, IsLive, region_of, type_of, type_in, with_region}
 use Rattle.vk_memory.proofs.LiveObjects.{region_of-same, region_of-other, type_of-same}
 use Rattle.vk_model.specs.declared.command.Length.{Length}
 use Rattle.vk_model.specs.declared.command.Length.TheVariants as length_of
@@ -14,9 +14,14 @@ use Rattle.vk_model.specs.World.Bytes.{in_buffer}
 use Rattle.vk_model.specs.World.Effect.{in_atoms}
 use Rattle.vk_resources.specs.declared.resources.Placed.{Placed}
 use Rattle.vk_resources.specs.Allocating.{allotted}
-use Rattle.vk_resources.specs.Held.{Held, IsInside, IsInAtoms, IsCachedByte, Stands, is_cached_in, placed, placed_in, shape_in, shape_of, object_in, object_of, host_at, holding_in}
-use Rattle.vk_resources.specs.Inner.Steps.{KeepsPlaces, HasChanged, Forgets, IsEmpty, Ends, freed, cached_at, length_to}
-use Rattle.vk_resources.proofs.Placing.{inside_of, apart_rewritten, still_long, kept_apart, apart_ended}
+use Rattle.vma_pools.specs.State.{released}
+use Rattle.vk_backing.specs.Allotted as backing
+use Rattle.vk_backing.specs.Backed.{Backed, IsBacked, IsWhole}
+use Rattle.vk_backing.specs.Steps.{Releases, ReleaseAllots}
+use Rattle.vk_backing.proofs.Spots.{are_spots}
+use Rattle.vk_resources.specs.Held.{Held, IsInside, IsInAtoms, IsCachedByte, Stands, is_cached_in, placed, placed_in, shape_in, shape_of, host_at, holding_in}
+use Rattle.vk_resources.specs.Inner.Steps.{KeepsPlaces, HasChanged, Forgets, LiesElsewhere, IsEmpty, Ends, cached_at, length_to}
+use Rattle.vk_resources.proofs.Placing.{inside_of, apart_rewritten, still_long, released_object, released_dead, apart_ended}
 use Rattle.vk_model.specs.declared.resource.ImageInfo.{ImageInfo}
 use Rattle.vk_resources.proofs.Lying.{kinds_kept}
 use Rattle.vk_resources.proofs.CachedBytes.{cached_here, here_cached, caching_typed, held_kept, reached_outside, changed_caching, changed_cells, unchanged_cells, write_outside, write_inside, FitsIn, range_inside, range_outside, flush_inside, flush_outside, atom_inside, atom_outside, tested}
@@ -52,7 +57,7 @@ module _ (s : Held) (stands : Stands s) (b : ℕ) (p : Placed) (is : cached_at s
   cached = (cached_here s b p is).1
 
   inside : IsInside s.memory p
-  inside = inside_of s.memory s.owned s.resources stands.0 b p here
+  inside = inside_of s.memory s.backed s.resources stands.0 b p here
 
   aligned : p.offset % 64 ≡ 0
   aligned = stands.1.aligned b p here cached
@@ -85,7 +90,7 @@ module _ (s : Held) (stands : Stands s) (b : ℕ) (p : Placed) (is : cached_at s
     -- where the same is held
     pub rewritten_stands : HoldsSame s.cache cache → Stands rewritten
     rewritten_stands same = (
-      apart_rewritten s.memory p.object after inside.live long s.owned s.resources stands.0,
+      apart_rewritten s.memory p.object after inside.live long s.backed s.resources stands.0,
       caching_typed s.memory rewritten.memory s.resources cache (λ c q at. types q.object) (same_stands s cache stands same).1,
       stands.2,
     )
@@ -95,7 +100,7 @@ module _ (s : Held) (stands : Stands s) (b : ℕ) (p : Placed) (is : cached_at s
       → ((k : ℕ) (cell : Cell) → k < p.size → f (p.offset + k) cell ≡ g k cell)
       → Stands (record s { memory = with_region s.memory p.object after; cache = cache }) × HasChanged s (record s { memory = with_region s.memory p.object after; cache = cache }) b g
   in_both flat_is f g cache after done outside same = (
-    (apart_rewritten s.memory p.object after inside.live done.size s.owned s.resources stands.0, changed_caching s stands b p here cached memory cache (types cache after done.size) elsewhere f now outside, stands.2),
+    (apart_rewritten s.memory p.object after inside.live done.size s.backed s.resources stands.0, changed_caching s stands b p here cached memory cache (types cache after done.size) elsewhere f now outside, stands.2),
     (rewritten_keeps cache after done.size, changed_cells s stands b p here cached memory cache (types cache after done.size) elsewhere f now outside flat_is g same),
   )
     where
@@ -203,9 +208,16 @@ all_none number offset size old new done none n k = go (eqb n number) refl
     go true e = ap (λ (m : ℕ). held_at new m k) (eqb-true n number e) ∙ here ∙ sym (none k) ∙ ap (λ (m : ℕ). held_at old m k) (sym (eqb-true n number e))
     go false e = (done []).others n k (eqb-false n number e)
 
-module _ (s : Held) (id : ℕ) (cache : Holdings) (stands : Stands s) (mid : Stands (record s { cache = cache })) (forgets : Forgets s (record s { cache = cache }) id) (empty : IsEmpty s id) where
-  -- nothing is held any more of its memory object
-  pub object_bare : (number k : ℕ) → object_of s id ≡ Some number → held_at cache number k ≡ None
+-- where a resource lies elsewhere its memory object is live when an id has ended
+lives_elsewhere : (s : Held) (id : ℕ) (backed' : Backed) (memory' : MemoryState) (gone : Option ℕ) → Releases s.backed backed' s.memory memory' id gone → IsBacked backed' memory' → (b : ℕ) (p : Placed) → (b ≡ id → ⊥) → LiesElsewhere s id b p → IsLive memory' p.object
+lives_elsewhere s id backed' memory' freed releases is b p other (inl own) = is.live own.0 p.object (releases.objects own.0 own.1 ∙ own.2)
+lives_elsewhere s id backed' memory' freed releases is b p other (inr shared) =
+    let l = shared.1 in subst (λ (n : ℕ). IsLive memory' n) l.object ((are_spots backed' memory' is).live b shared.0 l.spot (releases.keeps b shared.0 l.spot other l.lies))
+
+module _ (s : Held) (id : ℕ) (cache : Holdings) (stands : Stands s) (mid : Stands (record s { cache = cache })) (forgets : Forgets s (record s { cache = cache }) id) (gone : Option ℕ)
+    (stays : (b : ℕ) (p : Placed) → (b ≡ id → ⊥) → placed s b ≡ Some p → IsLive (released s.memory gone) p.object) where
+  -- nothing is held any more of a memory object that goes
+  pub object_bare : (number k : ℕ) → gone ≡ Some number → held_at cache number k ≡ None
   object_bare number k has = go (held_at cache number k) refl
     where
       go : (h : Option caches.Held) → held_at cache number k ≡ h → h ≡ None
@@ -215,34 +227,32 @@ module _ (s : Held) (id : ℕ) (cache : Holdings) (stands : Stands s) (mid : Sta
           own (eqb w.id id) w refl
         where
           own : (t : Bool) → (w : IsCachedByte s.memory s.resources number k) → eqb w.id id ≡ t → Some h ≡ None
-          own false w e = absurd (empty number w.id w.place has (eqb-false w.id id e) w.here w.object)
+          own false w e =
+              let lives = subst (λ (o : Option ℕ). IsLive (released s.memory o) w.place.object) has (stays w.id w.place (eqb-false w.id id e) w.here) in
+              absurd (released_dead s.memory number (subst (λ (n : ℕ). IsLive (released s.memory (Some number)) n) w.object lives))
           own true w e =
               let same = eqb-true w.id id e in
               let there = here_cached s id w.place (ap (λ (i : ℕ). placed s i) (sym same) ∙ w.here) w.cached in
               let none = subst (λ (n : ℕ). held_at cache n k ≡ None) w.object (forgets.gone w.place k there w.atom) in
               sym at ∙ none
 
-  module _ (owned' : List (ℕ × ℕ)) (resources' : List (ℕ × Placed)) (shapes' : List (ℕ × ImageInfo)) (final : Holdings) (same : HoldsSame cache final)
-      (no_object : object_in owned' id ≡ None) (objects : (i : ℕ) → (i ≡ id → ⊥) → object_in owned' i ≡ object_in s.owned i) (no_buffer : placed_in resources' id ≡ None) (places : (b : ℕ) → (b ≡ id → ⊥) → placed_in resources' b ≡ placed_in s.resources b)
+  module _ (backed' : Backed) (resources' : List (ℕ × Placed)) (shapes' : List (ℕ × ImageInfo)) (final : Holdings) (same : HoldsSame cache final) (is : IsBacked backed' (released s.memory gone))
+      (no_buffer : placed_in resources' id ≡ None) (places : (b : ℕ) → (b ≡ id → ⊥) → placed_in resources' b ≡ placed_in s.resources b)
       (no_shape : shape_in shapes' id ≡ None) (shapes : (b : ℕ) → (b ≡ id → ⊥) → shape_in shapes' b ≡ shape_in s.shapes b)
     where
       abbrev pub ended : Held
-      ended = record { memory = freed s.memory (object_of s id); owned = owned'; resources = resources'; shapes = shapes'; cache = final }
+      ended = record { memory = released s.memory gone; backed = backed'; resources = resources'; shapes = shapes'; cache = final }
 
       other : (b : ℕ) (p : Placed) → placed_in resources' b ≡ Some p → b ≡ id → ⊥
       other b p at is = let both : Some p ≡ None = sym at ∙ ap (λ (k : ℕ). placed_in resources' k) is ∙ no_buffer in cc
 
       -- another buffer lies in memory of the type that it was
-      type_kept : (b : ℕ) (p : Placed) → (b ≡ id → ⊥) → placed s b ≡ Some p → type_of (freed s.memory (object_of s id)) p.object ≡ type_of s.memory p.object
-      type_kept b p ne at = go (object_of s id) refl
-        where
-          go : (o : Option ℕ) → object_of s id ≡ o → type_of (freed s.memory o) p.object ≡ type_of s.memory p.object
-          go None is = refl
-          go (Some n) is = ap type_in (kept_apart s.memory n p.object (λ same. empty n b p is ne at same))
+      type_kept : (b : ℕ) (p : Placed) → (b ≡ id → ⊥) → placed s b ≡ Some p → type_of (released s.memory gone) p.object ≡ type_of s.memory p.object
+      type_kept b p ne at = ap type_in (released_object s.memory gone p.object (stays b p ne at))
 
       pub ended_stands : Stands ended
       ended_stands = (
-        apart_ended s.memory s.owned owned' s.resources resources' id no_object objects no_buffer places empty stands.0,
+        apart_ended s.memory gone s.backed backed' s.resources resources' id no_buffer places stays is stands.0,
         record {
           aligned = λ b p at cached.
               let ne = other b p at in
@@ -267,11 +277,14 @@ module _ (s : Held) (id : ℕ) (cache : Holdings) (stands : Stands s) (mid : Sta
                   let no : IsSome {T = caches.Held} None = subst (λ (h : Option caches.Held). IsSome h) (same number k ∙ none) held in
                   absurd cc
 
-      pub ends : Ends s ended id
-      ends = record {
-        memory = refl;
-        no_object = no_object;
-        objects = objects;
+      pub ends : Releases s.backed backed' s.memory (released s.memory gone) id gone → (IsWhole s.backed → IsWhole backed') → ReleaseAllots (allotted s) (allotted ended) id → Ends s ended id
+      ends releases whole allots = record {
+        gone = gone;
+        releases = releases;
+        backed = is;
+        stays = stays;
+        whole = whole;
+        allots = allots;
         no_resource = no_buffer;
         resources = places;
         no_shape = no_shape;
@@ -287,12 +300,13 @@ module _ (s : Held) (id : ℕ) (cache : Holdings) (stands : Stands s) (mid : Sta
               in_final (Some p) = ap (λ (h : Option caches.Held). if nat_lt k p.size then h else None) (same p.object (p.offset + k))
 
 -- the same of what is held when it is forgotten
-module _ (s n : Held) (id : ℕ) (memory : n.memory ≡ s.memory) (owned : n.owned ≡ s.owned) (resources : n.resources ≡ s.resources) (shapes_same : n.shapes ≡ s.shapes) (stands : Stands s) (mid : Stands n) (forgets : Forgets s n id) (empty : IsEmpty s id) where
+module _ (s n : Held) (id : ℕ) (memory : n.memory ≡ s.memory) (backed : n.backed ≡ s.backed) (resources : n.resources ≡ s.resources) (shapes_same : n.shapes ≡ s.shapes) (stands : Stands s) (mid : Stands n) (forgets : Forgets s n id) (empty : IsEmpty s id)
+    (backed' : Backed) (memory' : MemoryState) (gone : Option ℕ) (releases : Releases n.backed backed' n.memory memory' id gone) (is : IsBacked backed' memory') where
   as_cache : n ≡ record s { cache = n.cache }
   as_cache =
-      ap (λ (m : MemoryState). record n { memory = m }) memory ∙ ap (λ (o : List (ℕ × ℕ)). record n { memory = s.memory; owned = o }) owned
-      ∙ ap (λ (b : List (ℕ × Placed)). record n { memory = s.memory; owned = s.owned; resources = b }) resources
-      ∙ ap (λ (b : List (ℕ × ImageInfo)). record n { memory = s.memory; owned = s.owned; resources = s.resources; shapes = b }) shapes_same
+      ap (λ (m : MemoryState). record n { memory = m }) memory ∙ ap (λ (o : Backed). record n { memory = s.memory; backed = o }) backed
+      ∙ ap (λ (b : List (ℕ × Placed)). record n { memory = s.memory; backed = s.backed; resources = b }) resources
+      ∙ ap (λ (b : List (ℕ × ImageInfo)). record n { memory = s.memory; backed = s.backed; resources = s.resources; shapes = b }) shapes_same
 
   stands_mid : Stands (record s { cache = n.cache })
   stands_mid = subst Stands as_cache mid
@@ -300,18 +314,33 @@ module _ (s n : Held) (id : ℕ) (memory : n.memory ≡ s.memory) (owned : n.own
   forgets_mid : Forgets s (record s { cache = n.cache }) id
   forgets_mid = subst (λ (h : Held). Forgets s h id) as_cache forgets
 
-  pub bare_object : (number : ℕ) → Some number ≡ object_in n.owned id → (k : ℕ) → held_at n.cache number k ≡ None
-  bare_object number has k = object_bare s id n.cache stands stands_mid forgets_mid empty number k (sym (has ∙ ap (λ (o : List (ℕ × ℕ)). object_in o id) owned))
+  releases_old : Releases s.backed backed' s.memory memory' id gone
+  releases_old = subst (λ (b : Backed). Releases b backed' s.memory memory' id gone) backed (subst (λ (m : MemoryState). Releases n.backed backed' m memory' id gone) memory releases)
 
-  module _ (owned' : List (ℕ × ℕ)) (resources' : List (ℕ × Placed)) (shapes' : List (ℕ × ImageInfo)) (final : Holdings) (memory' : MemoryState) (same : HoldsSame n.cache final) (object : Option ℕ) (has : object ≡ object_in n.owned id) (is : memory' ≡ freed n.memory object)
-      (no_object : object_in owned' id ≡ None) (objects : (i : ℕ) → (i ≡ id → ⊥) → object_in owned' i ≡ object_in n.owned i) (no_buffer : placed_in resources' id ≡ None) (places : (b : ℕ) → (b ≡ id → ⊥) → placed_in resources' b ≡ placed_in n.resources b)
+  stays : (b : ℕ) (p : Placed) → (b ≡ id → ⊥) → placed s b ≡ Some p → IsLive (released s.memory gone) p.object
+  stays b p other at = subst (λ (m : MemoryState). IsLive m p.object) releases_old.memory (lives_elsewhere s id backed' memory' gone releases_old is b p other (empty b p other at))
+
+  pub bare_object : (number : ℕ) → gone ≡ Some number → (k : ℕ) → held_at n.cache number k ≡ None
+  bare_object number has k = object_bare s id n.cache stands stands_mid forgets_mid gone stays number k has
+
+  module _ (resources' : List (ℕ × Placed)) (shapes' : List (ℕ × ImageInfo)) (final : Holdings) (same : HoldsSame n.cache final)
+      (no_buffer : placed_in resources' id ≡ None) (places : (b : ℕ) → (b ≡ id → ⊥) → placed_in resources' b ≡ placed_in n.resources b)
       (no_shape : shape_in shapes' id ≡ None) (shapes : (b : ℕ) → (b ≡ id → ⊥) → shape_in shapes' b ≡ shape_in n.shapes b)
+      (whole : IsWhole n.backed → IsWhole backed') (allots : ReleaseAllots (backing.allotted n.backed n.memory) (backing.allotted backed' memory') id)
     where
-      pub all_ended : Stands (record { memory = memory'; owned = owned'; resources = resources'; shapes = shapes'; cache = final }) × Ends s (record { memory = memory'; owned = owned'; resources = resources'; shapes = shapes'; cache = final }) id
+      abbrev final_of : MemoryState → Held
+      final_of m = record { memory = m; backed = backed'; resources = resources'; shapes = shapes'; cache = final }
+
+      pub all_ended : Stands (final_of memory') × Ends s (final_of memory') id
       all_ended =
-          let objects' : (i : ℕ) → (i ≡ id → ⊥) → object_in owned' i ≡ object_in s.owned i = λ i ne. objects i ne ∙ ap (λ (o : List (ℕ × ℕ)). object_in o i) owned in
           let places' : (b : ℕ) → (b ≡ id → ⊥) → placed_in resources' b ≡ placed_in s.resources b = λ b ne. places b ne ∙ ap (λ (l : List (ℕ × Placed)). placed_in l b) resources in
           let shapes'' : (b : ℕ) → (b ≡ id → ⊥) → shape_in shapes' b ≡ shape_in s.shapes b = λ b ne. shapes b ne ∙ ap (λ (l : List (ℕ × ImageInfo)). shape_in l b) shapes_same in
-          let left : memory' ≡ freed s.memory (object_of s id) = is ∙ ap (λ (o : Option ℕ). freed n.memory o) (has ∙ ap (λ (o : List (ℕ × ℕ)). object_in o id) owned) ∙ ap (λ (m : MemoryState). freed m (object_of s id)) memory in
-          subst (λ (m : MemoryState). Stands (record { memory = m; owned = owned'; resources = resources'; shapes = shapes'; cache = final }) × Ends s (record { memory = m; owned = owned'; resources = resources'; shapes = shapes'; cache = final }) id) (sym left)
-          (ended_stands s id n.cache stands stands_mid forgets_mid empty owned' resources' shapes' final same no_object objects' no_buffer places' no_shape shapes'', ends s id n.cache stands stands_mid forgets_mid empty owned' resources' shapes' final same no_object objects' no_buffer places' no_shape shapes'')
+          let left : memory' ≡ released s.memory gone = releases_old.memory in
+          let is' = subst (λ (m : MemoryState). IsBacked backed' m) left is in
+          let whole' = subst (λ (b : Backed). IsWhole b → IsWhole backed') backed whole in
+          let allots' = subst (λ (m : MemoryState). ReleaseAllots (allotted s) (backing.allotted backed' m) id) left (subst (λ (b : Backed). ReleaseAllots (backing.allotted b s.memory) (backing.allotted backed' memory') id) backed (subst (λ (m : MemoryState). ReleaseAllots (backing.allotted n.backed m) (backing.allotted backed' memory') id) memory allots)) in
+          let releases' = subst (λ (m : MemoryState). Releases s.backed backed' s.memory m id gone) left releases_old in
+          subst (λ (m : MemoryState). Stands (final_of m) × Ends s (final_of m) id) (sym left) (
+            ended_stands s id n.cache stands stands_mid forgets_mid gone stays backed' resources' shapes' final same is' no_buffer places' no_shape shapes'',
+            ends s id n.cache stands stands_mid forgets_mid gone stays backed' resources' shapes' final same is' no_buffer places' no_shape shapes'' releases' whole' allots',
+          )

@@ -104,7 +104,7 @@ module _ (s : Held) (stands : Stands s) where
         bytes = piece (region_of s.memory q.object) (q.offset + g.source_offset) g.size
 
         inside : IsInside s.memory q
-        inside = inside_of s.memory s.owned s.resources stands.0 a q there
+        inside = inside_of s.memory s.backed s.resources stands.0 a q there
 
         place : p.offset + g.destination_offset ≡ p.offset + g.destination_offset + 0
         place = omega arith

@@ -1,7 +1,7 @@
 -- What is asked of the resources by an entry that fits, and done for one that ends something.
 use Rattle.std.proofs.Common.{◌≡◌, false, ℕ, ◌<◌, ◌≤◌, refl, ap, sym, ◌∙◌, subst, arith, Option, Some, None}
 use Rattle.std.proofs.lemmas.Bool.{le-ltb}
-use Rattle.std.specs.Prelude.{option_and_then}
+use Rattle.std.specs.Prelude.{IsTrue, option_and_then}
 use Rattle.vk_model.specs.declared.entry.Entry.{Entry}
 use Rattle.vk_model.specs.declared.entry.Entry.TheVariants as entry
 use Rattle.vk_model.specs.declared.resource.BufferInfo.{BufferInfo}
@@ -12,9 +12,11 @@ use Rattle.vk_model.specs.Basics.{holds}
 use Rattle.vk_model.specs.Trace.Point.{Past}
 use Rattle.vk_model.specs.declared.resource.ImageInfo.{ImageInfo}
 use Rattle.vk_model.specs.Trace.Image.{image_size}
-use Rattle.vk_model.specs.Trace.Objects.{Resource, of_buffer, of_image, live, image_in}
+use Rattle.vk_model.specs.Trace.Objects.{Resource, of_buffer, of_image, live, image_in, pool_in}
 use Rattle.vk_image_tiles.specs.Shapes.{refusal}
+use Rattle.vk_model.specs.Rules.Ids.{is_memory, is_resource}
 use Rattle.vk_model.specs.Rules.Sizes.{bad_image}
+use Rattle.vk_backing.specs.Backed.{allocation_of}
 use Rattle.vk_resources.specs.declared.applied.Applied.TheVariants as applied
 use Rattle.vk_resources.specs.Held.{Held, Stands, placed, shape_of, object_of}
 use Rattle.vk_resources.specs.Matches.{MatchesLive, size_made, has_memory}
@@ -24,12 +26,15 @@ use Rattle.vk_resources.specs.Inner.Steps.{IsMaking, BindReady, IsEmpty, Ends}
 use Rattle.vk_resources.proofs.Matching.{unowned, unplaced}
 use Rattle.vk_resources.proofs.Living.{live_end, not_live, empty}
 use Rattle.vk_resources.proofs.Binding.{bind_ready, destroyed_clear, freed_clear}
-use Rattle.vk_resources.proofs.Applying.{end_goes}
+use Rattle.vk_resources.proofs.Applying.{end_goes, no_allocation}
 
 -- ---- a new object
 
 pub memory_absent : (s : Held) (y : Entry) (i : ℕ) (info : MemoryInfo) → y ≡ entry.Memory i info → (past : Past) → MatchesLive past s → FitsEntry past y → object_of s i ≡ None
 memory_absent s y i info is past m fit = unowned (live past) s i m (ap (λ (o : Option Entry). holds o has_memory) (not_live past i (subst (λ (x : Entry). FitsEntry past x) is fit).0))
+
+pub memory_unshared : (s : Held) (y : Entry) (i : ℕ) (info : MemoryInfo) → y ≡ entry.Memory i info → (past : Past) → MatchesLive past s → FitsEntry past y → allocation_of s.backed i ≡ None
+memory_unshared s y i info is past m fit = no_allocation past s i m (subst (λ (x : Entry). FitsEntry past x) is fit).0
 
 -- what an entry that makes a resource is known to be of
 pub record MakerFits (past : Past) (i : ℕ) (r : Resource) (size : ℕ) (shape : Option ImageInfo) : Type 0 where
@@ -52,16 +57,6 @@ image_fits y i info some is past fit =
 pub image_good : (y : Entry) (i : ℕ) (info : ImageInfo) → y ≡ entry.Image i info → (past : Past) → FitsEntry past y → bad_image info ≡ false
 image_good y i info is past fit = let fits : FitsImage past i info = subst (λ (x : Entry). FitsEntry past x) is fit in fits.shaped
 
--- a place that fits is one of two
-place_left : (past : Past) (r : Resource) (q : Place) → FitsPlace past r q → ((t : ℕ) → q ≡ place.Dedicated t → ⊥) → ((k o : ℕ) → q ≡ place.Memory k o → ⊥) → ⊥
-place_left past r (place.Dedicated t) fits own bound = own t refl
-place_left past r (place.Memory k o) fits own bound = bound k o refl
-place_left past r (place.Pool q) fits own bound = fits
-place_left past r (place.PoolUpper q) fits own bound = fits
-
-pub image_place : (y : Entry) (i : ℕ) (info : ImageInfo) → y ≡ entry.Image i info → (past : Past) → FitsEntry past y → ((t : ℕ) → info.place ≡ place.Dedicated t → ⊥) → ((k o : ℕ) → info.place ≡ place.Memory k o → ⊥) → ⊥
-image_place y i info is past fit own bound = let fits : FitsImage past i info = subst (λ (x : Entry). FitsEntry past x) is fit in place_left past (of_image info) info.place fits.place own bound
-
 -- an entry that makes no object isn't one of those
 pub makes_one : (y : Entry) → IsMaking y → ((i : ℕ) (m : MemoryInfo) → y ≡ entry.Memory i m → ⊥) → ((i : ℕ) (b : BufferInfo) → y ≡ entry.Buffer i b → ⊥) → ((i : ℕ) (m : ImageInfo) → y ≡ entry.Image i m → ⊥) → ⊥
 makes_one (entry.Memory i m) making memory buffer image = memory i m refl
@@ -79,6 +74,9 @@ module _ (s : Held) (past : Past) (m : MatchesLive past s) (i : ℕ) (r : Resour
   pub no_object : object_of s i ≡ None
   no_object = unowned (live past) s i m (ap (λ (o : Option Entry). holds o has_memory) (not_live past i fits.unused))
 
+  pub no_share : allocation_of s.backed i ≡ None
+  no_share = no_allocation past s i m fits.unused
+
   pub no_place : placed s i ≡ None
   no_place = unplaced (live past) s i m (ap (option_and_then size_made) (not_live past i fits.unused))
 
@@ -90,26 +88,37 @@ module _ (s : Held) (past : Past) (m : MatchesLive past s) (i : ℕ) (r : Resour
 
 -- ---- what ends
 
+memory_no_pool : (o : Option Entry) → IsTrue (holds o is_memory) → option_and_then pool_in o ≡ None
+memory_no_pool None h = refl
+memory_no_pool (Some (entry.Memory i x)) h = refl
+memory_no_pool (Some _) h = absurd cc
+
+resource_no_pool : (o : Option Entry) → IsTrue (holds o is_resource) → option_and_then pool_in o ≡ None
+resource_no_pool None h = refl
+resource_no_pool (Some (entry.Buffer i x)) h = refl
+resource_no_pool (Some (entry.Image i x)) h = refl
+resource_no_pool (Some _) h = absurd cc
+
 module _ (s : Held) (y : Entry) (m : ℕ) (is : y ≡ entry.Free m) (past : Past) (matches : MatchesLive past s) (fit : FitsEntry past y) (stands : Stands s) where
   pub free_empty : IsEmpty s m
   free_empty =
       let fits = subst (λ (x : Entry). FitsEntry past x) is fit in
-      empty (live past) _ s s m (live_end past 0 (entry.Free m) m refl refl) matches stands.0 (λ b p t other at his lies. freed_clear past s matches m b p t other his fits.1 lies)
+      empty (live past) _ s s m (live_end past 0 (entry.Free m) m refl refl) matches stands.0 (memory_no_pool (live past m) fits.0) (λ b p t other at his lies. freed_clear past s matches m b p t other his fits.1 lies)
 
   pub free_done : (new : Held) → Ends s new m → (e : ℕ) → DoneBy applied.Done e y past s new
   free_done new ends e =
       let fits = subst (λ (x : Entry). FitsEntry past x) is fit in
       subst (λ (x : Entry). DoneBy applied.Done e x past s new) (sym is)
-      (end_goes s new past e m (entry.Free m) refl refl (λ c cell. refl) matches stands.0 (λ b p t other at his lies. freed_clear past s matches m b p t other his fits.1 lies) ends, λ b o n h. absurd cc)
+      (end_goes s new past e m (entry.Free m) refl refl (λ c cell. refl) matches stands.0 (memory_no_pool (live past m) fits.0) (λ b p t other at his lies. freed_clear past s matches m b p t other his fits.1 lies) ends, λ b o n h. absurd cc)
 
 module _ (s : Held) (y : Entry) (r : ℕ) (is : y ≡ entry.Destroy r) (past : Past) (matches : MatchesLive past s) (fit : FitsEntry past y) (stands : Stands s) where
   pub destroy_empty : IsEmpty s r
   destroy_empty =
       let fits = subst (λ (x : Entry). FitsEntry past x) is fit in
-      empty (live past) _ s s r (live_end past 0 (entry.Destroy r) r refl refl) matches stands.0 (λ b p t other at his lies. destroyed_clear past s matches r b p t other his fits lies)
+      empty (live past) _ s s r (live_end past 0 (entry.Destroy r) r refl refl) matches stands.0 (resource_no_pool (live past r) fits) (λ b p t other at his lies. destroyed_clear past s matches r b p t other his fits lies)
 
   pub destroy_done : (new : Held) → Ends s new r → (e : ℕ) → DoneBy applied.Done e y past s new
   destroy_done new ends e =
       let fits = subst (λ (x : Entry). FitsEntry past x) is fit in
       subst (λ (x : Entry). DoneBy applied.Done e x past s new) (sym is)
-      (end_goes s new past e r (entry.Destroy r) refl refl (λ c cell. refl) matches stands.0 (λ b p t other at his lies. destroyed_clear past s matches r b p t other his fits lies) ends, λ b o n h. absurd cc)
+      (end_goes s new past e r (entry.Destroy r) refl refl (λ c cell. refl) matches stands.0 (resource_no_pool (live past r) fits) (λ b p t other at his lies. destroyed_clear past s matches r b p t other his fits lies) ends, λ b o n h. absurd cc)

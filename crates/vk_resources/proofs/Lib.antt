@@ -12,6 +12,10 @@ pub mod ImageFitting
 mod Living
 mod Binding
 mod Applying
+mod Backing
+mod Sharing
+mod PoolEntries
+mod PoolEnds
 pub mod HostAccesses
 mod Ending
 mod Allotting

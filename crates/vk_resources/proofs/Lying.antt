@@ -11,7 +11,8 @@ use Rattle.vk_model.specs.World.Bytes.{Byte, in_buffer, in_image, resource_at}
 use Rattle.vk_image_transfer.specs.Held.{place_of, byte_held}
 use Rattle.vk_transfer.specs.Ran.{AreApart}
 use Rattle.vk_resources.specs.declared.resources.Placed.{Placed}
-use Rattle.vk_resources.specs.Allocating.{allotted, kind_of}
+use Rattle.vk_backing.specs.Allotted.{kind_of}
+use Rattle.vk_resources.specs.Allocating.{allotted}
 use Rattle.vk_resources.specs.Held.{Held, IsApart, IsInside, AreShaped, placed, shape_of, form_of, lying_in, place_in, byte_at, IsThere}
 use Rattle.vk_resources.specs.Inner.Steps.{KeepsPlaces}
 use Rattle.vk_resources.proofs.Placing.{apart_rewritten, inside_of, still_long}
@@ -117,19 +118,19 @@ kinds_kept m o bytes = map-set_same kind_of m.objects o (rewritten bytes (object
     same None = refl
     same (Some x) = refl
 
-module _ (s : Held) (apart : IsApart s.memory s.owned s.resources) (shaped : AreShaped s.resources s.shapes) (b : ℕ) (p : Placed) (here : placed s b ≡ Some p) (new : List ℕ) (long : length new ≡ length (region_of s.memory p.object))
+module _ (s : Held) (apart : IsApart s.memory s.backed s.resources) (shaped : AreShaped s.resources s.shapes) (b : ℕ) (p : Placed) (here : placed s b ≡ Some p) (new : List ℕ) (long : length new ≡ length (region_of s.memory p.object))
     (outside : (k : ℕ) → (k < p.offset) ⊎ (p.offset + p.size ≤ k) → slice_index new k ≡ slice_index (region_of s.memory p.object) k) where
   abbrev pub changed_in : Held
   changed_in = record s { memory = with_region s.memory p.object new }
 
   inside : IsInside s.memory p
-  inside = inside_of s.memory s.owned s.resources apart b p here
+  inside = inside_of s.memory s.backed s.resources apart b p here
 
   pub now : region_of changed_in.memory p.object ≡ new
   now = region_of-same s.memory p.object new inside.live
 
-  pub changed_apart : IsApart changed_in.memory changed_in.owned changed_in.resources
-  changed_apart = apart_rewritten s.memory p.object new inside.live long s.owned s.resources apart
+  pub changed_apart : IsApart changed_in.memory changed_in.backed changed_in.resources
+  changed_apart = apart_rewritten s.memory p.object new inside.live long s.backed s.resources apart
 
   pub changed_keeps : KeepsPlaces s changed_in
   changed_keeps = record {

@@ -13,6 +13,7 @@ use Rattle.vk_model.specs.Trace.Image.{image_size}
 use Rattle.vk_model.specs.Trace.Objects.{Resource, of_image}
 use Rattle.vk_model.specs.Trace.Point.{Past}
 use Rattle.vk_model.specs.Memory.PlaceLaws.{TexelByte, TexelsInside}
+use Rattle.vma_pools.specs.declared.allocations.Asked.{Asked}
 use Rattle.vk_image_tiles.proofs.LevelBounds.{counts, some_bytes}
 use Rattle.vk_image_transfer.specs.Held.{ImageOf}
 use Rattle.vk_image_transfer.proofs.Places.{place_within}
@@ -24,7 +25,7 @@ use Rattle.vk_resources.specs.Held.{Held, IsShaped, Stands}
 use Rattle.vk_resources.specs.Matches.{MatchesLive}
 use Rattle.vk_resources.specs.Fits.{FitsEntry, FitsPlace}
 use Rattle.vk_resources.specs.Done.{DoneBy}
-use Rattle.vk_resources.specs.Inner.Steps.{ResourceMade, BindReady, Binds}
+use Rattle.vk_resources.specs.Inner.Steps.{ResourceMade, BindReady, Binds, SharedMade}
 use Rattle.vk_resources.proofs.Applying.{IsMaker, resource_done, bound_done}
 use Rattle.vk_resources.proofs.Allotting.{resource_rooms, resource_allots, bound_rooms, bound_allots, bound_same}
 use Rattle.vk_resources.proofs.Ending.{MakerFits, no_object, binds_ready, image_good}
@@ -67,7 +68,7 @@ module _ (s new : Held) (y x : Entry) (is : y ≡ x) (i : ℕ) (r : Resource) (s
     own_rooms past fit = subst (λ (z : Entry). Rooms a s z) (sym is) (resource_rooms s new x i r size shape maker t own a made)
 
     pub own_allots : (past : Past) → MatchesLive past s → FitsEntry past y → Allots a y s new
-    own_allots past m fit = subst (λ (z : Entry). Allots a z s new) (sym is) (resource_allots s new x i r size shape maker t own (no_object s past m i r size shape (fits past fit)) stands.0 a made)
+    own_allots past m fit = subst (λ (z : Entry). Allots a z s new) (sym is) (resource_allots s new x i r size shape maker t own a made)
 
   module _ (k o : ℕ) (at : r.place ≡ place.Memory k o) where
     pub may_bind : (past : Past) → MatchesLive past s → FitsEntry past y → BindReady s k o size
@@ -93,3 +94,7 @@ made_as a s new i t n shape info size same made =
 pub binds_as : (s new : Held) (i k o n : ℕ) (shape info : ImageInfo) → n ≡ image_size info info.tiling → shape ≡ info → Binds s new i k o n (Some shape) → Binds s new i k o (image_size info info.tiling) (Some info)
 binds_as s new i k o n shape info size same binds =
     subst (λ (m : ImageInfo). Binds s new i k o (image_size info info.tiling) (Some m)) same (subst (λ (z : ℕ). Binds s new i k o z (Some shape)) size binds)
+
+pub shared_as : (a : Applied) (s new : Held) (i pool n size : ℕ) (asked : Asked) (upper : Bool) (shape info : ImageInfo) → n ≡ size → shape ≡ info → SharedMade a s new i pool n asked upper (Some shape) → SharedMade a s new i pool size asked upper (Some info)
+shared_as a s new i pool n size asked upper shape info same_size same made =
+    subst (λ (m : ImageInfo). SharedMade a s new i pool size asked upper (Some m)) same (subst (λ (z : ℕ). SharedMade a s new i pool z asked upper (Some shape)) same_size made)

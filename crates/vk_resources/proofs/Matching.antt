@@ -1,5 +1,5 @@
 -- What is held is what is live, as long as only bytes change.
-use Rattle.std.proofs.Common.{◌≡◌, ◌∙◌, ℕ, ◌≤◌, List, false, refl, arith, ap, sym, subst, Option, Some, None}
+use Rattle.std.proofs.Common.{◌≡◌, ◌⊎◌, inl, inr, ◌∙◌, ℕ, ◌≤◌, List, true, false, refl, arith, ap, sym, subst, Option, Some, None}
 use Rattle.std.specs.Prelude.{IsTrue, is_some, option_map, option_and_then}
 use Rattle.vk_model.specs.declared.entry.Entry.{Entry}
 use Rattle.vk_model.specs.declared.entry.Entry.TheVariants as entry
@@ -8,13 +8,15 @@ use Rattle.vk_model.specs.declared.resource.Place.{Place}
 use Rattle.vk_model.specs.declared.resource.Place.TheVariants as place
 use Rattle.vk_resources.specs.declared.resources.Placed.{Placed}
 use Rattle.vk_model.specs.declared.resource.ImageInfo.{ImageInfo}
-use Rattle.vk_resources.specs.Held.{Held, placed, placed_in, shape_in, shape_of, flat, flat_in, object_in, object_of}
+use Rattle.vk_backing.specs.Backed as backing
+use Rattle.vk_backing.specs.Backed.{Backed, allocation_of, info_by, IsWhole}
+use Rattle.vk_resources.specs.Held.{Held, placed, placed_in, shape_in, shape_of, flat, flat_in, object_of, LiesShared}
 use Rattle.vk_model.specs.Basics.{holds}
-use Rattle.vk_model.specs.Trace.Objects.{Resource, of_buffer, of_image, buffer_in, image_in, resource_in, memory_in}
+use Rattle.vk_model.specs.Trace.Objects.{Resource, of_buffer, of_image, buffer_in, image_in, resource_in, memory_in, pool_in}
 use Rattle.vk_model.specs.Rules.Ids.{is_memory}
 use Rattle.vk_model.specs.Trace.Image.{image_size}
-use Rattle.vk_resources.specs.Matches.{Matches, LiesAt, size_made, has_memory, type_made}
-use Rattle.vk_resources.specs.Allocating.{Allotted}
+use Rattle.vk_resources.specs.Matches.{Matches, LiesAt, LiesOf, size_made, has_memory, type_made, in_pool}
+use Rattle.vk_backing.specs.Allotted.{Allotted}
 use Rattle.vk_resources.specs.Inner.Steps.{KeepsPlaces}
 
 -- ---- where a resource lies
@@ -24,18 +26,18 @@ abbrev pub home : ℕ → Place → ℕ
 home b (place.Memory m o) = m
 home b _ = b
 
-pub lies_on : (alive alive' : ℕ → Option Entry) (s s' : Held) (b : ℕ) (q : Place) (p : Placed) → LiesAt alive s b q p → object_of s' (home b q) ≡ object_of s (home b q) → alive' (home b q) ≡ alive (home b q) → LiesAt alive' s' b q p
-lies_on alive alive' s s' b (place.Dedicated t) p lies objects same = (objects ∙ lies.0, lies.1)
-lies_on alive alive' s s' b (place.Memory m o) p lies objects same = (subst (λ (x : Option Entry). IsTrue (holds x is_memory)) (sym same) lies.0, objects ∙ lies.1, lies.2)
-lies_on alive alive' s s' b (place.Pool q) p lies objects same = lies
-lies_on alive alive' s s' b (place.PoolUpper q) p lies objects same = lies
+pub lies_on : (alive alive' : ℕ → Option Entry) (s s' : Held) (b : ℕ) (q : Place) (p : Placed) → LiesAt alive s b q p → object_of s' (home b q) ≡ object_of s (home b q) → alive' (home b q) ≡ alive (home b q) → ((r : ℕ) → LiesOf s.backed s.memory b r p → LiesOf s'.backed s'.memory b r p) → LiesAt alive' s' b q p
+lies_on alive alive' s s' b (place.Dedicated t) p lies objects same pooled = (objects ∙ lies.0, lies.1)
+lies_on alive alive' s s' b (place.Memory m o) p lies objects same pooled = (subst (λ (x : Option Entry). IsTrue (holds x is_memory)) (sym same) lies.0, objects ∙ lies.1, lies.2)
+lies_on alive alive' s s' b (place.Pool q) p lies objects same pooled = pooled q lies
+lies_on alive alive' s s' b (place.PoolUpper q) p lies objects same pooled = pooled q lies
 
--- it lies in the memory object of that id
-pub lies_in : (alive : ℕ → Option Entry) (s : Held) (b : ℕ) (q : Place) (p : Placed) → LiesAt alive s b q p → object_of s (home b q) ≡ Some p.object
-lies_in alive s b (place.Dedicated t) p lies = lies.0
-lies_in alive s b (place.Memory m o) p lies = lies.1
-lies_in alive s b (place.Pool q) p lies = absurd lies
-lies_in alive s b (place.PoolUpper q) p lies = absurd lies
+-- it lies in the memory object of that id, or in a pool
+pub lies_in : (alive : ℕ → Option Entry) (s : Held) (b : ℕ) (q : Place) (p : Placed) → LiesAt alive s b q p → (object_of s (home b q) ≡ Some p.object) ⊎ ((n : ℕ) × LiesShared s.backed s.memory b n p)
+lies_in alive s b (place.Dedicated t) p lies = inl lies.0
+lies_in alive s b (place.Memory m o) p lies = inl lies.1
+lies_in alive s b (place.Pool q) p lies = inr (lies.0, lies.2)
+lies_in alive s b (place.PoolUpper q) p lies = inr (lies.0, lies.2)
 
 -- ---- only bytes change
 
@@ -43,14 +45,23 @@ pub keeps_matches : (alive : ℕ → Option Entry) (old new : Held) → KeepsPla
 keeps_matches alive old new keeps m = record {
   sizes = λ b. ap (λ (bs : List (ℕ × Placed)). option_map (λ (p : Placed). p.size) (placed_in bs b)) keeps.resources ∙ m.sizes b;
   shapes = λ i. ap (λ (l : List (ℕ × ImageInfo)). shape_in l i) keeps.shapes ∙ m.shapes i;
-  places = λ b p r here is. lies_on alive alive old new b r.place p (m.places b p r (sym (ap (λ (bs : List (ℕ × Placed)). placed_in bs b) keeps.resources) ∙ here) is) (objects (home b r.place)) refl;
+  places = λ b p r here is. lies_on alive alive old new b r.place p (m.places b p r (sym (ap (λ (bs : List (ℕ × Placed)). placed_in bs b) keeps.resources) ∙ here) is) (objects (home b r.place)) refl (λ q l. typed b p q (subst (λ (x : Backed). LiesOf x old.memory b q p) (sym backed) l));
   owned = λ i. ap is_some (objects i) ∙ m.owned i;
   memories = λ k number x is has. keeps.lengths number ∙ m.memories k number x is (sym (objects k) ∙ has);
   types = λ i number t is has. keeps.types number ∙ m.types i number t is (sym (objects i) ∙ has);
+  pools = λ i. ap (λ (x : Backed). info_by x i) backed ∙ m.pools i;
+  pooled = λ i a has. m.pooled i a (ap (λ (x : Backed). allocation_of x i) (sym backed) ∙ has);
+  whole = subst IsWhole (sym backed) m.whole;
 }
   where
+    backed : new.backed ≡ old.backed
+    backed = ap (λ (a : Allotted). a.backed) keeps.same
+
     objects : (i : ℕ) → object_of new i ≡ object_of old i
-    objects i = ap (λ (a : Allotted). object_in a.owned i) keeps.same
+    objects i = ap (λ (x : Backed). backing.object_of x i) backed
+
+    typed : (b : ℕ) (p : Placed) (q : ℕ) → LiesOf new.backed old.memory b q p → LiesOf new.backed new.memory b q p
+    typed b p q l = (l.0, l.1, record { spot = l.2.spot; lies = l.2.lies; object = l.2.object; offset = l.2.offset; within = l.2.within; kind = keeps.types p.object ∙ l.2.kind })
 
 -- ---- the same objects are live
 
@@ -58,10 +69,13 @@ pub matches_same : (alive alive' : ℕ → Option Entry) (s : Held) → ((i : �
 matches_same alive alive' s same m = record {
   sizes = λ b. m.sizes b ∙ ap (option_and_then size_made) (sym (same b));
   shapes = λ b. m.shapes b ∙ ap (option_and_then image_in) (sym (same b));
-  places = λ b p r here is. lies_on alive alive' s s b r.place p (m.places b p r here (ap (option_and_then resource_in) (sym (same b)) ∙ is)) refl (same (home b r.place));
+  places = λ b p r here is. lies_on alive alive' s s b r.place p (m.places b p r here (ap (option_and_then resource_in) (sym (same b)) ∙ is)) refl (same (home b r.place)) (λ q l. l);
   owned = λ i. m.owned i ∙ ap (λ (x : Option Entry). holds x has_memory) (sym (same i));
   memories = λ k number x is has. m.memories k number x (ap (option_and_then memory_in) (sym (same k)) ∙ is) has;
   types = λ i number t is has. m.types i number t (ap (option_and_then type_made) (sym (same i)) ∙ is) has;
+  pools = λ i. m.pools i ∙ ap (option_and_then pool_in) (sym (same i));
+  pooled = λ i a has. subst (λ (x : Option Entry). IsTrue (holds x in_pool)) (sym (same i)) (m.pooled i a has);
+  whole = m.whole;
 }
 
 -- ---- what is held is live
@@ -167,3 +181,11 @@ unowned alive s i m none = go (object_of s i) (m.owned i ∙ none)
     go : (x : Option ℕ) → is_some x ≡ false → x ≡ None
     go None e = refl
     go (Some n) e = absurd cc
+
+-- what isn't in a pool has no allocation there
+pub unshared : (alive : ℕ → Option Entry) (s : Held) (i : ℕ) → Matches alive s → holds (alive i) in_pool ≡ false → allocation_of s.backed i ≡ None
+unshared alive s i m none = go (allocation_of s.backed i) refl
+  where
+    go : (x : Option ℕ) → allocation_of s.backed i ≡ x → x ≡ None
+    go None e = refl
+    go (Some a) e = let both : true ≡ false = sym (m.pooled i a e) ∙ none in cc

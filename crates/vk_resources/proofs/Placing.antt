@@ -1,27 +1,31 @@
 -- Buffers lie in live memory objects and share no byte, whatever happens to them.
 use Rattle.std.proofs.Common.{◌≡◌, inl, inr, ℕ, ◌+◌, ◌-◌, ◌<◌, ◌≤◌, List, [], ◌∷◌, ◌++◌, length, Bool, true, false, eqb, refl, ap, sym, ◌∙◌, subst, arith, get_or-set_same, get_or-set_other, slice_index_or, Option, Some, None}
-use Rattle.std.proofs.lemmas.Bool.{eqb-true, eqb-false}
+use Rattle.std.proofs.lemmas.Bool.{eqb-true, eqb-false, cases_lt}
 use Rattle.std.proofs.Math.Seq.{get_or-append_right}
-use Rattle.std.proofs.lemmas.List.{get_or_append_left}
+use Rattle.std.proofs.lemmas.List.{get_or_append_left, get_or_past, length-set}
 use Rattle.std.proofs.lemmas.Grind.{common_steps}
 use Rattle.std.specs.Ordering.{nat_cmp}
 use Rattle.std.specs.BTreeMap.{is_at}
-use Rattle.std.specs.Prelude.{IsSome, IfSome}
+use Rattle.std.specs.Prelude.{IsSome, IfSome, slice_set}
 use Rattle.vk_memory.specs.declared.memories.Object.{Object}
 use Rattle.vk_memory.specs.MemoryState.{MemoryState, IsLive, object_at, region_of, bytes_of, rewritten, with_region, with_object}
 use Rattle.vk_memory.proofs.LiveObjects.{live_below, region_of-same, region_of-other}
 use Rattle.vk_transfer.specs.Ran.{AreApart}
 use Rattle.vk_resources.specs.declared.resources.Placed.{Placed}
-use Rattle.vk_resources.specs.Held.{IsApart, IsInside, placed_in, object_in}
-use Rattle.vk_resources.specs.Inner.Steps.{freed}
+use Rattle.vma_pools.specs.State.{released}
+use Rattle.vk_backing.specs.Backed.{Backed, IsBacked}
+use Rattle.vk_backing.specs.Steps.{Grows}
+use Rattle.vk_backing.proofs.Grown.{some_there}
+use Rattle.vk_backing.proofs.Rewritten.{rewritten_backed}
+use Rattle.vk_resources.specs.Held.{IsApart, IsInside, placed_in}
 
 -- what holds of a buffer before holds of it afterwards
 some_more : (x : Option Placed) (P Q : Placed → Type 0) → ((b : Placed) → x ≡ Some b → P b → Q b) → IfSome x P → IfSome x Q
 some_more None P Q more h = h
 some_more (Some b) P Q more h = more b refl h
 
-pub inside_of : (m : MemoryState) (owned : List (ℕ × ℕ)) (resources : List (ℕ × Placed)) → IsApart m owned resources → (b : ℕ) (p : Placed) → placed_in resources b ≡ Some p → IsInside m p
-inside_of m owned resources apart b p here = subst (λ (x : Option Placed). IfSome x (IsInside m)) here (apart.inside b)
+pub inside_of : (m : MemoryState) (backed : Backed) (resources : List (ℕ × Placed)) → IsApart m backed resources → (b : ℕ) (p : Placed) → placed_in resources b ≡ Some p → IsInside m p
+inside_of m backed resources apart b p here = subst (λ (x : Option Placed). IfSome x (IsInside m)) here (apart.inside b)
 
 one_place : (x : Option Placed) (p q : Placed) → x ≡ Some p → x ≡ Some q → p ≡ q
 one_place x p q a b = let both : Some p ≡ Some q = sym a ∙ b in cc
@@ -64,16 +68,15 @@ module _ (m : MemoryState) (o : ℕ) (bytes : List ℕ) (live : IsLive m o) (lon
           (ap (λ (l : List ℕ). length l) (region_of-same m o bytes live) ∙ long)
       go false e = ap (λ (l : List ℕ). length l) (region_of-other m o q bytes (eqb-false q o e))
 
-  pub apart_rewritten : (owned : List (ℕ × ℕ)) (resources : List (ℕ × Placed)) → IsApart m owned resources → IsApart (with_region m o bytes) owned resources
-  apart_rewritten owned resources apart = record {
+  pub apart_rewritten : (backed : Backed) (resources : List (ℕ × Placed)) → IsApart m backed resources → IsApart (with_region m o bytes) backed resources
+  apart_rewritten backed resources apart = record {
     inside = λ id. some_more (placed_in resources id) (IsInside m) (IsInside (with_region m o bytes)) (λ b here h. record {
       live = still_live b.object h.live;
       some = h.some;
       room = subst (λ (n : ℕ). b.offset + b.size ≤ n) (sym (still_long b.object)) h.room;
     }) (apart.inside id);
     apart = apart.apart;
-    live = λ id number has. still_live number (apart.live id number has);
-    own = apart.own;
+    backed_is = rewritten_backed m o bytes live long backed apart.backed_is;
   }
 
 -- ---- an object more
@@ -101,52 +104,30 @@ module _ (m : MemoryState) (o : Object) where
     room = subst (λ (x : Option Object). b.offset + b.size ≤ length (bytes_of x)) (sym (kept_object b.object h.live)) h.room;
   }
 
-  pub apart_more : (owned : List (ℕ × ℕ)) (resources : List (ℕ × Placed)) → IsApart m owned resources → IsApart more owned resources
-  apart_more owned resources apart = record {
-    inside = λ q. some_more (placed_in resources q) (IsInside m) (IsInside more) (λ b here h. inside_more b h) (apart.inside q);
+-- memory objects stay as they were, but for new ones
+module _ (m n : MemoryState) (grows : Grows m n) where
+  pub grown_object : (q : ℕ) → IsLive m q → object_at n q ≡ object_at m q
+  grown_object q live = let o = some_there (object_at m q) live in grows q o.0 o.1 ∙ sym o.1
+
+  pub apart_grown : (backed new : Backed) (resources : List (ℕ × Placed)) → IsBacked new n → IsApart m backed resources → IsApart n new resources
+  apart_grown backed new resources is apart = record {
+    inside = λ q. some_more (placed_in resources q) (IsInside m) (IsInside n) (λ b here h. record {
+      live = subst (λ (x : Option Object). IsSome x) (sym (grown_object b.object h.live)) h.live;
+      some = h.some;
+      room = subst (λ (x : Option Object). b.offset + b.size ≤ length (bytes_of x)) (sym (grown_object b.object h.live)) h.room;
+    }) (apart.inside q);
     apart = apart.apart;
-    live = λ id number has. live_more number (apart.live id number has);
-    own = apart.own;
+    backed_is = is;
   }
-
-  -- it is that of an id
-  pub apart_owned : (old new : List (ℕ × ℕ)) (resources : List (ℕ × Placed)) (id : ℕ) → object_in new id ≡ Some (length m.objects) → ((q : ℕ) → (q ≡ id → ⊥) → object_in new q ≡ object_in old q)
-      → IsApart m old resources → IsApart more new resources
-  apart_owned old new resources id here others apart = record {
-    inside = (apart_more old resources apart).inside;
-    apart = apart.apart;
-    live = λ q number has. lives q number has (eqb q id) refl;
-    own = λ i j number has_i has_j. owns i j number has_i has_j (eqb i id) (eqb j id) refl refl;
-  }
-    where
-      was : (q number : ℕ) → object_in new q ≡ Some number → eqb q id ≡ false → object_in old q ≡ Some number
-      was q number has e = sym (others q (eqb-false q id e)) ∙ has
-
-      is_new : (q number : ℕ) → object_in new q ≡ Some number → eqb q id ≡ true → number ≡ length m.objects
-      is_new q number has e = one_number (object_in new q) number (length m.objects) has (ap (λ (k : ℕ). object_in new k) (eqb-true q id e) ∙ here)
-
-      is_old : (q number : ℕ) → object_in new q ≡ Some number → eqb q id ≡ false → number < length m.objects
-      is_old q number has e = live_below m number (apart.live q number (was q number has e))
-
-      lives : (q number : ℕ) → object_in new q ≡ Some number → (t : Bool) → eqb q id ≡ t → IsLive more number
-      lives q number has true e = subst (λ (k : ℕ). IsLive more k) (sym (is_new q number has e)) (subst (λ (x : Option Object). IsSome x) (sym new_object) refl)
-      lives q number has false e = live_more number (apart.live q number (was q number has e))
-
-      owns : (i j number : ℕ) → object_in new i ≡ Some number → object_in new j ≡ Some number → (s t : Bool) → eqb i id ≡ s → eqb j id ≡ t → i ≡ j
-      owns i j number has_i has_j true true e f = eqb-true i id e ∙ sym (eqb-true j id f)
-      owns i j number has_i has_j false false e f = apart.own i j number (was i number has_i e) (was j number has_j f)
-      owns i j number has_i has_j true false e f = let high = is_new i number has_i e in let low = is_old j number has_j f in absurd (omega (arith, high, low))
-      owns i j number has_i has_j false true e f = let high = is_new j number has_j f in let low = is_old i number has_i e in absurd (omega (arith, high, low))
 
 -- ---- a buffer more
 
-pub apart_put : (m : MemoryState) (owned : List (ℕ × ℕ)) (old new : List (ℕ × Placed)) (id : ℕ) (p : Placed) → placed_in new id ≡ Some p → ((q : ℕ) → (q ≡ id → ⊥) → placed_in new q ≡ placed_in old q) → IsInside m p
-    → ((c : ℕ) (q : Placed) → (c ≡ id → ⊥) → placed_in old c ≡ Some q → q.object ≡ p.object → AreApart p.offset p.size q.offset q.size) → IsApart m owned old → IsApart m owned new
-apart_put m owned old new id p here others fits beside apart = record {
+pub apart_put : (m : MemoryState) (backed : Backed) (old new : List (ℕ × Placed)) (id : ℕ) (p : Placed) → placed_in new id ≡ Some p → ((q : ℕ) → (q ≡ id → ⊥) → placed_in new q ≡ placed_in old q) → IsInside m p
+    → ((c : ℕ) (q : Placed) → (c ≡ id → ⊥) → placed_in old c ≡ Some q → q.object ≡ p.object → AreApart p.offset p.size q.offset q.size) → IsApart m backed old → IsApart m backed new
+apart_put m backed old new id p here others fits beside apart = record {
   inside = λ q. insides q (eqb q id) refl;
   apart = λ b c r q ne at_b at_c same. aparts b c r q ne at_b at_c same (eqb b id) (eqb c id) refl refl;
-  live = apart.live;
-  own = apart.own;
+  backed_is = apart.backed_is;
 }
   where
     insides : (q : ℕ) (t : Bool) → eqb q id ≡ t → IfSome (placed_in new q) (IsInside m)
@@ -171,61 +152,54 @@ apart_put m owned old new id p here others fits beside apart = record {
 
 -- ---- an id that ends
 
-module _ (m : MemoryState) (number : ℕ) where
-  abbrev pub less : MemoryState
-  less = with_object m number None
+-- a memory object that is live when one has been freed is as it was
+pub released_object : (m : MemoryState) (gone : Option ℕ) (q : ℕ) → IsLive (released m gone) q → object_at (released m gone) q ≡ object_at m q
+released_object m None q live = refl
+released_object m (Some n) q live = go (eqb q n) refl
+  where
+    here : object_at (with_object m n None) n ≡ None
+    here = elim (cases_lt n (length m.objects)) [
+      | inl lt ↦ get_or-set_same m.objects n None None lt
+      | inr ge ↦ get_or_past (slice_set m.objects n None) n None (omega (arith, ge, length-set m.objects n None))
+    ]
 
-  pub kept_apart : (q : ℕ) → (q ≡ number → ⊥) → object_at less q ≡ object_at m q
-  kept_apart q ne = get_or-set_other m.objects number q None None ne
+    go : (t : Bool) → eqb q n ≡ t → object_at (with_object m n None) q ≡ object_at m q
+    go false e = get_or-set_other m.objects n q None None (eqb-false q n e)
+    go true e = let dead : IsSome {T = Object} None = subst (λ (x : Option Object). IsSome x) (ap (λ (k : ℕ). object_at (with_object m n None) k) (eqb-true q n e) ∙ here) live in absurd cc
 
-  inside_less : (p : Placed) → (p.object ≡ number → ⊥) → IsInside m p → IsInside less p
-  inside_less p ne h = record {
-    live = subst (λ (x : Option Object). IsSome x) (sym (kept_apart p.object ne)) h.live;
-    some = h.some;
-    room = subst (λ (x : Option Object). p.offset + p.size ≤ length (bytes_of x)) (sym (kept_apart p.object ne)) h.room;
-  }
+-- one that has been freed isn't live
+pub released_dead : (m : MemoryState) (n : ℕ) → IsLive (released m (Some n)) n → ⊥
+released_dead m n live = let dead : IsSome {T = Object} None = subst (λ (x : Option Object). IsSome x) here live in absurd cc
+  where
+    here : object_at (with_object m n None) n ≡ None
+    here = elim (cases_lt n (length m.objects)) [
+      | inl lt ↦ get_or-set_same m.objects n None None lt
+      | inr ge ↦ get_or_past (slice_set m.objects n None) n None (omega (arith, ge, length-set m.objects n None))
+    ]
 
-  live_less : (q : ℕ) → (q ≡ number → ⊥) → IsLive m q → IsLive less q
-  live_less q ne h = subst (λ (x : Option Object). IsSome x) (sym (kept_apart q ne)) h
+pub apart_ended : (m : MemoryState) (gone : Option ℕ) (backed new : Backed) (resources resources' : List (ℕ × Placed)) (id : ℕ) → placed_in resources' id ≡ None → ((b : ℕ) → (b ≡ id → ⊥) → placed_in resources' b ≡ placed_in resources b)
+    → ((b : ℕ) (p : Placed) → (b ≡ id → ⊥) → placed_in resources b ≡ Some p → IsLive (released m gone) p.object) → IsBacked new (released m gone) → IsApart m backed resources → IsApart (released m gone) new resources'
+apart_ended m gone backed new resources resources' id none places stays is apart = record {
+  inside = λ q. some_of (placed_in resources' q) (IsInside (released m gone)) (λ p at. insides q p at);
+  apart = λ b c p q ne at_b at_c same. apart.apart b c p q ne (was b p at_b) (was c q at_c) same;
+  backed_is = is;
+}
+  where
+    other : (b : ℕ) (p : Placed) → placed_in resources' b ≡ Some p → b ≡ id → ⊥
+    other b p at same = let both : Some p ≡ None = sym at ∙ ap (λ (k : ℕ). placed_in resources' k) same ∙ none in cc
 
-module _ (m : MemoryState) (owned owned' : List (ℕ × ℕ)) (resources resources' : List (ℕ × Placed)) (id : ℕ)
-    (no_object : object_in owned' id ≡ None) (objects : (i : ℕ) → (i ≡ id → ⊥) → object_in owned' i ≡ object_in owned i)
-    (no_buffer : placed_in resources' id ≡ None) (places : (b : ℕ) → (b ≡ id → ⊥) → placed_in resources' b ≡ placed_in resources b)
-    (empty : (number b : ℕ) (p : Placed) → object_in owned id ≡ Some number → (b ≡ id → ⊥) → placed_in resources b ≡ Some p → p.object ≡ number → ⊥) (apart : IsApart m owned resources) where
-  other : (b : ℕ) (p : Placed) → placed_in resources' b ≡ Some p → b ≡ id → ⊥
-  other b p at same = let both : Some p ≡ None = sym at ∙ ap (λ (k : ℕ). placed_in resources' k) same ∙ no_buffer in cc
+    was : (b : ℕ) (p : Placed) → placed_in resources' b ≡ Some p → placed_in resources b ≡ Some p
+    was b p at = sym (places b (other b p at)) ∙ at
 
-  other_object : (i number : ℕ) → object_in owned' i ≡ Some number → i ≡ id → ⊥
-  other_object i number has same = let both : ◌≡◌ {A = Option ℕ} (Some number) None = sym has ∙ ap (λ (k : ℕ). object_in owned' k) same ∙ no_object in cc
+    some_of : (x : Option Placed) (P : Placed → Type 0) → ((p : Placed) → x ≡ Some p → P p) → IfSome x P
+    some_of None P each = tt
+    some_of (Some p) P each = each p refl
 
-  was : (b : ℕ) (p : Placed) → placed_in resources' b ≡ Some p → placed_in resources b ≡ Some p
-  was b p at = sym (places b (other b p at)) ∙ at
-
-  had : (i number : ℕ) → object_in owned' i ≡ Some number → object_in owned i ≡ Some number
-  had i number has = sym (objects i (other_object i number has)) ∙ has
-
-  some_of : (x : Option Placed) (P : Placed → Type 0) → ((p : Placed) → x ≡ Some p → P p) → IfSome x P
-  some_of None P each = tt
-  some_of (Some p) P each = each p refl
-
-  ended : (o : Option ℕ) → object_in owned id ≡ o → IsApart (freed m o) owned' resources'
-  ended o is = record {
-    inside = λ q. some_of (placed_in resources' q) (IsInside (freed m o)) (λ p at. insides o is q p at);
-    apart = λ b c p q ne at_b at_c same. apart.apart b c p q ne (was b p at_b) (was c q at_c) same;
-    live = λ i number has. lives o is i number has;
-    own = λ i j number has_i has_j. apart.own i j number (had i number has_i) (had j number has_j);
-  }
-    where
-      insides : (o : Option ℕ) → object_in owned id ≡ o → (q : ℕ) (p : Placed) → placed_in resources' q ≡ Some p → IsInside (freed m o) p
-      insides None is q p at = inside_of m owned resources apart q p (was q p at)
-      insides (Some number) is q p at = inside_less m number p (empty number q p is (other q p at) (was q p at)) (inside_of m owned resources apart q p (was q p at))
-
-      lives : (o : Option ℕ) → object_in owned id ≡ o → (i n : ℕ) → object_in owned' i ≡ Some n → IsLive (freed m o) n
-      lives None is i n has = apart.live i n (had i n has)
-      lives (Some number) is i n has = live_less m number n (λ same. other_object i n has (apart.own i id n (had i n has) (is ∙ ap (λ (k : ℕ). Some k) (sym same)))) (apart.live i n (had i n has))
-
-  pub apart_ended : IsApart (freed m (object_in owned id)) owned' resources'
-  apart_ended = ended (object_in owned id) refl
+    insides : (b : ℕ) (p : Placed) → placed_in resources' b ≡ Some p → IsInside (released m gone) p
+    insides b p at =
+        let inside = inside_of m backed resources apart b p (was b p at) in
+        let lives = stays b p (other b p at) (was b p at) in
+        record { live = lives; some = inside.some; room = subst (λ (x : Option Object). p.offset + p.size ≤ length (bytes_of x)) (sym (released_object m gone p.object lives)) inside.room }
 
 -- ---- maps by ids
 

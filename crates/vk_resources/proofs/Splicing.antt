@@ -23,7 +23,7 @@ use Rattle.vk_resources.proofs.Placing.{inside_of}
 use Rattle.vk_resources.proofs.Lying.{changed_apart, changed_keeps, changed_other}
 use Rattle.vk_resources.proofs.CachedBytes.{caching_typed}
 
-module _ (s : Held) (apart : IsApart s.memory s.owned s.resources) (shaped : AreShaped s.resources s.shapes) (b : ℕ) (p : Placed) (here : placed s b ≡ Some p) (flat_is : shape_of s b ≡ None) (at : ℕ) (bytes : List ℕ) (fits : at + length bytes ≤ p.size) where
+module _ (s : Held) (apart : IsApart s.memory s.backed s.resources) (shaped : AreShaped s.resources s.shapes) (b : ℕ) (p : Placed) (here : placed s b ≡ Some p) (flat_is : shape_of s b ≡ None) (at : ℕ) (bytes : List ℕ) (fits : at + length bytes ≤ p.size) where
   abbrev pub region : List ℕ
   region = region_of s.memory p.object
 
@@ -34,7 +34,7 @@ module _ (s : Held) (apart : IsApart s.memory s.owned s.resources) (shaped : Are
   spliced = record s { memory = with_region s.memory p.object new }
 
   inside : IsInside s.memory p
-  inside = inside_of s.memory s.owned s.resources apart b p here
+  inside = inside_of s.memory s.backed s.resources apart b p here
 
   room : p.offset + at + length bytes ≤ length region
   room = let has = inside.room in omega (arith, has, fits)
@@ -52,7 +52,7 @@ module _ (s : Held) (apart : IsApart s.memory s.owned s.resources) (shaped : Are
   now : region_of spliced.memory p.object ≡ new
   now = region_of-same s.memory p.object new inside.live
 
-  pub spliced_apart : IsApart spliced.memory spliced.owned spliced.resources
+  pub spliced_apart : IsApart spliced.memory spliced.backed spliced.resources
   spliced_apart = changed_apart s apart shaped b p here new long outside
 
   pub spliced_keeps : KeepsPlaces s spliced

@@ -43,7 +43,7 @@ module _ (s : Held) (stands : Stands s) where
     outside k (inr le) = written.kept k (λ x q lx lq is. omega (arith, le, is, inside x q lx lq))
 
     there : IsInside s.memory p
-    there = inside_of s.memory s.owned s.resources stands.0 d p here
+    there = inside_of s.memory s.backed s.resources stands.0 d p here
 
     written_stands : Stands (with_bytes s p.object new)
     written_stands = (
@@ -69,7 +69,7 @@ module _ (s : Held) (stands : Stands s) where
     sound = stands.2.each i m p is.shaped is.here
 
     pub picture_inside : IsInside s.memory p
-    picture_inside = inside_of s.memory s.owned s.resources stands.0 i p is.here
+    picture_inside = inside_of s.memory s.backed s.resources stands.0 i p is.here
 
     pub picture_room : HoldsImage m p.offset (region_of s.memory p.object)
     picture_room = let room = picture_inside.room in let size = sound.size in omega (arith, room, size)
@@ -92,7 +92,7 @@ module _ (s : Held) (stands : Stands s) where
     buffer_here = (flat_parts (shape_of s b) (placed s b) q at).1
 
     pub buffer_inside : IsInside s.memory q
-    buffer_inside = inside_of s.memory s.owned s.resources stands.0 b q buffer_here
+    buffer_inside = inside_of s.memory s.backed s.resources stands.0 b q buffer_here
 
     buffer_held : lying s b ≡ Some (buffer_at (region_of s.memory q.object) q.offset q.size)
     buffer_held = rw (buffer_here, no_shape) refl

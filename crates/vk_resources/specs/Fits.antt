@@ -1,5 +1,5 @@
 -- What is taken for granted of the commands and entries that come. Those that break no rule and are of a supported form have it.
-use Rattle.std.specs.Prelude.{◌≡◌, ℕ, ◌+◌, ◌*◌, ◌/◌, ◌<◌, ◌≤◌, ◌==◌, List, All, Contains, length, Bool, false, Option, Some, None, IsTrue, option_and_then, ⊤}
+use Rattle.std.specs.Prelude.{◌≡◌, ℕ, ◌+◌, ◌*◌, ◌/◌, ◌<◌, ◌≤◌, ◌==◌, List, All, Contains, length, Bool, false, Option, Some, None, IsTrue, IsSomeAnd, option_and_then, ⊤}
 use Rattle.std.specs.List.{list_any}
 use Rattle.vk_model.specs.declared.command.Cmd.{Cmd}
 use Rattle.vk_model.specs.declared.command.Cmd.TheVariants as cmd
@@ -16,12 +16,15 @@ use Rattle.vk_model.specs.declared.resource.Place.{Place}
 use Rattle.vk_model.specs.declared.resource.Place.TheVariants as place
 use Rattle.vk_model.specs.Basics.{holds}
 use Rattle.vk_model.specs.Trace.Point.{Past}
-use Rattle.vk_model.specs.Trace.Objects.{made, ended, live, live_resources, memory_of, buffer, buffer_in, image, Resource, of_buffer, of_image}
+use Rattle.vk_model.specs.Trace.Objects.{made, ended, live, live_resources, memory_of, buffer, buffer_in, image, pool_in, Resource, of_buffer, of_image}
+use Rattle.vk_model.specs.Trace.Objects.{pool_of as resources_pool}
+use Rattle.vk_model.specs.Memory.Suballocation.{IsRequest}
+use Rattle.vma_blocks.specs.PoolInfos.{IsPoolInfo}
 use Rattle.vk_model.specs.Trace.Image.{texel, image_size}
 use Rattle.vk_model.specs.Rules.Sizes.{bad_image}
 use Rattle.vk_model.specs.World.Areas.{region_box, source_box, destination_box, boxes_meet}
 use Rattle.vk_model.specs.World.ByteWrites.{buffer_size, fill_size}
-use Rattle.vk_model.specs.Rules.Ids.{is_memory, is_resource, asked_by_command}
+use Rattle.vk_model.specs.Rules.Ids.{is_memory, is_pool, is_resource, asked_by_command}
 use Rattle.vk_model.specs.Rules.Binding.{ends_past_memory, is_aliased, is_misplaced}
 use Rattle.vk_image_transfer.specs.Pieces.{RangeFits}
 use Rattle.vk_image_transfer.specs.Rows.{BoxFits, RegionFits}
@@ -78,11 +81,16 @@ pub record IsUnused (past : Past) (i : ℕ) : Type 0 where
   pub unmade : made past i ≡ None
   pub unended : ended past i ≡ false
 
--- A resource has a memory object of its own, or is bound in one that is live, at an offset that is aligned, ends in it, and meets no live resource there (Vulkan, "Resource Memory Association" and "Memory Aliasing"; VMA, "Choosing memory type", on dedicated allocations).
+-- A resource may be put in the blocks of a live pool: it is no larger than one, and asks for what may be asked for (VMA, "Custom memory pools"; units: profile).
+abbrev pub FitsPool : Past → Resource → ℕ → Type 0
+FitsPool past r p = IsSomeAnd (option_and_then pool_in (live past p)) (λ info. r.size ≤ info.block_size) × IsRequest r.size r.align
+
+-- A resource has a memory object of its own or a place in a live pool, or is bound in a memory object that is live, at an offset that is aligned, ends in it, and meets no live resource there (Vulkan, "Resource Memory Association" and "Memory Aliasing"; VMA, "Choosing memory type", on dedicated allocations).
 abbrev pub FitsPlace : Past → Resource → Place → Type 0
 FitsPlace past r (place.Dedicated t) = ⊤
 FitsPlace past r (place.Memory m o) = IsTrue (holds (live past m) is_memory) × (ends_past_memory past r m o ≡ false) × (is_aliased past r m o ≡ false) × (is_misplaced past r m o ≡ false)
-FitsPlace past r _ = ⊥
+FitsPlace past r (place.Pool p) = FitsPool past r p
+FitsPlace past r (place.PoolUpper p) = FitsPool past r p
 
 -- A new buffer is of a new id, of a size above 0 and up to 67,108,864 (profile), and its place fits.
 pub record FitsBuffer (past : Past) (i : ℕ) (info : BufferInfo) : Type 0 where
@@ -102,6 +110,10 @@ pub record FitsImage (past : Past) (i : ℕ) (info : ImageInfo) : Type 0 where
 abbrev pub is_occupied : Past → ℕ → Bool
 is_occupied past m = list_any (λ r. holds (memory_of past r) (λ s. m == s)) (live_resources past)
 
+-- Whether a live resource is in a pool (VMA, "Custom memory pools").
+abbrev pub is_populated : Past → ℕ → Bool
+is_populated past p = list_any (λ r. holds (resources_pool past r) (λ q. p == q)) (live_resources past)
+
 -- A range lies in a buffer that is live (Vulkan, "Host Access to Device Memory Objects").
 abbrev pub FitsRange : Option BufferInfo → ℕ → ℕ → Type 0
 FitsRange None o n = ⊥
@@ -113,7 +125,7 @@ FitsLength i o (length_of.Bytes n) = FitsRange i o n
 FitsLength None o length_of.Whole = ⊥
 FitsLength (Some i) o length_of.Whole = o < i.size
 
--- An entry makes a new object, of some bytes; frees a live memory object to which no live resource is bound; destroys a live resource; writes, reads, flushes or invalidates in a live buffer; or asks nothing of the device (Vulkan, valid usage of these calls).
+-- An entry makes a new object, of some bytes; frees a live memory object to which no live resource is bound; destroys a live resource; makes a pool, or ends one that is live and in which no live resource is; writes, reads, flushes or invalidates in a live buffer; or asks nothing of the device (Vulkan, valid usage of these calls).
 abbrev pub FitsEntry : Past → Entry → Type 0
 FitsEntry past (entry.Buffer i info) = FitsBuffer past i info
 FitsEntry past (entry.Image i info) = FitsImage past i info
@@ -124,6 +136,8 @@ FitsEntry past (entry.Write b o bytes) = FitsRange (option_and_then buffer_in (l
 FitsEntry past (entry.Read b o n) = FitsRange (option_and_then buffer_in (live past b)) o n
 FitsEntry past (entry.Flush b o n) = FitsLength (option_and_then buffer_in (live past b)) o n
 FitsEntry past (entry.Invalidate b o n) = FitsLength (option_and_then buffer_in (live past b)) o n
+FitsEntry past (entry.Pool i info) = IsUnused past i × IsPoolInfo info
+FitsEntry past (entry.DropPool p) = IsTrue (holds (live past p) is_pool) × (is_populated past p ≡ false)
 FitsEntry past (entry.Semaphore i v) = IsUnused past i
 FitsEntry past (entry.Event i) = IsUnused past i
 FitsEntry past (entry.Map b) = ⊤

@@ -14,13 +14,16 @@ use Rattle.vk_model.specs.World.Bytes.{Byte, in_buffer, in_image, resource_at}
 use Rattle.vk_image_transfer.specs.Held as lies
 use Rattle.vk_image_transfer.specs.Held.{Form, BufferOf, ImageOf, place_of, bytes_held}
 use Rattle.vk_transfer.specs.Ran.{AreApart}
+use Rattle.vk_backing.specs.Backed as backing
+use Rattle.vk_backing.specs.Backed.{Backed, LiesIn, IsBacked}
+use Rattle.vk_model.specs.declared.resource.Spot as model
 use Rattle.vk_resources.specs.declared.resources.Placed.{Placed}
 use Rattle.vk_resources.specs.declared.resources.Spot.{Spot}
 
--- Memory objects; the number of the one that each id has, which the trace made or a resource has of its own; where each resource lies, by its id; of what shape each image is, by its id; and what the host's cache holds of the memory objects.
+-- Memory objects; what backs ids with them: objects that the trace made or a resource has of its own, and places in pools; where each resource lies, by its id; of what shape each image is, by its id; and what the host's cache holds of the memory objects.
 pub record Held : Type 0 where
   pub memory : MemoryState
-  pub owned : List (ℕ × ℕ)
+  pub backed : Backed
   pub resources : List (ℕ × Placed)
   pub shapes : List (ℕ × ImageInfo)
   pub cache : Holdings
@@ -41,13 +44,9 @@ shape_in shapes id = lookup (is_at (nat_cmp id)) shapes
 abbrev pub shape_of : Held → ℕ → Option ImageInfo
 shape_of s id = shape_in s.shapes id
 
--- The number of the memory object that an id has; none where it has none.
-abbrev pub object_in : List (ℕ × ℕ) → ℕ → Option ℕ
-object_in owned id = lookup (is_at (nat_cmp id)) owned
-
--- The same among what is held.
+-- The number of the memory object that an id has of its own; none where it has none.
 abbrev pub object_of : Held → ℕ → Option ℕ
-object_of s id = object_in s.owned id
+object_of s id = backing.object_of s.backed id
 
 -- A resource has bytes, all of which lie in a memory object that is live (Vulkan, "Resource Memory Association").
 pub record IsInside (memory : MemoryState) (p : Placed) : Type 0 where
@@ -55,12 +54,20 @@ pub record IsInside (memory : MemoryState) (p : Placed) : Type 0 where
   pub some : 0 < p.size
   pub room : p.offset + p.size ≤ length (region_of memory p.object)
 
--- Each resource lies inside a memory object, and no two resources share a byte; each id that has a memory object has a live one, and no other id has it (Vulkan, "Resource Memory Association" and "Memory Aliasing").
-pub record IsApart (memory : MemoryState) (owned : List (ℕ × ℕ)) (resources : List (ℕ × Placed)) : Type 0 where
+-- Each resource lies inside a memory object, and no two resources share a byte; what backs ids with memory objects is so (Vulkan, "Resource Memory Association" and "Memory Aliasing").
+pub record IsApart (memory : MemoryState) (backed : Backed) (resources : List (ℕ × Placed)) : Type 0 where
   pub inside : (id : ℕ) → IfSome (placed_in resources id) (IsInside memory)
   pub apart : (b c : ℕ) (p q : Placed) → (b ≡ c → ⊥) → placed_in resources b ≡ Some p → placed_in resources c ≡ Some q → p.object ≡ q.object → AreApart p.offset p.size q.offset q.size
-  pub live : (id number : ℕ) → object_in owned id ≡ Some number → IsLive memory number
-  pub own : (i j number : ℕ) → object_in owned i ≡ Some number → object_in owned j ≡ Some number → i ≡ j
+  pub backed_is : IsBacked backed memory
+
+-- A resource lies in the pool of a number, at the start of the place that it has there (Vulkan, "Resource Memory Association"; VMA, "Custom memory pools").
+pub record LiesShared (b : Backed) (m : MemoryState) (id pool : ℕ) (p : Placed) : Type 0 where
+  pub spot : model.Spot
+  pub lies : LiesIn b id pool spot
+  pub object : spot.memory ≡ p.object
+  pub offset : spot.offset ≡ p.offset
+  pub within : p.size ≤ spot.size
+  pub kind : type_of m p.object ≡ lies.kept.pool.info.memory_type
 
 -- An image that breaks no rule on its shape has the bytes that it asks for, and each byte of it lies among them (Vulkan, "Resource Memory Association").
 pub record IsShaped (m : ImageInfo) (p : Placed) : Type 0 where
@@ -98,7 +105,7 @@ pub record IsCaching (memory : MemoryState) (resources : List (ℕ × Placed)) (
 
 -- What is held is so.
 abbrev pub Stands : Held → Type 0
-Stands s = IsApart s.memory s.owned s.resources × IsCaching s.memory s.resources s.cache × AreShaped s.resources s.shapes
+Stands s = IsApart s.memory s.backed s.resources × IsCaching s.memory s.resources s.cache × AreShaped s.resources s.shapes
 
 -- What the host's cache holds of byte k of what lies somewhere; nothing beyond its end, and where there is none.
 abbrev pub holding_in : Holdings → Option Placed → ℕ → Option caches.Held

@@ -123,7 +123,7 @@ impl Resources {
     /// Holds nothing any more of a resource, where it is in cached memory, and writes nothing back.
     pub(crate) fn forget(&mut self, id: u32)
         ensures memory { self.new.memory ≡ self.old.memory }
-        ensures owned { self.new.owned ≡ self.old.owned }
+        ensures backed { self.new.backed ≡ self.old.backed }
         ensures resources { self.new.resources ≡ self.old.resources }
         ensures shapes { self.new.shapes ≡ self.old.shapes }
         ensures forgets { Forgets self.old self.new id }

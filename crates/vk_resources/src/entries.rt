@@ -1,19 +1,25 @@
-ghost use Rattle.std.specs.Prelude.{◌≡◌, ℕ, ◌<◌, ◌+◌, ◌≤◌, IfOk, OnOk, None, Some, is_some, false, length, map};
+ghost use Rattle.std.specs.Prelude.{◌≡◌, ℕ, ◌<◌, ◌+◌, ◌≤◌, IfOk, OnOk, None, Some, IsSome, IsSomeAnd, is_some, false, length, map};
 ghost use Rattle.vk_map_cache.specs.Holdings.{given};
 ghost use Rattle.vk_model.specs.Basics.{below};
 ghost use Rattle.vk_model.specs.World.Bytes.{in_buffer};
 ghost use Rattle.vk_model.specs.Run.CachedRuns.{after_host_write};
 ghost use Rattle.vk_model.specs.Trace.Point.{Past};
+ghost use Rattle.vk_model.specs.Memory.Suballocation.{IsRequest};
+ghost use Rattle.vk_model.specs.declared.entry.Entry.TheVariants as entry;
+ghost use Rattle.vma_blocks.specs.PoolInfos.{IsPoolInfo};
 
 use crate::applied::Applied;
 use crate::resources::{Placed, Resources};
 use std::alloc::AllocError;
 use vk_image_tiles::Shape;
-use vk_memory::MemoryError;
-use vk_model::{Entry, Place, Sequence, texels_inside};
+use vk_model::{BufferInfo, Entry, ImageInfo, Kind, Place, PoolInfo, Sequence, texels_inside};
+use vma_pools::Asked;
 
-/// Buffers are rounded up to this many bytes (profile).
+/// Buffers are rounded up to this many bytes, and begin at a multiple of it (profile).
 const BUFFER_UNIT: u64 = 16;
+
+/// More bytes than a memory object has.
+const WHOLE_OBJECT: u64 = 1 << 63;
 
 impl Resources {
     ghost use Rattle.vk_resources.specs.Held.{placed, shape_of, flat, object_of, seen_at, Stands};
@@ -21,27 +27,25 @@ impl Resources {
     ghost use Rattle.vk_resources.specs.Allocating.{Rooms, Allots};
     ghost use Rattle.vk_resources.specs.Fits.{FitsEntry};
     ghost use Rattle.vk_resources.specs.Done.{DoneBy, EntryReady};
-    ghost use Rattle.vk_resources.specs.Inner.Steps.{IsMaking, MayReach, HasChanged, cached_at, MadeOr, ResourceMade, MemoryMade, ShapeReady, PutReady, Puts, BindReady, Binds, IsEmpty, Ends};
+    ghost use Rattle.vk_resources.specs.Inner.Steps.{IsMaking, MayReach, HasChanged, cached_at, MadeOr, ResourceMade, MemoryMade, ShapeReady, PutReady, Puts, FoundOr, SharedMade, PoolMade, PoolDropped, BindReady, Binds, IsEmpty, Ends};
+    ghost use Rattle.vk_backing.specs.Backed.{pool_of, pool_by, allocation_of, IsWhole};
+    ghost use Rattle.vk_backing.specs.Steps.{Grows, IsUnused};
 
     /// Makes a memory object for an id, and answers its number; none where there is no room.
     fn allocate(&mut self, id: u32, memory_type: u32, size: u64) -> Result<Option<u64>, AllocError>
         requires absent { object_of self.old id ≡ None }
+        requires apart { allocation_of self.old.backed id ≡ None }
         requires some { 0 < size }
         ensures made { IfOk result (λ o. MadeOr o self.old self.new id memory_type size) }
         ensures stands { Stands self.old }
     {
-        let number = match self.memories.allocate(memory_type, size) {
-            Ok(number) => number,
-            Err(MemoryError::NoRoom) => return Ok(None),
-            Err(MemoryError::NoMemory) => return Err(AllocError),
-        };
-        self.owned.insert(id, number)?;
-        Ok(Some(number))
+        self.backing.own(&mut self.memories, id, memory_type, size)
     }
 
     /// Makes a memory object.
     fn make_memory(&mut self, id: u32, memory_type: u32, size: u64) -> Result<Applied, AllocError>
         requires absent { object_of self.old id ≡ None }
+        requires apart { allocation_of self.old.backed id ≡ None }
         requires some { 0 < size }
         ensures made { IfOk result (λ a. MemoryMade a self.old self.new id memory_type size) }
         ensures stands { Stands self.old }
@@ -58,7 +62,7 @@ impl Resources {
         requires ready { Stands self.old → PutReady self.old id placed shape }
         ensures put { OnOk result (Puts self.old self.new id placed shape) }
         ensures memory { self.new.memory ≡ self.old.memory }
-        ensures owned { self.new.owned ≡ self.old.owned }
+        ensures backed { self.new.backed ≡ self.old.backed }
         ensures cache { self.new.cache ≡ self.old.cache }
         ensures stands { Stands self.old }
     {
@@ -79,6 +83,7 @@ impl Resources {
         shape: Option<Shape>,
     ) -> Result<Applied, AllocError>
         requires absent { object_of self.old id ≡ None }
+        requires apart { allocation_of self.old.backed id ≡ None }
         requires unplaced { placed self.old id ≡ None }
         requires unshaped { shape_of self.old id ≡ None }
         requires some { 0 < size }
@@ -102,6 +107,87 @@ impl Resources {
         }
     }
 
+    /// Finds a place in the pool of an id for a resource, and answers where it is; none where there is no
+    /// room.
+    fn find(
+        &mut self,
+        id: u32,
+        pool: u32,
+        asked: Asked,
+        upper: bool,
+    ) -> Result<Option<vk_model::Spot>, AllocError>
+        requires absent { object_of self.old id ≡ None }
+        requires apart { allocation_of self.old.backed id ≡ None }
+        requires request { IsRequest asked.size asked.align }
+        requires fits { IsSomeAnd (pool_by self.old.backed pool) (λ k. asked.size ≤ k.pool.info.block_size) }
+        ensures found { IfOk result (λ o. FoundOr o self.old self.new id pool asked upper) }
+        ensures grows { Grows self.old.memory self.new.memory }
+        ensures stands { Stands self.old }
+    {
+        self.backing
+            .share(&mut self.memories, id, pool, asked, upper)
+    }
+
+    /// Makes a resource of some bytes in the pool of an id.
+    fn make_shared(
+        &mut self,
+        id: u32,
+        pool: u32,
+        asked: Asked,
+        size: u64,
+        upper: bool,
+        shape: Option<Shape>,
+    ) -> Result<Applied, AllocError>
+        requires absent { object_of self.old id ≡ None }
+        requires apart { allocation_of self.old.backed id ≡ None }
+        requires unplaced { placed self.old id ≡ None }
+        requires unshaped { shape_of self.old id ≡ None }
+        requires some { 0 < size }
+        requires room { size ≤ asked.size }
+        requires request { IsRequest asked.size asked.align }
+        requires fits { IsSomeAnd (pool_by self.old.backed pool) (λ k. asked.size ≤ k.pool.info.block_size) }
+        requires shaped { (object offset : ℕ) → ShapeReady shape (record { size = size; object = object; offset = offset }) }
+        requires elsewhere { IsEmpty self.old id }
+        ensures made { IfOk result (λ a. SharedMade a self.old self.new id pool size asked upper shape) }
+        ensures stands { Stands self.old }
+    {
+        match self.find(id, pool, asked, upper)? {
+            Some(spot) => {
+                let placed = Placed {
+                    size,
+                    object: spot.memory,
+                    offset: spot.offset,
+                };
+                self.put(id, placed, shape)?;
+                Ok(Applied::Done)
+            }
+            None => Ok(Applied::NoRoom),
+        }
+    }
+
+    /// Makes a pool for an id.
+    fn make_pool(&mut self, id: u32, info: PoolInfo) -> Result<(), AllocError>
+        requires info { IsPoolInfo info }
+        // What the type's invariant says may be used to show it.
+        requires absent { Stands self.old → pool_of self.old.backed id ≡ None }
+        ensures made { OnOk result (PoolMade self.old self.new id info) }
+        ensures stands { Stands self.old }
+    {
+        self.backing.pool(id, info)
+    }
+
+    /// Ends the pool of an id, in which nothing lies.
+    fn drop_pool(&mut self, id: u32)
+        requires there { IsSome (pool_of self.old.backed id) }
+        requires whole { IsWhole self.old.backed }
+        // What the type's invariant says may be used to show it.
+        requires unused { Stands self.old → IsUnused self.old.backed id }
+        ensures dropped { PoolDropped self.old self.new id }
+        ensures stands { Stands self.old }
+    {
+        self.backing.drop_pool(id)
+    }
+
     /// Binds a new resource at an offset of the memory object that an id has.
     fn bind(
         &mut self,
@@ -119,10 +205,9 @@ impl Resources {
         ensures bound { OnOk result (Binds self.old self.new id memory offset size shape) }
         ensures stands { Stands self.old }
     {
-        let Some(object) = self.owned.get(&memory) else {
+        let Some(object) = self.backing.object(memory) else {
             return Ok(());
         };
-        let object = *object;
         let placed = Placed {
             size,
             object,
@@ -131,8 +216,9 @@ impl Resources {
         self.put(id, placed, shape)
     }
 
-    /// Ends what an id has: its resource, with what the host's cache holds of it, and its memory object,
-    /// which is freed, with the room that the cache has for it.
+    /// Ends what an id has: its resource, with what the host's cache holds of it, and its memory object
+    /// or its place in a pool. A memory object that nothing needs any more is freed, with the room that
+    /// the cache has for it.
     fn end(&mut self, id: u32)
         requires { Stands self.old → IsEmpty self.old id }
         ensures ended { Ends self.old self.new id }
@@ -141,10 +227,8 @@ impl Resources {
         self.forget(id);
         self.resources.remove(&id);
         self.shapes.remove(&id);
-        if let Some(object) = self.owned.remove(&id) {
-            let size = self.memories.region(object).size();
-            self.cache.drop_range(object, 0, size);
-            self.memories.free(object);
+        if let Some(object) = self.backing.release(&mut self.memories, id) {
+            self.cache.drop_range(object, 0, WHOLE_OBJECT);
         }
     }
 
@@ -183,6 +267,62 @@ impl Resources {
         Ok(Sequence::new(bytes))
     }
 
+    /// Makes a buffer.
+    fn make_buffer(&mut self, id: u32, info: &BufferInfo) -> Result<Applied, AllocError>
+        requires ready { EntryReady self.old (entry.Buffer id info.now) }
+        ensures done { IfOk result (λ a. (e : ℕ) (past : Past) → MatchesLive past self.old → FitsEntry past (entry.Buffer id info.now) → DoneBy a e (entry.Buffer id info.now) past self.old self.new) }
+        ensures rooms { IfOk result (λ a. (past : Past) → FitsEntry past (entry.Buffer id info.now) → Rooms a self.old (entry.Buffer id info.now)) }
+        ensures allots { IfOk result (λ a. (past : Past) → MatchesLive past self.old → FitsEntry past (entry.Buffer id info.now) → Allots a (entry.Buffer id info.now) self.old self.new) }
+    {
+        let asked = Asked {
+            size: (info.size + (BUFFER_UNIT - 1)) / BUFFER_UNIT * BUFFER_UNIT,
+            align: BUFFER_UNIT,
+            kind: Kind::Linear,
+        };
+        match info.place {
+            Place::Dedicated { memory_type } => {
+                self.make_resource(id, memory_type, info.size, asked.size, None)
+            }
+            Place::Memory { memory, offset } => {
+                self.bind(id, memory, offset, info.size, None)?;
+                Ok(Applied::Done)
+            }
+            Place::Pool { pool } => self.make_shared(id, pool, asked, info.size, false, None),
+            Place::PoolUpper { pool } => self.make_shared(id, pool, asked, info.size, true, None),
+        }
+    }
+
+    /// Makes an image.
+    fn make_image(&mut self, id: u32, info: &ImageInfo) -> Result<Applied, AllocError>
+        requires ready { EntryReady self.old (entry.Image id info.now) }
+        ensures done { IfOk result (λ a. (e : ℕ) (past : Past) → MatchesLive past self.old → FitsEntry past (entry.Image id info.now) → DoneBy a e (entry.Image id info.now) past self.old self.new) }
+        ensures rooms { IfOk result (λ a. (past : Past) → FitsEntry past (entry.Image id info.now) → Rooms a self.old (entry.Image id info.now)) }
+        ensures allots { IfOk result (λ a. (past : Past) → MatchesLive past self.old → FitsEntry past (entry.Image id info.now) → Allots a (entry.Image id info.now) self.old self.new) }
+    {
+        texels_inside();
+        let Ok(shape) = Shape::of(info) else {
+            unreachable!()
+        };
+        let need = shape.requirements();
+        let size = need.size;
+        let asked = Asked {
+            size,
+            align: need.align,
+            kind: info.tiling,
+        };
+        match info.place {
+            Place::Dedicated { memory_type } => {
+                self.make_resource(id, memory_type, size, size, Some(shape))
+            }
+            Place::Memory { memory, offset } => {
+                self.bind(id, memory, offset, size, Some(shape))?;
+                Ok(Applied::Done)
+            }
+            Place::Pool { pool } => self.make_shared(id, pool, asked, size, false, Some(shape)),
+            Place::PoolUpper { pool } => self.make_shared(id, pool, asked, size, true, Some(shape)),
+        }
+    }
+
     /// Makes the memory object, the buffer or the image that an entry makes.
     fn make(&mut self, entry: &Entry) -> Result<Applied, AllocError>
         requires ready { EntryReady self.old entry.now }
@@ -193,36 +333,8 @@ impl Resources {
     {
         match entry {
             Entry::Memory { id, info } => self.make_memory(*id, info.memory_type, info.size),
-            Entry::Buffer { id, info } => {
-                let asked = (info.size + (BUFFER_UNIT - 1)) / BUFFER_UNIT * BUFFER_UNIT;
-                match info.place {
-                    Place::Dedicated { memory_type } => {
-                        self.make_resource(*id, memory_type, info.size, asked, None)
-                    }
-                    Place::Memory { memory, offset } => {
-                        self.bind(*id, memory, offset, info.size, None)?;
-                        Ok(Applied::Done)
-                    }
-                    _ => Ok(Applied::Done),
-                }
-            }
-            Entry::Image { id, info } => {
-                texels_inside();
-                let Ok(shape) = Shape::of(info) else {
-                    unreachable!()
-                };
-                let size = shape.requirements().size;
-                match info.place {
-                    Place::Dedicated { memory_type } => {
-                        self.make_resource(*id, memory_type, size, size, Some(shape))
-                    }
-                    Place::Memory { memory, offset } => {
-                        self.bind(*id, memory, offset, size, Some(shape))?;
-                        Ok(Applied::Done)
-                    }
-                    _ => Ok(Applied::Done),
-                }
-            }
+            Entry::Buffer { id, info } => self.make_buffer(*id, info),
+            Entry::Image { id, info } => self.make_image(*id, info),
             _ => unreachable!(),
         }
     }
@@ -237,6 +349,14 @@ impl Resources {
     {
         match entry {
             Entry::Memory { .. } | Entry::Buffer { .. } | Entry::Image { .. } => self.make(entry),
+            Entry::Pool { id, info } => {
+                self.make_pool(*id, *info)?;
+                Ok(Applied::Done)
+            }
+            Entry::DropPool { pool } => {
+                self.drop_pool(*pool);
+                Ok(Applied::Done)
+            }
             Entry::Free { memory } => {
                 self.end(*memory);
                 Ok(Applied::Done)

@@ -5,6 +5,7 @@ ghost use Rattle.vk_heap.specs.Region.{piece};
 use std::alloc::Global;
 use std::collections::BTreeMap;
 use std::marker::Model;
+use vk_backing::Backing;
 use vk_image_tiles::Shape;
 use vk_map_cache::HostCache;
 use vk_memory::Memories;
@@ -40,8 +41,8 @@ const CACHED_TYPE: u32 = 2;
 pub struct Resources {
     pub(crate) alloc: Global,
     pub(crate) memories: Memories,
-    /// The number of the memory object that an id has: one that the trace made, or a resource's own.
-    pub(crate) owned: BTreeMap<u32, u64>,
+    /// What backs ids with memory objects, their own or those of pools.
+    pub(crate) backing: Backing,
     /// Where each buffer and each image lies.
     pub(crate) resources: BTreeMap<u32, Placed>,
     /// Where the texels of each image lie in it.
@@ -56,9 +57,9 @@ impl Model for Resources {
 
     ghost Value = { Held };
 
-    ghost view = { λ r. record { memory = r.memories; owned = r.owned.entries; resources = r.resources.entries; shapes = r.shapes.entries; cache = r.cache } };
+    ghost view = { λ r. record { memory = r.memories; backed = r.backing; resources = r.resources.entries; shapes = r.shapes.entries; cache = r.cache } };
 
-    ghost invariant = { λ r. IsApart r.memories r.owned.entries r.resources.entries
+    ghost invariant = { λ r. IsApart r.memories r.backing r.resources.entries
         × IsCaching r.memories r.resources.entries r.cache
         × AreShaped r.resources.entries r.shapes.entries };
 }
@@ -70,7 +71,7 @@ impl Resources {
     /// No resources, on heaps of these sizes. It takes no memory.
     pub fn new(alloc: Global, config: Config) -> Resources
         ensures memory { result.memory ≡ record { sizes = config; objects = [] } }
-        ensures owned { result.owned ≡ [] }
+        ensures backed { result.backed ≡ record { owned = []; pools = record { pools = []; allocations = [] }; numbers = []; allocations = [] } }
         ensures resources { result.resources ≡ [] }
         ensures shapes { result.shapes ≡ [] }
         ensures cache { result.cache ≡ [] }
@@ -78,7 +79,7 @@ impl Resources {
         Resources {
             alloc,
             memories: Memories::new(alloc, config),
-            owned: BTreeMap::new(alloc),
+            backing: Backing::new(alloc),
             resources: BTreeMap::new(alloc),
             shapes: BTreeMap::new(alloc),
             cache: HostCache::new(alloc),

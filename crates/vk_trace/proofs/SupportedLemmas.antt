@@ -4,15 +4,13 @@ use Rattle.std.specs.Prelude.{⊤, bytes_eq, if◌then◌else◌, unwrap_or, opt
 use Rattle.serde_json.specs.Data.{Data}
 use Rattle.vk_model.specs.declared.entry.Entry.{Entry}
 use Rattle.vk_model.specs.declared.entry.Entry.TheVariants as entry
-use Rattle.vk_model.specs.declared.resource.Place.{Place}
-use Rattle.vk_model.specs.declared.resource.Place.TheVariants as place
 use Rattle.vk_model.specs.Trace.Point.{Past, Action, Wait, Run, Signal}
 use Rattle.vk_model.specs.Trace.Order.{SubmittedBatch, Front, host, actions, started, batches_of, next_batch, start_batch, settled, after_entry, order_from, order}
-use Rattle.vk_history.specs.Supported.{is_supported, is_supported_action, is_supported_entry, is_supported_place}
+use Rattle.vk_history.specs.Supported.{is_supported, is_supported_action, is_supported_entry}
 use Rattle.vk_model.proofs.Lists.Pairs.{Each}
 use Rattle.vk_history.proofs.Points.Pasts.{supported-next}
 use Rattle.vk_trace.specs.Members.{Reader, Row, ◌>>=◌, array_members, first_member, no_member, from, ◌<*>◌, only, members, at_word, after_word, word_and_members, tagged, each_member, list_of, bytes_value, u32_value, u64_value}
-use Rattle.vk_trace.specs.Trace.{batch_value, semaphore_value, place_rows, place_value, sharing_value, format_value, tiling_value, length_or_whole, buffer, image, memory, entry_rows, entry_value, IsTrace}
+use Rattle.vk_trace.specs.Trace.{batch_value, semaphore_value, place_value, sharing_value, format_value, tiling_value, algorithm_value, length_or_whole, buffer, image, memory, pool, entry_rows, entry_value, IsTrace}
 
 -- ---- what holds of all that a reader gives
 
@@ -98,67 +96,12 @@ list_makes P read makes d xs h =
 
 -- ---- what holds of the forms of a trace
 
-abbrev IsSupportedPlace : Place → Type 0
-IsSupportedPlace p = is_supported_place p ≡ true
-
-place_makes : Makes IsSupportedPlace place_value
-unfolding place_value place_rows
-place_makes = tagged_makes IsSupportedPlace place_rows (any_makes IsSupportedPlace _ u32_value (from_makes _ place.Dedicated (λ t. refl)), (any_makes IsSupportedPlace _ u64_value (any_makes _ _ u32_value (from_makes _ place.Memory (λ m o. refl))), tt))
-
 abbrev IsSupportedEntry : Entry → Type 0
 IsSupportedEntry x = is_supported_entry x ≡ true
 
 entry_makes : Makes IsSupportedEntry entry_value
 unfolding entry_value entry_rows
-entry_makes = tagged_makes IsSupportedEntry entry_rows (
-  more_makes IsSupportedEntry IsSupportedPlace _ place_value (any_makes _ _ sharing_value (any_makes _ _ u32_value (any_makes _ _ u64_value (any_makes _ _ u32_value (from_makes _ buffer (λ i n u s p own. own)))))) place_makes,
-  (
-    more_makes IsSupportedEntry IsSupportedPlace _ place_value (any_makes _ _ sharing_value (any_makes _ _ u32_value (any_makes _ _ tiling_value (any_makes _ _ u32_value (any_makes _ _ u32_value (any_makes _ _ u32_value (any_makes _ _ u32_value (any_makes _ _ format_value (any_makes _ _ u32_value (from_makes _ image (λ i f w h k l t u s p own. own))))))))))) place_makes,
-    (
-      any_makes IsSupportedEntry _ u64_value (any_makes _ _ u32_value (any_makes _ _ u32_value (from_makes _ memory (λ i t n. refl)))),
-      (
-        any_makes IsSupportedEntry _ u32_value (from_makes _ entry.Free (λ m. refl)),
-        (
-          any_makes IsSupportedEntry _ u32_value (from_makes _ entry.Destroy (λ r. refl)),
-          (
-            any_makes IsSupportedEntry _ u32_value (from_makes _ entry.Map (λ b. refl)),
-            (
-              any_makes IsSupportedEntry _ u32_value (from_makes _ entry.Unmap (λ b. refl)),
-              (
-                any_makes IsSupportedEntry _ bytes_value (any_makes _ _ u64_value (any_makes _ _ u32_value (from_makes _ entry.Write (λ b o bytes. refl)))),
-                (
-                  any_makes IsSupportedEntry _ u64_value (any_makes _ _ u64_value (any_makes _ _ u32_value (from_makes _ entry.Read (λ b o n. refl)))),
-                  (
-                    any_makes IsSupportedEntry _ length_or_whole (any_makes _ _ u64_value (any_makes _ _ u32_value (from_makes _ entry.Flush (λ b o n. refl)))),
-                    (
-                      any_makes IsSupportedEntry _ length_or_whole (any_makes _ _ u64_value (any_makes _ _ u32_value (from_makes _ entry.Invalidate (λ b o n. refl)))),
-                      (
-                        any_makes IsSupportedEntry _ u64_value (any_makes _ _ u32_value (from_makes _ entry.Semaphore (λ i v. refl))),
-                        (
-                          any_makes IsSupportedEntry _ u32_value (from_makes _ entry.Event (λ i. refl)),
-                          (
-                            any_makes IsSupportedEntry _ u64_value (any_makes _ _ u32_value (from_makes _ entry.Signal (λ v n. refl))),
-                            (
-                              any_makes IsSupportedEntry _ (list_of semaphore_value) (from_makes _ entry.Wait (λ ws. refl)),
-                              (
-                                any_makes IsSupportedEntry _ (list_of batch_value) (any_makes _ _ u32_value (from_makes _ entry.Submit (λ q bs. refl))),
-                                tt,
-                              ),
-                            ),
-                          ),
-                        ),
-                      ),
-                    ),
-                  ),
-                ),
-              ),
-            ),
-          ),
-        ),
-      ),
-    ),
-  ),
-)
+entry_makes = tagged_makes IsSupportedEntry entry_rows (any_makes IsSupportedEntry _ place_value (any_makes _ _ sharing_value (any_makes _ _ u32_value (any_makes _ _ u64_value (any_makes _ _ u32_value (from_makes _ buffer (λ i n u s p. refl)))))), (any_makes IsSupportedEntry _ place_value (any_makes _ _ sharing_value (any_makes _ _ u32_value (any_makes _ _ tiling_value (any_makes _ _ u32_value (any_makes _ _ u32_value (any_makes _ _ u32_value (any_makes _ _ u32_value (any_makes _ _ format_value (any_makes _ _ u32_value (from_makes _ image (λ i f w h k l t u s p. refl))))))))))), (any_makes IsSupportedEntry _ u64_value (any_makes _ _ u32_value (any_makes _ _ u32_value (from_makes _ memory (λ i t n. refl)))), (any_makes IsSupportedEntry _ u32_value (from_makes _ entry.Free (λ m. refl)), (any_makes IsSupportedEntry _ u32_value (from_makes _ entry.Destroy (λ r. refl)), (any_makes IsSupportedEntry _ u32_value (any_makes _ _ u64_value (any_makes _ _ u32_value (any_makes _ _ algorithm_value (any_makes _ _ u32_value (from_makes _ pool (λ i k t n l. refl)))))), (any_makes IsSupportedEntry _ u32_value (from_makes _ entry.DropPool (λ p. refl)), (any_makes IsSupportedEntry _ u32_value (from_makes _ entry.Map (λ b. refl)), (any_makes IsSupportedEntry _ u32_value (from_makes _ entry.Unmap (λ b. refl)), (any_makes IsSupportedEntry _ bytes_value (any_makes _ _ u64_value (any_makes _ _ u32_value (from_makes _ entry.Write (λ b o bytes. refl)))), (any_makes IsSupportedEntry _ u64_value (any_makes _ _ u64_value (any_makes _ _ u32_value (from_makes _ entry.Read (λ b o n. refl)))), (any_makes IsSupportedEntry _ length_or_whole (any_makes _ _ u64_value (any_makes _ _ u32_value (from_makes _ entry.Flush (λ b o n. refl)))), (any_makes IsSupportedEntry _ length_or_whole (any_makes _ _ u64_value (any_makes _ _ u32_value (from_makes _ entry.Invalidate (λ b o n. refl)))), (any_makes IsSupportedEntry _ u64_value (any_makes _ _ u32_value (from_makes _ entry.Semaphore (λ i v. refl))), (any_makes IsSupportedEntry _ u32_value (from_makes _ entry.Event (λ i. refl)), (any_makes IsSupportedEntry _ u64_value (any_makes _ _ u32_value (from_makes _ entry.Signal (λ v n. refl))), (any_makes IsSupportedEntry _ (list_of semaphore_value) (from_makes _ entry.Wait (λ ws. refl)), (any_makes IsSupportedEntry _ (list_of batch_value) (any_makes _ _ u32_value (from_makes _ entry.Submit (λ q bs. refl))), tt))))))))))))))))))
 
 -- ---- every point of a trace
 

@@ -11,7 +11,9 @@ use Rattle.vk_model.specs.declared.layout.Format.TheVariants.{R8Uint, R8G8Uint, 
 use Rattle.vk_model.specs.declared.resource.Kind.{Kind}
 use Rattle.vk_model.specs.declared.resource.Kind.TheVariants.{Linear, Optimal}
 use Rattle.vk_model.specs.declared.resource.Place.{Place}
-use Rattle.vk_model.specs.declared.resource.Place.TheVariants.{Dedicated, Memory as InMemory}
+use Rattle.vk_model.specs.declared.resource.Place.TheVariants.{Dedicated, Pool as InPool, PoolUpper, Memory as InMemory}
+use Rattle.vk_model.specs.declared.resource.PoolKind.{PoolKind}
+use Rattle.vk_model.specs.declared.resource.PoolKind.TheVariants.{Tlsf, Linear as LinearPool}
 use Rattle.vk_model.specs.declared.command.BufferCopy.{BufferCopy}
 use Rattle.vk_model.specs.declared.command.Length.{Length}
 use Rattle.vk_model.specs.declared.command.Length.TheVariants.{Bytes, Whole}
@@ -28,7 +30,7 @@ use Rattle.vk_model.specs.declared.entry.SemaphoreValue.{SemaphoreValue}
 use Rattle.vk_model.specs.declared.entry.SemaphoreSubmit.{SemaphoreSubmit}
 use Rattle.vk_model.specs.declared.entry.Batch.{Batch}
 use Rattle.vk_model.specs.declared.entry.Entry.{Entry}
-use Rattle.vk_model.specs.declared.entry.Entry.TheVariants.{Buffer, Image, Memory as MemoryObject, Free, Destroy, Map, Unmap, Write, Read, Flush, Invalidate, Semaphore, Event, Signal, Wait, Submit}
+use Rattle.vk_model.specs.declared.entry.Entry.TheVariants.{Buffer, Image, Memory as MemoryObject, Free, Destroy, Pool, DropPool, Map, Unmap, Write, Read, Flush, Invalidate, Semaphore, Event, Signal, Wait, Submit}
 use Rattle.vk_trace.specs.Members.{Reader, Row, ◌>>=◌, from, ◌<*>◌, members, at_word, one_word, tagged, list_of, bytes_value, u64_value, u32_value}
 
 -- A number of bytes, or the word that means all to the end (`VK_WHOLE_SIZE`) (profile).
@@ -165,6 +167,10 @@ place_rows
     = (codes "dedicated", from Dedicated <*> u32_value)
     -- memory object, offset
     ∷ (codes "memory", from InMemory <*> u32_value <*> u64_value)
+    -- pool
+    ∷ (codes "pool", from InPool <*> u32_value)
+    -- pool
+    ∷ (codes "pool_upper", from PoolUpper <*> u32_value)
     ∷ []
 
 -- A place is a word and its members (profile).
@@ -196,6 +202,14 @@ buffer id size usage sharing place = Buffer id (record { size = size; usage = re
 abbrev pub memory : ℕ → ℕ → ℕ → Entry
 memory id memory_type size = MemoryObject id (record { memory_type = memory_type; size = size })
 
+-- The words of the algorithms of pools, as of `VmaPoolCreateFlags` (profile).
+unfoldable pub algorithm_value : Reader PoolKind
+algorithm_value = one_word ((codes "tlsf", Tlsf) ∷ (codes "linear", LinearPool) ∷ [])
+
+-- A pool of an id, an algorithm, a memory type, a block size and a block limit (profile).
+abbrev pub pool : ℕ → PoolKind → ℕ → ℕ → ℕ → Entry
+pool id kind memory_type block_size block_limit = Pool id (record { kind = kind; memory_type = memory_type; block_size = block_size; block_limit = block_limit })
+
 -- The words of entries and the members after each (profile).
 unfoldable pub entry_rows : List (List ℕ × Row Entry)
 entry_rows
@@ -209,6 +223,10 @@ entry_rows
     ∷ (codes "free", from Free <*> u32_value)
     -- buffer or image
     ∷ (codes "destroy", from Destroy <*> u32_value)
+    -- id, algorithm, memory type, block size, block limit
+    ∷ (codes "pool", from pool <*> u32_value <*> algorithm_value <*> u32_value <*> u64_value <*> u32_value)
+    -- pool
+    ∷ (codes "drop_pool", from DropPool <*> u32_value)
     -- buffer
     ∷ (codes "map", from Map <*> u32_value)
     -- buffer

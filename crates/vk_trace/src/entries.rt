@@ -7,6 +7,7 @@ ghost use Rattle.vk_trace.specs.Inner.Gives.{Gives};
 use crate::errors::ReadTraceError;
 use crate::images::image_of;
 use crate::members::{Member, Reading, end, first, first_bytes, list_members, text_of, word_first};
+use crate::pools::{drop_pool_of, in_pool_of, pool_of, upper_of};
 use bitflags::Flags;
 use serde_json::Value;
 use std::alloc::Global;
@@ -37,6 +38,8 @@ impl Member for Place {
         match word {
             "dedicated" => dedicated_of(alloc, rest),
             "memory" => bound_of(alloc, rest),
+            "pool" => in_pool_of(alloc, rest),
+            "pool_upper" => upper_of(alloc, rest),
             _ => Err(ReadTraceError::NotTrace),
         }
     }
@@ -122,6 +125,8 @@ impl Member for Entry {
             "memory" => memory_of(alloc, rest),
             "free" => free_of(alloc, rest),
             "destroy" => destroy_of(alloc, rest),
+            "pool" => pool_of(alloc, rest),
+            "drop_pool" => drop_pool_of(alloc, rest),
             "semaphore" => semaphore_of(alloc, rest),
             "submit" => submit_of(alloc, rest),
             "event" => event_of(alloc, rest),

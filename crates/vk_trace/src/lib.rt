@@ -6,6 +6,7 @@ mod entries;
 mod errors;
 mod images;
 mod members;
+mod pools;
 mod printing;
 mod reading;
 mod running;

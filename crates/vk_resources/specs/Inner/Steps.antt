@@ -1,6 +1,6 @@
 -- What each step asks of resources, and what it changes there.
-use Rattle.std.specs.Prelude.{◌≡◌, ℕ, ◌+◌, ◌-◌, ◌/◌, ◌%◌, ◌<◌, ◌≤◌, ◌==◌, [], ◌∷◌, ◌++◌, length, List, true, Option, Some, None, option_and_then, if◌then◌else◌, All, ⊤}
-use Rattle.vk_memory.specs.MemoryState.{MemoryState, IsFull, fresh, region_of, type_of, with_object}
+use Rattle.std.specs.Prelude.{◌≡◌, ◌⊎◌, ℕ, ◌+◌, ◌-◌, ◌/◌, ◌%◌, ◌<◌, ◌≤◌, ◌==◌, [], ◌∷◌, ◌++◌, length, List, Bool, true, Option, Some, None, option_and_then, if◌then◌else◌, All, ⊤}
+use Rattle.vk_memory.specs.MemoryState.{MemoryState, IsLive, IsFull, fresh, region_of, type_of}
 use Rattle.vk_map_cache.specs.Holdings.{held_at}
 use Rattle.vk_model.specs.declared.command.Length.{Length}
 use Rattle.vk_model.specs.declared.command.Length.TheVariants as length_of
@@ -8,6 +8,10 @@ use Rattle.vk_model.specs.declared.command.BufferCopy.{BufferCopy}
 use Rattle.vk_model.specs.declared.entry.Entry.{Entry}
 use Rattle.vk_model.specs.declared.entry.Entry.TheVariants as entry
 use Rattle.vk_model.specs.declared.resource.ImageInfo.{ImageInfo}
+use Rattle.vk_model.specs.declared.resource.PoolInfo.{PoolInfo}
+use Rattle.vk_model.specs.declared.resource.Spot.{Spot}
+use Rattle.vk_model.specs.Trace.Objects.{Resource}
+use Rattle.vma_pools.specs.declared.allocations.Asked.{Asked}
 use Rattle.vk_model.specs.World.Bytes.{Byte, in_buffer, in_image}
 use Rattle.vk_model.specs.World.ByteWrites.{ByteWrite, fill_size}
 use Rattle.vk_model.specs.Run.Caches.{Cell}
@@ -18,7 +22,9 @@ use Rattle.vk_resources.specs.declared.applied.Applied.{Applied}
 use Rattle.vk_resources.specs.declared.applied.Applied.TheVariants as applied
 use Rattle.vk_resources.specs.declared.resources.Placed.{Placed}
 use Rattle.vk_resources.specs.Allocating.{allotted}
-use Rattle.vk_resources.specs.Held.{Held, placed, shape_of, flat, object_of, IsInside, IsShaped, byte_at, host_at, is_cached_in, IsInAtoms, IsThere, HasCell}
+use Rattle.vk_backing.specs.Backed.{Backed, IsBacked, IsWhole}
+use Rattle.vk_backing.specs.Steps.{Grows, Owns, Shares, Releases, MakesPool, DropsPool, OwnAllots, ShareAllots, ReleaseAllots, PoolAllots, DropAllots, Asks}
+use Rattle.vk_resources.specs.Held.{Held, placed, shape_of, flat, object_of, LiesShared, IsInside, IsShaped, byte_at, host_at, is_cached_in, IsInAtoms, IsThere, HasCell}
 
 -- ---- bytes
 
@@ -94,11 +100,15 @@ pub record Makes (old new : Held) (id t size : ℕ) : Type 0 where
   pub memory : new.memory ≡ record old.memory { objects = old.memory.objects ++ Some (fresh t size) ∷ [] }
   pub here : object_of new id ≡ Some (length old.memory.objects)
   pub others : (i : ℕ) → (i ≡ id → ⊥) → object_of new i ≡ object_of old i
+  pub owns : Owns old.backed new.backed old.memory new.memory id t size (length old.memory.objects)
+  pub backed : IsBacked new.backed new.memory
+  pub whole : IsWhole old.backed → IsWhole new.backed
+  pub allots : OwnAllots (Some (length old.memory.objects)) (allotted old) (allotted new) id t size
 
 -- A memory object was made for an id, and this is its number; or nothing has changed, exactly where there is no room for it.
 abbrev pub MadeOr : Option ℕ → Held → Held → ℕ → ℕ → ℕ → Type 0
 MadeOr (Some number) old new id t size = (number ≡ length old.memory.objects) × Makes old new id t size × (new.resources ≡ old.resources) × (new.shapes ≡ old.shapes) × (IsFull old.memory t size → ⊥) × (new.cache ≡ old.cache)
-MadeOr None old new id t size = (new ≡ old) × IsFull old.memory t size
+MadeOr None old new id t size = (new ≡ old) × IsFull old.memory t size × OwnAllots None (allotted old) (allotted new) id t size
 
 -- A resource was put somewhere, of this shape where it is an image, and no other was.
 pub record Puts (old new : Held) (id : ℕ) (p : Placed) (shape : Option ImageInfo) : Type 0 where
@@ -126,13 +136,58 @@ abbrev pub ResourceMade : Applied → Held → Held → (id t size asked : ℕ) 
 ResourceMade applied.Done old new id t size asked shape =
     Makes old new id t asked × Puts old new id (record { size = size; object = length old.memory.objects; offset = 0 }) shape × (IsFull old.memory t asked → ⊥) × (new.cache ≡ old.cache)
 ResourceMade (applied.Bytes bytes) old new id t size asked shape = ⊥
-ResourceMade applied.NoRoom old new id t size asked shape = (new ≡ old) × IsFull old.memory t asked
+ResourceMade applied.NoRoom old new id t size asked shape = (new ≡ old) × IsFull old.memory t asked × OwnAllots None (allotted old) (allotted new) id t asked
+
+-- A resource of some bytes was put in the pool of an id, at this spot.
+pub record PutIn (old new : Held) (id pool size : ℕ) (asked : Asked) (upper : Bool) (shape : Option ImageInfo) (spot : Spot) : Type 0 where
+  pub shares : Shares old.backed new.backed old.memory new.memory id pool asked upper spot
+  pub puts : Puts old new id (record { size = size; object = spot.memory; offset = spot.offset }) shape
+  pub grows : Grows old.memory new.memory
+  pub backed : IsBacked new.backed new.memory
+  pub whole : IsWhole old.backed → IsWhole new.backed
+  pub cache : new.cache ≡ old.cache
+  pub allots : (r : Resource) → Asks r asked → ShareAllots (Some spot) (allotted old) (allotted new) id pool r upper
+
+-- The same somewhere; or nothing has changed, exactly where the pool has no room for it.
+abbrev pub SharedMade : Applied → Held → Held → (id pool size : ℕ) → Asked → Bool → Option ImageInfo → Type 0
+SharedMade applied.Done old new id pool size asked upper shape = (spot : Spot) × PutIn old new id pool size asked upper shape spot
+SharedMade (applied.Bytes bytes) old new id pool size asked upper shape = ⊥
+SharedMade applied.NoRoom old new id pool size asked upper shape = (new ≡ old) × ((r : Resource) → Asks r asked → ShareAllots None (allotted old) (allotted new) id pool r upper)
+
+-- A place in a pool was found for a resource; or nothing has changed, exactly where the pool has no room for it.
+abbrev pub FoundOr : Option Spot → Held → Held → (id pool : ℕ) → Asked → Bool → Type 0
+FoundOr (Some spot) old new id pool asked upper =
+    Shares old.backed new.backed old.memory new.memory id pool asked upper spot × IsBacked new.backed new.memory × (IsWhole old.backed → IsWhole new.backed) × (new.resources ≡ old.resources) × (new.shapes ≡ old.shapes) × (new.cache ≡ old.cache)
+    × ((r : Resource) → Asks r asked → ShareAllots (Some spot) (allotted old) (allotted new) id pool r upper)
+FoundOr None old new id pool asked upper = (new ≡ old) × ((r : Resource) → Asks r asked → ShareAllots None (allotted old) (allotted new) id pool r upper)
+
+-- A pool was made, and nothing else has changed (VMA, "Custom memory pools").
+pub record PoolMade (old new : Held) (id : ℕ) (info : PoolInfo) : Type 0 where
+  pub makes : MakesPool old.backed new.backed id info
+  pub backed : IsBacked new.backed new.memory
+  pub memory : new.memory ≡ old.memory
+  pub resources : new.resources ≡ old.resources
+  pub shapes : new.shapes ≡ old.shapes
+  pub cache : new.cache ≡ old.cache
+  pub whole : IsWhole old.backed → IsWhole new.backed
+  pub allots : PoolAllots (allotted old) (allotted new) id info
+
+-- A pool has ended, and nothing else has changed (VMA, "Custom memory pools").
+pub record PoolDropped (old new : Held) (id : ℕ) : Type 0 where
+  pub drops : DropsPool old.backed new.backed id
+  pub backed : IsBacked new.backed new.memory
+  pub memory : new.memory ≡ old.memory
+  pub resources : new.resources ≡ old.resources
+  pub shapes : new.shapes ≡ old.shapes
+  pub cache : new.cache ≡ old.cache
+  pub whole : IsWhole new.backed
+  pub allots : DropAllots (allotted old) (allotted new) id
 
 -- A memory object was made; or nothing has changed, exactly where there is no room for it.
 abbrev pub MemoryMade : Applied → Held → Held → ℕ → ℕ → ℕ → Type 0
 MemoryMade applied.Done old new id t size = Makes old new id t size × (new.resources ≡ old.resources) × (new.shapes ≡ old.shapes) × (IsFull old.memory t size → ⊥) × (new.cache ≡ old.cache)
 MemoryMade (applied.Bytes bytes) old new id t size = ⊥
-MemoryMade applied.NoRoom old new id t size = (new ≡ old) × IsFull old.memory t size
+MemoryMade applied.NoRoom old new id t size = (new ≡ old) × IsFull old.memory t size × OwnAllots None (allotted old) (allotted new) id t size
 
 -- A resource of this size may be bound at this offset of the memory object that an id has: it has bytes, ends there, begins with an atom where the memory is cached, and meets no other resource (Vulkan, "Resource Memory Association" and "Memory Aliasing").
 pub record BindReady (s : Held) (memory offset size : ℕ) : Type 0 where
@@ -146,27 +201,29 @@ pub record BindReady (s : Held) (memory offset size : ℕ) : Type 0 where
 -- It was bound there, and nothing else has changed.
 abbrev pub Binds : Held → Held → (id memory offset size : ℕ) → Option ImageInfo → Type 0
 Binds old new id memory offset size shape =
-    (new.memory ≡ old.memory) × (new.owned ≡ old.owned) × ((number : ℕ) → object_of old memory ≡ Some number → Puts old new id (record { size = size; object = number; offset = offset }) shape) × (new.cache ≡ old.cache)
+    (new.memory ≡ old.memory) × (new.backed ≡ old.backed) × ((number : ℕ) → object_of old memory ≡ Some number → Puts old new id (record { size = size; object = number; offset = offset }) shape) × (new.cache ≡ old.cache)
+
+-- A resource lies in a memory object that another id has of its own, or in a pool.
+abbrev pub LiesElsewhere : Held → ℕ → ℕ → Placed → Type 0
+LiesElsewhere s id b p = ((i : ℕ) × (i ≡ id → ⊥) × (object_of s i ≡ Some p.object)) ⊎ ((pool : ℕ) × LiesShared s.backed s.memory b pool p)
 
 -- No resource but that of an id itself lies in the memory object that the id has.
 abbrev pub IsEmpty : Held → ℕ → Type 0
-IsEmpty s id = (number b : ℕ) (p : Placed) → object_of s id ≡ Some number → (b ≡ id → ⊥) → placed s b ≡ Some p → p.object ≡ number → ⊥
-
--- Memory without the object of a number, if there is one (Vulkan, "Device Memory").
-abbrev pub freed : MemoryState → Option ℕ → MemoryState
-freed m None = m
-freed m (Some number) = with_object m number None
+IsEmpty s id = (b : ℕ) (p : Placed) → (b ≡ id → ⊥) → placed s b ≡ Some p → LiesElsewhere s id b p
 
 -- Nothing is held any more of a resource in cached memory, nor of its atoms; what is held of others hasn't changed.
 pub record Forgets (old new : Held) (id : ℕ) : Type 0 where
   pub gone : (p : Placed) (k : ℕ) → cached_at old id ≡ Some p → IsInAtoms p k → held_at new.cache p.object k ≡ None
   pub others : (b k : ℕ) → (b ≡ id → ⊥) → host_at new (in_buffer b k) ≡ host_at old (in_buffer b k)
 
--- An id has ended: its resource isn't there any more, nor what the host's cache held of it, nor the memory object that it had, and nothing else has changed (Vulkan, "Object Lifetime").
+-- An id has ended: its resource isn't there any more, nor what the host's cache held of it, nor the memory object or the place in a pool that it had, and nothing else has changed (Vulkan, "Object Lifetime").
 pub record Ends (old new : Held) (id : ℕ) : Type 0 where
-  pub memory : new.memory ≡ freed old.memory (object_of old id)
-  pub no_object : object_of new id ≡ None
-  pub objects : (i : ℕ) → (i ≡ id → ⊥) → object_of new i ≡ object_of old i
+  pub gone : Option ℕ
+  pub releases : Releases old.backed new.backed old.memory new.memory id gone
+  pub backed : IsBacked new.backed new.memory
+  pub stays : (b : ℕ) (p : Placed) → (b ≡ id → ⊥) → placed old b ≡ Some p → IsLive new.memory p.object
+  pub whole : IsWhole old.backed → IsWhole new.backed
+  pub allots : ReleaseAllots (allotted old) (allotted new) id
   pub no_resource : placed new id ≡ None
   pub resources : (b : ℕ) → (b ≡ id → ⊥) → placed new b ≡ placed old b
   pub no_shape : shape_of new id ≡ None

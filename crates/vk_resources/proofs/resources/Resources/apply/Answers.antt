@@ -1,6 +1,8 @@
 use Rattle.std.proofs.Common.{ap, sym, ◌∙◌}
 use Rattle.vk_model.specs.declared.entry.Entry.TheVariants as entry
 use Rattle.vk_resources.proofs.Applying.{rest_done}
+use Rattle.vk_resources.proofs.PoolEntries.{pool_absent, pool_done}
+use Rattle.vk_resources.proofs.PoolEnds.{drop_unused, drop_done}
 use Rattle.vk_resources.proofs.HostAccesses.{write_done, flush_done, invalidate_done, read_done}
 use Rattle.vk_resources.proofs.Ending.{free_empty, free_done, destroy_empty, destroy_done}
 use Rattle.vk_resources.proofs.Allotting.{free_allots, destroy_allots, rest_rooms, rest_allots, is_rest}
@@ -9,22 +11,38 @@ use Rattle.vk_resources.proofs.resources.Resources.apply.Goals as goal
 -- ---- what ends
 
 pub end-requires : goal.end-requires
-end-requires c = λ apart. λ number b p has other at object. free_empty c.args.self.now c.args.entry.now c.in-Free.memory c.in-Free.is c.requires.0 c.requires.1 c.requires.2 apart number b p has other at object
+end-requires c = λ stands. free_empty c.args.self.now c.args.entry.now c.in-Free.memory c.in-Free.is c.requires.0 c.requires.1 c.requires.2 stands
 
 pub returns-in-Free-clause-done : goal.returns-in-Free-clause-done
 returns-in-Free-clause-done c = λ e past m fit. free_done c.args.self.now c.args.entry.now c.in-Free.memory c.in-Free.is past m fit c.end.ensures.stands c.end.new.self c.end.ensures.ended e
 
 pub returns-in-Free-clause-allots : goal.returns-in-Free-clause-allots
-returns-in-Free-clause-allots c = λ past m fit. free_allots c.args.self.now c.end.new.self c.args.entry.now c.in-Free.memory c.in-Free.is c.end.ensures.stands.0 c.end.ensures.ended
+returns-in-Free-clause-allots c = λ past m fit. free_allots c.args.self.now c.end.new.self c.args.entry.now c.in-Free.memory c.in-Free.is c.end.ensures.ended
 
 pub end-requires-in-Destroy : goal.end-requires-in-Destroy
-end-requires-in-Destroy c = λ apart. λ number b p has other at object. destroy_empty c.args.self.now c.args.entry.now c.in-Destroy.resource c.in-Destroy.is c.requires.0 c.requires.1 c.requires.2 apart number b p has other at object
+end-requires-in-Destroy c = λ stands. destroy_empty c.args.self.now c.args.entry.now c.in-Destroy.resource c.in-Destroy.is c.requires.0 c.requires.1 c.requires.2 stands
 
 pub returns-in-Destroy-clause-done : goal.returns-in-Destroy-clause-done
 returns-in-Destroy-clause-done c = λ e past m fit. destroy_done c.args.self.now c.args.entry.now c.in-Destroy.resource c.in-Destroy.is past m fit c.end-in-Destroy.ensures.stands c.end-in-Destroy.new.self c.end-in-Destroy.ensures.ended e
 
 pub returns-in-Destroy-clause-allots : goal.returns-in-Destroy-clause-allots
-returns-in-Destroy-clause-allots c = λ past m fit. destroy_allots c.args.self.now c.end-in-Destroy.new.self c.args.entry.now c.in-Destroy.resource c.in-Destroy.is c.end-in-Destroy.ensures.stands.0 c.end-in-Destroy.ensures.ended
+returns-in-Destroy-clause-allots c = λ past m fit. destroy_allots c.args.self.now c.end-in-Destroy.new.self c.args.entry.now c.in-Destroy.resource c.in-Destroy.is c.end-in-Destroy.ensures.ended
+
+-- ---- pools
+
+pub make_pool-requires-clause-absent : goal.make_pool-requires-clause-absent
+make_pool-requires-clause-absent c = λ stands. pool_absent c.args.self.now c.args.entry.now c.in-Pool.id c.in-Pool.info c.in-Pool.is stands c.requires.0 c.requires.1 c.requires.2
+
+pub returns-in_ok-make_pool-in-Pool-clause-done : goal.returns-in_ok-make_pool-in-Pool-clause-done
+returns-in_ok-make_pool-in-Pool-clause-done c = λ e past m fit.
+    pool_done c.args.self.now c.make_pool.new.self c.args.entry.now c.in-Pool.id c.in-Pool.info c.in-Pool.is c.make_pool.ensures.stands c.in_ok-make_pool-in-Pool.ensures.made e past m fit
+
+pub drop_pool-requires-clause-unused : goal.drop_pool-requires-clause-unused
+drop_pool-requires-clause-unused c = λ stands. drop_unused c.args.self.now c.args.entry.now c.in-DropPool.pool c.in-DropPool.is c.requires.0 c.requires.1 c.requires.2 stands
+
+pub returns-in-DropPool-clause-done : goal.returns-in-DropPool-clause-done
+returns-in-DropPool-clause-done c = λ e past m fit.
+    drop_done c.args.self.now c.args.entry.now c.in-DropPool.pool c.in-DropPool.is past m fit c.drop_pool.ensures.stands c.drop_pool.new.self c.drop_pool.ensures.dropped e
 
 -- ---- host accesses
 
@@ -47,7 +65,7 @@ returns-in-Invalidate-clause-done c = λ e past m fit. invalidate_done c.args.se
 
 pub returns-in_default : goal.returns-in_default
 returns-in_default c =
-    let rest = is_rest c.args.entry.now c.in_default.not-Memory c.in_default.not-Buffer c.in_default.not-Image c.in_default.not-Free c.in_default.not-Destroy c.in_default.not-Write c.in_default.not-Read c.in_default.not-Flush c.in_default.not-Invalidate in
+    let rest = is_rest c.args.entry.now c.in_default.not-Memory c.in_default.not-Buffer c.in_default.not-Image c.in_default.not-Pool c.in_default.not-DropPool c.in_default.not-Free c.in_default.not-Destroy c.in_default.not-Write c.in_default.not-Read c.in_default.not-Flush c.in_default.not-Invalidate in
     record {
       done = λ e past m fit. rest_done c.args.self.now c.args.entry.now rest e past m fit;
       rooms = λ past fit. rest_rooms c.args.self.now c.args.entry.now rest past fit;

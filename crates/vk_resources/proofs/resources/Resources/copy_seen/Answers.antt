@@ -9,7 +9,7 @@ use Rattle.vk_resources.proofs.resources.Resources.copy_seen.Goals as goal
 
 pub returns-in-Some : goal.returns-in-Some
 returns-in-Some c =
-    let s : Held = record { memory = c.self.inside.memories; owned = c.self.inside.owned.entries; resources = c.self.inside.resources.entries; shapes = c.self.inside.shapes.entries; cache = c.self.inside.cache } in
+    let s : Held = record { memory = c.self.inside.memories; backed = c.self.inside.backing; resources = c.self.inside.resources.entries; shapes = c.self.inside.shapes.entries; cache = c.self.inside.cache } in
     let here : flat c.args.self.now c.args.id ≡ Some c.in-Some.buffer = sym c.buffer.ensures ∙ c.in-Some.is in
     let fits : c.args.offset + length c.args.out.now ≤ c.in-Some.buffer.size = subst (λ (x : Option Placed). MayReach x c.args.offset (length c.args.out.now)) here c.requires in
     subst (λ (h : Held). c.read.new.out ≡ map (λ k. seen_at h (in_buffer c.args.id (c.args.offset + k))) (below (length c.args.out.now))) c.self.view_is

@@ -12,14 +12,14 @@ use Rattle.vk_resources.proofs.resources.Resources.flush.Goals as goal
 
 pub invariant_of-self : goal.invariant_of-self
 invariant_of-self c =
-    let s : Held = record { memory = c.self.inside.memories; owned = c.self.inside.owned.entries; resources = c.self.inside.resources.entries; shapes = c.self.inside.shapes.entries; cache = c.self.inside.cache } in
+    let s : Held = record { memory = c.self.inside.memories; backed = c.self.inside.backing; resources = c.self.inside.resources.entries; shapes = c.self.inside.shapes.entries; cache = c.self.inside.cache } in
     let here : cached_at s c.args.id ≡ Some c.in-Some.buffer = ap (λ (h : Held). cached_at h c.args.id) c.self.view_is ∙ sym c.cached.ensures ∙ c.in-Some.is in
     let both = flat_cached s c.args.id c.in-Some.buffer c.args.offset c.args.size here (subst (λ (h : Held). MayReachTo (flat h c.args.id) c.args.offset c.args.size) (sym c.self.view_is) c.requires) in
     (flushed s c.self.invariant c.args.id c.in-Some.buffer here both.0 c.args.offset c.args.size both.1 c.region_mut-region.result.now c.flush.new.region c.flush.new.self c.region_mut-region.ensures.value (rw c.reached-bytes.ensures at c.flush.ensures)).0
 
 pub returns-in-Some : goal.returns-in-Some
 returns-in-Some c =
-    let s : Held = record { memory = c.self.inside.memories; owned = c.self.inside.owned.entries; resources = c.self.inside.resources.entries; shapes = c.self.inside.shapes.entries; cache = c.self.inside.cache } in
+    let s : Held = record { memory = c.self.inside.memories; backed = c.self.inside.backing; resources = c.self.inside.resources.entries; shapes = c.self.inside.shapes.entries; cache = c.self.inside.cache } in
     let here : cached_at s c.args.id ≡ Some c.in-Some.buffer = ap (λ (h : Held). cached_at h c.args.id) c.self.view_is ∙ sym c.cached.ensures ∙ c.in-Some.is in
     let both = flat_cached s c.args.id c.in-Some.buffer c.args.offset c.args.size here (subst (λ (h : Held). MayReachTo (flat h c.args.id) c.args.offset c.args.size) (sym c.self.view_is) c.requires) in
     subst (λ (h : Held). HasChanged h (record s { memory = with_region s.memory c.in-Some.buffer.object c.flush.new.region; cache = c.flush.new.self }) c.args.id (only_where (λ k. is_some (cached_at h c.args.id) && in_atoms c.args.offset c.args.size k) (written_back 0))) c.self.view_is

@@ -30,7 +30,7 @@ returns-in-Update c = λ past m fit alive.
 
 pub pieces-requires-in-Some-get-clause-few : goal.pieces-requires-in-Some-get-clause-few
 pieces-requires-in-Some-get-clause-few c =
-    let s : Held = record { memory = c.self.inside.memories; owned = c.self.inside.owned.entries; resources = c.self.inside.resources.entries; shapes = c.self.inside.shapes.entries; cache = c.self.inside.cache } in
+    let s : Held = record { memory = c.self.inside.memories; backed = c.self.inside.backing; resources = c.self.inside.resources.entries; shapes = c.self.inside.shapes.entries; cache = c.self.inside.cache } in
     let shaped : shape_of s c.in-Clear.image ≡ Some c.in-Some-get.shape.now = sym c.get.ensures.value ∙ ap (option_map (λ (b : Bor ImageInfo). b.now)) c.in-Some-get.is in
     let few = (clear_few c.requires.0 s (subst (λ (h : Held). MatchesLive c.requires.0 h) (sym c.self.view_is) c.requires.1) c.in-Clear.image c.in-Clear.layout c.in-Clear.color c.in-Clear.ranges c.self.invariant c.in-Some-get.shape.now shaped
     (subst (λ (y : Cmd). FitsCommand c.requires.0 y) (sym c.work.view_is ∙ c.in-Clear.is) c.requires.2)).1 in
@@ -38,7 +38,7 @@ pieces-requires-in-Some-get-clause-few c =
 
 pub returns-in-Some-get : goal.returns-in-Some-get
 returns-in-Some-get c = λ past m fit alive.
-    let s : Held = record { memory = c.self.inside.memories; owned = c.self.inside.owned.entries; resources = c.self.inside.resources.entries; shapes = c.self.inside.shapes.entries; cache = c.self.inside.cache } in
+    let s : Held = record { memory = c.self.inside.memories; backed = c.self.inside.backing; resources = c.self.inside.resources.entries; shapes = c.self.inside.shapes.entries; cache = c.self.inside.cache } in
     let shaped : shape_of s c.in-Clear.image ≡ Some c.in-Some-get.shape.now = sym c.get.ensures.value ∙ ap (option_map (λ (b : Bor ImageInfo). b.now)) c.in-Some-get.is in
     clear_counted past s (subst (λ (h : Held). MatchesLive past h) (sym c.self.view_is) m) c.in-Clear.image c.in-Clear.layout c.in-Clear.color c.in-Clear.ranges c.in-Some-get.shape.now c.pieces-in-Some-get.result shaped
     (c.pieces-in-Some-get.ensures.pieces c.in-Clear.image ∙ ap (λ (rs : List SubresourceRange). length (all_cleared c.in-Clear.image c.in-Clear.color c.in-Some-get.shape.now rs)) c.as_slice-in-Some-get.ensures)

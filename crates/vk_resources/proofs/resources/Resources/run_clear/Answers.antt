@@ -10,12 +10,12 @@ use Rattle.vk_resources.proofs.resources.Resources.run_clear.Goals as goal
 
 pub run_piece-requires-clause-inside : goal.run_piece-requires-clause-inside
 run_piece-requires-clause-inside c =
-    let s : Held = record { memory = c.self.inside.memories; owned = c.self.inside.owned.entries; resources = c.self.inside.resources.entries; shapes = c.self.inside.shapes.entries; cache = c.self.inside.cache } in
+    let s : Held = record { memory = c.self.inside.memories; backed = c.self.inside.backing; resources = c.self.inside.resources.entries; shapes = c.self.inside.shapes.entries; cache = c.self.inside.cache } in
     rw c.region_mut-region.ensures.value (room_step s c.self.invariant c.args.image c.shape_at-shape.result.now c.picture-at.result c.shape_at-shape.ensures (ap (λ (h : Held). placed h c.args.image) c.self.view_is ∙ c.picture-at.ensures))
 
 pub invariant_of-self : goal.invariant_of-self
 invariant_of-self c =
-    let s : Held = record { memory = c.self.inside.memories; owned = c.self.inside.owned.entries; resources = c.self.inside.resources.entries; shapes = c.self.inside.shapes.entries; cache = c.self.inside.cache } in
+    let s : Held = record { memory = c.self.inside.memories; backed = c.self.inside.backing; resources = c.self.inside.resources.entries; shapes = c.self.inside.shapes.entries; cache = c.self.inside.cache } in
     (clear_step s c.self.invariant c.texels_apart.ensures c.texels_inside.ensures c.args.image c.shape_at-shape.result.now c.picture-at.result c.shape_at-shape.ensures (ap (λ (h : Held). placed h c.args.image) c.self.view_is ∙ c.picture-at.ensures)
     c.args.clear.now.color c.args.clear.now.ranges.now c.args.number (subst (λ (h : Held). ClearReady h c.args.image c.args.clear.now.ranges.now c.args.number) (sym c.self.view_is) c.requires)
     c.find-found.result.clear c.find-found.result.number c.run_piece.new.region (c.find-found.ensures.piece c.args.image) c.find-found.ensures.range c.find-found.ensures.high c.find-found.ensures.row
@@ -23,7 +23,7 @@ invariant_of-self c =
 
 pub returns : goal.returns
 returns c =
-    let s : Held = record { memory = c.self.inside.memories; owned = c.self.inside.owned.entries; resources = c.self.inside.resources.entries; shapes = c.self.inside.shapes.entries; cache = c.self.inside.cache } in
+    let s : Held = record { memory = c.self.inside.memories; backed = c.self.inside.backing; resources = c.self.inside.resources.entries; shapes = c.self.inside.shapes.entries; cache = c.self.inside.cache } in
     let new : Held = with_bytes s c.picture-at.result.object c.run_piece.new.region in
     subst (λ (h : Held). (m : ImageInfo) → shape_of h c.args.image ≡ Some m → HasRun h new (piece_in (all_cleared c.args.image c.args.clear.now.color m c.args.clear.now.ranges.now) c.args.number)) c.self.view_is
     (clear_step s c.self.invariant c.texels_apart.ensures c.texels_inside.ensures c.args.image c.shape_at-shape.result.now c.picture-at.result c.shape_at-shape.ensures (ap (λ (h : Held). placed h c.args.image) c.self.view_is ∙ c.picture-at.ensures)

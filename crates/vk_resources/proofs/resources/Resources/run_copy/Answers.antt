@@ -10,9 +10,9 @@ use Rattle.vk_resources.proofs.resources.Resources.run_copy.Goals as goal
 
 pub overflow_add-source : goal.overflow_add-source
 overflow_add-source c =
-    let s : Held = record { memory = c.self.inside.memories; owned = c.self.inside.owned.entries; resources = c.self.inside.resources.entries; shapes = c.self.inside.shapes.entries; cache = c.self.inside.cache } in
+    let s : Held = record { memory = c.self.inside.memories; backed = c.self.inside.backing; resources = c.self.inside.resources.entries; shapes = c.self.inside.shapes.entries; cache = c.self.inside.cache } in
     let at : IsPlaced s c.args.source = subst (λ (h : Held). IsPlaced h c.args.source) (sym c.self.view_is) c.requires.source in
-    let inside = (inside_of s.memory s.owned s.resources c.self.invariant.0 at.0 c.args.source (flat_parts (shape_of s at.0) (placed s at.0) c.args.source at.1).1).room in
+    let inside = (inside_of s.memory s.backed s.resources c.self.invariant.0 at.0 c.args.source (flat_parts (shape_of s at.0) (placed s at.0) c.args.source at.1).1).room in
     let fits = piece_fits c.args.source c.args.destination c.args.pieces.now c.find-found.result.copy.region c.find-found.result.number c.piece-piece.result c.requires.piece.1 c.find-found.ensures.region c.find-found.ensures.number
     c.piece-piece.ensures.from c.piece-piece.ensures.to c.piece-piece.ensures.size in
     let fits_from = fits.0 in
@@ -22,9 +22,9 @@ overflow_add-source c =
 
 pub overflow_add-destination : goal.overflow_add-destination
 overflow_add-destination c =
-    let s : Held = record { memory = c.self.inside.memories; owned = c.self.inside.owned.entries; resources = c.self.inside.resources.entries; shapes = c.self.inside.shapes.entries; cache = c.self.inside.cache } in
+    let s : Held = record { memory = c.self.inside.memories; backed = c.self.inside.backing; resources = c.self.inside.resources.entries; shapes = c.self.inside.shapes.entries; cache = c.self.inside.cache } in
     let at : IsPlaced s c.args.destination = subst (λ (h : Held). IsPlaced h c.args.destination) (sym c.self.view_is) c.requires.destination in
-    let inside = (inside_of s.memory s.owned s.resources c.self.invariant.0 at.0 c.args.destination (flat_parts (shape_of s at.0) (placed s at.0) c.args.destination at.1).1).room in
+    let inside = (inside_of s.memory s.backed s.resources c.self.invariant.0 at.0 c.args.destination (flat_parts (shape_of s at.0) (placed s at.0) c.args.destination at.1).1).room in
     let fits = piece_fits c.args.source c.args.destination c.args.pieces.now c.find-found.result.copy.region c.find-found.result.number c.piece-piece.result c.requires.piece.1 c.find-found.ensures.region c.find-found.ensures.number
     c.piece-piece.ensures.from c.piece-piece.ensures.to c.piece-piece.ensures.size in
     let fits_to = fits.1 in
@@ -34,7 +34,7 @@ overflow_add-destination c =
 
 pub invariant_of-self : goal.invariant_of-self
 invariant_of-self c =
-    let s : Held = record { memory = c.self.inside.memories; owned = c.self.inside.owned.entries; resources = c.self.inside.resources.entries; shapes = c.self.inside.shapes.entries; cache = c.self.inside.cache } in
+    let s : Held = record { memory = c.self.inside.memories; backed = c.self.inside.backing; resources = c.self.inside.resources.entries; shapes = c.self.inside.shapes.entries; cache = c.self.inside.cache } in
     let from : IsPlaced s c.args.source = subst (λ (h : Held). IsPlaced h c.args.source) (sym c.self.view_is) c.requires.source in
     let to : IsPlaced s c.args.destination = subst (λ (h : Held). IsPlaced h c.args.destination) (sym c.self.view_is) c.requires.destination in
     let fits = piece_fits c.args.source c.args.destination c.args.pieces.now c.find-found.result.copy.region c.find-found.result.number c.piece-piece.result c.requires.piece.1 c.find-found.ensures.region c.find-found.ensures.number
@@ -43,7 +43,7 @@ invariant_of-self c =
 
 pub returns : goal.returns
 returns c = λ b d here there.
-    let s : Held = record { memory = c.self.inside.memories; owned = c.self.inside.owned.entries; resources = c.self.inside.resources.entries; shapes = c.self.inside.shapes.entries; cache = c.self.inside.cache } in
+    let s : Held = record { memory = c.self.inside.memories; backed = c.self.inside.backing; resources = c.self.inside.resources.entries; shapes = c.self.inside.shapes.entries; cache = c.self.inside.cache } in
     let fits = piece_fits c.args.source c.args.destination c.args.pieces.now c.find-found.result.copy.region c.find-found.result.number c.piece-piece.result c.requires.piece.1 c.find-found.ensures.region c.find-found.ensures.number
     c.piece-piece.ensures.from c.piece-piece.ensures.to c.piece-piece.ensures.size in
     let same : copy_piece b d c.args.pieces.now c.args.number ≡ copy_writes b d c.piece-piece.result = c.find-found.ensures.piece b d ∙ sym (c.piece-piece.ensures.writes b d) in

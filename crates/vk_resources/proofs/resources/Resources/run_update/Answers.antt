@@ -7,12 +7,12 @@ use Rattle.vk_resources.proofs.resources.Resources.run_update.Goals as goal
 
 pub invariant_of-self : goal.invariant_of-self
 invariant_of-self c =
-    let s : Held = record { memory = c.self.inside.memories; owned = c.self.inside.owned.entries; resources = c.self.inside.resources.entries; shapes = c.self.inside.shapes.entries; cache = c.self.inside.cache } in
+    let s : Held = record { memory = c.self.inside.memories; backed = c.self.inside.backing; resources = c.self.inside.resources.entries; shapes = c.self.inside.shapes.entries; cache = c.self.inside.cache } in
     let at : IsPlaced s c.args.buffer = subst (λ (h : Held). IsPlaced h c.args.buffer) (sym c.self.view_is) c.requires.placed in
     (update_ran s c.self.invariant at.0 c.args.buffer at.1 c.args.update.now c.args.number c.run_piece.new.region c.requires.inside c.requires.piece (rw c.region_mut.ensures.value at c.run_piece.ensures.kept)).0
 
 pub returns : goal.returns
 returns c = λ b here.
-    let s : Held = record { memory = c.self.inside.memories; owned = c.self.inside.owned.entries; resources = c.self.inside.resources.entries; shapes = c.self.inside.shapes.entries; cache = c.self.inside.cache } in
+    let s : Held = record { memory = c.self.inside.memories; backed = c.self.inside.backing; resources = c.self.inside.resources.entries; shapes = c.self.inside.shapes.entries; cache = c.self.inside.cache } in
     subst (λ (h : Held). HasRun h (with_bytes s c.args.buffer.object c.run_piece.new.region) (update_piece b c.args.update.now c.args.number)) c.self.view_is
     (update_ran s c.self.invariant b c.args.buffer (ap (λ (h : Held). flat h b) c.self.view_is ∙ here) c.args.update.now c.args.number c.run_piece.new.region c.requires.inside c.requires.piece (rw c.region_mut.ensures.value at c.run_piece.ensures.kept)).1

@@ -11,7 +11,7 @@ use Rattle.vk_resources.proofs.resources.Resources.turn_over_atom.Goals as goal
 
 pub invariant_of-self : goal.invariant_of-self
 invariant_of-self c =
-    let s : Held = record { memory = c.self.inside.memories; owned = c.self.inside.owned.entries; resources = c.self.inside.resources.entries; shapes = c.self.inside.shapes.entries; cache = c.self.inside.cache } in
+    let s : Held = record { memory = c.self.inside.memories; backed = c.self.inside.backing; resources = c.self.inside.resources.entries; shapes = c.self.inside.shapes.entries; cache = c.self.inside.cache } in
     let here : cached_at s c.args.id ≡ Some c.in-Some.buffer = ap (λ (h : Held). cached_at h c.args.id) c.self.view_is ∙ sym c.cached.ensures ∙ c.in-Some.is in
     let below : c.args.atom ≤ (c.in-Some.buffer.size - 1) / 64 = subst (λ (x : Option Placed). HasAtom x c.args.atom) (sym c.cached.ensures ∙ c.in-Some.is) c.requires.atom in
     let flat_is = ap (λ (h : Held). shape_of h c.args.id) c.self.view_is ∙ c.requires.buffer in
@@ -19,13 +19,13 @@ invariant_of-self c =
 
 pub invariant_of-self-in_err-turn_over : goal.invariant_of-self-in_err-turn_over
 invariant_of-self-in_err-turn_over c =
-    let s : Held = record { memory = c.self.inside.memories; owned = c.self.inside.owned.entries; resources = c.self.inside.resources.entries; shapes = c.self.inside.shapes.entries; cache = c.self.inside.cache } in
+    let s : Held = record { memory = c.self.inside.memories; backed = c.self.inside.backing; resources = c.self.inside.resources.entries; shapes = c.self.inside.shapes.entries; cache = c.self.inside.cache } in
     let here : cached_at s c.args.id ≡ Some c.in-Some.buffer = ap (λ (h : Held). cached_at h c.args.id) c.self.view_is ∙ sym c.cached.ensures ∙ c.in-Some.is in
     rewritten_stands s c.self.invariant c.args.id c.in-Some.buffer here c.turn_over.new.self c.turn_over.new.region (ap length (c.in_err-turn_over.ensures.kept ∙ c.region_mut-region.ensures.value)) c.in_err-turn_over.ensures.err
 
 pub returns-in_ok-turn_over-clause-turned : goal.returns-in_ok-turn_over-clause-turned
 returns-in_ok-turn_over-clause-turned c =
-    let s : Held = record { memory = c.self.inside.memories; owned = c.self.inside.owned.entries; resources = c.self.inside.resources.entries; shapes = c.self.inside.shapes.entries; cache = c.self.inside.cache } in
+    let s : Held = record { memory = c.self.inside.memories; backed = c.self.inside.backing; resources = c.self.inside.resources.entries; shapes = c.self.inside.shapes.entries; cache = c.self.inside.cache } in
     let here : cached_at s c.args.id ≡ Some c.in-Some.buffer = ap (λ (h : Held). cached_at h c.args.id) c.self.view_is ∙ sym c.cached.ensures ∙ c.in-Some.is in
     let below : c.args.atom ≤ (c.in-Some.buffer.size - 1) / 64 = subst (λ (x : Option Placed). HasAtom x c.args.atom) (sym c.cached.ensures ∙ c.in-Some.is) c.requires.atom in
     let flat_is = ap (λ (h : Held). shape_of h c.args.id) c.self.view_is ∙ c.requires.buffer in
@@ -34,7 +34,7 @@ returns-in_ok-turn_over-clause-turned c =
 
 pub returns-in_ok-turn_over-clause-keeps : goal.returns-in_ok-turn_over-clause-keeps
 returns-in_ok-turn_over-clause-keeps c =
-    let s : Held = record { memory = c.self.inside.memories; owned = c.self.inside.owned.entries; resources = c.self.inside.resources.entries; shapes = c.self.inside.shapes.entries; cache = c.self.inside.cache } in
+    let s : Held = record { memory = c.self.inside.memories; backed = c.self.inside.backing; resources = c.self.inside.resources.entries; shapes = c.self.inside.shapes.entries; cache = c.self.inside.cache } in
     let here : cached_at s c.args.id ≡ Some c.in-Some.buffer = ap (λ (h : Held). cached_at h c.args.id) c.self.view_is ∙ sym c.cached.ensures ∙ c.in-Some.is in
     let long = c.in_ok-turn_over.ensures.ok.size ∙ ap length c.region_mut-region.ensures.value in
     subst (λ (h : Held). KeepsPlaces h (record s { memory = with_region s.memory c.in-Some.buffer.object c.turn_over.new.region; cache = c.turn_over.new.self })) c.self.view_is
@@ -42,7 +42,7 @@ returns-in_ok-turn_over-clause-keeps c =
 
 pub returns-in_err-turn_over-clause-keeps : goal.returns-in_err-turn_over-clause-keeps
 returns-in_err-turn_over-clause-keeps c =
-    let s : Held = record { memory = c.self.inside.memories; owned = c.self.inside.owned.entries; resources = c.self.inside.resources.entries; shapes = c.self.inside.shapes.entries; cache = c.self.inside.cache } in
+    let s : Held = record { memory = c.self.inside.memories; backed = c.self.inside.backing; resources = c.self.inside.resources.entries; shapes = c.self.inside.shapes.entries; cache = c.self.inside.cache } in
     let here : cached_at s c.args.id ≡ Some c.in-Some.buffer = ap (λ (h : Held). cached_at h c.args.id) c.self.view_is ∙ sym c.cached.ensures ∙ c.in-Some.is in
     subst (λ (h : Held). KeepsPlaces h (record s { memory = with_region s.memory c.in-Some.buffer.object c.turn_over.new.region; cache = c.turn_over.new.self })) c.self.view_is
     (rewritten_keeps s c.self.invariant c.args.id c.in-Some.buffer here c.turn_over.new.self c.turn_over.new.region (ap length (c.in_err-turn_over.ensures.kept ∙ c.region_mut-region.ensures.value)))

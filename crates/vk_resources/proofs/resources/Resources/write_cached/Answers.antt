@@ -9,7 +9,7 @@ use Rattle.vk_resources.proofs.resources.Resources.write_cached.Goals as goal
 
 pub invariant_of-self : goal.invariant_of-self
 invariant_of-self c =
-    let s : Held = record { memory = c.self.inside.memories; owned = c.self.inside.owned.entries; resources = c.self.inside.resources.entries; shapes = c.self.inside.shapes.entries; cache = c.self.inside.cache } in
+    let s : Held = record { memory = c.self.inside.memories; backed = c.self.inside.backing; resources = c.self.inside.resources.entries; shapes = c.self.inside.shapes.entries; cache = c.self.inside.cache } in
     let here : cached_at c.args.self.now c.args.id ≡ Some c.in-Some.buffer = sym c.cached.ensures ∙ c.in-Some.is in
     let fits : c.args.offset + length c.args.bytes.now ≤ c.in-Some.buffer.size = subst (λ (x : Option Placed). MayReach x c.args.offset (length c.args.bytes.now)) here c.requires.range in
     let flat_is = ap (λ (h : Held). shape_of h c.args.id) c.self.view_is ∙ c.requires.buffer in
@@ -17,7 +17,7 @@ invariant_of-self c =
 
 pub returns-in_ok-write : goal.returns-in_ok-write
 returns-in_ok-write c =
-    let s : Held = record { memory = c.self.inside.memories; owned = c.self.inside.owned.entries; resources = c.self.inside.resources.entries; shapes = c.self.inside.shapes.entries; cache = c.self.inside.cache } in
+    let s : Held = record { memory = c.self.inside.memories; backed = c.self.inside.backing; resources = c.self.inside.resources.entries; shapes = c.self.inside.shapes.entries; cache = c.self.inside.cache } in
     let here : cached_at c.args.self.now c.args.id ≡ Some c.in-Some.buffer = sym c.cached.ensures ∙ c.in-Some.is in
     let fits : c.args.offset + length c.args.bytes.now ≤ c.in-Some.buffer.size = subst (λ (x : Option Placed). MayReach x c.args.offset (length c.args.bytes.now)) here c.requires.range in
     let flat_is = ap (λ (h : Held). shape_of h c.args.id) c.self.view_is ∙ c.requires.buffer in
@@ -29,5 +29,5 @@ returns-in_default c = absurd (subst (λ (x : Option Placed). MayReach x c.args.
 
 pub invariant_of-self-in_err-write : goal.invariant_of-self-in_err-write
 invariant_of-self-in_err-write c =
-    let s : Held = record { memory = c.self.inside.memories; owned = c.self.inside.owned.entries; resources = c.self.inside.resources.entries; shapes = c.self.inside.shapes.entries; cache = c.self.inside.cache } in
+    let s : Held = record { memory = c.self.inside.memories; backed = c.self.inside.backing; resources = c.self.inside.resources.entries; shapes = c.self.inside.shapes.entries; cache = c.self.inside.cache } in
     same_stands s c.write.new.self c.self.invariant c.in_err-write.ensures.err

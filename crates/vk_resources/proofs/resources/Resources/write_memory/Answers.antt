@@ -13,7 +13,7 @@ use Rattle.vk_resources.proofs.resources.Resources.write_memory.Goals as goal
 
 pub invariant_of-self : goal.invariant_of-self
 invariant_of-self c =
-    let s : Held = record { memory = c.self.inside.memories; owned = c.self.inside.owned.entries; resources = c.self.inside.resources.entries; shapes = c.self.inside.shapes.entries; cache = c.self.inside.cache } in
+    let s : Held = record { memory = c.self.inside.memories; backed = c.self.inside.backing; resources = c.self.inside.resources.entries; shapes = c.self.inside.shapes.entries; cache = c.self.inside.cache } in
     let here : flat c.args.self.now c.args.id ≡ Some c.in-Some.buffer = sym c.buffer.ensures ∙ c.in-Some.is in
     let parts = flat_parts (shape_of s c.args.id) (placed s c.args.id) c.in-Some.buffer (ap (λ (h : Held). flat h c.args.id) c.self.view_is ∙ here) in
     let fits : c.args.offset + length c.args.bytes.now ≤ c.in-Some.buffer.size = subst (λ (x : Option Placed). MayReach x c.args.offset (length c.args.bytes.now)) here c.requires in
@@ -23,7 +23,7 @@ invariant_of-self c =
 
 pub returns-in-Some : goal.returns-in-Some
 returns-in-Some c =
-    let s : Held = record { memory = c.self.inside.memories; owned = c.self.inside.owned.entries; resources = c.self.inside.resources.entries; shapes = c.self.inside.shapes.entries; cache = c.self.inside.cache } in
+    let s : Held = record { memory = c.self.inside.memories; backed = c.self.inside.backing; resources = c.self.inside.resources.entries; shapes = c.self.inside.shapes.entries; cache = c.self.inside.cache } in
     let here : flat c.args.self.now c.args.id ≡ Some c.in-Some.buffer = sym c.buffer.ensures ∙ c.in-Some.is in
     let parts = flat_parts (shape_of s c.args.id) (placed s c.args.id) c.in-Some.buffer (ap (λ (h : Held). flat h c.args.id) c.self.view_is ∙ here) in
     let fits : c.args.offset + length c.args.bytes.now ≤ c.in-Some.buffer.size = subst (λ (x : Option Placed). MayReach x c.args.offset (length c.args.bytes.now)) here c.requires in

@@ -1,0 +1,56 @@
+-- What ids are backed with, as what is held has it.
+use Rattle.std.proofs.Common.{◌≡◌, ℕ, List, length, ap, ◌∙◌, sym, subst, refl, Bool, Option, Some, None, Result, Ok, Err, IfOk, OnOk}
+use Rattle.std.specs.declared.alloc.AllocError.{AllocError}
+use Rattle.vk_memory.specs.MemoryState.{MemoryState}
+use Rattle.vk_model.specs.declared.resource.PoolInfo.{PoolInfo}
+use Rattle.vk_model.specs.declared.resource.Spot.{Spot}
+use Rattle.vk_model.specs.Trace.Objects.{Resource}
+use Rattle.vma_pools.specs.declared.allocations.Asked.{Asked}
+use Rattle.vk_backing.specs.Backed.{Backed, IsBacked, IsWhole}
+use Rattle.vk_backing.specs.Steps.{Asks, MakesPool, OwnAllots, Owns, OwnsOr, PoolAllots, ShareAllots, SharesOr}
+use Rattle.vk_backing.specs.Allotted as backing
+use Rattle.vk_resources.specs.Allocating.{allotted}
+use Rattle.vk_resources.specs.Held.{Held}
+use Rattle.vk_resources.specs.Inner.Steps.{FoundOr, MadeOr, PoolMade}
+
+module _ (old : Held) (backed' : Backed) (memory' : MemoryState) where
+  abbrev pub backed_with : Held
+  backed_with = record old { backed = backed'; memory = memory' }
+
+  module _ (is : IsBacked backed' memory') where
+    made_or : (id t size : ℕ) (o : Option ℕ) → OwnsOr o old.backed backed' old.memory memory' id t size → (IsWhole old.backed → IsWhole backed') → OwnAllots o (allotted old) (allotted backed_with) id t size → MadeOr o old backed_with id t size
+    made_or id t size (Some n) owns whole allots = (
+      owns.0.number,
+      record {
+        memory = owns.0.memory;
+        here = owns.0.here ∙ ap (λ (k : ℕ). Some k) owns.0.number;
+        others = owns.0.others;
+        owns = subst (λ (k : ℕ). Owns old.backed backed' old.memory memory' id t size k) owns.0.number owns.0;
+        backed = is;
+        whole = whole;
+        allots = allots;
+      },
+      refl,
+      refl,
+      owns.1,
+      refl,
+    )
+    made_or id t size None owns whole allots = (rw (owns.0, owns.1) refl, owns.2, allots)
+
+    pub made : (id t size : ℕ) (r : Result (Option ℕ) AllocError) → IfOk r (λ o. OwnsOr o old.backed backed' old.memory memory' id t size) → IfOk r (λ o. IsWhole old.backed → IsWhole backed') → IfOk r (λ o. OwnAllots o (allotted old) (allotted backed_with) id t size) → IfOk r (λ o. MadeOr o old backed_with id t size)
+    made id t size (Ok o) owns whole allots = made_or id t size o owns whole allots
+    made id t size (Err e) owns whole allots = tt
+
+    found_or : (id pool : ℕ) (asked : Asked) (upper : Bool) (o : Option Spot) → SharesOr o old.backed backed' old.memory memory' id pool asked upper → (IsWhole old.backed → IsWhole backed') → ((r : Resource) → Asks r asked → ShareAllots o (allotted old) (allotted backed_with) id pool r upper) → FoundOr o old backed_with id pool asked upper
+    found_or id pool asked upper (Some spot) shares whole allots = (shares, is, whole, refl, refl, refl, allots)
+    found_or id pool asked upper None shares whole allots = (rw (shares.0, shares.1) refl, allots)
+
+    pub found : (id pool : ℕ) (asked : Asked) (upper : Bool) (r : Result (Option Spot) AllocError) → IfOk r (λ o. SharesOr o old.backed backed' old.memory memory' id pool asked upper) → IfOk r (λ o. IsWhole old.backed → IsWhole backed') → IfOk r (λ o. (x : Resource) → Asks x asked → ShareAllots o (allotted old) (allotted backed_with) id pool x upper) → IfOk r (λ o. FoundOr o old backed_with id pool asked upper)
+    found id pool asked upper (Ok o) shares whole allots = found_or id pool asked upper o shares whole allots
+    found id pool asked upper (Err e) shares whole allots = tt
+
+module _ (old : Held) (backed' : Backed) where
+  pub pooled : (id : ℕ) (info : PoolInfo) (r : Result (Unit {0}) AllocError) → IsBacked old.backed old.memory → ((m : MemoryState) → IsBacked old.backed m → IsBacked backed' m) → OnOk r (MakesPool old.backed backed' id info) → OnOk r (IsWhole old.backed → IsWhole backed') → OnOk r ((m : MemoryState) → IsBacked old.backed m → PoolAllots (backing.allotted old.backed m) (backing.allotted backed' m) id info)
+      → OnOk r (PoolMade old (record old { backed = backed' }) id info)
+  pooled id info (Ok o) is stays makes whole allots = record { makes = makes; backed = stays old.memory is; memory = refl; resources = refl; shapes = refl; cache = refl; whole = whole; allots = allots old.memory is }
+  pooled id info (Err e) is stays makes whole allots = tt
