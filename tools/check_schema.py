@@ -1,7 +1,7 @@
 #!/usr/bin/env python3
 """Checks docs/trace.schema.json: that it is a schema, that the traces of examples/ and of docs/ fit it,
-and that what is no trace doesn't. It needs jsonschema (Debian: python3-jsonschema). Traces with pools,
-which no program takes yet, are no traces. Prints 'N passed, M failed'."""
+and that what is no trace doesn't. It needs jsonschema (Debian: python3-jsonschema). Traces with
+defragmentation, which no program takes yet, are no traces. Prints 'N passed, M failed'."""
 
 import json
 import pathlib
@@ -34,7 +34,11 @@ NO_TRACES = [
     '[["buffer",1,16,3,"shared",["dedicated",1]]]',
     '[["buffer",1,16,3,"exclusive",["dedicated",1,0]]]',
     '[["image",1,"R8_SINT",8,8,1,1,"optimal",3,"exclusive",["dedicated",0]]]',
-    '[["pool",1,"linear",1,1024,1]]',
+    '[["pool",1,"Linear",1,1024,1]]',
+    '[["pool",1,"linear",1,1024]]',
+    '[["drop_pool",1,1]]',
+    '[["buffer",1,16,3,"exclusive",["pool_upper",1,0]]]',
+    '[["pool",1,"tlsf",1,1024,1],["defrag",2,1,0,0]]',
 ]
 
 
@@ -56,7 +60,7 @@ def main():
     schema = json.loads((TOP / 'docs' / 'trace.schema.json').read_text())
     jsonschema.Draft202012Validator.check_schema(schema)
     validator = jsonschema.Draft202012Validator(schema)
-    wanted = [(where, text, '["pool",' not in text) for where, text in traces()]
+    wanted = [(where, text, '["defrag",' not in text) for where, text in traces()]
     wanted += [(text, text, False) for text in NO_TRACES]
     failed = 0
     for where, text, fits in wanted:
