@@ -8,9 +8,11 @@ use vk_model::{At, Config, First, Last, Rule, Scheduler, Seeded};
 use vk_trace::{Outcome, RunError, Status, Watched, run, text};
 
 mod image_table;
+mod pool_table;
 mod table;
 
 use image_table::IMAGES;
+use pool_table::POOLS;
 use table::{
     CACHED_ACCESSES, CACHES, Ending, FILL_AND_READ, NO_MEMORY, NO_TRACE, NO_TRACES, REFUSED,
     REPLAYED, TRACES, TWO_FILLS, UPLOADS,
@@ -128,16 +130,11 @@ fn traces(rt: HostRuntime) {
 }
 
 #[test]
-fn uploads(rt: HostRuntime) {
+fn uploads_and_caches(rt: HostRuntime) {
     let alloc = rt.alloc();
     for (input, output, ending) in UPLOADS {
         expect_in_orders(&rt, alloc, input.as_bytes(), output, ending);
     }
-}
-
-#[test]
-fn caches(rt: HostRuntime) {
-    let alloc = rt.alloc();
     for (input, output, ending) in CACHES {
         expect_in_orders(&rt, alloc, input.as_bytes(), output, ending);
     }
@@ -147,6 +144,14 @@ fn caches(rt: HostRuntime) {
 fn images(rt: HostRuntime) {
     let alloc = rt.alloc();
     for (input, output, ending) in IMAGES {
+        expect_in_orders(&rt, alloc, input.as_bytes(), output, ending);
+    }
+}
+
+#[test]
+fn pools(rt: HostRuntime) {
+    let alloc = rt.alloc();
+    for (input, output, ending) in POOLS {
         expect_in_orders(&rt, alloc, input.as_bytes(), output, ending);
     }
 }
