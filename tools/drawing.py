@@ -6,14 +6,15 @@ slips: items that break one rule, drawn with each trace, and go in all the same.
 """
 
 from drawn_courses import Courses
-from growing import EVENTS, HOST_SEMAPHORE, MEMORIES, NEVER_SIGNALED, SEMAPHORES, SMALL_HEAP, UNKNOWN
+from drawn_pools import Pools
+from growing import EVENTS, HOST_SEMAPHORE, MEMORIES, NEVER_SIGNALED, POOLS, SEMAPHORES, SMALL_HEAP, UNKNOWN
 from points import ATOM
 from slow_reading import read
 
 SIZES = (16, 60, 100, 100, 200, 1_000, 4_096, 5_000, 9_000, 12_288, 20_000, 20_000)
 
 
-class Drawing(Courses):
+class Drawing(Courses, Pools):
     """A trace that grows by random entries."""
 
     # ---- objects
@@ -25,8 +26,12 @@ class Drawing(Courses):
         for memory in MEMORIES:
             if self.chance(0.4):
                 self.memory(memory)
+        if self.chance(0.5):
+            for pool in POOLS[: self.random.choice((1, 1, 2, 3))]:
+                self.pool(pool)
         for number in range(self.random.randint(1, 3)):
             self.buffer(1 + number)
+        self.fill_pool()
         for _ in range(self.random.choice((0, 0, 1, 2, 2, 3))):
             self.new_image()
         for semaphore in (*SEMAPHORES, HOST_SEMAPHORE, NEVER_SIGNALED):
@@ -50,11 +55,16 @@ class Drawing(Courses):
             unit = ATOM if memory_type == 2 and not self.slip() else 16
             offset = unit * self.random.randrange(max(1, (room - size) // unit + 1))
             place = ["memory", memory, self.random.choice((0, offset, offset))]
+        pooled = self.pool_place()
+        if pooled is not None and self.chance(0.4):
+            place = pooled
         if self.slip():
             odd = ((0, 3, ["dedicated", 1]), (16, 0, place), (16, 7, place), (16, 3, ["dedicated", 3]))
             offsets = (8, 16, 48, 1 << 20)
             bound = tuple((16, 3, ["memory", self.random.choice(MEMORIES), offset]) for offset in offsets)
-            size, usage, place = self.random.choice((*odd, *bound, (16, 3, ["memory", UNKNOWN, 0])))
+            unknown = ["pool", self.random.choice((UNKNOWN, *POOLS, *MEMORIES))]
+            bound += ((16, 3, ["memory", UNKNOWN, 0]), (16, 3, unknown))
+            size, usage, place = self.random.choice((*odd, *bound))
         if self.offer(["buffer", number, size, usage, sharing, place]) and number in self.reading.made:
             self.sizes[number] = size
 
@@ -112,6 +122,9 @@ class Drawing(Courses):
         steps += [self.clean, self.forget, self.odd_reach, self.end_named, *[self.hand_over] * 4]
         if self.pictures:
             steps += [self.change_image] * 14 + [self.read_image] * 6 + [self.end_image]
+        steps += [self.go_round]
+        if self.reading.live("pool"):
+            steps += [self.fill_pool, self.fill_pool, *[self.renew] * 8, self.end_pool]
         steps += [self.read_back, self.read_back, self.upload, self.upload, self.lose, self.write_over]
         steps += [self.ranged, self.ranged, self.late_release, self.take_over, self.take_over]
         steps += [lambda: self.host_read(False), self.host_write] * 3
@@ -122,13 +135,15 @@ class Drawing(Courses):
             "HAZARD_RAW": [self.read_back] if on_host else [*on_queues, self.late_release],
             "HAZARD_WAW": [self.write_over] if on_host else on_queues,
             "HAZARD_WAR": [self.write_over],
-            "IN_USE": [self.end_named],
+            "IN_USE": [self.end_named, self.end_pool],
             "OWNER_PAIR": [self.hand_over],
             "OWNER_WHOLE": [self.hand_over],
             "MAP_STATE": [self.odd_reach, self.end_buffer],
             "BIND_ALIGN": [self.new_buffer],
             "BIND_RANGE": [self.new_buffer],
             "ALIASED": [self.new_buffer, self.new_image],
+            "POOL_SIZE": [self.new_buffer, self.fill_pool],
+            "POOL_KIND": [self.new_buffer, self.fill_pool],
         }
         if self.pictures:
             of_images = ("LAYOUT", "OLD_LAYOUT", "FORMAT", "SUBRESOURCE", "OVERLAP", "OWNER_WHOLE")

@@ -19,7 +19,7 @@ class Images(Growing):
     # ---- images
 
     def new_image(self):
-        """An image of its own memory, or in a memory object."""
+        """An image of its own memory, in a memory object, or in a pool."""
         number = 2000 + len(self.trace)
         width, height = (self.random.choice(SIDES) for _ in range(2))
         is_linear = self.chance(0.4)
@@ -34,6 +34,9 @@ class Images(Growing):
         if memories and self.chance(0.5):
             memory = self.random.choice(memories)
             place = ["memory", memory[1], self.random.choice((64, ATOM * 4, 1_024)) * self.random.randrange(12)]
+        pooled = self.pool_place(not is_linear)
+        if pooled is not None and self.chance(0.5):
+            place = pooled
         usage = self.random.choice((3,) * 12 + (2, 1))
         tiling = "linear" if is_linear else "optimal"
         entry = ["image", number, name, width, height, levels, layers, tiling, usage, sharing, place]

@@ -2,10 +2,12 @@
 
 from points import ALL_COMMANDS, HOST, TRANSFER
 from slow_reading import Reading
+from slow_room import in_pool
 
 SMALL_HEAP, HEAP = 65_536, 4_194_304
 UNKNOWN, MOST = 999, (1 << 64) - 1
 MEMORIES = (300, 301, 302)
+POOLS = (400, 401, 402)
 SEMAPHORES = range(100, 104)
 HOST_SEMAPHORE, NEVER_SIGNALED = 104, 105
 EVENTS = range(200, 204)
@@ -22,6 +24,7 @@ KEPT = (
     *(("LIVE_ID", ON_HOST), ("LIVE_ID", IN_BATCHES), ("MAP_STATE", ON_HOST), ("BIND_ALIGN", ON_HOST)) * 2,
     *((rule, ON_HOST) for rule in ("BIND_ALIGN", "BIND_RANGE", "ALIASED", "HOST_VISIBLE", "MEMORY_TYPE")),
     *((rule, IN_BATCHES) for rule in ("ALIGN", "OVERLAP", "USAGE", "EVENT_STATE", "EVENT_DEPENDENCY")),
+    *((rule, ON_HOST) for rule in ("POOL_SIZE", "POOL_KIND")),
     *(("SIGNAL_VALUE", None), ("SIGNAL_ORDER", None), ("USAGE", ON_HOST), ("QUEUE_KIND", IN_BATCHES)),
     *((rule, IN_BATCHES) for rule in ("LAYOUT", "OLD_LAYOUT", "FORMAT", "SUBRESOURCE") * 2),
     *((rule, ON_HOST) for rule in ("NEW_ID", "QUEUE", "MEMORY_SIZE", "WAIT_NEVER")),
@@ -70,6 +73,9 @@ class Growing:
         reading = self.tried(entry)
         if reading.fault is not None and self.reading.fault is None and not self.keeps(reading):
             return False
+        # (what comes after the first stop is not answered, so pools are seldom overfilled)
+        if reading.stop is not None and self.reading.stop is None and in_pool(entry) and self.chance(0.85):
+            return False
         self.trace.append(entry)
         self.reading = reading
         return True
@@ -78,6 +84,15 @@ class Growing:
         """Waits for what each queue has signaled, or is to signal as far as it was drawn."""
         values = self.reading.counters if self.chance(0.8) else self.last_values
         return [[s, values.get(s, 0), ALL_COMMANDS] for s in SEMAPHORES]
+
+    def pool_place(self, is_tiled=False):
+        """A place in a pool that allows it, if there is one."""
+        pools = [pool for pool in self.reading.live("pool") if pool[3] == 0 or not is_tiled]
+        if not pools:
+            return None
+        _, number, kind, _, _, limit = self.random.choice(pools)
+        has_upper = (kind, limit) == ("linear", 1) or self.slip()
+        return ["pool_upper" if has_upper and self.chance(0.4) else "pool", number]
 
     def any_buffer(self):
         return self.random.choice(list(self.sizes))

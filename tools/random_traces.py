@@ -19,10 +19,13 @@ from collections import Counter
 
 from drawing import draw
 from slow_reading import read
+from slow_room import in_pool
 
 ORDERS = [("first",), ("last",), *(("seed", "--seed", str(seed)) for seed in range(16))]
 PIECE = 4_096
 SECONDS = 60
+# Entries and commands of which it is counted in how many traces they are.
+NAMES = ("memory", "write", "flush", "invalidate", "update", "copy", "destroy", "free", "unmap", "pool", "drop_pool")
 
 
 def run(program, trace, heaps, order):
@@ -117,7 +120,7 @@ def count_accepted(reading, counts):
     counts["with batches that are never started"] += bool(reading.waiting)
     counts["with events awaited"] += any(n.role and n.role[0] == "await" for n in reading.nodes)
     names = {n.content[0] for n in reading.nodes if n.kind in ("host", "command")}
-    for name in ("memory", "write", "flush", "invalidate", "update", "copy", "destroy", "free", "unmap"):
+    for name in NAMES:
         counts[f"with {name}"] += name in names
     elements = [n for n in reading.nodes if n.kind == "element" and n.buffer is not None]
     counts["with elements on ranges of buffers"] += any(n.half() is None for n in elements)
@@ -137,6 +140,10 @@ def count_accepted(reading, counts):
     counts["with reads through the cache of bytes from a queue and the host"] += any(
         None in q and len(q) > 1 for q in through_cache
     )
+    for name in reading.room.all_seen():
+        counts[name] += 1
+    pooled = [r for r in reading.reads if in_pool(reading.made[r[2]][1])]
+    counts["with reads of buffers in pools"] += bool(pooled)
     counts["stopped, for want of room"] += reading.stop is not None
 
 

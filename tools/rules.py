@@ -9,11 +9,13 @@ from image_rules import regions_past, texels_differ
 from points import ALL_COMMANDS, ATOM, HOST, TRANSFER, family_of, is_on_image, named_by
 from seeing import sees
 from shapes import Shape
+from slow_room import in_pool
 
 STAGES = TRANSFER | HOST | ALL_COMMANDS
 ACCESSES = 2048 | 4096 | 8192 | 16384 | 32768 | 65536
 MOST_BYTES = 67_108_864
 PAGE = 1_024
+MOST_BLOCK, MOST_BLOCKS = 16_777_216, 64
 NAMED_KINDS = {
     "clear": ("image",),
     "copy_in": ("buffer", "image"),
@@ -23,7 +25,8 @@ NAMED_KINDS = {
 
 
 def new_id(reading, point, own):
-    makes = point.kind == "host" and point.content[0] in ("buffer", "image", "memory", "semaphore", "event")
+    makers = ("buffer", "image", "memory", "pool", "semaphore", "event")
+    makes = point.kind == "host" and point.content[0] in makers
     return makes and point.content[1] in reading.made
 
 
@@ -32,7 +35,7 @@ def asked(point):
     content = point.content
     if point.kind in ("wait", "signal"):
         return [(content[0], "semaphore")]
-    kinds = {"set": "event", "await": "event", "free": "memory"}
+    kinds = {"set": "event", "await": "event", "free": "memory", "drop_pool": "pool"}
     kinds |= dict.fromkeys(("map", "unmap", "read", "write", "flush", "invalidate"), "buffer")
     kinds |= {"destroy": "resource"}
     if point.kind == "command" and content[0] == "barrier":
@@ -41,7 +44,8 @@ def asked(point):
     if point.kind == "command" and content[0] not in kinds:
         return list(zip(named_by(content), NAMED_KINDS.get(content[0], ("buffer", "buffer"))))
     if content[0] in ("buffer", "image"):
-        return [(place_of(content)[1], "memory")] if place_of(content)[0] == "memory" else []
+        name, thing = place_of(content)[:2]
+        return [] if name == "dedicated" else [(thing, "memory" if name == "memory" else "pool")]
     if content[0] in kinds:
         return [(content[1], kinds[content[0]])]
     if content[0] == "signal":
@@ -171,12 +175,29 @@ def lacks(reading, resource, bit):
     return not usage_of(reading.made[resource][1]) & bit
 
 
+def bad_pool(reading, entry):
+    """Whether the blocks of a pool or their limit are outside their bounds."""
+    _, _, _, _, size, limit = entry
+    return size % PAGE != 0 or not 0 < size <= MOST_BLOCK or not 0 < limit <= MOST_BLOCKS
+
+
+def over_half(reading, entry):
+    """Whether a resource asks for more than half a block of its pool."""
+    return in_pool(entry) and 2 * rounded(entry) > reading.made[place_of(entry)[1]][1][4]
+
+
+def no_upper_end(reading, entry):
+    """Whether a place is at the upper end of a pool that isn't linear or may have several blocks."""
+    name, pool = place_of(entry)[:2]
+    return name == "pool_upper" and (reading.made[pool][1][2] != "linear" or reading.made[pool][1][5] != 1)
+
+
 def bad_map(reading, entry):
     return place_of(reading.made[entry[1]][1])[0] == "memory" and reading.is_mapped(entry[1])
 
 
 def bad_end(reading, entry):
-    return place_of(reading.made[entry[1]][1])[0] == "dedicated" and reading.is_mapped(entry[1])
+    return place_of(reading.made[entry[1]][1])[0] != "memory" and reading.is_mapped(entry[1])
 
 
 def in_use(reading, point, own):
@@ -185,9 +206,9 @@ def in_use(reading, point, own):
     name, thing = point.content[0], point.content[1] if len(point.content) > 1 else None
     if name == "destroy":
         return reading.is_busy(thing, own[0])
-    if name == "free":
+    if name in ("free", "drop_pool"):
         places = [place_of(entry) for entry in reading.live("resource")]
-        return any(place[0] == "memory" and place[1] == thing for place in places)
+        return any(place[0] != "dedicated" and place[1] == thing for place in places)
     return False
 
 
@@ -351,6 +372,7 @@ RULES = [
         either(
             host_entry("buffer")(lambda r, e: e[2] == 0),
             host_entry("image")(lambda r, e: Shape(e).is_bad()),
+            host_entry("pool")(bad_pool),
             *(command(name)(lambda r, c: not c[-1]) for name in NAMED_KINDS),
             host_entry("read")(lambda r, e: e[3] == 0),
             host_entry("write")(lambda r, e: not e[3]),
@@ -375,6 +397,7 @@ RULES = [
         either(
             resource(bad_type),
             host_entry("memory")(lambda r, e: e[2] > 2),
+            host_entry("pool")(lambda r, e: e[3] > 2),
         ),
     ),
     (
@@ -384,6 +407,7 @@ RULES = [
             host_entry("memory")(lambda r, e: not 0 < e[3] <= MOST_BYTES),
         ),
     ),
+    ("POOL_SIZE", resource(over_half)),
     ("BIND_RANGE", bound(ends_past)),
     ("BIND_ALIGN", bound(is_misplaced)),
     ("ALIASED", bound(is_aliased)),
@@ -438,6 +462,7 @@ RULES = [
         ),
     ),
     ("HOST_VISIBLE", host_entry("map")(lambda r, e: r.type_of(e[1]) == 0)),
+    ("POOL_KIND", resource(no_upper_end)),
     ("HAZARD_WAR", hazard_war),
     ("HAZARD_RAW", hazard_raw),
     ("HAZARD_WAW", hazard_waw),

@@ -3,22 +3,22 @@
 It is written from docs/FORMAT.md alone, for the forms that `replay` takes today, and shares nothing with
 the program: each buffer and each image has one private map of bytes, also where the host reaches it through
 a cache, and commands take effect one at a time, in reference order. The bytes of an image are numbered as
-shapes.py says. Each node keeps the set of all nodes before it.
+shapes.py says. Where an allocation finds no room, slow_room.py says. Each node keeps the set of all nodes
+before it.
 """
 
-from entries import place_of, rounded, sharing_of
+from entries import place_of, sharing_of
 from points import ATOM, Batch, Point, family_of, is_on_image, named_by, reached
 from rules import RULES
 from shapes import Shape, box_of, buffer_rows, destination_box, source_box
-
-MOST_OBJECTS = 4_096
+from slow_room import Room
 
 
 class Reading:
     """A trace as far as it was read: its nodes and their order, and the bytes of each buffer."""
 
     def __init__(self, heaps):
-        self.free = list(heaps)
+        self.room = Room(heaps)
         self.count = 0
         self.made = {}
         self.nodes = []
@@ -52,7 +52,7 @@ class Reading:
 
     def copy(self):
         """The same again, to try what may come next."""
-        other = Reading(self.free)
+        other = Reading(self.room.free)
         for name, value in vars(self).items():
             setattr(other, name, value.copy() if hasattr(value, "copy") else value)
         other.maps = self.maps.copy()
@@ -162,17 +162,18 @@ class Reading:
             self.sets.setdefault(point.content[1], []).append((point.queue, point.content[2]))
 
     def host_effect(self, entry, own):
-        if entry[0] in ("buffer", "image", "memory", "semaphore", "event"):
+        if entry[0] in ("buffer", "image", "memory", "pool", "semaphore", "event"):
             self.made[entry[1]] = (self.count, entry)
         if entry[0] == "semaphore":
             self.counters[entry[1]] = entry[2]
         elif entry[0] in ("map", "unmap"):
             thing = self.mapping(entry[1])
             self.maps[thing] = self.maps.get(thing, 0) + (1 if entry[0] == "map" else -1)
-        elif entry[0] in ("buffer", "image", "memory"):
+        elif entry[0] in ("buffer", "image", "memory", "pool"):
             self.make(entry)
-        elif entry[0] in ("destroy", "free"):
-            self.end(entry[1])
+        elif entry[0] in ("destroy", "free", "drop_pool"):
+            self.ended[entry[1]] = self.count
+            self.room.end(entry[1])
         elif entry[0] == "write":
             _, buffer, offset, text = entry
             given = bytes.fromhex(text)
@@ -199,37 +200,15 @@ class Reading:
             self.dirty[buffer][byte] = 0
 
     def make(self, entry):
-        """A resource gets undefined bytes; a memory object, also a resource's own, room where its heap has
-        some."""
+        """A resource gets undefined bytes; what is made gets memory, where there is room for it."""
         if entry[0] == "image":
             self.shapes[entry[1]] = Shape(entry)
             self.layouts[entry[1]] = {}
         if entry[0] in ("buffer", "image"):
             for table in (self.values, self.defined, self.dirty):
                 table[entry[1]] = bytearray(self.size_of(entry[1]))
-        heap, size = self.allocated(entry)
-        if heap is None:
-            return
-        objects = sum(self.allocated(e)[0] is not None for i, (_, e) in self.made.items() if i not in self.ended)
-        if size > self.free[heap] or objects > MOST_OBJECTS:
-            self.stop = self.count if self.stop is None else self.stop
-        else:
-            self.free[heap] -= size
-
-    def end(self, thing):
-        """An object ends, and its heap has the bytes back."""
-        self.ended[thing] = self.count
-        heap, size = self.allocated(self.made[thing][1])
-        if heap is not None:
-            self.free[heap] += size
-
-    def allocated(self, entry):
-        """The heap and the bytes that an entry allocates; no heap where it allocates nothing."""
-        if entry[0] == "memory":
-            return (0 if entry[2] == 0 else 1), entry[3]
-        if entry[0] in ("buffer", "image") and place_of(entry)[0] == "dedicated":
-            return (0 if place_of(entry)[1] == 0 else 1), rounded(entry)
-        return None, 0
+        if self.stop is None and not self.room.make(entry):
+            self.stop = self.count
 
     def mapping(self, resource):
         """What is mapped with a resource: the memory object of its place, or itself."""
@@ -373,7 +352,9 @@ class Reading:
         return self.type_at(place_of(self.made[resource][1]))
 
     def type_at(self, place):
-        return place[1] if place[0] == "dedicated" else self.made[place[1]][1][2]
+        if place[0] == "dedicated":
+            return place[1]
+        return self.made[place[1]][1][2 if place[0] == "memory" else 3]
 
     def is_cached(self, buffer):
         """Whether the host reaches a buffer through a cache."""
