@@ -1,0 +1,4 @@
+pub mod Edits
+pub mod Starts
+pub mod Repairs
+pub mod Inner

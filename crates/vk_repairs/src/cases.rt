@@ -1,0 +1,158 @@
+use crate::edits::{Edit, InBatch};
+use crate::lists::EditList;
+use crate::uses::{Use, has, meet, uses_of};
+use std::alloc::{AllocError, Global};
+use vk_model::{Batch, Entry, Rule};
+use vk_order::{Action, Point};
+
+/// A refused trace, of which repairs are sought.
+#[derive(Clone, Copy)]
+pub struct Case<'a> {
+    /// The allocator.
+    pub alloc: Global,
+    /// The trace.
+    pub trace: &'a [Entry],
+    /// The points before the first fault, the oldest first.
+    pub earlier: &'a [Point<'a>],
+    /// The point that is refused.
+    pub refused: Point<'a>,
+    /// The rule that it breaks.
+    pub rule: Rule,
+}
+
+/// Lists of edits, in order of trial.
+#[derive(Drop)]
+pub struct Candidates {
+    /// The lists.
+    pub lists: Vec<Vec<Edit>>,
+}
+
+impl Candidates {
+    /// With a list more.
+    pub fn add(&mut self, list: EditList) -> Result<(), AllocError> {
+        self.lists.push(list.into_edits())?;
+        Ok(())
+    }
+}
+
+impl<'a> Case<'a> {
+    /// No edits yet.
+    pub fn edits(&self) -> EditList {
+        EditList::new(self.alloc)
+    }
+
+    /// An id that no entry makes, and so many others after it.
+    pub fn fresh_id(&self, others: u32) -> u32 {
+        let mut greatest: u32 = 0;
+        for entry in self.trace {
+            if let Some(id) = entry.made_id() {
+                greatest = greatest.max(id);
+            }
+        }
+        greatest.saturating_add(1).saturating_add(others)
+    }
+
+    /// The entry that makes an id, with its number.
+    pub fn maker(&self, id: u32) -> Option<(usize, &'a Entry)> {
+        for (number, entry) in self.trace.iter().enumerate() {
+            if entry.made_id() == Some(id) {
+                return Some((number, entry));
+            }
+        }
+        None
+    }
+
+    /// The batch of a point.
+    pub fn batch_of(&self, point: &Point<'_>) -> Option<&'a Batch> {
+        match self.trace.get(point.entry) {
+            Some(Entry::Submit { batches, .. }) => batches.as_slice().get(point.batch),
+            _ => None,
+        }
+    }
+
+    /// The end of the commands of a point's batch.
+    pub fn commands_end(&self, point: &Point<'_>) -> InBatch {
+        let place = match self.batch_of(point) {
+            Some(batch) => batch.commands.len(),
+            None => 0,
+        };
+        InBatch {
+            entry: point.entry,
+            batch: point.batch,
+            place,
+        }
+    }
+
+    /// The end of the waits of a point's batch.
+    pub fn waits_end(&self, point: &Point<'_>) -> InBatch {
+        let place = match self.batch_of(point) {
+            Some(batch) => batch.waits.len(),
+            None => 0,
+        };
+        InBatch {
+            entry: point.entry,
+            batch: point.batch,
+            place,
+        }
+    }
+
+    /// The end of the signals of a point's batch.
+    pub fn signals_end(&self, point: &Point<'_>) -> InBatch {
+        let place = match self.batch_of(point) {
+            Some(batch) => batch.signals.len(),
+            None => 0,
+        };
+        InBatch {
+            entry: point.entry,
+            batch: point.batch,
+            place,
+        }
+    }
+
+    /// The latest command on a queue that names one of these resources, where one of the two writes
+    /// to it, and its place among the earlier points.
+    pub fn latest_on(
+        &self,
+        queue: u32,
+        uses: &[Use],
+    ) -> Result<Option<(usize, Point<'a>)>, AllocError> {
+        let mut latest = None;
+        for (index, point) in self.earlier.iter().enumerate() {
+            let is_there = matches!(point.action, Action::Run(_)) && point.queue == queue;
+            if is_there {
+                let others = uses_of(self.alloc, point.action)?;
+                if meet(others.as_slice(), uses) {
+                    latest = Some((index, *point));
+                }
+            }
+        }
+        Ok(latest)
+    }
+
+    /// The latest write of the host to one of these resources.
+    pub fn latest_host_write(&self, uses: &[Use]) -> Option<Point<'a>> {
+        let mut latest = None;
+        for point in self.earlier {
+            if let Action::Host(Entry::Write { buffer, .. }) = point.action {
+                if has(uses, *buffer) {
+                    latest = Some(*point);
+                }
+            }
+        }
+        latest
+    }
+}
+
+/// The place of a point in its batch.
+pub fn place_of(point: &Point<'_>) -> InBatch {
+    InBatch {
+        entry: point.entry,
+        batch: point.batch,
+        place: point.place,
+    }
+}
+
+/// The family of a queue.
+pub fn family_of(queue: u32) -> u32 {
+    if queue < 2 { 0 } else { 1 }
+}

@@ -1,0 +1,213 @@
+use crate::cases::{Candidates, Case};
+use crate::uses::uses_of;
+use std::alloc::AllocError;
+use vk_model::{BufferInfo, Entry, ImageInfo, Length, Usage};
+use vk_order::Action;
+
+/// A fresh id for what the entry makes.
+pub fn new_id(case: &Case<'_>, found: &mut Candidates) -> Result<(), AllocError> {
+    let id = case.fresh_id(0);
+    let Action::Host(entry) = case.refused.action else {
+        return Ok(());
+    };
+    let fresh = match entry {
+        Entry::Pool { info, .. } => Entry::Pool { id, info: *info },
+        Entry::Buffer { info, .. } => Entry::Buffer { id, info: *info },
+        Entry::Image { info, .. } => Entry::Image { id, info: *info },
+        Entry::Memory { info, .. } => Entry::Memory { id, info: *info },
+        Entry::Semaphore { initial, .. } => Entry::Semaphore {
+            id,
+            initial: *initial,
+        },
+        _ => Entry::Event { id },
+    };
+    replaced(case, case.refused.entry, fresh, found)
+}
+
+/// An entry in place of another.
+pub fn replaced(
+    case: &Case<'_>,
+    number: usize,
+    entry: Entry,
+    found: &mut Candidates,
+) -> Result<(), AllocError> {
+    let mut edits = case.edits();
+    edits.replace(number, entry)?;
+    found.add(edits)
+}
+
+/// An entry before another.
+fn inserted(
+    case: &Case<'_>,
+    number: usize,
+    entry: Entry,
+    found: &mut Candidates,
+) -> Result<(), AllocError> {
+    let mut edits = case.edits();
+    edits.insert(number, entry)?;
+    found.add(edits)
+}
+
+/// The submit on another queue.
+pub fn queue(case: &Case<'_>, most: u32, found: &mut Candidates) -> Result<(), AllocError> {
+    let Some(entry) = case.trace.get(case.refused.entry) else {
+        return Ok(());
+    };
+    for other in 0..most {
+        if let Entry::Submit { batches, .. } = entry.copy()? {
+            let submit = Entry::Submit {
+                queue: other,
+                batches,
+            };
+            replaced(case, case.refused.entry, submit, found)?;
+        }
+    }
+    Ok(())
+}
+
+/// More usage where the resources are made that the point uses.
+pub fn usage(case: &Case<'_>, found: &mut Candidates) -> Result<(), AllocError> {
+    if let Action::Host(Entry::Buffer { .. } | Entry::Image { .. }) = case.refused.action {
+        if let Some(entry) = case.trace.get(case.refused.entry) {
+            replaced(
+                case,
+                case.refused.entry,
+                with_usage(entry, Usage(3))?,
+                found,
+            )?;
+        }
+        return Ok(());
+    }
+    for bits in [Usage::TRANSFER_SRC, Usage::TRANSFER_DST, Usage(3)] {
+        let uses = uses_of(case.alloc, case.refused.action)?;
+        for one in uses.as_slice() {
+            if let Some((number, maker)) = case.maker(one.resource) {
+                replaced(case, number, with_usage(maker, bits)?, found)?;
+            }
+        }
+        all_usages(case, bits, found)?;
+    }
+    Ok(())
+}
+
+/// The same of all resources of the point at once.
+fn all_usages(case: &Case<'_>, bits: Usage, found: &mut Candidates) -> Result<(), AllocError> {
+    let uses = uses_of(case.alloc, case.refused.action)?;
+    let mut edits = case.edits();
+    for one in uses.as_slice() {
+        if let Some((number, maker)) = case.maker(one.resource) {
+            edits.replace(number, with_usage(maker, bits)?)?;
+        }
+    }
+    found.add(edits)
+}
+
+/// A resource with these bits of usage too.
+fn with_usage(entry: &Entry, bits: Usage) -> Result<Entry, AllocError> {
+    match entry {
+        Entry::Buffer { id, info } => Ok(Entry::Buffer {
+            id: *id,
+            info: BufferInfo {
+                usage: Usage((info.usage.0 & 3) | bits.0),
+                ..*info
+            },
+        }),
+        Entry::Image { id, info } => Ok(Entry::Image {
+            id: *id,
+            info: ImageInfo {
+                usage: Usage((info.usage.0 & 3) | bits.0),
+                ..*info
+            },
+        }),
+        other => other.copy(),
+    }
+}
+
+/// The buffer is mapped before the entry, or unmapped.
+pub fn map_state(case: &Case<'_>, found: &mut Candidates) -> Result<(), AllocError> {
+    let number = case.refused.entry;
+    match case.refused.action {
+        Action::Host(Entry::Map { buffer } | Entry::Destroy { resource: buffer }) => {
+            let buffer = *buffer;
+            inserted(case, number, Entry::Unmap { buffer }, found)?;
+            let mut edits = case.edits();
+            edits.insert(number, Entry::Unmap { buffer })?;
+            edits.insert(number, Entry::Unmap { buffer })?;
+            found.add(edits)
+        }
+        Action::Host(
+            Entry::Unmap { buffer }
+            | Entry::Write { buffer, .. }
+            | Entry::Read { buffer, .. }
+            | Entry::Flush { buffer, .. }
+            | Entry::Invalidate { buffer, .. },
+        ) => inserted(case, number, Entry::Map { buffer: *buffer }, found),
+        _ => Ok(()),
+    }
+}
+
+/// Ranges of the host to the end of their buffer.
+pub fn range(case: &Case<'_>, found: &mut Candidates) -> Result<(), AllocError> {
+    let number = case.refused.entry;
+    match case.refused.action {
+        Action::Host(Entry::Flush { buffer, offset, .. }) => {
+            let (buffer, offset, size) = (*buffer, *offset, Length::Whole);
+            let flush = Entry::Flush {
+                buffer,
+                offset,
+                size,
+            };
+            replaced(case, number, flush, found)
+        }
+        Action::Host(Entry::Invalidate { buffer, offset, .. }) => {
+            let (buffer, offset, size) = (*buffer, *offset, Length::Whole);
+            let invalidate = Entry::Invalidate {
+                buffer,
+                offset,
+                size,
+            };
+            replaced(case, number, invalidate, found)
+        }
+        Action::Host(Entry::Read { buffer, offset, .. }) => {
+            shorter_read(case, *buffer, *offset, found)
+        }
+        _ => larger_buffers(case, found),
+    }
+}
+
+fn shorter_read(
+    case: &Case<'_>,
+    buffer: u32,
+    offset: u64,
+    found: &mut Candidates,
+) -> Result<(), AllocError> {
+    if let Some((_, Entry::Buffer { info, .. })) = case.maker(buffer) {
+        let size = info.size.saturating_sub(offset);
+        let read = Entry::Read {
+            buffer,
+            offset,
+            size,
+        };
+        replaced(case, case.refused.entry, read, found)?;
+    }
+    larger_buffers(case, found)
+}
+
+/// Larger buffers where those are made that the point uses.
+fn larger_buffers(case: &Case<'_>, found: &mut Candidates) -> Result<(), AllocError> {
+    let uses = uses_of(case.alloc, case.refused.action)?;
+    for one in uses.as_slice() {
+        if let Some((number, Entry::Buffer { id, info })) = case.maker(one.resource) {
+            let mut size = info.size;
+            for _ in 0..8 {
+                size = size.saturating_mul(2);
+                let larger = Entry::Buffer {
+                    id: *id,
+                    info: BufferInfo { size, ..*info },
+                };
+                replaced(case, number, larger, found)?;
+            }
+        }
+    }
+    Ok(())
+}
