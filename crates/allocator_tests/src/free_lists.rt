@@ -49,10 +49,7 @@ fn first_half_free(alloc: Global) -> Result<Tlsf, SubFault> {
 fn the_lowest_place_is_found(rt: HostRuntime) -> Result<(), Fail> {
     let mut block = first_half_free(rt.alloc()).ok().ok_or("no place")?;
     assert_eq!(rt; block.largest_free(), 2048);
-    assert_eq!(rt;
-        block.allocate_below(1024, 16, Kind::Linear, 4096),
-        Ok(0)
-    );
+    assert_eq!(rt; block.allocate_below(1024, 16, Kind::Linear, 4096), Ok(0));
     let taken = block.taken()?;
     assert_eq!(rt; taken.len(), 3);
     for (range, start) in taken.iter().zip([0, 2048, 3072]) {

@@ -41,10 +41,10 @@ module _ (none one two three four : Block) (first second third fourth : ℕ) (p 
 pub free-requires : goal.free-requires
 free-requires c =
     first_there c.in-Ok.block c.allocate.new.self c.allocate-2.new.self c.allocate-3.new.self c.allocate-4.new.self _ _ _ _
-      c.in_ok-first.ensures.ok c.in_ok-second.ensures.ok c.in_ok-_third.ensures.ok c.in_ok-_fourth.ensures.ok
+    c.in_ok-first.ensures.ok c.in_ok-second.ensures.ok c.in_ok-_third.ensures.ok c.in_ok-_fourth.ensures.ok
 
 pub free-requires-2 : goal.free-requires-2
 free-requires-2 c =
     let there = second_there c.in-Ok.block c.allocate.new.self c.allocate-2.new.self c.allocate-3.new.self c.allocate-4.new.self _ _ _ _
-      c.in_ok-first.ensures.ok c.in_ok-second.ensures.ok c.in_ok-_third.ensures.ok c.in_ok-_fourth.ensures.ok in
+    c.in_ok-first.ensures.ok c.in_ok-second.ensures.ok c.in_ok-_third.ensures.ok c.in_ok-_fourth.ensures.ok in
     left_there c.allocate-4.new.self c.free.new.self c.in_ok-first.first c.in_ok-second.second c.free.ensures.freed c.if-first-second.false there
