@@ -7,3 +7,7 @@ pub mod SeenAlike
 pub mod HazardLemmas
 pub mod MakerLemmas
 pub mod PastLemmas
+pub mod UntilLemmas
+pub mod DoingLemmas
+pub mod LifeLemmas
+pub mod FaultLemmas

@@ -1,5 +1,10 @@
 pub mod Makers
+pub mod Doings
+pub mod Until
+pub mod Lives
+pub mod Counters
 pub mod Areas
 pub mod Hazards
 pub mod Latest
+pub mod Facts
 pub mod Inner

@@ -3,13 +3,24 @@
 
 mod alike;
 mod areas;
+mod asked;
 mod commands;
+mod counters;
+mod doings;
+mod facts;
 mod hazards;
+mod lives;
 mod makers;
 mod pairs;
 mod past;
 mod regions;
 mod touched;
+mod until;
 
+pub use asked::ObjectKind;
+pub use counters::CounterFact;
+pub use facts::{Fact, fact_of_fault};
 pub use hazards::{Hazard, HazardFact, Placed};
+pub use lives::{DeadId, Life};
 pub use past::Past;
+pub use until::at_of;

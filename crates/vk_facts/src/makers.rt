@@ -6,6 +6,7 @@ ghost use Rattle.vk_model.specs.Trace.Objects.{made, buffer, image, memory, pool
 ghost use Rattle.vk_order.specs.PointViews.{point_of};
 ghost use Rattle.vk_facts.specs.Makers.{AreMakers, maker};
 
+use crate::doings::entry_of;
 use std::alloc::{AllocError, Global};
 use std::collections::BTreeMap;
 use vk_model::{BufferInfo, Entry, ImageInfo, Place};
@@ -136,15 +137,5 @@ impl<'a> Makers<'a> {
     {
         self.by_id.insert(id, point)?;
         Ok(())
-    }
-}
-
-/// The entry of the host that a point is.
-fn entry_of<'a>(point: &Point<'a>) -> Option<&'a Entry>
-    ensures { option_map (λ x. x.now) result ≡ Rattle.vk_model.specs.Trace.Point.host_of (Rattle.vk_order.specs.PointViews.action_of point.now.action) }
-{
-    match point.action {
-        Action::Host(entry) => Some(entry),
-        _ => None,
     }
 }

@@ -17,7 +17,7 @@ use vk_order::{Point, Points, Row, rows_of};
 #[derive(Drop)]
 pub struct Past<'a> {
     pub(crate) alloc: Global,
-    points: Vec<Point<'a>>,
+    pub(crate) points: Vec<Point<'a>>,
     pub(crate) rows: Vec<Row<'a>>,
     pub(crate) order: Points<'a>,
     pub(crate) makers: Makers<'a>,
