@@ -10,6 +10,9 @@ use Rattle.vk_words.specs.Sentences.{rule_sentence}
 use Rattle.vk_trace.specs.declared.printing.Outcome.TheVariants.{Refused as RefusedBy}
 use Rattle.vk_trace.specs.Trace.{IsTrace}
 use Rattle.vk_trace.specs.Text.{lines_of}
+use Rattle.vk_facts.specs.declared.facts.Fact.{Fact}
+use Rattle.vk_facts.specs.Facts.{IsToldOf}
+use Rattle.vk_explain.specs.FactText.{fact_line, fact_member}
 use Rattle.vk_explain.specs.declared.forms.Form.{Form}
 use Rattle.vk_explain.specs.declared.forms.Form.TheVariants.{Text, Json}
 use Rattle.vk_explain.specs.declared.explaining.Judgment.{Judgment}
@@ -24,11 +27,13 @@ judgment_of (Some fault) = Refused
 abbrev pub rule_line : Rule → List ℕ
 rule_line rule = codes "  " ++ rule_name rule ++ codes ": " ++ rule_sentence rule ++ codes "\n"
 
--- The text begins with the line of the refusal, as a replay writes it; then come what begins with the name of that point, and what that rule says (profile).
-pub record IsRefusalText (at : At) (rule : Rule) (text : List ℕ) : Type 0 where
+-- The text begins with the line of the refusal, as a replay writes it; then come what begins with the name of that point, what that rule says, and the fact that is so of the point that breaks it (profile).
+pub record IsRefusalText (entries : List Entry) (at : At) (rule : Rule) (text : List ℕ) : Type 0 where
   pub point : List ℕ
+  pub fact : Option Fact
   pub named : BeginsWith (kind_text at ++ at_text at) point
-  pub told : BeginsWith (lines_of (RefusedBy at rule) ++ point ++ rule_line rule) text
+  pub so : IsToldOf entries at rule fact
+  pub told : BeginsWith (lines_of (RefusedBy at rule) ++ point ++ rule_line rule ++ fact_line fact) text
 
 -- The text begins with a line that says that the trace is accepted (profile).
 abbrev pub IsAcceptanceText : List ℕ → Type 0
@@ -38,24 +43,26 @@ IsAcceptanceText text = BeginsWith (codes "accepted\n") text
 abbrev pub json_verdict : At → Rule → List ℕ
 json_verdict at rule = codes "{\"verdict\":\"refused\",\"at\":\"" ++ at_text at ++ codes "\",\"rule\":\"" ++ rule_name rule ++ codes "\""
 
--- The text begins with the verdict, the point and the rule (profile).
-abbrev pub IsRefusalJson : At → Rule → List ℕ → Type 0
-IsRefusalJson at rule text = BeginsWith (json_verdict at rule) text
+-- The text begins with the verdict, the point and the rule, and the fact that is so of the point that breaks it (profile).
+pub record IsRefusalJson (entries : List Entry) (at : At) (rule : Rule) (text : List ℕ) : Type 0 where
+  pub fact : Option Fact
+  pub so : IsToldOf entries at rule fact
+  pub told : BeginsWith (json_verdict at rule ++ fact_member fact) text
 
 -- The text begins with the verdict (profile).
 abbrev pub IsAcceptanceJson : List ℕ → Type 0
 IsAcceptanceJson text = BeginsWith (codes "{\"verdict\":\"accepted\"") text
 
--- What the text on a trace with this first fault says (profile).
-abbrev pub IsExplanation : Form → Option (At × Rule) → List ℕ → Type 0
-IsExplanation Text None text = IsAcceptanceText text
-IsExplanation Text (Some fault) text = IsRefusalText fault.0 fault.1 text
-IsExplanation Json None text = IsAcceptanceJson text
-IsExplanation Json (Some fault) text = IsRefusalJson fault.0 fault.1 text
+-- What the text on a trace with these entries and this first fault says (profile).
+abbrev pub IsExplanation : Form → List Entry → Option (At × Rule) → List ℕ → Type 0
+IsExplanation Text entries None text = IsAcceptanceText text
+IsExplanation Text entries (Some fault) text = IsRefusalText entries fault.0 fault.1 text
+IsExplanation Json entries None text = IsAcceptanceJson text
+IsExplanation Json entries (Some fault) text = IsRefusalJson entries fault.0 fault.1 text
 
 -- The input is a trace, and what is said of it is its verdict: accepted exactly where the definitions find no fault, else refused by its first fault.
 pub record Explains (form : Form) (input text : List ℕ) (judgment : Judgment) : Type 0 where
   pub entries : List Entry
   pub trace : IsTrace input entries
   pub judged : judgment ≡ judgment_of (first_fault entries)
-  pub said : IsExplanation form (first_fault entries) text
+  pub said : IsExplanation form entries (first_fault entries) text

@@ -132,7 +132,8 @@ fn text_of(
     fault: Option<(At, Rule)>,
     form: Form,
 ) -> Result<String, AllocError>
-    ensures { IfOk result (λ text. IsExplanation form fault (string_bytes text)) }
+    requires { fault ≡ first_fault trace.now }
+    ensures { IfOk result (λ text. IsExplanation form trace.now fault (string_bytes text)) }
 {
     match (fault, form) {
         (None, Form::Text) => acceptance_text(alloc, trace),

@@ -1,16 +1,19 @@
-ghost use Rattle.std.specs.Prelude.{◌≡◌, ◌++◌, codes, IfOk, string_bytes};
+ghost use Rattle.std.specs.Prelude.{◌≡◌, ◌++◌, codes, IfOk, Some, string_bytes};
+ghost use Rattle.vk_model.specs.Rules.Table.{first_fault};
 ghost use Rattle.vk_explain.specs.Explained.{json_verdict, IsRefusalJson, IsAcceptanceJson};
 
+use crate::facts::fact_member;
 use crate::notes::{note_words, notes_of};
 use crate::places::place_of;
 use crate::summary::{Summary, summary_of};
 use serde_json::Value;
 use std::alloc::{AllocError, Global};
+use vk_facts::fact_of_fault;
 use vk_model::{At, Entry, Rule};
 use vk_words::{point_words, push_at, sentence};
 
-/// The object on a refused trace: verdict, point, rule, the point's place in the input and in words, and
-/// what the rule says.
+/// The object on a refused trace: verdict, point, rule, the fact that is told of it, the point's place in
+/// the input and in words, and what the rule says.
 pub fn refusal_json(
     alloc: Global,
     input: &[u8],
@@ -18,9 +21,13 @@ pub fn refusal_json(
     at: At,
     rule: Rule,
 ) -> Result<String, AllocError>
-    ensures { IfOk result (λ text. IsRefusalJson at rule (string_bytes text)) }
+    requires { first_fault trace.now ≡ Some (at, rule) }
+    ensures { IfOk result (λ text. IsRefusalJson trace.now at rule (string_bytes text)) }
 {
     let mut text = verdict_members(alloc, at, rule)?;
+    let fact = fact_of_fault(alloc, trace, at, rule)?;
+    let told = fact_member(alloc, &fact)?;
+    text.push_str(told.as_str())?;
     let members = point_members(alloc, input, trace, at, rule)?;
     text.push_str(members.as_str())?;
     Ok(text)

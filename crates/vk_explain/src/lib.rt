@@ -2,6 +2,7 @@
 #![tactic(auto)]
 
 mod explaining;
+mod facts;
 mod forms;
 mod json;
 mod notes;

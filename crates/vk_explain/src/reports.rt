@@ -1,16 +1,20 @@
-ghost use Rattle.std.specs.Prelude.{◌≡◌, ◌++◌, codes, IfOk, string_bytes};
+ghost use Rattle.std.specs.Prelude.{◌≡◌, ◌++◌, codes, IfOk, Some, string_bytes};
+ghost use Rattle.vk_model.specs.Rules.Table.{first_fault};
 ghost use Rattle.vk_words.specs.Points.{kind_text, at_text, BeginsWith};
 ghost use Rattle.vk_explain.specs.Explained.{rule_line, IsRefusalText, IsAcceptanceText};
 
+use crate::facts::{fact_line, point_lines};
 use crate::notes::{MOST_NOTES, note_words, notes_of};
 use crate::places::place_of;
 use crate::summary::{Summary, summary_of};
 use std::alloc::{AllocError, Global};
+use vk_facts::fact_of_fault;
 use vk_model::{At, Entry, Rule};
 use vk_trace::Outcome;
 use vk_words::{point_words, sentence};
 
-/// The lines on a refused trace: the verdict, the point in words, and what the rule says.
+/// The lines on a refused trace: the verdict, the point in words, what the rule says, and the fact that
+/// is told of it.
 pub fn refusal_text(
     alloc: Global,
     input: &[u8],
@@ -18,13 +22,19 @@ pub fn refusal_text(
     at: At,
     rule: Rule,
 ) -> Result<String, AllocError>
-    ensures { IfOk result (λ text. IsRefusalText at rule (string_bytes text)) }
+    requires { first_fault trace.now ≡ Some (at, rule) }
+    ensures { IfOk result (λ text. IsRefusalText trace.now at rule (string_bytes text)) }
 {
     let mut text = vk_trace::text(alloc, &Outcome::Refused(at, rule))?;
     let point = point_line(alloc, input, trace, at)?;
     text.push_str(point.as_str())?;
     let line = line_of_rule(alloc, rule)?;
     text.push_str(line.as_str())?;
+    let fact = fact_of_fault(alloc, trace, at, rule)?;
+    let told = fact_line(alloc, &fact)?;
+    text.push_str(told.as_str())?;
+    let points = point_lines(alloc, trace, &fact)?;
+    text.push_str(points.as_str())?;
     let notes = note_lines(alloc, trace)?;
     text.push_str(notes.as_str())?;
     Ok(text)
