@@ -1,5 +1,5 @@
 -- Lists after a change at a place.
-use Rattle.std.proofs.Common.{◌≡◌, ℕ, zero, suc, ◌<◌, ◌≤◌, List, [], ◌∷◌, ◌++◌, length, take, drop, set, refl, ap, sym, ◌∙◌, arith, append-nil}
+use Rattle.std.proofs.Common.{◌≡◌, ℕ, zero, suc, ◌<◌, ◌≤◌, List, [], ◌∷◌, ◌++◌, length, set, refl, ap, sym, arith, append-nil}
 use Rattle.std.specs.Prelude.{insert, remove, slice_index_or}
 use Rattle.std.proofs.lemmas.List.{take_all, drop_all}
 use Rattle.vk_repairs.specs.Edits.{at_index}

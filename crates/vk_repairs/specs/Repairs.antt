@@ -1,12 +1,9 @@
 -- What a repair of a refused trace is.
-use Rattle.std.specs.Prelude.{◌≡◌, ℕ, ◌+◌, ◌<◌, List, [], ◌∷◌, length, sum_by, Contains, Option, Some, None, is_none, if◌then◌else◌}
-use Rattle.vk_model.specs.declared.entry.Batch.{Batch}
+use Rattle.std.specs.Prelude.{◌≡◌, ◌+◌, ◌<◌, List, length, Some}
 use Rattle.vk_model.specs.declared.entry.Entry.{Entry}
-use Rattle.vk_model.specs.declared.entry.Entry.TheVariants as entry
 use Rattle.vk_model.specs.declared.rule.At.{At}
-use Rattle.vk_model.specs.Trace.Point.{Past, Point, at_of}
 use Rattle.vk_model.specs.Trace.Order.{order}
-use Rattle.vk_model.specs.Rules.Table.{fault, first_fault}
+use Rattle.vk_model.specs.Rules.Table.{first_fault}
 use Rattle.vk_repairs.specs.declared.found.Repair.{Repair}
 use Rattle.vk_repairs.specs.Edits.{edited, moved}
 use Rattle.vk_repairs.specs.Starts.{sound_start, all_points, IsAmong}

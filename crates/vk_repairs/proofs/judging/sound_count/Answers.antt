@@ -1,6 +1,5 @@
-use Rattle.std.proofs.Common.{◌≡◌, ◌∙◌, ap, sym, arith, length, Some}
+use Rattle.std.proofs.Common.{◌∙◌, ap, sym, arith, length}
 use Rattle.std.proofs.lemmas.List.{take_all}
-use Rattle.vk_model.specs.Rules.Table.{fault}
 use Rattle.vk_queues.specs.PointViews.{past_of}
 use Rattle.vk_repairs.proofs.Starts.{whole, start_found}
 use Rattle.vk_repairs.proofs.judging.sound_count.Goals as goal
