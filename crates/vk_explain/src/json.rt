@@ -113,6 +113,7 @@ fn summary_members(
     push_member(&mut members, "buffers", summary.buffers)?;
     push_member(&mut members, "images", summary.images)?;
     push_member(&mut members, "memory_objects", summary.memory_objects)?;
+    push_member(&mut members, "pools", summary.pools)?;
     push_member(&mut members, "semaphores", summary.semaphores)?;
     push_member(&mut members, "events", summary.events)?;
     members.push_str(",\"queues\":[")?;

@@ -127,6 +127,7 @@ fn push_made(lines: &mut String, summary: &Summary) -> Result<(), AllocError> {
     let begun = push_objects(lines, begun, summary.images, "image", "images")?;
     let objects = summary.memory_objects;
     let begun = push_objects(lines, begun, objects, "memory object", "memory objects")?;
+    let begun = push_objects(lines, begun, summary.pools, "pool", "pools")?;
     let begun = push_objects(lines, begun, summary.semaphores, "semaphore", "semaphores")?;
     push_objects(lines, begun, summary.events, "event", "events")?;
     Ok(())

@@ -24,6 +24,8 @@ pub struct Summary {
     pub images: usize,
     /// How many memory objects are made.
     pub memory_objects: usize,
+    /// How many pools are made.
+    pub pools: usize,
     /// How many semaphores are made.
     pub semaphores: usize,
     /// How many events are made.
@@ -51,6 +53,7 @@ pub fn summary_of(alloc: Global, trace: &[Entry]) -> Result<Summary, AllocError>
         buffers: 0,
         images: 0,
         memory_objects: 0,
+        pools: 0,
         semaphores: 0,
         events: 0,
         queues: [nothing, nothing, nothing, nothing],
@@ -69,6 +72,7 @@ impl Summary {
             Entry::Buffer { .. } => self.buffers = self.buffers.saturating_add(1),
             Entry::Image { .. } => self.images = self.images.saturating_add(1),
             Entry::Memory { .. } => self.memory_objects = self.memory_objects.saturating_add(1),
+            Entry::Pool { .. } => self.pools = self.pools.saturating_add(1),
             Entry::Semaphore { .. } => self.semaphores = self.semaphores.saturating_add(1),
             Entry::Event { .. } => self.events = self.events.saturating_add(1),
             Entry::Read { size, .. } => self.read_bytes = self.read_bytes.saturating_add(*size),
