@@ -5,6 +5,7 @@ ghost use Rattle.vk_explain.specs.Explained.{json_verdict, IsRefusalJson, IsAcce
 use crate::facts::fact_member;
 use crate::notes::{note_words, notes_of};
 use crate::places::place_of;
+use crate::repairs::{RepairWords, repair_words};
 use crate::summary::{Summary, summary_of};
 use serde_json::Value;
 use std::alloc::{AllocError, Global};
@@ -52,7 +53,9 @@ fn point_members(
     trace: &[Entry],
     at: At,
     rule: Rule,
-) -> Result<String, AllocError> {
+) -> Result<String, AllocError>
+    requires { first_fault trace.now ≡ Some (at, rule) }
+{
     let mut members = String::new(alloc);
     if let Some(place) = place_of(input, at) {
         let line = place.line;
@@ -65,9 +68,37 @@ fn point_members(
     members.push_str(",\"sentence\":")?;
     let said = String::from_str(alloc, sentence(rule))?;
     push_quoted(alloc, &mut members, said)?;
+    push_repair(alloc, &mut members, trace, at, rule)?;
     push_notes(alloc, &mut members, trace)?;
     members.push_str("}\n")?;
     Ok(members)
+}
+
+/// The member with a repair of the trace, `null` where none is found.
+fn push_repair(
+    alloc: Global,
+    members: &mut String,
+    trace: &[Entry],
+    at: At,
+    rule: Rule,
+) -> Result<(), AllocError>
+    requires { first_fault trace.now ≡ Some (at, rule) }
+{
+    let found = repair_words(alloc, trace, at, rule)?;
+    let Some(words) = found else {
+        return members.push_str(",\"repair\":null");
+    };
+    members.push_str(",\"repair\":{\"then\":")?;
+    let RepairWords { then, edits } = words;
+    push_quoted(alloc, members, then)?;
+    members.push_str(",\"edits\":[")?;
+    for (number, edit) in edits.into_iter().enumerate() {
+        if number > 0 {
+            members.push_str(",")?;
+        }
+        push_quoted(alloc, members, edit)?;
+    }
+    members.push_str("]}")
 }
 
 /// The member with the notes on the trace.

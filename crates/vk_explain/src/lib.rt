@@ -7,6 +7,7 @@ mod forms;
 mod json;
 mod notes;
 mod places;
+mod repairs;
 mod reports;
 mod summary;
 

@@ -6,6 +6,7 @@ ghost use Rattle.vk_explain.specs.Explained.{rule_line, IsRefusalText, IsAccepta
 use crate::facts::{fact_line, point_lines};
 use crate::notes::{MOST_NOTES, note_words, notes_of};
 use crate::places::place_of;
+use crate::repairs::repair_lines;
 use crate::summary::{Summary, summary_of};
 use std::alloc::{AllocError, Global};
 use vk_facts::fact_of_fault;
@@ -13,8 +14,8 @@ use vk_model::{At, Entry, Rule};
 use vk_trace::Outcome;
 use vk_words::{point_words, sentence};
 
-/// The lines on a refused trace: the verdict, the point in words, what the rule says, and the fact that
-/// is told of it.
+/// The lines on a refused trace: the verdict, the point in words, what the rule says, the fact that is
+/// told of it, and a repair.
 pub fn refusal_text(
     alloc: Global,
     input: &[u8],
@@ -35,9 +36,19 @@ pub fn refusal_text(
     text.push_str(told.as_str())?;
     let points = point_lines(alloc, trace, &fact)?;
     text.push_str(points.as_str())?;
-    let notes = note_lines(alloc, trace)?;
-    text.push_str(notes.as_str())?;
+    let more = more_lines(alloc, trace, at, rule)?;
+    text.push_str(more.as_str())?;
     Ok(text)
+}
+
+/// The lines on a repair, and the notes.
+fn more_lines(alloc: Global, trace: &[Entry], at: At, rule: Rule) -> Result<String, AllocError>
+    requires { first_fault trace.now ≡ Some (at, rule) }
+{
+    let mut lines = repair_lines(alloc, trace, at, rule)?;
+    let notes = note_lines(alloc, trace)?;
+    lines.push_str(notes.as_str())?;
+    Ok(lines)
 }
 
 /// The line with the point in words, and where it is in the input.
