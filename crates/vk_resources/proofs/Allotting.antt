@@ -1,5 +1,5 @@
 -- Whether an entry finds room, and what is allocated when it has been applied.
-use Rattle.std.proofs.Common.{◌≡◌, ℕ, List, refl, ap, sym, subst, Option, Some, None}
+use Rattle.std.proofs.Common.{◌≡◌, ℕ, List, refl, sym, subst, Option}
 use Rattle.vk_model.specs.declared.command.Length.{Length}
 use Rattle.vk_model.specs.declared.entry.Entry.{Entry}
 use Rattle.vk_model.specs.declared.entry.Entry.TheVariants as entry
@@ -18,8 +18,9 @@ use Rattle.vk_resources.specs.declared.applied.Applied.TheVariants as applied
 use Rattle.vk_resources.specs.Held.{Held}
 use Rattle.vk_resources.specs.Allocating.{allotted, IsAllocated, Rooms, Allots}
 use Rattle.vk_resources.specs.Fits.{FitsEntry}
-use Rattle.vk_resources.specs.Inner.Steps.{Makes, MemoryMade, ResourceMade, Ends, PoolMade, PoolDropped}
-use Rattle.vk_resources.proofs.Applying.{IsRest, IsMaker}
+use Rattle.vk_resources.specs.Inner.Steps.{MemoryMade, ResourceMade, Ends, PoolMade, PoolDropped}
+use Rattle.vk_resources.proofs.Applying.{IsMaker}
+use Rattle.vk_resources.proofs.Resting.{IsRest}
 
 -- ---- room for what an entry asks for
 

@@ -1,9 +1,9 @@
 -- What an entry does to resources, and what it is answered.
-use Rattle.std.proofs.Common.{◌≡◌, ℕ, suc, ◌+◌, ◌<◌, ◌≤◌, List, [], ◌∷◌, length, slice_index, Bool, true, false, eqb, ◌==◌, cond, refl, ap, sym, ◌∙◌, subst, arith, Option, Some, None}
-use Rattle.std.specs.Prelude.{if◌then◌else◌, IsSome, IsTrue, ⊤, is_some, option_map, option_and_then}
+use Rattle.std.proofs.Common.{◌≡◌, ℕ, ◌+◌, ◌<◌, List, [], ◌∷◌, length, slice_index, Bool, true, false, eqb, ◌==◌, cond, refl, ap, sym, ◌∙◌, subst, arith, Option, Some, None}
+use Rattle.std.specs.Prelude.{IsSome, IsTrue, is_some, option_map, option_and_then}
 use Rattle.std.proofs.lemmas.Bool.{eqb-true, eqb-false, false_from_ne_true}
 use Rattle.std.proofs.lemmas.List.{length-replicate}
-use Rattle.vk_memory.specs.MemoryState.{MemoryState, IsLive, object_at, region_of, bytes_of, type_of, type_in, fresh}
+use Rattle.vk_memory.specs.MemoryState.{MemoryState, IsLive, region_of, bytes_of, type_of, type_in, fresh}
 use Rattle.vk_memory.proofs.LiveObjects.{live_below}
 use Rattle.vk_memory.specs.declared.memories.Object.{Object}
 use Rattle.vk_model.specs.declared.entry.Entry.{Entry}
@@ -26,11 +26,10 @@ use Rattle.vk_model.specs.Run.Caches as caches
 use Rattle.vk_model.specs.Run.Caches.{Cell, queue_agent, dropped, dropped_if}
 use Rattle.vk_model.specs.Run.CachedRuns.{after_host}
 use Rattle.vk_model.specs.World.Bytes.{Byte, in_buffer, in_image, resource_at}
-use Rattle.vk_transfer.specs.Ran.{AreApart}
 use Rattle.vk_resources.specs.declared.applied.Applied.{Applied}
 use Rattle.vk_resources.specs.declared.applied.Applied.TheVariants as applied
 use Rattle.vk_resources.specs.declared.resources.Placed.{Placed}
-use Rattle.vk_resources.specs.Held.{Held, IsApart, IsCaching, IsShaped, AreShaped, Stands, placed, placed_in, shape_in, shape_of, object_of, LiesShared, host_at, holding_in, IsThere, HasCell}
+use Rattle.vk_resources.specs.Held.{Held, IsApart, Stands, placed, placed_in, shape_in, shape_of, object_of, host_at, holding_in, IsThere, HasCell}
 use Rattle.vma_pools.specs.State.{PoolsState}
 use Rattle.vk_model.specs.declared.resource.Spot.{Spot}
 use Rattle.vk_backing.specs.Backed as backing
@@ -38,27 +37,12 @@ use Rattle.vk_backing.specs.Backed.{Backed, number_in, pool_of, allocation_of, i
 use Rattle.vk_resources.specs.Matches.{Matches, MatchesLive, LiesAt, LiesOf, in_pool, is_own, size_made, has_memory, type_made, type_of_place}
 use Rattle.vk_resources.specs.Fits.{IsUnused, FitsEntry, FitsPlace}
 use Rattle.vk_resources.specs.Done.{LeavesCells, HoldsNoneNew, Goes, DoneBy, ReadsNothing}
-use Rattle.vk_resources.specs.Inner.Steps.{Makes, MemoryMade, ResourceMade, ShapeReady, PutReady, Binds, BindReady, MadeOr, Puts, Ends}
-use Rattle.vk_resources.proofs.Placing.{kept_object, new_object, inside_of, one_number, turned, apart_put}
+use Rattle.vk_resources.specs.Inner.Steps.{Makes, MemoryMade, ResourceMade, Binds, BindReady, Puts, Ends}
+use Rattle.vk_resources.proofs.Placing.{kept_object, new_object, inside_of, turned}
 use Rattle.vk_resources.proofs.Lying.{where_lies, where_is, byte_stays, there_stays}
-use Rattle.vk_resources.proofs.CachedBytes.{host_of, clear_atoms, caching_put}
-use Rattle.vk_resources.proofs.Matching.{home, unplaced, unowned, unshared, matches_same}
-use Rattle.vk_resources.proofs.Living.{live_new, live_end, live_same, not_live, shared_on, Grows, grown, ended_matches, region_there}
-
--- an entry that is done nothing for
-abbrev pub IsRest : Entry → Type 0
-IsRest (entry.Memory i info) = ⊥
-IsRest (entry.Buffer i info) = ⊥
-IsRest (entry.Image i info) = ⊥
-IsRest (entry.Pool p info) = ⊥
-IsRest (entry.DropPool p) = ⊥
-IsRest (entry.Free m) = ⊥
-IsRest (entry.Destroy r) = ⊥
-IsRest (entry.Write b o bytes) = ⊥
-IsRest (entry.Read b o n) = ⊥
-IsRest (entry.Flush b o n) = ⊥
-IsRest (entry.Invalidate b o n) = ⊥
-IsRest _ = ⊤
+use Rattle.vk_resources.proofs.CachedBytes.{host_of, clear_atoms}
+use Rattle.vk_resources.proofs.Matching.{home, unplaced, unowned, unshared}
+use Rattle.vk_resources.proofs.Living.{live_new, live_end, not_live, shared_on, Grows, grown, ended_matches, region_there}
 
 -- ---- bytes that stay
 
@@ -95,38 +79,6 @@ none_new old new same shapes c there absent =
     absurd (absent (there_stays new old c (ap (λ (bs : List (ℕ × Placed)). placed_in bs (resource_at c)) (sym same)) (ap (λ (bs : List (ℕ × ImageInfo)). shape_in bs (resource_at c)) (sym shapes)) there))
 
 -- ---- new objects
-
--- nothing is held of an object that is neither a resource nor a memory object
-pub other_goes : (s : Held) (past : Past) (e i : ℕ) (x : Entry) → made_by x ≡ Some i → ended_by x ≡ [] → size_made x ≡ None → image_in x ≡ None → resource_in x ≡ None → memory_in x ≡ None → pool_in x ≡ None → has_memory x ≡ false → IsUnused past i → MatchesLive past s → MatchesLive (host e x ∷ past) s
-other_goes s past e i x makes ends no_size no_image no_resource no_memory no_pool alone unused m =
-    let none = not_live past i unused in
-    grown (live past) (live (host e x ∷ past)) s s i x (record {
-      now = live_new past e x i makes ends unused;
-      fresh = none;
-      size = ap (λ (o : Option Placed). option_map (λ (p : Placed). p.size) o) (unplaced (live past) s i m (ap (option_and_then size_made) none)) ∙ sym no_size;
-      shaped = m.shapes i ∙ ap (option_and_then image_in) none ∙ sym no_image;
-      places = λ b other. refl;
-      shapes = λ b other. refl;
-      object = ap is_some (unowned (live past) s i m (ap (λ (o : Option Entry). holds o has_memory) none)) ∙ sym alone;
-      objects = λ j other. refl;
-      lies = λ p r at is. let both : Some r ≡ None = sym is ∙ no_resource in absurd cc;
-      bytes = λ number y is has. let both : Some y ≡ None = sym is ∙ no_memory in absurd cc;
-      regions = λ j number has. refl;
-      type_now = λ number t is has.
-          let none_there : object_of s i ≡ None = unowned (live past) s i m (ap (λ (o : Option Entry). holds o has_memory) none) in
-          let both : ◌≡◌ {A = Option ℕ} (Some number) None = sym has ∙ none_there in
-          absurd cc;
-      types = λ j number has. refl;
-      info = m.pools i ∙ ap (option_and_then pool_in) none ∙ sym no_pool;
-      infos = λ j other. refl;
-      pooled = λ a has.
-          let none_there = unshared (live past) s i m (ap (λ (o : Option Entry). holds o in_pool) none) in
-          let both : ◌≡◌ {A = Option ℕ} (Some a) None = sym has ∙ none_there in
-          absurd cc;
-      allocations = λ j other. refl;
-      whole = λ w. w;
-      keeps = λ b r p other l. l;
-    }) m
 
 -- what pools do where an id gets something that lies in no pool, or a place in one
 pub record PoolsGrow (old new : Held) (i : ℕ) (x : Entry) : Type 0 where
@@ -396,78 +348,6 @@ module _ (old new : Held) (x : Entry) (i : ℕ) (r : Resource) (size : ℕ) (sha
           let gone : IsTrue (holds {A = Entry} None is_memory) = subst (λ (o : Option Entry). IsTrue (holds o is_memory)) (ap (live past) (eqb-true k i h) ∙ none) memory in
           cc)
 
--- ---- where a resource may be put
-
--- in the memory object that was made for it
-pub own_ready : (old n : Held) (id t size bytes number : ℕ) (shape : Option ImageInfo) → MadeOr (Some number) old n id t bytes → 0 < size → size ≤ bytes → placed old id ≡ None → shape_of old id ≡ None → Stands old
-    → ShapeReady shape (record { size = size; object = number; offset = 0 }) → PutReady n id (record { size = size; object = number; offset = 0 }) shape
-own_ready old n id t size bytes number shape made some fits absent unshaped stood shaped = record {
-  absent = ap (λ (l : List (ℕ × Placed)). placed_in l id) made.2 ∙ absent;
-  unshaped = ap (λ (l : List (ℕ × ImageInfo)). shape_in l id) made.3 ∙ unshaped;
-  inside = record { live = live; some = some; room = room };
-  apart = beside;
-  aligned = λ is. refl;
-  shaped = shaped;
-}
-  where
-    object_is : object_at n.memory number ≡ Some (fresh t bytes)
-    object_is = rw (made.1.memory, made.0) (new_object old.memory (fresh t bytes))
-
-    live : IsLive n.memory number
-    live = subst (λ (o : Option Object). IsSome o) (sym object_is) refl
-
-    room : 0 + size ≤ length (region_of n.memory number)
-    room = let long : length (region_of n.memory number) ≡ bytes = ap (λ (o : Option Object). length (bytes_of o)) object_is ∙ length-replicate bytes 205 in omega (arith, fits, long)
-
-    -- no other resource lies there
-    beside : (c : ℕ) (q : Placed) → (c ≡ id → ⊥) → placed n c ≡ Some q → q.object ≡ number → AreApart 0 size q.offset q.size
-    beside c q ne at same =
-        let low = live_below old.memory q.object (inside_of old.memory old.backed old.resources stood.0 c q (ap (λ (l : List (ℕ × Placed)). placed_in l c) (sym made.2) ∙ at)).live in
-        let is = made.0 in
-        absurd (omega (arith, low, same, is))
-
--- and where it is bound
-pub bound_ready : (s : Held) (id memory offset size number : ℕ) (shape : Option ImageInfo) → Stands s → BindReady s memory offset size → object_of s memory ≡ Some number → placed s id ≡ None → shape_of s id ≡ None
-    → ShapeReady shape (record { size = size; object = number; offset = offset }) → PutReady s id (record { size = size; object = number; offset = offset }) shape
-bound_ready s id memory offset size number shape stands ready has absent unshaped shaped =
-    let same : number ≡ ready.number = one_number (object_of s memory) number ready.number has ready.has in
-    record {
-      absent = absent;
-      unshaped = unshaped;
-      inside = record { live = stands.0.backed_is.live memory number has; some = ready.some; room = subst (λ (n : ℕ). offset + size ≤ length (region_of s.memory n)) (sym same) ready.room };
-      apart = λ c q ne at object. ready.apart c q at (object ∙ same);
-      aligned = λ is. ready.aligned (subst (λ (n : ℕ). type_of s.memory n ≡ 2) same (eqb-true (type_of s.memory number) 2 is));
-      shaped = shaped;
-    }
-
--- it is put there
-module _ (s : Held) (id : ℕ) (p : Placed) (shape : Option ImageInfo) (stands : Stands s) (ready : PutReady s id p shape) (resources : List (ℕ × Placed)) (here : placed_in resources id ≡ Some p) (others : (q : ℕ) → (q ≡ id → ⊥) → placed_in resources q ≡ placed_in s.resources q) where
-  pub put_places : IsApart s.memory s.backed resources × IsCaching s.memory resources s.cache
-  put_places = (
-    apart_put s.memory s.backed s.resources resources id p here others ready.inside ready.apart stands.0,
-    caching_put s.memory s.resources resources s.cache id p ready.absent here others ready.aligned stands.1,
-  )
-
-  -- without its shape yet, or as a buffer
-  pub put_bare : AreShaped resources s.shapes
-  put_bare = record { each = λ i m q is at. go i m q is at (eqb i id) refl }
-    where
-      go : (i : ℕ) (m : ImageInfo) (q : Placed) → shape_of s i ≡ Some m → placed_in resources i ≡ Some q → (t : Bool) → eqb i id ≡ t → IsShaped m q
-      go i m q is at true e = let both : Some m ≡ None = sym is ∙ ap (λ (j : ℕ). shape_of s j) (eqb-true i id e) ∙ ready.unshaped in absurd cc
-      go i m q is at false e = stands.2.each i m q is (sym (others i (eqb-false i id e)) ∙ at)
-
-  pub put_shaped : (m : ImageInfo) → shape ≡ Some m → (shapes : List (ℕ × ImageInfo)) → shape_in shapes id ≡ Some m → ((q : ℕ) → (q ≡ id → ⊥) → shape_in shapes q ≡ shape_in s.shapes q) → AreShaped resources shapes
-  put_shaped m is shapes now kept = record { each = λ i n q at_shape at. go i n q at_shape at (eqb i id) refl }
-    where
-      go : (i : ℕ) (n : ImageInfo) (q : Placed) → shape_in shapes i ≡ Some n → placed_in resources i ≡ Some q → (t : Bool) → eqb i id ≡ t → IsShaped n q
-      go i n q at_shape at false e = let ne = eqb-false i id e in stands.2.each i n q (sym (kept i ne) ∙ at_shape) (sym (others i ne) ∙ at)
-      go i n q at_shape at true e =
-          let both : Some n ≡ Some m = sym at_shape ∙ ap (λ (j : ℕ). shape_in shapes j) (eqb-true i id e) ∙ now in
-          let one : n ≡ m = cc in
-          let places : Some q ≡ Some p = sym at ∙ ap (λ (j : ℕ). placed_in resources j) (eqb-true i id e) ∙ here in
-          let same : q ≡ p = cc in
-          subst (λ (k : ImageInfo). IsShaped k q) (sym one) (subst (λ (z : Placed). IsShaped m z) (sym same) (subst (λ (o : Option ImageInfo). ShapeReady o p) is ready.shaped))
-
 -- ---- what ends
 
 pub end_goes : (old new : Held) (past : Past) (e r : ℕ) (x : Entry) → made_by x ≡ None → ended_by x ≡ r ∷ [] → ((c : Byte) (cell : Cell) → after_host past [] x c cell ≡ cell) → MatchesLive past old → IsApart old.memory old.backed old.resources → option_and_then pool_in (live past r) ≡ None
@@ -497,35 +377,3 @@ end_goes old new past e r x makes ends_it same m apart no_pool clear ends = (end
 
     none : HoldsNoneNew old new
     none c after absent = let ne = other c after in absurd (absent (there_stays new old c (sym (ends.resources (resource_at c) ne)) (sym (ends.shapes (resource_at c) ne)) after))
-
--- ---- an entry that asks for nothing by itself
-
--- the cache of a queue isn't the host's
-queue_drops : (s : Held) (q : ℕ) (c : Byte) (cell : Cell) → HasCell s c cell → HasCell s c (dropped (queue_agent q) cell)
-queue_drops s q c cell has = go (cell.held (suc q))
-  where
-    go : (h : Option caches.Held) → HasCell s c (dropped_if (suc q) h cell)
-    go None = has
-    go (Some (caches.Clean v)) = record { held = ap (λ (t : Bool). if t then None else cell.held 0) (false_from_ne_true (0 == suc q) (λ h. let e = eqb-true 0 (suc q) h in omega (arith, e))) ∙ has.held; region = has.region }
-    go (Some (caches.Dirty v)) = has
-
-pub rest_done : (s : Held) (y : Entry) → IsRest y → (e : ℕ) (past : Past) → MatchesLive past s → FitsEntry past y → DoneBy applied.Done e y past s s
-rest_done s (entry.Semaphore i v) rest e past m fit = ((other_goes s past e i (entry.Semaphore i v) refl refl refl refl refl refl refl refl fit m, λ c cell there after has. has, none_new s s refl refl), λ b o n h. absurd cc)
-rest_done s (entry.Event i) rest e past m fit = ((other_goes s past e i (entry.Event i) refl refl refl refl refl refl refl refl fit m, λ c cell there after has. has, none_new s s refl refl), λ b o n h. absurd cc)
-rest_done s (entry.Map b) rest e past m fit = ((matches_same (live past) (live (host e (entry.Map b) ∷ past)) s (live_same past e (entry.Map b) refl refl) m, λ c cell there after has. has, none_new s s refl refl), λ b o n h. absurd cc)
-rest_done s (entry.Unmap b) rest e past m fit = ((matches_same (live past) (live (host e (entry.Unmap b) ∷ past)) s (live_same past e (entry.Unmap b) refl refl) m, λ c cell there after has. has, none_new s s refl refl), λ b o n h. absurd cc)
-rest_done s (entry.Signal v n) rest e past m fit = ((matches_same (live past) (live (host e (entry.Signal v n) ∷ past)) s (live_same past e (entry.Signal v n) refl refl) m, λ c cell there after has. has, none_new s s refl refl), λ b o n h. absurd cc)
-rest_done s (entry.Wait ws) rest e past m fit = ((matches_same (live past) (live (host e (entry.Wait ws) ∷ past)) s (live_same past e (entry.Wait ws) refl refl) m, λ c cell there after has. has, none_new s s refl refl), λ b o n h. absurd cc)
-rest_done s (entry.Submit q bs) rest e past m fit = ((matches_same (live past) (live (host e (entry.Submit q bs) ∷ past)) s (live_same past e (entry.Submit q bs) refl refl) m, λ c cell there after has. queue_drops s q c cell has, none_new s s refl refl), λ b o n h. absurd cc)
-rest_done s (entry.Memory i info) rest e past m fit = absurd rest
-rest_done s (entry.Buffer i info) rest e past m fit = absurd rest
-rest_done s (entry.Image i info) rest e past m fit = absurd rest
-rest_done s (entry.Pool i info) rest e past m fit = absurd rest
-rest_done s (entry.DropPool i) rest e past m fit = absurd rest
-rest_done s (entry.Free i) rest e past m fit = absurd rest
-rest_done s (entry.Destroy i) rest e past m fit = absurd rest
-rest_done s (entry.Write b o bytes) rest e past m fit = absurd rest
-rest_done s (entry.Read b o n) rest e past m fit = absurd rest
-rest_done s (entry.Flush b o n) rest e past m fit = absurd rest
-rest_done s (entry.Invalidate b o n) rest e past m fit = absurd rest
-rest_done s _ rest e past m fit = absurd fit

@@ -1,5 +1,5 @@
 -- What ids are backed with, as what is held has it.
-use Rattle.std.proofs.Common.{◌≡◌, ℕ, List, length, ap, ◌∙◌, sym, subst, refl, Bool, Option, Some, None, Result, Ok, Err, IfOk, OnOk}
+use Rattle.std.proofs.Common.{ℕ, ap, ◌∙◌, subst, refl, Bool, Option, Some, None, Result, Ok, Err, IfOk, OnOk}
 use Rattle.std.specs.declared.alloc.AllocError.{AllocError}
 use Rattle.vk_memory.specs.MemoryState.{MemoryState}
 use Rattle.vk_model.specs.declared.resource.PoolInfo.{PoolInfo}

@@ -1,12 +1,11 @@
 -- What the host's cache does to the bytes of all buffers, where a call changes those of one in cached memory.
-use Rattle.std.proofs.Common.{◌≡◌, ◌⊎◌, inl, inr, ℕ, zero, suc, ◌+◌, ◌-◌, ◌/◌, ◌%◌, ◌<◌, ◌≤◌, ◌==◌, List, [], ◌∷◌, ◌++◌, length, Bool, true, false, ◌&&◌, eqb, nat_lt, nat_le, refl, ap, sym, ◌∙◌, subst, arith, slice_index, Option, Some, None, if◌then◌else◌}
+use Rattle.std.proofs.Common.{◌≡◌, ◌⊎◌, inl, inr, ℕ, zero, suc, ◌+◌, ◌-◌, ◌/◌, ◌%◌, ◌<◌, ◌≤◌, ◌==◌, List, length, Bool, true, false, ◌&&◌, eqb, nat_lt, nat_le, refl, ap, sym, ◌∙◌, subst, arith, slice_index, Option, Some, None, if◌then◌else◌}
 use Rattle.std.proofs.lemmas.Bool.{eqb-true, eqb-false, lt-ltb, le-leb, lt-leb, cases_lt, and_parts, and_right, leb-true, ltb-true, false_from_ne_true}
 use Rattle.std.proofs.lemmas.Bool.Decides.{nat_tests}
 use Rattle.std.specs.Prelude.{IsSome, is_some, option_and_then}
 use Rattle.vk_map_cache.specs.Holdings.{Holdings, held_at, IsByte, Changes, given, is_reached, is_in_atom}
 use Rattle.vk_map_cache.proofs.CellLemmas.{same_cell, given-outside}
 use Rattle.vk_memory.specs.MemoryState.{MemoryState, region_of, type_of, type_in}
-use Rattle.vk_memory.specs.declared.memories.Object.{Object}
 use Rattle.vk_model.specs.declared.resource.ImageInfo.{ImageInfo}
 use Rattle.vk_model.specs.declared.command.Length.{Length}
 use Rattle.vk_model.specs.declared.command.Length.TheVariants as length_of

@@ -12,6 +12,8 @@ pub mod ImageFitting
 mod Living
 mod Binding
 mod Applying
+mod Putting
+mod Resting
 mod Backing
 mod Sharing
 mod PoolEntries

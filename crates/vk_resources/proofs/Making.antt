@@ -28,7 +28,7 @@ use Rattle.vk_resources.specs.Done.{DoneBy}
 use Rattle.vk_resources.specs.Inner.Steps.{ResourceMade, BindReady, Binds, SharedMade}
 use Rattle.vk_resources.proofs.Applying.{IsMaker, resource_done, bound_done}
 use Rattle.vk_resources.proofs.Allotting.{resource_rooms, resource_allots, bound_rooms, bound_allots, bound_same}
-use Rattle.vk_resources.proofs.Ending.{MakerFits, no_object, binds_ready, image_good}
+use Rattle.vk_resources.proofs.Ending.{MakerFits, binds_ready, image_good}
 
 -- ---- the shape of an image
 

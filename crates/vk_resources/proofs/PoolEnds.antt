@@ -6,7 +6,6 @@ use Rattle.vk_memory.specs.MemoryState.{MemoryState, region_of, type_of}
 use Rattle.vk_model.specs.declared.entry.Entry.{Entry}
 use Rattle.vk_model.specs.declared.entry.Entry.TheVariants as entry
 use Rattle.vk_model.specs.declared.resource.ImageInfo.{ImageInfo}
-use Rattle.vk_model.specs.declared.resource.MemoryInfo.{MemoryInfo}
 use Rattle.vk_model.specs.declared.resource.PoolInfo.{PoolInfo}
 use Rattle.vk_model.specs.declared.resource.Place.{Place}
 use Rattle.vk_model.specs.declared.resource.Place.TheVariants as place
@@ -21,7 +20,7 @@ use Rattle.vma_pools.specs.declared.pool.PoolPlace.{PoolPlace}
 use Rattle.vma_pools.specs.declared.allocations.Allocation.{Allocation}
 use Rattle.vma_pools.specs.State as pools
 use Rattle.vma_pools.specs.State.{shared_place}
-use Rattle.vk_backing.specs.Backed.{pool_of, allocation_of, allocation_by, info_by, number_in}
+use Rattle.vk_backing.specs.Backed.{allocation_of, allocation_by, info_by, number_in}
 use Rattle.vk_backing.specs.Steps.{IsUnused}
 use Rattle.vk_resources.specs.declared.applied.Applied.TheVariants as applied
 use Rattle.vk_resources.specs.declared.resources.Placed.{Placed}

@@ -1,44 +1,30 @@
 -- A pool is made, and ends.
-use Rattle.std.proofs.Common.{◌≡◌, inl, inr, ℕ, List, [], ◌∷◌, length, Bool, true, false, eqb, ◌==◌, cond, refl, ap, sym, ◌∙◌, subst, Option, Some, None}
-use Rattle.std.specs.Prelude.{IsSome, IsTrue, is_some, option_map, option_and_then}
-use Rattle.std.specs.List.{list_any}
-use Rattle.std.proofs.lemmas.Bool.{eqb-true, eqb-false, eq-eqb}
+use Rattle.std.proofs.Common.{◌≡◌, ℕ, List, ◌∷◌, refl, ap, sym, ◌∙◌, subst, Option, Some, None}
+use Rattle.std.specs.Prelude.{is_some, option_map, option_and_then}
 use Rattle.vk_memory.specs.MemoryState.{MemoryState, region_of, type_of}
 use Rattle.vk_model.specs.declared.entry.Entry.{Entry}
 use Rattle.vk_model.specs.declared.entry.Entry.TheVariants as entry
 use Rattle.vk_model.specs.declared.resource.ImageInfo.{ImageInfo}
-use Rattle.vk_model.specs.declared.resource.MemoryInfo.{MemoryInfo}
 use Rattle.vk_model.specs.declared.resource.PoolInfo.{PoolInfo}
-use Rattle.vk_model.specs.declared.resource.Place.{Place}
-use Rattle.vk_model.specs.declared.resource.Place.TheVariants as place
-use Rattle.vk_model.specs.declared.resource.Spot.{Spot}
 use Rattle.vk_model.specs.Basics.{holds}
 use Rattle.vk_model.specs.Trace.Point.{Past}
 use Rattle.vk_model.specs.Trace.Order.{host}
-use Rattle.vk_model.specs.Trace.Objects.{Resource, live, image_in, resource_in, memory_in, pool_in, pool_at}
-use Rattle.vk_model.specs.Rules.Ids.{is_memory, is_pool}
+use Rattle.vk_model.specs.Trace.Objects.{live, image_in}
 use Rattle.vk_model.specs.Run.Caches.{Cell}
 use Rattle.vk_model.specs.World.Bytes.{Byte}
-use Rattle.vk_model.proofs.Lists.Truths.{clash}
-use Rattle.vma_pools.specs.declared.pool.PoolPlace.{PoolPlace}
-use Rattle.vma_pools.specs.declared.allocations.Allocation.{Allocation}
-use Rattle.vma_pools.specs.declared.allocations.Home.{Home}
 use Rattle.vma_pools.specs.Pools.{Kept}
 use Rattle.vma_pools.specs.State as pools
 use Rattle.vma_pools.specs.State.{allocation_at, shared_place}
-use Rattle.vma_pools.proofs.StateLemmas.{some-is}
-use Rattle.vk_backing.specs.Backed as backing
-use Rattle.vk_backing.specs.Backed.{Backed, number_in, pool_of, allocation_of, allocation_by, info_by, LiesIn, IsBacked, IsWhole}
-use Rattle.vk_backing.specs.Steps as steps
+use Rattle.vk_backing.specs.Backed.{number_in, pool_of, allocation_of, info_by}
 use Rattle.vk_resources.specs.declared.applied.Applied.TheVariants as applied
 use Rattle.vk_resources.specs.declared.resources.Placed.{Placed}
-use Rattle.vk_resources.specs.Held.{Held, Stands, placed, placed_in, shape_in, shape_of, object_of, IsThere, HasCell}
-use Rattle.vk_resources.specs.Matches.{Matches, MatchesLive, LiesAt, LiesOf, in_pool, has_memory, size_made, type_made}
-use Rattle.vk_resources.specs.Fits.{IsUnused, FitsEntry, is_populated}
-use Rattle.vk_resources.specs.Done.{DoneBy, Goes, LeavesCells, HoldsNoneNew}
-use Rattle.vk_resources.specs.Inner.Steps.{PoolMade, PoolDropped}
-use Rattle.vk_resources.proofs.Matching.{home, lies_on, is_live, live_of_placed, resource_of_placed, unplaced, unowned}
-use Rattle.vk_resources.proofs.Living.{live_new, live_end, not_live, Grows, grown}
+use Rattle.vk_resources.specs.Held.{Held, Stands, placed, placed_in, shape_in, shape_of, object_of, HasCell}
+use Rattle.vk_resources.specs.Matches.{MatchesLive, has_memory, size_made}
+use Rattle.vk_resources.specs.Fits.{IsUnused, FitsEntry}
+use Rattle.vk_resources.specs.Done.{DoneBy}
+use Rattle.vk_resources.specs.Inner.Steps.{PoolMade}
+use Rattle.vk_resources.proofs.Matching.{unplaced, unowned}
+use Rattle.vk_resources.proofs.Living.{live_new, not_live, Grows, grown}
 use Rattle.vk_resources.proofs.Applying.{pool_keeps, no_info, no_allocation, none_new}
 
 -- where only what backs ids has changed

@@ -1,6 +1,6 @@
 -- A resource is put in a pool.
-use Rattle.std.proofs.Common.{◌≡◌, ◌⊎◌, inl, inr, ℕ, ◌+◌, ◌<◌, ◌≤◌, ◌%◌, List, ◌∷◌, length, Bool, true, false, ◌==◌, refl, ap, sym, ◌∙◌, subst, arith, Option, Some, None}
-use Rattle.std.specs.Prelude.{IsSome, IsTrue, is_some, option_and_then}
+use Rattle.std.proofs.Common.{◌≡◌, ◌⊎◌, inl, inr, ℕ, ◌+◌, ◌<◌, ◌≤◌, ◌%◌, List, ◌∷◌, length, Bool, true, false, refl, ap, sym, ◌∙◌, subst, arith, Option, Some, None}
+use Rattle.std.specs.Prelude.{IsSome, is_some, option_and_then}
 use Rattle.std.proofs.lemmas.Bool.{eqb-true}
 use Rattle.vk_memory.specs.MemoryState.{MemoryState, IsLive, region_of, bytes_of, type_of, type_in}
 use Rattle.vk_map_cache.specs.Holdings.{held_at}
@@ -26,11 +26,11 @@ use Rattle.vk_resources.specs.declared.applied.Applied.{Applied}
 use Rattle.vk_resources.specs.declared.applied.Applied.TheVariants as applied
 use Rattle.vk_resources.specs.declared.resources.Placed.{Placed}
 use Rattle.vk_resources.specs.Allocating.{allotted, Rooms, Allots}
-use Rattle.vk_resources.specs.Held.{Held, Stands, placed, placed_in, shape_in, shape_of, object_of, is_cached_in, LiesShared}
-use Rattle.vk_resources.specs.Matches.{MatchesLive, LiesAt, LiesOf, in_pool, is_own, has_memory, size_made, type_of_place}
+use Rattle.vk_resources.specs.Held.{Held, Stands, placed, placed_in, shape_in, shape_of, object_of}
+use Rattle.vk_resources.specs.Matches.{MatchesLive, LiesAt, LiesOf, is_own, has_memory, size_made, type_of_place}
 use Rattle.vk_resources.specs.Fits.{IsUnused}
 use Rattle.vk_resources.specs.Done.{DoneBy}
-use Rattle.vk_resources.specs.Inner.Steps.{Makes, MadeOr, Puts, PutReady, PutIn, SharedMade, FoundOr, ShapeReady, LiesElsewhere, IsEmpty}
+use Rattle.vk_resources.specs.Inner.Steps.{Makes, Puts, PutReady, PutIn, SharedMade, FoundOr, ShapeReady, LiesElsewhere, IsEmpty}
 use Rattle.vk_resources.proofs.Placing.{grown_object, inside_of, turned}
 use Rattle.vk_resources.proofs.CachedBytes.{clear_atoms}
 use Rattle.vk_resources.proofs.Matching.{home, lies_in, live_of_placed, resource_of_placed, unowned, unplaced}

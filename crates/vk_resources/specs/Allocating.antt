@@ -1,5 +1,4 @@
 -- What a device has allocated, and what an entry changes of it.
-use Rattle.std.specs.Prelude.{ℕ}
 use Rattle.vk_model.specs.declared.entry.Entry.{Entry}
 use Rattle.vk_model.specs.Memory.Allocations.{Allocated, FindsNoRoom, Changes}
 use Rattle.vk_backing.specs.Allotted as backing

@@ -1,6 +1,6 @@
 -- What each step asks of resources, and what it changes there.
 use Rattle.std.specs.Prelude.{◌≡◌, ◌⊎◌, ℕ, ◌+◌, ◌-◌, ◌/◌, ◌%◌, ◌<◌, ◌≤◌, ◌==◌, [], ◌∷◌, ◌++◌, length, List, Bool, true, Option, Some, None, option_and_then, if◌then◌else◌, All, ⊤}
-use Rattle.vk_memory.specs.MemoryState.{MemoryState, IsLive, IsFull, fresh, region_of, type_of}
+use Rattle.vk_memory.specs.MemoryState.{IsLive, IsFull, fresh, region_of, type_of}
 use Rattle.vk_map_cache.specs.Holdings.{held_at}
 use Rattle.vk_model.specs.declared.command.Length.{Length}
 use Rattle.vk_model.specs.declared.command.Length.TheVariants as length_of
@@ -22,7 +22,7 @@ use Rattle.vk_resources.specs.declared.applied.Applied.{Applied}
 use Rattle.vk_resources.specs.declared.applied.Applied.TheVariants as applied
 use Rattle.vk_resources.specs.declared.resources.Placed.{Placed}
 use Rattle.vk_resources.specs.Allocating.{allotted}
-use Rattle.vk_backing.specs.Backed.{Backed, IsBacked, IsWhole}
+use Rattle.vk_backing.specs.Backed.{IsBacked, IsWhole}
 use Rattle.vk_backing.specs.Steps.{Grows, Owns, Shares, Releases, MakesPool, DropsPool, OwnAllots, ShareAllots, ReleaseAllots, PoolAllots, DropAllots, Asks}
 use Rattle.vk_resources.specs.Held.{Held, placed, shape_of, flat, object_of, LiesShared, IsInside, IsShaped, byte_at, host_at, is_cached_in, IsInAtoms, IsThere, HasCell}
 

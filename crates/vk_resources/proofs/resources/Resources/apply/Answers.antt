@@ -1,6 +1,6 @@
 use Rattle.std.proofs.Common.{ap, sym, ◌∙◌}
 use Rattle.vk_model.specs.declared.entry.Entry.TheVariants as entry
-use Rattle.vk_resources.proofs.Applying.{rest_done}
+use Rattle.vk_resources.proofs.Resting.{rest_done}
 use Rattle.vk_resources.proofs.PoolEntries.{pool_absent, pool_done}
 use Rattle.vk_resources.proofs.PoolEnds.{drop_unused, drop_done}
 use Rattle.vk_resources.proofs.HostAccesses.{write_done, flush_done, invalidate_done, read_done}

@@ -1,4 +1,4 @@
-use Rattle.std.proofs.Common.{◌≡◌, Some, None, ap, sym, ◌∙◌, subst, refl}
+use Rattle.std.proofs.Common.{◌≡◌, ap, sym, ◌∙◌, subst, refl}
 use Rattle.vk_resources.specs.Held.{Held}
 use Rattle.vk_resources.specs.Inner.Steps.{IsEmpty, Forgets}
 use Rattle.vk_resources.proofs.Placing.{other_id}

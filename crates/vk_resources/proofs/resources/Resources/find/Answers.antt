@@ -1,4 +1,4 @@
-use Rattle.std.proofs.Common.{subst, Option, IfOk}
+use Rattle.std.proofs.Common.{subst, IfOk}
 use Rattle.vk_resources.specs.Held.{Held}
 use Rattle.vk_resources.specs.Inner.Steps.{FoundOr}
 use Rattle.vk_resources.proofs.Backing.{backed_with, found}

@@ -1,11 +1,11 @@
-use Rattle.std.proofs.Common.{◌≡◌, ℕ, ◌+◌, ◌*◌, ◌/◌, refl, true, false, arith, Some, None}
+use Rattle.std.proofs.Common.{◌+◌, ◌*◌, ◌/◌, refl, true, false, arith, None}
 use Rattle.std.proofs.lemmas.Result.{IfOk-weaker}
 use Rattle.vk_model.specs.declared.entry.Entry.TheVariants as entry
 use Rattle.vk_model.specs.declared.resource.Kind.TheVariants as kind
 use Rattle.vk_model.specs.Trace.Objects.{of_buffer}
 use Rattle.vk_resources.proofs.Applying.{buffer_maker}
 use Rattle.vk_resources.proofs.Ending.{buffer_fits}
-use Rattle.vk_resources.proofs.Making.{own_done, own_rooms, own_allots, may_bind, bind_rooms, bind_done, bind_allots}
+use Rattle.vk_resources.proofs.Making.{own_done, may_bind, bind_done}
 use Rattle.vk_resources.proofs.Sharing.{all_elsewhere, shared_done, shared_rooms, shared_allots}
 use Rattle.vk_resources.proofs.resources.Resources.make_buffer.Goals as goal
 

@@ -1,4 +1,4 @@
-use Rattle.std.proofs.Common.{◌≡◌, ℕ, true, false, ap, sym, ◌∙◌, refl, subst, arith, Some, None}
+use Rattle.std.proofs.Common.{◌≡◌, ℕ, true, false, ap, sym, ◌∙◌, refl, subst, arith, Some}
 use Rattle.std.proofs.lemmas.Result.{IfOk-weaker}
 use Rattle.vk_model.specs.declared.entry.Entry.TheVariants as entry
 use Rattle.vk_model.specs.declared.resource.ImageInfo.{ImageInfo}
@@ -10,7 +10,7 @@ use Rattle.vma_pools.specs.declared.allocations.Asked.{Asked}
 use Rattle.vk_resources.specs.Inner.Steps.{BindReady}
 use Rattle.vk_resources.proofs.Applying.{image_maker}
 use Rattle.vk_resources.proofs.Ending.{image_fits, image_good}
-use Rattle.vk_resources.proofs.Making.{image_some, image_shaped, some_of, made_as, binds_as, shared_as, own_done, own_rooms, own_allots, may_bind, bind_rooms, bind_done, bind_allots}
+use Rattle.vk_resources.proofs.Making.{image_some, image_shaped, some_of, made_as, binds_as, shared_as, own_done, may_bind, bind_done}
 use Rattle.vk_resources.proofs.Sharing.{all_elsewhere, shared_done, shared_rooms, shared_allots}
 use Rattle.vk_resources.proofs.resources.Resources.make_image.Goals as goal
 

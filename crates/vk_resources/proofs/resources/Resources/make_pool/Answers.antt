@@ -1,5 +1,5 @@
 use Rattle.std.proofs.Common.{subst, OnOk}
-use Rattle.vk_resources.specs.Held.{Held, Stands}
+use Rattle.vk_resources.specs.Held.{Held}
 use Rattle.vk_resources.specs.Inner.Steps.{PoolMade}
 use Rattle.vk_resources.proofs.Backing.{pooled}
 use Rattle.vk_resources.proofs.resources.Resources.make_pool.Goals as goal

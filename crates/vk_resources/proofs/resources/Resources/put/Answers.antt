@@ -3,7 +3,7 @@ use Rattle.vk_model.specs.declared.resource.ImageInfo.{ImageInfo}
 use Rattle.vk_resources.specs.Held.{Held, Stands, AreShaped, placed_in}
 use Rattle.vk_resources.specs.Inner.Steps.{PutReady}
 use Rattle.vk_resources.proofs.Placing.{other_id}
-use Rattle.vk_resources.proofs.Applying.{put_places, put_bare, put_shaped}
+use Rattle.vk_resources.proofs.Putting.{put_places, put_bare, put_shaped}
 use Rattle.vk_resources.proofs.resources.Resources.put.Goals as goal
 
 pub invariant_of-self-in_default : goal.invariant_of-self-in_default
