@@ -41,6 +41,7 @@ pub fn judge<'a>(alloc: Global, trace: &'a [Entry]) -> Result<Option<Judged<'a>>
     Ok(with_start(points, next))
 }
 
+/// The points of a trace before its first fault, which is given, and that fault.
 pub fn with_start<'a>(points: Vec<Point<'a>>, next: Option<(At, Rule)>) -> Option<Judged<'a>>
     requires ordered { IsOrdered (past_of points.items) }
     requires fault { next ≡ fault (past_of points.items) }
