@@ -1,8 +1,8 @@
 -- What the rules promise of pools, and of what a resource asks of one.
-use Rattle.std.proofs.Common.{◌≡◌, ◌⊎◌, inl, inr, ℕ, suc, zero, ◌+◌, ◌*◌, ◌/◌, ◌%◌, ◌^◌, ◌<◌, ◌≤◌, List, [], ◌∷◌, Bool, true, false, ◌||◌, ◌==◌, not, max, nat_lt, fold, refl, ap, sym, ◌∙◌, subst, arith, Option, Some, None}
-use Rattle.std.specs.Prelude.{IsTrue, Contains, IsSomeAnd, option_and_then}
+use Rattle.std.proofs.Common.{◌≡◌, ◌⊎◌, inl, inr, ℕ, suc, zero, ◌+◌, ◌*◌, ◌/◌, ◌%◌, ◌^◌, ◌<◌, ◌≤◌, List, [], ◌∷◌, false, ◌||◌, ◌==◌, not, max, nat_lt, fold, refl, ap, ◌∙◌, subst, arith, Some}
+use Rattle.std.specs.Prelude.{IsTrue, Contains, option_and_then}
 use Rattle.std.specs.List.{range_with_len, sum_by}
-use Rattle.std.proofs.lemmas.Bool.{eqb-true, eqb-false, or_parts}
+use Rattle.std.proofs.lemmas.Bool.{eqb-true, or_parts}
 use Rattle.std.proofs.Math.Nat.{mul-mod_left, mul-pos, div-add-mod}
 use Rattle.vk_model.specs.declared.entry.Entry.{Entry}
 use Rattle.vk_model.specs.declared.entry.Entry.TheVariants as entry
@@ -15,8 +15,8 @@ use Rattle.vk_model.specs.Basics.{holds, below, round_up}
 use Rattle.vk_model.specs.Memory.Suballocation.{IsRequest}
 use Rattle.vk_model.specs.Rules.Ids.{is_pool, asked_by_entry}
 use Rattle.vk_model.specs.Rules.Sizes.{is_outside, bad_image, bad_pool}
-use Rattle.vk_model.specs.Trace.Image.{texel, level_width, level_height, tiles_across, tiles_down, level_size, layer_size, row_pitch, image_size, image_align}
-use Rattle.vk_model.specs.Trace.Objects.{Resource, made, live, pool, pool_in, pool_at, resource_in, of_buffer, of_image}
+use Rattle.vk_model.specs.Trace.Image.{texel, tiles_across, tiles_down, level_size, layer_size, row_pitch, image_size, image_align}
+use Rattle.vk_model.specs.Trace.Objects.{Resource, made, live, pool, pool_in, pool_at, resource_in}
 use Rattle.vk_model.specs.Trace.Point.{Past, Point, Host}
 use Rattle.vk_model.proofs.Lists.Members.{contains-head}
 use Rattle.vk_image_tiles.proofs.LevelBounds.{counts, some_bytes}

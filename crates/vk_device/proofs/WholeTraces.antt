@@ -1,5 +1,5 @@
 -- The entries of a trace, one after another.
-use Rattle.std.proofs.Common.{◌≡◌, ◌⊎◌, inr, ℕ, suc, ◌+◌, ◌<◌, ◌≤◌, List, [], ◌∷◌, ◌++◌, length, take, drop, map, Bool, true, false, ◌==◌, refl, ap, sym, ◌∙◌, subst, arith, get_or, append-nil, append_assoc, Option, Some, None, IsTrue, zero}
+use Rattle.std.proofs.Common.{◌≡◌, ◌⊎◌, inr, ℕ, suc, ◌+◌, ◌<◌, ◌≤◌, List, [], ◌∷◌, ◌++◌, length, take, drop, Bool, true, false, ◌==◌, refl, ap, sym, ◌∙◌, subst, arith, get_or, append-nil, append_assoc, Option, Some, None, IsTrue, zero}
 use Rattle.std.specs.Prelude.{⊤, if◌then◌else◌}
 use Rattle.std.proofs.lemmas.Bool.{eqb-true, eq-eqb}
 use Rattle.std.proofs.lemmas.Option.{slice_get-get_or}
@@ -27,7 +27,7 @@ use Rattle.vk_resources.specs.declared.applied.Applied.TheVariants as applied
 use Rattle.vk_backing.specs.Allotted as backing
 use Rattle.vk_backing.specs.Allotted.{Allotted, Fulfils}
 use Rattle.vk_backing.specs.Backed.{Backed}
-use Rattle.vk_resources.specs.Allocating.{IsAllocated, allotted, Rooms, Allots}
+use Rattle.vk_resources.specs.Allocating.{IsAllocated, Rooms, Allots}
 use Rattle.vk_memory.specs.MemoryState.{MemoryState}
 use Rattle.vk_device.specs.Empty.{nothing_backed}
 use Rattle.vk_device.specs.declared.device.Device.{Device}
