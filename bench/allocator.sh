@@ -9,6 +9,12 @@
 # step taking a random one out of a list and putting it in elsewhere. They say what the machine gives.
 # The rows `full` aren't about speed as the others: the block is full, so that most requests need a
 # walk of all lists, or find no room.
+#
+# The second table is of an allocation alone, in nanoseconds: with so many ranges live, random ones are
+# given back, 256 at a time, and then as many are allocated, over and over, and the program says how
+# long either took, by the clock. From both the time of the draws is taken away. Below two rows is the
+# ratio of the second to the first. In the rows `walk` the block is full: the last of each run of
+# requests finds no room, after a walk of all ranges. Their draws are left in: no block, no full one.
 top=$(cd "$(dirname "${BASH_SOURCE[0]}")/.." && pwd)
 if [ -z "${PROGRAM:-}" ]; then
     PROGRAM=$top/crates/allocator_steps/out/allocator_steps
@@ -168,4 +174,90 @@ for live in 10000 100000; do
         links_row "links_$live" "$n" "$live"
     done
 done
+
+# How many ranges are given back at a time.
+batch=256
+
+# LIVE: sets `steps`, `wanted` and `options` for so many ranges that are live beside as many bytes free.
+with_room() {
+    steps=$(($1 + 2 * batch * 4000))
+    wanted=$(answered "$steps" "$1" "$batch")
+    options=(--live "$1" --largest 160)
+}
+
+# LIVE: the same for about so many ranges that fill the block, where some requests find no room.
+without_room() {
+    steps=$(($1 + 10000))
+    wanted=-
+    options=(--live 1000000 --largest $((33440000 / $1 / 16 * 16)))
+}
+
+# FILE MODE: one run with the clock; what it prints goes to the end of the file.
+clocked() {
+    "$PROGRAM" tlsf "$2" --clock --size "$block" --steps "$steps" --order any --align 16 \
+        --returns "$batch" "${options[@]}" >>"$1" 2>>"$folder/complaint" || echo >>"$1"
+}
+
+# FILE: sets `request` and `return` to the nanoseconds that each took in the fastest run.
+per_call() {
+    read -r request return < <(awk '
+        { a = $12 / ($10 + 0 ? $10 : 1); b = $17 / ($15 + 0 ? $15 : 1) }
+        NR == 1 || a < request { request = a }
+        NR == 1 || b < back { back = b }
+        END { printf "%.1f %.1f\n", request, back }' "$1")
+}
+
+print_alone() {
+    printf '%-28s %10s %12s %10s %15s %11s  %s\n' "$@"
+}
+
+# NAME: a row of an allocation alone from what runs wrote, and `allocation` set to its nanoseconds.
+alone_row() {
+    local drawn_request=0 drawn_return=0 fault=
+    if [ -s "$folder/draws" ]; then
+        per_call "$folder/draws"
+        drawn_request=$request
+        drawn_return=$return
+    fi
+    per_call "$folder/steps"
+    answer=$(cut -d ' ' -f 1-8 "$folder/steps" | sort -u)
+    if ! awk -v n="$steps" -v wanted="$wanted" '
+        { right = $2 + $4 + $6 == n && (wanted == "-" || $2 == wanted && $4 == 0) }
+        END { exit !(NR == 1 && right) }' <<<"$answer"; then
+        fault="WRONG: $answer, and $wanted wanted; $(head -c 60 "$folder/complaint")"
+        wrong=$((wrong + 1))
+    fi
+    allocation=$(awk -v all="$request" -v draw="$drawn_request" 'BEGIN { printf "%.1f", all - draw }')
+    print_alone "$1" "$steps" "$request" "$drawn_request" "$allocation" \
+        "$(awk -v all="$return" -v draw="$drawn_return" 'BEGIN { printf "%.1f", all - draw }')" \
+        "${fault:-as wanted}"
+}
+
+# NAME ROOM: two rows, whose runs take turns so that a busy machine slows both, and their ratio.
+alone_rows() {
+    local name=$1 run live first
+    rm -f "$folder"/{draws,steps}.*
+    : >"$folder/complaint"
+    for run in $(seq "$runs"); do
+        for live in 10000 100000; do
+            "$2" "$live"
+            clocked "$folder/steps.$live" time
+            [ "$wanted" = - ] || clocked "$folder/draws.$live" draw
+        done
+    done
+    for live in 10000 100000; do
+        "$2" "$live"
+        mv "$folder/steps.$live" "$folder/steps"
+        mv "$folder/draws.$live" "$folder/draws" 2>/dev/null || : >"$folder/draws"
+        alone_row "${name}_${live}_live"
+        [ "$live" -ne 10000 ] || first=$allocation
+    done
+    print_alone "${name}_ratio" "" "" "" \
+        "$(awk -v a="$first" -v b="$allocation" 'BEGIN { if (a > 0) printf "%.2f", b / a }')" "" ""
+}
+
+echo
+print_alone "alone, best of $runs" steps "request, ns" "draw, ns" "allocation, ns" "return, ns" ""
+alone_rows alone with_room
+alone_rows walk without_room
 finish

@@ -8,7 +8,8 @@
 //! kinds; `stack`, `ring` and `double` linear ones. `MODE` is `print`, which writes each step and
 //! its answer, one a line; `time`, which writes how many requests were made and answered, and a sum
 //! of the answers; or `draw`, which makes the draws without a block, for what they take alone. The
-//! same arguments give the same steps.
+//! same arguments give the same steps. With `--clock`, `time` and `draw` also write how long requests
+//! took, and how long returns, from the first return on.
 #![tactic(auto)]
 
 mod drawing;
@@ -27,13 +28,13 @@ use linear_block::LinearBlock;
 use list_block::ListBlock;
 use live_block::LiveBlock;
 use no_block::NoBlock;
-use observers::{Lines, Sum};
-use plan::{BlockKind, Mode, Plan};
-use std::rt::Env;
+use observers::{Lines, Sum, Times};
+use plan::{BlockKind, Mode, Plan, Telling};
+use std::rt::{Clock, Env};
 use std::{env, io};
 
 /// Makes the steps on a block, and writes what they give.
-fn make_steps<R: Print + Alloc, B: LiveBlock>(
+fn make_steps<R: Print + Alloc + Clock, B: LiveBlock>(
     rt: &R,
     block: &mut B,
     plan: &Plan,
@@ -41,17 +42,25 @@ fn make_steps<R: Print + Alloc, B: LiveBlock>(
     if let Mode::Print = plan.mode {
         let mut lines = Lines::new(io::BufWriter::new(rt.alloc(), io::writer(rt))?);
         steps::run(block, plan, &mut lines)?;
-        lines.finish(block)
-    } else {
-        let mut sum = Sum::new();
-        steps::run(block, plan, &mut sum)?;
-        println!(rt; "{sum}")?;
-        Ok(())
+        return lines.finish(block);
     }
+    match plan.telling {
+        Telling::Sum => {
+            let mut sum = Sum::new();
+            steps::run(block, plan, &mut sum)?;
+            println!(rt; "{sum}")?;
+        }
+        Telling::Times => {
+            let mut times = Times::new(rt);
+            steps::run(block, plan, &mut times)?;
+            println!(rt; "{times}")?;
+        }
+    }
+    Ok(())
 }
 
 /// Makes the steps that the arguments ask for.
-fn perform<R: Env + Print + AllocGlobal>(rt: &R) -> anyhow::Result<()> {
+fn perform<R: Env + Print + AllocGlobal + Clock>(rt: &R) -> anyhow::Result<()> {
     let alloc = rt.alloc();
     let arguments = env::args(rt)?.collect::<Vec<String>>(alloc)?;
     let plan = options::read(alloc, arguments.as_slice())?;

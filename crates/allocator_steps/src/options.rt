@@ -1,8 +1,8 @@
 ghost use Rattle.std.specs.Prelude.{◌<◌, ◌≤◌, ◌^◌};
 
-use crate::plan::{Alignment, BlockKind, Mode, Order, Plan};
+use crate::plan::{Alignment, BlockKind, Mode, Order, Plan, Telling};
 use crate::request::UNIT;
-use clap::{Arg, ArgMatches, Command, Error, value_parser};
+use clap::{Arg, ArgAction, ArgMatches, Command, Error, value_parser};
 use std::alloc::{AllocError, Global};
 
 /// The most bytes that a block may have.
@@ -50,12 +50,17 @@ fn command<'a>(alloc: Global) -> Result<Command<'a>, AllocError> {
         .value_parser(["16", "64", "256", "drawn"].as_slice())
         .default_value("drawn")
         .help("What requests are aligned to");
+    let clock = Arg::new(alloc, "clock")
+        .long("clock")
+        .action(ArgAction::SetTrue)
+        .help("Tells how long requests and returns took, from the first return on");
     let command = Command::new(alloc, "allocator_steps")
         .about("Makes random steps on one block of memory of which ranges are taken")
         .arg(block)?
         .arg(mode)?
         .arg(order)?
-        .arg(align)?;
+        .arg(align)?
+        .arg(clock)?;
     numbers(alloc, command)
 }
 
@@ -105,6 +110,11 @@ pub fn read(alloc: Global, arguments: &[String]) -> Result<Plan, Error> {
     Ok(Plan {
         block,
         mode: mode_of(&matches),
+        telling: if matches.get_flag("clock") {
+            Telling::Times
+        } else {
+            Telling::Sum
+        },
         size: block_bytes(&matches),
         steps: number_of(&matches, "steps"),
         seed: number_of(&matches, "seed"),

@@ -26,6 +26,15 @@ pub enum Mode {
     Draw,
 }
 
+/// What is told of steps that aren't written.
+#[derive(Clone, Copy, Debug, PartialEq, Eq)]
+pub enum Telling {
+    /// A sum of their answers.
+    Sum,
+    /// It, and how long requests and returns took.
+    Times,
+}
+
 /// Which of the live ranges is given back.
 #[derive(Clone, Copy, Debug, PartialEq, Eq)]
 pub enum Order {
@@ -59,6 +68,8 @@ pub struct Plan {
     pub block: BlockKind,
     /// What is done with the steps.
     pub mode: Mode,
+    /// What is told of them where they aren't written.
+    pub telling: Telling,
     /// The block's bytes.
     pub size: u64,
     /// How many steps are made.

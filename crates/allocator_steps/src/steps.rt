@@ -14,8 +14,14 @@ pub fn run<B: LiveBlock, O: Observer>(
 ) -> anyhow::Result<()> {
     let mut drawing = Drawing::new(plan.seed);
     let mut returns = 0;
+    let mut was_return = false;
     for step in 0..plan.steps {
-        if returns > 0 && block.live() > 0 {
+        let is_return = returns > 0 && block.live() > 0;
+        if is_return != was_return {
+            observer.turned(step, is_return)?;
+            was_return = is_return;
+        }
+        if is_return {
             returns -= 1;
             give_back(block, plan, &mut drawing, observer)?;
         } else {

@@ -22,4 +22,5 @@ pub mod CountedLemmas
 pub mod SettledLemmas
 pub mod SettledBacks
 pub mod ResidentLemmas
+mod KeptNumbers
 mod ListingLemmas

@@ -1,6 +1,6 @@
 -- Allocations of a pool in the order of their places.
 use Rattle.std.proofs.Common.{◌≡◌, ℕ, zero, suc, ◌+◌, ◌-◌, ◌<◌, List, [], ◌∷◌, ◌++◌, length, get_or, map, reverse, take, Option, None, refl, sym, ap, subst, ◌∙◌, arith, inl, inr}
-use Rattle.std.specs.Prelude.{AllPairs, IsPermutation}
+use Rattle.std.specs.Prelude.{AllPairs, IsPermutation, slice_index_or}
 use Rattle.std.specs.List.Sorted.{IsSortedByKey, IsStableByKey}
 use Rattle.std.specs.Ordering.{nat_cmp}
 use Rattle.std.proofs.lemmas.Bool.{cases_eq}
@@ -12,10 +12,12 @@ use Rattle.vk_model.proofs.Memory.AllPairs.{pairs_permuted}
 use Rattle.vma_pools.specs.declared.listing.Listed.{Listed}
 use Rattle.vma_pools.specs.declared.allocations.Allocation.{Allocation}
 use Rattle.vma_pools.specs.State.{PoolsState, ArePools}
-use Rattle.vma_pools.specs.Listing.{AreByPlace, resident_at, residents_from, residents_of}
+use Rattle.vma_pools.specs.Listing.{AreByPlace, resident_at, residents_of}
 use Rattle.vma_pools.specs.Inner.Listed.{AreInOrder, IsNotAbove, resident}
+use Rattle.vma_pools.specs.Inner.Numbers.{residents_at}
 use Rattle.vma_pools.proofs.WalkLemmas.{get_or-map-in}
-use Rattle.vma_pools.proofs.ResidentLemmas.{IsElsewhere, residents-apart, residents-more}
+use Rattle.vma_pools.proofs.KeptNumbers.{residents-next}
+use Rattle.vma_pools.proofs.ResidentLemmas.{IsElsewhere, residents-apart}
 
 -- ---- the two sorts
 
@@ -112,10 +114,9 @@ listed-by-place s h pool xs ys numbers are same order is =
 
 -- ---- one after another
 
-pub listed-more : (pool i : ℕ) (xs : List (Option Allocation)) (found more new : List Listed) → i < length xs → map resident found ≡ residents_from pool 0 (take i xs)
-    → resident_at pool i (get_or xs i None) ≡ map resident more → new ≡ found ++ more → map resident new ≡ residents_from pool 0 (take (i + 1) xs)
-listed-more pool i xs found more new lt was here is =
-    let e : suc i ≡ i + 1 = omega arith in let z : 0 + i ≡ i = omega arith in
+pub listed-more : (pool k : ℕ) (xs : List (Option Allocation)) (ns : List ℕ) (found more new : List Listed) (o : Option Allocation) → k < length ns → map resident found ≡ residents_at pool xs (take k ns)
+    → o ≡ slice_index_or xs (get_or ns k 0) None → resident_at pool (get_or ns k 0) o ≡ map resident more → new ≡ found ++ more → map resident new ≡ residents_at pool xs (take (k + 1) ns)
+listed-more pool k xs ns found more new o lt was entry here is =
     ap (λ (l : List Listed). map resident l) is ∙ map-append resident found more ∙ ap (λ (l : List Resident). l ++ map resident more) was
-    ∙ ap (λ (l : List Resident). residents_from pool 0 (take i xs) ++ l) (sym here) ∙ ap (λ (n : ℕ). residents_from pool 0 (take i xs) ++ resident_at pool n (get_or xs i None)) (sym z)
-    ∙ sym (residents-more pool 0 xs i None lt) ∙ ap (λ (n : ℕ). residents_from pool 0 (take n xs)) e
+    ∙ ap (λ (l : List Resident). residents_at pool xs (take k ns) ++ l) (sym here ∙ ap (λ (p : Option Allocation). resident_at pool (get_or ns k 0) p) entry)
+    ∙ sym (residents-next pool xs ns k lt) ∙ ap (λ (n : ℕ). residents_at pool xs (take n ns)) (let e : suc k ≡ k + 1 = omega arith in e)

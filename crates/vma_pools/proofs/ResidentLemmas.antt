@@ -1,8 +1,7 @@
 -- The allocations of a pool as its resources: each is where it lies, and no two are at one place.
-use Rattle.std.proofs.Common.{◌≡◌, ℕ, zero, suc, ◌+◌, ◌<◌, List, [], ◌∷◌, ◌++◌, length, get_or, take, Bool, true, false, ◌==◌, Option, Some, None, refl, sym, ap, subst, ◌∙◌, arith}
+use Rattle.std.proofs.Common.{◌≡◌, ℕ, zero, suc, ◌+◌, ◌<◌, List, [], ◌∷◌, ◌++◌, get_or, Bool, true, false, ◌==◌, Option, Some, None, refl, sym, ap, subst, ◌∙◌, arith}
 use Rattle.std.specs.Prelude.{All, AllPairs, if◌then◌else◌, slice_index_or}
 use Rattle.std.proofs.lemmas.Bool.{eqb-true}
-use Rattle.std.proofs.lemmas.List.{append-nil, append_assoc}
 use Rattle.std.proofs.lemmas.List.Elements.{All-nil, All-cons}
 use Rattle.vk_model.specs.Memory.MoveTargets.{BlockStart, Resident}
 use Rattle.vma_pools.specs.declared.pool.PoolPlace.{PoolPlace}
@@ -10,20 +9,7 @@ use Rattle.vma_pools.specs.declared.allocations.Allocation.{Allocation}
 use Rattle.vma_pools.specs.declared.allocations.Home.{Home}
 use Rattle.vma_pools.specs.declared.allocations.Home.TheVariants as home
 use Rattle.vma_pools.specs.State.{PoolsState, shared_place, start_of, request_in, IsHeld, ArePools}
-use Rattle.vma_pools.specs.Listing.{resident_in, resident_at, residents_from, residents_of}
-
--- ---- one after another
-
-pub residents-more : (pool k : ℕ) (xs : List (Option Allocation)) (i : ℕ) (d : Option Allocation) → i < length xs
-    → residents_from pool k (take (suc i) xs) ≡ residents_from pool k (take i xs) ++ resident_at pool (k + i) (get_or xs i d)
-residents-more pool k [] i d lt = absurd (omega (arith, lt))
-residents-more pool k (x ∷ xs) zero d lt =
-    let e : k ≡ k + zero = omega arith in
-    append-nil (resident_at pool k x) ∙ ap (λ (n : ℕ). resident_at pool n x) e
-residents-more pool k (x ∷ xs) (suc i) d lt =
-    let e : k + 1 + i ≡ k + suc i = omega arith in
-    ap (λ (l : List Resident). resident_at pool k x ++ l) (residents-more pool (k + 1) xs i d (omega (arith, lt)) ∙ ap (λ (n : ℕ). residents_from pool (k + 1) (take i xs) ++ resident_at pool n (get_or xs i d)) e)
-    ∙ sym (append_assoc (resident_at pool k x) (residents_from pool (k + 1) (take i xs)) (resident_at pool (k + suc i) (get_or xs i d)))
+use Rattle.vma_pools.specs.Listing.{resident_in, residents_from, residents_of}
 
 -- ---- each is where its allocation lies, and the numbers rise
 

@@ -1,42 +1,67 @@
--- Each pool and allocation keeps its memory object when a place is reserved, and when one of two is given back.
+-- Each pool and allocation keeps its memory object when an allocation changes where it lies in a pool, or nothing of where it lies.
 use Rattle.std.proofs.Common.{◌≡◌, ℕ, List, set, false, Option, Some, None, refl, sym, ap, subst, ◌∙◌, inl, inr}
 use Rattle.std.specs.Prelude.{IfSome, slice_index_or}
 use Rattle.std.proofs.lemmas.Bool.{cases_eq}
 use Rattle.vk_memory.specs.MemoryState.{MemoryState, IsLive}
 use Rattle.vma_pools.specs.declared.pool.PoolPlace.{PoolPlace}
 use Rattle.vma_pools.specs.declared.allocations.Allocation.{Allocation}
+use Rattle.vma_pools.specs.declared.allocations.Asked.{Asked}
 use Rattle.vma_pools.specs.declared.allocations.Home.TheVariants as home
 use Rattle.vma_pools.specs.Pools.{Kept, TakesTarget}
-use Rattle.vma_pools.specs.State.{PoolsState, pool_at, allocation_at, Owner, Alone, BlockOf, Has, ArePools, Backs, LosesBlock, released, request_in, start_of}
+use Rattle.vma_pools.specs.State.{PoolsState, pool_at, allocation_at, Owner, Alone, BlockOf, Has, ArePools, Backs, with_allocation, LosesBlock, released, request_in, start_of}
 use Rattle.vma_pools.specs.Moves.{IsSettled}
 use Rattle.vma_pools.proofs.NumberLemmas.{at-below, at-set, at-other}
 use Rattle.vma_pools.proofs.StateLemmas.{some-is, given-info}
 use Rattle.vma_pools.proofs.CallLemmas.{block-live}
 use Rattle.vma_pools.proofs.ReleaseLemmas.{same-left-backs, gone-left-backs}
 
+-- an allocation of a state that lies where one does, and asked the same
+abbrev IsLike : PoolsState → ℕ → Allocation → Type 0
+IsLike s i a = (b : Allocation) × (allocation_at s i ≡ Some b) × (b.home ≡ a.home) × (b.asked ≡ a.asked)
+
 -- each allocation with a memory object of its own was so before
-module _ (s t : PoolsState) (m : MemoryState) (backs : Backs s m) (pools : t.pools ≡ s.pools) (alone : (i : ℕ) (a : Allocation) (n : ℕ) → allocation_at t i ≡ Some a → a.home ≡ home.Own n → allocation_at s i ≡ Some a) where
+module _ (s t : PoolsState) (m : MemoryState) (backs : Backs s m) (pools : t.pools ≡ s.pools) (alone : (i : ℕ) (a : Allocation) (n : ℕ) → allocation_at t i ≡ Some a → a.home ≡ home.Own n → IsLike s i a) where
   pool-was : (p : ℕ) (k : Kept) → pool_at t p ≡ Some k → pool_at s p ≡ Some k
   pool-was p k at = ap (λ (l : List (Option Kept)). slice_index_or l p None) (sym pools) ∙ at
 
   has-was : (x : Owner) (n : ℕ) → Has t x n → Has s x n
-  has-was (Alone i) n has = (has.0, alone i has.0 n has.1 has.2, has.2)
+  has-was (Alone i) n has = let was = alone i has.0 n has.1 has.2 in (was.0, was.1, was.2 ∙ has.2)
   has-was (BlockOf p j) n has = (has.0, pool-was p has.0 has.1, has.2, has.3)
 
   pub fewer-backs : Backs t m
   fewer-backs = record {
-    own = λ i a n at own. backs.own i a n (alone i a n at own) own;
+    own = λ i a n at own. let was = alone i a n at own in backs.own i was.0 n was.1 (was.2 ∙ own) ∙ ap (λ (x : Asked). x.size) was.3;
     blocks = λ p k j at lt. backs.blocks p k j (pool-was p k at) lt;
     apart = λ x y n a b. backs.apart x y n (has-was x n a) (has-was y n b);
   }
 
--- an allocation became one of a pool
-module _ (s : PoolsState) (m : MemoryState) (backs : Backs s m) (i : ℕ) (a b : Allocation) (live : allocation_at s i ≡ Some a) (p : ℕ) (place : PoolPlace) (lies : b.home ≡ home.Shared p place) where
-  pub pooled-backs : Backs (record s { allocations = set s.allocations i (Some b) }) m
-  pooled-backs = fewer-backs s (record s { allocations = set s.allocations i (Some b) }) m backs refl (λ j c n at own. elim (cases_eq j i) [
-    | inl is ↦ absurd (let e = sym lies ∙ ap (λ (x : Allocation). x.home) (some-is b c (sym (at-set s.allocations i (Some b) (at-below s.allocations i a live)) ∙ ap (λ (n : ℕ). slice_index_or (set s.allocations i (Some b)) n None) (sym is) ∙ at)) ∙ own in cc)
-    | inr other ↦ sym (at-other s.allocations i j (Some b) other) ∙ at
-  ])
+-- an allocation became another one
+module _ (s : PoolsState) (m : MemoryState) (backs : Backs s m) (i : ℕ) (a b : Allocation) (live : allocation_at s i ≡ Some a) where
+  abbrev changed : PoolsState
+  changed = with_allocation s i b
+
+  is-changed : (j : ℕ) (c : Allocation) → j ≡ i → allocation_at changed j ≡ Some c → b ≡ c
+  is-changed j c is at = some-is b c (sym (at-set s.allocations i (Some b) (at-below s.allocations i a live)) ∙ ap (λ (n : ℕ). allocation_at changed n) (sym is) ∙ at)
+
+  as-it-was : (j : ℕ) (c : Allocation) → (j ≡ i → ⊥) → allocation_at changed j ≡ Some c → IsLike s j c
+  as-it-was j c other at = (c, sym (at-other s.allocations i j (Some b) other) ∙ at, refl, refl)
+
+  -- one of a pool
+  module _ (p : ℕ) (place : PoolPlace) (lies : b.home ≡ home.Shared p place) where
+    pub pooled-backs : Backs changed m
+    pooled-backs = fewer-backs s changed m backs refl (λ j c n at own. elim (cases_eq j i) [
+      | inl is ↦ absurd (let e = sym lies ∙ ap (λ (x : Allocation). x.home) (is-changed j c is at) ∙ own in cc)
+      | inr other ↦ as-it-was j c other at
+    ])
+
+  -- one that lies where it lay
+  module _ (lies : b.home ≡ a.home) (asks : b.asked ≡ a.asked) where
+    pub unmoved-backs : Backs changed m
+    unmoved-backs = fewer-backs s changed m backs refl (λ j c n at own. elim (cases_eq j i) [
+      | inl is ↦ (let e = is-changed j c is at in
+          (a, ap (λ (n : ℕ). allocation_at s n) is ∙ live, sym lies ∙ ap (λ (x : Allocation). x.home) e, sym asks ∙ ap (λ (x : Allocation). x.asked) e))
+      | inr other ↦ as-it-was j c other at
+    ])
 
 -- a place was reserved for one
 module _ (s : PoolsState) (m : MemoryState) (backs : Backs s m) (i : ℕ) (a : Allocation) (live : allocation_at s i ≡ Some a) (p : ℕ) (from : PoolPlace) (lies : a.home ≡ home.Shared p from)

@@ -5,3 +5,4 @@ pub mod Lower
 pub mod Settling
 pub mod Counts
 pub mod Listed
+pub mod Numbers

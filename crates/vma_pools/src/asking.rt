@@ -2,6 +2,7 @@ ghost use Rattle.std.specs.Prelude.{◌≡◌, ◌↔◌, IsSome, IsTrue};
 ghost use Rattle.vma_pools.specs.State.{allocation_at, pool_at};
 
 use crate::allocations::Allocation;
+use crate::numbers::entry_at;
 use crate::pools::PoolsOf;
 use vma_blocks::PoolBlock;
 
@@ -21,9 +22,6 @@ impl<B: PoolBlock> PoolsOf<B> {
     pub fn allocation(&self, allocation: u64) -> Option<Allocation>
         ensures { result ≡ allocation_at self.now allocation }
     {
-        match self.allocations.get(allocation as usize) {
-            Some(entry) => *entry,
-            None => None,
-        }
+        entry_at(&self.allocations, allocation)
     }
 }

@@ -8,6 +8,7 @@ mod counted;
 mod listing;
 mod lower;
 mod moving;
+mod numbers;
 mod pool;
 mod pools;
 mod settling;

@@ -2,10 +2,12 @@ ghost use Rattle.std.specs.Prelude.{◌≡◌, [], ◌∷◌, map, IfOk, IsSome,
 ghost use Rattle.std.specs.List.Sorted.{IsPermutation};
 ghost use Rattle.vk_model.specs.Memory.Pools.{AreStatistics, numbered_blocks};
 ghost use Rattle.vma_pools.specs.State.{IfKept, pool_at};
-ghost use Rattle.vma_pools.specs.Listing.{AreByPlace, resident_at, residents_from};
+ghost use Rattle.vma_pools.specs.Listing.{AreByPlace, resident_at};
 ghost use Rattle.vma_pools.specs.Inner.Listed.{AreInOrder, resident};
+ghost use Rattle.vma_pools.specs.Inner.Numbers.{residents_at};
 
 use crate::allocations::{Allocation, Asked, Home};
+use crate::numbers::entry_at;
 use crate::pool::PoolPlace;
 use crate::pools::PoolsOf;
 use std::alloc::{AllocError, Global};
@@ -40,17 +42,18 @@ fn listed_at(pool: u64, number: u64, entry: Option<Allocation>) -> Option<Listed
     }
 }
 
-/// The allocations of a pool, by their numbers.
+/// The allocations of a pool among those of some numbers.
 fn listed_in(
     alloc: Global,
     allocations: &[Option<Allocation>],
+    numbers: &[u64],
     pool: u64,
 ) -> Result<Vec<Listed>, AllocError>
-    ensures { IfOk result (λ found. map resident found.items ≡ residents_from pool 0 allocations.now) }
+    ensures { IfOk result (λ found. map resident found.items ≡ residents_at pool allocations.now numbers.now) }
 {
     let mut found = Vec::new(alloc);
-    for (number, entry) in allocations.iter().enumerate() {
-        if let Some(one) = listed_at(pool, number as u64, *entry) {
+    for number in numbers {
+        if let Some(one) = listed_at(pool, *number, entry_at(allocations, *number)) {
             found.push(one)?;
         }
     }
@@ -86,12 +89,12 @@ impl<B: PoolBlock> PoolsOf<B> {
         kept.stats()
     }
 
-    /// The numbers of a pool's allocations by place, from the highest down. The only error is want of
-    /// memory.
+    /// The numbers of a pool's allocations by place, from the highest down. It takes as long as
+    /// allocations are live, and not as long as were made. The only error is want of memory.
     pub fn by_place(&self, pool: u64) -> Result<Vec<u64>, AllocError>
         ensures { IfOk result (λ numbers. AreByPlace self.now pool numbers.items) }
     {
-        let mut found = listed_in(self.alloc, &self.allocations, pool)?;
+        let mut found = listed_in(self.alloc, &self.allocations, &self.numbers, pool)?;
         sort_by_place(&mut found)?;
         found.reverse();
         numbers_of(self.alloc, &found)

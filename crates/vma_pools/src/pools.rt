@@ -2,12 +2,13 @@ ghost use Rattle.std.specs.Prelude.{◌≡◌, ◌<◌, [], ◌∷◌, ◌++◌,
 ghost use Rattle.vk_model.specs.Memory.Pools.{empty_pool, state_of};
 ghost use Rattle.vma_blocks.specs.PoolInfos.{IsPoolInfo};
 ghost use Rattle.vma_pools.specs.Pools.{Kept, heaps};
-ghost use Rattle.vk_memory.specs.MemoryState.{IsFull};
+ghost use Rattle.vk_memory.specs.MemoryState.{IsFull, MemoryState};
 ghost use Rattle.vk_model.specs.Memory.Suballocation.{IsRequest};
 ghost use Rattle.vk_model.specs.Memory.Room.{NoRoomInPool};
 
 use crate::allocations::{Allocation, Asked, Home};
 use crate::counted::CountedPool;
+use crate::numbers::leave_ended;
 use std::alloc::{AllocError, Global};
 use std::marker::Model;
 use vk_memory::{MapState, Memories, MemoryError};
@@ -21,16 +22,23 @@ pub struct PoolsOf<B: PoolBlock> {
     pub(crate) alloc: Global,
     pub(crate) pools: Vec<Option<CountedPool<B>>>,
     pub(crate) allocations: Vec<Option<Allocation>>,
+    /// The numbers of the live allocations, and of some that have ended, so that a walk over those
+    /// that live needn't go over all that were made.
+    pub(crate) numbers: Vec<u64>,
+    /// How many allocations are live. No contract rests on it.
+    live: usize,
 }
 
 impl<B: PoolBlock> Model for PoolsOf<B> {
-    ghost use Rattle.vma_pools.specs.State.{PoolsState, ArePools};
+    ghost use Rattle.vma_pools.specs.State.{PoolsState};
 
     ghost Value = { PoolsState };
 
     ghost view = { λ s. record { pools = s.pools.items; allocations = s.allocations.items } };
 
-    ghost invariant = { λ s. ArePools (record { pools = s.pools.items; allocations = s.allocations.items }) };
+    ghost use Rattle.vma_pools.specs.Inner.Numbers.{AreKept};
+
+    ghost invariant = { λ s. AreKept (record { pools = s.pools.items; allocations = s.allocations.items }) s.numbers.items };
 }
 
 impl<B: PoolBlock> PoolsOf<B> {
@@ -45,6 +53,8 @@ impl<B: PoolBlock> PoolsOf<B> {
             alloc,
             pools: Vec::new(alloc),
             allocations: Vec::new(alloc),
+            numbers: Vec::new(alloc),
+            live: 0,
         }
     }
 
@@ -96,6 +106,7 @@ impl<B: PoolBlock> PoolsOf<B> {
         ensures memories { OnErr result (memories.new ≡ memories.old) }
     {
         self.allocations.reserve(1)?;
+        self.numbers.reserve(1)?;
         let memory = memories.allocate(memory_type, asked.size)?;
         let number = self.allocations.len();
         self.allocations.push_reserved(Some(Allocation {
@@ -104,6 +115,8 @@ impl<B: PoolBlock> PoolsOf<B> {
             maps: 0,
             target: None,
         }));
+        self.numbers.push_reserved(number as u64);
+        self.live = self.live.saturating_add(1);
         Ok(number as u64)
     }
 
@@ -126,6 +139,7 @@ impl<B: PoolBlock> PoolsOf<B> {
         ensures memories { OnErr result (memories.new ≡ memories.old) }
     {
         self.allocations.reserve(1)?;
+        self.numbers.reserve(1)?;
         let number = self.allocations.len();
         let Some(kept) = &mut self.pools[pool as usize] else {
             unreachable!()
@@ -137,6 +151,8 @@ impl<B: PoolBlock> PoolsOf<B> {
             maps: 0,
             target: None,
         }));
+        self.numbers.push_reserved(number as u64);
+        self.live = self.live.saturating_add(1);
         Ok(number as u64)
     }
 
@@ -148,9 +164,11 @@ impl<B: PoolBlock> PoolsOf<B> {
         // What the type's invariant says.
         ensures always { ArePools self.old }
     {
+        leave_ended(self.alloc, &mut self.numbers, &self.allocations, self.live);
         let Some(ended) = self.allocations[allocation as usize].take() else {
             unreachable!()
         };
+        self.live = self.live.saturating_sub(1);
         match ended.home {
             Home::Own { memory } => Some(memory),
             Home::Shared { pool, place } => match &mut self.pools[pool as usize] {
@@ -205,7 +223,9 @@ impl<B: PoolBlock> PoolsOf<B> {
     /// Maps an allocation once more, as `vmaMapMemory`.
     pub fn map(&mut self, allocation: u64)
         requires { IfLive self.old allocation (λ a. a.maps + 1 < 2 ^ 32) }
-        ensures { IfLive self.old allocation (λ a. self.new ≡ with_allocation self.old allocation (record a { maps = a.maps + 1 })) }
+        ensures mapped { IfLive self.old allocation (λ a. self.new ≡ with_allocation self.old allocation (record a { maps = a.maps + 1 })) }
+        // The memory objects stay as they are, and so does what they are.
+        ensures backs { (m : MemoryState) → Backs self.old m → Backs self.new m }
     {
         let Some(live) = &mut self.allocations[allocation as usize] else {
             unreachable!()
@@ -219,6 +239,7 @@ impl<B: PoolBlock> PoolsOf<B> {
         ensures ok { OnOk result (IfLive self.old allocation (λ a. self.new ≡ with_allocation self.old allocation (record a { maps = a.maps - 1 }))) }
         ensures state { IfLive self.old allocation (λ a. IsOk result ↔ (0 < a.maps)) }
         ensures err { OnErr result (self.new ≡ self.old) }
+        ensures backs { (m : MemoryState) → Backs self.old m → Backs self.new m }
     {
         let Some(live) = &mut self.allocations[allocation as usize] else {
             unreachable!()

@@ -9,6 +9,9 @@ pub invariant_of-self : goal.invariant_of-self
 invariant_of-self g c =
     let f = c.self.inside in
     let s : PoolsState = record { pools = f.pools.items; allocations = f.allocations.items } in
-    pool-dropped s c.self.invariant c.args.pool
-    (some-below s.pools c.args.pool (subst (λ (t : PoolsState). IsSome (pool_at t c.args.pool)) (sym c.self.view_is) c.requires.live))
-    (subst (λ (t : PoolsState). IsUnused t c.args.pool) (sym c.self.view_is) c.requires.unused)
+    record {
+      pools = pool-dropped s c.self.invariant.pools c.args.pool
+          (some-below s.pools c.args.pool (subst (λ (t : PoolsState). IsSome (pool_at t c.args.pool)) (sym c.self.view_is) c.requires.live))
+          (subst (λ (t : PoolsState). IsUnused t c.args.pool) (sym c.self.view_is) c.requires.unused);
+      numbers = c.self.invariant.numbers;
+    }

@@ -1,7 +1,9 @@
 use Rattle.std.specs.Prelude.{◌^◌}
-use Rattle.std.proofs.Common.{◌+◌, ◌<◌, refl, sym, subst}
-use Rattle.vma_pools.specs.State.{PoolsState, IfLive}
+use Rattle.std.proofs.Common.{◌+◌, ◌<◌, Some, refl, sym, subst}
+use Rattle.vma_pools.specs.State.{PoolsState, Backs, IfLive}
 use Rattle.vma_pools.proofs.EndedLemmas.{live-here, same-places, turned-pools}
+use Rattle.vma_pools.proofs.SettledBacks.{unmoved-backs}
+use Rattle.vma_pools.proofs.KeptNumbers.{numbers-set}
 use Rattle.vma_pools.proofs.pools.PoolsOf.map.Goals as goal
 
 pub invariant_of-self : goal.invariant_of-self
@@ -9,4 +11,14 @@ invariant_of-self g c =
     let f = c.self.inside in let x = c.in-Some.live in
     let s : PoolsState = record { pools = f.pools.items; allocations = f.allocations.items } in
     let live = live-here s c.args.allocation (λ a. a.maps + 1 < 2 ^ 32) (subst (λ (t : PoolsState). IfLive t c.args.allocation (λ a. a.maps + 1 < 2 ^ 32)) (sym c.self.view_is) c.requires) c.index_mut.result.now x c.index_mut.ensures.value c.in-Some.is in
-    turned-pools s c.self.invariant c.args.allocation x (record x { maps = x.maps + 1 }) live (same-places x (record x { maps = x.maps + 1 }) refl refl) refl
+    record {
+      pools = turned-pools s c.self.invariant.pools c.args.allocation x (record x { maps = x.maps + 1 }) live (same-places x (record x { maps = x.maps + 1 }) refl refl) refl;
+      numbers = numbers-set f.numbers.items f.allocations.items c.args.allocation x (Some (record x { maps = x.maps + 1 })) live c.self.invariant.numbers;
+    }
+
+pub returns-clause-backs : goal.returns-clause-backs
+returns-clause-backs g c m backs =
+    let f = c.self.inside in let x = c.in-Some.live in
+    let s : PoolsState = record { pools = f.pools.items; allocations = f.allocations.items } in
+    let live = live-here s c.args.allocation (λ a. a.maps + 1 < 2 ^ 32) (subst (λ (t : PoolsState). IfLive t c.args.allocation (λ a. a.maps + 1 < 2 ^ 32)) (sym c.self.view_is) c.requires) c.index_mut.result.now x c.index_mut.ensures.value c.in-Some.is in
+    unmoved-backs s m (subst (λ (t : PoolsState). Backs t m) (sym c.self.view_is) backs) c.args.allocation x (record x { maps = x.maps + 1 }) live refl refl

@@ -8,5 +8,8 @@ pub invariant_of-self-2 : goal.invariant_of-self-2
 invariant_of-self-2 g c =
     let f = c.self.inside in
     let is = c.in_ok-push.ensures.items ∙ ap (λ (k : Kept). f.pools.items ++ Some k ∷ []) c.new.ensures in
-    subst (λ (l : List (Option Kept)). ArePools (record { pools = l; allocations = f.allocations.items })) (sym is)
-    (pool-made (record { pools = f.pools.items; allocations = f.allocations.items }) c.self.invariant c.args.info c.requires)
+    record {
+      pools = subst (λ (l : List (Option Kept)). ArePools (record { pools = l; allocations = f.allocations.items })) (sym is)
+          (pool-made (record { pools = f.pools.items; allocations = f.allocations.items }) c.self.invariant.pools c.args.info c.requires);
+      numbers = c.self.invariant.numbers;
+    }

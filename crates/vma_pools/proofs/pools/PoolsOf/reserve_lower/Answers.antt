@@ -1,9 +1,10 @@
-use Rattle.std.proofs.Common.{sym, subst}
+use Rattle.std.proofs.Common.{Some, sym, subst}
 use Rattle.vma_pools.specs.State.{PoolsState, Backs, IfLive, IsMovable, range_at}
 use Rattle.vma_pools.proofs.EndedLemmas.{live-here}
 use Rattle.vma_pools.proofs.CallLemmas.{found-pool, found-range, live-holds}
 use Rattle.vma_pools.proofs.MovingLemmas.{range-inside, place-reserved, movable-none}
 use Rattle.vma_pools.proofs.SettledBacks.{target-backs}
+use Rattle.vma_pools.proofs.KeptNumbers.{numbers-set}
 use Rattle.vma_pools.proofs.pools.PoolsOf.reserve_lower.Goals as goal
 
 pub take_lower-requires-clause-request : goal.take_lower-requires-clause-request
@@ -12,7 +13,7 @@ take_lower-requires-clause-request g c =
     let s : PoolsState = record { pools = f.pools.items; allocations = f.allocations.items } in
     let asks = subst (λ (t : PoolsState). IfLive t i (λ a. IsMovable t a.home a.target)) (sym c.self.view_is) c.requires in
     let live = live-here s i (λ a. IsMovable s a.home a.target) asks c.index.result.now a c.index.ensures c.in-Some.is in
-    c.self.invariant.requests i a live
+    c.self.invariant.pools.requests i a live
 
 pub take_lower-requires-clause-inside : goal.take_lower-requires-clause-inside
 take_lower-requires-clause-inside g c =
@@ -21,9 +22,9 @@ take_lower-requires-clause-inside g c =
     let asks = subst (λ (t : PoolsState). IfLive t i (λ a. IsMovable t a.home a.target)) (sym c.self.view_is) c.requires in
     let live = live-here s i (λ a. IsMovable s a.home a.target) asks c.index.result.now a c.index.ensures c.in-Some.is in
     let p = c.in-Shared.pool in let place = c.in-Shared.place in let lies = c.in-Shared.is in let k = c.in-Some-index_mut.kept in
-    let there = found-pool s c.self.invariant i a live p place lies c.index_mut.result.now c.index_mut.ensures.value k c.in-Some-index_mut.is in
-    range-inside k (c.self.invariant.pools p k there) place.block (range_at place.start a.asked)
-    (found-range s c.self.invariant i a live p place lies c.index_mut.result.now c.index_mut.ensures.value k c.in-Some-index_mut.is)
+    let there = found-pool s c.self.invariant.pools i a live p place lies c.index_mut.result.now c.index_mut.ensures.value k c.in-Some-index_mut.is in
+    range-inside k (c.self.invariant.pools.pools p k there) place.block (range_at place.start a.asked)
+    (found-range s c.self.invariant.pools i a live p place lies c.index_mut.result.now c.index_mut.ensures.value k c.in-Some-index_mut.is)
 
 pub invariant_of-self-2 : goal.invariant_of-self-2
 invariant_of-self-2 g c =
@@ -32,10 +33,13 @@ invariant_of-self-2 g c =
     let asks = subst (λ (t : PoolsState). IfLive t i (λ a. IsMovable t a.home a.target)) (sym c.self.view_is) c.requires in
     let live = live-here s i (λ a. IsMovable s a.home a.target) asks c.index.result.now a c.index.ensures c.in-Some.is in
     let p = c.in-Shared.pool in let place = c.in-Shared.place in let lies = c.in-Shared.is in let k = c.in-Some-index_mut.kept in
-    let there = found-pool s c.self.invariant i a live p place lies c.index_mut.result.now c.index_mut.ensures.value k c.in-Some-index_mut.is in
+    let there = found-pool s c.self.invariant.pools i a live p place lies c.index_mut.result.now c.index_mut.ensures.value k c.in-Some-index_mut.is in
     let none = movable-none s a.home a.target (live-holds s i (λ a. IsMovable s a.home a.target) asks a live) in
     let takes = rw c.in-Some-2.is at c.in_ok-target.ensures.ok in
-    place-reserved s c.self.invariant i a live p place lies none k c.take_lower.new.self there c.in-Some-2.target takes
+    record {
+      pools = place-reserved s c.self.invariant.pools i a live p place lies none k c.take_lower.new.self there c.in-Some-2.target takes;
+      numbers = numbers-set f.numbers.items f.allocations.items i a (Some (record a { target = Some c.in-Some-2.target })) live c.self.invariant.numbers;
+    }
 
 pub returns-clause-backs : goal.returns-clause-backs
 returns-clause-backs g c m backs =
@@ -44,5 +48,5 @@ returns-clause-backs g c m backs =
     let asks = subst (λ (t : PoolsState). IfLive t i (λ a. IsMovable t a.home a.target)) (sym c.self.view_is) c.requires in
     let live = live-here s i (λ a. IsMovable s a.home a.target) asks c.index.result.now a c.index.ensures c.in-Some.is in
     let p = c.in-Shared.pool in let place = c.in-Shared.place in let lies = c.in-Shared.is in let k = c.in-Some-index_mut.kept in
-    let there = found-pool s c.self.invariant i a live p place lies c.index_mut.result.now c.index_mut.ensures.value k c.in-Some-index_mut.is in
+    let there = found-pool s c.self.invariant.pools i a live p place lies c.index_mut.result.now c.index_mut.ensures.value k c.in-Some-index_mut.is in
     target-backs s m (subst (λ (t : PoolsState). Backs t m) (sym c.self.view_is) backs) i a live p place lies k c.take_lower.new.self there c.in-Some-2.target (rw c.in-Some-2.is at c.in_ok-target.ensures.ok)
