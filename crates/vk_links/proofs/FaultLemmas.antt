@@ -1,0 +1,84 @@
+-- The point that a trace is refused at, and what is told of it.
+use Rattle.std.proofs.Common.{◌≡◌, ◌∷◌, List, Some, None, true, Option, sym, ap, ◌∙◌, subst, ◌&&◌}
+use Rattle.std.specs.Prelude.{Contains, MatchOption}
+use Rattle.std.proofs.lemmas.Bool.{and_parts}
+use Rattle.vk_model.specs.declared.entry.Entry.{Entry}
+use Rattle.vk_model.specs.declared.rule.At.{At}
+use Rattle.vk_model.specs.declared.rule.Rule.{Rule}
+use Rattle.vk_model.specs.declared.rule.Rule.TheVariants as rule
+use Rattle.vk_model.specs.Trace.Point.{Past, Point}
+use Rattle.vk_model.specs.Trace.Order.{order}
+use Rattle.vk_model.specs.Rules.Fault.{Comes, newest, older}
+use Rattle.vk_model.specs.Sync.Node.{Node, nodes}
+use Rattle.vk_model.proofs.Trace.Structure.{order_ordered}
+use Rattle.vk_order.specs.Bytes.{byte_of}
+use Rattle.vk_order.specs.Places.{IsApart}
+use Rattle.vk_queues.proofs.NewPoints.{order_apart}
+use Rattle.vk_facts.specs.declared.facts.Fact.TheVariants as fact
+use Rattle.vk_facts.specs.declared.hazards.Hazard.{Hazard}
+use Rattle.vk_facts.specs.declared.hazards.Hazard.TheVariants.{War, Raw, Waw}
+use Rattle.vk_facts.specs.declared.hazards.HazardFact.{HazardFact}
+use Rattle.vk_facts.specs.Facts.{IsHazardOf, IsSo, IsToldOf}
+use Rattle.vk_model.specs.Sync.Access.{is_in}
+use Rattle.vk_facts.specs.Hazards.{node_at, is_missing, earlier_bytes, later_bytes}
+use Rattle.vk_facts.specs.Until.{IsNowhere, IsUntil}
+use Rattle.vk_facts.proofs.FaultLemmas.{same_point}
+use Rattle.vk_links.specs.declared.links.Links.{Links}
+use Rattle.vk_links.specs.Links.{AreLinks}
+use Rattle.vk_links.specs.Faults.{AreLinksAt}
+
+-- the points up to and with one have no two commands at one place
+apart_of : (all before : Past) (p : Point) → Comes all before p → IsApart all → IsApart (p ∷ before)
+apart_of all before p newest apart = apart
+apart_of all before p (older {past = rest} {q = q} come) apart = apart_of rest before p come apart.1
+
+pub until_apart : (t : List Entry) (at : At) (past : Past) → IsUntil (order t) at past → IsApart past
+until_apart t at past until = subst IsApart (sym until.here) (apart_of (order t) until.before until.point until.comes (order_apart t))
+
+-- ---- what is told of a hazard
+
+-- two nodes of a past of which something is missing
+pub record IsLacking (past : Past) (f : HazardFact) : Type 0 where
+  pub earlier : Contains (nodes past) (node_at f.earlier)
+  pub later : Contains (nodes past) (node_at f.later)
+  pub hazard : is_missing past f.hazard (node_at f.earlier) (node_at f.later) (byte_of f.byte) ≡ true
+
+lacking_of : (past : Past) (p : Point) (h : Hazard) (f : HazardFact) → IsHazardOf past p h (Some f) → IsLacking (p ∷ past) f
+lacking_of past p h f best =
+    let told = best.told in
+    let of = told.3 in
+    let is : is_missing (p ∷ past) h (node_at f.earlier) told.0 (byte_of f.byte) ≡ true = (and_parts (is_in (byte_of f.byte) (earlier_bytes (p ∷ past) h (node_at f.earlier)) && is_in (byte_of f.byte) (later_bytes (p ∷ past) h told.0)) _ of.found.1).1 in
+    record {
+      earlier = of.earlier;
+      later = subst (λ (n : Node). Contains (nodes (p ∷ past)) n) (sym of.later) told.1;
+      hazard = subst (λ (n : Node). is_missing (p ∷ past) f.hazard (node_at f.earlier) n (byte_of f.byte) ≡ true) (sym of.later)
+          (subst (λ (g : Hazard). is_missing (p ∷ past) g (node_at f.earlier) told.0 (byte_of f.byte) ≡ true) (sym of.hazard) is);
+    }
+
+lacking : (r : Rule) (past : Past) (p : Point) (f : HazardFact) → IsSo r past p (fact.Hazard f) → IsLacking (p ∷ past) f
+lacking rule.HazardWar past p f so = lacking_of past p War f so
+lacking rule.HazardRaw past p f so = lacking_of past p Raw f so
+lacking rule.HazardWaw past p f so = lacking_of past p Waw f so
+lacking _ past p f so = absurd so
+
+-- the point that is told of is the one up to which points are
+pub until_lacking : (t : List Entry) (at : At) (r : Rule) (f : HazardFact) (past : Past) → IsToldOf t at r (Some (fact.Hazard f)) → IsUntil (order t) at past → IsLacking past f
+until_lacking t at r f past told until =
+    let same = same_point (order t) told.before told.point told.comes until.before until.point until.comes (order_ordered t) (told.is_reported ∙ sym until.is_reported) in
+    let here : told.point ∷ told.before ≡ past = ap (λ (b : Past). told.point ∷ b) same.0 ∙ ap (λ (p : Point). p ∷ until.before) same.1 ∙ sym until.here in
+    subst (λ (l : Past). IsLacking l f) here (lacking r told.before told.point f told.told)
+
+pub until_links : (t : List Entry) (at : At) (f : HazardFact) (past : Past) (l : Links) → IsUntil (order t) at past → AreLinks past f.hazard (node_at f.earlier) (node_at f.later) (byte_of f.byte) l → AreLinksAt t at f l
+until_links t at f past l until are = record {
+  before = until.before;
+  point = until.point;
+  comes = until.comes;
+  is_reported = until.is_reported;
+  links = subst (λ (p : Past). AreLinks p f.hazard (node_at f.earlier) (node_at f.later) (byte_of f.byte) l) until.here are;
+}
+
+pub until_some : (t : List Entry) (at : At) (found : Option Past) (past : Past) → found ≡ Some past → MatchOption found (IsNowhere (order t) at) (IsUntil (order t) at) → IsUntil (order t) at past
+until_some t at found past is of = subst (λ (o : Option Past). MatchOption o (IsNowhere (order t) at) (IsUntil (order t) at)) is of
+
+pub told_somewhere : (t : List Entry) (at : At) (r : Rule) (f : HazardFact) (found : Option Past) → found ≡ None → IsToldOf t at r (Some (fact.Hazard f)) → MatchOption found (IsNowhere (order t) at) (IsUntil (order t) at) → ⊥
+told_somewhere t at r f found is told of = (subst (λ (o : Option Past). MatchOption o (IsNowhere (order t) at) (IsUntil (order t) at)) is of) told.before told.point told.comes told.is_reported

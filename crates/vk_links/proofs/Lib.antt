@@ -1,0 +1,7 @@
+mod FirstLemmas
+mod EdgeLemmas
+mod SendingLemmas
+mod ShowingLemmas
+mod MissingLemmas
+mod ExactLemmas
+mod FaultLemmas

@@ -1,0 +1,4 @@
+pub mod Links
+pub mod Faults
+pub mod Laws
+pub mod Inner
