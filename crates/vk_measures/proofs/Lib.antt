@@ -1,0 +1,4 @@
+pub mod AreaTests
+pub mod Reaching
+pub mod Lying
+pub mod SpanLemmas

@@ -1,0 +1,10 @@
+use Rattle.std.proofs.Common.{ℕ, ◌∙◌, sym}
+use Rattle.vk_queues.specs.PointViews.{past_of}
+use Rattle.vk_measures.specs.Subresources.{copies_at}
+use Rattle.vk_measures.proofs.SpanLemmas.{of_image_each}
+use Rattle.vk_measures.proofs.subresources.of_destination.Goals as goal
+
+pub returns-clause-told : goal.returns-clause-told
+returns-clause-told c =
+    of_image_each (past_of c.args.older.now) c.args.image_id c.in_ok-info.info (λ (s : ℕ). copies_at s c.args.image_id c.args.regions.now) c.outside_destinations.result
+    (sym c.in_ok-info.was ∙ c.image.ensures) c.outside_destinations.ensures.told

@@ -1,0 +1,22 @@
+-- Parts of what is told of pools, as single functions find them.
+use Rattle.std.specs.Prelude.{◌≡◌, ℕ, true, Some, option_map}
+use Rattle.vk_model.specs.declared.resource.Place.{Place}
+use Rattle.vk_model.specs.Trace.Point.{Past}
+use Rattle.vk_model.specs.Trace.Objects.{pool}
+use Rattle.vk_model.specs.Rules.Passes.{upper_pool}
+use Rattle.vk_measures.specs.declared.pools.PoolAsked.{PoolAsked}
+use Rattle.vk_measures.specs.declared.pools.PoolAsked.TheVariants as asked
+use Rattle.vk_measures.specs.declared.pools.PoolUse.{PoolUse}
+use Rattle.vk_measures.specs.Passes.{is_unable}
+
+-- This pool can't do it.
+abbrev pub IsUnable : Past → PoolAsked → ℕ → PoolUse → Type 0
+IsUnable past n p m =
+    (m.asked ≡ n) × (m.pool ≡ p) × (option_map (λ x. x.kind) (pool past p) ≡ Some m.kind) × (option_map (λ x. x.block_limit) (pool past p) ≡ Some m.block_limit)
+    × (is_unable n m.kind m.block_limit ≡ true)
+
+-- The pool of a place has no upper end.
+abbrev pub IsUnableAt : Past → Place → PoolUse → Type 0
+IsUnableAt past q m =
+    (m.asked ≡ asked.UpperEnd) × (upper_pool q ≡ Some m.pool) × (option_map (λ x. x.kind) (pool past m.pool) ≡ Some m.kind) × (option_map (λ x. x.block_limit) (pool past m.pool) ≡ Some m.block_limit)
+    × (is_unable m.asked m.kind m.block_limit ≡ true)

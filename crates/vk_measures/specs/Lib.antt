@@ -1,0 +1,12 @@
+pub mod Ranges
+pub mod Synchronization
+pub mod Subresources
+pub mod Sizes
+pub mod Counts
+pub mod Ids
+pub mod Owners
+pub mod Passes
+pub mod Binding
+pub mod Mapping
+pub mod Measures
+pub mod Inner

@@ -1,0 +1,103 @@
+-- USAGE, MEMORY_TYPE, MEMORY_SIZE and POOL_SIZE: which numbers are compared.
+use Rattle.std.specs.Prelude.{◌≡◌, ℕ, ◌*◌, ◌^◌, ◌<◌, ◌==◌, Bool, true, false, Option, Some, None, option_map, option_and_then, slice_get, nat_lt, min, if◌then◌else◌}
+use Rattle.vk_model.specs.declared.command.Cmd.{Cmd}
+use Rattle.vk_model.specs.declared.command.Element.{Element}
+use Rattle.vk_model.specs.declared.command.Element.TheVariants as element
+use Rattle.vk_model.specs.declared.entry.Entry.{Entry}
+use Rattle.vk_model.specs.declared.entry.Entry.TheVariants as entry
+use Rattle.vk_model.specs.declared.resource.Kind.{Kind}
+use Rattle.vk_model.specs.Trace.Point.{Past, Action, Host, Run}
+use Rattle.vk_model.specs.Trace.Objects.{resource, resource_in, pool, pool_at, type_at}
+use Rattle.vk_model.specs.World.Ownership.{elements_of, is_transition}
+use Rattle.vk_model.specs.Rules.Sizes.{is_outside, sources, destinations, lacks, allows}
+use Rattle.vk_measures.specs.declared.memories.BadSize.{BadSize}
+use Rattle.vk_measures.specs.declared.memories.BadType.{BadType}
+use Rattle.vk_measures.specs.declared.memories.OverHalf.{OverHalf}
+use Rattle.vk_measures.specs.declared.usages.Purpose.{Purpose}
+use Rattle.vk_measures.specs.declared.usages.Purpose.TheVariants as purpose
+use Rattle.vk_measures.specs.declared.usages.UsageLack.{UsageLack}
+use Rattle.vk_measures.specs.declared.usages.UsageMeasure.{UsageMeasure}
+use Rattle.vk_measures.specs.declared.usages.UsageMeasure.TheVariants as measure
+
+-- ---- USAGE
+
+-- The image that an element brings to TRANSFER_SRC_OPTIMAL 6 or TRANSFER_DST_OPTIMAL 7, and the usage that this needs: TRANSFER_SRC 1 or TRANSFER_DST 2 (Vulkan, "Image Layouts").
+abbrev pub layout_need : Element → Option (ℕ × ℕ)
+layout_need (element.Image e) =
+    if is_transition e then (if e.new_layout == 6 then Some (e.image, 1) else (if e.new_layout == 7 then Some (e.image, 2) else None)) else None
+layout_need _ = None
+
+-- The resource that a command uses for something, and the usage that this needs (Vulkan, "Buffers" and "Images").
+abbrev pub needed_for : Cmd → Purpose → Option (ℕ × ℕ)
+needed_for c purpose.Source = option_map (λ r. (r, 1)) (slice_get (sources c) 0)
+needed_for c purpose.Destination = option_map (λ r. (r, 2)) (slice_get (destinations c) 0)
+needed_for c (purpose.Layout k) = option_and_then layout_need (slice_get (elements_of c) k)
+
+-- A resource has this usage, and lacks one.
+abbrev pub HasUsage : Past → UsageLack → Type 0
+HasUsage past m = (option_map (λ u. u.0) m.usage ≡ option_map (λ r. r.usage) (resource past m.resource)) × (lacks past m.needed.0 m.resource ≡ true)
+
+-- A command uses this resource for something, which needs a usage that it lacks.
+abbrev pub IsLack : Past → Cmd → UsageLack → Type 0
+IsLack past c m = (needed_for c m.purpose ≡ Some (m.resource, m.needed.0)) × HasUsage past m
+
+-- The usage of the resource that an entry makes.
+abbrev pub made_usage : Entry → Option ℕ
+made_usage x = option_map (λ r. r.usage) (resource_in x)
+
+-- What is told of an action that breaks USAGE.
+abbrev pub IsUsage : Past → Action → UsageMeasure → Type 0
+IsUsage past (Host x) (measure.Made u) = (made_usage x ≡ Some u.0) × (is_outside 3 u.0 ≡ true)
+IsUsage past (Run c) (measure.Lacks m) = IsLack past c m
+IsUsage past _ _ = ⊥
+
+-- ---- what resources ask for
+
+-- What is told of a host entry; of other actions nothing is.
+abbrev pub OnHost : Action → (Entry → Type 0) → Type 0
+OnHost (Host x) told = told x
+OnHost _ told = ⊥
+
+-- The number that is told of what a resource asks for: 2 to the power of 64 where it asks for more.
+abbrev pub told_need : ℕ → ℕ
+told_need n = min n (2 ^ 64)
+
+-- The bytes that the resource asks for which an entry makes.
+abbrev pub needed_by : Entry → Option ℕ
+needed_by x = option_map (λ r. told_need r.size) (resource_in x)
+
+-- ---- MEMORY_TYPE
+
+-- The memory type that an entry names for what it makes.
+abbrev pub type_named : Past → Entry → Option ℕ
+type_named past (entry.Pool i p) = Some p.memory_type
+type_named past (entry.Memory i m) = Some m.memory_type
+type_named past x = option_and_then (λ r. type_at past r.place) (resource_in x)
+
+-- Whether a memory type is allowed for a resource of a kind; for what is no resource all three are (Vulkan, "Resource Memory Association").
+abbrev pub is_type_allowed : Option Kind → ℕ → Bool
+is_type_allowed None t = nat_lt t 3
+is_type_allowed (Some k) t = allows k t
+
+-- An entry names this memory type, which isn't allowed for what it makes.
+abbrev pub IsBadType : Past → Entry → BadType → Type 0
+IsBadType past x m = (type_named past x ≡ Some m.memory_type) × (m.kind ≡ option_map (λ r. r.kind) (resource_in x)) × (is_type_allowed m.kind m.memory_type ≡ false)
+
+-- ---- MEMORY_SIZE
+
+-- The bytes of the memory object that an entry makes, or those that its resource asks for.
+abbrev pub size_asked : Entry → Option ℕ
+size_asked (entry.Memory i m) = Some m.size
+size_asked x = needed_by x
+
+-- An entry asks for so many bytes, which are none or more than a memory object can have.
+abbrev pub IsBadSize : Entry → BadSize → Type 0
+IsBadSize x m = (size_asked x ≡ Some m.need) × (is_outside 67108864 m.need ≡ true)
+
+-- ---- POOL_SIZE
+
+-- An entry makes a resource in a pool, which asks for so many bytes, and they are more than half a block.
+abbrev pub IsOverHalf : Past → Entry → OverHalf → Type 0
+IsOverHalf past x m =
+    (option_and_then (λ r. pool_at r.place) (resource_in x) ≡ Some m.pool) × (needed_by x ≡ Some m.need)
+    × (option_map (λ p. p.block_size) (pool past m.pool) ≡ Some m.block_size) × (m.block_size < 2 * m.need)
