@@ -7,9 +7,13 @@ pub mod Queues
 pub mod Pools
 pub mod Ahead
 pub mod EasilyMistaken
+pub mod TracesOfObjects
 pub mod RulesOfObjects
+pub mod TracesOfCommands
 pub mod RulesOfCommands
+pub mod TracesOfOrder
 pub mod RulesOfOrder
+pub mod TracesOfAccess
 pub mod RulesOfAccess
 pub mod NoRoom
 pub mod Places

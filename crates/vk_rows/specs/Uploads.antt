@@ -1,7 +1,8 @@
 -- Buffers that commands write and the host reads.
-use Rattle.std.specs.Prelude.{◌+◌, [], ◌∷◌}
+use Rattle.std.specs.Prelude.{◌+◌, List, [], ◌∷◌}
 use Rattle.vk_model.specs.declared.rule.Rule.TheVariants as rule
 use Rattle.vk_model.specs.declared.rule.At.TheVariants as at
+use Rattle.vk_model.specs.declared.entry.Entry.{Entry}
 use Rattle.vk_model.specs.declared.entry.Entry.TheVariants as entry
 use Rattle.vk_model.specs.declared.resource.Sharing.TheVariants as sharing
 use Rattle.vk_model.specs.declared.resource.Place.TheVariants as place
@@ -10,22 +11,26 @@ use Rattle.vk_model.specs.declared.command.Cmd.TheVariants as cmd
 use Rattle.vk_rows.specs.Writing.{bytes, to_end, dependency, buffer_region, submit_info, semaphore_value, batch, buffer_entry, transfer, host, all_commands, transfer_read, transfer_write, host_read, source, destination, both}
 use Rattle.vk_rows.specs.Claims.{Accepts, Refuses}
 
+-- The example of the page of definitions: a buffer is filled on a queue, and the host reads it.
+abbrev pub the_example : List Entry
+the_example =
+    buffer_entry 1 16 both sharing.Exclusive (place.Dedicated 1)
+    ∷ entry.Semaphore 2 0
+    ∷ entry.Submit 0 (batch []
+    (cmd.Fill 1 0 (bytes 16) 67305985
+    ∷ cmd.Barrier (element.Memory (dependency transfer transfer_write host host_read) ∷ []) ∷ [])
+    (submit_info 2 1 all_commands ∷ []) ∷ [])
+    ∷ entry.Wait (semaphore_value 2 1 ∷ [])
+    ∷ entry.Map 1
+    ∷ entry.Read 1 0 4
+    ∷ []
+
 -- Buffers that commands write and the host reads: what each trace reads, or its first fault.
 pub record Uploads : Type 0 where
   -- An empty trace reads nothing.
   pub nothing : Accepts [] []
   -- A fill, a barrier to the host, a signal and a wait: the host reads the word, its lowest byte first.
-  pub fill_and_read : Accepts
-      (buffer_entry 1 16 both sharing.Exclusive (place.Dedicated 1)
-      ∷ entry.Semaphore 2 0
-      ∷ entry.Submit 0 (batch []
-      (cmd.Fill 1 0 (bytes 16) 67305985
-      ∷ cmd.Barrier (element.Memory (dependency transfer transfer_write host host_read) ∷ []) ∷ [])
-      (submit_info 2 1 all_commands ∷ []) ∷ [])
-      ∷ entry.Wait (semaphore_value 2 1 ∷ [])
-      ∷ entry.Map 1
-      ∷ entry.Read 1 0 4
-      ∷ []) ((5, 1 ∷ 2 ∷ 3 ∷ 4 ∷ []) ∷ [])
+  pub fill_and_read : Accepts the_example ((5, 1 ∷ 2 ∷ 3 ∷ 4 ∷ []) ∷ [])
   -- Without the barrier the wait alone doesn't make the write visible to the host.
   pub no_barrier : Refuses
       (buffer_entry 1 16 both sharing.Exclusive (place.Dedicated 1)
