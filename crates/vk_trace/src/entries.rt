@@ -4,6 +4,7 @@ ghost use Rattle.vk_trace.specs.Members.{after_word};
 ghost use Rattle.vk_trace.specs.Trace.{sharing_value, place_rows, place_value, semaphore_value, semaphore_submit, batch_value, entry_rows, entry_value};
 ghost use Rattle.vk_trace.specs.Inner.Gives.{Gives};
 
+use crate::defrags::{defrag_of, end_defrag_of, end_pass_of, pass_of};
 use crate::errors::ReadTraceError;
 use crate::images::image_of;
 use crate::members::{Member, Reading, end, first, first_bytes, list_members, text_of, word_first};
@@ -138,6 +139,10 @@ impl Member for Entry {
             "read" => read_of(alloc, rest),
             "flush" => flush_of(alloc, rest),
             "invalidate" => invalidate_of(alloc, rest),
+            "defrag" => defrag_of(alloc, rest),
+            "pass" => pass_of(alloc, rest),
+            "end_pass" => end_pass_of(alloc, rest),
+            "end_defrag" => end_defrag_of(alloc, rest),
             _ => Err(ReadTraceError::NotTrace),
         }
     }

@@ -2,6 +2,7 @@
 #![tactic(auto)]
 
 mod commands;
+mod defrags;
 mod entries;
 mod errors;
 mod images;

@@ -1,7 +1,9 @@
 ghost use Rattle.std.specs.Prelude.{◌≡◌, List, IfOk};
+ghost use Rattle.std.specs.List.{list_all};
 ghost use Rattle.serde_json.specs.Read.{read};
 ghost use Rattle.serde_json.specs.View.{view};
 ghost use Rattle.vk_model.specs.declared.entry.Entry.{Entry};
+ghost use Rattle.vk_history.specs.Supported.{is_supported_entry};
 ghost use Rattle.vk_trace.specs.Inner.Gives.{Gives};
 ghost use Rattle.vk_trace.specs.Trace.{IsTrace};
 
@@ -9,7 +11,9 @@ use crate::errors::ReadTraceError;
 use crate::members::{Member, Reading};
 use serde_json::Value;
 use std::alloc::Global;
+use vk_history::is_supported;
 use vk_model::{Entry, Sequence};
+use vk_order::{Action, Point};
 
 /// The entries that the bytes of a trace mean. `NotTrace` comes only where they mean none.
 pub fn read_trace(alloc: Global, bytes: &[u8]) -> Result<Vec<Entry>, ReadTraceError>
@@ -21,7 +25,31 @@ pub fn read_trace(alloc: Global, bytes: &[u8]) -> Result<Vec<Entry>, ReadTraceEr
     };
     let value = value_of(alloc, text)?;
     let entries: Sequence<Entry> = Sequence::member(alloc, &value)?;
-    Ok(entries.into_vec())
+    let entries = entries.into_vec();
+    if !are_supported(entries.as_slice()) {
+        return Err(ReadTraceError::NotTrace);
+    }
+    Ok(entries)
+}
+
+/// Whether each entry is of a supported form.
+fn are_supported(entries: &[Entry]) -> bool
+    ensures { result ≡ list_all is_supported_entry entries.now }
+{
+    entries.iter().all(is_supported_entry)
+}
+
+/// Whether an entry is of a supported form: what it does, wherever it stands.
+fn is_supported_entry(entry: &Entry) -> bool
+    ensures { result ≡ is_supported_entry entry.now }
+{
+    is_supported(&Point {
+        entry: 0,
+        batch: 0,
+        place: 0,
+        queue: 0,
+        action: Action::Host(entry),
+    })
 }
 
 /// The value of JSON that a text spells.
