@@ -1,0 +1,5 @@
+pub mod Definitions
+pub mod Objects
+pub mod Commands
+pub mod Order
+pub mod Access
