@@ -11,5 +11,6 @@ mod ranges;
 mod rules;
 
 pub use masks::push_mask;
+pub use names::{format_name, sharing_name, tiling_name};
 pub use points::{point_words, push_at, push_number};
 pub use rules::sentence;

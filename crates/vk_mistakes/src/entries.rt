@@ -1,0 +1,243 @@
+use crate::commands::command;
+use crate::forms::{Plain, expected_of, in_plain};
+use crate::mistakes::{Misfit, Search, another, found_there, inside, missing, unlike};
+use crate::rows::{Row, ended, in_plains, in_rows};
+use serde_json::Value;
+use std::alloc::Global;
+
+/// What comes after the word of an entry.
+#[derive(Clone, Copy)]
+enum Member {
+    /// A number or a string.
+    Plain(Plain),
+    /// Where a resource lies.
+    Place,
+    /// Semaphores and values.
+    Waits,
+    /// Batches.
+    Batches,
+}
+
+/// What is expected where an entry has no word, or another one.
+const ENTRY_WORDS: &str = "the word of an entry, as \"buffer\", \"submit\" or \"read\"";
+
+/// What is expected where a place has no word, or another one.
+const PLACE_WORDS: &str = "\"dedicated\", \"memory\", \"pool\" or \"pool_upper\"";
+
+/// The members after the word of an entry.
+fn members_of(word: &str) -> Option<&'static [Member]> {
+    match word {
+        "buffer" => Some(&[
+            Member::Plain(Plain::Small),
+            Member::Plain(Plain::Large),
+            Member::Plain(Plain::Small),
+            Member::Plain(Plain::Sharing),
+            Member::Place,
+        ]),
+        "image" => Some(&[
+            Member::Plain(Plain::Small),
+            Member::Plain(Plain::Format),
+            Member::Plain(Plain::Small),
+            Member::Plain(Plain::Small),
+            Member::Plain(Plain::Small),
+            Member::Plain(Plain::Small),
+            Member::Plain(Plain::Tiling),
+            Member::Plain(Plain::Small),
+            Member::Plain(Plain::Sharing),
+            Member::Place,
+        ]),
+        "pool" => Some(&[
+            Member::Plain(Plain::Small),
+            Member::Plain(Plain::Algorithm),
+            Member::Plain(Plain::Small),
+            Member::Plain(Plain::Large),
+            Member::Plain(Plain::Small),
+        ]),
+        "memory" => Some(&[
+            Member::Plain(Plain::Small),
+            Member::Plain(Plain::Small),
+            Member::Plain(Plain::Large),
+        ]),
+        "wait" => Some(&[Member::Waits]),
+        "submit" => Some(&[Member::Plain(Plain::Small), Member::Batches]),
+        _ => plain_members_of(word),
+    }
+}
+
+/// The same of an entry that has numbers and strings alone.
+fn plain_members_of(word: &str) -> Option<&'static [Member]> {
+    match word {
+        "free" | "destroy" | "drop_pool" | "map" | "unmap" | "event" => {
+            Some(&[Member::Plain(Plain::Small)])
+        }
+        "semaphore" | "signal" => Some(&[Member::Plain(Plain::Small), Member::Plain(Plain::Large)]),
+        "write" => Some(&[
+            Member::Plain(Plain::Small),
+            Member::Plain(Plain::Large),
+            Member::Plain(Plain::Bytes),
+        ]),
+        "read" => Some(&[
+            Member::Plain(Plain::Small),
+            Member::Plain(Plain::Large),
+            Member::Plain(Plain::Large),
+        ]),
+        "flush" | "invalidate" => Some(&[
+            Member::Plain(Plain::Small),
+            Member::Plain(Plain::Large),
+            Member::Plain(Plain::Length),
+        ]),
+        _ => None,
+    }
+}
+
+/// What keeps a value from being a trace.
+pub fn trace(alloc: Global, value: &Value) -> Search {
+    let Some(array) = value.as_array() else {
+        return unlike(alloc, "an array of entries", value);
+    };
+    for (number, item) in array.as_slice().iter().enumerate() {
+        let found = entry(alloc, item)?;
+        if found.is_some() {
+            return inside(Ok(found), number);
+        }
+    }
+    Ok(None)
+}
+
+/// What keeps a value from being an entry.
+fn entry(alloc: Global, value: &Value) -> Search {
+    let Some(array) = value.as_array() else {
+        return unlike(alloc, "an array", value);
+    };
+    let values = array.as_slice();
+    let Some(first) = values.first() else {
+        return missing(alloc, ENTRY_WORDS);
+    };
+    let members = match first.as_str() {
+        Some(word) => members_of(word),
+        None => None,
+    };
+    let Some(members) = members else {
+        return inside(unknown_word(alloc, first), 0);
+    };
+    for (index, form) in members.iter().enumerate() {
+        let found = member_at(alloc, values, index.saturating_add(1), *form)?;
+        if found.is_some() {
+            return Ok(found);
+        }
+    }
+    ended(alloc, values, members.len().saturating_add(1))
+}
+
+/// What is there in place of the word of an entry.
+fn unknown_word(alloc: Global, word: &Value) -> Search {
+    match word.as_str() {
+        Some("defrag") | Some("pass") | Some("end_pass") | Some("end_defrag") => found_there(
+            alloc,
+            ENTRY_WORDS,
+            "one of a defragmentation, which isn't supported yet",
+        ),
+        _ => another(alloc, ENTRY_WORDS, word),
+    }
+}
+
+fn member_at(alloc: Global, values: &[Value], number: usize, form: Member) -> Search {
+    let Some(value) = values.get(number) else {
+        return missing(alloc, expected_member(form));
+    };
+    let found = match form {
+        Member::Plain(form) => in_plain(alloc, value, form),
+        Member::Place => place(alloc, value),
+        Member::Waits => in_rows(alloc, value, Row::SemaphoreValue),
+        Member::Batches => batches(alloc, value),
+    };
+    inside(found, number)
+}
+
+fn expected_member(form: Member) -> &'static str {
+    match form {
+        Member::Plain(form) => expected_of(form),
+        Member::Place | Member::Waits | Member::Batches => "an array",
+    }
+}
+
+/// What keeps a value from being a place.
+fn place(alloc: Global, value: &Value) -> Search {
+    let Some(array) = value.as_array() else {
+        return unlike(alloc, "an array", value);
+    };
+    let Some((first, rest)) = array.as_slice().split_first() else {
+        return missing(alloc, PLACE_WORDS);
+    };
+    let members: &[Plain] = match first.as_str() {
+        Some("dedicated") | Some("pool") | Some("pool_upper") => &[Plain::Small],
+        Some("memory") => &[Plain::Small, Plain::Large],
+        _ => return inside(another(alloc, PLACE_WORDS, first), 0),
+    };
+    let found = in_plains(alloc, rest, members)?;
+    if found.is_some() {
+        return Ok(after_word(found));
+    }
+    let found = ended(alloc, rest, members.len())?;
+    Ok(after_word(found))
+}
+
+/// What was found in the members after a word.
+fn after_word(found: Option<Misfit>) -> Option<Misfit> {
+    let Some(mut misfit) = found else {
+        return None;
+    };
+    if let Some(number) = misfit.outward.last_mut() {
+        *number = number.saturating_add(1);
+    }
+    Some(misfit)
+}
+
+/// What keeps a value from being batches.
+fn batches(alloc: Global, value: &Value) -> Search {
+    let Some(array) = value.as_array() else {
+        return unlike(alloc, "an array of batches", value);
+    };
+    for (number, item) in array.as_slice().iter().enumerate() {
+        let found = batch(alloc, item)?;
+        if found.is_some() {
+            return inside(Ok(found), number);
+        }
+    }
+    Ok(None)
+}
+
+/// What keeps a value from being a batch.
+fn batch(alloc: Global, value: &Value) -> Search {
+    let Some(array) = value.as_array() else {
+        return unlike(alloc, "an array of waits, commands and signals", value);
+    };
+    let values = array.as_slice();
+    for number in 0..3usize {
+        let Some(value) = values.get(number) else {
+            return missing(alloc, "an array");
+        };
+        let found = match number {
+            1 => commands(alloc, value)?,
+            _ => in_rows(alloc, value, Row::Submit)?,
+        };
+        if found.is_some() {
+            return inside(Ok(found), number);
+        }
+    }
+    ended(alloc, values, 3)
+}
+
+/// What keeps a value from being the commands of a batch.
+fn commands(alloc: Global, value: &Value) -> Search {
+    let Some(array) = value.as_array() else {
+        return unlike(alloc, "an array of commands", value);
+    };
+    for (number, item) in array.as_slice().iter().enumerate() {
+        let found = command(alloc, item)?;
+        if found.is_some() {
+            return inside(Ok(found), number);
+        }
+    }
+    Ok(None)
+}

@@ -1,0 +1,85 @@
+use crate::entries::trace;
+use serde_json::Value;
+use std::alloc::{AllocError, Global};
+
+/// Where something begins in an input that is no trace.
+#[derive(Drop)]
+pub enum MistakePlace {
+    /// At a byte, counted from 0.
+    Byte(usize),
+    /// At a line and a column, each counted from 1.
+    Line {
+        /// The line.
+        line: usize,
+        /// The column.
+        column: usize,
+    },
+    /// At the member that these numbers lead to from the outermost array; at that array itself where
+    /// there are none.
+    Member(Vec<usize>),
+}
+
+/// What keeps an input from being a trace.
+#[derive(Drop)]
+pub struct Mistake {
+    /// Where.
+    pub place: MistakePlace,
+    /// What is expected there.
+    pub expected: &'static str,
+    /// What is there.
+    pub found: &'static str,
+}
+
+/// The first thing that keeps an input from being a trace, where something does. It reads the input
+/// anew.
+///
+/// # Errors
+///
+/// Where no memory is left.
+pub fn mistake_of(alloc: Global, input: &[u8]) -> Result<Option<Mistake>, AllocError> {
+    let Ok(text) = str::from_utf8(input) else {
+        return Ok(Some(Mistake {
+            place: MistakePlace::Byte(utf8_until(input)),
+            expected: "UTF-8",
+            found: "other bytes",
+        }));
+    };
+    match Value::from_str(alloc, text) {
+        Ok(value) => mistake_in(alloc, &value),
+        Err(error) if error.is_memory() => Err(AllocError),
+        Err(error) => Ok(Some(Mistake {
+            place: MistakePlace::Line {
+                line: error.line(),
+                column: error.column(),
+            },
+            expected: "JSON",
+            found: if error.is_eof() {
+                "the end of the input"
+            } else {
+                "something else, or more than 127 arrays within arrays"
+            },
+        })),
+    }
+}
+
+/// The first thing that keeps a value from being a trace.
+fn mistake_in(alloc: Global, value: &Value) -> Result<Option<Mistake>, AllocError> {
+    let Some(misfit) = trace(alloc, value)? else {
+        return Ok(None);
+    };
+    let mut inward = misfit.outward;
+    inward.as_mut_slice().reverse();
+    Ok(Some(Mistake {
+        place: MistakePlace::Member(inward),
+        expected: misfit.expected,
+        found: misfit.found,
+    }))
+}
+
+/// How many bytes at the start of an input are UTF-8.
+fn utf8_until(input: &[u8]) -> usize {
+    match str::from_utf8(input) {
+        Ok(text) => text.len(),
+        Err(error) => error.valid_up_to(),
+    }
+}
