@@ -8,10 +8,10 @@
 mod halves;
 mod images;
 mod overlapping;
-mod overlaps;
 mod regions;
 mod rules;
 mod scopes;
+mod twice;
 mod verdicts;
 mod written;
 

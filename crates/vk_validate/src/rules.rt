@@ -32,6 +32,8 @@ use vk_touches::Conflicts;
 /// Whether a point breaks the rules that need memory to be judged.
 #[derive(Clone, Copy)]
 struct Searched {
+    /// OVERLAP.
+    is_overlapping: bool,
     /// SIGNAL_ORDER.
     is_unordered: bool,
     /// OWNER_PAIR.
@@ -96,9 +98,11 @@ fn search(history: &History<'_>, point: &Point<'_>) -> Result<Searched, AllocErr
     requires ordered { IsOrdered (point_of point.now ∷ past history.now) }
     ensures { IfOk result (λ found. AreSearched found (past history.now) (point_of point.now)) }
 {
+    let is_overlapping = ranges::breaks_overlap(history, point)?;
     let is_unordered = synchronization::breaks_signal_order(history, point)?;
     let is_unpaired = owners::breaks_owner_pair(history, point)?;
     Ok(Searched {
+        is_overlapping,
         is_unordered,
         is_unpaired,
     })
@@ -156,7 +160,7 @@ fn breaks_early(rule: Rule, history: &History<'_>, point: &Point<'_>, searched: 
         Rule::Aliased => binding::breaks_aliased(history, point),
         Rule::Range => ranges::breaks_range(history, point),
         Rule::Align => ranges::breaks_align(history, point),
-        Rule::Overlap => ranges::breaks_overlap(history, point),
+        Rule::Overlap => searched.is_overlapping,
         Rule::Format => ranges::breaks_format(history, point),
         Rule::Subresource => ranges::breaks_subresource(history, point),
         Rule::Stage => synchronization::breaks_stage(point),

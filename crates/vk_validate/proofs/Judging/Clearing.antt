@@ -13,7 +13,6 @@ use Rattle.vk_model.specs.Rules.Ranges.{bad_range, bad_subresource, is_beyond}
 use Rattle.vk_model.specs.Sync.Access.{origins, targets}
 use Rattle.vk_model.specs.Trace.Objects.{image, resource}
 use Rattle.vk_model.specs.Trace.Point.{Past, Point, Action, Run, command_of}
-use Rattle.vk_model.specs.World.Bytes.{Byte}
 use Rattle.vk_model.specs.World.ByteWrites.{ByteWrite, byte_writes, clear_writes, subresource_bytes}
 use Rattle.vk_model.proofs.Lists.Members.{contains-head, member_passes}
 use Rattle.vk_model.proofs.Lists.Truths.{clash}

@@ -7,7 +7,6 @@ use Rattle.vk_model.specs.declared.command.Cmd.{Cmd}
 use Rattle.vk_model.specs.declared.command.Cmd.TheVariants as cmd
 use Rattle.vk_model.specs.declared.command.Length.{Length}
 use Rattle.vk_model.specs.declared.entry.Entry.TheVariants as entry
-use Rattle.vk_model.specs.declared.rule.Rule.TheVariants as rule
 use Rattle.vk_model.specs.World.Bytes.{Byte, in_buffer, resource_at}
 use Rattle.vk_model.specs.World.ByteWrites.{buffer_size, fill_size, byte_writes, subresource_bytes}
 use Rattle.vk_model.specs.World.Effect.{world}

@@ -1,5 +1,5 @@
 -- What is known of a point that breaks none of the rules judged before those on accesses.
-use Rattle.std.proofs.Common.{◌≡◌, ◌∙◌, ℕ, List, [], ◌∷◌, slice_get, cond, Bool, true, false, refl, ap, sym, Option, Some, None, zero, suc}
+use Rattle.std.proofs.Common.{◌≡◌, ◌∙◌, ℕ, List, [], ◌∷◌, slice_get, cond, Bool, true, false, refl, ap, sym, Some, None, zero, suc}
 use Rattle.std.specs.List.{find}
 use Rattle.vk_model.specs.declared.rule.Rule.TheVariants as rule
 use Rattle.vk_model.specs.Trace.Point.{Past, Point}

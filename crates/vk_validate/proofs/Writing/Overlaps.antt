@@ -10,9 +10,6 @@ use Rattle.vk_model.specs.declared.command.BufferImageCopy.{BufferImageCopy}
 use Rattle.vk_model.specs.declared.command.ImageCopy.{ImageCopy}
 use Rattle.vk_model.specs.declared.command.SubresourceRange.{SubresourceRange}
 use Rattle.vk_model.specs.declared.command.Element.{Element}
-use Rattle.vk_model.specs.declared.command.Element.TheVariants as element
-use Rattle.vk_model.specs.declared.command.Dependency.{Dependency}
-use Rattle.vk_model.specs.declared.command.BufferElement.{BufferElement}
 use Rattle.vk_model.specs.declared.command.Cmd.TheVariants as cmd
 use Rattle.vk_model.specs.declared.resource.ImageInfo.{ImageInfo}
 use Rattle.vk_model.specs.Basics.{some_pair, holds, among}
@@ -21,22 +18,12 @@ use Rattle.vk_model.specs.Trace.Objects.{image}
 use Rattle.vk_model.specs.Trace.Point.{Past}
 use Rattle.vk_model.specs.World.Areas.{Area, Bytes, Rows, Texels, Subresources, areas_meet, areas_read, areas_written, region_box, source_box, destination_box, subresources_meet, rows_meet}
 use Rattle.vk_model.specs.Rules.Ranges.{command_overlaps, writes_overlap, transitions_meet}
-use Rattle.vk_model.proofs.Lists.Members.{any_same, any_map, none_passes_any}
-use Rattle.vk_validate.specs.Inner.Overlapping.{copies_meet, copy_meets_source, copies_overlap, regions_meet, rows_overlap, image_copies_meet, image_copy_meets_source, image_copies_overlap}
+use Rattle.vk_model.proofs.Lists.Members.{any_map, none_passes_any}
+use Rattle.vk_overlaps.specs.Regions.{copies_meet, copy_meets_source, copies_overlap, regions_meet, image_copies_meet, image_copy_meets_source, image_copies_overlap}
+use Rattle.vk_overlaps.proofs.ListPairs.{pair_map, pair_same, cross_map, empty_cross}
+use Rattle.vk_validate.specs.Inner.Overlapping.{rows_overlap}
 
 -- ---- pairs
-
-pair_map : {A B : Type 0} (t : B → B → Bool) (f : A → B) (xs : List A) → some_pair t (map f xs) ≡ some_pair (λ x y. t (f x) (f y)) xs
-pair_map t f [] = refl
-pair_map t f (x ∷ xs) = ap (λ b. b || some_pair t (map f xs)) (any_map (t (f x)) f xs) ∙ ap (λ b. list_any (λ y. t (f x) (f y)) xs || b) (pair_map t f xs)
-
-pair_same : {A : Type 0} (t u : A → A → Bool) (xs : List A) → ((x y : A) → t x y ≡ u x y) → some_pair t xs ≡ some_pair u xs
-pair_same t u [] same = refl
-pair_same t u (x ∷ xs) same = ap (λ b. b || some_pair t xs) (any_same (t x) (u x) xs (λ y c. same x y)) ∙ ap (λ b. list_any (u x) xs || b) (pair_same t u xs same)
-
--- items of two lists, one of each
-cross_map : {A B : Type 0} (t : B → B → Bool) (f g : A → B) (xs ys : List A) → list_any (λ w. list_any (t w) (map g ys)) (map f xs) ≡ list_any (λ x. list_any (λ y. t (f x) (g y)) ys) xs
-cross_map t f g xs ys = any_map (λ w. list_any (t w) (map g ys)) f xs ∙ any_same _ _ xs (λ x c. any_map (t (f x)) g ys)
 
 cross_and : {A : Type 0} (v : Bool) (t : A → A → Bool) (xs ys : List A) → list_any (λ x. list_any (λ y. v && t x y) ys) xs ≡ (v && list_any (λ x. list_any (t x) ys) xs)
 cross_and true t xs ys = refl
@@ -44,9 +31,6 @@ cross_and false t xs ys = none_passes_any _ xs (λ x c. none_passes_any _ ys (λ
 
 cross_none : {A B C : Type 0} (t : B → C → Bool) (f : A → B) (xs : List A) (ys : List C) → ((x : A) (y : C) → t (f x) y ≡ false) → list_any (λ w. list_any (t w) ys) (map f xs) ≡ false
 cross_none t f xs ys none = any_map (λ w. list_any (t w) ys) f xs ∙ none_passes_any _ xs (λ x c. none_passes_any _ ys (λ y d. none x y))
-
-empty_cross : {A : Type 0} (t : A → A → Bool) (xs : List A) → list_any (λ w. list_any (t w) []) xs ≡ false
-empty_cross t xs = none_passes_any _ xs (λ x c. refl)
 
 -- areas of one resource
 module _ {A : Type 0} (i : ℕ) (t : A → A → Bool) (f : A → Area) (same : (x y : A) → areas_meet (f x) (f y) ≡ (i == i && t x y)) where
@@ -98,18 +82,3 @@ twice (x ∷ xs) ys = regroup (among x xs) (some_pair nat_eq xs) (among x ys) (l
   regroup false true false d e = refl
   regroup false false true d e = refl
   regroup false false false d e = refl
-
--- ---- elements on no image
-
--- no transition meets one that is on all memory or on a buffer
-pub memory_meets : (d : Dependency) (es : List Element) → list_any (transitions_meet (element.Memory d)) es ≡ false
-memory_meets d [] = refl
-memory_meets d (element.Memory f ∷ es) = memory_meets d es
-memory_meets d (element.Buffer f ∷ es) = memory_meets d es
-memory_meets d (element.Image f ∷ es) = memory_meets d es
-
-pub buffer_meets : (e : BufferElement) (es : List Element) → list_any (transitions_meet (element.Buffer e)) es ≡ false
-buffer_meets e [] = refl
-buffer_meets e (element.Memory f ∷ es) = buffer_meets e es
-buffer_meets e (element.Buffer f ∷ es) = buffer_meets e es
-buffer_meets e (element.Image f ∷ es) = buffer_meets e es

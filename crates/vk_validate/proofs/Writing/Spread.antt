@@ -1,5 +1,5 @@
 -- Tests that give the same for each item of a list, of a grid or of some subresources.
-use Rattle.std.proofs.Common.{◌≡◌, ◌<◌, ◌+◌, ℕ, zero, suc, List, [], ◌∷◌, Bool, true, false, ◌&&◌, ◌||◌, nat_lt, refl, ap, ◌∙◌, arith}
+use Rattle.std.proofs.Common.{◌≡◌, ◌+◌, ℕ, zero, suc, List, [], ◌∷◌, Bool, true, false, ◌&&◌, ◌||◌, nat_lt, refl, ap, ◌∙◌, arith}
 use Rattle.std.specs.List.{list_any, flat_map, range_with_len, enumerate_from}
 use Rattle.std.proofs.lemmas.Bool.{lt-ltb}
 use Rattle.std.proofs.lemmas.List.Folds.{list_any-append}
@@ -12,7 +12,7 @@ use Rattle.vk_model.specs.Basics.{below, grid}
 use Rattle.vk_model.specs.Trace.Image.{texel, level_width, level_height}
 use Rattle.vk_model.specs.World.Bytes.{Byte, in_image}
 use Rattle.vk_model.specs.World.ByteWrites.{level_bytes, subresource_bytes}
-use Rattle.vk_model.proofs.Lists.Members.{any_map, none_passes_any, member_passes, range_from, numbers_have}
+use Rattle.vk_model.proofs.Lists.Members.{any_map}
 
 pub any_flat : {A B : Type 0} (f : B → Bool) (h : A → List B) (xs : List A) → list_any f (flat_map h xs) ≡ list_any (λ x. list_any f (h x)) xs
 any_flat f h [] = refl
@@ -80,13 +80,3 @@ any_enumerated f v same i (x ∷ xs) = rw (same (i, x), any_enumerated f v same 
   go : (v b : Bool) → (v || (b && v)) ≡ (true && v)
   go true b = refl
   go false b = and-false b
-
--- ---- numbers one after another
-
-pub none_below : (f : ℕ → Bool) (n : ℕ) → ((k : ℕ) → k < n → f k ≡ false) → list_any f (below n) ≡ false
-none_below f n none = none_passes_any f (below n) (λ k c. let there = range_from 0 n k c in none k (omega (arith, there)))
-
-pub one_below : (f : ℕ → Bool) (n k : ℕ) → k < n → f k ≡ true → list_any f (below n) ≡ true
-one_below f n k lt h = member_passes f (below n) k (rw (add_zero k) at (numbers_have 0 n k lt)) h where
-  add_zero : (k : ℕ) → 0 + k ≡ k
-  add_zero k = omega arith

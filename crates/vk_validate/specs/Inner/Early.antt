@@ -4,6 +4,7 @@ use Rattle.vk_model.specs.declared.rule.Rule.{Rule}
 use Rattle.vk_model.specs.declared.rule.Rule.TheVariants as rule
 use Rattle.vk_model.specs.Trace.Point.{Past, Point}
 use Rattle.vk_model.specs.Rules.Table.{breaks}
+use Rattle.vk_model.specs.Rules.Ranges.{breaks_overlap}
 use Rattle.vk_model.specs.Rules.Owners.{breaks_owner_pair}
 use Rattle.vk_model.specs.Rules.Synchronization.{breaks_signal_order}
 use Rattle.vk_validate.specs.declared.rules.Searched.{Searched}
@@ -24,5 +25,6 @@ breaks_early r past p = if is_late r then false else breaks r past p
 
 -- What was found of the rules that need memory to be judged.
 pub record AreSearched (found : Searched) (past : Past) (p : Point) : Type 0 where
+  pub overlapping : found.is_overlapping ≡ breaks_overlap past p
   pub unordered : found.is_unordered ≡ breaks_signal_order past p
   pub unpaired : found.is_unpaired ≡ breaks_owner_pair past p

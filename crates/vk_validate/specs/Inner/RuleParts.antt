@@ -7,12 +7,11 @@ use Rattle.vk_model.specs.declared.command.ImageCopy.{ImageCopy}
 use Rattle.vk_model.specs.declared.command.SubresourceRange.{SubresourceRange}
 use Rattle.vk_model.specs.declared.entry.Entry.{Entry}
 use Rattle.vk_model.specs.declared.resource.Place.{Place}
-use Rattle.vk_model.specs.Basics.{holds, below}
+use Rattle.vk_model.specs.Basics.{holds}
 use Rattle.vk_model.specs.Trace.Image.{texel}
 use Rattle.vk_model.specs.Trace.Objects.{Resource, image, pool, memory, pool_at, bound_at, type_at}
 use Rattle.vk_model.specs.Trace.Point.{Past, Point}
-use Rattle.vk_model.specs.Memory.Suballocation.{ranges_meet}
-use Rattle.vk_model.specs.World.Areas.{Box, row_start, row_count}
+use Rattle.vk_model.specs.World.Areas.{Box}
 use Rattle.vk_model.specs.World.Bytes.{Byte, resource_at}
 use Rattle.vk_model.specs.World.ByteWrites.{buffer_size}
 use Rattle.vk_model.specs.Rules.Binding.{is_aliased}
@@ -86,10 +85,6 @@ touches_moving past bs = list_any (λ b. moves_now past (resource_at b)) bs
 -- Whether one of some acts on a queue writes such a byte.
 abbrev pub writes_moving : Past → ℕ → List Act → Bool
 writes_moving past q as' = list_any (λ a. touches_moving past (writes_of past q a)) as'
-
--- Whether row r of a region has a byte in common with a row of another, with texels of t bytes.
-abbrev pub row_meets_some : ℕ → BufferImageCopy → ℕ → BufferImageCopy → Bool
-row_meets_some t g r h = list_any (λ s. ranges_meet (row_start t g r) (g.width * t) (row_start t h s) (h.width * t)) (below (row_count h))
 
 -- Whether a resource conflicts with a live one in the memory object that it's bound to.
 abbrev pub is_aliased_at : Past → Resource → Bool

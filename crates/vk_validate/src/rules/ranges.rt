@@ -1,4 +1,4 @@
-ghost use Rattle.std.specs.Prelude.{◌≡◌, ◌+◌, ◌%◌, ◌==◌, ◌&&◌, ◌||◌, not, nat_lt, nat_le};
+ghost use Rattle.std.specs.Prelude.{◌≡◌, IfOk, ◌+◌, ◌%◌, ◌==◌, ◌&&◌, ◌||◌, not, nat_lt, nat_le};
 ghost use Rattle.std.specs.Option.{option_map};
 ghost use Rattle.std.specs.List.{list_any};
 ghost use Rattle.vk_model.specs.Basics.{holds};
@@ -15,8 +15,9 @@ use crate::images::{
     has_bad_destination, has_bad_range, has_bad_region, has_bad_source, is_bad_range,
 };
 use crate::overlapping::overlaps;
-use crate::overlaps::some_ids_meet;
 use crate::regions::{ends_past, has_destination_past, has_rows_past, has_short, has_source_past};
+use crate::twice::some_ids_meet;
+use std::alloc::AllocError;
 use vk_history::History;
 use vk_image_tiles::texel_size;
 use vk_model::{
@@ -361,13 +362,13 @@ fn is_element_outside(history: &History<'_>, element: &Element) -> bool
 
 /// OVERLAP: what a region of a command writes, with what another writes or any reads; two transitions of
 /// a subresource; an id twice in the lists of an end of a pass.
-pub fn breaks_overlap(history: &History<'_>, point: &Point<'_>) -> bool
-    ensures { result ≡ ranges.breaks_overlap (past history.now) (point_of point.now) }
+pub fn breaks_overlap(history: &History<'_>, point: &Point<'_>) -> Result<bool, AllocError>
+    ensures { IfOk result (λ broken. broken ≡ ranges.breaks_overlap (past history.now) (point_of point.now)) }
 {
     match point.action {
-        Action::Host(entry) => lists_twice(entry),
+        Action::Host(entry) => Ok(lists_twice(entry)),
         Action::Run(command) => overlaps(history, command),
-        _ => false,
+        _ => Ok(false),
     }
 }
 

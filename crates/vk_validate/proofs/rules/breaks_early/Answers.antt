@@ -64,7 +64,7 @@ returns-in-Align c = rw c.in-Align.is c.breaks_align.ensures
 
 pub returns-in-Overlap : goal.returns-in-Overlap
 unfolding breaks_early breaks
-returns-in-Overlap c = rw c.in-Overlap.is c.breaks_overlap.ensures
+returns-in-Overlap c = rw c.in-Overlap.is c.requires.searched.overlapping
 
 pub returns-in-Format : goal.returns-in-Format
 unfolding breaks_early breaks

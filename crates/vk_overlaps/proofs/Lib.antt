@@ -1,0 +1,5 @@
+mod Splits
+mod Sides
+pub mod ListPairs
+mod Places
+mod Hulls

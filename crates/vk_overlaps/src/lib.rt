@@ -1,0 +1,20 @@
+//! Whether parts of resources overlap, without comparing each with each.
+//!
+//! A part lies along five axes, as a box does: `Extent`. `overlap` takes the parts that are written and
+//! those that are read, and divides both by planes until few are on a side of them. Above it are the
+//! regions and ranges of commands.
+#![tactic(auto)]
+
+mod extents;
+mod overlaps;
+mod pairs;
+mod planes;
+mod regions;
+mod rows;
+mod transitions;
+
+pub use extents::{Extent, Span};
+pub use overlaps::overlap;
+pub use regions::{copies_overlap, image_copies_overlap, ranges_overlap, regions_overlap};
+pub use rows::{last_byte, rows_overlap};
+pub use transitions::transitions_overlap;
