@@ -1,0 +1,9 @@
+pub mod PastLemmas
+pub mod LayoutLemmas
+pub mod RangeLemmas
+pub mod BindingLemmas
+pub mod MapLemmas
+pub mod EventLemmas
+pub mod OwnerLemmas
+pub mod TransferLemmas
+pub mod AliasLemmas

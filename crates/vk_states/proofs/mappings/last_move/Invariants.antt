@@ -1,0 +1,12 @@
+use Rattle.std.proofs.Common.{◌≡◌, take}
+use Rattle.std.specs.Option.{option_map}
+use Rattle.std.specs.List.{find}
+use Rattle.vk_model.specs.Trace.Point.{Past, on_host}
+use Rattle.vk_order.specs.PointViews.{point_of}
+use Rattle.vk_queues.specs.PointViews.{past_of}
+use Rattle.vk_states.specs.Inner.Bindings.{AreBindings}
+use Rattle.vk_states.specs.Inner.Mapping.{moves}
+use Rattle.vk_states.proofs.mappings.last_move.Given as goal
+
+abbrev pub invariant-loop-point : goal.invariant-loop-point
+invariant-loop-point l = (past : Past) → AreBindings l.bindings past → option_map point_of l.found ≡ find (on_host (moves past l.mapping)) (past_of (take l.point-index l.points))
