@@ -1,8 +1,8 @@
 #!/bin/bash
 # Measures the program on traces that move bytes through memory objects: uploads through a staging
 # buffer, host accesses with and without a cache, small copies, a ring of slots whose dependencies
-# are limited to a slot, and buffers that come and go. Each is measured in two sizes, of which the
-# second is twice the first (bench/common.sh).
+# are limited to a slot, buffers that come and go, and a copy of many regions. Each is measured in
+# two sizes, of which the second is twice the first (bench/common.sh).
 . "$(dirname "${BASH_SOURCE[0]}")/common.sh"
 
 # A barrier that orders transfers, and makes what they wrote visible to transfers.
@@ -96,6 +96,24 @@ buffers_answer() {
     answers "$((8 + 2 * $1))" 67305985
 }
 
+# N regions of one copy, of 4 bytes each, in an order that jumps about.
+regions() {
+    awk -v n="$1" -v to_host="$to_host" -v between="$between" 'BEGIN {
+        printf "[[\"buffer\",1,%d,3,\"exclusive\",[\"dedicated\",0]],", 4 * n
+        printf "[\"buffer\",2,%d,2,\"exclusive\",[\"dedicated\",1]],[\"semaphore\",3,0],", 4 * n
+        printf "[\"submit\",0,[[[],[[\"fill\",1,0,\"whole\",67305985],%s,[\"copy\",1,2,[", between
+        for (i = 0; i < n; i++) {
+            at = i * 7919 % n * 4
+            printf "%s[%d,%d,4]", (i ? "," : ""), at, at
+        }
+        printf "]],%s],[[3,1,65536]]]]],[\"wait\",[[3,1]]],[\"map\",2],[\"read\",2,0,4]]\n", to_host
+    }'
+}
+
+regions_answer() {
+    answers 6 67305985
+}
+
 ARGUMENTS=(--heap0 67108864 --heap1 67108864)
 heading
 for n in 50 100; do
@@ -113,5 +131,8 @@ for n in 30 60; do
 done
 for n in 2048 4096; do
     row "buffers_$n" 0 "buffers_answer $n" buffers "$n"
+done
+for n in 100000 200000; do
+    row "regions_of_a_copy_$n" 0 regions_answer regions "$n"
 done
 finish
