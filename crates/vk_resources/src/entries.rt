@@ -6,13 +6,12 @@ ghost use Rattle.vk_model.specs.Run.CachedRuns.{after_host_write};
 ghost use Rattle.vk_model.specs.Trace.Point.{Past};
 ghost use Rattle.vk_model.specs.Memory.Suballocation.{IsRequest};
 ghost use Rattle.vk_model.specs.declared.entry.Entry.TheVariants as entry;
-ghost use Rattle.vma_blocks.specs.PoolInfos.{IsPoolInfo};
 
 use crate::applied::Applied;
 use crate::resources::{Placed, Resources};
 use std::alloc::AllocError;
 use vk_image_tiles::Shape;
-use vk_model::{BufferInfo, Entry, ImageInfo, Kind, Place, PoolInfo, Sequence, texels_inside};
+use vk_model::{BufferInfo, Entry, ImageInfo, Kind, Place, Sequence, texels_inside};
 use vma_pools::Asked;
 
 /// Buffers are rounded up to this many bytes, and begin at a multiple of it (profile).
@@ -27,9 +26,9 @@ impl Resources {
     ghost use Rattle.vk_resources.specs.Allocating.{Rooms, Allots};
     ghost use Rattle.vk_resources.specs.Fits.{FitsEntry};
     ghost use Rattle.vk_resources.specs.Done.{DoneBy, EntryReady};
-    ghost use Rattle.vk_resources.specs.Inner.Steps.{IsMaking, MayReach, HasChanged, cached_at, MadeOr, ResourceMade, MemoryMade, ShapeReady, PutReady, Puts, FoundOr, SharedMade, PoolMade, PoolDropped, BindReady, Binds, IsEmpty, Ends};
-    ghost use Rattle.vk_backing.specs.Backed.{pool_of, pool_by, allocation_of, IsWhole};
-    ghost use Rattle.vk_backing.specs.Steps.{Grows, IsUnused};
+    ghost use Rattle.vk_resources.specs.Inner.Steps.{IsMaking, MayReach, HasChanged, cached_at, MadeOr, ResourceMade, MemoryMade, ShapeReady, PutReady, Puts, FoundOr, SharedMade, BindReady, Binds, IsEmpty, Ends};
+    ghost use Rattle.vk_backing.specs.Backed.{pool_by, allocation_of};
+    ghost use Rattle.vk_backing.specs.Steps.{Grows};
 
     /// Makes a memory object for an id, and answers its number; none where there is no room.
     fn allocate(&mut self, id: u32, memory_type: u32, size: u64) -> Result<Option<u64>, AllocError>
@@ -163,29 +162,6 @@ impl Resources {
             }
             None => Ok(Applied::NoRoom),
         }
-    }
-
-    /// Makes a pool for an id.
-    fn make_pool(&mut self, id: u32, info: PoolInfo) -> Result<(), AllocError>
-        requires info { IsPoolInfo info }
-        // What the type's invariant says may be used to show it.
-        requires absent { Stands self.old → pool_of self.old.backed id ≡ None }
-        ensures made { OnOk result (PoolMade self.old self.new id info) }
-        ensures stands { Stands self.old }
-    {
-        self.backing.pool(id, info)
-    }
-
-    /// Ends the pool of an id, in which nothing lies.
-    fn drop_pool(&mut self, id: u32)
-        requires there { IsSome (pool_of self.old.backed id) }
-        requires whole { IsWhole self.old.backed }
-        // What the type's invariant says may be used to show it.
-        requires unused { Stands self.old → IsUnused self.old.backed id }
-        ensures dropped { PoolDropped self.old self.new id }
-        ensures stands { Stands self.old }
-    {
-        self.backing.drop_pool(id)
     }
 
     /// Binds a new resource at an offset of the memory object that an id has.

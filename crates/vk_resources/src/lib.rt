@@ -6,6 +6,7 @@ mod caching;
 mod entries;
 mod images;
 mod pieces;
+mod pools;
 mod resources;
 mod rows;
 mod work;
