@@ -20,17 +20,89 @@ pub struct Case<'a> {
     pub rule: Rule,
 }
 
+/// What a list of edits keeps of a trace.
+#[derive(Clone, Copy)]
+pub struct Kind {
+    /// Whether the trace asks for less then.
+    pub weaker: bool,
+    /// Whether data is made up.
+    pub stands_in: bool,
+}
+
+/// The trace asks for what it asked for.
+pub const PLAIN: Kind = Kind {
+    weaker: false,
+    stands_in: false,
+};
+/// It asks for less.
+pub const WEAKER: Kind = Kind {
+    weaker: true,
+    stands_in: false,
+};
+/// It has made up data.
+pub const STAND_IN: Kind = Kind {
+    weaker: true,
+    stands_in: true,
+};
+
 /// Lists of edits, in order of trial.
 #[derive(Drop)]
 pub struct Candidates {
-    /// The lists.
+    /// Those after which the trace asks for what it asked for.
     pub lists: Vec<Vec<Edit>>,
+    /// Those after which it asks for less.
+    pub weaker: Vec<Vec<Edit>>,
+    /// Those that make up data.
+    pub stand_ins: Vec<Vec<Edit>>,
 }
 
 impl Candidates {
-    /// With a list more.
+    /// Without lists.
+    pub fn new(alloc: Global) -> Candidates {
+        Candidates {
+            lists: Vec::new(alloc),
+            weaker: Vec::new(alloc),
+            stand_ins: Vec::new(alloc),
+        }
+    }
+
+    /// The lists of a kind.
+    pub fn of_kind(self, kind: Kind) -> Vec<Vec<Edit>> {
+        let Candidates {
+            lists,
+            weaker,
+            stand_ins,
+        } = self;
+        if kind.stands_in {
+            stand_ins
+        } else if kind.weaker {
+            weaker
+        } else {
+            lists
+        }
+    }
+
+    /// With a list more; one without edits is left out.
     pub fn add(&mut self, list: EditList) -> Result<(), AllocError> {
-        self.lists.push(list.into_edits())?;
+        if !list.is_empty() {
+            self.lists.push(list.into_edits())?;
+        }
+        Ok(())
+    }
+
+    /// With a list more after which the trace asks for less.
+    pub fn add_weaker(&mut self, list: EditList) -> Result<(), AllocError> {
+        if !list.is_empty() {
+            self.weaker.push(list.into_edits())?;
+        }
+        Ok(())
+    }
+
+    /// With a list more that makes up data.
+    pub fn add_stand_in(&mut self, list: EditList) -> Result<(), AllocError> {
+        if !list.is_empty() {
+            self.stand_ins.push(list.into_edits())?;
+        }
         Ok(())
     }
 }
@@ -41,7 +113,21 @@ impl<'a> Case<'a> {
         EditList::new(self.alloc)
     }
 
-    /// An id that no entry makes, and so many others after it.
+    /// The case of an earlier point, whose place is given.
+    pub fn at(&self, index: usize, point: &Point<'a>) -> Case<'a> {
+        let earlier = if index <= self.earlier.len() {
+            &self.earlier[..index]
+        } else {
+            self.earlier
+        };
+        Case {
+            earlier,
+            refused: *point,
+            ..*self
+        }
+    }
+
+    /// An id that no entry makes, after so many others: above all that are made, or else the least.
     pub fn fresh_id(&self, others: u32) -> u32 {
         let mut greatest: u32 = 0;
         for entry in self.trace {
@@ -49,7 +135,28 @@ impl<'a> Case<'a> {
                 greatest = greatest.max(id);
             }
         }
-        greatest.saturating_add(1).saturating_add(others)
+        let after = greatest.saturating_add(1);
+        if after > greatest && others <= u32::MAX - after {
+            after + others
+        } else {
+            self.unused_id(others)
+        }
+    }
+
+    /// The least id that no entry makes, after so many others.
+    fn unused_id(&self, others: u32) -> u32 {
+        let mut id: u32 = 0;
+        let mut left = others;
+        for _ in 0..self.trace.len() {
+            if self.maker(id).is_none() {
+                if left == 0 {
+                    return id;
+                }
+                left -= 1;
+            }
+            id = id.saturating_add(1);
+        }
+        id.saturating_add(left)
     }
 
     /// The entry that makes an id, with its number.

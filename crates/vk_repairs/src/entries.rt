@@ -1,8 +1,12 @@
 use crate::cases::{Candidates, Case};
+use crate::places::visible;
 use crate::uses::uses_of;
 use std::alloc::AllocError;
-use vk_model::{BufferInfo, Entry, ImageInfo, Length, Usage};
+use vk_model::{BufferInfo, Entry, ImageInfo, Usage};
 use vk_order::Action;
+
+/// A resource is mapped fewer times than this.
+const MOST_MAPS: usize = 6;
 
 /// A fresh id for what the entry makes.
 pub fn new_id(case: &Case<'_>, found: &mut Candidates) -> Result<(), AllocError> {
@@ -129,11 +133,14 @@ pub fn map_state(case: &Case<'_>, found: &mut Candidates) -> Result<(), AllocErr
     match case.refused.action {
         Action::Host(Entry::Map { buffer } | Entry::Destroy { resource: buffer }) => {
             let buffer = *buffer;
-            inserted(case, number, Entry::Unmap { buffer }, found)?;
-            let mut edits = case.edits();
-            edits.insert(number, Entry::Unmap { buffer })?;
-            edits.insert(number, Entry::Unmap { buffer })?;
-            found.add(edits)
+            for count in 1..MOST_MAPS {
+                let mut edits = case.edits();
+                for _ in 0..count {
+                    edits.insert(number, Entry::Unmap { buffer })?;
+                }
+                found.add(edits)?;
+            }
+            Ok(())
         }
         Action::Host(
             Entry::Unmap { buffer }
@@ -141,73 +148,25 @@ pub fn map_state(case: &Case<'_>, found: &mut Candidates) -> Result<(), AllocErr
             | Entry::Read { buffer, .. }
             | Entry::Flush { buffer, .. }
             | Entry::Invalidate { buffer, .. },
-        ) => inserted(case, number, Entry::Map { buffer: *buffer }, found),
+        ) => {
+            inserted(case, number, Entry::Map { buffer: *buffer }, found)?;
+            mapped_elsewhere(case, *buffer, found)
+        }
         _ => Ok(()),
     }
 }
 
-/// Ranges of the host to the end of their buffer.
-pub fn range(case: &Case<'_>, found: &mut Candidates) -> Result<(), AllocError> {
-    let number = case.refused.entry;
-    match case.refused.action {
-        Action::Host(Entry::Flush { buffer, offset, .. }) => {
-            let (buffer, offset, size) = (*buffer, *offset, Length::Whole);
-            let flush = Entry::Flush {
-                buffer,
-                offset,
-                size,
-            };
-            replaced(case, number, flush, found)
-        }
-        Action::Host(Entry::Invalidate { buffer, offset, .. }) => {
-            let (buffer, offset, size) = (*buffer, *offset, Length::Whole);
-            let invalidate = Entry::Invalidate {
-                buffer,
-                offset,
-                size,
-            };
-            replaced(case, number, invalidate, found)
-        }
-        Action::Host(Entry::Read { buffer, offset, .. }) => {
-            shorter_read(case, *buffer, *offset, found)
-        }
-        _ => larger_buffers(case, found),
-    }
-}
-
-fn shorter_read(
+/// The buffer is mapped before the entry, and is in memory that the host sees.
+fn mapped_elsewhere(
     case: &Case<'_>,
     buffer: u32,
-    offset: u64,
     found: &mut Candidates,
 ) -> Result<(), AllocError> {
-    if let Some((_, Entry::Buffer { info, .. })) = case.maker(buffer) {
-        let size = info.size.saturating_sub(offset);
-        let read = Entry::Read {
-            buffer,
-            offset,
-            size,
-        };
-        replaced(case, case.refused.entry, read, found)?;
-    }
-    larger_buffers(case, found)
-}
-
-/// Larger buffers where those are made that the point uses.
-fn larger_buffers(case: &Case<'_>, found: &mut Candidates) -> Result<(), AllocError> {
-    let uses = uses_of(case.alloc, case.refused.action)?;
-    for one in uses.as_slice() {
-        if let Some((number, Entry::Buffer { id, info })) = case.maker(one.resource) {
-            let mut size = info.size;
-            for _ in 0..8 {
-                size = size.saturating_mul(2);
-                let larger = Entry::Buffer {
-                    id: *id,
-                    info: BufferInfo { size, ..*info },
-                };
-                replaced(case, number, larger, found)?;
-            }
-        }
+    if let Some((number, entry)) = visible(case, buffer)? {
+        let mut edits = case.edits();
+        edits.replace(number, entry)?;
+        edits.insert(case.refused.entry, Entry::Map { buffer })?;
+        found.add(edits)?;
     }
     Ok(())
 }

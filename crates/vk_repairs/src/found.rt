@@ -10,4 +10,8 @@ pub struct Repair {
     pub changed: Vec<Entry>,
     /// The first fault of that trace; none where it is accepted.
     pub next: Option<(At, Rule)>,
+    /// Whether that trace asks for less than the refused one did.
+    pub weaker: bool,
+    /// Whether it has made up data, in the place of data that the refused one lacks.
+    pub stands_in: bool,
 }

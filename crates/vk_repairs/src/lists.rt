@@ -15,6 +15,7 @@ struct Turn {
     is_within: bool,
     batch: usize,
     place: usize,
+    is_replaced: bool,
 }
 
 impl Turn {
@@ -25,18 +26,21 @@ impl Turn {
                 is_within: matches!(change, Change::Replace),
                 batch: 0,
                 place: 0,
+                is_replaced: false,
             },
             Edit::Remove { number } => Turn {
                 entry: *number,
                 is_within: true,
                 batch: 0,
                 place: 0,
+                is_replaced: false,
             },
-            Edit::Member { at, .. } => Turn {
+            Edit::Member { change, at, .. } => Turn {
                 entry: at.entry,
                 is_within: true,
                 batch: at.batch,
                 place: at.place,
+                is_replaced: matches!(change, Change::Replace),
             },
         }
     }
@@ -51,7 +55,10 @@ impl Turn {
         if self.batch != other.batch {
             return self.batch > other.batch;
         }
-        self.place > other.place
+        if self.place != other.place {
+            return self.place > other.place;
+        }
+        self.is_replaced && !other.is_replaced
     }
 }
 
@@ -66,6 +73,16 @@ impl EditList {
     /// The edits.
     pub fn into_edits(self) -> Vec<Edit> {
         self.edits
+    }
+
+    /// Whether there are none.
+    pub fn is_empty(&self) -> bool {
+        self.edits.is_empty()
+    }
+
+    /// An entry is taken out.
+    pub fn remove(&mut self, number: usize) -> Result<(), AllocError> {
+        self.add(Edit::Remove { number })
     }
 
     /// With an edit more, after those at the same place.

@@ -1,31 +1,41 @@
 use crate::cases::{Candidates, Case, family_of, place_of};
-use crate::hazards::link;
-use crate::uses::{has, uses_of};
+use crate::halves::{all_of, half, nothing, with_families, written};
+use crate::orders::{Ordering, order_after};
+use crate::ownership::{Half, Owned, families_of, half_of, is_exclusive, owner_of};
 use std::alloc::AllocError;
-use vk_model::{
-    Accesses, BufferElement, Cmd, Dependency, Element, Entry, Families, ImageElement, ImageInfo,
-    Layout, Length, Sequence, Sharing, Stages, SubresourceRange,
-};
-use vk_order::{Action, Point};
+use vk_model::{BufferElement, Cmd, Element, Entry, Families, ImageElement, Length, Sequence};
+use vk_order::Action;
 
-/// No transfer of ownership, or the whole resource.
-pub fn no_transfer(case: &Case<'_>, found: &mut Candidates) -> Result<(), AllocError> {
+/// The whole resource in place of a part, or no transfer of ownership.
+pub fn owner_whole(case: &Case<'_>, found: &mut Candidates) -> Result<(), AllocError> {
     let Action::Run(Cmd::Barrier { elements }) = case.refused.action else {
         return Ok(());
     };
-    let mut stays = Vec::new(case.alloc);
     let mut whole = Vec::new(case.alloc);
     for element in elements.as_slice() {
-        stays.push(staying(*element))?;
         whole.push(whole_resource(case, *element))?;
     }
-    for all in [whole, stays] {
-        let mut edits = case.edits();
-        let elements = Sequence::new(all);
-        edits.replace_command(place_of(&case.refused), Cmd::Barrier { elements })?;
-        found.add(edits)?;
+    let mut edits = case.edits();
+    let whole = Sequence::new(whole);
+    edits.replace_command(place_of(&case.refused), Cmd::Barrier { elements: whole })?;
+    found.add(edits)?;
+    no_transfer(case, elements.as_slice(), found)
+}
+
+/// No transfer of ownership.
+fn no_transfer(
+    case: &Case<'_>,
+    elements: &[Element],
+    found: &mut Candidates,
+) -> Result<(), AllocError> {
+    let mut stays = Vec::new(case.alloc);
+    for element in elements {
+        stays.push(staying(*element))?;
     }
-    Ok(())
+    let elements = Sequence::new(stays);
+    let mut edits = case.edits();
+    edits.replace_command(place_of(&case.refused), Cmd::Barrier { elements })?;
+    found.add_weaker(edits)
 }
 
 /// The families of no transfer.
@@ -37,17 +47,7 @@ fn same_family() -> Families {
 }
 
 fn staying(element: Element) -> Element {
-    match element {
-        Element::Buffer(mut range) => {
-            range.families = same_family();
-            Element::Buffer(range)
-        }
-        Element::Image(mut range) => {
-            range.families = same_family();
-            Element::Image(range)
-        }
-        other => other,
-    }
+    with_families(element, same_family())
 }
 
 fn whole_resource(case: &Case<'_>, element: Element) -> Element {
@@ -82,232 +82,158 @@ fn whole_image(case: &Case<'_>, element: ImageElement) -> ImageElement {
     }
 }
 
-/// All levels and layers of an image.
-fn all_of(info: &ImageInfo) -> SubresourceRange {
-    SubresourceRange {
-        first_level: 0,
-        levels: info.levels,
-        first_layer: 0,
-        layers: info.layers,
-    }
-}
-
-/// The acquires that releases lack: each right before the first use by the family that it is for.
-pub fn acquires(case: &Case<'_>, found: &mut Candidates) -> Result<(), AllocError> {
-    for (index, point) in case.earlier.iter().enumerate() {
-        if let Action::Run(Cmd::Barrier { elements }) = point.action {
-            for element in elements.as_slice() {
-                if let Some((id, families)) = released(*element, point.queue) {
-                    acquire(case, index, id, *element, families, found)?;
-                }
-            }
-        }
-    }
-    Ok(())
-}
-
-/// The resource and the families of a release.
-fn released(element: Element, queue: u32) -> Option<(u32, Families)> {
-    let (id, families) = match element {
-        Element::Buffer(range) => (range.buffer, range.families),
-        Element::Image(range) => (range.image, range.families),
-        Element::Memory(_) => return None,
-    };
-    if families.source == family_of(queue) && families.source != families.destination {
-        Some((id, families))
-    } else {
-        None
-    }
-}
-
-/// The other half of a release, right before the first use by the family that it is for.
-fn acquire(
-    case: &Case<'_>,
-    release: usize,
-    id: u32,
-    element: Element,
-    families: Families,
-    found: &mut Candidates,
-) -> Result<(), AllocError> {
-    for (index, point) in case.earlier.iter().enumerate() {
-        let is_later = index > release && family_of(point.queue) == families.destination;
-        if is_later {
-            let uses = uses_of(case.alloc, point.action)?;
-            if has(uses.as_slice(), id) {
-                let elements = vec![in case.alloc; other_half(element)]?;
-                let mut edits = case.edits();
-                let barrier = Cmd::Barrier {
-                    elements: Sequence::new(elements),
-                };
-                edits.insert_command(place_of(point), barrier)?;
-                return found.add(edits);
-            }
-        }
-    }
-    Ok(())
-}
-
-/// The acquire that belongs to a release.
-fn other_half(element: Element) -> Element {
-    let dependency = between(nothing(), used());
-    match element {
-        Element::Buffer(range) => Element::Buffer(BufferElement {
-            dependency,
-            ..range
-        }),
-        Element::Image(range) => Element::Image(ImageElement {
-            dependency,
-            ..range
-        }),
-        other => other,
-    }
-}
-
-/// Transfers of ownership for the resources that one family used after another: a release at the
-/// end of the last batch of the one, and an acquire before the use by the other; also with a
-/// semaphore that orders the two.
-pub fn transfers(case: &Case<'_>, found: &mut Candidates) -> Result<(), AllocError> {
-    for entry in case.trace {
-        if let Some(id) = exclusive(entry) {
-            transfers_of(case, id, found)?;
-        }
-    }
-    Ok(())
-}
-
-/// The id of a resource that one family owns at a time.
-fn exclusive(entry: &Entry) -> Option<u32> {
-    match entry {
-        Entry::Buffer { id, info } if matches!(info.sharing, Sharing::Exclusive) => Some(*id),
-        Entry::Image { id, info } if matches!(info.sharing, Sharing::Exclusive) => Some(*id),
-        _ => None,
-    }
-}
-
-fn transfers_of(case: &Case<'_>, id: u32, found: &mut Candidates) -> Result<(), AllocError> {
-    let mut last: Option<Point<'_>> = None;
-    for point in case.earlier {
-        if let Action::Run(_) = point.action {
-            let uses = uses_of(case.alloc, point.action)?;
-            if has(uses.as_slice(), id) {
-                if let Some(earlier) = last {
-                    if family_of(earlier.queue) != family_of(point.queue) {
-                        transfer(case, id, &earlier, point, false, found)?;
-                        transfer(case, id, &earlier, point, true, found)?;
-                    }
-                }
-                last = Some(*point);
-            }
-        }
-    }
-    Ok(())
-}
-
-fn transfer(
-    case: &Case<'_>,
-    id: u32,
-    earlier: &Point<'_>,
-    later: &Point<'_>,
-    is_linked: bool,
-    found: &mut Candidates,
-) -> Result<(), AllocError> {
-    let families = Families {
-        source: family_of(earlier.queue),
-        destination: family_of(later.queue),
-    };
-    let Some(release) = half(case, id, families, written(), nothing()) else {
-        return Ok(());
-    };
-    let Some(acquire) = half(case, id, families, nothing(), used()) else {
-        return Ok(());
-    };
-    let mut edits = case.edits();
-    let released = vec![in case.alloc; release]?;
-    let acquired = vec![in case.alloc; acquire]?;
-    edits.insert_command(
-        case.commands_end(earlier),
-        Cmd::Barrier {
-            elements: Sequence::new(released),
-        },
-    )?;
-    edits.insert_command(
-        place_of(later),
-        Cmd::Barrier {
-            elements: Sequence::new(acquired),
-        },
-    )?;
-    if is_linked {
-        let case = Case {
-            refused: *later,
-            ..*case
-        };
-        link(&case, &mut edits, case.fresh_id(0), earlier)?;
-    }
-    found.add(edits)
-}
-
-/// One scope of a dependency.
+/// What becomes of an element, and what it needs.
 #[derive(Clone, Copy)]
-struct Scope {
-    stages: Stages,
-    accesses: Accesses,
+struct Plan {
+    /// The element.
+    element: Element,
+    /// The place of the earlier point that it has to come after.
+    after: Option<usize>,
+    /// The release that has to come at the end of that point's batch.
+    release: Option<Element>,
 }
 
-fn written() -> Scope {
-    Scope {
-        stages: Stages::TRANSFER,
-        accesses: Accesses::TRANSFER_WRITE,
+/// The element as it is.
+fn kept(element: Element) -> Plan {
+    Plan {
+        element,
+        after: None,
+        release: None,
     }
 }
 
-fn used() -> Scope {
-    Scope {
-        stages: Stages::TRANSFER,
-        accesses: Accesses(6144),
+/// The two halves of a transfer fit each other, the queue and the resource; the first comes before
+/// the second, and is there.
+pub fn owner_pair(case: &Case<'_>, found: &mut Candidates) -> Result<(), AllocError> {
+    let Action::Run(Cmd::Barrier { elements }) = case.refused.action else {
+        return Ok(());
+    };
+    let mut plans = Vec::new(case.alloc);
+    for element in elements.as_slice() {
+        plans.push(planned(case, *element)?)?;
+    }
+    for ordering in [Ordering::Nothing, Ordering::Known, Ordering::New] {
+        by_plans(case, plans.as_slice(), ordering, found)?;
+    }
+    no_transfer(case, elements.as_slice(), found)
+}
+
+fn planned(case: &Case<'_>, element: Element) -> Result<Plan, AllocError> {
+    let Some((resource, families)) = families_of(&element) else {
+        return Ok(kept(element));
+    };
+    let half = half_of(families, case.refused.queue);
+    if half == Half::Neither {
+        return Ok(kept(element));
+    }
+    let is_known = families.source < 2 && families.destination < 2;
+    if half == Half::Strange || !is_known || !is_exclusive(case, resource) {
+        return Ok(kept(staying(element)));
+    }
+    let owned = owner_of(case, resource)?;
+    if half == Half::Release {
+        return match owned.release {
+            Some(_) => Ok(kept(staying(element))),
+            None => Ok(kept(element)),
+        };
+    }
+    Ok(planned_acquire(case, element, owned))
+}
+
+fn planned_acquire(case: &Case<'_>, element: Element, owned: Owned) -> Plan {
+    let Owned {
+        family,
+        release,
+        last,
+    } = owned;
+    let own = family_of(case.refused.queue);
+    match (family, release) {
+        (None, _) => kept(staying(element)),
+        (Some(_), Some(release)) => planned_second(own, element, release, last),
+        (Some(family), None) => planned_both(own, element, family, last),
     }
 }
 
-fn nothing() -> Scope {
-    Scope {
-        stages: Stages::TRANSFER,
-        accesses: Accesses(0),
+/// An acquire of what a family has released.
+fn planned_second(own: u32, element: Element, release: Element, after: Option<usize>) -> Plan {
+    if !is_for(&release, own) {
+        return kept(staying(element));
+    }
+    Plan {
+        element: as_released(element, release),
+        after,
+        release: None,
     }
 }
 
-fn between(source: Scope, destination: Scope) -> Dependency {
-    Dependency {
-        source_stages: source.stages,
-        source_accesses: source.accesses,
-        destination_stages: destination.stages,
-        destination_accesses: destination.accesses,
+/// Whether a release is for a family.
+fn is_for(release: &Element, family: u32) -> bool {
+    match families_of(release) {
+        Some((_, families)) => families.destination == family,
+        None => false,
     }
 }
 
-/// One half of a transfer of a whole resource.
-fn half(
+/// An acquire of what a family has not released.
+fn planned_both(own: u32, element: Element, family: u32, after: Option<usize>) -> Plan {
+    if family == own {
+        return kept(staying(element));
+    }
+    let families = Families {
+        source: family,
+        destination: own,
+    };
+    let acquire = with_families(element, families);
+    let release = half(&acquire, written(), nothing());
+    Plan {
+        element: acquire,
+        after,
+        release,
+    }
+}
+
+/// The acquire, with the families and layouts of a release.
+fn as_released(acquire: Element, release: Element) -> Element {
+    match (acquire, release) {
+        (Element::Buffer(second), Element::Buffer(first)) => Element::Buffer(BufferElement {
+            families: first.families,
+            ..second
+        }),
+        (Element::Image(second), Element::Image(first)) => Element::Image(ImageElement {
+            families: first.families,
+            old_layout: first.old_layout,
+            new_layout: first.new_layout,
+            ..second
+        }),
+        _ => acquire,
+    }
+}
+
+fn by_plans(
     case: &Case<'_>,
-    id: u32,
-    families: Families,
-    source: Scope,
-    destination: Scope,
-) -> Option<Element> {
-    let dependency = between(source, destination);
-    match case.maker(id) {
-        Some((_, Entry::Buffer { .. })) => Some(Element::Buffer(BufferElement {
-            dependency,
-            families,
-            buffer: id,
-            offset: 0,
-            size: Length::Whole,
-        })),
-        Some((_, Entry::Image { info, .. })) => Some(Element::Image(ImageElement {
-            dependency,
-            families,
-            image: id,
-            old_layout: Layout::GENERAL,
-            new_layout: Layout::GENERAL,
-            range: all_of(info),
-        })),
-        _ => None,
+    plans: &[Plan],
+    ordering: Ordering,
+    found: &mut Candidates,
+) -> Result<(), AllocError> {
+    let mut edits = case.edits();
+    let mut all = Vec::new(case.alloc);
+    let mut queues = Vec::new(case.alloc);
+    for plan in plans {
+        all.push(plan.element)?;
+        if let Some(index) = plan.after {
+            if let Some(earlier) = case.earlier.get(index) {
+                if let Some(release) = plan.release {
+                    let elements = Sequence::new(vec![in case.alloc; release]?);
+                    edits.insert_command(case.commands_end(earlier), Cmd::Barrier { elements })?;
+                }
+                if !queues.contains(&earlier.queue) {
+                    order_after(case, ordering, index, earlier, 0, &mut edits)?;
+                    queues.push(earlier.queue)?;
+                }
+            }
+        }
     }
+    let elements = Sequence::new(all);
+    edits.replace_command(place_of(&case.refused), Cmd::Barrier { elements })?;
+    found.add(edits)
 }

@@ -4,6 +4,9 @@ use std::alloc::AllocError;
 use vk_model::{BufferInfo, Entry, ImageInfo, MemoryInfo, Place, PoolInfo, PoolKind};
 use vk_order::Action;
 
+/// So many places are tried at most.
+const MOST_STARTS: usize = 36;
+
 /// Other memory types: of what the entry makes, or of what is mapped.
 pub fn memory_type(case: &Case<'_>, found: &mut Candidates) -> Result<(), AllocError> {
     let number = match case.refused.action {
@@ -23,11 +26,11 @@ pub fn memory_type(case: &Case<'_>, found: &mut Candidates) -> Result<(), AllocE
             replaced(case, memory, with_type(maker, memory_type)?, found)?;
         }
     }
-    Ok(())
+    dedicated(case, number, entry, found)
 }
 
 /// The memory object or pool that a resource is put in; 0 where there is none.
-fn memory_of(entry: &Entry) -> u32 {
+pub fn memory_of(entry: &Entry) -> u32 {
     let place = match entry {
         Entry::Buffer { info, .. } => info.place,
         Entry::Image { info, .. } => info.place,
@@ -80,8 +83,39 @@ fn with_place(entry: &Entry, id: u32, place: Place) -> Result<Entry, AllocError>
     }
 }
 
-/// Other places in the memory object of a resource: at multiples of powers of two above and below
-/// its own, and then in a larger object.
+/// The entry that puts a buffer into memory that the host sees, and its number.
+pub fn visible(case: &Case<'_>, buffer: u32) -> Result<Option<(usize, Entry)>, AllocError> {
+    let Some((number, entry)) = case.maker(buffer) else {
+        return Ok(None);
+    };
+    if let Some((memory, maker)) = case.maker(memory_of(entry)) {
+        return Ok(Some((memory, with_type(maker, 1)?)));
+    }
+    Ok(Some((number, with_type(entry, 1)?)))
+}
+
+/// A resource in a memory object of its own.
+fn dedicated(
+    case: &Case<'_>,
+    number: usize,
+    entry: &Entry,
+    found: &mut Candidates,
+) -> Result<(), AllocError> {
+    if let Some(id) = entry.made_id() {
+        for memory_type in [1, 0] {
+            let mut edits = case.edits();
+            edits.replace(
+                number,
+                with_place(entry, id, Place::Dedicated { memory_type })?,
+            )?;
+            found.add_weaker(edits)?;
+        }
+    }
+    Ok(())
+}
+
+/// Other places in the memory object of a resource: the lowest that others leave, multiples of powers
+/// of two above and below its own; then after what there is, in a larger object.
 pub fn binding(case: &Case<'_>, found: &mut Candidates) -> Result<(), AllocError> {
     let Action::Host(entry) = case.refused.action else {
         return Ok(());
@@ -94,30 +128,103 @@ pub fn binding(case: &Case<'_>, found: &mut Candidates) -> Result<(), AllocError
     let Place::Memory { memory, offset } = place else {
         return Ok(());
     };
+    let mut starts = Vec::new(case.alloc);
     for unit in [16, 64, 256, 1024] {
         let below: u64 = offset / unit * unit;
-        let above = below.saturating_add(unit);
-        for offset in [above, below, 0] {
-            let moved = with_place(entry, id, Place::Memory { memory, offset })?;
-            replaced(case, case.refused.entry, moved, found)?;
+        for start in [below.saturating_add(unit), below, 0] {
+            add_start(&mut starts, start)?;
         }
     }
-    larger_memory(case, memory, found)
+    let ends = ends_in(case, memory)?;
+    for unit in [16, 64, 256, 1024] {
+        for end in ends.as_slice() {
+            add_start(&mut starts, rounded(*end, unit))?;
+        }
+    }
+    for start in starts.as_slice() {
+        moved_to(case, entry, id, memory, *start, found)?;
+    }
+    larger_memory(case, entry, memory, found)?;
+    dedicated(case, case.refused.entry, entry, found)
 }
 
-/// A larger memory object.
-fn larger_memory(case: &Case<'_>, memory: u32, found: &mut Candidates) -> Result<(), AllocError> {
+/// A place more to try, if it is new and there aren't too many.
+fn add_start(starts: &mut Vec<u64>, start: u64) -> Result<(), AllocError> {
+    if !starts.contains(&start) && starts.len() < MOST_STARTS {
+        starts.push(start)?;
+    }
+    Ok(())
+}
+
+fn rounded(offset: u64, unit: u64) -> u64 {
+    if unit == 0 {
+        return offset;
+    }
+    offset.saturating_add(unit - 1) / unit * unit
+}
+
+fn moved_to(
+    case: &Case<'_>,
+    entry: &Entry,
+    id: u32,
+    memory: u32,
+    offset: u64,
+    found: &mut Candidates,
+) -> Result<(), AllocError> {
+    let moved = with_place(entry, id, Place::Memory { memory, offset })?;
+    replaced(case, case.refused.entry, moved, found)
+}
+
+/// Where the buffers end that are bound to a memory object.
+fn ends_in(case: &Case<'_>, memory: u32) -> Result<Vec<u64>, AllocError> {
+    let mut ends = Vec::new(case.alloc);
+    for point in case.earlier {
+        if let Action::Host(Entry::Buffer { info, .. }) = point.action {
+            if let Place::Memory {
+                memory: other,
+                offset,
+            } = info.place
+            {
+                if other == memory {
+                    ends.push(offset.saturating_add(info.size))?;
+                }
+            }
+        }
+    }
+    Ok(ends)
+}
+
+/// A larger memory object; the resource stays, or comes after what it was before.
+fn larger_memory(
+    case: &Case<'_>,
+    entry: &Entry,
+    memory: u32,
+    found: &mut Candidates,
+) -> Result<(), AllocError> {
     let Some((number, Entry::Memory { id, info })) = case.maker(memory) else {
         return Ok(());
     };
     let mut size = info.size;
-    for _ in 0..16 {
+    for _ in 0..10 {
         size = size.saturating_mul(2).min(67_108_864);
-        let larger = Entry::Memory {
-            id: *id,
-            info: MemoryInfo { size, ..*info },
-        };
-        replaced(case, number, larger, found)?;
+        for is_moved in [false, true] {
+            let mut edits = case.edits();
+            edits.replace(
+                number,
+                Entry::Memory {
+                    id: *id,
+                    info: MemoryInfo { size, ..*info },
+                },
+            )?;
+            if is_moved {
+                if let Some(bound) = entry.made_id() {
+                    let offset = rounded(info.size, 1_024);
+                    let place = Place::Memory { memory, offset };
+                    edits.replace(case.refused.entry, with_place(entry, bound, place)?)?;
+                }
+            }
+            found.add(edits)?;
+        }
     }
     Ok(())
 }
@@ -142,7 +249,7 @@ pub fn pool_size(case: &Case<'_>, found: &mut Candidates) -> Result<(), AllocErr
         };
         replaced(case, number, larger, found)?;
     }
-    Ok(())
+    dedicated(case, case.refused.entry, entry, found)
 }
 
 /// A place from below, or a pool that has an upper end.
@@ -167,35 +274,4 @@ pub fn pool_kind(case: &Case<'_>, found: &mut Candidates) -> Result<(), AllocErr
         replaced(case, number, linear, found)?;
     }
     Ok(())
-}
-
-/// What lies in a memory object or a pool is destroyed before that ends.
-pub fn destroyed_before(case: &Case<'_>, found: &mut Candidates) -> Result<(), AllocError> {
-    let ended = match case.refused.action {
-        Action::Host(Entry::Free { memory }) => *memory,
-        Action::Host(Entry::DropPool { pool }) => *pool,
-        _ => return Ok(()),
-    };
-    let mut edits = case.edits();
-    for point in case.earlier {
-        if let Action::Host(entry) = point.action {
-            if let Some(resource) = entry.made_id() {
-                if memory_of(entry) == ended && !is_destroyed(case, resource) {
-                    edits.insert(case.refused.entry, Entry::Destroy { resource })?;
-                }
-            }
-        }
-    }
-    found.add(edits)
-}
-
-fn is_destroyed(case: &Case<'_>, id: u32) -> bool {
-    for point in case.earlier {
-        if let Action::Host(Entry::Destroy { resource }) = point.action {
-            if *resource == id {
-                return true;
-            }
-        }
-    }
-    false
 }

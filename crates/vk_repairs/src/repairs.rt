@@ -11,20 +11,27 @@ ghost use Rattle.vk_model.specs.declared.entry.Entry.{Entry as AnyEntry};
 ghost use Rattle.vk_model.specs.declared.rule.At.{At as AnyAt};
 
 use crate::applying::edited;
-use crate::candidates::candidates;
-use crate::cases::Case;
+use crate::cases::{Candidates, Kind, PLAIN, STAND_IN, WEAKER};
 use crate::counting::all_points;
 use crate::edits::Edit;
 use crate::found::Repair;
 use crate::judging::{is_among, judge, with_start};
 use crate::moving::moved;
+use crate::seeking::{followed, sought};
+use crate::shortening::{STEPS, may_go, with_less, without_edit};
 use std::alloc::{AllocError, Global};
 use vk_model::{At, Entry, Rule};
 use vk_order::Point;
 use vk_queues::reference_order;
 
-/// At most so many lists of edits are judged.
+/// At most so many lists of edits are judged, of one and of two.
 const MOST: usize = 60;
+
+/// At most so many of those that ask for less or make up data.
+const MOST_WEAKER: usize = 30;
+
+/// In a trace of more points no two lists are tried together.
+const MOST_FOR_TWO: usize = 1_024;
 
 /// What is known of the refused trace.
 #[derive(Clone, Copy)]
@@ -40,8 +47,9 @@ pub struct Refused<'a> {
 }
 
 /// A repair of a refused trace, whose first fault is given: the first found that makes it accepted,
-/// or else the first found after which its first fault comes later. None is said only of the edits
-/// that were tried. The only error is want of memory.
+/// or else the first found after which its first fault comes later; what asks for less only where
+/// nothing else is found. No edit of it can go. None is said only of the edits that were tried. The
+/// only error is want of memory.
 pub fn repair(
     alloc: Global,
     trace: &[Entry],
@@ -64,31 +72,178 @@ pub fn repair(
         sound: start.sound.len(),
         size,
     };
-    let lists = sought(alloc, trace, start.sound.as_slice(), rule)?;
-    first_of(alloc, &refused, lists)
+    told(alloc, &refused, start.sound.as_slice(), rule)
 }
 
-/// Lists of edits to try.
-fn sought(
+/// The repair that is told: the one that is chosen, without what can go.
+fn told(
     alloc: Global,
-    trace: &[Entry],
+    refused: &Refused<'_>,
     earlier: &[Point<'_>],
     rule: Rule,
-) -> Result<Vec<Vec<Edit>>, AllocError> {
-    let points = reference_order(alloc, trace)?;
-    match points.get(earlier.len()) {
-        Some(refused) => {
-            let case = Case {
-                alloc,
-                trace,
-                earlier,
-                refused: *refused,
-                rule,
-            };
-            let found = candidates(&case)?;
-            Ok(found.lists)
+) -> Result<Option<Repair>, AllocError>
+    requires { IsMeasured refused.now }
+    ensures { IfOk result (λ found. IfSome found (IsRepair refused.now.trace.now refused.now.at)) }
+{
+    match chosen(alloc, refused, earlier, rule)? {
+        Some(found) => Ok(Some(least(alloc, refused, found)?)),
+        None => Ok(None),
+    }
+}
+
+/// The repair that is chosen.
+fn chosen(
+    alloc: Global,
+    refused: &Refused<'_>,
+    earlier: &[Point<'_>],
+    rule: Rule,
+) -> Result<Option<Repair>, AllocError>
+    requires { IsMeasured refused.now }
+    ensures { IfOk result (λ found. IfSome found (IsRepair refused.now.trace.now refused.now.at)) }
+{
+    let Candidates {
+        lists,
+        weaker,
+        stand_ins,
+    } = sought(alloc, refused.trace, earlier, rule)?;
+    let found = first_or_two(alloc, refused, earlier, rule, lists, PLAIN)?;
+    if found.is_some() {
+        return Ok(found);
+    }
+    let found = first_or_two(alloc, refused, earlier, rule, weaker, WEAKER)?;
+    if found.is_some() {
+        return Ok(found);
+    }
+    first_or_two(alloc, refused, earlier, rule, stand_ins, STAND_IN)
+}
+
+/// The first of some lists of edits, or else of those that serve only together with a list after
+/// them.
+fn first_or_two(
+    alloc: Global,
+    refused: &Refused<'_>,
+    earlier: &[Point<'_>],
+    rule: Rule,
+    lists: Vec<Vec<Edit>>,
+    kind: Kind,
+) -> Result<Option<Repair>, AllocError>
+    requires { IsMeasured refused.now }
+    ensures { IfOk result (λ found. IfSome found (IsRepair refused.now.trace.now refused.now.at)) }
+{
+    let found = first_of(alloc, refused, lists, kind)?;
+    if found.is_some() {
+        return Ok(found);
+    }
+    if refused.size > MOST_FOR_TWO {
+        return Ok(None);
+    }
+    let starts = sought(alloc, refused.trace, earlier, rule)?;
+    let longer = followed(alloc, refused.trace, refused.at, rule, &starts, kind)?;
+    first_of(alloc, refused, longer, kind)
+}
+
+/// A repair without the edits and the accesses of barriers that can go.
+fn least(alloc: Global, refused: &Refused<'_>, found: Repair) -> Result<Repair, AllocError>
+    requires measured { IsMeasured refused.now }
+    requires repair { IsRepair refused.now.trace.now refused.now.at found }
+    ensures { IfOk result (IsRepair refused.now.trace.now refused.now.at) }
+{
+    let mut best = found;
+    let count = best.edits.len();
+    for turn in 0..count {
+        best = shorter(alloc, refused, best, count - 1 - turn)?;
+    }
+    for number in 0..count {
+        best = less_at(alloc, refused, best, number)?;
+    }
+    Ok(best)
+}
+
+/// A repair without the accesses that can go in one of its barriers.
+fn less_at(
+    alloc: Global,
+    refused: &Refused<'_>,
+    found: Repair,
+    number: usize,
+) -> Result<Repair, AllocError>
+    requires measured { IsMeasured refused.now }
+    requires repair { IsRepair refused.now.trace.now refused.now.at found }
+    ensures { IfOk result (IsRepair refused.now.trace.now refused.now.at) }
+{
+    let mut best = found;
+    for step in 0..STEPS {
+        best = less(alloc, refused, best, number, step)?;
+    }
+    Ok(best)
+}
+
+/// A repair without one of its edits, if it is as good.
+fn shorter(
+    alloc: Global,
+    refused: &Refused<'_>,
+    best: Repair,
+    number: usize,
+) -> Result<Repair, AllocError>
+    requires measured { IsMeasured refused.now }
+    requires repair { IsRepair refused.now.trace.now refused.now.at best }
+    ensures { IfOk result (IsRepair refused.now.trace.now refused.now.at) }
+{
+    if best.edits.len() < 2 || !may_go(best.edits.as_slice(), number) {
+        return Ok(best);
+    }
+    let fewer = without_edit(alloc, best.edits.as_slice(), number)?;
+    let offer = offered(alloc, refused, fewer, kind_of(&best))?;
+    Ok(as_good(best, offer))
+}
+
+/// A repair with one access less in one of its barriers, if it is as good.
+fn less(
+    alloc: Global,
+    refused: &Refused<'_>,
+    best: Repair,
+    number: usize,
+    step: usize,
+) -> Result<Repair, AllocError>
+    requires measured { IsMeasured refused.now }
+    requires repair { IsRepair refused.now.trace.now refused.now.at best }
+    ensures { IfOk result (IsRepair refused.now.trace.now refused.now.at) }
+{
+    let Some(edits) = with_less(alloc, best.edits.as_slice(), number, step)? else {
+        return Ok(best);
+    };
+    let offer = offered(alloc, refused, edits, kind_of(&best))?;
+    Ok(as_good(best, offer))
+}
+
+fn kind_of(found: &Repair) -> Kind {
+    Kind {
+        weaker: found.weaker,
+        stands_in: found.stands_in,
+    }
+}
+
+/// The second, if it leads as far.
+fn as_good(best: Repair, offer: Option<Repair>) -> Repair
+    ensures { (trace : List AnyEntry) (at : AnyAt) → IsRepair trace at best → IfSome offer (IsRepair trace at) → IsRepair trace at result }
+{
+    match offer {
+        Some(other) => {
+            if leads_as_far(best.next, other.next) {
+                other
+            } else {
+                best
+            }
         }
-        None => Ok(Vec::new(alloc)),
+        None => best,
+    }
+}
+
+/// Whether the second is no fault, or one of the same rule as the first.
+fn leads_as_far(first: Option<(At, Rule)>, second: Option<(At, Rule)>) -> bool {
+    match (first, second) {
+        (_, None) => true,
+        (Some((_, rule)), Some((_, other))) => rule == other,
+        (None, Some(_)) => false,
     }
 }
 
@@ -98,14 +253,16 @@ fn first_of(
     alloc: Global,
     refused: &Refused<'_>,
     lists: Vec<Vec<Edit>>,
+    kind: Kind,
 ) -> Result<Option<Repair>, AllocError>
     requires { IsMeasured refused.now }
     ensures { IfOk result (λ found. IfSome found (IsRepair refused.now.trace.now refused.now.at)) }
 {
+    let most = if kind.weaker { MOST_WEAKER } else { MOST };
     let mut best = None;
     for (count, edits) in lists.into_iter().enumerate() {
-        if count < MOST {
-            let offer = offered(alloc, refused, edits)?;
+        if count < most {
+            let offer = offered(alloc, refused, edits, kind)?;
             if is_accepted(&offer) {
                 return Ok(offer);
             }
@@ -137,6 +294,7 @@ fn offered(
     alloc: Global,
     refused: &Refused<'_>,
     edits: Vec<Edit>,
+    kind: Kind,
 ) -> Result<Option<Repair>, AllocError>
     requires { IsMeasured refused.now }
     ensures { IfOk result (λ found. IfSome found (IsRepair refused.now.trace.now refused.now.at)) }
@@ -153,6 +311,8 @@ fn offered(
         edits,
         changed,
         next: outcome.next,
+        weaker: kind.weaker,
+        stands_in: kind.stands_in,
     }))
 }
 

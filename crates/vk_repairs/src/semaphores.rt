@@ -1,11 +1,11 @@
 use crate::cases::{Candidates, Case, place_of};
 use crate::edits::Change;
 use std::alloc::AllocError;
-use vk_model::{Batch, Cmd, Entry, SemaphoreSubmit, SemaphoreValue, Sequence, Stages};
+use vk_model::{Entry, SemaphoreSubmit, SemaphoreValue, Sequence, Stages};
 use vk_order::{Action, Point};
 
 /// The greatest value that a semaphore has had before the refused point.
-fn last_value(case: &Case<'_>, semaphore: u32) -> u64 {
+pub fn last_value(case: &Case<'_>, semaphore: u32) -> u64 {
     let mut last = 0;
     for point in case.earlier {
         last = last.max(value_at(point, semaphore));
@@ -50,7 +50,34 @@ pub fn signal_value(case: &Case<'_>, found: &mut Candidates) -> Result<(), Alloc
         )?,
         _ => {}
     }
-    found.add(edits)
+    found.add(edits)?;
+    own_semaphore(case, found)
+}
+
+/// A semaphore of its own for the signal.
+fn own_semaphore(case: &Case<'_>, found: &mut Candidates) -> Result<(), AllocError> {
+    let id = case.fresh_id(0);
+    let mut edits = case.edits();
+    edits.insert(case.refused.entry, Entry::Semaphore { id, initial: 0 })?;
+    match case.refused.action {
+        Action::Host(Entry::Signal { .. }) => {
+            let signal = Entry::Signal {
+                semaphore: id,
+                value: 1,
+            };
+            edits.replace(case.refused.entry, signal)?;
+        }
+        Action::Signal(signal) => {
+            let own = SemaphoreSubmit {
+                semaphore: id,
+                value: 1,
+                stages: signal.stages,
+            };
+            edits.signal(Change::Replace, place_of(&case.refused), own)?;
+        }
+        _ => {}
+    }
+    found.add_weaker(edits)
 }
 
 /// A wait for the last signal of the semaphore before the signal.
@@ -60,7 +87,8 @@ pub fn signal_order(case: &Case<'_>, found: &mut Candidates) -> Result<(), Alloc
             let value = last_value(case, *semaphore);
             let mut edits = case.edits();
             edits.insert(case.refused.entry, host_wait(case, *semaphore, value)?)?;
-            found.add(edits)
+            found.add(edits)?;
+            own_semaphore(case, found)
         }
         Action::Signal(signal) => {
             let wait = SemaphoreSubmit {
@@ -69,7 +97,8 @@ pub fn signal_order(case: &Case<'_>, found: &mut Candidates) -> Result<(), Alloc
                 stages: Stages::ALL_COMMANDS,
             };
             waited(case, wait, false, found)?;
-            waited(case, wait, true, found)
+            waited(case, wait, true, found)?;
+            own_semaphore(case, found)
         }
         _ => Ok(()),
     }
@@ -100,90 +129,10 @@ fn waited(
     found.add(edits)
 }
 
-fn host_wait(case: &Case<'_>, semaphore: u32, value: u64) -> Result<Entry, AllocError> {
+/// A wait of the host for one value.
+pub fn host_wait(case: &Case<'_>, semaphore: u32, value: u64) -> Result<Entry, AllocError> {
     let waits = vec![in case.alloc; SemaphoreValue { semaphore, value }]?;
     Ok(Entry::Wait {
         waits: Sequence::new(waits),
     })
-}
-
-/// Signals of the host before a wait that is never met: for batches that wait, then for the wait
-/// itself.
-pub fn wait_never(case: &Case<'_>, found: &mut Candidates) -> Result<(), AllocError> {
-    let Action::Host(Entry::Wait { waits }) = case.refused.action else {
-        return Ok(());
-    };
-    for (number, entry) in case.trace.iter().enumerate() {
-        if number < case.refused.entry {
-            if let Entry::Submit { batches, .. } = entry {
-                held_batches(case, number, batches.as_slice(), found)?;
-            }
-        }
-    }
-    let mut edits = case.edits();
-    for wait in waits.as_slice() {
-        if last_value(case, wait.semaphore) < wait.value {
-            edits.insert(
-                case.refused.entry,
-                Entry::Signal {
-                    semaphore: wait.semaphore,
-                    value: wait.value,
-                },
-            )?;
-        }
-    }
-    found.add(edits)
-}
-
-/// Signals for what batches wait for that aren't started.
-fn held_batches(
-    case: &Case<'_>,
-    entry: usize,
-    batches: &[Batch],
-    found: &mut Candidates,
-) -> Result<(), AllocError> {
-    for batch in batches {
-        for wait in batch.waits.as_slice() {
-            if last_value(case, wait.semaphore) < wait.value && entry < case.refused.entry {
-                let mut edits = case.edits();
-                edits.insert(
-                    case.refused.entry,
-                    Entry::Signal {
-                        semaphore: wait.semaphore,
-                        value: wait.value,
-                    },
-                )?;
-                found.add(edits)?;
-            }
-        }
-    }
-    Ok(())
-}
-
-/// The semaphores and events that the point names, made before it.
-pub fn made_before(case: &Case<'_>, found: &mut Candidates) -> Result<(), AllocError> {
-    match case.refused.action {
-        Action::Host(Entry::Signal { semaphore, .. }) => made(case, *semaphore, 0, found),
-        Action::Host(Entry::Wait { waits }) => {
-            for wait in waits.as_slice() {
-                made(case, wait.semaphore, wait.value, found)?;
-            }
-            Ok(())
-        }
-        Action::Wait(wait) => made(case, wait.semaphore, wait.value, found),
-        Action::Signal(signal) => made(case, signal.semaphore, 0, found),
-        Action::Run(Cmd::Set { event, .. } | Cmd::Await { event, .. }) => {
-            let mut edits = case.edits();
-            edits.insert(case.refused.entry, Entry::Event { id: *event })?;
-            found.add(edits)
-        }
-        _ => Ok(()),
-    }
-}
-
-/// A semaphore that is made before the point.
-fn made(case: &Case<'_>, id: u32, initial: u64, found: &mut Candidates) -> Result<(), AllocError> {
-    let mut edits = case.edits();
-    edits.insert(case.refused.entry, Entry::Semaphore { id, initial })?;
-    found.add(edits)
 }

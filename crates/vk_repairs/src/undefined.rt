@@ -1,13 +1,15 @@
 use crate::cases::{Candidates, Case};
-use crate::{images, owners, sharing};
+use crate::sharing::sources;
+use crate::{contents, images, losses, sharing};
 use std::alloc::AllocError;
 use vk_model::Entry;
 use vk_order::Action;
 
 /// Repairs of a read of an undefined byte: a flush before an invalidation that lost what was
-/// written, a transition that keeps the contents, a transfer of ownership, and resources that no
-/// family owns.
+/// written, a transition that keeps the contents, a transfer of ownership; resources that no family
+/// owns; bytes that stand in for what nothing wrote.
 pub fn read_undefined(case: &Case<'_>, found: &mut Candidates) -> Result<(), AllocError> {
+    let sources = sources(case)?;
     for point in case.earlier {
         if let Action::Host(
             Entry::Invalidate {
@@ -17,20 +19,22 @@ pub fn read_undefined(case: &Case<'_>, found: &mut Candidates) -> Result<(), All
             },
         ) = point.action
         {
-            let mut edits = case.edits();
-            edits.insert(
-                point.entry,
-                Entry::Flush {
-                    buffer: *buffer,
-                    offset: *offset,
-                    size: *size,
-                },
-            )?;
-            found.add(edits)?;
+            if sources.contains(buffer) {
+                let mut edits = case.edits();
+                edits.insert(
+                    point.entry,
+                    Entry::Flush {
+                        buffer: *buffer,
+                        offset: *offset,
+                        size: *size,
+                    },
+                )?;
+                found.add(edits)?;
+            }
         }
     }
-    images::kept_contents(case, found)?;
-    owners::acquires(case, found)?;
-    owners::transfers(case, found)?;
-    sharing::concurrent(case, found)
+    images::kept_contents(case, sources.as_slice(), found)?;
+    losses::transfers(case, sources.as_slice(), found)?;
+    sharing::concurrent(case, sources.as_slice(), found)?;
+    contents::made_up(case, sources.as_slice(), found)
 }
