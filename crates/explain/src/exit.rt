@@ -10,5 +10,6 @@ pub fn exit_status(judgment: Judgment) -> u8
     match judgment {
         Judgment::Accepted => 0,
         Judgment::Refused => 1,
+        Judgment::NoTrace => 2,
     }
 }

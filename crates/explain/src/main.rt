@@ -10,7 +10,7 @@ use std::io;
 use std::process::ExitCode;
 use std::rt::Env;
 use vk_console::{arguments, complain, refuse};
-use vk_explain::{Form, run};
+use vk_explain::{Wanted, run};
 use vk_trace::Watched;
 
 /// Does what the command line asks, and answers the exit status.
@@ -20,16 +20,16 @@ fn perform<R: Env + Input + Print + Eprint + AllocGlobal>(rt: &R) -> u8 {
         Err(status) => return status,
     };
     match options::read(rt.alloc(), arguments.as_slice()) {
-        Ok(form) => explain(rt, form),
+        Ok(wanted) => explain(rt, wanted),
         Err(error) => refuse(rt, error),
     }
 }
 
 /// Explains the standard input, and answers the exit status.
-fn explain<R: Env + Input + Print + Eprint + AllocGlobal>(rt: &R, form: Form) -> u8 {
+fn explain<R: Env + Input + Print + Eprint + AllocGlobal>(rt: &R, wanted: Wanted) -> u8 {
     let mut reader = Watched::new(rt.reader());
     let mut writer = Watched::new(io::writer(rt));
-    match run(rt.alloc(), &mut reader, &mut writer, form) {
+    match run(rt.alloc(), &mut reader, &mut writer, wanted) {
         Ok(judgment) => exit_status(judgment),
         Err(error) => complain(rt, error),
     }

@@ -1,1 +1,3 @@
 pub mod Joins
+pub mod Verdicts
+pub mod Refusals

@@ -7,10 +7,12 @@ ghost use Rattle.vk_history.specs.Supported.{is_supported};
 ghost use Rattle.vk_trace.specs.Trace.{IsTrace};
 ghost use Rattle.vk_trace.specs.Watching.{counted};
 ghost use Rattle.vk_trace.specs.Run.{IsBeforeWriting, IsJudged};
-ghost use Rattle.vk_explain.specs.Explained.{Explains, IsExplanation, judgment_of};
+ghost use Rattle.vk_explain.specs.Explained.{Answers, Explains, IsExplained, IsExplanation, judgment_of};
 
-use crate::forms::Form;
+use crate::forms::{Form, Wanted};
 use crate::json::{acceptance_json, refusal_json};
+use crate::mending::repaired_of;
+use crate::mistakes::no_trace;
 use crate::reports::{acceptance_text, refusal_text};
 use std::alloc::{AllocError, Global};
 use std::io::{Read, Write};
@@ -18,46 +20,48 @@ use vk_model::{At, Entry, Rule};
 use vk_trace::{ReadTraceError, RunError, Watched, read_all, read_trace, write_all};
 use vk_validate::{Verdict, validate};
 
-/// The verdict on a trace, without its fault.
+/// The verdict on an input, without its fault.
 #[derive(Clone, Copy, Debug, PartialEq, Eq)]
 pub enum Judgment {
-    /// It breaks no rule.
+    /// It is a trace that breaks no rule.
     Accepted,
-    /// It breaks a rule.
+    /// It is a trace that breaks a rule.
     Refused,
+    /// It is no trace.
+    NoTrace,
 }
 
 /// What is said of an input.
 #[derive(Drop)]
 pub struct Explanation {
-    /// The verdict on the trace.
+    /// The verdict.
     pub judgment: Judgment,
     /// The text to write.
     pub text: String,
 }
 
-/// Reads a trace to its end, and writes what is said of it: that it is accepted and what it has, or that
-/// it is refused, where, by which rule, and what the point does. Nothing is run. Nothing is written before
-/// the whole text is built, so only `WriteFault` has written a front of it. Nothing is flushed.
+/// Reads an input to its end, and writes what is said of it: that it is a trace that is accepted and
+/// what it has, or that is refused, where, by which rule, and what the point does, or that it is no
+/// trace; or the trace as it is after repairs. Nothing is run. Nothing is written before the whole
+/// text is built, so only `WriteFault` has written a front of it. Nothing is flushed.
 ///
 /// # Errors
 ///
-/// `NotTrace` where the bytes are no trace; those of reading, of writing, and `NoMemory`.
+/// Those of reading, of writing, and `NoMemory`.
 pub fn run<R: Read, W: Write>(
     alloc: Global,
     reader: &mut Watched<R>,
     writer: &mut Watched<W>,
-    form: Form,
+    wanted: Wanted,
 ) -> Result<Judgment, RunError>
     requires reads { reader.old.failed ≡ false }
     requires writes { writer.old.failed ≡ false }
-    // The bytes that were read are a trace, an explanation of it is written, and nothing else is.
+    // What is asked of the bytes that were read is written, and nothing else is.
     ensures done { IfOk result (λ judgment. IfSome (R.remaining reader.old.inner) (λ input.
-        (text : List ℕ) × Explains form input text judgment
+        (text : List ℕ) × Answers wanted input text judgment
         × Appends (W.contents writer.old.inner) (W.contents writer.new.inner) text)) }
-    // There is no trace only where the bytes are none.
-    ensures no_trace { result ≡ Err RunError.NotTrace
-        → IfSome (R.remaining reader.old.inner) (λ input. (t : List Entry) → IsTrace input t → ⊥) }
+    // That there is no trace is no error, but a verdict.
+    ensures no_trace { result ≡ Err RunError.NotTrace → ⊥ }
     // Every error but that of a write has written nothing.
     ensures silent { IfErr result (λ e. IsBeforeWriting e
         → Keeps (W.contents writer.old.inner) (W.contents writer.new.inner)) }
@@ -72,35 +76,63 @@ pub fn run<R: Read, W: Write>(
         ⊎ IfSome (R.remaining reader.old.inner) (λ input. 16777216 < length input) }
 {
     let input = read_all(alloc, reader)?;
-    match explanation_of(alloc, &input, form) {
+    match answer_to(alloc, &input, wanted) {
         Ok(explanation) => {
             write_all(writer, explanation.text.as_bytes())?;
             Ok(explanation.judgment)
         }
-        Err(ReadTraceError::NotTrace) => Err(RunError::NotTrace),
-        Err(ReadTraceError::NoMemory) => Err(RunError::NoMemory),
+        Err(_) => Err(RunError::NoMemory),
     }
 }
 
-/// What is said of the bytes of an input: the verdict on the trace in them, and the text, which begins
-/// with that verdict. `NotTrace` is answered only where the bytes are no trace. Nothing is run.
-///
-/// # Errors
-///
-/// `NotTrace` where the bytes are no trace, `NoMemory` where no memory is left.
-pub fn explanation_of(
+/// What is asked of the bytes of an input.
+fn answer_to(alloc: Global, input: &[u8], wanted: Wanted) -> Result<Explanation, AllocError>
+    ensures { IfOk result (λ e. Answers wanted input.now (string_bytes e.text) e.judgment) }
+{
+    match wanted {
+        Wanted::Explained(form) => explanation_of(alloc, input, form),
+        Wanted::Repaired => repaired_of(alloc, input),
+    }
+}
+
+/// What is said of the bytes of an input: the verdict, and the text, which begins with that verdict.
+/// Nothing is run. The only error is want of memory.
+pub fn explanation_of(alloc: Global, input: &[u8], form: Form) -> Result<Explanation, AllocError>
+    ensures { IfOk result (λ e. Explains form input.now (string_bytes e.text) e.judgment) }
+{
+    match read_trace(alloc, input) {
+        Ok(trace) => explained(alloc, input, trace.as_slice(), form),
+        Err(ReadTraceError::NotTrace) => no_trace(alloc, input, form),
+        Err(ReadTraceError::NoMemory) => Err(AllocError),
+    }
+}
+
+/// What is said of a trace.
+fn explained(
     alloc: Global,
     input: &[u8],
+    trace: &[Entry],
     form: Form,
-) -> Result<Explanation, ReadTraceError>
-    ensures explained { IfOk result (λ e. Explains form input.now (string_bytes e.text) e.judgment) }
-    ensures no_trace { result ≡ Err ReadTraceError.NotTrace → (t : List Entry) → IsTrace input.now t → ⊥ }
+) -> Result<Explanation, AllocError>
+    requires { IsTrace input.now trace.now }
+    ensures { IfOk result (λ e. Explains form input.now (string_bytes e.text) e.judgment) }
 {
-    let trace = read_trace(alloc, input)?;
-    let fault = fault_of(alloc, &trace)?;
-    let text = text_of(alloc, input, &trace, fault, form)?;
+    let fault = fault_of_trace(alloc, input, trace)?;
+    let text = text_of(alloc, input, trace, fault, form)?;
     let judgment = judgment_by(fault);
     Ok(Explanation { judgment, text })
+}
+
+/// The first fault of the trace in the bytes of an input.
+pub fn fault_of_trace(
+    alloc: Global,
+    _input: &[u8],
+    trace: &[Entry],
+) -> Result<Option<(At, Rule)>, AllocError>
+    requires { IsTrace _input.now trace.now }
+    ensures { IfOk result (λ fault. fault ≡ first_fault trace.now) }
+{
+    fault_of(alloc, trace)
 }
 
 /// The first fault of a trace.
@@ -114,8 +146,8 @@ fn fault_of(alloc: Global, trace: &[Entry]) -> Result<Option<(At, Rule)>, AllocE
     }
 }
 
-/// The verdict, by the first fault.
-fn judgment_by(fault: Option<(At, Rule)>) -> Judgment
+/// The verdict on a trace, by its first fault.
+pub fn judgment_by(fault: Option<(At, Rule)>) -> Judgment
     ensures { result ≡ judgment_of fault }
 {
     match fault {

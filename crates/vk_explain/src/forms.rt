@@ -6,3 +6,12 @@ pub enum Form {
     /// As one object of JSON, on a line.
     Json,
 }
+
+/// What is asked of a trace.
+#[derive(Clone, Copy, Debug, PartialEq, Eq)]
+pub enum Wanted {
+    /// That it is explained.
+    Explained(Form),
+    /// The trace as it is after repairs, alone.
+    Repaired,
+}

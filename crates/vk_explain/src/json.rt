@@ -1,16 +1,20 @@
 ghost use Rattle.std.specs.Prelude.{◌≡◌, ◌++◌, codes, IfOk, Some, string_bytes};
 ghost use Rattle.vk_model.specs.Rules.Table.{first_fault};
+ghost use Rattle.vk_fact_words.specs.FactText.{fact_member as text_of_fact};
+ghost use Rattle.vk_fact_words.specs.LinksText.{links_member as text_of_links};
 ghost use Rattle.vk_explain.specs.Explained.{json_verdict, IsRefusalJson, IsAcceptanceJson};
 
-use crate::facts::fact_member;
-use crate::notes::{note_words, notes_of};
 use crate::places::place_of;
-use crate::repairs::{RepairWords, repair_words};
-use crate::summary::{Summary, summary_of};
-use serde_json::Value;
+use crate::repairs::{EditWords, RepairSearch, RepairWords, sought, words_of};
 use std::alloc::{AllocError, Global};
-use vk_facts::fact_of_fault;
+use vk_fact_words::{
+    cause_member, fact_member, links_member, links_of_fact, measure_member, push_quoted,
+    state_member,
+};
+use vk_facts::{Fact, fact_of_fault};
+use vk_links::Links;
 use vk_model::{At, Entry, Rule};
+use vk_notes::{Summary, note_words, notes_of, summary_of};
 use vk_words::{point_words, push_at, sentence};
 
 /// The object on a refused trace: verdict, point, rule, the fact that is told of it, the point's place in
@@ -25,13 +29,42 @@ pub fn refusal_json(
     requires { first_fault trace.now ≡ Some (at, rule) }
     ensures { IfOk result (λ text. IsRefusalJson trace.now at rule (string_bytes text)) }
 {
-    let mut text = verdict_members(alloc, at, rule)?;
     let fact = fact_of_fault(alloc, trace, at, rule)?;
-    let told = fact_member(alloc, &fact)?;
-    text.push_str(told.as_str())?;
+    let links = links_of_fact(alloc, trace, at, rule, &fact)?;
+    let mut text = first_members(alloc, at, rule, &fact, &links)?;
     let members = point_members(alloc, input, trace, at, rule)?;
     text.push_str(members.as_str())?;
     Ok(text)
+}
+
+/// The members that say the verdict, with a fact and its links.
+fn first_members(
+    alloc: Global,
+    at: At,
+    rule: Rule,
+    fact: &Option<Fact<'_>>,
+    links: &Option<Links<'_>>,
+) -> Result<String, AllocError>
+    ensures { IfOk result (λ text. string_bytes text ≡ json_verdict at rule ++ (text_of_fact fact.now ++ text_of_links links.now)) }
+{
+    let mut text = verdict_members(alloc, at, rule)?;
+    let told = told_members(alloc, fact, links)?;
+    text.push_str(told.as_str())?;
+    Ok(text)
+}
+
+/// The members with a fact and with its links.
+fn told_members(
+    alloc: Global,
+    fact: &Option<Fact<'_>>,
+    links: &Option<Links<'_>>,
+) -> Result<String, AllocError>
+    ensures { IfOk result (λ members. string_bytes members ≡ text_of_fact fact.now ++ text_of_links links.now) }
+{
+    let mut members = fact_member(alloc, fact)?;
+    let linked = links_member(alloc, links)?;
+    members.push_str(linked.as_str())?;
+    Ok(members)
 }
 
 /// The members that say the verdict.
@@ -62,6 +95,12 @@ fn point_members(
         let column = place.column;
         write!(members, ",\"line\":{line},\"column\":{column}")?;
     }
+    let measure = measure_member(alloc, trace, at, rule)?;
+    members.push_str(measure.as_str())?;
+    let state = state_member(alloc, trace, at, rule)?;
+    members.push_str(state.as_str())?;
+    let cause = cause_member(alloc, trace, at, rule)?;
+    members.push_str(cause.as_str())?;
     members.push_str(",\"point\":")?;
     let words = point_words(alloc, trace, at)?;
     push_quoted(alloc, &mut members, words)?;
@@ -84,21 +123,39 @@ fn push_repair(
 ) -> Result<(), AllocError>
     requires { first_fault trace.now ≡ Some (at, rule) }
 {
-    let found = repair_words(alloc, trace, at, rule)?;
-    let Some(words) = found else {
+    let found = sought(alloc, trace, at, rule)?;
+    let RepairSearch::Found(found) = found else {
         return members.push_str(",\"repair\":null");
     };
+    let RepairWords {
+        then,
+        weaker,
+        stands_in,
+        edits,
+    } = words_of(alloc, trace, &found)?;
     members.push_str(",\"repair\":{\"then\":")?;
-    let RepairWords { then, edits } = words;
     push_quoted(alloc, members, then)?;
+    write!(members, ",\"weaker\":{weaker},\"stands_in\":{stands_in}")?;
     members.push_str(",\"edits\":[")?;
     for (number, edit) in edits.into_iter().enumerate() {
         if number > 0 {
             members.push_str(",")?;
         }
-        push_quoted(alloc, members, edit)?;
+        push_edit(alloc, members, edit)?;
     }
     members.push_str("]}")
+}
+
+/// The object on an edit: what is done in words, and what is put in as a trace has it.
+fn push_edit(alloc: Global, members: &mut String, edit: EditWords) -> Result<(), AllocError> {
+    let EditWords { point, value } = edit;
+    members.push_str("{\"edit\":")?;
+    push_quoted(alloc, members, point)?;
+    if let Some(value) = value {
+        members.push_str(",\"value\":")?;
+        members.push_str(value.as_str())?;
+    }
+    members.push_str("}")
 }
 
 /// The member with the notes on the trace.
@@ -113,12 +170,6 @@ fn push_notes(alloc: Global, members: &mut String, trace: &[Entry]) -> Result<()
         push_quoted(alloc, members, words)?;
     }
     members.push_str("]")
-}
-
-/// A text as a string of JSON.
-fn push_quoted(alloc: Global, out: &mut String, text: String) -> Result<(), AllocError> {
-    let quoted = Value::String(text).to_string(alloc)?;
-    out.push_str(quoted.as_str())
 }
 
 /// The object on an accepted trace: verdict, and what the trace has.

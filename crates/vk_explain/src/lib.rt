@@ -2,17 +2,15 @@
 #![tactic(auto)]
 
 mod explaining;
-mod facts;
 mod forms;
 mod json;
-mod notes;
+mod mending;
+mod mistakes;
 mod places;
 mod repairs;
 mod reports;
-mod summary;
 
 pub use explaining::{Explanation, Judgment, explanation_of, run};
-pub use forms::Form;
-pub use notes::{Note, NoteKind, notes_of};
-pub use places::{InputPlace, place_of};
-pub use summary::{QueueSummary, Summary, summary_of};
+pub use forms::{Form, Wanted};
+pub use mending::repaired_of;
+pub use places::{InputPlace, place_of, place_of_member};

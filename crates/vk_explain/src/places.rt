@@ -1,3 +1,4 @@
+use std::alloc::{AllocError, Global};
 use vk_model::At;
 
 /// Where something begins in the text of a trace. Both numbers count from 1.
@@ -19,6 +20,21 @@ pub fn place_of(input: &[u8], at: At) -> Option<InputPlace> {
         At::Signal(e, b, k) => start_of(input, &[0, e, BATCHES, b, SIGNALS, k]),
     }?;
     Some(line_and_column(input, start))
+}
+
+/// Where the member that these numbers lead to is written, in a text of JSON without objects.
+pub fn place_of_member(
+    alloc: Global,
+    input: &[u8],
+    path: &[usize],
+) -> Result<Option<InputPlace>, AllocError> {
+    let mut whole = Vec::new(alloc);
+    whole.push(0usize)?;
+    whole.extend_from_slice(path)?;
+    match start_of(input, whole.as_slice()) {
+        Some(start) => Ok(Some(line_and_column(input, start))),
+        None => Ok(None),
+    }
 }
 
 /// The member of a submit that has its batches.
@@ -128,7 +144,7 @@ fn start_of(input: &[u8], path: &[usize]) -> Option<usize> {
 }
 
 /// The line and the column of an index.
-fn line_and_column(input: &[u8], index: usize) -> InputPlace {
+pub fn line_and_column(input: &[u8], index: usize) -> InputPlace {
     let mut place = InputPlace { line: 1, column: 1 };
     for byte in input.iter().take(index) {
         if *byte == b'\n' {

@@ -1,43 +1,67 @@
-ghost use Rattle.std.specs.Prelude.{◌≡◌, ◌≤◌, Some, length};
+ghost use Rattle.std.specs.Prelude.{◌≡◌, ◌≤◌, IfOk, Some, length};
 ghost use Rattle.vk_model.specs.Rules.Table.{first_fault};
+ghost use Rattle.vk_explain.specs.Repaired.{IsSought};
 
-use crate::summary::summary_of;
 use std::alloc::{AllocError, Global};
 use vk_model::{At, Entry, Rule};
+use vk_notes::summary_of;
 use vk_repairs::{Change, Edit, InBatch, Member, Repair, moved, repair};
 use vk_words::{point_words, push_at};
+use vk_writer::{command_json, entry_json, submit_json};
 
 /// In a trace of more points no repair is sought, as each one that is tried is judged as a whole.
 const MOST_POINTS: usize = 4_096;
+
+/// What came of the search for a repair.
+#[derive(Drop)]
+pub enum RepairSearch {
+    /// The trace has too many points, and none was sought.
+    TooLarge,
+    /// None was found.
+    Nothing,
+    /// A repair.
+    Found(Repair),
+}
+
+/// An edit of a repair.
+#[derive(Drop)]
+pub struct EditWords {
+    /// What is done, and the point that it puts in or takes out.
+    pub point: String,
+    /// What is put in, as JSON.
+    pub value: Option<String>,
+}
 
 /// A repair in words.
 #[derive(Drop)]
 pub struct RepairWords {
     /// What the rules say of the changed trace.
     pub then: String,
+    /// Whether that asks for less than the given trace did.
+    pub weaker: bool,
+    /// Whether it has data that stand in for what the given trace lacks.
+    pub stands_in: bool,
     /// Each edit, with what it puts into the changed trace or takes out of the given one.
-    pub edits: Vec<String>,
+    pub edits: Vec<EditWords>,
 }
 
-/// The repair of a refused trace in words, if one is found.
-pub fn repair_words(
+/// The repair of a refused trace, if one is found. The only error is want of memory.
+pub fn sought(
     alloc: Global,
     trace: &[Entry],
     at: At,
     rule: Rule,
-) -> Result<Option<RepairWords>, AllocError>
+) -> Result<RepairSearch, AllocError>
     requires { first_fault trace.now ≡ Some (at, rule) }
+    ensures { IfOk result (IsSought trace.now at) }
 {
     let summary = summary_of(alloc, trace)?;
     if summary.points > MOST_POINTS {
-        return Ok(None);
+        return Ok(RepairSearch::TooLarge);
     }
     match repair(alloc, trace, at, rule)? {
-        Some(found) => {
-            let words = words_of(alloc, trace, &found)?;
-            Ok(Some(words))
-        }
-        None => Ok(None),
+        Some(found) => Ok(RepairSearch::Found(found)),
+        None => Ok(RepairSearch::Nothing),
     }
 }
 
@@ -50,33 +74,57 @@ pub fn repair_lines(
 ) -> Result<String, AllocError>
     requires { first_fault trace.now ≡ Some (at, rule) }
 {
-    let words = repair_words(alloc, trace, at, rule)?;
-    match words {
-        Some(words) => lines_of(alloc, &words),
-        None => String::from_str(alloc, "  repair: none found\n"),
+    match sought(alloc, trace, at, rule)? {
+        RepairSearch::Found(found) => {
+            let words = words_of(alloc, trace, &found)?;
+            lines_of(alloc, &words)
+        }
+        RepairSearch::Nothing => String::from_str(alloc, "  repair: none found\n"),
+        RepairSearch::TooLarge => String::from_str(
+            alloc,
+            "  repair: none sought in a trace of more than 4,096 points\n",
+        ),
     }
 }
 
 fn lines_of(alloc: Global, words: &RepairWords) -> Result<String, AllocError> {
-    let mut lines = String::from_str(alloc, "  repair: then ")?;
+    let mut lines = String::from_str(alloc, "  repair")?;
+    if words.stands_in {
+        lines.push_str(", with zeros or objects that stand in for what the trace lacks")?;
+    } else if words.weaker {
+        lines.push_str(", weaker")?;
+    }
+    lines.push_str(": then ")?;
     lines.push_str(words.then.as_str())?;
     lines.push_str("\n")?;
     for edit in &words.edits {
         lines.push_str("    ")?;
-        lines.push_str(edit.as_str())?;
+        lines.push_str(edit.point.as_str())?;
         lines.push_str("\n")?;
+        if let Some(value) = &edit.value {
+            lines.push_str("      ")?;
+            lines.push_str(value.as_str())?;
+            lines.push_str("\n")?;
+        }
     }
     Ok(lines)
 }
 
-fn words_of(alloc: Global, trace: &[Entry], found: &Repair) -> Result<RepairWords, AllocError> {
+/// A repair in words.
+pub fn words_of(alloc: Global, trace: &[Entry], found: &Repair) -> Result<RepairWords, AllocError> {
     let then = next_words(alloc, found.next)?;
     let mut edits = Vec::new(alloc);
     for number in 0..found.edits.len() {
-        let words = edit_words(alloc, trace, found, number)?;
-        edits.push(words)?;
+        let point = edit_words(alloc, trace, found, number)?;
+        let value = value_of(alloc, found.edits.get(number))?;
+        edits.push(EditWords { point, value })?;
     }
-    Ok(RepairWords { then, edits })
+    Ok(RepairWords {
+        then,
+        weaker: found.weaker,
+        stands_in: found.stands_in,
+        edits,
+    })
 }
 
 /// That a trace is accepted, or its first fault.
@@ -118,6 +166,19 @@ fn edit_words(
         }
         None => String::from_str(alloc, ""),
     }
+}
+
+/// What an edit puts in, as JSON.
+fn value_of(alloc: Global, edit: Option<&Edit>) -> Result<Option<String>, AllocError> {
+    let value = match edit {
+        Some(Edit::Entry { entry, .. }) => entry_json(alloc, entry)?,
+        Some(Edit::Member { member, .. }) => match member {
+            Member::Wait(submit) | Member::Signal(submit) => submit_json(alloc, submit)?,
+            Member::Command(command) => command_json(alloc, command)?,
+        },
+        Some(Edit::Remove { .. }) | None => return Ok(None),
+    };
+    Ok(Some(value))
 }
 
 /// What is done, and a point of a trace.

@@ -1,16 +1,20 @@
 ghost use Rattle.std.specs.Prelude.{◌≡◌, ◌++◌, codes, IfOk, Some, string_bytes};
 ghost use Rattle.vk_model.specs.Rules.Table.{first_fault};
 ghost use Rattle.vk_words.specs.Points.{kind_text, at_text, BeginsWith};
+ghost use Rattle.vk_fact_words.specs.FactText.{fact_line as text_of_fact};
+ghost use Rattle.vk_fact_words.specs.LinksText.{links_line as text_of_links};
 ghost use Rattle.vk_explain.specs.Explained.{rule_line, IsRefusalText, IsAcceptanceText};
 
-use crate::facts::{fact_line, point_lines};
-use crate::notes::{MOST_NOTES, note_words, notes_of};
 use crate::places::place_of;
 use crate::repairs::repair_lines;
-use crate::summary::{Summary, summary_of};
 use std::alloc::{AllocError, Global};
-use vk_facts::fact_of_fault;
+use vk_fact_words::{
+    cause_lines, fact_line, links_line, links_of_fact, measure_line, point_lines, state_line,
+};
+use vk_facts::{Fact, fact_of_fault};
+use vk_links::Links;
 use vk_model::{At, Entry, Rule};
+use vk_notes::{MOST_NOTES, Summary, note_words, notes_of, summary_of};
 use vk_trace::Outcome;
 use vk_words::{point_words, sentence};
 
@@ -29,11 +33,10 @@ pub fn refusal_text(
     let mut text = vk_trace::text(alloc, &Outcome::Refused(at, rule))?;
     let point = point_line(alloc, input, trace, at)?;
     text.push_str(point.as_str())?;
-    let line = line_of_rule(alloc, rule)?;
-    text.push_str(line.as_str())?;
     let fact = fact_of_fault(alloc, trace, at, rule)?;
-    let told = fact_line(alloc, &fact)?;
-    text.push_str(told.as_str())?;
+    let links = links_of_fact(alloc, trace, at, rule, &fact)?;
+    let ruled = ruled_lines(alloc, rule, &fact, &links)?;
+    text.push_str(ruled.as_str())?;
     let points = point_lines(alloc, trace, &fact)?;
     text.push_str(points.as_str())?;
     let more = more_lines(alloc, trace, at, rule)?;
@@ -41,11 +44,46 @@ pub fn refusal_text(
     Ok(text)
 }
 
-/// The lines on a repair, and the notes.
+/// The lines on a rule, on a fact and on its links.
+fn ruled_lines(
+    alloc: Global,
+    rule: Rule,
+    fact: &Option<Fact<'_>>,
+    links: &Option<Links<'_>>,
+) -> Result<String, AllocError>
+    ensures { IfOk result (λ lines. string_bytes lines ≡ rule_line rule ++ (text_of_fact fact.now ++ text_of_links links.now)) }
+{
+    let mut lines = line_of_rule(alloc, rule)?;
+    let told = told_lines(alloc, fact, links)?;
+    lines.push_str(told.as_str())?;
+    Ok(lines)
+}
+
+/// The lines on a fact and on its links.
+fn told_lines(
+    alloc: Global,
+    fact: &Option<Fact<'_>>,
+    links: &Option<Links<'_>>,
+) -> Result<String, AllocError>
+    ensures { IfOk result (λ lines. string_bytes lines ≡ text_of_fact fact.now ++ text_of_links links.now) }
+{
+    let mut lines = fact_line(alloc, fact)?;
+    let linked = links_line(alloc, links)?;
+    lines.push_str(linked.as_str())?;
+    Ok(lines)
+}
+
+/// The lines on what is compared, on a cause and on a repair, and the notes.
 fn more_lines(alloc: Global, trace: &[Entry], at: At, rule: Rule) -> Result<String, AllocError>
     requires { first_fault trace.now ≡ Some (at, rule) }
 {
-    let mut lines = repair_lines(alloc, trace, at, rule)?;
+    let mut lines = measure_line(alloc, trace, at, rule)?;
+    let state = state_line(alloc, trace, at, rule)?;
+    lines.push_str(state.as_str())?;
+    let causes = cause_lines(alloc, trace, at, rule)?;
+    lines.push_str(causes.as_str())?;
+    let repair = repair_lines(alloc, trace, at, rule)?;
+    lines.push_str(repair.as_str())?;
     let notes = note_lines(alloc, trace)?;
     lines.push_str(notes.as_str())?;
     Ok(lines)

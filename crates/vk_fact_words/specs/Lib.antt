@@ -1,0 +1,2 @@
+pub mod FactText
+pub mod LinksText

@@ -1,0 +1,64 @@
+-- What is said of the links of a hazard. The forms are our own (profile).
+use Rattle.std.specs.Prelude.{◌≡◌, ℕ, List, [], ◌++◌, codes, Option, Some, None}
+use Rattle.vk_model.specs.declared.entry.Entry.{Entry}
+use Rattle.vk_model.specs.declared.rule.At.{At}
+use Rattle.vk_facts.specs.declared.facts.Fact.{Fact}
+use Rattle.vk_facts.specs.declared.facts.Fact.TheVariants as fact
+use Rattle.vk_facts.specs.declared.hazards.Placed.{Placed}
+use Rattle.vk_links.specs.declared.links.Links.{Links}
+use Rattle.vk_links.specs.declared.links.Missing.{Missing}
+use Rattle.vk_links.specs.declared.links.Missing.TheVariants as missing
+use Rattle.vk_links.specs.Faults.{AreLinksAt}
+use Rattle.vk_fact_words.specs.FactText.{point_called}
+
+-- What is told of a fact: of a hazard its links, of another one nothing.
+abbrev pub AreLinksOfFact : List Entry → At → Fact → Option Links → Type 0
+AreLinksOfFact entries at (fact.Hazard f) None = ⊥
+AreLinksOfFact entries at (fact.Hazard f) (Some l) = AreLinksAt entries at f l
+AreLinksOfFact entries at _ found = found ≡ None
+
+-- The same, where a fact is told.
+abbrev pub AreLinksOf : List Entry → At → Option Fact → Option Links → Type 0
+AreLinksOf entries at None found = found ≡ None
+AreLinksOf entries at (Some f) found = AreLinksOfFact entries at f found
+
+-- What is missing (profile).
+abbrev pub missing_text : Missing → List ℕ
+missing_text missing.Flush = codes "a flush of the byte after the host's write"
+missing_text missing.Submit = codes "a submit after the host's write"
+missing_text missing.Available = codes "what makes the write available"
+missing_text missing.Order = codes "what orders the two"
+missing_text missing.Visible = codes "what makes the write visible to the access"
+missing_text missing.Wait = codes "a wait of the host"
+missing_text missing.Invalidation = codes "an invalidation of the byte before the host's read"
+
+-- The point of a node that is told, after some words (profile).
+abbrev pub node_text : List ℕ → Option Placed → List ℕ
+node_text words None = []
+node_text words (Some p) = words ++ point_called p.row.point
+
+-- What is missing, after a word (profile).
+abbrev pub missing_part : Links → List ℕ
+missing_part l = codes "missing: " ++ missing_text l.missing
+
+-- What flushes the write, and what makes it available (profile).
+abbrev pub sent_part : Links → List ℕ
+sent_part l = node_text (codes "; flushed by ") l.flush ++ node_text (codes "; made available by ") l.available
+
+-- What makes it visible to the host, and what does so in time (profile).
+abbrev pub shown_part : Links → List ℕ
+shown_part l = node_text (codes "; made visible to the host by ") l.visible ++ node_text (codes "; in time by ") l.awaited
+
+-- What is said of links (profile).
+abbrev pub links_text : Links → List ℕ
+links_text l = missing_part l ++ (sent_part l ++ shown_part l)
+
+-- The line with them, where they are told (profile).
+abbrev pub links_line : Option Links → List ℕ
+links_line None = []
+links_line (Some l) = codes "  " ++ links_text l ++ codes "\n"
+
+-- The member with them, where they are told (profile).
+abbrev pub links_member : Option Links → List ℕ
+links_member None = []
+links_member (Some l) = codes ",\"links\":\"" ++ links_text l ++ codes "\""

@@ -1,0 +1,137 @@
+use crate::facts::push_byte;
+use crate::quoting::push_quoted;
+use std::alloc::{AllocError, Global};
+use vk_causes::{Cause, Loss, Undefined, User, cause_of};
+use vk_facts::at_of;
+use vk_model::{At, Entry, Rule};
+use vk_words::{point_words, push_at};
+
+/// The lines on why a byte is undefined, or what uses the object that ends.
+pub fn cause_lines(
+    alloc: Global,
+    trace: &[Entry],
+    at: At,
+    rule: Rule,
+) -> Result<String, AllocError> {
+    let mut lines = String::new(alloc);
+    let words = cause_words(alloc, trace, at, rule)?;
+    for (number, line) in words.iter().enumerate() {
+        let indent = if number == 0 { "  " } else { "    " };
+        lines.push_str(indent)?;
+        lines.push_str(line.as_str())?;
+        lines.push_str("\n")?;
+    }
+    Ok(lines)
+}
+
+/// The member with the same lines, where there are some.
+pub fn cause_member(
+    alloc: Global,
+    trace: &[Entry],
+    at: At,
+    rule: Rule,
+) -> Result<String, AllocError> {
+    let mut member = String::new(alloc);
+    let words = cause_words(alloc, trace, at, rule)?;
+    if words.is_empty() {
+        return Ok(member);
+    }
+    member.push_str(",\"cause\":[")?;
+    for (number, line) in words.into_iter().enumerate() {
+        if number > 0 {
+            member.push_str(",")?;
+        }
+        push_quoted(alloc, &mut member, line)?;
+    }
+    member.push_str("]")?;
+    Ok(member)
+}
+
+fn cause_words(
+    alloc: Global,
+    trace: &[Entry],
+    at: At,
+    rule: Rule,
+) -> Result<Vec<String>, AllocError> {
+    match cause_of(alloc, trace, at, rule)? {
+        Some(Cause::Undefined(undefined)) => undefined_words(alloc, trace, &undefined),
+        Some(Cause::Used(user)) => user_words(alloc, trace, user),
+        None => Ok(Vec::new(alloc)),
+    }
+}
+
+fn undefined_words(
+    alloc: Global,
+    trace: &[Entry],
+    undefined: &Undefined<'_>,
+) -> Result<Vec<String>, AllocError> {
+    let mut words = Vec::new(alloc);
+    let mut first = String::from_str(alloc, "undefined: ")?;
+    push_byte(&mut first, undefined.byte)?;
+    words.push(first)?;
+    for copied in &undefined.copies {
+        let mut line = String::from_str(alloc, "copied from ")?;
+        push_byte(&mut line, copied.from)?;
+        line.push_str(": ")?;
+        let by = point_words(alloc, trace, at_of(&copied.by))?;
+        line.push_str(by.as_str())?;
+        words.push(line)?;
+    }
+    let last = match &undefined.loss {
+        Some((loss, point)) => {
+            let mut line = loss_words(alloc, *loss)?;
+            let by = point_words(alloc, trace, at_of(point))?;
+            line.push_str(by.as_str())?;
+            line
+        }
+        None => String::from_str(alloc, "never written")?,
+    };
+    words.push(last)?;
+    Ok(words)
+}
+
+/// What made a byte undefined, before the point at which it did.
+fn loss_words(alloc: Global, loss: Loss) -> Result<String, AllocError> {
+    match loss {
+        Loss::Family { user, owner } => {
+            let mut words = String::new(alloc);
+            write!(
+                words,
+                "lost by a use of family {user}, as family {owner} owned it: "
+            )?;
+            Ok(words)
+        }
+        Loss::Transition => String::from_str(alloc, "lost by a transition from UNDEFINED: "),
+        Loss::Invalidation => {
+            String::from_str(alloc, "lost by an invalidation before it was flushed: ")
+        }
+    }
+}
+
+fn user_words(alloc: Global, trace: &[Entry], user: User<'_>) -> Result<Vec<String>, AllocError> {
+    let mut words = Vec::new(alloc);
+    match user {
+        User::Started(point) => {
+            let at = at_of(&point);
+            words.push(called(alloc, at, ", which isn't known to be complete")?)?;
+            words.push(point_words(alloc, trace, at)?)?;
+        }
+        User::Waiting(at) => {
+            words.push(called(alloc, at, ", whose batch still waits")?)?;
+            words.push(point_words(alloc, trace, at)?)?;
+        }
+        User::Resource(id) => {
+            let mut line = String::new(alloc);
+            write!(line, "in use: resource {id} lies in it")?;
+            words.push(line)?;
+        }
+    }
+    Ok(words)
+}
+
+fn called(alloc: Global, at: At, state: &str) -> Result<String, AllocError> {
+    let mut line = String::from_str(alloc, "in use: command ")?;
+    push_at(&mut line, at)?;
+    line.push_str(state)?;
+    Ok(line)
+}

@@ -1,0 +1,115 @@
+ghost use Rattle.std.specs.Prelude.{◌≡◌, ◌++◌, OnOk, IfOk, string_bytes};
+ghost use Rattle.vk_facts.specs.Facts.{IsToldOf};
+ghost use Rattle.vk_fact_words.specs.LinksText as text;
+ghost use Rattle.vk_fact_words.specs.LinksText.{AreLinksOf};
+
+use crate::facts::push_after;
+use std::alloc::{AllocError, Global};
+use vk_facts::{Fact, Placed};
+use vk_links::{Links, Missing, links_of_fault};
+use vk_model::{At, Entry, Rule};
+
+/// The links of the hazard that is told of the point at which a trace is refused, if one is.
+pub fn links_of_fact<'a>(
+    alloc: Global,
+    trace: &'a [Entry],
+    at: At,
+    rule: Rule,
+    fact: &Option<Fact<'a>>,
+) -> Result<Option<Links<'a>>, AllocError>
+    requires { IsToldOf trace.now at rule fact.now }
+    ensures { IfOk result (AreLinksOf trace.now at fact.now) }
+{
+    match fact {
+        Some(Fact::Hazard(hazard)) => {
+            let links = links_of_fault(alloc, trace, at, rule, hazard)?;
+            Ok(Some(links))
+        }
+        _ => Ok(None),
+    }
+}
+
+/// Adds what is said of links.
+fn push_links(out: &mut String, links: &Links<'_>) -> Result<(), AllocError>
+    ensures { OnOk result (string_bytes out.new ≡ string_bytes out.old ++ text.links_text links.now) }
+{
+    push_missing(out, links)?;
+    push_nodes(out, links)
+}
+
+fn push_missing(out: &mut String, links: &Links<'_>) -> Result<(), AllocError>
+    ensures { OnOk result (string_bytes out.new ≡ string_bytes out.old ++ text.missing_part links.now) }
+{
+    out.push_str("missing: ")?;
+    out.push_str(missing_name(links.missing))
+}
+
+fn missing_name(missing: Missing) -> &'static str
+    ensures { result.now ≡ text.missing_text missing }
+{
+    match missing {
+        Missing::Flush => "a flush of the byte after the host's write",
+        Missing::Submit => "a submit after the host's write",
+        Missing::Available => "what makes the write available",
+        Missing::Order => "what orders the two",
+        Missing::Visible => "what makes the write visible to the access",
+        Missing::Wait => "a wait of the host",
+        Missing::Invalidation => "an invalidation of the byte before the host's read",
+    }
+}
+
+fn push_nodes(out: &mut String, links: &Links<'_>) -> Result<(), AllocError>
+    ensures { OnOk result (string_bytes out.new ≡ string_bytes out.old ++ (text.sent_part links.now ++ text.shown_part links.now)) }
+{
+    push_sent(out, links)?;
+    push_shown(out, links)
+}
+
+fn push_sent(out: &mut String, links: &Links<'_>) -> Result<(), AllocError>
+    ensures { OnOk result (string_bytes out.new ≡ string_bytes out.old ++ text.sent_part links.now) }
+{
+    push_node(out, "; flushed by ", &links.flush)?;
+    push_node(out, "; made available by ", &links.available)
+}
+
+fn push_shown(out: &mut String, links: &Links<'_>) -> Result<(), AllocError>
+    ensures { OnOk result (string_bytes out.new ≡ string_bytes out.old ++ text.shown_part links.now) }
+{
+    push_node(out, "; made visible to the host by ", &links.visible)?;
+    push_node(out, "; in time by ", &links.awaited)
+}
+
+fn push_node(out: &mut String, words: &str, node: &Option<Placed<'_>>) -> Result<(), AllocError>
+    ensures { OnOk result (string_bytes out.new ≡ string_bytes out.old ++ text.node_text words.now node.now) }
+{
+    match node {
+        None => Ok(()),
+        Some(placed) => push_after(out, words, &placed.row.point),
+    }
+}
+
+/// The line with links, where they are told.
+pub fn links_line(alloc: Global, links: &Option<Links<'_>>) -> Result<String, AllocError>
+    ensures { IfOk result (λ line. string_bytes line ≡ text.links_line links.now) }
+{
+    let mut line = String::new(alloc);
+    if let Some(links) = links {
+        line.push_str("  ")?;
+        push_links(&mut line, links)?;
+        line.push_str("\n")?;
+    }
+    Ok(line)
+}
+
+/// The member with links, where they are told.
+pub fn links_member(alloc: Global, links: &Option<Links<'_>>) -> Result<String, AllocError>
+    ensures { IfOk result (λ member. string_bytes member ≡ text.links_member links.now) }
+{
+    let mut member = String::new(alloc);
+    if let Some(links) = links {
+        member.push_str(",\"links\":\"")?;
+        push_links(&mut member, links)?;
+        member.push_str("\"")?;
+    }
+    Ok(member)
+}

@@ -1,0 +1,65 @@
+use crate::quoting::push_quoted;
+use std::alloc::{AllocError, Global};
+use vk_facts::at_of;
+use vk_measure_words::measure_words;
+use vk_measures::{Measure, measure_of};
+use vk_model::{At, Entry, Rule};
+use vk_order::Point;
+use vk_queues::reference_order;
+
+/// The line on what the rule compares at the point that breaks it, where that is told.
+pub fn measure_line(
+    alloc: Global,
+    trace: &[Entry],
+    at: At,
+    rule: Rule,
+) -> Result<String, AllocError> {
+    let mut line = String::new(alloc);
+    if let Some(measure) = measure_at(alloc, trace, at, rule)? {
+        line.push_str("  ")?;
+        let words = measure_words(alloc, measure)?;
+        line.push_str(words.as_str())?;
+        line.push_str("\n")?;
+    }
+    Ok(line)
+}
+
+/// The member with the same.
+pub fn measure_member(
+    alloc: Global,
+    trace: &[Entry],
+    at: At,
+    rule: Rule,
+) -> Result<String, AllocError> {
+    let mut member = String::new(alloc);
+    if let Some(measure) = measure_at(alloc, trace, at, rule)? {
+        member.push_str(",\"measure\":")?;
+        let words = measure_words(alloc, measure)?;
+        push_quoted(alloc, &mut member, words)?;
+    }
+    Ok(member)
+}
+
+/// What the rule compares at the first point that is reported so.
+fn measure_at(
+    alloc: Global,
+    trace: &[Entry],
+    at: At,
+    rule: Rule,
+) -> Result<Option<Measure>, AllocError> {
+    let points = reference_order(alloc, trace)?;
+    match points_until(points.as_slice(), at) {
+        Some(points) => Ok(measure_of(points, rule)),
+        None => Ok(None),
+    }
+}
+
+/// The points up to the first one that is reported so.
+pub fn points_until<'s, 'a>(points: &'s [Point<'a>], at: At) -> Option<&'s [Point<'a>]> {
+    for (index, point) in points.iter().enumerate() {
+        if at_of(point) == at {
+            return Some(&points[..index + 1]);
+        }
+    }
+    None
+}
