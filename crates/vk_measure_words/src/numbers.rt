@@ -1,8 +1,8 @@
 use crate::items::{push_bytes, push_item};
 use std::alloc::AllocError;
 use vk_measures::{
-    AlignUnit, AlignedNumber, Amount, Axis, Misaligned, OtherTexels, Outside, PastBytes, Quantity,
-    RangeMeasure, RowSide, SizeMeasure,
+    AlignUnit, AlignedNumber, Amount, Axis, Misaligned, OtherTexels, Outside, PastBytes,
+    PointNumber, Quantity, RangeMeasure, RowSide, SizeMeasure,
 };
 
 /// Adds where bytes end and the size of their buffer, or a row and its extent.
@@ -124,5 +124,15 @@ pub fn push_format(out: &mut String, other: OtherTexels) -> Result<(), AllocErro
     write!(
         out,
         "texels of image {source} have {source_texel} bytes, and those of image {destination} {destination_texel}"
+    )
+}
+
+/// Adds the number of a point, and how many a trace may have.
+pub fn push_limit(out: &mut String, point: PointNumber) -> Result<(), AllocError> {
+    let number = point.number;
+    let most = point.most;
+    write!(
+        out,
+        "point {number} of the trace, which may have {most} of them"
     )
 }

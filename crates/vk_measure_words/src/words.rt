@@ -2,7 +2,7 @@ use crate::memory::{
     push_bind_align, push_bind_range, push_hidden, push_memory_size, push_memory_type,
     push_pool_kind, push_pool_size, push_usage,
 };
-use crate::numbers::{push_align, push_format, push_outside, push_range, push_size};
+use crate::numbers::{push_align, push_format, push_limit, push_outside, push_range, push_size};
 use crate::synchronization::{push_owner_whole, push_queue, push_queue_kind, push_stage};
 use std::alloc::{AllocError, Global};
 use vk_measures::Measure;
@@ -28,6 +28,7 @@ pub fn measure_words(alloc: Global, measure: Measure) -> Result<String, AllocErr
         Measure::QueueKind(asked) => push_queue_kind(&mut out, asked)?,
         Measure::OwnerWhole(part) => push_owner_whole(&mut out, part)?,
         Measure::PoolKind(asked) => push_pool_kind(&mut out, asked)?,
+        Measure::Limit(number) => push_limit(&mut out, number)?,
     }
     Ok(out)
 }

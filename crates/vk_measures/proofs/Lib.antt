@@ -1,3 +1,4 @@
+pub mod PastLengths
 pub mod AreaTests
 pub mod Reaching
 pub mod Lying

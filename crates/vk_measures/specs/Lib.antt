@@ -6,6 +6,7 @@ pub mod Counts
 pub mod Ids
 pub mod Owners
 pub mod Passes
+pub mod Limits
 pub mod Binding
 pub mod Mapping
 pub mod Measures

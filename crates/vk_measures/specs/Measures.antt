@@ -16,6 +16,7 @@ use Rattle.vk_measures.specs.Counts.{IsSize}
 use Rattle.vk_measures.specs.Ids.{IsQueue, IsQueueKind}
 use Rattle.vk_measures.specs.Owners.{IsOwnerWhole}
 use Rattle.vk_measures.specs.Passes.{IsPoolKind}
+use Rattle.vk_measures.specs.Limits.{IsLimit}
 
 -- Whether it is told what a rule compares.
 abbrev pub is_told : Rule → Bool
@@ -36,6 +37,7 @@ is_told rule.Queue = true
 is_told rule.QueueKind = true
 is_told rule.OwnerWhole = true
 is_told rule.PoolKind = true
+is_told rule.Limit = true
 is_told _ = false
 
 -- The rule that compares these numbers.
@@ -57,6 +59,7 @@ rule_of (measure.Queue m) = rule.Queue
 rule_of (measure.QueueKind m) = rule.QueueKind
 rule_of (measure.OwnerWhole m) = rule.OwnerWhole
 rule_of (measure.PoolKind m) = rule.PoolKind
+rule_of (measure.Limit m) = rule.Limit
 
 -- A point that comes next has these numbers, and they are as its rule doesn't allow them.
 abbrev pub IsSo : Past → Point → Measure → Type 0
@@ -77,6 +80,7 @@ IsSo past p (measure.Queue m) = IsQueue p.action m
 IsSo past p (measure.QueueKind m) = IsQueueKind p m
 IsSo past p (measure.OwnerWhole m) = IsOwnerWhole past p.action m
 IsSo past p (measure.PoolKind m) = OnHost p.action (λ x. IsPoolKind past x m)
+IsSo past p (measure.Limit m) = IsLimit past m
 
 -- A point that comes next breaks a rule by these numbers; or it doesn't break it, if it is told of the rule at all.
 abbrev pub IsMeasured : Rule → Past → Point → Option Measure → Type 0

@@ -9,6 +9,7 @@ use crate::aligns::{Misaligned, align_of};
 use crate::binding::{Misplaced, PastMemory, bind_align_of, bind_range_of};
 use crate::counts::{SizeMeasure, size_of};
 use crate::formats::{OtherTexels, format_of};
+use crate::limits::{PointNumber, limit_of};
 use crate::memories::{
     BadSize, BadType, Hidden, OverHalf, host_visible_of, memory_size_of, memory_type_of,
     pool_size_of,
@@ -61,6 +62,8 @@ pub enum Measure {
     OwnerWhole(PartTransfer),
     /// POOL_KIND: a pool, and what it can't do.
     PoolKind(PoolUse),
+    /// LIMIT: the number of a point, and how many a trace may have.
+    Limit(PointNumber),
 }
 
 /// What a rule compares at the last of some points, where that point breaks it; nothing of a rule that
@@ -94,6 +97,7 @@ fn of_rule(older: &[Point<'_>], point: &Point<'_>, rule: Rule) -> Option<Measure
         Rule::QueueKind => of_queue_kind(older, point),
         Rule::OwnerWhole => of_owner_whole(older, point),
         Rule::PoolKind => of_pool_kind(older, point),
+        Rule::Limit => of_limit(older, point),
         _ => None,
     }
 }
@@ -232,6 +236,14 @@ fn of_pool_kind(older: &[Point<'_>], point: &Point<'_>) -> Option<Measure>
 {
     let measure = pool_kind_of(older, point)?;
     Some(Measure::PoolKind(measure))
+}
+
+#[tactic(auto, unfolding(vk_model::specs::Rules::Table::breaks))]
+fn of_limit(older: &[Point<'_>], _point: &Point<'_>) -> Option<Measure>
+    ensures { IsMeasured rule.Limit (past_of older.now) (point_of _point.now) result }
+{
+    let measure = limit_of(older)?;
+    Some(Measure::Limit(measure))
 }
 
 /// The last of some points, and those before it.

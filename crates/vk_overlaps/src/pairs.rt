@@ -1,34 +1,46 @@
-ghost use Rattle.std.specs.Prelude.{◌≡◌};
+ghost use Rattle.std.specs.Prelude.{◌≡◌, is_some};
 ghost use Rattle.std.specs.List.{list_any};
 ghost use Rattle.vk_model.specs.Basics.{some_pair};
 ghost use Rattle.vk_overlaps.specs.Extents as extents;
 
 use crate::extents::{Extent, extents_meet};
 
-/// Whether parts overlap, by comparing each that is written with each.
-pub fn overlap_by_pairs(written: &[Extent], read: &[Extent]) -> bool
-    ensures { result ≡ extents.parts_overlap written.now read.now }
+/// One of the written parts that overlaps, by comparing each that is written with each.
+pub fn overlapping_by_pairs(written: &[Extent], read: &[Extent]) -> Option<Extent>
+    ensures { is_some result ≡ extents.parts_overlap written.now read.now }
 {
-    some_meet(written) || some_meets(written, read)
+    match meeting(written) {
+        Some(part) => Some(part),
+        None => meeting_some(written, read),
+    }
 }
 
-fn some_meets(written: &[Extent], read: &[Extent]) -> bool
-    ensures { result ≡ list_any (λ w. list_any (extents.extents_meet w) read.now) written.now }
+/// One of some parts that meets one of others.
+fn meeting_some(written: &[Extent], read: &[Extent]) -> Option<Extent>
+    ensures { is_some result ≡ list_any (λ w. list_any (extents.extents_meet w) read.now) written.now }
 {
-    written.iter().any(|part| meets_any(part, read))
+    let mut rest = written;
+    while let [first, later @ ..] = rest {
+        if meets_any(first, read) {
+            return Some(*first);
+        }
+        rest = later;
+    }
+    None
 }
 
-fn some_meet(parts: &[Extent]) -> bool
-    ensures { result ≡ some_pair extents.extents_meet parts.now }
+/// One of some parts that meets a later one of them.
+fn meeting(parts: &[Extent]) -> Option<Extent>
+    ensures { is_some result ≡ some_pair extents.extents_meet parts.now }
 {
     let mut rest = parts;
     while let [first, later @ ..] = rest {
         if meets_any(first, later) {
-            return true;
+            return Some(*first);
         }
         rest = later;
     }
-    false
+    None
 }
 
 fn meets_any(part: &Extent, others: &[Extent]) -> bool

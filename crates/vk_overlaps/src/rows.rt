@@ -184,14 +184,14 @@ fn bytes_meet(start: u128, size: u64, other_start: u128, other_size: u64) -> boo
 }
 
 /// The bytes of a row of a region.
-fn row_size(region: &BufferImageCopy, format: Format) -> u64
+pub fn row_size(region: &BufferImageCopy, format: Format) -> u64
     ensures { result ≡ region.now.width * texel format }
 {
     u64::from(region.width) * u64::from(texel_size(format))
 }
 
 /// The number of rows that a region has in the buffer; none where it has no texel.
-fn row_count(region: &BufferImageCopy) -> u64
+pub fn row_count(region: &BufferImageCopy) -> u64
     ensures { result ≡ areas.row_count region.now }
 {
     if region.width == 0 {
@@ -202,7 +202,7 @@ fn row_count(region: &BufferImageCopy) -> u64
 }
 
 /// Where a row of a region begins in the buffer.
-fn row_start(region: &BufferImageCopy, format: Format, row: u64) -> u128
+pub fn row_start(region: &BufferImageCopy, format: Format, row: u64) -> u128
     requires { row < areas.row_count region.now }
     ensures start { result ≡ areas.row_start (texel format) region.now row }
     ensures within { result < 2 ^ 102 }

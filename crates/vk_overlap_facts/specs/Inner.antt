@@ -1,0 +1,3 @@
+pub mod Areas
+pub mod Rows
+pub mod Found

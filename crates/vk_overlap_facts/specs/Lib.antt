@@ -1,0 +1,4 @@
+pub mod Commons
+pub mod Parts
+pub mod Overlaps
+pub mod Inner
