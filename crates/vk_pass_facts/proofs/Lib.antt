@@ -1,0 +1,12 @@
+pub mod PastLemmas
+pub mod ListSteps
+pub mod ObjectLemmas
+pub mod DefragLemmas
+pub mod PassLemmas
+pub mod Spread
+pub mod WrittenBytes
+pub mod ActLemmas
+pub mod CommandLemmas
+pub mod NewestLemmas
+pub mod TimelineLemmas
+pub mod BusyLemmas

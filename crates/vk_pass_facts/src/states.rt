@@ -1,0 +1,61 @@
+ghost use Rattle.std.specs.Prelude.{◌≡◌, IfSome, not, is_some};
+ghost use Rattle.vk_model.specs.Rules.Passes as rules;
+ghost use Rattle.vk_order.specs.PointViews.{action_of, point_of};
+ghost use Rattle.vk_pass_facts.specs.PassStates.{IsNoPass, IsPassState, IsPassStateBy};
+
+use crate::before::Before;
+use crate::defrags::OpenDefrag;
+use crate::moving::MovingResource;
+use crate::passes::OpenPass;
+use vk_model::Entry;
+use vk_order::{Action, Point};
+
+/// PASS_STATE: what an entry doesn't fit.
+#[derive(Clone, Copy)]
+pub enum PassState<'a> {
+    /// The pool has a defragmentation that hasn't ended.
+    Defrag(OpenDefrag<'a>),
+    /// A pass is open.
+    Pass(OpenPass<'a>),
+    /// No pass of the defragmentation of this id is open.
+    NoPass(u32),
+    /// A pass of the resource's pool is open.
+    Moving(MovingResource<'a>),
+}
+
+/// PASS_STATE: what a point doesn't fit, where it breaks the rule.
+pub fn pass_state_of<'a>(before: &Before<'_, 'a>, point: &Point<'a>) -> Option<PassState<'a>>
+    ensures broken { is_some result ≡ rules.breaks_pass_state before.now (point_of point.now) }
+    ensures told { IfSome result (IsPassState before.now (action_of point.now.action)) }
+{
+    match point.action {
+        Action::Host(entry) => state_by(before, entry),
+        _ => None,
+    }
+}
+
+fn state_by<'a>(before: &Before<'_, 'a>, entry: &Entry) -> Option<PassState<'a>>
+    ensures broken { is_some result ≡ rules.bad_pass before.now entry.now }
+    ensures told { IfSome result (IsPassStateBy before.now entry.now) }
+{
+    match entry {
+        Entry::Defrag { pool, .. } => Some(PassState::Defrag(before.defrag_of_pool(*pool)?)),
+        Entry::DropPool { pool } => Some(PassState::Defrag(before.defrag_of_pool(*pool)?)),
+        Entry::Pass { .. } => Some(PassState::Pass(before.any_pass()?)),
+        Entry::EndDefrag { defrag } => Some(PassState::Pass(before.pass_of_defrag(*defrag)?)),
+        Entry::EndPass { defrag, .. } => no_pass_of(before, *defrag),
+        Entry::Destroy { resource } => Some(PassState::Moving(before.moving(*resource)?)),
+        _ => None,
+    }
+}
+
+/// That no pass of a defragmentation is open.
+fn no_pass_of<'a>(before: &Before<'_, 'a>, defrag: u32) -> Option<PassState<'a>>
+    ensures broken { is_some result ≡ not (rules.in_pass before.now defrag) }
+    ensures told { IfSome result (IsNoPass before.now defrag) }
+{
+    match before.pass_of_defrag(defrag) {
+        Some(_) => None,
+        None => Some(PassState::NoPass(defrag)),
+    }
+}

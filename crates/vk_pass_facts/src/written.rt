@@ -1,0 +1,170 @@
+ghost use Rattle.std.specs.Prelude.{◌≡◌, ◌&&◌, ℕ, Bool, nat_lt, is_some, not};
+ghost use Rattle.vk_model.specs.Basics.{holds};
+ghost use Rattle.vk_model.specs.Trace.Objects.{image};
+ghost use Rattle.vk_model.specs.World.ByteWrites.{byte_writes};
+ghost use Rattle.vk_model.specs.World.Ownership as ownership;
+ghost use Rattle.vk_model.specs.Sync.Access.{targets, transition_bytes, host_writes};
+ghost use Rattle.vk_pass_facts.specs.Inner.Written as parts;
+ghost use Rattle.vk_pass_facts.specs.Inner.Written.{IsResourceOf};
+
+use crate::before::Before;
+use vk_model::{
+    BufferCopy, BufferImageCopy, Cmd, Element, Entry, ImageCopy, ImageElement, SubresourceRange,
+};
+use vk_order::is_release;
+
+/// The resource that a host entry writes bytes of.
+pub fn written_by_host(entry: &Entry) -> Option<u32>
+    ensures { IsResourceOf result (host_writes entry.now) }
+{
+    match entry {
+        Entry::Write { buffer, bytes, .. } => only_if(!bytes.is_empty(), *buffer),
+        _ => None,
+    }
+}
+
+/// The resource that a clear or copy command writes bytes of.
+pub fn written_by_command(before: &Before<'_, '_>, command: &Cmd) -> Option<u32>
+    ensures { IsResourceOf result (targets (byte_writes before.now command.now)) }
+{
+    match command {
+        Cmd::Fill {
+            buffer,
+            offset,
+            size,
+            ..
+        } => only_if(
+            size.filled(before.buffer_size(*buffer), *offset) > 0,
+            *buffer,
+        ),
+        Cmd::Update { buffer, bytes, .. } => only_if(!bytes.is_empty(), *buffer),
+        Cmd::Copy {
+            destination,
+            regions,
+            ..
+        } => only_if(has_bytes(regions.as_slice()), *destination),
+        Cmd::Clear { image, ranges, .. } => {
+            only_if(clears_some(before, *image, ranges.as_slice()), *image)
+        }
+        Cmd::CopyIn { image, regions, .. } => {
+            only_if(copies_some(before, *image, regions.as_slice()), *image)
+        }
+        Cmd::CopyOut {
+            image,
+            buffer,
+            regions,
+            ..
+        } => only_if(copies_some(before, *image, regions.as_slice()), *buffer),
+        Cmd::CopyImage {
+            destination,
+            regions,
+            ..
+        } => only_if(
+            copies_image(before, *destination, regions.as_slice()),
+            *destination,
+        ),
+        _ => None,
+    }
+}
+
+/// The resource that an element of a barrier on a queue writes bytes of: that of a layout transition,
+/// unless it's the first half of an ownership transfer.
+pub fn written_by_element(before: &Before<'_, '_>, queue: u32, element: &Element) -> Option<u32>
+    ensures { IsResourceOf result (transition_bytes before.now queue element.now) }
+{
+    match element {
+        Element::Image(on_image) => {
+            only_if(
+                changes_some(before, queue, element, on_image),
+                on_image.image,
+            )
+        }
+        _ => None,
+    }
+}
+
+fn only_if(is_written: bool, resource: u32) -> Option<u32>
+    ensures { (f : ℕ → Bool) → holds result f ≡ (is_written && f resource) }
+{
+    if is_written { Some(resource) } else { None }
+}
+
+fn clears_some(before: &Before<'_, '_>, id: u32, ranges: &[SubresourceRange]) -> bool
+    ensures { result ≡ (is_some (image before.now id) && parts.some_subresource ranges.now) }
+{
+    before.is_image(id) && has_subresource(ranges)
+}
+
+fn copies_some(before: &Before<'_, '_>, id: u32, regions: &[BufferImageCopy]) -> bool
+    ensures { result ≡ (is_some (image before.now id) && parts.some_texel regions.now) }
+{
+    before.is_image(id) && has_texel(regions)
+}
+
+fn copies_image(before: &Before<'_, '_>, id: u32, regions: &[ImageCopy]) -> bool
+    ensures { result ≡ (is_some (image before.now id) && parts.some_copied regions.now) }
+{
+    before.is_image(id) && has_copied_texel(regions)
+}
+
+fn changes_some(
+    before: &Before<'_, '_>,
+    queue: u32,
+    element: &Element,
+    on_image: &ImageElement,
+) -> bool
+    ensures { result ≡ ((ownership.is_transition on_image.now && not (ownership.is_release queue element.now))
+        && (is_some (image before.now on_image.now.image) && (nat_lt 0 on_image.now.range.levels && nat_lt 0 on_image.now.range.layers))) }
+{
+    takes_place(queue, element, on_image) && has_part(before, on_image)
+}
+
+/// Whether an element is a transition on a queue, and not the first half of an ownership transfer.
+fn takes_place(queue: u32, element: &Element, on_image: &ImageElement) -> bool
+    ensures { result ≡ (ownership.is_transition on_image.now && not (ownership.is_release queue element.now)) }
+{
+    is_transition(on_image) && !is_release(queue, element)
+}
+
+/// Whether an element names a subresource of an image.
+fn has_part(before: &Before<'_, '_>, on_image: &ImageElement) -> bool
+    ensures { result ≡ (is_some (image before.now on_image.now.image) && (nat_lt 0 on_image.now.range.levels && nat_lt 0 on_image.now.range.layers)) }
+{
+    before.is_image(on_image.image) && has_any(&on_image.range)
+}
+
+fn is_transition(on_image: &ImageElement) -> bool
+    ensures { result ≡ ownership.is_transition on_image.now }
+{
+    on_image.old_layout != on_image.new_layout
+}
+
+fn has_bytes(regions: &[BufferCopy]) -> bool
+    ensures { result ≡ parts.some_bytes regions.now }
+{
+    regions.iter().any(|region| region.size > 0)
+}
+
+fn has_subresource(ranges: &[SubresourceRange]) -> bool
+    ensures { result ≡ parts.some_subresource ranges.now }
+{
+    ranges.iter().any(|range| has_any(range))
+}
+
+fn has_any(range: &SubresourceRange) -> bool
+    ensures { result ≡ (nat_lt 0 range.now.levels && nat_lt 0 range.now.layers) }
+{
+    range.levels > 0 && range.layers > 0
+}
+
+fn has_texel(regions: &[BufferImageCopy]) -> bool
+    ensures { result ≡ parts.some_texel regions.now }
+{
+    regions.iter().any(|region| region.layers > 0 && region.height > 0 && region.width > 0)
+}
+
+fn has_copied_texel(regions: &[ImageCopy]) -> bool
+    ensures { result ≡ parts.some_copied regions.now }
+{
+    regions.iter().any(|region| region.layers > 0 && region.height > 0 && region.width > 0)
+}
