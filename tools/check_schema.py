@@ -1,7 +1,8 @@
 #!/usr/bin/env python3
 """Checks docs/trace.schema.json: that it is a schema, that the traces of examples/ and of docs/ fit it,
-and that what is no trace doesn't. It needs jsonschema (Debian: python3-jsonschema). Traces with
-defragmentation, which no program takes yet, are no traces. Prints 'N passed, M failed'."""
+and that what is no trace doesn't, those of examples/no_traces/ among it that are JSON. It needs
+jsonschema (Debian: python3-jsonschema). Traces with defragmentation, which no program takes yet, are
+no traces. Prints 'N passed, M failed'."""
 
 import json
 import pathlib
@@ -44,7 +45,8 @@ NO_TRACES = [
 
 def traces():
     """Each trace with where it stands."""
-    for path in sorted((TOP / 'examples').glob('*.json')):
+    examples = TOP / 'examples'
+    for path in [*sorted(examples.glob('*.json')), *sorted(examples.glob('rules/*.json'))]:
         if not path.name.endswith('.explained.json'):
             yield path.name, path.read_text()
     for page in ('RULES.md', 'RULES_HAZARDS.md', 'WORKED_PAIRS.md', 'FORMAT.md'):
@@ -56,12 +58,25 @@ def traces():
                 yield f'{page}:{number}', line
 
 
+def no_traces():
+    """Each text that is JSON and no trace, with where it stands."""
+    for path in sorted((TOP / 'examples' / 'no_traces').glob('*.json')):
+        text = path.read_text(errors='replace')
+        try:
+            json.loads(text)
+        except ValueError:
+            continue
+        yield path.name, text
+    for text in NO_TRACES:
+        yield text, text
+
+
 def main():
     schema = json.loads((TOP / 'docs' / 'trace.schema.json').read_text())
     jsonschema.Draft202012Validator.check_schema(schema)
     validator = jsonschema.Draft202012Validator(schema)
     wanted = [(where, text, '["defrag",' not in text) for where, text in traces()]
-    wanted += [(text, text, False) for text in NO_TRACES]
+    wanted += [(where, text, False) for where, text in no_traces()]
     failed = 0
     for where, text, fits in wanted:
         if validator.is_valid(json.loads(text)) != fits:
