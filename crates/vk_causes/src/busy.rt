@@ -5,9 +5,10 @@ ghost use Rattle.vk_order.specs.PointViews.{point_of};
 ghost use Rattle.vk_order.specs.Queries.{IsNew};
 ghost use Rattle.vk_queues.specs.PointViews.{past_of};
 
-use crate::making::{making_of, place_in};
+use crate::making::{place_in, started_batches};
 use crate::trail::uses;
 use std::alloc::{AllocError, Global};
+use std::collections::BTreeSet;
 use vk_model::{At, Batch, Cmd, Element, Entry, Place};
 use vk_order::{Action, Point, Points, rows_of};
 
@@ -34,8 +35,8 @@ pub fn user_of<'a>(
 {
     match entry {
         Entry::Destroy { resource } => command_on(alloc, points, index, *resource),
-        Entry::Free { memory } => Ok(resource_in(&points[..index], *memory)),
-        Entry::DropPool { pool } => Ok(resource_in(&points[..index], *pool)),
+        Entry::Free { memory } => resource_in(alloc, &points[..index], *memory),
+        Entry::DropPool { pool } => resource_in(alloc, &points[..index], *pool),
         _ => Ok(None),
     }
 }
@@ -62,7 +63,7 @@ fn command_on<'a>(
             return Ok(Some(User::Started(*point)));
         }
     }
-    Ok(waiting_on(earlier, resource))
+    waiting_on(alloc, earlier, resource)
 }
 
 /// The number of the first node of each point, and of the one after them.
@@ -131,20 +132,25 @@ fn nodes_of<'a>(alloc: Global, points: &[Point<'a>]) -> Result<Points<'a>, Alloc
 }
 
 /// A command of a batch without a point that names a resource.
-fn waiting_on<'a>(points: &[Point<'_>], resource: u32) -> Option<User<'a>> {
+fn waiting_on<'a>(
+    alloc: Global,
+    points: &[Point<'_>],
+    resource: u32,
+) -> Result<Option<User<'a>>, AllocError> {
+    let started = started_batches(alloc, points)?;
     for point in points {
         if let Action::Host(Entry::Submit { batches, .. }) = point.action {
             for (number, batch) in batches.as_slice().iter().enumerate() {
-                if let Some(place) = place_naming(batch, resource) {
+                if !started.contains(&(point.entry, number))
+                    && let Some(place) = place_naming(batch, resource)
+                {
                     let at = At::Command(point.entry, number, place);
-                    if !is_started(points, point.entry, number) {
-                        return Some(User::Waiting(at));
-                    }
+                    return Ok(Some(User::Waiting(at)));
                 }
             }
         }
     }
-    None
+    Ok(None)
 }
 
 /// The place of the first command of a batch that names a resource.
@@ -171,29 +177,23 @@ fn names(command: &Cmd, resource: u32) -> bool {
     }
 }
 
-/// Whether a batch has points.
-fn is_started(points: &[Point<'_>], entry: usize, batch: usize) -> bool {
-    for point in points {
-        let is_host = matches!(point.action, Action::Host(_));
-        if !is_host && point.entry == entry && point.batch == batch {
-            return true;
-        }
-    }
-    false
-}
-
 /// A live resource that lies in a memory object or in a pool.
-fn resource_in<'a>(points: &[Point<'_>], object: u32) -> Option<User<'a>> {
+fn resource_in<'a>(
+    alloc: Global,
+    points: &[Point<'_>],
+    object: u32,
+) -> Result<Option<User<'a>>, AllocError> {
+    let ended = ended_resources(alloc, points)?;
     for point in points {
-        if let Action::Host(entry) = point.action {
-            if let (Some(id), Some(place)) = (entry.made_id(), place_in(entry)) {
-                if is_inside(place, object) && !is_ended(points, id) {
-                    return Some(User::Resource(id));
-                }
-            }
+        if let Action::Host(entry) = point.action
+            && let (Some(id), Some(place)) = (entry.made_id(), place_in(entry))
+            && is_inside(place, object)
+            && !ended.contains(&id)
+        {
+            return Ok(Some(User::Resource(id)));
         }
     }
-    None
+    Ok(None)
 }
 
 fn is_inside(place: Place, object: u32) -> bool {
@@ -204,13 +204,13 @@ fn is_inside(place: Place, object: u32) -> bool {
     }
 }
 
-fn is_ended(points: &[Point<'_>], id: u32) -> bool {
+/// The resources that were destroyed.
+fn ended_resources(alloc: Global, points: &[Point<'_>]) -> Result<BTreeSet<u32>, AllocError> {
+    let mut ended = BTreeSet::new(alloc);
     for point in points {
         if let Action::Host(Entry::Destroy { resource }) = point.action {
-            if *resource == id {
-                return true;
-            }
+            ended.insert(*resource)?;
         }
     }
-    false
+    Ok(ended)
 }

@@ -1,6 +1,7 @@
 ghost use Rattle.std.specs.Prelude.{◌<◌, IfSome, length};
 
 use crate::busy::{User, user_of};
+use crate::signalers::{Signaler, signaler_of};
 use crate::undefined::{Undefined, undefined_read};
 use std::alloc::{AllocError, Global};
 use vk_facts::at_of;
@@ -15,6 +16,8 @@ pub enum Cause<'a> {
     Undefined(Undefined<'a>),
     /// IN_USE: what uses the object that ends.
     Used(User<'a>),
+    /// WAIT_NEVER: what would signal the value.
+    Signaled(Signaler),
 }
 
 /// What is told of the point that a trace is refused at, by this rule. None is told of other rules,
@@ -46,6 +49,13 @@ pub fn cause_of<'a>(
             Some(undefined) => Ok(Some(Cause::Undefined(undefined))),
             None => Ok(None),
         },
+        (Rule::WaitNever, Entry::Wait { waits }) => {
+            let older = &points[..index];
+            match signaler_of(alloc, entries, older, point.entry, waits.as_slice())? {
+                Some(signaler) => Ok(Some(Cause::Signaled(signaler))),
+                None => Ok(None),
+            }
+        }
         (Rule::InUse, _) => match user_of(alloc, points, index, entry)? {
             Some(user) => Ok(Some(Cause::Used(user))),
             None => Ok(None),

@@ -1,17 +1,60 @@
+use std::alloc::{AllocError, Global};
+use std::collections::{BTreeMap, BTreeSet};
 use vk_model::{Entry, Place, Sharing};
 use vk_order::{Action, Point};
 
-/// The entry that made an id, by the last of some points that did.
-pub fn making_of<'a>(points: &[Point<'a>], id: u32) -> Option<&'a Entry> {
-    for back in 0..points.len() {
-        let point = points[points.len() - 1 - back];
-        if let Action::Host(entry) = point.action {
-            if entry.made_id() == Some(id) {
-                return Some(entry);
+/// The entries of some points that made ids; of several that made one the last.
+#[derive(Drop)]
+pub struct Makings<'a> {
+    entries: BTreeMap<u32, &'a Entry>,
+}
+
+impl<'a> Makings<'a> {
+    /// Those of some points. The only error is want of memory.
+    pub fn of(alloc: Global, points: &[Point<'a>]) -> Result<Makings<'a>, AllocError> {
+        let mut entries = BTreeMap::new(alloc);
+        for point in points {
+            if let Action::Host(entry) = point.action
+                && let Some(id) = entry.made_id()
+            {
+                entries.insert(id, entry)?;
             }
         }
+        Ok(Makings { entries })
     }
-    None
+
+    /// The entry that made an id.
+    pub fn making(&self, id: u32) -> Option<&'a Entry> {
+        self.entries.get(&id).copied()
+    }
+
+    /// Whether one queue family at a time owns a resource.
+    pub fn is_exclusive(&self, resource: u32) -> bool {
+        match self.making(resource) {
+            Some(Entry::Buffer { info, .. }) => info.sharing == Sharing::Exclusive,
+            Some(Entry::Image { info, .. }) => info.sharing == Sharing::Exclusive,
+            _ => false,
+        }
+    }
+
+    /// Whether the host reaches a resource's memory through a cache.
+    pub fn is_cached(&self, resource: u32) -> bool {
+        let Some(entry) = self.making(resource) else {
+            return false;
+        };
+        match place_in(entry) {
+            Some(Place::Dedicated { memory_type }) => memory_type == 2,
+            Some(Place::Memory { memory, .. }) => match self.making(memory) {
+                Some(Entry::Memory { info, .. }) => info.memory_type == 2,
+                _ => false,
+            },
+            Some(Place::Pool { pool } | Place::PoolUpper { pool }) => match self.making(pool) {
+                Some(Entry::Pool { info, .. }) => info.memory_type == 2,
+                _ => false,
+            },
+            None => false,
+        }
+    }
 }
 
 /// Where a resource lies, by the entry that made it.
@@ -23,30 +66,16 @@ pub fn place_in(entry: &Entry) -> Option<Place> {
     }
 }
 
-/// Whether one queue family at a time owns a resource.
-pub fn is_exclusive(points: &[Point<'_>], resource: u32) -> bool {
-    match making_of(points, resource) {
-        Some(Entry::Buffer { info, .. }) => info.sharing == Sharing::Exclusive,
-        Some(Entry::Image { info, .. }) => info.sharing == Sharing::Exclusive,
-        _ => false,
+/// The entry and the number of each batch that has points.
+pub fn started_batches(
+    alloc: Global,
+    points: &[Point<'_>],
+) -> Result<BTreeSet<(usize, usize)>, AllocError> {
+    let mut started = BTreeSet::new(alloc);
+    for point in points {
+        if !matches!(point.action, Action::Host(_)) {
+            started.insert((point.entry, point.batch))?;
+        }
     }
-}
-
-/// Whether the host reaches a resource's memory through a cache.
-pub fn is_cached(points: &[Point<'_>], resource: u32) -> bool {
-    let Some(entry) = making_of(points, resource) else {
-        return false;
-    };
-    match place_in(entry) {
-        Some(Place::Dedicated { memory_type }) => memory_type == 2,
-        Some(Place::Memory { memory, .. }) => match making_of(points, memory) {
-            Some(Entry::Memory { info, .. }) => info.memory_type == 2,
-            _ => false,
-        },
-        Some(Place::Pool { pool } | Place::PoolUpper { pool }) => match making_of(points, pool) {
-            Some(Entry::Pool { info, .. }) => info.memory_type == 2,
-            _ => false,
-        },
-        None => false,
-    }
+    Ok(started)
 }

@@ -1,7 +1,7 @@
-use crate::making::making_of;
+use crate::making::Makings;
 use vk_image_tiles::texel_size;
 use vk_model::{BufferCopy, BufferImageCopy, Cmd, Entry, ImageCopy, Length, SubresourceRange};
-use vk_order::{Byte, Point};
+use vk_order::Byte;
 
 /// Where the value comes from that a command writes to a byte.
 #[derive(Clone, Copy)]
@@ -13,15 +13,15 @@ pub enum Origin {
 }
 
 /// Where the value comes from that a command writes to a byte, if it writes it; of several writes the
-/// first decides. The points are those before the command.
-pub fn origin_of(points: &[Point<'_>], command: &Cmd, byte: Byte) -> Option<Origin> {
+/// first decides. The objects are those that were made before the command.
+pub fn origin_of(makings: &Makings<'_>, command: &Cmd, byte: Byte) -> Option<Origin> {
     match byte {
-        Byte::Buffer { buffer, at } => buffer_origin(points, command, buffer, at),
-        Byte::Texel { .. } => texel_origin(points, command, byte),
+        Byte::Buffer { buffer, at } => buffer_origin(makings, command, buffer, at),
+        Byte::Texel { .. } => texel_origin(makings, command, byte),
     }
 }
 
-fn buffer_origin(points: &[Point<'_>], command: &Cmd, own: u32, at: u64) -> Option<Origin> {
+fn buffer_origin(makings: &Makings<'_>, command: &Cmd, own: u32, at: u64) -> Option<Origin> {
     match command {
         Cmd::Fill {
             buffer,
@@ -29,7 +29,7 @@ fn buffer_origin(points: &[Point<'_>], command: &Cmd, own: u32, at: u64) -> Opti
             size,
             ..
         } if *buffer == own => {
-            let size = filled(points, own, *offset, *size);
+            let size = filled(makings, own, *offset, *size);
             is_within(at, *offset, size).then_some(Origin::Command)
         }
         Cmd::Update {
@@ -50,7 +50,7 @@ fn buffer_origin(points: &[Point<'_>], command: &Cmd, own: u32, at: u64) -> Opti
             regions,
             ..
         } if *buffer == own => {
-            let texel = texel_of(points, *image)?;
+            let texel = texel_of(makings, *image)?;
             for region in regions.as_slice() {
                 if let Some(from) = texel_at(region, *image, texel, at) {
                     return Some(Origin::Byte(from));
@@ -63,8 +63,8 @@ fn buffer_origin(points: &[Point<'_>], command: &Cmd, own: u32, at: u64) -> Opti
 }
 
 /// How many bytes a fill writes.
-fn filled(points: &[Point<'_>], buffer: u32, offset: u64, size: Length) -> u64 {
-    match making_of(points, buffer) {
+fn filled(makings: &Makings<'_>, buffer: u32, offset: u64, size: Length) -> u64 {
+    match makings.making(buffer) {
         Some(Entry::Buffer { info, .. }) => size.filled(info.size, offset),
         _ => 0,
     }
@@ -90,8 +90,8 @@ fn copied_from(regions: &[BufferCopy], source: u32, at: u64) -> Option<Origin> {
 }
 
 /// How many bytes a texel of an image has.
-fn texel_of(points: &[Point<'_>], image: u32) -> Option<u64> {
-    match making_of(points, image) {
+fn texel_of(makings: &Makings<'_>, image: u32) -> Option<u64> {
+    match makings.making(image) {
         Some(Entry::Image { info, .. }) => Some(texel_size(info.format) as u64),
         _ => None,
     }
@@ -135,7 +135,7 @@ fn texel_at(region: &BufferImageCopy, image: u32, texel: u64, at: u64) -> Option
     })
 }
 
-fn texel_origin(points: &[Point<'_>], command: &Cmd, byte: Byte) -> Option<Origin> {
+fn texel_origin(makings: &Makings<'_>, command: &Cmd, byte: Byte) -> Option<Origin> {
     let Byte::Texel { image: own, .. } = byte else {
         return None;
     };
@@ -154,7 +154,7 @@ fn texel_origin(points: &[Point<'_>], command: &Cmd, byte: Byte) -> Option<Origi
             regions,
             ..
         } if *image == own => {
-            let texel = texel_of(points, *image)?;
+            let texel = texel_of(makings, *image)?;
             for region in regions.as_slice() {
                 if let Some(from) = buffer_byte_at(region, *buffer, texel, byte) {
                     return Some(Origin::Byte(from));

@@ -1,4 +1,4 @@
-use crate::making::{is_cached, is_exclusive};
+use crate::making::Makings;
 use crate::origins::{Origin, has_texel, origin_of};
 use vk_model::{Cmd, Element, Entry, ImageElement};
 use vk_order::{Act, Action, Byte, Point, is_acquire, is_release};
@@ -45,18 +45,23 @@ struct Trail<'a> {
 
 /// What was done last to the value of a byte, by some points; and, where a command comes next, by its
 /// use of the byte's resource.
-pub fn last_of<'a>(points: &[Point<'a>], next: Option<Point<'a>>, byte: Byte) -> Last<'a> {
+pub fn last_of<'a>(
+    makings: &Makings<'a>,
+    points: &[Point<'a>],
+    next: Option<Point<'a>>,
+    byte: Byte,
+) -> Last<'a> {
     let resource = byte.resource();
     let mut trail = Trail {
         byte,
-        is_exclusive: is_exclusive(points, resource),
-        is_cached: is_cached(points, resource),
+        is_exclusive: makings.is_exclusive(resource),
+        is_cached: makings.is_cached(resource),
         owner: None,
         is_dirty: false,
         last: Last::Nothing,
     };
     for (index, point) in points.iter().enumerate() {
-        trail = trail.after(&points[..index], *point);
+        trail = trail.after(makings, index, *point);
     }
     match next {
         Some(point) => trail.after_uses(point).last,
@@ -70,11 +75,11 @@ fn family_of(queue: u32) -> u32 {
 }
 
 impl<'a> Trail<'a> {
-    /// After a point; the others are those before it.
-    fn after(self, points: &[Point<'a>], point: Point<'a>) -> Trail<'a> {
+    /// After a point, of this number.
+    fn after(self, makings: &Makings<'a>, number: usize, point: Point<'a>) -> Trail<'a> {
         match point.action {
             Action::Host(entry) => self.after_entry(point, entry),
-            Action::Run(command) => self.after_command(points, point, command),
+            Action::Run(command) => self.after_command(makings, number, point, command),
             Action::Wait(_) | Action::Signal(_) => self,
         }
     }
@@ -110,11 +115,17 @@ impl<'a> Trail<'a> {
         trail
     }
 
-    fn after_command(self, points: &[Point<'a>], point: Point<'a>, command: &'a Cmd) -> Trail<'a> {
+    fn after_command(
+        self,
+        makings: &Makings<'a>,
+        number: usize,
+        point: Point<'a>,
+        command: &'a Cmd,
+    ) -> Trail<'a> {
         let mut trail = self.after_uses(point);
-        match origin_of(points, command, self.byte) {
+        match origin_of(makings, command, self.byte) {
             Some(Origin::Command) => trail.last = Last::Written,
-            Some(Origin::Byte(from)) => trail.last = Last::Copied(points.len(), from),
+            Some(Origin::Byte(from)) => trail.last = Last::Copied(number, from),
             None => {}
         }
         if let Cmd::Barrier { elements } = command {

@@ -1,8 +1,9 @@
+use crate::making::Makings;
 use crate::trail::{Last, Loss, last_of};
 use std::alloc::{AllocError, Global};
 use vk_order::{Byte, Point};
 
-/// So many times a byte is followed over a point at most.
+/// So many times bytes are followed over a point at most.
 const MOST_STEPS: u64 = 134_217_728;
 
 /// That a command copied an undefined byte.
@@ -26,7 +27,19 @@ pub struct Undefined<'a> {
     pub loss: Option<(Loss, Point<'a>)>,
 }
 
-/// Why a read after some points finds an undefined byte: the first one.
+/// What following a byte back through copies came to.
+#[derive(Drop)]
+enum Followed<'a> {
+    /// It is defined; so many walks over the points told so.
+    Defined(u64),
+    /// It is undefined.
+    Undefined(Undefined<'a>),
+    /// It would have taken too many steps.
+    TooLong,
+}
+
+/// Why a read after some points finds an undefined byte: the first one. None is told where following
+/// its bytes would take too many steps.
 pub fn undefined_read<'a>(
     alloc: Global,
     points: &[Point<'a>],
@@ -34,36 +47,40 @@ pub fn undefined_read<'a>(
     offset: u64,
     size: u64,
 ) -> Result<Option<Undefined<'a>>, AllocError> {
+    let makings = Makings::of(alloc, points)?;
     let count = points.len() as u64;
-    let most = MOST_STEPS.checked_div(count).unwrap_or(0);
-    let end = offset.saturating_add(if size < most { size } else { most });
-    for at in offset..end {
+    let mut left = MOST_STEPS.checked_div(count).unwrap_or(0);
+    for at in offset..offset.saturating_add(size) {
         let byte = Byte::Buffer { buffer, at };
-        if let Some(undefined) = undefined_byte(alloc, points, byte)? {
-            return Ok(Some(undefined));
+        match undefined_byte(alloc, &makings, points, byte, left)? {
+            Followed::Defined(walks) => left = left.saturating_sub(walks),
+            Followed::Undefined(undefined) => return Ok(Some(undefined)),
+            Followed::TooLong => return Ok(None),
         }
     }
     Ok(None)
 }
 
-/// Why a byte is undefined, if it is.
+/// Why a byte is undefined, if it is, with so many walks over the points at most.
 fn undefined_byte<'a>(
     alloc: Global,
+    makings: &Makings<'a>,
     points: &[Point<'a>],
     byte: Byte,
-) -> Result<Option<Undefined<'a>>, AllocError> {
+    most: u64,
+) -> Result<Followed<'a>, AllocError> {
     let mut copies = Vec::new(alloc);
     let mut earlier = points;
     let mut next = None;
     let mut followed = byte;
-    for _ in 0..points.len().saturating_add(1) {
-        let loss = match last_of(earlier, next, followed) {
-            Last::Written => return Ok(None),
+    for walk in 0..most {
+        let loss = match last_of(makings, earlier, next, followed) {
+            Last::Written => return Ok(Followed::Defined(walk.saturating_add(1))),
             Last::Nothing => None,
             Last::Lost(loss, point) => Some((loss, point)),
             Last::Copied(number, from) => {
                 let Some(by) = earlier.get(number) else {
-                    return Ok(None);
+                    return Ok(Followed::Defined(walk.saturating_add(1)));
                 };
                 copies.push(Copied { by: *by, from })?;
                 next = Some(*by);
@@ -72,7 +89,7 @@ fn undefined_byte<'a>(
                 continue;
             }
         };
-        return Ok(Some(Undefined { byte, copies, loss }));
+        return Ok(Followed::Undefined(Undefined { byte, copies, loss }));
     }
-    Ok(None)
+    Ok(Followed::TooLong)
 }

@@ -12,10 +12,13 @@ use vk_writer::{command_json, entry_json, submit_json};
 /// In a trace of more points no repair is sought, as each one that is tried is judged as a whole.
 const MOST_POINTS: usize = 4_096;
 
+/// Nor in one whose commands and batches have more regions, ranges, elements, waits and signals.
+const MOST_PARTS: usize = 16_384;
+
 /// What came of the search for a repair.
 #[derive(Drop)]
 pub enum RepairSearch {
-    /// The trace has too many points, and none was sought.
+    /// The trace has too many points or parts, and none was sought.
     TooLarge,
     /// None was found.
     Nothing,
@@ -56,7 +59,7 @@ pub fn sought(
     ensures { IfOk result (IsSought trace.now at) }
 {
     let summary = summary_of(alloc, trace)?;
-    if summary.points > MOST_POINTS {
+    if summary.points > MOST_POINTS || summary.parts > MOST_PARTS {
         return Ok(RepairSearch::TooLarge);
     }
     match repair(alloc, trace, at, rule)? {
@@ -80,11 +83,18 @@ pub fn repair_lines(
             lines_of(alloc, &words)
         }
         RepairSearch::Nothing => String::from_str(alloc, "  repair: none found\n"),
-        RepairSearch::TooLarge => String::from_str(
-            alloc,
-            "  repair: none sought in a trace of more than 4,096 points\n",
-        ),
+        RepairSearch::TooLarge => none_sought(alloc),
     }
+}
+
+/// The line where the trace is too large.
+fn none_sought(alloc: Global) -> Result<String, AllocError> {
+    let mut line = String::from_str(
+        alloc,
+        "  repair: none sought in a trace of more than 4,096 points, or with more than 16,384 ",
+    )?;
+    line.push_str("regions, ranges, elements, waits and signals\n")?;
+    Ok(line)
 }
 
 fn lines_of(alloc: Global, words: &RepairWords) -> Result<String, AllocError> {

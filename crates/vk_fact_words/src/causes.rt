@@ -1,12 +1,13 @@
 use crate::facts::push_byte;
 use crate::quoting::push_quoted;
 use std::alloc::{AllocError, Global};
-use vk_causes::{Cause, Loss, Undefined, User, cause_of};
+use vk_causes::{Cause, Loss, Signaler, Undefined, User, cause_of};
 use vk_facts::at_of;
 use vk_model::{At, Entry, Rule};
 use vk_words::{point_words, push_at};
 
-/// The lines on why a byte is undefined, or what uses the object that ends.
+/// The lines on why a byte is undefined, what uses the object that ends, or what would signal the value
+/// that is waited for.
 pub fn cause_lines(
     alloc: Global,
     trace: &[Entry],
@@ -56,6 +57,7 @@ fn cause_words(
     match cause_of(alloc, trace, at, rule)? {
         Some(Cause::Undefined(undefined)) => undefined_words(alloc, trace, &undefined),
         Some(Cause::Used(user)) => user_words(alloc, trace, user),
+        Some(Cause::Signaled(signaler)) => signaler_words(alloc, trace, signaler),
         None => Ok(Vec::new(alloc)),
     }
 }
@@ -124,6 +126,37 @@ fn user_words(alloc: Global, trace: &[Entry], user: User<'_>) -> Result<Vec<Stri
             let mut line = String::new(alloc);
             write!(line, "in use: resource {id} lies in it")?;
             words.push(line)?;
+        }
+    }
+    Ok(words)
+}
+
+fn signaler_words(
+    alloc: Global,
+    trace: &[Entry],
+    signaler: Signaler,
+) -> Result<Vec<String>, AllocError> {
+    let mut words = Vec::new(alloc);
+    match signaler {
+        Signaler::Waiting { signal, wait } => {
+            let mut line = String::from_str(alloc, "would be signaled by ")?;
+            push_at(&mut line, signal)?;
+            line.push_str(match wait {
+                Some(_) => ", whose batch still waits",
+                None => ", whose batch comes behind one that waits",
+            })?;
+            words.push(line)?;
+            words.push(point_words(alloc, trace, signal)?)?;
+            if let Some(wait) = wait {
+                words.push(point_words(alloc, trace, wait)?)?;
+            }
+        }
+        Signaler::Later(at) => {
+            let mut line = String::from_str(alloc, "would be signaled by ")?;
+            push_at(&mut line, at)?;
+            line.push_str(", which comes later")?;
+            words.push(line)?;
+            words.push(point_words(alloc, trace, at)?)?;
         }
     }
     Ok(words)

@@ -2,11 +2,17 @@ use crate::measures::points_until;
 use crate::quoting::push_quoted;
 use std::alloc::{AllocError, Global};
 use vk_model::{At, Entry, Rule};
+use vk_order::Point;
+use vk_overlap_facts::overlap_of;
+use vk_overlap_words::overlap_words;
+use vk_pass_facts::pass_fact_of;
+use vk_pass_words::pass_words;
 use vk_queues::reference_order;
 use vk_state_words::state_words;
 use vk_states::state_of;
 
-/// The line on the state that the point finds which breaks the rule, where that is told.
+/// The line on what the point finds that breaks the rule, or on which of its parts overlap, where that
+/// is told.
 pub fn state_line(
     alloc: Global,
     trace: &[Entry],
@@ -37,7 +43,7 @@ pub fn state_member(
     Ok(member)
 }
 
-/// The state that the first point finds which is reported so, in words.
+/// What the first point finds that is reported so, or which of its parts overlap, in words.
 fn state_at(
     alloc: Global,
     trace: &[Entry],
@@ -48,6 +54,41 @@ fn state_at(
     let Some(points) = points_until(points.as_slice(), at) else {
         return Ok(None);
     };
+    match rule {
+        Rule::Overlap => overlap_at(alloc, points),
+        Rule::PassState | Rule::PassBusy | Rule::PassWrite => passes_at(alloc, points, rule),
+        _ => found_at(alloc, points, rule),
+    }
+}
+
+/// Which parts of the last point overlap.
+fn overlap_at(alloc: Global, points: &[Point<'_>]) -> Result<Option<String>, AllocError> {
+    match overlap_of(alloc, points)? {
+        Some(overlap) => {
+            let words = overlap_words(alloc, overlap)?;
+            Ok(Some(words))
+        }
+        None => Ok(None),
+    }
+}
+
+/// Which pass or defragmentation the last point doesn't fit.
+fn passes_at(
+    alloc: Global,
+    points: &[Point<'_>],
+    rule: Rule,
+) -> Result<Option<String>, AllocError> {
+    match pass_fact_of(alloc, points, rule)? {
+        Some(fact) => {
+            let words = pass_words(alloc, fact)?;
+            Ok(Some(words))
+        }
+        None => Ok(None),
+    }
+}
+
+/// The state that the last point finds.
+fn found_at(alloc: Global, points: &[Point<'_>], rule: Rule) -> Result<Option<String>, AllocError> {
     match state_of(alloc, points, rule)? {
         Some(state) => {
             let words = state_words(alloc, state)?;

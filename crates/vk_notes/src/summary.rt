@@ -1,5 +1,5 @@
 use std::alloc::{AllocError, Global};
-use vk_model::{Batch, Entry};
+use vk_model::{Batch, Cmd, Entry};
 use vk_queues::reference_order;
 
 /// What is submitted to a queue.
@@ -32,6 +32,9 @@ pub struct Summary {
     pub events: usize,
     /// What is submitted to the queues 0 to 3.
     pub queues: [QueueSummary; 4],
+    /// How many regions and ranges its commands have, elements its barriers, sets and awaits, and waits
+    /// and signals its batches.
+    pub parts: usize,
     /// How many bytes the host reads.
     pub read_bytes: u64,
 }
@@ -57,6 +60,7 @@ pub fn summary_of(alloc: Global, trace: &[Entry]) -> Result<Summary, AllocError>
         semaphores: 0,
         events: 0,
         queues: [nothing, nothing, nothing, nothing],
+        parts: 0,
         read_bytes: 0,
     };
     for entry in trace {
@@ -83,6 +87,9 @@ impl Summary {
 
     /// Counts the batches of a submit.
     fn count_batches(&mut self, queue: u32, batches: &[Batch]) {
+        for batch in batches {
+            self.count_parts(batch);
+        }
         let queue = queue as usize;
         if queue >= self.queues.len() {
             return;
@@ -93,5 +100,27 @@ impl Summary {
             counted.commands = counted.commands.saturating_add(batch.commands.len());
         }
         self.queues[queue] = counted;
+    }
+
+    /// Counts the parts of a batch.
+    fn count_parts(&mut self, batch: &Batch) {
+        self.parts = self.parts.saturating_add(batch.waits.len());
+        self.parts = self.parts.saturating_add(batch.signals.len());
+        for command in batch.commands.as_slice() {
+            self.parts = self.parts.saturating_add(parts_of(command));
+        }
+    }
+}
+
+/// How many regions, ranges or elements a command has.
+fn parts_of(command: &Cmd) -> usize {
+    match command {
+        Cmd::Copy { regions, .. } => regions.len(),
+        Cmd::CopyIn { regions, .. } | Cmd::CopyOut { regions, .. } => regions.len(),
+        Cmd::CopyImage { regions, .. } => regions.len(),
+        Cmd::Clear { ranges, .. } => ranges.len(),
+        Cmd::Barrier { elements } => elements.len(),
+        Cmd::Set { elements, .. } | Cmd::Await { elements, .. } => elements.len(),
+        Cmd::Fill { .. } | Cmd::Update { .. } => 0,
     }
 }
