@@ -93,8 +93,27 @@ whole_transitions() {
     }'
 }
 
+# N regions of a copy to a buffer, each a column of 16 texels, whose rows interleave there.
+columns() {
+    awk -v n="$1" -v to_host="$to_host" 'BEGIN {
+        both = "4294967295,4294967295"
+        printf "[[\"buffer\",1,%d,3,\"exclusive\",[\"dedicated\",1]],", 64 * n
+        printf "[\"image\",2,\"R32_UINT\",4096,16,1,1,\"optimal\",3,\"exclusive\",[\"dedicated\",0]],"
+        printf "[\"semaphore\",3,0],[\"submit\",0,[[[],[[\"barrier\",[],[],[[0,0,4096,4096,%s,2,0,7,[0,1,0,1]]]],", both
+        printf "[\"clear\",2,7,[67305985,0,0,0],[[0,1,0,1]]],"
+        printf "[\"barrier\",[],[],[[4096,4096,4096,2048,%s,2,7,6,[0,1,0,1]]]],", both
+        printf "[\"copy_out\",2,6,1,["
+        for (i = 0; i < n; i++) printf "%s[%d,%d,0,0,0,1,%d,0,1,16]", (i ? "," : ""), 4 * i, n, i % 4096
+        printf "]],%s],[[3,1,65536]]]]],[\"wait\",[[3,1]]],[\"map\",1],[\"read\",1,0,4]]\n", to_host
+    }'
+}
+
 whole_answer() {
     answers 6 16843009
+}
+
+columns_answer() {
+    answers 6 67305985
 }
 
 copies_answer() {
@@ -115,5 +134,8 @@ for n in 25000 50000; do
 done
 for n in 5000 10000; do
     row "whole_transitions_$n" 0 whole_answer whole_transitions "$n"
+done
+for n in 4000 8000; do
+    row "columns_of_a_copy_$n" 0 columns_answer columns "$n"
 done
 finish

@@ -3,3 +3,4 @@ mod Sides
 pub mod ListPairs
 mod Places
 mod Hulls
+mod RowParts

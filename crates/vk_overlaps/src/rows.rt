@@ -1,19 +1,22 @@
-ghost use Rattle.std.specs.Prelude.{◌≡◌, ◌<◌, ◌-◌, ◌+◌, ◌*◌, ◌^◌, IfOk, IfSome, map, false};
-ghost use Rattle.std.specs.List.{list_any};
+ghost use Rattle.std.specs.Prelude.{◌≡◌, ◌<◌, ◌-◌, ◌+◌, ◌*◌, ◌^◌, ◌++◌, IfOk, IfSome, map, true, false};
+ghost use Rattle.std.specs.List.{list_any, filter, flat_map};
 ghost use Rattle.vk_model.specs.Trace.Image.{texel};
 ghost use Rattle.vk_model.specs.Basics.{some_pair};
 ghost use Rattle.vk_model.specs.Memory.Suballocation as ranges_of;
 ghost use Rattle.vk_model.specs.World.Areas as areas;
 ghost use Rattle.vk_model.specs.World.ByteWrites as bytes;
 ghost use Rattle.vk_overlaps.specs.Inner.Places as places;
-ghost use Rattle.vk_overlaps.specs.Inner.Rows.{row_meets_some};
+ghost use Rattle.vk_overlaps.specs.Inner.Rows.{row_meets_some, rows_have};
 
-use crate::extents::Extent;
-use crate::overlaps::overlap;
+use crate::extents::{Extent, Span};
+use crate::overlaps::{overlap, overlapping};
 use crate::regions::bytes_at;
 use std::alloc::{AllocError, Global};
 use vk_image_tiles::texel_size;
 use vk_model::{BufferImageCopy, Format};
+
+/// So many rows, at most, are looked at as parts.
+const MOST_ROWS: usize = 4_194_304;
 
 /// Where the last texel of a region ends in the buffer.
 pub fn last_byte(region: &BufferImageCopy, format: Format) -> u128
@@ -62,8 +65,10 @@ fn layer_rows(region: &BufferImageCopy) -> u32
 }
 
 /// Whether the rows of two regions have a byte of the buffer in common. The gaps between rows belong to
-/// none. Only where the bytes from the first to the last of regions overlap are rows compared. The only
-/// error is want of memory.
+/// none. Where regions overlap by the bytes from the first to the last of each, the rows of all are looked
+/// at as parts; where these overlap, the regions near the place are compared, and then each with each, as
+/// the rows of one region may overlap. Those of more than `MOST_ROWS` rows are compared each with each.
+/// The only error is want of memory.
 pub fn rows_overlap(
     alloc: Global,
     regions: &[BufferImageCopy],
@@ -71,11 +76,98 @@ pub fn rows_overlap(
 ) -> Result<bool, AllocError>
     ensures { IfOk result (λ found. found ≡ some_pair (λ g h. areas.rows_meet (texel format) g (texel format) h) regions.now) }
 {
-    if may_meet(alloc, regions, format)? {
-        Ok(some_rows_meet(regions, format))
-    } else {
-        Ok(false)
+    if !may_meet(alloc, regions, format)? {
+        return Ok(false);
     }
+    match rows_of(alloc, regions, format)? {
+        Some(rows) => overlap_among(alloc, regions, format, rows.as_slice()),
+        None => Ok(some_rows_meet(regions, format)),
+    }
+}
+
+/// The same, where these are the rows of the regions.
+fn overlap_among(
+    alloc: Global,
+    regions: &[BufferImageCopy],
+    format: Format,
+    rows: &[Extent],
+) -> Result<bool, AllocError>
+    requires { rows.now ≡ flat_map (places.rows_at (texel format)) regions.now }
+    ensures { IfOk result (λ found. found ≡ some_pair (λ g h. areas.rows_meet (texel format) g (texel format) h) regions.now) }
+{
+    match overlapping(alloc, rows, &[])? {
+        None => Ok(false),
+        Some(row) => {
+            let near = near_meet(alloc, regions, format, row.columns)?;
+            Ok(near || some_rows_meet(regions, format))
+        }
+    }
+}
+
+/// Whether two regions that have some bytes in their rows have rows that meet.
+fn near_meet(
+    alloc: Global,
+    regions: &[BufferImageCopy],
+    format: Format,
+    bytes: Span,
+) -> Result<bool, AllocError>
+    ensures { IfOk result (λ found. found ≡ true → some_pair (λ g h. areas.rows_meet (texel format) g (texel format) h) regions.now ≡ true) }
+{
+    let near = regions_near(alloc, regions, format, bytes)?;
+    Ok(some_rows_meet(near.as_slice(), format))
+}
+
+/// The regions that have some bytes in their rows.
+fn regions_near(
+    alloc: Global,
+    regions: &[BufferImageCopy],
+    format: Format,
+    bytes: Span,
+) -> Result<Vec<BufferImageCopy>, AllocError>
+    ensures { IfOk result (λ near. near.items ≡ filter (rows_have (texel format) bytes.start bytes.size) regions.now) }
+{
+    let mut near = Vec::from_slice(alloc, regions)?;
+    near.retain(|region| has_bytes(region, format, u128::from(bytes.start), bytes.size));
+    Ok(near)
+}
+
+/// The rows of regions, region by region, unless one lies past what a `u64` tells or there are more than
+/// `MOST_ROWS`.
+fn rows_of(
+    alloc: Global,
+    regions: &[BufferImageCopy],
+    format: Format,
+) -> Result<Option<Vec<Extent>>, AllocError>
+    ensures { IfOk result (λ found. IfSome found (λ rows. rows.items ≡ flat_map (places.rows_at (texel format)) regions.now)) }
+{
+    let mut rows = Vec::new(alloc);
+    for region in regions {
+        if !push_rows(&mut rows, region, format)? {
+            return Ok(None);
+        }
+    }
+    Ok(Some(rows))
+}
+
+/// Adds the rows of a region, and answers whether all could be added.
+fn push_rows(
+    rows: &mut Vec<Extent>,
+    region: &BufferImageCopy,
+    format: Format,
+) -> Result<bool, AllocError>
+    ensures { IfOk result (λ whole. whole ≡ true → rows.new.items ≡ rows.old.items ++ places.rows_at (texel format) region.now) }
+{
+    let size = row_size(region, format);
+    for row in 0..row_count(region) {
+        if rows.len() >= MOST_ROWS {
+            return Ok(false);
+        }
+        match u64::try_from(row_start(region, format, row)) {
+            Ok(start) => rows.push(bytes_at(start, size))?,
+            Err(_) => return Ok(false),
+        }
+    }
+    Ok(true)
 }
 
 /// Whether regions may overlap, by the bytes from the first to the last of each.
@@ -158,13 +250,25 @@ fn row_meets(one: &BufferImageCopy, row: u64, other: &BufferImageCopy, format: F
     requires { row < areas.row_count one.now }
     ensures { result ≡ row_meets_some (texel format) one.now row other.now }
 {
-    let start = row_start(one, format, row);
-    for other_row in 0..row_count(other) {
+    has_bytes(
+        other,
+        format,
+        row_start(one, format, row),
+        row_size(one, format),
+    )
+}
+
+/// Whether a row of a region has one of some bytes.
+fn has_bytes(region: &BufferImageCopy, format: Format, start: u128, size: u64) -> bool
+    requires { start < 2 ^ 102 }
+    ensures { result ≡ rows_have (texel format) start size region.now }
+{
+    for row in 0..row_count(region) {
         if bytes_meet(
             start,
-            row_size(one, format),
-            row_start(other, format, other_row),
-            row_size(other, format),
+            size,
+            row_start(region, format, row),
+            row_size(region, format),
         ) {
             return true;
         }

@@ -1,5 +1,5 @@
 -- Where regions and ranges lie along the axes.
-use Rattle.std.specs.Prelude.{ℕ, ◌-◌, ◌||◌, ◌==◌, Option, Some, None, if◌then◌else◌}
+use Rattle.std.specs.Prelude.{ℕ, ◌-◌, ◌*◌, ◌||◌, ◌==◌, List, map, Option, Some, None, if◌then◌else◌}
 use Rattle.vk_model.specs.declared.command.BufferCopy.{BufferCopy}
 use Rattle.vk_model.specs.declared.command.BufferImageCopy.{BufferImageCopy}
 use Rattle.vk_model.specs.declared.command.ImageCopy.{ImageCopy}
@@ -7,7 +7,8 @@ use Rattle.vk_model.specs.declared.command.SubresourceRange.{SubresourceRange}
 use Rattle.vk_model.specs.declared.command.Element.{Element}
 use Rattle.vk_model.specs.declared.command.Element.TheVariants as element
 use Rattle.vk_model.specs.World.Ownership.{is_transition}
-use Rattle.vk_model.specs.World.Areas.{Box, region_box, source_box, destination_box}
+use Rattle.vk_model.specs.Basics.{below}
+use Rattle.vk_model.specs.World.Areas.{Box, region_box, source_box, destination_box, row_count, row_start}
 use Rattle.vk_model.specs.World.ByteWrites.{buffer_texel}
 use Rattle.vk_overlaps.specs.declared.extents.Span.{Span}
 use Rattle.vk_overlaps.specs.declared.extents.Extent.{Extent}
@@ -55,3 +56,10 @@ end_of t g = buffer_texel g t (g.layers - 1) (g.height - 1) (g.width - 1) t
 -- The bytes from the first to the last of a region; none where it has no texel.
 abbrev pub hull : ℕ → BufferImageCopy → Extent
 hull t g = bytes_at g.buffer_offset (if g.layers == 0 || g.height == 0 || g.width == 0 then 0 else end_of t g - g.buffer_offset)
+
+-- Row r of a region in the buffer, with texels of t bytes, and all rows of it.
+abbrev pub row_at : ℕ → BufferImageCopy → ℕ → Extent
+row_at t g r = bytes_at (row_start t g r) (g.width * t)
+
+abbrev pub rows_at : ℕ → BufferImageCopy → List Extent
+rows_at t g = map (row_at t g) (below (row_count g))
