@@ -1,17 +1,54 @@
 use crate::areas::{Area, TexelBox};
 use std::alloc::{AllocError, Global};
 use vk_model::{BufferImageCopy, Format};
-use vk_overlaps::{Extent, Span, last_byte, overlapping};
+use vk_overlaps::{Extent, Span, last_byte, overlapping, row_count, row_size, row_start};
+
+/// So many rows, at most, are looked at as parts.
+const MOST_ROWS: usize = 4_194_304;
 
 /// The number of a written area that is likely to meet another one. Nothing is promised of it: it only
 /// says where to look first.
 pub fn likely(alloc: Global, written: &[Area], read: &[Area]) -> Result<Option<usize>, AllocError> {
+    if let Some(number) = likely_rows(alloc, written)? {
+        return Ok(Some(number));
+    }
     let ones = extents_of(alloc, written)?;
     let others = extents_of(alloc, read)?;
     match overlapping(alloc, ones.as_slice(), others.as_slice())? {
         Some(extent) => Ok(ones.iter().position(|one| *one == extent)),
         None => Ok(None),
     }
+}
+
+/// The number of an area, where all are rows, of which one overlaps a later one.
+fn likely_rows(alloc: Global, areas: &[Area]) -> Result<Option<usize>, AllocError> {
+    let mut rows = Vec::new(alloc);
+    let mut owners = Vec::new(alloc);
+    for (number, area) in areas.iter().enumerate() {
+        let Area::Rows {
+            buffer,
+            format,
+            region,
+        } = area
+        else {
+            return Ok(None);
+        };
+        for row in 0..row_count(region) {
+            let start = u64::try_from(row_start(region, *format, row));
+            let (Ok(start), true) = (start, rows.len() < MOST_ROWS) else {
+                return Ok(None);
+            };
+            rows.push(extent_of_bytes(*buffer, start, row_size(region, *format)))?;
+            owners.push(number)?;
+        }
+    }
+    let Some(extent) = overlapping(alloc, rows.as_slice(), &[])? else {
+        return Ok(None);
+    };
+    let Some(place) = rows.iter().position(|row| *row == extent) else {
+        return Ok(None);
+    };
+    Ok(owners.get(place).copied())
 }
 
 fn extents_of(alloc: Global, areas: &[Area]) -> Result<Vec<Extent>, AllocError> {
