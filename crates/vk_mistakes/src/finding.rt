@@ -1,6 +1,11 @@
 use crate::entries::trace;
 use serde_json::Value;
 use std::alloc::{AllocError, Global};
+use vk_json::count_objects;
+
+/// The most objects of an input whose value is built: each takes up to a thousand bytes there, and no
+/// trace has one.
+const MOST_OBJECTS: u64 = 65_536;
 
 /// Where something begins in an input that is no trace.
 #[derive(Drop)]
@@ -44,6 +49,13 @@ pub fn mistake_of(alloc: Global, input: &[u8]) -> Result<Option<Mistake>, AllocE
             found: "other bytes",
         }));
     };
+    if let Some(place) = first_of_many(alloc, text)? {
+        return Ok(Some(Mistake {
+            place: MistakePlace::Byte(place),
+            expected: "an array, a string or a number",
+            found: "an object",
+        }));
+    }
     match Value::from_str(alloc, text) {
         Ok(value) => mistake_in(alloc, &value),
         Err(error) if error.is_memory() => Err(AllocError),
@@ -74,6 +86,17 @@ fn mistake_in(alloc: Global, value: &Value) -> Result<Option<Mistake>, AllocErro
         expected: misfit.expected,
         found: misfit.found,
     }))
+}
+
+/// The byte at which the first object of a text begins, where it has too many.
+fn first_of_many(alloc: Global, text: &str) -> Result<Option<usize>, AllocError> {
+    if !text.as_bytes().contains(&b'{') {
+        return Ok(None);
+    }
+    match count_objects(alloc, text)? {
+        Some(objects) if objects.count > MOST_OBJECTS => Ok(Some(objects.first)),
+        _ => Ok(None),
+    }
 }
 
 /// How many bytes at the start of an input are UTF-8.

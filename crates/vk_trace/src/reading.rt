@@ -12,10 +12,14 @@ use crate::members::{Member, Reading};
 use serde_json::Value;
 use std::alloc::Global;
 use vk_history::is_supported;
+use vk_json::begins_object;
 use vk_model::{Entry, Sequence};
 use vk_order::{Action, Point};
 
 /// The entries that the bytes of a trace mean. `NotTrace` comes only where they mean none.
+///
+/// Objects, which no trace has, are looked for before a value is built of the text: a value takes up to
+/// a thousand bytes for each.
 pub fn read_trace(alloc: Global, bytes: &[u8]) -> Result<Vec<Entry>, ReadTraceError>
     ensures ok { IfOk result (λ v. IsTrace bytes.now v.items) }
     ensures none { result ≡ Err ReadTraceError.NotTrace → (t : List Entry) → IsTrace bytes.now t → ⊥ }
@@ -23,6 +27,9 @@ pub fn read_trace(alloc: Global, bytes: &[u8]) -> Result<Vec<Entry>, ReadTraceEr
     let Ok(text) = str::from_utf8(bytes) else {
         return Err(ReadTraceError::NotTrace);
     };
+    if text.as_bytes().contains(&b'{') && begins_object(alloc, text)? {
+        return Err(ReadTraceError::NotTrace);
+    }
     let value = value_of(alloc, text)?;
     let entries: Sequence<Entry> = Sequence::member(alloc, &value)?;
     let entries = entries.into_vec();
