@@ -10,7 +10,7 @@ use std::alloc::AllocError;
 use vk_image_bytes::ByteRanges;
 use vk_model::Length;
 use vk_ranges::RangeMap;
-use vk_touches::{LastTouches, Part, Spot, Touch, touch, touch_transition};
+use vk_touches::{Part, Spot, Touch, TouchMap, touch, touch_transition};
 
 /// Gives the bytes of a range a value.
 pub fn assign(
@@ -53,7 +53,7 @@ pub fn assign_all(
 
 /// Remembers that the node of a spot has touched the bytes of ranges of an image.
 pub fn touch_all(
-    touches: &mut RangeMap<LastTouches>,
+    touches: &mut TouchMap,
     ranges: &ByteRanges,
     way: Touch,
     spot: Spot,
@@ -71,7 +71,7 @@ pub fn touch_all(
 /// Remembers that the layout transition of a spot has read and written the bytes of ranges of an
 /// image.
 pub fn touch_by_transition(
-    touches: &mut RangeMap<LastTouches>,
+    touches: &mut TouchMap,
     ranges: &ByteRanges,
     spot: Spot,
 ) -> Result<(), AllocError>
@@ -87,7 +87,7 @@ pub fn touch_by_transition(
 
 /// The same of a range.
 fn touch_range_by_transition(
-    touches: &mut RangeMap<LastTouches>,
+    touches: &mut TouchMap,
     offset: u64,
     size: u64,
     spot: Spot,

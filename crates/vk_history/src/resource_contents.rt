@@ -11,7 +11,7 @@ use std::alloc::{AllocError, Global};
 use vk_image_bytes::ImageBytes;
 use vk_model::{BufferCopy, BufferInfo, ImageInfo, Length, Sharing};
 use vk_ranges::RangeMap;
-use vk_touches::{LastTouches, Spot, Touch, touch, touch_destinations, touch_sources};
+use vk_touches::{Spot, Touch, TouchMap, touch, touch_destinations, touch_sources};
 
 /// What is known of the bytes of a buffer or an image.
 #[derive(Drop)]
@@ -23,7 +23,7 @@ pub struct ResourceContents {
     /// Whether the host has written each byte to its cache, and not flushed it.
     pub dirty: RangeMap<bool>,
     /// Who touched each byte last.
-    pub touches: RangeMap<LastTouches>,
+    pub touches: TouchMap,
     /// Whether the host reaches it through a cache.
     pub is_cached: bool,
     /// Whether one queue family at a time owns it.
@@ -72,7 +72,7 @@ impl ResourceContents {
             image,
             defined: RangeMap::new(alloc, size, false)?,
             dirty: RangeMap::new(alloc, size, false)?,
-            touches: RangeMap::new(alloc, size, LastTouches::none())?,
+            touches: TouchMap::new(alloc, size)?,
             is_cached,
             is_exclusive: matches!(sharing, Sharing::Exclusive),
             owner: None,

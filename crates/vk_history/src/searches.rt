@@ -4,7 +4,7 @@ ghost use Rattle.vk_touches.specs.Conflicts.{Misses, MissesAt, MissesRead, Misse
 
 use crate::resource_contents::ResourceContents;
 use vk_order::Sight;
-use vk_touches::{Part, ResourceAccess, TransitionAccess, has_early_read, is_early};
+use vk_touches::{Part, ResourceAccess, TransitionAccess};
 
 impl ResourceContents {
     /// Whether a byte of a range has a last write, by a command or the host, or a last layout
@@ -51,9 +51,7 @@ impl ResourceContents {
         ensures { offset + size ≤ length self.now.touches → FoundIn (IsEarly sight.now) result self.now.touches offset (offset + size) }
     {
         let part = Part::of(offset, 0, size, self.touches.len());
-        self.touches
-            .find(part.low, part.high, |last| is_early(last, sight))
-            .is_some()
+        self.touches.has_early(part.low, part.high, sight)
     }
 
     /// Whether one has a last read by a command of some queue that doesn't come before an entry of
@@ -62,13 +60,7 @@ impl ResourceContents {
         ensures { offset + size ≤ length self.now.touches → FoundIn (HasEarlyCommand sight.now) result self.now.touches offset (offset + size) }
     {
         let part = Part::of(offset, 0, size, self.touches.len());
-        self.touches
-            .find(
-                part.low,
-                part.high,
-                |last| has_early_read(&last.reads, sight),
-            )
-            .is_some()
+        self.touches.has_early_command(part.low, part.high, sight)
     }
 
     /// Whether a byte of a range is undefined.

@@ -1,5 +1,5 @@
 -- Changes of a part of a list of values.
-use Rattle.std.proofs.Common.{◌≡◌, ◌<◌, ◌≤◌, ◌+◌, min, ℕ, List, length, slice_get, Bool, true, false, refl, ap, ◌∙◌, arith, Option, Some, None, ⊎_elim, sym, ◌&&◌}
+use Rattle.std.proofs.Common.{◌≡◌, ◌<◌, ◌≤◌, ◌+◌, min, ℕ, List, length, slice_get, Bool, true, false, refl, ap, subst, ◌∙◌, arith, Option, Some, None, ⊎_elim, sym, ◌&&◌}
 use Rattle.std.specs.Prelude.{Result, Ok, Err, OnOk, IfOk, if◌then◌else◌, nat_le, nat_lt}
 use Rattle.std.specs.Option.{option_map, IsSomeAnd}
 use Rattle.std.proofs.lemmas.Bool.{cases_lt, lt-ltb, le-leb, lt-leb, le-ltb}
@@ -35,6 +35,15 @@ module _ {A : Type 0} (f : A → A) (gives : A → A → Type 0) (only : (a b : 
       hit None v h = absurd h
       hit (Some a) None h = absurd h
       hit (Some a) (Some b) h = ap Some (only a b h)
+
+-- one value for the part of a range that lies in a list
+pub assigned_within : {A : Type 0} (v : A) (old new : List A) (o n low high : ℕ) → high ≡ min (o + n) (length old) → low ≡ min (o + 0) high → ((i : ℕ) → low ≤ i → i < high → slice_get new i ≡ Some v)
+    → ((i : ℕ) → i < low → slice_get new i ≡ slice_get old i) → ((i : ℕ) → high ≤ i → slice_get new i ≡ slice_get old i) → (k : ℕ) → slice_get new k ≡ option_map (λ a. if within o n k then v else a) (slice_get old k)
+assigned_within {A} v old new o n low high high_is low_is inside before after = changed_within (λ a. v) (λ a b. b ≡ v) (λ a b is. is) old new o n low high high_is low_is given before after where
+  given : (i : ℕ) → low ≤ i → i < high → IsSomeAnd (slice_get old i) (λ a. IsSomeAnd (slice_get new i) (λ b. b ≡ v))
+  given i ge lt =
+      subst (λ (u : Option A). IsSomeAnd u (λ a. IsSomeAnd (slice_get new i) (λ b. b ≡ v))) (sym (slice_get-get_or old i v (omega (arith, high_is, lt))))
+      (subst (λ (u : Option A). IsSomeAnd u (λ b. b ≡ v)) (sym (inside i ge lt)) refl)
 
 -- ---- where a test holds of the indices of a part
 

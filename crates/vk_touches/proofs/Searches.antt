@@ -86,3 +86,13 @@ module _ {T : Type 0} (is : ℕ → Bool → T → Type 0) (values : List T) (lo
 
   pub search_end : IsSearched [] → FoundAt is false values low high
   search_end so_far = λ k from to. let end : so_far.cursor ≡ high = so_far.runs in so_far.none k from (omega arith)
+
+  pub search_start : (runs : List (Piece T)) → AreRunsOf values low high runs → IsSearched runs
+  search_start runs are = record { cursor = low; above = omega arith; runs = are; none = λ k from to. absurd (omega (arith, from, to)) }
+
+  -- the run that comes next lies in the part
+  pub search_within : (piece : Piece T) (rest : List (Piece T)) → IsSearched (piece ∷ rest) → (piece.start ≤ piece.end) × (piece.end ≤ high)
+  search_within piece rest so_far =
+      let start : piece.start ≡ so_far.cursor = so_far.runs.0 in
+      let some = so_far.runs.1 in
+      (omega (arith, start, some), so_far.runs.2)

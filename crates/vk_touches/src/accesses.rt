@@ -1,11 +1,13 @@
 ghost use Rattle.std.specs.Prelude.{◌<◌, ◌≤◌, ℕ, length, not};
 ghost use Rattle.vk_touches.specs.Bytes.{HaveNumbers};
 ghost use Rattle.vk_touches.specs.Conflicts.{FoundAt, IsRefused, Misses, MissesFlush, MissesHostWrite, MissesRead, MissesWrite, SaysSeen, SeesWrite, SomeBetween};
+ghost use Rattle.vk_touches.specs.TouchMaps.{without_host_read};
 
 use crate::bytes::Bytes;
-use crate::touches::{LastTouches, Spot};
+use crate::map::TouchMap;
+use crate::others::OtherTouches;
+use crate::touches::Spot;
 use vk_order::{Access, Frontier, SeenUntil, Sight};
-use vk_ranges::RangeMap;
 
 /// How the node of a point that comes next accesses a resource, and what it sees.
 #[derive(Clone, Copy)]
@@ -23,19 +25,13 @@ pub struct ResourceAccess<'a> {
 impl ResourceAccess<'_> {
     /// Whether of some byte of a range the last write by a command or by the host, or the last
     /// transition, isn't seen.
-    pub fn misses_some(
-        &self,
-        touches: &RangeMap<LastTouches>,
-        low: u64,
-        high: u64,
-        is_cached: bool,
-    ) -> bool
+    pub fn misses_some(&self, touches: &TouchMap, low: u64, high: u64, is_cached: bool) -> bool
         requires order { low ≤ high }
         requires within { high ≤ length touches.now }
         requires numbers { HaveNumbers self.now.bytes high }
         ensures { FoundAt (Misses is_cached self.now) result touches.now low high }
     {
-        for run in touches.overlapping(low, high) {
+        for run in touches.others.overlapping(low, high) {
             if self.misses(run.start, run.end, run.value, is_cached) {
                 return true;
             }
@@ -44,13 +40,13 @@ impl ResourceAccess<'_> {
     }
 
     /// The same of the last writes by commands alone.
-    pub fn misses_some_write(&self, touches: &RangeMap<LastTouches>, low: u64, high: u64) -> bool
+    pub fn misses_some_write(&self, touches: &TouchMap, low: u64, high: u64) -> bool
         requires order { low ≤ high }
         requires within { high ≤ length touches.now }
         requires numbers { HaveNumbers self.now.bytes high }
         ensures { FoundAt (MissesWrite self.now) result touches.now low high }
     {
-        for run in touches.overlapping(low, high) {
+        for run in touches.others.overlapping(low, high) {
             if self.misses_write(run.start, run.end, run.value.write) {
                 return true;
             }
@@ -59,19 +55,13 @@ impl ResourceAccess<'_> {
     }
 
     /// The same where the host reads.
-    pub fn misses_some_read(
-        &self,
-        touches: &RangeMap<LastTouches>,
-        low: u64,
-        high: u64,
-        is_cached: bool,
-    ) -> bool
+    pub fn misses_some_read(&self, touches: &TouchMap, low: u64, high: u64, is_cached: bool) -> bool
         requires order { low ≤ high }
         requires within { high ≤ length touches.now }
         requires numbers { HaveNumbers self.now.bytes high }
         ensures { FoundAt (MissesRead is_cached self.now) result touches.now low high }
     {
-        for run in touches.overlapping(low, high) {
+        for run in touches.others.overlapping(low, high) {
             if self.misses_read(run.start, run.end, run.value, is_cached) {
                 return true;
             }
@@ -81,9 +71,9 @@ impl ResourceAccess<'_> {
 
     /// Whether of some byte from `low` on and below `high` the last write by a command or by the
     /// host or the last transition, which are the same for all of them, isn't seen.
-    fn misses(&self, low: u64, high: u64, last: &LastTouches, is_cached: bool) -> bool
+    fn misses(&self, low: u64, high: u64, last: &OtherTouches, is_cached: bool) -> bool
         requires { HaveNumbers self.now.bytes high }
-        ensures { SomeBetween (λ k r. Misses is_cached self.now k r last.now) result low high }
+        ensures { SomeBetween (λ k r. Misses is_cached self.now k r (without_host_read last.now)) result low high }
     {
         self.misses_write(low, high, last.write)
             || self.misses_host_write(low, high, last, is_cached)
@@ -91,9 +81,9 @@ impl ResourceAccess<'_> {
     }
 
     /// The same of the last write by the host.
-    fn misses_host_write(&self, low: u64, high: u64, last: &LastTouches, is_cached: bool) -> bool
+    fn misses_host_write(&self, low: u64, high: u64, last: &OtherTouches, is_cached: bool) -> bool
         requires { HaveNumbers self.now.bytes high }
-        ensures { SomeBetween (λ k r. MissesHostWrite is_cached self.now k r last.now) result low high }
+        ensures { SomeBetween (λ k r. MissesHostWrite is_cached self.now k r (without_host_read last.now)) result low high }
     {
         if is_cached {
             self.misses_flush(low, high, last)
@@ -103,9 +93,9 @@ impl ResourceAccess<'_> {
     }
 
     /// The same of the last write by the host to cached memory.
-    fn misses_flush(&self, low: u64, high: u64, last: &LastTouches) -> bool
+    fn misses_flush(&self, low: u64, high: u64, last: &OtherTouches) -> bool
         requires { HaveNumbers self.now.bytes high }
-        ensures { SomeBetween (λ k r. MissesFlush self.now k r last.now) result low high }
+        ensures { SomeBetween (λ k r. MissesFlush self.now k r (without_host_read last.now)) result low high }
     {
         if last.host_write.is_none() {
             return false;
@@ -117,9 +107,9 @@ impl ResourceAccess<'_> {
     }
 
     /// Whether of some byte the last write by a command isn't read by the host.
-    fn misses_read(&self, low: u64, high: u64, last: &LastTouches, is_cached: bool) -> bool
+    fn misses_read(&self, low: u64, high: u64, last: &OtherTouches, is_cached: bool) -> bool
         requires { HaveNumbers self.now.bytes high }
-        ensures { SomeBetween (λ k r. MissesRead is_cached self.now k r last.now) result low high }
+        ensures { SomeBetween (λ k r. MissesRead is_cached self.now k r (without_host_read last.now)) result low high }
     {
         if is_cached {
             low < high && last.write.is_some() && !last.is_invalidated
@@ -130,12 +120,12 @@ impl ResourceAccess<'_> {
 
     /// Whether the last write by a command is there and is seen, and up to where, and at most to
     /// `high`, this is so.
-    pub fn sees_until(&self, low: u64, high: u64, last: &LastTouches) -> SeenUntil
+    pub(crate) fn sees_until(&self, low: u64, high: u64, last: &OtherTouches) -> SeenUntil
         requires order { low < high }
         requires numbers { HaveNumbers self.now.bytes high }
         ensures further { low < result.end }
         ensures within { result.end ≤ high }
-        ensures seen { (k : ℕ) → low ≤ k → k < result.end → SeesWrite self.now k result.is_seen last.now }
+        ensures seen { (k : ℕ) → low ≤ k → k < result.end → SeesWrite self.now k result.is_seen (without_host_read last.now) }
     {
         match last.write {
             Some(write) => self.sees_write_until(low, high, write),

@@ -7,8 +7,9 @@ ghost use Rattle.vk_touches.specs.Conflicts.{SeesWrite};
 ghost use Rattle.vk_touches.specs.TouchedRanges.{AreInvalidated, invalidating, sees_at};
 
 use crate::accesses::ResourceAccess;
+use crate::map::TouchMap;
+use crate::others::OtherTouches;
 use crate::parts::Part;
-use crate::touches::LastTouches;
 use std::alloc::AllocError;
 use vk_model::Length;
 use vk_ranges::RangeMap;
@@ -16,7 +17,7 @@ use vk_ranges::RangeMap;
 /// Remembers of the bytes that an invalidation of a range reaches whether it sees their last writes
 /// by commands.
 pub fn invalidate_touches(
-    touches: &mut RangeMap<LastTouches>,
+    touches: &mut TouchMap,
     offset: u64,
     size: Length,
     by: &ResourceAccess<'_>,
@@ -37,7 +38,7 @@ pub fn invalidate_touches(
 /// The same of the next bytes in a row, from `low` on and below `high`, that are alike, and which is
 /// the byte after them.
 fn invalidate_next(
-    touches: &mut RangeMap<LastTouches>,
+    touches: &mut TouchMap,
     low: u64,
     high: u64,
     by: &ResourceAccess<'_>,
@@ -48,15 +49,17 @@ fn invalidate_next(
     ensures len { length touches.new ≡ length touches.old }
     ensures next { IfOk result (λ end. AreInvalidated (SeesWrite by.now) touches.old touches.new low end × (end ≤ high)) }
 {
-    let (last, end) = next_run(touches, low, high);
+    let (last, end) = next_run(&touches.others, low, high);
     let seen = by.sees_until(low, end, &last);
-    touches.assign(low, seen.end, last.invalidated(seen.is_seen))?;
+    touches
+        .others
+        .assign(low, seen.end, last.invalidated(seen.is_seen))?;
     Ok(seen.end)
 }
 
-/// What the bytes from `low` on and below an end, which is at most `high`, all remember, and that
-/// end.
-fn next_run(touches: &RangeMap<LastTouches>, low: u64, high: u64) -> (LastTouches, u64)
+/// What the bytes from `low` on and below an end, which is at most `high`, all remember but for the
+/// last reads by the host, and that end.
+fn next_run(touches: &RangeMap<OtherTouches>, low: u64, high: u64) -> (OtherTouches, u64)
     requires order { low < high }
     requires within { high ≤ length touches.now }
     ensures further { low < result.1 }

@@ -4,15 +4,15 @@ ghost use Rattle.vk_model.specs.Basics.{within};
 ghost use Rattle.vk_model.specs.World.Effect.{in_atoms};
 ghost use Rattle.vk_touches.specs.TouchedRanges.{touching, flushing, transitioning, is_between, reads_at, writes_at};
 
+use crate::map::TouchMap;
 use crate::parts::Part;
-use crate::touches::{LastTouches, Spot, Touch};
+use crate::touches::{Spot, Touch};
 use std::alloc::AllocError;
 use vk_model::{BufferCopy, Length};
-use vk_ranges::RangeMap;
 
 /// Remembers that the node of a spot has touched the bytes of a range.
 pub fn touch(
-    touches: &mut RangeMap<LastTouches>,
+    touches: &mut TouchMap,
     offset: u64,
     size: u64,
     way: Touch,
@@ -22,12 +22,19 @@ pub fn touch(
     ensures values { OnOk result ((k : ℕ) → slice_get touches.new k ≡ option_map (touching (within offset size) way spot k) (slice_get touches.old k)) }
 {
     let part = Part::of(offset, 0, size, touches.len());
-    touches.update(part.low, part.high, |last| Ok(last.with(way, spot)))
+    match way {
+        Touch::HostRead => touches
+            .host_reads
+            .assign(part.low, part.high, Some(spot.place)),
+        _ => touches
+            .others
+            .update(part.low, part.high, |others| Ok(others.with(way, spot))),
+    }
 }
 
 /// Remembers that the node of a spot has touched what the regions of a copy read.
 pub fn touch_sources(
-    touches: &mut RangeMap<LastTouches>,
+    touches: &mut TouchMap,
     regions: &[BufferCopy],
     way: Touch,
     spot: Spot,
@@ -43,7 +50,7 @@ pub fn touch_sources(
 
 /// Remembers that it has touched what they write.
 pub fn touch_destinations(
-    touches: &mut RangeMap<LastTouches>,
+    touches: &mut TouchMap,
     regions: &[BufferCopy],
     way: Touch,
     spot: Spot,
@@ -59,7 +66,7 @@ pub fn touch_destinations(
 
 /// Remembers that the host entry of a spot has flushed the bytes of the atoms that a range reaches.
 pub fn flush_touches(
-    touches: &mut RangeMap<LastTouches>,
+    touches: &mut TouchMap,
     offset: u64,
     size: Length,
     spot: Spot,
@@ -68,13 +75,15 @@ pub fn flush_touches(
     ensures values { OnOk result ((k : ℕ) → slice_get touches.new k ≡ option_map (flushing (in_atoms offset size) spot k) (slice_get touches.old k)) }
 {
     let part = Part::of_atoms(offset, size, touches.len());
-    touches.update(part.low, part.high, |last| Ok(last.flushed(spot)))
+    touches
+        .others
+        .update(part.low, part.high, |others| Ok(others.flushed(spot)))
 }
 
 /// Remembers that the layout transition of a spot has read and written the bytes from `low` on and
 /// below `high`.
 pub fn touch_transition(
-    touches: &mut RangeMap<LastTouches>,
+    touches: &mut TouchMap,
     low: u64,
     high: u64,
     spot: Spot,
@@ -84,5 +93,7 @@ pub fn touch_transition(
     ensures len { length touches.new ≡ length touches.old }
     ensures values { OnOk result ((k : ℕ) → slice_get touches.new k ≡ option_map (transitioning (is_between low high) spot k) (slice_get touches.old k)) }
 {
-    touches.update(low, high, |last| Ok(last.transitioned(spot)))
+    touches
+        .others
+        .update(low, high, |others| Ok(others.transitioned(spot)))
 }

@@ -51,7 +51,8 @@ pub struct QueueReads {
     pub fourth: Option<usize>,
 }
 
-/// What a byte remembers: who touched it last in each way.
+/// What a byte remembers: who touched it last in each way. Contracts see one of these for each byte
+/// of a `TouchMap`.
 #[derive(Clone, Copy)]
 pub struct LastTouches {
     /// The last command that wrote it.
@@ -72,7 +73,7 @@ pub struct LastTouches {
 
 impl QueueReads {
     /// After a read by the command of a queue that has this place.
-    fn with(self, queue: u32, place: usize) -> QueueReads
+    pub(crate) fn with(self, queue: u32, place: usize) -> QueueReads
         ensures { result ≡ remembered.with_read self queue place }
     {
         let place = Some(place);
@@ -98,84 +99,6 @@ impl QueueReads {
     }
 }
 
-impl LastTouches {
-    /// Of a byte that nobody touched.
-    pub fn none() -> LastTouches
-        ensures { result ≡ remembered.untouched }
-    {
-        LastTouches {
-            write: None,
-            is_invalidated: false,
-            host_write: None,
-            flush: None,
-            transition: None,
-            host_read: None,
-            reads: QueueReads {
-                first: None,
-                second: None,
-                third: None,
-                fourth: None,
-            },
-        }
-    }
-
-    /// After the node of a spot has touched the byte.
-    pub fn with(self, touch: Touch, spot: Spot) -> LastTouches
-        ensures { result ≡ remembered.with_touch self touch spot }
-    {
-        match touch {
-            Touch::Write => LastTouches {
-                write: Some(spot),
-                is_invalidated: false,
-                ..self
-            },
-            Touch::HostWrite => LastTouches {
-                host_write: Some(spot),
-                flush: None,
-                ..self
-            },
-            Touch::HostRead => LastTouches {
-                host_read: Some(spot.place),
-                ..self
-            },
-            Touch::Read(queue) => LastTouches {
-                reads: self.reads.with(queue, spot.place),
-                ..self
-            },
-        }
-    }
-
-    /// After the host entry of a spot has flushed the byte.
-    pub fn flushed(self, spot: Spot) -> LastTouches
-        ensures { result ≡ remembered.with_flush self spot }
-    {
-        LastTouches {
-            flush: self.flush.or(Some(spot)),
-            ..self
-        }
-    }
-
-    /// After the layout transition of a spot has read and written the byte.
-    pub fn transitioned(self, spot: Spot) -> LastTouches
-        ensures { result ≡ remembered.with_transition self spot }
-    {
-        LastTouches {
-            transition: Some(spot),
-            ..self
-        }
-    }
-
-    /// After a host entry has invalidated the byte, which sees the last write by a command or not.
-    pub fn invalidated(self, is_invalidated: bool) -> LastTouches
-        ensures { result ≡ remembered.with_invalidation self is_invalidated }
-    {
-        LastTouches {
-            is_invalidated,
-            ..self
-        }
-    }
-}
-
 impl RangeValue for Spot {
     fn duplicate(&self) -> Result<Spot, AllocError> {
         Ok(*self)
@@ -193,27 +116,5 @@ impl RangeValue for QueueReads {
 
     fn is_same(&self, other: &QueueReads) -> bool {
         *self == *other
-    }
-}
-
-impl RangeValue for LastTouches {
-    fn duplicate(&self) -> Result<LastTouches, AllocError> {
-        Ok(*self)
-    }
-
-    fn is_same(&self, other: &LastTouches) -> bool {
-        if !self.write.is_same(&other.write) {
-            return false;
-        }
-        if self.is_invalidated != other.is_invalidated {
-            return false;
-        }
-        if !self.host_write.is_same(&other.host_write) || !self.flush.is_same(&other.flush) {
-            return false;
-        }
-        if !self.transition.is_same(&other.transition) {
-            return false;
-        }
-        self.host_read.is_same(&other.host_read) && self.reads.is_same(&other.reads)
     }
 }

@@ -1,11 +1,13 @@
 ghost use Rattle.std.specs.Prelude.{◌<◌, ◌≤◌, ℕ, length, not};
 ghost use Rattle.vk_touches.specs.Bytes.{HaveNumbers};
 ghost use Rattle.vk_touches.specs.Conflicts.{FoundAt, IsRefused, MissesAt, SaysSeenAt, SomeBetween};
+ghost use Rattle.vk_touches.specs.TouchMaps.{without_host_read};
 
 use crate::bytes::Bytes;
-use crate::touches::{LastTouches, Spot};
+use crate::map::TouchMap;
+use crate::others::OtherTouches;
+use crate::touches::Spot;
 use vk_order::{Frontier, Part};
-use vk_ranges::RangeMap;
 
 /// How an element of a barrier that comes next accesses a resource as a layout transition, and what
 /// it sees.
@@ -22,13 +24,13 @@ pub struct TransitionAccess<'a> {
 impl TransitionAccess<'_> {
     /// Whether of some byte of a range the last write by a command or the last transition isn't
     /// seen.
-    pub fn misses_some(&self, touches: &RangeMap<LastTouches>, low: u64, high: u64) -> bool
+    pub fn misses_some(&self, touches: &TouchMap, low: u64, high: u64) -> bool
         requires order { low ≤ high }
         requires within { high ≤ length touches.now }
         requires numbers { HaveNumbers self.now.bytes high }
         ensures { FoundAt (MissesAt self.now) result touches.now low high }
     {
-        for run in touches.overlapping(low, high) {
+        for run in touches.others.overlapping(low, high) {
             if self.misses(run.start, run.end, run.value) {
                 return true;
             }
@@ -38,9 +40,9 @@ impl TransitionAccess<'_> {
 
     /// Whether of some byte from `low` on and below `high` the last write by a command or the last
     /// transition, which are the same for all of them, isn't seen.
-    fn misses(&self, low: u64, high: u64, last: &LastTouches) -> bool
+    fn misses(&self, low: u64, high: u64, last: &OtherTouches) -> bool
         requires { HaveNumbers self.now.bytes high }
-        ensures { SomeBetween (λ k r. MissesAt self.now k r last.now) result low high }
+        ensures { SomeBetween (λ k r. MissesAt self.now k r (without_host_read last.now)) result low high }
     {
         self.misses_write(low, high, last.write) || self.misses_write(low, high, last.transition)
     }

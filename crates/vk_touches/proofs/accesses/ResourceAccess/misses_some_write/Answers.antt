@@ -1,20 +1,23 @@
-use Rattle.std.proofs.Common.{◌∷◌, List, Bool, subst}
-use Rattle.vk_ranges.specs.Overlaps.{Piece, piece_of, pieces_left}
-use Rattle.vk_touches.specs.Conflicts.{MissesWrite, SomeBetween}
-use Rattle.vk_touches.specs.declared.touches.LastTouches.{LastTouches}
-use Rattle.vk_touches.proofs.Searches.{IsSearched, search_next, search_found}
+use Rattle.std.proofs.Common.{arith}
+use Rattle.vk_touches.specs.Conflicts.{MissesWrite}
+use Rattle.vk_touches.proofs.ByteUnits.{fewer_numbers}
+use Rattle.vk_touches.proofs.TouchMaps.{others_len, others_start, others_within, others_next, others_found, others_end}
 use Rattle.vk_touches.proofs.accesses.ResourceAccess.misses_some_write.Goals as goal
 
+pub overlapping-run-items-requires-clause-within : goal.overlapping-run-items-requires-clause-within
+overlapping-run-items-requires-clause-within c = omega (arith, others_len c.touches.inside.others c.touches.inside.host_reads c.args.touches.now c.touches.invariant c.touches.view_is)
+
+pub loop-run-init : goal.loop-run-init
+loop-run-init c = others_start (MissesWrite c.args.self.now) c.args.touches.now c.args.low c.args.high c.touches.inside.others c.touches.inside.host_reads c.touches.invariant c.touches.view_is _ (rw c.into_iter-run-iterator.ensures.into_iter_gives c.overlapping-run-items.ensures)
+
+pub misses_write-requires : goal.misses_write-requires
+misses_write-requires c = fewer_numbers c.args.self.now.bytes _ c.args.high (others_within (MissesWrite c.args.self.now) c.args.touches.now c.args.low c.args.high _ c.loop-run.invariant _ _ c.in-Some.ensures.steps) c.requires.numbers
+
 pub loop-run-preserved : goal.loop-run-preserved
-loop-run-preserved c =
-    let so_far : IsSearched (MissesWrite c.args.self.now) c.args.touches.now c.args.low c.args.high (piece_of c.in-Some.run' ∷ pieces_left c.next.new.self) =
-    subst (λ (xs : List (Piece LastTouches)). IsSearched (MissesWrite c.args.self.now) c.args.touches.now c.args.low c.args.high xs) c.in-Some.ensures.steps c.loop-run.invariant in
-    search_next (MissesWrite c.args.self.now) c.args.touches.now c.args.low c.args.high (piece_of c.in-Some.run') (pieces_left c.next.new.self) so_far
-    (subst (λ (t : Bool). SomeBetween (λ k r. MissesWrite c.args.self.now k r (piece_of c.in-Some.run').value) t c.in-Some.run'.start c.in-Some.run'.end) c.if-misses_write.false c.misses_write.ensures)
+loop-run-preserved c = others_next (MissesWrite c.args.self.now) c.args.touches.now c.args.low c.args.high _ c.loop-run.invariant _ _ c.in-Some.ensures.steps _ c.misses_write.ensures c.if-misses_write.false
 
 pub returns-then-misses_write : goal.returns-then-misses_write
-returns-then-misses_write c =
-    let so_far : IsSearched (MissesWrite c.args.self.now) c.args.touches.now c.args.low c.args.high (piece_of c.in-Some.run' ∷ pieces_left c.next.new.self) =
-    subst (λ (xs : List (Piece LastTouches)). IsSearched (MissesWrite c.args.self.now) c.args.touches.now c.args.low c.args.high xs) c.in-Some.ensures.steps c.loop-run.invariant in
-    search_found (MissesWrite c.args.self.now) c.args.touches.now c.args.low c.args.high (piece_of c.in-Some.run') (pieces_left c.next.new.self) so_far
-    (subst (λ (t : Bool). SomeBetween (λ k r. MissesWrite c.args.self.now k r (piece_of c.in-Some.run').value) t c.in-Some.run'.start c.in-Some.run'.end) c.if-misses_write.true c.misses_write.ensures)
+returns-then-misses_write c = others_found (MissesWrite c.args.self.now) c.args.touches.now c.args.low c.args.high _ c.loop-run.invariant _ _ c.in-Some.ensures.steps _ c.misses_write.ensures (λ k r t h m. m) c.if-misses_write.true
+
+pub returns : goal.returns
+returns c = others_end (MissesWrite c.args.self.now) c.args.touches.now c.args.low c.args.high _ c.loop-run.invariant (λ k r t h m. m) c.in-None.ensures.steps.0

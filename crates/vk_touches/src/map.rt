@@ -1,0 +1,85 @@
+ghost use Rattle.std.specs.Prelude.{◌≡◌, ◌≤◌, ◌<◌, ℕ, IfOk, Some, length, slice_get};
+ghost use Rattle.vk_touches.specs.Conflicts.{FoundIn, HasEarlyCommand, IsEarly};
+ghost use Rattle.vk_touches.specs.Remembered.{untouched};
+
+use crate::early::{has_early_read, is_early};
+use crate::others::OtherTouches;
+use std::alloc::{AllocError, Global};
+use std::marker::Model;
+use vk_order::Sight;
+use vk_ranges::RangeMap;
+
+/// What each byte of a resource remembers. Contracts see the list of it.
+///
+/// The last reads by the host are runs of their own, so that a read of many bytes by the host, which
+/// remember different writes, is one run.
+#[derive(Drop)]
+pub struct TouchMap {
+    pub(crate) host_reads: RangeMap<Option<usize>>,
+    pub(crate) others: RangeMap<OtherTouches>,
+}
+
+impl Model for TouchMap {
+    ghost use Rattle.std.specs.Prelude.{List, ◌≡◌, length};
+    ghost use Rattle.vk_touches.specs.declared.touches.LastTouches.{LastTouches};
+
+    ghost Value = { List LastTouches };
+
+    ghost use Rattle.vk_touches.specs.TouchMaps.{all_remembered};
+
+    ghost view = { λ m. all_remembered m.others m.host_reads };
+
+    ghost invariant = { λ m. length m.others ≡ length m.host_reads };
+}
+
+impl TouchMap {
+    /// Of so many bytes that nobody touched. The only error is want of memory.
+    pub fn new(alloc: Global, len: u64) -> Result<TouchMap, AllocError>
+        ensures len { IfOk result (λ map. length map ≡ len) }
+        ensures values { IfOk result (λ map. (index : ℕ) → index < len
+            → slice_get map index ≡ Some untouched) }
+    {
+        Ok(TouchMap {
+            host_reads: RangeMap::new(alloc, len, None)?,
+            others: RangeMap::new(alloc, len, OtherTouches::none())?,
+        })
+    }
+
+    /// The number of bytes, which never changes.
+    pub fn len(&self) -> u64
+        ensures { result ≡ length self.now }
+    {
+        self.others.len()
+    }
+
+    /// Whether of some byte of a range the last read, by the host or by a command of some queue, or
+    /// the last layout transition doesn't come before.
+    pub fn has_early(&self, low: u64, high: u64, sight: &Sight) -> bool
+        requires order { low ≤ high }
+        requires within { high ≤ length self.now }
+        ensures { FoundIn (IsEarly sight.now) result self.now low high }
+    {
+        for run in self.others.overlapping(low, high) {
+            let early = self.host_reads.find(
+                run.start,
+                run.end,
+                |host_read| is_early(run.value, *host_read, sight),
+            );
+            if early.is_some() {
+                return true;
+            }
+        }
+        false
+    }
+
+    /// The same of the last reads by commands alone.
+    pub fn has_early_command(&self, low: u64, high: u64, sight: &Sight) -> bool
+        requires order { low ≤ high }
+        requires within { high ≤ length self.now }
+        ensures { FoundIn (HasEarlyCommand sight.now) result self.now low high }
+    {
+        self.others
+            .find(low, high, |others| has_early_read(&others.reads, sight))
+            .is_some()
+    }
+}
