@@ -13,7 +13,7 @@ use Rattle.vk_touches.specs.declared.touches.Spot.{Spot}
 use Rattle.vk_touches.specs.declared.touches.Touch.{Touch}
 use Rattle.vk_touches.specs.declared.touches.Touch.TheVariants as touch
 use Rattle.vk_touches.specs.declared.transitions.TransitionAccess.{TransitionAccess}
-use Rattle.vk_touches.specs.Conflicts.{FoundAt, FoundIn, IsEarly, Misses, MissesAt, MissesFlush, MissesHostWrite, MissesRead, SeesWrite, SomeBetween}
+use Rattle.vk_touches.specs.Conflicts.{FoundAt, FoundIn, IsEarly, Misses, MissesAt, MissesHostWrite, MissesRead, SeesWrite, SomeBetween}
 use Rattle.vk_touches.specs.Remembered.{with_touch, with_invalidation}
 use Rattle.vk_touches.specs.TouchedRanges.{AreInvalidated}
 use Rattle.vk_touches.specs.TouchMaps.{with_host_read, without_host_read, others_of, all_remembered}

@@ -1,4 +1,4 @@
-use Rattle.std.proofs.Common.{◌≡◌, ◌∙◌, length, sym, refl, arith, rules, ℕ, List, slice_get, subst, Some}
+use Rattle.std.proofs.Common.{◌≡◌, ◌∙◌, length, sym, refl, arith, rules, ℕ, slice_get, subst, Some}
 use Rattle.std.specs.Option.{option_map}
 use Rattle.vk_model.specs.Basics.{within}
 use Rattle.vk_touches.specs.declared.touches.Touch.{Touch}

@@ -1,4 +1,4 @@
-use Rattle.std.proofs.Common.{◌∙◌, refl, arith, rules}
+use Rattle.std.proofs.Common.{refl, arith, rules}
 use Rattle.vk_touches.specs.Remembered.{with_transition}
 use Rattle.vk_touches.specs.TouchMaps.{without_host_read, others_of}
 use Rattle.vk_touches.specs.TouchedRanges.{is_between}

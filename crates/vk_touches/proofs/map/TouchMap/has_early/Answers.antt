@@ -1,4 +1,4 @@
-use Rattle.std.proofs.Common.{◌≡◌, length, arith, refl, rules, subst, Bool, true}
+use Rattle.std.proofs.Common.{◌≡◌, length, arith, refl, rules, subst, Bool}
 use Rattle.vk_ranges.specs.Overlaps.{piece_of, pieces_left}
 use Rattle.vk_touches.specs.Conflicts.{FoundIn, IsEarly}
 use Rattle.vk_touches.specs.TouchMaps.{with_host_read}

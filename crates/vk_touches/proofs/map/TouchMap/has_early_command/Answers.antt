@@ -1,4 +1,4 @@
-use Rattle.std.proofs.Common.{arith, refl, rules, subst, Bool, List, Some}
+use Rattle.std.proofs.Common.{arith, refl, rules, subst, List}
 use Rattle.vk_touches.specs.Conflicts.{FoundIn, HasEarlyCommand}
 use Rattle.vk_touches.specs.TouchMaps.{without_host_read}
 use Rattle.vk_touches.specs.declared.touches.LastTouches.{LastTouches}
