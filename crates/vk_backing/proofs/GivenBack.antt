@@ -75,6 +75,9 @@ module _ (b : Backed) (m : MemoryState) (h : IsBacked b m) (a : ℕ) (x : Alloca
       go None e = refl
       go (Some k) e = sym (back_allocation b m h a x live new p place gone g k (λ f. other (h.one j id a (e ∙ ap (λ (n : ℕ). Some n) f) its-number)))
 
+  same_resident : (t j : ℕ) → (j ≡ id → ⊥) → resident_of t j (allocation_by b j) ≡ resident_of t j (allocation_by left j)
+  same_resident t j other = ap (λ (o : Option Allocation). resident_of t j o) (same_allocation j other)
+
   -- ---- sums over the pools
 
   pools_sum : (f : Pool → ℕ) → sum_by (λ q. f q.pool) (map (without_resident id) d.pools) + f q.pool ≡ sum_by (λ q. f q.pool) d.pools + f (pool_without q.pool s)
@@ -140,7 +143,7 @@ module _ (b : Backed) (m : MemoryState) (h : IsBacked b m) (a : ℕ) (x : Alloca
         record {
           id_is = are.4.id_is;
           pool = subst (λ (y : Pool). IsAlikePool y are.1.pool) (sym (same_pool b m h d is id are.0 (are.4.residents id ∙ not_there t away))) are.4.pool;
-          residents = λ j. left_residents b m h d is id left none same_allocation i t are.1 are.0 are.4 j;
+          residents = λ j. left_residents b m h d is id left none same_resident i t are.1 are.0 are.4 j;
         },
       )
 
@@ -151,7 +154,7 @@ module _ (b : Backed) (m : MemoryState) (h : IsBacked b m) (a : ℕ) (x : Alloca
         g.now,
         ap (λ (l : List PoolMemory). map (without_resident id) l) are.2,
         back_here b m h a x live new p place gone g,
-        record { id_is = are.4.id_is; pool = now_alike; residents = λ j. left_residents b m h d is id left none same_allocation pool p are.1 q are.4 j },
+        record { id_is = are.4.id_is; pool = now_alike; residents = λ j. left_residents b m h d is id left none same_resident pool p are.1 q are.4 j },
       )
 
   mapped_pools : (i : ℕ) → ArePoolsOf left i (pool_of b i) (map (without_resident id) (filter (λ o. o.id == i) d.pools))

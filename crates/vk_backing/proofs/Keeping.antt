@@ -114,9 +114,6 @@ memory_given b m h p was now there after r upper s (inr t) n x of =
 
 -- ---- where nothing of pools changes
 
-pub owned_keeps : (b : Backed) (owned : List (ℕ × ℕ)) (i q : ℕ) (s : Spot) → LiesIn b i q s → LiesIn (record b { owned = owned }) i q s
-owned_keeps b owned i q s l = record { number = l.number; has = l.has; allocation = l.allocation; live = l.live; place = l.place; lies = l.lies; kept = l.kept; there = l.there; memory = l.memory; offset = l.offset; size = l.size }
-
 pub more_keeps : (b : Backed) (new : Option Kept) (numbers : List (ℕ × ℕ)) (i q : ℕ) (s : Spot) → LiesIn b i q s → LiesIn (record b { pools = record b.pools { pools = b.pools.pools ++ new ∷ [] }; numbers = numbers }) i q s
 more_keeps b new numbers i q s l = record { number = l.number; has = l.has; allocation = l.allocation; live = l.live; place = l.place; lies = l.lies; kept = l.kept; there = at-old b.pools.pools new q l.kept l.there; memory = l.memory; offset = l.offset; size = l.size }
 

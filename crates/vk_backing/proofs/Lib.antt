@@ -15,3 +15,10 @@ mod Without
 mod GivenBack
 mod ReleasedCalls
 pub mod Rewritten
+mod Owned
+mod Turned
+mod Dedicating
+mod Mapping
+mod Disowning
+mod DedicatedCalls
+pub mod Remapped

@@ -22,6 +22,7 @@ use Rattle.vma_pools.specs.Ranges.{HasRange}
 use Rattle.vma_pools.specs.State as pools
 use Rattle.vma_pools.specs.State.{PoolsState, pool_at, allocation_at, start_of, request_in, shared_place, reserved_place, held_place, Owner, Alone, BlockOf, Has, ArePools, Backs}
 use Rattle.vma_pools.proofs.NumberLemmas.{at-more, at-old, at-new, at-below, at-set, at-other}
+use Rattle.vma_pools.proofs.CallLemmas.{own-places}
 use Rattle.vma_pools.proofs.PoolAlike.{pool-refl, are-length}
 use Rattle.vma_pools.proofs.StateLemmas.{some-is}
 use Rattle.vk_backing.specs.Backed.{Backed, number_in, pool_of, allocation_of, allocation_by, IsBacked, IsWhole}
@@ -70,18 +71,8 @@ module _ (b : Backed) (m : MemoryState) (h : IsBacked b m) (info : PoolInfo) whe
     | inr new ↦ absurd (let lt = subst (λ (k : Kept). j < length k.memories) (sym new.1) has.2 in omega (arith, lt))
   ]
 
-  pool_backs : (numbers : List (ℕ × ℕ)) → Backs (with_pool numbers).pools m
-  pool_backs numbers = record {
-    own = h.backs.own;
-    blocks = λ p k j at lt. elim (pool_was numbers p k at) [
-      | inl old ↦ h.backs.blocks p k j old lt
-      | inr new ↦ absurd (let l = subst (λ (k : Kept). j < length k.memories) (sym new.1) lt in omega (arith, l))
-    ];
-    apart = λ x y n a c. h.backs.apart x y n (none_has numbers x n a) (none_has numbers y n c);
-  }
-
   -- whatever numbers ids have, that are those of the pools before it, and the new one's
-  module _ (numbers : List (ℕ × ℕ)) (always : ArePools (with_pool numbers).pools)
+  module _ (numbers : List (ℕ × ℕ)) (always : ArePools (with_pool numbers).pools) (backs : Backs (with_pool numbers).pools m)
       (was : (i p : ℕ) → number_in numbers i ≡ Some p → (pool_of b i ≡ Some p) ⊎ (p ≡ count)) (still : (i p : ℕ) → pool_of b i ≡ Some p → number_in numbers i ≡ Some p)
       (one : (i j : ℕ) → number_in numbers i ≡ Some count → number_in numbers j ≡ Some count → i ≡ j) where
     old_below : (i p : ℕ) → pool_of b i ≡ Some p → p < count
@@ -90,12 +81,13 @@ module _ (b : Backed) (m : MemoryState) (h : IsBacked b m) (info : PoolInfo) whe
     pub pool_backed : IsBacked (with_pool numbers) m
     pool_backed = record {
       pools = always;
-      backs = pool_backs numbers;
+      backs = backs;
       matched = λ p k at. elim (pool_was numbers p k at) [ inl old ↦ h.matched p k old | inr new ↦ subst (λ (k : Kept). length k.memories ≡ length k.pool.blocks) new.1 refl ];
       sized = h.sized;
       live = h.live;
       own = h.own;
       apart = λ i n x has its. h.apart i n x has (none_has numbers x n its);
+      dedicated = h.dedicated;
       either = h.either;
       named = λ i p has. elim (was i p has) [
         | inl old ↦ (let k = h.named i p old in (k.0, at-old b.pools.pools (Some first) p k.0 k.1))
@@ -113,12 +105,12 @@ module _ (b : Backed) (m : MemoryState) (h : IsBacked b m) (info : PoolInfo) whe
     }
 
   -- no id has it yet
-  pub pool_unnamed : ArePools (with_pool b.numbers).pools → IsBacked (with_pool b.numbers) m
-  pool_unnamed always = pool_backed b.numbers always (λ i p has. inl has) (λ i p has. has) (λ i j x y. let k = h.named i count x in absurd (let l = at-below b.pools.pools count k.0 k.1 in omega (arith, l)))
+  pub pool_unnamed : ArePools (with_pool b.numbers).pools → Backs (with_pool b.numbers).pools m → IsBacked (with_pool b.numbers) m
+  pool_unnamed always backs = pool_backed b.numbers always backs (λ i p has. inl has) (λ i p has. has) (λ i j x y. let k = h.named i count x in absurd (let l = at-below b.pools.pools count k.0 k.1 in omega (arith, l)))
 
-  pub pool_named : (id : ℕ) → pool_of b id ≡ None → (numbers : List (ℕ × ℕ)) → number_in numbers id ≡ Some count → ((i : ℕ) → (i ≡ id → ⊥) → number_in numbers i ≡ pool_of b i) → ArePools (with_pool numbers).pools → IsBacked (with_pool numbers) m
-  pool_named id absent numbers here others always =
-      pool_backed numbers always was
+  pub pool_named : (id : ℕ) → pool_of b id ≡ None → (numbers : List (ℕ × ℕ)) → number_in numbers id ≡ Some count → ((i : ℕ) → (i ≡ id → ⊥) → number_in numbers i ≡ pool_of b i) → ArePools (with_pool numbers).pools → Backs (with_pool numbers).pools m → IsBacked (with_pool numbers) m
+  pool_named id absent numbers here others always backs =
+      pool_backed numbers always backs was
       (λ i p has. others i (λ is. let e = sym absent ∙ ap (λ (j : ℕ). pool_of b j) (sym is) ∙ has in cc) ∙ has)
       (λ i j x y. it i x ∙ sym (it j y))
     where
@@ -205,19 +197,16 @@ module _ (b : Backed) (m : MemoryState) (h : IsBacked b m) (id p : ℕ) (its : p
   not_it : (i q : ℕ) → pool_of b i ≡ Some q → (i ≡ id → ⊥) → q ≡ p → ⊥
   not_it i q has other is = other (h.one_pool i id p (has ∙ ap (λ (n : ℕ). Some n) is) its)
 
-  pub drop_backed : ArePools dropped.pools → IsBacked dropped m
-  drop_backed always = record {
+  pub drop_backed : ArePools dropped.pools → Backs dropped.pools m → IsBacked dropped m
+  drop_backed always backs = record {
     pools = always;
-    backs = record {
-      own = h.backs.own;
-      blocks = λ q l j at lt. h.backs.blocks q l j (pool_left q l at).0 lt;
-      apart = λ x y n a c. h.backs.apart x y n (still_has x n a) (still_has y n c);
-    };
+    backs = backs;
     matched = λ q l at. h.matched q l (pool_left q l at).0;
     sized = h.sized;
     live = h.live;
     own = h.own;
     apart = λ i n x has its. h.apart i n x has (still_has x n its);
+    dedicated = h.dedicated;
     either = h.either;
     named = λ i q has.
         let w = named_was i q has in let l = h.named i q w.0 in (l.0, at-other b.pools.pools p q None (not_it i q w.0 w.1) ∙ l.1);
@@ -274,17 +263,26 @@ module _ (b : Backed) (m : MemoryState) (h : IsBacked b m) (id p : ℕ) (its : p
 -- where no resource does no allocation does
 pub unused_held : (b : Backed) (m : MemoryState) → IsBacked b m → IsWhole b → (id p : ℕ) → pool_of b id ≡ Some p → IsUnused b id → pools.IsUnused b.pools p
 unused_held b m h whole id p its unused i r place asked held =
-    let w = whole i held.allocation held.live in let s = h.shared w.0 i w.1 in
-    let same : s.allocation ≡ held.allocation = some-is s.allocation held.allocation (sym s.live ∙ held.live) in
-    let lies = ap (λ (x : Allocation). x.home) (sym same) ∙ s.lies in
-    go r w.0 w.1 (ap (λ (x : Allocation). x.target) (sym same) ∙ s.free) s.pool s.place lies held.there
+    let w = whole i held.allocation held.live in elim w.1 [
+      | inl shares ↦ (let s = h.shared w.0 i shares in
+          let same : s.allocation ≡ held.allocation = some-is s.allocation held.allocation (sym s.live ∙ held.live) in
+          let lies = ap (λ (x : Allocation). x.home) (sym same) ∙ s.lies in
+          go r w.0 shares (ap (λ (x : Allocation). x.target) (sym same) ∙ s.free) s.pool s.place lies held.there)
+      | inr alone ↦ (let d = h.dedicated w.0 i alone in
+          let same : d.allocation ≡ held.allocation = some-is d.allocation held.allocation (sym d.live ∙ held.live) in
+          let e = sym (own-places held.allocation d.number (ap (λ (x : Allocation). x.home) (sym same) ∙ d.lies) r) ∙ held.there in
+          none_there e)
+    ]
   where
+    none_there : ◌≡◌ {A = Option (ℕ × PoolPlace)} None (Some (p, place)) → ⊥
+    none_there e = cc
+
     go : (r : Bool) (j : ℕ) → allocation_of b j ≡ Some i → held.allocation.target ≡ None → (q : ℕ) (pl : PoolPlace) → held.allocation.home ≡ home.Shared q pl → held_place r held.allocation ≡ Some (p, place) → ⊥
     go false j has free q pl lies there = unused p j held.allocation place its (ap (λ (o : Option ℕ). option_and_then (allocation_at b.pools) o) has ∙ held.live) there
     go true j has free q pl lies there =
         let e = ap (λ (l : Home). reserved_place l held.allocation.target) (sym lies) in
         let f = ap (λ (t : Option PoolPlace). reserved_place (home.Shared q pl) t) (sym free) in
-        let g : ◌≡◌ {A = Option (ℕ × PoolPlace)} None (Some (p, place)) = f ∙ e ∙ there in cc
+        none_there (f ∙ e ∙ there)
 
 -- and it has no blocks
 some_range : (p : Pool) (x : PoolBlock) (xs : List PoolBlock) → p.blocks ≡ x ∷ xs → has_some_taken x ≡ true → (t : Taken) × HasRange p x.number t

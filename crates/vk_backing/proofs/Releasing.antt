@@ -1,5 +1,6 @@
 -- What an id had ends.
 use Rattle.std.proofs.Common.{◌≡◌, ℕ, suc, ◌+◌, ◌<◌, List, ◌++◌, set, take, drop, length, get_or, Option, Some, None, refl, sym, ap, subst, ◌∙◌, arith, inl, inr, ◌⊎◌}
+use Rattle.std.specs.Prelude.{slice_index_or}
 use Rattle.std.proofs.lemmas.Bool.{cases_eq}
 use Rattle.std.proofs.lemmas.List.{length-map}
 use Rattle.vk_memory.specs.MemoryState.{MemoryState, IsLive, with_object}
@@ -10,40 +11,69 @@ use Rattle.vma_pools.specs.Pools.{Kept, KeepsBlocks, block_numbers}
 use Rattle.vma_pools.specs.State.{PoolsState, pool_at, allocation_at, Owner, Alone, BlockOf, Has, ArePools, Backs, IsGivenBack, released}
 use Rattle.vma_pools.proofs.NumberLemmas.{at-below, at-set, at-other}
 use Rattle.vma_pools.proofs.StateLemmas.{some-is}
-use Rattle.vma_pools.proofs.ReleaseLemmas.{kept-backs}
 use Rattle.vma_pools.proofs.CallLemmas.{sized-live}
-use Rattle.vk_backing.specs.Backed.{Backed, AreSized, number_in, object_of, allocation_of, IsBacked, IsWhole}
+use Rattle.vk_backing.specs.declared.backing.Own.{Own}
+use Rattle.vk_backing.specs.Backed.{Backed, AreSized, number_in, own_in, object_in, dedicated_in, object_of, dedicated_of, allocation_of, IsBacked, IsDedicated, IsOwner, IsWhole}
 use Rattle.vk_backing.proofs.Freed.{freed_other, freed_sized, freed_live, cut_less, in_cut}
-use Rattle.vk_backing.proofs.Owning.{shared_owned}
+use Rattle.vk_backing.proofs.Owned.{object_is, dedicated_is}
+use Rattle.vk_backing.proofs.Turned.{Stays, stays, dedicated_stays, turned, turned_shared}
 
 -- ---- a memory object of its own
 
-module _ (b : Backed) (m : MemoryState) (h : IsBacked b m) (id n : ℕ) (its : object_of b id ≡ Some n) (owned : List (ℕ × ℕ)) (gone : number_in owned id ≡ None) (others : (i : ℕ) → (i ≡ id → ⊥) → number_in owned i ≡ object_of b i) where
+module _ (b : Backed) (m : MemoryState) (h : IsBacked b m) (id n : ℕ) (its : object_of b id ≡ Some n) (owned : List (ℕ × Own)) (gone : own_in owned id ≡ None) (others : (i : ℕ) → (i ≡ id → ⊥) → own_in owned i ≡ own_in b.owned i)
+    (allocations : List (Option Allocation)) (shared : (j a : ℕ) → allocation_of b j ≡ Some a → Stays (allocation_at b.pools a) (slice_index_or allocations a None)) where
+  abbrev pub disowned : Backed
+  disowned = turned b m h owned allocations shared
+
   pub own_live : IsLive m n
   own_live = h.live id n its
 
-  own_was : (i k : ℕ) → number_in owned i ≡ Some k → (object_of b i ≡ Some k) × (k ≡ n → ⊥)
+  pub object_gone : object_in owned id ≡ None
+  object_gone = object_is owned id None gone
+
+  pub dedicated_gone : dedicated_in owned id ≡ None
+  dedicated_gone = dedicated_is owned id None gone
+
+  pub object_left : (i : ℕ) → (i ≡ id → ⊥) → object_in owned i ≡ object_of b i
+  object_left i other = object_is owned i (own_in b.owned i) (others i other)
+
+  pub dedicated_left : (i : ℕ) → (i ≡ id → ⊥) → dedicated_in owned i ≡ dedicated_of b i
+  dedicated_left i other = dedicated_is owned i (own_in b.owned i) (others i other)
+
+  own_was : (i k : ℕ) → object_in owned i ≡ Some k → (object_of b i ≡ Some k) × (k ≡ n → ⊥) × (i ≡ id → ⊥)
   own_was i k has = elim (cases_eq i id) [
-    | inl is ↦ absurd (let e = sym gone ∙ ap (λ (j : ℕ). number_in owned j) (sym is) ∙ has in cc)
-    | inr other ↦ (let was = sym (others i other) ∙ has in (was, λ e. other (h.own i id n (was ∙ ap (λ (j : ℕ). Some j) e) its)))
+    | inl is ↦ absurd (let e = sym object_gone ∙ ap (λ (j : ℕ). object_in owned j) (sym is) ∙ has in cc)
+    | inr other ↦ (let was = sym (object_left i other) ∙ has in (was, λ e. other (h.own i id n (was ∙ ap (λ (j : ℕ). Some j) e) its), other))
   ]
 
-  pub own_released : IsBacked (record b { owned = owned }) (with_object m n None)
-  own_released = record {
-    pools = h.pools;
-    backs = kept-backs b.pools b.pools m (with_object m n None) h.backs (λ x. x) (λ x z e. e) (λ i a at. (at, refl)) (λ p k at. (k, at, refl))
-        (λ x k has. (has, freed_other m n own_live k (λ e. h.apart id n x its (subst (λ (j : ℕ). Has b.pools x j) e has)))) (λ p j. (j, refl));
+  pub own_released : ArePools disowned.pools → Backs disowned.pools (with_object m n None) → ((x : Owner) (k : ℕ) → Has disowned.pools x k → Has b.pools x k)
+      → ((i a : ℕ) → (i ≡ id → ⊥) → dedicated_of b i ≡ Some a → Stays (allocation_at b.pools a) (slice_index_or allocations a None)) → IsBacked disowned (with_object m n None)
+  own_released always backs had alone = record {
+    pools = always;
+    backs = backs;
     matched = h.matched;
     sized = freed_sized m n own_live h.sized;
     live = λ i k has. let w = own_was i k has in freed_live m n own_live k w.1 (h.live i k w.0);
     own = λ i j k x y. h.own i j k (own_was i k x).0 (own_was j k y).0;
-    apart = λ i k x has its. h.apart i k x (own_was i k has).0 its;
+    apart = λ i k x has its. let w = own_was i k has in subst (λ (d : Option ℕ). IsOwner d x) (sym (dedicated_left i w.2)) (h.apart i k x w.0 (had x k its));
+    dedicated = λ i a has. elim (cases_eq i id) [
+      | inl is ↦ absurd (let e = sym dedicated_gone ∙ ap (λ (j : ℕ). dedicated_in owned j) (sym is) ∙ has in cc)
+      | inr other ↦ (let was = sym (dedicated_left i other) ∙ has in dedicated_stays (allocation_at b.pools a) (slice_index_or allocations a None) (object_of b i) (object_in owned i) (alone i a other was) (object_left i other) (h.dedicated i a was))
+    ];
     either = λ i k a has its. h.either i k a (own_was i k has).0 its;
     named = h.named;
     one_pool = h.one_pool;
-    shared = λ i a has. shared_owned b owned a (h.shared i a has);
+    shared = λ i a has. turned_shared b m h owned allocations shared i a has;
     one = h.one;
   }
+
+  -- each allocation that is left is an id's
+  pub own_whole_left : ((a : ℕ) (x : Allocation) → slice_index_or allocations a None ≡ Some x → (y : Allocation) × (allocation_at b.pools a ≡ Some y) × (dedicated_of b id ≡ Some a → ⊥)) → IsWhole b → IsWhole disowned
+  own_whole_left was whole a x live =
+      let y = was a x live in let w = whole a y.0 y.1 in elim w.1 [
+        | inl shares ↦ (w.0, inl shares)
+        | inr alone ↦ (w.0, inr (dedicated_left w.0 (λ is. y.2 (ap (λ (j : ℕ). dedicated_of b j) (sym is) ∙ alone)) ∙ alone))
+      ]
 
 -- whoever has a memory object of its own has no allocation
 pub unshared : (b : Backed) (m : MemoryState) → IsBacked b m → (id n : ℕ) → object_of b id ≡ Some n → (o : Option ℕ) → allocation_of b id ≡ o → allocation_of b id ≡ None
@@ -92,22 +122,29 @@ module _ (b : Backed) (m : MemoryState) (h : IsBacked b m) (a : ℕ) (x : Alloca
       omega (arith, w, e, f, c, d, long, length-map g.now.pool.blocks (λ (c : PoolBlock). c.number))
 
   -- whoever has a memory object, one had it
-  has_had : (y : Owner) (n : ℕ) → Has back_pools y n → (z : Owner) × Has b.pools z n
-  has_had (Alone j) n has = elim (cases_eq j a) [
+  alone_had : (j n : ℕ) → Has back_pools (Alone j) n → Has b.pools (Alone j) n
+  alone_had j n has = elim (cases_eq j a) [
     | inl is ↦ absurd (let e = sym back_ended ∙ ap (λ (l : ℕ). allocation_at back_pools l) (sym is) ∙ has.1 in cc)
-    | inr other ↦ (Alone j, (has.0, sym (back_allocation j other) ∙ has.1, has.2))
+    | inr other ↦ (has.0, sym (back_allocation j other) ∙ has.1, has.2)
   ]
-  has_had (BlockOf q j) n has = elim (back_was q has.0 has.1) [
+
+  block_had : (q j n : ℕ) → Has back_pools (BlockOf q j) n → (r : ℕ) × (l : ℕ) × Has b.pools (BlockOf r l) n
+  block_had q j n has = elim (back_was q has.0 has.1) [
     | inl here ↦ go gone g.blocks (subst (λ (k : Kept). (j < length k.memories) × (get_or k.memories j 0 ≡ n)) (sym here.1) (has.2, has.3))
-    | inr old ↦ (BlockOf q j, (has.0, old, has.2, has.3))
+    | inr old ↦ (q, j, (has.0, old, has.2, has.3))
   ]
     where
-      go : (o : Option ℕ) → KeepsBlocks o place.block g.was g.now → (j < length g.now.memories) × (get_or g.now.memories j 0 ≡ n) → (z : Owner) × Has b.pools z n
-      go None k at = let s = subst (λ (ms : List ℕ). (j < length ms) × (get_or ms j 0 ≡ n)) k.0 at in (BlockOf p j, (g.was, g.there, s.0, s.1))
+      go : (o : Option ℕ) → KeepsBlocks o place.block g.was g.now → (j < length g.now.memories) × (get_or g.now.memories j 0 ≡ n) → (r : ℕ) × (l : ℕ) × Has b.pools (BlockOf r l) n
+      go None k at = let s = subst (λ (ms : List ℕ). (j < length ms) × (get_or ms j 0 ≡ n)) k.0 at in (p, j, (g.was, g.there, s.0, s.1))
       go (Some r) k at =
           let next : k.index + 1 ≡ suc k.index = omega arith in
           let s = subst (λ (ms : List ℕ). (j < length ms) × (get_or ms j 0 ≡ n)) (k.memories ∙ ap (λ (l : ℕ). take k.index g.was.memories ++ drop l g.was.memories) next) at in
-          let c = in_cut g.was.memories k.index j s.0 in (BlockOf p c.0, (g.was, g.there, c.1, c.2 ∙ s.1))
+          let c = in_cut g.was.memories k.index j s.0 in (p, c.0, (g.was, g.there, c.1, c.2 ∙ s.1))
+
+  -- whose memory object an id has, it had
+  still_owner : (i n : ℕ) (y : Owner) → object_of b i ≡ Some n → Has back_pools y n → IsOwner (dedicated_of b i) y
+  still_owner i n (Alone j) has its = h.apart i n (Alone j) has (alone_had j n its)
+  still_owner i n (BlockOf q j) has its = let w = block_had q j n its in h.apart i n (BlockOf w.0 w.1) has w.2
 
   -- the memory object that goes is a block's
   pub gone_had : (n : ℕ) → gone ≡ Some n → (j : ℕ) × Has b.pools (BlockOf p j) n
@@ -148,6 +185,13 @@ module _ (b : Backed) (m : MemoryState) (h : IsBacked b m) (a : ℕ) (x : Alloca
       | inr other ↦ (let was = sym (others i other) ∙ has in (was, λ e. other (h.one i id a (was ∙ ap (λ (l : ℕ). Some l) e) its)))
     ]
 
+    -- an allocation in a pool has no memory object of its own
+    not_dedicated : (j : ℕ) {n : Option ℕ} → IsDedicated (allocation_at b.pools j) n → j ≡ a → ⊥
+    not_dedicated j d is =
+        let t = h.shared id a its in
+        let same = some-is d.allocation t.allocation (sym d.live ∙ ap (λ (l : ℕ). allocation_at b.pools l) is ∙ t.live) in
+        let e = sym d.lies ∙ ap (λ (y : Allocation). y.home) same ∙ t.lies in cc
+
     pub back_released : ArePools back_pools → Backs back_pools (released m gone) → IsBacked backing (released m gone)
     back_released always backs = record {
       pools = always;
@@ -156,7 +200,10 @@ module _ (b : Backed) (m : MemoryState) (h : IsBacked b m) (a : ℕ) (x : Alloca
       sized = back_sized;
       live = back_live;
       own = h.own;
-      apart = λ i n y has its. let w = has_had y n its in h.apart i n w.0 has w.1;
+      apart = λ i n y has its. still_owner i n y has its;
+      dedicated = λ i j has.
+          let d = h.dedicated i j has in
+          dedicated_stays (allocation_at b.pools j) (allocation_at back_pools j) (object_of b i) (object_of b i) (stays (allocation_at b.pools j) (allocation_at back_pools j) (λ y at. back_allocation j (λ is. not_dedicated j d is) ∙ at)) refl d;
       either = λ i n j has its. h.either i n j has (shared_was i j its).0;
       named = λ i q has. let k = h.named i q has in back_still q k.0 k.1;
       one_pool = h.one_pool;
@@ -170,4 +217,7 @@ module _ (b : Backed) (m : MemoryState) (h : IsBacked b m) (a : ℕ) (x : Alloca
     back_whole whole j y at =
         let away : j ≡ a → ⊥ = λ (is : j ≡ a). (let e = sym back_ended ∙ ap (λ (l : ℕ). allocation_at back_pools l) (sym is) ∙ at in cc) in
         let w = whole j y (sym (back_allocation j away) ∙ at) in
-        (w.0, others w.0 (λ is. away (some-is j a (sym w.1 ∙ ap (λ (l : ℕ). allocation_of b l) is ∙ its))) ∙ w.1)
+        elim w.1 [
+          | inl shares ↦ (w.0, inl (others w.0 (λ is. away (some-is j a (sym shares ∙ ap (λ (l : ℕ). allocation_of b l) is ∙ its))) ∙ shares))
+          | inr alone ↦ (w.0, inr alone)
+        ]

@@ -61,6 +61,7 @@ module _ (m : MemoryState) (n : ℕ) (bytes : List ℕ) (live : IsLive m n) (lon
     live = λ i k has. live_stays k (h.live i k has);
     own = h.own;
     apart = h.apart;
+    dedicated = h.dedicated;
     either = h.either;
     named = h.named;
     one_pool = h.one_pool;

@@ -17,8 +17,9 @@ use Rattle.vma_pools.specs.State.{PoolsState, pool_at, allocation_at, start_of, 
 use Rattle.vma_pools.proofs.NumberLemmas.{at-more, at-old, at-new, at-below, at-set, at-other}
 use Rattle.vma_pools.proofs.PoolAlike.{are-length}
 use Rattle.vma_pools.proofs.StateLemmas.{some-is}
-use Rattle.vk_backing.specs.Backed.{Backed, AreSized, number_in, object_of, pool_of, allocation_of, IsBacked, IsShared, IsWhole}
+use Rattle.vk_backing.specs.Backed.{Backed, AreSized, number_in, object_of, dedicated_of, pool_of, allocation_of, IsBacked, IsShared, IsOwner, IsWhole}
 use Rattle.vk_backing.proofs.Grown.{grown_live, grown_sized, live_number}
+use Rattle.vk_backing.proofs.Turned.{stays, dedicated_stays}
 
 -- ---- the blocks of a pool that has given a place
 
@@ -112,8 +113,9 @@ module _ (b : Backed) (m : MemoryState) (h : IsBacked b m) (p : ℕ) (was now : 
                 inr (sym s.1 ∙ ap (λ (i : ℕ). get_or (was.memories ++ length m.objects ∷ []) i 0) last ∙ get_or-append_seam was.memories (length m.objects) [] 0))
           ]
 
-  pub unowned : (i n : ℕ) (x : Owner) → object_of b i ≡ Some n → Has given_pools x n → ⊥
-  unowned i n x has its = elim (had x n its) [ inl old ↦ h.apart i n x has old | inr new ↦ (let l = live_number m n (h.live i n has) in absurd (omega (arith, l, new))) ]
+  -- whose memory object an id has, it had
+  still_owner : (i n : ℕ) (x : Owner) → object_of b i ≡ Some n → Has given_pools x n → IsOwner (dedicated_of b i) x
+  still_owner i n x has its = elim (had x n its) [ inl old ↦ h.apart i n x has old | inr new ↦ (let l = live_number m n (h.live i n has) in absurd (omega (arith, l, new))) ]
 
   -- ---- allocations
 
@@ -143,7 +145,8 @@ module _ (b : Backed) (m : MemoryState) (h : IsBacked b m) (p : ℕ) (was now : 
       sized = memory_sized;
       live = λ i n has. memory_live n (h.live i n has);
       own = h.own;
-      apart = λ i n x has its. unowned i n x has its;
+      apart = λ i n x has its. still_owner i n x has its;
+      dedicated = λ i a has. dedicated_stays (allocation_at b.pools a) (allocation_at given_pools a) (object_of b i) (object_of b i) (stays (allocation_at b.pools a) (allocation_at given_pools a) (λ x is. old_allocation a x is)) refl (h.dedicated i a has);
       either = λ i n a has its. elim (owned_was i a its) [
         | inl old ↦ h.either i n a has old
         | inr new ↦ (let e = sym apart ∙ ap (λ (j : ℕ). object_of b j) (sym new.0) ∙ has in cc)
@@ -172,6 +175,9 @@ module _ (b : Backed) (m : MemoryState) (h : IsBacked b m) (p : ℕ) (was now : 
 
     pub share_whole : allocation_of b id ≡ None → IsWhole b → IsWhole (sharing allocations)
     share_whole absent whole a x live = elim (at-more b.pools.allocations (Some given) a x live) [
-      | inl old ↦ (let w = whole a x old in (w.0, others w.0 (λ is. let e = sym absent ∙ ap (λ (j : ℕ). allocation_of b j) (sym is) ∙ w.1 in cc) ∙ w.1))
-      | inr new ↦ (id, here ∙ ap (λ (n : ℕ). Some n) (sym new.0))
+      | inl old ↦ (let w = whole a x old in elim w.1 [
+        | inl shares ↦ (w.0, inl (others w.0 (λ is. let e = sym absent ∙ ap (λ (j : ℕ). allocation_of b j) (sym is) ∙ shares in cc) ∙ shares))
+        | inr alone ↦ (w.0, inr alone)
+      ])
+      | inr new ↦ (id, inl (here ∙ ap (λ (n : ℕ). Some n) (sym new.0)))
     ]

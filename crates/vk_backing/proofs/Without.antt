@@ -16,13 +16,15 @@ use Rattle.vma_pools.specs.Alike.{IsAlikePool}
 use Rattle.vma_pools.specs.declared.allocations.Allocation.{Allocation}
 use Rattle.vma_pools.specs.Pools.{Kept}
 use Rattle.vma_pools.specs.State.{pool_at, allocation_at}
-use Rattle.vk_backing.specs.Backed.{Backed, number_in, object_of, pool_of, allocation_of, allocation_by, IsBacked}
+use Rattle.vk_backing.specs.declared.backing.Own.{Own}
+use Rattle.vk_backing.specs.Backed.{Backed, own_in, object_of, pool_of, allocation_of, allocation_by, IsBacked}
 use Rattle.vk_backing.specs.Allotted.{allotted, kind_of, bytes_on, one_if, own_memory, resident_of, IsPoolMemory, ArePoolsOf, Fulfils}
 use Rattle.vk_backing.proofs.Keyed.{IsIn, left_none, left_other, picked_map, in_one, not_in, sum_same}
 use Rattle.vk_backing.proofs.Grown.{some_there}
 use Rattle.vk_backing.proofs.Freed.{kind_kept, kind_here, freed_sum}
 use Rattle.vk_backing.proofs.Owning.{heap_bytes}
-use Rattle.vk_backing.proofs.Releasing.{own_live}
+use Rattle.vk_backing.proofs.Turned.{Stays, stays, turned, turned_residents}
+use Rattle.vk_backing.proofs.Releasing.{own_live, object_gone, object_left}
 
 abbrev pub kind_at : MemoryState → ℕ → Option (ℕ × ℕ)
 kind_at m n = slice_index_or (map kind_of m.objects) n None
@@ -81,12 +83,12 @@ module _ (b : Backed) (m : MemoryState) (h : IsBacked b m) (d : Allocated) (is :
   pub same_pool : (q : PoolMemory) → filter (λ a. a.id == id) q.residents ≡ [] → (without_resident id q).pool ≡ q.pool
   same_pool q none = ap (λ (l : List Resident). fold (λ p a. pool_without p a.from) q.pool l) none
 
-  module _ (c : Backed) (none : allocation_of c id ≡ None) (same : (j : ℕ) → (j ≡ id → ⊥) → allocation_by b j ≡ allocation_by c j) where
+  module _ (c : Backed) (none : allocation_of c id ≡ None) (same : (t j : ℕ) → (j ≡ id → ⊥) → resident_of t j (allocation_by b j) ≡ resident_of t j (allocation_by c j)) where
     pub left_residents : (i t : ℕ) (k : Kept) (q : PoolMemory) → IsPoolMemory b i t k q → (j : ℕ) → filter (λ a. a.id == j) (filter (λ a. not (a.id == id)) q.residents) ≡ resident_of t j (allocation_by c j)
     left_residents i t k q its j = elim (cases_eq j id) [
       | inl e ↦ ap (λ (l : ℕ). filter (λ a. a.id == l) (filter (λ a. not (a.id == id)) q.residents)) e ∙ left_none (λ (a : Resident). a.id) id q.residents
           ∙ ap (λ (o : Option ℕ). resident_of t j (option_and_then (allocation_at c.pools) o)) (sym none ∙ ap (λ (l : ℕ). allocation_of c l) (sym e))
-      | inr other ↦ left_other (λ (a : Resident). a.id) j id q.residents other ∙ its.residents j ∙ ap (λ (o : Option Allocation). resident_of t j o) (same j other)
+      | inr other ↦ left_other (λ (a : Resident). a.id) j id q.residents other ∙ its.residents j ∙ same t j other
     ]
 
   -- ---- where it has no place in a pool
@@ -100,19 +102,20 @@ module _ (b : Backed) (m : MemoryState) (h : IsBacked b m) (d : Allocated) (is :
         sum_same (λ (o : PoolMemory). o.id) (λ (q : PoolMemory). f q.pool) (without_resident id) d.pools
         (λ q there. let e = each_pool q there in ap f (same_pool q (e.4.residents id ∙ none_there e.0)))
 
-    pools_left : (owned : List (ℕ × ℕ)) (i : ℕ) (o : Option ℕ) (qs : List PoolMemory) → ArePoolsOf b i o qs → ArePoolsOf (record b { owned = owned }) i o (map (without_resident id) qs)
-    pools_left owned i None qs are = ap (λ (l : List PoolMemory). map (without_resident id) l) are
-    pools_left owned i (Some t) qs are = (
-      without_resident id are.0,
-      are.1,
-      ap (λ (l : List PoolMemory). map (without_resident id) l) are.2,
-      are.3,
-      record {
-        id_is = are.4.id_is;
-        pool = subst (λ (x : Pool). IsAlikePool x are.1.pool) (sym (same_pool are.0 (are.4.residents id ∙ none_there t))) are.4.pool;
-        residents = λ j. left_residents (record b { owned = owned }) unshared (λ j other. refl) i t are.1 are.0 are.4 j;
-      },
-    )
+    module _ (owned : List (ℕ × Own)) (allocations : List (Option Allocation)) (stay : (j a : ℕ) → allocation_of b j ≡ Some a → Stays (allocation_at b.pools a) (slice_index_or allocations a None)) where
+      pools_left : (i : ℕ) (o : Option ℕ) (qs : List PoolMemory) → ArePoolsOf b i o qs → ArePoolsOf (turned b m h owned allocations stay) i o (map (without_resident id) qs)
+      pools_left i None qs are = ap (λ (l : List PoolMemory). map (without_resident id) l) are
+      pools_left i (Some t) qs are = (
+        without_resident id are.0,
+        are.1,
+        ap (λ (l : List PoolMemory). map (without_resident id) l) are.2,
+        are.3,
+        record {
+          id_is = are.4.id_is;
+          pool = subst (λ (x : Pool). IsAlikePool x are.1.pool) (sym (same_pool are.0 (are.4.residents id ∙ none_there t))) are.4.pool;
+          residents = λ j. left_residents (turned b m h owned allocations stay) unshared (λ t j other. turned_residents b m h owned allocations stay t j) i t are.1 are.0 are.4 j;
+        },
+      )
 
     -- nothing of it was allocated
     pub nothing_allotted : object_of b id ≡ None → Fulfils (allotted b m) (without id d)
@@ -128,13 +131,14 @@ module _ (b : Backed) (m : MemoryState) (h : IsBacked b m) (d : Allocated) (is :
           let z = ap (λ (o : Option ℕ). length (own_memory id (option_and_then (kind_at m) o))) none in
           let p = pools_sum (λ (x : Pool). length x.blocks) in omega (arith, left_count, z, p, is.count);
       objects = left_objects b m none (λ i other. refl) (λ i n other e. refl);
-      pools = λ i. subst (λ (qs : List PoolMemory). ArePoolsOf b i (pool_of b i) qs) (sym (picked_map (λ (o : PoolMemory). o.id) (without_resident id) (λ q. refl) i d.pools)) (pools_left b.owned i (pool_of b i) (filter (λ q. q.id == i) d.pools) (is.pools i));
+      pools = λ i. subst (λ (qs : List PoolMemory). ArePoolsOf b i (pool_of b i) qs) (sym (picked_map (λ (o : PoolMemory). o.id) (without_resident id) (λ q. refl) i d.pools)) (pools_left b.owned b.pools.allocations (λ j a e. stays (allocation_at b.pools a) (allocation_at b.pools a) (λ x is. is)) i (pool_of b i) (filter (λ q. q.id == i) d.pools) (is.pools i));
     }
 
     -- a memory object of its own was
-    module _ (n : ℕ) (its : object_of b id ≡ Some n) (owned : List (ℕ × ℕ)) (gone : number_in owned id ≡ None) (others : (i : ℕ) → (i ≡ id → ⊥) → number_in owned i ≡ object_of b i) where
+    module _ (n : ℕ) (its : object_of b id ≡ Some n) (owned : List (ℕ × Own)) (gone : own_in owned id ≡ None) (others : (i : ℕ) → (i ≡ id → ⊥) → own_in owned i ≡ own_in b.owned i)
+        (allocations : List (Option Allocation)) (stay : (j a : ℕ) → allocation_of b j ≡ Some a → Stays (allocation_at b.pools a) (slice_index_or allocations a None)) where
       lives : IsLive m n
-      lives = own_live b m h id n its owned gone others
+      lives = own_live b m h id n its owned gone others allocations stay
 
       abbrev object : (o : Object) × (object_at m n ≡ Some o)
       object = some_there (object_at m n) lives
@@ -142,7 +146,7 @@ module _ (b : Backed) (m : MemoryState) (h : IsBacked b m) (d : Allocated) (is :
       kind_is : kind ≡ Some (object.0.memory_type, object.0.size)
       kind_is = ap (λ (o : Option ℕ). option_and_then (kind_at m) o) its ∙ kind_here m n lives object.0 object.1
 
-      pub freed_allotted : Fulfils (allotted (record b { owned = owned }) (with_object m n None)) (without id d)
+      pub freed_allotted : Fulfils (allotted (turned b m h owned allocations stay) (with_object m n None)) (without id d)
       freed_allotted = record {
         sizes = is.sizes;
         used = λ first.
@@ -156,6 +160,6 @@ module _ (b : Backed) (m : MemoryState) (h : IsBacked b m) (d : Allocated) (is :
             let z = own_count kind ∙ ap (λ (k : Option (ℕ × ℕ)). one_if k) kind_is in
             let p = pools_sum (λ (x : Pool). length x.blocks) in
             let s = freed_sum m n lives one_if refl object.0 object.1 in omega (arith, left_count, z, p, s, is.count);
-        objects = left_objects (record b { owned = owned }) (with_object m n None) gone others (λ i k other e. kind_kept m n lives k (λ f. other (h.own i id n (e ∙ ap (λ (j : ℕ). Some j) f) its)));
-        pools = λ i. subst (λ (qs : List PoolMemory). ArePoolsOf (record b { owned = owned }) i (pool_of b i) qs) (sym (picked_map (λ (o : PoolMemory). o.id) (without_resident id) (λ q. refl) i d.pools)) (pools_left owned i (pool_of b i) (filter (λ q. q.id == i) d.pools) (is.pools i));
+        objects = left_objects (turned b m h owned allocations stay) (with_object m n None) (object_gone b m h id n its owned gone others allocations stay) (object_left b m h id n its owned gone others allocations stay) (λ i k other e. kind_kept m n lives k (λ f. other (h.own i id n (e ∙ ap (λ (j : ℕ). Some j) f) its)));
+        pools = λ i. subst (λ (qs : List PoolMemory). ArePoolsOf (turned b m h owned allocations stay) i (pool_of b i) qs) (sym (picked_map (λ (o : PoolMemory). o.id) (without_resident id) (λ q. refl) i d.pools)) (pools_left owned allocations stay i (pool_of b i) (filter (λ q. q.id == i) d.pools) (is.pools i));
       }

@@ -1,6 +1,6 @@
 -- What backs ids with memory: memory objects of their own, pools, and allocations in pools.
-use Rattle.std.specs.Prelude.{◌≡◌, ℕ, List, length, Option, Some, None}
-use Rattle.std.specs.Option.{option_and_then, option_map}
+use Rattle.std.specs.Prelude.{◌≡◌, ℕ, ◌⊎◌, List, length, Option, Some, None}
+use Rattle.std.specs.Option.{option_and_then, option_map, option_or}
 use Rattle.std.specs.Ordering.{nat_cmp}
 use Rattle.std.specs.Map.{lookup}
 use Rattle.std.specs.BTreeMap.{is_at}
@@ -12,11 +12,12 @@ use Rattle.vma_pools.specs.declared.pool.PoolPlace.{PoolPlace}
 use Rattle.vma_pools.specs.declared.allocations.Allocation.{Allocation}
 use Rattle.vma_pools.specs.declared.allocations.Home.TheVariants as home
 use Rattle.vma_pools.specs.Pools.{Kept, IsMemoryOf}
-use Rattle.vma_pools.specs.State.{PoolsState, pool_at, allocation_at, ArePools, Backs, Owner, Has}
+use Rattle.vma_pools.specs.State.{PoolsState, pool_at, allocation_at, ArePools, Backs, Owner, Alone, BlockOf, Has}
+use Rattle.vk_backing.specs.declared.backing.Own.{Own}
 
--- The number of the memory object that each id has of its own; the pools with their allocations; the number of each pool, by its id; and that of the allocation of each resource in a pool (Vulkan, "Device Memory"; VMA, "Custom memory pools").
+-- The memory object that each id has of its own, with its allocation where it is that of one; the pools and all allocations; the number of each pool, by its id; and that of the allocation of each resource in a pool (Vulkan, "Device Memory"; VMA, "Dedicated allocations" and "Custom memory pools").
 pub record Backed : Type 0 where
-  pub owned : List (ℕ × ℕ)
+  pub owned : List (ℕ × Own)
   pub pools : PoolsState
   pub numbers : List (ℕ × ℕ)
   pub allocations : List (ℕ × ℕ)
@@ -25,9 +26,25 @@ pub record Backed : Type 0 where
 abbrev pub number_in : List (ℕ × ℕ) → ℕ → Option ℕ
 number_in numbers id = lookup (is_at (nat_cmp id)) numbers
 
+-- What an id has of its own; none where it has nothing.
+abbrev pub own_in : List (ℕ × Own) → ℕ → Option Own
+own_in owned id = lookup (is_at (nat_cmp id)) owned
+
+-- The number of the memory object that an id has of its own.
+abbrev pub object_in : List (ℕ × Own) → ℕ → Option ℕ
+object_in owned id = option_map (λ o. o.object) (own_in owned id)
+
+-- The number of the allocation that this memory object is of, where it is one's.
+abbrev pub dedicated_in : List (ℕ × Own) → ℕ → Option ℕ
+dedicated_in owned id = option_and_then (λ o. o.allocation) (own_in owned id)
+
 -- The number of the memory object that an id has of its own.
 abbrev pub object_of : Backed → ℕ → Option ℕ
-object_of b id = number_in b.owned id
+object_of b id = object_in b.owned id
+
+-- The number of the allocation that an id has in a memory object of its own (VMA, "Dedicated allocations").
+abbrev pub dedicated_of : Backed → ℕ → Option ℕ
+dedicated_of b id = dedicated_in b.owned id
 
 -- The number of a pool.
 abbrev pub pool_of : Backed → ℕ → Option ℕ
@@ -36,6 +53,10 @@ pool_of b id = number_in b.numbers id
 -- The number of the allocation that a resource has in a pool.
 abbrev pub allocation_of : Backed → ℕ → Option ℕ
 allocation_of b id = number_in b.allocations id
+
+-- The number of the allocation that is mapped with a resource, which is its own or in a pool; none where it has neither (VMA, "Memory mapping").
+abbrev pub mapping_of : Backed → ℕ → Option ℕ
+mapping_of b id = option_or (dedicated_of b id) (allocation_of b id)
 
 -- The pool of an id.
 abbrev pub pool_by : Backed → ℕ → Option Kept
@@ -78,7 +99,21 @@ pub record IsShared (b : Backed) (number : ℕ) : Type 0 where
   pub id : ℕ
   pub named : pool_of b id ≡ Some pool
 
--- What always holds: pools and their allocations are so, and their memory objects of the sizes that they need; each number is had by one id, and is that of something live; no id has a memory object of its own that is another's or a block's, nor an allocation beside it (Vulkan, "Object Lifetime" and "Resource Memory Association").
+-- An allocation is live, is not to be moved, and is of this memory object (VMA, "Dedicated allocations").
+pub record IsDedicated (found : Option Allocation) (object : Option ℕ) : Type 0 where
+  pub allocation : Allocation
+  pub live : found ≡ Some allocation
+  pub free : allocation.target ≡ None
+  pub number : ℕ
+  pub lies : allocation.home ≡ home.Own number
+  pub owns : object ≡ Some number
+
+-- An owner of a memory object is this allocation.
+abbrev pub IsOwner : Option ℕ → Owner → Type 0
+IsOwner a (Alone i) = a ≡ Some i
+IsOwner a (BlockOf p j) = ⊥
+
+-- What always holds: pools and allocations are so, and their memory objects of the sizes that they need; each number is had by one id, and is that of something live; no id has a memory object of its own that is another's, a block's, or that of an allocation that isn't its own, nor an allocation beside it (Vulkan, "Object Lifetime" and "Resource Memory Association"; VMA, "Dedicated allocations").
 pub record IsBacked (b : Backed) (m : MemoryState) : Type 0 where
   pub pools : ArePools b.pools
   pub backs : Backs b.pools m
@@ -86,7 +121,8 @@ pub record IsBacked (b : Backed) (m : MemoryState) : Type 0 where
   pub sized : AreSized m
   pub live : (id n : ℕ) → object_of b id ≡ Some n → IsLive m n
   pub own : (i j n : ℕ) → object_of b i ≡ Some n → object_of b j ≡ Some n → i ≡ j
-  pub apart : (id n : ℕ) (x : Owner) → object_of b id ≡ Some n → Has b.pools x n → ⊥
+  pub apart : (id n : ℕ) (x : Owner) → object_of b id ≡ Some n → Has b.pools x n → IsOwner (dedicated_of b id) x
+  pub dedicated : (id a : ℕ) → dedicated_of b id ≡ Some a → IsDedicated (allocation_at b.pools a) (object_of b id)
   pub either : (id n a : ℕ) → object_of b id ≡ Some n → allocation_of b id ≡ Some a → ⊥
   pub named : (id p : ℕ) → pool_of b id ≡ Some p → (k : Kept) × (pool_at b.pools p ≡ Some k)
   pub one_pool : (i j p : ℕ) → pool_of b i ≡ Some p → pool_of b j ≡ Some p → i ≡ j
@@ -95,4 +131,4 @@ pub record IsBacked (b : Backed) (m : MemoryState) : Type 0 where
 
 -- Each allocation is that of a resource.
 abbrev pub IsWhole : Backed → Type 0
-IsWhole b = (a : ℕ) (x : Allocation) → allocation_at b.pools a ≡ Some x → (id : ℕ) × (allocation_of b id ≡ Some a)
+IsWhole b = (a : ℕ) (x : Allocation) → allocation_at b.pools a ≡ Some x → (id : ℕ) × ((allocation_of b id ≡ Some a) ⊎ (dedicated_of b id ≡ Some a))

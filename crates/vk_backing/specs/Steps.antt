@@ -1,5 +1,5 @@
 -- What each call changes of what backs ids.
-use Rattle.std.specs.Prelude.{◌≡◌, ℕ, ◌==◌, ◌%◌, [], ◌∷◌, ◌++◌, length, set, max, Bool, not, if◌then◌else◌, Option, Some, None, IsTrue}
+use Rattle.std.specs.Prelude.{◌≡◌, ℕ, ◌+◌, ◌^◌, ◌==◌, ◌%◌, [], ◌∷◌, ◌++◌, length, set, max, nat_lt, Bool, not, if◌then◌else◌, Option, Some, None, IsTrue, ⊤}
 use Rattle.std.specs.List.{filter}
 use Rattle.vk_memory.specs.declared.memories.Object.{Object}
 use Rattle.vk_memory.specs.MemoryState.{MemoryState, IsFull, fresh, object_at, type_of}
@@ -14,8 +14,9 @@ use Rattle.vma_pools.specs.declared.allocations.Asked.{Asked}
 use Rattle.vma_pools.specs.declared.allocations.Allocation.{Allocation}
 use Rattle.vma_pools.specs.Pools.{Kept}
 use Rattle.vma_pools.specs.State as pools
-use Rattle.vma_pools.specs.State.{PoolsState, IfLive, IsEnded, released}
-use Rattle.vk_backing.specs.Backed.{Backed, object_of, pool_of, allocation_of, info_by, allocation_by, LiesIn}
+use Rattle.vma_pools.specs.State.{PoolsState, IfLive, IsOwn, IsEnded, released, with_allocation}
+use Rattle.vk_backing.specs.declared.backing.Own.{Own}
+use Rattle.vk_backing.specs.Backed.{Backed, own_in, object_of, dedicated_of, pool_of, allocation_of, mapping_of, info_by, allocation_by, LiesIn}
 use Rattle.vk_backing.specs.Spots.{KeepsSpots, KeepsInfos, KeepsAllInfos}
 use Rattle.vk_backing.specs.Allotted.{Allotted, Fulfils}
 
@@ -31,15 +32,26 @@ pub record Owns (old new : Backed) (before after : MemoryState) (id t size n : �
   pub memory : after ≡ record before { objects = before.objects ++ Some (fresh t size) ∷ [] }
   pub here : object_of new id ≡ Some n
   pub others : (i : ℕ) → (i ≡ id → ⊥) → object_of new i ≡ object_of old i
-  pub pools : new.pools ≡ old.pools
+  pub mapped : (i : ℕ) → (i ≡ id → ⊥) → dedicated_of new i ≡ dedicated_of old i
   pub numbers : new.numbers ≡ old.numbers
   pub allocations : new.allocations ≡ old.allocations
   pub keeps : KeepsSpots old new id
+  pub infos : KeepsAllInfos old new
 
 -- A memory object was made for an id, and this is its number; or nothing has changed, exactly where there is no room for it.
 abbrev pub OwnsOr : Option ℕ → Backed → Backed → MemoryState → MemoryState → ℕ → ℕ → ℕ → Type 0
 OwnsOr (Some n) old new before after id t size = Owns old new before after id t size n × (IsFull before t size → ⊥)
 OwnsOr None old new before after id t size = (new ≡ old) × (after ≡ before) × IsFull before t size
+
+-- A memory object that was made is no allocation's, and allocations and pools are what they were (Vulkan, "Device Memory").
+abbrev pub OwnsAlone : Option ℕ → Backed → Backed → ℕ → Type 0
+OwnsAlone (Some n) old new id = (dedicated_of new id ≡ None) × (new.pools ≡ old.pools)
+OwnsAlone None old new id = ⊤
+
+-- A memory object that was made is that of a new allocation, which is the id's (VMA, "Dedicated allocations").
+abbrev pub OwnsDedicated : Option ℕ → Backed → Backed → MemoryState → MemoryState → ℕ → ℕ → Asked → Type 0
+OwnsDedicated (Some n) old new before after id t asked = (a : ℕ) × (dedicated_of new id ≡ Some a) × IsOwn old.pools new.pools before after t asked a
+OwnsDedicated None old new before after id t asked = ⊤
 
 -- ---- pools
 
@@ -106,9 +118,14 @@ SharesOr None old new before after id pool asked upper = (new ≡ old) × (after
 
 -- ---- the end of a memory object or of a resource
 
--- What an id had has ended: its memory object, its allocation, or nothing (Vulkan, "Object Lifetime").
-abbrev pub EndsIn : Option ℕ → Option ℕ → PoolsState → PoolsState → Option ℕ → Type 0
-EndsIn (Some n) a old new gone = (gone ≡ Some n) × (new ≡ old)
+-- A memory object of an id's own has ended, and with it its allocation, where it is that of one (Vulkan, "Object Lifetime"; VMA, "Dedicated allocations").
+abbrev pub EndsOwn : ℕ → Option ℕ → PoolsState → PoolsState → Option ℕ → Type 0
+EndsOwn n None old new gone = (gone ≡ Some n) × (new ≡ old)
+EndsOwn n (Some a) old new gone = (gone ≡ Some n) × IfLive old a (λ x. IsEnded old new a x.home gone)
+
+-- What an id had has ended: its memory object, its allocation in a pool, or nothing (Vulkan, "Object Lifetime").
+abbrev pub EndsIn : Option Own → Option ℕ → PoolsState → PoolsState → Option ℕ → Type 0
+EndsIn (Some o) a old new gone = EndsOwn o.object o.allocation old new gone
 EndsIn None (Some a) old new gone = IfLive old a (λ x. IsEnded old new a x.home gone)
 EndsIn None None old new gone = (gone ≡ None) × (new ≡ old)
 
@@ -119,10 +136,31 @@ pub record Releases (old new : Backed) (before after : MemoryState) (id : ℕ) (
   pub objects : (i : ℕ) → (i ≡ id → ⊥) → object_of new i ≡ object_of old i
   pub no_allocation : allocation_of new id ≡ None
   pub allocations : (i : ℕ) → (i ≡ id → ⊥) → allocation_of new i ≡ allocation_of old i
+  pub mapped : (i : ℕ) → (i ≡ id → ⊥) → dedicated_of new i ≡ dedicated_of old i
   pub numbers : new.numbers ≡ old.numbers
   pub keeps : KeepsSpots old new id
   pub infos : KeepsAllInfos old new
-  pub ends : EndsIn (object_of old id) (allocation_of old id) old.pools new.pools gone
+  pub ends : EndsIn (own_in old.owned id) (allocation_of old id) old.pools new.pools gone
+
+-- ---- mappings
+
+-- One more, where a count of 32 bits has room for it (VMA, "Memory mapping", on counting).
+abbrev pub one_more : ℕ → ℕ
+one_more n = if nat_lt (n + 1) (2 ^ 32) then n + 1 else n
+
+-- How often an allocation is mapped has changed, and nothing else has; nothing at all where there is none (VMA, "Memory mapping").
+abbrev pub Counts : Option ℕ → (ℕ → ℕ) → Backed → Backed → Type 0
+Counts None change old new = new ≡ old
+Counts (Some a) change old new = IfLive old.pools a (λ x. new ≡ record old { pools = with_allocation old.pools a (record x { maps = change x.maps }) })
+
+-- The allocation of an id is mapped as often as the change says, if it has one, and nothing else has changed (VMA, "Memory mapping").
+pub record Maps (old new : Backed) (id : ℕ) (change : ℕ → ℕ) : Type 0 where
+  pub counts : Counts (mapping_of old id) change old new
+  pub owned : new.owned ≡ old.owned
+  pub numbers : new.numbers ≡ old.numbers
+  pub allocations : new.allocations ≡ old.allocations
+  pub keeps : (i p : ℕ) (s : Spot) → LiesIn old i p s → LiesIn new i p s
+  pub infos : KeepsAllInfos old new
 
 -- ---- what is allocated then
 
@@ -143,6 +181,10 @@ ShareAllots None old new id pool r upper = (d : Allocated) → Fulfils old d →
 -- What an id had is allocated no more (Vulkan, "Object Lifetime").
 abbrev pub ReleaseAllots : Allotted → Allotted → ℕ → Type 0
 ReleaseAllots old new id = (d : Allocated) → Fulfils old d → Fulfils new (without id d)
+
+-- What is allocated stays.
+abbrev pub KeepsAllotted : Allotted → Allotted → Type 0
+KeepsAllotted old new = (d : Allocated) → Fulfils old d → Fulfils new d
 
 -- A pool is there (VMA, "Custom memory pools").
 abbrev pub PoolAllots : Allotted → Allotted → ℕ → PoolInfo → Type 0

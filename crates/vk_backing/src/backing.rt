@@ -1,4 +1,4 @@
-ghost use Rattle.std.specs.Prelude.{◌≡◌, ℕ, ◌<◌, ◌≤◌, ◌==◌, [], Option, Some, None, IfOk, OnOk, IsSome, IsSomeAnd, max, if◌then◌else◌};
+ghost use Rattle.std.specs.Prelude.{◌≡◌, ◌↔◌, ℕ, ◌-◌, ◌<◌, ◌≤◌, ◌==◌, [], IsTrue, Option, Some, None, IfOk, OnOk, IsSome, IsSomeAnd, max, if◌then◌else◌};
 ghost use Rattle.vk_model.specs.Memory.Suballocation.{IsRequest};
 ghost use Rattle.vma_blocks.specs.PoolInfos.{IsPoolInfo};
 ghost use Rattle.vk_model.specs.Trace.Objects.{Resource};
@@ -18,12 +18,22 @@ const CACHED_TYPE: u32 = 2;
 /// The alignment in bytes of what lies in blocks on that type: an atom (profile).
 const CACHED_ALIGN: u64 = 64;
 
-/// The memory objects that ids have of their own, pools, and the allocations of resources in pools.
-/// Memory objects are handed in to each call, which are to be those of the calls before it.
+/// A memory object that an id has of its own.
+#[derive(Clone, Copy)]
+pub struct Own {
+    /// The number of the memory object.
+    pub object: u64,
+    /// The number of its allocation, where it is that of a resource: one that the trace made has none.
+    pub allocation: Option<u64>,
+}
+
+/// The memory objects that ids have of their own, pools, and the allocations of resources, in pools and
+/// in memory objects of their own. Memory objects are handed in to each call, which are to be those of
+/// the calls before it.
 #[derive(Drop)]
 pub struct Backing {
-    /// The number of the memory object that an id has of its own.
-    owned: BTreeMap<u32, u64>,
+    /// What an id has of its own.
+    owned: BTreeMap<u32, Own>,
     pools: Pools,
     /// The number of each pool, by its id.
     numbers: BTreeMap<u32, u64>,
@@ -39,11 +49,37 @@ impl Model for Backing {
     ghost view = { λ b. record { owned = b.owned.entries; pools = b.pools; numbers = b.numbers.entries; allocations = b.allocations.entries } };
 }
 
+ghost use Rattle.vma_pools.specs.State.{allocation_at, with_allocation, IfLive, Backs};
+ghost use Rattle.vk_backing.specs.Steps.{one_more};
+
+/// Maps an allocation once more. A count that is full stays: no trace has so many entries.
+fn map_once(pools: &mut Pools, allocation: u64)
+    requires { IsSome (allocation_at pools.old allocation) }
+    ensures counts { IfLive pools.old allocation (λ a. pools.new ≡ with_allocation pools.old allocation (record a { maps = one_more a.maps })) }
+    ensures backs { (m : MemoryState) → Backs pools.old m → Backs pools.new m }
+{
+    let Some(live) = pools.allocation(allocation) else {
+        unreachable!()
+    };
+    if live.maps < u32::MAX {
+        pools.map(allocation);
+    }
+}
+
+/// Unmaps an allocation once. One that isn't mapped stays so: no trace that breaks no rule unmaps it.
+fn unmap_once(pools: &mut Pools, allocation: u64)
+    requires { IsSome (allocation_at pools.old allocation) }
+    ensures counts { IfLive pools.old allocation (λ a. pools.new ≡ with_allocation pools.old allocation (record a { maps = a.maps - 1 })) }
+    ensures backs { (m : MemoryState) → Backs pools.old m → Backs pools.new m }
+{
+    let _ = pools.unmap(allocation);
+}
+
 impl Backing {
-    ghost use Rattle.vk_backing.specs.Backed.{Backed, object_of, pool_of, allocation_of, pool_by, IsBacked, IsWhole};
+    ghost use Rattle.vk_backing.specs.Backed.{Backed, object_of, pool_of, allocation_of, mapping_of, pool_by, IsBacked, IsWhole};
     ghost use Rattle.vk_backing.specs.Allotted.{allotted};
     ghost use Rattle.vk_backing.specs.Spots.{AreSpots};
-    ghost use Rattle.vk_backing.specs.Steps.{Grows, OwnsOr, OwnAllots, MakesPool, PoolAllots, DropsPool, DropAllots, IsUnused, SharesOr, ShareAllots, Asks, Releases, ReleaseAllots};
+    ghost use Rattle.vk_backing.specs.Steps.{Grows, OwnsOr, OwnsAlone, OwnsDedicated, OwnAllots, Maps, KeepsAllotted, MakesPool, PoolAllots, DropsPool, DropAllots, IsUnused, SharesOr, ShareAllots, Asks, Releases, ReleaseAllots};
 
     /// Nothing is backed. It takes no memory.
     pub fn new(alloc: Global) -> Backing
@@ -61,7 +97,24 @@ impl Backing {
     pub fn object(&self, id: u32) -> Option<u64>
         ensures { result ≡ object_of self.now id }
     {
-        self.owned.get(&id).copied()
+        match self.owned.get(&id) {
+            Some(own) => Some(own.object),
+            None => None,
+        }
+    }
+
+    /// The number of the allocation that is mapped with a resource; none where it has none.
+    fn mapping(&self, id: u32) -> Option<u64>
+        ensures { result ≡ mapping_of self.now id }
+    {
+        let dedicated = match self.owned.get(&id) {
+            Some(own) => own.allocation,
+            None => None,
+        };
+        match dedicated {
+            Some(_) => dedicated,
+            None => self.allocations.get(&id).copied(),
+        }
     }
 
     /// Where resources lie in pools: some bytes of live memory objects that no id has of its own, and
@@ -74,8 +127,8 @@ impl Backing {
         let _memories = memories;
     }
 
-    /// Makes a memory object for an id, and answers its number; none where there is no room. The only
-    /// error is want of memory.
+    /// Makes a memory object for an id, which is no resource, and answers its number; none where there is
+    /// no room. The only error is want of memory.
     pub fn own(
         &mut self,
         memories: &mut Memories,
@@ -90,6 +143,7 @@ impl Backing {
         ensures backed { IsBacked self.new memories.new }
         ensures grows { Grows memories.old memories.new }
         ensures owns { IfOk result (λ o. OwnsOr o self.old self.new memories.old memories.new id memory_type size) }
+        ensures alone { IfOk result (λ o. OwnsAlone o self.old self.new id) }
         ensures whole { IfOk result (λ o. IsWhole self.old → IsWhole self.new) }
         ensures allots { IfOk result (λ o. OwnAllots o (allotted self.old memories.old) (allotted self.new memories.new) id memory_type size) }
     {
@@ -98,8 +152,47 @@ impl Backing {
             Err(MemoryError::NoRoom) => return Ok(None),
             Err(MemoryError::NoMemory) => return Err(AllocError),
         };
-        self.owned.insert(id, number)?;
+        let own = Own {
+            object: number,
+            allocation: None,
+        };
+        self.owned.insert(id, own)?;
         Ok(Some(number))
+    }
+
+    /// Puts a resource in a memory object of its own, and answers the number of that; none where there is
+    /// no room. The only error is want of memory.
+    pub fn dedicate(
+        &mut self,
+        memories: &mut Memories,
+        id: u32,
+        memory_type: u32,
+        asked: Asked,
+    ) -> Result<Option<u64>, AllocError>
+        requires backed { IsBacked self.old memories.old }
+        requires absent { object_of self.old id ≡ None }
+        requires apart { allocation_of self.old id ≡ None }
+        requires request { IsRequest asked.size asked.align }
+        ensures backed { IsBacked self.new memories.new }
+        ensures grows { Grows memories.old memories.new }
+        ensures owns { IfOk result (λ o. OwnsOr o self.old self.new memories.old memories.new id memory_type asked.size) }
+        ensures dedicated { IfOk result (λ o. OwnsDedicated o self.old self.new memories.old memories.new id memory_type asked) }
+        ensures whole { IfOk result (λ o. IsWhole self.old → IsWhole self.new) }
+        ensures allots { IfOk result (λ o. OwnAllots o (allotted self.old memories.old) (allotted self.new memories.new) id memory_type asked.size) }
+    {
+        let allocation = match self.pools.dedicated(memories, memory_type, asked) {
+            Ok(allocation) => allocation,
+            Err(MemoryError::NoRoom) => return Ok(None),
+            Err(MemoryError::NoMemory) => return Err(AllocError),
+        };
+        self.pools.are_pools();
+        let object = self.pools.place(allocation).memory;
+        let own = Own {
+            object,
+            allocation: Some(allocation),
+        };
+        self.owned.insert(id, own)?;
+        Ok(Some(object))
     }
 
     /// Makes a pool for an id. The only error is want of memory.
@@ -195,13 +288,52 @@ impl Backing {
         ensures whole { IsWhole self.old → IsWhole self.new }
         ensures allots { ReleaseAllots (allotted self.old memories.old) (allotted self.new memories.new) id }
     {
-        if let Some(object) = self.owned.remove(&id) {
-            memories.free(object);
-            return Some(object);
+        if let Some(own) = self.owned.remove(&id) {
+            let Some(dedicated) = own.allocation else {
+                memories.free(own.object);
+                return Some(own.object);
+            };
+            let freed = self.pools.free(memories, dedicated);
+            self.pools.are_pools();
+            return freed;
         }
         let allocation = self.allocations.remove(&id)?;
         let gone = self.pools.free(memories, allocation);
         self.pools.are_pools();
         gone
+    }
+
+    /// Maps the allocation of a resource once more, and answers whether it has one.
+    pub fn map(&mut self, id: u32) -> bool
+        requires backed { (m : MemoryState) × IsBacked self.old m }
+        ensures has { IsTrue result ↔ IsSome (mapping_of self.old id) }
+        ensures maps { Maps self.old self.new id one_more }
+        ensures backed { (m : MemoryState) → IsBacked self.old m → IsBacked self.new m }
+        ensures whole { IsWhole self.old → IsWhole self.new }
+        ensures allots { (m : MemoryState) → IsBacked self.old m → KeepsAllotted (allotted self.old m) (allotted self.new m) }
+    {
+        let Some(allocation) = self.mapping(id) else {
+            return false;
+        };
+        map_once(&mut self.pools, allocation);
+        self.pools.are_pools();
+        true
+    }
+
+    /// Unmaps the allocation of a resource once, where it is mapped, and answers whether it has one.
+    pub fn unmap(&mut self, id: u32) -> bool
+        requires backed { (m : MemoryState) × IsBacked self.old m }
+        ensures has { IsTrue result ↔ IsSome (mapping_of self.old id) }
+        ensures maps { Maps self.old self.new id (λ n. n - 1) }
+        ensures backed { (m : MemoryState) → IsBacked self.old m → IsBacked self.new m }
+        ensures whole { IsWhole self.old → IsWhole self.new }
+        ensures allots { (m : MemoryState) → IsBacked self.old m → KeepsAllotted (allotted self.old m) (allotted self.new m) }
+    {
+        let Some(allocation) = self.mapping(id) else {
+            return false;
+        };
+        unmap_once(&mut self.pools, allocation);
+        self.pools.are_pools();
+        true
     }
 }

@@ -4,4 +4,4 @@
 
 mod backing;
 
-pub use backing::Backing;
+pub use backing::{Backing, Own};

@@ -46,7 +46,8 @@ use Rattle.std.proofs.Math.Nat.{div-add-mod, div-mul-le_self, mul-div_cancel, mo
 use Rattle.vk_model.specs.declared.command.Cmd.{Cmd}
 use Rattle.vk_model.specs.Trace.Objects.{made, made_by, ended, live, buffer, buffer_in, bound_at, pool_at, Resource, resource_in, of_buffer, of_image}
 use Rattle.vk_model.specs.declared.entry.Entry.{Entry}
-use Rattle.vk_device.proofs.CleanPools.{buffer_request, image_request, pool_fits, pool_point, drop_point}
+use Rattle.vk_resources.proofs.Requests.{buffer_request, image_request}
+use Rattle.vk_device.proofs.CleanPools.{pool_fits, pool_point, drop_point}
 use Rattle.vk_device.proofs.CleanImages.{clear_point, copy_in_point, copy_out_point, copy_image_point}
 use Rattle.vk_device.proofs.Unbroken.{BreaksNone, breaks_none, not-false, not_above, not_zero, new_made, entry_size, command_size, memory_size, entry_range, command_range, command_align, names_live, used_none, bound_within, bound_apart, bound_aligned, all_from, areas_inside}
 

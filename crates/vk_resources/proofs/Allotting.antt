@@ -101,8 +101,6 @@ rest_rooms s _ rest past fit = λ d al none. none
 pub rest_allots : (s : Held) (y : Entry) → IsRest y → (past : Past) → FitsEntry past y → Allots applied.Done y s s
 rest_allots s (entry.Semaphore i v) rest past fit = λ d al. (d, refl, al)
 rest_allots s (entry.Event i) rest past fit = λ d al. (d, refl, al)
-rest_allots s (entry.Map b) rest past fit = λ d al. (d, refl, al)
-rest_allots s (entry.Unmap b) rest past fit = λ d al. (d, refl, al)
 rest_allots s (entry.Signal v n) rest past fit = λ d al. (d, refl, al)
 rest_allots s (entry.Wait ws) rest past fit = λ d al. (d, refl, al)
 rest_allots s (entry.Submit q bs) rest past fit = λ d al. (d, refl, al)
@@ -117,20 +115,24 @@ rest_allots s (entry.Write b o bytes) rest past fit = absurd rest
 rest_allots s (entry.Read b o n) rest past fit = absurd rest
 rest_allots s (entry.Flush b o n) rest past fit = absurd rest
 rest_allots s (entry.Invalidate b o n) rest past fit = absurd rest
+rest_allots s (entry.Map b) rest past fit = absurd rest
+rest_allots s (entry.Unmap b) rest past fit = absurd rest
 rest_allots s _ rest past fit = absurd fit
 
 -- what isn't the one or the other is done nothing for
 pub is_rest : (y : Entry) → ((i : ℕ) (info : MemoryInfo) → y ≡ entry.Memory i info → ⊥) → ((i : ℕ) (info : BufferInfo) → y ≡ entry.Buffer i info → ⊥) → ((i : ℕ) (info : ImageInfo) → y ≡ entry.Image i info → ⊥) → ((p : ℕ) (info : PoolInfo) → y ≡ entry.Pool p info → ⊥) → ((p : ℕ) → y ≡ entry.DropPool p → ⊥) → ((m : ℕ) → y ≡ entry.Free m → ⊥) → ((r : ℕ) → y ≡ entry.Destroy r → ⊥)
-    → ((b o : ℕ) (bytes : List ℕ) → y ≡ entry.Write b o bytes → ⊥) → ((b o n : ℕ) → y ≡ entry.Read b o n → ⊥) → ((b o : ℕ) (n : Length) → y ≡ entry.Flush b o n → ⊥) → ((b o : ℕ) (n : Length) → y ≡ entry.Invalidate b o n → ⊥) → IsRest y
-is_rest (entry.Memory i info) memory buffer image pool drop free destroy write read flush invalidate = memory i info refl
-is_rest (entry.Buffer i info) memory buffer image pool drop free destroy write read flush invalidate = buffer i info refl
-is_rest (entry.Image i info) memory buffer image pool drop free destroy write read flush invalidate = image i info refl
-is_rest (entry.Pool p info) memory buffer image pool drop free destroy write read flush invalidate = pool p info refl
-is_rest (entry.DropPool p) memory buffer image pool drop free destroy write read flush invalidate = drop p refl
-is_rest (entry.Free m) memory buffer image pool drop free destroy write read flush invalidate = free m refl
-is_rest (entry.Destroy r) memory buffer image pool drop free destroy write read flush invalidate = destroy r refl
-is_rest (entry.Write b o bytes) memory buffer image pool drop free destroy write read flush invalidate = write b o bytes refl
-is_rest (entry.Read b o n) memory buffer image pool drop free destroy write read flush invalidate = read b o n refl
-is_rest (entry.Flush b o n) memory buffer image pool drop free destroy write read flush invalidate = flush b o n refl
-is_rest (entry.Invalidate b o n) memory buffer image pool drop free destroy write read flush invalidate = invalidate b o n refl
-is_rest _ memory buffer image pool drop free destroy write read flush invalidate = tt
+    → ((b o : ℕ) (bytes : List ℕ) → y ≡ entry.Write b o bytes → ⊥) → ((b o n : ℕ) → y ≡ entry.Read b o n → ⊥) → ((b o : ℕ) (n : Length) → y ≡ entry.Flush b o n → ⊥) → ((b o : ℕ) (n : Length) → y ≡ entry.Invalidate b o n → ⊥) → ((b : ℕ) → y ≡ entry.Map b → ⊥) → ((b : ℕ) → y ≡ entry.Unmap b → ⊥) → IsRest y
+is_rest (entry.Memory i info) memory buffer image pool drop free destroy write read flush invalidate map unmap = memory i info refl
+is_rest (entry.Buffer i info) memory buffer image pool drop free destroy write read flush invalidate map unmap = buffer i info refl
+is_rest (entry.Image i info) memory buffer image pool drop free destroy write read flush invalidate map unmap = image i info refl
+is_rest (entry.Pool p info) memory buffer image pool drop free destroy write read flush invalidate map unmap = pool p info refl
+is_rest (entry.DropPool p) memory buffer image pool drop free destroy write read flush invalidate map unmap = drop p refl
+is_rest (entry.Free m) memory buffer image pool drop free destroy write read flush invalidate map unmap = free m refl
+is_rest (entry.Destroy r) memory buffer image pool drop free destroy write read flush invalidate map unmap = destroy r refl
+is_rest (entry.Write b o bytes) memory buffer image pool drop free destroy write read flush invalidate map unmap = write b o bytes refl
+is_rest (entry.Read b o n) memory buffer image pool drop free destroy write read flush invalidate map unmap = read b o n refl
+is_rest (entry.Flush b o n) memory buffer image pool drop free destroy write read flush invalidate map unmap = flush b o n refl
+is_rest (entry.Invalidate b o n) memory buffer image pool drop free destroy write read flush invalidate map unmap = invalidate b o n refl
+is_rest (entry.Map b) memory buffer image pool drop free destroy write read flush invalidate map unmap = map b refl
+is_rest (entry.Unmap b) memory buffer image pool drop free destroy write read flush invalidate map unmap = unmap b refl
+is_rest _ memory buffer image pool drop free destroy write read flush invalidate map unmap = tt

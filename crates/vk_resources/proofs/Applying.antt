@@ -47,12 +47,12 @@ use Rattle.vk_resources.proofs.Living.{live_new, live_end, not_live, shared_on, 
 -- ---- bytes that stay
 
 -- where the cache and the place stay
-same_host : (old new : Held) (c : Byte) → placed new (resource_at c) ≡ placed old (resource_at c) → new.cache ≡ old.cache → host_at new c ≡ host_at old c
+pub same_host : (old new : Held) (c : Byte) → placed new (resource_at c) ≡ placed old (resource_at c) → new.cache ≡ old.cache → host_at new c ≡ host_at old c
 same_host old new (in_image i l a x y z) place cache = refl
 same_host old new (in_buffer b k) place cache = ap (λ (h : Holdings). holding_in h (placed new b) k) cache ∙ ap (λ (o : Option Placed). holding_in old.cache o k) place
 
 -- a byte whose resource stays where it is, in an object that keeps its bytes, and of which the same is held
-stays : (old new : Held) (c : Byte) (cell : Cell) → placed new (resource_at c) ≡ placed old (resource_at c) → shape_of new (resource_at c) ≡ shape_of old (resource_at c)
+pub stays : (old new : Held) (c : Byte) (cell : Cell) → placed new (resource_at c) ≡ placed old (resource_at c) → shape_of new (resource_at c) ≡ shape_of old (resource_at c)
     → ((p : Placed) → placed old (resource_at c) ≡ Some p → region_of new.memory p.object ≡ region_of old.memory p.object) → host_at new c ≡ host_at old c → HasCell old c cell → HasCell new c cell
 stays old new c cell place shape region host has = record {
   held = has.held ∙ sym host;
@@ -121,8 +121,7 @@ module _ (old new : Held) (id t size : ℕ) (makes : Makes old new id t size) wh
   made_kept number lives = rw makes.memory (ap bytes_of (kept_object old.memory (fresh t size) number lives))
 
   made_infos : (i : ℕ) → info_by new.backed i ≡ info_by old.backed i
-  made_infos i = ap (λ (s : PoolsState). info_by (record new.backed { pools = s }) i) makes.owns.pools ∙ ap (λ (ns : List (ℕ × ℕ)). info_by (record old.backed { numbers = ns }) i) makes.owns.numbers
-
+  made_infos i = makes.owns.infos i
   made_allocations : (i : ℕ) → allocation_of new.backed i ≡ allocation_of old.backed i
   made_allocations i = ap (λ (ns : List (ℕ × ℕ)). number_in ns i) makes.owns.allocations
 

@@ -22,3 +22,5 @@ pub mod HostAccesses
 mod Ending
 mod Allotting
 mod Making
+pub mod Requests
+mod Remapping

@@ -20,7 +20,8 @@ use Rattle.vma_pools.specs.declared.pool.PoolPlace.{PoolPlace}
 use Rattle.vma_pools.specs.declared.allocations.Allocation.{Allocation}
 use Rattle.vma_pools.specs.State as pools
 use Rattle.vma_pools.specs.State.{shared_place}
-use Rattle.vk_backing.specs.Backed.{allocation_of, allocation_by, info_by, number_in}
+use Rattle.vk_backing.specs.declared.backing.Own.{Own}
+use Rattle.vk_backing.specs.Backed.{allocation_of, allocation_by, info_by, number_in, object_in}
 use Rattle.vk_backing.specs.Steps.{IsUnused}
 use Rattle.vk_resources.specs.declared.applied.Applied.TheVariants as applied
 use Rattle.vk_resources.specs.declared.resources.Placed.{Placed}
@@ -150,7 +151,7 @@ module _ (s : Held) (past : Past) (m : MatchesLive past s) (stands : Stands s) (
     shapes b = ap (λ (l : List (ℕ × ImageInfo)). shape_in l b) dropped.shapes
 
     objects : (j : ℕ) → object_of new j ≡ object_of s j
-    objects j = ap (λ (l : List (ℕ × ℕ)). number_in l j) dropped.drops.owned
+    objects j = ap (λ (l : List (ℕ × Own)). object_in l j) dropped.drops.owned
 
     lies_still : (b : ℕ) (p : Placed) (y : Entry) (r : Resource) → live past b ≡ Some y → resource_in y ≡ Some r → (q : Place) → r.place ≡ q → LiesAt (live past) s b q p → LiesAt after new b q p
     lies_still b p y r alive is (place.Dedicated t) at lies = (objects b ∙ lies.0, lies.1)

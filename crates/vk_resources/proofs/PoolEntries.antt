@@ -15,7 +15,8 @@ use Rattle.vk_model.specs.World.Bytes.{Byte}
 use Rattle.vma_pools.specs.Pools.{Kept}
 use Rattle.vma_pools.specs.State as pools
 use Rattle.vma_pools.specs.State.{allocation_at, shared_place}
-use Rattle.vk_backing.specs.Backed.{number_in, pool_of, allocation_of, info_by}
+use Rattle.vk_backing.specs.declared.backing.Own.{Own}
+use Rattle.vk_backing.specs.Backed.{number_in, pool_of, allocation_of, info_by, object_in}
 use Rattle.vk_resources.specs.declared.applied.Applied.TheVariants as applied
 use Rattle.vk_resources.specs.declared.resources.Placed.{Placed}
 use Rattle.vk_resources.specs.Held.{Held, Stands, placed, placed_in, shape_in, shape_of, object_of, HasCell}
@@ -43,7 +44,7 @@ module _ (old new : Held) (y : Entry) (i : ℕ) (info : PoolInfo) (is : y ≡ en
       let none = not_live past i unused in
       let places : (b : ℕ) → placed new b ≡ placed old b = λ b. ap (λ (s : List (ℕ × Placed)). placed_in s b) made.resources in
       let images : (b : ℕ) → shape_of new b ≡ shape_of old b = λ b. ap (λ (s : List (ℕ × ImageInfo)). shape_in s b) made.shapes in
-      let objects : (j : ℕ) → object_of new j ≡ object_of old j = λ j. ap (λ (ns : List (ℕ × ℕ)). number_in ns j) made.makes.owned in
+      let objects : (j : ℕ) → object_of new j ≡ object_of old j = λ j. ap (λ (os : List (ℕ × Own)). object_in os j) made.makes.owned in
       let bare : object_of new i ≡ None = objects i ∙ unowned (live past) old i m (ap (λ (o : Option Entry). holds o has_memory) none) in
       let shares : (j : ℕ) → allocation_of new.backed j ≡ allocation_of old.backed j = λ j. ap (λ (ns : List (ℕ × ℕ)). number_in ns j) made.makes.allocations in
       record {

@@ -34,6 +34,8 @@ IsRest (entry.Write b o bytes) = ⊥
 IsRest (entry.Read b o n) = ⊥
 IsRest (entry.Flush b o n) = ⊥
 IsRest (entry.Invalidate b o n) = ⊥
+IsRest (entry.Map b) = ⊥
+IsRest (entry.Unmap b) = ⊥
 IsRest _ = ⊤
 
 -- nothing is held of an object that is neither a resource nor a memory object
@@ -80,8 +82,6 @@ queue_drops s q c cell has = go (cell.held (suc q))
 pub rest_done : (s : Held) (y : Entry) → IsRest y → (e : ℕ) (past : Past) → MatchesLive past s → FitsEntry past y → DoneBy applied.Done e y past s s
 rest_done s (entry.Semaphore i v) rest e past m fit = ((other_goes s past e i (entry.Semaphore i v) refl refl refl refl refl refl refl refl fit m, λ c cell there after has. has, none_new s s refl refl), λ b o n h. absurd cc)
 rest_done s (entry.Event i) rest e past m fit = ((other_goes s past e i (entry.Event i) refl refl refl refl refl refl refl refl fit m, λ c cell there after has. has, none_new s s refl refl), λ b o n h. absurd cc)
-rest_done s (entry.Map b) rest e past m fit = ((matches_same (live past) (live (host e (entry.Map b) ∷ past)) s (live_same past e (entry.Map b) refl refl) m, λ c cell there after has. has, none_new s s refl refl), λ b o n h. absurd cc)
-rest_done s (entry.Unmap b) rest e past m fit = ((matches_same (live past) (live (host e (entry.Unmap b) ∷ past)) s (live_same past e (entry.Unmap b) refl refl) m, λ c cell there after has. has, none_new s s refl refl), λ b o n h. absurd cc)
 rest_done s (entry.Signal v n) rest e past m fit = ((matches_same (live past) (live (host e (entry.Signal v n) ∷ past)) s (live_same past e (entry.Signal v n) refl refl) m, λ c cell there after has. has, none_new s s refl refl), λ b o n h. absurd cc)
 rest_done s (entry.Wait ws) rest e past m fit = ((matches_same (live past) (live (host e (entry.Wait ws) ∷ past)) s (live_same past e (entry.Wait ws) refl refl) m, λ c cell there after has. has, none_new s s refl refl), λ b o n h. absurd cc)
 rest_done s (entry.Submit q bs) rest e past m fit = ((matches_same (live past) (live (host e (entry.Submit q bs) ∷ past)) s (live_same past e (entry.Submit q bs) refl refl) m, λ c cell there after has. queue_drops s q c cell has, none_new s s refl refl), λ b o n h. absurd cc)
@@ -96,4 +96,6 @@ rest_done s (entry.Write b o bytes) rest e past m fit = absurd rest
 rest_done s (entry.Read b o n) rest e past m fit = absurd rest
 rest_done s (entry.Flush b o n) rest e past m fit = absurd rest
 rest_done s (entry.Invalidate b o n) rest e past m fit = absurd rest
+rest_done s (entry.Map b) rest e past m fit = absurd rest
+rest_done s (entry.Unmap b) rest e past m fit = absurd rest
 rest_done s _ rest e past m fit = absurd fit

@@ -17,7 +17,8 @@ use Rattle.vk_model.specs.Trace.Objects.{Resource, live, pool_at}
 use Rattle.vk_transfer.specs.Ran.{AreApart}
 use Rattle.vma_pools.specs.declared.allocations.Asked.{Asked}
 use Rattle.vk_backing.specs.Backed as backing
-use Rattle.vk_backing.specs.Backed.{Backed, number_in, pool_of, allocation_of, info_by, LiesIn, IsBacked, IsWhole}
+use Rattle.vk_backing.specs.declared.backing.Own.{Own}
+use Rattle.vk_backing.specs.Backed.{Backed, number_in, object_in, pool_of, allocation_of, info_by, LiesIn, IsBacked, IsWhole}
 use Rattle.vk_backing.specs.Spots.{AreSpots}
 use Rattle.vk_backing.specs.Steps.{Grows, Owns, Shares, OwnAllots, ShareAllots, Asks}
 use Rattle.vk_backing.specs.Allotted as allotting
@@ -61,7 +62,7 @@ module _ (old : Held) (new : Backed) (memory : MemoryState) (is : IsBacked new m
 
   pub spot_beside : (c : ℕ) (q : Placed) → (c ≡ id → ⊥) → LiesElsewhere old id c q → q.object ≡ spot.memory → AreApart spot.offset size q.offset q.size
   spot_beside c q ne (inl own) same =
-      absurd (spots.unowned id shares.number own.0 spot shares.lies (ap (λ (ns : List (ℕ × ℕ)). number_in ns own.0) shares.owned ∙ own.2 ∙ ap (λ (n : ℕ). Some n) same))
+      absurd (spots.unowned id shares.number own.0 spot shares.lies (ap (λ (os : List (ℕ × Own)). object_in os own.0) shares.owned ∙ own.2 ∙ ap (λ (n : ℕ). Some n) same))
   spot_beside c q ne (inr shared) same =
       let l = shared.1 in
       let there = shares.keeps c shared.0 l.spot ne l.lies in
@@ -161,7 +162,7 @@ module _ (old new : Held) (x : Entry) (i : ℕ) (r : Resource) (size : ℕ) (sha
       go applied.Done made =
           let spot = made.0 in let put = made.1 in let shares = put.shares in
           let p : Placed = record { size = size; object = spot.memory; offset = spot.offset } in
-          let objects : (j : ℕ) → object_of new j ≡ object_of old j = λ j. ap (λ (ns : List (ℕ × ℕ)). number_in ns j) shares.owned in
+          let objects : (j : ℕ) → object_of new j ≡ object_of old j = λ j. ap (λ (os : List (ℕ × Own)). object_in os j) shares.owned in
           let none_own : object_of old i ≡ None = unowned (live past) old i m (ap (λ (o : Option Entry). holds o has_memory) (not_live past i unused)) in
           let object : is_some (object_of new i) ≡ is_own r.place = ap is_some (objects i ∙ none_own) ∙ sym (ap is_own at ∙ not_own upper) in
           let numbers : (q : ℕ) → pool_of new.backed q ≡ pool_of old.backed q = λ q. ap (λ (ns : List (ℕ × ℕ)). number_in ns q) shares.numbers in

@@ -78,7 +78,7 @@ impl Resources {
         id: u32,
         memory_type: u32,
         size: u64,
-        asked: u64,
+        asked: Asked,
         shape: Option<Shape>,
     ) -> Result<Applied, AllocError>
         requires absent { object_of self.old id ≡ None }
@@ -86,12 +86,13 @@ impl Resources {
         requires unplaced { placed self.old id ≡ None }
         requires unshaped { shape_of self.old id ≡ None }
         requires some { 0 < size }
-        requires room { size ≤ asked }
+        requires room { size ≤ asked.size }
+        requires request { IsRequest asked.size asked.align }
         requires shaped { (object : ℕ) → ShapeReady shape (record { size = size; object = object; offset = 0 }) }
-        ensures made { IfOk result (λ a. ResourceMade a self.old self.new id memory_type size asked shape) }
+        ensures made { IfOk result (λ a. ResourceMade a self.old self.new id memory_type size asked.size shape) }
         ensures stands { Stands self.old }
     {
-        match self.allocate(id, memory_type, asked)? {
+        match self.dedicate(id, memory_type, asked)? {
             Some(object) => {
                 let offset = 0;
                 let placed = Placed {
@@ -257,7 +258,7 @@ impl Resources {
         };
         match info.place {
             Place::Dedicated { memory_type } => {
-                self.make_resource(id, memory_type, info.size, asked.size, None)
+                self.make_resource(id, memory_type, info.size, asked, None)
             }
             Place::Memory { memory, offset } => {
                 self.bind(id, memory, offset, info.size, None)?;
@@ -288,7 +289,7 @@ impl Resources {
         };
         match info.place {
             Place::Dedicated { memory_type } => {
-                self.make_resource(id, memory_type, size, size, Some(shape))
+                self.make_resource(id, memory_type, size, asked, Some(shape))
             }
             Place::Memory { memory, offset } => {
                 self.bind(id, memory, offset, size, Some(shape))?;
@@ -315,8 +316,8 @@ impl Resources {
         }
     }
 
-    /// Does what an entry does to resources. Mappings are left to the rules: an entry that breaks none
-    /// reaches memory only where it is mapped. The only error is want of memory.
+    /// Does what an entry does to resources. Mappings are counted, and no access asks for them: an entry
+    /// that breaks no rule reaches memory only where it is mapped. The only error is want of memory.
     pub fn apply(&mut self, entry: &Entry) -> Result<Applied, AllocError>
         requires { EntryReady self.old entry.now }
         ensures done { IfOk result (λ a. (e : ℕ) (past : Past) → MatchesLive past self.old → FitsEntry past entry.now → DoneBy a e entry.now past self.old self.new) }
@@ -371,6 +372,14 @@ impl Resources {
                 size,
             } => {
                 self.invalidate(*buffer, *offset, *size);
+                Ok(Applied::Done)
+            }
+            Entry::Map { buffer } => {
+                self.map(*buffer);
+                Ok(Applied::Done)
+            }
+            Entry::Unmap { buffer } => {
+                self.unmap(*buffer);
                 Ok(Applied::Done)
             }
             _ => Ok(Applied::Done),

@@ -1,5 +1,6 @@
 -- Each pool and allocation keeps a memory object of its own.
 use Rattle.std.proofs.Common.{◌≡◌, ℕ, ◌+◌, ◌<◌, List, [], ◌∷◌, ◌++◌, length, get_or, set, Bool, Option, Some, None, refl, sym, ap, subst, ◌∙◌, arith, inl, inr, ◌⊎◌}
+use Rattle.std.specs.Prelude.{slice_index_or}
 use Rattle.std.proofs.lemmas.Bool.{cases_eq, cases_lt}
 use Rattle.std.proofs.lemmas.List.{length-append, length-replicate, get_or_append_left}
 use Rattle.std.proofs.Math.Seq.{get_or-append_seam}
@@ -235,3 +236,32 @@ takes-backs s h m after backs p was now there place asked upper (inr t) =
     let info = t.pool.info ∙ given-info was.pool (request_in asked) upper (start_of place) in
     subst (λ (n : MemoryState). Backs (record { pools = set s.pools p (Some now); allocations = s.allocations ++ Some (new_allocation (home.Shared p place) asked) ∷ [] }) n) (sym t.object)
     (more-backs s h m backs p was now there place asked info t.memories)
+
+-- ---- other pools
+
+-- a pool that is another one than at its number before has no memory objects
+module _ (s : PoolsState) (m : MemoryState) (backs : Backs s m) (pools : List (Option Kept)) (each : (p : ℕ) (k : Kept) → slice_index_or pools p None ≡ Some k → (pool_at s p ≡ Some k) ⊎ (k.memories ≡ [])) where
+  block-was : (p j : ℕ) (k : Kept) → slice_index_or pools p None ≡ Some k → j < length k.memories → pool_at s p ≡ Some k
+  block-was p j k at lt = elim (each p k at) [ inl old ↦ old | inr none ↦ absurd (omega (arith, lt, ap (λ (l : List ℕ). length l) none)) ]
+
+  has-was : (x : Owner) (n : ℕ) → Has (record s { pools = pools }) x n → Has s x n
+  has-was (Alone i) n has = has
+  has-was (BlockOf p j) n has = (has.0, block-was p j has.0 has.1 has.2, has.2, has.3)
+
+  pub repooled-backs : Backs (record s { pools = pools }) m
+  repooled-backs = record {
+    own = backs.own;
+    blocks = λ p k j at lt. backs.blocks p k j (block-was p j k at lt) lt;
+    apart = λ x y n a b. backs.apart x y n (has-was x n a) (has-was y n b);
+  }
+
+-- one more, which has none
+pub made-backs : (s : PoolsState) (m : MemoryState) → Backs s m → (first : Kept) → first.memories ≡ [] → Backs (record s { pools = s.pools ++ Some first ∷ [] }) m
+made-backs s m backs first none = repooled-backs s m backs (s.pools ++ Some first ∷ []) (λ p k at. elim (at-more s.pools (Some first) p k at) [ inl old ↦ inl old | inr new ↦ inr (ap (λ (l : Kept). l.memories) (sym (some-is first k new.1)) ∙ none) ])
+
+-- one less
+pub dropped-backs : (s : PoolsState) (m : MemoryState) → Backs s m → (p : ℕ) → p < length s.pools → Backs (record s { pools = set s.pools p None }) m
+dropped-backs s m backs p there = repooled-backs s m backs (set s.pools p None) (λ q k at. elim (cases_eq q p) [
+  | inl is ↦ absurd (let e = sym (at-set s.pools p None there) ∙ ap (λ (n : ℕ). slice_index_or (set s.pools p None) n None) (sym is) ∙ at in cc)
+  | inr other ↦ inl (sym (at-other s.pools p q None other) ∙ at)
+])

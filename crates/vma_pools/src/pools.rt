@@ -64,6 +64,8 @@ impl<B: PoolBlock> PoolsOf<B> {
         ensures ok { IfOk result (λ n. (n ≡ length self.old.pools)
             × (self.new ≡ record self.old { pools = self.old.pools ++ Some (record { pool = empty_pool info; memories = [] }) ∷ [] })) }
         ensures err { OnErr result (self.new ≡ self.old) }
+        // The memory objects stay as they are, and so does what they are.
+        ensures backs { (m : MemoryState) → Backs self.old m → Backs self.new m }
     {
         let number = self.pools.len();
         self.pools.push(Some(CountedPool::new(self.alloc, info)))?;
@@ -85,7 +87,8 @@ impl<B: PoolBlock> PoolsOf<B> {
     pub fn drop_pool(&mut self, pool: u64)
         requires live { IsSome (pool_at self.old pool) }
         requires unused { IsUnused self.old pool }
-        ensures { self.new ≡ record self.old { pools = set self.old.pools pool None } }
+        ensures dropped { self.new ≡ record self.old { pools = set self.old.pools pool None } }
+        ensures backs { (m : MemoryState) → Backs self.old m → Backs self.new m }
     {
         self.pools[pool as usize] = None;
     }

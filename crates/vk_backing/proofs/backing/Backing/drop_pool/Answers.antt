@@ -1,6 +1,6 @@
 use Rattle.std.proofs.Common.{None, ◌≡◌, not, ◌==◌, sym, subst, refl}
 use Rattle.std.specs.List.{filter}
-use Rattle.vma_pools.specs.State.{PoolsState, ArePools, pool_at}
+use Rattle.vma_pools.specs.State.{PoolsState, ArePools, Backs, pool_at}
 use Rattle.vk_backing.specs.Backed.{Backed, info_by, LiesIn, IsBacked, IsWhole}
 use Rattle.vk_backing.specs.Allotted.{allotted, Fulfils}
 use Rattle.vk_backing.specs.Steps.{IsUnused, DropsPool}
@@ -36,8 +36,8 @@ returns-in-Some-clause-backed c =
     let h : IsBacked b m = subst (λ (x : Backed). IsBacked x m) (sym c.self.view_is) g in
     let k = h.named id p (sym c.in-Some.ensures.value) in
     let empty = unused_empty f.pools h.pools p k.0 k.1 (unused_held b m h whole id p (sym c.in-Some.ensures.value) unused) in
-    subst (λ (s : PoolsState). IsBacked (record b { pools = s; numbers = c.remove.new.self.entries }) m) (sym c.drop_pool.ensures)
-    (drop_backed b m h id p (sym c.in-Some.ensures.value) k.0 k.1 empty c.remove.new.self.entries updates.1 (λ i other. updates.2 i (other_id id i other)) (subst ArePools c.drop_pool.ensures c.are_pools.ensures))
+    subst (λ (s : PoolsState). IsBacked (record b { pools = s; numbers = c.remove.new.self.entries }) m) (sym c.drop_pool.ensures.dropped)
+    (drop_backed b m h id p (sym c.in-Some.ensures.value) k.0 k.1 empty c.remove.new.self.entries updates.1 (λ i other. updates.2 i (other_id id i other)) (subst ArePools c.drop_pool.ensures.dropped c.are_pools.ensures) (subst (λ (s : PoolsState). Backs s m) c.drop_pool.ensures.dropped (c.drop_pool.ensures.backs m h.backs)))
 
 pub returns-in-Some-clause-drops : goal.returns-in-Some-clause-drops
 returns-in-Some-clause-drops c =
@@ -55,14 +55,14 @@ returns-in-Some-clause-drops c =
       kept = k.0;
       there = k.1;
       empty = empty;
-      pools = c.drop_pool.ensures;
+      pools = c.drop_pool.ensures.dropped;
       gone = updates.1;
       others = λ i other. updates.2 i (other_id id i other);
       owned = refl;
       allocations = refl;
-      keeps = λ i q s l. subst (λ (x : PoolsState). LiesIn (record b { pools = x; numbers = c.remove.new.self.entries }) i q s) (sym c.drop_pool.ensures) (less_keeps b p k.0 k.1 empty c.remove.new.self.entries i q s l);
-      no_info = subst (λ (x : PoolsState). info_by (record b { pools = x; numbers = c.remove.new.self.entries }) id ≡ None) (sym c.drop_pool.ensures) (less_info b m h id p (sym c.in-Some.ensures.value) c.remove.new.self.entries updates.1 (λ i other. updates.2 i (other_id id i other)));
-      infos = λ i other. subst (λ (x : PoolsState). info_by (record b { pools = x; numbers = c.remove.new.self.entries }) i ≡ info_by b i) (sym c.drop_pool.ensures) (less_infos b m h id p (sym c.in-Some.ensures.value) c.remove.new.self.entries updates.1 (λ i other. updates.2 i (other_id id i other)) i other);
+      keeps = λ i q s l. subst (λ (x : PoolsState). LiesIn (record b { pools = x; numbers = c.remove.new.self.entries }) i q s) (sym c.drop_pool.ensures.dropped) (less_keeps b p k.0 k.1 empty c.remove.new.self.entries i q s l);
+      no_info = subst (λ (x : PoolsState). info_by (record b { pools = x; numbers = c.remove.new.self.entries }) id ≡ None) (sym c.drop_pool.ensures.dropped) (less_info b m h id p (sym c.in-Some.ensures.value) c.remove.new.self.entries updates.1 (λ i other. updates.2 i (other_id id i other)));
+      infos = λ i other. subst (λ (x : PoolsState). info_by (record b { pools = x; numbers = c.remove.new.self.entries }) i ≡ info_by b i) (sym c.drop_pool.ensures.dropped) (less_infos b m h id p (sym c.in-Some.ensures.value) c.remove.new.self.entries updates.1 (λ i other. updates.2 i (other_id id i other)) i other);
     })
 
 pub returns-in-Some-clause-allots : goal.returns-in-Some-clause-allots
@@ -76,5 +76,5 @@ returns-in-Some-clause-allots c =
     let h : IsBacked b m = subst (λ (x : Backed). IsBacked x m) (sym c.self.view_is) g in
     let k = h.named id p (sym c.in-Some.ensures.value) in
     let empty = unused_empty f.pools h.pools p k.0 k.1 (unused_held b m h whole id p (sym c.in-Some.ensures.value) unused) in
-    subst (λ (s : PoolsState). Fulfils (allotted (record b { pools = s; numbers = c.remove.new.self.entries }) m) (record d { pools = filter (λ q. not (q.id == id)) d.pools })) (sym c.drop_pool.ensures)
+    subst (λ (s : PoolsState). Fulfils (allotted (record b { pools = s; numbers = c.remove.new.self.entries }) m) (record d { pools = filter (λ q. not (q.id == id)) d.pools })) (sym c.drop_pool.ensures.dropped)
     (drop_allotted b m h id p (sym c.in-Some.ensures.value) k.0 k.1 empty c.remove.new.self.entries updates.1 (λ i other. updates.2 i (other_id id i other)) d (subst (λ (x : Backed). Fulfils (allotted x m) d) (sym c.self.view_is) is))

@@ -1,6 +1,6 @@
 use Rattle.std.proofs.Common.{◌≡◌, ◌∙◌, ℕ, List, [], ◌∷◌, ◌++◌, ap, sym, subst, refl, Some}
 use Rattle.vk_model.specs.Memory.Pools.{empty_pool}
-use Rattle.vma_pools.specs.State.{PoolsState, ArePools, allocation_at}
+use Rattle.vma_pools.specs.State.{PoolsState, ArePools, Backs, allocation_at}
 use Rattle.vk_backing.specs.Backed.{Backed, number_in, pool_of, info_by, LiesIn, IsBacked, IsWhole}
 use Rattle.vk_backing.specs.Allotted.{allotted, Fulfils}
 use Rattle.vk_backing.proofs.Grown.{other_id}
@@ -19,7 +19,7 @@ returns-in_err-insert-clause-backed c =
     let state = c.in_ok-number.ensures.ok.1 in
     subst (λ (n : List (ℕ × ℕ)). IsBacked (record b { pools = c.pool.new.self; numbers = n }) m) (sym c.in_err-insert.ensures.err)
     (subst (λ (s : PoolsState). IsBacked (record b { pools = s }) m) (sym state)
-    (pool_unnamed b m backed c.args.info (subst ArePools state c.are_pools.ensures)))
+    (pool_unnamed b m backed c.args.info (subst ArePools state c.are_pools.ensures) (subst (λ (s : PoolsState). Backs s m) state (c.in_ok-number.ensures.backs m backed.backs))))
 
 pub returns-clause-backed : goal.returns-clause-backed
 returns-clause-backed c =
@@ -31,7 +31,7 @@ returns-clause-backed c =
     let state = c.in_ok-number.ensures.ok.1 in
     subst (λ (s : PoolsState). IsBacked (record b { pools = s; numbers = c.insert.new.self.entries }) m) (sym state)
     (pool_named b m backed c.args.info c.args.id (ap (λ (x : Backed). pool_of x c.args.id) c.self.view_is ∙ c.requires.absent) c.insert.new.self.entries
-    (updates.1 ∙ ap (λ (n : ℕ). Some n) c.in_ok-number.ensures.ok.0) (λ i other. updates.2 i (other_id c.args.id i other)) (subst ArePools state c.are_pools.ensures))
+    (updates.1 ∙ ap (λ (n : ℕ). Some n) c.in_ok-number.ensures.ok.0) (λ i other. updates.2 i (other_id c.args.id i other)) (subst ArePools state c.are_pools.ensures) (subst (λ (s : PoolsState). Backs s m) state (c.in_ok-number.ensures.backs m backed.backs)))
 
 pub returns-clause-whole : goal.returns-clause-whole
 returns-clause-whole c =

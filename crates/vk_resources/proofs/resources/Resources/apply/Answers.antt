@@ -1,4 +1,5 @@
-use Rattle.std.proofs.Common.{ap, sym, ◌∙◌}
+use Rattle.std.proofs.Common.{◌-◌, true, false, ap, sym, ◌∙◌}
+use Rattle.vk_backing.specs.Steps.{one_more}
 use Rattle.vk_model.specs.declared.entry.Entry.TheVariants as entry
 use Rattle.vk_resources.proofs.Resting.{rest_done}
 use Rattle.vk_resources.proofs.PoolEntries.{pool_absent, pool_done}
@@ -6,6 +7,7 @@ use Rattle.vk_resources.proofs.PoolEnds.{drop_unused, drop_done}
 use Rattle.vk_resources.proofs.HostAccesses.{write_done, flush_done, invalidate_done, read_done}
 use Rattle.vk_resources.proofs.Ending.{free_empty, free_done, destroy_empty, destroy_done}
 use Rattle.vk_resources.proofs.Allotting.{free_allots, destroy_allots, rest_rooms, rest_allots, is_rest}
+use Rattle.vk_resources.proofs.Remapping.{map_done, map_rooms, map_allots, unmap_done, unmap_rooms, unmap_allots}
 use Rattle.vk_resources.proofs.resources.Resources.apply.Goals as goal
 
 -- ---- what ends
@@ -61,11 +63,31 @@ returns-in-Flush-clause-done c = λ e past m fit. flush_done c.args.self.now c.f
 pub returns-in-Invalidate-clause-done : goal.returns-in-Invalidate-clause-done
 returns-in-Invalidate-clause-done c = λ e past m fit. invalidate_done c.args.self.now c.invalidate.new.self c.args.entry.now c.in-Invalidate.buffer c.in-Invalidate.offset c.in-Invalidate.size c.in-Invalidate.is c.invalidate.ensures e past m fit
 
+-- ---- mappings
+
+pub returns-in-Map : goal.returns-in-Map
+returns-in-Map c =
+    let s = c.args.self.now in let y = c.args.entry.now in let b = c.in-Map.buffer in let m = c.map.ensures in
+    record {
+      done = λ e past matches fit. map_done s c.map.new.self b one_more true m y b c.in-Map.is e past matches;
+      rooms = λ past fit. map_rooms s c.map.new.self b one_more true m y b c.in-Map.is;
+      allots = λ past matches fit. map_allots s c.map.new.self b one_more true m y b c.in-Map.is;
+    }
+
+pub returns-in-Unmap : goal.returns-in-Unmap
+returns-in-Unmap c =
+    let s = c.args.self.now in let y = c.args.entry.now in let b = c.in-Unmap.buffer in let m = c.unmap.ensures in
+    record {
+      done = λ e past matches fit. unmap_done s c.unmap.new.self b (λ n. n - 1) false m y b c.in-Unmap.is e past matches;
+      rooms = λ past fit. unmap_rooms s c.unmap.new.self b (λ n. n - 1) false m y b c.in-Unmap.is;
+      allots = λ past matches fit. unmap_allots s c.unmap.new.self b (λ n. n - 1) false m y b c.in-Unmap.is;
+    }
+
 -- ---- the others
 
 pub returns-in_default : goal.returns-in_default
 returns-in_default c =
-    let rest = is_rest c.args.entry.now c.in_default.not-Memory c.in_default.not-Buffer c.in_default.not-Image c.in_default.not-Pool c.in_default.not-DropPool c.in_default.not-Free c.in_default.not-Destroy c.in_default.not-Write c.in_default.not-Read c.in_default.not-Flush c.in_default.not-Invalidate in
+    let rest = is_rest c.args.entry.now c.in_default.not-Memory c.in_default.not-Buffer c.in_default.not-Image c.in_default.not-Pool c.in_default.not-DropPool c.in_default.not-Free c.in_default.not-Destroy c.in_default.not-Write c.in_default.not-Read c.in_default.not-Flush c.in_default.not-Invalidate c.in_default.not-Map c.in_default.not-Unmap in
     record {
       done = λ e past m fit. rest_done c.args.self.now c.args.entry.now rest e past m fit;
       rooms = λ past fit. rest_rooms c.args.self.now c.args.entry.now rest past fit;

@@ -9,6 +9,8 @@ use Rattle.vk_model.specs.Trace.Objects.{of_image}
 use Rattle.vma_pools.specs.declared.allocations.Asked.{Asked}
 use Rattle.vk_resources.specs.Inner.Steps.{BindReady}
 use Rattle.vk_resources.proofs.Applying.{image_maker}
+use Rattle.vk_model.specs.Memory.Suballocation.{IsRequest}
+use Rattle.vk_resources.proofs.Requests.{image_request}
 use Rattle.vk_resources.proofs.Ending.{image_fits, image_good}
 use Rattle.vk_resources.proofs.Making.{image_some, image_shaped, some_of, made_as, binds_as, shared_as, own_done, may_bind, bind_done}
 use Rattle.vk_resources.proofs.Sharing.{all_elsewhere, shared_done, shared_rooms, shared_allots}
@@ -19,6 +21,11 @@ make_resource-requires-clause-some c =
     let good : bad_image c.in-Ok.shape ≡ false = ap bad_image c.in-Ok.ensures.1 ∙ image_good (entry.Image c.args.id c.args.info.now) c.args.id c.args.info.now refl c.requires.ready.0 c.requires.ready.2 in
     let own : c.requirements-need.result.size ≡ image_size c.in-Ok.shape c.in-Ok.shape.tiling = ap (λ (n : Need). n.size) c.requirements-need.ensures.need in
     omega (arith, own, image_some c.texels_inside.ensures c.in-Ok.shape good)
+
+pub make_resource-requires-clause-request : goal.make_resource-requires-clause-request
+make_resource-requires-clause-request c =
+    let good : bad_image c.in-Ok.shape ≡ false = ap bad_image c.in-Ok.ensures.1 ∙ image_good (entry.Image c.args.id c.args.info.now) c.args.id c.args.info.now refl c.requires.ready.0 c.requires.ready.2 in
+    subst (λ (n : Need). IsRequest n.size n.align) (sym c.requirements-need.ensures.need) (image_request c.in-Ok.shape good)
 
 pub make_resource-requires-clause-shaped : goal.make_resource-requires-clause-shaped
 make_resource-requires-clause-shaped c = λ object.
