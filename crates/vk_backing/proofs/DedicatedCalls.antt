@@ -1,20 +1,18 @@
 -- What a call that puts a resource in a memory object of its own leaves.
-use Rattle.std.proofs.Common.{◌≡◌, ℕ, List, length, Option, Some, None, refl, sym, ap, subst, ◌∙◌, inl, inr, ◌⊎◌}
-use Rattle.std.specs.Prelude.{slice_index_or}
+use Rattle.std.proofs.Common.{◌≡◌, ℕ, List, length, Some, None, refl, sym, ap, subst, ◌∙◌, inl, inr, ◌⊎◌}
 use Rattle.vk_memory.specs.MemoryState.{MemoryState}
 use Rattle.vk_model.specs.declared.resource.Spot.{Spot}
 use Rattle.vk_model.specs.Memory.Allocations.{Allocated, with_object}
-use Rattle.vma_pools.specs.declared.allocations.Allocation.{Allocation}
 use Rattle.vma_pools.specs.declared.allocations.Asked.{Asked}
-use Rattle.vma_pools.specs.State.{PoolsState, allocation_at, IfLive, IsOwn, IsSpotOf, Owner, Has, ArePools, Backs}
+use Rattle.vma_pools.specs.State.{PoolsState, IfLive, IsOwn, IsSpotOf, Owner, Has, ArePools, Backs}
 use Rattle.vk_backing.specs.declared.backing.Own.{Own}
-use Rattle.vk_backing.specs.Backed.{Backed, own_in, object_of, allocation_of, info_by, LiesIn, IsBacked, IsDedicated, IsOwner, IsWhole}
+use Rattle.vk_backing.specs.Backed.{Backed, own_in, object_of, allocation_of, info_by, LiesIn, IsBacked, IsOwner, IsWhole}
 use Rattle.vk_backing.specs.Allotted.{allotted, Fulfils}
 use Rattle.vk_backing.specs.Steps.{Owns}
 use Rattle.vk_backing.proofs.Grown.{grown}
 use Rattle.vk_backing.proofs.Turned.{turned_keeps}
-use Rattle.vk_backing.proofs.Owning.{stay, pools_now, more_backed, own_backed, own_whole, own_allotted, object_here, object_other, dedicated_other}
-use Rattle.vk_backing.proofs.Dedicating.{next, more, more_kept, more_had, more_new, more_was, more_lies}
+use Rattle.vk_backing.proofs.Owning.{stay, more_backed, own_backed, own_whole, own_allotted, object_here, object_other, dedicated_other}
+use Rattle.vk_backing.proofs.Dedicating.{more, more_kept, more_had, more_new, more_was, more_lies}
 
 module _ (b : Backed) (m : MemoryState) (h : IsBacked b m) (t : ℕ) (asked : Asked) (new : PoolsState) (after : MemoryState) (a : ℕ) (own : IsOwn b.pools new m after t asked a) where
   abbrev now : PoolsState

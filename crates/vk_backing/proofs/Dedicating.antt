@@ -1,14 +1,13 @@
 -- A resource gets an allocation in a memory object of its own, and such an allocation ends.
 use Rattle.std.proofs.Common.{◌≡◌, ℕ, List, [], ◌∷◌, ◌++◌, set, length, Option, Some, None, refl, sym, ap, subst, ◌∙◌, inl, inr, ◌⊎◌}
 use Rattle.std.specs.Prelude.{slice_index_or}
-use Rattle.std.proofs.lemmas.Bool.{cases_eq}
 use Rattle.vk_memory.specs.MemoryState.{MemoryState, with_object}
 use Rattle.vk_model.specs.declared.resource.Spot.{Spot}
 use Rattle.vma_pools.specs.declared.allocations.Allocation.{Allocation}
 use Rattle.vma_pools.specs.declared.allocations.Asked.{Asked}
 use Rattle.vma_pools.specs.declared.allocations.Home.{Home}
 use Rattle.vma_pools.specs.declared.allocations.Home.TheVariants as home
-use Rattle.vma_pools.specs.State.{PoolsState, allocation_at, new_allocation, with_more, IfLive, IsEnded, IsSpotOf, Owner, Alone, BlockOf, Has, Backs, released}
+use Rattle.vma_pools.specs.State.{PoolsState, allocation_at, new_allocation, with_more, IfLive, IsEnded, IsSpotOf, Owner, Alone, BlockOf, Has, released}
 use Rattle.vma_pools.proofs.NumberLemmas.{at-more, at-old, at-new, at-below, at-set, at-other}
 use Rattle.vma_pools.proofs.StateLemmas.{some-is}
 use Rattle.vma_pools.proofs.CallLemmas.{live-holds}

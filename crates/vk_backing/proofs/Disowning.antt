@@ -2,7 +2,6 @@
 use Rattle.std.proofs.Common.{◌≡◌, ℕ, List, Option, Some, None, refl, sym, ap, subst, ◌∙◌}
 use Rattle.vk_memory.specs.MemoryState.{MemoryState, with_object}
 use Rattle.vk_model.specs.Memory.Allocations.{Allocated, without}
-use Rattle.vma_pools.specs.declared.allocations.Allocation.{Allocation}
 use Rattle.vma_pools.specs.State.{PoolsState, allocation_at, IfLive, IsEnded, Owner, Alone, BlockOf, Has, ArePools, Backs, released}
 use Rattle.vma_pools.proofs.ReleaseLemmas.{kept-backs}
 use Rattle.vk_backing.specs.declared.backing.Own.{Own}

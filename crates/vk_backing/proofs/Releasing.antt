@@ -14,7 +14,7 @@ use Rattle.vma_pools.proofs.StateLemmas.{some-is}
 use Rattle.vma_pools.proofs.CallLemmas.{sized-live}
 use Rattle.vk_backing.specs.declared.backing.Own.{Own}
 use Rattle.vk_backing.specs.Backed.{Backed, AreSized, number_in, own_in, object_in, dedicated_in, object_of, dedicated_of, allocation_of, IsBacked, IsDedicated, IsOwner, IsWhole}
-use Rattle.vk_backing.proofs.Freed.{freed_other, freed_sized, freed_live, cut_less, in_cut}
+use Rattle.vk_backing.proofs.Freed.{freed_sized, freed_live, cut_less, in_cut}
 use Rattle.vk_backing.proofs.Owned.{object_is, dedicated_is}
 use Rattle.vk_backing.proofs.Turned.{Stays, stays, dedicated_stays, turned, turned_shared}
 

@@ -1,6 +1,6 @@
 -- What backs ids stays so where a memory object is mapped or unmapped.
 use Rattle.std.proofs.Common.{◌≡◌, ℕ, List, map, set, length, Bool, true, false, Option, Some, None, Result, Ok, Err, OnOk, OnErr, IsOk, refl, sym, ap, subst, ◌∙◌}
-use Rattle.std.specs.Prelude.{◌↔◌, IsErr, IsTrue, is_some, option_map, slice_index_or}
+use Rattle.std.specs.Prelude.{◌↔◌, IsErr, IsTrue, is_some, slice_index_or}
 use Rattle.std.proofs.Math.ListN.{get_or-map}
 use Rattle.std.proofs.Math.Seq.{map-set_same}
 use Rattle.std.proofs.lemmas.List.{set-get_or}

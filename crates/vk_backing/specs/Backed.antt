@@ -38,7 +38,7 @@ object_in owned id = option_map (λ o. o.object) (own_in owned id)
 abbrev pub dedicated_in : List (ℕ × Own) → ℕ → Option ℕ
 dedicated_in owned id = option_and_then (λ o. o.allocation) (own_in owned id)
 
--- The number of the memory object that an id has of its own.
+-- The same of what backs ids.
 abbrev pub object_of : Backed → ℕ → Option ℕ
 object_of b id = object_in b.owned id
 

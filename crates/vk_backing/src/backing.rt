@@ -279,8 +279,9 @@ impl Backing {
         Ok(Some(self.pools.place(allocation)))
     }
 
-    /// Ends what backs an id: its memory object, or its allocation in a pool; and answers the memory
-    /// object that is freed with it, its own or that of a block that held nothing else.
+    /// Ends what backs an id: its memory object, with the allocation that it is of, or its allocation in
+    /// a pool; and answers the memory object that is freed with it, its own or that of a block that held
+    /// nothing else.
     pub fn release(&mut self, memories: &mut Memories, id: u32) -> Option<u64>
         requires backed { IsBacked self.old memories.old }
         ensures backed { IsBacked self.new memories.new }

@@ -1,21 +1,15 @@
 -- What the rules promise of pools, and of what a resource asks of one.
-use Rattle.std.proofs.Common.{◌≡◌, ◌⊎◌, inl, inr, ℕ, suc, zero, ◌+◌, ◌*◌, ◌/◌, ◌%◌, ◌^◌, ◌<◌, ◌≤◌, List, [], ◌∷◌, false, ◌||◌, ◌==◌, not, max, nat_lt, fold, refl, ap, ◌∙◌, subst, arith, Some}
+use Rattle.std.proofs.Common.{◌≡◌, ℕ, ◌+◌, ◌*◌, ◌/◌, ◌%◌, ◌≤◌, [], false, ◌||◌, ◌==◌, not, nat_lt, refl, ap, arith, Some}
 use Rattle.std.specs.Prelude.{IsTrue, Contains, option_and_then}
-use Rattle.std.specs.List.{range_with_len, sum_by}
 use Rattle.std.proofs.lemmas.Bool.{eqb-true, or_parts}
-use Rattle.std.proofs.Math.Nat.{mul-mod_left, mul-pos, div-add-mod}
+use Rattle.std.proofs.Math.Nat.{div-add-mod}
 use Rattle.vk_model.specs.declared.entry.Entry.{Entry}
 use Rattle.vk_model.specs.declared.entry.Entry.TheVariants as entry
-use Rattle.vk_model.specs.declared.resource.BufferInfo.{BufferInfo}
-use Rattle.vk_model.specs.declared.resource.ImageInfo.{ImageInfo}
 use Rattle.vk_model.specs.declared.resource.PoolInfo.{PoolInfo}
-use Rattle.vk_model.specs.declared.resource.Kind.{Kind}
-use Rattle.vk_model.specs.declared.resource.Kind.TheVariants as kind
-use Rattle.vk_model.specs.Basics.{holds, below, round_up}
+use Rattle.vk_model.specs.Basics.{holds}
 use Rattle.vk_model.specs.Memory.Suballocation.{IsRequest}
 use Rattle.vk_model.specs.Rules.Ids.{is_pool, asked_by_entry}
-use Rattle.vk_model.specs.Rules.Sizes.{is_outside, bad_image, bad_pool}
-use Rattle.vk_model.specs.Trace.Image.{texel, tiles_across, tiles_down, level_size, layer_size, row_pitch, image_size, image_align}
+use Rattle.vk_model.specs.Rules.Sizes.{is_outside, bad_pool}
 use Rattle.vk_model.specs.Trace.Objects.{Resource, made, live, pool, pool_in, pool_at, resource_in}
 use Rattle.vk_model.specs.Trace.Point.{Past, Point, Host}
 use Rattle.vk_model.proofs.Lists.Members.{contains-head}

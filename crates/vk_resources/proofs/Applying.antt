@@ -30,7 +30,6 @@ use Rattle.vk_resources.specs.declared.applied.Applied.{Applied}
 use Rattle.vk_resources.specs.declared.applied.Applied.TheVariants as applied
 use Rattle.vk_resources.specs.declared.resources.Placed.{Placed}
 use Rattle.vk_resources.specs.Held.{Held, IsApart, Stands, placed, placed_in, shape_in, shape_of, object_of, host_at, holding_in, IsThere, HasCell}
-use Rattle.vma_pools.specs.State.{PoolsState}
 use Rattle.vk_model.specs.declared.resource.Spot.{Spot}
 use Rattle.vk_backing.specs.Backed as backing
 use Rattle.vk_backing.specs.Backed.{Backed, number_in, pool_of, allocation_of, info_by, LiesIn, IsBacked, IsWhole}
@@ -122,6 +121,7 @@ module _ (old new : Held) (id t size : ℕ) (makes : Makes old new id t size) wh
 
   made_infos : (i : ℕ) → info_by new.backed i ≡ info_by old.backed i
   made_infos i = makes.owns.infos i
+
   made_allocations : (i : ℕ) → allocation_of new.backed i ≡ allocation_of old.backed i
   made_allocations i = ap (λ (ns : List (ℕ × ℕ)). number_in ns i) makes.owns.allocations
 

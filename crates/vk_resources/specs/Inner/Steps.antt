@@ -247,7 +247,7 @@ abbrev pub mapped_at : Option ℕ → Bool → MemoryState → MemoryState
 mapped_at None mapped m = m
 mapped_at (Some n) mapped m = with_mapped m n mapped
 
--- What is mapped with a resource is: its allocation as often as the change says, or the memory object that it is bound to or not; and nothing else has changed (Vulkan, "Host Access to Device Memory Objects"; VMA, "Memory mapping").
+-- What is mapped with a resource has been mapped or unmapped: its allocation, as often as the change says, or the memory object that it is bound to; nothing else has changed (Vulkan, "Host Access to Device Memory Objects"; VMA, "Memory mapping").
 pub record Remaps (old new : Held) (id : ℕ) (change : ℕ → ℕ) (mapped : Bool) : Type 0 where
   pub maps : Maps old.backed new.backed id change
   pub memory : new.memory ≡ mapped_at (bound_of old id) mapped old.memory

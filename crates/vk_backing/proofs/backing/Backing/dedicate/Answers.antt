@@ -1,6 +1,6 @@
-use Rattle.std.proofs.Common.{◌≡◌, ◌∙◌, ℕ, List, ap, sym, subst, refl, Err}
+use Rattle.std.proofs.Common.{◌∙◌, ℕ, List, ap, sym, subst, refl, Err}
 use Rattle.vk_memory.specs.declared.memories.MemoryError.{MemoryError}
-use Rattle.vk_memory.specs.MemoryState.{MemoryState, IsFull}
+use Rattle.vk_memory.specs.MemoryState.{IsFull}
 use Rattle.vk_backing.specs.declared.backing.Own.{Own}
 use Rattle.vk_backing.specs.Backed.{Backed, object_of, allocation_of, IsBacked, IsWhole}
 use Rattle.vk_backing.specs.Allotted.{allotted, Fulfils}
