@@ -23,13 +23,14 @@ const CACHED_ALIGN: u64 = 64;
 pub struct Own {
     /// The number of the memory object.
     pub object: u64,
-    /// The number of its allocation, where it is that of a resource: one that the trace made has none.
+    /// The number of its allocation, where it is that of a resource: one that the trace made has
+    /// none.
     pub allocation: Option<u64>,
 }
 
-/// The memory objects that ids have of their own, pools, and the allocations of resources, in pools and
-/// in memory objects of their own. Memory objects are handed in to each call, which are to be those of
-/// the calls before it.
+/// The memory objects that ids have of their own, pools, and the allocations of resources, in pools
+/// and in memory objects of their own. Memory objects are handed in to each call, which are to be
+/// those of the calls before it.
 #[derive(Drop)]
 pub struct Backing {
     /// What an id has of its own.
@@ -66,7 +67,8 @@ fn map_once(pools: &mut Pools, allocation: u64)
     }
 }
 
-/// Unmaps an allocation once. One that isn't mapped stays so: no trace that breaks no rule unmaps it.
+/// Unmaps an allocation once. One that isn't mapped stays so: no trace that breaks no rule unmaps
+/// it.
 fn unmap_once(pools: &mut Pools, allocation: u64)
     requires { IsSome (allocation_at pools.old allocation) }
     ensures counts { IfLive pools.old allocation (λ a. pools.new ≡ with_allocation pools.old allocation (record a { maps = a.maps - 1 })) }
@@ -127,8 +129,8 @@ impl Backing {
         let _memories = memories;
     }
 
-    /// Makes a memory object for an id, which is no resource, and answers its number; none where there is
-    /// no room. The only error is want of memory.
+    /// Makes a memory object for an id, which is no resource, and answers its number; none where
+    /// there is no room. The only error is want of memory.
     pub fn own(
         &mut self,
         memories: &mut Memories,
@@ -160,8 +162,8 @@ impl Backing {
         Ok(Some(number))
     }
 
-    /// Puts a resource in a memory object of its own, and answers the number of that; none where there is
-    /// no room. The only error is want of memory.
+    /// Puts a resource in a memory object of its own, and answers the number of that; none where
+    /// there is no room. The only error is want of memory.
     pub fn dedicate(
         &mut self,
         memories: &mut Memories,
@@ -279,9 +281,9 @@ impl Backing {
         Ok(Some(self.pools.place(allocation)))
     }
 
-    /// Ends what backs an id: its memory object, with the allocation that it is of, or its allocation in
-    /// a pool; and answers the memory object that is freed with it, its own or that of a block that held
-    /// nothing else.
+    /// Ends what backs an id: its memory object, with the allocation that it is of, or its
+    /// allocation in a pool; and answers the memory object that is freed with it, its own or that
+    /// of a block that held nothing else.
     pub fn release(&mut self, memories: &mut Memories, id: u32) -> Option<u64>
         requires backed { IsBacked self.old memories.old }
         ensures backed { IsBacked self.new memories.new }
@@ -321,7 +323,8 @@ impl Backing {
         true
     }
 
-    /// Unmaps the allocation of a resource once, where it is mapped, and answers whether it has one.
+    /// Unmaps the allocation of a resource once, where it is mapped, and answers whether it has
+    /// one.
     pub fn unmap(&mut self, id: u32) -> bool
         requires backed { (m : MemoryState) × IsBacked self.old m }
         ensures has { IsTrue result ↔ IsSome (mapping_of self.old id) }

@@ -13,8 +13,8 @@ impl Resources {
     ghost use Rattle.vk_backing.specs.Backed.{allocation_of, pool_of, IsWhole};
     ghost use Rattle.vk_backing.specs.Steps.{IsUnused, one_more};
 
-    /// Puts a resource in a memory object of its own, and answers the number of that; none where there is
-    /// no room.
+    /// Puts a resource in a memory object of its own, and answers the number of that; none where
+    /// there is no room.
     pub(crate) fn dedicate(
         &mut self,
         id: u32,
