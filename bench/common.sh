@@ -4,7 +4,9 @@
 #
 # PROGRAM is the program to measure; where it isn't set, the repository's own, which ./replay builds
 # where that is due. RUNS is how often a row is run, 5 where nothing is said. ARGUMENTS has what the
-# program is given on its command line; a script sets it before a row.
+# program is given on its command line; a script sets it before a row. Of a row that is twice as
+# large as one before it the column "to half" says how many times as long it took; nothing fails by
+# a time.
 set -u
 top=$(cd "$(dirname "${BASH_SOURCE[0]}")/.." && pwd)
 runs=${RUNS:-5}
@@ -69,7 +71,7 @@ fault_of() {
 # NAME STATUS ANSWER TRACE..: a row. TRACE is a command that prints the trace, ANSWER one, in one
 # word, that prints what the program is to write for it, and STATUS how the program is to end.
 row() {
-    local name=$1 status=$2 answer=$3 best= fault= run from
+    local name=$1 status=$2 answer=$3 best= processor= fault= run from
     shift 3
     "$@" >"$folder/trace"
     for run in $(seq "$runs"); do
@@ -77,9 +79,11 @@ row() {
         [ "$run" -ne 1 ] || started=(with_peak "$folder/peak")
         now
         from=$moment
-        "${started[@]}" "$PROGRAM" "${ARGUMENTS[@]}" <"$folder/trace" >"$folder/answer" 2>"$folder/complaint"
+        "${started[@]}" "${taking[@]}" "$PROGRAM" "${ARGUMENTS[@]}" \
+            <"$folder/trace" >"$folder/answer" 2>"$folder/complaint"
         ended=$?
         now
+        spend processor
         if [ -z "$best" ] || [ $((moment - from)) -lt "$best" ]; then
             best=$((moment - from))
         fi
@@ -87,7 +91,8 @@ row() {
         [ -z "$fault" ] || break
     done
     [ -z "$fault" ] || wrong=$((wrong + 1))
-    print_row "$name" "$(wc -c <"$folder/trace")" "$(milliseconds "$best")" \
+    to_half "$name" "${processor:-$best}"
+    print_row "$name" "$(wc -c <"$folder/trace")" "$(milliseconds "$best")" "$ratio" \
         "$(mebibytes "$(tail -n 1 "$folder/peak")")" "$ended" "${fault:-as wanted}"
 }
 
@@ -100,8 +105,93 @@ mebibytes() {
     awk -v kb="$1" 'BEGIN { if (kb == "-") print kb; else printf "%.1f", kb / 1024 }'
 }
 
+# DIVIDEND DIVISOR: their quotient, or '-' where there is none.
+quotient() {
+    awk -v a="$1" -v b="$2" 'BEGIN { if (b > 0) printf "%.2f", a / b; else print "-" }'
+}
+
+# NAME TIME: sets `ratio` to how many times as long this took as a row of half its size before it did,
+# or to nothing where there was none: one with the same name, but for a number that is half as large.
+# Time is that of the processor, where it is known.
+declare -A time_of
+to_half() {
+    local before= rest=$1 number half
+    ratio=
+    time_of[$1]=$2
+    while [[ $rest =~ ^([^0-9]*)([0-9]+)(.*)$ ]]; do
+        before+=${BASH_REMATCH[1]}
+        number=${BASH_REMATCH[2]}
+        rest=${BASH_REMATCH[3]}
+        if [ $((number % 2)) -eq 0 ]; then
+            half=${time_of[$before$((number / 2))$rest]:-}
+            [ -z "$half" ] || ratio=$(quotient "$2" "$half")
+        fi
+        before+=$number
+    done
+}
+
+# Keeps this script, and what it starts from now on, on one core where that can be had.
+stay_on_one_core() {
+    local core
+    command -v taskset >/dev/null || return 0
+    core=$(taskset -cp $$ | sed 's/.*[^0-9]//')
+    taskset -cp "$core" $$ >/dev/null
+}
+
+# Compiles a program that takes the processor's time of a command, or answers 1 where there is no C
+# compiler.
+compile_took() {
+    local compiler
+    compiler=$(command -v cc || command -v gcc || command -v clang) || return 1
+    "$compiler" -O2 -x c -o "$folder/took" - <<'END'
+#define _DEFAULT_SOURCE
+#include <stdio.h>
+#include <sys/resource.h>
+#include <sys/wait.h>
+#include <unistd.h>
+
+int main(int count, char **words) {
+    if (count < 3) return 2;
+    pid_t child = fork();
+    if (child == 0) {
+        execvp(words[2], words + 2);
+        _exit(127);
+    }
+    int status;
+    struct rusage used;
+    FILE *file = fopen(words[1], "w");
+    if (child < 0 || !file || wait4(child, &status, 0, &used) < 0) return 126;
+    fprintf(file, "%lld\n", (used.ru_utime.tv_sec + used.ru_stime.tv_sec) * 1000000LL +
+        used.ru_utime.tv_usec + used.ru_stime.tv_usec);
+    return WIFEXITED(status) ? WEXITSTATUS(status) : 128 + WTERMSIG(status);
+}
+END
+}
+
+# Before a command: leaves in the file `spent` the microseconds of processor that the command takes,
+# in which other programs have less part than in the time by the clock.
+taking=()
+! compile_took || taking=("$folder/took" "$folder/spent")
+
+# VARIABLE: sets it to the microseconds of processor of the last run where they are known, and fewer.
+spend() {
+    local -n least=$1
+    local spent
+    [ "${#taking[@]}" -ne 0 ] || return 0
+    spent=$(cat "$folder/spent")
+    [ -n "$least" ] && [ "$least" -le "$spent" ] || least=$spent
+}
+
+# VARIABLE COMMAND..: runs the command, and does the same. What the command writes is in `answer`,
+# and its status in `ended`.
+took() {
+    "${taking[@]}" "${@:2}" >"$folder/answer" 2>"$folder/complaint"
+    ended=$?
+    spend "$1"
+}
+
 print_row() {
-    printf '%-28s %10s %14s %10s %7s  %s\n' "$@"
+    printf '%-28s %10s %14s %7s %10s %7s  %s\n' "$@"
 }
 
 # A barrier that makes what transfers wrote visible to the host.
@@ -117,7 +207,7 @@ answers() {
 
 # The line above the rows.
 heading() {
-    print_row trace bytes "best of $runs, ms" "peak, MiB" status ""
+    print_row trace bytes "best of $runs, ms" "to half" "peak, MiB" status ""
 }
 
 # Ends the script: with 1 where a row was wrong.
