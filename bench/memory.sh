@@ -3,16 +3,36 @@
 # buffer, host accesses with and without a cache, small copies, a ring of slots whose dependencies
 # are limited to a slot, buffers that come and go, and a copy of many regions. Each is measured in
 # two sizes, of which the second is twice the first (bench/common.sh).
+#
+# Then come ratios, each of two times that were taken in this run, in turns and on one core. They need
+# a C compiler. STEPS is the program `memory_steps`; where it isn't set, the repository's own.
+# - What a trace's bytes cost: 127 times 64 KiB, the most that fits into a trace, are written into a
+#   staging buffer, copied to the device and back, and read, all of them or 4 bytes. This is compared
+#   with reading the same bytes and moving as many: the program is given the same trace behind an
+#   entry that is refused, so that it reads all of it and does nothing, and memcpy moves the bytes
+#   four times, as into the staging buffer, to the device, back, and to the host. What is written of
+#   the bytes that were read is not in the second. Time is that of the processor.
+# - What moves cost: `memory_steps` makes turns on two regions, bytes of the host and a cache, and a
+#   plain C program the same with memcpy and memset, between buffers of as many bytes. Either looks at
+#   the clock before and after each turn; the shortest turns of all runs are compared. Copies, fills,
+#   writes and reads of a region have so many times memcpy's or memset's speed, and those through the
+#   host's cache take so many times as long as a copy.
 . "$(dirname "${BASH_SOURCE[0]}")/common.sh"
+STEPS=${STEPS:-}
+if [ -z "$STEPS" ]; then
+    STEPS=$top/crates/memory_steps/out/memory_steps
+    (cd "$top/crates/memory_steps" && rt run -- copy --turns 1) >/dev/null || exit 1
+fi
 
 # A barrier that orders transfers, and makes what they wrote visible to transfers.
 between='["barrier",[[4096,4096,4096,6144]],[],[]]'
 
-# N times 64 KiB: the host writes as much, a copy takes it to the device and another one back.
+# N [BYTES [ENTRY]]: N times 64 KiB: the host writes as much, a copy takes it to the device and
+# another one back, and the host reads the last 4 or BYTES of it. The entry stands before all others.
 staging() {
-    awk -v n="$1" -v to_host="$to_host" -v between="$between" 'BEGIN {
+    awk -v n="$1" -v back="${2:-4}" -v first="${3:-}" -v to_host="$to_host" -v between="$between" 'BEGIN {
         size = n * 65536
-        printf "[[\"memory\",1,1,%d],", 2 * size
+        printf "[%s[\"memory\",1,1,%d],", first, 2 * size
         printf "[\"buffer\",2,%d,1,\"exclusive\",[\"memory\",1,0]],", size
         printf "[\"buffer\",3,%d,3,\"exclusive\",[\"dedicated\",0]],", size
         printf "[\"buffer\",4,%d,2,\"exclusive\",[\"memory\",1,%d]],", size, size
@@ -22,7 +42,7 @@ staging() {
         for (i = 0; i < n; i++) printf "[\"write\",2,%d,\"%s\"],", i * 65536, bytes
         printf "[\"submit\",0,[[[],[[\"copy\",2,3,[[0,0,%d]]],%s,", size, between
         printf "[\"copy\",3,4,[[0,0,%d]]],%s],[[5,1,65536]]]]],", size, to_host
-        printf "[\"wait\",[[5,1]]],[\"read\",4,%d,4]]\n", size - 4
+        printf "[\"wait\",[[5,1]]],[\"read\",4,%d,%d]]\n", size - back, back
     }'
 }
 
@@ -114,6 +134,149 @@ regions_answer() {
     answers 6 67305985
 }
 
+compiler=$(command -v cc || command -v gcc || command -v clang)
+if [ -n "$compiler" ]; then
+    "$compiler" -O2 -x c -o "$folder/moves" - <<'END' || exit 1
+#define _POSIX_C_SOURCE 200809L
+#include <stdint.h>
+#include <stdio.h>
+#include <stdlib.h>
+#include <string.h>
+#include <time.h>
+
+// The compiler has to take the bytes for read and written here.
+static void use(void *bytes) {
+    __asm__ volatile("" : : "r"(bytes) : "memory");
+}
+
+static uint64_t now(void) {
+    struct timespec time;
+    clock_gettime(CLOCK_MONOTONIC, &time);
+    return (uint64_t)time.tv_sec * 1000000000u + (uint64_t)time.tv_nsec;
+}
+
+int main(int count, char **words) {
+    if (count != 4) return 2;
+    size_t bytes = strtoull(words[2], 0, 10), turns = strtoull(words[3], 0, 10);
+    int fills = !strcmp(words[1], "fill"), within = !strcmp(words[1], "within");
+    unsigned char *from = malloc(bytes), *other = malloc(bytes);
+    if (!from || !other || bytes < 8) return 1;
+    memset(from, 0xcd, bytes);
+    memset(other, 0xcd, bytes);
+    size_t moved = within ? bytes / 2 : bytes;
+    unsigned char *into = within ? from + moved : other;
+    uint64_t all = 0, least = UINT64_MAX, sum = 0;
+    for (uint32_t turn = 0; turn < turns; turn++) {
+        memcpy(from, &turn, sizeof turn);
+        use(from);
+        use(into);
+        uint64_t then = now();
+        if (fills) memset(into, (int)turn, moved);
+        else memcpy(into, from, moved);
+        use(into);
+        uint64_t time = now() - then;
+        all += time;
+        if (time < least) least = time;
+    }
+    for (size_t i = 0; i < moved; i++) sum += into[i];
+    printf("%s %zu of %zu sum %llu in %llu ns least %llu ns\n", words[1], turns, bytes,
+        (unsigned long long)sum, (unsigned long long)all, (unsigned long long)least);
+}
+END
+fi
+
+# FILE: sets `least` to the fewest nanoseconds of a turn that are told there.
+least_of() {
+    least=$(awk '$10 == "least" && (!some++ || $11 < least) { least = $11 } END { print least }' "$1")
+}
+
+# WORK BYTES TURNS: sets `ours` and `theirs` to the nanoseconds of the shortest turn of the program,
+# and of the C program at the work that is like it; and `fault` where the program's answers differ.
+shortest_turns() {
+    local run plain=copy
+    case $1 in
+    fill | within) plain=$1 ;;
+    esac
+    : >"$folder/ours"
+    : >"$folder/theirs"
+    for run in $(seq "$runs"); do
+        "$STEPS" "$1" --bytes "$2" --turns "$3" --clock >>"$folder/ours" 2>&1
+        "$folder/moves" "$plain" "$2" "$3" >>"$folder/theirs"
+    done
+    fault=
+    if [ "$(cut -d ' ' -f 1-6 "$folder/ours" | sort | uniq -c | wc -l)" -ne 1 ] ||
+        ! grep -q "^$1 $3 of $2 sum [0-9]* in " "$folder/ours"; then
+        fault="WRONG: $(head -n 1 "$folder/ours")"
+        wrong=$((wrong + 1))
+    fi
+    least_of "$folder/ours"
+    ours=$least
+    least_of "$folder/theirs"
+    theirs=$least
+}
+
+print_moves() {
+    printf '%-28s %10s %14s %14s %7s  %s\n' "$@"
+}
+
+# The rows of what moves cost, for so many bytes.
+moves_rows() {
+    local bytes=$1 turns=$((268435456 / $1)) work ours theirs fault together=0
+    for work in copy fill write read; do
+        shortest_turns "$work" "$bytes" "$turns"
+        print_moves "$work" "$bytes" "$ours" "$theirs" "$(quotient "$theirs" "$ours")" \
+            "${fault:-of the speed of $([ "$work" = fill ] && echo memset || echo memcpy)}"
+    done
+    shortest_turns within $((2 * bytes)) "$turns"
+    print_moves within "$bytes" "$ours" "$theirs" "$(quotient "$theirs" "$ours")" \
+        "${fault:-of the speed of memcpy}"
+    for work in cache-write cache-flush cache-read; do
+        shortest_turns "$work" "$bytes" $((turns / 8 + 1))
+        print_moves "$work" "$bytes" "$ours" "$theirs" "$(quotient "$ours" "$theirs")" \
+            "${fault:-times as long as memcpy}"
+        together=$((together + ours))
+    done
+    print_moves "the three together" "$bytes" "$together" "$theirs" \
+        "$(quotient "$together" "$theirs")" "times as long as one memcpy"
+}
+
+# NAME BYTES: the row of what a trace's bytes cost, of which so many are read back.
+trace_row() {
+    local n=127 run all= alone= fault= moved
+    staging "$n" "$2" >"$folder/trace"
+    staging "$n" "$2" '["unmap",2],' >"$folder/refused"
+    : >"$folder/theirs"
+    for run in $(seq "$runs"); do
+        took all "$PROGRAM" "${ARGUMENTS[@]}" <"$folder/trace"
+        if [ "$ended" -ne 0 ] || ! staged_answer "$n" "$2" | cmp -s - "$folder/answer"; then
+            fault="WRONG: status $ended, $(head -c 60 "$folder/answer")"
+        fi
+        took alone "$PROGRAM" "${ARGUMENTS[@]}" <"$folder/refused"
+        [ "$(cat "$folder/answer")" = "refused 0 LIVE_ID" ] || fault="WRONG: $(head -c 60 "$folder/answer")"
+        "$folder/moves" copy $((n * 65536)) 16 >>"$folder/theirs"
+    done
+    [ -z "$fault" ] || wrong=$((wrong + 1))
+    least_of "$folder/theirs"
+    moved=$((4 * least / 1000))
+    print_trace "$1" "$(wc -c <"$folder/trace")" "$(milliseconds "$all")" "$(milliseconds "$alone")" \
+        "$(milliseconds "$moved")" "$(quotient "$all" $((alone + moved)))" "${fault:-as wanted}"
+}
+
+# N BYTES: what is written where so many bytes are read back.
+staged_answer() {
+    awk -v entry="$((8 + $1))" -v bytes="$2" 'BEGIN {
+        text = "01020304"
+        while (length(text) < 131072) text = text text
+        printf "%d ", entry
+        for (; bytes >= 65536; bytes -= 65536) printf "%s", text
+        printf "%s\n", substr(text, 1, 2 * bytes)
+    }'
+}
+
+print_trace() {
+    printf '%-28s %10s %10s %12s %10s %7s  %s\n' "$@"
+}
+
 ARGUMENTS=(--heap0 67108864 --heap1 67108864)
 heading
 for n in 50 100; do
@@ -134,5 +297,19 @@ for n in 2048 4096; do
 done
 for n in 100000 200000; do
     row "regions_of_a_copy_$n" 0 regions_answer regions "$n"
+done
+if [ -z "$compiler" ]; then
+    echo "Left out: ratios. They need a C compiler."
+    finish
+fi
+stay_on_one_core
+echo
+print_trace "trace, best of $runs" bytes "all, ms" "reading, ms" "moving, ms" ratio ""
+trace_row staged_and_4_bytes_read 4
+trace_row staged_and_all_read $((127 * 65536))
+echo
+print_moves "shortest turns, $runs runs" bytes "ours, ns" "plain C, ns" ratio ""
+for bytes in 65536 1048576 16777216; do
+    moves_rows "$bytes"
 done
 finish
