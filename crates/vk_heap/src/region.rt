@@ -161,7 +161,7 @@ fn fill_words(out: &mut [u8], words: usize, word: u32)
     let mut filled = 1;
     while filled < words {
         let more = filled.min(words - filled).min(MOST_COPIED);
-        out.copy_within(0..4 * more, 4 * filled);
+        move_bytes(out, 0, 4 * filled, 4 * more);
         filled += more;
     }
 }
