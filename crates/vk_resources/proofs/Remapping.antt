@@ -23,7 +23,8 @@ use Rattle.vk_resources.specs.Allocating.{allotted, Rooms, Allots}
 use Rattle.vk_resources.specs.Held.{Held, Stands, IsInside, HasCell, placed, placed_in, shape_of, shape_in, object_of}
 use Rattle.vk_resources.specs.Matches.{Matches, MatchesLive}
 use Rattle.vk_resources.specs.Done.{DoneBy, Goes, ReadsNothing}
-use Rattle.vk_resources.specs.Inner.Steps.{Remaps, bound_in, bound_of, mapped_at}
+use Rattle.vk_resources.specs.Inner.Steps.{Remaps}
+use Rattle.vk_resources.specs.Counted.{Counts, bound_in, bound_of, mapped_at}
 use Rattle.vk_resources.proofs.CachedBytes.{caching_typed}
 use Rattle.vk_resources.proofs.Matching.{home, lies_on, matches_same}
 use Rattle.vk_resources.proofs.Living.{live_same}
@@ -163,3 +164,9 @@ module _ (old new : Held) (id : ℕ) (change : ℕ → ℕ) (v : Bool) (remaps :
 
   pub unmap_allots : (y : Entry) (b : ℕ) → y ≡ entry.Unmap b → Allots applied.Done y old new
   unmap_allots y b is = subst (λ (x : Entry). Allots applied.Done x old new) (sym is) (λ d al. (d, refl, remaps.allots d al))
+
+-- no other entry counts
+pub uncounted : (y : Entry) (old new : Held) → ((b : ℕ) → y ≡ entry.Map b → ⊥) → ((b : ℕ) → y ≡ entry.Unmap b → ⊥) → Counts y old new
+uncounted (entry.Map b) old new map unmap = absurd (map b refl)
+uncounted (entry.Unmap b) old new map unmap = absurd (unmap b refl)
+uncounted _ old new map unmap = tt

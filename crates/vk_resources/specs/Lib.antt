@@ -2,5 +2,6 @@ pub mod Held
 pub mod Matches
 pub mod Allocating
 pub mod Fits
+pub mod Counted
 pub mod Done
 pub mod Inner

@@ -25,6 +25,7 @@ impl Resources {
     ghost use Rattle.vk_resources.specs.Matches.{MatchesLive};
     ghost use Rattle.vk_resources.specs.Allocating.{Rooms, Allots};
     ghost use Rattle.vk_resources.specs.Fits.{FitsEntry};
+    ghost use Rattle.vk_resources.specs.Counted.{Counts};
     ghost use Rattle.vk_resources.specs.Done.{DoneBy, EntryReady};
     ghost use Rattle.vk_resources.specs.Inner.Steps.{IsMaking, MayReach, HasChanged, cached_at, MadeOr, ResourceMade, MemoryMade, ShapeReady, PutReady, Puts, FoundOr, SharedMade, BindReady, Binds, IsEmpty, Ends};
     ghost use Rattle.vk_backing.specs.Backed.{pool_by, allocation_of};
@@ -323,6 +324,7 @@ impl Resources {
         ensures done { IfOk result (λ a. (e : ℕ) (past : Past) → MatchesLive past self.old → FitsEntry past entry.now → DoneBy a e entry.now past self.old self.new) }
         ensures rooms { IfOk result (λ a. (past : Past) → FitsEntry past entry.now → Rooms a self.old entry.now) }
         ensures allots { IfOk result (λ a. (past : Past) → MatchesLive past self.old → FitsEntry past entry.now → Allots a entry.now self.old self.new) }
+        ensures counts { OnOk result (Counts entry.now self.old self.new) }
     {
         match entry {
             Entry::Memory { .. } | Entry::Buffer { .. } | Entry::Image { .. } => self.make(entry),

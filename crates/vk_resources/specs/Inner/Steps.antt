@@ -1,6 +1,6 @@
 -- What each step asks of resources, and what it changes there.
 use Rattle.std.specs.Prelude.{◌≡◌, ◌⊎◌, ℕ, ◌+◌, ◌-◌, ◌/◌, ◌%◌, ◌<◌, ◌≤◌, ◌==◌, [], ◌∷◌, ◌++◌, length, List, Bool, true, Option, Some, None, option_and_then, if◌then◌else◌, All, ⊤}
-use Rattle.vk_memory.specs.MemoryState.{MemoryState, IsLive, IsFull, fresh, region_of, type_of, with_mapped}
+use Rattle.vk_memory.specs.MemoryState.{IsLive, IsFull, fresh, region_of, type_of}
 use Rattle.vk_map_cache.specs.Holdings.{held_at}
 use Rattle.vk_model.specs.declared.command.Length.{Length}
 use Rattle.vk_model.specs.declared.command.Length.TheVariants as length_of
@@ -22,7 +22,8 @@ use Rattle.vk_resources.specs.declared.applied.Applied.{Applied}
 use Rattle.vk_resources.specs.declared.applied.Applied.TheVariants as applied
 use Rattle.vk_resources.specs.declared.resources.Placed.{Placed}
 use Rattle.vk_resources.specs.Allocating.{allotted}
-use Rattle.vk_backing.specs.Backed.{mapping_of, IsBacked, IsWhole}
+use Rattle.vk_resources.specs.Counted.{bound_of, mapped_at}
+use Rattle.vk_backing.specs.Backed.{IsBacked, IsWhole}
 use Rattle.vk_backing.specs.Steps.{Grows, Owns, Shares, Releases, Maps, MakesPool, DropsPool, OwnAllots, ShareAllots, ReleaseAllots, PoolAllots, DropAllots, KeepsAllotted, Asks}
 use Rattle.vk_resources.specs.Held.{Held, placed, shape_of, flat, object_of, LiesShared, IsInside, IsShaped, byte_at, host_at, is_cached_in, IsInAtoms, IsThere, HasCell}
 
@@ -231,21 +232,6 @@ pub record Ends (old new : Held) (id : ℕ) : Type 0 where
   pub held : (b k : ℕ) → (b ≡ id → ⊥) → host_at new (in_buffer b k) ≡ host_at old (in_buffer b k)
 
 -- ---- mappings
-
--- The number of the memory object that a resource is bound to; none where an allocation is mapped with it, or there is no such resource (Vulkan, "Resource Memory Association"; VMA, "Memory mapping").
-abbrev pub bound_in : Option ℕ → Option Placed → Option ℕ
-bound_in (Some a) p = None
-bound_in None None = None
-bound_in None (Some p) = Some p.object
-
--- The same of what is held.
-abbrev pub bound_of : Held → ℕ → Option ℕ
-bound_of s id = bound_in (mapping_of s.backed id) (placed s id)
-
--- Memory objects, with one of them mapped or not, if one is meant (Vulkan, "Host Access to Device Memory Objects").
-abbrev pub mapped_at : Option ℕ → Bool → MemoryState → MemoryState
-mapped_at None mapped m = m
-mapped_at (Some n) mapped m = with_mapped m n mapped
 
 -- What is mapped with a resource has been mapped or unmapped: its allocation, as often as the change says, or the memory object that it is bound to; nothing else has changed (Vulkan, "Host Access to Device Memory Objects"; VMA, "Memory mapping").
 pub record Remaps (old new : Held) (id : ℕ) (change : ℕ → ℕ) (mapped : Bool) : Type 0 where

@@ -1,4 +1,4 @@
-use Rattle.std.proofs.Common.{◌-◌, true, false, ap, sym, ◌∙◌}
+use Rattle.std.proofs.Common.{◌-◌, true, false, ap, sym, subst, ◌∙◌}
 use Rattle.vk_backing.specs.Steps.{one_more}
 use Rattle.vk_model.specs.declared.entry.Entry.TheVariants as entry
 use Rattle.vk_resources.proofs.Resting.{rest_done}
@@ -7,7 +7,9 @@ use Rattle.vk_resources.proofs.PoolEnds.{drop_unused, drop_done}
 use Rattle.vk_resources.proofs.HostAccesses.{write_done, flush_done, invalidate_done, read_done}
 use Rattle.vk_resources.proofs.Ending.{free_empty, free_done, destroy_empty, destroy_done}
 use Rattle.vk_resources.proofs.Allotting.{free_allots, destroy_allots, rest_rooms, rest_allots, is_rest}
-use Rattle.vk_resources.proofs.Remapping.{map_done, map_rooms, map_allots, unmap_done, unmap_rooms, unmap_allots}
+use Rattle.vk_resources.proofs.Remapping.{map_done, map_rooms, map_allots, unmap_done, unmap_rooms, unmap_allots, uncounted}
+use Rattle.vk_resources.specs.Counted.{Counts}
+use Rattle.vk_model.specs.declared.entry.Entry.{Entry}
 use Rattle.vk_resources.proofs.resources.Resources.apply.Goals as goal
 
 -- ---- what ends
@@ -72,6 +74,7 @@ returns-in-Map c =
       done = λ e past matches fit. map_done s c.map.new.self b one_more true m y b c.in-Map.is e past matches;
       rooms = λ past fit. map_rooms s c.map.new.self b one_more true m y b c.in-Map.is;
       allots = λ past matches fit. map_allots s c.map.new.self b one_more true m y b c.in-Map.is;
+      counts = subst (λ (z : Entry). Counts z s c.map.new.self) (sym c.in-Map.is) (m.maps, m.memory);
     }
 
 pub returns-in-Unmap : goal.returns-in-Unmap
@@ -81,6 +84,7 @@ returns-in-Unmap c =
       done = λ e past matches fit. unmap_done s c.unmap.new.self b (λ n. n - 1) false m y b c.in-Unmap.is e past matches;
       rooms = λ past fit. unmap_rooms s c.unmap.new.self b (λ n. n - 1) false m y b c.in-Unmap.is;
       allots = λ past matches fit. unmap_allots s c.unmap.new.self b (λ n. n - 1) false m y b c.in-Unmap.is;
+      counts = subst (λ (z : Entry). Counts z s c.unmap.new.self) (sym c.in-Unmap.is) (m.maps, m.memory);
     }
 
 -- ---- the others
@@ -92,4 +96,5 @@ returns-in_default c =
       done = λ e past m fit. rest_done c.args.self.now c.args.entry.now rest e past m fit;
       rooms = λ past fit. rest_rooms c.args.self.now c.args.entry.now rest past fit;
       allots = λ past m fit. rest_allots c.args.self.now c.args.entry.now rest past fit;
+      counts = uncounted c.args.entry.now c.args.self.now c.args.self.now c.in_default.not-Map c.in_default.not-Unmap;
     }
