@@ -1,9 +1,12 @@
 -- Lemmas on records of slots as two lists.
-use Rattle.std.proofs.Common.{◌≡◌, ℕ, zero, suc, ◌-◌, List, [], ◌∷◌, ◌++◌, length, get_or, set, map, drop, replicate, Option, None, refl, sym, ap, ◌∙◌}
+use Rattle.std.proofs.Common.{◌≡◌, ℕ, zero, suc, ◌-◌, List, [], ◌∷◌, ◌++◌, length, get_or, set, map, drop, replicate, Option, None, Some, Bool, true, false, cond, refl, sym, ap, ◌∙◌}
 use Rattle.std.proofs.lemmas.List.{length-map, map-set, map-append, drop-replicate}
 use Rattle.std.proofs.Math.Seq.{map-set_same}
+use Rattle.std.proofs.Math.ListN.{get_or-map}
 use Rattle.vk_nodes.specs.declared.node.Node.{Node}
 use Rattle.vk_nodes.specs.declared.slot.Slot.{Slot}
+use Rattle.vk_nodes.specs.declared.change.Change.{Change}
+use Rattle.vk_nodes.specs.Changes.{changed}
 use Rattle.vk_nodes.specs.Inner.Columns.{Columns, columns, seen, entry, empty_slot}
 
 pub map-replicate : {A B : Type 0} (f : A → B) (n : ℕ) (a : A) → map f (replicate n a) ≡ replicate n (f a)
@@ -27,6 +30,26 @@ module _ (slots all : List Slot) (v : Columns) (view : columns slots ≡ v) (is 
 
   pub names-kept : entry x ≡ entry (get_or all k empty_slot) → map entry (set all k x) ≡ v.names
   names-kept e = map-set_same entry all k x empty_slot e ∙ ap (λ (l : List Slot). map entry l) is ∙ ap (λ (w : Columns). w.names) view
+
+-- a record that is seen to hold a node
+shown : (x : Slot) (n : Node) → seen x ≡ Some n → (x.is_held ≡ true) × (x.node ≡ n)
+shown x n h = cases x.is_held h
+  where
+    cases : (b : Bool) → cond b (Some x.node) None ≡ Some n → (b ≡ true) × (x.node ≡ n)
+    cases true h = (refl, cc)
+    cases false h = absurd cc
+
+-- a node is changed in its place
+module _ (slots all : List Slot) (v : Columns) (view : columns slots ≡ v) (is : all ≡ slots) (k : ℕ) (change : Change) (m : Node) (applied : m ≡ changed (get_or all k empty_slot).node change) where
+  abbrev x : Slot
+  x = get_or all k empty_slot
+
+  pub nodes-changed : (n : Node) → get_or v.nodes k None ≡ Some n → map seen (set all k (record x { node = m })) ≡ set v.nodes k (Some (changed n change))
+  nodes-changed n there =
+      let here : seen x ≡ Some n = sym (get_or-map seen all k empty_slot) ∙ ap (λ (l : List Slot). get_or (map seen l) k None) is ∙ ap (λ (w : Columns). get_or w.nodes k None) view ∙ there in
+      let two = shown x n here in
+      let new : cond x.is_held (Some m) None ≡ Some (changed n change) = rw two.0 (ap Some (applied ∙ ap (λ (z : Node). changed z change) two.1)) in
+      nodes-set slots all v view is k (record x { node = m }) ∙ ap (λ (o : Option Node). set v.nodes k o) new
 
 module _ (slots : List Slot) (n : ℕ) (e : Slot) (is_empty : e ≡ empty_slot) (all : slots ≡ replicate n e) where
   pub nodes-new : map seen slots ≡ replicate n None

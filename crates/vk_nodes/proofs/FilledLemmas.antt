@@ -35,6 +35,10 @@ module _ (f : Inside) (now : List (Option Node)) (view : slots_seen f.used f.slo
   pub held-used : (k : ℕ) → IsHeld now k → k < f.used
   held-used k h = seen-below f.used f.slots f.store.nodes within k (held k h)
 
+  -- the store has the node of a slot that is held
+  pub store-get : (k : ℕ) → IsHeld now k → get_or f.store.nodes k None ≡ get_or now k None
+  store-get k h = sym (seen-get f.used f.slots f.store.nodes within k (held-used k h)) ∙ ap (λ (l : List (Option Node)). get_or l k None) view
+
   -- another node is put in a slot
   module _ (new : Columns) (k : ℕ) (n : Node) (h : IsHeld now k) (is : new.nodes ≡ set f.store.nodes k (Some n)) (names : new.names ≡ f.store.names) where
     pub set-filled : IsFilled (record f { store = new })

@@ -6,6 +6,14 @@ use Rattle.vk_nodes.specs.Slots.{IsHeld, AllHeld, free_count}
 pub not-held : IsTrue (is_some {T = Node} None) → ⊥
 not-held h = cc
 
+-- a slot that is held has a node
+pub node-held : (slots : List (Option Node)) (k : ℕ) → IsHeld slots k → (n : Node) × (get_or slots k None ≡ Some n)
+node-held slots k h = cases (get_or slots k None) h refl
+  where
+    cases : (x : Option Node) → IsTrue (is_some x) → get_or slots k None ≡ x → (n : Node) × (get_or slots k None ≡ Some n)
+    cases None h is = absurd (not-held h)
+    cases (Some n) h is = (n, is)
+
 pub held-below : (slots : List (Option Node)) (k : ℕ) → IsHeld slots k → k < length slots
 held-below [] k h = absurd (not-held h)
 held-below (s ∷ slots) zero h = omega arith

@@ -1,6 +1,8 @@
 ghost use Rattle.std.specs.Prelude.{◌≡◌, ◌<◌, ◌+◌, ◌^◌, ◌++◌, IfOk, IsOk, OnErr, MatchOption, length, replicate, set, get_or};
 ghost use Rattle.vk_nodes.specs.Slots.{IsHeld, AllHeld, Hands, free_count};
+ghost use Rattle.vk_nodes.specs.Changes.{IsChanged};
 
+use crate::change::Change;
 use crate::node::Node;
 use crate::store::Store;
 use std::alloc::{AllocError, Global};
@@ -133,5 +135,13 @@ impl Filled {
         ensures { self.new ≡ set self.old slot (Some node) }
     {
         self.store.hold(slot as usize, node);
+    }
+
+    /// Changes some fields of the node in a slot.
+    pub(crate) fn change(&mut self, slot: u32, change: Change)
+        requires { IsHeld self.old slot }
+        ensures { IsChanged self.old self.new slot change }
+    {
+        self.store.change(slot as usize, change);
     }
 }

@@ -2,11 +2,13 @@
 #![tactic(auto)]
 
 mod block;
+mod change;
 mod filled;
 mod node;
 mod nodes;
 mod slot;
 mod store;
 
+pub use change::Change;
 pub use node::{Node, RangeState};
 pub use nodes::Nodes;

@@ -1,6 +1,8 @@
 ghost use Rattle.std.specs.Prelude.{◌≡◌, ◌<◌, ◌+◌, ◌^◌, [], ◌++◌, IsOk, OnErr, MatchOption, length, replicate, set, get_or};
 ghost use Rattle.vk_nodes.specs.Slots.{IsHeld, AllHeld, Hands, free_count};
+ghost use Rattle.vk_nodes.specs.Changes.{IsChanged};
 
+use crate::change::Change;
 use crate::filled::Filled;
 use crate::node::Node;
 use std::alloc::{AllocError, Global};
@@ -121,6 +123,16 @@ impl Nodes {
     {
         if let Some(filled) = &mut self.filled {
             filled.set(slot, node);
+        }
+    }
+
+    /// Changes some fields of the node in a slot.
+    pub fn change(&mut self, slot: u32, change: Change)
+        requires { IsHeld self.old slot }
+        ensures { IsChanged self.old self.new slot change }
+    {
+        if let Some(filled) = &mut self.filled {
+            filled.change(slot, change);
         }
     }
 }

@@ -1,8 +1,10 @@
 ghost use Rattle.std.specs.Prelude.{◌≡◌, ◌<◌, ◌≤◌, ◌-◌, ◌^◌, ◌++◌, IfOk, length, map, drop, replicate, set, get_or, None};
 ghost use Rattle.vk_nodes.specs.Slots.{IsHeld};
+ghost use Rattle.vk_nodes.specs.Changes.{IsChanged};
 ghost use Rattle.vk_nodes.specs.Inner.Columns.{seen, entry};
 
 use crate::block::{Block, Lease};
+use crate::change::{Change, apply};
 use crate::node::Node;
 use crate::slot::Slot;
 use std::alloc::{AllocError, Global};
@@ -132,6 +134,17 @@ impl Store {
         let slot = &mut slots[at];
         slot.node = node;
         slot.is_held = true;
+    }
+
+    /// Changes the node that is held in a record.
+    pub(crate) fn change(&mut self, at: usize, change: Change)
+        requires { IsHeld self.old.nodes at }
+        ensures nodes { IsChanged self.old.nodes self.new.nodes at change }
+        ensures names { self.new.names ≡ self.old.names }
+    {
+        let slots = self.block.as_mut_slice();
+        let slot = &mut slots[at];
+        apply(&mut slot.node, change);
     }
 
     /// Lets go of the node in a record.

@@ -4,6 +4,9 @@ use Rattle.std.specs.Prelude.{MatchOption, IfSome, is_some}
 use Rattle.std.proofs.lemmas.Bool.{cases_eq}
 use Rattle.vk_nodes.specs.declared.node.Node.{Node}
 use Rattle.vk_nodes.specs.declared.node.RangeState.{RangeState}
+use Rattle.vk_nodes.specs.declared.change.Change.TheVariants.{Before}
+use Rattle.vk_nodes.specs.Changes.{IsChanged}
+use Rattle.vk_nodes.proofs.SlotLemmas.{node-held}
 use Rattle.vma_tlsf.specs.Inner.Chain.{Range, range, range_in, seen}
 use Rattle.vma_tlsf.specs.Inner.Steps.{IsHeld, IsAfterHeld, IsRelinked, IsSplit, IsMerged, KeepsHeld}
 use Rattle.vma_tlsf.proofs.Slots.{held_here, set_there, set_elsewhere, held-set, range_there, node_of}
@@ -36,6 +39,28 @@ relinked_held a b (Some k) before h made i held = elim (cases_eq i k) [
     there : (x : Option Node) → get_or a i None ≡ x → IsHeld a i → i ≡ k → IsHeld b i
     there None is held e = absurd (let no : false ≡ true = sym (ap is_some is) ∙ held in cc)
     there (Some n) is held e = held_here b i (record n { before = Some before }) (made.next i n (ap Some (sym e)) is)
+
+-- the node of the slot after is changed
+pub relinked_made : (a b : List (Option Node)) (after : Option ℕ) (next before : ℕ) → after ≡ Some next → IsHeld a next → IsChanged a b next (Before before) → IsRelinked a b after before
+relinked_made a b after next before is held made =
+    let node = node-held a next held in
+    record {
+      next = λ j n on there.
+          let same : j ≡ next = sym (some_same next j (sym is ∙ on)) in
+          let here : get_or a next None ≡ Some n = ap (λ k. get_or a k None) (sym same) ∙ there in
+          rw (same, made n here) (set_there a next held (Some (record n { before = Some before })));
+      others = λ i not. rw (made node.0 node.1) (set_elsewhere a next held (Some (record node.0 { before = Some before })) i (λ e. not (is ∙ ap Some (sym e))));
+    }
+
+-- relinking the range after another keeps the node of the slot
+pub relinked_kept : (a b : List (Option Node)) (slot other before : ℕ) (node last : Node) → get_or a slot None ≡ Some node → IsAfterHeld a last slot other → IsRelinked a b last.after before → get_or b slot None ≡ Some node
+relinked_kept a b slot other before node last here after relinked = relinked.others slot (λ e. (after_apart a last slot other after slot e).1 refl) ∙ here
+
+-- so does a node in a fresh slot
+pub fresh_kept : (a b : List (Option Node)) (slot fresh : ℕ) (node new : Node) → get_or a slot None ≡ Some node → IsHeld a fresh → (slot ≡ fresh → ⊥) → IsAfterHeld a node slot fresh → IsRelinked a b node.after fresh → get_or (set b fresh (Some new)) slot None ≡ Some node
+fresh_kept a b slot fresh node new here held other after relinked =
+    set_elsewhere b fresh (relinked_held a b node.after fresh (after_held a node slot fresh after) relinked fresh held) (Some new) slot other
+    ∙ relinked_kept a b slot fresh fresh node node here after relinked
 
 module _ (a b : List (Option Node)) (slot fresh : ℕ) (node : Node) (size : ℕ) (front back : RangeState)
     (here : get_or a slot None ≡ Some node) (held : IsHeld a fresh) (other : slot ≡ fresh → ⊥)
@@ -109,7 +134,7 @@ module _ (a b : List (Option Node)) (slot gone : ℕ) (node last : Node) (state 
   abbrev dm : List (Option Node)
   dm = set cm gone None
 
-  held_gone : IsHeld cm gone
+  pub held_gone : IsHeld cm gone
   held_gone = held_cm gone (held_here a gone last there)
 
   pub merged_held : KeepsHeld a dm gone

@@ -1,9 +1,12 @@
 -- What slots hold after one of them is set.
-use Rattle.std.proofs.Common.{◌≡◌, ℕ, zero, suc, ◌<◌, ◌==◌, inl, inr, List, [], ◌∷◌, ◌++◌, length, replicate, get_or, set, true, false, Option, Some, None, refl, ap, sym, ◌∙◌, arith, get_or-set_same, get_or-set_other}
+use Rattle.std.proofs.Common.{◌≡◌, ℕ, zero, suc, ◌<◌, ◌==◌, inl, inr, List, [], ◌∷◌, ◌++◌, length, replicate, get_or, set, true, false, cond, Option, Some, None, refl, ap, sym, ◌∙◌, arith, get_or-set_same, get_or-set_other}
 use Rattle.std.specs.Prelude.{is_some}
 use Rattle.std.proofs.lemmas.Bool.{cases_eq}
 use Rattle.vk_nodes.specs.declared.node.Node.{Node}
+use Rattle.vk_nodes.specs.declared.change.Change.{Change}
 use Rattle.vk_nodes.specs.Slots.{empty_node}
+use Rattle.vk_nodes.specs.Changes.{changed, IsChanged}
+use Rattle.vk_nodes.proofs.SlotLemmas.{node-held}
 use Rattle.vma_tlsf.specs.Inner.Chain.{Range, range, range_in, seen}
 use Rattle.vma_tlsf.specs.Inner.Steps.{AreAlike, IsHeld}
 
@@ -52,6 +55,12 @@ alike-set nodes slot old new was same =
       ];
       held = held-set nodes slot held (Some new) refl;
     }
+
+-- a node whose range is kept by a change
+pub alike-changed : (old new : List (Option Node)) (slot : ℕ) (change : Change) → IsHeld old slot → IsChanged old new slot change → ((n : Node) → range (changed n change) ≡ range n) → AreAlike old new
+alike-changed old new slot change held made same =
+    let node = node-held old slot held in
+    rw (made node.0 node.1) (alike-set old slot node.0 (changed node.0 change) node.1 (ap (λ (r : Range). cond (r.size == 0) None (Some r)) (same node.0)))
 
 -- the range of a node that has bytes
 pub range_there : (m : Node) → 0 < m.size → range_in (Some m) ≡ Some (range m)

@@ -2,7 +2,7 @@ ghost use Rattle.std.specs.Prelude.{◌<◌};
 ghost use Rattle.vma_tlsf.specs.Inner.Steps.{AreAlike, IsHeld};
 
 use std::alloc::{AllocError, Global};
-use vk_nodes::{Node, Nodes};
+use vk_nodes::{Change, Nodes};
 
 /// The bytes of a unit, which sizes are multiples of (profile).
 pub(crate) const UNIT: u64 = 16;
@@ -119,17 +119,10 @@ impl Lists {
         requires { IsHeld nodes.old slot }
         ensures { AreAlike nodes.old nodes.new }
     {
-        let node = nodes.get(slot);
-        let list = list_of(node.size / UNIT);
+        let list = list_of(nodes.get(slot).size / UNIT);
         let next_free = self.head(list);
-        nodes.set(
-            slot,
-            Node {
-                previous_free: None,
-                next_free,
-                ..node
-            },
-        );
+        set_previous_free(nodes, slot, None);
+        set_next_free(nodes, slot, next_free);
         if let Some(next) = next_free {
             set_previous_free(nodes, next, Some(slot));
         }
@@ -187,8 +180,8 @@ impl Lists {
 fn set_next_free(nodes: &mut Nodes, slot: u32, next_free: Option<u32>)
     ensures { AreAlike nodes.old nodes.new }
 {
-    if let Some(node) = nodes.find(slot) {
-        nodes.set(slot, Node { next_free, ..node });
+    if nodes.find(slot).is_some() {
+        nodes.change(slot, Change::NextFree(next_free));
     }
 }
 
@@ -196,13 +189,7 @@ fn set_next_free(nodes: &mut Nodes, slot: u32, next_free: Option<u32>)
 fn set_previous_free(nodes: &mut Nodes, slot: u32, previous_free: Option<u32>)
     ensures { AreAlike nodes.old nodes.new }
 {
-    if let Some(node) = nodes.find(slot) {
-        nodes.set(
-            slot,
-            Node {
-                previous_free,
-                ..node
-            },
-        );
+    if nodes.find(slot).is_some() {
+        nodes.change(slot, Change::PreviousFree(previous_free));
     }
 }

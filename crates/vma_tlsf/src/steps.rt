@@ -4,7 +4,7 @@ ghost use Rattle.vma_tlsf.specs.Inner.Changes.{IsFresh};
 ghost use Rattle.vma_tlsf.specs.Inner.Steps.{AreAlike, IsHeld, IsAfterHeld, IsRelinked, IsSplit, IsMerged, IsPainted, KeepsHeld};
 
 use std::alloc::AllocError;
-use vk_nodes::{Node, Nodes, RangeState};
+use vk_nodes::{Change, Node, Nodes, RangeState};
 
 /// The most slots that are added at once.
 const MOST_ADDED: usize = 64;
@@ -51,14 +51,7 @@ fn set_before(nodes: &mut Nodes, after: Option<u32>, before: u32)
     ensures { IsRelinked nodes.old nodes.new after before }
 {
     if let Some(next) = after {
-        let node = nodes.get(next);
-        nodes.set(
-            next,
-            Node {
-                before: Some(before),
-                ..node
-            },
-        );
+        nodes.change(next, Change::Before(before));
     }
 }
 
@@ -95,13 +88,12 @@ pub(crate) fn split(
             state: back,
         },
     );
-    nodes.set(
+    nodes.change(
         slot,
-        Node {
+        Change::End {
             size: front_size,
             after: Some(fresh_slot),
             state: front,
-            ..node
         },
     );
 }
@@ -125,13 +117,12 @@ pub(crate) fn merge(
     ensures held { KeepsHeld nodes.old nodes.new gone }
 {
     set_before(nodes, last.after, slot);
-    nodes.set(
+    nodes.change(
         slot,
-        Node {
+        Change::End {
             size: node.size + last.size,
             after: last.after,
             state,
-            ..node
         },
     );
     nodes.give(gone);
@@ -144,5 +135,5 @@ pub(crate) fn paint(nodes: &mut Nodes, slot: u32, node: Node, state: RangeState)
     ensures painted { IsPainted (seen nodes.old) (seen nodes.new) slot (range node) state }
     ensures held { (i : ℕ) → IsHeld nodes.old i → IsHeld nodes.new i }
 {
-    nodes.set(slot, Node { state, ..node });
+    nodes.change(slot, Change::State(state));
 }
