@@ -15,12 +15,12 @@ use Rattle.vk_nodes.specs.contracts.slot.Slot as slot
 slot_send : IsSend slot.the_row
 slot_send =
     recorded_send slot.the_field.row _ _ slot.the_type.to_one
-    (struct_send (Declared.shape slot.the_type) (node.the_field_send, (plain_send _ _ _ _ _, (plain_send _ _ _ _ _, tt))))
+    (struct_send (Declared.shape slot.the_type) (plain_send _ _ _ _ _, (plain_send _ _ _ _ _, (node.the_field_send, tt))))
 
 slot_sync : IsSync slot.the_row
 slot_sync =
     recorded_sync slot.the_field.row _ _ slot.the_type.to_one
-    (struct_sync (Declared.shape slot.the_type) (node.the_field_sync, (plain_sync _ _ _ _ _, (plain_sync _ _ _ _ _, tt))))
+    (struct_sync (Declared.shape slot.the_type) (plain_sync _ _ _ _ _, (plain_sync _ _ _ _ _, (node.the_field_sync, tt))))
 
 pub block_send : IsSend block.the_row
 block_send =

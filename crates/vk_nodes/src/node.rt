@@ -17,6 +17,8 @@ pub struct Node {
     pub start: u64,
     /// Its bytes.
     pub size: u64,
+    /// What it is.
+    pub state: RangeState,
     /// The slot of the range before it by place.
     pub before: Option<u32>,
     /// The slot of the range after it by place.
@@ -25,8 +27,6 @@ pub struct Node {
     pub previous_free: Option<u32>,
     /// The slot of the free range after it in its list.
     pub next_free: Option<u32>,
-    /// What it is.
-    pub state: RangeState,
 }
 
 impl Node {

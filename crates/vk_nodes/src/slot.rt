@@ -3,12 +3,12 @@ use crate::node::Node;
 /// A place for one node, and a place of the stack of free slots.
 #[derive(Clone, Copy)]
 pub(crate) struct Slot {
-    /// The node that is held here, where one is.
-    pub(crate) node: Node,
-    /// Whether one is held.
-    pub(crate) is_held: bool,
     /// The free slot that stands at this place of the stack, where the stack is so long.
     pub(crate) name: u32,
+    /// Whether a node is held here.
+    pub(crate) is_held: bool,
+    /// The node, where one is held.
+    pub(crate) node: Node,
 }
 
 impl Slot {

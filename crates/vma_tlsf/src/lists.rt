@@ -126,7 +126,7 @@ impl Lists {
         if let Some(next) = next_free {
             set_previous_free(nodes, next, Some(slot));
         }
-        self.set_head(list, Some(slot));
+        self.fill(list, slot);
     }
 
     /// Takes a free range out of its list.
@@ -151,27 +151,39 @@ impl Lists {
         }
     }
 
-    fn set_head(&mut self, list: usize, head: Option<u32>) {
-        if let Some(place) = self.heads.get_mut(list) {
-            *place = head;
+    /// Puts a range at the head of a list.
+    fn fill(&mut self, list: usize, slot: u32) {
+        if let Some(head) = self.heads.get_mut(list) {
+            *head = Some(slot);
         }
         let row = list / COLUMNS;
-        let bit = 1u32 << (list % COLUMNS);
         if let Some(columns) = self.full_columns.get_mut(row) {
-            *columns = if head.is_some() {
-                *columns | bit
-            } else {
-                *columns & !bit
-            };
+            *columns = *columns | 1 << (list % COLUMNS);
         }
         if row < ROWS {
-            let is_full = self.columns(row) != 0;
-            let row_bit = 1u64 << row;
-            self.full_rows = if is_full {
-                self.full_rows | row_bit
-            } else {
-                self.full_rows & !row_bit
-            };
+            self.full_rows = self.full_rows | 1 << row;
+        }
+    }
+
+    /// Lets a list begin elsewhere, or have no range.
+    fn set_head(&mut self, list: usize, next: Option<u32>) {
+        if let Some(head) = self.heads.get_mut(list) {
+            *head = next;
+        }
+        if next.is_none() {
+            self.set_empty(list);
+        }
+    }
+
+    /// Says that a list has no range.
+    fn set_empty(&mut self, list: usize) {
+        let row = list / COLUMNS;
+        let Some(columns) = self.full_columns.get_mut(row) else {
+            return;
+        };
+        *columns = *columns & !(1 << (list % COLUMNS));
+        if *columns == 0 && row < ROWS {
+            self.full_rows = self.full_rows & !(1 << row);
         }
     }
 }

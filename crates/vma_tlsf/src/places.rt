@@ -1,4 +1,4 @@
-ghost use Rattle.std.specs.Prelude.{◌≡◌, ◌≤◌, ◌<◌, ◌^◌, ◌+◌, ℕ, Some, None, get_or, max, min, IsTrue, IfSome};
+ghost use Rattle.std.specs.Prelude.{◌≡◌, ◌≤◌, ◌<◌, ◌^◌, ◌+◌, ◌*◌, ◌/◌, ℕ, Some, None, get_or, max, min, IsTrue, IfSome};
 ghost use Rattle.vk_nodes.specs.declared.node.RangeState.TheVariants.{Free};
 ghost use Rattle.vk_model.specs.Memory.Suballocation.{IsRequest, IsLargestFree};
 ghost use Rattle.vk_model.specs.Memory.Room.{fits, is_none_left};
@@ -93,6 +93,20 @@ fn high_end(nodes: &Nodes, node: Node, kind: Kind) -> u64
     }
 }
 
+/// The last multiple of an alignment up to here. Those that requests have are written out, since a
+/// division by a number that is known is a shift.
+fn aligned(most: u64, align: u64) -> u64
+    requires { 0 < align }
+    ensures { result ≡ most / align * align }
+{
+    match align {
+        16 => most / 16 * 16,
+        64 => most / 64 * 64,
+        256 => most / 256 * 256,
+        _ => most / align * align,
+    }
+}
+
 /// The lowest place in a free range that ends at or below the limit.
 pub(crate) fn place_in(nodes: &Nodes, node: Node, want: Want, limit: u64) -> Option<u64>
     requires block { HasBlock nodes.now limit }
@@ -103,7 +117,7 @@ pub(crate) fn place_in(nodes: &Nodes, node: Node, want: Want, limit: u64) -> Opt
 {
     let low = low_end(nodes, node, want.kind);
     let high = high_end(nodes, node, want.kind).min(limit);
-    let start = (low + (want.align - 1)) / want.align * want.align;
+    let start = aligned(low + (want.align - 1), want.align);
     if start + want.size <= high {
         Some(start)
     } else {
