@@ -114,27 +114,6 @@ module _ (a b : List (Option Node)) (slot fresh : ℕ) (node : Node) (kind : Ran
   not_slot : (i : ℕ) → seen a i ≡ None → i ≡ slot → ⊥
   not_slot i none e = none_some (range node) (seen a i) none (ap (seen a) e ∙ there)
 
-  pub front_painted : (start : ℕ) → node.start ≡ start → IsPainted (seen (set a fresh None)) (seen b) slot (range node) kind → ((i : ℕ) → IsHeld (set a fresh None) i → IsHeld b i) → IsFrontCut a b node start slot fresh kind
-  front_painted start same made held =
-      let given = set a fresh None in
-      let at : seen given slot ≡ Some (range node) = seen_given a fresh free slot ∙ there in
-      record {
-        chain = λ whole root chain. paint_keeps whole root (seen given) (seen b) (chain_alike whole root (seen a) (seen given) (seen_given a fresh free) chain) slot (range node) at kind made (λ e. absurd (kind_taken e)) (λ e. absurd (kind_taken e));
-        range = record { start = node.start; size = node.size; before = node.before; after = node.after; state = kind };
-        there = made.there;
-        begins = same;
-        ends = refl;
-        state = refl;
-        next = λ j q on at_j free_q.
-            let apart = next_apart has.0 has.1 (seen a) has.3 slot j (range node) there on in
-            after_not_free has.0 has.1 (seen a) has.3 slot (range node) there is_free j q on (sym (made.others j apart ∙ seen_given a fresh free j) ∙ at_j) free_q;
-        others = λ i other. ap taken_here (made.others i other ∙ seen_given a fresh free i);
-        none = taken_none;
-        held = λ i other h. held i (held_given a fresh free i other h);
-        rest_held = λ less. absurd (omega arith);
-        rest_fresh = λ i other f. (held i (held_given a fresh free i other f.0), made.others i (not_slot i f.1) ∙ seen_given a fresh free i ∙ f.1);
-      }
-
   pub front_split : (start n : ℕ) → node.start + n ≡ start → 0 < n → n < node.size → IsSplit (seen a) (seen b) slot fresh (range node) n state.Free kind → ((i : ℕ) → IsHeld a i → IsHeld b i) → IsFrontCut a b node start fresh fresh kind
   front_split start n at more less made held =
       record {
@@ -161,6 +140,29 @@ module _ (a b : List (Option Node)) (slot fresh : ℕ) (node : Node) (kind : Ran
         held = λ i other h. held i h;
         rest_held = λ less. refl;
         rest_fresh = λ i other f. (held i f.0, made.others i (not_slot i f.1) other (λ on. let follows = (has.3.linked slot (range node) there).after i on in none_some follows.range (seen a i) f.1 follows.there) ∙ f.1);
+      }
+
+module _ (a b : List (Option Node)) (slot : ℕ) (node : Node) (kind : RangeState)
+    (has : HasChain a) (here : get_or a slot None ≡ Some node) (some : 0 < node.size) (is_free : node.state ≡ state.Free)
+    (kind_taken : kind ≡ state.Free → ⊥) where
+  pub front_painted : (start : ℕ) → node.start ≡ start → IsPainted (seen a) (seen b) slot (range node) kind → ((i : ℕ) → IsHeld a i → IsHeld b i) → IsFrontCut a b node start slot slot kind
+  front_painted start same made held =
+      let at = node_seen a slot node here some in
+      record {
+        chain = λ whole root chain. paint_keeps whole root (seen a) (seen b) chain slot (range node) at kind made (λ e. absurd (kind_taken e)) (λ e. absurd (kind_taken e));
+        range = record { start = node.start; size = node.size; before = node.before; after = node.after; state = kind };
+        there = made.there;
+        begins = same;
+        ends = refl;
+        state = refl;
+        next = λ j q on at_j free_q.
+            let apart = next_apart has.0 has.1 (seen a) has.3 slot j (range node) at on in
+            after_not_free has.0 has.1 (seen a) has.3 slot (range node) at is_free j q on (sym (made.others j apart) ∙ at_j) free_q;
+        others = λ i other. ap taken_here (made.others i other);
+        none = ap taken_here at ∙ free_takes_none (range node) is_free;
+        held = λ i other h. held i h;
+        rest_held = λ less. refl;
+        rest_fresh = λ i other f. (held i f.0, made.others i other ∙ f.1);
       }
 
 -- ---- the back

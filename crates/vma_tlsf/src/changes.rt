@@ -3,11 +3,12 @@ ghost use Rattle.vk_nodes.specs.declared.node.RangeState.TheVariants.{Free};
 ghost use Rattle.vma_tlsf.specs.Inner.Chain.{range, seen, AfterNotFree};
 ghost use Rattle.vma_tlsf.specs.Inner.Steps.{AreAlike, IsHeld};
 ghost use Rattle.vma_tlsf.specs.Inner.Changes.{HasChain, IsFresh, IsFrontCut, IsBackCut, TakesMore, IsReleased, IsPlaceIn, IsTakenIn, IsJoinedAfter, IsNextTaken, IsFreed};
+ghost use Rattle.vma_tlsf.specs.Inner.Fits.{IsSlotAt, StartsBelow};
 ghost use Rattle.vma_tlsf.specs.Inner.Wants.{taken_of_want};
 
 use crate::lists::Lists;
 use crate::places::{Place, Want, taken_state};
-use crate::steps::{merge, paint, split, two_fresh};
+use crate::steps::{fresh, merge, paint, split, two_fresh};
 use vk_nodes::{Node, Nodes, RangeState};
 
 /// Takes a place of a free range, and answers its slot, or `None` where memory is wanting.
@@ -18,12 +19,59 @@ pub(crate) fn put(nodes: &mut Nodes, lists: &mut Lists, place: Place, want: Want
     ensures taken { IsSome result → TakesMore nodes.old nodes.new (taken_of_want place.start want) }
     ensures none { result ≡ None → AreAlike nodes.old nodes.new }
 {
+    let whole = nodes.get(place.slot);
+    if whole.start == place.start {
+        let Ok(fresh_slot) = fresh(nodes) else {
+            return None;
+        };
+        return Some(carve_start(nodes, lists, place, want, fresh_slot));
+    }
     let (one, two) = two_fresh(nodes)?;
     Some(carve(nodes, lists, place, want, one, two))
 }
 
-/// Takes a place of a free range, and puts what is left of the range into lists. It gives back
-/// what it doesn't use of two fresh slots.
+/// Takes the start of a free range, and puts what is left of the range into a list. Where nothing
+/// is left it gives the fresh slot back.
+fn carve_start(
+    nodes: &mut Nodes,
+    lists: &mut Lists,
+    place: Place,
+    want: Want,
+    fresh_slot: u32,
+) -> u32
+    requires chain { HasChain nodes.old }
+    requires place { IsPlaceIn nodes.old place.slot place.start want.size }
+    requires start { IsSlotAt nodes.old place.slot place.start }
+    requires some { 0 < want.size }
+    requires fresh { IsFresh nodes.old fresh_slot }
+    ensures { TakesMore nodes.old nodes.new (taken_of_want place.start want) }
+{
+    lists.unlink(nodes, place.slot);
+    let node = nodes.get(place.slot);
+    take_start(nodes, place, node, taken_state(want.kind));
+    let taken = nodes.get(place.slot);
+    cut_back(nodes, place.slot, taken, fresh_slot, want.size);
+    if want.size < taken.size {
+        lists.push(nodes, fresh_slot);
+    }
+    place.slot
+}
+
+/// Takes a free range from its start on.
+fn take_start(nodes: &mut Nodes, place: Place, node: Node, state: RangeState)
+    requires chain { HasChain nodes.old }
+    requires here { get_or nodes.old place.slot None ≡ Some node }
+    requires some { 0 < node.size }
+    requires free { node.state ≡ Free }
+    requires start { node.start ≡ place.start }
+    requires taken { state ≡ Free → ⊥ }
+    ensures { IsFrontCut nodes.old nodes.new node place.start place.slot place.slot state }
+{
+    paint(nodes, place.slot, node, state);
+}
+
+/// Takes a place of a free range that begins before it, and puts what is left of the range into
+/// lists. Where nothing is left behind it gives the second fresh slot back.
 fn carve(nodes: &mut Nodes, lists: &mut Lists, place: Place, want: Want, one: u32, two: u32) -> u32
     requires chain { HasChain nodes.old }
     requires place { IsPlaceIn nodes.old place.slot place.start want.size }
@@ -31,38 +79,32 @@ fn carve(nodes: &mut Nodes, lists: &mut Lists, place: Place, want: Want, one: u3
     requires one { IsFresh nodes.old one }
     requires two { IsFresh nodes.old two }
     requires apart { one ≡ two → ⊥ }
+    requires before { StartsBelow nodes.old place.slot place.start }
     ensures { TakesMore nodes.old nodes.new (taken_of_want place.start want) }
 {
     lists.unlink(nodes, place.slot);
     let node = nodes.get(place.slot);
-    let slot = cut_front(nodes, place, node, one, taken_state(want.kind));
-    let taken = nodes.get(slot);
-    cut_back(nodes, slot, taken, two, want.size);
-    if node.start < place.start {
-        lists.push(nodes, place.slot);
-    }
+    cut_front(nodes, place, node, one, taken_state(want.kind));
+    let taken = nodes.get(one);
+    cut_back(nodes, one, taken, two, want.size);
+    lists.push(nodes, place.slot);
     if want.size < taken.size {
         lists.push(nodes, two);
     }
-    slot
+    one
 }
 
 /// Takes a free range from the start of a place on; what is before it stays free.
-fn cut_front(nodes: &mut Nodes, place: Place, node: Node, fresh: u32, state: RangeState) -> u32
+fn cut_front(nodes: &mut Nodes, place: Place, node: Node, fresh: u32, state: RangeState)
     requires chain { HasChain nodes.old }
     requires here { get_or nodes.old place.slot None ≡ Some node }
     requires free { node.state ≡ Free }
-    requires from { node.start ≤ place.start }
+    requires from { node.start < place.start }
     requires to { place.start < node.start + node.size }
     requires fresh { IsFresh nodes.old fresh }
     requires taken { state ≡ Free → ⊥ }
-    ensures { IsFrontCut nodes.old nodes.new node place.start result fresh state }
+    ensures { IsFrontCut nodes.old nodes.new node place.start fresh fresh state }
 {
-    if node.start == place.start {
-        nodes.give(fresh);
-        paint(nodes, place.slot, node, state);
-        return place.slot;
-    }
     let front = place.start - node.start;
     split(
         nodes,
@@ -73,7 +115,6 @@ fn cut_front(nodes: &mut Nodes, place: Place, node: Node, fresh: u32, state: Ran
         RangeState::Free,
         state,
     );
-    fresh
 }
 
 /// Lets a taken range have the size that is asked; what is after it is free.

@@ -88,6 +88,10 @@ StartsAt nodes start = (slot : ℕ) × (r : Range) × (seen nodes slot ≡ Some 
 abbrev pub IsSlotAt : List (Option Node) → ℕ → ℕ → Type 0
 IsSlotAt nodes slot start = (r : Range) × (seen nodes slot ≡ Some r) × (r.start ≡ start)
 
+-- The range of the slot starts before here.
+abbrev pub StartsBelow : List (Option Node) → ℕ → ℕ → Type 0
+StartsBelow nodes slot start = (r : Range) × (seen nodes slot ≡ Some r) × (r.start < start)
+
 -- The free range of a whole block.
 abbrev pub whole_node : ℕ → Node
 whole_node size = record { start = 0; size = size; before = None; after = None; previous_free = None; next_free = None; state = state.Free }

@@ -1,13 +1,6 @@
-use Rattle.std.proofs.Common.{◌-◌, sym, arith}
-use Rattle.vma_tlsf.proofs.Cuts.{split_after, node_bound, front_painted, front_split}
+use Rattle.std.proofs.Common.{◌-◌, arith}
+use Rattle.vma_tlsf.proofs.Cuts.{split_after, node_bound, front_split}
 use Rattle.vma_tlsf.proofs.changes.cut_front.Goals as goal
-
-pub returns-then-node-place : goal.returns-then-node-place
-returns-then-node-place c =
-    let from = c.requires.from in
-    let to = c.requires.to in
-    front_painted c.args.nodes.now c.paint.new.nodes c.args.place.slot c.args.fresh c.args.node c.args.state c.requires.chain c.requires.here (omega arith) c.requires.free c.requires.fresh c.requires.taken c.args.place.start c.if-node-place.true
-    (rw (sym c.give.ensures) c.paint.ensures.painted) (rw (sym c.give.ensures) c.paint.ensures.held)
 
 pub split-requires-clause-after : goal.split-requires-clause-after
 split-requires-clause-after c = split_after c.args.nodes.now c.args.place.slot c.args.fresh c.args.node c.requires.chain c.requires.here (let from = c.requires.from in let to = c.requires.to in omega arith) c.requires.fresh
@@ -19,5 +12,4 @@ pub returns : goal.returns
 returns c =
     let from = c.requires.from in
     let to = c.requires.to in
-    let other = c.if-node-place.false in
     front_split c.args.nodes.now c.split.new.nodes c.args.place.slot c.args.fresh c.args.node c.args.state c.requires.chain c.requires.here (omega arith) c.requires.free c.requires.fresh c.requires.taken c.args.place.start (c.args.place.start - c.args.node.start) (omega arith) (omega arith) (omega arith) c.split.ensures.split c.split.ensures.held
