@@ -89,10 +89,10 @@ infixl 20 ◌<+>◌
 pub ◌<+>◌ : {A B : Type 0} {row : Row (A → B)} {read : Reader A} → IsFlatRow row → IsFlatReader read → IsFlatRow (row <*> read)
 ◌<+>◌ {A} {B} {row} {read} by_row by_read = record {
   flat = λ ds x e flat.
-    let before = bound (row ds) _ x e in
-    let member = bound (first_member read before.0.1) _ x before.2 in
-    let same = ap (λ (p : B × List Data). p.1) (same_Some {A = B × List Data} (before.0.0 member.0.0, member.0.1) x member.2) in
-    by_row.flat ds before.0 before.1 (first_flat read by_read before.0.1 member.0 member.1 (subst AllFlat (sym same) flat))
+      let before = bound (row ds) _ x e in
+      let member = bound (first_member read before.0.1) _ x before.2 in
+      let same = ap (λ (p : B × List Data). p.1) (same_Some {A = B × List Data} (before.0.0 member.0.0, member.0.1) x member.2) in
+      by_row.flat ds before.0 before.1 (first_flat read by_read before.0.1 member.0 member.1 (subst AllFlat (sym same) flat));
 }
 
 only_flat : {A : Type 0} (row : Row A) → IsFlatRow row → (ds : List Data) (x : A) → only row ds ≡ Some x → AllFlat ds
@@ -104,8 +104,8 @@ only_flat row by_row ds x e =
 pub members_flat : {A : Type 0} {row : Row A} → IsFlatRow row → IsFlatReader (members row)
 members_flat {A} {row} by_row = record {
   flat = λ d x e.
-    let ds = bound (array_members d) (only row) x e in
-    array_flat d ds.0 ds.1 (only_flat row by_row ds.0 x ds.2)
+      let ds = bound (array_members d) (only row) x e in
+      array_flat d ds.0 ds.1 (only_flat row by_row ds.0 x ds.2);
 }
 
 infixr 15 ◌<&>◌
@@ -126,11 +126,11 @@ pub tagged_flat : {A : Type 0} (rows : List (List ℕ × Row A)) → AreFlatRows
 unfolding word_and_members
 tagged_flat {A} rows by_rows = record {
   flat = λ d x e.
-    let tag = bound (word_and_members d) (λ t. after_word rows t.0 t.1) x e in
-    let ds = bound (array_members d) (first_member as_str) tag.0 tag.1 in
-    let row = bound (at_word rows tag.0.0) (λ r. only r tag.0.1) x tag.2 in
-    let rest = only_flat row.0 (row_flat rows by_rows tag.0.0 row.0 row.1) tag.0.1 x row.2 in
-    array_flat d ds.0 ds.1 (first_flat as_str str_flat ds.0 tag.0 ds.2 rest)
+      let tag = bound (word_and_members d) (λ t. after_word rows t.0 t.1) x e in
+      let ds = bound (array_members d) (first_member as_str) tag.0 tag.1 in
+      let row = bound (at_word rows tag.0.0) (λ r. only r tag.0.1) x tag.2 in
+      let rest = only_flat row.0 (row_flat rows by_rows tag.0.0 row.0 row.1) tag.0.1 x row.2 in
+      array_flat d ds.0 ds.1 (first_flat as_str str_flat ds.0 tag.0 ds.2 rest);
 }
 
 each_flat : {A : Type 0} (read : Reader A) → IsFlatReader read → (ds : List Data) (xs : List A) → each_member read ds ≡ Some xs → AllFlat ds
@@ -145,6 +145,6 @@ pub list_flat : {A : Type 0} {read : Reader A} → IsFlatReader read → IsFlatR
 unfolding list_of
 list_flat {A} {read} by_read = record {
   flat = λ d xs e.
-    let ds = bound (array_members d) (each_member read) xs e in
-    array_flat d ds.0 ds.1 (each_flat read by_read ds.0 xs ds.2)
+      let ds = bound (array_members d) (each_member read) xs e in
+      array_flat d ds.0 ds.1 (each_flat read by_read ds.0 xs ds.2);
 }
