@@ -6,7 +6,8 @@
 Traces are drawn as by random_traces.py until so many are refused; a drawn trace that is accepted is
 broken by leaving out one entry, command, element, wait or signal, if that breaks it. Of each it is counted
 by its rule whether a repair is told, whether the changed trace is accepted, and whether the trace that
-`--repaired` writes is. Prints a row for each rule.
+`--repaired` writes is. Prints a row for each rule. With --failing FOLDER the traces that aren't accepted
+in the end are written there, each named by its seed and number.
 """
 
 import argparse
@@ -15,6 +16,7 @@ import random
 import subprocess
 import sys
 from collections import Counter
+from pathlib import Path
 
 from drawing import draw
 from random_traces import smaller
@@ -47,7 +49,7 @@ def broken(chance, trace, heaps, tries):
 
 
 def count(program, trace, tried, counts):
-    """Counts what is told of a refused trace."""
+    """Counts what is told of a refused trace; whether it is accepted in the end."""
     told, status = run(program, trace, "--json")
     said = json.loads(told)
     rule = said["rule"]
@@ -55,11 +57,12 @@ def count(program, trace, tried, counts):
     if status != 1:
         raise SystemExit(f"status {status}: {json.dumps(trace)}")
     if said["repair"] is None:
-        return
+        return False
     counts[rule, "told"] += 1
     counts[rule, "accepted"] += said["repair"]["then"] == "accepted"
     _, status = run(program, trace, "--repaired")
     counts[rule, "in the end"] += status == 0
+    return status == 0
 
 
 def arguments():
@@ -67,6 +70,7 @@ def arguments():
     parser.add_argument("program", help="the program `explain`, as it was built")
     parser.add_argument("--count", type=int, default=200, help="how many refused traces are looked at")
     parser.add_argument("--seed", type=int, default=0, help="where the drawing begins")
+    parser.add_argument("--failing", type=Path, help="where traces go that aren't accepted in the end")
     return parser.parse_args()
 
 
@@ -85,7 +89,11 @@ def main():
         trace, heaps = draw(chance)
         refused = broken(chance, trace, heaps, 12)
         if refused is not None:
-            count(options.program, refused, tried, counts)
+            is_accepted = count(options.program, refused, tried, counts)
+            if options.failing and not is_accepted:
+                options.failing.mkdir(parents=True, exist_ok=True)
+                name = f"{options.seed}_{number}.json"
+                (options.failing / name).write_text(json.dumps(refused))
         number += 1
     print("| Rule | Refused | A repair is told | Accepted after it | Accepted in the end |")
     print("|---|---|---|---|---|")

@@ -1,7 +1,7 @@
 use crate::cases::{Candidates, Case};
 use crate::{
-    ending, entries, events, hazards, layouts, lives, masks, overlaps, owners, places, ranges,
-    semaphores, sizes, undefined, waits,
+    ending, entries, events, extents, hazards, layouts, lives, masks, overlaps, owners, places,
+    ranges, semaphores, sizes, staging, undefined, waits,
 };
 use std::alloc::AllocError;
 use vk_model::Rule;
@@ -29,18 +29,32 @@ fn by_entry(case: &Case<'_>, found: &mut Candidates) -> Result<(), AllocError> {
         Rule::QueueKind => entries::queue(case, 2, found),
         Rule::Align => {
             overlaps::align(case, found)?;
-            entries::queue(case, 2, found)
+            entries::queue(case, 2, found)?;
+            staging::unaligned(case, found)
         }
-        Rule::Size => sizes::size(case, found),
+        Rule::Size => {
+            sizes::size(case, found)?;
+            extents::within_images(case, found)
+        }
+        Rule::MemorySize => sizes::memory_size(case, found),
         Rule::Usage => entries::usage(case, found),
         Rule::MemoryType | Rule::HostVisible => places::memory_type(case, found),
         Rule::BindRange | Rule::BindAlign | Rule::Aliased => places::binding(case, found),
         Rule::PoolSize => places::pool_size(case, found),
         Rule::PoolKind => places::pool_kind(case, found),
         Rule::MapState => entries::map_state(case, found),
-        Rule::Range => ranges::range(case, found),
-        Rule::Subresource => ranges::subresource(case, found),
-        Rule::Overlap => overlaps::overlap(case, found),
+        Rule::Range => {
+            ranges::range(case, found)?;
+            extents::within_images(case, found)
+        }
+        Rule::Subresource => {
+            ranges::subresource(case, found)?;
+            extents::within_images(case, found)
+        }
+        Rule::Overlap => {
+            overlaps::overlap(case, found)?;
+            staging::within_one(case, found)
+        }
         _ => by_command(case, found),
     }
 }

@@ -3,7 +3,7 @@ use crate::edits::Change;
 use crate::lists::EditList;
 use crate::orders::{Ordering, covering, order_after};
 use crate::uses::{Use, uses_of};
-use crate::{host_hazards, stages};
+use crate::{host_hazards, stages, transitions};
 use std::alloc::AllocError;
 use vk_model::{Accesses, Batch, Cmd, Dependency, Element, Entry, Length, Rule, Sequence, Stages};
 use vk_order::{Action, Point};
@@ -64,22 +64,28 @@ fn before_command(case: &Case<'_>, found: &mut Candidates) -> Result<(), AllocEr
     let uses = uses.as_slice();
     let flushes = flushes(case, uses)?;
     widened_transition(case, narrow, found)?;
-    with_barrier(case, narrow, None, found)?;
-    with_barrier(case, wide, None, found)?;
+    with_barrier(case, uses, narrow, Flushed::Nothing, found)?;
+    with_barrier(case, uses, wide, Flushed::Nothing, found)?;
     for flush in flushes.as_slice() {
         let mut edits = case.edits();
         insert_flush(*flush, &mut edits)?;
         found.add(edits)?;
     }
+    all_flushed(case, uses, found)?;
+    with_barrier(case, uses, wide, Flushed::Each, found)?;
+    transitions::opened(case, uses, None, found)?;
+    transitions::opened(case, uses, Some(wide), found)?;
     stages::wider_waits(case, uses, found)?;
     for ordering in [Ordering::Known, Ordering::New] {
         for also in [None, Some(narrow), Some(wide)] {
-            after_queues(case, uses, ordering, also, None, found)?;
+            after_queues(case, uses, ordering, also, Flushed::Nothing, found)?;
         }
     }
+    after_queues(case, uses, Ordering::New, Some(wide), Flushed::Each, found)?;
     for flush in flushes.as_slice() {
-        with_barrier(case, wide, Some(*flush), found)?;
-        after_queues(case, uses, Ordering::New, Some(wide), Some(*flush), found)?;
+        let flushed = Flushed::One(*flush);
+        with_barrier(case, uses, wide, flushed, found)?;
+        after_queues(case, uses, Ordering::New, Some(wide), flushed, found)?;
     }
     after_late_write(case, uses, found)
 }
@@ -121,19 +127,49 @@ fn widened(element: Element, scopes: Dependency) -> Element {
     }
 }
 
-/// A barrier right before the command, also with a flush.
+/// A barrier right before the command, also with flushes.
 fn with_barrier(
     case: &Case<'_>,
+    uses: &[Use],
     dependency: Dependency,
-    flush: Option<Flush>,
+    flushed: Flushed,
     found: &mut Candidates,
 ) -> Result<(), AllocError> {
     let mut edits = case.edits();
-    if let Some(flush) = flush {
-        insert_flush(flush, &mut edits)?;
-    }
+    insert_flushes(case, uses, flushed, &mut edits)?;
     edits.insert_command(place_of(&case.refused), barrier(case, dependency)?)?;
     found.add(edits)
+}
+
+/// What is flushed that the host wrote.
+#[derive(Clone, Copy)]
+enum Flushed {
+    /// Nothing.
+    Nothing,
+    /// A range of a buffer.
+    One(Flush),
+    /// Each buffer that is used, right after the host's last write to it.
+    Each,
+}
+
+fn insert_flushes(
+    case: &Case<'_>,
+    uses: &[Use],
+    flushed: Flushed,
+    edits: &mut EditList,
+) -> Result<(), AllocError> {
+    match flushed {
+        Flushed::Nothing => Ok(()),
+        Flushed::One(flush) => insert_flush(flush, edits),
+        Flushed::Each => {
+            for index in 0..uses.len() {
+                if let Some(written) = case.latest_host_write(&uses[index..index + 1]) {
+                    flush_after(&written, edits)?;
+                }
+            }
+            Ok(())
+        }
+    }
 }
 
 /// A flush to insert.
@@ -200,14 +236,21 @@ fn insert_flush(flush: Flush, edits: &mut EditList) -> Result<(), AllocError> {
     )
 }
 
+/// Flushes of each of the buffers.
+fn all_flushed(case: &Case<'_>, uses: &[Use], found: &mut Candidates) -> Result<(), AllocError> {
+    let mut edits = case.edits();
+    insert_flushes(case, uses, Flushed::Each, &mut edits)?;
+    found.add(edits)
+}
+
 /// The batch of the point comes after the latest such command of each other queue that touched the
-/// resources; also with a barrier before the point, and with a flush.
+/// resources; also with a barrier before the point, and with flushes.
 fn after_queues(
     case: &Case<'_>,
     uses: &[Use],
     ordering: Ordering,
     also: Option<Dependency>,
-    flush: Option<Flush>,
+    flushed: Flushed,
     found: &mut Candidates,
 ) -> Result<(), AllocError> {
     let mut edits = case.edits();
@@ -220,9 +263,7 @@ fn after_queues(
             }
         }
     }
-    if let Some(flush) = flush {
-        insert_flush(flush, &mut edits)?;
-    }
+    insert_flushes(case, uses, flushed, &mut edits)?;
     if let Some(dependency) = also {
         edits.insert_command(place_of(&case.refused), barrier(case, dependency)?)?;
     }

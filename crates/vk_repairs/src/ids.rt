@@ -21,6 +21,21 @@ pub enum Kind {
     Resource,
 }
 
+impl Kind {
+    /// Whether what an entry makes is of this kind.
+    pub fn is_of(self, entry: &Entry) -> bool {
+        match (self, entry) {
+            (Kind::Buffer | Kind::Resource, Entry::Buffer { .. })
+            | (Kind::Image | Kind::Resource, Entry::Image { .. })
+            | (Kind::Memory, Entry::Memory { .. })
+            | (Kind::Pool, Entry::Pool { .. })
+            | (Kind::Semaphore, Entry::Semaphore { .. })
+            | (Kind::Event, Entry::Event { .. }) => true,
+            _ => false,
+        }
+    }
+}
+
 /// An id that a point names.
 #[derive(Clone, Copy)]
 pub struct Named {

@@ -1,6 +1,7 @@
 use crate::cases::{Candidates, Case};
 use crate::ids::{Kind, Named, ids_of, names};
-use crate::stand_ins::stand_in;
+use crate::renaming::Renaming;
+use crate::stand_ins::{stand_in, with_made};
 use std::alloc::AllocError;
 use vk_model::Entry;
 
@@ -13,8 +14,11 @@ pub fn live_id(case: &Case<'_>, found: &mut Candidates) -> Result<(), AllocError
             Some((number, entry)) if number > case.refused.entry => {
                 made_earlier(case, number, entry, found)?;
             }
+            Some((_, entry)) if !one.kind.is_of(entry) => {
+                made(case, *one, case.fresh_id(0), found)?;
+            }
             Some(_) => ended_later(case, one.id, found)?,
-            None => made(case, *one, found)?,
+            None => made(case, *one, one.id, found)?,
         }
     }
     Ok(())
@@ -73,23 +77,21 @@ fn ended_by(entry: &Entry) -> Option<u32> {
     }
 }
 
-/// What nothing makes is made before the point. Of what has contents or a size this makes it up.
-fn made(case: &Case<'_>, one: Named, found: &mut Candidates) -> Result<(), AllocError> {
-    let Named { id, kind, value } = one;
-    match kind {
+/// What nothing makes is made before the point, by this id, which the point names then. Of what has
+/// contents or a size this makes it up.
+fn made(case: &Case<'_>, one: Named, id: u32, found: &mut Candidates) -> Result<(), AllocError> {
+    let renaming = Renaming {
+        from: one.id,
+        to: id,
+    };
+    match one.kind {
         Kind::Semaphore => {
-            for initial in [0, value] {
-                let mut edits = case.edits();
-                edits.insert(case.refused.entry, Entry::Semaphore { id, initial })?;
-                found.add(edits)?;
+            for initial in [0, one.value] {
+                found.add(with_made(case, Entry::Semaphore { id, initial }, renaming)?)?;
             }
             Ok(())
         }
-        Kind::Event => {
-            let mut edits = case.edits();
-            edits.insert(case.refused.entry, Entry::Event { id })?;
-            found.add(edits)
-        }
-        _ => stand_in(case, one, found),
+        Kind::Event => found.add(with_made(case, Entry::Event { id }, renaming)?),
+        kind => stand_in(case, kind, renaming, found),
     }
 }

@@ -7,7 +7,7 @@ use vk_model::{Accesses, Cmd, Dependency, Length, Sequence, Stages};
 use vk_order::Action;
 
 /// A command is taken apart into at most so many.
-const MOST: usize = 8;
+pub const MOST: usize = 8;
 
 /// What overlaps in one command is done by commands one after another; transitions by barriers one
 /// after another.
@@ -47,7 +47,7 @@ fn between_writes() -> Dependency {
 }
 
 /// How many parts a command has.
-fn parts(command: &Cmd) -> usize {
+pub fn parts(command: &Cmd) -> usize {
     match command {
         Cmd::Copy { regions, .. } => regions.len(),
         Cmd::Clear { ranges, .. } => ranges.len(),
@@ -59,7 +59,7 @@ fn parts(command: &Cmd) -> usize {
 }
 
 /// One part of a command.
-fn part(case: &Case<'_>, command: &Cmd, number: usize) -> Result<Cmd, AllocError> {
+pub fn part(case: &Case<'_>, command: &Cmd, number: usize) -> Result<Cmd, AllocError> {
     match command {
         Cmd::Copy {
             source,

@@ -2,7 +2,7 @@ use crate::cases::Case;
 use vk_model::{BufferImageCopy, Cmd, Element, Entry, Length, Place, SubresourceRange};
 
 /// The most bytes of a texel.
-const TEXEL: u64 = 16;
+pub const TEXEL: u64 = 16;
 
 /// The sides of an image.
 #[derive(Clone, Copy)]

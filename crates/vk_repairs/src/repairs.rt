@@ -17,21 +17,19 @@ use crate::edits::Edit;
 use crate::found::Repair;
 use crate::judging::{is_among, judge, with_start};
 use crate::moving::moved;
-use crate::seeking::{followed, sought};
+use crate::seeking::{edits_of, followed, followed_twice, sought};
 use crate::shortening::{STEPS, may_go, with_less, without_edit};
 use std::alloc::{AllocError, Global};
 use vk_model::{At, Entry, Rule};
 use vk_order::Point;
 use vk_queues::reference_order;
 
-/// At most so many lists of edits are judged, of one and of two.
+/// At most so many lists of edits of a kind are judged, and as many each that are two and three
+/// together.
 const MOST: usize = 60;
 
-/// At most so many of those that ask for less or make up data.
-const MOST_WEAKER: usize = 30;
-
-/// In a trace of more points no two lists are tried together.
-const MOST_FOR_TWO: usize = 1_024;
+/// In a trace of more points no lists are tried together.
+const MOST_FOR_MORE: usize = 1_024;
 
 /// What is known of the refused trace.
 #[derive(Clone, Copy)]
@@ -106,20 +104,20 @@ fn chosen(
         weaker,
         stand_ins,
     } = sought(alloc, refused.trace, earlier, rule)?;
-    let found = first_or_two(alloc, refused, earlier, rule, lists, PLAIN)?;
+    let found = first_or_more(alloc, refused, earlier, rule, lists, PLAIN)?;
     if found.is_some() {
         return Ok(found);
     }
-    let found = first_or_two(alloc, refused, earlier, rule, weaker, WEAKER)?;
+    let found = first_or_more(alloc, refused, earlier, rule, weaker, WEAKER)?;
     if found.is_some() {
         return Ok(found);
     }
-    first_or_two(alloc, refused, earlier, rule, stand_ins, STAND_IN)
+    first_or_more(alloc, refused, earlier, rule, stand_ins, STAND_IN)
 }
 
-/// The first of some lists of edits, or else of those that serve only together with a list after
-/// them.
-fn first_or_two(
+/// The first of some lists of edits, or else of those that serve only together with one list after
+/// them, or with two.
+fn first_or_more(
     alloc: Global,
     refused: &Refused<'_>,
     earlier: &[Point<'_>],
@@ -131,15 +129,27 @@ fn first_or_two(
     ensures { IfOk result (λ found. IfSome found (IsRepair refused.now.trace.now refused.now.at)) }
 {
     let found = first_of(alloc, refused, lists, kind)?;
+    if found.is_some() || refused.size > MOST_FOR_MORE {
+        return Ok(found);
+    }
+    let starts = sought(alloc, refused.trace, earlier, rule)?;
+    let seconds = followed(alloc, refused.trace, refused.at, rule, &starts, kind)?;
+    let pairs = edits_of(alloc, seconds.as_slice())?;
+    let found = first_of(alloc, refused, pairs, kind)?;
     if found.is_some() {
         return Ok(found);
     }
-    if refused.size > MOST_FOR_TWO {
-        return Ok(None);
-    }
-    let starts = sought(alloc, refused.trace, earlier, rule)?;
-    let longer = followed(alloc, refused.trace, refused.at, rule, &starts, kind)?;
-    first_of(alloc, refused, longer, kind)
+    let thirds = followed_twice(
+        alloc,
+        refused.trace,
+        refused.at,
+        rule,
+        &starts,
+        seconds.as_slice(),
+        kind,
+    )?;
+    let triples = edits_of(alloc, thirds.as_slice())?;
+    first_of(alloc, refused, triples, kind)
 }
 
 /// A repair without the edits and the accesses of barriers that can go.
@@ -258,10 +268,9 @@ fn first_of(
     requires { IsMeasured refused.now }
     ensures { IfOk result (λ found. IfSome found (IsRepair refused.now.trace.now refused.now.at)) }
 {
-    let most = if kind.weaker { MOST_WEAKER } else { MOST };
     let mut best = None;
     for (count, edits) in lists.into_iter().enumerate() {
-        if count < most {
+        if count < MOST {
             let offer = offered(alloc, refused, edits, kind)?;
             if is_accepted(&offer) {
                 return Ok(offer);

@@ -1,6 +1,6 @@
 use crate::applying::edited;
 use crate::candidates::candidates;
-use crate::cases::{Candidates, Case, Kind, PLAIN};
+use crate::cases::{Candidates, Case, Kind, PLAIN, WEAKER};
 use crate::edits::Edit;
 use crate::judging::judge;
 use crate::moving::moved;
@@ -14,6 +14,17 @@ use vk_queues::reference_order;
 const BREADTH: usize = 6;
 /// In so many ways each.
 const WAYS: usize = 10;
+
+/// Edits that are tried one after another.
+#[derive(Drop)]
+pub struct Trial {
+    /// All of them.
+    edits: Vec<Edit>,
+    /// Where the fault is then that the last of them are for; none where it is nowhere.
+    place: Option<At>,
+    /// The rule of that fault.
+    rule: Rule,
+}
 
 /// Lists of edits to try on a refused trace, of which the points before the refused one are given.
 pub fn sought(
@@ -35,6 +46,15 @@ pub fn sought(
     }
 }
 
+/// The edits of trials.
+pub fn edits_of(alloc: Global, trials: &[Trial]) -> Result<Vec<Vec<Edit>>, AllocError> {
+    let mut all = Vec::new(alloc);
+    for trial in trials {
+        all.push(copy_of_edits(alloc, trial.edits.as_slice())?)?;
+    }
+    Ok(all)
+}
+
 /// Lists of edits after which another fault stands than the given one, each with the lists that are
 /// tried then; the two together are of a kind.
 pub fn followed(
@@ -44,77 +64,119 @@ pub fn followed(
     rule: Rule,
     starts: &Candidates,
     kind: Kind,
-) -> Result<Vec<Vec<Edit>>, AllocError> {
-    let lists = starts.lists.as_slice();
-    let weaker = starts.weaker.as_slice();
-    let stand_ins = starts.stand_ins.as_slice();
-    let mut all = Vec::new(alloc);
-    gone_on_all(alloc, trace, at, rule, lists, kind, &mut all)?;
+) -> Result<Vec<Trial>, AllocError> {
+    let plain = trials_of(alloc, starts.lists.as_slice(), at, rule)?;
+    let mut all = gone_on_all(alloc, trace, plain.as_slice(), kind)?;
+    if kind.weaker {
+        let weaker = trials_of(alloc, starts.weaker.as_slice(), at, rule)?;
+        let then = if kind.stands_in { kind } else { PLAIN };
+        for trial in gone_on_all(alloc, trace, weaker.as_slice(), then)? {
+            all.push(trial)?;
+        }
+    }
     if kind.stands_in {
-        gone_on_all(alloc, trace, at, rule, weaker, kind, &mut all)?;
-        gone_on_all(alloc, trace, at, rule, stand_ins, PLAIN, &mut all)?;
-    } else if kind.weaker {
-        gone_on_all(alloc, trace, at, rule, weaker, PLAIN, &mut all)?;
+        let stand_ins = trials_of(alloc, starts.stand_ins.as_slice(), at, rule)?;
+        for trial in gone_on_all(alloc, trace, stand_ins.as_slice(), PLAIN)? {
+            all.push(trial)?;
+        }
     }
     Ok(all)
 }
 
-fn gone_on_all(
+/// Trials of two lists of edits, each with a list that is tried after it; the three together are of a
+/// kind, of which the first two are given.
+pub fn followed_twice(
     alloc: Global,
     trace: &[Entry],
     at: At,
     rule: Rule,
-    starts: &[Vec<Edit>],
+    starts: &Candidates,
+    seconds: &[Trial],
     kind: Kind,
-    all: &mut Vec<Vec<Edit>>,
-) -> Result<(), AllocError> {
+) -> Result<Vec<Trial>, AllocError> {
+    let mut all = gone_on_all(alloc, trace, seconds, PLAIN)?;
+    if kind.weaker {
+        let plain = followed(alloc, trace, at, rule, starts, PLAIN)?;
+        for trial in gone_on_all(alloc, trace, plain.as_slice(), kind)? {
+            all.push(trial)?;
+        }
+    }
+    if kind.stands_in {
+        let weaker = followed(alloc, trace, at, rule, starts, WEAKER)?;
+        for trial in gone_on_all(alloc, trace, weaker.as_slice(), kind)? {
+            all.push(trial)?;
+        }
+    }
+    Ok(all)
+}
+
+/// Lists of edits for a fault, as trials.
+fn trials_of(
+    alloc: Global,
+    lists: &[Vec<Edit>],
+    at: At,
+    rule: Rule,
+) -> Result<Vec<Trial>, AllocError> {
+    let mut all = Vec::new(alloc);
+    for list in lists {
+        all.push(Trial {
+            edits: copy_of_edits(alloc, list.as_slice())?,
+            place: moved(list.as_slice(), at),
+            rule,
+        })?;
+    }
+    Ok(all)
+}
+
+/// Trials after which another fault stands than the one that they are for, each with the lists of a
+/// kind that are tried then.
+fn gone_on_all(
+    alloc: Global,
+    trace: &[Entry],
+    trials: &[Trial],
+    kind: Kind,
+) -> Result<Vec<Trial>, AllocError> {
+    let mut all = Vec::new(alloc);
     let mut count = 0;
-    for edits in starts {
+    for trial in trials {
         if count < BREADTH {
-            let is_some = gone_on(alloc, trace, at, rule, edits.as_slice(), kind, all)?;
+            let is_some = gone_on(alloc, trace, trial, kind, &mut all)?;
             if is_some {
                 count += 1;
             }
         }
     }
-    Ok(())
+    Ok(all)
 }
 
-/// A list of edits, with each list that is tried after it and takes nothing out, if another fault stands
-/// then; whether there are some.
+/// A trial with each list of edits that is tried after it and takes nothing out, if another fault
+/// stands then; whether there are some.
 fn gone_on(
     alloc: Global,
     trace: &[Entry],
-    at: At,
-    rule: Rule,
-    edits: &[Edit],
+    trial: &Trial,
     kind: Kind,
-    all: &mut Vec<Vec<Edit>>,
+    all: &mut Vec<Trial>,
 ) -> Result<bool, AllocError> {
-    let Some(place) = moved(edits, at) else {
-        return Ok(false);
-    };
-    let changed = edited(alloc, trace, edits)?;
+    let first = trial.edits.as_slice();
+    let changed = edited(alloc, trace, first)?;
     let Some(judged) = judge(alloc, changed.as_slice())? else {
         return Ok(false);
     };
-    let Some((next_at, next_rule)) = judged.next else {
+    let Some((at, rule)) = judged.next else {
         return Ok(false);
     };
-    if next_at == place && next_rule == rule {
+    if trial.place.is_none() || trial.place == Some(at) && trial.rule == rule {
         return Ok(false);
     }
-    let found = sought(
-        alloc,
-        changed.as_slice(),
-        judged.sound.as_slice(),
-        next_rule,
-    )?;
+    let found = sought(alloc, changed.as_slice(), judged.sound.as_slice(), rule)?;
     let seconds = found.of_kind(kind);
     let is_some = !seconds.is_empty();
     for (count, second) in seconds.into_iter().enumerate() {
         if count < WAYS && !has_removal(second.as_slice()) {
-            all.push(joined(alloc, second, edits)?)?;
+            let place = moved(second.as_slice(), at);
+            let edits = joined(alloc, second, first)?;
+            all.push(Trial { edits, place, rule })?;
         }
     }
     Ok(is_some)

@@ -3,11 +3,13 @@ use crate::entries::replaced;
 use crate::reaches::reach_of;
 use std::alloc::AllocError;
 use vk_model::{
-    BufferCopy, BufferElement, BufferInfo, Cmd, Element, Entry, ImageInfo, Kind, Length, PoolInfo,
-    Sequence,
+    BufferCopy, BufferElement, BufferInfo, Cmd, Element, Entry, ImageInfo, Kind, Length,
+    MemoryInfo, PoolInfo, Sequence,
 };
 use vk_order::Action;
 
+/// The most bytes of a memory object.
+const MOST_MEMORY: u64 = 67_108_864;
 /// The most bytes of a block.
 const MOST_BLOCK: u64 = 16_777_216;
 /// The fewest, of which the others are multiples.
@@ -60,6 +62,23 @@ fn entry_size(case: &Case<'_>, entry: &Entry, found: &mut Candidates) -> Result<
         Entry::Read { buffer, offset, .. } => one_byte(case, *buffer, *offset, found),
         _ => Ok(()),
     }
+}
+
+/// A memory object of as many bytes as there may be.
+pub fn memory_size(case: &Case<'_>, found: &mut Candidates) -> Result<(), AllocError> {
+    if let Action::Host(Entry::Memory { id, info }) = case.refused.action {
+        let size = info.size.max(1).min(MOST_MEMORY);
+        let mut edits = case.edits();
+        edits.replace(
+            case.refused.entry,
+            Entry::Memory {
+                id: *id,
+                info: MemoryInfo { size, ..*info },
+            },
+        )?;
+        found.add_weaker(edits)?;
+    }
+    Ok(())
 }
 
 /// A read of a byte in place of none.
@@ -123,6 +142,11 @@ fn blocks_within_limits(info: &PoolInfo) -> PoolInfo {
 }
 
 fn command_size(case: &Case<'_>, command: &Cmd, found: &mut Candidates) -> Result<(), AllocError> {
+    if let Some(word) = one_word(case, command)? {
+        let mut edits = case.edits();
+        edits.replace_command(place_of(&case.refused), word)?;
+        return found.add_stand_in(edits);
+    }
     let changed = match command {
         Cmd::Copy {
             source,
@@ -141,6 +165,33 @@ fn command_size(case: &Case<'_>, command: &Cmd, found: &mut Candidates) -> Resul
     let mut edits = case.edits();
     edits.replace_command(place_of(&case.refused), changed)?;
     found.add(edits)
+}
+
+/// A fill or an update of a word in place of none.
+fn one_word(case: &Case<'_>, command: &Cmd) -> Result<Option<Cmd>, AllocError> {
+    match command {
+        Cmd::Fill {
+            buffer,
+            offset,
+            word,
+            ..
+        } => Ok(Some(Cmd::Fill {
+            buffer: *buffer,
+            offset: *offset,
+            size: Length::Bytes(4),
+            word: *word,
+        })),
+        Cmd::Update {
+            buffer,
+            offset,
+            bytes,
+        } if bytes.is_empty() => Ok(Some(Cmd::Update {
+            buffer: *buffer,
+            offset: *offset,
+            bytes: Sequence::new(vec![in case.alloc; 0; 4]?),
+        })),
+        _ => Ok(None),
+    }
 }
 
 fn not_empty(case: &Case<'_>, regions: &[BufferCopy]) -> Result<Sequence<BufferCopy>, AllocError> {

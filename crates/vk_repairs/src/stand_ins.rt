@@ -1,11 +1,14 @@
 use crate::cases::{Candidates, Case};
-use crate::ids::{Kind, Named};
+use crate::ids::Kind;
+use crate::lists::EditList;
 use crate::reaches::{Extent, extent_of, reach_of, room_in};
+use crate::renaming::{Renaming, rename};
 use std::alloc::AllocError;
 use vk_model::{
     BufferInfo, Entry, Format, ImageInfo, Kind as Tiling, MemoryInfo, Place, PoolInfo, PoolKind,
     Sharing, Usage,
 };
+use vk_order::Action;
 
 /// The fewest bytes of what is made up.
 const LEAST: u64 = 64;
@@ -14,30 +17,42 @@ const BLOCK: u64 = 65_536;
 /// How many blocks it may have.
 const BLOCKS: u32 = 16;
 
-/// What nothing makes is made before the point, as large as the trace reaches in it.
-pub fn stand_in(case: &Case<'_>, one: Named, found: &mut Candidates) -> Result<(), AllocError> {
-    let Named { id, kind, .. } = one;
+/// What nothing makes is made before the point, as large as the trace reaches in it, by an id that
+/// the point names then.
+pub fn stand_in(
+    case: &Case<'_>,
+    kind: Kind,
+    renaming: Renaming,
+    found: &mut Candidates,
+) -> Result<(), AllocError> {
     match kind {
         Kind::Buffer | Kind::Resource => {
-            made_up(case, buffer(case, id, Sharing::Concurrent), found)?;
-            made_up(case, buffer(case, id, Sharing::Exclusive), found)
+            for sharing in [Sharing::Concurrent, Sharing::Exclusive] {
+                made_up(case, buffer(case, renaming, sharing), renaming, found)?;
+            }
+            Ok(())
         }
         Kind::Image => {
-            made_up(case, image(case, id, Sharing::Concurrent), found)?;
-            made_up(case, image(case, id, Sharing::Exclusive), found)
+            for sharing in [Sharing::Concurrent, Sharing::Exclusive] {
+                made_up(case, image(case, renaming, sharing), renaming, found)?;
+            }
+            Ok(())
         }
         Kind::Memory => {
             for memory_type in [1, 0] {
-                let size = room_in(case, id).max(LEAST);
+                let size = room_in(case, renaming.from).max(LEAST);
                 let info = MemoryInfo { memory_type, size };
-                made_up(case, Entry::Memory { id, info }, found)?;
+                let id = renaming.to;
+                made_up(case, Entry::Memory { id, info }, renaming, found)?;
             }
             Ok(())
         }
         Kind::Pool => {
             for memory_type in [1, 0] {
-                made_up(case, pool(id, memory_type, PoolKind::Tlsf, BLOCKS), found)?;
-                made_up(case, pool(id, memory_type, PoolKind::Linear, 1), found)?;
+                for (kind, blocks) in [(PoolKind::Tlsf, BLOCKS), (PoolKind::Linear, 1)] {
+                    let pool = pool(renaming.to, memory_type, kind, blocks);
+                    made_up(case, pool, renaming, found)?;
+                }
             }
             Ok(())
         }
@@ -45,17 +60,47 @@ pub fn stand_in(case: &Case<'_>, one: Named, found: &mut Candidates) -> Result<(
     }
 }
 
-fn made_up(case: &Case<'_>, entry: Entry, found: &mut Candidates) -> Result<(), AllocError> {
-    let mut edits = case.edits();
-    edits.insert(case.refused.entry, entry)?;
-    found.add_stand_in(edits)
+fn made_up(
+    case: &Case<'_>,
+    entry: Entry,
+    renaming: Renaming,
+    found: &mut Candidates,
+) -> Result<(), AllocError> {
+    found.add_stand_in(with_made(case, entry, renaming)?)
 }
 
-fn buffer(case: &Case<'_>, id: u32, sharing: Sharing) -> Entry {
+/// An entry before the point that makes what the point names then; a buffer that the point needs
+/// mapped is mapped.
+pub fn with_made(
+    case: &Case<'_>,
+    entry: Entry,
+    renaming: Renaming,
+) -> Result<EditList, AllocError> {
+    let number = case.refused.entry;
+    let mut edits = case.edits();
+    edits.insert(number, entry)?;
+    if let Action::Host(
+        Entry::Unmap { .. }
+        | Entry::Write { .. }
+        | Entry::Read { .. }
+        | Entry::Flush { .. }
+        | Entry::Invalidate { .. },
+    ) = case.refused.action
+    {
+        let buffer = renaming.to;
+        edits.insert(number, Entry::Map { buffer })?;
+    }
+    if renaming.from != renaming.to {
+        rename(case, &mut edits, renaming)?;
+    }
+    Ok(edits)
+}
+
+fn buffer(case: &Case<'_>, renaming: Renaming, sharing: Sharing) -> Entry {
     Entry::Buffer {
-        id,
+        id: renaming.to,
         info: BufferInfo {
-            size: reach_of(case, id).max(LEAST),
+            size: reach_of(case, renaming.from).max(LEAST),
             usage: Usage(3),
             sharing,
             place: Place::Dedicated { memory_type: 1 },
@@ -63,15 +108,15 @@ fn buffer(case: &Case<'_>, id: u32, sharing: Sharing) -> Entry {
     }
 }
 
-fn image(case: &Case<'_>, id: u32, sharing: Sharing) -> Entry {
+fn image(case: &Case<'_>, renaming: Renaming, sharing: Sharing) -> Entry {
     let Extent {
         width,
         height,
         levels,
         layers,
-    } = extent_of(case, id);
+    } = extent_of(case, renaming.from);
     Entry::Image {
-        id,
+        id: renaming.to,
         info: ImageInfo {
             format: Format::R8Uint,
             width,
