@@ -1,17 +1,19 @@
 -- Fronts, and what they are made of.
 use Rattle.std.proofs.Common.{◌≡◌, ℕ, ◌<◌, ◌≤◌, List, [], ◌∷◌, length, Bool, true, false, ◌||◌, IsTrue, Option, Some, None, refl, ap, sym, ◌∙◌, subst, arith}
-use Rattle.std.specs.Prelude.{Contains, max, slice_index_or}
+use Rattle.std.specs.Prelude.{Contains, max, map, slice_index_or}
 use Rattle.std.proofs.Math.Nat.{max_comm}
 use Rattle.vk_model.specs.Sync.Node.{Node}
-use Rattle.vk_model.specs.Sync.Seen.{Read, Write}
 use Rattle.vk_model.specs.Sync.Before.{IsNumbered}
 use Rattle.vk_order.specs.declared.lines.Line.{Line}
+use Rattle.vk_order.specs.declared.counts.Counts.{Counts}
 use Rattle.vk_order.specs.declared.fronts.Front.{Front}
 use Rattle.vk_order.specs.Inner.Clocks.{IsWhole, joined, extended}
+use Rattle.vk_order.specs.Inner.Counts.{count_in, AreJoinedCounts}
 use Rattle.vk_order.specs.Inner.Kept.{clock_at, IsKeptJoin, IsLonger}
-use Rattle.vk_order.specs.Inner.Rows.{Knowledge, Available, Visible, OnHost, IsKeptRow, AreJoined}
-use Rattle.vk_order.specs.Inner.Fronts.{row_in, IsFront, IsNamed, IsOwnFront}
+use Rattle.vk_order.specs.Inner.Rows.{Knowledge, IsKeptRow, AreJoined}
+use Rattle.vk_order.specs.Inner.Fronts.{clock_in, row_in, IsFront, IsNamed, IsOwnFront}
 use Rattle.vk_order.proofs.Arrange.{or-false}
+use Rattle.vk_order.proofs.CountLemmas.{joined_clocks, joined_rows}
 use Rattle.vk_order.proofs.ClockLemmas.{join_stays, join_grows}
 use Rattle.vk_order.proofs.KeptLemmas.{join_as, at_max, join_none, joins_kept, same_kept}
 use Rattle.vk_order.proofs.RowJoins.{rows_same, rows_as, rows_meet, rows_stay, rows_grow, rows_none}
@@ -20,20 +22,14 @@ use Rattle.vk_order.proofs.RowJoins.{rows_same, rows_as, rows_meet, rows_stay, r
 
 -- each list of a front has
 pub record AreJoinedFronts (first second both : Front) : Type 0 where
-  pub clock : AreJoined first.clock.items second.clock.items both.clock.items
+  pub clock : AreJoined (clock_in first) (clock_in second) (clock_in both)
   pub rows : (g : Knowledge) → AreJoined (row_in g first) (row_in g second) (row_in g both)
 
-pub fronts_joined : (first second both : Front) → AreJoined first.clock.items second.clock.items both.clock.items → AreJoined first.available.items second.available.items both.available.items
-    → AreJoined first.reads.items second.reads.items both.reads.items → AreJoined first.writes.items second.writes.items both.writes.items
-    → AreJoined first.host_reads.items second.host_reads.items both.host_reads.items → AreJoined first.host_writes.items second.host_writes.items both.host_writes.items → AreJoinedFronts first second both
-fronts_joined first second both c a r w hr hw = record { clock = c; rows = each }
-  where
-    each : (g : Knowledge) → AreJoined (row_in g first) (row_in g second) (row_in g both)
-    each Available = a
-    each (Visible Read) = r
-    each (Visible Write) = w
-    each (OnHost Read) = hr
-    each (OnHost Write) = hw
+pub fronts_joined : (first second both : Front) → AreJoinedCounts first.counts.items second.counts.items both.counts.items → AreJoinedFronts first second both
+fronts_joined first second both are = record {
+  clock = joined_clocks first.counts.items second.counts.items both.counts.items are;
+  rows = λ g. joined_rows g first.counts.items second.counts.items both.counts.items are;
+}
 
 turned : (first second both : List ℕ) → AreJoined first second both → AreJoined second first both
 turned first second both are = record {
@@ -44,7 +40,7 @@ turned first second both are = record {
 -- it doesn't matter which of two fronts is the first
 pub fronts_turned : (first second both : Front) → AreJoinedFronts first second both → AreJoinedFronts second first both
 fronts_turned first second both are = record {
-  clock = turned first.clock.items second.clock.items both.clock.items are.clock;
+  clock = turned (clock_in first) (clock_in second) (clock_in both) are.clock;
   rows = λ g. turned (row_in g first) (row_in g second) (row_in g both) (are.rows g);
 }
 
@@ -62,17 +58,17 @@ row_same g ns ls f h row same j = record { join = rows_same g ns f h (clock_at l
 -- ---- fronts
 
 pub front_same : (ns : List Node) (ls : List Line) (f h : Node → Bool) (x : Front) → ((k : Node) → Contains ns k → f k ≡ h k) → IsFront ns ls f x → IsFront ns ls h x
-front_same ns ls f h x same is = record { clock = same_kept ns ls f h x.clock.items same is.clock; rows = λ g. row_same g ns ls f h (row_in g x) same (is.rows g) }
+front_same ns ls f h x same is = record { clock = same_kept ns ls f h (clock_in x) same is.clock; rows = λ g. row_same g ns ls f h (row_in g x) same (is.rows g) }
 
-pub front_none : (ns : List Node) (ls : List Line) (x : Front) → x.clock.items ≡ [] → ((g : Knowledge) → row_in g x ≡ []) → IsFront ns ls (λ k. false) x
-front_none ns ls x e f = record {
-  clock = subst (λ (c : List ℕ). IsKeptJoin ns ls (λ k. false) c) (sym e) (join_none ns ls);
-  rows = λ g. subst (λ (c : List ℕ). IsKeptRow g ns ls (λ k. false) c) (sym (f g)) (rows_none g ns ls);
+pub front_none : (ns : List Node) (ls : List Line) (x : Front) → x.counts.items ≡ [] → IsFront ns ls (λ k. false) x
+front_none ns ls x e = record {
+  clock = subst (λ (c : List Counts). IsKeptJoin ns ls (λ k. false) (map (λ d. d.clock) c)) (sym e) (join_none ns ls);
+  rows = λ g. subst (λ (c : List Counts). IsKeptRow g ns ls (λ k. false) (map (count_in g) c)) (sym e) (rows_none g ns ls);
 }
 
 pub fronts_both : (ns : List Node) (ls : List Line) (f h : Node → Bool) (first second both : Front) → AreJoinedFronts first second both → IsFront ns ls f first → IsFront ns ls h second → IsFront ns ls (λ k. f k || h k) both
 fronts_both ns ls f h first second both are i j = record {
-  clock = joins_kept ns ls f h first.clock.items second.clock.items both.clock.items are.clock.counts are.clock.long i.clock j.clock;
+  clock = joins_kept ns ls f h (clock_in first) (clock_in second) (clock_in both) are.clock.counts are.clock.long i.clock j.clock;
   rows = λ g. row_joined g ns ls f h (row_in g first) (row_in g second) (row_in g both) (are.rows g) (i.rows g) (j.rows g);
 }
 
@@ -84,15 +80,15 @@ named_both ns ls f h x none is = front_same ns ls f (λ k. f k || h k) x (λ k c
 module _ (ns : List Node) (ls : List Line) (test : Node → Bool) (n : Node) (numbers : IsNumbered (n ∷ ns)) where
   pub front_stays : (x : Front) → test n ≡ false → IsFront ns ls test x → IsFront (n ∷ ns) ls test x
   front_stays x fails is = record {
-    clock = record { join = join_stays ns test n (clock_at ls x.clock.items) numbers is.clock.join fails; short = is.clock.short };
+    clock = record { join = join_stays ns test n (clock_at ls (clock_in x)) numbers is.clock.join fails; short = is.clock.short };
     rows = λ g. record { join = rows_stay g ns test n (clock_at ls (row_in g x)) numbers (is.rows g).join fails; short = (is.rows g).short };
   }
 
   pub front_grows : (x own both : Front) → AreJoinedFronts x own both → test n ≡ true → IsWhole (n ∷ ns) test → IsFront ns ls test x → IsOwnFront ns ls n own → IsFront (n ∷ ns) ls test both
   front_grows x own both are passes whole is of = record {
     clock = record {
-      join = join_as (n ∷ ns) test (extended ns test n (clock_at ls of.before) (clock_at ls x.clock.items)) (clock_at ls both.clock.items) grown
-          (join_grows ns test n (clock_at ls of.before) (clock_at ls x.clock.items) numbers whole of.clock is.clock.join);
+      join = join_as (n ∷ ns) test (extended ns test n (clock_at ls of.before) (clock_at ls (clock_in x))) (clock_at ls (clock_in both)) grown
+          (join_grows ns test n (clock_at ls of.before) (clock_at ls (clock_in x)) numbers whole of.clock is.clock.join);
       short = let a = is.clock.short in let b = of.own.short in let e = are.clock.long in omega arith;
     };
     rows = λ g. record {
@@ -102,10 +98,10 @@ module _ (ns : List Node) (ls : List Line) (test : Node → Bool) (n : Node) (nu
     };
   }
     where
-      grown : (l : Line) → extended ns test n (clock_at ls of.before) (clock_at ls x.clock.items) l ≡ clock_at ls both.clock.items l
+      grown : (l : Line) → extended ns test n (clock_at ls of.before) (clock_at ls (clock_in x)) l ≡ clock_at ls (clock_in both) l
       grown l =
-          rw passes (ap (λ (i : ℕ). max (clock_at ls x.clock.items l) i) (sym (of.own.counts l)))
-          ∙ sym (at_max ls both.clock.items x.clock.items own.clock.items are.clock.counts l)
+          rw passes (ap (λ (i : ℕ). max (clock_at ls (clock_in x) l) i) (sym (of.own.counts l)))
+          ∙ sym (at_max ls (clock_in both) (clock_in x) (clock_in own) are.clock.counts l)
 
   pub named_stays : (o : Option Front) → test n ≡ false → IsNamed ns ls test o → IsNamed (n ∷ ns) ls test o
   named_stays None fails none = λ k c. Rattle.std.proofs.Common.⊎_elim (λ e. ap test (sym e) ∙ fails) (λ there. none k there) (Rattle.vk_model.proofs.Lists.Members.contains-cons n ns k c)
@@ -121,7 +117,7 @@ named_same ns ls f h (Some x) same is = front_same ns ls f h x same is
 pub front_longer : (ns : List Node) (ls more : List Line) → IsLonger ls more → (test : Node → Bool) (x : Front) → IsFront ns ls test x → IsFront ns more test x
 front_longer ns ls more longer test x is = record {
   clock = record {
-    join = join_as ns test (clock_at ls x.clock.items) (clock_at more x.clock.items) (longer.same x.clock.items is.clock.short) is.clock.join;
+    join = join_as ns test (clock_at ls (clock_in x)) (clock_at more (clock_in x)) (longer.same (clock_in x) is.clock.short) is.clock.join;
     short = let a = is.clock.short in let b = longer.long in omega arith;
   };
   rows = λ g. record {

@@ -19,10 +19,12 @@ pub mod BeforeLemmas
 mod SetLemmas
 mod KnownRows
 mod RowJoins
+mod CountLemmas
 mod FrontLemmas
 mod NameLemmas
 mod WaitLemmas
 mod OwnLemmas
+mod OwnCounts
 mod TallyLemmas
 mod SightLemmas
 mod LimitedLemmas

@@ -11,20 +11,21 @@ use Rattle.vk_model.proofs.Lists.Truths.{no}
 use Rattle.vk_order.specs.declared.acts.Row.{Row}
 use Rattle.vk_order.specs.declared.lines.Line.{Line}
 use Rattle.vk_order.specs.declared.lines.Line.TheVariants.{Host as OfHost, Commands as OfCommands, Signals as OfSignals, Elements as OfElements, Sets as OfSets, Waits as OfWaits}
+use Rattle.vk_order.specs.declared.counts.Counts.{Counts}
 use Rattle.vk_order.specs.declared.fronts.Front.{Front}
 use Rattle.vk_order.specs.declared.tallies.LineTally.{LineTally}
 use Rattle.vk_order.specs.PointViews.{act_of}
 use Rattle.vk_order.specs.Lines.{class_of, class_on}
 use Rattle.vk_order.specs.Inner.Clocks.{same_line, on_line, place, IsClock}
+use Rattle.vk_order.specs.Inner.Counts.{zero_counts, counts_on, with_available, AreSent}
 use Rattle.vk_order.specs.Inner.Kept.{clock_at, IsOwn}
 use Rattle.vk_order.specs.Inner.Leads.{is_of_host, is_of_barriers}
 use Rattle.vk_order.specs.Inner.Places.{index_in}
-use Rattle.vk_order.specs.Inner.Rows.{Knowledge, Available, Visible, OnHost, sends, receives, receives_on_host, shows, sends_line, IsRow, AreJoined, IsKnownRow, IsOwnAvailable, IsMerged, IsOwnVisible, IsOwnOnHost}
-use Rattle.vk_order.specs.Inner.Fronts.{row_in, IsOwnFront}
+use Rattle.vk_order.specs.Inner.Rows.{Knowledge, Available, Visible, OnHost, sends, receives_on_host, shows, sends_line, IsRow, IsKnownRow, IsOwnAvailable, IsMerged, IsOwnVisible, IsOwnOnHost}
+use Rattle.vk_order.specs.Inner.Fronts.{clock_in, row_in, IsOwnFront}
 use Rattle.vk_order.specs.Inner.Tallies.{lines_of, IsTallied, IsComing}
-use Rattle.vk_order.proofs.Arrange.{and-true, and-false}
 use Rattle.vk_order.proofs.ClockLemmas.{edges_join, line_same, line_itself, of_on}
-use Rattle.vk_order.proofs.KeptLemmas.{at_max, nil, none_of, found_line, line_class}
+use Rattle.vk_order.proofs.KeptLemmas.{found_line, line_class}
 use Rattle.vk_order.proofs.ListLemmas.{place-none}
 use Rattle.vk_order.proofs.KnownRows.{available_row, known_row, visible_row, host_row}
 
@@ -70,12 +71,15 @@ count_there ns ts tallied l i t at here =
 
 -- ---- what is available after it
 
-module _ (ns : List Node) (ts : List LineTally) (tallied : IsTallied ns ts) (queue : ℕ) (act : Act) (row own : List ℕ) where
+module _ (ns : List Node) (ts : List LineTally) (tallied : IsTallied ns ts) (queue : ℕ) (act : Act) (row own : List Counts) where
   -- where all nodes of a line are sent
-  pub available_counted : (line : Line) (at count : ℕ) (t : LineTally) → ((l : Line) → same_line l line ≡ sends_line queue act l) → index_in (lines_of ts) line ≡ Some at → slice_get ts at ≡ Some t → count ≡ t.count
-      → ((i : ℕ) → slice_index_or own i 0 ≡ (if i == at then count else slice_index_or row i 0)) → length own ≡ max (length row) (at + 1) → length row ≤ length ts → IsOwnAvailable ns (lines_of ts) queue act row own
-  available_counted line at count t sends found here is counts len short = record {
-    counts = λ l. go l (same_line l line) refl (index_in (lines_of ts) l) refl ∙ ap (λ (b : Bool). if b then place ns l (length ns) else clock_at (lines_of ts) row l) (sends l);
+  pub sent_counted : (line : Line) (at count : ℕ) (t : LineTally) → ((l : Line) → same_line l line ≡ sends_line queue act l) → index_in (lines_of ts) line ≡ Some at → slice_get ts at ≡ Some t → count ≡ t.count
+      → ((i : ℕ) → slice_index_or own i zero_counts ≡ (if i == at then with_available (slice_index_or row at zero_counts) count else slice_index_or row i zero_counts))
+      → length own ≡ max (length row) (at + 1) → length row ≤ length ts → AreSent ns (lines_of ts) queue act row own
+  sent_counted line at count t sends found here is counts len short = record {
+    counts = λ l.
+        go l (same_line l line) refl (index_in (lines_of ts) l) refl
+        ∙ ap (λ (b : Bool). if b then with_available (counts_on (lines_of ts) row l) (place ns l (length ns)) else counts_on (lines_of ts) row l) (sends l);
     short = let lt = slice_get_within ts at t here in let e = lines_length ts in omega arith;
   }
     where
@@ -83,13 +87,16 @@ module _ (ns : List Node) (ts : List LineTally) (tallied : IsTallied ns ts) (que
       inside a b e = cc
 
       go : (l : Line) (b : Bool) → same_line l line ≡ b → (o : Option ℕ) → index_in (lines_of ts) l ≡ o
-          → option_map_or (λ i. slice_index_or own i 0) o 0 ≡ (if b then place ns l (length ns) else option_map_or (λ i. slice_index_or row i 0) o 0)
+          → option_map_or (λ i. slice_index_or own i zero_counts) o zero_counts
+          ≡ (if b then with_available (option_map_or (λ i. slice_index_or row i zero_counts) o zero_counts) (place ns l (length ns)) else option_map_or (λ i. slice_index_or row i zero_counts) o zero_counts)
       go l true e None f = absurd (let bad : None ≡ Some at = sym f ∙ ap (index_in (lines_of ts)) (line_same l line e) ∙ found in cc)
       go l true e (Some i) f =
           let same : l ≡ line = line_same l line e in
           let that : Some i ≡ Some at = sym f ∙ ap (index_in (lines_of ts)) same ∙ found in
           let eq : i ≡ at = cc in
-          counts i ∙ rw (eq-eqb i at eq) (is ∙ count_there ns ts tallied line at t found here ∙ ap (λ (m : Line). place ns m (length ns)) (sym same))
+          counts i ∙ rw (eq-eqb i at eq)
+          (ap (with_available (slice_index_or row at zero_counts)) (is ∙ count_there ns ts tallied line at t found here ∙ ap (λ (m : Line). place ns m (length ns)) (sym same))
+          ∙ ap (λ (j : ℕ). with_available (slice_index_or row j zero_counts) (place ns l (length ns))) (sym eq))
       go l false e None f = refl
       go l false e (Some i) f =
           counts i ∙ rw (ne_eqb i at (λ eq.
@@ -97,22 +104,30 @@ module _ (ns : List Node) (ts : List LineTally) (tallied : IsTallied ns ts) (que
           no (sym e ∙ ap (same_line l) (sym same) ∙ line_itself l))) refl
 
   -- where the line has no node yet
-  pub available_none : (line : Line) → ((l : Line) → same_line l line ≡ sends_line queue act l) → index_in (lines_of ts) line ≡ None → own ≡ row → length row ≤ length ts → IsOwnAvailable ns (lines_of ts) queue act row own
-  available_none line sends none same short = record {
-    counts = λ l. ap (λ (r : List ℕ). clock_at (lines_of ts) r l) same ∙ go l (same_line l line) refl ∙ ap (λ (b : Bool). if b then place ns l (length ns) else clock_at (lines_of ts) row l) (sends l);
+  pub sent_none : (line : Line) → ((l : Line) → same_line l line ≡ sends_line queue act l) → index_in (lines_of ts) line ≡ None → own ≡ row → length row ≤ length ts → AreSent ns (lines_of ts) queue act row own
+  sent_none line sends none same short = record {
+    counts = λ l.
+        ap (λ (r : List Counts). counts_on (lines_of ts) r l) same ∙ go l (same_line l line) refl
+        ∙ ap (λ (b : Bool). if b then with_available (counts_on (lines_of ts) row l) (place ns l (length ns)) else counts_on (lines_of ts) row l) (sends l);
     short = let e = lines_length ts in let f = ap length same in omega arith;
   }
     where
-      go : (l : Line) (b : Bool) → same_line l line ≡ b → clock_at (lines_of ts) row l ≡ (if b then place ns l (length ns) else clock_at (lines_of ts) row l)
+      nothing : (o : Option ℕ) (p : ℕ) → o ≡ None → p ≡ 0 → option_map_or (λ i. slice_index_or row i zero_counts) o zero_counts ≡ with_available (option_map_or (λ i. slice_index_or row i zero_counts) o zero_counts) p
+      nothing None p e z = sym (ap (with_available zero_counts) z)
+      nothing (Some i) p e z = absurd cc
+
+      go : (l : Line) (b : Bool) → same_line l line ≡ b → counts_on (lines_of ts) row l ≡ (if b then with_available (counts_on (lines_of ts) row l) (place ns l (length ns)) else counts_on (lines_of ts) row l)
       go l true e =
           let off : index_in (lines_of ts) l ≡ None = ap (index_in (lines_of ts)) (line_same l line e) ∙ none in
-          ap (λ (o : Option ℕ). option_map_or (λ i. slice_index_or row i 0) o 0) off ∙ sym (no_place ns ts tallied l off (length ns))
+          nothing (index_in (lines_of ts) l) (place ns l (length ns)) off (no_place ns ts tallied l off (length ns))
       go l false e = refl
 
   -- where nothing is sent
-  pub available_same : ((l : Line) → false ≡ sends_line queue act l) → own ≡ row → length row ≤ length ts → IsOwnAvailable ns (lines_of ts) queue act row own
-  available_same sends same short = record {
-    counts = λ l. ap (λ (r : List ℕ). clock_at (lines_of ts) r l) same ∙ ap (λ (b : Bool). if b then place ns l (length ns) else clock_at (lines_of ts) row l) (sends l);
+  pub sent_same : ((l : Line) → false ≡ sends_line queue act l) → own ≡ row → length row ≤ length ts → AreSent ns (lines_of ts) queue act row own
+  sent_same sends same short = record {
+    counts = λ l.
+        ap (λ (r : List Counts). counts_on (lines_of ts) r l) same
+        ∙ ap (λ (b : Bool). if b then with_available (counts_on (lines_of ts) row l) (place ns l (length ns)) else counts_on (lines_of ts) row l) (sends l);
     short = let e = lines_length ts in let f = ap length same in omega arith;
   }
 
@@ -146,25 +161,7 @@ none_sent q a s e (OfElements r t h) = refl
 none_sent q a s e (OfSets r) = refl
 none_sent q a s e (OfWaits r t h b) = refl
 
-pub submit_line : (q : ℕ) (a : Act) → is_submit a ≡ true → class_on q a ≡ OfHost
-submit_line q (Hosts x) e = refl
-submit_line q (Waits s) e = no e
-submit_line q (Signals s) e = no e
-submit_line q (Runs c) e = no e
-submit_line q (Depends r x) e = no e
-
--- ---- what it makes visible
-
-host_is : (l : Line) → is_of_host l ≡ true → l ≡ OfHost
-host_is OfHost e = refl
-host_is (OfCommands r) e = no e
-host_is (OfSignals r) e = no e
-host_is (OfElements r t h) e = no e
-host_is (OfSets r) e = no e
-host_is (OfWaits r t h b) e = no e
-
-barriers_off : (l : Line) → l ≡ OfHost → is_of_barriers l ≡ false
-barriers_off l e = ap is_of_barriers e
+-- ---- what is known at it
 
 -- of the lines of elements the one row, of the others the other
 pub merged : (ts : List LineTally) (clock row own : List ℕ) → length own ≡ length ts
@@ -182,85 +179,28 @@ merged ts clock row own len each = record { counts = λ l. go l (index_in (lines
         let r = tally_at ts l i e in
         each i r.0 r.1 ∙ ap (λ (m : Line). if is_of_barriers m then slice_index_or clock i 0 else slice_index_or row i 0) r.2
 
-module _ (k : Access) (ls : List Line) (act : Act) (clock row own : List ℕ) where
-  -- all that is known
-  pub visible_all : receives k act ≡ true → IsMerged ls clock row own → IsOwnVisible k ls act clock row own
-  visible_all e is = record {
-    counts = λ l. is.counts l ∙ sym (rw e refl);
-    short = is.short;
-  }
-
-  -- nothing
-  pub visible_none : receives k act ≡ false → is_submit act ≡ false → own ≡ [] → IsOwnVisible k ls act clock row own
-  visible_none e s same = record {
-    counts = λ l. ap (λ (r : List ℕ). clock_at ls r l) same ∙ none_of ls l ∙ sym (rw (e, s, and-false (is_of_host l)) refl);
-    short = let f = ap length same in omega arith;
-  }
-
-  -- what the host wrote
-  pub visible_host : (at : ℕ) → receives k act ≡ false → is_submit act ≡ true → index_in ls OfHost ≡ Some at → ((i : ℕ) → slice_index_or own i 0 ≡ (if i == at then slice_index_or row at 0 else slice_index_or [] i 0)) → length own ≡ at + 1 → at < length ls → IsOwnVisible k ls act clock row own
-  visible_host at e s found counts len low = record {
-    counts = λ l. go l (is_of_host l) refl ∙ ap (λ (b : Bool). if b then (if is_of_barriers l then clock_at ls clock l else clock_at ls row l) else 0) (sym (rw (e, s, and-true (is_of_host l)) refl));
-    short = omega arith;
-  }
-    where
-      at_host : (l : Line) → l ≡ OfHost → (o : Option ℕ) → index_in ls l ≡ o → option_map_or (λ i. slice_index_or own i 0) o 0 ≡ option_map_or (λ i. slice_index_or row i 0) o 0
-      at_host l is None f = refl
-      at_host l is (Some i) f =
-          let that : Some i ≡ Some at = sym f ∙ ap (index_in ls) is ∙ found in
-          let eq : i ≡ at = cc in
-          counts i ∙ rw (eq-eqb i at eq) (ap (λ (j : ℕ). slice_index_or row j 0) (sym eq))
-
-      inside : (a b : Line) → Some a ≡ Some b → a ≡ b
-      inside a b f = cc
-
-      off_host : (l : Line) → is_of_host l ≡ false → (o : Option ℕ) → index_in ls l ≡ o → option_map_or (λ i. slice_index_or own i 0) o 0 ≡ 0
-      off_host l off None f = refl
-      off_host l off (Some i) f =
-          counts i ∙ rw (ne_eqb i at (λ eq.
-          let same : l ≡ OfHost = inside l OfHost (sym (found_line ls l i f) ∙ ap (slice_get ls) eq ∙ found_line ls OfHost at found) in
-          no (sym off ∙ ap is_of_host same))) (nil i)
-
-      go : (l : Line) (b : Bool) → is_of_host l ≡ b → clock_at ls own l ≡ (if b then (if is_of_barriers l then clock_at ls clock l else clock_at ls row l) else 0)
-      go l true f = at_host l (host_is l f) (index_in ls l) refl ∙ sym (rw (barriers_off l (host_is l f)) refl)
-      go l false f = off_host l f (index_in ls l) refl
-
--- and on the host
-module _ (k : Access) (ls : List Line) (act : Act) (clock row before own : List ℕ) where
-  pub on_host_more : (known : List ℕ) → receives_on_host k act ≡ true → IsMerged ls clock row known → AreJoined before known own → length before ≤ length ls → IsOwnOnHost k ls act clock row before own
-  on_host_more known e is are short = record {
-    counts = λ l. at_max ls own before known are.counts l ∙ ap (λ (i : ℕ). max (clock_at ls before l) i) (is.counts l) ∙ sym (rw e refl);
-    short = let a = is.short in let b = are.long in omega arith;
-  }
-
-  pub on_host_same : receives_on_host k act ≡ false → own ≡ before → length before ≤ length ls → IsOwnOnHost k ls act clock row before own
-  on_host_same e same short = record {
-    counts = λ l. ap (λ (r : List ℕ). clock_at ls r l) same ∙ sym (rw e refl);
-    short = let f = ap length same in omega arith;
-  }
-
 -- ---- its front
 
-module _ (ns : List Node) (ls : List Line) (n : Node) (row : Row) (known own : Front) (coming : IsComing ns ls n row known) (clock : IsOwn ns ls n known.clock.items own.clock.items)
-    (available : IsOwnAvailable ns ls row.point.queue (act_of row.act) known.available.items own.available.items)
-    (visible : (k : Access) → IsOwnVisible k ls (act_of row.act) known.clock.items own.available.items (row_in (Visible k) own))
-    (hosted : (k : Access) → IsOwnOnHost k ls (act_of row.act) known.clock.items own.available.items (row_in (OnHost k) known) (row_in (OnHost k) own)) where
+module _ (ns : List Node) (ls : List Line) (n : Node) (row : Row) (known own : Front) (coming : IsComing ns ls n row known) (clock : IsOwn ns ls n (clock_in known) (clock_in own))
+    (available : IsOwnAvailable ns ls row.point.queue (act_of row.act) (row_in Available known) (row_in Available own))
+    (visible : (k : Access) → IsOwnVisible k ls (act_of row.act) (clock_in known) (row_in Available own) (row_in (Visible k) own))
+    (hosted : (k : Access) → IsOwnOnHost k ls (act_of row.act) (clock_in known) (row_in Available own) (row_in (OnHost k) known) (row_in (OnHost k) own)) where
   queue_is : n.point.queue ≡ row.point.queue
   queue_is = ap (λ (p : Rattle.vk_model.specs.Trace.Point.Point). p.queue) coming.point
 
-  sent : IsRow Available (n ∷ ns) n (clock_at ls own.available.items)
-  sent = available_row ns n coming.numbers (clock_at ls known.available.items) (clock_at ls own.available.items) (coming.front.rows Available).join
-      (λ l. available.counts l ∙ ap (λ (b : Bool). if b then place ns l (length ns) else clock_at ls known.available.items l)
+  sent : IsRow Available (n ∷ ns) n (clock_at ls (row_in Available own))
+  sent = available_row ns n coming.numbers (clock_at ls (row_in Available known)) (clock_at ls (row_in Available own)) (coming.front.rows Available).join
+      (λ l. available.counts l ∙ ap (λ (b : Bool). if b then place ns l (length ns) else clock_at ls (row_in Available known) l)
       (ap (λ (a : Act). sends_line row.point.queue a l) (sym coming.act) ∙ ap (λ (q : ℕ). sends_line q n.act l) (sym queue_is)))
 
-  clock_there : IsClock (n ∷ ns) n (clock_at ls known.clock.items)
-  clock_there = edges_join n ns coming.numbers (clock_at ls known.clock.items) coming.front.clock.join
+  clock_there : IsClock (n ∷ ns) n (clock_at ls (clock_in known))
+  clock_there = edges_join n ns coming.numbers (clock_at ls (clock_in known)) coming.front.clock.join
 
   abbrev heard : Line → ℕ
-  heard l = if is_of_barriers l then clock_at ls known.clock.items l else clock_at ls own.available.items l
+  heard l = if is_of_barriers l then clock_at ls (clock_in known) l else clock_at ls (row_in Available own) l
 
-  heard_there : IsKnownRow (n ∷ ns) n (λ l. if is_of_barriers l then clock_at ls known.clock.items l else clock_at ls own.available.items l)
-  heard_there = known_row ns n coming.numbers (clock_at ls known.clock.items) (clock_at ls own.available.items) clock_there sent
+  heard_there : IsKnownRow (n ∷ ns) n (λ l. if is_of_barriers l then clock_at ls (clock_in known) l else clock_at ls (row_in Available own) l)
+  heard_there = known_row ns n coming.numbers (clock_at ls (clock_in known)) (clock_at ls (row_in Available own)) clock_there sent
 
   seen_there : (k : Access) → IsRow (Visible k) (n ∷ ns) n (clock_at ls (row_in (Visible k) own))
   seen_there k = visible_row ns n coming.numbers (λ l. heard l) heard_there k (clock_at ls (row_in (Visible k) own))
@@ -282,7 +222,7 @@ module _ (ns : List Node) (ls : List Line) (n : Node) (row : Row) (known own : F
 
   pub own_is : IsOwnFront ns ls n own
   own_is = record {
-    before = known.clock.items;
+    before = clock_in known;
     clock = clock_there;
     own = clock;
     rows = rows_there;

@@ -15,7 +15,7 @@ use Rattle.vk_order.specs.Lines.{class_of, class_on}
 use Rattle.vk_order.specs.Inner.Places.{index_in}
 use Rattle.vk_order.specs.Inner.Clocks.{place}
 use Rattle.vk_order.specs.Inner.Kept.{clock_at, IsStamp, IsStamped, IsLonger}
-use Rattle.vk_order.specs.Inner.Fronts.{IsFront}
+use Rattle.vk_order.specs.Inner.Fronts.{clock_in, IsFront}
 use Rattle.vk_order.proofs.RowLemmas.{nodes_after-append, length-nodes_after, numbered_after}
 use Rattle.vk_order.proofs.NamedLemmas.{node_there}
 use Rattle.vk_order.proofs.ClockLemmas.{clock_stays, edges_join, place-older}
@@ -33,7 +33,7 @@ stamped_longer rows stamps ls more longer is = record {
 }
 
 module _ (rows : List Row) (stamps : List Stamp) (ls : List Line) (r : Row) (s : Stamp) (f : Front) (is : IsStamped rows stamps ls)
-    (front : IsFront (nodes_after [] rows) ls (λ k. edge (nodes_after [] rows) k (node_of (length (nodes_after [] rows)) r)) f) (clock : s.clock.items ≡ f.clock.items)
+    (front : IsFront (nodes_after [] rows) ls (λ k. edge (nodes_after [] rows) k (node_of (length (nodes_after [] rows)) r)) f) (clock : s.clock.items ≡ clock_in f)
     (count : s.place ≡ place (nodes_after [] rows) (class_on r.point.queue (act_of r.act)) (length (nodes_after [] rows))) (on : IsTrue (is_some (index_in ls (class_on r.point.queue (act_of r.act))))) where
   abbrev ns : List Node
   ns = nodes_after [] rows
@@ -61,7 +61,7 @@ module _ (rows : List Row) (stamps : List Stamp) (ls : List Line) (r : Row) (s :
 
   new_stamp : IsStamp (n ∷ ns) ls n s
   new_stamp = record {
-    clock = subst (λ (c : List ℕ). Rattle.vk_order.specs.Inner.Clocks.IsClock (n ∷ ns) n (clock_at ls c)) (sym clock) (edges_join n ns numbers (clock_at ls f.clock.items) front.clock.join);
+    clock = subst (λ (c : List ℕ). Rattle.vk_order.specs.Inner.Clocks.IsClock (n ∷ ns) n (clock_at ls c)) (sym clock) (edges_join n ns numbers (clock_at ls (clock_in f)) front.clock.join);
     place = λ l of. count ∙ ap (λ (m : Line). place ns m (length ns)) (line_class n l of) ∙ sym (place-older n ns refl l (length ns) (omega arith));
     short = let e = ap length clock in let le = front.clock.short in omega arith;
   }

@@ -22,7 +22,7 @@ use Rattle.vk_order.specs.Inner.Leads.{is_of_sets}
 use Rattle.vk_order.specs.Inner.Clocks.{same_line, on_line, place, IsWhole}
 use Rattle.vk_order.specs.Inner.Kept.{clock_at}
 use Rattle.vk_order.specs.Inner.Places.{index_in}
-use Rattle.vk_order.specs.Inner.Fronts.{row_in, IsFront, IsNamed}
+use Rattle.vk_order.specs.Inner.Fronts.{clock_in, row_in, IsFront, IsNamed}
 use Rattle.vk_order.specs.Inner.Names.{IsNames}
 use Rattle.vk_order.specs.Inner.Tallies.{lines_of, IsLineTally, IsTallied, IsComing}
 use Rattle.vk_order.proofs.Arrange.{or-false, and-false}
@@ -78,8 +78,8 @@ module _ (ns : List Node) (ls : List Line) (m : Line) where
   pub front_listed : (test : Node → Bool) (x : Front) → IsFront ns ls test x → IsFront ns (ls ++ m ∷ []) test x
   front_listed test x is = record {
     clock = record {
-      join = join_as ns test (clock_at ls x.clock.items) (clock_at (ls ++ m ∷ []) x.clock.items) (clock_push ls m x.clock.items is.clock.short) is.clock.join;
-      short = longer (length x.clock.items) is.clock.short;
+      join = join_as ns test (clock_at ls (clock_in x)) (clock_at (ls ++ m ∷ []) (clock_in x)) (clock_push ls m (clock_in x) is.clock.short) is.clock.join;
+      short = longer (length (clock_in x)) is.clock.short;
     };
     rows = λ g. record {
       join = rows_as g ns test (clock_at ls (row_in g x)) (clock_at (ls ++ m ∷ []) (row_in g x)) (clock_push ls m (row_in g x) (is.rows g).short) (is.rows g).join;

@@ -4,6 +4,7 @@ pub mod Clocks
 pub mod Leads
 pub mod Kept
 pub mod Rows
+pub mod Counts
 pub mod Fronts
 pub mod Keyed
 pub mod Names

@@ -45,7 +45,7 @@ fn stamps_of(
     for (index, row) in rows.iter().enumerate() {
         let place = frontier.count(Line::of(row.point.queue, &row.act));
         let known = &fronts[index];
-        let clock = Vec::from_slice(alloc, known.clock.as_slice())?;
+        let clock = known.clock(alloc)?;
         let front = known.copied(alloc)?;
         frontier.add(row, front)?;
         more.push(Stamp { place, clock })?;

@@ -28,7 +28,7 @@ use crate::clocks::count_at;
 use crate::fronts::Front;
 use crate::lines::Line;
 use crate::names::Names;
-use crate::owning::Known;
+use crate::owning::heard;
 use crate::parts::{Part, Parts, Spot, parts_from};
 use crate::point::{Act, Point, single_act};
 use crate::rows::rows_of;
@@ -107,7 +107,7 @@ impl Frontier {
             → IsFront ns (lines_of self.now.tallies.items) (λ k. line_leads row.now.point.queue (act_of row.now.act) (class_of k) || by_name ns k (node_of j row.now)) f) }
     {
         let front = join_of(self.alloc, self.tallies.as_slice(), row)?;
-        let front = self.names.with_names(self.alloc, front, row)?;
+        let front = self.names.with_names(front, row)?;
         Ok(front)
     }
 
@@ -222,7 +222,7 @@ impl Frontier {
             return Err(AllocError);
         };
         let part = self.new_part(row, &front)?;
-        let own = own_of(self.alloc, self.tallies.as_slice(), row, front)?;
+        let own = own_of(self.tallies.as_slice(), row, front)?;
         self.names.add(self.alloc, row, &own)?;
         self.parts.keep(self.alloc, part)?;
         tally(self.alloc, &mut self.tallies, row, own)?;
@@ -242,12 +242,7 @@ impl Frontier {
         let Some((id, element)) = row.act.limited() else {
             return Ok(None);
         };
-        let known = Known {
-            tallies: self.tallies.as_slice(),
-            clock: front.clock.as_slice(),
-            available: front.available.as_slice(),
-        };
-        let heard = known.row(self.alloc)?;
+        let heard = heard(self.alloc, self.tallies.as_slice(), front.counts.as_slice())?;
         let queue = row.point.queue;
         let line = Line::of(queue, &row.act);
         let part = Part {

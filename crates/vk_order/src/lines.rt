@@ -84,7 +84,7 @@ impl Line {
         ensures { result ≡ leads.line_leads queue (act_of act.now) self }
     {
         match act {
-            Act::Hosts(_) => matches!(self, Line::Host),
+            Act::Hosts(_) => self.is_of_host(),
             Act::Waits(_) => false,
             Act::Runs(_) => self.ends_in_transfer(queue),
             Act::Signals(signal) => {
@@ -117,6 +117,13 @@ impl Line {
     {
         self.leads_to_stages(on, stages)
             || stages.contains(Stages::ALL_COMMANDS) && self.is_of_elements(on)
+    }
+
+    /// Whether its nodes are entries of the host.
+    pub fn is_of_host(self) -> bool
+        ensures { result ≡ leads.is_of_host self }
+    {
+        matches!(self, Line::Host)
     }
 
     /// Whether its nodes are elements of sets.

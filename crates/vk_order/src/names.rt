@@ -59,18 +59,13 @@ impl Names {
     }
 
     /// What comes after the nodes of a front, and after those that lead to a row by a name.
-    pub fn with_names(
-        &self,
-        alloc: Global,
-        front: Front,
-        row: &Row<'_>,
-    ) -> Result<Front, AllocError>
+    pub fn with_names(&self, front: Front, row: &Row<'_>) -> Result<Front, AllocError>
         ensures { IfOk result (λ both. (ns : List Node) (ls : List AnyLine) (f : Node → Bool) (j : ℕ) → IsNames ns ls self.now → IsFront ns ls f front → IsFront ns ls (λ k. f k || by_name ns k (node_of j row.now)) both) }
     {
         let submit = self.submits.get(&row.point.entry);
-        let front = with_named(alloc, front, submit)?;
-        let front = with_named(alloc, front, self.set_of(&row.act))?;
-        let front = self.with_signals(alloc, front, &row.act)?;
+        let front = with_named(front, submit)?;
+        let front = with_named(front, self.set_of(&row.act))?;
+        let front = self.with_signals(front, &row.act)?;
         Ok(front)
     }
 
@@ -105,17 +100,17 @@ impl Names {
     }
 
     /// What comes after the nodes of a front, and after the signals that an act waits for.
-    fn with_signals(&self, alloc: Global, front: Front, act: &Act<'_>) -> Result<Front, AllocError>
+    fn with_signals(&self, front: Front, act: &Act<'_>) -> Result<Front, AllocError>
         ensures { IfOk result (λ both. (ns : List Node) (ls : List AnyLine) (f : Node → Bool) (n : Node) → n.act ≡ act_of act.now → IsNames ns ls self.now → IsFront ns ls f front → IsFront ns ls (λ k. f k || by_semaphore ns k n) both) }
     {
         match act {
             Act::Waits(wait) => {
                 let signal = self.signal_for(wait.semaphore, wait.value);
-                let both = with_named(alloc, front, signal)?;
+                let both = with_named(front, signal)?;
                 Ok(both)
             }
             Act::Hosts(entry) => {
-                let both = self.with_waits(alloc, front, entry)?;
+                let both = self.with_waits(front, entry)?;
                 Ok(both)
             }
             _ => Ok(front),
@@ -123,12 +118,12 @@ impl Names {
     }
 
     /// The same of a host entry.
-    fn with_waits(&self, alloc: Global, front: Front, entry: &Entry) -> Result<Front, AllocError>
+    fn with_waits(&self, front: Front, entry: &Entry) -> Result<Front, AllocError>
         ensures { IfOk result (λ both. (ns : List Node) (ls : List AnyLine) (f : Node → Bool) (n : Node) → n.act ≡ Hosts entry.now → IsNames ns ls self.now → IsFront ns ls f front → IsFront ns ls (λ k. f k || by_semaphore ns k n) both) }
     {
         match entry {
             Entry::Wait { waits } => {
-                let both = self.with_each(alloc, front, waits.as_slice())?;
+                let both = self.with_each(front, waits.as_slice())?;
                 Ok(both)
             }
             _ => Ok(front),
@@ -136,18 +131,13 @@ impl Names {
     }
 
     /// The same of its waits.
-    fn with_each(
-        &self,
-        alloc: Global,
-        front: Front,
-        waits: &[SemaphoreValue],
-    ) -> Result<Front, AllocError>
+    fn with_each(&self, front: Front, waits: &[SemaphoreValue]) -> Result<Front, AllocError>
         ensures { IfOk result (λ both. (ns : List Node) (ls : List AnyLine) (f : Node → Bool) → IsNames ns ls self.now → IsFront ns ls f front → IsFront ns ls (λ k. f k || list_any (λ w. is_awaited_for ns w.semaphore w.value k) waits.now) both) }
     {
         let mut both = front;
         for wait in waits {
             let signal = self.signal_for(wait.semaphore, wait.value);
-            both = with_named(alloc, both, signal)?;
+            both = with_named(both, signal)?;
         }
         Ok(both)
     }

@@ -10,15 +10,14 @@ ghost use Rattle.vk_order.specs.Bytes.{byte_of};
 ghost use Rattle.vk_order.specs.Lines.{line_of};
 ghost use Rattle.vk_order.specs.Wide.{access_of, AreWide, is_answered};
 ghost use Rattle.vk_order.specs.Inner.Clocks.{place};
-ghost use Rattle.vk_order.specs.Inner.Kept.{clock_at};
+ghost use Rattle.vk_order.specs.Inner.Counts.{count_in, counts_on};
 ghost use Rattle.vk_order.specs.Inner.Rows.{Visible, OnHost, KnowsOne};
 ghost use Rattle.vk_order.specs.Inner.Parts.{IsPart, asked_of, opens};
-ghost use Rattle.vk_order.specs.Inner.Fronts.{row_in};
 ghost use Rattle.vk_order.specs.Frontiers.{IsSight};
 
 use crate::access::Access;
 use crate::bytes::Byte;
-use crate::clocks::count_at;
+use crate::counts::{Counts, counts_at};
 use crate::fronts::Front;
 use crate::lines::{Line, index_among};
 use crate::parts::{Part, Spot};
@@ -63,7 +62,7 @@ impl Sight {
     pub fn follows(&self, line: Line, earlier: usize) -> bool
         ensures { (ns : List Node) (n m : Node) → IsSight ns n self.now → Contains ns m → line_of m ≡ Some line → place ns line m.number ≡ earlier → result ≡ before (n ∷ ns) m n }
     {
-        earlier < self.count(self.front.clock.as_slice(), line)
+        earlier < self.counts(line).clock
     }
 
     /// How many commands of a queue are before the node: the first ones of the queue.
@@ -71,7 +70,7 @@ impl Sight {
         ensures first { (ns : List Node) (n m : Node) → IsSight ns n self.now → Contains ns m → line_of m ≡ Some (OfCommands queue) → before (n ∷ ns) m n ≡ nat_lt (place ns (OfCommands queue) m.number) result }
         ensures there { (ns : List Node) (n : Node) → IsSight ns n self.now → result ≤ place ns (OfCommands queue) (length ns) }
     {
-        self.count(self.front.clock.as_slice(), Line::Commands(queue))
+        self.counts(Line::Commands(queue)).clock
     }
 
     /// Whether an access of this kind by the node sees the writes of the command of a queue before
@@ -80,7 +79,7 @@ impl Sight {
         ensures { (ns : List Node) (n m : Node) (cached : world.Byte → Bool) (b : world.Byte) → IsSight ns n self.now → Contains ns m → line_of m ≡ Some (OfCommands queue) → place ns (OfCommands queue) m.number ≡ earlier
             → AreWide (n ∷ ns) → IsTrue (is_answered cached n.act (access_of access) b) → result ≡ seen cached (n ∷ ns) m n (access_of access) b }
     {
-        earlier < self.count(self.row(access), Line::Commands(queue))
+        earlier < self.known(Line::Commands(queue), access)
     }
 
     /// Whether an access of this kind by the node sees the writes of the host entry before which
@@ -90,7 +89,7 @@ impl Sight {
         ensures { (ns : List Node) (n m : Node) (cached : world.Byte → Bool) (b : world.Byte) → IsSight ns n self.now → Contains ns m → line_of m ≡ Some OfHost → place ns OfHost m.number ≡ earlier
             → AreWide (n ∷ ns) → IsTrue (is_answered cached n.act (access_of access) b) → cached b ≡ false → result ≡ seen cached (n ∷ ns) m n (access_of access) b }
     {
-        earlier < self.count(self.row(access), Line::Host)
+        earlier < self.known(Line::Host, access)
     }
 
     /// Whether what a node wrote is known at one that serves all memory and makes it visible to an
@@ -99,7 +98,7 @@ impl Sight {
         ensures { (ns : List Node) (n m : Node) → IsSight ns n self.now → Contains ns m → line_of m ≡ Some spot.line → place ns spot.line m.number ≡ spot.place → (is_command n.act || is_host n.act) ≡ true
             → IsTrue result ↔ KnowsOne (asked_of n.act (access_of access)) ns (λ q. edge ns q n) m }
     {
-        spot.place < self.count(self.row(access), spot.line)
+        spot.place < self.known(spot.line, access)
     }
 
     /// Whether a dependency on a part of memory makes a byte visible to an access by this node, a
@@ -115,26 +114,26 @@ impl Sight {
         }
     }
 
-    /// The row that answers for an access.
-    fn row(&self, access: Access) -> &[usize]
-        ensures { result.now ≡ row_in (if self.now.is_host then OnHost (access_of access) else Visible (access_of access)) self.now.front }
+    /// How many nodes of a line have their writes known to the node by what answers for an access.
+    fn known(&self, line: Line, access: Access) -> usize
+        ensures { result ≡ count_in (if self.now.is_host then OnHost (access_of access) else Visible (access_of access)) (counts_on self.now.lines.items self.now.front.counts.items line) }
     {
-        let front = &self.front;
+        let counts = self.counts(line);
         match (self.is_host, access) {
-            (false, Access::Read) => front.reads.as_slice(),
-            (false, Access::Write) => front.writes.as_slice(),
-            (true, Access::Read) => front.host_reads.as_slice(),
-            (true, Access::Write) => front.host_writes.as_slice(),
+            (false, Access::Read) => counts.reads,
+            (false, Access::Write) => counts.writes,
+            (true, Access::Read) => counts.host_reads,
+            (true, Access::Write) => counts.host_writes,
         }
     }
 
-    /// The count that a list has for a line.
-    fn count(&self, counts: &[usize], line: Line) -> usize
-        ensures { result ≡ clock_at self.now.lines.items counts.now line }
+    /// The counts for a line.
+    fn counts(&self, line: Line) -> Counts
+        ensures { result ≡ counts_on self.now.lines.items self.now.front.counts.items line }
     {
         match index_among(self.lines.as_slice(), line) {
-            Some(at) => count_at(counts, at),
-            None => 0,
+            Some(at) => counts_at(self.front.counts.as_slice(), at),
+            None => Counts::zero(),
         }
     }
 }

@@ -39,7 +39,7 @@ pub fn line_index(tallies: &[LineTally], line: Line) -> Option<usize>
 pub fn lines_copied(alloc: Global, tallies: &[LineTally]) -> Result<Vec<Line>, AllocError>
     ensures { IfOk result (λ lines. lines.items ≡ lines_of tallies.now) }
 {
-    let mut lines = Vec::new(alloc);
+    let mut lines = Vec::with_capacity(alloc, tallies.len())?;
     for tally in tallies {
         lines.push(tally.line)?;
     }
@@ -53,7 +53,7 @@ pub fn join_of(alloc: Global, tallies: &[LineTally], row: &Row<'_>) -> Result<Fr
     let mut front = Front::new(alloc);
     for tally in tallies {
         if tally.line.leads(row.point.queue, &row.act) {
-            front = front.joined(alloc, &tally.front)?;
+            front = front.joined(&tally.front)?;
         }
     }
     Ok(front)
@@ -77,12 +77,7 @@ pub fn list_line(alloc: Global, tallies: &mut Vec<LineTally>, line: Line) -> Res
 }
 
 /// What comes after a row that comes next, of which this is before.
-pub fn own_of(
-    alloc: Global,
-    tallies: &[LineTally],
-    row: &Row<'_>,
-    front: Front,
-) -> Result<Front, AllocError>
+pub fn own_of(tallies: &[LineTally], row: &Row<'_>, front: Front) -> Result<Front, AllocError>
     requires { IsTrue (is_some (index_in (lines_of tallies.now) (class_on row.now.point.queue (act_of row.now.act)))) }
     ensures { IfOk result (λ own. (ns : List Node) (n : Node) → IsComing ns (lines_of tallies.now) n row.now front → IsTallied ns tallies.now → IsOwnFront ns (lines_of tallies.now) n own) }
 {
@@ -90,7 +85,7 @@ pub fn own_of(
     let Some(at) = line_index(tallies, line) else {
         unreachable!()
     };
-    let own = own_front(alloc, tallies, row, line, at, front)?;
+    let own = own_front(tallies, row, line, at, front)?;
     Ok(own)
 }
 
@@ -110,7 +105,7 @@ pub fn tally(
         unreachable!()
     };
     let place = tallies[at].count;
-    let front = own.joined(alloc, &tallies[at].front)?;
+    let front = own.joined(&tallies[at].front)?;
     let count = if line.is_of_sets() {
         place
     } else {

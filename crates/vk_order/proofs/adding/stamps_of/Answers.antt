@@ -14,7 +14,7 @@ use Rattle.vk_order.specs.Lines.{class_on}
 use Rattle.vk_order.specs.Inner.Clocks.{place}
 use Rattle.vk_order.specs.Inner.Places.{index_in}
 use Rattle.vk_order.specs.Inner.Kept.{IsStamped}
-use Rattle.vk_order.specs.Inner.Fronts.{IsFront}
+use Rattle.vk_order.specs.Inner.Fronts.{clock_in, IsFront}
 use Rattle.vk_order.specs.Inner.Tallies.{lines_of}
 use Rattle.vk_order.specs.Frontiers.{IsFrontier}
 use Rattle.vk_order.proofs.RowLemmas.{nodes_after-append}
@@ -60,7 +60,7 @@ loop-index-preserved c =
           subst (λ (l : List Node). IsFront l ls (λ m. edge l m (node_of (length l) row)) f) (sym same)
           (front_now ns rows can front.numbers k row at ls f (are k row f at there (length (nodes_after (nodes_after [] old) (take k rows))))) in
           let count : s.place ≡ place all (class_on row.point.queue (act_of row.act)) (length all) = c.count-place.ensures all before.1 ∙ ap (λ (l : Line). place all l (length all)) c.of.ensures in
-          let clock : s.clock.items ≡ f.clock.items = c.in_ok-clock.ensures.items ∙ c.as_slice.ensures.value in
+          let clock : s.clock.items ≡ clock_in f = c.in_ok-clock.ensures in
           let one = stamped_one (old ++ take k rows) (stamps ++ c.loop-index.more.items) ls row s f before.0 known clock count (c.requires.listed k row at) in
           let next : IsFrontier c.add.new.self (node_of (length all) row ∷ all) =
           c.in_ok-add.ensures.kept all (node_of (length all) row) refl

@@ -1,19 +1,16 @@
-use Rattle.std.proofs.Common.{rules}
+use Rattle.std.proofs.Common.{List, subst}
+use Rattle.vk_order.specs.declared.counts.Counts.{Counts}
 use Rattle.vk_order.specs.declared.fronts.Front.{Front}
+use Rattle.vk_order.specs.Inner.Counts.{AreJoinedCounts}
 use Rattle.vk_order.proofs.FrontLemmas.{AreJoinedFronts, fronts_joined, fronts_both, fronts_turned, front_grows}
 use Rattle.vk_order.proofs.fronts.Front.joined.Goals as goal
 
-abbrev result_of : (c : goal.In_ok-join_in-6) → Front
-result_of c = record { clock = c.join_in.new.clock; available = c.join_in-2.new.clock; reads = c.join_in-3.new.clock; writes = c.join_in-4.new.clock; host_reads = c.join_in-5.new.clock; host_writes = c.join_in-6.new.clock }
+abbrev result_of : (c : goal.In_ok-join_in) → Front
+result_of c = record { counts = c.join_in.new.all }
 
-are : (c : goal.In_ok-join_in-6) → AreJoinedFronts c.args.self c.args.other.now (result_of c)
+are : (c : goal.In_ok-join_in) → AreJoinedFronts c.args.self c.args.other.now (result_of c)
 are c = fronts_joined c.args.self c.args.other.now (result_of c)
-    (record { counts = search rules; long = search rules })
-    (record { counts = search rules; long = search rules })
-    (record { counts = search rules; long = search rules })
-    (record { counts = search rules; long = search rules })
-    (record { counts = search rules; long = search rules })
-    (record { counts = search rules; long = search rules })
+    (subst (λ (l : List Counts). AreJoinedCounts c.args.self.counts.items l c.join_in.new.all.items) c.as_slice.ensures.value c.in_ok-join_in.ensures)
 
 pub returns-clause-both : goal.returns-clause-both
 returns-clause-both c = λ ns ls f g i j. fronts_both ns ls f g c.args.self c.args.other.now (result_of c) (are c) i j

@@ -1,15 +1,17 @@
-use Rattle.std.proofs.Common.{◌≡◌, ℕ, List, ap, ◌∙◌, arith}
+use Rattle.std.proofs.Common.{◌≡◌, refl, ap, sym, ◌∙◌, arith}
 use Rattle.std.proofs.lemmas.Bool.{ltb-true, lt-ltb}
 use Rattle.vk_model.proofs.Lists.Truths.{bool_same}
+use Rattle.vk_order.specs.declared.counts.Counts.{Counts}
+use Rattle.vk_order.specs.Inner.Fronts.{clock_in}
 use Rattle.vk_order.specs.Inner.Kept.{clock_at}
+use Rattle.vk_order.proofs.CountLemmas.{at_line}
 use Rattle.vk_order.proofs.ByEdges.{by_last, by_edge}
 use Rattle.vk_order.proofs.sights.Sight.follows.Goals as goal
 
 pub returns : goal.returns
 returns c = λ ns n m sight there on at.
     let line = c.args.line in
-    let clock = c.args.self.now.front.clock.items in
-    let count : c.count.result ≡ clock_at c.args.self.now.lines.items clock line = c.count.ensures ∙ ap (λ (l : List ℕ). clock_at c.args.self.now.lines.items l line) c.as_slice.ensures.value in
+    let count : c.counts.result.clock ≡ clock_at c.args.self.now.lines.items (clock_in c.args.self.now.front) line = ap (λ (d : Counts). d.clock) c.counts.ensures ∙ sym (at_line (λ d. d.clock) refl c.args.self.now.lines.items c.args.self.now.front.counts.items line) in
     let join = sight.front.clock.join.counts line m there on in
     bool_same _ _
     (λ e. by_edge n ns sight.numbers m there (join.1 (let lt = ltb-true _ _ e in omega arith)))

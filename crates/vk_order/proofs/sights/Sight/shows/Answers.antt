@@ -1,11 +1,13 @@
-use Rattle.std.proofs.Common.{◌≡◌, ℕ, List, IsTrue, ap, sym, ◌∙◌, subst}
+use Rattle.std.proofs.Common.{◌≡◌, ℕ, IsTrue, sym, ◌∙◌, subst}
 use Rattle.std.specs.Prelude.{nat_lt, ◌↔◌, if◌then◌else◌}
 use Rattle.vk_model.specs.Sync.Edge.{edge}
 use Rattle.vk_order.specs.Wide.{access_of}
+use Rattle.vk_order.specs.Inner.Counts.{count_in}
 use Rattle.vk_order.specs.Inner.Kept.{clock_at}
 use Rattle.vk_order.specs.Inner.Rows.{Visible, OnHost, KnowsOne}
 use Rattle.vk_order.specs.Inner.Fronts.{row_in}
 use Rattle.vk_order.specs.Inner.Parts.{asked_of}
+use Rattle.vk_order.proofs.CountLemmas.{zero_in, at_line}
 use Rattle.vk_order.proofs.ServeLemmas.{shown}
 use Rattle.vk_order.proofs.sights.Sight.shows.Goals as goal
 
@@ -14,6 +16,6 @@ returns c = λ ns n m sight there on at any.
     let s = c.args.self.now in
     let l = c.args.spot.line in
     let k = access_of c.args.access in
-    let count : c.count.result ≡ clock_at s.lines.items (row_in (if s.is_host then OnHost k else Visible k) s.front) l = c.count.ensures ∙ ap (λ (r : List ℕ). clock_at s.lines.items r l) c.row.ensures in
+    let count : c.known.result ≡ clock_at s.lines.items (row_in (if s.is_host then OnHost k else Visible k) s.front) l = c.known.ensures ∙ sym (at_line (count_in (if s.is_host then OnHost k else Visible k)) (zero_in (if s.is_host then OnHost k else Visible k)) s.lines.items s.front.counts.items l) in
     subst (λ (i : ℕ). IsTrue (nat_lt c.args.spot.place i) ↔ KnowsOne (asked_of n.act k) ns (λ q. edge ns q n) m) (sym count)
     (subst (λ (i : ℕ). IsTrue (nat_lt i (clock_at s.lines.items (row_in (if s.is_host then OnHost k else Visible k) s.front) l)) ↔ KnowsOne (asked_of n.act k) ns (λ q. edge ns q n) m) at (shown s ns n m l k sight there on any))

@@ -1,0 +1,88 @@
+-- Counts for a line of what is known of its nodes: how many are before, and of how many the writes are available, and visible where.
+use Rattle.std.specs.Prelude.{◌≡◌, ℕ, ◌≤◌, ◌&&◌, ◌||◌, max, List, length, map, slice_index_or, if◌then◌else◌}
+use Rattle.std.specs.Option.{option_map_or}
+use Rattle.vk_model.specs.Sync.Node.{Node, Act}
+use Rattle.vk_model.specs.Sync.Seen.{Read, Write}
+use Rattle.vk_model.specs.Sync.Edge.{is_submit}
+use Rattle.vk_order.specs.declared.counts.Counts.{Counts}
+use Rattle.vk_order.specs.declared.counts.Shows.{Shows}
+use Rattle.vk_order.specs.declared.lines.Line.{Line}
+use Rattle.vk_order.specs.Inner.Clocks.{place}
+use Rattle.vk_order.specs.Inner.Kept.{clock_at, IsOwn}
+use Rattle.vk_order.specs.Inner.Leads.{is_of_host, is_of_barriers}
+use Rattle.vk_order.specs.Inner.Places.{index_in}
+use Rattle.vk_order.specs.Inner.Rows.{Knowledge, Available, Visible, OnHost, receives, receives_on_host, sends_line}
+
+-- Of no node.
+abbrev pub zero_counts : Counts
+zero_counts = record { clock = 0; available = 0; reads = 0; writes = 0; host_reads = 0; host_writes = 0 }
+
+-- The greater of each count.
+abbrev pub joined_counts : Counts → Counts → Counts
+joined_counts c d = record { clock = max c.clock d.clock; available = max c.available d.available; reads = max c.reads d.reads; writes = max c.writes d.writes; host_reads = max c.host_reads d.host_reads; host_writes = max c.host_writes d.host_writes }
+
+-- How many nodes are known in a way.
+abbrev pub count_in : Knowledge → Counts → ℕ
+count_in Available c = c.available
+count_in (Visible Read) c = c.reads
+count_in (Visible Write) c = c.writes
+count_in (OnHost Read) c = c.host_reads
+count_in (OnHost Write) c = c.host_writes
+
+-- The counts that a list has for a line.
+abbrev pub counts_on : List Line → List Counts → Line → Counts
+counts_on ls all l = option_map_or (λ i. slice_index_or all i zero_counts) (index_in ls l) zero_counts
+
+-- Of how many nodes of a line the writes are known: of elements of barriers those before, of others those available.
+abbrev pub known_on : Line → Counts → ℕ
+known_on l c = if is_of_barriers l then c.clock else c.available
+
+-- The same by the counts at an index.
+unfoldable pub known_in : List Counts → ℕ → Line → ℕ
+known_in all i l = known_on l (slice_index_or all i zero_counts)
+
+-- What an act makes visible.
+abbrev pub shows_of : Act → Shows
+shows_of a = record { reads = receives Read a; writes = receives Write a; host_reads = receives_on_host Read a; host_writes = receives_on_host Write a; is_submit = is_submit a }
+
+-- The counts for a line after an act, where what is available after it is counted: also of what it makes visible.
+abbrev pub shown_by : Shows → Line → Counts → Counts
+shown_by s l c = record {
+  clock = c.clock;
+  available = c.available;
+  reads = if s.reads || is_of_host l && s.is_submit then known_on l c else 0;
+  writes = if s.writes || is_of_host l && s.is_submit then known_on l c else 0;
+  host_reads = if s.host_reads then max c.host_reads (known_on l c) else c.host_reads;
+  host_writes = if s.host_writes then max c.host_writes (known_on l c) else c.host_writes;
+}
+
+-- The same, for what looks no further.
+unfoldable pub shown_on : Shows → Line → Counts → Counts
+shown_on s l c = shown_by s l c
+
+-- Other counts with this many before, and with this many available.
+abbrev pub with_clock : Counts → ℕ → Counts
+with_clock c n = record { clock = n; available = c.available; reads = c.reads; writes = c.writes; host_reads = c.host_reads; host_writes = c.host_writes }
+
+abbrev pub with_available : Counts → ℕ → Counts
+with_available c n = record { clock = c.clock; available = n; reads = c.reads; writes = c.writes; host_reads = c.host_reads; host_writes = c.host_writes }
+
+-- A list has the greater of two others' counts at each place.
+pub record AreJoinedCounts (first second both : List Counts) : Type 0 where
+  pub counts : (i : ℕ) → slice_index_or both i zero_counts ≡ joined_counts (slice_index_or first i zero_counts) (slice_index_or second i zero_counts)
+  pub long : length both ≡ max (length first) (length second)
+
+-- What an act on a queue, which comes next, makes available is counted too.
+pub record AreSent (ns : List Node) (ls : List Line) (queue : ℕ) (act : Act) (before own : List Counts) : Type 0 where
+  pub counts : (l : Line) → counts_on ls own l ≡ (if sends_line queue act l then with_available (counts_on ls before l) (place ns l (length ns)) else counts_on ls before l)
+  pub short : length own ≤ length ls
+
+-- What is made visible is counted too.
+pub record AreShown (ls : List Line) (shows : Shows) (before own : List Counts) : Type 0 where
+  pub counts : (l : Line) → counts_on ls own l ≡ shown_by shows l (counts_on ls before l)
+  pub long : length own ≡ length before
+
+-- The node n itself is counted too.
+pub record AreCounted (ns : List Node) (ls : List Line) (n : Node) (before own : List Counts) : Type 0 where
+  pub clock : IsOwn ns ls n (map (λ c. c.clock) before) (map (λ c. c.clock) own)
+  pub rows : (g : Knowledge) (l : Line) → clock_at ls (map (count_in g) own) l ≡ clock_at ls (map (count_in g) before) l
