@@ -58,10 +58,11 @@ impl Keyed {
         ensures here { OnOk result (front_at self.new id number ≡ Some front) }
         ensures others { OnOk result ((i u : ℕ) → (i ≢ id) ⊎ (u ≢ number) → front_at self.new i u ≡ front_at self.old i u) }
     {
-        let mut table = match self.tables.remove(&id) {
-            Some(table) => table,
-            None => BTreeMap::new(alloc),
-        };
+        if let Some(table) = self.tables.get_mut(&id) {
+            table.insert(number, front)?;
+            return Ok(());
+        }
+        let mut table = BTreeMap::new(alloc);
         table.insert(number, front)?;
         self.tables.insert(id, table)?;
         Ok(())
