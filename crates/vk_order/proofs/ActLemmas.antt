@@ -1,5 +1,5 @@
 -- The acts of a command, one after another.
-use Rattle.std.proofs.Common.{◌≡◌, ℕ, ◌+◌, ◌<◌, ◌≤◌, List, [], ◌∷◌, ◌++◌, map, length, drop, get_or, add-one, drop-cons, append_assoc, refl}
+use Rattle.std.proofs.Common.{◌≡◌, ℕ, ◌+◌, ◌<◌, ◌≤◌, List, [], ◌∷◌, ◌++◌, map, length, drop, get_or, add-one, drop-cons, append_assoc, refl, arith}
 use Rattle.std.specs.List.{enumerate_from}
 use Rattle.std.proofs.lemmas.List.{drop_all, map-append, append-nil}
 use Rattle.vk_model.specs.declared.command.Dependency.{Dependency}
@@ -24,6 +24,12 @@ barrier-step es k d acts a lt is =
 
 pub barrier-end : (es : List Element) (k : ℕ) (acts : List sync.Act) → length es ≤ k → acts ++ from_barrier k es ≡ acts
 barrier-end es k acts le = rw (drop_all k es le) (append-nil acts)
+
+-- that of a single element
+pub single_barrier : (es : List Element) (d : Element) → length es ≡ 1 → map (sync.Depends sync.Barrier) es ≡ sync.Depends sync.Barrier (get_or es 0 d) ∷ []
+single_barrier [] d one = absurd (omega arith)
+single_barrier (e ∷ []) d one = refl
+single_barrier (e ∷ f ∷ es) d one = absurd (omega arith)
 
 pub event-step : (role : ℕ → sync.Role) (ds : List Dependency) (k : ℕ) (d : Dependency) (acts : List Act) (a : Act) → k < length ds → act_of a ≡ sync.Depends (role k) (element.Memory (get_or ds k d))
     → map act_of (acts ++ a ∷ []) ++ from_event role (k + 1) ds ≡ map act_of acts ++ from_event role k ds

@@ -129,3 +129,14 @@ module _ (ns : List Node) (fresh : List Row) (p : Point) (points : (i : ℕ) (r 
 
   pub can_follow : CanFollow ns fresh
   can_follow = record { apart = apart; quiet = quiet; later = later }
+
+-- a row that is the only one of its point
+pub one_follows : (ns : List Node) (row : Row) → acts (action_of row.point.action) ≡ act_of row.act ∷ [] → IsNew (point_of row.point) ns → CanFollow ns (row ∷ [])
+one_follows ns row are new = can_follow ns (row ∷ []) row.point points (sym are) new
+  where
+    inside : (q r : Row) → Some q ≡ Some r → q ≡ r
+    inside q r e = cc
+
+    points : (i : ℕ) (r : Row) → slice_get (row ∷ []) i ≡ Some r → r.point ≡ row.point
+    points zero r e = ap (λ (x : Row). x.point) (sym (inside row r e))
+    points (suc i) r e = absurd cc

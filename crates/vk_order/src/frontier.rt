@@ -1,7 +1,7 @@
 ghost use Rattle.std.specs.Prelude.{◌≡◌, ◌∷◌, ◌||◌, ◌&&◌, ◌==◌, ◌<◌, ◌≤◌, ◌↔◌, [], ℕ, Bool, List, true, false, nat_lt, IfOk, OnOk, IsTrue, is_some, Contains, Some, length, slice_get};
 ghost use Rattle.vk_model.specs.World.Bytes as world;
 ghost use Rattle.vk_model.specs.Sync.Node.{Node, acts, with_acts};
-ghost use Rattle.vk_model.specs.Sync.Edge.{edge, is_command, is_element, is_host};
+ghost use Rattle.vk_model.specs.Sync.Edge.{edge, is_command, is_host};
 ghost use Rattle.vk_model.specs.Sync.Seen.{seen, makes_writes_available};
 ghost use Rattle.vk_order.specs.declared.lines.Line.{Line as AnyLine};
 ghost use Rattle.vk_order.specs.PointViews.{action_of, act_of, point_of, node_of, nodes_after};
@@ -117,7 +117,10 @@ impl Frontier {
         ensures { OnOk result ((ns : List Node) → IsNew (point_of point.now) ns → IsFrontier self.old ns → IsFrontier self.new (with_acts (point_of point.now) (acts (action_of point.now.action)) ns)) }
     {
         match single_act(point.action) {
-            Some(act) => self.add_single(&Row { point: *point, act }),
+            Some(act) => {
+                self.add_single(&Row { point: *point, act })?;
+                Ok(())
+            }
             None => self.add_point(point),
         }
     }
@@ -142,10 +145,9 @@ impl Frontier {
         Ok(())
     }
 
-    /// Adds a row that comes next and is no element.
+    /// Adds a row that comes next, the only one of its point.
     fn add_single(&mut self, row: &Row<'_>) -> Result<(), AllocError>
-        requires { is_element (act_of row.now.act) ≡ false }
-        ensures { OnOk result ((ns : List Node) → IsFrontier self.old ns → IsFrontier self.new (node_of (length ns) row.now ∷ ns)) }
+        ensures { OnOk result ((ns : List Node) → CanFollow ns (row.now ∷ []) → IsFrontier self.old ns → IsFrontier self.new (node_of (length ns) row.now ∷ ns)) }
     {
         self.list_line(Line::of(row.point.queue, &row.act))?;
         let front = self.front_of(row)?;

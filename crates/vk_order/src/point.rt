@@ -1,6 +1,5 @@
-ghost use Rattle.std.specs.Prelude.{◌≡◌, ◌∷◌, [], IfOk, IfSome, false, map};
+ghost use Rattle.std.specs.Prelude.{◌≡◌, ◌∷◌, [], IfOk, IfSome, map};
 ghost use Rattle.vk_model.specs.Sync.Node.{acts, command_acts, event_acts, Depends, Barrier, SetOf, AwaitOf};
-ghost use Rattle.vk_model.specs.Sync.Edge.{is_element};
 ghost use Rattle.vk_order.specs.PointViews.{action_of, act_of};
 
 use std::alloc::{AllocError, Global};
@@ -53,18 +52,28 @@ pub enum Act<'a> {
     Await(u32, usize, &'a Dependency),
 }
 
-/// The act of what happens at a point where it has a single one, which is no element.
+/// The act of what happens at a point where it has a single one; none for events.
 pub fn single_act<'a>(action: Action<'a>) -> Option<Act<'a>>
-    ensures acts { IfSome result (λ a. acts (action_of action.entry) ≡ act_of a ∷ []) }
-    ensures apart { IfSome result (λ a. is_element (act_of a) ≡ false) }
+    ensures { IfSome result (λ a. acts (action_of action.entry) ≡ act_of a ∷ []) }
 {
     match action {
         Action::Host(entry) => Some(Act::Hosts(entry)),
         Action::Wait(wait) => Some(Act::Waits(wait)),
         Action::Signal(signal) => Some(Act::Signals(signal)),
-        Action::Run(Cmd::Barrier { .. } | Cmd::Set { .. } | Cmd::Await { .. }) => None,
+        Action::Run(Cmd::Barrier { elements }) => single_element(elements.as_slice()),
+        Action::Run(Cmd::Set { .. } | Cmd::Await { .. }) => None,
         Action::Run(command) => Some(Act::Runs(command)),
     }
+}
+
+/// The act of a barrier of a single element.
+fn single_element<'a>(elements: &'a [Element]) -> Option<Act<'a>>
+    ensures { IfSome result (λ a. map (Depends Barrier) elements.now ≡ act_of a ∷ []) }
+{
+    if elements.len() != 1 {
+        return None;
+    }
+    Some(Act::Barrier(&elements[0]))
 }
 
 /// The acts of a point, in order.

@@ -1,6 +1,6 @@
-use Rattle.std.proofs.Common.{◌∷◌, ◌||◌, length, refl, sym}
+use Rattle.std.proofs.Common.{◌≡◌, ◌∷◌, ◌||◌, ◌+◌, ℕ, length, refl, ap, sym, ◌∙◌, arith}
 use Rattle.vk_model.specs.Sync.Node.{Node}
-use Rattle.vk_model.specs.Sync.Edge.{edge}
+use Rattle.vk_model.specs.Sync.Edge.{edge, siblings}
 use Rattle.vk_model.specs.Sync.Before.{IsNumbered}
 use Rattle.vk_order.specs.PointViews.{act_of, node_of}
 use Rattle.vk_order.specs.Lines.{class_of}
@@ -10,17 +10,17 @@ use Rattle.vk_order.specs.Inner.Fronts.{IsFront}
 use Rattle.vk_order.specs.Inner.Tallies.{lines_of}
 use Rattle.vk_order.proofs.LineTests.{edge_split}
 use Rattle.vk_order.proofs.FrontLemmas.{front_same}
-use Rattle.vk_order.proofs.PlaceLemmas.{apart_from}
 use Rattle.vk_order.proofs.frontier.Frontier.add_single.Goals as goal
 
 pub returns : goal.returns
-returns c = λ ns is.
+returns c = λ ns can is.
     let row = c.args.row.now in
     let n : Node = node_of (length ns) row in
     let ls = lines_of c.list_line.new.self.tallies.items in
+    let here : length ns ≡ length ns + 0 = omega arith in
     let now = c.in_ok-list_line.ensures.kept ns is in
     let numbers : IsNumbered (n ∷ ns) = (refl, is.numbers) in
     let front : IsFront ns ls (λ k. edge ns k n) c.in_ok-front.front =
     front_same ns ls (λ k. line_leads row.point.queue (act_of row.act) (class_of k) || by_name ns k n) (λ k. edge ns k n) c.in_ok-front.front
-    (λ k there. sym (edge_split n ns numbers k there (apart_from ns n c.requires k there))) (c.in_ok-front.ensures ns (length ns) now) in
+    (λ k there. sym (edge_split n ns numbers k there (ap (λ (i : ℕ). siblings k (node_of i row)) here ∙ can.apart 0 row refl k there))) (c.in_ok-front.ensures ns (length ns) now) in
     c.in_ok-add.ensures.kept ns n refl front now
