@@ -19,6 +19,13 @@ pub enum Change {
     },
     /// It is something else.
     State(RangeState),
+    /// It is elsewhere in a list of free ranges.
+    Listed {
+        /// The slot of the free range before it in its list.
+        previous: Option<u32>,
+        /// The slot of the free range after it in its list.
+        next: Option<u32>,
+    },
     /// Another free range is before it in its list, or none.
     PreviousFree(Option<u32>),
     /// Another free range is after it in its list, or none.
@@ -37,6 +44,10 @@ pub(crate) fn apply(node: &mut Node, change: Change)
             node.state = state;
         }
         Change::State(state) => node.state = state,
+        Change::Listed { previous, next } => {
+            node.previous_free = previous;
+            node.next_free = next;
+        }
         Change::PreviousFree(previous) => node.previous_free = previous,
         Change::NextFree(next) => node.next_free = next,
     }

@@ -14,10 +14,13 @@ const FIRST: usize = 16;
 /// The most records that there can be, each named by 32 bits.
 const MOST: usize = u32::MAX as usize;
 
-/// Slots in a store, which may have more records than there are slots. The free ones among the
-/// slots that were used are a stack: its entries are the names in the first records.
+/// Slots of nodes that have memory from the start, as `Nodes` has once it has a slot. Contracts see,
+/// for each slot, the node that is held there, or none where the slot is free.
+///
+/// There may be more records in the store than slots. The free ones among the slots that were used
+/// are a stack: its entries are the names in the first records.
 #[derive(Drop)]
-pub(crate) struct Filled {
+pub struct Filled {
     store: Store,
     slots: usize,
     used: usize,
@@ -38,7 +41,7 @@ impl Model for Filled {
 
 impl Filled {
     /// So many slots, all free. The only error is want of memory.
-    pub(crate) fn new(alloc: Global, slots: usize) -> Result<Filled, AllocError>
+    pub fn new(alloc: Global, slots: usize) -> Result<Filled, AllocError>
         requires { slots < 2 ^ 32 }
         ensures { IfOk result (λ f. f ≡ replicate slots None) }
     {
@@ -52,7 +55,7 @@ impl Filled {
     }
 
     /// How many slots there are.
-    pub(crate) fn slots(&self) -> usize
+    pub fn slots(&self) -> usize
         ensures count { result ≡ length self.now }
         ensures few { result < 2 ^ 32 }
     {
@@ -60,14 +63,15 @@ impl Filled {
     }
 
     /// How many of them are free.
-    pub(crate) fn free_slots(&self) -> usize
+    pub fn free_slots(&self) -> usize
         ensures { result ≡ free_count self.now }
     {
         self.free + (self.slots - self.used)
     }
 
-    /// Adds free slots. The only error is want of memory, and changes nothing.
-    pub(crate) fn reserve(&mut self, more: usize) -> Result<(), AllocError>
+    /// Adds free slots after those that there are. The only error is want of memory, and changes
+    /// nothing. The memory doubles when it grows, so many small steps copy each slot a few times.
+    pub fn reserve(&mut self, more: usize) -> Result<(), AllocError>
         requires { length self.old + more < 2 ^ 32 }
         ensures ok { IsOk result → self.new ≡ self.old ++ replicate more None }
         ensures err { OnErr result (self.new ≡ self.old) }
@@ -81,8 +85,9 @@ impl Filled {
         Ok(())
     }
 
-    /// A slot that was free, and now holds an empty node.
-    pub(crate) fn take(&mut self) -> Option<u32>
+    /// Takes a slot that is free, and holds an empty node in it. It answers none exactly where each
+    /// slot is held.
+    pub fn take(&mut self) -> Option<u32>
         ensures { MatchOption result ((AllHeld self.old) × (self.new ≡ self.old)) (λ slot. Hands self.old self.new slot) }
     {
         if self.free > 0 {
@@ -101,7 +106,7 @@ impl Filled {
     }
 
     /// Frees a slot.
-    pub(crate) fn give(&mut self, slot: u32)
+    pub fn give(&mut self, slot: u32)
         requires { IsHeld self.old slot }
         ensures { self.new ≡ set self.old slot None }
     {
@@ -111,7 +116,7 @@ impl Filled {
     }
 
     /// The node in a slot.
-    pub(crate) fn get(&self, slot: u32) -> Node
+    pub fn get(&self, slot: u32) -> Node
         requires { IsHeld self.now slot }
         ensures { get_or self.now slot None ≡ Some result }
     {
@@ -119,7 +124,7 @@ impl Filled {
     }
 
     /// The node in a slot, or none where the slot is free or there is no such slot.
-    pub(crate) fn find(&self, slot: u32) -> Option<Node>
+    pub fn find(&self, slot: u32) -> Option<Node>
         ensures { result ≡ get_or self.now slot None }
     {
         if (slot as usize) < self.used {
@@ -130,7 +135,7 @@ impl Filled {
     }
 
     /// Puts another node into a slot.
-    pub(crate) fn set(&mut self, slot: u32, node: Node)
+    pub fn set(&mut self, slot: u32, node: Node)
         requires { IsHeld self.old slot }
         ensures { self.new ≡ set self.old slot (Some node) }
     {
@@ -138,7 +143,7 @@ impl Filled {
     }
 
     /// Changes some fields of the node in a slot.
-    pub(crate) fn change(&mut self, slot: u32, change: Change)
+    pub fn change(&mut self, slot: u32, change: Change)
         requires { IsHeld self.old slot }
         ensures { IsChanged self.old self.new slot change }
     {

@@ -10,5 +10,6 @@ mod slot;
 mod store;
 
 pub use change::Change;
+pub use filled::Filled;
 pub use node::{Node, RangeState};
 pub use nodes::Nodes;
