@@ -9,10 +9,10 @@ ghost use Rattle.vma_tlsf.specs.Inner.Wants.{taken_of_want};
 use crate::lists::Lists;
 use crate::places::{Place, Want, taken_state};
 use crate::steps::{fresh, merge, paint, split, two_fresh};
-use vk_nodes::{Node, Nodes, RangeState};
+use vk_nodes::{Filled, Node, RangeState};
 
 /// Takes a place of a free range, and answers its slot, or `None` where memory is wanting.
-pub(crate) fn put(nodes: &mut Nodes, lists: &mut Lists, place: Place, want: Want) -> Option<u32>
+pub(crate) fn put(nodes: &mut Filled, lists: &mut Lists, place: Place, want: Want) -> Option<u32>
     requires chain { HasChain nodes.old }
     requires place { IsPlaceIn nodes.old place.slot place.start want.size }
     requires some { 0 < want.size }
@@ -33,7 +33,7 @@ pub(crate) fn put(nodes: &mut Nodes, lists: &mut Lists, place: Place, want: Want
 /// Takes the start of a free range, and puts what is left of the range into a list. Where nothing
 /// is left it gives the fresh slot back.
 fn carve_start(
-    nodes: &mut Nodes,
+    nodes: &mut Filled,
     lists: &mut Lists,
     place: Place,
     want: Want,
@@ -58,7 +58,7 @@ fn carve_start(
 }
 
 /// Takes a free range from its start on.
-fn take_start(nodes: &mut Nodes, place: Place, node: Node, state: RangeState)
+fn take_start(nodes: &mut Filled, place: Place, node: Node, state: RangeState)
     requires chain { HasChain nodes.old }
     requires here { get_or nodes.old place.slot None ≡ Some node }
     requires some { 0 < node.size }
@@ -72,7 +72,7 @@ fn take_start(nodes: &mut Nodes, place: Place, node: Node, state: RangeState)
 
 /// Takes a place of a free range that begins before it, and puts what is left of the range into
 /// lists. Where nothing is left behind it gives the second fresh slot back.
-fn carve(nodes: &mut Nodes, lists: &mut Lists, place: Place, want: Want, one: u32, two: u32) -> u32
+fn carve(nodes: &mut Filled, lists: &mut Lists, place: Place, want: Want, one: u32, two: u32) -> u32
     requires chain { HasChain nodes.old }
     requires place { IsPlaceIn nodes.old place.slot place.start want.size }
     requires some { 0 < want.size }
@@ -95,7 +95,7 @@ fn carve(nodes: &mut Nodes, lists: &mut Lists, place: Place, want: Want, one: u3
 }
 
 /// Takes a free range from the start of a place on; what is before it stays free.
-fn cut_front(nodes: &mut Nodes, place: Place, node: Node, fresh: u32, state: RangeState)
+fn cut_front(nodes: &mut Filled, place: Place, node: Node, fresh: u32, state: RangeState)
     requires chain { HasChain nodes.old }
     requires here { get_or nodes.old place.slot None ≡ Some node }
     requires free { node.state ≡ Free }
@@ -118,7 +118,7 @@ fn cut_front(nodes: &mut Nodes, place: Place, node: Node, fresh: u32, state: Ran
 }
 
 /// Lets a taken range have the size that is asked; what is after it is free.
-fn cut_back(nodes: &mut Nodes, slot: u32, node: Node, fresh: u32, size: u64)
+fn cut_back(nodes: &mut Filled, slot: u32, node: Node, fresh: u32, size: u64)
     requires chain { HasChain nodes.old }
     requires here { get_or nodes.old slot None ≡ Some node }
     requires taken { node.state ≡ Free → ⊥ }
@@ -136,7 +136,7 @@ fn cut_back(nodes: &mut Nodes, slot: u32, node: Node, fresh: u32, size: u64)
 }
 
 /// Lets a taken range be free, joined with the free ranges next to it, and puts it into its list.
-pub(crate) fn release(nodes: &mut Nodes, lists: &mut Lists, slot: u32) -> u32
+pub(crate) fn release(nodes: &mut Filled, lists: &mut Lists, slot: u32) -> u32
     requires chain { HasChain nodes.old }
     requires there { IsTakenIn nodes.old slot }
     ensures { IsReleased nodes.old nodes.new slot }
@@ -148,7 +148,7 @@ pub(crate) fn release(nodes: &mut Nodes, lists: &mut Lists, slot: u32) -> u32
 }
 
 /// Joins a taken range with a free one after it.
-fn join_after(nodes: &mut Nodes, lists: &mut Lists, slot: u32)
+fn join_after(nodes: &mut Filled, lists: &mut Lists, slot: u32)
     requires chain { HasChain nodes.old }
     requires there { IsTakenIn nodes.old slot }
     ensures { IsJoinedAfter nodes.old nodes.new slot }
@@ -165,7 +165,7 @@ fn join_after(nodes: &mut Nodes, lists: &mut Lists, slot: u32)
 }
 
 /// Lets a taken range be free, joined with a free one before it. No free one is after it.
-fn join_before(nodes: &mut Nodes, lists: &mut Lists, slot: u32) -> u32
+fn join_before(nodes: &mut Filled, lists: &mut Lists, slot: u32) -> u32
     requires chain { HasChain nodes.old }
     requires there { IsTakenIn nodes.old slot }
     requires next { IsNextTaken nodes.old slot }

@@ -2,7 +2,7 @@ ghost use Rattle.std.specs.Prelude.{◌<◌};
 ghost use Rattle.vma_tlsf.specs.Inner.Steps.{AreAlike, IsHeld};
 
 use std::alloc::{AllocError, Global};
-use vk_nodes::{Change, Nodes};
+use vk_nodes::{Change, Filled};
 
 /// The bytes of a unit, which sizes are multiples of (profile).
 pub(crate) const UNIT: u64 = 16;
@@ -115,14 +115,13 @@ impl Lists {
     }
 
     /// Puts a free range at the head of its list.
-    pub(crate) fn push(&mut self, nodes: &mut Nodes, slot: u32)
+    pub(crate) fn push(&mut self, nodes: &mut Filled, slot: u32)
         requires { IsHeld nodes.old slot }
         ensures { AreAlike nodes.old nodes.new }
     {
         let list = list_of(nodes.get(slot).size / UNIT);
         let next_free = self.head(list);
-        set_previous_free(nodes, slot, None);
-        set_next_free(nodes, slot, next_free);
+        set_first(nodes, slot, next_free);
         if let Some(next) = next_free {
             set_previous_free(nodes, next, Some(slot));
         }
@@ -130,7 +129,7 @@ impl Lists {
     }
 
     /// Takes a free range out of its list.
-    pub(crate) fn unlink(&mut self, nodes: &mut Nodes, slot: u32)
+    pub(crate) fn unlink(&mut self, nodes: &mut Filled, slot: u32)
         requires { IsHeld nodes.old slot }
         ensures { AreAlike nodes.old nodes.new }
     {
@@ -188,8 +187,17 @@ impl Lists {
     }
 }
 
+/// Lets a range be the first of its list.
+fn set_first(nodes: &mut Filled, slot: u32, next: Option<u32>)
+    requires { IsHeld nodes.old slot }
+    ensures { AreAlike nodes.old nodes.new }
+{
+    let previous = None;
+    nodes.change(slot, Change::Listed { previous, next });
+}
+
 /// Lets a range be before another in its list, where there is such a range.
-fn set_next_free(nodes: &mut Nodes, slot: u32, next_free: Option<u32>)
+fn set_next_free(nodes: &mut Filled, slot: u32, next_free: Option<u32>)
     ensures { AreAlike nodes.old nodes.new }
 {
     if nodes.find(slot).is_some() {
@@ -198,7 +206,7 @@ fn set_next_free(nodes: &mut Nodes, slot: u32, next_free: Option<u32>)
 }
 
 /// Lets a range be after another in its list, where there is such a range.
-fn set_previous_free(nodes: &mut Nodes, slot: u32, previous_free: Option<u32>)
+fn set_previous_free(nodes: &mut Filled, slot: u32, previous_free: Option<u32>)
     ensures { AreAlike nodes.old nodes.new }
 {
     if nodes.find(slot).is_some() {

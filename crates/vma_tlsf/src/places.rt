@@ -10,7 +10,7 @@ ghost use Rattle.vma_tlsf.specs.Inner.Wants.{state_of};
 
 use crate::lists::{Lists, UNIT};
 use vk_model::Kind;
-use vk_nodes::{Node, Nodes, RangeState};
+use vk_nodes::{Filled, Node, RangeState};
 
 /// The bytes of a page, on which no linear and optimal resources lie together, as
 /// `bufferImageGranularity` (profile).
@@ -58,7 +58,8 @@ fn is_of_other_kind(state: RangeState, kind: Kind) -> bool
 
 /// Where a resource of this kind may start in a free range: after the page of a neighbour of the
 /// other kind.
-fn low_end(nodes: &Nodes, node: Node, kind: Kind) -> u64
+#[inline(always)]
+fn low_end(nodes: &Filled, node: Node, kind: Kind) -> u64
     requires chain { HasChain nodes.now }
     requires free { IsFreeNode nodes.now node }
     ensures { result ≡ low_of (seen nodes.now) (range node) kind }
@@ -76,7 +77,8 @@ fn low_end(nodes: &Nodes, node: Node, kind: Kind) -> u64
 
 /// Where a resource of this kind must end in a free range: before the page of a neighbour of the
 /// other kind.
-fn high_end(nodes: &Nodes, node: Node, kind: Kind) -> u64
+#[inline(always)]
+fn high_end(nodes: &Filled, node: Node, kind: Kind) -> u64
     requires chain { HasChain nodes.now }
     requires free { IsFreeNode nodes.now node }
     ensures { result ≡ high_of (seen nodes.now) (range node) kind }
@@ -108,7 +110,8 @@ fn aligned(most: u64, align: u64) -> u64
 }
 
 /// The lowest place in a free range that ends at or below the limit.
-pub(crate) fn place_in(nodes: &Nodes, node: Node, want: Want, limit: u64) -> Option<u64>
+#[inline(always)]
+pub(crate) fn place_in(nodes: &Filled, node: Node, want: Want, limit: u64) -> Option<u64>
     requires block { HasBlock nodes.now limit }
     requires free { IsFreeNode nodes.now node }
     requires request { IsRequest want.size want.align }
@@ -126,7 +129,8 @@ pub(crate) fn place_in(nodes: &Nodes, node: Node, want: Want, limit: u64) -> Opt
 }
 
 /// The place in the range of a slot, if that is free.
-fn place_at(nodes: &Nodes, slot: u32, want: Want, size: u64) -> Option<Place>
+#[inline(always)]
+fn place_at(nodes: &Filled, slot: u32, want: Want, size: u64) -> Option<Place>
     requires block { HasBlock nodes.now size }
     requires request { IsRequest want.size want.align }
     requires bound { want.size < 2 ^ 62 }
@@ -142,7 +146,7 @@ fn place_at(nodes: &Nodes, slot: u32, want: Want, size: u64) -> Option<Place>
 
 /// The place in the first range of the smallest list that suffices for so many bytes.
 pub(crate) fn head_place(
-    nodes: &Nodes,
+    nodes: &Filled,
     lists: &Lists,
     want: Want,
     bytes: u64,
@@ -158,7 +162,7 @@ pub(crate) fn head_place(
 }
 
 /// The place in the first range that has one, from the largest list down.
-pub(crate) fn listed_place(nodes: &Nodes, lists: &Lists, want: Want, size: u64) -> Option<Place>
+pub(crate) fn listed_place(nodes: &Filled, lists: &Lists, want: Want, size: u64) -> Option<Place>
     requires block { HasBlock nodes.now size }
     requires request { IsRequest want.size want.align }
     requires bound { want.size < 2 ^ 62 }
@@ -184,7 +188,7 @@ pub(crate) fn listed_place(nodes: &Nodes, lists: &Lists, want: Want, size: u64) 
 }
 
 /// The lowest place in a range that ends at or below the limit; a taken range has none.
-fn lowest_in(nodes: &Nodes, node: Node, want: Want, limit: u64) -> Option<u64>
+fn lowest_in(nodes: &Filled, node: Node, want: Want, limit: u64) -> Option<u64>
     requires block { HasBlock nodes.now limit }
     requires there { IsNodeOf nodes.now node }
     requires request { IsRequest want.size want.align }
@@ -200,7 +204,7 @@ fn lowest_in(nodes: &Nodes, node: Node, want: Want, limit: u64) -> Option<u64>
 }
 
 /// The lowest place of the block that ends at or below the limit.
-pub(crate) fn lowest_place(nodes: &Nodes, first: u32, want: Want, limit: u64) -> Option<Place>
+pub(crate) fn lowest_place(nodes: &Filled, first: u32, want: Want, limit: u64) -> Option<Place>
     requires block { HasBlockFrom nodes.now first limit }
     requires request { IsRequest want.size want.align }
     requires bound { want.size < 2 ^ 62 }
@@ -224,7 +228,7 @@ pub(crate) fn lowest_place(nodes: &Nodes, first: u32, want: Want, limit: u64) ->
 
 /// A place for a request, if it fits anywhere in the block. A search by size asks for `more` bytes.
 pub(crate) fn find_place(
-    nodes: &Nodes,
+    nodes: &Filled,
     lists: &Lists,
     first: u32,
     want: Want,
@@ -249,7 +253,7 @@ pub(crate) fn find_place(
 }
 
 /// The bytes of the longest free range.
-pub(crate) fn longest_free(nodes: &Nodes, first: u32, size: u64) -> u64
+pub(crate) fn longest_free(nodes: &Filled, first: u32, size: u64) -> u64
     requires { IsBlock size first nodes.now }
     ensures { IsLargestFree size (taken_in nodes.now) result }
 {
@@ -267,7 +271,7 @@ pub(crate) fn longest_free(nodes: &Nodes, first: u32, size: u64) -> u64
 }
 
 /// Whether nothing is taken: the first range is free, and as long as the block.
-pub(crate) fn is_all_free(nodes: &Nodes, first: u32, size: u64) -> bool
+pub(crate) fn is_all_free(nodes: &Filled, first: u32, size: u64) -> bool
     requires { IsBlock size first nodes.now }
     ensures { result ≡ is_none_left (taken_in nodes.now) }
 {
@@ -301,7 +305,7 @@ fn free_bytes(node: Node) -> u64
 }
 
 /// The slot of the range that starts here, by a walk from some range.
-pub(crate) fn slot_from(nodes: &Nodes, some: u32, start: u64) -> u32
+pub(crate) fn slot_from(nodes: &Filled, some: u32, start: u64) -> u32
     requires chain { HasChain nodes.now }
     requires some { IsLive nodes.now some }
     requires there { StartsAt nodes.now start }

@@ -4,22 +4,33 @@ ghost use Rattle.vma_tlsf.specs.Inner.Changes.{IsFresh};
 ghost use Rattle.vma_tlsf.specs.Inner.Steps.{AreAlike, IsHeld, IsAfterHeld, IsRelinked, IsSplit, IsMerged, IsPainted, KeepsHeld};
 
 use std::alloc::AllocError;
-use vk_nodes::{Change, Node, Nodes, RangeState};
+use vk_nodes::{Change, Filled, Node, RangeState};
 
 /// The most slots that are added at once.
-const MOST_ADDED: usize = 64;
+pub(crate) const MOST_ADDED: usize = 64;
 
 /// The most slots that there may be.
 const MOST_SLOTS: usize = 0x4000_0000;
 
 /// A slot of which nothing is held yet. The only error is want of memory.
-pub(crate) fn fresh(nodes: &mut Nodes) -> Result<u32, AllocError>
+#[inline(always)]
+pub(crate) fn fresh(nodes: &mut Filled) -> Result<u32, AllocError>
     ensures alike { AreAlike nodes.old nodes.new }
     ensures fresh { IfOk result (λ slot. IsHeld nodes.new slot × (seen nodes.new slot ≡ None) × (get_or nodes.old slot None ≡ None)) }
 {
-    if let Some(slot) = nodes.take() {
-        return Ok(slot);
+    match nodes.take() {
+        Some(slot) => Ok(slot),
+        None => fresh_of_more(nodes),
     }
+}
+
+/// The same, where more slots are added first.
+#[cold]
+#[inline(never)]
+fn fresh_of_more(nodes: &mut Filled) -> Result<u32, AllocError>
+    ensures alike { AreAlike nodes.old nodes.new }
+    ensures fresh { IfOk result (λ slot. IsHeld nodes.new slot × (seen nodes.new slot ≡ None) × (get_or nodes.old slot None ≡ None)) }
+{
     if nodes.slots() > MOST_SLOTS {
         return Err(AllocError);
     }
@@ -31,7 +42,7 @@ pub(crate) fn fresh(nodes: &mut Nodes) -> Result<u32, AllocError>
 }
 
 /// Two fresh slots, or none where memory is wanting.
-pub(crate) fn two_fresh(nodes: &mut Nodes) -> Option<(u32, u32)>
+pub(crate) fn two_fresh(nodes: &mut Filled) -> Option<(u32, u32)>
     ensures alike { AreAlike nodes.old nodes.new }
     ensures fresh { IfSome result (λ two. IsFresh nodes.new two.0 × IsFresh nodes.new two.1 × (two.0 ≡ two.1 → ⊥)) }
 {
@@ -46,7 +57,7 @@ pub(crate) fn two_fresh(nodes: &mut Nodes) -> Option<(u32, u32)>
 }
 
 /// Lets a range be before another by place, where there is another.
-fn set_before(nodes: &mut Nodes, after: Option<u32>, before: u32)
+fn set_before(nodes: &mut Filled, after: Option<u32>, before: u32)
     requires { IfSome after (λ next. IsHeld nodes.old next) }
     ensures { IsRelinked nodes.old nodes.new after before }
 {
@@ -57,7 +68,7 @@ fn set_before(nodes: &mut Nodes, after: Option<u32>, before: u32)
 
 /// Lets the range of a slot end after `front_size` bytes, and that of a fresh slot begin there.
 pub(crate) fn split(
-    nodes: &mut Nodes,
+    nodes: &mut Filled,
     slot: u32,
     node: Node,
     fresh_slot: u32,
@@ -100,7 +111,7 @@ pub(crate) fn split(
 
 /// Lets the range of a slot reach to the end of the next one, whose slot is given back.
 pub(crate) fn merge(
-    nodes: &mut Nodes,
+    nodes: &mut Filled,
     slot: u32,
     node: Node,
     gone: u32,
@@ -129,7 +140,7 @@ pub(crate) fn merge(
 }
 
 /// Says what the range of a slot is.
-pub(crate) fn paint(nodes: &mut Nodes, slot: u32, node: Node, state: RangeState)
+pub(crate) fn paint(nodes: &mut Filled, slot: u32, node: Node, state: RangeState)
     requires here { get_or nodes.old slot None ≡ Some node }
     requires some { 0 < node.size }
     ensures painted { IsPainted (seen nodes.old) (seen nodes.new) slot (range node) state }

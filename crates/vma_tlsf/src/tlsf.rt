@@ -13,11 +13,11 @@ use crate::lists::Lists;
 use crate::places::{
     Place, Want, find_place, is_all_free, longest_free, lowest_place, slot_from, smaller,
 };
-use crate::steps::fresh;
+use crate::steps::{MOST_ADDED, fresh};
 use std::alloc::{AllocError, Global};
 use std::marker::Model;
 use vk_model::{Kind, SubFault, Suballoc, TakenRange};
-use vk_nodes::{Node, Nodes, RangeState};
+use vk_nodes::{Filled, Node, RangeState};
 
 /// What a search of a block for resources of both kinds asks for more: two pages, in bytes.
 const TWO_PAGES: u64 = 2048;
@@ -35,11 +35,11 @@ pub struct Tlsf {
     size: u64,
     /// What a search asks for beyond the size and the alignment, in bytes.
     more: u64,
-    nodes: Nodes,
+    nodes: Filled,
     /// The slot of the range that starts at 0.
     first: u32,
     lists: Lists,
-    /// For each 256 bytes a slot whose range is likely to be near.
+    /// For each 256 bytes, as far as ranges were taken, a slot whose range is likely to be near.
     near: Vec<u32>,
 }
 
@@ -85,9 +85,8 @@ impl Tlsf {
         requires more { more ≤ 2048 }
         ensures { IfOk result (λ t. t ≡ record { size = size; taken = [] }) }
     {
-        let near = vec![in alloc; 0; (size / NEAR + 1) as usize]?;
         let mut lists = Lists::new(alloc)?;
-        let mut nodes = Nodes::new(alloc);
+        let mut nodes = Filled::new(alloc, MOST_ADDED)?;
         let first = fresh(&mut nodes)?;
         nodes.set(first, whole(size));
         lists.push(&mut nodes, first);
@@ -98,7 +97,7 @@ impl Tlsf {
             nodes,
             first,
             lists,
-            near,
+            near: Vec::new(alloc),
         })
     }
 
@@ -205,7 +204,7 @@ impl Suballoc for Tlsf {
     fn free(&mut self, start: u64) {
         let slot = slot_near(&self.nodes, &self.near, self.first, start);
         let joined = release(&mut self.nodes, &mut self.lists, slot);
-        set_near(&mut self.near, start, joined);
+        set_near_freed(&mut self.near, start, slot, joined);
     }
 
     fn largest_free(&self) -> u64 {
@@ -215,7 +214,7 @@ impl Suballoc for Tlsf {
 
 /// Takes a place that was found.
 fn take(
-    nodes: &mut Nodes,
+    nodes: &mut Filled,
     lists: &mut Lists,
     near: &mut Vec<u32>,
     found: Option<Place>,
@@ -240,13 +239,59 @@ fn take(
 
 /// Remembers a slot whose range is near a start.
 fn set_near(near: &mut Vec<u32>, start: u64, slot: u32) {
-    if let Some(place) = near.get_mut((start / NEAR) as usize) {
-        *place = slot;
+    let place = (start / NEAR) as usize;
+    if place >= near.len() {
+        reach(near, place);
+    }
+    if let Some(remembered) = near.get_mut(place) {
+        *remembered = slot;
     }
 }
 
+/// Remembers the slot of a range that is free now, unless a range before it took it in: that one may
+/// start far from here.
+fn set_near_freed(near: &mut Vec<u32>, start: u64, slot: u32, joined: u32) {
+    if joined == slot {
+        set_near(near, start, slot);
+    }
+}
+
+/// Lets there be a place for a slot that is remembered, unless memory is wanting.
+#[cold]
+#[inline(never)]
+fn reach(near: &mut Vec<u32>, place: usize) {
+    let _ = near.resize(place.saturating_add(1), 0);
+}
+
 /// The slot of the range that starts here.
-fn slot_near(nodes: &Nodes, near: &Vec<u32>, first: u32, start: u64) -> u32
+fn slot_near(nodes: &Filled, near: &Vec<u32>, first: u32, start: u64) -> u32
+    requires chain { HasChain nodes.now }
+    requires first { IsLive nodes.now first }
+    requires there { StartsAt nodes.now start }
+    ensures { IsSlotAt nodes.now result start }
+{
+    match slot_here(nodes, near, start) {
+        Some(slot) => slot,
+        None => slot_around(nodes, near, first, start),
+    }
+}
+
+/// The slot that is remembered for a start, if its range starts there.
+fn slot_here(nodes: &Filled, near: &Vec<u32>, start: u64) -> Option<u32>
+    ensures { IfSome result (λ slot. IsSlotAt nodes.now slot start) }
+{
+    let slot = *near.get((start / NEAR) as usize)?;
+    let node = nodes.find(slot)?;
+    if node.size > 0 && node.start == start {
+        Some(slot)
+    } else {
+        None
+    }
+}
+
+/// The slot of the range that starts here, by a walk from the nearest one that is remembered.
+#[inline(never)]
+fn slot_around(nodes: &Filled, near: &Vec<u32>, first: u32, start: u64) -> u32
     requires chain { HasChain nodes.now }
     requires first { IsLive nodes.now first }
     requires there { StartsAt nodes.now start }
@@ -261,7 +306,7 @@ fn slot_near(nodes: &Nodes, near: &Vec<u32>, first: u32, start: u64) -> u32
 }
 
 /// The slot that is remembered here, if its range is still near.
-fn remembered(nodes: &Nodes, near: &Vec<u32>, place: u64) -> Option<u32>
+fn remembered(nodes: &Filled, near: &Vec<u32>, place: u64) -> Option<u32>
     ensures { IfSome result (λ slot. IsLive nodes.now slot) }
 {
     let slot = *near.get(place as usize)?;
@@ -289,7 +334,7 @@ fn whole(size: u64) -> Node
 }
 
 /// The ranges that are taken, by slot.
-fn ranges_of(alloc: Global, nodes: &Nodes) -> Result<Vec<TakenRange>, AllocError>
+fn ranges_of(alloc: Global, nodes: &Filled) -> Result<Vec<TakenRange>, AllocError>
     ensures { IfOk result (λ ranges. map taken_of ranges.items ≡ taken_in nodes.now) }
 {
     let mut ranges = Vec::new(alloc);
@@ -302,7 +347,7 @@ fn ranges_of(alloc: Global, nodes: &Nodes) -> Result<Vec<TakenRange>, AllocError
 }
 
 /// What is taken by the range of a slot, if there is one and it is taken.
-fn range_of_slot(nodes: &Nodes, slot: u32) -> Option<TakenRange>
+fn range_of_slot(nodes: &Filled, slot: u32) -> Option<TakenRange>
     ensures { IsTakenHere nodes.now slot result }
 {
     let node = nodes.find(slot)?;
