@@ -11,6 +11,9 @@ use std::marker::Model;
 /// How many records there are at first, at least.
 const FIRST: usize = 16;
 
+/// Memory for fewer slots than this grows to four times as many.
+const SMALL: usize = 4_096;
+
 /// The most records that there can be, each named by 32 bits.
 const MOST: usize = u32::MAX as usize;
 
@@ -70,7 +73,7 @@ impl Filled {
     }
 
     /// Adds free slots after those that there are. The only error is want of memory, and changes
-    /// nothing. The memory doubles when it grows, so many small steps copy each slot a few times.
+    /// nothing. The memory grows to a multiple, so many small steps copy each slot a few times.
     pub fn reserve(&mut self, more: usize) -> Result<(), AllocError>
         requires { length self.old + more < 2 ^ 32 }
         ensures ok { IsOk result → self.new ≡ self.old ++ replicate more None }
@@ -79,7 +82,7 @@ impl Filled {
         let slots = self.slots + more;
         let size = self.store.size();
         if slots > size {
-            self.store = self.store.longer(slots.max((2 * size).min(MOST)))?;
+            self.store = self.store.longer(slots.max(grown(size)))?;
         }
         self.slots = slots;
         Ok(())
@@ -149,4 +152,14 @@ impl Filled {
     {
         self.store.change(slot as usize, change);
     }
+}
+
+/// To how many slots the memory of so many grows: small ones to four times as many, since what is left
+/// behind is memory that was touched for a short time.
+fn grown(size: usize) -> usize
+    requires { size < 2 ^ 32 }
+    ensures { result < 2 ^ 32 }
+{
+    let times = if size < SMALL { 4 } else { 2 };
+    (times * size).min(MOST)
 }

@@ -23,7 +23,7 @@ use vk_nodes::{Filled, Node, RangeState};
 const TWO_PAGES: u64 = 2048;
 
 /// The bytes for which one slot that is likely to be near is remembered.
-const NEAR: u64 = 256;
+const NEAR: u64 = 512;
 
 /// How far from these bytes the range of that slot may start.
 const MOST_APART: u64 = 1024;
@@ -39,7 +39,7 @@ pub struct Tlsf {
     /// The slot of the range that starts at 0.
     first: u32,
     lists: Lists,
-    /// For each 256 bytes, as far as ranges were taken, a slot whose range is likely to be near.
+    /// For each 512 bytes, as far as ranges were taken, a slot whose range is likely to be near.
     near: Vec<u32>,
 }
 

@@ -10,7 +10,7 @@ invariant_of-self c =
       | then-slots-size+in_ok-self-inside w ↦
           let more : c.self.inside.slots + c.args.more ≤ w.max.result = omega (arith, w.max.ensures) in
           let le : length c.self.inside.store.nodes ≤ w.max.result = omega (arith, more, w.if-slots-size.true, c.size-size.ensures) in
-          let few : w.max.result < 2 ^ 32 = omega (arith, w.max.ensures, w.min.ensures, c.requires, long) in
+          let few : w.max.result < 2 ^ 32 = omega (arith, w.max.ensures, w.grown.ensures, c.requires, long) in
           grown-filled _ _ c.self.view_is i c.args.more w.in_ok-self-inside.field-0 w.max.result _ w.self-inside-is w.in_ok-self-inside.ensures.nodes w.in_ok-self-inside.ensures.names le more few
       | else-slots-size w ↦ kept-filled _ _ c.self.view_is i c.args.more _ w.self-inside-is (omega (arith, w.if-slots-size.false, c.size-size.ensures))
     ]
