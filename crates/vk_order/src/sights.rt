@@ -115,7 +115,7 @@ impl Sight {
     }
 
     /// How many nodes of a line have their writes known to the node by what answers for an access.
-    fn known(&self, line: Line, access: Access) -> usize
+    pub(crate) fn known(&self, line: Line, access: Access) -> usize
         ensures { result ≡ count_in (if self.now.is_host then OnHost (access_of access) else Visible (access_of access)) (counts_on self.now.lines.items self.now.front.counts.items line) }
     {
         let counts = self.counts(line);

@@ -1,0 +1,50 @@
+ghost use Rattle.std.specs.Prelude.{◌≡◌, ℕ, true};
+ghost use Rattle.vk_model.specs.World.Bytes as world;
+ghost use Rattle.vk_order.specs.declared.parts.Spot.{Spot as AnySpot};
+ghost use Rattle.vk_order.specs.SeenWrites.{SaysSeen};
+ghost use Rattle.vk_order.specs.Shown.{is_among};
+ghost use Rattle.vk_order.specs.Inner.Clocks.{same_line};
+
+use crate::access::Access;
+use crate::frontier::Frontier;
+use crate::lines::Line;
+use crate::parts::Spot;
+use crate::sights::Sight;
+
+/// The first nodes of a line, of which all writes are seen.
+#[derive(Clone, Copy)]
+pub struct Shown {
+    /// The line.
+    pub(crate) line: Line,
+    /// How many nodes of it.
+    pub(crate) count: usize,
+}
+
+impl Shown {
+    /// Whether the line is this one.
+    pub fn is_of(self, line: Line) -> bool
+        ensures { result ≡ same_line self.line line }
+    {
+        self.line.is(line)
+    }
+
+    /// Whether the node of a spot is one of them.
+    pub fn has(self, write: Spot) -> bool
+        ensures { result ≡ is_among self write }
+    {
+        self.line.is(write.line) && write.place < self.count
+    }
+}
+
+impl Frontier {
+    /// The first nodes of a line of which an access of any byte by the node that a sight is of sees
+    /// the writes, and those that `is_seen` would look no further for.
+    pub fn shown(&self, sight: &Sight, line: Line, access: Access) -> Shown
+        ensures { (write : AnySpot) (from : ℕ) (b : world.Byte) → is_among result write ≡ true → SaysSeen self.now sight.now write from access b true }
+    {
+        Shown {
+            line,
+            count: sight.known(line, access),
+        }
+    }
+}
