@@ -1,5 +1,6 @@
 -- What is found wrong with the bytes that a point accesses.
 use Rattle.std.specs.Prelude.{◌≡◌, ◌⊎◌, ◌≤◌, ◌<◌, ◌+◌, ◌*◌, ◌∷◌, ◌||◌, ◌&&◌, ℕ, List, Bool, true, false, not, Contains, slice_get, is_some, Option, Some, None}
+use Rattle.vk_model.specs.World.Bytes.{Byte}
 use Rattle.vk_model.specs.Trace.Point.{Past, Point}
 use Rattle.vk_model.specs.Sync.Node.{Node, nodes}
 use Rattle.vk_model.specs.Sync.Before.{before}
@@ -7,11 +8,14 @@ use Rattle.vk_model.specs.Rules.Hazards.{breaks_hazard_war, breaks_hazard_raw, b
 use Rattle.vk_image_bytes.specs.declared.ranges.ByteRanges.{ByteRanges}
 use Rattle.vk_order.specs.Lines.{line_of}
 use Rattle.vk_order.specs.SeenWrites as order
+use Rattle.vk_order.specs.Shown.{is_among}
 use Rattle.vk_order.specs.Frontiers.{IsFrontier, IsSight}
 use Rattle.vk_order.specs.Inner.Clocks.{place}
 use Rattle.vk_order.specs.declared.access.Access.{Access}
 use Rattle.vk_order.specs.declared.lines.Line.{Line}
 use Rattle.vk_order.specs.declared.lines.Line.TheVariants.{Host as OfHost, Commands as OfCommands}
+use Rattle.vk_order.specs.declared.parts.Spot.{Spot as Placed}
+use Rattle.vk_order.specs.declared.shown.Shown.{Shown}
 use Rattle.vk_order.specs.declared.sights.Sight.{Sight}
 use Rattle.vk_touches.specs.declared.accesses.ResourceAccess.{ResourceAccess}
 use Rattle.vk_touches.specs.declared.bytes.Bytes.{Bytes}
@@ -34,6 +38,10 @@ pub record IsAccess (past : Past) (s : Sight) (b : Bytes) (kind : Access) (x : R
 -- Of the write of byte k of the resource by the node of a spot: whether the access sees it.
 abbrev pub SaysSeen : ResourceAccess → ℕ → Bool → Spot → Type 0
 SaysSeen x k answer w = order.SaysSeen x.frontier.now x.sight.now (record { line = w.line; place = w.place }) w.number x.access (numbered_byte x.bytes k) answer
+
+-- Each write by one of these nodes is seen.
+abbrev pub AreSeen : ResourceAccess → Shown → Type 0
+AreSeen x shown = (w : Placed) (from : ℕ) (b : Byte) → is_among shown w ≡ true → order.SaysSeen x.frontier.now x.sight.now w from x.access b true
 
 -- The same where the access is a transition's, by what is known at its element.
 abbrev pub SaysSeenAt : TransitionAccess → ℕ → Bool → Spot → Type 0

@@ -1,13 +1,13 @@
 ghost use Rattle.std.specs.Prelude.{◌<◌, ◌≤◌, ℕ, length, not};
 ghost use Rattle.vk_touches.specs.Bytes.{HaveNumbers};
-ghost use Rattle.vk_touches.specs.Conflicts.{FoundAt, IsRefused, Misses, MissesFlush, MissesHostWrite, MissesRead, MissesWrite, SaysSeen, SeesWrite, SomeBetween};
+ghost use Rattle.vk_touches.specs.Conflicts.{AreSeen, FoundAt, IsRefused, Misses, MissesFlush, MissesHostWrite, MissesRead, MissesWrite, SaysSeen, SeesWrite, SomeBetween};
 ghost use Rattle.vk_touches.specs.TouchMaps.{without_host_read};
 
 use crate::bytes::Bytes;
 use crate::map::TouchMap;
 use crate::others::OtherTouches;
 use crate::touches::Spot;
-use vk_order::{Access, Frontier, SeenUntil, Sight};
+use vk_order::{Access, Frontier, Line, SeenUntil, Shown, Sight};
 
 /// How the node of a point that comes next accesses a resource, and what it sees.
 #[derive(Clone, Copy)]
@@ -31,8 +31,10 @@ impl ResourceAccess<'_> {
         requires numbers { HaveNumbers self.now.bytes high }
         ensures { FoundAt (Misses is_cached self.now) result touches.now low high }
     {
+        let mut shown = self.frontier.shown(self.sight, Line::Host, self.access);
         for run in touches.others.overlapping(low, high) {
-            if self.misses(run.start, run.end, run.value, is_cached) {
+            shown = self.shown_for(run.value, shown);
+            if self.misses(run.start, run.end, run.value, is_cached, shown) {
                 return true;
             }
         }
@@ -46,8 +48,10 @@ impl ResourceAccess<'_> {
         requires numbers { HaveNumbers self.now.bytes high }
         ensures { FoundAt (MissesWrite self.now) result touches.now low high }
     {
+        let mut shown = self.frontier.shown(self.sight, Line::Host, self.access);
         for run in touches.others.overlapping(low, high) {
-            if self.misses_write(run.start, run.end, run.value.write) {
+            shown = self.shown_for(run.value, shown);
+            if self.misses_write(run.start, run.end, run.value.write, shown) {
                 return true;
             }
         }
@@ -61,60 +65,101 @@ impl ResourceAccess<'_> {
         requires numbers { HaveNumbers self.now.bytes high }
         ensures { FoundAt (MissesRead is_cached self.now) result touches.now low high }
     {
+        let mut shown = self.frontier.shown(self.sight, Line::Host, self.access);
         for run in touches.others.overlapping(low, high) {
-            if self.misses_read(run.start, run.end, run.value, is_cached) {
+            shown = self.shown_for(run.value, shown);
+            if self.misses_read(run.start, run.end, run.value, is_cached, shown) {
                 return true;
             }
         }
         false
     }
 
+    /// The first nodes of a line as far as all their writes are seen: of the line of the last write by
+    /// a command, where there is one. Most other writes are on the same line.
+    fn shown_for(&self, last: &OtherTouches, shown: Shown) -> Shown
+        requires { AreSeen self.now shown }
+        ensures { AreSeen self.now result }
+    {
+        match last.write {
+            Some(write) if !shown.is_of(write.line) => {
+                self.frontier.shown(self.sight, write.line, self.access)
+            }
+            _ => shown,
+        }
+    }
+
     /// Whether of some byte from `low` on and below `high` the last write by a command or by the
     /// host or the last transition, which are the same for all of them, isn't seen.
-    fn misses(&self, low: u64, high: u64, last: &OtherTouches, is_cached: bool) -> bool
-        requires { HaveNumbers self.now.bytes high }
+    fn misses(
+        &self,
+        low: u64,
+        high: u64,
+        last: &OtherTouches,
+        is_cached: bool,
+        shown: Shown,
+    ) -> bool
+        requires numbers { HaveNumbers self.now.bytes high }
+        requires shown { AreSeen self.now shown }
         ensures { SomeBetween (λ k r. Misses is_cached self.now k r (without_host_read last.now)) result low high }
     {
-        self.misses_write(low, high, last.write)
-            || self.misses_host_write(low, high, last, is_cached)
-            || self.misses_write(low, high, last.transition)
+        self.misses_write(low, high, last.write, shown)
+            || self.misses_host_write(low, high, last, is_cached, shown)
+            || self.misses_write(low, high, last.transition, shown)
     }
 
     /// The same of the last write by the host.
-    fn misses_host_write(&self, low: u64, high: u64, last: &OtherTouches, is_cached: bool) -> bool
-        requires { HaveNumbers self.now.bytes high }
+    fn misses_host_write(
+        &self,
+        low: u64,
+        high: u64,
+        last: &OtherTouches,
+        is_cached: bool,
+        shown: Shown,
+    ) -> bool
+        requires numbers { HaveNumbers self.now.bytes high }
+        requires shown { AreSeen self.now shown }
         ensures { SomeBetween (λ k r. MissesHostWrite is_cached self.now k r (without_host_read last.now)) result low high }
     {
         if is_cached {
-            self.misses_flush(low, high, last)
+            self.misses_flush(low, high, last, shown)
         } else {
-            self.misses_write(low, high, last.host_write)
+            self.misses_write(low, high, last.host_write, shown)
         }
     }
 
     /// The same of the last write by the host to cached memory.
-    fn misses_flush(&self, low: u64, high: u64, last: &OtherTouches) -> bool
-        requires { HaveNumbers self.now.bytes high }
+    fn misses_flush(&self, low: u64, high: u64, last: &OtherTouches, shown: Shown) -> bool
+        requires numbers { HaveNumbers self.now.bytes high }
+        requires shown { AreSeen self.now shown }
         ensures { SomeBetween (λ k r. MissesFlush self.now k r (without_host_read last.now)) result low high }
     {
         if last.host_write.is_none() {
             return false;
         }
         match last.flush {
-            Some(flush) => self.is_some_unseen(low, high, flush),
+            Some(flush) => self.is_some_unseen(low, high, flush, shown),
             None => low < high,
         }
     }
 
     /// Whether of some byte the last write by a command isn't read by the host.
-    fn misses_read(&self, low: u64, high: u64, last: &OtherTouches, is_cached: bool) -> bool
-        requires { HaveNumbers self.now.bytes high }
+    fn misses_read(
+        &self,
+        low: u64,
+        high: u64,
+        last: &OtherTouches,
+        is_cached: bool,
+        shown: Shown,
+    ) -> bool
+        requires numbers { HaveNumbers self.now.bytes high }
+        requires shown { AreSeen self.now shown }
         ensures { SomeBetween (λ k r. MissesRead is_cached self.now k r (without_host_read last.now)) result low high }
     {
         if is_cached {
             low < high && last.write.is_some() && !last.is_invalidated
         } else {
-            self.misses_write(low, high, last.write)
+            self.misses_write(low, high, last.write, shown)
         }
     }
 
@@ -162,29 +207,32 @@ impl ResourceAccess<'_> {
     }
 
     /// The same of one write.
-    fn misses_write(&self, low: u64, high: u64, last: Option<Spot>) -> bool
-        requires { HaveNumbers self.now.bytes high }
+    fn misses_write(&self, low: u64, high: u64, last: Option<Spot>, shown: Shown) -> bool
+        requires numbers { HaveNumbers self.now.bytes high }
+        requires shown { AreSeen self.now shown }
         ensures { SomeBetween (λ k r. IsRefused (SaysSeen self.now k) r last) result low high }
     {
         match last {
-            Some(write) => self.is_some_unseen(low, high, write),
+            Some(write) => self.is_some_unseen(low, high, write, shown),
             None => false,
         }
     }
 
     /// Whether the write of some byte by the node of a spot isn't seen.
-    fn is_some_unseen(&self, low: u64, high: u64, write: Spot) -> bool
-        requires { HaveNumbers self.now.bytes high }
+    fn is_some_unseen(&self, low: u64, high: u64, write: Spot, shown: Shown) -> bool
+        requires numbers { HaveNumbers self.now.bytes high }
+        requires shown { AreSeen self.now shown }
         ensures { SomeBetween (λ k r. SaysSeen self.now k (not r) write) result low high }
     {
-        if low >= high {
+        let spot = write.in_line();
+        if low >= high || shown.has(spot) {
             return false;
         }
         let from = write.number;
         let run = self.bytes.units(low, high);
         let unseen = self.frontier.first_unseen(
             self.sight,
-            write.in_line(),
+            spot,
             from,
             run.units,
             run.low,

@@ -8,16 +8,16 @@ pub overlapping-run-items-requires-clause-within : goal.overlapping-run-items-re
 overlapping-run-items-requires-clause-within c = omega (arith, others_len c.touches.inside.others c.touches.inside.host_reads c.args.touches.now c.touches.invariant c.touches.view_is)
 
 pub loop-run-init : goal.loop-run-init
-loop-run-init c = others_start (Misses c.args.is_cached c.args.self.now) c.args.touches.now c.args.low c.args.high c.touches.inside.others c.touches.inside.host_reads c.touches.invariant c.touches.view_is _ (rw c.into_iter-run-iterator.ensures.into_iter_gives c.overlapping-run-items.ensures)
+loop-run-init c = record { searched = others_start (Misses c.args.is_cached c.args.self.now) c.args.touches.now c.args.low c.args.high c.touches.inside.others c.touches.inside.host_reads c.touches.invariant c.touches.view_is _ (rw c.into_iter-run-iterator.ensures.into_iter_gives c.overlapping-run-items.ensures); shown = c.shown-shown.ensures }
 
-pub misses-requires : goal.misses-requires
-misses-requires c = fewer_numbers c.args.self.now.bytes _ c.args.high (others_within (Misses c.args.is_cached c.args.self.now) c.args.touches.now c.args.low c.args.high _ c.loop-run.invariant _ _ c.in-Some.ensures.steps) c.requires.numbers
+pub misses-requires-clause-numbers : goal.misses-requires-clause-numbers
+misses-requires-clause-numbers c = fewer_numbers c.args.self.now.bytes _ c.args.high (others_within (Misses c.args.is_cached c.args.self.now) c.args.touches.now c.args.low c.args.high _ c.loop-run.invariant.searched _ _ c.in-Some.ensures.steps) c.requires.numbers
 
 pub loop-run-preserved : goal.loop-run-preserved
-loop-run-preserved c = others_next (Misses c.args.is_cached c.args.self.now) c.args.touches.now c.args.low c.args.high _ c.loop-run.invariant _ _ c.in-Some.ensures.steps _ c.misses.ensures c.if-misses.false
+loop-run-preserved c = record { searched = others_next (Misses c.args.is_cached c.args.self.now) c.args.touches.now c.args.low c.args.high _ c.loop-run.invariant.searched _ _ c.in-Some.ensures.steps _ c.misses.ensures c.if-misses.false; shown = c.shown_for-shown.ensures }
 
 pub returns-then-misses : goal.returns-then-misses
-returns-then-misses c = others_found (Misses c.args.is_cached c.args.self.now) c.args.touches.now c.args.low c.args.high _ c.loop-run.invariant _ _ c.in-Some.ensures.steps _ c.misses.ensures (missed_alike c.args.is_cached c.args.self.now) c.if-misses.true
+returns-then-misses c = others_found (Misses c.args.is_cached c.args.self.now) c.args.touches.now c.args.low c.args.high _ c.loop-run.invariant.searched _ _ c.in-Some.ensures.steps _ c.misses.ensures (missed_alike c.args.is_cached c.args.self.now) c.if-misses.true
 
 pub returns : goal.returns
-returns c = others_end (Misses c.args.is_cached c.args.self.now) c.args.touches.now c.args.low c.args.high _ c.loop-run.invariant (missed_alike c.args.is_cached c.args.self.now) c.in-None.ensures.steps.0
+returns c = others_end (Misses c.args.is_cached c.args.self.now) c.args.touches.now c.args.low c.args.high _ c.loop-run.invariant.searched (missed_alike c.args.is_cached c.args.self.now) c.in-None.ensures.steps.0

@@ -8,16 +8,16 @@ pub overlapping-run-items-requires-clause-within : goal.overlapping-run-items-re
 overlapping-run-items-requires-clause-within c = omega (arith, others_len c.touches.inside.others c.touches.inside.host_reads c.args.touches.now c.touches.invariant c.touches.view_is)
 
 pub loop-run-init : goal.loop-run-init
-loop-run-init c = others_start (MissesWrite c.args.self.now) c.args.touches.now c.args.low c.args.high c.touches.inside.others c.touches.inside.host_reads c.touches.invariant c.touches.view_is _ (rw c.into_iter-run-iterator.ensures.into_iter_gives c.overlapping-run-items.ensures)
+loop-run-init c = record { searched = others_start (MissesWrite c.args.self.now) c.args.touches.now c.args.low c.args.high c.touches.inside.others c.touches.inside.host_reads c.touches.invariant c.touches.view_is _ (rw c.into_iter-run-iterator.ensures.into_iter_gives c.overlapping-run-items.ensures); shown = c.shown-shown.ensures }
 
-pub misses_write-requires : goal.misses_write-requires
-misses_write-requires c = fewer_numbers c.args.self.now.bytes _ c.args.high (others_within (MissesWrite c.args.self.now) c.args.touches.now c.args.low c.args.high _ c.loop-run.invariant _ _ c.in-Some.ensures.steps) c.requires.numbers
+pub misses_write-requires-clause-numbers : goal.misses_write-requires-clause-numbers
+misses_write-requires-clause-numbers c = fewer_numbers c.args.self.now.bytes _ c.args.high (others_within (MissesWrite c.args.self.now) c.args.touches.now c.args.low c.args.high _ c.loop-run.invariant.searched _ _ c.in-Some.ensures.steps) c.requires.numbers
 
 pub loop-run-preserved : goal.loop-run-preserved
-loop-run-preserved c = others_next (MissesWrite c.args.self.now) c.args.touches.now c.args.low c.args.high _ c.loop-run.invariant _ _ c.in-Some.ensures.steps _ c.misses_write.ensures c.if-misses_write.false
+loop-run-preserved c = record { searched = others_next (MissesWrite c.args.self.now) c.args.touches.now c.args.low c.args.high _ c.loop-run.invariant.searched _ _ c.in-Some.ensures.steps _ c.misses_write.ensures c.if-misses_write.false; shown = c.shown_for-shown.ensures }
 
 pub returns-then-misses_write : goal.returns-then-misses_write
-returns-then-misses_write c = others_found (MissesWrite c.args.self.now) c.args.touches.now c.args.low c.args.high _ c.loop-run.invariant _ _ c.in-Some.ensures.steps _ c.misses_write.ensures (λ k r t h m. m) c.if-misses_write.true
+returns-then-misses_write c = others_found (MissesWrite c.args.self.now) c.args.touches.now c.args.low c.args.high _ c.loop-run.invariant.searched _ _ c.in-Some.ensures.steps _ c.misses_write.ensures (λ k r t h m. m) c.if-misses_write.true
 
 pub returns : goal.returns
-returns c = others_end (MissesWrite c.args.self.now) c.args.touches.now c.args.low c.args.high _ c.loop-run.invariant (λ k r t h m. m) c.in-None.ensures.steps.0
+returns c = others_end (MissesWrite c.args.self.now) c.args.touches.now c.args.low c.args.high _ c.loop-run.invariant.searched (λ k r t h m. m) c.in-None.ensures.steps.0

@@ -1,7 +1,10 @@
 use Rattle.vk_ranges.specs.Overlaps.{pieces_left}
-use Rattle.vk_touches.specs.Conflicts.{MissesWrite}
+use Rattle.vk_touches.specs.Conflicts.{AreSeen, MissesWrite}
 use Rattle.vk_touches.proofs.TouchMaps.{AreSearched}
 use Rattle.vk_touches.proofs.accesses.ResourceAccess.misses_some_write.Given as goal
 
 abbrev pub invariant-loop-run : goal.invariant-loop-run
-invariant-loop-run l = AreSearched (MissesWrite l.self) l.touches l.low l.high (pieces_left l.run-iterator)
+invariant-loop-run l = record {
+  searched : AreSearched (MissesWrite l.self) l.touches l.low l.high (pieces_left l.run-iterator);
+  shown : AreSeen l.self l.shown;
+}
