@@ -62,6 +62,7 @@ impl Line {
     }
 
     /// Whether two lines are the same one.
+    #[inline(always)]
     pub fn is(self, other: Line) -> bool
         ensures { result ≡ same_line self other }
     {

@@ -22,6 +22,7 @@ pub struct Shown {
 
 impl Shown {
     /// Whether the line is this one.
+    #[inline(always)]
     pub fn is_of(self, line: Line) -> bool
         ensures { result ≡ same_line self.line line }
     {
@@ -29,6 +30,7 @@ impl Shown {
     }
 
     /// Whether the node of a spot is one of them.
+    #[inline(always)]
     pub fn has(self, write: Spot) -> bool
         ensures { result ≡ is_among self write }
     {

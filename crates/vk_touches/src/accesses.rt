@@ -77,6 +77,7 @@ impl ResourceAccess<'_> {
 
     /// The first nodes of a line as far as all their writes are seen: of the line of the last write by
     /// a command, where there is one. Most other writes are on the same line.
+    #[inline(always)]
     fn shown_for(&self, last: &OtherTouches, shown: Shown) -> Shown
         requires { AreSeen self.now shown }
         ensures { AreSeen self.now result }
