@@ -13,7 +13,7 @@ use Rattle.vk_touches.specs.declared.touches.Spot.{Spot}
 use Rattle.vk_touches.specs.declared.touches.Touch.{Touch}
 use Rattle.vk_touches.specs.declared.touches.Touch.TheVariants as touch
 use Rattle.vk_touches.specs.declared.transitions.TransitionAccess.{TransitionAccess}
-use Rattle.vk_touches.specs.Conflicts.{FoundAt, FoundIn, IsEarly, Misses, MissesAt, MissesHostWrite, MissesRead, SeesWrite, SomeBetween}
+use Rattle.vk_touches.specs.Conflicts.{FoundAt, FoundIn, IsEarly, Misses, MissesAt, MissesHostWrite, SeesWrite, SomeBetween}
 use Rattle.vk_touches.specs.Remembered.{with_touch, with_invalidation}
 use Rattle.vk_touches.specs.TouchedRanges.{AreInvalidated}
 use Rattle.vk_touches.specs.TouchMaps.{with_host_read, without_host_read, others_of, all_remembered}
@@ -107,10 +107,6 @@ with_other_touch touch.HostRead ne s t h = absurd (ne refl)
 with_other_touch (touch.Read q) ne s t h = refl
 
 -- ---- what the host's reads have no part in
-
-pub read_alike : (cached : Bool) (x : ResourceAccess) (k : ℕ) (r : Bool) (t : OtherTouches) (h : Option ℕ) → MissesRead cached x k r (without_host_read t) → MissesRead cached x k r (with_host_read t h)
-read_alike false x k r t h m = m
-read_alike true x k r t h m = m
 
 pub sees_alike : (x : ResourceAccess) (k : ℕ) (r : Bool) (t : OtherTouches) (h : Option ℕ) → SeesWrite x k r (without_host_read t) → SeesWrite x k r (with_host_read t h)
 sees_alike x k r t h m = record { none = m.none; some = m.some }

@@ -1,4 +1,4 @@
-ghost use Rattle.std.specs.Prelude.{◌<◌, ◌≤◌, ℕ, length, not};
+ghost use Rattle.std.specs.Prelude.{◌≡◌, ◌<◌, ◌≤◌, ℕ, Bool, true, false, length, not};
 ghost use Rattle.vk_touches.specs.Bytes.{HaveNumbers};
 ghost use Rattle.vk_touches.specs.Conflicts.{AreSeen, FoundAt, IsRefused, Misses, MissesFlush, MissesHostWrite, MissesRead, MissesWrite, SaysSeen, SeesWrite, SomeBetween};
 ghost use Rattle.vk_touches.specs.TouchMaps.{without_host_read};
@@ -33,9 +33,11 @@ impl ResourceAccess<'_> {
     {
         let mut shown = self.frontier.shown(self.sight, Line::Host, self.access);
         for run in touches.others.overlapping(low, high) {
-            shown = self.shown_for(run.value, shown);
-            if self.misses(run.start, run.end, run.value, is_cached, shown) {
-                return true;
+            if !self.are_among(run.value, shown) {
+                shown = self.shown_for(run.value, shown);
+                if self.misses(run.start, run.end, run.value, is_cached, shown) {
+                    return true;
+                }
             }
         }
         false
@@ -50,9 +52,11 @@ impl ResourceAccess<'_> {
     {
         let mut shown = self.frontier.shown(self.sight, Line::Host, self.access);
         for run in touches.others.overlapping(low, high) {
-            shown = self.shown_for(run.value, shown);
-            if self.misses_write(run.start, run.end, run.value.write, shown) {
-                return true;
+            if !self.is_among(run.value.write, shown) {
+                shown = self.shown_for(run.value, shown);
+                if self.misses_write(run.start, run.end, run.value.write, shown) {
+                    return true;
+                }
             }
         }
         false
@@ -65,14 +69,33 @@ impl ResourceAccess<'_> {
         requires numbers { HaveNumbers self.now.bytes high }
         ensures { FoundAt (MissesRead is_cached self.now) result touches.now low high }
     {
-        let mut shown = self.frontier.shown(self.sight, Line::Host, self.access);
-        for run in touches.others.overlapping(low, high) {
-            shown = self.shown_for(run.value, shown);
-            if self.misses_read(run.start, run.end, run.value, is_cached, shown) {
-                return true;
-            }
+        if is_cached {
+            touches.has_stale(low, high)
+        } else {
+            self.misses_some_write(touches, low, high)
         }
-        false
+    }
+
+    /// Whether each last write, and the last transition, is none or by one of the nodes all of whose
+    /// writes are seen. It says so of a write by a command alone.
+    #[inline(always)]
+    fn are_among(&self, last: &OtherTouches, shown: Shown) -> bool
+        requires { AreSeen self.now shown }
+        ensures { result ≡ true → (is_cached : Bool) (k : ℕ) → Misses is_cached self.now k false (without_host_read last.now) }
+    {
+        last.host_write.is_none() && last.transition.is_none() && self.is_among(last.write, shown)
+    }
+
+    /// Whether there is no such write, or it is by one of the nodes all of whose writes are seen.
+    #[inline(always)]
+    fn is_among(&self, last: Option<Spot>, shown: Shown) -> bool
+        requires { AreSeen self.now shown }
+        ensures { result ≡ true → (k : ℕ) → IsRefused (SaysSeen self.now k) false last }
+    {
+        match last {
+            Some(write) => shown.has(write.in_line()),
+            None => true,
+        }
     }
 
     /// The first nodes of a line as far as all their writes are seen: of the line of the last write by
@@ -141,26 +164,6 @@ impl ResourceAccess<'_> {
         match last.flush {
             Some(flush) => self.is_some_unseen(low, high, flush, shown),
             None => low < high,
-        }
-    }
-
-    /// Whether of some byte the last write by a command isn't read by the host.
-    fn misses_read(
-        &self,
-        low: u64,
-        high: u64,
-        last: &OtherTouches,
-        is_cached: bool,
-        shown: Shown,
-    ) -> bool
-        requires numbers { HaveNumbers self.now.bytes high }
-        requires shown { AreSeen self.now shown }
-        ensures { SomeBetween (λ k r. MissesRead is_cached self.now k r (without_host_read last.now)) result low high }
-    {
-        if is_cached {
-            low < high && last.write.is_some() && !last.is_invalidated
-        } else {
-            self.misses_write(low, high, last.write, shown)
         }
     }
 

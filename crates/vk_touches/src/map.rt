@@ -1,4 +1,4 @@
-ghost use Rattle.std.specs.Prelude.{◌≡◌, ◌≤◌, ◌<◌, ℕ, IfOk, Some, length, slice_get};
+ghost use Rattle.std.specs.Prelude.{◌≡◌, ◌≤◌, ◌<◌, ◌&&◌, ℕ, IfOk, Some, is_some, not, length, slice_get};
 ghost use Rattle.vk_touches.specs.Conflicts.{FoundIn, HasEarlyCommand, IsEarly};
 ghost use Rattle.vk_touches.specs.Remembered.{untouched};
 
@@ -80,6 +80,20 @@ impl TouchMap {
     {
         self.others
             .find(low, high, |others| has_early_read(&others.reads, sight))
+            .is_some()
+    }
+
+    /// Whether some byte of a range was written by a command, and the last invalidation of it doesn't
+    /// see that.
+    pub(crate) fn has_stale(&self, low: u64, high: u64) -> bool
+        requires order { low ≤ high }
+        requires within { high ≤ length self.now }
+        ensures { FoundIn (λ r t. r ≡ (is_some t.write && not t.is_invalidated)) result self.now low high }
+    {
+        self.others
+            .find(low, high, |others| {
+                others.write.is_some() && !others.is_invalidated
+            })
             .is_some()
     }
 }

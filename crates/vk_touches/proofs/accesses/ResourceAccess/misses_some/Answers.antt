@@ -1,4 +1,4 @@
-use Rattle.std.proofs.Common.{arith}
+use Rattle.std.proofs.Common.{arith, rules, refl, ◌≡◌, true, false}
 use Rattle.vk_touches.specs.Conflicts.{Misses}
 use Rattle.vk_touches.proofs.ByteUnits.{fewer_numbers}
 use Rattle.vk_touches.proofs.TouchMaps.{others_len, others_start, others_within, others_next, others_found, others_end, missed_alike}
@@ -13,8 +13,13 @@ loop-run-init c = record { searched = others_start (Misses c.args.is_cached c.ar
 pub misses-requires-clause-numbers : goal.misses-requires-clause-numbers
 misses-requires-clause-numbers c = fewer_numbers c.args.self.now.bytes _ c.args.high (others_within (Misses c.args.is_cached c.args.self.now) c.args.touches.now c.args.low c.args.high _ c.loop-run.invariant.searched _ _ c.in-Some.ensures.steps) c.requires.numbers
 
+pub loop-run-preserved-else-misses : goal.loop-run-preserved-else-misses
+loop-run-preserved-else-misses c = record { searched = others_next (Misses c.args.is_cached c.args.self.now) c.args.touches.now c.args.low c.args.high _ c.loop-run.invariant.searched _ _ c.in-Some.ensures.steps _ c.misses.ensures c.if-misses.false; shown = c.shown_for-shown.ensures }
+
 pub loop-run-preserved : goal.loop-run-preserved
-loop-run-preserved c = record { searched = others_next (Misses c.args.is_cached c.args.self.now) c.args.touches.now c.args.low c.args.high _ c.loop-run.invariant.searched _ _ c.in-Some.ensures.steps _ c.misses.ensures c.if-misses.false; shown = c.shown_for-shown.ensures }
+loop-run-preserved c =
+    let are : c.are_among.result ≡ true = search rules in
+    record { searched = others_next (Misses c.args.is_cached c.args.self.now) c.args.touches.now c.args.low c.args.high _ c.loop-run.invariant.searched _ _ c.in-Some.ensures.steps false (λ k from to. c.are_among.ensures are c.args.is_cached k) refl; shown = c.loop-run.invariant.shown }
 
 pub returns-then-misses : goal.returns-then-misses
 returns-then-misses c = others_found (Misses c.args.is_cached c.args.self.now) c.args.touches.now c.args.low c.args.high _ c.loop-run.invariant.searched _ _ c.in-Some.ensures.steps _ c.misses.ensures (missed_alike c.args.is_cached c.args.self.now) c.if-misses.true

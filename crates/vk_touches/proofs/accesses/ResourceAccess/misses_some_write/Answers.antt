@@ -1,4 +1,4 @@
-use Rattle.std.proofs.Common.{arith}
+use Rattle.std.proofs.Common.{arith, rules, refl, ◌≡◌, true, false}
 use Rattle.vk_touches.specs.Conflicts.{MissesWrite}
 use Rattle.vk_touches.proofs.ByteUnits.{fewer_numbers}
 use Rattle.vk_touches.proofs.TouchMaps.{others_len, others_start, others_within, others_next, others_found, others_end}
@@ -13,8 +13,13 @@ loop-run-init c = record { searched = others_start (MissesWrite c.args.self.now)
 pub misses_write-requires-clause-numbers : goal.misses_write-requires-clause-numbers
 misses_write-requires-clause-numbers c = fewer_numbers c.args.self.now.bytes _ c.args.high (others_within (MissesWrite c.args.self.now) c.args.touches.now c.args.low c.args.high _ c.loop-run.invariant.searched _ _ c.in-Some.ensures.steps) c.requires.numbers
 
+pub loop-run-preserved-else-misses_write : goal.loop-run-preserved-else-misses_write
+loop-run-preserved-else-misses_write c = record { searched = others_next (MissesWrite c.args.self.now) c.args.touches.now c.args.low c.args.high _ c.loop-run.invariant.searched _ _ c.in-Some.ensures.steps _ c.misses_write.ensures c.if-misses_write.false; shown = c.shown_for-shown.ensures }
+
 pub loop-run-preserved : goal.loop-run-preserved
-loop-run-preserved c = record { searched = others_next (MissesWrite c.args.self.now) c.args.touches.now c.args.low c.args.high _ c.loop-run.invariant.searched _ _ c.in-Some.ensures.steps _ c.misses_write.ensures c.if-misses_write.false; shown = c.shown_for-shown.ensures }
+loop-run-preserved c =
+    let is : c.is_among.result ≡ true = search rules in
+    record { searched = others_next (MissesWrite c.args.self.now) c.args.touches.now c.args.low c.args.high _ c.loop-run.invariant.searched _ _ c.in-Some.ensures.steps false (λ k from to. c.is_among.ensures is k) refl; shown = c.loop-run.invariant.shown }
 
 pub returns-then-misses_write : goal.returns-then-misses_write
 returns-then-misses_write c = others_found (MissesWrite c.args.self.now) c.args.touches.now c.args.low c.args.high _ c.loop-run.invariant.searched _ _ c.in-Some.ensures.steps _ c.misses_write.ensures (λ k r t h m. m) c.if-misses_write.true

@@ -1,7 +1,0 @@
-use Rattle.std.proofs.Common.{Bool, sym, subst}
-use Rattle.vk_touches.specs.Conflicts.{MissesRead, SomeBetween}
-use Rattle.vk_touches.specs.TouchMaps.{without_host_read}
-use Rattle.vk_touches.proofs.accesses.ResourceAccess.misses_read.Goals as goal
-
-pub returns-else-is_cached : goal.returns-else-is_cached
-returns-else-is_cached c = subst (λ (t : Bool). SomeBetween (λ k r. MissesRead t c.args.self.now k r (without_host_read c.args.last.now)) c.misses_write.result c.args.low c.args.high) (sym c.if-is_cached.false) c.misses_write.ensures
