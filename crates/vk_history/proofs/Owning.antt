@@ -274,6 +274,13 @@ all_come counts first now objects f q xs i ge come past w ns p on made frontier 
 pub quiet_comes : (owners : Owners) (o : ℕ → world.Owner) (ns : List Node) (n : Node) → IsNumbered (n ∷ ns) → ((r : ℕ) → is_release_of r n ≡ false) → AreOwned owners o ns → AreOwned owners o (n ∷ ns)
 quiet_comes owners o ns n numbers none are r = other_node ns n numbers r (kept_at owners r) (o r) (none r) (are r)
 
+-- a barrier of one element on all memory
+pub memory_comes : (owners : Owners) (past : Past) (w : World) (f : ℕ) (p : Point) (ns : List Node) (d : Dependency) → IsNumbered ns → AreOwned owners w.owner ns
+    → AreOwned owners (fold (effect.after_element past f) w (element.Memory d ∷ [])).owner (with_acts p (map (Depends Barrier) (element.Memory d ∷ [])) ns)
+memory_comes owners past w f p ns d numbers are =
+    let n : Node = record { number = length ns; point = p; act = Depends Barrier (element.Memory d) } in
+    quiet_comes owners w.owner ns n (refl, numbers) (λ r. refl) are
+
 -- a set or an await
 pub events_come : (role : ℕ → Role) (owners : Owners) (o : ℕ → world.Owner) (p : Point) (k : ℕ) (ms : List Dependency) (ns : List Node) → IsNumbered ns → AreOwned owners o ns
     → AreOwned owners o (with_acts p (map (λ x. Depends (role x.0) (element.Memory x.1)) (enumerate_from k ms)) ns)

@@ -14,6 +14,7 @@ ghost use Rattle.vk_order.specs.Inner.Clocks.{same_bit};
 ghost use Rattle.vk_history.specs.declared.last_uses.LastUse.{LastUse as AnyUse};
 ghost use Rattle.vk_history.specs.Uses.{uses_in, AreLast, IsKeptNow, AreKeptNow, elements_on, AreElementCounts, names_it};
 
+use crate::elements::is_memory_alone;
 use crate::used::{Used, named_by, used_by};
 use std::alloc::{AllocError, Global};
 use std::collections::BTreeMap;
@@ -146,6 +147,9 @@ impl LastUses {
         ensures { OnOk result ((ns : List Node) (p : AnyPoint) (r : ℕ) → IsFrontier frontier.now ns → p.queue ≡ queue → AreLast (uses_in self.old r) ns r
             → AreLast (uses_in self.new r) (with_acts p (map (Depends Barrier) elements.now) ns) r) }
     {
+        if is_memory_alone(elements) {
+            return Ok(());
+        }
         let mut counts = ElementCounts::of(frontier, queue);
         for element in elements {
             self.note_element(queue, element, &mut counts)?;

@@ -16,7 +16,7 @@ ghost use Rattle.vk_history.specs.Tabled.{AreObjects};
 ghost use Rattle.vk_history.specs.Uses.{AreElementCounts};
 ghost use Rattle.vk_model.specs.Sync.Node.{nodes};
 
-use crate::elements::is_transition;
+use crate::elements::{is_memory_alone, is_transition};
 use crate::families::family_of;
 use crate::last_uses::ElementCounts;
 use crate::objects::Objects;
@@ -149,6 +149,9 @@ impl<'a> Owners<'a> {
         ensures { OnOk result ((past : Past) (w : World) (ns : List Node) (p : AnyPoint) → p.queue ≡ queue → AreObjects objects.now past → IsFrontier frontier.now ns → AreOwned self.old w.owner ns
             → AreOwned self.new (fold (effect.after_element past (family_of queue)) w elements.now).owner (with_acts p (map (Depends Barrier) elements.now) ns)) }
     {
+        if is_memory_alone(elements) {
+            return Ok(());
+        }
         let mut counts = ElementCounts::of(frontier, queue);
         for element in elements {
             self.note_element(queue, element, &mut counts, objects)?;

@@ -15,6 +15,7 @@ ghost use Rattle.vk_history.specs.Passing.{AreOnResources, IsPassed, IsImagePass
 
 use crate::contents::Contents;
 use crate::element_spots::ElementSpots;
+use crate::elements::is_memory_alone;
 use crate::families::family_of;
 use std::alloc::AllocError;
 use vk_layouts::Transfer;
@@ -33,6 +34,9 @@ impl Contents {
         ensures { OnOk result ((past : Past) (w : World) (t : Byte → LastTouches) (p : AnyPoint) → p.queue ≡ queue → IsFrontier frontier.now (nodes past) → AreOnResources past elements.now → AreAllAt self.old past w t
             → AreAllAt self.new past (fold (after_element past (family_of queue)) w elements.now) (touched_by_all past p (nodes past) elements.now t)) }
     {
+        if is_memory_alone(elements) {
+            return Ok(());
+        }
         let mut spots = ElementSpots::of(frontier, queue);
         for element in elements {
             let Some(spot) = spots.take(element) else {

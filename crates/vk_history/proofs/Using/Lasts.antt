@@ -212,6 +212,12 @@ all_come counts first now f q xs i ge come ns p r frontier on are =
     let h = come ns p r frontier on are in
     subst (λ (l : List Node). AreLast (uses_in now r) l r) (ap (λ (l : List Element). with_acts p (map (Depends Barrier) l) h.0) (sym (drop_all i xs ge)) ∙ h.4) h.3
 
+-- one element on all memory
+pub memory_comes : (kept : List LastUse) (r : ℕ) (p : Point) (ns : List Node) (d : Dependency) → IsNumbered ns → AreLast kept ns r → AreLast kept (with_acts p (map (Depends Barrier) (element.Memory d ∷ [])) ns) r
+memory_comes kept r p ns d numbers are =
+    let n : Node = record { number = length ns; point = p; act = Depends Barrier (element.Memory d) } in
+    other_step ns n (refl, numbers) r kept refl are
+
 -- ---- other commands
 
 pub events_come : (role : ℕ → Role) (kept : List LastUse) (r : ℕ) (p : Point) (k : ℕ) (ms : List Dependency) (ns : List Node) → IsNumbered ns → AreLast kept ns r

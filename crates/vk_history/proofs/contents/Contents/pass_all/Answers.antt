@@ -1,3 +1,11 @@
+use Rattle.std.proofs.Common.{List, subst, sym}
+use Rattle.std.specs.List.{fold}
+use Rattle.vk_model.specs.declared.command.Element.{Element}
+use Rattle.vk_model.specs.Sync.Node.{nodes}
+use Rattle.vk_model.specs.World.Effect.{after_element}
+use Rattle.vk_model.specs.World.Ownership.{family_of}
+use Rattle.vk_history.specs.Contents.{AreAllAt}
+use Rattle.vk_history.specs.Passing.{touched_by_all}
 use Rattle.vk_history.proofs.Kept.PassingAll.{none_passed, one_passed, all_passed}
 use Rattle.vk_history.proofs.contents.Contents.pass_all.Goals as goal
 
@@ -10,3 +18,8 @@ loop-element-preserved c = one_passed c.args.self.now c.loop-element.self c.pass
 
 pub returns : goal.returns
 returns c = all_passed c.args.self.now c.loop-element.self c.loop-element.spots c.args.frontier.now c.args.queue c.args.elements.now c.loop-element.element-index c.loop-element-test.false c.loop-element.invariant
+
+pub returns-then-is_memory_alone : goal.returns-then-is_memory_alone
+returns-then-is_memory_alone c = λ past w t p on frontier there are.
+    let alone = c.is_memory_alone.ensures c.if-is_memory_alone.true in
+    subst (λ (es : List Element). AreAllAt c.args.self.now past (fold (after_element past (family_of c.args.queue)) w es) (touched_by_all past p (nodes past) es t)) (sym alone.1) are
