@@ -1,20 +1,21 @@
 -- Runs of which the last may become a part of the next one.
-use Rattle.std.proofs.Common.{◌≡◌, ◌≢◌, ◌<◌, ◌-◌, ℕ, List, [], ◌∷◌, ◌++◌, refl, sym, ap, ◌∙◌, subst, Option, Some, inl, inr, arith}
+use Rattle.std.proofs.Common.{◌≡◌, ◌≢◌, ◌<◌, ℕ, List, [], ◌∷◌, ◌++◌, refl, sym, ap, ◌∙◌, subst, Option, Some, inl, inr, arith}
 use Rattle.std.specs.Prelude.{nat_lt, if◌then◌else◌}
-use Rattle.std.specs.Ordering.{nat_cmp}
-use Rattle.std.specs.Map.{remove_entry}
-use Rattle.std.specs.BTreeMap.{is_at}
 use Rattle.std.proofs.lemmas.Bool.{cases_lt, lt-ltb, le-ltb}
-use Rattle.vk_ranges.specs.Runs.{IsTiling, IsMaximal, value_at, after}
+use Rattle.vk_ranges.specs.Runs.{IsTiling, IsMaximal, value_at}
 use Rattle.vk_ranges.specs.Inner.Joins.{EndsApart, JoinsTo}
-use Rattle.vk_ranges.proofs.TilingLemmas.{tiling_append, tiling_le, after_here, after_later}
-use Rattle.vk_ranges.proofs.OrderLemmas.{same, more}
+use Rattle.vk_ranges.proofs.TilingLemmas.{tiling_append}
 
 module _ {T : Type 0} where
   pub maximal_append : (xs : List (ℕ × T)) (run : ℕ × T) (runs : List (ℕ × T)) → IsMaximal xs → IsMaximal (run ∷ runs) → EndsApart xs run.1 → IsMaximal (xs ++ run ∷ runs)
   maximal_append [] run runs m n apart = n
   maximal_append (x ∷ []) run runs m n apart = (apart, n)
   maximal_append (x ∷ x' ∷ xs) run runs m n apart = (m.0, maximal_append (x' ∷ xs) run runs m.1 n apart)
+
+  pub apart_push : (runs : List (ℕ × T)) (run : ℕ × T) (value : T) → run.1 ≢ value → EndsApart (runs ++ run ∷ []) value
+  apart_push [] run value apart = apart
+  apart_push (x ∷ []) run value apart = apart
+  apart_push (x ∷ x' ∷ runs) run value apart = apart_push (x' ∷ runs) run value apart
 
   -- ---- without the last of the runs before
 
@@ -61,42 +62,3 @@ module _ {T : Type 0} where
         maximal = maximal_without kept (mid, with.last) run runs m' n with.same;
         value = λ index. value_without start mid kept (mid, with.last) run runs s' t.0 with.same index ∙ ap (λ (xs : List (ℕ × T)). value_at (xs ++ run ∷ runs) index) (sym is);
       }
-
-  -- ---- the last of runs that end at an index
-
-  pub record HasLast (at : ℕ) (runs others : List (ℕ × T)) : Type 0 where
-    pub kept : List (ℕ × T)
-    pub last : T
-    pub is : runs ≡ kept ++ (at, last) ∷ []
-    pub around : after (at - 1) (runs ++ others) ≡ (at, last) ∷ others
-    pub without : remove_entry (is_at (nat_cmp at)) (runs ++ others) ≡ kept ++ others
-    pub apart : (value : T) → last ≢ value → EndsApart runs value
-
-  pub last_of : (start at : ℕ) (runs others : List (ℕ × T)) → IsTiling start at runs → start < at → HasLast at runs others
-  last_of start at [] others t lt = absurd (omega arith)
-  last_of start at (run ∷ []) others t lt =
-      let is : run.0 ≡ at = t.1 in
-      record {
-        kept = [];
-        last = run.1;
-        is = ap (λ (n : ℕ). (n, run.1) ∷ []) is;
-        around = after_here (at - 1) run others (omega arith) ∙ ap (λ (n : ℕ). (n, run.1) ∷ others) is;
-        without = rw (same at run.0 (sym is)) refl;
-        apart = λ value apart. apart;
-      }
-  last_of start at (run ∷ next ∷ runs) others t lt =
-      let low = t.1.0 in
-      let le = tiling_le next.0 at runs t.1.1 in
-      let rest = last_of run.0 at (next ∷ runs) others t.1 (omega arith) in
-      record {
-        kept = run ∷ rest.kept;
-        last = rest.last;
-        is = ap (λ (xs : List (ℕ × T)). run ∷ xs) rest.is;
-        around = after_later (at - 1) run ((next ∷ runs) ++ others) (omega arith) ∙ rest.around;
-        without = rw (more at run.0 (omega arith)) (ap (λ (xs : List (ℕ × T)). run ∷ xs) rest.without);
-        apart = rest.apart;
-      }
-
-  pub none_at : (start : ℕ) (runs : List (ℕ × T)) → IsTiling start start runs → runs ≡ []
-  none_at start [] t = refl
-  none_at start (run ∷ runs) t = let le = tiling_le run.0 start runs t.1 in absurd (omega (arith, t.0))

@@ -2,12 +2,12 @@ pub mod ListLemmas
 pub mod TilingLemmas
 pub mod OrderLemmas
 pub mod JoinLemmas
+pub mod EdgeLemmas
 pub mod PlanLemmas
-pub mod Joining
-pub mod Splitting
+pub mod Walking
+pub mod Beginning
 pub mod Carrying
 pub mod Reading
-pub mod PlanMaking
 pub mod Searching
-pub mod PlanEach
+pub mod Mapping
 pub mod Rewriting

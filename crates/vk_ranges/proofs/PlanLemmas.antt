@@ -1,12 +1,13 @@
 -- Carrying out a plan.
-use Rattle.std.proofs.Common.{◌≡◌, ◌<◌, ◌≤◌, ℕ, List, [], ◌∷◌, ◌++◌, refl, sym, ap, ◌∙◌, subst, Option, Some, None, arith, append_assoc, append-nil}
+use Rattle.std.proofs.Common.{◌≡◌, ◌<◌, ◌≤◌, ◌+◌, ℕ, List, [], ◌∷◌, ◌++◌, refl, sym, ap, ◌∙◌, subst, Option, Some, None, arith, append-nil}
 use Rattle.vk_ranges.specs.declared.changes.Change.{Change}
 use Rattle.vk_ranges.specs.Runs.{IsTiling, IsMaximal, value_at, after, upto}
-use Rattle.vk_ranges.specs.Inner.Joins.{JoinsTo, IsJoined, Joins}
+use Rattle.vk_ranges.specs.Inner.Joins.{JoinsTo, Closes}
 use Rattle.vk_ranges.specs.Inner.Plans.{with_run, runs_of, ends_of, run_ends, changed, applied, IsRewritten}
-use Rattle.vk_ranges.proofs.TilingLemmas.{tiling_le, tiling_upto, tiling_after, maximal_upto, maximal_after, value_upto, value_after, value_low, value_high}
+use Rattle.vk_ranges.proofs.TilingLemmas.{tiling_upto, tiling_after, maximal_upto, maximal_after, value_upto, value_after, value_low, value_high}
 use Rattle.vk_ranges.proofs.OrderLemmas.{same, more}
 use Rattle.vk_ranges.proofs.JoinLemmas.{joined, IsWhole}
+use Rattle.vk_ranges.proofs.EdgeLemmas.{Below}
 
 module _ {T : Type 0} where
   -- the ends of a plan rise from a number on
@@ -29,10 +30,11 @@ module _ {T : Type 0} where
       let lt = rises.0 in
       ap (applied plan) (changed_past change.end change.value run runs (omega arith)) ∙ past change.end run plan (changed change.end change.value runs) (omega arith) rises.1
 
-  past_all : (start low : ℕ) (xs : List (ℕ × T)) (plan : List (Change T)) (runs : List (ℕ × T)) → IsTiling start low xs → Rises low plan → applied plan (xs ++ runs) ≡ xs ++ applied plan runs
-  past_all start low [] plan runs t rises = refl
-  past_all start low (x ∷ xs) plan runs t rises =
-      past low x plan (xs ++ runs) (tiling_le x.0 low xs t.1) rises ∙ ap (λ (rest : List (ℕ × T)). x ∷ rest) (past_all x.0 low xs plan runs t.1 rises)
+  past_all : (low : ℕ) (xs : List (ℕ × T)) (plan : List (Change T)) (runs : List (ℕ × T)) → Below (low + 1) xs → Rises low plan → applied plan (xs ++ runs) ≡ xs ++ applied plan runs
+  past_all low [] plan runs below rises = refl
+  past_all low (x ∷ xs) plan runs below rises =
+      let lt = below.0 in
+      past low x plan (xs ++ runs) (omega arith) rises ∙ ap (λ (rest : List (ℕ × T)). x ∷ rest) (past_all low xs plan runs below.1 rises)
 
   with_run_past : (low end : ℕ) (value : Option T) (plan : List (Change T)) (runs : List (ℕ × T)) → end ≤ low → Rises low plan → applied plan (with_run end value runs) ≡ with_run end value (applied plan runs)
   with_run_past low end None plan runs le rises = refl
@@ -64,9 +66,16 @@ module _ {T : Type 0} where
       ∙ ap (with_run change.end change.value) (replaced run.0 end plan runs others t.1 rest)
       ∙ with_run_append change.end change.value (runs_of plan) others
 
-  pub applied_between : (start low end : ℕ) (plan : List (Change T)) (left runs right : List (ℕ × T)) → IsTiling start low left → IsTiling low end runs → ends_of plan ≡ run_ends runs → applied plan (left ++ (runs ++ right)) ≡ left ++ (runs_of plan ++ right)
-  applied_between start low end plan left runs right s t e =
-      past_all start low left plan (runs ++ right) s (rises_as low end plan runs t e) ∙ ap (λ (rest : List (ℕ × T)). left ++ rest) (replaced low end plan runs right t e)
+  pub applied_between : (low end : ℕ) (plan : List (Change T)) (left runs right : List (ℕ × T)) → Below (low + 1) left → IsTiling low end runs → ends_of plan ≡ run_ends runs → applied plan (left ++ (runs ++ right)) ≡ left ++ (runs_of plan ++ right)
+  applied_between low end plan left runs right below t e =
+      past_all low left plan (runs ++ right) below (rises_as low end plan runs t e) ∙ ap (λ (rest : List (ℕ × T)). left ++ rest) (replaced low end plan runs right t e)
+
+  pub runs_append : (plan more : List (Change T)) → runs_of (plan ++ more) ≡ runs_of plan ++ runs_of more
+  runs_append [] more = refl
+  runs_append (change ∷ plan) more = ap (with_run change.end change.value) (runs_append plan more) ∙ by_value change.end change.value where
+    by_value : (end : ℕ) (value : Option T) → with_run end value (runs_of plan ++ runs_of more) ≡ with_run end value (runs_of plan) ++ runs_of more
+    by_value end None = refl
+    by_value end (Some value) = refl
 
   -- ---- what the range has then
 
@@ -106,34 +115,23 @@ module _ {T : Type 0} where
               ∙ value_after high (after low old) index from ∙ value_after low old index (omega arith);
         }
 
-    -- both ends of the range joined
-    pub carried : (e0 e1 e2 : List (ℕ × T)) → e0 ≡ left ++ ((run ∷ runs) ++ right) → Joins low e0 e1 → Joins high e1 e2 → IsRewritten low high len old e2 (run ∷ runs)
-    carried e0 e1 e2 is low_joins high_joins = by_right right refl right_tiling right_maximal where
-      one : IsJoined low left (run ∷ (runs ++ right)) e1 run.1
-      one = low_joins.within left (runs ++ right) run is left_tiling rt.0
+    -- both edges of the range joined
+    pub carried : (kept new : List (ℕ × T)) → JoinsTo low left run.1 kept → Closes high (kept ++ run ∷ runs) right new → IsRewritten low high len old new (run ∷ runs)
+    carried kept new joins closes = by_right right refl right_tiling right_maximal closes where
+      whole : IsWhole 0 high (kept ++ run ∷ runs) (left ++ run ∷ runs)
+      whole = first kept joins
 
-      whole : IsWhole 0 high (one.kept ++ run ∷ runs) (left ++ run ∷ runs)
-      whole = first one.kept one.joins
-
-      then : e1 ≡ (one.kept ++ run ∷ runs) ++ right
-      then = one.is ∙ sym (append_assoc one.kept (run ∷ runs) right)
-
-      by_right : (rest : List (ℕ × T)) → right ≡ rest → IsTiling high len rest → IsMaximal rest → IsRewritten low high len old e2 (run ∷ runs)
-      by_right [] none tiling maximal =
-          let all : e1 ≡ one.kept ++ run ∷ runs = then ∙ ap (λ (xs : List (ℕ × T)). (one.kept ++ run ∷ runs) ++ xs) none ∙ append-nil (one.kept ++ run ∷ runs) in
-          let e1_tiling : IsTiling 0 high e1 = subst (λ (xs : List (ℕ × T)). IsTiling 0 high xs) (sym all) whole.tiling in
-          let last : e2 ≡ one.kept ++ run ∷ runs = high_joins.at_end e1_tiling ∙ all in
-          from one.kept e2 one.joins (record {
-            tiling = subst (λ (xs : List (ℕ × T)). IsTiling 0 len xs) (sym last) (subst (λ (n : ℕ). IsTiling 0 n (one.kept ++ run ∷ runs)) tiling whole.tiling);
-            maximal = subst (λ (xs : List (ℕ × T)). IsMaximal xs) (sym last) whole.maximal;
-            value = λ index. ap (λ (xs : List (ℕ × T)). value_at xs index) (high_joins.at_end e1_tiling ∙ then);
+      by_right : (rest : List (ℕ × T)) → right ≡ rest → IsTiling high len rest → IsMaximal rest → Closes high (kept ++ run ∷ runs) rest new → IsRewritten low high len old new (run ∷ runs)
+      by_right [] none tiling maximal is =
+          from kept new joins (record {
+            tiling = subst (λ (xs : List (ℕ × T)). IsTiling 0 len xs) (sym is) (subst (λ (n : ℕ). IsTiling 0 n (kept ++ run ∷ runs)) tiling whole.tiling);
+            maximal = subst (λ (xs : List (ℕ × T)). IsMaximal xs) (sym is) whole.maximal;
+            value = λ index. ap (λ (xs : List (ℕ × T)). value_at xs index) (is ∙ sym (append-nil (kept ++ run ∷ runs)) ∙ ap (λ (xs : List (ℕ × T)). (kept ++ run ∷ runs) ++ xs) (sym none));
           })
-      by_right (next ∷ rest) some tiling maximal =
-          let here : e1 ≡ (one.kept ++ run ∷ runs) ++ next ∷ rest = then ∙ ap (λ (xs : List (ℕ × T)). (one.kept ++ run ∷ runs) ++ xs) some in
-          let two = high_joins.within (one.kept ++ run ∷ runs) rest next here whole.tiling tiling.0 in
-          let all = joined 0 high len (one.kept ++ run ∷ runs) two.kept next rest whole.tiling whole.maximal tiling maximal two.joins in
-          from one.kept e2 one.joins (record {
+      by_right (next ∷ rest) some tiling maximal two =
+          let all = joined 0 high len (kept ++ run ∷ runs) two.kept next rest whole.tiling whole.maximal tiling maximal two.joins in
+          from kept new joins (record {
             tiling = subst (λ (xs : List (ℕ × T)). IsTiling 0 len xs) (sym two.is) all.tiling;
             maximal = subst (λ (xs : List (ℕ × T)). IsMaximal xs) (sym two.is) all.maximal;
-            value = λ index. ap (λ (xs : List (ℕ × T)). value_at xs index) two.is ∙ all.value index ∙ ap (λ (xs : List (ℕ × T)). value_at ((one.kept ++ run ∷ runs) ++ xs) index) (sym some);
+            value = λ index. ap (λ (xs : List (ℕ × T)). value_at xs index) two.is ∙ all.value index ∙ ap (λ (xs : List (ℕ × T)). value_at ((kept ++ run ∷ runs) ++ xs) index) (sym some);
           })

@@ -20,11 +20,11 @@
 #![tactic(auto)]
 
 mod changes;
+mod edges;
 mod map;
 mod plan;
 mod planning;
 mod runs;
-mod splits;
 mod value;
 
 pub use map::RangeMap;

@@ -4,11 +4,10 @@ ghost use Rattle.std.specs.Option.{IsSomeAnd};
 ghost use Rattle.std.specs.Fn.{FnReturnsAt};
 ghost use Rattle.vk_ranges.specs.Overlaps.{AreRunsOf, pieces_left};
 
-use crate::changes::Change;
+use crate::edges::runs_after;
 use crate::plan::carry_out;
 use crate::planning::{overlapping, plan_of_each, plan_of_one};
 use crate::runs::Overlapping;
-use crate::splits::runs_after;
 use crate::value::RangeValue;
 use std::alloc::{AllocError, Global};
 use std::collections::BTreeMap;

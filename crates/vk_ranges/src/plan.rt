@@ -1,51 +1,115 @@
-ghost use Rattle.std.specs.Prelude.{◌≡◌, ◌≤◌, ◌<◌, ℕ, OnOk, OnErr};
+ghost use Rattle.std.specs.Prelude.{◌≡◌, OnOk, OnErr};
 ghost use Rattle.std.specs.Ordering.{nat_cmp};
 ghost use Rattle.std.specs.Map.{set_value};
-ghost use Rattle.std.specs.BTreeMap.{is_at};
-ghost use Rattle.vk_ranges.specs.Runs.{IsTiling, IsMaximal, after, upto};
-ghost use Rattle.vk_ranges.specs.Inner.Plans.{runs_of, ends_of, run_ends, applied, IsRewritten};
+ghost use Rattle.std.specs.BTreeMap.{is_at, insert_entry};
+ghost use Rattle.vk_ranges.specs.declared.changes.Edge.TheVariants.{New};
+ghost use Rattle.vk_ranges.specs.Inner.Plans.{applied, edged, both_edged, carried_out, CanBeUndone};
 
-use crate::changes::Change;
-use crate::splits::{join, split};
+use crate::changes::{Change, Edge, Plan};
 use crate::value::RangeValue;
 use std::alloc::AllocError;
 use std::collections::BTreeMap;
 
-/// Carries out a plan for the runs that overlap `low..high`. An error leaves the runs as they were.
+/// Carries out a plan for the range `low..high`. An error leaves the runs as they were.
 pub(crate) fn carry_out<T: RangeValue>(
     runs: &mut BTreeMap<u64, T>,
     low: u64,
     high: u64,
-    plan: Vec<Change<T>>,
+    plan: Plan<T>,
 ) -> Result<(), AllocError>
-    requires tiling { (len : ℕ) × IsTiling 0 len runs.old.entries × (high ≤ len) }
-    requires maximal { IsMaximal runs.old.entries }
-    requires some { low < high }
-    requires ends { ends_of plan.items ≡ run_ends (upto low high (after low runs.old.entries)) }
-    requires plan_tiling { IsTiling low high (runs_of plan.items) }
-    requires plan_maximal { IsMaximal (runs_of plan.items) }
-    ensures ok { OnOk result ((len : ℕ) → IsTiling 0 len runs.old.entries → high ≤ len
-        → IsRewritten low high len runs.old.entries runs.new.entries (runs_of plan.items)) }
+    requires { CanBeUndone high plan.at_high runs.old.entries }
+    ensures ok { OnOk result (runs.new.entries ≡ carried_out low high plan runs.old.entries) }
     ensures err { OnErr result (runs.new.entries ≡ runs.old.entries) }
 {
-    let is_split = split(runs, low)?;
-    if let Err(error) = split(runs, high) {
-        if is_split {
-            runs.remove(&low);
-        }
-        return Err(error);
-    }
-    apply(runs, plan);
-    join(runs, low);
-    join(runs, high);
+    let Plan {
+        at_low,
+        changes,
+        at_high,
+    } = plan;
+    change_edges(runs, low, at_low, high, at_high)?;
+    apply(runs, changes);
     Ok(())
 }
 
-/// Gives each end of a plan its new value, or takes it away.
-fn apply<T: RangeValue>(runs: &mut BTreeMap<u64, T>, plan: Vec<Change<T>>)
-    ensures { runs.new.entries ≡ applied plan.items runs.old.entries }
+/// Changes both edges of a range, new ends first: only they can want memory.
+fn change_edges<T: RangeValue>(
+    runs: &mut BTreeMap<u64, T>,
+    low: u64,
+    at_low: Edge<T>,
+    high: u64,
+    at_high: Edge<T>,
+) -> Result<(), AllocError>
+    requires { CanBeUndone high at_high runs.old.entries }
+    ensures ok { OnOk result (runs.new.entries ≡ both_edged low at_low high at_high runs.old.entries) }
+    ensures err { OnErr result (runs.new.entries ≡ runs.old.entries) }
 {
-    for change in plan {
+    match at_high {
+        Edge::Stays => change_edge(runs, low, at_low),
+        Edge::Goes => {
+            change_edge(runs, low, at_low)?;
+            runs.remove(&high);
+            Ok(())
+        }
+        Edge::Becomes(value) => {
+            change_edge(runs, low, at_low)?;
+            set(runs, high, value);
+            Ok(())
+        }
+        Edge::New(value) => insert_and_change(runs, low, at_low, high, value),
+    }
+}
+
+/// Makes an index the end of a run, and changes an edge before it.
+fn insert_and_change<T: RangeValue>(
+    runs: &mut BTreeMap<u64, T>,
+    low: u64,
+    at_low: Edge<T>,
+    high: u64,
+    value: T,
+) -> Result<(), AllocError>
+    requires { CanBeUndone high (New value) runs.old.entries }
+    ensures ok { OnOk result (runs.new.entries ≡ edged low at_low (insert_entry nat_cmp runs.old.entries high value)) }
+    ensures err { OnErr result (runs.new.entries ≡ runs.old.entries) }
+{
+    runs.insert(high, value)?;
+    if let Err(error) = change_edge(runs, low, at_low) {
+        runs.remove(&high);
+        return Err(error);
+    }
+    Ok(())
+}
+
+/// Changes an edge. An error leaves the runs as they were.
+fn change_edge<T: RangeValue>(
+    runs: &mut BTreeMap<u64, T>,
+    at: u64,
+    edge: Edge<T>,
+) -> Result<(), AllocError>
+    ensures ok { OnOk result (runs.new.entries ≡ edged at edge runs.old.entries) }
+    ensures err { OnErr result (runs.new.entries ≡ runs.old.entries) }
+{
+    match edge {
+        Edge::Stays => Ok(()),
+        Edge::Goes => {
+            runs.remove(&at);
+            Ok(())
+        }
+        Edge::Becomes(value) => {
+            set(runs, at, value);
+            Ok(())
+        }
+        Edge::New(value) => {
+            runs.insert(at, value)?;
+            Ok(())
+        }
+    }
+}
+
+/// Gives each end that changes speak of its new value, or takes it away.
+fn apply<T: RangeValue>(runs: &mut BTreeMap<u64, T>, changes: Vec<Change<T>>)
+    ensures { runs.new.entries ≡ applied changes.items runs.old.entries }
+{
+    for change in changes {
         let Change { end, value } = change;
         match value {
             Some(value) => set(runs, end, value),

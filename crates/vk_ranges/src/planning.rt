@@ -1,16 +1,19 @@
-ghost use Rattle.std.specs.Prelude.{◌≡◌, ◌≤◌, ◌<◌, ◌∷◌, [], ℕ, Ok, IfOk, OnOk, OnErr};
-ghost use Rattle.std.specs.Option.{IsSomeAnd};
+ghost use Rattle.std.specs.Prelude.{◌≡◌, ◌≤◌, ◌<◌, ◌∷◌, [], ℕ, Ok, IfOk, List};
+ghost use Rattle.std.specs.Option.{option_copied};
 ghost use Rattle.std.specs.Fn.{FnReturnsAt};
-ghost use Rattle.vk_ranges.specs.Runs.{IsTiling, IsMaximal, value_at, after, upto};
+ghost use Rattle.vk_ranges.specs.Runs.{IsTiling, IsMaximal, after, upto};
 ghost use Rattle.vk_ranges.specs.Overlaps.{with_starts, pieces_left};
-ghost use Rattle.vk_ranges.specs.Inner.Plans.{runs_of, ends_of, run_ends, IsKept};
+ghost use Rattle.vk_ranges.specs.Inner.Plans.{Makes, IsKept, runs_of};
+ghost use Rattle.vk_ranges.specs.Inner.Edges.{IsClosed, first_value};
+ghost use Rattle.vk_ranges.specs.Inner.Walks.{Walked, IsMapped, Gives};
 
-use crate::changes::Change;
+use crate::changes::{Change, Edge, Plan};
+use crate::edges::{Start, edge_after, edge_before, runs_after, start_of};
 use crate::runs::Overlapping;
-use crate::splits::runs_after;
 use crate::value::RangeValue;
 use std::alloc::{AllocError, Global};
 use std::collections::BTreeMap;
+use std::collections::btree_map::Range;
 
 /// The runs that overlap `low..high`, in order, each cut to it.
 pub(crate) fn overlapping<T: RangeValue>(
@@ -37,27 +40,80 @@ pub(crate) fn plan_of_one<T: RangeValue>(
     low: u64,
     high: u64,
     value: T,
-) -> Result<Vec<Change<T>>, AllocError>
+) -> Result<Plan<T>, AllocError>
     requires some { low < high }
     requires tiling { (len : ℕ) × IsTiling 0 len runs.now.entries × (high ≤ len) }
-    ensures ends { IfOk result (λ plan.
-        ends_of plan.items ≡ run_ends (upto low high (after low runs.now.entries))) }
-    ensures runs { IfOk result (λ plan. runs_of plan.items ≡ (high, value) ∷ []) }
+    requires maximal { IsMaximal runs.now.entries }
+    ensures { IfOk result (λ plan. Makes low high runs.now.entries plan ((high, value) ∷ [])) }
 {
-    let mut plan = Vec::new(alloc);
-    for run in overlapping(runs, low, high) {
-        if run.end < high {
-            plan.push(Change {
-                end: run.end,
-                value: None,
-            })?;
+    let Start {
+        left,
+        is_end,
+        end,
+        value: first,
+        rest,
+    } = start_of(runs, low);
+    let at_low = edge_before(is_end, left, &value)?;
+    let Tail { changes, at_high } = merged(alloc, end, first, rest, high, value)?;
+    Ok(Plan {
+        at_low,
+        changes,
+        at_high,
+    })
+}
+
+/// What becomes of the runs of a range after its low edge.
+#[derive(Drop)]
+struct Tail<T> {
+    changes: Vec<Change<T>>,
+    at_high: Edge<T>,
+}
+
+/// Makes one run of those that overlap a range, from its first one on.
+fn merged<'a, T: RangeValue>(
+    alloc: Global,
+    first_end: u64,
+    first: &'a T,
+    rest: Range<'a, u64, T>,
+    high: u64,
+    value: T,
+) -> Result<Tail<T>, AllocError>
+    ensures walked { IfOk result (λ tail. (low len : ℕ)
+        → IsTiling low len ((first_end, first.now) ∷ rest.entry) → low < high → high ≤ len
+        → Walked low high ((first_end, first.now) ∷ rest.entry) tail.changes.items tail.at_high value) }
+    ensures none { IfOk result (λ tail. runs_of tail.changes.items ≡ []) }
+{
+    let mut changes = Vec::new(alloc);
+    let mut end = first_end;
+    let mut here = first;
+    for (next_end, next) in rest {
+        if end >= high {
+            let at_high = last_edge(end, here, Some(next), high, value);
+            return Ok(Tail { changes, at_high });
         }
+        changes.push(Change { end, value: None })?;
+        end = *next_end;
+        here = next;
     }
-    plan.push(Change {
-        end: high,
-        value: Some(value),
-    })?;
-    Ok(plan)
+    let at_high = last_edge(end, here, None, high, value);
+    Ok(Tail { changes, at_high })
+}
+
+/// What becomes of the high edge of a range, which is in the run that ends at `end` or ends it.
+fn last_edge<'a, T: RangeValue>(
+    end: u64,
+    here: &'a T,
+    next: Option<&'a T>,
+    high: u64,
+    last: T,
+) -> Edge<T>
+    ensures { (rest : List (ℕ × T)) → high ≤ end → option_copied next.entry ≡ first_value rest
+        → IsClosed high (end, here.now) rest last result }
+{
+    if end == high {
+        return edge_after(true, next, last);
+    }
+    edge_after(false, Some(here), last)
 }
 
 /// The plan that gives each run of `low..high` what `f` answers for its value.
@@ -67,35 +123,68 @@ pub(crate) fn plan_of_each<T: RangeValue, F: Fn(&T) -> Result<T, AllocError>>(
     low: u64,
     high: u64,
     f: F,
-) -> Result<Vec<Change<T>>, AllocError>
+) -> Result<Plan<T>, AllocError>
     requires callable { F.IsAlwaysCallable f }
     requires some { low < high }
     requires tiling { (len : ℕ) × IsTiling 0 len runs.now.entries × (high ≤ len) }
-    ensures ends { IfOk result (λ plan.
-        ends_of plan.items ≡ run_ends (upto low high (after low runs.now.entries))) }
-    ensures tiling { IfOk result (λ plan. IsTiling low high (runs_of plan.items)) }
-    ensures maximal { IfOk result (λ plan. IsMaximal (runs_of plan.items)) }
-    ensures values { IfOk result (λ plan. (index : ℕ) → low ≤ index → index < high
-        → IsSomeAnd (value_at runs.now.entries index) (λ before.
-        IsSomeAnd (value_at (runs_of plan.items) index) (λ after.
-        FnReturnsAt F.Fn f before (Ok after)))) }
+    requires maximal { IsMaximal runs.now.entries }
+    ensures { IfOk result (λ plan. (news : List (ℕ × T))
+        × Makes low high runs.now.entries plan news
+        × ((index : ℕ) → low ≤ index → index < high
+        → Gives (λ before after. FnReturnsAt F.Fn f before (Ok after))
+        runs.now.entries news index)) }
 {
-    let mut plan = Vec::new(alloc);
-    let mut last = None;
-    for run in overlapping(runs, low, high) {
-        let value = f(run.value)?;
-        if let Some((end, before)) = last {
-            plan.push(kept_before(end, before, &value))?;
+    let Start {
+        left,
+        is_end,
+        end,
+        value,
+        rest,
+    } = start_of(runs, low);
+    let first = f(value)?;
+    let at_low = edge_before(is_end, left, &first)?;
+    let Tail { changes, at_high } = mapped(alloc, end, value, rest, high, first, f)?;
+    Ok(Plan {
+        at_low,
+        changes,
+        at_high,
+    })
+}
+
+/// Gives the runs that overlap a range what `f` answers, from its first one on, which has an answer.
+fn mapped<'a, T: RangeValue, F: Fn(&T) -> Result<T, AllocError>>(
+    alloc: Global,
+    first_end: u64,
+    first: &'a T,
+    rest: Range<'a, u64, T>,
+    high: u64,
+    answer: T,
+    f: F,
+) -> Result<Tail<T>, AllocError>
+    requires callable { F.IsAlwaysCallable f }
+    requires given { FnReturnsAt F.Fn f first.now (Ok answer) }
+    ensures { IfOk result (λ tail. (low len : ℕ)
+        → IsTiling low len ((first_end, first.now) ∷ rest.entry) → low < high → high ≤ len
+        → IsMapped (λ before after. FnReturnsAt F.Fn f before (Ok after)) low high
+        ((first_end, first.now) ∷ rest.entry) tail.changes.items tail.at_high answer) }
+{
+    let mut changes = Vec::new(alloc);
+    let mut end = first_end;
+    let mut here = first;
+    let mut value = answer;
+    for (next_end, next) in rest {
+        if end >= high {
+            let at_high = last_edge(end, here, Some(next), high, value);
+            return Ok(Tail { changes, at_high });
         }
-        last = Some((run.end, value));
+        let next_value = f(next)?;
+        changes.push(kept_before(end, value, &next_value))?;
+        end = *next_end;
+        here = next;
+        value = next_value;
     }
-    if let Some((end, value)) = last {
-        plan.push(Change {
-            end,
-            value: Some(value),
-        })?;
-    }
-    Ok(plan)
+    let at_high = last_edge(end, here, None, high, value);
+    Ok(Tail { changes, at_high })
 }
 
 /// What becomes of a run before one with another value.

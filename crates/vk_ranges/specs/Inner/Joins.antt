@@ -1,6 +1,5 @@
 -- Two runs that meet at an index become one, where they have one value.
-use Rattle.std.specs.Prelude.{ℕ, ◌≡◌, ◌≢◌, ◌<◌, ◌⊎◌, List, [], ◌∷◌, ◌++◌}
-use Rattle.vk_ranges.specs.Runs.{IsTiling}
+use Rattle.std.specs.Prelude.{ℕ, ◌≡◌, ◌≢◌, ◌⊎◌, List, [], ◌∷◌, ◌++◌}
 
 module _ {T : Type 0} where
   -- The last of the runs, if there is one, has another value. (profile)
@@ -25,7 +24,7 @@ module _ {T : Type 0} where
     pub is : new ≡ kept ++ right
     pub joins : JoinsTo at left value kept
 
-  -- What a join at an index does: runs that meet there may become one, and there is nothing to join at the end. (profile)
-  pub record Joins (at : ℕ) (old new : List (ℕ × T)) : Type 0 where
-    pub within : (left rest : List (ℕ × T)) (run : ℕ × T) → old ≡ left ++ run ∷ rest → IsTiling 0 at left → at < run.0 → IsJoined at left (run ∷ rest) new run.1
-    pub at_end : IsTiling 0 at old → new ≡ old
+  -- Runs that end at an index, and those after it, put together: there is nothing to join at the end. (profile)
+  abbrev pub Closes : ℕ → List (ℕ × T) → List (ℕ × T) → List (ℕ × T) → Type 0
+  Closes at left [] new = new ≡ left
+  Closes at left (run ∷ rest) new = IsJoined at left (run ∷ rest) new run.1
