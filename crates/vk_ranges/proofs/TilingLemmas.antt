@@ -113,24 +113,3 @@ module _ {T : Type 0} where
   pub value_high : (start mid : ℕ) (xs ys : List (ℕ × T)) → IsTiling start mid xs → (index : ℕ) → mid ≤ index → value_at (xs ++ ys) index ≡ value_at ys index
   value_high start mid [] ys t index from = refl
   value_high start mid (x ∷ xs) ys t index from = let le = tiling_le x.0 mid xs t.1 in rw (le-ltb index x.0 (omega arith)) (value_high x.0 mid xs ys t.1 index from)
-
-  -- The last of some runs and the first of others have different values.
-  abbrev pub Meets : List (ℕ × T) → List (ℕ × T) → Type 0
-  Meets [] ys = Unit {0}
-  Meets (x ∷ []) ys = DiffersFromFirst x.1 ys
-  Meets (x ∷ x' ∷ xs) ys = Meets (x' ∷ xs) ys
-
-  pub maximal_append : (xs ys : List (ℕ × T)) → IsMaximal xs → IsMaximal ys → Meets xs ys → IsMaximal (xs ++ ys)
-  maximal_append [] ys m n meets = n
-  maximal_append (x ∷ []) ys m n meets = (meets, n)
-  maximal_append (x ∷ x' ∷ xs) ys m n meets = (m.0, maximal_append (x' ∷ xs) ys m.1 n meets)
-
-  pub maximal_left : (xs ys : List (ℕ × T)) → IsMaximal (xs ++ ys) → IsMaximal xs
-  maximal_left [] ys m = tt
-  maximal_left (x ∷ []) ys m = (tt, tt)
-  maximal_left (x ∷ x' ∷ xs) ys m = (m.0, maximal_left (x' ∷ xs) ys m.1)
-
-  pub meets_of : (xs ys : List (ℕ × T)) → IsMaximal (xs ++ ys) → Meets xs ys
-  meets_of [] ys m = tt
-  meets_of (x ∷ []) ys m = m.0
-  meets_of (x ∷ x' ∷ xs) ys m = meets_of (x' ∷ xs) ys m.1

@@ -3,7 +3,7 @@
 //! A `RangeMap<T>` has a value for each of the indices `0..len`, as the bytes of a buffer have
 //! what is remembered of them. Neighbours of one value are one run, so a map costs nothing for its
 //! length, and an operation costs the runs that it touches: a search of the tree and a walk from
-//! there, one search for each run that changes, and a few more at the two ends of the range.
+//! there, and one search for each end of a run that is new, goes, or gets another value.
 //!
 //! ```text
 //! let mut map = RangeMap::new(alloc, 10, 0)?;     // 0 0 0 0 0 0 0 0 0 0
