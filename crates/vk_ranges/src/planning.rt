@@ -1,10 +1,10 @@
-ghost use Rattle.std.specs.Prelude.{◌≡◌, ◌≤◌, ◌<◌, ◌∷◌, [], ℕ, Ok, IfOk, List};
+ghost use Rattle.std.specs.Prelude.{◌≡◌, ◌≤◌, ◌<◌, ◌∷◌, [], ℕ, false, Some, Ok, IfOk, List};
 ghost use Rattle.std.specs.Option.{option_copied};
 ghost use Rattle.std.specs.Fn.{FnReturnsAt};
 ghost use Rattle.vk_ranges.specs.Runs.{IsTiling, IsMaximal, after, upto};
 ghost use Rattle.vk_ranges.specs.Overlaps.{with_starts, pieces_left};
 ghost use Rattle.vk_ranges.specs.Inner.Plans.{Makes, IsKept, runs_of};
-ghost use Rattle.vk_ranges.specs.Inner.Edges.{IsClosed, first_value};
+ghost use Rattle.vk_ranges.specs.Inner.Edges.{IsClosed, IsEdgeAfter, first_value};
 ghost use Rattle.vk_ranges.specs.Inner.Walks.{Walked, IsMapped, Gives};
 
 use crate::changes::{Change, Edge, Plan};
@@ -83,6 +83,9 @@ fn merged<'a, T: RangeValue>(
         → Walked low high ((first_end, first.now) ∷ rest.entry) tail.changes.items tail.at_high value) }
     ensures none { IfOk result (λ tail. runs_of tail.changes.items ≡ []) }
 {
+    if first_end > high {
+        return Ok(tail_within(alloc, first, value));
+    }
     let mut changes = Vec::new(alloc);
     let mut end = first_end;
     let mut here = first;
@@ -97,6 +100,17 @@ fn merged<'a, T: RangeValue>(
     }
     let at_high = last_edge(end, here, None, high, value);
     Ok(Tail { changes, at_high })
+}
+
+/// The tail of a range that ends within its first run.
+fn tail_within<T: RangeValue>(alloc: Global, here: &T, last: T) -> Tail<T>
+    ensures none { result.changes.items ≡ [] }
+    ensures edge { IsEdgeAfter false (Some here.now) last result.at_high }
+{
+    Tail {
+        changes: Vec::new(alloc),
+        at_high: edge_after(false, Some(here), last),
+    }
 }
 
 /// What becomes of the high edge of a range, which is in the run that ends at `end` or ends it.
@@ -168,6 +182,9 @@ fn mapped<'a, T: RangeValue, F: Fn(&T) -> Result<T, AllocError>>(
         → IsMapped (λ before after. FnReturnsAt F.Fn f before (Ok after)) low high
         ((first_end, first.now) ∷ rest.entry) tail.changes.items tail.at_high answer) }
 {
+    if first_end > high {
+        return Ok(tail_within(alloc, first, answer));
+    }
     let mut changes = Vec::new(alloc);
     let mut end = first_end;
     let mut here = first;

@@ -1,4 +1,4 @@
-use Rattle.std.proofs.Common.{◌∷◌, refl, Ok}
+use Rattle.std.proofs.Common.{false, ◌≤◌, arith, ◌∷◌, refl, Ok}
 use Rattle.std.specs.Fn.{FnReturnsAt}
 use Rattle.std.proofs.iter.Next.{says_at}
 use Rattle.vk_ranges.proofs.Walking.{last_reaches}
@@ -9,6 +9,23 @@ pub loop-next_end-init : goal.loop-next_end-init
 loop-next_end-init g c = λ low len t lt le.
     rw (c.new-changes.ensures.items, c.into_iter-next_end-iterator.ensures.into_iter_gives)
     (mapping_start (λ before after. FnReturnsAt g.F.Fn c.args.f before (Ok after)) low c.args.high len (c.args.first_end, c.args.first.now) c.args.rest c.args.answer t lt c.requires.given)
+
+pub returns-then-first_end-high : goal.returns-then-first_end-high
+returns-then-first_end-high g c = λ low len t lt le.
+    let gives = λ (before after : g.row.T.Denot). FnReturnsAt g.F.Fn c.args.f before (Ok after) in
+    let mapping = mapping_start gives low c.args.high len (c.args.first_end, c.args.first.now) c.args.rest c.args.answer t lt c.requires.given in
+    let reaches : c.args.high ≤ c.args.first_end = omega arith in
+    rw (c.tail_within.ensures.none) (record {
+      last = c.args.answer;
+      walked = record {
+        run = (c.args.first_end, c.args.first.now);
+        rest = c.args.rest;
+        walk = mapping.walk;
+        reaches = reaches;
+        closed = record { is_end = false; ends = c.if-first_end-high.true; edge_is = c.tail_within.ensures.edge };
+      };
+      new = mapping.news c.args.high mapping.walk.below reaches;
+    })
 
 pub returns-then-end-high : goal.returns-then-end-high
 returns-then-end-high g c = λ low len t lt le.

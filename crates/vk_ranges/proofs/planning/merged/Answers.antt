@@ -1,4 +1,4 @@
-use Rattle.std.proofs.Common.{[], ◌∷◌, refl, ap, ◌∙◌, None, append-nil}
+use Rattle.std.proofs.Common.{false, arith, [], ◌∷◌, refl, ap, ◌∙◌, None, append-nil}
 use Rattle.vk_ranges.specs.Inner.Plans.{runs_of}
 use Rattle.vk_ranges.proofs.Walking.{walk_start, walk_next, last_reaches}
 use Rattle.vk_ranges.proofs.PlanLemmas.{runs_append}
@@ -11,6 +11,16 @@ loop-next_end-init g c =
           rw (c.new-changes.ensures.items, c.into_iter-next_end-iterator.ensures.into_iter_gives) (walk_start low c.args.high len (c.args.first_end, c.args.first.now) c.args.rest t lt);
       none = ap (λ xs. runs_of xs) c.new-changes.ensures.items;
     }
+
+pub returns-then-first_end-high-clause-walked : goal.returns-then-first_end-high-clause-walked
+returns-then-first_end-high-clause-walked g c = λ low len t lt le.
+    rw (c.tail_within.ensures.none) (record {
+      run = (c.args.first_end, c.args.first.now);
+      rest = c.args.rest;
+      walk = walk_start low c.args.high len (c.args.first_end, c.args.first.now) c.args.rest t lt;
+      reaches = omega arith;
+      closed = record { is_end = false; ends = c.if-first_end-high.true; edge_is = c.tail_within.ensures.edge };
+    })
 
 pub returns-then-end-high-clause-walked : goal.returns-then-end-high-clause-walked
 returns-then-end-high-clause-walked g c = λ low len t lt le.
