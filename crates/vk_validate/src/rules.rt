@@ -26,7 +26,7 @@ mod traces;
 use std::alloc::AllocError;
 use vk_history::History;
 use vk_model::Rule;
-use vk_order::Point;
+use vk_order::{Action, Point};
 use vk_touches::Conflicts;
 
 /// Whether a point breaks the rules that need memory to be judged.
@@ -78,6 +78,56 @@ const EARLY: [Rule; 34] = [
     Rule::PassWrite,
 ];
 
+/// Those of them that speak of commands, in the same order.
+const ON_COMMANDS: [Rule; 18] = [
+    Rule::LiveId,
+    Rule::QueueKind,
+    Rule::Size,
+    Rule::Usage,
+    Rule::Range,
+    Rule::Align,
+    Rule::Overlap,
+    Rule::Format,
+    Rule::Subresource,
+    Rule::Stage,
+    Rule::Layout,
+    Rule::OldLayout,
+    Rule::OwnerWhole,
+    Rule::OwnerPair,
+    Rule::EventState,
+    Rule::EventDependency,
+    Rule::SignalOrder,
+    Rule::PassWrite,
+];
+
+/// Those of them that speak of entries, in the same order.
+const ON_ENTRIES: [Rule; 24] = [
+    Rule::NewId,
+    Rule::LiveId,
+    Rule::Queue,
+    Rule::Size,
+    Rule::Usage,
+    Rule::MemoryType,
+    Rule::MemorySize,
+    Rule::PoolSize,
+    Rule::BindRange,
+    Rule::BindAlign,
+    Rule::Aliased,
+    Rule::Range,
+    Rule::Overlap,
+    Rule::Stage,
+    Rule::OwnerPair,
+    Rule::SignalValue,
+    Rule::SignalOrder,
+    Rule::WaitNever,
+    Rule::MapState,
+    Rule::HostVisible,
+    Rule::PoolKind,
+    Rule::PassState,
+    Rule::PassBusy,
+    Rule::PassWrite,
+];
+
 /// The first rule of the table that a point breaks. The only error is want of memory.
 pub fn first_rule(history: &History<'_>, point: &Point<'_>) -> Result<Option<Rule>, AllocError>
     requires supported { IsTrue (is_supported_action (action_of point.now.action)) }
@@ -114,7 +164,12 @@ fn first_early(history: &History<'_>, point: &Point<'_>, searched: Searched) -> 
     requires searched { AreSearched searched (past history.now) (point_of point.now) }
     ensures { result ≡ first_among early_rules (past history.now) (point_of point.now) }
 {
-    first_of(&EARLY, history, point, searched)
+    match point.action {
+        Action::Run(_) => first_of(&ON_COMMANDS, history, point, searched),
+        Action::Host(_) => first_of(&ON_ENTRIES, history, point, searched),
+        Action::Wait(_) => first_of(&EARLY, history, point, searched),
+        Action::Signal(_) => first_of(&EARLY, history, point, searched),
+    }
 }
 
 #[tactic(auto, using(crate::proofs::Judging::Rules::finds))]

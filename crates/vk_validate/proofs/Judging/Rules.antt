@@ -1,11 +1,13 @@
 -- The table of rules, in two parts, of which the second needs the accesses of a point.
-use Rattle.std.proofs.Common.{◌≡◌, ◌≤◌, ◌<◌, ◌+◌, ℕ, List, [], ◌∷◌, ◌++◌, Bool, true, false, refl, sym, ◌∙◌, ap, drop, length, get_or, Option, Some, None, add-one, drop-cons, cond}
+use Rattle.std.proofs.Common.{◌≡◌, ◌≤◌, ◌<◌, ◌+◌, ℕ, List, [], ◌∷◌, ◌++◌, Bool, true, false, refl, sym, ◌∙◌, ap, drop, length, get_or, Option, Some, None, add-one, drop-cons, cond, subst}
 use Rattle.std.specs.List.{find}
 use Rattle.std.proofs.lemmas.List.{drop_all}
 use Rattle.vk_model.specs.declared.rule.Rule.{Rule}
 use Rattle.vk_model.specs.declared.rule.Rule.TheVariants as rule
 use Rattle.vk_model.specs.Basics.{first_that}
-use Rattle.vk_model.specs.Trace.Point.{Past, Point}
+use Rattle.vk_model.specs.declared.command.Cmd.{Cmd}
+use Rattle.vk_model.specs.declared.entry.Entry.{Entry}
+use Rattle.vk_model.specs.Trace.Point.{Past, Point, Action, Host, Run}
 use Rattle.vk_model.specs.Rules.Table.{breaks, first_rule}
 use Rattle.vk_model.specs.Rules.Hazards.{breaks_hazard_war, breaks_hazard_raw, breaks_hazard_waw, breaks_in_use, breaks_read_undefined}
 use Rattle.vk_model.specs.Rules.Traces.{breaks_limit}
@@ -42,10 +44,29 @@ found_second {A} f (x ∷ xs) ys e = go (f x) e (found_second f xs ys) where
   go true e rest = absurd cc
   go false e rest = rest e
 
+-- the early rules that are on commands, and those on entries
+abbrev pub on_commands : List Rule
+on_commands = rule.LiveId ∷ rule.QueueKind ∷ rule.Size ∷ rule.Usage ∷ rule.Range ∷ rule.Align ∷ rule.Overlap ∷ rule.Format ∷ rule.Subresource ∷ rule.Stage ∷ rule.Layout ∷ rule.OldLayout ∷ rule.OwnerWhole
+    ∷ rule.OwnerPair ∷ rule.EventState ∷ rule.EventDependency ∷ rule.SignalOrder ∷ rule.PassWrite ∷ []
+
+abbrev pub on_entries : List Rule
+on_entries = rule.NewId ∷ rule.LiveId ∷ rule.Queue ∷ rule.Size ∷ rule.Usage ∷ rule.MemoryType ∷ rule.MemorySize ∷ rule.PoolSize ∷ rule.BindRange ∷ rule.BindAlign ∷ rule.Aliased ∷ rule.Range ∷ rule.Overlap ∷ rule.Stage
+    ∷ rule.OwnerPair ∷ rule.SignalValue ∷ rule.SignalOrder ∷ rule.WaitNever ∷ rule.MapState ∷ rule.HostVisible ∷ rule.PoolKind ∷ rule.PassState ∷ rule.PassBusy ∷ rule.PassWrite ∷ []
+
 module _ (past : Past) (p : Point) where
   pub early_are : find (λ r. breaks_early r past p) early_rules ≡ first_among early_rules past p
   unfolding breaks_early
   early_are = refl
+
+  -- a command breaks none of those that aren't on commands
+  pub commands_are : (c : Cmd) → p.action ≡ Run c → find (λ r. breaks_early r past p) on_commands ≡ first_among early_rules past p
+  unfolding breaks_early breaks
+  commands_are c is = subst (λ (a : Action). find (λ r. breaks_early r past (record p { action = a })) on_commands ≡ first_among early_rules past (record p { action = a })) (sym is) refl
+
+  -- an entry none of those that aren't on entries
+  pub entries_are : (x : Entry) → p.action ≡ Host x → find (λ r. breaks_early r past p) on_entries ≡ first_among early_rules past p
+  unfolding breaks_early breaks
+  entries_are x is = subst (λ (a : Action). find (λ r. breaks_early r past (record p { action = a })) on_entries ≡ first_among early_rules past (record p { action = a })) (sym is) refl
 
   pub first_is_early : (r : Rule) → first_among early_rules past p ≡ Some r → Some r ≡ first_rule past p
   unfolding first_rule
