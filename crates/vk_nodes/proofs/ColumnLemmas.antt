@@ -39,17 +39,30 @@ shown x n h = cases x.is_held h
     cases true h = (refl, cc)
     cases false h = absurd cc
 
+-- a record that is seen to hold none, with another node
+hidden : (x : Slot) (m : Node) → seen x ≡ None → seen (record x { node = m }) ≡ seen x
+hidden x m h = cases x.is_held refl h
+  where
+    cases : (b : Bool) → x.is_held ≡ b → cond b (Some x.node) None ≡ None → seen (record x { node = m }) ≡ seen x
+    cases true e h = absurd cc
+    cases false e h = rw e refl
+
 -- a node is changed in its place
 module _ (slots all : List Slot) (v : Columns) (view : columns slots ≡ v) (is : all ≡ slots) (k : ℕ) (change : Change) (m : Node) (applied : m ≡ changed (get_or all k empty_slot).node change) where
   abbrev x : Slot
   x = get_or all k empty_slot
 
+  here : (o : Option Node) → get_or v.nodes k None ≡ o → seen x ≡ o
+  here o there = sym (get_or-map seen all k empty_slot) ∙ ap (λ (l : List Slot). get_or (map seen l) k None) is ∙ ap (λ (w : Columns). get_or w.nodes k None) view ∙ there
+
   pub nodes-changed : (n : Node) → get_or v.nodes k None ≡ Some n → map seen (set all k (record x { node = m })) ≡ set v.nodes k (Some (changed n change))
   nodes-changed n there =
-      let here : seen x ≡ Some n = sym (get_or-map seen all k empty_slot) ∙ ap (λ (l : List Slot). get_or (map seen l) k None) is ∙ ap (λ (w : Columns). get_or w.nodes k None) view ∙ there in
-      let two = shown x n here in
+      let two = shown x n (here (Some n) there) in
       let new : cond x.is_held (Some m) None ≡ Some (changed n change) = rw two.0 (ap Some (applied ∙ ap (λ (z : Node). changed z change) two.1)) in
       nodes-set slots all v view is k (record x { node = m }) ∙ ap (λ (o : Option Node). set v.nodes k o) new
+
+  pub nodes-unchanged : get_or v.nodes k None ≡ None → map seen (set all k (record x { node = m })) ≡ v.nodes
+  nodes-unchanged none = nodes-kept slots all v view is k (record x { node = m }) (hidden x m (here None none))
 
 module _ (slots : List Slot) (n : ℕ) (e : Slot) (is_empty : e ≡ empty_slot) (all : slots ≡ replicate n e) where
   pub nodes-new : map seen slots ≡ replicate n None

@@ -1,8 +1,10 @@
 -- What holds of slots in a store after each step.
-use Rattle.std.proofs.Common.{◌≡◌, ℕ, suc, ◌+◌, ◌-◌, ◌<◌, ◌≤◌, ◌^◌, List, [], ◌∷◌, ◌++◌, length, get_or, set, take, replicate, Option, None, Some, refl, sym, ap, subst, ◌∙◌, arith, length-append}
+use Rattle.std.proofs.Common.{◌≡◌, ℕ, suc, ◌+◌, ◌-◌, ◌<◌, ◌≤◌, ◌^◌, List, [], ◌∷◌, ◌++◌, length, get_or, set, take, replicate, Option, None, Some, is_some, refl, sym, ap, subst, ◌∙◌, arith, length-append}
 use Rattle.std.proofs.lemmas.List.{length-set, length-replicate}
 use Rattle.vk_nodes.specs.declared.node.Node.{Node}
 use Rattle.vk_nodes.specs.declared.filled.Filled.TheInside.{Inside}
+use Rattle.vk_nodes.specs.declared.change.Change.{Change}
+use Rattle.vk_nodes.specs.Changes.{changed, IsChanged}
 use Rattle.vk_nodes.specs.Slots.{IsHeld, AllHeld, Hands, free_count, empty_node}
 use Rattle.vk_nodes.specs.Inner.Columns.{Columns}
 use Rattle.vk_nodes.specs.Inner.FreeStack.{IsFreeStack}
@@ -56,6 +58,35 @@ module _ (f : Inside) (now : List (Option Node)) (view : slots_seen f.used f.slo
 
     pub set-seen : slots_seen f.used f.slots new.nodes ≡ set now k (Some n)
     set-seen = ap (λ (l : List (Option Node)). slots_seen f.used f.slots l) is ∙ seen-set f.used f.slots f.store.nodes within k (Some n) (held-used k h) ∙ ap (λ (l : List (Option Node)). set l k (Some n)) view
+
+  -- no node is changed
+  module _ (new : Columns) (is : new.nodes ≡ f.store.nodes) (names : new.names ≡ f.store.names) where
+    same-filled : IsFilled (record f { store = new })
+    same-filled =
+        let size : length new.nodes ≡ length f.store.nodes = ap (λ (l : List (Option Node)). length l) is in
+        let size' : length new.names ≡ length f.store.names = ap (λ (l : List ℕ). length l) names in
+        record {
+          long = omega (arith, size, size', i.long);
+          used = i.used;
+          slots = omega (arith, size, i.slots);
+          few = omega (arith, size, i.few);
+          stack = moved (sym names) refl (ap (λ (l : List (Option Node)). take f.used l) (sym is)) i.stack;
+        }
+
+  -- a node is changed, if one is held
+  module _ (new : Columns) (k : ℕ) (change : Change) (low : k < f.used) (made : IsChanged f.store.nodes new.nodes k change) (kept : get_or f.store.nodes k None ≡ None → new.nodes ≡ f.store.nodes) (names : new.names ≡ f.store.names) where
+    stored : get_or f.store.nodes k None ≡ get_or now k None
+    stored = sym (seen-get f.used f.slots f.store.nodes within k low) ∙ ap (λ (l : List (Option Node)). get_or l k None) view
+
+    pub changed-filled : IsFilled (record f { store = new })
+    changed-filled = cases (get_or now k None) refl
+      where
+        cases : (x : Option Node) → get_or now k None ≡ x → IsFilled (record f { store = new })
+        cases None e = same-filled new (kept (stored ∙ e)) names
+        cases (Some n) e = set-filled new k (changed n change) (ap is_some e) (made n (stored ∙ e)) names
+
+    pub changed-seen : IsChanged now (slots_seen f.used f.slots new.nodes) k change
+    changed-seen n e = set-seen new k (changed n change) (ap is_some e) (made n (stored ∙ e)) names
 
   -- the slot on top of the stack is taken
   module _ (some : 0 < f.free) where

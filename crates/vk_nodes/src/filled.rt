@@ -152,6 +152,18 @@ impl Filled {
     {
         self.store.change(slot as usize, change);
     }
+
+    /// The same, unless the slot is free or there is no such slot: then nothing changes. It looks at
+    /// no node, so it need not wait for one.
+    pub fn change_if_held(&mut self, slot: u32, change: Change)
+        ensures held { IsChanged self.old self.new slot change }
+        ensures free { get_or self.old slot None ≡ None → self.new ≡ self.old }
+    {
+        let at = slot as usize;
+        if at < self.used {
+            self.store.change(at, change);
+        }
+    }
 }
 
 /// To how many slots the memory of so many grows: small ones to four times as many, since what is left

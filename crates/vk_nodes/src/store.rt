@@ -136,10 +136,11 @@ impl Store {
         slot.is_held = true;
     }
 
-    /// Changes the node that is held in a record.
+    /// Changes the node that is held in a record, if one is.
     pub(crate) fn change(&mut self, at: usize, change: Change)
-        requires { IsHeld self.old.nodes at }
+        requires { at < length self.old.nodes }
         ensures nodes { IsChanged self.old.nodes self.new.nodes at change }
+        ensures none { get_or self.old.nodes at None ≡ None → self.new.nodes ≡ self.old.nodes }
         ensures names { self.new.names ≡ self.old.names }
     {
         let slots = self.block.as_mut_slice();

@@ -62,6 +62,14 @@ alike-changed old new slot change held made same =
     let node = node-held old slot held in
     rw (made node.0 node.1) (alike-set old slot node.0 (changed node.0 change) node.1 (ap (λ (r : Range). cond (r.size == 0) None (Some r)) (same node.0)))
 
+-- the same, if a node is held there
+pub alike-if_held : (old new : List (Option Node)) (slot : ℕ) (change : Change) → IsChanged old new slot change → (get_or old slot None ≡ None → new ≡ old) → ((n : Node) → range (changed n change) ≡ range n) → AreAlike old new
+alike-if_held old new slot change made kept same = cases (get_or old slot None) refl
+  where
+    cases : (x : Option Node) → get_or old slot None ≡ x → AreAlike old new
+    cases None e = rw (kept e) (alike-refl old)
+    cases (Some n) e = alike-changed old new slot change (held_here old slot n e) made same
+
 -- the range of a node that has bytes
 pub range_there : (m : Node) → 0 < m.size → range_in (Some m) ≡ Some (range m)
 range_there m some = let e : (m.size == 0) ≡ false = grind arith in rw e refl

@@ -19,23 +19,26 @@ const ROWS: usize = 64;
 /// The list of free ranges of so many units: one for each number below 16, and above sixteen for
 /// each power of two.
 fn list_of(units: u64) -> usize {
-    if units < 16 {
-        return units as usize;
-    }
-    let shift = units.ilog2().saturating_sub(COLUMN_BITS);
-    let row = shift as usize + 1;
-    let column = (units >> shift) as usize % COLUMNS;
-    row * COLUMNS + column
+    let shift = shift_of(units);
+    // (below 1024, so it doesn't wrap)
+    (shift as usize * COLUMNS).wrapping_add((units >> shift) as usize)
 }
 
 /// The first list all of whose ranges have so many units.
 fn sufficing_list(units: u64) -> usize {
     if units < 16 {
-        return list_of(units);
+        return units as usize;
     }
-    let shift = units.ilog2().saturating_sub(COLUMN_BITS);
-    let below_next = (1u64 << shift) - 1;
+    let below_next = (1u64 << shift_of(units)) - 1;
     list_of(units.saturating_add(below_next))
+}
+
+/// In how many of their lowest bits the sizes in one list may differ. There is no case of its own for
+/// small sizes: what is left of free ranges is small or large, and a processor can't foretell which.
+fn shift_of(units: u64) -> u32
+    ensures { result < 64 }
+{
+    (units | COLUMNS as u64).ilog2() - COLUMN_BITS
 }
 
 /// The heads of the lists of free ranges by size, and which lists have one.
@@ -121,10 +124,10 @@ impl Lists {
     {
         let list = list_of(nodes.get(slot).size / UNIT);
         let next_free = self.head(list);
+        // (where there is no next one, this one is written to, and then written over: a branch that
+        // can't be foretold would take longer)
+        set_previous_free(nodes, next_free.unwrap_or(slot), Some(slot));
         set_first(nodes, slot, next_free);
-        if let Some(next) = next_free {
-            set_previous_free(nodes, next, Some(slot));
-        }
         self.fill(list, slot);
     }
 
@@ -138,9 +141,8 @@ impl Lists {
             Some(previous) => set_next_free(nodes, previous, node.next_free),
             None => self.set_head(list_of(node.size / UNIT), node.next_free),
         }
-        if let Some(next) = node.next_free {
-            set_previous_free(nodes, next, node.previous_free);
-        }
+        // (as in `push`; where there is no next one, this one keeps what it has)
+        set_previous_free(nodes, node.next_free.unwrap_or(slot), node.previous_free);
     }
 
     fn columns(&self, row: usize) -> u32 {
@@ -169,18 +171,11 @@ impl Lists {
         if let Some(head) = self.heads.get_mut(list) {
             *head = next;
         }
-        if next.is_none() {
-            self.set_empty(list);
-        }
-    }
-
-    /// Says that a list has no range.
-    fn set_empty(&mut self, list: usize) {
         let row = list / COLUMNS;
         let Some(columns) = self.full_columns.get_mut(row) else {
             return;
         };
-        *columns = *columns & !(1 << (list % COLUMNS));
+        *columns = *columns & !(u32::from(next.is_none()) << (list % COLUMNS));
         if *columns == 0 && row < ROWS {
             self.full_rows = self.full_rows & !(1 << row);
         }
@@ -200,16 +195,12 @@ fn set_first(nodes: &mut Filled, slot: u32, next: Option<u32>)
 fn set_next_free(nodes: &mut Filled, slot: u32, next_free: Option<u32>)
     ensures { AreAlike nodes.old nodes.new }
 {
-    if nodes.find(slot).is_some() {
-        nodes.change(slot, Change::NextFree(next_free));
-    }
+    nodes.change_if_held(slot, Change::NextFree(next_free));
 }
 
 /// Lets a range be after another in its list, where there is such a range.
 fn set_previous_free(nodes: &mut Filled, slot: u32, previous_free: Option<u32>)
     ensures { AreAlike nodes.old nodes.new }
 {
-    if nodes.find(slot).is_some() {
-        nodes.change(slot, Change::PreviousFree(previous_free));
-    }
+    nodes.change_if_held(slot, Change::PreviousFree(previous_free));
 }

@@ -28,6 +28,14 @@ const NEAR: u64 = 512;
 /// How far from these bytes the range of that slot may start.
 const MOST_APART: u64 = 1024;
 
+/// The slot of a range that was looked for.
+#[derive(Clone, Copy)]
+struct Found {
+    slot: u32,
+    /// Whether it is remembered for the range's start.
+    is_remembered: bool,
+}
+
 /// A block of memory of which ranges are taken.
 #[derive(Drop)]
 pub struct Tlsf {
@@ -202,9 +210,9 @@ impl Suballoc for Tlsf {
     }
 
     fn free(&mut self, start: u64) {
-        let slot = slot_near(&self.nodes, &self.near, self.first, start);
-        let joined = release(&mut self.nodes, &mut self.lists, slot);
-        set_near_freed(&mut self.near, start, slot, joined);
+        let found = slot_near(&self.nodes, &self.near, self.first, start);
+        let joined = release(&mut self.nodes, &mut self.lists, found.slot);
+        set_near_freed(&mut self.near, start, found, joined);
     }
 
     fn largest_free(&self) -> u64 {
@@ -248,11 +256,11 @@ fn set_near(near: &mut Vec<u32>, start: u64, slot: u32) {
     }
 }
 
-/// Remembers the slot of a range that is free now, unless a range before it took it in: that one may
-/// start far from here.
-fn set_near_freed(near: &mut Vec<u32>, start: u64, slot: u32, joined: u32) {
-    if joined == slot {
-        set_near(near, start, slot);
+/// Remembers the slot of a range that is free now, unless it was remembered, or a range before it took
+/// it in: that one may start far from here.
+fn set_near_freed(near: &mut Vec<u32>, start: u64, found: Found, joined: u32) {
+    if !found.is_remembered && joined == found.slot {
+        set_near(near, start, found.slot);
     }
 }
 
@@ -264,15 +272,21 @@ fn reach(near: &mut Vec<u32>, place: usize) {
 }
 
 /// The slot of the range that starts here.
-fn slot_near(nodes: &Filled, near: &Vec<u32>, first: u32, start: u64) -> u32
+fn slot_near(nodes: &Filled, near: &Vec<u32>, first: u32, start: u64) -> Found
     requires chain { HasChain nodes.now }
     requires first { IsLive nodes.now first }
     requires there { StartsAt nodes.now start }
-    ensures { IsSlotAt nodes.now result start }
+    ensures { IsSlotAt nodes.now result.slot start }
 {
     match slot_here(nodes, near, start) {
-        Some(slot) => slot,
-        None => slot_around(nodes, near, first, start),
+        Some(slot) => Found {
+            slot,
+            is_remembered: true,
+        },
+        None => Found {
+            slot: slot_around(nodes, near, first, start),
+            is_remembered: false,
+        },
     }
 }
 

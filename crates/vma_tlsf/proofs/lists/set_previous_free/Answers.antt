@@ -1,10 +1,7 @@
-use Rattle.std.proofs.Common.{refl, rules}
+use Rattle.std.proofs.Common.{refl}
 use Rattle.vk_nodes.specs.declared.change.Change.TheVariants.{PreviousFree}
-use Rattle.vma_tlsf.specs.Inner.Steps.{IsHeld}
-use Rattle.vma_tlsf.proofs.Slots.{alike-changed}
+use Rattle.vma_tlsf.proofs.Slots.{alike-if_held}
 use Rattle.vma_tlsf.proofs.lists.set_previous_free.Goals as goal
 
-pub returns-then-is_some : goal.returns-then-is_some
-returns-then-is_some c =
-    let held : IsHeld c.args.nodes.now c.args.slot = search rules in
-    alike-changed c.args.nodes.now c.change.new.self c.args.slot (PreviousFree c.args.previous_free) held c.change.ensures (λ n. refl)
+pub returns : goal.returns
+returns c = alike-if_held c.args.nodes.now c.change_if_held.new.self c.args.slot (PreviousFree c.args.previous_free) c.change_if_held.ensures.held c.change_if_held.ensures.free (λ n. refl)
