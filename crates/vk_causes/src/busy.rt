@@ -1,4 +1,4 @@
-ghost use Rattle.std.specs.Prelude.{◌≡◌, ◌<◌, ◌≤◌, [], ℕ, IfOk, Some, slice_get, take, length};
+ghost use Rattle.std.specs.Prelude.{◌≡◌, ℕ, Some, slice_get, take};
 ghost use Rattle.vk_model.specs.Sync.Node.{nodes};
 ghost use Rattle.vk_order.specs.declared.point.Point.{Point as AnyPoint};
 ghost use Rattle.vk_order.specs.PointViews.{point_of};
@@ -11,6 +11,7 @@ use std::alloc::{AllocError, Global};
 use std::collections::BTreeSet;
 use vk_model::{At, Batch, Cmd, Element, Entry, Place};
 use vk_order::{Action, Point, Points, rows_of};
+use vk_past::order_of;
 
 /// What uses an object that ends.
 #[derive(Clone, Copy)]
@@ -23,20 +24,20 @@ pub enum User<'a> {
     Resource(u32),
 }
 
-/// What uses the object that an entry ends, which is that of one of the points of a trace.
+/// What uses the object that an entry ends, which is that of the last of some points; with those
+/// before it.
 pub fn user_of<'a>(
     alloc: Global,
     points: &[Point<'a>],
-    index: usize,
+    older: &[Point<'a>],
     entry: &Entry,
 ) -> Result<Option<User<'a>>, AllocError>
-    requires new { (k : ℕ) (p : AnyPoint) → slice_get points.now k ≡ Some p → IsNew (point_of p) (nodes (past_of (take k points.now))) }
-    requires there { index < length points.now }
+    requires { (k : ℕ) (p : AnyPoint) → slice_get points.now k ≡ Some p → IsNew (point_of p) (nodes (past_of (take k points.now))) }
 {
     match entry {
-        Entry::Destroy { resource } => command_on(alloc, points, index, *resource),
-        Entry::Free { memory } => resource_in(alloc, &points[..index], *memory),
-        Entry::DropPool { pool } => resource_in(alloc, &points[..index], *pool),
+        Entry::Destroy { resource } => command_on(alloc, points, older, *resource),
+        Entry::Free { memory } => resource_in(alloc, older, *memory),
+        Entry::DropPool { pool } => resource_in(alloc, older, *pool),
         _ => Ok(None),
     }
 }
@@ -45,25 +46,23 @@ pub fn user_of<'a>(
 fn command_on<'a>(
     alloc: Global,
     points: &[Point<'a>],
-    index: usize,
+    older: &[Point<'a>],
     resource: u32,
 ) -> Result<Option<User<'a>>, AllocError>
-    requires new { (k : ℕ) (p : AnyPoint) → slice_get points.now k ≡ Some p → IsNew (point_of p) (nodes (past_of (take k points.now))) }
-    requires there { index < length points.now }
+    requires { (k : ℕ) (p : AnyPoint) → slice_get points.now k ≡ Some p → IsNew (point_of p) (nodes (past_of (take k points.now))) }
 {
-    let order = nodes_of(alloc, points)?;
-    let earlier = &points[..index];
-    let firsts = first_nodes(alloc, earlier)?;
+    let order = order_of(alloc, points)?;
+    let firsts = first_nodes(alloc, older)?;
     let Some(last) = firsts.last().copied() else {
         return Ok(None);
     };
-    for (point, first) in earlier.iter().zip(firsts.iter()) {
+    for (point, first) in older.iter().zip(firsts.iter()) {
         let count = rows_of(alloc, *point)?.len();
         if is_early(&order, *point, resource, *first, count, last) {
             return Ok(Some(User::Started(*point)));
         }
     }
-    waiting_on(alloc, earlier, resource)
+    waiting_on(alloc, older, resource)
 }
 
 /// The number of the first node of each point, and of the one after them.
@@ -118,17 +117,6 @@ fn is_named(element: &Element, resource: u32) -> bool {
         Element::Buffer(buffer) => buffer.buffer == resource,
         Element::Image(image) => image.image == resource,
     }
-}
-
-/// The nodes of points.
-fn nodes_of<'a>(alloc: Global, points: &[Point<'a>]) -> Result<Points<'a>, AllocError>
-    requires { (k : ℕ) (p : AnyPoint) → slice_get points.now k ≡ Some p → IsNew (point_of p) (nodes (past_of (take k points.now))) }
-{
-    let mut order = Points::new(alloc);
-    for point in points {
-        order.add(*point)?;
-    }
-    Ok(order)
 }
 
 /// A command of a batch without a point that names a resource.

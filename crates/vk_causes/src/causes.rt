@@ -1,13 +1,10 @@
-ghost use Rattle.std.specs.Prelude.{◌<◌, IfSome, length};
-
 use crate::busy::{User, user_of};
 use crate::signalers::{Signaler, signaler_of};
 use crate::undefined::{Undefined, undefined_read};
 use std::alloc::{AllocError, Global};
-use vk_facts::at_of;
 use vk_model::{At, Entry, Rule};
-use vk_order::{Action, Point};
-use vk_queues::reference_order;
+use vk_order::Action;
+use vk_past::{Split, points_until, split_of};
 
 /// What is told of a refused point beside its facts.
 #[derive(Drop)]
@@ -28,12 +25,12 @@ pub fn cause_of<'a>(
     at: At,
     rule: Rule,
 ) -> Result<Option<Cause<'a>>, AllocError> {
-    let points = reference_order(alloc, entries)?;
-    let points = points.as_slice();
-    let Some(index) = index_of(points, at) else {
+    let Some(points) = points_until(alloc, entries, at)? else {
         return Ok(None);
     };
-    let point = points[index];
+    let Some(Split { point, older }) = split_of(points.as_slice()) else {
+        return Ok(None);
+    };
     let Action::Host(entry) = point.action else {
         return Ok(None);
     };
@@ -45,33 +42,20 @@ pub fn cause_of<'a>(
                 offset,
                 size,
             },
-        ) => match undefined_read(alloc, &points[..index], *buffer, *offset, *size)? {
+        ) => match undefined_read(alloc, older, *buffer, *offset, *size)? {
             Some(undefined) => Ok(Some(Cause::Undefined(undefined))),
             None => Ok(None),
         },
         (Rule::WaitNever, Entry::Wait { waits }) => {
-            let older = &points[..index];
             match signaler_of(alloc, entries, older, point.entry, waits.as_slice())? {
                 Some(signaler) => Ok(Some(Cause::Signaled(signaler))),
                 None => Ok(None),
             }
         }
-        (Rule::InUse, _) => match user_of(alloc, points, index, entry)? {
+        (Rule::InUse, _) => match user_of(alloc, points.as_slice(), older, entry)? {
             Some(user) => Ok(Some(Cause::Used(user))),
             None => Ok(None),
         },
         _ => Ok(None),
     }
-}
-
-/// The index of the first point that is reported so.
-fn index_of(points: &[Point<'_>], at: At) -> Option<usize>
-    ensures { IfSome result (λ i. i < length points.now) }
-{
-    for (index, point) in points.iter().enumerate() {
-        if at_of(point) == at {
-            return Some(index);
-        }
-    }
-    None
 }

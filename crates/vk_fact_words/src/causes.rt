@@ -2,8 +2,8 @@ use crate::facts::push_byte;
 use crate::quoting::push_quoted;
 use std::alloc::{AllocError, Global};
 use vk_causes::{Cause, Loss, Signaler, Undefined, User, cause_of};
-use vk_facts::at_of;
 use vk_model::{At, Entry, Rule};
+use vk_past::at_of;
 use vk_words::{point_words, push_at};
 
 /// The lines on why a byte is undefined, what uses the object that ends, or what would signal the value

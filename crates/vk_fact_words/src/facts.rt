@@ -3,9 +3,10 @@ ghost use Rattle.vk_words.specs.Points.{kind_text};
 ghost use Rattle.vk_fact_words.specs.FactText as text;
 
 use std::alloc::{AllocError, Global};
-use vk_facts::{CounterFact, Fact, HazardFact, Life, ObjectKind, at_of};
+use vk_facts::{CounterFact, Fact, HazardFact, Life, ObjectKind};
 use vk_model::{At, Entry};
 use vk_order::{Byte, Point};
+use vk_past::at_of;
 use vk_words::{point_words, push_at, push_number};
 
 /// Adds what is said of a fact.

@@ -1,11 +1,9 @@
 use crate::quoting::push_quoted;
 use std::alloc::{AllocError, Global};
-use vk_facts::at_of;
 use vk_measure_words::measure_words;
 use vk_measures::{Measure, measure_of};
 use vk_model::{At, Entry, Rule};
-use vk_order::Point;
-use vk_queues::reference_order;
+use vk_past::points_until;
 
 /// The line on what the rule compares at the point that breaks it, where that is told.
 pub fn measure_line(
@@ -47,19 +45,8 @@ fn measure_at(
     at: At,
     rule: Rule,
 ) -> Result<Option<Measure>, AllocError> {
-    let points = reference_order(alloc, trace)?;
-    match points_until(points.as_slice(), at) {
-        Some(points) => Ok(measure_of(points, rule)),
+    match points_until(alloc, trace, at)? {
+        Some(points) => Ok(measure_of(points.as_slice(), rule)),
         None => Ok(None),
     }
-}
-
-/// The points up to the first one that is reported so.
-pub fn points_until<'s, 'a>(points: &'s [Point<'a>], at: At) -> Option<&'s [Point<'a>]> {
-    for (index, point) in points.iter().enumerate() {
-        if at_of(point) == at {
-            return Some(&points[..index + 1]);
-        }
-    }
-    None
 }

@@ -1,4 +1,3 @@
-use crate::measures::points_until;
 use crate::quoting::push_quoted;
 use std::alloc::{AllocError, Global};
 use vk_model::{At, Entry, Rule};
@@ -7,7 +6,7 @@ use vk_overlap_facts::overlap_of;
 use vk_overlap_words::overlap_words;
 use vk_pass_facts::pass_fact_of;
 use vk_pass_words::pass_words;
-use vk_queues::reference_order;
+use vk_past::points_until;
 use vk_state_words::state_words;
 use vk_states::state_of;
 
@@ -50,10 +49,10 @@ fn state_at(
     at: At,
     rule: Rule,
 ) -> Result<Option<String>, AllocError> {
-    let points = reference_order(alloc, trace)?;
-    let Some(points) = points_until(points.as_slice(), at) else {
+    let Some(points) = points_until(alloc, trace, at)? else {
         return Ok(None);
     };
+    let points = points.as_slice();
     match rule {
         Rule::Overlap => overlap_at(alloc, points),
         Rule::PassState | Rule::PassBusy | Rule::PassWrite => passes_at(alloc, points, rule),

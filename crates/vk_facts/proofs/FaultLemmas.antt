@@ -14,8 +14,8 @@ use Rattle.vk_model.proofs.Rules.Fault.{first_of_fault}
 use Rattle.vk_model.proofs.Trace.Once.{come_once}
 use Rattle.vk_model.proofs.Trace.Structure.{order_ordered}
 use Rattle.vk_queues.proofs.NewPoints.{comes_in}
+use Rattle.vk_past.specs.Until.{IsNowhere, IsUntil}
 use Rattle.vk_facts.specs.declared.facts.Fact.{Fact}
-use Rattle.vk_facts.specs.Until.{IsNowhere, IsUntil}
 use Rattle.vk_model.specs.Sync.Node.{nodes}
 use Rattle.vk_facts.specs.declared.hazards.Hazard.{Hazard}
 use Rattle.vk_facts.specs.declared.hazards.Hazard.TheVariants.{War, Raw, Waw}

@@ -5,9 +5,5 @@ pub mod AlikeLemmas
 pub mod RowNodes
 pub mod SeenAlike
 pub mod HazardLemmas
-pub mod MakerLemmas
-pub mod PastLemmas
-pub mod UntilLemmas
-pub mod DoingLemmas
 pub mod LifeLemmas
 pub mod FaultLemmas

@@ -1,6 +1,3 @@
-pub mod Makers
-pub mod Doings
-pub mod Until
 pub mod Lives
 pub mod Counters
 pub mod Areas

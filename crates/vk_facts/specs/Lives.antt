@@ -6,13 +6,13 @@ use Rattle.vk_model.specs.Trace.Point.{Past, Point, host_of}
 use Rattle.vk_model.specs.Trace.Objects.{made_by}
 use Rattle.vk_model.specs.Rules.Ids.{breaks_new_id, is_buffer, is_image, is_resource, is_pool, is_memory, is_semaphore, is_event, is_defrag, asked_by, judged_in, is_dead}
 use Rattle.vk_order.specs.PointViews.{point_of}
-use Rattle.vk_facts.specs.declared.doings.Doing.TheVariants.{Makes, Ends}
+use Rattle.vk_past.specs.declared.doings.Doing.TheVariants.{Makes, Ends}
+use Rattle.vk_past.specs.Doings.{does}
 use Rattle.vk_facts.specs.declared.asked.ObjectKind.{ObjectKind}
 use Rattle.vk_facts.specs.declared.asked.ObjectKind.TheVariants as kind
 use Rattle.vk_facts.specs.declared.asked.Asked.{Asked}
 use Rattle.vk_facts.specs.declared.lives.Life.{Life}
 use Rattle.vk_facts.specs.declared.lives.DeadId.{DeadId}
-use Rattle.vk_facts.specs.Doings.{does}
 
 -- What the entry that made an id of this kind has to be.
 abbrev pub kind_test : ObjectKind → Entry → Bool

@@ -6,9 +6,9 @@ ghost use Rattle.vk_order.specs.PointViews.{action_of, point_of};
 ghost use Rattle.vk_queues.specs.PointViews.{past_of};
 ghost use Rattle.vk_facts.specs.Counters.{IsCounted, IsLow, IsEndless, IsUnmet, is_unmet};
 
-use crate::doings::{Doing, latest, made, signal_of};
 use vk_model::{Entry, SemaphoreValue};
 use vk_order::{Action, Point};
+use vk_past::{Doing, latest, made, signal_of};
 
 /// A value that is signaled or waited for, and how far its semaphore is.
 #[derive(Clone, Copy)]

@@ -13,7 +13,7 @@ use crate::lives::{DeadId, Life, dead_id, made_id};
 use crate::past::Past;
 use std::alloc::{AllocError, Global};
 use vk_model::{At, Entry, Rule};
-use vk_order::Point;
+use vk_past::{Split, split_of};
 
 /// What is so of a point that breaks a rule.
 #[derive(Clone, Copy)]
@@ -118,25 +118,4 @@ pub fn fact_of_fault<'a>(
     };
     let found = past.fact_of(rule)?;
     Ok(found)
-}
-
-/// The last of some points, and those before it.
-#[derive(Clone, Copy)]
-struct Split<'b, 'a> {
-    /// The last one.
-    pub point: Point<'a>,
-    /// Those before it.
-    pub older: &'b [Point<'a>],
-}
-
-/// They, where there are any.
-fn split_of<'b, 'a>(points: &'b [Point<'a>]) -> Option<Split<'b, 'a>>
-    ensures some { IfSome result (λ s. past_of points.now ≡ point_of s.point ∷ past_of s.older.now) }
-    ensures none { IfNone result (past_of points.now ≡ []) }
-{
-    let (point, older) = points.split_last()?;
-    Some(Split {
-        point: *point,
-        older,
-    })
 }

@@ -2,15 +2,15 @@ ghost use Rattle.std.specs.Prelude.{◌≡◌, ◌∷◌, [], ℕ, IfOk, Some, s
 ghost use Rattle.vk_model.specs.Trace.Point as spec;
 ghost use Rattle.vk_model.specs.Sync.Node.{nodes};
 ghost use Rattle.vk_order.specs.declared.point.Point.{Point as AnyPoint};
-ghost use Rattle.vk_order.specs.PointViews.{point_of, nodes_after};
+ghost use Rattle.vk_order.specs.PointViews.{point_of};
 ghost use Rattle.vk_order.specs.Queries.{IsNew};
 ghost use Rattle.vk_queues.specs.PointViews.{past_of};
-ghost use Rattle.vk_facts.specs.Makers.{AreMakers};
+ghost use Rattle.vk_past.specs.Makers.{AreMakers};
 
-use crate::makers::Makers;
 use std::alloc::{AllocError, Global};
 use std::marker::Model;
-use vk_order::{Point, Points, Row, rows_of};
+use vk_order::{Point, Points, Row};
+use vk_past::{Makers, all_rows};
 
 /// The points of a trace up to and with the last one of which facts are asked, as nodes, with what
 /// they made. Contracts see the points, the newest first.
@@ -56,18 +56,6 @@ impl<'a> Past<'a> {
             before,
         })
     }
-}
-
-/// The rows of all nodes of points.
-fn all_rows<'a>(alloc: Global, points: &[Point<'a>]) -> Result<Vec<Row<'a>>, AllocError>
-    ensures { IfOk result (λ rows. nodes_after [] rows.items ≡ nodes (past_of points.now)) }
-{
-    let mut rows = Vec::new(alloc);
-    for point in points {
-        let mut fresh = rows_of(alloc, *point)?;
-        rows.append(&mut fresh)?;
-    }
-    Ok(rows)
 }
 
 /// What points made.

@@ -8,12 +8,9 @@ use Rattle.vk_model.specs.declared.rule.Rule.{Rule}
 use Rattle.vk_model.specs.declared.rule.Rule.TheVariants as rule
 use Rattle.vk_model.specs.Trace.Point.{Past, Point}
 use Rattle.vk_model.specs.Trace.Order.{order}
-use Rattle.vk_model.specs.Rules.Fault.{Comes, newest, older}
 use Rattle.vk_model.specs.Sync.Node.{Node, nodes}
 use Rattle.vk_model.proofs.Trace.Structure.{order_ordered}
 use Rattle.vk_order.specs.Bytes.{byte_of}
-use Rattle.vk_order.specs.Places.{IsApart}
-use Rattle.vk_queues.proofs.NewPoints.{order_apart}
 use Rattle.vk_facts.specs.declared.facts.Fact.TheVariants as fact
 use Rattle.vk_facts.specs.declared.hazards.Hazard.{Hazard}
 use Rattle.vk_facts.specs.declared.hazards.Hazard.TheVariants.{War, Raw, Waw}
@@ -21,19 +18,11 @@ use Rattle.vk_facts.specs.declared.hazards.HazardFact.{HazardFact}
 use Rattle.vk_facts.specs.Facts.{IsHazardOf, IsSo, IsToldOf}
 use Rattle.vk_model.specs.Sync.Access.{is_in}
 use Rattle.vk_facts.specs.Hazards.{node_at, is_missing, earlier_bytes, later_bytes}
-use Rattle.vk_facts.specs.Until.{IsNowhere, IsUntil}
+use Rattle.vk_past.specs.Until.{IsNowhere, IsUntil}
 use Rattle.vk_facts.proofs.FaultLemmas.{same_point}
 use Rattle.vk_links.specs.declared.links.Links.{Links}
 use Rattle.vk_links.specs.Links.{AreLinks}
 use Rattle.vk_links.specs.Faults.{AreLinksAt}
-
--- the points up to and with one have no two commands at one place
-apart_of : (all before : Past) (p : Point) → Comes all before p → IsApart all → IsApart (p ∷ before)
-apart_of all before p newest apart = apart
-apart_of all before p (older {past = rest} {q = q} come) apart = apart_of rest before p come apart.1
-
-pub until_apart : (t : List Entry) (at : At) (past : Past) → IsUntil (order t) at past → IsApart past
-until_apart t at past until = subst IsApart (sym until.here) (apart_of (order t) until.before until.point until.comes (order_apart t))
 
 -- ---- what is told of a hazard
 

@@ -2,7 +2,6 @@
 //! the write is made available, comes before the access, and is made visible to it.
 #![tactic(auto)]
 
-mod cached;
 mod faults;
 mod laws;
 mod links;

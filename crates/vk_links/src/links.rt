@@ -11,13 +11,13 @@ ghost use Rattle.vk_facts.specs.Hazards.{is_missing, node_at};
 ghost use Rattle.vk_links.specs.Links.{needs_flush, AreLinks, AreLinksOfWrite, IsMissingAfterWrite};
 ghost use Rattle.vk_links.specs.Inner.Found.{AreFound};
 
-use crate::cached::is_cached;
 use crate::nodes::Nodes;
 use crate::sending::Write;
 use crate::showing::Pair;
 use std::alloc::AllocError;
 use vk_facts::{Hazard, HazardFact, Placed};
 use vk_order::{Access, Byte};
+use vk_past::is_cached;
 
 /// A link between an access of a byte and a later one that are in hazard.
 #[derive(Clone, Copy, Debug, PartialEq, Eq)]

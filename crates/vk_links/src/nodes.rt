@@ -1,8 +1,8 @@
-ghost use Rattle.std.specs.Prelude.{◌≡◌, ◌<◌, [], ℕ, IfOk, Some, Contains, slice_get, take, length};
+ghost use Rattle.std.specs.Prelude.{◌≡◌, ◌<◌, ℕ, IfOk, Some, Contains, slice_get, take, length};
 ghost use Rattle.vk_model.specs.Sync.Node.{Node, nodes};
 ghost use Rattle.vk_model.specs.Sync.Before.{before};
 ghost use Rattle.vk_order.specs.declared.point.Point.{Point as AnyPoint};
-ghost use Rattle.vk_order.specs.PointViews.{point_of, nodes_after};
+ghost use Rattle.vk_order.specs.PointViews.{point_of};
 ghost use Rattle.vk_order.specs.Places.{IsApart};
 ghost use Rattle.vk_order.specs.Queries.{IsNew};
 ghost use Rattle.vk_queues.specs.PointViews.{past_of};
@@ -11,7 +11,8 @@ ghost use Rattle.vk_facts.specs.Hazards.{node_at};
 use std::alloc::{AllocError, Global};
 use std::marker::Model;
 use vk_facts::Placed;
-use vk_order::{Point, Points, Row, elements_are_together, rows_of};
+use vk_order::{Point, Points, Row, elements_are_together};
+use vk_past::{all_rows, order_of};
 
 /// The nodes of points, and their order. Contracts see the points, the newest first.
 #[derive(Drop)]
@@ -81,28 +82,4 @@ impl<'a> Nodes<'a> {
     {
         self.order.before(first, second)
     }
-}
-
-/// The rows of all nodes of points.
-fn all_rows<'a>(alloc: Global, points: &[Point<'a>]) -> Result<Vec<Row<'a>>, AllocError>
-    ensures { IfOk result (λ rows. nodes_after [] rows.items ≡ nodes (past_of points.now)) }
-{
-    let mut rows = Vec::new(alloc);
-    for point in points {
-        let mut fresh = rows_of(alloc, *point)?;
-        rows.append(&mut fresh)?;
-    }
-    Ok(rows)
-}
-
-/// The order of the nodes of points.
-fn order_of<'a>(alloc: Global, points: &[Point<'a>]) -> Result<Points<'a>, AllocError>
-    requires { (k : ℕ) (p : AnyPoint) → slice_get points.now k ≡ Some p → IsNew (point_of p) (nodes (past_of (take k points.now))) }
-    ensures { IfOk result (λ order. order ≡ nodes (past_of points.now)) }
-{
-    let mut order = Points::new(alloc);
-    for point in points {
-        order.add(*point)?;
-    }
-    Ok(order)
 }

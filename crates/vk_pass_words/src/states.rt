@@ -1,7 +1,7 @@
 use std::alloc::AllocError;
-use vk_facts::at_of;
 use vk_order::Point;
 use vk_pass_facts::{MovingResource, OpenDefrag, OpenPass, PassState};
+use vk_past::at_of;
 use vk_words::push_at;
 
 /// PASS_STATE: what a point doesn't fit.

@@ -1,0 +1,4 @@
+pub mod PastLemmas
+pub mod MakerLemmas
+pub mod DoingLemmas
+pub mod UntilLemmas
