@@ -19,9 +19,9 @@ use Rattle.vk_model.specs.World.Ownership.{Transfer, Stays, Release, Acquire, Ne
 use Rattle.vk_order.specs.declared.point.Point.{Point as Told}
 use Rattle.vk_order.specs.PointViews.{point_of}
 use Rattle.vk_queues.specs.PointViews.{past_of}
+use Rattle.vk_past.proofs.PastLemmas.{past_item, past_push}
 use Rattle.vk_states.specs.Layouts.{takes_place, names_at, changes_at, transitions}
 use Rattle.vk_states.specs.Inner.LayoutSteps.{elements_in, layout_by, layout_by_point, layout_in, new_layout_of, takes_some, ShowLayouts}
-use Rattle.vk_states.proofs.PastLemmas.{past_item, past_push}
 
 -- ---- what changes no layout
 

@@ -1,4 +1,3 @@
-pub mod PastLemmas
 pub mod LayoutLemmas
 pub mod RangeLemmas
 pub mod BindingLemmas

@@ -11,9 +11,9 @@ use Rattle.vk_model.specs.Rules.Mapping.{is_mapped, maps, count_for}
 use Rattle.vk_order.specs.declared.point.Point.{Point as Told}
 use Rattle.vk_order.specs.PointViews.{point_of}
 use Rattle.vk_queues.specs.PointViews.{past_of}
+use Rattle.vk_past.proofs.PastLemmas.{past_item}
 use Rattle.vk_states.specs.declared.mappings.MapState.{MapState}
 use Rattle.vk_states.specs.Inner.Mapping.{counted, is_form, IsMappedAs}
-use Rattle.vk_states.proofs.PastLemmas.{past_item}
 
 -- ---- counting
 

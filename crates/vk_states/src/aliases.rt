@@ -7,10 +7,10 @@ ghost use Rattle.vk_queues.specs.PointViews.{past_of};
 ghost use Rattle.vk_states.specs.Binding.{IsAliased, IsAliasedBy};
 ghost use Rattle.vk_states.specs.Inner.Binding.{IsBound};
 
-use crate::lives::live;
 use vk_image_tiles::Shape;
 use vk_model::{BufferInfo, Entry, ImageInfo, Kind, Place};
 use vk_order::{Action, Point};
+use vk_past::live;
 
 /// The bytes of a page of `bufferImageGranularity`.
 const PAGE: u64 = 1_024;

@@ -5,7 +5,6 @@ mod aliases;
 mod bindings;
 mod events;
 mod layouts;
-mod lives;
 mod mappings;
 mod naming;
 mod owners;

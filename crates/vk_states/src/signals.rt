@@ -1,12 +1,10 @@
-ghost use Rattle.std.specs.Prelude.{◌≡◌, IfSome, option_map};
-ghost use Rattle.std.specs.List.{find};
-ghost use Rattle.vk_model.specs.Trace.Order as spec;
-ghost use Rattle.vk_order.specs.PointViews.{action_of, point_of};
+ghost use Rattle.std.specs.Prelude.{IfSome};
+ghost use Rattle.vk_order.specs.PointViews.{action_of};
 ghost use Rattle.vk_queues.specs.PointViews.{past_of};
-ghost use Rattle.vk_states.specs.Signals.{IsSignalOrder, signals};
+ghost use Rattle.vk_states.specs.Signals.{IsSignalOrder};
 
-use vk_model::{Entry, SemaphoreValue};
-use vk_order::{Action, Point};
+use vk_order::Point;
+use vk_past::{Doing, latest, signal_of};
 
 /// SIGNAL_ORDER: a signal, and the last one of the same semaphore before it.
 #[derive(Clone, Copy)]
@@ -26,7 +24,7 @@ pub fn signal_order_of<'a>(older: &[Point<'a>], point: &Point<'a>) -> Option<Sig
     ensures { IfSome result (IsSignalOrder (past_of older.now) (action_of point.now.action)) }
 {
     let signal = signal_of(point)?;
-    let last = last_signal(older, signal.semaphore)?;
+    let last = latest(older, Doing::Signals, signal.semaphore)?;
     let earlier = signal_of(&last)?;
     Some(SignalOrder {
         semaphore: signal.semaphore,
@@ -34,43 +32,4 @@ pub fn signal_order_of<'a>(older: &[Point<'a>], point: &Point<'a>) -> Option<Sig
         last,
         last_value: earlier.value,
     })
-}
-
-/// The last of some points that signals a semaphore.
-fn last_signal<'a>(points: &[Point<'a>], semaphore: u32) -> Option<Point<'a>>
-    ensures { option_map point_of result ≡ find (signals semaphore) (past_of points.now) }
-{
-    let mut found = None;
-    for point in points {
-        if is_signal_of(semaphore, point) {
-            found = Some(*point);
-        }
-    }
-    found
-}
-
-fn is_signal_of(semaphore: u32, point: &Point<'_>) -> bool
-    ensures { result ≡ signals semaphore (point_of point.now) }
-{
-    match signal_of(point) {
-        Some(signal) => signal.semaphore == semaphore,
-        None => false,
-    }
-}
-
-/// What a point signals.
-fn signal_of(point: &Point<'_>) -> Option<SemaphoreValue>
-    ensures { option_map (λ x. (x.semaphore, x.value)) result ≡ spec.signal_of (action_of point.now.action) }
-{
-    match point.action {
-        Action::Host(Entry::Signal { semaphore, value }) => Some(SemaphoreValue {
-            semaphore: *semaphore,
-            value: *value,
-        }),
-        Action::Signal(signal) => Some(SemaphoreValue {
-            semaphore: signal.semaphore,
-            value: signal.value,
-        }),
-        _ => None,
-    }
 }

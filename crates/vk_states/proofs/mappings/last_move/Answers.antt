@@ -1,7 +1,7 @@
 use Rattle.std.proofs.Common.{true, false, sym, ◌∙◌}
 use Rattle.vk_model.specs.Trace.Point.{on_host}
+use Rattle.vk_past.proofs.PastLemmas.{find_more}
 use Rattle.vk_states.specs.Inner.Mapping.{moves}
-use Rattle.vk_states.proofs.PastLemmas.{find_more}
 use Rattle.vk_states.proofs.mappings.last_move.Goals as goal
 use Rattle.vk_states.proofs.mappings.last_move.Goals.{then-is_move, else-is_move}
 
