@@ -7,3 +7,4 @@ pub mod Running
 pub mod CachedRunning
 pub mod DirectRuns
 pub mod Living
+pub mod Forms

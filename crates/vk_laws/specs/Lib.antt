@@ -18,3 +18,4 @@ pub mod CachedExample
 pub mod PickedRuns
 pub mod DirectRuns
 pub mod Lifetimes
+pub mod Written

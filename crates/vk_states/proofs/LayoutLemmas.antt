@@ -8,47 +8,18 @@ use Rattle.vk_model.specs.declared.command.Element.{Element}
 use Rattle.vk_model.specs.declared.command.Element.TheVariants as element
 use Rattle.vk_model.specs.declared.command.Families.{Families}
 use Rattle.vk_model.specs.declared.command.ImageElement.{ImageElement}
-use Rattle.vk_model.specs.declared.entry.Entry.{Entry}
-use Rattle.vk_model.specs.declared.entry.Entry.TheVariants as entry
-use Rattle.vk_model.specs.Trace.Objects.{is_exclusive, is_cached}
 use Rattle.vk_model.specs.Trace.Point.{Past, Point, Action, Host, Wait, Run, Signal}
 use Rattle.vk_model.specs.World.Bytes.{World}
 use Rattle.vk_model.specs.World.ByteWrites.{byte_writes}
-use Rattle.vk_model.specs.World.Effect.{world, used, after_writes, after_element, after_buffer_element, after_image_element, after_host, after_action, flushed, invalidated, reaches}
+use Rattle.vk_model.specs.World.Effect.{world, used, after_writes, after_element, after_buffer_element, after_image_element, after_action}
 use Rattle.vk_model.specs.World.Ownership.{Transfer, Stays, Release, Acquire, Neither, transfer, acquires, is_transition, family_of, uses, elements_of}
+use Rattle.vk_laws.proofs.Forms.Unchanged.{used_layout, ready_layout, host_layout}
 use Rattle.vk_order.specs.declared.point.Point.{Point as Told}
 use Rattle.vk_order.specs.PointViews.{point_of}
 use Rattle.vk_queues.specs.PointViews.{past_of}
 use Rattle.vk_past.proofs.PastLemmas.{past_item, past_push}
 use Rattle.vk_states.specs.Layouts.{takes_place, names_at, changes_at, transitions}
 use Rattle.vk_states.specs.Inner.LayoutSteps.{elements_in, layout_by, layout_by_point, layout_in, new_layout_of, takes_some, ShowLayouts}
-
--- ---- what changes no layout
-
-used_layout : (past : Past) (f r : ℕ) (w : World) → (used past f r w).layout ≡ w.layout
-used_layout past f r w = go (is_exclusive past r) refl
-  where
-    go : (b : Bool) → is_exclusive past r ≡ b → (used past f r w).layout ≡ w.layout
-    go true e = rw e refl
-    go false e = rw e refl
-
-ready_layout : (past : Past) (f : ℕ) (rs : List ℕ) (w : World) → (fold (λ v r. used past f r v) w rs).layout ≡ w.layout
-ready_layout past f [] w = refl
-ready_layout past f (r ∷ rs) w = ready_layout past f rs (used past f r w) ∙ used_layout past f r w
-
-host_layout : (past : Past) (x : Entry) (w : World) → (after_host past x w).layout ≡ w.layout
-host_layout past (entry.Write b o bytes) w = refl
-host_layout past (entry.Flush b o n) w = go (is_cached past b)
-  where
-    go : (c : Bool) → (if c then flushed (reaches b o n) w else w).layout ≡ w.layout
-    go true = refl
-    go false = refl
-host_layout past (entry.Invalidate b o n) w = go (is_cached past b)
-  where
-    go : (c : Bool) → (if c then invalidated (reaches b o n) w else w).layout ≡ w.layout
-    go true = refl
-    go false = refl
-host_layout past _ w = refl
 
 -- ---- elements
 

@@ -7,14 +7,14 @@ use Rattle.vk_model.specs.declared.command.Element.{Element}
 use Rattle.vk_model.specs.declared.command.Element.TheVariants as element
 use Rattle.vk_model.specs.declared.command.ImageElement.{ImageElement}
 use Rattle.vk_model.specs.declared.entry.Entry.{Entry}
-use Rattle.vk_model.specs.declared.entry.Entry.TheVariants as entry
 use Rattle.vk_model.specs.Basics.{among, holds}
-use Rattle.vk_model.specs.Trace.Objects.{is_exclusive, is_exclusive_mode, is_cached, made_by, resource_in}
+use Rattle.vk_model.specs.Trace.Objects.{is_exclusive, is_exclusive_mode, made_by, resource_in}
 use Rattle.vk_model.specs.Trace.Point.{Past, Point, Action, Host, Wait, Run, Signal}
 use Rattle.vk_model.specs.World.Bytes.{World, Owner, Family, Released}
 use Rattle.vk_model.specs.World.ByteWrites.{byte_writes}
-use Rattle.vk_model.specs.World.Effect.{world, used, set_owner, transitioned, after_writes, after_element, after_buffer_element, after_image_element, after_host, after_action, flushed, invalidated, reaches}
+use Rattle.vk_model.specs.World.Effect.{world, used, set_owner, transitioned, after_writes, after_element, after_buffer_element, after_image_element, after_action}
 use Rattle.vk_model.specs.World.Ownership.{Transfer, Stays, Release, Acquire, Neither, transfer, is_transition, family_of, uses, elements_of}
+use Rattle.vk_laws.proofs.Forms.Unchanged.{host_owner}
 use Rattle.vk_states.specs.Owners.{takes_half}
 use Rattle.vk_states.specs.Inner.OwnerSteps.{owner_half, owner_by, owner_by_action, owner_by_point, owner_in}
 
@@ -137,20 +137,6 @@ module _ (past : Past) (q r : ℕ) where
   elements_owner (e ∷ es) w = elements_owner es (after_element past f w e) ∙ ap (λ (o : Owner). fold (owner_by x q r) o es) (element_owner w e)
 
 -- ---- points
-
-host_owner : (past : Past) (x : Entry) (w : World) → (after_host past x w).owner ≡ w.owner
-host_owner past (entry.Write b o bytes) w = refl
-host_owner past (entry.Flush b o n) w = go (is_cached past b)
-  where
-    go : (c : Bool) → (if c then flushed (reaches b o n) w else w).owner ≡ w.owner
-    go true = refl
-    go false = refl
-host_owner past (entry.Invalidate b o n) w = go (is_cached past b)
-  where
-    go : (c : Bool) → (if c then invalidated (reaches b o n) w else w).owner ≡ w.owner
-    go true = refl
-    go false = refl
-host_owner past _ w = refl
 
 action_owner : (past : Past) (q r : ℕ) (a : Action) (w : World) → (after_action past q a w).owner r ≡ owner_by_action (is_exclusive past r) r q a (w.owner r)
 action_owner past q r (Host x) w = ap (λ (at : ℕ → Owner). at r) (host_owner past x w)

@@ -14,10 +14,10 @@ use Rattle.vk_model.proofs.Lists.Members.{contains-head, contains-tail, flat_has
 use Rattle.vk_model.proofs.Trace.Growing.{On, actions_grow, still_has}
 
 -- the point of a batch's command
-abbrev command_point : SubmittedBatch → ℕ → Cmd → Point
+abbrev pub command_point : SubmittedBatch → ℕ → Cmd → Point
 command_point b k c = record { entry = b.entry; batch = b.batch; place = k; queue = b.queue; action = Run c }
 
-has_command : (b : SubmittedBatch) (k : ℕ) (xs : List Cmd) (past : Past) (j : ℕ) (c : Cmd) → slice_get xs j ≡ Some c → Contains (actions Run b k xs past) (command_point b (k + j) c)
+pub has_command : (b : SubmittedBatch) (k : ℕ) (xs : List Cmd) (past : Past) (j : ℕ) (c : Cmd) → slice_get xs j ≡ Some c → Contains (actions Run b k xs past) (command_point b (k + j) c)
 has_command b k [] past j c e = absurd cc
 has_command b k (x ∷ xs) past zero c e =
     let same : x ≡ c = cc in
@@ -29,7 +29,7 @@ has_command b k (x ∷ xs) past (suc j) c e =
     subst (λ (n : ℕ). Contains (actions Run b k (x ∷ xs) past) (command_point b n c)) (let same : (k + 1) + j ≡ k + suc j = omega arith in same)
     (has_command b (k + 1) xs (command_point b k x ∷ past) j c e)
 
-has_batch : (past : Past) (e q k : ℕ) (bs : List Batch) (j : ℕ) (b : Batch) → slice_get bs j ≡ Some b → Contains (batches_from past e q k bs) (submitted_batch past e q (k + j) b)
+pub has_batch : (past : Past) (e q k : ℕ) (bs : List Batch) (j : ℕ) (b : Batch) → slice_get bs j ≡ Some b → Contains (batches_from past e q k bs) (submitted_batch past e q (k + j) b)
 has_batch past e q k [] j b is = absurd cc
 has_batch past e q k (x ∷ bs) zero b is =
     let same : x ≡ b = cc in
