@@ -15,8 +15,9 @@ use Rattle.vk_model.specs.World.ByteWrites.{byte_writes}
 use Rattle.vk_model.specs.Sync.Node.{Role, Barrier, SetOf, AwaitOf, Depends, Runs, command_acts, event_acts}
 use Rattle.vk_model.specs.Sync.Access.{targets, transition_bytes, writes_of}
 use Rattle.vk_model.proofs.Lists.Members.{any_map, none_passes_any}
+use Rattle.vk_laws.specs.Written.{IsResourceOf}
 use Rattle.vk_pass_facts.specs.declared.moving.MovingResource.{MovingResource}
-use Rattle.vk_pass_facts.specs.Inner.Written.{IsResourceOf, acts_write}
+use Rattle.vk_pass_facts.specs.Inner.Written.{acts_write}
 
 module _ (past : Past) (q : ℕ) (f : ℕ → Bool) where
   pub barrier_writes : (es : List Element) → list_any (λ e. list_any (λ b. f (resource_at b)) (transition_bytes past q e)) es ≡ acts_write past q f (command_acts (cmd.Barrier es))

@@ -1,5 +1,5 @@
 -- Which resources commands name, and which commands are submitted.
-use Rattle.std.proofs.Common.{◌≡◌, ℕ, zero, suc, ◌+◌, List, [], ◌∷◌, false, Some, refl, ap, sym, ◌∙◌, subst, arith, slice_get, ⊎_elim}
+use Rattle.std.proofs.Common.{◌≡◌, ℕ, ◌+◌, List, [], ◌∷◌, false, Some, refl, ap, sym, ◌∙◌, subst, arith, slice_get, ⊎_elim}
 use Rattle.std.specs.Prelude.{Contains}
 use Rattle.std.specs.List.{list_any, enumerate_from}
 use Rattle.std.proofs.Math.Bool.{or-false}
@@ -17,8 +17,8 @@ use Rattle.vk_model.specs.Trace.Order.{SubmittedBatch, actions, submitted_batch,
 use Rattle.vk_model.specs.World.Ownership.{named_by, uses}
 use Rattle.vk_model.specs.Sync.Node.{Role, Barrier, SetOf, AwaitOf, Depends, event_acts}
 use Rattle.vk_model.specs.Sync.Complete.{commands_of, submitted, named_by_act, names}
-use Rattle.vk_model.proofs.Lists.Members.{contains-head, contains-tail, contains-cons, flat_has, any_map, none_passes_any}
-use Rattle.vk_model.proofs.Trace.Growing.{On, actions_grow, still_has}
+use Rattle.vk_model.proofs.Lists.Members.{contains-cons, flat_has, any_map, none_passes_any}
+use Rattle.vk_laws.proofs.Living.Submitted.{command_point, has_command, has_batch}
 use Rattle.vk_pass_facts.specs.declared.named.Spot.{Spot}
 use Rattle.vk_pass_facts.specs.Inner.Submits.{IsSubmit, IsSubmitted}
 
@@ -43,31 +43,6 @@ command_names r (cmd.CopyOut i l b gs) other = sym (or-false _)
 command_names r (cmd.CopyImage s l d m gs) other = sym (or-false _)
 
 -- ---- which commands are submitted
-
-abbrev command_point : SubmittedBatch → ℕ → Cmd → Point
-command_point b k c = record { entry = b.entry; batch = b.batch; place = k; queue = b.queue; action = Run c }
-
-has_command : (b : SubmittedBatch) (k : ℕ) (xs : List Cmd) (past : Past) (j : ℕ) (c : Cmd) → slice_get xs j ≡ Some c → Contains (actions Run b k xs past) (command_point b (k + j) c)
-has_command b k [] past j c e = absurd cc
-has_command b k (x ∷ xs) past zero c e =
-    let same : x ≡ c = cc in
-    let here : Contains (command_point b k x ∷ past) (command_point b (k + 0) c) =
-    subst (λ (y : Cmd). Contains (command_point b k x ∷ past) (command_point b (k + 0) y)) same
-    (subst (λ (n : ℕ). Contains (command_point b k x ∷ past) (command_point b n x)) (let none : k ≡ k + 0 = omega arith in none) (contains-head (command_point b k x) past)) in
-    still_has (On b.queue) (command_point b k x ∷ past) (actions Run b (k + 1) xs (command_point b k x ∷ past)) (actions_grow Run (λ y. refl) b (k + 1) xs (command_point b k x ∷ past)) (command_point b (k + 0) c) here
-has_command b k (x ∷ xs) past (suc j) c e =
-    subst (λ (n : ℕ). Contains (actions Run b k (x ∷ xs) past) (command_point b n c)) (let same : (k + 1) + j ≡ k + suc j = omega arith in same)
-    (has_command b (k + 1) xs (command_point b k x ∷ past) j c e)
-
-has_batch : (past : Past) (e q k : ℕ) (bs : List Batch) (j : ℕ) (b : Batch) → slice_get bs j ≡ Some b → Contains (batches_from past e q k bs) (submitted_batch past e q (k + j) b)
-has_batch past e q k [] j b is = absurd cc
-has_batch past e q k (x ∷ bs) zero b is =
-    let same : x ≡ b = cc in
-    subst (λ (y : Batch). Contains (batches_from past e q k (x ∷ bs)) (submitted_batch past e q (k + 0) y)) same
-    (subst (λ (n : ℕ). Contains (batches_from past e q k (x ∷ bs)) (submitted_batch past e q n x)) (let none : k ≡ k + 0 = omega arith in none) (contains-head (submitted_batch past e q k x) (batches_from past e q (k + 1) bs)))
-has_batch past e q k (x ∷ bs) (suc j) b is =
-    contains-tail (submitted_batch past e q k x) (batches_from past e q (k + 1) bs) (submitted_batch past e q (k + suc j) b)
-    (subst (λ (n : ℕ). Contains (batches_from past e q (k + 1) bs) (submitted_batch past e q n b)) (let same : (k + 1) + j ≡ k + suc j = omega arith in same) (has_batch past e q (k + 1) bs j b is))
 
 -- the commands of a submit
 of_submit : (past : Past) (e q j k : ℕ) (bs : List Batch) (b : Batch) (c : Cmd) → slice_get bs j ≡ Some b → slice_get b.commands k ≡ Some c

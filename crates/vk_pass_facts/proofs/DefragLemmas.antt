@@ -13,10 +13,10 @@ use Rattle.vk_model.proofs.Lists.Members.{any_same, only_one}
 use Rattle.vk_order.specs.declared.point.Point.{Point as Told}
 use Rattle.vk_order.specs.PointViews.{point_of}
 use Rattle.vk_queues.specs.PointViews.{past_of}
+use Rattle.vk_past.proofs.PastLemmas.{past_item}
 use Rattle.vk_pass_facts.specs.declared.defrags.OpenDefrag.{OpenDefrag}
 use Rattle.vk_pass_facts.specs.Defrags.{IsOpenDefrag}
 use Rattle.vk_pass_facts.specs.Inner.Kept.{AreDefrags, made_at, open_among}
-use Rattle.vk_pass_facts.proofs.PastLemmas.{past_item}
 
 -- ---- a point more
 

@@ -1,10 +1,7 @@
-pub mod PastLemmas
 pub mod ListSteps
 pub mod ObjectLemmas
 pub mod DefragLemmas
 pub mod PassLemmas
-pub mod Spread
-pub mod WrittenBytes
 pub mod ActLemmas
 pub mod CommandLemmas
 pub mod NewestLemmas

@@ -11,9 +11,9 @@ use Rattle.vk_model.specs.Rules.Passes.{count_of, in_pass, begins, finishes}
 use Rattle.vk_order.specs.declared.point.Point.{Point as Told}
 use Rattle.vk_order.specs.PointViews.{point_of}
 use Rattle.vk_queues.specs.PointViews.{past_of}
+use Rattle.vk_past.proofs.PastLemmas.{past_item}
 use Rattle.vk_pass_facts.specs.Defrags.{begins_pass}
 use Rattle.vk_pass_facts.specs.Inner.Forms.{is_form}
-use Rattle.vk_pass_facts.proofs.PastLemmas.{past_item}
 
 module _ (form : Entry → Option ℕ) (d : ℕ) where
   count_more : (seen : Past) (p : Point) → count_of (p ∷ seen) d form ≡ count_of seen d form + (if on_host (is_form form d) p then 1 else 0)

@@ -1,4 +1,4 @@
-ghost use Rattle.std.specs.Prelude.{◌≡◌, ◌∷◌, [], IfOk, IfSome, IfNone};
+ghost use Rattle.std.specs.Prelude.{◌≡◌, ◌∷◌, IfOk};
 ghost use Rattle.vk_model.specs.Trace.Point as spec;
 ghost use Rattle.vk_model.specs.declared.rule.Rule.TheVariants as rule;
 ghost use Rattle.vk_order.specs.PointViews.{point_of};
@@ -13,6 +13,7 @@ use crate::writes::pass_write_of;
 use std::alloc::{AllocError, Global};
 use vk_model::Rule;
 use vk_order::Point;
+use vk_past::split_of;
 
 /// What is so of a point that doesn't fit the passes of defragmentations.
 #[derive(Clone, Copy)]
@@ -103,25 +104,4 @@ fn of_pass_busy<'a>(
         Some(resource) => Ok(Some(PassFact::Busy(resource))),
         None => Ok(None),
     }
-}
-
-/// The last of some points, and those before it.
-#[derive(Clone, Copy)]
-struct Split<'b, 'a> {
-    /// The last one.
-    pub point: Point<'a>,
-    /// Those before it.
-    pub older: &'b [Point<'a>],
-}
-
-/// They, where there are any.
-fn split_of<'b, 'a>(points: &'b [Point<'a>]) -> Option<Split<'b, 'a>>
-    ensures some { IfSome result (λ s. past_of points.now ≡ point_of s.point ∷ past_of s.older.now) }
-    ensures none { IfNone result (past_of points.now ≡ []) }
-{
-    let (point, older) = points.split_last()?;
-    Some(Split {
-        point: *point,
-        older,
-    })
 }

@@ -7,7 +7,6 @@ mod candidates;
 mod defrags;
 mod ended;
 mod facts;
-mod makers;
 mod moving;
 mod named;
 mod newest;

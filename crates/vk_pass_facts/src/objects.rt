@@ -1,19 +1,19 @@
 ghost use Rattle.std.specs.Prelude.{◌≡◌, ◌∷◌, [], IfOk, OnOk, IfSome, option_map, option_and_then, is_some};
 ghost use Rattle.vk_model.specs.Trace.Objects as spec;
-ghost use Rattle.vk_model.specs.Trace.Point.{Past, host_of};
+ghost use Rattle.vk_model.specs.Trace.Point.{Past};
 ghost use Rattle.vk_model.specs.World.ByteWrites.{buffer_size};
 ghost use Rattle.vk_model.specs.Rules.Passes.{pool_of_defrag};
-ghost use Rattle.vk_order.specs.PointViews.{action_of, point_of};
+ghost use Rattle.vk_order.specs.PointViews.{point_of};
 ghost use Rattle.vk_queues.specs.PointViews.{past_of};
 ghost use Rattle.vk_pass_facts.specs.Defrags.{IsOpenDefrag};
 ghost use Rattle.vk_pass_facts.specs.Inner.Kept.{AreObjects};
 
 use crate::defrags::{OpenDefrag, defrag_made};
 use crate::ended::Ended;
-use crate::makers::Makers;
 use std::alloc::{AllocError, Global};
 use vk_model::{Entry, Place};
-use vk_order::{Action, Point};
+use vk_order::Point;
+use vk_past::{Makers, pool_at};
 
 /// Of each id the last point that made it, and whether it ended.
 #[derive(Drop)]
@@ -57,10 +57,7 @@ impl<'a> Objects<'a> {
     fn made(&self, id: u32) -> Option<&'a Entry>
         ensures { (past : Past) → AreObjects self.now past → option_map (λ x. x.now) result ≡ spec.made past id }
     {
-        match self.makers.maker(id) {
-            Some(point) => entry_of(&point),
-            None => None,
-        }
+        self.makers.made(id)
     }
 
     /// The defragmentation of an id, if it hasn't ended.
@@ -121,25 +118,5 @@ impl<'a> Objects<'a> {
             Some(Entry::Buffer { info, .. }) => info.size,
             _ => 0,
         }
-    }
-}
-
-/// The pool of a place.
-fn pool_at(place: Place) -> Option<u32>
-    ensures { result ≡ spec.pool_at place }
-{
-    match place {
-        Place::Pool { pool } | Place::PoolUpper { pool } => Some(pool),
-        _ => None,
-    }
-}
-
-/// The entry of the host that a point is.
-fn entry_of<'a>(point: &Point<'a>) -> Option<&'a Entry>
-    ensures { option_map (λ x. x.now) result ≡ host_of (action_of point.now.action) }
-{
-    match point.action {
-        Action::Host(entry) => Some(entry),
-        _ => None,
     }
 }

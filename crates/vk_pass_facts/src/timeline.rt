@@ -1,16 +1,17 @@
-ghost use Rattle.std.specs.Prelude.{◌≡◌, ◌∷◌, [], ℕ, true, false, IfOk, IfSome};
+ghost use Rattle.std.specs.Prelude.{◌≡◌, ◌∷◌, ℕ, true, false, IfOk, IfSome};
 ghost use Rattle.vk_model.specs.declared.entry.Entry.{Entry as AnyEntry};
 ghost use Rattle.vk_model.specs.Trace.Point.{Past, Host};
 ghost use Rattle.vk_model.specs.Trace.Point as spec;
 ghost use Rattle.vk_model.specs.Sync.Node.{nodes};
-ghost use Rattle.vk_order.specs.PointViews.{node_of, nodes_after, point_of};
+ghost use Rattle.vk_order.specs.PointViews.{node_of, point_of};
 ghost use Rattle.vk_queues.specs.PointViews.{past_of};
 ghost use Rattle.vk_pass_facts.specs.Inner.Uses.{IsIncomplete, IsTimeline, at_spot, uses_at};
 
 use crate::named::{Spot, named_by};
 use crate::newest::Newest;
 use std::alloc::{AllocError, Global};
-use vk_order::{Point, Points, Row, rows_of};
+use vk_order::{Point, Points, Row};
+use vk_past::all_rows;
 
 /// The nodes of points, and their order.
 #[derive(Drop)]
@@ -89,18 +90,6 @@ fn is_at(point: &Point<'_>, spot: Spot) -> bool
     ensures { result ≡ at_spot spot (point_of point.now) }
 {
     point.entry == spot.entry && point.batch == spot.batch && point.place == spot.place
-}
-
-/// The rows of all nodes of points.
-fn all_rows<'a>(alloc: Global, points: &[Point<'a>]) -> Result<Vec<Row<'a>>, AllocError>
-    ensures { IfOk result (λ rows. nodes_after [] rows.items ≡ nodes (past_of points.now)) }
-{
-    let mut rows = Vec::new(alloc);
-    for point in points {
-        let mut fresh = rows_of(alloc, *point)?;
-        rows.append(&mut fresh)?;
-    }
-    Ok(rows)
 }
 
 /// The order of the nodes of points, each of which is new.

@@ -4,8 +4,8 @@ ghost use Rattle.vk_model.specs.Trace.Objects.{image};
 ghost use Rattle.vk_model.specs.World.ByteWrites.{byte_writes};
 ghost use Rattle.vk_model.specs.World.Ownership as ownership;
 ghost use Rattle.vk_model.specs.Sync.Access.{targets, transition_bytes, host_writes};
-ghost use Rattle.vk_pass_facts.specs.Inner.Written as parts;
-ghost use Rattle.vk_pass_facts.specs.Inner.Written.{IsResourceOf};
+ghost use Rattle.vk_laws.specs.Written as parts;
+ghost use Rattle.vk_laws.specs.Written.{IsResourceOf};
 
 use crate::before::Before;
 use vk_model::{

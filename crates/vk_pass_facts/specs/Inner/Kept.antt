@@ -1,23 +1,18 @@
 -- What is kept of points.
-use Rattle.std.specs.Prelude.{◌≡◌, ℕ, List, Bool, Option, Contains, is_some, option_map, option_and_then}
-use Rattle.std.specs.List.{find, filter, filter_map, list_any}
+use Rattle.std.specs.Prelude.{◌≡◌, ℕ, List, Bool, Option, Contains, is_some, option_and_then}
+use Rattle.std.specs.List.{filter, filter_map, list_any}
 use Rattle.std.specs.Ordering.{nat_cmp}
-use Rattle.std.specs.BTreeMap.{get}
 use Rattle.std.specs.BTreeSet.{contains}
-use Rattle.vk_model.specs.Trace.Point.{Past, Point, entries, host_of, on_host}
+use Rattle.vk_model.specs.Trace.Point.{Past, Point, entries, host_of}
 use Rattle.vk_model.specs.Trace.Objects as objects
 use Rattle.vk_model.specs.Trace.Objects.{made_by, defrag_in}
 use Rattle.vk_model.specs.Rules.Passes.{pool_of_defrag}
-use Rattle.vk_order.specs.PointViews.{point_of}
-use Rattle.vk_pass_facts.specs.declared.makers.Makers.{Makers}
+use Rattle.vk_past.specs.declared.makers.Makers.{Makers}
+use Rattle.vk_past.specs.Makers.{AreMakers}
 use Rattle.vk_pass_facts.specs.declared.ended.Ended.{Ended}
 use Rattle.vk_pass_facts.specs.declared.objects.Objects.{Objects}
 use Rattle.vk_pass_facts.specs.declared.defrags.OpenDefrag.{OpenDefrag}
-use Rattle.vk_pass_facts.specs.Defrags.{IsOpenDefrag, makes}
-
--- The points that are kept are the newest ones that made each id.
-abbrev pub AreMakers : Makers → Past → Type 0
-AreMakers m past = (i : ℕ) → option_map point_of (get nat_cmp m.by_id i) ≡ find (on_host (makes i)) past
+use Rattle.vk_pass_facts.specs.Defrags.{IsOpenDefrag}
 
 -- The ids that are kept are those that ended.
 abbrev pub AreEnded : Ended → Past → Type 0

@@ -5,8 +5,8 @@ use Rattle.vk_model.specs.declared.command.ImageCopy.{ImageCopy}
 use Rattle.vk_model.specs.declared.command.SubresourceRange.{SubresourceRange}
 use Rattle.vk_model.specs.Trace.Objects.{image}
 use Rattle.vk_model.specs.World.ByteWrites.{fill_size}
-use Rattle.vk_pass_facts.specs.Inner.Written.{some_bytes, some_subresource, some_texel, some_copied}
-use Rattle.vk_pass_facts.proofs.WrittenBytes.{fill_written, update_written, copy_written, clear_written, copy_in_written, copy_out_written, copy_image_written, not_empty}
+use Rattle.vk_laws.specs.Written.{some_bytes, some_subresource, some_texel, some_copied}
+use Rattle.vk_laws.proofs.Forms.Written.{fill_written, update_written, copy_written, clear_written, copy_in_written, copy_out_written, copy_image_written, not_empty}
 use Rattle.vk_pass_facts.proofs.written.written_by_command.Goals as goal
 
 pub returns-in-Fill : goal.returns-in-Fill

@@ -3,7 +3,7 @@ use Rattle.std.specs.Prelude.{is_some}
 use Rattle.vk_model.specs.declared.command.Element.{Element}
 use Rattle.vk_model.specs.Trace.Objects.{image}
 use Rattle.vk_model.specs.World.Ownership.{is_transition, is_release}
-use Rattle.vk_pass_facts.proofs.WrittenBytes.{transition_written}
+use Rattle.vk_laws.proofs.Forms.Written.{transition_written}
 use Rattle.vk_pass_facts.proofs.written.written_by_element.Goals as goal
 
 pub returns-in-Image : goal.returns-in-Image

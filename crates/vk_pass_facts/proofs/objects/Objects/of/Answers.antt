@@ -1,8 +1,8 @@
 use Rattle.std.proofs.Common.{take, sym, subst}
 use Rattle.vk_model.specs.Trace.Point.{Past}
 use Rattle.vk_queues.specs.PointViews.{past_of}
+use Rattle.vk_past.proofs.PastLemmas.{past_item}
 use Rattle.vk_pass_facts.specs.Inner.Kept.{AreObjects}
-use Rattle.vk_pass_facts.proofs.PastLemmas.{past_item}
 use Rattle.vk_pass_facts.proofs.objects.Objects.of.Goals as goal
 
 pub loop-point-preserved : goal.loop-point-preserved
