@@ -1,31 +1,14 @@
 ghost use Rattle.std.specs.Prelude.{◌≡◌, ◌==◌, IfSome, is_some};
 ghost use Rattle.vk_model.specs.Trace.Image.{texel};
 ghost use Rattle.vk_model.specs.World.Areas as spec;
+ghost use Rattle.vk_overlaps.specs.Boxes.{box_of};
 ghost use Rattle.vk_overlap_facts.specs.Commons.{IsIn};
-ghost use Rattle.vk_overlap_facts.specs.Inner.Areas.{area_of, box_of};
+ghost use Rattle.vk_overlap_facts.specs.Inner.Areas.{area_of};
 
 use crate::commons::{Common, first_byte, first_number};
 use crate::rows::first_in_rows;
 use vk_model::{BufferImageCopy, Format, SubresourceRange};
-
-/// Texels of one level and some layers of an image.
-#[derive(Clone, Copy)]
-pub struct TexelBox {
-    /// The mip level.
-    pub level: u32,
-    /// The first array layer.
-    pub first_layer: u32,
-    /// How many layers.
-    pub layers: u32,
-    /// In texels, from the left.
-    pub x: u32,
-    /// In texels, from the top.
-    pub y: u32,
-    /// In texels.
-    pub width: u32,
-    /// In texels.
-    pub height: u32,
-}
+use vk_overlaps::TexelBox;
 
 /// An area of a resource that a command reads or writes.
 #[derive(Clone, Copy)]

@@ -5,11 +5,12 @@ ghost use Rattle.vk_model.specs.World.ByteWrites.{buffer_size, fill_size};
 ghost use Rattle.vk_queues.specs.PointViews.{past_of};
 ghost use Rattle.vk_overlap_facts.specs.Inner.Areas.{area_of};
 
-use crate::areas::{Area, TexelBox};
-use crate::made::{image, size};
+use crate::areas::Area;
 use std::alloc::{AllocError, Global};
 use vk_model::{BufferCopy, BufferImageCopy, Cmd, Format, ImageCopy, Length, SubresourceRange};
 use vk_order::Point;
+use vk_overlaps::{destination_box, region_box, source_box};
+use vk_past::{image, size};
 
 /// The areas that a command writes, by its regions or ranges in order.
 pub fn areas_written(
@@ -169,15 +170,7 @@ fn region_texels(
     for region in regions {
         areas.push(Area::Texels {
             image,
-            texels: TexelBox {
-                level: region.level,
-                first_layer: region.first_layer,
-                layers: region.layers,
-                x: region.x,
-                y: region.y,
-                width: region.width,
-                height: region.height,
-            },
+            texels: region_box(region),
         })?;
     }
     Ok(areas)
@@ -224,15 +217,7 @@ fn texels_written(alloc: Global, image: u32, regions: &[ImageCopy]) -> Result<Ve
     for region in regions {
         areas.push(Area::Texels {
             image,
-            texels: TexelBox {
-                level: region.destination_level,
-                first_layer: region.destination_first_layer,
-                layers: region.layers,
-                x: region.destination_x,
-                y: region.destination_y,
-                width: region.width,
-                height: region.height,
-            },
+            texels: destination_box(region),
         })?;
     }
     Ok(areas)
@@ -245,15 +230,7 @@ fn texels_read(alloc: Global, image: u32, regions: &[ImageCopy]) -> Result<Vec<A
     for region in regions {
         areas.push(Area::Texels {
             image,
-            texels: TexelBox {
-                level: region.source_level,
-                first_layer: region.source_first_layer,
-                layers: region.layers,
-                x: region.source_x,
-                y: region.source_y,
-                width: region.width,
-                height: region.height,
-            },
+            texels: source_box(region),
         })?;
     }
     Ok(areas)

@@ -1,7 +1,7 @@
-use crate::areas::{Area, TexelBox};
+use crate::areas::Area;
 use std::alloc::{AllocError, Global};
 use vk_model::{BufferImageCopy, Format};
-use vk_overlaps::{Extent, Span, last_byte, overlapping, row_count, row_size, row_start};
+use vk_overlaps::{Extent, Span, TexelBox, last_byte, overlapping, row_count, row_size, row_start};
 
 /// So many rows, at most, are looked at as parts.
 const MOST_ROWS: usize = 4_194_304;

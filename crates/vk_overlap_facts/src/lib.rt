@@ -11,7 +11,6 @@ mod commons;
 mod finder;
 mod hints;
 mod lists;
-mod made;
 mod overlaps;
 mod pairs;
 mod rows;

@@ -1,4 +1,4 @@
-ghost use Rattle.std.specs.Prelude.{◌≡◌, ◌∷◌, [], IfOk, IfSome, IfNone, is_some};
+ghost use Rattle.std.specs.Prelude.{◌≡◌, ◌∷◌, IfOk, IfSome, is_some};
 ghost use Rattle.vk_model.specs.Trace.Point as spec;
 ghost use Rattle.vk_model.specs.World.Areas as areas;
 ghost use Rattle.vk_model.specs.Rules.Ranges as rules;
@@ -15,6 +15,7 @@ use crate::transitions::{elements_of, transitions_overlap};
 use std::alloc::{AllocError, Global};
 use vk_model::Cmd;
 use vk_order::{Action, Point};
+use vk_past::split_of;
 
 /// Which two parts of the last of some points overlap, where that point breaks OVERLAP, and what they
 /// have in common. The points are those of a trace in reference order, from the first one on. Where
@@ -85,25 +86,4 @@ fn of_areas(
     let written = areas_written(alloc, older, command)?;
     let read = areas_read(alloc, older, command)?;
     overlap_among(alloc, written.as_slice(), read.as_slice())
-}
-
-/// The last of some points, and those before it.
-#[derive(Clone, Copy)]
-struct Split<'b, 'a> {
-    /// The last one.
-    pub point: Point<'a>,
-    /// Those before it.
-    pub older: &'b [Point<'a>],
-}
-
-/// They, where there are any.
-fn split_of<'b, 'a>(points: &'b [Point<'a>]) -> Option<Split<'b, 'a>>
-    ensures some { IfSome result (λ s. past_of points.now ≡ point_of s.point ∷ past_of s.older.now) }
-    ensures none { IfNone result (past_of points.now ≡ []) }
-{
-    let (point, older) = points.split_last()?;
-    Some(Split {
-        point: *point,
-        older,
-    })
 }

@@ -1,3 +1,4 @@
 pub mod Extents
 pub mod Regions
+pub mod Boxes
 pub mod Inner

@@ -5,6 +5,7 @@
 //! the regions and ranges of commands.
 #![tactic(auto)]
 
+mod boxes;
 mod extents;
 mod overlaps;
 mod pairs;
@@ -13,6 +14,7 @@ mod regions;
 mod rows;
 mod transitions;
 
+pub use boxes::{TexelBox, destination_box, region_box, source_box};
 pub use extents::{Extent, Span};
 pub use overlaps::{overlap, overlapping};
 pub use regions::{copies_overlap, image_copies_overlap, ranges_overlap, regions_overlap};

@@ -5,12 +5,9 @@ use Rattle.vk_model.specs.declared.command.Element.TheVariants as element
 use Rattle.vk_model.specs.Trace.Image.{texel}
 use Rattle.vk_model.specs.World.Areas as spec
 use Rattle.vk_model.specs.World.Ownership.{is_transition}
+use Rattle.vk_overlaps.specs.Boxes.{box_of}
 use Rattle.vk_overlap_facts.specs.declared.areas.Area.{Area}
 use Rattle.vk_overlap_facts.specs.declared.areas.Area.TheVariants as area
-use Rattle.vk_overlap_facts.specs.declared.areas.TexelBox.{TexelBox}
-
-abbrev pub box_of : TexelBox → spec.Box
-box_of k = record { level = k.level; first_layer = k.first_layer; layers = k.layers; x = k.x; y = k.y; width = k.width; height = k.height }
 
 abbrev pub area_of : Area → spec.Area
 area_of (area.Bytes b o n) = spec.Bytes b o n
