@@ -11,10 +11,10 @@ ghost use Rattle.vk_measures.specs.Ranges.{IsAlign, IsMisaligned};
 ghost use Rattle.vk_measures.specs.Inner.Ranges.{IsOff, IsOffLength, IsOffTexel, AreOffTexel};
 
 use crate::items::Item;
-use crate::made::image;
 use vk_image_tiles::texel_size;
 use vk_model::{BufferImageCopy, Cmd, Length};
 use vk_order::{Action, Point};
+use vk_past::image;
 
 /// The bytes of a word.
 const WORD: u64 = 4;

@@ -9,11 +9,11 @@ ghost use Rattle.vk_measures.specs.Sizes.{OnHost, told_need};
 ghost use Rattle.vk_measures.specs.Binding.{IsPastMemory, IsMisplaced};
 ghost use Rattle.vk_measures.specs.Inner.Binding.{ends_past_object, IsPastObject, is_misplaced_at, IsMisplacedAt};
 
-use crate::made::{memory, type_at};
 use crate::needs::{buffer_need, image_need};
 use vk_image_tiles::image_align;
 use vk_model::{Entry, Place};
 use vk_order::{Action, Point};
+use vk_past::{memory, type_at};
 
 /// The alignment that a buffer asks for in bytes.
 const BUFFER_ALIGN: u64 = 16;

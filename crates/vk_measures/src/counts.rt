@@ -10,9 +10,9 @@ ghost use Rattle.vk_measures.specs.Counts.{IsSize, IsHostSize, IsPoolSize, IsSiz
 ghost use Rattle.vk_measures.specs.Inner.Counts.{IsLength, IsElementSize};
 
 use crate::items::Item;
-use crate::made::size;
 use vk_model::{BufferCopy, Cmd, Element, Entry, ImageInfo, Kind, Length, PoolInfo};
 use vk_order::{Action, Point};
+use vk_past::size;
 
 /// The greatest size of a block of a pool in bytes.
 const GREATEST_BLOCK: u64 = 16_777_216;

@@ -8,10 +8,10 @@ ghost use Rattle.vk_queues.specs.PointViews.{past_of};
 ghost use Rattle.vk_measures.specs.Ranges.{IsFormat};
 ghost use Rattle.vk_measures.specs.Inner.Ranges.{texels_differ, AreOtherTexels};
 
-use crate::made::image;
 use vk_image_tiles::texel_size;
 use vk_model::Cmd;
 use vk_order::{Action, Point};
+use vk_past::image;
 
 /// FORMAT: the texels of the two images of a copy, which are of other sizes.
 #[derive(Clone, Copy)]

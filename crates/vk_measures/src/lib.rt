@@ -8,7 +8,6 @@ mod counts;
 mod formats;
 mod items;
 mod limits;
-mod made;
 mod measures;
 mod memories;
 mod needs;

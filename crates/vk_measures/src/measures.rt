@@ -1,4 +1,4 @@
-ghost use Rattle.std.specs.Prelude.{◌≡◌, ◌∷◌, [], IfSome, IfNone};
+ghost use Rattle.std.specs.Prelude.{◌≡◌, ◌∷◌};
 ghost use Rattle.vk_model.specs.Trace.Point as spec;
 ghost use Rattle.vk_model.specs.declared.rule.Rule.TheVariants as rule;
 ghost use Rattle.vk_order.specs.PointViews.{point_of};
@@ -24,6 +24,7 @@ use crate::transfers::{PartTransfer, owner_whole_of};
 use crate::usages::{UsageMeasure, usage_of};
 use vk_model::Rule;
 use vk_order::Point;
+use vk_past::split_of;
 
 /// What a rule compares at a point that breaks it.
 #[derive(Clone, Copy)]
@@ -244,25 +245,4 @@ fn of_limit(older: &[Point<'_>], _point: &Point<'_>) -> Option<Measure>
 {
     let measure = limit_of(older)?;
     Some(Measure::Limit(measure))
-}
-
-/// The last of some points, and those before it.
-#[derive(Clone, Copy)]
-struct Split<'b, 'a> {
-    /// The last one.
-    pub point: Point<'a>,
-    /// Those before it.
-    pub older: &'b [Point<'a>],
-}
-
-/// They, where there are any.
-fn split_of<'b, 'a>(points: &'b [Point<'a>]) -> Option<Split<'b, 'a>>
-    ensures some { IfSome result (λ s. past_of points.now ≡ point_of s.point ∷ past_of s.older.now) }
-    ensures none { IfNone result (past_of points.now ≡ []) }
-{
-    let (point, older) = points.split_last()?;
-    Some(Split {
-        point: *point,
-        older,
-    })
 }

@@ -10,10 +10,10 @@ ghost use Rattle.vk_measures.specs.Mapping.{IsHidden};
 ghost use Rattle.vk_measures.specs.Inner.Sizes.{is_over_half, IsOverHalfOf};
 ghost use Rattle.vk_measures.specs.Sizes.{OnHost, IsBadType, IsBadSize, IsOverHalf, is_type_allowed, told_need};
 
-use crate::made::{pool, pool_at, type_at, type_of};
 use crate::needs::{buffer_need, image_need};
 use vk_model::{Entry, Kind, Place};
 use vk_order::{Action, Point};
+use vk_past::{pool, pool_at, type_at, type_of};
 
 /// The greatest memory type.
 const GREATEST_TYPE: u32 = 2;

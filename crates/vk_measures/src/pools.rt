@@ -8,9 +8,9 @@ ghost use Rattle.vk_measures.specs.Sizes.{OnHost};
 ghost use Rattle.vk_measures.specs.Passes.{IsPoolKind};
 ghost use Rattle.vk_measures.specs.Inner.Passes.{IsUnable, IsUnableAt};
 
-use crate::made::pool;
 use vk_model::{Entry, Place, PoolKind};
 use vk_order::{Action, Point};
+use vk_past::pool;
 
 /// What is asked of a pool.
 #[derive(Clone, Copy)]

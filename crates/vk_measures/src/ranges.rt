@@ -13,10 +13,10 @@ ghost use Rattle.vk_measures.specs.Ranges.{IsRange, IsPastOf, command_bytes};
 ghost use Rattle.vk_measures.specs.Inner.Ranges.{IsElementPast, IsRowOf};
 
 use crate::items::Item;
-use crate::made::{image, size};
 use crate::regions::{PastRows, ShortRows, past_rows, short_rows};
 use vk_model::{BufferCopy, BufferImageCopy, Cmd, Element, Entry, Length};
 use vk_order::{Action, Point};
+use vk_past::{image, size};
 
 /// Bytes of a buffer that a point names, and that end past the buffer.
 #[derive(Clone, Copy)]

@@ -1,13 +1,12 @@
-ghost use Rattle.std.specs.Prelude.{◌≡◌, ◌<◌, ◌+◌, ◌-◌, ◌*◌, ◌^◌, ◌==◌, ◌&&◌, IfSome, is_some, nat_lt, not, Some};
+ghost use Rattle.std.specs.Prelude.{◌≡◌, ◌<◌, ◌==◌, ◌&&◌, IfSome, is_some, nat_lt, not, Some};
 ghost use Rattle.std.specs.List.{list_any};
 ghost use Rattle.vk_model.specs.Trace.Image.{texel};
-ghost use Rattle.vk_model.specs.World.ByteWrites as bytes;
 ghost use Rattle.vk_model.specs.Rules.Ranges as rules;
 ghost use Rattle.vk_measures.specs.Ranges.{end_of, IsShort};
 ghost use Rattle.vk_measures.specs.Inner.Ranges.{AreRowsPast, IsShortAt};
 
-use vk_image_tiles::texel_size;
 use vk_model::{BufferImageCopy, Format};
+use vk_overlaps::last_byte;
 
 /// A region of a copy between a buffer and an image whose last texel ends past the buffer.
 #[derive(Clone, Copy)]
@@ -86,45 +85,9 @@ fn last_end(region: &BufferImageCopy, format: Format) -> Option<u128>
     ensures { result ≡ end_of (texel format) region.now }
 {
     if region.layers > 0 && region.height > 0 && region.width > 0 {
-        let texel = u128::from(texel_size(format));
-        Some(u128::from(region.buffer_offset) + last_texel(region) * texel + texel)
+        Some(last_byte(region, format))
     } else {
         None
-    }
-}
-
-/// How many texels of the buffer come before the last one of a region, from its first one on.
-fn last_texel(region: &BufferImageCopy) -> u128
-    requires layers { 0 < region.now.layers }
-    requires rows { 0 < region.now.height }
-    requires texels { 0 < region.now.width }
-    ensures count { result ≡ ((region.now.layers - 1) * bytes.layer_rows region.now + (region.now.height - 1)) * bytes.row_texels region.now + (region.now.width - 1) }
-    ensures within { result < 2 ^ 97 }
-{
-    let rows = u128::from(region.layers - 1) * u128::from(layer_rows(region))
-        + u128::from(region.height - 1);
-    rows * u128::from(row_texels(region)) + u128::from(region.width - 1)
-}
-
-/// The texels from one row to the next in the buffer.
-fn row_texels(region: &BufferImageCopy) -> u32
-    ensures { result ≡ bytes.row_texels region.now }
-{
-    if region.row_length == 0 {
-        region.width
-    } else {
-        region.row_length
-    }
-}
-
-/// The rows from one layer to the next in the buffer.
-fn layer_rows(region: &BufferImageCopy) -> u32
-    ensures { result ≡ bytes.layer_rows region.now }
-{
-    if region.image_height == 0 {
-        region.height
-    } else {
-        region.image_height
     }
 }
 

@@ -10,12 +10,13 @@ ghost use Rattle.vk_queues.specs.PointViews.{past_of};
 ghost use Rattle.vk_measures.specs.Subresources.{IsSubresource, IsOutside, IsOutsideOf, ranges_at, regions_at, copies_at};
 ghost use Rattle.vk_measures.specs.Inner.Subresources.{IsSpanIn, IsElementOutside};
 
-use crate::boxes::{box_outside, destination_texels, region_texels, source_texels};
+use crate::boxes::box_outside;
 use crate::items::Item;
-use crate::made::image;
 use crate::spans::{Outside, range_outside};
 use vk_model::{BufferImageCopy, Cmd, Element, ImageCopy, ImageInfo, SubresourceRange};
 use vk_order::{Action, Point};
+use vk_overlaps::{destination_box, region_box, source_box};
+use vk_past::image;
 
 /// SUBRESOURCE: which numbers of a point aren't of their image.
 pub fn subresource_of(older: &[Point<'_>], point: &Point<'_>) -> Option<Outside>
@@ -87,7 +88,7 @@ fn outside_regions(info: &ImageInfo, image: u32, regions: &[BufferImageCopy]) ->
 {
     for (index, region) in regions.iter().enumerate() {
         let item = Item::Region(index);
-        if let Some(outside) = box_outside(info, image, item, region_texels(region)) {
+        if let Some(outside) = box_outside(info, image, item, region_box(region)) {
             return Some(outside);
         }
     }
@@ -124,7 +125,7 @@ fn outside_sources(info: &ImageInfo, image: u32, regions: &[ImageCopy]) -> Optio
 {
     for (index, region) in regions.iter().enumerate() {
         let item = Item::Source(index);
-        if let Some(outside) = box_outside(info, image, item, source_texels(region)) {
+        if let Some(outside) = box_outside(info, image, item, source_box(region)) {
             return Some(outside);
         }
     }
@@ -146,7 +147,7 @@ fn outside_destinations(info: &ImageInfo, image: u32, regions: &[ImageCopy]) -> 
 {
     for (index, region) in regions.iter().enumerate() {
         let item = Item::Destination(index);
-        if let Some(outside) = box_outside(info, image, item, destination_texels(region)) {
+        if let Some(outside) = box_outside(info, image, item, destination_box(region)) {
             return Some(outside);
         }
     }

@@ -8,9 +8,9 @@ ghost use Rattle.vk_queues.specs.PointViews.{past_of};
 ghost use Rattle.vk_measures.specs.Owners.{IsOwnerWhole, IsPartOf, is_whole};
 ghost use Rattle.vk_measures.specs.Inner.Owners.{IsPartAt};
 
-use crate::made::{image, size};
 use vk_model::{BufferElement, Cmd, Element, Families, ImageElement, Length, SubresourceRange};
 use vk_order::{Action, Point};
+use vk_past::{image, size};
 
 /// Bytes of a buffer that are transferred, and aren't all.
 #[derive(Clone, Copy)]

@@ -10,10 +10,10 @@ ghost use Rattle.vk_queues.specs.PointViews.{past_of};
 ghost use Rattle.vk_measures.specs.Sizes.{IsUsage, IsLack};
 ghost use Rattle.vk_measures.specs.Inner.Sizes.{IsLackOf, AreLacks, IsElementLack};
 
-use crate::made::usage;
 use bitflags::Flags;
 use vk_model::{Cmd, Element, Entry, ImageElement, Layout, Usage};
 use vk_order::{Action, Point};
+use vk_past::usage;
 
 /// All usages that there are.
 const KNOWN_USAGES: u32 = 3;

@@ -4,17 +4,12 @@ use Rattle.vk_model.specs.declared.command.Element.{Element}
 use Rattle.vk_model.specs.declared.resource.ImageInfo.{ImageInfo}
 use Rattle.vk_model.specs.Trace.Point.{Past}
 use Rattle.vk_model.specs.Trace.Objects.{image}
-use Rattle.vk_model.specs.World.Areas.{Area, Box}
+use Rattle.vk_model.specs.World.Areas.{Area}
 use Rattle.vk_model.specs.Rules.Ranges.{is_beyond}
 use Rattle.vk_measures.specs.declared.items.Item.{Item}
 use Rattle.vk_measures.specs.declared.items.Item.TheVariants as item
-use Rattle.vk_measures.specs.declared.boxes.TexelBox.{TexelBox}
 use Rattle.vk_measures.specs.declared.spans.Outside.{Outside}
 use Rattle.vk_measures.specs.Subresources.{area_image, element_area, span_in, span}
-
--- The box of the definitions.
-abbrev pub box_of : TexelBox → Box
-box_of t = record { level = t.level; first_layer = t.first_layer; layers = t.layers; x = t.x; y = t.y; width = t.width; height = t.height }
 
 -- An area of an image names these numbers, as an item, and they aren't numbers of it.
 abbrev pub IsSpanOf : ImageInfo → Item → ℕ → Area → Outside → Type 0

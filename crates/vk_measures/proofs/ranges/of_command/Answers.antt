@@ -1,6 +1,6 @@
 use Rattle.std.proofs.Common.{◌∙◌, sym}
 use Rattle.vk_queues.specs.PointViews.{past_of}
-use Rattle.vk_measures.proofs.Reaching.{copy_past, clear_past, copy_in_past, copy_out_past, copy_image_past}
+use Rattle.vk_laws.proofs.Forms.Reaching.{copy_past, clear_past, copy_in_past, copy_out_past, copy_image_past}
 use Rattle.vk_measures.proofs.ranges.of_command.Goals as goal
 
 pub returns-in-Clear-clause-broken : goal.returns-in-Clear-clause-broken

@@ -1,6 +1,6 @@
 use Rattle.std.proofs.Common.{◌∙◌, sym}
 use Rattle.vk_queues.specs.PointViews.{past_of}
-use Rattle.vk_measures.proofs.Lying.{copy_out, clear_out, copy_in_out, copy_out_out, copy_image_out}
+use Rattle.vk_laws.proofs.Forms.Lying.{copy_out, clear_out, copy_in_out, copy_out_out, copy_image_out}
 use Rattle.vk_measures.proofs.subresources.of_command.Goals as goal
 
 pub returns-in-Clear-clause-broken : goal.returns-in-Clear-clause-broken
