@@ -13,14 +13,13 @@ use Rattle.vk_model.specs.declared.command.Element.TheVariants as element
 use Rattle.vk_model.specs.declared.command.BufferElement.{BufferElement}
 use Rattle.vk_model.specs.declared.command.ImageElement.{ImageElement}
 use Rattle.vk_model.specs.declared.entry.Entry.{Entry}
-use Rattle.vk_model.specs.declared.entry.Entry.TheVariants as entry
 use Rattle.vk_model.specs.declared.entry.SemaphoreSubmit.{SemaphoreSubmit}
-use Rattle.vk_model.specs.Trace.Objects.{is_exclusive, is_cached}
+use Rattle.vk_model.specs.Trace.Objects.{is_exclusive}
 use Rattle.vk_model.specs.Trace.Point.{Past, Point, Action, Host, Wait, Signal}
 use Rattle.vk_model.specs.World.Bytes as world
 use Rattle.vk_model.specs.World.Bytes.{World}
 use Rattle.vk_model.specs.World.Effect as effect
-use Rattle.vk_model.specs.World.Effect.{used, set_owner, after_writes, after_host, after_action, after_command, flushed, invalidated, reaches, transitioned}
+use Rattle.vk_model.specs.World.Effect.{used, set_owner, after_action, after_command, transitioned}
 use Rattle.vk_model.specs.World.Ownership.{Transfer, Stays, Release, Acquire, Neither, transfer, family_of, uses, named_by, families_of, is_transition, releases, is_release}
 use Rattle.vk_model.specs.Rules.Owners.{is_released, is_release_of, element_in}
 use Rattle.vk_model.specs.Sync.Node.{Node, Act, Hosts, Waits, Signals, Runs, Depends, Role, Barrier, with_acts, command_acts, acts, nodes}
@@ -28,6 +27,7 @@ use Rattle.vk_model.specs.Sync.Before.{IsNumbered}
 use Rattle.vk_model.proofs.Lists.Members.{found}
 use Rattle.vk_model.proofs.Lists.Truths.{clash}
 use Rattle.vk_model.proofs.Sync.Numbers.{number_below, numbered}
+use Rattle.vk_laws.proofs.Forms.Unchanged.{host_owner}
 use Rattle.vk_order.specs.declared.parts.Spot.{Spot}
 use Rattle.vk_order.specs.Lines.{line_of}
 use Rattle.vk_order.specs.Inner.Clocks.{place}
@@ -317,21 +317,6 @@ command_comes c barrier set_of await_of past w f ns p numbers old new ids are_id
     go : (b : Bool) → IsOwned (if b then Some (owned_by f) else kept_at old r) (if b then world.Family f else w.owner r) (n ∷ ns) r
     go true = taken ns n (refl, numbers) r f
     go false = other_node ns n (refl, numbers) r (kept_at old r) (w.owner r) refl (are r)
-
--- a host entry changes no owner
-pub host_owner : (past : Past) (x : Entry) (w : World) → (after_host past x w).owner ≡ w.owner
-host_owner past (entry.Write b o bytes) w = refl
-host_owner past (entry.Flush b o n) w = go (is_cached past b)
-  where
-    go : (c : Bool) → (if c then flushed (reaches b o n) w else w).owner ≡ w.owner
-    go true = refl
-    go false = refl
-host_owner past (entry.Invalidate b o n) w = go (is_cached past b)
-  where
-    go : (c : Bool) → (if c then invalidated (reaches b o n) w else w).owner ≡ w.owner
-    go true = refl
-    go false = refl
-host_owner past _ w = refl
 
 -- a point of one act that releases nothing
 abbrev quiet_act : Act → Type 0

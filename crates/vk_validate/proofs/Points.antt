@@ -1,5 +1,2 @@
-pub mod Areas
-pub mod Reaching
-pub mod Lying
 pub mod Queues
 pub mod Calm

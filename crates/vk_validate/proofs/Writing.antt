@@ -1,4 +1,2 @@
-pub mod Spread
-pub mod Written
 pub mod Moving
 pub mod Overlaps

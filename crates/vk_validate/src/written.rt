@@ -4,9 +4,9 @@ ghost use Rattle.vk_model.specs.Trace.Objects.{image};
 ghost use Rattle.vk_model.specs.World.ByteWrites.{byte_writes};
 ghost use Rattle.vk_model.specs.World.Ownership.{transfer, releases, family_of, is_transition};
 ghost use Rattle.vk_model.specs.Sync.Access.{targets, transition_bytes, host_writes};
+ghost use Rattle.vk_laws.specs.Written as parts;
+ghost use Rattle.vk_laws.specs.Written.{IsResourceOf};
 ghost use Rattle.vk_history.specs.PointViews.{past};
-ghost use Rattle.vk_validate.specs.Inner.RuleParts as parts;
-ghost use Rattle.vk_validate.specs.Inner.RuleParts.{IsResourceOf};
 
 use vk_history::{History, family_of, is_transition};
 use vk_model::{

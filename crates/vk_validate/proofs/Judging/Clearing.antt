@@ -26,8 +26,8 @@ use Rattle.vk_history.proofs.Making.Numbers.{size_of_image, image_is_resource}
 use Rattle.vk_history.proofs.Kept.NextPoint.{IsWithin, image_there}
 use Rattle.vk_history.proofs.Kept.ImageRules.{image_good}
 use Rattle.vk_history.proofs.Kept.ImageSteps as clears
+use Rattle.vk_laws.proofs.Forms.Lying.{clear_out}
 use Rattle.vk_validate.specs.Inner.Subresources.{EndWithin}
-use Rattle.vk_validate.proofs.Points.Lying.{clear_out}
 
 -- ---- ranges of numbers
 

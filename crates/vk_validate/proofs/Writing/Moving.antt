@@ -14,7 +14,8 @@ use Rattle.vk_model.specs.World.ByteWrites.{byte_writes}
 use Rattle.vk_model.specs.Sync.Node.{Role, Barrier, SetOf, AwaitOf, Depends, Runs, command_acts, event_acts}
 use Rattle.vk_model.specs.Sync.Access.{targets, transition_bytes, writes_of}
 use Rattle.vk_model.proofs.Lists.Members.{any_map, none_passes_any}
-use Rattle.vk_validate.specs.Inner.RuleParts.{IsResourceOf, touches_moving, writes_moving}
+use Rattle.vk_laws.specs.Written.{IsResourceOf}
+use Rattle.vk_validate.specs.Inner.RuleParts.{touches_moving, writes_moving}
 
 module _ (past : Past) (q : ℕ) where
   pub barrier_moves : (es : List Element) → list_any (λ e. touches_moving past (transition_bytes past q e)) es ≡ writes_moving past q (command_acts (cmd.Barrier es))

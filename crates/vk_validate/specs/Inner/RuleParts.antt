@@ -1,9 +1,8 @@
 -- Parts of rules, as single functions answer them.
-use Rattle.std.specs.Prelude.{◌≡◌, ℕ, ◌+◌, ◌*◌, ◌%◌, ◌==◌, ◌&&◌, ◌||◌, List, Bool, not, nat_lt, Option, option_and_then}
+use Rattle.std.specs.Prelude.{ℕ, ◌+◌, ◌*◌, ◌%◌, ◌==◌, ◌&&◌, ◌||◌, List, Bool, not, nat_lt, option_and_then}
 use Rattle.std.specs.List.{list_any}
 use Rattle.vk_model.specs.declared.command.BufferCopy.{BufferCopy}
 use Rattle.vk_model.specs.declared.command.BufferImageCopy.{BufferImageCopy}
-use Rattle.vk_model.specs.declared.command.ImageCopy.{ImageCopy}
 use Rattle.vk_model.specs.declared.command.SubresourceRange.{SubresourceRange}
 use Rattle.vk_model.specs.declared.entry.Entry.{Entry}
 use Rattle.vk_model.specs.declared.resource.Place.{Place}
@@ -60,23 +59,6 @@ some_box_outside past i of gs = holds (image past i) (λ m. list_any (λ g. bad_
 -- Whether a range of subresources isn't.
 abbrev pub some_range_outside : Past → ℕ → List SubresourceRange → Bool
 some_range_outside past i rs = holds (image past i) (λ m. list_any (bad_range m) rs)
-
--- A resource is that of some bytes, each of which has the same; there is none where there is no byte.
-abbrev pub IsResourceOf : Option ℕ → List Byte → Type 0
-IsResourceOf r bs = (f : ℕ → Bool) → holds r f ≡ list_any (λ b. f (resource_at b)) bs
-
--- Whether some region has a byte, some range a subresource, or some region a texel.
-abbrev pub some_bytes : List BufferCopy → Bool
-some_bytes gs = list_any (λ g. nat_lt 0 g.size) gs
-
-abbrev pub some_subresource : List SubresourceRange → Bool
-some_subresource rs = list_any (λ r. nat_lt 0 r.levels && nat_lt 0 r.layers) rs
-
-abbrev pub some_texel : List BufferImageCopy → Bool
-some_texel gs = list_any (λ g. nat_lt 0 g.layers && nat_lt 0 g.height && nat_lt 0 g.width) gs
-
-abbrev pub some_copied : List ImageCopy → Bool
-some_copied gs = list_any (λ g. nat_lt 0 g.layers && nat_lt 0 g.height && nat_lt 0 g.width) gs
 
 -- Whether one of some bytes is of a resource whose pool is in a pass.
 abbrev pub touches_moving : Past → List Byte → Bool

@@ -6,8 +6,8 @@ use Rattle.vk_model.specs.declared.command.SubresourceRange.{SubresourceRange}
 use Rattle.vk_model.specs.Trace.Objects.{image}
 use Rattle.vk_model.specs.World.ByteWrites.{fill_size}
 use Rattle.vk_history.specs.PointViews.{past}
-use Rattle.vk_validate.specs.Inner.RuleParts.{some_bytes, some_subresource, some_texel, some_copied}
-use Rattle.vk_validate.proofs.Writing.Written.{fill_written, update_written, copy_written, clear_written, copy_in_written, copy_out_written, copy_image_written, not_empty}
+use Rattle.vk_laws.specs.Written.{some_bytes, some_subresource, some_texel, some_copied}
+use Rattle.vk_laws.proofs.Forms.Written.{fill_written, update_written, copy_written, clear_written, copy_in_written, copy_out_written, copy_image_written, not_empty}
 use Rattle.vk_validate.proofs.written.written.Goals as goal
 
 pub returns-in-Fill : goal.returns-in-Fill

@@ -1,6 +1,6 @@
 use Rattle.std.proofs.Common.{◌∙◌, ap, sym, ◌&&◌}
 use Rattle.vk_history.specs.PointViews.{past}
-use Rattle.vk_validate.proofs.Writing.Written.{transition_written}
+use Rattle.vk_laws.proofs.Forms.Written.{transition_written}
 use Rattle.vk_validate.proofs.written.written_by_element.Goals as goal
 
 pub returns-in-Image : goal.returns-in-Image

@@ -1,5 +1,5 @@
 use Rattle.std.proofs.Common.{◌∙◌, ◌&&◌, ap, sym, length}
-use Rattle.vk_validate.proofs.Writing.Written.{range_written, not_empty}
+use Rattle.vk_laws.proofs.Forms.Written.{range_written, not_empty}
 use Rattle.vk_validate.proofs.written.written_by_host.Goals as goal
 
 pub returns-in-Write : goal.returns-in-Write

@@ -1,6 +1,6 @@
 use Rattle.std.proofs.Common.{◌∙◌, sym}
 use Rattle.vk_history.specs.PointViews.{past}
-use Rattle.vk_validate.proofs.Points.Lying.{copy_out, clear_out, copy_in_out, copy_out_out, copy_image_out}
+use Rattle.vk_laws.proofs.Forms.Lying.{copy_out, clear_out, copy_in_out, copy_out_out, copy_image_out}
 use Rattle.vk_validate.proofs.rules.ranges.names_outside.Goals as goal
 
 pub returns-in-Clear : goal.returns-in-Clear

@@ -1,7 +1,7 @@
 use Rattle.std.proofs.Common.{◌∙◌, sym}
 use Rattle.vk_history.specs.PointViews.{past}
 use Rattle.vk_history.proofs.Points.Fills.{fill_range}
-use Rattle.vk_validate.proofs.Points.Reaching.{update_past, copy_past, clear_past, copy_in_past, copy_out_past, copy_image_past, barrier_past}
+use Rattle.vk_laws.proofs.Forms.Reaching.{update_past, copy_past, clear_past, copy_in_past, copy_out_past, copy_image_past, barrier_past}
 use Rattle.vk_validate.proofs.rules.ranges.names_past.Goals as goal
 
 pub returns-in-Fill : goal.returns-in-Fill
