@@ -1,4 +1,4 @@
-ghost use Rattle.std.specs.Prelude.{◌≡◌, ◌==◌, ◌||◌, ◌&&◌, ℕ, OnOk, not, is_some, if◌then◌else◌, max, option_and_then};
+ghost use Rattle.std.specs.Prelude.{◌≡◌, ◌==◌, ◌||◌, ◌&&◌, ℕ, Some, None, OnOk, not, is_some, if◌then◌else◌, max, option_and_then};
 ghost use Rattle.std.specs.Option.{unwrap_or};
 ghost use Rattle.std.specs.List.{fold};
 ghost use Rattle.vk_model.specs.Basics.{among, holds};
@@ -98,21 +98,56 @@ impl Tallies {
         Ok(())
     }
 
+    /// The newest object of an id is a semaphore with this initial value. The id is new but in a trace
+    /// that is refused, so that what is known of it is put back only where there was any.
+    fn make_semaphore(&mut self, id: u32, initial: u64) -> Result<(), AllocError>
+        ensures { OnOk result ((other : ℕ) → let t = tally_at self.old other in
+            tally_at self.new other ≡ record t { initial = if other == id then Some initial else t.initial }) }
+    {
+        let new = Tally {
+            initial: Some(initial),
+            signaled: 0,
+            is_ended: false,
+        };
+        match self.by_id.insert(id, new)? {
+            Some(known) => self.put(
+                id,
+                Tally {
+                    initial: Some(initial),
+                    ..known
+                },
+            ),
+            None => Ok(()),
+        }
+    }
+
+    /// The newest object of an id is none.
+    fn make_other(&mut self, id: u32) -> Result<(), AllocError>
+        ensures { OnOk result ((other : ℕ) → let t = tally_at self.old other in
+            tally_at self.new other ≡ record t { initial = if other == id then None else t.initial }) }
+    {
+        let tally = self.at(id);
+        if tally.initial.is_none() {
+            return Ok(());
+        }
+        self.put(
+            id,
+            Tally {
+                initial: None,
+                ..tally
+            },
+        )
+    }
+
     fn make(&mut self, entry: &Entry) -> Result<(), AllocError>
         ensures { OnOk result ((other : ℕ) → let t = tally_at self.old other in
             tally_at self.new other ≡ record t { initial = if holds (made_by entry.now) (λ j. other == j) then semaphore_in entry.now else t.initial }) }
     {
-        let Some(id) = entry.made_id() else {
-            return Ok(());
-        };
-        let tally = self.at(id);
-        self.put(
-            id,
-            Tally {
-                initial: initial_of(entry),
-                ..tally
-            },
-        )
+        match (entry.made_id(), initial_of(entry)) {
+            (Some(id), Some(initial)) => self.make_semaphore(id, initial),
+            (Some(id), None) => self.make_other(id),
+            (None, _) => Ok(()),
+        }
     }
 
     fn end_one(&mut self, id: u32) -> Result<(), AllocError>
