@@ -1,6 +1,7 @@
 ghost use Rattle.std.specs.Prelude.{◌≡◌, ◌∷◌, IfOk, IsTrue, None};
 ghost use Rattle.std.specs.List.{find};
 ghost use Rattle.vk_model.specs.Trace.Structure.{IsOrdered};
+ghost use Rattle.vk_model.specs.Trace.Point.{Past, Run, Point as AnyPoint};
 ghost use Rattle.vk_model.specs.Rules.Table as table;
 ghost use Rattle.vk_model.specs.Rules.Hazards.{breaks_in_use};
 ghost use Rattle.vk_order.specs.PointViews.{action_of, point_of};
@@ -25,7 +26,7 @@ mod traces;
 
 use std::alloc::AllocError;
 use vk_history::History;
-use vk_model::Rule;
+use vk_model::{Cmd, Entry, Rule};
 use vk_order::{Action, Point};
 use vk_touches::Conflicts;
 
@@ -128,6 +129,37 @@ const ON_ENTRIES: [Rule; 24] = [
     Rule::PassWrite,
 ];
 
+/// Those of them that speak of fills, updates and copies between buffers, in the same order.
+const ON_BUFFERS: [Rule; 9] = [
+    Rule::LiveId,
+    Rule::Size,
+    Rule::Usage,
+    Rule::Range,
+    Rule::Align,
+    Rule::Overlap,
+    Rule::OwnerPair,
+    Rule::SignalOrder,
+    Rule::PassWrite,
+];
+
+/// Those of them that speak of barriers, in the same order.
+const ON_BARRIERS: [Rule; 11] = [
+    Rule::LiveId,
+    Rule::Range,
+    Rule::Align,
+    Rule::Overlap,
+    Rule::Subresource,
+    Rule::Stage,
+    Rule::OldLayout,
+    Rule::OwnerWhole,
+    Rule::OwnerPair,
+    Rule::SignalOrder,
+    Rule::PassWrite,
+];
+
+/// Those of them that speak of a new semaphore, in the same order.
+const ON_SEMAPHORES: [Rule; 3] = [Rule::NewId, Rule::OwnerPair, Rule::SignalOrder];
+
 /// The first rule of the table that a point breaks. The only error is want of memory.
 pub fn first_rule(history: &History<'_>, point: &Point<'_>) -> Result<Option<Rule>, AllocError>
     requires supported { IsTrue (is_supported_action (action_of point.now.action)) }
@@ -164,11 +196,32 @@ fn first_early(history: &History<'_>, point: &Point<'_>, searched: Searched) -> 
     requires searched { AreSearched searched (past history.now) (point_of point.now) }
     ensures { result ≡ first_among early_rules (past history.now) (point_of point.now) }
 {
-    match point.action {
-        Action::Run(_) => first_of(&ON_COMMANDS, history, point, searched),
-        Action::Host(_) => first_of(&ON_ENTRIES, history, point, searched),
-        Action::Wait(_) => first_of(&EARLY, history, point, searched),
-        Action::Signal(_) => first_of(&EARLY, history, point, searched),
+    first_of(rules_on(point.action), history, point, searched)
+}
+
+/// The early rules that an action can break at all, in the order of their tests.
+fn rules_on(action: Action<'_>) -> &'static [Rule]
+    ensures { (past : Past) (p : AnyPoint) → p.action ≡ action_of action.now → find (λ r. breaks_early r past p) result.now ≡ first_among early_rules past p }
+{
+    match action {
+        Action::Run(command) => rules_on_command(command),
+        Action::Host(Entry::Semaphore { .. }) => &ON_SEMAPHORES,
+        Action::Host(_) => &ON_ENTRIES,
+        Action::Wait(_) => &EARLY,
+        Action::Signal(_) => &EARLY,
+    }
+}
+
+/// The early rules that a command can break at all, in the order of their tests.
+fn rules_on_command(command: &Cmd) -> &'static [Rule]
+    ensures { (past : Past) (p : AnyPoint) → p.action ≡ Run command.now → find (λ r. breaks_early r past p) result.now ≡ first_among early_rules past p }
+{
+    match command {
+        Cmd::Fill { .. } => &ON_BUFFERS,
+        Cmd::Update { .. } => &ON_BUFFERS,
+        Cmd::Copy { .. } => &ON_BUFFERS,
+        Cmd::Barrier { .. } => &ON_BARRIERS,
+        _ => &ON_COMMANDS,
     }
 }
 
