@@ -5,8 +5,13 @@ use Rattle.std.proofs.lemmas.List.{drop_all}
 use Rattle.vk_model.specs.declared.rule.Rule.{Rule}
 use Rattle.vk_model.specs.declared.rule.Rule.TheVariants as rule
 use Rattle.vk_model.specs.Basics.{first_that}
+use Rattle.vk_model.specs.declared.command.BufferCopy.{BufferCopy}
+use Rattle.vk_model.specs.declared.command.Length.{Length}
+use Rattle.vk_model.specs.declared.command.Element.{Element}
 use Rattle.vk_model.specs.declared.command.Cmd.{Cmd}
+use Rattle.vk_model.specs.declared.command.Cmd.TheVariants.{Fill, Update, Copy, Barrier}
 use Rattle.vk_model.specs.declared.entry.Entry.{Entry}
+use Rattle.vk_model.specs.declared.entry.Entry.TheVariants.{Semaphore}
 use Rattle.vk_model.specs.Trace.Point.{Past, Point, Action, Host, Run}
 use Rattle.vk_model.specs.Rules.Table.{breaks, first_rule}
 use Rattle.vk_model.specs.Rules.Hazards.{breaks_hazard_war, breaks_hazard_raw, breaks_hazard_waw, breaks_in_use, breaks_read_undefined}
@@ -53,20 +58,56 @@ abbrev pub on_entries : List Rule
 on_entries = rule.NewId ∷ rule.LiveId ∷ rule.Queue ∷ rule.Size ∷ rule.Usage ∷ rule.MemoryType ∷ rule.MemorySize ∷ rule.PoolSize ∷ rule.BindRange ∷ rule.BindAlign ∷ rule.Aliased ∷ rule.Range ∷ rule.Overlap ∷ rule.Stage
     ∷ rule.OwnerPair ∷ rule.SignalValue ∷ rule.SignalOrder ∷ rule.WaitNever ∷ rule.MapState ∷ rule.HostVisible ∷ rule.PoolKind ∷ rule.PassState ∷ rule.PassBusy ∷ rule.PassWrite ∷ []
 
+-- those on fills, updates and copies between buffers, on barriers, and on a new semaphore
+abbrev pub on_buffers : List Rule
+on_buffers = rule.LiveId ∷ rule.Size ∷ rule.Usage ∷ rule.Range ∷ rule.Align ∷ rule.Overlap ∷ rule.OwnerPair ∷ rule.SignalOrder ∷ rule.PassWrite ∷ []
+
+abbrev pub on_barriers : List Rule
+on_barriers = rule.LiveId ∷ rule.Range ∷ rule.Align ∷ rule.Overlap ∷ rule.Subresource ∷ rule.Stage ∷ rule.OldLayout ∷ rule.OwnerWhole ∷ rule.OwnerPair ∷ rule.SignalOrder ∷ rule.PassWrite ∷ []
+
+abbrev pub on_semaphores : List Rule
+on_semaphores = rule.NewId ∷ rule.OwnerPair ∷ rule.SignalOrder ∷ []
+
 module _ (past : Past) (p : Point) where
   pub early_are : find (λ r. breaks_early r past p) early_rules ≡ first_among early_rules past p
   unfolding breaks_early
   early_are = refl
 
+  -- what holds of a point with an action holds of the point that has it
+  pub at_action : (rules : List Rule) (a : Action) → p.action ≡ a
+      → find (λ r. breaks_early r past (record p { action = a })) rules ≡ first_among early_rules past (record p { action = a }) → find (λ r. breaks_early r past p) rules ≡ first_among early_rules past p
+  at_action rules a is = subst (λ (b : Action). find (λ r. breaks_early r past (record p { action = b })) rules ≡ first_among early_rules past (record p { action = b })) (sym is)
+
   -- a command breaks none of those that aren't on commands
   pub commands_are : (c : Cmd) → p.action ≡ Run c → find (λ r. breaks_early r past p) on_commands ≡ first_among early_rules past p
   unfolding breaks_early breaks
-  commands_are c is = subst (λ (a : Action). find (λ r. breaks_early r past (record p { action = a })) on_commands ≡ first_among early_rules past (record p { action = a })) (sym is) refl
+  commands_are c is = at_action on_commands (Run c) is refl
 
   -- an entry none of those that aren't on entries
   pub entries_are : (x : Entry) → p.action ≡ Host x → find (λ r. breaks_early r past p) on_entries ≡ first_among early_rules past p
   unfolding breaks_early breaks
-  entries_are x is = subst (λ (a : Action). find (λ r. breaks_early r past (record p { action = a })) on_entries ≡ first_among early_rules past (record p { action = a })) (sym is) refl
+  entries_are x is = at_action on_entries (Host x) is refl
+
+  -- nor a fill, an update, a copy, a barrier or a semaphore those that aren't on such
+  pub fills_are : (b o : ℕ) (s : Length) (w : ℕ) → p.action ≡ Run (Fill b o s w) → find (λ r. breaks_early r past p) on_buffers ≡ first_among early_rules past p
+  unfolding breaks_early breaks
+  fills_are b o s w is = at_action on_buffers (Run (Fill b o s w)) is refl
+
+  pub updates_are : (b o : ℕ) (bytes : List ℕ) → p.action ≡ Run (Update b o bytes) → find (λ r. breaks_early r past p) on_buffers ≡ first_among early_rules past p
+  unfolding breaks_early breaks
+  updates_are b o bytes is = at_action on_buffers (Run (Update b o bytes)) is refl
+
+  pub copies_are : (b c : ℕ) (regions : List BufferCopy) → p.action ≡ Run (Copy b c regions) → find (λ r. breaks_early r past p) on_buffers ≡ first_among early_rules past p
+  unfolding breaks_early breaks
+  copies_are b c regions is = at_action on_buffers (Run (Copy b c regions)) is refl
+
+  pub barriers_are : (elements : List Element) → p.action ≡ Run (Barrier elements) → find (λ r. breaks_early r past p) on_barriers ≡ first_among early_rules past p
+  unfolding breaks_early breaks
+  barriers_are elements is = at_action on_barriers (Run (Barrier elements)) is refl
+
+  pub semaphores_are : (id initial : ℕ) → p.action ≡ Host (Semaphore id initial) → find (λ r. breaks_early r past p) on_semaphores ≡ first_among early_rules past p
+  unfolding breaks_early breaks
+  semaphores_are id initial is = at_action on_semaphores (Host (Semaphore id initial)) is refl
 
   pub first_is_early : (r : Rule) → first_among early_rules past p ≡ Some r → Some r ≡ first_rule past p
   unfolding first_rule
