@@ -1,3 +1,4 @@
 pub mod MaskText
 pub mod Points
 pub mod Sentences
+pub mod Inner

@@ -1,7 +1,9 @@
 use crate::elements::{push_dependencies, push_elements};
 use crate::masks::push_mask;
 use crate::names::push_layout;
-use crate::ranges::{push_bytes, push_layers, push_length, push_more, push_subresources};
+use crate::ranges::{
+    push_bytes, push_bytes_of, push_layers, push_length_of, push_more, push_subresources,
+};
 use std::alloc::AllocError;
 use vk_model::{
     BufferCopy, BufferImageCopy, Cmd, ImageCopy, Layout, SemaphoreSubmit, SubresourceRange,
@@ -15,55 +17,17 @@ pub fn push_command(out: &mut String, command: &Cmd) -> Result<(), AllocError> {
             offset,
             size,
             word: _,
-        } => {
-            out.push_str("writes ")?;
-            push_length(out, *offset, *size)?;
-            write!(out, " of buffer {buffer}")
-        }
+        } => push_length_of(out, "writes", *offset, *size, *buffer),
         Cmd::Update {
             buffer,
             offset,
             bytes,
-        } => {
-            out.push_str("writes ")?;
-            push_bytes(out, *offset, bytes.len() as u64)?;
-            write!(out, " of buffer {buffer}")
-        }
+        } => push_bytes_of(out, "writes", *offset, bytes.len() as u64, *buffer),
         Cmd::Copy {
             source,
             destination,
             regions,
-        } => { push_copy(out, *source, *destination, regions.as_slice()) }
-        Cmd::Clear {
-            image,
-            layout,
-            color: _,
-            ranges,
-        } => { push_clear(out, *image, *layout, ranges.as_slice()) }
-        Cmd::CopyIn {
-            buffer,
-            image,
-            layout,
-            regions,
-        } => { push_copy_in(out, *buffer, *image, *layout, regions.as_slice()) }
-        Cmd::CopyOut {
-            image,
-            layout,
-            buffer,
-            regions,
-        } => { push_copy_out(out, *image, *layout, *buffer, regions.as_slice()) }
-        Cmd::CopyImage {
-            source,
-            source_layout,
-            destination,
-            destination_layout,
-            regions,
-        } => {
-            out.push_str("copies ")?;
-            push_image_copy(out, regions.as_slice(), *source, *destination)?;
-            push_layouts(out, *source_layout, *destination_layout)?;
-            push_more(out, 1, regions.len(), "region")
-        }
+        } => push_copy(out, *source, *destination, regions.as_slice()),
         Cmd::Barrier { elements } => {
             push_count(out, "is a barrier of", elements.len(), "element")?;
             push_elements(out, elements.as_slice())
@@ -76,6 +40,44 @@ pub fn push_command(out: &mut String, command: &Cmd) -> Result<(), AllocError> {
             write!(out, "awaits event {event}")?;
             push_dependencies(out, elements.as_slice())
         }
+        _ => push_of_images(out, command),
+    }
+}
+
+/// What a command does that names images; of another one nothing.
+fn push_of_images(out: &mut String, command: &Cmd) -> Result<(), AllocError> {
+    match command {
+        Cmd::Clear {
+            image,
+            layout,
+            color: _,
+            ranges,
+        } => push_clear(out, *image, *layout, ranges.as_slice()),
+        Cmd::CopyIn {
+            buffer,
+            image,
+            layout,
+            regions,
+        } => push_copy_in(out, *buffer, *image, *layout, regions.as_slice()),
+        Cmd::CopyOut {
+            image,
+            layout,
+            buffer,
+            regions,
+        } => push_copy_out(out, *image, *layout, *buffer, regions.as_slice()),
+        Cmd::CopyImage {
+            source,
+            source_layout,
+            destination,
+            destination_layout,
+            regions,
+        } => {
+            out.push_str("copies ")?;
+            push_image_copy(out, regions.as_slice(), *source, *destination)?;
+            push_layouts(out, *source_layout, *destination_layout)?;
+            push_more(out, 1, regions.len(), "region")
+        }
+        _ => Ok(()),
     }
 }
 

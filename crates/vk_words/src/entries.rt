@@ -1,6 +1,6 @@
 use crate::masks::push_mask;
 use crate::names::{format_name, sharing_name, tiling_name};
-use crate::ranges::{push_bytes, push_length, push_more};
+use crate::ranges::{push_bytes_of, push_length_of, push_more};
 use std::alloc::AllocError;
 use vk_model::{
     BufferInfo, Entry, ImageInfo, Place, PoolInfo, PoolKind, SemaphoreValue, Sharing, Usage,
@@ -52,38 +52,22 @@ fn push_host_access(out: &mut String, entry: &Entry) -> Result<(), AllocError> {
             buffer,
             offset,
             bytes,
-        } => {
-            out.push_str("writes ")?;
-            push_bytes(out, *offset, bytes.len() as u64)?;
-            write!(out, " of buffer {buffer}")
-        }
+        } => push_bytes_of(out, "writes", *offset, bytes.len() as u64, *buffer),
         Entry::Read {
             buffer,
             offset,
             size,
-        } => {
-            out.push_str("reads ")?;
-            push_bytes(out, *offset, *size)?;
-            write!(out, " of buffer {buffer}")
-        }
+        } => push_bytes_of(out, "reads", *offset, *size, *buffer),
         Entry::Flush {
             buffer,
             offset,
             size,
-        } => {
-            out.push_str("flushes ")?;
-            push_length(out, *offset, *size)?;
-            write!(out, " of buffer {buffer}")
-        }
+        } => push_length_of(out, "flushes", *offset, *size, *buffer),
         Entry::Invalidate {
             buffer,
             offset,
             size,
-        } => {
-            out.push_str("invalidates ")?;
-            push_length(out, *offset, *size)?;
-            write!(out, " of buffer {buffer}")
-        }
+        } => push_length_of(out, "invalidates", *offset, *size, *buffer),
         _ => push_pool_entry(out, entry),
     }
 }

@@ -15,6 +15,30 @@ pub fn push_bytes(out: &mut String, offset: u64, size: u64) -> Result<(), AllocE
     }
 }
 
+/// A verb, and the bytes of a buffer that it is about.
+pub fn push_bytes_of(
+    out: &mut String,
+    verb: &str,
+    offset: u64,
+    size: u64,
+    buffer: u32,
+) -> Result<(), AllocError> {
+    push_length_of(out, verb, offset, Length::Bytes(size), buffer)
+}
+
+/// A verb, and the bytes of a buffer that it is about, which may go to the end.
+pub fn push_length_of(
+    out: &mut String,
+    verb: &str,
+    offset: u64,
+    size: Length,
+    buffer: u32,
+) -> Result<(), AllocError> {
+    write!(out, "{verb} ")?;
+    push_length(out, offset, size)?;
+    write!(out, " of buffer {buffer}")
+}
+
 /// A range of bytes that may go to the end.
 pub fn push_length(out: &mut String, offset: u64, size: Length) -> Result<(), AllocError> {
     match size {

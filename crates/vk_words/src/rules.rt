@@ -1,5 +1,6 @@
-ghost use Rattle.std.specs.Prelude.{◌≡◌};
+ghost use Rattle.std.specs.Prelude.{◌≡◌, IsTrue};
 ghost use Rattle.vk_words.specs.Sentences.{rule_sentence};
+ghost use Rattle.vk_words.specs.Inner.Kinds.{is_of_memory, is_of_binding, is_of_parts, is_of_layouts, is_of_signals, is_of_maps, is_of_pools, is_of_orders};
 
 use vk_model::Rule;
 
@@ -19,6 +20,29 @@ pub fn sentence(rule: Rule) -> &'static str
              alone."
         }
         Rule::Size => "A size or a count is 0, or over its limit.",
+        Rule::Usage | Rule::MemoryType | Rule::MemorySize | Rule::PoolSize => memory_sentence(rule),
+        Rule::BindRange | Rule::BindAlign | Rule::Aliased => binding_sentence(rule),
+        Rule::Range | Rule::Align | Rule::Overlap | Rule::Format => part_sentence(rule),
+        Rule::Subresource | Rule::Stage => part_sentence(rule),
+        Rule::Layout | Rule::OldLayout => layout_sentence(rule),
+        Rule::OwnerWhole | Rule::OwnerPair => layout_sentence(rule),
+        Rule::EventState | Rule::EventDependency => signal_sentence(rule),
+        Rule::SignalValue | Rule::SignalOrder | Rule::WaitBeforeSignal | Rule::WaitNever =>
+            signal_sentence(rule),
+        Rule::MapState | Rule::HostVisible => mapping_sentence(rule),
+        Rule::PoolKind | Rule::PassState | Rule::PassBusy | Rule::PassWrite => pool_sentence(rule),
+        Rule::HazardWar | Rule::HazardRaw | Rule::HazardWaw | Rule::InUse | Rule::ReadUndefined =>
+            order_sentence(rule),
+        Rule::Limit => "The point is number 131,072 or above, counted from 0.",
+    }
+}
+
+/// The sentence of a rule about what a resource or a memory object asks for.
+fn memory_sentence(rule: Rule) -> &'static str
+    requires { IsTrue (is_of_memory rule) }
+    ensures { result.now ≡ rule_sentence rule }
+{
+    match rule {
         Rule::Usage => {
             "A resource is made without a usage or with one that isn't known, or it is used \
              without the usage that this needs: TRANSFER_SRC to be copied from, TRANSFER_DST \
@@ -34,6 +58,16 @@ pub fn sentence(rule: Rule) -> &'static str
              bytes."
         }
         Rule::PoolSize => "A resource asks for more than half a block of its pool.",
+        _ => unreachable!(),
+    }
+}
+
+/// The sentence of a rule about where a resource lies in its memory object.
+fn binding_sentence(rule: Rule) -> &'static str
+    requires { IsTrue (is_of_binding rule) }
+    ensures { result.now ≡ rule_sentence rule }
+{
+    match rule {
         Rule::BindRange => {
             "A resource, by the bytes that it asks for, ends past the memory object that it \
              is bound to."
@@ -48,6 +82,16 @@ pub fn sentence(rule: Rule) -> &'static str
              or both have bytes on one page of 1,024 bytes and just one of them is an optimal \
              image."
         }
+        _ => unreachable!(),
+    }
+}
+
+/// The sentence of a rule about the bytes, texels and stages that are named.
+fn part_sentence(rule: Rule) -> &'static str
+    requires { IsTrue (is_of_parts rule) }
+    ensures { result.now ≡ rule_sentence rule }
+{
+    match rule {
         Rule::Range => {
             "Bytes outside a buffer are named, or a length to the end from the end or past \
              it; a row length or an image height is under its region's width or height, and \
@@ -75,6 +119,16 @@ pub fn sentence(rule: Rule) -> &'static str
              HOST_READ and HOST_WRITE need HOST; or HOST is in a batch's wait or signal, or \
              in the source of an event's element."
         }
+        _ => unreachable!(),
+    }
+}
+
+/// The sentence of a rule about layouts and ownership.
+fn layout_sentence(rule: Rule) -> &'static str
+    requires { IsTrue (is_of_layouts rule) }
+    ensures { result.now ≡ rule_sentence rule }
+{
+    match rule {
         Rule::Layout => {
             "A clear or a copy names a layout that it doesn't allow, or that isn't the \
              current one of each level and layer that it reaches; or a transition names a \
@@ -92,6 +146,16 @@ pub fn sentence(rule: Rule) -> &'static str
             "A half of an ownership transfer doesn't fit its other half, its queue or its \
              resource."
         }
+        _ => unreachable!(),
+    }
+}
+
+/// The sentence of a rule about events and semaphores.
+fn signal_sentence(rule: Rule) -> &'static str
+    requires { IsTrue (is_of_signals rule) }
+    ensures { result.now ≡ rule_sentence rule }
+{
+    match rule {
         Rule::EventState => {
             "An event is set that was set before, or awaited where it wasn't set earlier on \
              the same queue."
@@ -113,12 +177,32 @@ pub fn sentence(rule: Rule) -> &'static str
             "The host waits for a value above the semaphore's counter, when all batches that \
              can be started are."
         }
+        _ => unreachable!(),
+    }
+}
+
+/// The sentence of a rule about mapped memory.
+fn mapping_sentence(rule: Rule) -> &'static str
+    requires { IsTrue (is_of_maps rule) }
+    ensures { result.now ≡ rule_sentence rule }
+{
+    match rule {
         Rule::MapState => {
             "Memory is read, written, flushed, invalidated or unmapped by the host that isn't \
              mapped; or a memory object of the trace is mapped twice; or a resource is \
              destroyed, or ended with a pass, whose own memory is mapped."
         }
         Rule::HostVisible => "A buffer on memory type 0 is mapped, which the host can't see.",
+        _ => unreachable!(),
+    }
+}
+
+/// The sentence of a rule about pools and their passes.
+fn pool_sentence(rule: Rule) -> &'static str
+    requires { IsTrue (is_of_pools rule) }
+    ensures { result.now ≡ rule_sentence rule }
+{
+    match rule {
         Rule::PoolKind => {
             "A resource asks for the upper end of a pool that isn't linear or may have \
              several blocks, or a linear pool is defragmented."
@@ -136,6 +220,16 @@ pub fn sentence(rule: Rule) -> &'static str
         Rule::PassWrite => {
             "The host, a command or a transition writes a resource of a pool inside a pass."
         }
+        _ => unreachable!(),
+    }
+}
+
+/// The sentence of a rule about what has to come before a point.
+fn order_sentence(rule: Rule) -> &'static str
+    requires { IsTrue (is_of_orders rule) }
+    ensures { result.now ≡ rule_sentence rule }
+{
+    match rule {
         Rule::HazardWar => {
             "A write isn't ordered after an earlier read of the byte, so that the read may \
              see it."
@@ -159,6 +253,6 @@ pub fn sentence(rule: Rule) -> &'static str
              without a transfer of ownership; or written by the host to cached memory and \
              invalidated before a flush."
         }
-        Rule::Limit => "The point is number 131,072 or above, counted from 0.",
+        _ => unreachable!(),
     }
 }

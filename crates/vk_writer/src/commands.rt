@@ -2,7 +2,7 @@ use crate::elements::push_elements;
 use crate::lists::{Written, push_list};
 use crate::words::{push_bytes, push_length};
 use std::alloc::{AllocError, Global};
-use vk_model::{BufferImageCopy, Cmd, Layout};
+use vk_model::{BufferImageCopy, Cmd, Layout, SubresourceRange};
 
 /// A command.
 pub fn command_json(alloc: Global, command: &Cmd) -> Result<String, AllocError> {
@@ -41,21 +41,31 @@ impl Written for Cmd {
                 write!(out, "[\"copy\",{source},{destination},")?;
                 push_last(out, regions.as_slice())
             }
-            Cmd::Barrier { elements } => {
-                out.push_str("[\"barrier\",")?;
-                push_elements(out, elements.as_slice())?;
-                out.push_str("]")
-            }
-            Cmd::Set { event, elements } => {
-                write!(out, "[\"set\",{event},")?;
-                push_last(out, elements.as_slice())
-            }
-            Cmd::Await { event, elements } => {
-                write!(out, "[\"await\",{event},")?;
-                push_last(out, elements.as_slice())
+            Cmd::Barrier { .. } | Cmd::Set { .. } | Cmd::Await { .. } => {
+                push_of_elements(out, self)
             }
             _ => push_of_images(out, self),
         }
+    }
+}
+
+/// Adds a command that has elements; of another one nothing.
+fn push_of_elements(out: &mut String, command: &Cmd) -> Result<(), AllocError> {
+    match command {
+        Cmd::Barrier { elements } => {
+            out.push_str("[\"barrier\",")?;
+            push_elements(out, elements.as_slice())?;
+            out.push_str("]")
+        }
+        Cmd::Set { event, elements } => {
+            write!(out, "[\"set\",{event},")?;
+            push_last(out, elements.as_slice())
+        }
+        Cmd::Await { event, elements } => {
+            write!(out, "[\"await\",{event},")?;
+            push_last(out, elements.as_slice())
+        }
+        _ => Ok(()),
     }
 }
 
@@ -67,25 +77,13 @@ fn push_of_images(out: &mut String, command: &Cmd) -> Result<(), AllocError> {
             layout,
             color,
             ranges,
-        } => {
-            let layout = layout.code();
-            let [red, green, blue, alpha] = *color;
-            write!(
-                out,
-                "[\"clear\",{image},{layout},[{red},{green},{blue},{alpha}],"
-            )?;
-            push_last(out, ranges.as_slice())
-        }
+        } => push_clear(out, *image, *layout, *color, ranges.as_slice()),
         Cmd::CopyIn {
             buffer,
             image,
             layout,
             regions,
-        } => {
-            let layout = layout.code();
-            write!(out, "[\"copy_in\",{buffer},{image},{layout},")?;
-            push_last(out, regions.as_slice())
-        }
+        } => push_copy_in(out, *buffer, *image, *layout, regions.as_slice()),
         Cmd::CopyOut {
             image,
             layout,
@@ -106,6 +104,34 @@ fn push_of_images(out: &mut String, command: &Cmd) -> Result<(), AllocError> {
         }
         _ => Ok(()),
     }
+}
+
+fn push_clear(
+    out: &mut String,
+    image: u32,
+    layout: Layout,
+    color: [u32; 4],
+    ranges: &[SubresourceRange],
+) -> Result<(), AllocError> {
+    let layout = layout.code();
+    let [red, green, blue, alpha] = color;
+    write!(
+        out,
+        "[\"clear\",{image},{layout},[{red},{green},{blue},{alpha}],"
+    )?;
+    push_last(out, ranges)
+}
+
+fn push_copy_in(
+    out: &mut String,
+    buffer: u32,
+    image: u32,
+    layout: Layout,
+    regions: &[BufferImageCopy],
+) -> Result<(), AllocError> {
+    let layout = layout.code();
+    write!(out, "[\"copy_in\",{buffer},{image},{layout},")?;
+    push_last(out, regions)
 }
 
 fn push_copy_out(
