@@ -140,14 +140,7 @@ fn texel_origin(makings: &Makings<'_>, command: &Cmd, byte: Byte) -> Option<Orig
         return None;
     };
     match command {
-        Cmd::Clear { image, ranges, .. } if *image == own => {
-            for range in ranges.as_slice() {
-                if has_texel(range, byte) {
-                    return Some(Origin::Command);
-                }
-            }
-            None
-        }
+        Cmd::Clear { image, ranges, .. } if *image == own => cleared(ranges.as_slice(), byte),
         Cmd::CopyIn {
             buffer,
             image,
@@ -177,6 +170,16 @@ fn texel_origin(makings: &Makings<'_>, command: &Cmd, byte: Byte) -> Option<Orig
         }
         _ => None,
     }
+}
+
+/// That a clear has the value of a byte, if one of its ranges has the byte.
+fn cleared(ranges: &[SubresourceRange], byte: Byte) -> Option<Origin> {
+    for range in ranges {
+        if has_texel(range, byte) {
+            return Some(Origin::Command);
+        }
+    }
+    None
 }
 
 /// Whether levels and layers of its image have a byte.

@@ -50,18 +50,9 @@ pub fn parts_named(alloc: Global, command: &Cmd) -> Result<Vec<NamedPart>, Alloc
             destination_layout,
             regions,
         } => {
-            push_sources(
-                &mut parts,
-                *source,
-                source_layout.code(),
-                regions.as_slice(),
-            )?;
-            push_destinations(
-                &mut parts,
-                *destination,
-                destination_layout.code(),
-                regions.as_slice(),
-            )?;
+            let regions = regions.as_slice();
+            push_sources(&mut parts, *source, source_layout.code(), regions)?;
+            push_destinations(&mut parts, *destination, destination_layout.code(), regions)?;
         }
         _ => {}
     }
