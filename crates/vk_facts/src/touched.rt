@@ -1,8 +1,9 @@
-ghost use Rattle.std.specs.Prelude.{◌≡◌, ◌∷◌, [], IfOk};
+ghost use Rattle.std.specs.Prelude.{◌≡◌, ◌∷◌, [], IfOk, IsTrue};
 ghost use Rattle.vk_model.specs.Trace.Objects as objects;
 ghost use Rattle.vk_model.specs.Sync.Access as access;
 ghost use Rattle.vk_model.specs.Sync.Access.{reads_of, writes_of, targets, origins, transition_bytes};
 ghost use Rattle.vk_model.specs.World.ByteWrites.{byte_writes, buffer_size};
+ghost use Rattle.vk_model.specs.Inner.Kinds.{is_image_command, is_buffer_image_copy};
 ghost use Rattle.vk_order.specs.PointViews.{act_of};
 ghost use Rattle.vk_facts.specs.Areas.{AreAreas};
 
@@ -118,10 +119,43 @@ impl Past<'_> {
                 let areas = copy_targets(alloc, *destination, regions.as_slice())?;
                 Ok(areas)
             }
+            Cmd::Clear { .. } | Cmd::CopyImage { .. } => self.image_writes(command),
+            Cmd::CopyIn { .. } | Cmd::CopyOut { .. } => self.buffer_image_writes(command),
+            _ => none(alloc),
+        }
+    }
+
+    /// What a command on images alone writes.
+    fn image_writes(&self, command: &Cmd) -> Result<Vec<Area>, AllocError>
+        requires { IsTrue (is_image_command command.now) }
+        ensures { IfOk result (λ areas. AreAreas areas.items (targets (byte_writes self.now command.now))) }
+    {
+        let alloc = self.alloc;
+        match command {
             Cmd::Clear { image, ranges, .. } => {
                 let areas = clear_targets(alloc, *image, self.image(*image), ranges.as_slice())?;
                 Ok(areas)
             }
+            Cmd::CopyImage {
+                destination,
+                regions,
+                ..
+            } => {
+                let info = self.image(*destination);
+                let areas = copy_image_targets(alloc, *destination, info, regions.as_slice())?;
+                Ok(areas)
+            }
+            _ => unreachable!(),
+        }
+    }
+
+    /// What a copy between a buffer and an image writes.
+    fn buffer_image_writes(&self, command: &Cmd) -> Result<Vec<Area>, AllocError>
+        requires { IsTrue (is_buffer_image_copy command.now) }
+        ensures { IfOk result (λ areas. AreAreas areas.items (targets (byte_writes self.now command.now))) }
+    {
+        let alloc = self.alloc;
+        match command {
             Cmd::CopyIn { image, regions, .. } => {
                 let info = self.image(*image);
                 let areas = copy_in_targets(alloc, *image, info, regions.as_slice())?;
@@ -137,16 +171,7 @@ impl Past<'_> {
                 let areas = copy_out_targets(alloc, *buffer, info, regions.as_slice())?;
                 Ok(areas)
             }
-            Cmd::CopyImage {
-                destination,
-                regions,
-                ..
-            } => {
-                let info = self.image(*destination);
-                let areas = copy_image_targets(alloc, *destination, info, regions.as_slice())?;
-                Ok(areas)
-            }
-            _ => none(alloc),
+            _ => unreachable!(),
         }
     }
 

@@ -4,33 +4,9 @@ use Rattle.vk_model.specs.Basics.{below, byte_of}
 use Rattle.vk_model.specs.World.Bytes.{in_buffer}
 use Rattle.vk_model.specs.Sync.Access.{targets}
 use Rattle.vk_facts.specs.Areas.{AreAreas}
-use Rattle.vk_model.specs.World.ByteWrites.{Value, byte_write, fill_size, clear_writes, copy_in_writes, copy_out_writes, copy_image_writes}
-use Rattle.vk_facts.proofs.CommandAreas.{written_as, written_by}
+use Rattle.vk_model.specs.World.ByteWrites.{Value, byte_write, fill_size}
+use Rattle.vk_facts.proofs.CommandAreas.{written_by}
 use Rattle.vk_facts.proofs.past.Past.command_writes.Goals as goal
-
-pub returns-in_ok-areas-in-Clear : goal.returns-in_ok-areas-in-Clear
-returns-in_ok-areas-in-Clear c =
-    let w = c.in-Clear in
-    written_by c.args.self.now c.in_ok-areas-in-Clear.areas.items _ _ w.is
-    (written_as (λ o. clear_writes w.image w.color o) c.in_ok-areas-in-Clear.areas.items _ _ _ _ c.image.ensures c.as_slice-in-Clear.ensures (c.in_ok-areas-in-Clear.ensures w.color))
-
-pub returns-in_ok-areas-in-CopyIn : goal.returns-in_ok-areas-in-CopyIn
-returns-in_ok-areas-in-CopyIn c =
-    let w = c.in-CopyIn in
-    written_by c.args.self.now c.in_ok-areas-in-CopyIn.areas.items _ _ w.is
-    (written_as (copy_in_writes w.buffer w.image) c.in_ok-areas-in-CopyIn.areas.items _ _ _ _ c.image-info.ensures c.as_slice-in-CopyIn.ensures (c.in_ok-areas-in-CopyIn.ensures w.buffer))
-
-pub returns-in_ok-areas-in-CopyOut : goal.returns-in_ok-areas-in-CopyOut
-returns-in_ok-areas-in-CopyOut c =
-    let w = c.in-CopyOut in
-    written_by c.args.self.now c.in_ok-areas-in-CopyOut.areas.items _ _ w.is
-    (written_as (copy_out_writes w.image w.buffer) c.in_ok-areas-in-CopyOut.areas.items _ _ _ _ c.image-info-in-CopyOut.ensures c.as_slice-in-CopyOut.ensures (c.in_ok-areas-in-CopyOut.ensures w.image))
-
-pub returns-in_ok-areas-in-CopyImage : goal.returns-in_ok-areas-in-CopyImage
-returns-in_ok-areas-in-CopyImage c =
-    let w = c.in-CopyImage in
-    written_by c.args.self.now c.in_ok-areas-in-CopyImage.areas.items _ _ w.is
-    (written_as (copy_image_writes w.source w.destination) c.in_ok-areas-in-CopyImage.areas.items _ _ _ _ c.image-info-in-CopyImage.ensures c.as_slice-in-CopyImage.ensures (c.in_ok-areas-in-CopyImage.ensures w.source))
 
 pub returns-in_ok-areas-in-Fill : goal.returns-in_ok-areas-in-Fill
 returns-in_ok-areas-in-Fill c =
