@@ -1,5 +1,5 @@
 ghost use Rattle.std.specs.Prelude.{◌≡◌, IfOk, IsTrue};
-ghost use Rattle.vk_repairs.specs.Inner.Commands.{names_image};
+ghost use Rattle.vk_model.specs.Inner.Kinds.{is_buffer_write, is_image_command, is_buffer_image_copy};
 
 use std::alloc::AllocError;
 use vk_model::{Cmd, Sequence};
@@ -17,6 +17,38 @@ pub fn list<T: Copy + Drop>(items: &Sequence<T>) -> Result<Sequence<T>, AllocErr
 
 /// An equal command, with lists of its own. The only error is want of memory.
 pub fn copy_of(command: &Cmd) -> Result<Cmd, AllocError>
+    ensures { IfOk result (λ copy. copy ≡ command.now) }
+{
+    match command {
+        Cmd::Fill { .. } | Cmd::Update { .. } => copy_of_buffer_write(command),
+        Cmd::Copy {
+            source,
+            destination,
+            regions,
+        } => Ok(Cmd::Copy {
+            source: *source,
+            destination: *destination,
+            regions: list(regions)?,
+        }),
+        Cmd::Barrier { elements } => Ok(Cmd::Barrier {
+            elements: list(elements)?,
+        }),
+        Cmd::Set { event, elements } => Ok(Cmd::Set {
+            event: *event,
+            elements: list(elements)?,
+        }),
+        Cmd::Await { event, elements } => Ok(Cmd::Await {
+            event: *event,
+            elements: list(elements)?,
+        }),
+        Cmd::Clear { .. } | Cmd::CopyImage { .. } => copy_of_image_command(command),
+        Cmd::CopyIn { .. } | Cmd::CopyOut { .. } => copy_of_buffer_image_copy(command),
+    }
+}
+
+/// An equal command, of one that writes values of its own to a buffer.
+fn copy_of_buffer_write(command: &Cmd) -> Result<Cmd, AllocError>
+    requires { IsTrue (is_buffer_write command.now) }
     ensures { IfOk result (λ copy. copy ≡ command.now) }
 {
     match command {
@@ -40,35 +72,13 @@ pub fn copy_of(command: &Cmd) -> Result<Cmd, AllocError>
             offset: *offset,
             bytes: list(bytes)?,
         }),
-        Cmd::Copy {
-            source,
-            destination,
-            regions,
-        } => Ok(Cmd::Copy {
-            source: *source,
-            destination: *destination,
-            regions: list(regions)?,
-        }),
-        Cmd::Barrier { elements } => Ok(Cmd::Barrier {
-            elements: list(elements)?,
-        }),
-        Cmd::Set { event, elements } => Ok(Cmd::Set {
-            event: *event,
-            elements: list(elements)?,
-        }),
-        Cmd::Await { event, elements } => Ok(Cmd::Await {
-            event: *event,
-            elements: list(elements)?,
-        }),
-        Cmd::Clear { .. } | Cmd::CopyIn { .. } | Cmd::CopyOut { .. } | Cmd::CopyImage { .. } => {
-            image_copy_of(command)
-        }
+        _ => unreachable!(),
     }
 }
 
-/// An equal command, of one on an image.
-fn image_copy_of(command: &Cmd) -> Result<Cmd, AllocError>
-    requires { IsTrue (names_image command.now) }
+/// An equal command, of one on images alone.
+fn copy_of_image_command(command: &Cmd) -> Result<Cmd, AllocError>
+    requires { IsTrue (is_image_command command.now) }
     ensures { IfOk result (λ copy. copy ≡ command.now) }
 {
     match command {
@@ -83,6 +93,29 @@ fn image_copy_of(command: &Cmd) -> Result<Cmd, AllocError>
             color: *color,
             ranges: list(ranges)?,
         }),
+        Cmd::CopyImage {
+            source,
+            source_layout,
+            destination,
+            destination_layout,
+            regions,
+        } => Ok(Cmd::CopyImage {
+            source: *source,
+            source_layout: *source_layout,
+            destination: *destination,
+            destination_layout: *destination_layout,
+            regions: list(regions)?,
+        }),
+        _ => unreachable!(),
+    }
+}
+
+/// An equal command, of one that copies between a buffer and an image.
+fn copy_of_buffer_image_copy(command: &Cmd) -> Result<Cmd, AllocError>
+    requires { IsTrue (is_buffer_image_copy command.now) }
+    ensures { IfOk result (λ copy. copy ≡ command.now) }
+{
+    match command {
         Cmd::CopyIn {
             buffer,
             image,
@@ -103,19 +136,6 @@ fn image_copy_of(command: &Cmd) -> Result<Cmd, AllocError>
             image: *image,
             layout: *layout,
             buffer: *buffer,
-            regions: list(regions)?,
-        }),
-        Cmd::CopyImage {
-            source,
-            source_layout,
-            destination,
-            destination_layout,
-            regions,
-        } => Ok(Cmd::CopyImage {
-            source: *source,
-            source_layout: *source_layout,
-            destination: *destination,
-            destination_layout: *destination_layout,
             regions: list(regions)?,
         }),
         _ => unreachable!(),

@@ -111,17 +111,6 @@ fn renamed_copy(command: Cmd, renaming: Renaming) -> Cmd {
             destination: renaming.of(destination),
             regions,
         },
-        Cmd::Clear {
-            image,
-            layout,
-            color,
-            ranges,
-        } => Cmd::Clear {
-            image: renaming.of(image),
-            layout,
-            color,
-            ranges,
-        },
         Cmd::CopyIn {
             buffer,
             image,
@@ -143,6 +132,24 @@ fn renamed_copy(command: Cmd, renaming: Renaming) -> Cmd {
             layout,
             buffer: renaming.of(buffer),
             regions,
+        },
+        other => renamed_image_command(other, renaming),
+    }
+}
+
+/// A clear or a copy between images that names another id.
+fn renamed_image_command(command: Cmd, renaming: Renaming) -> Cmd {
+    match command {
+        Cmd::Clear {
+            image,
+            layout,
+            color,
+            ranges,
+        } => Cmd::Clear {
+            image: renaming.of(image),
+            layout,
+            color,
+            ranges,
         },
         Cmd::CopyImage {
             source,

@@ -29,6 +29,13 @@ pub fn named_in(command: &Cmd, side: Side, layout: Layout) -> Result<Cmd, AllocE
             color: *color,
             ranges: list(ranges)?,
         }),
+        _ => copied_by_buffer_in(command, side, layout),
+    }
+}
+
+/// The copy between a buffer and an image, with another layout for the image of one side.
+fn copied_by_buffer_in(command: &Cmd, side: Side, layout: Layout) -> Result<Cmd, AllocError> {
+    match (command, side) {
         (
             Cmd::CopyIn {
                 buffer,

@@ -256,12 +256,7 @@ fn by_bytes(case: &Case<'_>, command: &Cmd, between: u32) -> Result<Option<Detou
             let Some(rows) = rows_of(case, regions.as_slice(), texel_bytes(case, *image))? else {
                 return Ok(None);
             };
-            let Rows { tight, lines, size } = rows;
-            Ok(Some(Detour {
-                first: copy_out(*image, *layout, between, Sequence::new(tight)),
-                second: copy(between, *buffer, lines),
-                size,
-            }))
+            Ok(Some(out_by_rows(*image, *layout, *buffer, rows, between)))
         }
         Cmd::CopyIn {
             buffer,
@@ -272,15 +267,38 @@ fn by_bytes(case: &Case<'_>, command: &Cmd, between: u32) -> Result<Option<Detou
             let Some(rows) = rows_of(case, regions.as_slice(), texel_bytes(case, *image))? else {
                 return Ok(None);
             };
-            let Rows { tight, lines, size } = rows;
-            Ok(Some(Detour {
-                first: copy(*buffer, between, turned(case, lines.as_slice())?),
-                second: copy_in(between, *image, *layout, Sequence::new(tight)),
-                size,
-            }))
+            let detour = in_by_rows(case, *buffer, *image, *layout, rows, between)?;
+            Ok(Some(detour))
         }
         _ => Ok(None),
     }
+}
+
+/// A copy out of an image to the buffer between, of which the rows are copied on.
+fn out_by_rows(image: u32, layout: Layout, buffer: u32, rows: Rows, between: u32) -> Detour {
+    let Rows { tight, lines, size } = rows;
+    Detour {
+        first: copy_out(image, layout, between, Sequence::new(tight)),
+        second: copy(between, buffer, lines),
+        size,
+    }
+}
+
+/// A copy of the rows to the buffer between, which is copied into an image.
+fn in_by_rows(
+    case: &Case<'_>,
+    buffer: u32,
+    image: u32,
+    layout: Layout,
+    rows: Rows,
+    between: u32,
+) -> Result<Detour, AllocError> {
+    let Rows { tight, lines, size } = rows;
+    Ok(Detour {
+        first: copy(buffer, between, turned(case, lines.as_slice())?),
+        second: copy_in(between, image, layout, Sequence::new(tight)),
+        size,
+    })
 }
 
 /// Regions the other way.
