@@ -1,8 +1,4 @@
-ghost use Rattle.std.specs.Prelude.{◌≡◌, ℕ, ◌<◌, ◌+◌, ◌≤◌, IfOk, OnOk, None, Some, IsSome, IsSomeAnd, is_some, false, length, map};
-ghost use Rattle.vk_map_cache.specs.Holdings.{given};
-ghost use Rattle.vk_model.specs.Basics.{below};
-ghost use Rattle.vk_model.specs.World.Bytes.{in_buffer};
-ghost use Rattle.vk_model.specs.Run.CachedRuns.{after_host_write};
+ghost use Rattle.std.specs.Prelude.{◌≡◌, ℕ, ◌<◌, ◌≤◌, IfOk, OnOk, None, IsSomeAnd};
 ghost use Rattle.vk_model.specs.Trace.Point.{Past};
 ghost use Rattle.vk_model.specs.Memory.Suballocation.{IsRequest};
 ghost use Rattle.vk_model.specs.declared.entry.Entry.TheVariants as entry;
@@ -11,7 +7,7 @@ use crate::applied::Applied;
 use crate::resources::{Placed, Resources};
 use std::alloc::AllocError;
 use vk_image_tiles::Shape;
-use vk_model::{BufferInfo, Entry, ImageInfo, Kind, Place, Sequence, texels_inside};
+use vk_model::{BufferInfo, Entry, ImageInfo, Kind, Place, texels_inside};
 use vma_pools::Asked;
 
 /// Buffers are rounded up to this many bytes, and begin at a multiple of it (profile).
@@ -21,13 +17,13 @@ const BUFFER_UNIT: u64 = 16;
 const WHOLE_OBJECT: u64 = 1 << 63;
 
 impl Resources {
-    ghost use Rattle.vk_resources.specs.Held.{placed, shape_of, flat, object_of, seen_at, Stands};
+    ghost use Rattle.vk_resources.specs.Held.{placed, shape_of, object_of, Stands};
     ghost use Rattle.vk_resources.specs.Matches.{MatchesLive};
     ghost use Rattle.vk_resources.specs.Allocating.{Rooms, Allots};
     ghost use Rattle.vk_resources.specs.Fits.{FitsEntry};
     ghost use Rattle.vk_resources.specs.Counted.{Counts};
     ghost use Rattle.vk_resources.specs.Done.{DoneBy, EntryReady};
-    ghost use Rattle.vk_resources.specs.Inner.Steps.{IsMaking, MayReach, HasChanged, cached_at, MadeOr, ResourceMade, MemoryMade, ShapeReady, PutReady, Puts, FoundOr, SharedMade, BindReady, Binds, IsEmpty, Ends};
+    ghost use Rattle.vk_resources.specs.Inner.Steps.{IsMaking, MadeOr, ResourceMade, MemoryMade, ShapeReady, PutReady, Puts, FoundOr, SharedMade, BindReady, Binds, IsEmpty, Ends};
     ghost use Rattle.vk_backing.specs.Backed.{pool_by, allocation_of};
     ghost use Rattle.vk_backing.specs.Steps.{Grows};
 
@@ -210,41 +206,6 @@ impl Resources {
         }
     }
 
-    /// Writes bytes of the host to a buffer that is there.
-    fn write(&mut self, id: u32, offset: u64, bytes: &[u8]) -> Result<(), AllocError>
-        requires { MayReach (flat self.old id) offset (length bytes.now) }
-        ensures { OnOk result (HasChanged self.old self.new id (λ k. after_host_write (is_some (cached_at self.old id)) (given offset bytes.now k))) }
-    {
-        if self.cached(id).is_some() {
-            return self.write_cached(id, offset, bytes);
-        }
-        self.write_memory(id, offset, bytes);
-        Ok(())
-    }
-
-    /// Writes bytes of the host to a buffer that is there, as they are to be in memory at once.
-    fn write_memory(&mut self, id: u32, offset: u64, bytes: &[u8])
-        requires { MayReach (flat self.old id) offset (length bytes.now) }
-        ensures { HasChanged self.old self.new id (λ k. after_host_write false (given offset bytes.now k)) }
-    {
-        if let Some(buffer) = self.buffer(id) {
-            let region = self.memories.region_mut(buffer.object);
-            // A region's size is a whole number of 64 bits, so the places in it are too.
-            let _size = region.size();
-            region.write(buffer.offset + offset, bytes);
-        }
-    }
-
-    /// Reads bytes of a buffer that is there, as the host sees them.
-    fn read(&self, id: u32, offset: u64, size: u64) -> Result<Sequence<u8>, AllocError>
-        requires { MayReach (flat self.now id) offset size }
-        ensures bytes { IfOk result (λ bytes. bytes ≡ map (λ k. seen_at self.now (in_buffer id (offset + k))) (below size)) }
-    {
-        let mut bytes = vec![in self.alloc; 0u8; size as usize]?;
-        self.copy_seen(id, offset, &mut bytes);
-        Ok(Sequence::new(bytes))
-    }
-
     /// Makes a buffer.
     fn make_buffer(&mut self, id: u32, info: &BufferInfo) -> Result<Applied, AllocError>
         requires ready { EntryReady self.old (entry.Buffer id info.now) }
@@ -344,38 +305,8 @@ impl Resources {
                 self.end(*resource);
                 Ok(Applied::Done)
             }
-            Entry::Write {
-                buffer,
-                offset,
-                bytes,
-            } => {
-                self.write(*buffer, *offset, bytes.as_slice())?;
-                Ok(Applied::Done)
-            }
-            Entry::Read {
-                buffer,
-                offset,
-                size,
-            } => {
-                let bytes = self.read(*buffer, *offset, *size)?;
-                Ok(Applied::Bytes(bytes))
-            }
-            Entry::Flush {
-                buffer,
-                offset,
-                size,
-            } => {
-                self.flush(*buffer, *offset, *size);
-                Ok(Applied::Done)
-            }
-            Entry::Invalidate {
-                buffer,
-                offset,
-                size,
-            } => {
-                self.invalidate(*buffer, *offset, *size);
-                Ok(Applied::Done)
-            }
+            Entry::Write { .. } | Entry::Read { .. } => self.access(entry),
+            Entry::Flush { .. } | Entry::Invalidate { .. } => self.flush_or_invalidate(entry),
             Entry::Map { buffer } => {
                 self.map(*buffer);
                 Ok(Applied::Done)

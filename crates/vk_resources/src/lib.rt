@@ -1,6 +1,7 @@
 //! The resources of a device, the memory that they lie in, and the host's cache in front of it.
 #![tactic(auto)]
 
+mod accesses;
 mod applied;
 mod caching;
 mod entries;

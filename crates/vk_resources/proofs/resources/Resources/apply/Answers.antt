@@ -1,10 +1,8 @@
-use Rattle.std.proofs.Common.{◌-◌, true, false, ap, sym, subst, ◌∙◌}
+use Rattle.std.proofs.Common.{◌-◌, true, false, sym, subst}
 use Rattle.vk_backing.specs.Steps.{one_more}
-use Rattle.vk_model.specs.declared.entry.Entry.TheVariants as entry
 use Rattle.vk_resources.proofs.Resting.{rest_done}
 use Rattle.vk_resources.proofs.PoolEntries.{pool_absent, pool_done}
 use Rattle.vk_resources.proofs.PoolEnds.{drop_unused, drop_done}
-use Rattle.vk_resources.proofs.HostAccesses.{write_done, flush_done, invalidate_done, read_done}
 use Rattle.vk_resources.proofs.Ending.{free_empty, free_done, destroy_empty, destroy_done}
 use Rattle.vk_resources.proofs.Allotting.{free_allots, destroy_allots, rest_rooms, rest_allots, is_rest}
 use Rattle.vk_resources.proofs.Remapping.{map_done, map_rooms, map_allots, unmap_done, unmap_rooms, unmap_allots, uncounted}
@@ -47,23 +45,6 @@ drop_pool-requires-clause-unused c = λ stands. drop_unused c.args.self.now c.ar
 pub returns-in-DropPool-clause-done : goal.returns-in-DropPool-clause-done
 returns-in-DropPool-clause-done c = λ e past m fit.
     drop_done c.args.self.now c.args.entry.now c.in-DropPool.pool c.in-DropPool.is past m fit c.drop_pool.ensures.stands c.drop_pool.new.self c.drop_pool.ensures.dropped e
-
--- ---- host accesses
-
-pub returns-in_ok-write-in-Write-clause-done : goal.returns-in_ok-write-in-Write-clause-done
-returns-in_ok-write-in-Write-clause-done c = λ e past m fit.
-    write_done c.args.self.now c.write.new.self c.args.entry.now c.in-Write.buffer c.in-Write.offset c.as_slice.result.now
-    (c.in-Write.is ∙ ap (entry.Write c.in-Write.buffer c.in-Write.offset) (sym c.as_slice.ensures)) c.in_ok-write-in-Write.ensures e past m fit
-
-pub returns-in_ok-bytes-in-Read-clause-done : goal.returns-in_ok-bytes-in-Read-clause-done
-returns-in_ok-bytes-in-Read-clause-done c = λ e past m fit.
-    read_done c.args.self.now c.args.entry.now c.in-Read.buffer c.in-Read.offset c.in-Read.size c.in_ok-bytes-in-Read.bytes c.in-Read.is c.in_ok-bytes-in-Read.ensures.bytes e past m fit
-
-pub returns-in-Flush-clause-done : goal.returns-in-Flush-clause-done
-returns-in-Flush-clause-done c = λ e past m fit. flush_done c.args.self.now c.flush.new.self c.args.entry.now c.in-Flush.buffer c.in-Flush.offset c.in-Flush.size c.in-Flush.is c.flush.ensures e past m fit
-
-pub returns-in-Invalidate-clause-done : goal.returns-in-Invalidate-clause-done
-returns-in-Invalidate-clause-done c = λ e past m fit. invalidate_done c.args.self.now c.invalidate.new.self c.args.entry.now c.in-Invalidate.buffer c.in-Invalidate.offset c.in-Invalidate.size c.in-Invalidate.is c.invalidate.ensures e past m fit
 
 -- ---- mappings
 

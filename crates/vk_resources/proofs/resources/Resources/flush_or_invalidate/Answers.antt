@@ -1,0 +1,8 @@
+use Rattle.vk_resources.proofs.HostAccesses.{flush_done, invalidate_done}
+use Rattle.vk_resources.proofs.resources.Resources.flush_or_invalidate.Goals as goal
+
+pub returns-in-Flush-clause-done : goal.returns-in-Flush-clause-done
+returns-in-Flush-clause-done c = λ e past m fit. flush_done c.args.self.now c.flush.new.self c.args.entry.now c.in-Flush.buffer c.in-Flush.offset c.in-Flush.size c.in-Flush.is c.flush.ensures e past m fit
+
+pub returns-in-Invalidate-clause-done : goal.returns-in-Invalidate-clause-done
+returns-in-Invalidate-clause-done c = λ e past m fit. invalidate_done c.args.self.now c.invalidate.new.self c.args.entry.now c.in-Invalidate.buffer c.in-Invalidate.offset c.in-Invalidate.size c.in-Invalidate.is c.invalidate.ensures e past m fit
