@@ -201,7 +201,7 @@ fn first_early(history: &History<'_>, point: &Point<'_>, searched: Searched) -> 
 
 /// The early rules that an action can break at all, in the order of their tests.
 fn rules_on(action: Action<'_>) -> &'static [Rule]
-    ensures { (past : Past) (p : AnyPoint) → p.action ≡ action_of action.now → find (λ r. breaks_early r past p) result.now ≡ first_among early_rules past p }
+    ensures { (past : Past) (p : AnyPoint) → p.action ≡ action_of action.entry → find (λ r. breaks_early r past p) result.now ≡ first_among early_rules past p }
 {
     match action {
         Action::Run(command) => rules_on_command(command),
