@@ -130,26 +130,29 @@ const ON_ENTRIES: [Rule; 24] = [
 ];
 
 /// Those of them that speak of fills, updates and copies between buffers, in the same order.
-const ON_BUFFERS: [Rule; 9] = [
+const ON_BUFFERS: [Rule; 10] = [
     Rule::LiveId,
     Rule::Size,
     Rule::Usage,
     Rule::Range,
     Rule::Align,
     Rule::Overlap,
+    Rule::Subresource,
     Rule::OwnerPair,
     Rule::SignalOrder,
     Rule::PassWrite,
 ];
 
 /// Those of them that speak of barriers, in the same order.
-const ON_BARRIERS: [Rule; 11] = [
+const ON_BARRIERS: [Rule; 13] = [
     Rule::LiveId,
+    Rule::Size,
+    Rule::Usage,
     Rule::Range,
-    Rule::Align,
     Rule::Overlap,
     Rule::Subresource,
     Rule::Stage,
+    Rule::Layout,
     Rule::OldLayout,
     Rule::OwnerWhole,
     Rule::OwnerPair,

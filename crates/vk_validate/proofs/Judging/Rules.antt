@@ -60,10 +60,10 @@ on_entries = rule.NewId ∷ rule.LiveId ∷ rule.Queue ∷ rule.Size ∷ rule.Us
 
 -- those on fills, updates and copies between buffers, on barriers, and on a new semaphore
 abbrev pub on_buffers : List Rule
-on_buffers = rule.LiveId ∷ rule.Size ∷ rule.Usage ∷ rule.Range ∷ rule.Align ∷ rule.Overlap ∷ rule.OwnerPair ∷ rule.SignalOrder ∷ rule.PassWrite ∷ []
+on_buffers = rule.LiveId ∷ rule.Size ∷ rule.Usage ∷ rule.Range ∷ rule.Align ∷ rule.Overlap ∷ rule.Subresource ∷ rule.OwnerPair ∷ rule.SignalOrder ∷ rule.PassWrite ∷ []
 
 abbrev pub on_barriers : List Rule
-on_barriers = rule.LiveId ∷ rule.Range ∷ rule.Align ∷ rule.Overlap ∷ rule.Subresource ∷ rule.Stage ∷ rule.OldLayout ∷ rule.OwnerWhole ∷ rule.OwnerPair ∷ rule.SignalOrder ∷ rule.PassWrite ∷ []
+on_barriers = rule.LiveId ∷ rule.Size ∷ rule.Usage ∷ rule.Range ∷ rule.Overlap ∷ rule.Subresource ∷ rule.Stage ∷ rule.Layout ∷ rule.OldLayout ∷ rule.OwnerWhole ∷ rule.OwnerPair ∷ rule.SignalOrder ∷ rule.PassWrite ∷ []
 
 abbrev pub on_semaphores : List Rule
 on_semaphores = rule.NewId ∷ rule.OwnerPair ∷ rule.SignalOrder ∷ []

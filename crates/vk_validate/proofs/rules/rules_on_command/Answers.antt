@@ -14,3 +14,6 @@ returns-in-Copy c past p is = copies_are past p _ _ _ (is ∙ ap Run c.in-Copy.i
 
 pub returns-in-Barrier : goal.returns-in-Barrier
 returns-in-Barrier c past p is = barriers_are past p _ (is ∙ ap Run c.in-Barrier.is)
+
+pub returns-in_default : goal.returns-in_default
+returns-in_default c past p is = commands_are past p _ is
