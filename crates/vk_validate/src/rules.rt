@@ -1,7 +1,7 @@
 ghost use Rattle.std.specs.Prelude.{◌≡◌, ◌∷◌, IfOk, IsTrue, None};
 ghost use Rattle.std.specs.List.{find};
 ghost use Rattle.vk_model.specs.Trace.Structure.{IsOrdered};
-ghost use Rattle.vk_model.specs.Trace.Point.{Past, Run, Point as AnyPoint};
+ghost use Rattle.vk_model.specs.Trace.Point.{Past, Host, Run, Point as AnyPoint};
 ghost use Rattle.vk_model.specs.Rules.Table as table;
 ghost use Rattle.vk_model.specs.Rules.Hazards.{breaks_in_use};
 ghost use Rattle.vk_order.specs.PointViews.{action_of, point_of};
@@ -208,10 +208,19 @@ fn rules_on(action: Action<'_>) -> &'static [Rule]
 {
     match action {
         Action::Run(command) => rules_on_command(command),
-        Action::Host(Entry::Semaphore { .. }) => &ON_SEMAPHORES,
-        Action::Host(_) => &ON_ENTRIES,
+        Action::Host(entry) => rules_on_entry(entry),
         Action::Wait(_) => &EARLY,
         Action::Signal(_) => &EARLY,
+    }
+}
+
+/// The early rules that an entry can break at all, in the order of their tests.
+fn rules_on_entry(entry: &Entry) -> &'static [Rule]
+    ensures { (past : Past) (p : AnyPoint) → p.action ≡ Host entry.now → find (λ r. breaks_early r past p) result.now ≡ first_among early_rules past p }
+{
+    match entry {
+        Entry::Semaphore { .. } => &ON_SEMAPHORES,
+        _ => &ON_ENTRIES,
     }
 }
 
