@@ -7,7 +7,7 @@ ghost use Rattle.vk_model.specs.Trace.Order.{signal_in, value_for};
 ghost use Rattle.vk_queues.specs.Inner.Tallied.{tally_at, unknown, has_reached, after_entry, after_signal};
 
 use std::alloc::{AllocError, Global};
-use std::collections::BTreeMap;
+use vk_ids::IdMap;
 use vk_model::{Entry, SemaphoreSubmit};
 
 /// What is known of an id.
@@ -24,7 +24,7 @@ pub struct Tally {
 /// What is known of each id.
 #[derive(Drop)]
 pub struct Tallies {
-    by_id: BTreeMap<u32, Tally>,
+    by_id: IdMap<Tally>,
 }
 
 impl Tallies {
@@ -33,7 +33,7 @@ impl Tallies {
         ensures { (id : ℕ) → tally_at result id ≡ unknown }
     {
         Tallies {
-            by_id: BTreeMap::new(alloc),
+            by_id: IdMap::new(alloc),
         }
     }
 
@@ -41,7 +41,7 @@ impl Tallies {
     pub fn at(&self, id: u32) -> Tally
         ensures { result ≡ tally_at self.now id }
     {
-        self.by_id.get(&id).copied().unwrap_or(Tally {
+        self.by_id.get(id).copied().unwrap_or(Tally {
             initial: None,
             signaled: 0,
             is_ended: false,
@@ -51,7 +51,7 @@ impl Tallies {
     fn put(&mut self, id: u32, tally: Tally) -> Result<(), AllocError>
         ensures { OnOk result ((other : ℕ) → tally_at self.new other ≡ (if other == id then tally else tally_at self.old other)) }
     {
-        self.by_id.insert(id, tally)?;
+        self.by_id.put(id, tally)?;
         Ok(())
     }
 
@@ -109,7 +109,7 @@ impl Tallies {
             signaled: 0,
             is_ended: false,
         };
-        match self.by_id.insert(id, new)? {
+        match self.by_id.put(id, new)? {
             Some(known) => self.put(
                 id,
                 Tally {

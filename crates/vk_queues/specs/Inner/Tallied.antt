@@ -1,9 +1,8 @@
 -- What is known of ids.
 use Rattle.std.specs.Prelude.{◌≡◌, ℕ, Bool, false, ◌||◌, ◌==◌, nat_le, max, if◌then◌else◌, Option, Some, None, option_and_then}
 use Rattle.std.specs.Option.{unwrap_or}
-use Rattle.std.specs.Ordering.{nat_cmp}
-use Rattle.std.specs.BTreeMap.{get}
 use Rattle.std.specs.List.{fold}
+use Rattle.vk_ids.specs.Ids.{value_of}
 use Rattle.vk_model.specs.declared.entry.Entry.{Entry}
 use Rattle.vk_model.specs.Basics.{holds, among}
 use Rattle.vk_model.specs.Trace.Point.{Past}
@@ -18,7 +17,7 @@ unknown = record { initial = None; signaled = 0; is_ended = false }
 
 -- What is known of an id.
 abbrev pub tally_at : Tallies → ℕ → Tally
-tally_at t id = unwrap_or (get nat_cmp t.by_id id) unknown
+tally_at t id = unwrap_or (value_of t.by_id id) unknown
 
 -- What has happened to an id (Vulkan, "Semaphores" and "Object Lifetime").
 abbrev pub tally_of : Past → ℕ → Tally
