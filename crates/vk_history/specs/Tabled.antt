@@ -4,6 +4,7 @@ use Rattle.std.specs.Option.{option_map}
 use Rattle.std.specs.List.{fold}
 use Rattle.std.specs.Ordering.{nat_cmp}
 use Rattle.std.specs.BTreeMap.{get}
+use Rattle.vk_ids.specs.Ids.{value_of}
 use Rattle.vk_model.specs.Trace.Point.{Past}
 use Rattle.vk_model.specs.Trace.Order.{signaled}
 use Rattle.vk_model.specs.Sync.Node.{nodes}
@@ -32,7 +33,7 @@ maker_view m = record { entry = m.entry.now; number = m.number }
 
 -- The last maker of each id.
 abbrev pub AreObjects : Objects → Past → Type 0
-AreObjects objects past = (i : ℕ) → option_map maker_view (get nat_cmp objects.makers i) ≡ last_maker past i
+AreObjects objects past = (i : ℕ) → option_map maker_view (value_of objects.makers i) ≡ last_maker past i
 
 -- The set that a table keeps.
 abbrev pub set_view : EventSet → Set

@@ -1,7 +1,6 @@
 ghost use Rattle.std.specs.Prelude.{◌≡◌, ◌==◌, ◌∷◌, [], ℕ, OnOk, if◌then◌else◌, Some, option_and_then};
 ghost use Rattle.std.specs.Option.{option_map};
-ghost use Rattle.std.specs.Ordering.{nat_cmp};
-ghost use Rattle.std.specs.BTreeMap.{get};
+ghost use Rattle.vk_ids.specs.Ids.{value_of};
 ghost use Rattle.vk_model.specs.Trace.Point.{Past};
 ghost use Rattle.vk_model.specs.Trace.Objects as objects;
 ghost use Rattle.vk_model.specs.Trace.Objects.{made, memory, pool, memory_of, pool_of, defrag_in, resource, type_at, type_of, is_cached, is_exclusive, is_exclusive_mode};
@@ -12,7 +11,7 @@ ghost use Rattle.vk_history.specs.Tabled.{AreObjects, maker_view};
 
 use crate::places::{bound_at, memory_at, pool_at};
 use std::alloc::{AllocError, Global};
-use std::collections::BTreeMap;
+use vk_ids::IdMap;
 use vk_model::{Entry, Place, Sharing};
 use vk_order::{Action, Point};
 
@@ -26,7 +25,7 @@ pub struct Maker<'a> {
 /// Which entry made each object.
 #[derive(Drop)]
 pub struct Objects<'a> {
-    makers: BTreeMap<u32, Maker<'a>>,
+    makers: IdMap<Maker<'a>>,
 }
 
 impl<'a> Objects<'a> {
@@ -35,7 +34,7 @@ impl<'a> Objects<'a> {
         ensures { AreObjects result [] }
     {
         Objects {
-            makers: BTreeMap::new(alloc),
+            makers: IdMap::new(alloc),
         }
     }
 
@@ -43,7 +42,7 @@ impl<'a> Objects<'a> {
     pub fn maker(&self, id: u32) -> Option<Maker<'a>>
         ensures { (past : Past) → AreObjects self.now past → option_map maker_view result ≡ last_maker past id }
     {
-        self.makers.get(&id).copied()
+        self.makers.get(id).copied()
     }
 
     /// The entry that made an object.
@@ -194,10 +193,10 @@ impl<'a> Objects<'a> {
     }
 
     fn set(&mut self, id: u32, maker: Maker<'a>) -> Result<(), AllocError>
-        ensures { OnOk result ((other : ℕ) → option_map maker_view (get nat_cmp self.new.makers other)
-            ≡ (if other == id then Some (maker_view maker.entry) else option_map maker_view (get nat_cmp self.old.makers other))) }
+        ensures { OnOk result ((other : ℕ) → option_map maker_view (value_of self.new.makers other)
+            ≡ (if other == id then Some (maker_view maker.entry) else option_map maker_view (value_of self.old.makers other))) }
     {
-        self.makers.insert(id, maker)?;
+        self.makers.put(id, maker)?;
         Ok(())
     }
 }
