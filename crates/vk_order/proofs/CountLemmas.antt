@@ -66,6 +66,16 @@ none_max n = omega arith
 none_joined : (c : Counts) → joined_counts zero_counts c ≡ c
 none_joined c = rw (none_max c.clock, none_max c.available, none_max c.reads, none_max c.writes, none_max c.host_reads, none_max c.host_writes) refl
 
+max_none : (n : ℕ) → max n 0 ≡ n
+max_none n = omega arith
+
+joined_none : (c : Counts) → joined_counts c zero_counts ≡ c
+joined_none c = rw (max_none c.clock, max_none c.available, max_none c.reads, max_none c.writes, max_none c.host_reads, max_none c.host_writes) refl
+
+-- past the end of the other list there is nothing to join
+pub joined_past : (c : Counts) (other : List Counts) (i : ℕ) → length other ≤ i → c ≡ joined_counts c (slice_index_or other i zero_counts)
+joined_past c other i le = sym (ap (joined_counts c) (get_or_past other i zero_counts le) ∙ joined_none c)
+
 -- up to the end of the one list they are joined, and then comes the rest of the other one
 pub joined_rest : (first second shared both : List Counts) → length both ≡ max (length first) (length second)
     → ((i : ℕ) → i < length first → slice_index_or shared i zero_counts ≡ joined_counts (slice_index_or first i zero_counts) (slice_index_or second i zero_counts))

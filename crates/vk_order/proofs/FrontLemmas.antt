@@ -1,7 +1,6 @@
 -- Fronts, and what they are made of.
 use Rattle.std.proofs.Common.{◌≡◌, ℕ, ◌<◌, ◌≤◌, List, [], ◌∷◌, length, Bool, true, false, ◌||◌, IsTrue, Option, Some, None, refl, ap, sym, ◌∙◌, subst, arith}
 use Rattle.std.specs.Prelude.{Contains, max, map, slice_index_or}
-use Rattle.std.proofs.Math.Nat.{max_comm}
 use Rattle.vk_model.specs.Sync.Node.{Node}
 use Rattle.vk_model.specs.Sync.Before.{IsNumbered}
 use Rattle.vk_order.specs.declared.lines.Line.{Line}
@@ -29,19 +28,6 @@ pub fronts_joined : (first second both : Front) → AreJoinedCounts first.counts
 fronts_joined first second both are = record {
   clock = joined_clocks first.counts.items second.counts.items both.counts.items are;
   rows = λ g. joined_rows g first.counts.items second.counts.items both.counts.items are;
-}
-
-turned : (first second both : List ℕ) → AreJoined first second both → AreJoined second first both
-turned first second both are = record {
-  counts = λ i. are.counts i ∙ max_comm (slice_index_or first i 0) (slice_index_or second i 0);
-  long = are.long ∙ max_comm (length first) (length second);
-}
-
--- it doesn't matter which of two fronts is the first
-pub fronts_turned : (first second both : Front) → AreJoinedFronts first second both → AreJoinedFronts second first both
-fronts_turned first second both are = record {
-  clock = turned (clock_in first) (clock_in second) (clock_in both) are.clock;
-  rows = λ g. turned (row_in g first) (row_in g second) (row_in g both) (are.rows g);
 }
 
 -- ---- rows

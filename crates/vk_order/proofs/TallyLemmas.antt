@@ -122,8 +122,14 @@ listing ns ts t none empty zero_count tallied = record {
     last : (i : ℕ) (u : LineTally) → (i ≡ length ts) × (t ≡ u) → index_in (lines_of ts ++ t.line ∷ []) u.line ≡ Some i
     last i u h = ap (λ (x : LineTally). index_in (lines_of ts ++ t.line ∷ []) x.line) (sym h.1) ∙ now_listed (lines_of ts) t.line none ∙ ap Some (lines_length ts ∙ sym h.0)
 
-pub now_there : (ts : List LineTally) (t : LineTally) → index_in (lines_of ts) t.line ≡ None → IsTrue (is_some (index_in (lines_of (ts ++ t ∷ [])) t.line))
-now_there ts t none = rw (map-append (λ (x : LineTally). x.line) ts (t ∷ [])) (ap is_some (now_listed (lines_of ts) t.line none))
+pub now_there : (ts : List LineTally) (t : LineTally) → index_in (lines_of ts) t.line ≡ None → index_in (lines_of (ts ++ t ∷ [])) t.line ≡ Some (length ts)
+now_there ts t none = rw (map-append (λ (x : LineTally). x.line) ts (t ∷ [])) (now_listed (lines_of ts) t.line none ∙ ap Some (lines_length ts))
+
+pub line_there : (ts : List LineTally) (line : Line) (at : ℕ) (t : LineTally) → index_in (lines_of ts) line ≡ Some at → slice_get ts at ≡ Some t → t.line ≡ line
+line_there ts line at t found here = let r = tally_at ts line at found in ap (λ (x : LineTally). x.line) (inside t r.0 (sym here ∙ r.1)) ∙ r.2
+  where
+    inside : (a b : LineTally) → Some a ≡ Some b → a ≡ b
+    inside a b e = cc
 
 -- ---- one node more
 

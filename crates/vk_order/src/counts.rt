@@ -68,18 +68,16 @@ impl Counts {
         }
     }
 
-    /// The greater of each count.
-    fn joined(self, other: Counts) -> Counts
-        ensures { result ≡ joined_counts self other }
+    /// Makes each count the greater one of the two.
+    fn join(&mut self, other: &Counts)
+        ensures { self.new ≡ joined_counts self.old other.now }
     {
-        Counts {
-            clock: self.clock.max(other.clock),
-            available: self.available.max(other.available),
-            reads: self.reads.max(other.reads),
-            writes: self.writes.max(other.writes),
-            host_reads: self.host_reads.max(other.host_reads),
-            host_writes: self.host_writes.max(other.host_writes),
-        }
+        raise(&mut self.clock, other.clock);
+        raise(&mut self.available, other.available);
+        raise(&mut self.reads, other.reads);
+        raise(&mut self.writes, other.writes);
+        raise(&mut self.host_reads, other.host_reads);
+        raise(&mut self.host_writes, other.host_writes);
     }
 
     /// Of how many nodes of a line the writes are known: of elements of barriers those before, of
@@ -119,6 +117,16 @@ impl Counts {
     }
 }
 
+/// Makes a count the greater one of two. Most are already, so it writes only where it has to.
+#[inline(always)]
+fn raise(count: &mut usize, other: usize)
+    ensures { count.new ≡ max count.old other }
+{
+    if *count < other {
+        *count = other;
+    }
+}
+
 /// The counts at an index.
 pub fn counts_at(all: &[Counts], index: usize) -> Counts
     ensures { result ≡ slice_index_or all.now index zero_counts }
@@ -145,13 +153,13 @@ pub fn join_in(all: &mut Vec<Counts>, other: &[Counts]) -> Result<(), AllocError
     Ok(())
 }
 
-/// The same at the indices that there are.
+/// The same at the indices that both have.
 fn join_shared(all: &mut Vec<Counts>, other: &[Counts])
     ensures len { vec_len all.new ≡ vec_len all.old }
     ensures counts { (i : ℕ) → i < vec_len all.old → slice_index_or all.new.items i zero_counts ≡ joined_counts (slice_index_or all.old.items i zero_counts) (slice_index_or other.now i zero_counts) }
 {
-    for index in 0..all.len() {
-        all[index] = all[index].joined(counts_at(other, index));
+    for index in 0..all.len().min(other.len()) {
+        all[index].join(&other[index]);
     }
 }
 

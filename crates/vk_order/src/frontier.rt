@@ -28,12 +28,12 @@ use crate::clocks::count_at;
 use crate::fronts::Front;
 use crate::lines::Line;
 use crate::names::Names;
-use crate::owning::heard;
+use crate::owning::{heard, own_front};
 use crate::parts::{Part, Parts, Spot, parts_from};
 use crate::point::{Act, Point, single_act};
 use crate::rows::rows_of;
 use crate::sights::Sight;
-use crate::tallies::{LineTally, join_of, line_index, lines_copied, list_line, own_of, tally};
+use crate::tallies::{LineTally, join_of, line_index, lines_copied, list_line, tally};
 use std::alloc::{AllocError, Global};
 
 /// What is known of the nodes so far, for those that come next: of each line how many there are,
@@ -46,6 +46,8 @@ pub struct Frontier {
     tallies: Vec<LineTally>,
     names: Names,
     parts: Parts,
+    /// A front that is done with: the next one takes its room.
+    room: Front,
 }
 
 impl Frontier {
@@ -59,6 +61,7 @@ impl Frontier {
             tallies: Vec::new(alloc),
             names: Names::new(alloc),
             parts: Parts::new(alloc),
+            room: Front::new(alloc),
         }
     }
 
@@ -88,7 +91,7 @@ impl Frontier {
             point: *point,
             act: *act,
         };
-        let front = self.front_of(&row)?;
+        let front = self.front_of(Front::new(self.alloc), &row)?;
         let lines = self.lines()?;
         Ok(Sight::new(lines, front, act.is_host(), point.queue))
     }
@@ -101,12 +104,12 @@ impl Frontier {
         Ok(lines)
     }
 
-    /// What comes after the nodes that lead to a row that comes next.
-    fn front_of(&self, row: &Row<'_>) -> Result<Front, AllocError>
+    /// What comes after the nodes that lead to a row that comes next, in the room of a front.
+    fn front_of(&self, room: Front, row: &Row<'_>) -> Result<Front, AllocError>
         ensures { IfOk result (λ f. (ns : List Node) (j : ℕ) → IsFrontier self.now ns
             → IsFront ns (lines_of self.now.tallies.items) (λ k. line_leads row.now.point.queue (act_of row.now.act) (class_of k) || by_name ns k (node_of j row.now)) f) }
     {
-        let front = join_of(self.alloc, self.tallies.as_slice(), row)?;
+        let front = join_of(room, self.tallies.as_slice(), row)?;
         let front = self.names.with_names(front, row)?;
         Ok(front)
     }
@@ -140,8 +143,8 @@ impl Frontier {
             point: *point,
             act: *act,
         };
-        self.list_line(Line::of(point.queue, act))?;
-        self.add(&row, sight.into_front())?;
+        let at = self.list_line(Line::of(point.queue, act))?;
+        self.add_at(&row, at, sight.into_front())?;
         Ok(())
     }
 
@@ -149,9 +152,10 @@ impl Frontier {
     fn add_single(&mut self, row: &Row<'_>) -> Result<(), AllocError>
         ensures { OnOk result ((ns : List Node) → CanFollow ns (row.now ∷ []) → IsFrontier self.old ns → IsFrontier self.new (node_of (length ns) row.now ∷ ns)) }
     {
-        self.list_line(Line::of(row.point.queue, &row.act))?;
-        let front = self.front_of(row)?;
-        self.add(row, front)?;
+        let at = self.list_line(Line::of(row.point.queue, &row.act))?;
+        let room = std::mem::replace(&mut self.room, Front::new(self.alloc));
+        let front = self.front_of(room, row)?;
+        self.add_at(row, at, front)?;
         Ok(())
     }
 
@@ -178,14 +182,15 @@ impl Frontier {
         Ok(())
     }
 
-    fn list_line(&mut self, line: Line) -> Result<(), AllocError>
-        ensures listed { OnOk result (IsTrue (is_some (index_in (lines_of self.new.tallies.items) line))) }
+    /// Lists a line. Answers its index.
+    fn list_line(&mut self, line: Line) -> Result<usize, AllocError>
+        ensures listed { IfOk result (λ at. index_in (lines_of self.new.tallies.items) line ≡ Some at) }
         ensures others { OnOk result ((l : AnyLine) → IsTrue (is_some (index_in (lines_of self.old.tallies.items) l)) → IsTrue (is_some (index_in (lines_of self.new.tallies.items) l))) }
         ensures kept { OnOk result ((ns : List Node) → IsFrontier self.old ns → IsFrontier self.new ns) }
         ensures longer { OnOk result (IsLonger (lines_of self.old.tallies.items) (lines_of self.new.tallies.items)) }
     {
-        list_line(self.alloc, &mut self.tallies, line)?;
-        Ok(())
+        let at = list_line(self.alloc, &mut self.tallies, line)?;
+        Ok(at)
     }
 
     /// What comes after the nodes that lead to rows that come next, each by itself.
@@ -195,7 +200,7 @@ impl Frontier {
     {
         let mut fronts = Vec::new(self.alloc);
         for row in rows {
-            let front = self.front_of(row)?;
+            let front = self.front_of(Front::new(self.alloc), row)?;
             fronts.push(front)?;
         }
         Ok(fronts)
@@ -220,20 +225,33 @@ impl Frontier {
         ensures lines { OnOk result (lines_of self.new.tallies.items ≡ lines_of self.old.tallies.items) }
         ensures kept { OnOk result ((ns : List Node) (n : Node) → n ≡ node_of (length ns) row.now → IsFront ns (lines_of self.old.tallies.items) (λ k. edge ns k n) front → IsFrontier self.old ns → IsFrontier self.new (n ∷ ns)) }
     {
+        let line = Line::of(row.point.queue, &row.act);
+        let Some(at) = line_index(self.tallies.as_slice(), line) else {
+            unreachable!()
+        };
+        self.add_at(row, at, front)
+    }
+
+    /// The same at the index of its line.
+    fn add_at(&mut self, row: &Row<'_>, at: usize, front: Front) -> Result<(), AllocError>
+        requires { index_in (lines_of self.old.tallies.items) (class_on row.now.point.queue (act_of row.now.act)) ≡ Some at }
+        ensures lines { OnOk result (lines_of self.new.tallies.items ≡ lines_of self.old.tallies.items) }
+        ensures kept { OnOk result ((ns : List Node) (n : Node) → n ≡ node_of (length ns) row.now → IsFront ns (lines_of self.old.tallies.items) (λ k. edge ns k n) front → IsFrontier self.old ns → IsFrontier self.new (n ∷ ns)) }
+    {
         let Some(nodes) = self.nodes.checked_add(1) else {
             return Err(AllocError);
         };
         let part = self.new_part(row, &front)?;
-        let own = own_of(self.tallies.as_slice(), row, front)?;
+        let own = own_front(self.tallies.as_slice(), row, at, front)?;
         self.names.add(self.alloc, row, &own)?;
         self.parts.keep(self.alloc, part)?;
-        tally(self.alloc, &mut self.tallies, row, own)?;
+        tally(&mut self.tallies, at, &own)?;
+        self.room = own;
         self.nodes = nodes;
         Ok(())
     }
 
-    /// What is kept of a row that comes next, with what it comes after, where it is a dependency on
-    /// a part of a resource's memory.
+    /// What is kept of a row that comes next, where it is a dependency on a part of memory.
     pub(crate) fn new_part(
         &self,
         row: &Row<'_>,

@@ -1,4 +1,4 @@
-ghost use Rattle.std.specs.Prelude.{◌≡◌, ◌∷◌, ◌||◌, ◌<◌, ◌^◌, ℕ, Bool, List, IfOk, IsTrue, true, false, IsSome, is_some, length, option_map};
+ghost use Rattle.std.specs.Prelude.{◌≡◌, ◌∷◌, ◌||◌, ◌<◌, ◌^◌, ℕ, Bool, List, IfOk, OnOk, IsTrue, true, false, IsSome, is_some, length, option_map};
 ghost use Rattle.std.specs.Option.{option_copied};
 ghost use Rattle.vk_model.specs.Sync.Node.{Node};
 ghost use Rattle.vk_model.specs.Sync.Before.{IsNumbered};
@@ -27,14 +27,31 @@ impl Front {
         }
     }
 
+    /// What comes after no node, in the room of this one.
+    pub fn emptied(self) -> Front
+        ensures { (ns : List Node) (ls : List AnyLine) → IsFront ns ls (λ k. false) result }
+    {
+        let Front { mut counts } = self;
+        counts.clear();
+        Front { counts }
+    }
+
+    /// Comes after the nodes of another one too.
+    pub fn join(&mut self, other: &Front) -> Result<(), AllocError>
+        ensures both { OnOk result ((ns : List Node) (ls : List AnyLine) (f g : Node → Bool) → IsFront ns ls f self.old → IsFront ns ls g other.now → IsFront ns ls (λ k. f k || g k) self.new) }
+        ensures grown { OnOk result ((ns : List Node) (ls : List AnyLine) (test : Node → Bool) (n : Node) → IsNumbered (n ∷ ns) → test n ≡ true → IsWhole (n ∷ ns) test → IsFront ns ls test self.old → IsOwnFront ns ls n other.now → IsFront (n ∷ ns) ls test self.new) }
+    {
+        join_in(&mut self.counts, other.counts.as_slice())?;
+        Ok(())
+    }
+
     /// What comes after the nodes of both.
     pub fn joined(self, other: &Front) -> Result<Front, AllocError>
         ensures both { IfOk result (λ both. (ns : List Node) (ls : List AnyLine) (f g : Node → Bool) → IsFront ns ls f self → IsFront ns ls g other.now → IsFront ns ls (λ k. f k || g k) both) }
         ensures grown { IfOk result (λ both. (ns : List Node) (ls : List AnyLine) (test : Node → Bool) (n : Node) → IsNumbered (n ∷ ns) → test n ≡ true → IsWhole (n ∷ ns) test → IsFront ns ls test self → IsOwnFront ns ls n other.now → IsFront (n ∷ ns) ls test both) }
-        ensures grows { IfOk result (λ both. (ns : List Node) (ls : List AnyLine) (test : Node → Bool) (n : Node) → IsNumbered (n ∷ ns) → test n ≡ true → IsWhole (n ∷ ns) test → IsOwnFront ns ls n self → IsFront ns ls test other.now → IsFront (n ∷ ns) ls test both) }
     {
         let mut both = self;
-        join_in(&mut both.counts, other.counts.as_slice())?;
+        both.join(other)?;
         Ok(both)
     }
 

@@ -17,6 +17,7 @@ mod lines;
 mod names;
 mod owning;
 mod parts;
+mod places;
 mod point;
 mod points;
 mod reads;

@@ -6,6 +6,7 @@ ghost use Rattle.vk_order.specs.Inner.Leads as leads;
 ghost use Rattle.vk_order.specs.Inner.Places.{index_in};
 
 use crate::acts::{TRANSFERS, destination_stages, source_stages};
+use crate::places::{is_commands, is_elements};
 use crate::point::Act;
 use bitflags::Flags;
 use vk_model::Stages;
@@ -66,16 +67,21 @@ impl Line {
     pub fn is(self, other: Line) -> bool
         ensures { result ≡ same_line self other }
     {
-        match (self, other) {
-            (Line::Host, Line::Host) => true,
-            (Line::Commands(q), Line::Commands(r)) => q == r,
-            (Line::Signals(q), Line::Signals(r)) => q == r,
-            (Line::Sets(q), Line::Sets(r)) => q == r,
-            (Line::Elements(q, t, h), Line::Elements(r, u, i)) => q == r && t == u && h == i,
-            (Line::Waits(q, t, h, a), Line::Waits(r, u, i, b)) => {
-                q == r && t == u && h == i && a == b
-            }
-            _ => false,
+        match other {
+            Line::Host => matches!(self, Line::Host),
+            Line::Commands(queue) => matches!(self, Line::Commands(own) if own == queue),
+            Line::Signals(queue) => matches!(self, Line::Signals(own) if own == queue),
+            Line::Sets(queue) => matches!(self, Line::Sets(own) if own == queue),
+            Line::Elements(queue, transfer, host) => match self {
+                Line::Elements(own, t, h) => own == queue && t == transfer && h == host,
+                _ => false,
+            },
+            Line::Waits(queue, transfer, host, all) => match self {
+                Line::Waits(own, t, h, a) => {
+                    own == queue && t == transfer && h == host && a == all
+                }
+                _ => false,
+            },
         }
     }
 
@@ -201,9 +207,17 @@ impl Line {
     }
 }
 
-/// The index of a line among others.
+/// The index of a line among others. It is asked at each node, mostly for commands and elements, so
+/// these are told apart before the search.
 pub fn index_among(lines: &[Line], line: Line) -> Option<usize>
     ensures { result ≡ index_in lines.now line }
 {
-    lines.iter().map(|own| *own).position(|own| own.is(line))
+    let mut owns = lines.iter().map(|own| *own);
+    match line {
+        Line::Commands(queue) => owns.position(|own| is_commands(own, queue)),
+        Line::Elements(queue, transfer, host) => {
+            owns.position(|own| is_elements(own, queue, transfer, host))
+        }
+        _ => owns.position(|own| own.is(line)),
+    }
 }

@@ -22,19 +22,17 @@ use std::alloc::{AllocError, Global};
 pub fn own_front(
     tallies: &[LineTally],
     row: &Row<'_>,
-    line: Line,
     at: usize,
     front: Front,
 ) -> Result<Front, AllocError>
-    requires within { at < length tallies.now }
-    requires few { at < 2 ^ 63 }
-    ensures { line ≡ class_on row.now.point.queue (act_of row.now.act) → index_in (lines_of tallies.now) line ≡ Some at
-        → IfOk result (λ own. (ns : List Node) (n : Node) → IsComing ns (lines_of tallies.now) n row.now front → IsTallied ns tallies.now → IsOwnFront ns (lines_of tallies.now) n own) }
+    requires { index_in (lines_of tallies.now) (class_on row.now.point.queue (act_of row.now.act)) ≡ Some at }
+    ensures { IfOk result (λ own. (ns : List Node) (n : Node) → IsComing ns (lines_of tallies.now) n row.now front → IsTallied ns tallies.now → IsOwnFront ns (lines_of tallies.now) n own) }
 {
     let Front { counts } = front;
     let mut sent = with_sent(tallies, row, counts)?;
     show(tallies, shows_of(&row.act), &mut sent);
-    let counts = with_own(sent, line, at, tallies[at].count)?;
+    let tally = &tallies[at];
+    let counts = with_own(sent, tally.line, at, tally.count)?;
     Ok(Front { counts })
 }
 

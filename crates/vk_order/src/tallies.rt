@@ -1,6 +1,6 @@
-ghost use Rattle.std.specs.Prelude.{◌≡◌, ◌⊎◌, ◌∷◌, ◌++◌, ◌<◌, [], ℕ, Bool, List, IfOk, OnOk, IsTrue, is_some, Some, length, map};
+ghost use Rattle.std.specs.Prelude.{◌≡◌, ◌⊎◌, ◌∷◌, ◌++◌, ◌<◌, [], ℕ, Bool, List, IfOk, OnOk, IsTrue, is_some, Some, length, map, vec_len};
 ghost use Rattle.vk_model.specs.Sync.Node.{Node};
-ghost use Rattle.vk_order.specs.declared.lines.Line.{Line as AnyLine};
+ghost use Rattle.vk_order.specs.declared.acts.Row.{Row as AnyRow};
 ghost use Rattle.vk_order.specs.PointViews.{act_of};
 ghost use Rattle.vk_order.specs.Lines.{class_of, class_on};
 ghost use Rattle.vk_order.specs.Inner.Leads.{line_leads};
@@ -11,7 +11,7 @@ ghost use Rattle.vk_order.specs.Inner.Tallies.{lines_of, IsTallied, IsComing};
 use crate::acts::Row;
 use crate::fronts::Front;
 use crate::lines::Line;
-use crate::owning::own_front;
+use crate::places::{is_commands, is_elements};
 use std::alloc::{AllocError, Global};
 
 /// What is known of a line.
@@ -29,10 +29,14 @@ pub struct LineTally {
 pub fn line_index(tallies: &[LineTally], line: Line) -> Option<usize>
     ensures { result ≡ index_in (lines_of tallies.now) line }
 {
-    tallies
-        .iter()
-        .map(|tally| tally.line)
-        .position(|own| own.is(line))
+    let mut owns = tallies.iter().map(|tally| tally.line);
+    match line {
+        Line::Commands(queue) => owns.position(|own| is_commands(own, queue)),
+        Line::Elements(queue, transfer, host) => {
+            owns.position(|own| is_elements(own, queue, transfer, host))
+        }
+        _ => owns.position(|own| own.is(line)),
+    }
 }
 
 /// The lines.
@@ -46,71 +50,55 @@ pub fn lines_copied(alloc: Global, tallies: &[LineTally]) -> Result<Vec<Line>, A
     Ok(lines)
 }
 
-/// What comes after all nodes of the lines that lead to a row.
-pub fn join_of(alloc: Global, tallies: &[LineTally], row: &Row<'_>) -> Result<Front, AllocError>
+/// What comes after all nodes of the lines that lead to a row, in the room of a front that is done
+/// with.
+pub fn join_of(room: Front, tallies: &[LineTally], row: &Row<'_>) -> Result<Front, AllocError>
     ensures { IfOk result (λ front. (ns : List Node) → IsTallied ns tallies.now → IsFront ns (lines_of tallies.now) (λ k. line_leads row.now.point.queue (act_of row.now.act) (class_of k)) front) }
 {
-    let mut front = Front::new(alloc);
+    let mut front = room.emptied();
     for tally in tallies {
         if tally.line.leads(row.point.queue, &row.act) {
-            front = front.joined(&tally.front)?;
+            front.join(&tally.front)?;
         }
     }
     Ok(front)
 }
 
-/// Lists a line, if it isn't yet.
-pub fn list_line(alloc: Global, tallies: &mut Vec<LineTally>, line: Line) -> Result<(), AllocError>
-    ensures listed { OnOk result (IsTrue (is_some (index_in (lines_of tallies.new.items) line))) }
+/// Lists a line, if it isn't yet. Answers its index.
+pub fn list_line(
+    alloc: Global,
+    tallies: &mut Vec<LineTally>,
+    line: Line,
+) -> Result<usize, AllocError>
+    ensures listed { IfOk result (λ at. index_in (lines_of tallies.new.items) line ≡ Some at) }
     ensures grown { OnOk result ((lines_of tallies.new.items ≡ lines_of tallies.old.items) ⊎ (lines_of tallies.new.items ≡ lines_of tallies.old.items ++ line ∷ [])) }
     ensures kept { OnOk result ((ns : List Node) → IsTallied ns tallies.old.items → IsTallied ns tallies.new.items) }
 {
-    if line_index(tallies.as_slice(), line).is_none() {
-        let front = Front::new(alloc);
-        tallies.push(LineTally {
-            line,
-            count: 0,
-            front,
-        })?;
+    if let Some(at) = line_index(tallies.as_slice(), line) {
+        return Ok(at);
     }
-    Ok(())
+    let at = tallies.len();
+    tallies.push(LineTally {
+        line,
+        count: 0,
+        front: Front::new(alloc),
+    })?;
+    Ok(at)
 }
 
-/// What comes after a row that comes next, of which this is before.
-pub fn own_of(tallies: &[LineTally], row: &Row<'_>, front: Front) -> Result<Front, AllocError>
-    requires { IsTrue (is_some (index_in (lines_of tallies.now) (class_on row.now.point.queue (act_of row.now.act)))) }
-    ensures { IfOk result (λ own. (ns : List Node) (n : Node) → IsComing ns (lines_of tallies.now) n row.now front → IsTallied ns tallies.now → IsOwnFront ns (lines_of tallies.now) n own) }
-{
-    let line = Line::of(row.point.queue, &row.act);
-    let Some(at) = line_index(tallies, line) else {
-        unreachable!()
-    };
-    let own = own_front(tallies, row, line, at, front)?;
-    Ok(own)
-}
-
-/// Counts a row that comes next, after which this comes.
-pub fn tally(
-    alloc: Global,
-    tallies: &mut Vec<LineTally>,
-    row: &Row<'_>,
-    own: Front,
-) -> Result<(), AllocError>
-    requires { IsTrue (is_some (index_in (lines_of tallies.old.items) (class_on row.now.point.queue (act_of row.now.act)))) }
+/// Counts a row that comes next, after which this comes, at the index of its line.
+pub fn tally(tallies: &mut Vec<LineTally>, at: usize, own: &Front) -> Result<(), AllocError>
+    requires { at < vec_len tallies.old }
     ensures lines { OnOk result (lines_of tallies.new.items ≡ lines_of tallies.old.items) }
-    ensures kept { OnOk result ((ns : List Node) (n : Node) (known : Front) → IsComing ns (lines_of tallies.old.items) n row.now known → IsTallied ns tallies.old.items → IsOwnFront ns (lines_of tallies.old.items) n own → IsTallied (n ∷ ns) tallies.new.items) }
+    ensures kept { OnOk result ((ns : List Node) (n : Node) (row : AnyRow) (known : Front) → index_in (lines_of tallies.old.items) (class_on row.point.queue (act_of row.act)) ≡ Some at → IsComing ns (lines_of tallies.old.items) n row known → IsTallied ns tallies.old.items → IsOwnFront ns (lines_of tallies.old.items) n own.now → IsTallied (n ∷ ns) tallies.new.items) }
 {
-    let line = Line::of(row.point.queue, &row.act);
-    let Some(at) = line_index(tallies.as_slice(), line) else {
-        unreachable!()
-    };
-    let place = tallies[at].count;
-    let front = own.joined(&tallies[at].front)?;
-    let count = if line.is_of_sets() {
-        place
+    let tally = &mut tallies[at];
+    tally.front.join(own)?;
+    let count = if tally.line.is_of_sets() {
+        tally.count
     } else {
-        place.saturating_add(1)
+        tally.count.saturating_add(1)
     };
-    tallies[at] = LineTally { line, count, front };
+    tally.count = count;
     Ok(())
 }

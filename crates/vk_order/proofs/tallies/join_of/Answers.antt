@@ -9,11 +9,11 @@ use Rattle.vk_order.specs.Inner.Fronts.{IsFront}
 use Rattle.vk_order.specs.Inner.Tallies.{lines_of}
 use Rattle.std.proofs.lemmas.Option.{slice_get-get_or}
 use Rattle.vk_order.proofs.TallyLemmas.{of_first, front_on, front_past, front_all}
-use Rattle.vk_order.proofs.tallies.join_of.Goals.{then-leads+in_ok-front, else-leads}
+use Rattle.vk_order.proofs.tallies.join_of.Goals.{then-leads+in_ok-join, else-leads}
 use Rattle.vk_order.proofs.tallies.join_of.Goals as goal
 
 pub loop-tally-init : goal.loop-tally-init
-loop-tally-init c = λ ns tallied. c.new-front.ensures ns (lines_of c.args.tallies.now)
+loop-tally-init c = λ ns tallied. c.emptied-front.ensures ns (lines_of c.args.tallies.now)
 
 pub loop-tally-preserved : goal.loop-tally-preserved
 loop-tally-preserved c = λ ns tallied.
@@ -23,9 +23,9 @@ loop-tally-preserved c = λ ns tallied.
     let t : LineTally = get_or ts i d in
     let passes = line_leads c.args.row.now.point.queue (act_of c.args.row.now.act) in
     elim c.if-leads.branch [
-      | then-leads+in_ok-front w ↦ subst (λ (x : Front). IsFront ns (lines_of ts) (of_first passes ts (i + 1)) x) (sym w.front-is)
-          (front_on ns ts passes i d w.in_ok-front.front c.loop-tally-test.true (search rules)
-          (w.in_ok-front.ensures.both ns (lines_of ts) (of_first passes ts i) (λ k. same_line t.line (class_of k)) (c.loop-tally.invariant ns tallied)
+      | then-leads+in_ok-join w ↦ subst (λ (x : Front). IsFront ns (lines_of ts) (of_first passes ts (i + 1)) x) (sym w.front-is)
+          (front_on ns ts passes i d w.join.new.self c.loop-tally-test.true (search rules)
+          (w.in_ok-join.ensures.both ns (lines_of ts) (of_first passes ts i) (λ k. same_line t.line (class_of k)) (c.loop-tally.invariant ns tallied)
           (subst (λ (x : LineTally). IsFront ns (lines_of ts) (λ k. same_line t.line (class_of k)) x.front) (sym c.tally-item.is) (tallied.each i t (slice_get-get_or ts i d c.loop-tally-test.true)).front)))
       | else-leads w ↦ subst (λ (x : Front). IsFront ns (lines_of ts) (of_first passes ts (i + 1)) x) (sym w.front-is)
           (front_past ns ts passes i d c.loop-tally.front c.loop-tally-test.true (search rules) (c.loop-tally.invariant ns tallied))

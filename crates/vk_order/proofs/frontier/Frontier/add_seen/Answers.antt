@@ -13,5 +13,5 @@ returns c = λ ns n is node sight.
     let new = lines_of c.list_line.new.self.tallies.items in
     let here : IsFront ns old (λ k. edge ns k n) c.args.sight.front = subst (λ (ls : List Line). IsFront ns ls (λ k. edge ns k n) c.args.sight.front) c.requires sight.front in
     let there : IsFront ns new (λ k. edge ns k n) c.into_front.result =
-    subst (λ (f : Front). IsFront ns new (λ k. edge ns k n) f) (sym c.into_front.ensures) (front_longer ns old new c.in_ok-list_line.ensures.longer (λ k. edge ns k n) c.args.sight.front here) in
-    c.in_ok-add.ensures.kept ns n node there (c.in_ok-list_line.ensures.kept ns is)
+    subst (λ (f : Front). IsFront ns new (λ k. edge ns k n) f) (sym c.into_front.ensures) (front_longer ns old new c.in_ok-at.ensures.longer (λ k. edge ns k n) c.args.sight.front here) in
+    c.in_ok-add_at.ensures.kept ns n node there (c.in_ok-at.ensures.kept ns is)

@@ -8,6 +8,7 @@ use Rattle.vk_order.specs.Inner.Leads.{line_leads}
 use Rattle.vk_order.specs.Inner.Links.{by_name}
 use Rattle.vk_order.specs.Inner.Fronts.{IsFront}
 use Rattle.vk_order.specs.Inner.Tallies.{lines_of}
+use Rattle.vk_order.specs.Frontiers.{IsFrontier}
 use Rattle.vk_order.proofs.LineTests.{edge_split}
 use Rattle.vk_order.proofs.FrontLemmas.{front_same}
 use Rattle.vk_order.proofs.frontier.Frontier.add_single.Goals as goal
@@ -18,9 +19,10 @@ returns c = λ ns can is.
     let n : Node = node_of (length ns) row in
     let ls = lines_of c.list_line.new.self.tallies.items in
     let here : length ns ≡ length ns + 0 = omega arith in
-    let now = c.in_ok-list_line.ensures.kept ns is in
+    let listed = c.in_ok-at.ensures.kept ns is in
+    let now : IsFrontier _ ns = record { numbers = listed.numbers; total = listed.total; tallied = listed.tallied; names = listed.names; parts = listed.parts } in
     let numbers : IsNumbered (n ∷ ns) = (refl, is.numbers) in
     let front : IsFront ns ls (λ k. edge ns k n) c.in_ok-front.front =
     front_same ns ls (λ k. line_leads row.point.queue (act_of row.act) (class_of k) || by_name ns k n) (λ k. edge ns k n) c.in_ok-front.front
     (λ k there. sym (edge_split n ns numbers k there (ap (λ (i : ℕ). siblings k (node_of i row)) here ∙ can.apart 0 row refl k there))) (c.in_ok-front.ensures ns (length ns) now) in
-    c.in_ok-add.ensures.kept ns n refl front now
+    c.in_ok-add_at.ensures.kept ns n refl front now

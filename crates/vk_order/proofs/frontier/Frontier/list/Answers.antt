@@ -27,7 +27,7 @@ loop-row-preserved c =
     let row = c.row-item.result in
     let at : slice_get rows k ≡ Some row = slice_get_read rows (length rows) k row refl c.loop-row-test.true c.row-item.is in
     let now = lines_of c.list_line.new.self.tallies.items in
-    let here : IsTrue (is_some (index_in now (row_line row))) = subst (λ (l : Line). IsTrue (is_some (index_in now l))) c.of.ensures c.in_ok-list_line.ensures.listed in
+    let here : IsTrue (is_some (index_in now (row_line row))) = subst (λ (l : Line). IsTrue (is_some (index_in now l))) c.of.ensures (ap is_some c.in_ok-list_line.ensures.listed) in
     record {
       listed = λ i r lt e. ⊎_elim
           (λ low. c.in_ok-list_line.ensures.others (row_line r) (c.loop-row.invariant.listed i r low e))

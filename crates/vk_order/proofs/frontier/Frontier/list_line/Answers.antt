@@ -12,11 +12,11 @@ pub returns-clause-kept : goal.returns-clause-kept
 returns-clause-kept c = λ ns is. record {
   numbers = is.numbers;
   total = is.total;
-  tallied = c.in_ok-list_line.ensures.kept ns is.tallied;
+  tallied = c.in_ok-at.ensures.kept ns is.tallied;
   names = ⊎_elim
       (λ e. subst (λ (ls : List Line). IsNames ns ls c.args.self.now.names) (sym e) is.names)
       (λ e. subst (λ (ls : List Line). IsNames ns ls c.args.self.now.names) (sym e) (names_listed ns (lines_of c.args.self.now.tallies.items) c.args.line c.args.self.now.names is.names))
-      c.in_ok-list_line.ensures.grown;
+      c.in_ok-at.ensures.grown;
   parts = parts_longer ns (lines_of c.args.self.now.tallies.items) (lines_of c.list_line.new.tallies.items) c.args.self.now.parts longer is.parts;
 }
   where
@@ -24,7 +24,7 @@ returns-clause-kept c = λ ns is. record {
     longer = ⊎_elim
         (λ e. longer_same (lines_of c.args.self.now.tallies.items) (lines_of c.list_line.new.tallies.items) e)
         (λ e. subst (λ (ls : List Line). IsLonger (lines_of c.args.self.now.tallies.items) ls) (sym e) (longer_push (lines_of c.args.self.now.tallies.items) c.args.line))
-        c.in_ok-list_line.ensures.grown
+        c.in_ok-at.ensures.grown
 
 pub returns-clause-longer : goal.returns-clause-longer
 returns-clause-longer c =
@@ -33,4 +33,4 @@ returns-clause-longer c =
     ⊎_elim
     (λ e. longer_same old new e)
     (λ e. subst (λ (ls : List Line). IsLonger old ls) (sym e) (longer_push old c.args.line))
-    c.in_ok-list_line.ensures.grown
+    c.in_ok-at.ensures.grown
