@@ -16,7 +16,7 @@ use vk_links::Links;
 use vk_model::{At, Entry, Rule};
 use vk_notes::{MOST_NOTES, Summary, note_words, notes_of, summary_of};
 use vk_trace::Outcome;
-use vk_words::{point_words, sentence};
+use vk_words::{point_words, push_count, sentence};
 
 /// The lines on a refused trace: the verdict, the point in words, what the rule says, the fact that is
 /// told of it, and a repair.
@@ -155,18 +155,23 @@ fn note_lines(alloc: Global, trace: &[Entry]) -> Result<String, AllocError> {
 /// What a trace has, in lines.
 fn summary_lines(alloc: Global, summary: &Summary) -> Result<String, AllocError> {
     let mut lines = String::new(alloc);
-    push_count(&mut lines, "", summary.entries, "entry", "entries")?;
-    push_count(&mut lines, ", ", summary.points, "point", "points")?;
+    let entries = summary.entries as u64;
+    push_count(&mut lines, "", entries, "entry", "entries")?;
+    let points = summary.points as u64;
+    push_count(&mut lines, ", ", points, "point", "points")?;
     push_made(&mut lines, summary)?;
     for (queue, submitted) in summary.queues.iter().enumerate() {
         if submitted.batches > 0 {
             write!(lines, "\nqueue {queue}")?;
-            push_count(&mut lines, ": ", submitted.batches, "batch", "batches")?;
-            push_count(&mut lines, ", ", submitted.commands, "command", "commands")?;
+            let batches = submitted.batches as u64;
+            push_count(&mut lines, ": ", batches, "batch", "batches")?;
+            let commands = submitted.commands as u64;
+            push_count(&mut lines, ", ", commands, "command", "commands")?;
         }
     }
     let bytes = summary.read_bytes;
-    write!(lines, "\nthe host reads {bytes} bytes\n")?;
+    push_count(&mut lines, "\nthe host reads ", bytes, "byte", "bytes")?;
+    lines.push_str("\n")?;
     Ok(lines)
 }
 
@@ -193,24 +198,7 @@ fn push_objects(
     if count == 0 {
         return Ok(begun);
     }
-    if begun {
-        push_count(lines, ", ", count, one, several)?;
-    } else {
-        push_count(lines, "\nmakes ", count, one, several)?;
-    }
+    let before = if begun { ", " } else { "\nmakes " };
+    push_count(lines, before, count as u64, one, several)?;
     Ok(true)
-}
-
-/// Something before it, a count, and what is counted.
-fn push_count(
-    lines: &mut String,
-    before: &str,
-    count: usize,
-    one: &str,
-    several: &str,
-) -> Result<(), AllocError> {
-    match count {
-        1 => write!(lines, "{before}1 {one}"),
-        _ => write!(lines, "{before}{count} {several}"),
-    }
 }

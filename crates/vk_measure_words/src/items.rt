@@ -1,6 +1,7 @@
 use std::alloc::AllocError;
 use vk_measures::Item;
 use vk_model::{Kind, Length};
+use vk_words::push_count;
 
 /// Adds which item of a point is meant, and a colon; of the only one nothing.
 pub fn push_item(out: &mut String, item: Item) -> Result<(), AllocError> {
@@ -17,7 +18,10 @@ pub fn push_item(out: &mut String, item: Item) -> Result<(), AllocError> {
 /// Adds a range of bytes of a buffer.
 pub fn push_bytes(out: &mut String, offset: u64, bytes: Length) -> Result<(), AllocError> {
     match bytes {
-        Length::Bytes(bytes) => write!(out, "{bytes} bytes from byte {offset} on"),
+        Length::Bytes(bytes) => {
+            push_count(out, "", bytes, "byte", "bytes")?;
+            write!(out, " from byte {offset} on")
+        }
         Length::Whole => write!(out, "all bytes from byte {offset} on"),
     }
 }

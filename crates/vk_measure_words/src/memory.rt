@@ -5,7 +5,7 @@ use vk_measures::{
     Purpose, UsageLack, UsageMeasure,
 };
 use vk_model::{PoolKind, Usage};
-use vk_words::push_mask;
+use vk_words::{push_count, push_mask};
 
 /// Adds the usage that is needed, and the one that there is.
 pub fn push_usage(out: &mut String, measure: UsageMeasure) -> Result<(), AllocError> {
@@ -115,12 +115,13 @@ pub fn push_pool_kind(out: &mut String, asked: PoolUse) -> Result<(), AllocError
         PoolKind::Tlsf => "tlsf",
         PoolKind::Linear => "linear",
     };
-    let block_limit = asked.block_limit;
     match asked.asked {
         PoolAsked::Defragments => write!(out, "pool {pool} is {kind}, and can't be defragmented"),
-        PoolAsked::UpperEnd => write!(
-            out,
-            "pool {pool} is {kind}, and may have {block_limit} blocks; a linear one of 1 has an upper end"
-        ),
+        PoolAsked::UpperEnd => {
+            write!(out, "pool {pool} is {kind}")?;
+            let limit = asked.block_limit as u64;
+            push_count(out, ", and may have ", limit, "block", "blocks")?;
+            out.push_str("; a linear one of 1 has an upper end")
+        }
     }
 }

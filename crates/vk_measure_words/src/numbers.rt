@@ -4,6 +4,7 @@ use vk_measures::{
     AlignUnit, AlignedNumber, Amount, Axis, Misaligned, OtherTexels, Outside, PastBytes,
     PointNumber, Quantity, RangeMeasure, RowSide, SizeMeasure,
 };
+use vk_words::push_count;
 
 /// Adds where bytes end and the size of their buffer, or a row and its extent.
 pub fn push_range(out: &mut String, measure: RangeMeasure) -> Result<(), AllocError> {
@@ -48,19 +49,19 @@ fn push_past(out: &mut String, past: PastBytes) -> Result<(), AllocError> {
 /// Adds numbers of levels, layers or texels, and how many the image has.
 pub fn push_outside(out: &mut String, outside: Outside) -> Result<(), AllocError> {
     push_item(out, outside.item)?;
-    let name = match outside.axis {
-        Axis::Levels => "levels",
-        Axis::Layers => "layers",
-        Axis::Columns => "columns of texels",
-        Axis::Rows => "rows of texels",
+    let (one, several) = match outside.axis {
+        Axis::Levels => ("level", "levels"),
+        Axis::Layers => ("layer", "layers"),
+        Axis::Columns => ("column of texels", "columns of texels"),
+        Axis::Rows => ("row of texels", "rows of texels"),
     };
+    push_count(out, "", outside.count as u64, one, several)?;
     let image = outside.image;
     let first = outside.first;
-    let count = outside.count;
     let limit = outside.limit;
     write!(
         out,
-        "{count} {name} from {first} on of image {image}, which has {limit} there"
+        " from {first} on of image {image}, which has {limit} there"
     )
 }
 
@@ -68,28 +69,28 @@ pub fn push_outside(out: &mut String, outside: Outside) -> Result<(), AllocError
 pub fn push_size(out: &mut String, measure: SizeMeasure) -> Result<(), AllocError> {
     match measure {
         SizeMeasure::Amount(amount) => push_amount(out, amount),
-        SizeMeasure::Block(bytes) => write!(
-            out,
-            "blocks of {bytes} bytes; a multiple of 1024 is wanted, up to 16777216"
-        ),
+        SizeMeasure::Block(bytes) => {
+            push_count(out, "blocks of ", bytes, "byte", "bytes")?;
+            out.push_str("; a multiple of 1024 is wanted, up to 16777216")
+        }
     }
 }
 
 fn push_amount(out: &mut String, amount: Amount) -> Result<(), AllocError> {
     push_item(out, amount.item)?;
-    let name = match amount.quantity {
-        Quantity::Bytes => "bytes",
-        Quantity::BlockBytes => "bytes of a block",
-        Quantity::Blocks => "blocks",
-        Quantity::Columns => "texels in a row",
-        Quantity::Rows => "rows",
-        Quantity::Levels => "levels",
-        Quantity::Layers => "layers",
-        Quantity::Items => "items",
+    let (one, several) = match amount.quantity {
+        Quantity::Bytes => ("byte", "bytes"),
+        Quantity::BlockBytes => ("byte of a block", "bytes of a block"),
+        Quantity::Blocks => ("block", "blocks"),
+        Quantity::Columns => ("texel in a row", "texels in a row"),
+        Quantity::Rows => ("row", "rows"),
+        Quantity::Levels => ("level", "levels"),
+        Quantity::Layers => ("layer", "layers"),
+        Quantity::Items => ("item", "items"),
     };
-    let value = amount.value;
+    push_count(out, "", amount.value, one, several)?;
     let least = amount.least;
-    write!(out, "{value} {name}; at least {least}")?;
+    write!(out, "; at least {least}")?;
     match amount.most {
         Some(most) => write!(out, ", at most {most}"),
         None => Ok(()),
@@ -118,12 +119,13 @@ pub fn push_align(out: &mut String, misaligned: Misaligned) -> Result<(), AllocE
 /// Adds the sizes of two texels.
 pub fn push_format(out: &mut String, other: OtherTexels) -> Result<(), AllocError> {
     let source = other.source;
-    let source_texel = other.source_texel;
+    write!(out, "texels of image {source}")?;
+    push_count(out, " have ", other.source_texel as u64, "byte", "bytes")?;
     let destination = other.destination;
     let destination_texel = other.destination_texel;
     write!(
         out,
-        "texels of image {source} have {source_texel} bytes, and those of image {destination} {destination_texel}"
+        ", and those of image {destination} {destination_texel}"
     )
 }
 

@@ -5,7 +5,7 @@ use vk_measures::{
     QueueUse, Side,
 };
 use vk_model::SubresourceRange;
-use vk_words::push_mask;
+use vk_words::{push_count, push_mask};
 
 /// Adds masks, and what is wrong with them.
 pub fn push_stage(out: &mut String, masks: BadMasks) -> Result<(), AllocError> {
@@ -90,15 +90,15 @@ fn push_part_subresources(out: &mut String, part: PartSubresources) -> Result<()
         first_layer,
         layers,
     } = part.range;
-    write!(
-        out,
-        "element {element}: {levels} levels from {first_level} on and {layers} layers "
-    )?;
+    write!(out, "element {element}")?;
+    push_count(out, ": ", levels as u64, "level", "levels")?;
+    write!(out, " from {first_level} on")?;
+    push_count(out, " and ", layers as u64, "layer", "layers")?;
     let image = part.image;
     let all_levels = part.levels;
     let all_layers = part.layers;
     write!(
         out,
-        "from {first_layer} on of image {image}, which has {all_levels} and {all_layers}"
+        " from {first_layer} on of image {image}, which has {all_levels} and {all_layers}"
     )
 }

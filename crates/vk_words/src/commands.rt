@@ -1,3 +1,4 @@
+use crate::counts::push_count;
 use crate::elements::{push_dependencies, push_elements};
 use crate::masks::push_mask;
 use crate::names::push_layout;
@@ -29,7 +30,8 @@ pub fn push_command(out: &mut String, command: &Cmd) -> Result<(), AllocError> {
             regions,
         } => push_copy(out, *source, *destination, regions.as_slice()),
         Cmd::Barrier { elements } => {
-            push_count(out, "is a barrier of", elements.len(), "element")?;
+            let count = elements.len() as u64;
+            push_count(out, "is a barrier of ", count, "element", "elements")?;
             push_elements(out, elements.as_slice())
         }
         Cmd::Set { event, elements } => {
@@ -94,14 +96,6 @@ pub fn command_name(command: &Cmd) -> &'static str {
         Cmd::Barrier { .. } => "barrier",
         Cmd::Set { .. } => "set",
         Cmd::Await { .. } => "await",
-    }
-}
-
-/// A count of things by a verb, as `is a barrier of 2 elements`.
-fn push_count(out: &mut String, verb: &str, count: usize, what: &str) -> Result<(), AllocError> {
-    match count {
-        1 => write!(out, "{verb} 1 {what}"),
-        _ => write!(out, "{verb} {count} {what}s"),
     }
 }
 

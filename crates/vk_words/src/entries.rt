@@ -1,3 +1,4 @@
+use crate::counts::push_count;
 use crate::masks::push_mask;
 use crate::names::{format_name, sharing_name, tiling_name};
 use crate::ranges::{push_bytes_of, push_length_of, push_more};
@@ -15,12 +16,10 @@ pub fn push_entry(out: &mut String, entry: &Entry, trace: &[Entry]) -> Result<()
         Entry::Buffer { id, info } => push_buffer(out, *id, info),
         Entry::Image { id, info } => push_image(out, *id, info),
         Entry::Memory { id, info } => {
-            let size = info.size;
+            write!(out, "makes memory object {id}")?;
+            push_count(out, ": ", info.size, "byte", "bytes")?;
             let memory_type = info.memory_type;
-            write!(
-                out,
-                "makes memory object {id}: {size} bytes of memory type {memory_type}"
-            )
+            write!(out, " of memory type {memory_type}")
         }
         Entry::Free { memory } => write!(out, "frees memory object {memory}"),
         Entry::Destroy { resource } => {
@@ -35,10 +34,11 @@ pub fn push_entry(out: &mut String, entry: &Entry, trace: &[Entry]) -> Result<()
             write!(out, "signals semaphore {semaphore} to {value}")
         }
         Entry::Wait { waits } => push_waits(out, waits.as_slice()),
-        Entry::Submit { queue, batches } => match batches.len() {
-            1 => write!(out, "submits 1 batch to queue {queue}"),
-            count => write!(out, "submits {count} batches to queue {queue}"),
-        },
+        Entry::Submit { queue, batches } => {
+            let count = batches.len() as u64;
+            push_count(out, "submits ", count, "batch", "batches")?;
+            write!(out, " to queue {queue}")
+        }
         _ => push_host_access(out, entry),
     }
 }
@@ -125,8 +125,8 @@ fn push_use(
 }
 
 fn push_buffer(out: &mut String, id: u32, info: &BufferInfo) -> Result<(), AllocError> {
-    let size = info.size;
-    write!(out, "makes buffer {id}: {size} bytes")?;
+    write!(out, "makes buffer {id}")?;
+    push_count(out, ": ", info.size, "byte", "bytes")?;
     push_use(out, info.usage, info.sharing, info.place)
 }
 
@@ -151,10 +151,10 @@ fn push_pool(out: &mut String, id: u32, info: &PoolInfo) -> Result<(), AllocErro
         PoolKind::Linear => "linear",
     };
     let memory_type = info.memory_type;
-    let block_size = info.block_size;
-    let block_limit = info.block_limit;
-    write!(out, "makes pool {id}: {kind}, memory type {memory_type}, ")?;
-    write!(out, "at most {block_limit} blocks of {block_size} bytes")
+    write!(out, "makes pool {id}: {kind}, memory type {memory_type}")?;
+    let limit = info.block_limit as u64;
+    push_count(out, ", at most ", limit, "block", "blocks")?;
+    push_count(out, " of ", info.block_size, "byte", "bytes")
 }
 
 fn push_waits(out: &mut String, waits: &[SemaphoreValue]) -> Result<(), AllocError> {

@@ -2,6 +2,7 @@
 #![tactic(auto)]
 
 mod commands;
+mod counts;
 mod elements;
 mod entries;
 mod masks;
@@ -10,6 +11,7 @@ mod points;
 mod ranges;
 mod rules;
 
+pub use counts::push_count;
 pub use masks::push_mask;
 pub use names::{format_name, sharing_name, tiling_name};
 pub use points::{point_words, push_at, push_number};
