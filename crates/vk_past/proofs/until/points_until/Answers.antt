@@ -1,4 +1,4 @@
-use Rattle.std.proofs.Common.{◌≡◌, ◌<◌, ◌+◌, ◌∙◌, ℕ, List, Some, sym, ap, subst, length, take}
+use Rattle.std.proofs.Common.{◌≡◌, ◌<◌, ◌+◌, ℕ, List, Some, sym, subst, length, take}
 use Rattle.std.specs.Prelude.{slice_get}
 use Rattle.vk_model.specs.Trace.Order.{order}
 use Rattle.vk_model.specs.Trace.Point.{at_of}
