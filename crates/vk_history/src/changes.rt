@@ -12,6 +12,7 @@ use vk_order::{Action, Point};
 /// A change of the bytes of resources.
 #[derive(Clone, Copy)]
 pub enum Change<'a> {
+    /// No bytes of resources change.
     Nothing,
     /// A buffer was made.
     Made(u32, &'a BufferInfo),

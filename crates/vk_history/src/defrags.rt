@@ -15,7 +15,9 @@ use vk_order::{Action, Point};
 /// A pass that has begun and not ended, with the pool of its defragmentation.
 #[derive(Clone, Copy)]
 pub struct OpenPass {
+    /// The id of its defragmentation.
     pub defrag: u32,
+    /// The id of the pool.
     pub pool: u32,
 }
 

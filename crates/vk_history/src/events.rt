@@ -15,7 +15,9 @@ use vk_order::{Action, Point};
 /// How an event was set: on which queue, and with which elements.
 #[derive(Clone, Copy)]
 pub struct EventSet<'a> {
+    /// The queue of the set.
     pub queue: u32,
+    /// Its dependency elements.
     pub elements: &'a [Dependency],
 }
 

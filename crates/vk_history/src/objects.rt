@@ -18,7 +18,9 @@ use vk_order::{Action, Point};
 /// An entry that made an object, with its number.
 #[derive(Clone, Copy)]
 pub struct Maker<'a> {
+    /// The entry.
     pub entry: &'a Entry,
+    /// How many entries come before it.
     pub number: usize,
 }
 

@@ -24,18 +24,31 @@ use vk_touches::Spot;
 /// What is asked of the past.
 #[derive(Drop)]
 pub struct Tables<'a> {
+    /// Which entry made each object.
     pub objects: Objects<'a>,
+    /// Which entry ended each object first.
     pub endings: Endings,
+    /// How often memory is mapped.
     pub mappings: Mappings,
+    /// How many live resources memory objects and pools have.
     pub occupants: Occupants,
+    /// What is bound in each memory object.
     pub bound: BoundMemories,
+    /// The defragmentations that haven't ended, and the pass that is open.
     pub defrags: Defrags,
+    /// What was signaled to each semaphore.
     pub semaphores: Semaphores,
+    /// How each event was set last.
     pub events: Events<'a>,
+    /// The current layouts of images.
     pub layouts: CurrentLayouts,
+    /// What is known of the bytes of each resource.
     pub contents: Contents,
+    /// How submitted commands use resources.
     pub uses: Uses,
+    /// Who owns each resource.
     pub owners: Owners<'a>,
+    /// What is known of the nodes so far.
     pub frontier: Frontier,
 }
 

@@ -13,7 +13,9 @@ use vk_model::{Batch, Cmd, Element};
 /// The resources that a clear or copy command uses, its source first.
 #[derive(Clone, Copy)]
 pub struct Used {
+    /// The id of the only one, or of the source.
     pub first: Option<u32>,
+    /// The id of the destination, where there is a source.
     pub second: Option<u32>,
 }
 

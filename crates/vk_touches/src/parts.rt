@@ -9,7 +9,9 @@ const ATOM: u64 = 64;
 /// The part of a range that lies in a buffer: the bytes from `low` on, below `high`.
 #[derive(Clone, Copy)]
 pub struct Part {
+    /// The first byte.
     pub low: u64,
+    /// The byte after the last.
     pub high: u64,
     ghost ordered: { low ≤ high },
 }

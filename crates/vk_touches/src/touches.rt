@@ -45,9 +45,13 @@ pub enum Touch {
 /// before it.
 #[derive(Clone, Copy, PartialEq)]
 pub struct QueueReads {
+    /// By queue 0.
     pub first: Option<usize>,
+    /// By queue 1.
     pub second: Option<usize>,
+    /// By queue 2.
     pub third: Option<usize>,
+    /// By queue 3.
     pub fourth: Option<usize>,
 }
 

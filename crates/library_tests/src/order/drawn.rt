@@ -11,19 +11,28 @@ use vk_order::{Action, Point};
 /// What happens at a point.
 #[derive(Drop)]
 pub enum Happening {
+    /// The host does an entry.
     Host(Entry),
+    /// A batch waits.
     Wait(SemaphoreSubmit),
+    /// A command runs.
     Run(Cmd),
+    /// A batch signals.
     Signal(SemaphoreSubmit),
 }
 
 /// A point.
 #[derive(Drop)]
 pub struct Drawn {
+    /// The number of its entry.
     pub entry: usize,
+    /// The number of its batch in the submit.
     pub batch: usize,
+    /// Its place in the batch.
     pub place: usize,
+    /// The queue of the batch.
     pub queue: u32,
+    /// What happens there.
     pub happening: Happening,
 }
 

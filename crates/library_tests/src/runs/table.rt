@@ -3,14 +3,19 @@ use vk_trace::{RunError, Status};
 /// How a run ends.
 pub type Ending = Result<Status, RunError>;
 
+/// Each entry is replayed.
 pub const REPLAYED: Ending = Ok(Status::Replayed);
 
+/// The trace breaks a rule.
 pub const REFUSED: Ending = Ok(Status::Refused);
 
+/// An entry finds no room.
 pub const STOPPED: Ending = Ok(Status::Stopped);
 
+/// The input is no trace.
 pub const NO_TRACE: Ending = Err(RunError::NotTrace);
 
+/// There is no memory left.
 pub const NO_MEMORY: Ending = Err(RunError::NoMemory);
 
 /// A buffer is filled, and read by the host after a barrier and a wait.
