@@ -1,4 +1,3 @@
-pub mod Tests
 pub mod PartChanges
 pub mod ByteUnits
 pub mod Searches

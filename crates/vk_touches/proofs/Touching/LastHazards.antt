@@ -30,7 +30,7 @@ use Rattle.vk_order.specs.Visibility.{HostSeen}
 use Rattle.vk_touches.specs.declared.touches.Touch.{Touch}
 use Rattle.vk_touches.specs.declared.touches.Touch.TheVariants as touch
 use Rattle.vk_touches.specs.Touched.{next_node, last_touch, last_transition}
-use Rattle.vk_touches.proofs.Tests.{any_and}
+use Rattle.vk_laws.proofs.Forms.Spread.{any_and}
 use Rattle.vk_touches.proofs.Touching.NextNodes.{lined, next_nodes-lined}
 use Rattle.vk_touches.proofs.Touching.LastNodes.{next_there}
 use Rattle.vk_touches.proofs.Touching.LastAccesses.{is_there, Touches, touch_last, last_touch_is, all_seen}
