@@ -1,5 +1,9 @@
+pub mod JsonLemmas
+pub mod TokenLemmas
+pub mod AheadLemmas
+pub mod NumberLemmas
 pub mod MemberLemmas
+pub mod LengthLemmas
+pub mod ReadLemmas
 pub mod ByteLemmas
 pub mod SupportedLemmas
-pub mod FlatReaders
-pub mod FlatTraces

@@ -2,22 +2,10 @@
 use Rattle.std.proofs.Common.{◌≡◌, ◌≤◌, ℕ, List, [], ◌∷◌, ◌++◌, Option, Some, None, map, refl, sym, ap, ◌∙◌, append_assoc, append-nil, ◌+◌, ◌<◌, suc, length, drop, get_or, add-one, drop-cons}
 use Rattle.std.proofs.lemmas.List.{drop_all, drop_more}
 use Rattle.serde_json.specs.Data.{Data}
-use Rattle.serde_json.specs.Find.{as_array}
-use Rattle.serde_json.specs.View.{view, items_of, items_view}
-use Rattle.serde_json.specs.declared.value.Value.{Value}
 use Rattle.vk_trace.specs.declared.errors.ReadTraceError.{ReadTraceError}
 use Rattle.vk_trace.specs.declared.errors.ReadTraceError.TheVariants.{NotTrace, NoMemory}
-use Rattle.vk_trace.specs.Members.{◌>>=◌, items_list, array_members, each_member}
+use Rattle.vk_trace.specs.Members.{◌>>=◌, each_member}
 use Rattle.vk_trace.specs.Inner.Gives.{Fails}
-
--- the list of an array that was made of a list
-items_list-items_of : (ds : List Data) → items_list (items_of ds) ≡ ds
-items_list-items_of [] = refl
-items_list-items_of (d ∷ ds) = ap (λ l. d ∷ l) (items_list-items_of ds)
-
--- the members of an array, from what `as_array` gives
-pub array_members-array : (d : Data) (vs : List Value) → Some (items_view vs) ≡ as_array d → array_members d ≡ Some (map view vs)
-array_members-array d vs h = rw (← h) (ap Some (items_list-items_of (map view vs)))
 
 -- what was read before, and what is still read
 abbrev pub with_front : {X : Type 0} → List X → Option (List X) → Option (List X)
@@ -49,14 +37,6 @@ ends NotTrace means front d ds total h so_far =
 pub is_done : {X : Type 0} (means : Data → Option X) (front : List X) (total : Option (List X)) → with_front front (each_member means []) ≡ total → total ≡ Some front
 unfolding each_member
 is_done means front total so_far = sym so_far ∙ ap Some (append-nil front)
-
--- the rest of a list, from a place on
-pub rest_at : {X : Type 0} (vs : List X) (i : ℕ) (v : X) → i < length vs → v ≡ get_or vs i v → drop i vs ≡ v ∷ drop (i + 1) vs
-rest_at vs i v lt h = rw (add-one) (drop-cons vs i v lt ∙ ap (λ w. w ∷ drop (suc i) vs) (sym h))
-
--- the same of what the values mean
-pub rest_views : (vs : List Value) (i : ℕ) (v : Value) → i < length vs → v ≡ get_or vs i v → map view (drop i vs) ≡ view v ∷ map view (drop (i + 1) vs)
-rest_views vs i v lt h = ap (map view) (rest_at vs i v lt h)
 
 -- ---- lists that are put together
 

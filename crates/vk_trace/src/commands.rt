@@ -1,15 +1,17 @@
-ghost use Rattle.std.specs.Prelude.{◌≡◌, ◌++◌, OnOk, map, codes};
-ghost use Rattle.serde_json.specs.View.{view};
-ghost use Rattle.vk_trace.specs.Members.{after_word};
+ghost use Rattle.std.specs.Prelude.{◌≡◌, ◌∷◌, [], ◌++◌, Some, OnOk, map, codes};
+ghost use Rattle.vk_trace.specs.Members.{after_word, at_word};
 ghost use Rattle.vk_trace.specs.Trace.{length_or_whole, copy_region, dependency_value, buffer_element, command_rows, command_value};
+ghost use Rattle.vk_model.specs.declared.command.Length.TheVariants.{Whole};
 ghost use Rattle.vk_model.specs.declared.command.Element.TheVariants.{Memory, Buffer, Image};
 ghost use Rattle.vk_trace.specs.Inner.Gives.{Gives};
+ghost use Rattle.vk_trace.specs.Inner.Ahead.{ahead, whole};
 
 use crate::errors::ReadTraceError;
 use crate::images::{clear_of, copy_image_of, copy_in_of, copy_out_of};
-use crate::members::{Member, Reading, end, first, first_bytes, list_members, word_first};
+use crate::members::{Member, first, first_bytes, word_first};
+use crate::tokens::{Reading, Tokens, whole_number};
 use bitflags::Flags;
-use serde_json::Value;
+use json::Token;
 use std::alloc::{AllocError, Global};
 use vk_model::{
     Accesses, BufferCopy, BufferElement, Cmd, Dependency, Element, Families, ImageElement, Length,
@@ -19,13 +21,28 @@ use vk_model::{
 impl Member for Length {
     ghost means = { length_or_whole };
 
-    #[tactic(auto, unfolding(crate::specs::Trace::length_or_whole))]
-    fn member(alloc: Global, value: &Value) -> Reading<Length> {
-        match value.as_str() {
-            Some("whole") => Ok(Length::Whole),
-            Some(_) => Err(ReadTraceError::NotTrace),
-            None => Ok(Length::Bytes(u64::member(alloc, value)?)),
+    fn member(_alloc: Global, tokens: &mut Tokens<'_>) -> Reading<Length> {
+        let Some(token) = tokens.take() else {
+            return Err(ReadTraceError::NotTrace);
+        };
+        match token {
+            Token::String(word) => whole_of(word),
+            Token::Number(text) => match whole_number(text) {
+                Ok(bytes) => Ok(Length::Bytes(bytes)),
+                Err(error) => Err(error),
+            },
+            _ => Err(ReadTraceError::NotTrace),
         }
+    }
+}
+
+/// The length that a word names.
+fn whole_of(word: &str) -> Reading<Length>
+    ensures { Gives (λ x. x) result (at_word ((codes "whole", Whole) ∷ []) word.now) }
+{
+    match word {
+        "whole" => Ok(Length::Whole),
+        _ => Err(ReadTraceError::NotTrace),
     }
 }
 
@@ -33,13 +50,13 @@ impl Member for Dependency {
     ghost means = { dependency_value };
 
     #[tactic(auto, unfolding(crate::specs::Trace::dependency_value))]
-    fn member(alloc: Global, value: &Value) -> Reading<Dependency> {
-        let rest = list_members(value)?;
-        let (source_stages, rest) = first::<u32>(alloc, rest)?;
-        let (source_accesses, rest) = first::<u32>(alloc, rest)?;
-        let (destination_stages, rest) = first::<u32>(alloc, rest)?;
-        let (destination_accesses, rest) = first::<u32>(alloc, rest)?;
-        end(rest)?;
+    fn member(alloc: Global, tokens: &mut Tokens<'_>) -> Reading<Dependency> {
+        tokens.begin()?;
+        let source_stages = first::<u32>(alloc, tokens)?;
+        let source_accesses = first::<u32>(alloc, tokens)?;
+        let destination_stages = first::<u32>(alloc, tokens)?;
+        let destination_accesses = first::<u32>(alloc, tokens)?;
+        tokens.end()?;
         Ok(Dependency {
             source_stages: Stages::from_bits_retain(source_stages),
             source_accesses: Accesses::from_bits_retain(source_accesses),
@@ -53,12 +70,12 @@ impl Member for BufferCopy {
     ghost means = { copy_region };
 
     #[tactic(auto, unfolding(crate::specs::Trace::copy_region))]
-    fn member(alloc: Global, value: &Value) -> Reading<BufferCopy> {
-        let rest = list_members(value)?;
-        let (source_offset, rest) = first::<u64>(alloc, rest)?;
-        let (destination_offset, rest) = first::<u64>(alloc, rest)?;
-        let (size, rest) = first::<u64>(alloc, rest)?;
-        end(rest)?;
+    fn member(alloc: Global, tokens: &mut Tokens<'_>) -> Reading<BufferCopy> {
+        tokens.begin()?;
+        let source_offset = first::<u64>(alloc, tokens)?;
+        let destination_offset = first::<u64>(alloc, tokens)?;
+        let size = first::<u64>(alloc, tokens)?;
+        tokens.end()?;
         Ok(BufferCopy {
             source_offset,
             destination_offset,
@@ -71,18 +88,18 @@ impl Member for BufferElement {
     ghost means = { buffer_element };
 
     #[tactic(auto, unfolding(crate::specs::Trace::buffer_element))]
-    fn member(alloc: Global, value: &Value) -> Reading<BufferElement> {
-        let rest = list_members(value)?;
-        let (source_stages, rest) = first::<u32>(alloc, rest)?;
-        let (source_accesses, rest) = first::<u32>(alloc, rest)?;
-        let (destination_stages, rest) = first::<u32>(alloc, rest)?;
-        let (destination_accesses, rest) = first::<u32>(alloc, rest)?;
-        let (source, rest) = first::<u32>(alloc, rest)?;
-        let (destination, rest) = first::<u32>(alloc, rest)?;
-        let (buffer, rest) = first::<u32>(alloc, rest)?;
-        let (offset, rest) = first::<u64>(alloc, rest)?;
-        let (size, rest) = first::<Length>(alloc, rest)?;
-        end(rest)?;
+    fn member(alloc: Global, tokens: &mut Tokens<'_>) -> Reading<BufferElement> {
+        tokens.begin()?;
+        let source_stages = first::<u32>(alloc, tokens)?;
+        let source_accesses = first::<u32>(alloc, tokens)?;
+        let destination_stages = first::<u32>(alloc, tokens)?;
+        let destination_accesses = first::<u32>(alloc, tokens)?;
+        let source = first::<u32>(alloc, tokens)?;
+        let destination = first::<u32>(alloc, tokens)?;
+        let buffer = first::<u32>(alloc, tokens)?;
+        let offset = first::<u64>(alloc, tokens)?;
+        let size = first::<Length>(alloc, tokens)?;
+        tokens.end()?;
         Ok(BufferElement {
             dependency: Dependency {
                 source_stages: Stages::from_bits_retain(source_stages),
@@ -105,33 +122,33 @@ impl Member for Cmd {
     ghost means = { command_value };
 
     #[tactic(auto, unfolding(crate::specs::Trace::command_value, crate::specs::Trace::command_rows))]
-    fn member(alloc: Global, value: &Value) -> Reading<Cmd> {
-        let (word, rest) = word_first(value)?;
-        match word {
-            "fill" => fill_of(alloc, rest),
-            "update" => update_of(alloc, rest),
-            "copy" => copy_of(alloc, rest),
-            "clear" => clear_of(alloc, rest),
-            "copy_in" => copy_in_of(alloc, rest),
-            "copy_out" => copy_out_of(alloc, rest),
-            "copy_image" => copy_image_of(alloc, rest),
-            "barrier" => barrier_of(alloc, rest),
-            "set" => set_of(alloc, rest),
-            "await" => await_of(alloc, rest),
+    fn member(alloc: Global, tokens: &mut Tokens<'_>) -> Reading<Cmd> {
+        match word_first(tokens)? {
+            "fill" => fill_of(alloc, tokens),
+            "update" => update_of(alloc, tokens),
+            "copy" => copy_of(alloc, tokens),
+            "clear" => clear_of(alloc, tokens),
+            "copy_in" => copy_in_of(alloc, tokens),
+            "copy_out" => copy_out_of(alloc, tokens),
+            "copy_image" => copy_image_of(alloc, tokens),
+            "barrier" => barrier_of(alloc, tokens),
+            "set" => set_of(alloc, tokens),
+            "await" => await_of(alloc, tokens),
             _ => Err(ReadTraceError::NotTrace),
         }
     }
 }
 
 #[tactic(auto, unfolding(crate::specs::Trace::command_rows))]
-fn fill_of(alloc: Global, rest: &[Value]) -> Reading<Cmd>
-    ensures { Gives (λ x. x) result (after_word command_rows (codes "fill") (map view rest.now)) }
+fn fill_of(alloc: Global, tokens: &mut Tokens<'_>) -> Reading<Cmd>
+    ensures value { Gives (λ x. x) result (after_word command_rows (codes "fill") (ahead tokens.old)) }
+    ensures rest { OnOk result (whole tokens.old ≡ Some tokens.new) }
 {
-    let (buffer, rest) = first::<u32>(alloc, rest)?;
-    let (offset, rest) = first::<u64>(alloc, rest)?;
-    let (size, rest) = first::<Length>(alloc, rest)?;
-    let (word, rest) = first::<u32>(alloc, rest)?;
-    end(rest)?;
+    let buffer = first::<u32>(alloc, tokens)?;
+    let offset = first::<u64>(alloc, tokens)?;
+    let size = first::<Length>(alloc, tokens)?;
+    let word = first::<u32>(alloc, tokens)?;
+    tokens.end()?;
     Ok(Cmd::Fill {
         buffer,
         offset,
@@ -141,13 +158,14 @@ fn fill_of(alloc: Global, rest: &[Value]) -> Reading<Cmd>
 }
 
 #[tactic(auto, unfolding(crate::specs::Trace::command_rows))]
-fn update_of(alloc: Global, rest: &[Value]) -> Reading<Cmd>
-    ensures { Gives (λ x. x) result (after_word command_rows (codes "update") (map view rest.now)) }
+fn update_of(alloc: Global, tokens: &mut Tokens<'_>) -> Reading<Cmd>
+    ensures value { Gives (λ x. x) result (after_word command_rows (codes "update") (ahead tokens.old)) }
+    ensures rest { OnOk result (whole tokens.old ≡ Some tokens.new) }
 {
-    let (buffer, rest) = first::<u32>(alloc, rest)?;
-    let (offset, rest) = first::<u64>(alloc, rest)?;
-    let (bytes, rest) = first_bytes(alloc, rest)?;
-    end(rest)?;
+    let buffer = first::<u32>(alloc, tokens)?;
+    let offset = first::<u64>(alloc, tokens)?;
+    let bytes = first_bytes(alloc, tokens)?;
+    tokens.end()?;
     Ok(Cmd::Update {
         buffer,
         offset,
@@ -156,13 +174,14 @@ fn update_of(alloc: Global, rest: &[Value]) -> Reading<Cmd>
 }
 
 #[tactic(auto, unfolding(crate::specs::Trace::command_rows))]
-fn copy_of(alloc: Global, rest: &[Value]) -> Reading<Cmd>
-    ensures { Gives (λ x. x) result (after_word command_rows (codes "copy") (map view rest.now)) }
+fn copy_of(alloc: Global, tokens: &mut Tokens<'_>) -> Reading<Cmd>
+    ensures value { Gives (λ x. x) result (after_word command_rows (codes "copy") (ahead tokens.old)) }
+    ensures rest { OnOk result (whole tokens.old ≡ Some tokens.new) }
 {
-    let (source, rest) = first::<u32>(alloc, rest)?;
-    let (destination, rest) = first::<u32>(alloc, rest)?;
-    let (regions, rest) = first(alloc, rest)?;
-    end(rest)?;
+    let source = first::<u32>(alloc, tokens)?;
+    let destination = first::<u32>(alloc, tokens)?;
+    let regions = first(alloc, tokens)?;
+    tokens.end()?;
     Ok(Cmd::Copy {
         source,
         destination,
@@ -171,13 +190,14 @@ fn copy_of(alloc: Global, rest: &[Value]) -> Reading<Cmd>
 }
 
 #[tactic(auto, unfolding(crate::specs::Trace::command_rows))]
-fn barrier_of(alloc: Global, rest: &[Value]) -> Reading<Cmd>
-    ensures { Gives (λ x. x) result (after_word command_rows (codes "barrier") (map view rest.now)) }
+fn barrier_of(alloc: Global, tokens: &mut Tokens<'_>) -> Reading<Cmd>
+    ensures value { Gives (λ x. x) result (after_word command_rows (codes "barrier") (ahead tokens.old)) }
+    ensures rest { OnOk result (whole tokens.old ≡ Some tokens.new) }
 {
-    let (memory, rest) = first::<Sequence<Dependency>>(alloc, rest)?;
-    let (buffers, rest) = first::<Sequence<BufferElement>>(alloc, rest)?;
-    let (images, rest) = first::<Sequence<ImageElement>>(alloc, rest)?;
-    end(rest)?;
+    let memory = first::<Sequence<Dependency>>(alloc, tokens)?;
+    let buffers = first::<Sequence<BufferElement>>(alloc, tokens)?;
+    let images = first::<Sequence<ImageElement>>(alloc, tokens)?;
+    tokens.end()?;
     let mut elements = Vec::new(alloc);
     push_memory(&mut elements, memory.as_slice())?;
     push_buffers(&mut elements, buffers.as_slice())?;
@@ -218,21 +238,23 @@ fn push_images(elements: &mut Vec<Element>, images: &[ImageElement]) -> Result<(
 }
 
 #[tactic(auto, unfolding(crate::specs::Trace::command_rows))]
-fn set_of(alloc: Global, rest: &[Value]) -> Reading<Cmd>
-    ensures { Gives (λ x. x) result (after_word command_rows (codes "set") (map view rest.now)) }
+fn set_of(alloc: Global, tokens: &mut Tokens<'_>) -> Reading<Cmd>
+    ensures value { Gives (λ x. x) result (after_word command_rows (codes "set") (ahead tokens.old)) }
+    ensures rest { OnOk result (whole tokens.old ≡ Some tokens.new) }
 {
-    let (event, rest) = first::<u32>(alloc, rest)?;
-    let (elements, rest) = first(alloc, rest)?;
-    end(rest)?;
+    let event = first::<u32>(alloc, tokens)?;
+    let elements = first(alloc, tokens)?;
+    tokens.end()?;
     Ok(Cmd::Set { event, elements })
 }
 
 #[tactic(auto, unfolding(crate::specs::Trace::command_rows))]
-fn await_of(alloc: Global, rest: &[Value]) -> Reading<Cmd>
-    ensures { Gives (λ x. x) result (after_word command_rows (codes "await") (map view rest.now)) }
+fn await_of(alloc: Global, tokens: &mut Tokens<'_>) -> Reading<Cmd>
+    ensures value { Gives (λ x. x) result (after_word command_rows (codes "await") (ahead tokens.old)) }
+    ensures rest { OnOk result (whole tokens.old ≡ Some tokens.new) }
 {
-    let (event, rest) = first::<u32>(alloc, rest)?;
-    let (elements, rest) = first(alloc, rest)?;
-    end(rest)?;
+    let event = first::<u32>(alloc, tokens)?;
+    let elements = first(alloc, tokens)?;
+    tokens.end()?;
     Ok(Cmd::Await { event, elements })
 }

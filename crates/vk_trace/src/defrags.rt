@@ -1,23 +1,24 @@
-ghost use Rattle.std.specs.Prelude.{map, codes};
-ghost use Rattle.serde_json.specs.View.{view};
+ghost use Rattle.std.specs.Prelude.{◌≡◌, Some, OnOk, codes};
 ghost use Rattle.vk_trace.specs.Members.{after_word};
 ghost use Rattle.vk_trace.specs.Trace.{entry_rows};
 ghost use Rattle.vk_trace.specs.Inner.Gives.{Gives};
+ghost use Rattle.vk_trace.specs.Inner.Ahead.{ahead, whole};
 
-use crate::members::{Reading, end, first};
-use serde_json::Value;
+use crate::members::{first};
+use crate::tokens::{Reading, Tokens};
 use std::alloc::Global;
 use vk_model::Entry;
 
 #[tactic(auto, unfolding(crate::specs::Trace::entry_rows))]
-pub(crate) fn defrag_of(alloc: Global, rest: &[Value]) -> Reading<Entry>
-    ensures { Gives (λ x. x) result (after_word entry_rows (codes "defrag") (map view rest.now)) }
+pub(crate) fn defrag_of(alloc: Global, tokens: &mut Tokens<'_>) -> Reading<Entry>
+    ensures value { Gives (λ x. x) result (after_word entry_rows (codes "defrag") (ahead tokens.old)) }
+    ensures rest { OnOk result (whole tokens.old ≡ Some tokens.new) }
 {
-    let (id, rest) = first::<u32>(alloc, rest)?;
-    let (pool, rest) = first::<u32>(alloc, rest)?;
-    let (max_bytes, rest) = first::<u64>(alloc, rest)?;
-    let (max_moves, rest) = first::<u32>(alloc, rest)?;
-    end(rest)?;
+    let id = first::<u32>(alloc, tokens)?;
+    let pool = first::<u32>(alloc, tokens)?;
+    let max_bytes = first::<u64>(alloc, tokens)?;
+    let max_moves = first::<u32>(alloc, tokens)?;
+    tokens.end()?;
     Ok(Entry::Defrag {
         id,
         pool,
@@ -27,22 +28,24 @@ pub(crate) fn defrag_of(alloc: Global, rest: &[Value]) -> Reading<Entry>
 }
 
 #[tactic(auto, unfolding(crate::specs::Trace::entry_rows))]
-pub(crate) fn pass_of(alloc: Global, rest: &[Value]) -> Reading<Entry>
-    ensures { Gives (λ x. x) result (after_word entry_rows (codes "pass") (map view rest.now)) }
+pub(crate) fn pass_of(alloc: Global, tokens: &mut Tokens<'_>) -> Reading<Entry>
+    ensures value { Gives (λ x. x) result (after_word entry_rows (codes "pass") (ahead tokens.old)) }
+    ensures rest { OnOk result (whole tokens.old ≡ Some tokens.new) }
 {
-    let (defrag, rest) = first::<u32>(alloc, rest)?;
-    end(rest)?;
+    let defrag = first::<u32>(alloc, tokens)?;
+    tokens.end()?;
     Ok(Entry::Pass { defrag })
 }
 
 #[tactic(auto, unfolding(crate::specs::Trace::entry_rows))]
-pub(crate) fn end_pass_of(alloc: Global, rest: &[Value]) -> Reading<Entry>
-    ensures { Gives (λ x. x) result (after_word entry_rows (codes "end_pass") (map view rest.now)) }
+pub(crate) fn end_pass_of(alloc: Global, tokens: &mut Tokens<'_>) -> Reading<Entry>
+    ensures value { Gives (λ x. x) result (after_word entry_rows (codes "end_pass") (ahead tokens.old)) }
+    ensures rest { OnOk result (whole tokens.old ≡ Some tokens.new) }
 {
-    let (defrag, rest) = first::<u32>(alloc, rest)?;
-    let (ignored, rest) = first(alloc, rest)?;
-    let (destroyed, rest) = first(alloc, rest)?;
-    end(rest)?;
+    let defrag = first::<u32>(alloc, tokens)?;
+    let ignored = first(alloc, tokens)?;
+    let destroyed = first(alloc, tokens)?;
+    tokens.end()?;
     Ok(Entry::EndPass {
         defrag,
         ignored,
@@ -51,10 +54,11 @@ pub(crate) fn end_pass_of(alloc: Global, rest: &[Value]) -> Reading<Entry>
 }
 
 #[tactic(auto, unfolding(crate::specs::Trace::entry_rows))]
-pub(crate) fn end_defrag_of(alloc: Global, rest: &[Value]) -> Reading<Entry>
-    ensures { Gives (λ x. x) result (after_word entry_rows (codes "end_defrag") (map view rest.now)) }
+pub(crate) fn end_defrag_of(alloc: Global, tokens: &mut Tokens<'_>) -> Reading<Entry>
+    ensures value { Gives (λ x. x) result (after_word entry_rows (codes "end_defrag") (ahead tokens.old)) }
+    ensures rest { OnOk result (whole tokens.old ≡ Some tokens.new) }
 {
-    let (defrag, rest) = first::<u32>(alloc, rest)?;
-    end(rest)?;
+    let defrag = first::<u32>(alloc, tokens)?;
+    tokens.end()?;
     Ok(Entry::EndDefrag { defrag })
 }

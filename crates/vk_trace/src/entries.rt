@@ -1,16 +1,16 @@
-ghost use Rattle.std.specs.Prelude.{map, codes};
-ghost use Rattle.serde_json.specs.View.{view};
+ghost use Rattle.std.specs.Prelude.{◌≡◌, Some, OnOk, codes};
 ghost use Rattle.vk_trace.specs.Members.{after_word};
 ghost use Rattle.vk_trace.specs.Trace.{sharing_value, place_rows, place_value, semaphore_value, semaphore_submit, batch_value, entry_rows, entry_value};
 ghost use Rattle.vk_trace.specs.Inner.Gives.{Gives};
+ghost use Rattle.vk_trace.specs.Inner.Ahead.{ahead, whole};
 
 use crate::defrags::{defrag_of, end_defrag_of, end_pass_of, pass_of};
 use crate::errors::ReadTraceError;
 use crate::images::image_of;
-use crate::members::{Member, Reading, end, first, first_bytes, list_members, text_of, word_first};
+use crate::members::{Member, first, first_bytes, word_first};
+use crate::tokens::{Reading, Tokens};
 use crate::pools::{drop_pool_of, in_pool_of, pool_of, upper_of};
 use bitflags::Flags;
-use serde_json::Value;
 use std::alloc::Global;
 use vk_model::{
     Batch, BufferInfo, Entry, Length, MemoryInfo, Place, SemaphoreSubmit, SemaphoreValue, Sharing,
@@ -21,8 +21,8 @@ impl Member for Sharing {
     ghost means = { sharing_value };
 
     #[tactic(auto, unfolding(crate::specs::Trace::sharing_value))]
-    fn member(_alloc: Global, value: &Value) -> Reading<Sharing> {
-        match text_of(value)? {
+    fn member(_alloc: Global, tokens: &mut Tokens<'_>) -> Reading<Sharing> {
+        match tokens.text()? {
             "exclusive" => Ok(Sharing::Exclusive),
             "concurrent" => Ok(Sharing::Concurrent),
             _ => Err(ReadTraceError::NotTrace),
@@ -34,34 +34,35 @@ impl Member for Place {
     ghost means = { place_value };
 
     #[tactic(auto, unfolding(crate::specs::Trace::place_value, crate::specs::Trace::place_rows))]
-    fn member(alloc: Global, value: &Value) -> Reading<Place> {
-        let (word, rest) = word_first(value)?;
-        match word {
-            "dedicated" => dedicated_of(alloc, rest),
-            "memory" => bound_of(alloc, rest),
-            "pool" => in_pool_of(alloc, rest),
-            "pool_upper" => upper_of(alloc, rest),
+    fn member(alloc: Global, tokens: &mut Tokens<'_>) -> Reading<Place> {
+        match word_first(tokens)? {
+            "dedicated" => dedicated_of(alloc, tokens),
+            "memory" => bound_of(alloc, tokens),
+            "pool" => in_pool_of(alloc, tokens),
+            "pool_upper" => upper_of(alloc, tokens),
             _ => Err(ReadTraceError::NotTrace),
         }
     }
 }
 
 #[tactic(auto, unfolding(crate::specs::Trace::place_rows))]
-fn dedicated_of(alloc: Global, rest: &[Value]) -> Reading<Place>
-    ensures { Gives (λ x. x) result (after_word place_rows (codes "dedicated") (map view rest.now)) }
+fn dedicated_of(alloc: Global, tokens: &mut Tokens<'_>) -> Reading<Place>
+    ensures value { Gives (λ x. x) result (after_word place_rows (codes "dedicated") (ahead tokens.old)) }
+    ensures rest { OnOk result (whole tokens.old ≡ Some tokens.new) }
 {
-    let (memory_type, rest) = first::<u32>(alloc, rest)?;
-    end(rest)?;
+    let memory_type = first::<u32>(alloc, tokens)?;
+    tokens.end()?;
     Ok(Place::Dedicated { memory_type })
 }
 
 #[tactic(auto, unfolding(crate::specs::Trace::place_rows))]
-fn bound_of(alloc: Global, rest: &[Value]) -> Reading<Place>
-    ensures { Gives (λ x. x) result (after_word place_rows (codes "memory") (map view rest.now)) }
+fn bound_of(alloc: Global, tokens: &mut Tokens<'_>) -> Reading<Place>
+    ensures value { Gives (λ x. x) result (after_word place_rows (codes "memory") (ahead tokens.old)) }
+    ensures rest { OnOk result (whole tokens.old ≡ Some tokens.new) }
 {
-    let (memory, rest) = first::<u32>(alloc, rest)?;
-    let (offset, rest) = first::<u64>(alloc, rest)?;
-    end(rest)?;
+    let memory = first::<u32>(alloc, tokens)?;
+    let offset = first::<u64>(alloc, tokens)?;
+    tokens.end()?;
     Ok(Place::Memory { memory, offset })
 }
 
@@ -69,11 +70,11 @@ impl Member for SemaphoreValue {
     ghost means = { semaphore_value };
 
     #[tactic(auto, unfolding(crate::specs::Trace::semaphore_value))]
-    fn member(alloc: Global, value: &Value) -> Reading<SemaphoreValue> {
-        let rest = list_members(value)?;
-        let (semaphore, rest) = first::<u32>(alloc, rest)?;
-        let (value, rest) = first::<u64>(alloc, rest)?;
-        end(rest)?;
+    fn member(alloc: Global, tokens: &mut Tokens<'_>) -> Reading<SemaphoreValue> {
+        tokens.begin()?;
+        let semaphore = first::<u32>(alloc, tokens)?;
+        let value = first::<u64>(alloc, tokens)?;
+        tokens.end()?;
         Ok(SemaphoreValue { semaphore, value })
     }
 }
@@ -82,12 +83,12 @@ impl Member for SemaphoreSubmit {
     ghost means = { semaphore_submit };
 
     #[tactic(auto, unfolding(crate::specs::Trace::semaphore_submit))]
-    fn member(alloc: Global, value: &Value) -> Reading<SemaphoreSubmit> {
-        let rest = list_members(value)?;
-        let (semaphore, rest) = first::<u32>(alloc, rest)?;
-        let (value, rest) = first::<u64>(alloc, rest)?;
-        let (stages, rest) = first::<u32>(alloc, rest)?;
-        end(rest)?;
+    fn member(alloc: Global, tokens: &mut Tokens<'_>) -> Reading<SemaphoreSubmit> {
+        tokens.begin()?;
+        let semaphore = first::<u32>(alloc, tokens)?;
+        let value = first::<u64>(alloc, tokens)?;
+        let stages = first::<u32>(alloc, tokens)?;
+        tokens.end()?;
         Ok(SemaphoreSubmit {
             semaphore,
             value,
@@ -100,12 +101,12 @@ impl Member for Batch {
     ghost means = { batch_value };
 
     #[tactic(auto, unfolding(crate::specs::Trace::batch_value))]
-    fn member(alloc: Global, value: &Value) -> Reading<Batch> {
-        let rest = list_members(value)?;
-        let (waits, rest) = first(alloc, rest)?;
-        let (commands, rest) = first(alloc, rest)?;
-        let (signals, rest) = first(alloc, rest)?;
-        end(rest)?;
+    fn member(alloc: Global, tokens: &mut Tokens<'_>) -> Reading<Batch> {
+        tokens.begin()?;
+        let waits = first(alloc, tokens)?;
+        let commands = first(alloc, tokens)?;
+        let signals = first(alloc, tokens)?;
+        tokens.end()?;
         Ok(Batch {
             waits,
             commands,
@@ -118,46 +119,46 @@ impl Member for Entry {
     ghost means = { entry_value };
 
     #[tactic(auto, unfolding(crate::specs::Trace::entry_value, crate::specs::Trace::entry_rows))]
-    fn member(alloc: Global, value: &Value) -> Reading<Entry> {
-        let (word, rest) = word_first(value)?;
-        match word {
-            "buffer" => buffer_of(alloc, rest),
-            "image" => image_of(alloc, rest),
-            "memory" => memory_of(alloc, rest),
-            "free" => free_of(alloc, rest),
-            "destroy" => destroy_of(alloc, rest),
-            "pool" => pool_of(alloc, rest),
-            "drop_pool" => drop_pool_of(alloc, rest),
-            "semaphore" => semaphore_of(alloc, rest),
-            "submit" => submit_of(alloc, rest),
-            "event" => event_of(alloc, rest),
-            "signal" => signal_of(alloc, rest),
-            "wait" => wait_of(alloc, rest),
-            "map" => map_of(alloc, rest),
-            "unmap" => unmap_of(alloc, rest),
-            "write" => write_of(alloc, rest),
-            "read" => read_of(alloc, rest),
-            "flush" => flush_of(alloc, rest),
-            "invalidate" => invalidate_of(alloc, rest),
-            "defrag" => defrag_of(alloc, rest),
-            "pass" => pass_of(alloc, rest),
-            "end_pass" => end_pass_of(alloc, rest),
-            "end_defrag" => end_defrag_of(alloc, rest),
+    fn member(alloc: Global, tokens: &mut Tokens<'_>) -> Reading<Entry> {
+        match word_first(tokens)? {
+            "buffer" => buffer_of(alloc, tokens),
+            "image" => image_of(alloc, tokens),
+            "memory" => memory_of(alloc, tokens),
+            "free" => free_of(alloc, tokens),
+            "destroy" => destroy_of(alloc, tokens),
+            "pool" => pool_of(alloc, tokens),
+            "drop_pool" => drop_pool_of(alloc, tokens),
+            "semaphore" => semaphore_of(alloc, tokens),
+            "submit" => submit_of(alloc, tokens),
+            "event" => event_of(alloc, tokens),
+            "signal" => signal_of(alloc, tokens),
+            "wait" => wait_of(alloc, tokens),
+            "map" => map_of(alloc, tokens),
+            "unmap" => unmap_of(alloc, tokens),
+            "write" => write_of(alloc, tokens),
+            "read" => read_of(alloc, tokens),
+            "flush" => flush_of(alloc, tokens),
+            "invalidate" => invalidate_of(alloc, tokens),
+            "defrag" => defrag_of(alloc, tokens),
+            "pass" => pass_of(alloc, tokens),
+            "end_pass" => end_pass_of(alloc, tokens),
+            "end_defrag" => end_defrag_of(alloc, tokens),
             _ => Err(ReadTraceError::NotTrace),
         }
     }
 }
 
 #[tactic(auto, unfolding(crate::specs::Trace::entry_rows))]
-fn buffer_of(alloc: Global, rest: &[Value]) -> Reading<Entry>
-    ensures { Gives (λ x. x) result (after_word entry_rows (codes "buffer") (map view rest.now)) }
+fn buffer_of(alloc: Global, tokens: &mut Tokens<'_>) -> Reading<Entry>
+    ensures value { Gives (λ x. x) result (after_word entry_rows (codes "buffer") (ahead tokens.old)) }
+    ensures rest { OnOk result (whole tokens.old ≡ Some tokens.new) }
 {
-    let (id, rest) = first::<u32>(alloc, rest)?;
-    let (size, rest) = first::<u64>(alloc, rest)?;
-    let (usage, rest) = first::<u32>(alloc, rest)?;
-    let (sharing, rest) = first::<Sharing>(alloc, rest)?;
-    let (place, rest) = first::<Place>(alloc, rest)?;
-    end(rest)?;
+    let id = first::<u32>(alloc, tokens)?;
+    let size = first::<u64>(alloc, tokens)?;
+    let usage = first::<u32>(alloc, tokens)?;
+    let sharing = first::<Sharing>(alloc, tokens)?;
+    let place = first::<Place>(alloc, tokens)?;
+    tokens.end()?;
     let info = BufferInfo {
         size,
         usage: Usage::from_bits_retain(usage),
@@ -168,109 +169,120 @@ fn buffer_of(alloc: Global, rest: &[Value]) -> Reading<Entry>
 }
 
 #[tactic(auto, unfolding(crate::specs::Trace::entry_rows))]
-fn memory_of(alloc: Global, rest: &[Value]) -> Reading<Entry>
-    ensures { Gives (λ x. x) result (after_word entry_rows (codes "memory") (map view rest.now)) }
+fn memory_of(alloc: Global, tokens: &mut Tokens<'_>) -> Reading<Entry>
+    ensures value { Gives (λ x. x) result (after_word entry_rows (codes "memory") (ahead tokens.old)) }
+    ensures rest { OnOk result (whole tokens.old ≡ Some tokens.new) }
 {
-    let (id, rest) = first::<u32>(alloc, rest)?;
-    let (memory_type, rest) = first::<u32>(alloc, rest)?;
-    let (size, rest) = first::<u64>(alloc, rest)?;
-    end(rest)?;
+    let id = first::<u32>(alloc, tokens)?;
+    let memory_type = first::<u32>(alloc, tokens)?;
+    let size = first::<u64>(alloc, tokens)?;
+    tokens.end()?;
     let info = MemoryInfo { memory_type, size };
     Ok(Entry::Memory { id, info })
 }
 
 #[tactic(auto, unfolding(crate::specs::Trace::entry_rows))]
-fn free_of(alloc: Global, rest: &[Value]) -> Reading<Entry>
-    ensures { Gives (λ x. x) result (after_word entry_rows (codes "free") (map view rest.now)) }
+fn free_of(alloc: Global, tokens: &mut Tokens<'_>) -> Reading<Entry>
+    ensures value { Gives (λ x. x) result (after_word entry_rows (codes "free") (ahead tokens.old)) }
+    ensures rest { OnOk result (whole tokens.old ≡ Some tokens.new) }
 {
-    let (memory, rest) = first::<u32>(alloc, rest)?;
-    end(rest)?;
+    let memory = first::<u32>(alloc, tokens)?;
+    tokens.end()?;
     Ok(Entry::Free { memory })
 }
 
 #[tactic(auto, unfolding(crate::specs::Trace::entry_rows))]
-fn destroy_of(alloc: Global, rest: &[Value]) -> Reading<Entry>
-    ensures { Gives (λ x. x) result (after_word entry_rows (codes "destroy") (map view rest.now)) }
+fn destroy_of(alloc: Global, tokens: &mut Tokens<'_>) -> Reading<Entry>
+    ensures value { Gives (λ x. x) result (after_word entry_rows (codes "destroy") (ahead tokens.old)) }
+    ensures rest { OnOk result (whole tokens.old ≡ Some tokens.new) }
 {
-    let (resource, rest) = first::<u32>(alloc, rest)?;
-    end(rest)?;
+    let resource = first::<u32>(alloc, tokens)?;
+    tokens.end()?;
     Ok(Entry::Destroy { resource })
 }
 
 #[tactic(auto, unfolding(crate::specs::Trace::entry_rows))]
-fn semaphore_of(alloc: Global, rest: &[Value]) -> Reading<Entry>
-    ensures { Gives (λ x. x) result (after_word entry_rows (codes "semaphore") (map view rest.now)) }
+fn semaphore_of(alloc: Global, tokens: &mut Tokens<'_>) -> Reading<Entry>
+    ensures value { Gives (λ x. x) result (after_word entry_rows (codes "semaphore") (ahead tokens.old)) }
+    ensures rest { OnOk result (whole tokens.old ≡ Some tokens.new) }
 {
-    let (id, rest) = first::<u32>(alloc, rest)?;
-    let (initial, rest) = first::<u64>(alloc, rest)?;
-    end(rest)?;
+    let id = first::<u32>(alloc, tokens)?;
+    let initial = first::<u64>(alloc, tokens)?;
+    tokens.end()?;
     Ok(Entry::Semaphore { id, initial })
 }
 
 #[tactic(auto, unfolding(crate::specs::Trace::entry_rows))]
-fn event_of(alloc: Global, rest: &[Value]) -> Reading<Entry>
-    ensures { Gives (λ x. x) result (after_word entry_rows (codes "event") (map view rest.now)) }
+fn event_of(alloc: Global, tokens: &mut Tokens<'_>) -> Reading<Entry>
+    ensures value { Gives (λ x. x) result (after_word entry_rows (codes "event") (ahead tokens.old)) }
+    ensures rest { OnOk result (whole tokens.old ≡ Some tokens.new) }
 {
-    let (id, rest) = first::<u32>(alloc, rest)?;
-    end(rest)?;
+    let id = first::<u32>(alloc, tokens)?;
+    tokens.end()?;
     Ok(Entry::Event { id })
 }
 
 #[tactic(auto, unfolding(crate::specs::Trace::entry_rows))]
-fn signal_of(alloc: Global, rest: &[Value]) -> Reading<Entry>
-    ensures { Gives (λ x. x) result (after_word entry_rows (codes "signal") (map view rest.now)) }
+fn signal_of(alloc: Global, tokens: &mut Tokens<'_>) -> Reading<Entry>
+    ensures value { Gives (λ x. x) result (after_word entry_rows (codes "signal") (ahead tokens.old)) }
+    ensures rest { OnOk result (whole tokens.old ≡ Some tokens.new) }
 {
-    let (semaphore, rest) = first::<u32>(alloc, rest)?;
-    let (value, rest) = first::<u64>(alloc, rest)?;
-    end(rest)?;
+    let semaphore = first::<u32>(alloc, tokens)?;
+    let value = first::<u64>(alloc, tokens)?;
+    tokens.end()?;
     Ok(Entry::Signal { semaphore, value })
 }
 
 #[tactic(auto, unfolding(crate::specs::Trace::entry_rows))]
-fn submit_of(alloc: Global, rest: &[Value]) -> Reading<Entry>
-    ensures { Gives (λ x. x) result (after_word entry_rows (codes "submit") (map view rest.now)) }
+fn submit_of(alloc: Global, tokens: &mut Tokens<'_>) -> Reading<Entry>
+    ensures value { Gives (λ x. x) result (after_word entry_rows (codes "submit") (ahead tokens.old)) }
+    ensures rest { OnOk result (whole tokens.old ≡ Some tokens.new) }
 {
-    let (queue, rest) = first::<u32>(alloc, rest)?;
-    let (batches, rest) = first(alloc, rest)?;
-    end(rest)?;
+    let queue = first::<u32>(alloc, tokens)?;
+    let batches = first(alloc, tokens)?;
+    tokens.end()?;
     Ok(Entry::Submit { queue, batches })
 }
 
 #[tactic(auto, unfolding(crate::specs::Trace::entry_rows))]
-fn wait_of(alloc: Global, rest: &[Value]) -> Reading<Entry>
-    ensures { Gives (λ x. x) result (after_word entry_rows (codes "wait") (map view rest.now)) }
+fn wait_of(alloc: Global, tokens: &mut Tokens<'_>) -> Reading<Entry>
+    ensures value { Gives (λ x. x) result (after_word entry_rows (codes "wait") (ahead tokens.old)) }
+    ensures rest { OnOk result (whole tokens.old ≡ Some tokens.new) }
 {
-    let (waits, rest) = first(alloc, rest)?;
-    end(rest)?;
+    let waits = first(alloc, tokens)?;
+    tokens.end()?;
     Ok(Entry::Wait { waits })
 }
 
 #[tactic(auto, unfolding(crate::specs::Trace::entry_rows))]
-fn map_of(alloc: Global, rest: &[Value]) -> Reading<Entry>
-    ensures { Gives (λ x. x) result (after_word entry_rows (codes "map") (map view rest.now)) }
+fn map_of(alloc: Global, tokens: &mut Tokens<'_>) -> Reading<Entry>
+    ensures value { Gives (λ x. x) result (after_word entry_rows (codes "map") (ahead tokens.old)) }
+    ensures rest { OnOk result (whole tokens.old ≡ Some tokens.new) }
 {
-    let (buffer, rest) = first::<u32>(alloc, rest)?;
-    end(rest)?;
+    let buffer = first::<u32>(alloc, tokens)?;
+    tokens.end()?;
     Ok(Entry::Map { buffer })
 }
 
 #[tactic(auto, unfolding(crate::specs::Trace::entry_rows))]
-fn unmap_of(alloc: Global, rest: &[Value]) -> Reading<Entry>
-    ensures { Gives (λ x. x) result (after_word entry_rows (codes "unmap") (map view rest.now)) }
+fn unmap_of(alloc: Global, tokens: &mut Tokens<'_>) -> Reading<Entry>
+    ensures value { Gives (λ x. x) result (after_word entry_rows (codes "unmap") (ahead tokens.old)) }
+    ensures rest { OnOk result (whole tokens.old ≡ Some tokens.new) }
 {
-    let (buffer, rest) = first::<u32>(alloc, rest)?;
-    end(rest)?;
+    let buffer = first::<u32>(alloc, tokens)?;
+    tokens.end()?;
     Ok(Entry::Unmap { buffer })
 }
 
 #[tactic(auto, unfolding(crate::specs::Trace::entry_rows))]
-fn write_of(alloc: Global, rest: &[Value]) -> Reading<Entry>
-    ensures { Gives (λ x. x) result (after_word entry_rows (codes "write") (map view rest.now)) }
+fn write_of(alloc: Global, tokens: &mut Tokens<'_>) -> Reading<Entry>
+    ensures value { Gives (λ x. x) result (after_word entry_rows (codes "write") (ahead tokens.old)) }
+    ensures rest { OnOk result (whole tokens.old ≡ Some tokens.new) }
 {
-    let (buffer, rest) = first::<u32>(alloc, rest)?;
-    let (offset, rest) = first::<u64>(alloc, rest)?;
-    let (bytes, rest) = first_bytes(alloc, rest)?;
-    end(rest)?;
+    let buffer = first::<u32>(alloc, tokens)?;
+    let offset = first::<u64>(alloc, tokens)?;
+    let bytes = first_bytes(alloc, tokens)?;
+    tokens.end()?;
     Ok(Entry::Write {
         buffer,
         offset,
@@ -279,13 +291,14 @@ fn write_of(alloc: Global, rest: &[Value]) -> Reading<Entry>
 }
 
 #[tactic(auto, unfolding(crate::specs::Trace::entry_rows))]
-fn read_of(alloc: Global, rest: &[Value]) -> Reading<Entry>
-    ensures { Gives (λ x. x) result (after_word entry_rows (codes "read") (map view rest.now)) }
+fn read_of(alloc: Global, tokens: &mut Tokens<'_>) -> Reading<Entry>
+    ensures value { Gives (λ x. x) result (after_word entry_rows (codes "read") (ahead tokens.old)) }
+    ensures rest { OnOk result (whole tokens.old ≡ Some tokens.new) }
 {
-    let (buffer, rest) = first::<u32>(alloc, rest)?;
-    let (offset, rest) = first::<u64>(alloc, rest)?;
-    let (size, rest) = first::<u64>(alloc, rest)?;
-    end(rest)?;
+    let buffer = first::<u32>(alloc, tokens)?;
+    let offset = first::<u64>(alloc, tokens)?;
+    let size = first::<u64>(alloc, tokens)?;
+    tokens.end()?;
     Ok(Entry::Read {
         buffer,
         offset,
@@ -294,13 +307,14 @@ fn read_of(alloc: Global, rest: &[Value]) -> Reading<Entry>
 }
 
 #[tactic(auto, unfolding(crate::specs::Trace::entry_rows))]
-fn flush_of(alloc: Global, rest: &[Value]) -> Reading<Entry>
-    ensures { Gives (λ x. x) result (after_word entry_rows (codes "flush") (map view rest.now)) }
+fn flush_of(alloc: Global, tokens: &mut Tokens<'_>) -> Reading<Entry>
+    ensures value { Gives (λ x. x) result (after_word entry_rows (codes "flush") (ahead tokens.old)) }
+    ensures rest { OnOk result (whole tokens.old ≡ Some tokens.new) }
 {
-    let (buffer, rest) = first::<u32>(alloc, rest)?;
-    let (offset, rest) = first::<u64>(alloc, rest)?;
-    let (size, rest) = first::<Length>(alloc, rest)?;
-    end(rest)?;
+    let buffer = first::<u32>(alloc, tokens)?;
+    let offset = first::<u64>(alloc, tokens)?;
+    let size = first::<Length>(alloc, tokens)?;
+    tokens.end()?;
     Ok(Entry::Flush {
         buffer,
         offset,
@@ -309,13 +323,14 @@ fn flush_of(alloc: Global, rest: &[Value]) -> Reading<Entry>
 }
 
 #[tactic(auto, unfolding(crate::specs::Trace::entry_rows))]
-fn invalidate_of(alloc: Global, rest: &[Value]) -> Reading<Entry>
-    ensures { Gives (λ x. x) result (after_word entry_rows (codes "invalidate") (map view rest.now)) }
+fn invalidate_of(alloc: Global, tokens: &mut Tokens<'_>) -> Reading<Entry>
+    ensures value { Gives (λ x. x) result (after_word entry_rows (codes "invalidate") (ahead tokens.old)) }
+    ensures rest { OnOk result (whole tokens.old ≡ Some tokens.new) }
 {
-    let (buffer, rest) = first::<u32>(alloc, rest)?;
-    let (offset, rest) = first::<u64>(alloc, rest)?;
-    let (size, rest) = first::<Length>(alloc, rest)?;
-    end(rest)?;
+    let buffer = first::<u32>(alloc, tokens)?;
+    let offset = first::<u64>(alloc, tokens)?;
+    let size = first::<Length>(alloc, tokens)?;
+    tokens.end()?;
     Ok(Entry::Invalidate {
         buffer,
         offset,

@@ -1,13 +1,13 @@
-ghost use Rattle.std.specs.Prelude.{map, codes};
-ghost use Rattle.serde_json.specs.View.{view};
+ghost use Rattle.std.specs.Prelude.{◌≡◌, Some, OnOk, codes};
 ghost use Rattle.vk_trace.specs.Members.{after_word};
 ghost use Rattle.vk_trace.specs.Trace.{format_value, tiling_value, subresource_range, image_element, buffer_image_region, image_region, color_value, command_rows, entry_rows};
 ghost use Rattle.vk_trace.specs.Inner.Gives.{Gives};
+ghost use Rattle.vk_trace.specs.Inner.Ahead.{ahead, whole};
 
 use crate::errors::ReadTraceError;
-use crate::members::{Member, Reading, end, first, list_members, text_of};
+use crate::members::{Member, first};
+use crate::tokens::{Reading, Tokens};
 use bitflags::Flags;
-use serde_json::Value;
 use std::alloc::Global;
 use vk_model::{
     Accesses, BufferImageCopy, Cmd, Dependency, Entry, Families, Format, ImageCopy, ImageElement,
@@ -18,8 +18,8 @@ impl Member for Format {
     ghost means = { format_value };
 
     #[tactic(auto, unfolding(crate::specs::Trace::format_value))]
-    fn member(_alloc: Global, value: &Value) -> Reading<Format> {
-        match text_of(value)? {
+    fn member(_alloc: Global, tokens: &mut Tokens<'_>) -> Reading<Format> {
+        match tokens.text()? {
             "R8_UINT" => Ok(Format::R8Uint),
             "R8G8_UINT" => Ok(Format::R8G8Uint),
             "R8G8B8A8_UINT" => Ok(Format::R8G8B8A8Uint),
@@ -36,8 +36,8 @@ impl Member for Kind {
     ghost means = { tiling_value };
 
     #[tactic(auto, unfolding(crate::specs::Trace::tiling_value))]
-    fn member(_alloc: Global, value: &Value) -> Reading<Kind> {
-        match text_of(value)? {
+    fn member(_alloc: Global, tokens: &mut Tokens<'_>) -> Reading<Kind> {
+        match tokens.text()? {
             "optimal" => Ok(Kind::Optimal),
             "linear" => Ok(Kind::Linear),
             _ => Err(ReadTraceError::NotTrace),
@@ -49,13 +49,13 @@ impl Member for SubresourceRange {
     ghost means = { subresource_range };
 
     #[tactic(auto, unfolding(crate::specs::Trace::subresource_range))]
-    fn member(alloc: Global, value: &Value) -> Reading<SubresourceRange> {
-        let rest = list_members(value)?;
-        let (first_level, rest) = first::<u32>(alloc, rest)?;
-        let (levels, rest) = first::<u32>(alloc, rest)?;
-        let (first_layer, rest) = first::<u32>(alloc, rest)?;
-        let (layers, rest) = first::<u32>(alloc, rest)?;
-        end(rest)?;
+    fn member(alloc: Global, tokens: &mut Tokens<'_>) -> Reading<SubresourceRange> {
+        tokens.begin()?;
+        let first_level = first::<u32>(alloc, tokens)?;
+        let levels = first::<u32>(alloc, tokens)?;
+        let first_layer = first::<u32>(alloc, tokens)?;
+        let layers = first::<u32>(alloc, tokens)?;
+        tokens.end()?;
         Ok(SubresourceRange {
             first_level,
             levels,
@@ -69,19 +69,19 @@ impl Member for ImageElement {
     ghost means = { image_element };
 
     #[tactic(auto, unfolding(crate::specs::Trace::image_element))]
-    fn member(alloc: Global, value: &Value) -> Reading<ImageElement> {
-        let rest = list_members(value)?;
-        let (source_stages, rest) = first::<u32>(alloc, rest)?;
-        let (source_accesses, rest) = first::<u32>(alloc, rest)?;
-        let (destination_stages, rest) = first::<u32>(alloc, rest)?;
-        let (destination_accesses, rest) = first::<u32>(alloc, rest)?;
-        let (source, rest) = first::<u32>(alloc, rest)?;
-        let (destination, rest) = first::<u32>(alloc, rest)?;
-        let (image, rest) = first::<u32>(alloc, rest)?;
-        let (old_layout, rest) = first::<u32>(alloc, rest)?;
-        let (new_layout, rest) = first::<u32>(alloc, rest)?;
-        let (range, rest) = first::<SubresourceRange>(alloc, rest)?;
-        end(rest)?;
+    fn member(alloc: Global, tokens: &mut Tokens<'_>) -> Reading<ImageElement> {
+        tokens.begin()?;
+        let source_stages = first::<u32>(alloc, tokens)?;
+        let source_accesses = first::<u32>(alloc, tokens)?;
+        let destination_stages = first::<u32>(alloc, tokens)?;
+        let destination_accesses = first::<u32>(alloc, tokens)?;
+        let source = first::<u32>(alloc, tokens)?;
+        let destination = first::<u32>(alloc, tokens)?;
+        let image = first::<u32>(alloc, tokens)?;
+        let old_layout = first::<u32>(alloc, tokens)?;
+        let new_layout = first::<u32>(alloc, tokens)?;
+        let range = first::<SubresourceRange>(alloc, tokens)?;
+        tokens.end()?;
         Ok(ImageElement {
             dependency: Dependency {
                 source_stages: Stages::from_bits_retain(source_stages),
@@ -105,19 +105,19 @@ impl Member for BufferImageCopy {
     ghost means = { buffer_image_region };
 
     #[tactic(auto, unfolding(crate::specs::Trace::buffer_image_region))]
-    fn member(alloc: Global, value: &Value) -> Reading<BufferImageCopy> {
-        let rest = list_members(value)?;
-        let (buffer_offset, rest) = first::<u64>(alloc, rest)?;
-        let (row_length, rest) = first::<u32>(alloc, rest)?;
-        let (image_height, rest) = first::<u32>(alloc, rest)?;
-        let (level, rest) = first::<u32>(alloc, rest)?;
-        let (first_layer, rest) = first::<u32>(alloc, rest)?;
-        let (layers, rest) = first::<u32>(alloc, rest)?;
-        let (x, rest) = first::<u32>(alloc, rest)?;
-        let (y, rest) = first::<u32>(alloc, rest)?;
-        let (width, rest) = first::<u32>(alloc, rest)?;
-        let (height, rest) = first::<u32>(alloc, rest)?;
-        end(rest)?;
+    fn member(alloc: Global, tokens: &mut Tokens<'_>) -> Reading<BufferImageCopy> {
+        tokens.begin()?;
+        let buffer_offset = first::<u64>(alloc, tokens)?;
+        let row_length = first::<u32>(alloc, tokens)?;
+        let image_height = first::<u32>(alloc, tokens)?;
+        let level = first::<u32>(alloc, tokens)?;
+        let first_layer = first::<u32>(alloc, tokens)?;
+        let layers = first::<u32>(alloc, tokens)?;
+        let x = first::<u32>(alloc, tokens)?;
+        let y = first::<u32>(alloc, tokens)?;
+        let width = first::<u32>(alloc, tokens)?;
+        let height = first::<u32>(alloc, tokens)?;
+        tokens.end()?;
         Ok(BufferImageCopy {
             buffer_offset,
             row_length,
@@ -137,20 +137,20 @@ impl Member for ImageCopy {
     ghost means = { image_region };
 
     #[tactic(auto, unfolding(crate::specs::Trace::image_region))]
-    fn member(alloc: Global, value: &Value) -> Reading<ImageCopy> {
-        let rest = list_members(value)?;
-        let (source_level, rest) = first::<u32>(alloc, rest)?;
-        let (source_first_layer, rest) = first::<u32>(alloc, rest)?;
-        let (destination_level, rest) = first::<u32>(alloc, rest)?;
-        let (destination_first_layer, rest) = first::<u32>(alloc, rest)?;
-        let (layers, rest) = first::<u32>(alloc, rest)?;
-        let (source_x, rest) = first::<u32>(alloc, rest)?;
-        let (source_y, rest) = first::<u32>(alloc, rest)?;
-        let (destination_x, rest) = first::<u32>(alloc, rest)?;
-        let (destination_y, rest) = first::<u32>(alloc, rest)?;
-        let (width, rest) = first::<u32>(alloc, rest)?;
-        let (height, rest) = first::<u32>(alloc, rest)?;
-        end(rest)?;
+    fn member(alloc: Global, tokens: &mut Tokens<'_>) -> Reading<ImageCopy> {
+        tokens.begin()?;
+        let source_level = first::<u32>(alloc, tokens)?;
+        let source_first_layer = first::<u32>(alloc, tokens)?;
+        let destination_level = first::<u32>(alloc, tokens)?;
+        let destination_first_layer = first::<u32>(alloc, tokens)?;
+        let layers = first::<u32>(alloc, tokens)?;
+        let source_x = first::<u32>(alloc, tokens)?;
+        let source_y = first::<u32>(alloc, tokens)?;
+        let destination_x = first::<u32>(alloc, tokens)?;
+        let destination_y = first::<u32>(alloc, tokens)?;
+        let width = first::<u32>(alloc, tokens)?;
+        let height = first::<u32>(alloc, tokens)?;
+        tokens.end()?;
         Ok(ImageCopy {
             source_level,
             source_first_layer,
@@ -172,33 +172,34 @@ impl Member for [u32; 4] {
     ghost means = { color_value };
 
     #[tactic(auto, unfolding(crate::specs::Trace::color_value))]
-    fn member(alloc: Global, value: &Value) -> Reading<[u32; 4]> {
-        let rest = list_members(value)?;
-        let (red, rest) = first::<u32>(alloc, rest)?;
-        let (green, rest) = first::<u32>(alloc, rest)?;
-        let (blue, rest) = first::<u32>(alloc, rest)?;
-        let (alpha, rest) = first::<u32>(alloc, rest)?;
-        end(rest)?;
+    fn member(alloc: Global, tokens: &mut Tokens<'_>) -> Reading<[u32; 4]> {
+        tokens.begin()?;
+        let red = first::<u32>(alloc, tokens)?;
+        let green = first::<u32>(alloc, tokens)?;
+        let blue = first::<u32>(alloc, tokens)?;
+        let alpha = first::<u32>(alloc, tokens)?;
+        tokens.end()?;
         Ok([red, green, blue, alpha])
     }
 }
 
 /// An image and what it is made with.
 #[tactic(auto, unfolding(crate::specs::Trace::entry_rows))]
-pub fn image_of(alloc: Global, rest: &[Value]) -> Reading<Entry>
-    ensures { Gives (λ x. x) result (after_word entry_rows (codes "image") (map view rest.now)) }
+pub fn image_of(alloc: Global, tokens: &mut Tokens<'_>) -> Reading<Entry>
+    ensures value { Gives (λ x. x) result (after_word entry_rows (codes "image") (ahead tokens.old)) }
+    ensures rest { OnOk result (whole tokens.old ≡ Some tokens.new) }
 {
-    let (id, rest) = first::<u32>(alloc, rest)?;
-    let (format, rest) = first::<Format>(alloc, rest)?;
-    let (width, rest) = first::<u32>(alloc, rest)?;
-    let (height, rest) = first::<u32>(alloc, rest)?;
-    let (levels, rest) = first::<u32>(alloc, rest)?;
-    let (layers, rest) = first::<u32>(alloc, rest)?;
-    let (tiling, rest) = first::<Kind>(alloc, rest)?;
-    let (usage, rest) = first::<u32>(alloc, rest)?;
-    let (sharing, rest) = first::<Sharing>(alloc, rest)?;
-    let (place, rest) = first::<Place>(alloc, rest)?;
-    end(rest)?;
+    let id = first::<u32>(alloc, tokens)?;
+    let format = first::<Format>(alloc, tokens)?;
+    let width = first::<u32>(alloc, tokens)?;
+    let height = first::<u32>(alloc, tokens)?;
+    let levels = first::<u32>(alloc, tokens)?;
+    let layers = first::<u32>(alloc, tokens)?;
+    let tiling = first::<Kind>(alloc, tokens)?;
+    let usage = first::<u32>(alloc, tokens)?;
+    let sharing = first::<Sharing>(alloc, tokens)?;
+    let place = first::<Place>(alloc, tokens)?;
+    tokens.end()?;
     let info = ImageInfo {
         format,
         width,
@@ -215,14 +216,15 @@ pub fn image_of(alloc: Global, rest: &[Value]) -> Reading<Entry>
 
 /// A clear of ranges of an image.
 #[tactic(auto, unfolding(crate::specs::Trace::command_rows))]
-pub fn clear_of(alloc: Global, rest: &[Value]) -> Reading<Cmd>
-    ensures { Gives (λ x. x) result (after_word command_rows (codes "clear") (map view rest.now)) }
+pub fn clear_of(alloc: Global, tokens: &mut Tokens<'_>) -> Reading<Cmd>
+    ensures value { Gives (λ x. x) result (after_word command_rows (codes "clear") (ahead tokens.old)) }
+    ensures rest { OnOk result (whole tokens.old ≡ Some tokens.new) }
 {
-    let (image, rest) = first::<u32>(alloc, rest)?;
-    let (layout, rest) = first::<u32>(alloc, rest)?;
-    let (color, rest) = first::<[u32; 4]>(alloc, rest)?;
-    let (ranges, rest) = first(alloc, rest)?;
-    end(rest)?;
+    let image = first::<u32>(alloc, tokens)?;
+    let layout = first::<u32>(alloc, tokens)?;
+    let color = first::<[u32; 4]>(alloc, tokens)?;
+    let ranges = first(alloc, tokens)?;
+    tokens.end()?;
     Ok(Cmd::Clear {
         image,
         layout: Layout::new(layout),
@@ -233,14 +235,15 @@ pub fn clear_of(alloc: Global, rest: &[Value]) -> Reading<Cmd>
 
 /// A copy from a buffer to an image.
 #[tactic(auto, unfolding(crate::specs::Trace::command_rows))]
-pub fn copy_in_of(alloc: Global, rest: &[Value]) -> Reading<Cmd>
-    ensures { Gives (λ x. x) result (after_word command_rows (codes "copy_in") (map view rest.now)) }
+pub fn copy_in_of(alloc: Global, tokens: &mut Tokens<'_>) -> Reading<Cmd>
+    ensures value { Gives (λ x. x) result (after_word command_rows (codes "copy_in") (ahead tokens.old)) }
+    ensures rest { OnOk result (whole tokens.old ≡ Some tokens.new) }
 {
-    let (buffer, rest) = first::<u32>(alloc, rest)?;
-    let (image, rest) = first::<u32>(alloc, rest)?;
-    let (layout, rest) = first::<u32>(alloc, rest)?;
-    let (regions, rest) = first(alloc, rest)?;
-    end(rest)?;
+    let buffer = first::<u32>(alloc, tokens)?;
+    let image = first::<u32>(alloc, tokens)?;
+    let layout = first::<u32>(alloc, tokens)?;
+    let regions = first(alloc, tokens)?;
+    tokens.end()?;
     Ok(Cmd::CopyIn {
         buffer,
         image,
@@ -251,14 +254,15 @@ pub fn copy_in_of(alloc: Global, rest: &[Value]) -> Reading<Cmd>
 
 /// A copy from an image to a buffer.
 #[tactic(auto, unfolding(crate::specs::Trace::command_rows))]
-pub fn copy_out_of(alloc: Global, rest: &[Value]) -> Reading<Cmd>
-    ensures { Gives (λ x. x) result (after_word command_rows (codes "copy_out") (map view rest.now)) }
+pub fn copy_out_of(alloc: Global, tokens: &mut Tokens<'_>) -> Reading<Cmd>
+    ensures value { Gives (λ x. x) result (after_word command_rows (codes "copy_out") (ahead tokens.old)) }
+    ensures rest { OnOk result (whole tokens.old ≡ Some tokens.new) }
 {
-    let (image, rest) = first::<u32>(alloc, rest)?;
-    let (layout, rest) = first::<u32>(alloc, rest)?;
-    let (buffer, rest) = first::<u32>(alloc, rest)?;
-    let (regions, rest) = first(alloc, rest)?;
-    end(rest)?;
+    let image = first::<u32>(alloc, tokens)?;
+    let layout = first::<u32>(alloc, tokens)?;
+    let buffer = first::<u32>(alloc, tokens)?;
+    let regions = first(alloc, tokens)?;
+    tokens.end()?;
     Ok(Cmd::CopyOut {
         image,
         layout: Layout::new(layout),
@@ -269,15 +273,16 @@ pub fn copy_out_of(alloc: Global, rest: &[Value]) -> Reading<Cmd>
 
 /// A copy from an image to an image.
 #[tactic(auto, unfolding(crate::specs::Trace::command_rows))]
-pub fn copy_image_of(alloc: Global, rest: &[Value]) -> Reading<Cmd>
-    ensures { Gives (λ x. x) result (after_word command_rows (codes "copy_image") (map view rest.now)) }
+pub fn copy_image_of(alloc: Global, tokens: &mut Tokens<'_>) -> Reading<Cmd>
+    ensures value { Gives (λ x. x) result (after_word command_rows (codes "copy_image") (ahead tokens.old)) }
+    ensures rest { OnOk result (whole tokens.old ≡ Some tokens.new) }
 {
-    let (source, rest) = first::<u32>(alloc, rest)?;
-    let (source_layout, rest) = first::<u32>(alloc, rest)?;
-    let (destination, rest) = first::<u32>(alloc, rest)?;
-    let (destination_layout, rest) = first::<u32>(alloc, rest)?;
-    let (regions, rest) = first(alloc, rest)?;
-    end(rest)?;
+    let source = first::<u32>(alloc, tokens)?;
+    let source_layout = first::<u32>(alloc, tokens)?;
+    let destination = first::<u32>(alloc, tokens)?;
+    let destination_layout = first::<u32>(alloc, tokens)?;
+    let regions = first(alloc, tokens)?;
+    tokens.end()?;
     Ok(Cmd::CopyImage {
         source,
         source_layout: Layout::new(source_layout),

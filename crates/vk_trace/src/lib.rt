@@ -12,6 +12,7 @@ mod printing;
 mod reading;
 mod running;
 pub mod text_examples;
+mod tokens;
 mod watched;
 
 pub use errors::{ReadTraceError, RunError};

@@ -1,83 +1,50 @@
-ghost use Rattle.std.specs.Prelude.{map, Option};
-ghost use Rattle.serde_json.specs.Find.{as_str};
+ghost use Rattle.std.specs.Prelude.{◌≡◌, Option, Some, OnOk};
 ghost use Rattle.serde_json.specs.Data.{Data};
-ghost use Rattle.serde_json.specs.View.{view};
-ghost use Rattle.vk_trace.specs.Members.{array_members, first_member, no_member, word_and_members, each_member, list_of, bytes_value, u64_value, u32_value};
+ghost use Rattle.vk_trace.specs.Members.{first_member, word_and_members, each_member, list_of, bytes_value, u64_value, u32_value};
 ghost use Rattle.vk_trace.specs.Inner.Gives.{Gives};
+ghost use Rattle.vk_trace.specs.Inner.Ahead.{next, after, ahead, whole};
 
 use crate::errors::ReadTraceError;
+use crate::tokens::{Reading, Tokens};
 use hex::FromHexError;
-use serde_json::Value;
 use std::alloc::Global;
 use vk_model::Sequence;
-
-/// What a reader answers. It has no error but those of `read_trace`.
-pub type Reading<T> = Result<T, ReadTraceError>;
 
 /// A type whose values are written in a trace as a value of JSON.
 pub trait Member: Drop {
     ghost means: { Data → Option Self };
 
-    /// What the value of JSON means.
-    fn member(alloc: Global, value: &Value) -> Reading<Self>
-        ensures { Gives (λ x. x) result (means (view value.now)) };
+    /// What the value of JSON that comes next means.
+    fn member(alloc: Global, tokens: &mut Tokens<'_>) -> Reading<Self>
+        ensures value { Gives (λ x. x) result (means (next tokens.old)) }
+        ensures rest { OnOk result (after tokens.old ≡ Some tokens.new) };
 }
 
-/// The members of an array.
-pub fn list_members(value: &Value) -> Reading<&[Value]>
-    ensures { Gives (λ s. map view s.now) result (array_members (view value.now)) }
+/// What the first of the members that an array still has means.
+pub fn first<T: Member>(alloc: Global, tokens: &mut Tokens<'_>) -> Reading<T>
+    ensures value { Gives (λ x. (x, ahead tokens.new)) result (first_member T.means (ahead tokens.old)) }
+    ensures rest { OnOk result (whole tokens.old ≡ whole tokens.new) }
 {
-    match value.as_array() {
-        Some(values) => Ok(values.as_slice()),
-        None => Err(ReadTraceError::NotTrace),
-    }
+    T::member(alloc, tokens)
 }
 
-/// What the first member means, and the members after it.
-pub fn first<T: Member>(alloc: Global, values: &[Value]) -> Reading<(T, &[Value])>
-    ensures { Gives (λ x. (x.0, map view x.1.now)) result (first_member T.means (map view values.now)) }
-{
-    match values {
-        [] => Err(ReadTraceError::NotTrace),
-        [value, rest @ ..] => Ok((T::member(alloc, value)?, rest)),
-    }
-}
-
-/// There is no further member.
-pub fn end(values: &[Value]) -> Reading<()>
-    ensures { Gives (λ x. x) result (no_member (map view values.now)) }
-{
-    if values.is_empty() {
-        Ok(())
-    } else {
-        Err(ReadTraceError::NotTrace)
-    }
-}
-
-/// The text of a string.
-pub fn text_of(value: &Value) -> Reading<&str>
-    ensures { Gives (λ s. s.now) result (as_str (view value.now)) }
-{
-    value.as_str().ok_or(ReadTraceError::NotTrace)
-}
-
-/// The word at the front of an array, and the members after it.
+/// The word at the front of an array.
 #[tactic(auto, unfolding(crate::specs::Members::word_and_members))]
-pub fn word_first(value: &Value) -> Reading<(&str, &[Value])>
-    ensures { Gives (λ x. (x.0.now, map view x.1.now)) result (word_and_members (view value.now)) }
+pub fn word_first<'a>(tokens: &mut Tokens<'a>) -> Reading<&'a str>
+    ensures value { Gives (λ s. (s.now, ahead tokens.new)) result (word_and_members (next tokens.old)) }
+    ensures rest { OnOk result (after tokens.old ≡ whole tokens.new) }
 {
-    match list_members(value)? {
-        [] => Err(ReadTraceError::NotTrace),
-        [word, rest @ ..] => Ok((text_of(word)?, rest)),
-    }
+    tokens.begin()?;
+    tokens.text()
 }
 
 /// The bytes that a text in hex of either case means, two digits a byte.
 #[tactic(auto, unfolding(crate::specs::Members::bytes_value))]
-pub fn bytes_of(alloc: Global, value: &Value) -> Reading<Sequence<u8>>
-    ensures { Gives (λ x. x) result (bytes_value (view value.now)) }
+fn bytes_of(alloc: Global, tokens: &mut Tokens<'_>) -> Reading<Sequence<u8>>
+    ensures value { Gives (λ x. x) result (bytes_value (next tokens.old)) }
+    ensures rest { OnOk result (after tokens.old ≡ Some tokens.new) }
 {
-    let text = text_of(value)?;
+    let text = tokens.text()?;
     match hex::decode(alloc, text.as_bytes()) {
         Ok(bytes) => Ok(Sequence::new(bytes)),
         Err(FromHexError::OutOfMemory) => Err(ReadTraceError::NoMemory),
@@ -85,23 +52,22 @@ pub fn bytes_of(alloc: Global, value: &Value) -> Reading<Sequence<u8>>
     }
 }
 
-/// The bytes that the first member means, and the members after it.
-pub fn first_bytes(alloc: Global, values: &[Value]) -> Reading<(Sequence<u8>, &[Value])>
-    ensures { Gives (λ x. (x.0, map view x.1.now)) result (first_member bytes_value (map view values.now)) }
+/// The bytes that the first of the members means.
+pub fn first_bytes(alloc: Global, tokens: &mut Tokens<'_>) -> Reading<Sequence<u8>>
+    ensures value { Gives (λ x. (x, ahead tokens.new)) result (first_member bytes_value (ahead tokens.old)) }
+    ensures rest { OnOk result (whole tokens.old ≡ whole tokens.new) }
 {
-    match values {
-        [] => Err(ReadTraceError::NotTrace),
-        [value, rest @ ..] => Ok((bytes_of(alloc, value)?, rest)),
-    }
+    bytes_of(alloc, tokens)
 }
 
-/// What the members of a list mean, one after the other.
-fn each<T: Member>(alloc: Global, values: &[Value]) -> Reading<Vec<T>>
-    ensures { Gives (λ v. v.items) result (each_member T.means (map view values.now)) }
+/// What the members that an array still has mean, one after the other.
+fn each<T: Member>(alloc: Global, tokens: &mut Tokens<'_>) -> Reading<Vec<T>>
+    ensures value { Gives (λ v. v.items) result (each_member T.means (ahead tokens.old)) }
+    ensures rest { OnOk result (whole tokens.old ≡ Some tokens.new) }
 {
     let mut list = Vec::new(alloc);
-    for value in values {
-        list.push(T::member(alloc, value)?)?;
+    'members: while !tokens.take_end() {
+        list.push(T::member(alloc, tokens)?)?;
     }
     Ok(list)
 }
@@ -110,17 +76,17 @@ impl<T: Member> Member for Sequence<T> {
     ghost means = { list_of T.means };
 
     #[tactic(auto, unfolding(crate::specs::Members::list_of))]
-    fn member(alloc: Global, value: &Value) -> Reading<Sequence<T>> {
-        let values = list_members(value)?;
-        Ok(Sequence::new(each(alloc, values)?))
+    fn member(alloc: Global, tokens: &mut Tokens<'_>) -> Reading<Sequence<T>> {
+        tokens.begin()?;
+        Ok(Sequence::new(each(alloc, tokens)?))
     }
 }
 
 impl Member for u64 {
     ghost means = { u64_value };
 
-    fn member(_alloc: Global, value: &Value) -> Reading<u64> {
-        value.as_u64().ok_or(ReadTraceError::NotTrace)
+    fn member(_alloc: Global, tokens: &mut Tokens<'_>) -> Reading<u64> {
+        tokens.number()
     }
 }
 
@@ -128,8 +94,8 @@ impl Member for u32 {
     ghost means = { u32_value };
 
     #[tactic(auto, unfolding(crate::specs::Members::u32_value))]
-    fn member(alloc: Global, value: &Value) -> Reading<u32> {
-        let n = u64::member(alloc, value)?;
+    fn member(_alloc: Global, tokens: &mut Tokens<'_>) -> Reading<u32> {
+        let n = tokens.number()?;
         if n > u32::MAX as u64 {
             return Err(ReadTraceError::NotTrace);
         }

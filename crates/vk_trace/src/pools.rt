@@ -1,12 +1,12 @@
-ghost use Rattle.std.specs.Prelude.{map, codes};
-ghost use Rattle.serde_json.specs.View.{view};
+ghost use Rattle.std.specs.Prelude.{◌≡◌, Some, OnOk, codes};
 ghost use Rattle.vk_trace.specs.Members.{after_word};
 ghost use Rattle.vk_trace.specs.Trace.{algorithm_value, place_rows, entry_rows};
 ghost use Rattle.vk_trace.specs.Inner.Gives.{Gives};
+ghost use Rattle.vk_trace.specs.Inner.Ahead.{ahead, whole};
 
 use crate::errors::ReadTraceError;
-use crate::members::{Member, Reading, end, first, text_of};
-use serde_json::Value;
+use crate::members::{Member, first};
+use crate::tokens::{Reading, Tokens};
 use std::alloc::Global;
 use vk_model::{Entry, Place, PoolInfo, PoolKind};
 
@@ -14,8 +14,8 @@ impl Member for PoolKind {
     ghost means = { algorithm_value };
 
     #[tactic(auto, unfolding(crate::specs::Trace::algorithm_value))]
-    fn member(_alloc: Global, value: &Value) -> Reading<PoolKind> {
-        match text_of(value)? {
+    fn member(_alloc: Global, tokens: &mut Tokens<'_>) -> Reading<PoolKind> {
+        match tokens.text()? {
             "tlsf" => Ok(PoolKind::Tlsf),
             "linear" => Ok(PoolKind::Linear),
             _ => Err(ReadTraceError::NotTrace),
@@ -24,33 +24,36 @@ impl Member for PoolKind {
 }
 
 #[tactic(auto, unfolding(crate::specs::Trace::place_rows))]
-pub(crate) fn in_pool_of(alloc: Global, rest: &[Value]) -> Reading<Place>
-    ensures { Gives (λ x. x) result (after_word place_rows (codes "pool") (map view rest.now)) }
+pub(crate) fn in_pool_of(alloc: Global, tokens: &mut Tokens<'_>) -> Reading<Place>
+    ensures value { Gives (λ x. x) result (after_word place_rows (codes "pool") (ahead tokens.old)) }
+    ensures rest { OnOk result (whole tokens.old ≡ Some tokens.new) }
 {
-    let (pool, rest) = first::<u32>(alloc, rest)?;
-    end(rest)?;
+    let pool = first::<u32>(alloc, tokens)?;
+    tokens.end()?;
     Ok(Place::Pool { pool })
 }
 
 #[tactic(auto, unfolding(crate::specs::Trace::place_rows))]
-pub(crate) fn upper_of(alloc: Global, rest: &[Value]) -> Reading<Place>
-    ensures { Gives (λ x. x) result (after_word place_rows (codes "pool_upper") (map view rest.now)) }
+pub(crate) fn upper_of(alloc: Global, tokens: &mut Tokens<'_>) -> Reading<Place>
+    ensures value { Gives (λ x. x) result (after_word place_rows (codes "pool_upper") (ahead tokens.old)) }
+    ensures rest { OnOk result (whole tokens.old ≡ Some tokens.new) }
 {
-    let (pool, rest) = first::<u32>(alloc, rest)?;
-    end(rest)?;
+    let pool = first::<u32>(alloc, tokens)?;
+    tokens.end()?;
     Ok(Place::PoolUpper { pool })
 }
 
 #[tactic(auto, unfolding(crate::specs::Trace::entry_rows))]
-pub(crate) fn pool_of(alloc: Global, rest: &[Value]) -> Reading<Entry>
-    ensures { Gives (λ x. x) result (after_word entry_rows (codes "pool") (map view rest.now)) }
+pub(crate) fn pool_of(alloc: Global, tokens: &mut Tokens<'_>) -> Reading<Entry>
+    ensures value { Gives (λ x. x) result (after_word entry_rows (codes "pool") (ahead tokens.old)) }
+    ensures rest { OnOk result (whole tokens.old ≡ Some tokens.new) }
 {
-    let (id, rest) = first::<u32>(alloc, rest)?;
-    let (kind, rest) = first::<PoolKind>(alloc, rest)?;
-    let (memory_type, rest) = first::<u32>(alloc, rest)?;
-    let (block_size, rest) = first::<u64>(alloc, rest)?;
-    let (block_limit, rest) = first::<u32>(alloc, rest)?;
-    end(rest)?;
+    let id = first::<u32>(alloc, tokens)?;
+    let kind = first::<PoolKind>(alloc, tokens)?;
+    let memory_type = first::<u32>(alloc, tokens)?;
+    let block_size = first::<u64>(alloc, tokens)?;
+    let block_limit = first::<u32>(alloc, tokens)?;
+    tokens.end()?;
     let info = PoolInfo {
         kind,
         memory_type,
@@ -61,10 +64,11 @@ pub(crate) fn pool_of(alloc: Global, rest: &[Value]) -> Reading<Entry>
 }
 
 #[tactic(auto, unfolding(crate::specs::Trace::entry_rows))]
-pub(crate) fn drop_pool_of(alloc: Global, rest: &[Value]) -> Reading<Entry>
-    ensures { Gives (λ x. x) result (after_word entry_rows (codes "drop_pool") (map view rest.now)) }
+pub(crate) fn drop_pool_of(alloc: Global, tokens: &mut Tokens<'_>) -> Reading<Entry>
+    ensures value { Gives (λ x. x) result (after_word entry_rows (codes "drop_pool") (ahead tokens.old)) }
+    ensures rest { OnOk result (whole tokens.old ≡ Some tokens.new) }
 {
-    let (pool, rest) = first::<u32>(alloc, rest)?;
-    end(rest)?;
+    let pool = first::<u32>(alloc, tokens)?;
+    tokens.end()?;
     Ok(Entry::DropPool { pool })
 }

@@ -1,25 +1,23 @@
-ghost use Rattle.std.specs.Prelude.{◌≡◌, List, IfOk};
+ghost use Rattle.std.specs.Prelude.{◌≡◌, List, option_and_then, IfOk};
 ghost use Rattle.std.specs.List.{list_all};
 ghost use Rattle.serde_json.specs.Read.{read};
-ghost use Rattle.serde_json.specs.View.{view};
 ghost use Rattle.vk_model.specs.declared.entry.Entry.{Entry};
 ghost use Rattle.vk_history.specs.Supported.{is_supported_entry};
 ghost use Rattle.vk_trace.specs.Inner.Gives.{Gives};
 ghost use Rattle.vk_trace.specs.Trace.{IsTrace};
 
 use crate::errors::ReadTraceError;
-use crate::members::{Member, Reading};
-use serde_json::Value;
+use crate::members::Member;
+use crate::tokens::{Reading, Tokens};
+use json::{Reader, Scratch};
 use std::alloc::Global;
 use vk_history::is_supported;
-use vk_json::begins_object;
 use vk_model::{Entry, Sequence};
 use vk_order::{Action, Point};
 
 /// The entries that the bytes of a trace mean. `NotTrace` comes only where they mean none.
 ///
-/// Objects, which no trace has, are looked for before a value is built of the text: a value takes up to
-/// a thousand bytes for each.
+/// They are read off the tokens of the text, and no value of JSON is built.
 pub fn read_trace(alloc: Global, bytes: &[u8]) -> Result<Vec<Entry>, ReadTraceError>
     ensures ok { IfOk result (λ v. IsTrace bytes.now v.items) }
     ensures none { result ≡ Err ReadTraceError.NotTrace → (t : List Entry) → IsTrace bytes.now t → ⊥ }
@@ -27,11 +25,7 @@ pub fn read_trace(alloc: Global, bytes: &[u8]) -> Result<Vec<Entry>, ReadTraceEr
     let Ok(text) = str::from_utf8(bytes) else {
         return Err(ReadTraceError::NotTrace);
     };
-    if text.as_bytes().contains(&b'{') && begins_object(alloc, text)? {
-        return Err(ReadTraceError::NotTrace);
-    }
-    let value = value_of(alloc, text)?;
-    let entries: Sequence<Entry> = Sequence::member(alloc, &value)?;
+    let entries: Sequence<Entry> = meaning_of(alloc, text)?;
     let entries = entries.into_vec();
     if !are_supported(entries.as_slice()) {
         return Err(ReadTraceError::NotTrace);
@@ -59,13 +53,15 @@ fn is_supported_entry(entry: &Entry) -> bool
     })
 }
 
-/// The value of JSON that a text spells.
-fn value_of(alloc: Global, text: &str) -> Reading<Value>
-    ensures { Gives view result (read text.now) }
+/// What the value of JSON that a text spells means.
+fn meaning_of<T: Member>(alloc: Global, text: &str) -> Reading<T>
+    ensures { Gives (λ x. x) result (option_and_then T.means (read text.now)) }
 {
-    match Value::from_str(alloc, text) {
-        Ok(value) => Ok(value),
-        Err(e) if e.is_memory() => Err(ReadTraceError::NoMemory),
-        Err(_) => Err(ReadTraceError::NotTrace),
+    let mut scratch = Scratch::new(alloc);
+    let mut tokens = Tokens::new(Reader::new(text, &mut scratch)?);
+    let meaning = T::member(alloc, &mut tokens)?;
+    if tokens.take().is_some() {
+        return Err(ReadTraceError::NotTrace);
     }
+    Ok(meaning)
 }

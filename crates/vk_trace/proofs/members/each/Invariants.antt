@@ -1,8 +1,14 @@
-use Rattle.std.proofs.Common.{◌≡◌, map, drop}
-use Rattle.serde_json.specs.View.{view}
+use Rattle.std.proofs.Common.{◌≡◌, length}
 use Rattle.vk_trace.specs.Members.{each_member}
+use Rattle.vk_trace.specs.Inner.Ahead.{ahead, whole}
 use Rattle.vk_trace.proofs.MemberLemmas.{with_front}
 use Rattle.vk_trace.proofs.members.each.Given as goal
 
-abbrev pub invariant-loop-value : goal.invariant-loop-value
-invariant-loop-value g l = with_front l.list.items (each_member g.T.Member.means (map view (drop l.value-index l.values))) ≡ each_member g.T.Member.means (map view l.values)
+abbrev pub invariant-members : goal.invariant-members
+invariant-members g l = record {
+  value : with_front l.list.items (each_member g.T.Member.means (ahead l.tokens)) ≡ each_member g.T.Member.means (ahead l.fn.tokens);
+  rest : whole l.tokens ≡ whole l.fn.tokens;
+}
+
+abbrev pub decreases-members : goal.decreases-members
+decreases-members g l = length l.tokens.reader
