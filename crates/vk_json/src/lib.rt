@@ -1,4 +1,4 @@
-//! What is seen of a text of JSON before its value is built: whether an object begins in it.
+//! What is seen of a text of JSON before its value is built: whether objects begin in it.
 //!
 //! A trace has no object, and a value with many of them takes far more memory than its text: so they
 //! are looked for first, by the tokens of the text alone.
@@ -6,4 +6,4 @@
 
 mod objects;
 
-pub use objects::{ObjectsFound, begins_object, count_objects, without_objects};
+pub use objects::{ObjectsFound, count_objects};

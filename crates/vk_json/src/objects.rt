@@ -1,8 +1,3 @@
-ghost use Rattle.std.specs.Prelude.{◌≡◌, ℕ, List, Some, IfOk, false};
-ghost use Rattle.serde_json.specs.Data.{Data};
-ghost use Rattle.serde_json.specs.Read.{read};
-ghost use Rattle.vk_json.specs.Objects.{spells_object, IsFlat};
-
 use json::{Reader, Scratch, Token};
 use std::alloc::{AllocError, Global};
 
@@ -14,26 +9,6 @@ pub struct ObjectsFound {
     /// How many there are.
     pub count: u64,
 }
-
-/// Whether an object begins in a text of JSON (RFC 8259, section 4). A text that is none is read up to
-/// its first fault. It takes memory for each byte of the text, and the only error is want of it.
-pub fn begins_object(alloc: Global, text: &str) -> Result<bool, AllocError>
-    ensures { IfOk result (λ answer. answer ≡ spells_object text.now) }
-{
-    let mut scratch = Scratch::new(alloc);
-    let mut reader = Reader::new(text, &mut scratch)?;
-    while let Some(token) = reader.next() {
-        if let Token::BeginObject = token {
-            return Ok(true);
-        }
-    }
-    Ok(false)
-}
-
-/// Where a text spells a value without objects, no object begins in the text.
-pub fn without_objects()
-    ensures { (text : List ℕ) (d : Data) → read text ≡ Some d → IsFlat d → spells_object text ≡ false }
-{}
 
 /// The objects of a text of JSON: how many begin in it, and where the first one does; none where none
 /// does. A text that is no JSON is read up to its first fault.
