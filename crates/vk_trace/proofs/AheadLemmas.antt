@@ -1,12 +1,12 @@
 -- The members that an array still has, one after the other.
 use Rattle.std.specs.Prelude.{OnOk}
-use Rattle.std.proofs.Common.{Result, Ok, Err, ◌≡◌, ℕ, zero, suc, ◌+◌, ◌-◌, ◌<◌, ◌≤◌, List, [], ◌∷◌, length, Option, Some, None, option_map, option_and_then, refl, sym, ap, ap₂, ◌∙◌, subst, arith}
+use Rattle.std.proofs.Common.{Result, Ok, Err, ◌≡◌, ℕ, zero, suc, ◌-◌, ◌<◌, ◌≤◌, List, [], ◌∷◌, length, Option, Some, None, option_map, refl, sym, ap, ◌∙◌, subst, arith}
 use Rattle.std.proofs.lemmas.Option.{none-some, same_Some}
 use Rattle.json.specs.Token.{Token}
 use Rattle.json.specs.Json as json
 use Rattle.json.specs.Json.{Parse, parse_map, after_end_array, items, items_step, value}
-use Rattle.json.proofs.Grammar.{left, after_end_array-shorter, closed_array, skip_value-shorter}
-use Rattle.serde_json.specs.Data.{Data, null, array, Items, no_items, item}
+use Rattle.json.proofs.Grammar.{left, closed_array, skip_value-shorter}
+use Rattle.serde_json.specs.Data.{Data, null, array, Items, item}
 use Rattle.serde_json.specs.Read.{of_json, of_items, converted}
 use Rattle.serde_json.specs.View.{items_of}
 use Rattle.vk_trace.proofs.JsonLemmas.{converted_some, converted-array, item_read, item_refused}

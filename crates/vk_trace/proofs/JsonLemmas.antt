@@ -5,7 +5,7 @@ use Rattle.json.specs.Token.{Token}
 use Rattle.json.specs.Json as json
 use Rattle.json.specs.Json.{Parse, parse_map, after_end_array, items_step, items}
 use Rattle.json.proofs.Grammar.{items_more}
-use Rattle.serde_json.specs.Data.{Data, array, Items, item}
+use Rattle.serde_json.specs.Data.{Data, array, item}
 use Rattle.serde_json.specs.Read.{of_json, of_items, converted}
 
 pub found : {A B : Type 0} (a : A) (r s : List Token) (x : Option B) (b : B) → option_map {U = B × List Token} (λ y. (y, r)) x ≡ Some (b, s) → (r ≡ s) × (x ≡ Some b)

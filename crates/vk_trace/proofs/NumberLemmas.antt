@@ -1,14 +1,14 @@
 -- Which numbers of JSON are whole and have no sign.
-use Rattle.std.proofs.Common.{◌≡◌, ℕ, ◌<◌, ◌≤◌, ◌^◌, ◌&&◌, ◌==◌, List, [], ◌∷◌, length, get_or, Bool, true, false, not, nat_lt, nat_le, drop, if◌then◌else◌, Float, ℤ, Option, Some, None, option_and_then, refl, sym, ap, ◌∙◌, subst, arith, eqb-true}
+use Rattle.std.proofs.Common.{◌≡◌, ℕ, ◌<◌, ◌^◌, ◌&&◌, ◌==◌, List, [], ◌∷◌, length, get_or, Bool, true, false, nat_lt, nat_le, drop, if◌then◌else◌, Float, ℤ, Option, Some, None, option_and_then, refl, sym, ap, ◌∙◌, subst, arith, eqb-true}
 use Rattle.std.specs.Prelude.{SomeIff}
 use Rattle.std.proofs.lemmas.Grind.{common_steps}
 use Rattle.std.proofs.lemmas.Bool.Decides.{nat_tests}
 use Rattle.std.specs.Float.Numeral.{scan_numeral, Parts}
 use Rattle.std.specs.Float.{binary64, float_is_finite}
 use Rattle.fast_float.specs.Text.{scan, digits_of, nearest, with_sign as sign, IsInteger}
-use Rattle.serde_json.specs.Data.{Num, unsigned, negative, float}
+use Rattle.serde_json.specs.Data.{unsigned, negative, float}
 use Rattle.serde_json.specs.Find.{as_u64}
-use Rattle.serde_json.specs.Read.{number_of, number_from, is_integer}
+use Rattle.serde_json.specs.Read.{number_of, is_integer}
 
 with_sign : (b c : Bool) (z : ℤ) (x : Float) → option_and_then as_u64 (if b then Some (negative z) else (if c then Some (float x) else None)) ≡ None
 with_sign true c z x = refl

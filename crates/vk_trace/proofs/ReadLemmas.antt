@@ -15,7 +15,7 @@ use Rattle.vk_trace.specs.declared.errors.ReadTraceError.{ReadTraceError}
 use Rattle.vk_trace.specs.declared.errors.ReadTraceError.TheVariants.{NotTrace, NoMemory}
 use Rattle.vk_trace.specs.Inner.Gives.{Fails}
 use Rattle.vk_trace.specs.Members.{Reader}
-use Rattle.vk_trace.specs.Inner.Ahead.{Found, value_found, levels, next, after}
+use Rattle.vk_trace.specs.Inner.Ahead.{value_found, levels, next, after}
 use Rattle.vk_trace.proofs.JsonLemmas.{found, refused}
 use Rattle.vk_trace.proofs.AheadLemmas.{parsed, value_is}
 
@@ -26,8 +26,8 @@ bound f (Some x) y e = (x, refl, e)
 
 -- a token that was taken
 pub some_token : (o : Option Read) (b : Bool) (ts us : List Token) → b ≡ is_some o → b ≡ true → MatchOption o (ts ≡ []) (λ t. ts ≡ token_of t ∷ us) → (t : Token) × (ts ≡ t ∷ us)
-some_token None b ts us e yes h = absurd (false≢true (sym e ∙ yes))
-some_token (Some t) b ts us e yes h = (token_of t, h)
+some_token None b ts us e holds h = absurd (false≢true (sym e ∙ holds))
+some_token (Some t) b ts us e holds h = (token_of t, h)
 
 -- a value with nothing after it
 abbrev last_of : Data → Option (List Token) → Option Data

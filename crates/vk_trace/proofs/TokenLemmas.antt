@@ -8,7 +8,7 @@ use Rattle.json.specs.declared.token.Token.{Token as Read}
 use Rattle.json.specs.declared.token.Token.TheVariants.{BeginObject, EndObject, BeginArray, EndArray, Key, String, Number, Bool, Null, Bad}
 use Rattle.json.specs.Json.{value, parse_map}
 use Rattle.serde_json.specs.Data.{Num, Data, null, boolean, number, string, array, object, Items, Members, no_members}
-use Rattle.serde_json.specs.Find.{as_str, as_array, as_number, as_u64}
+use Rattle.serde_json.specs.Find.{as_str, as_u64}
 use Rattle.serde_json.specs.Read.{of_json, of_members, converted, number_of}
 use Rattle.serde_json.specs.View.{items_of}
 use Rattle.vk_trace.specs.declared.errors.ReadTraceError.{ReadTraceError}
@@ -16,7 +16,7 @@ use Rattle.vk_trace.specs.declared.errors.ReadTraceError.TheVariants.{NotTrace, 
 use Rattle.vk_trace.specs.Inner.Gives.{Gives}
 use Rattle.vk_trace.specs.Members.{array_members, items_list, u64_value}
 use Rattle.vk_trace.specs.declared.tokens.Tokens.{Tokens}
-use Rattle.vk_trace.specs.Inner.Ahead.{Found, or_null, front, value_found, members_found, levels, next, after, ahead, whole}
+use Rattle.vk_trace.specs.Inner.Ahead.{Found, or_null, value_found, members_found, levels, next, after, ahead, whole}
 
 -- a reader that means nothing by null and by objects
 pub record IsOfNoObject {B : Type 0} (read : Data → Option B) : Type 0 where

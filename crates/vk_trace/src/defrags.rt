@@ -4,7 +4,7 @@ ghost use Rattle.vk_trace.specs.Trace.{entry_rows};
 ghost use Rattle.vk_trace.specs.Inner.Gives.{Gives};
 ghost use Rattle.vk_trace.specs.Inner.Ahead.{ahead, whole};
 
-use crate::members::{first};
+use crate::members::first;
 use crate::tokens::{Reading, Tokens};
 use std::alloc::Global;
 use vk_model::Entry;

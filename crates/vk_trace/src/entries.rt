@@ -8,8 +8,8 @@ use crate::defrags::{defrag_of, end_defrag_of, end_pass_of, pass_of};
 use crate::errors::ReadTraceError;
 use crate::images::image_of;
 use crate::members::{Member, first, first_bytes, word_first};
-use crate::tokens::{Reading, Tokens};
 use crate::pools::{drop_pool_of, in_pool_of, pool_of, upper_of};
+use crate::tokens::{Reading, Tokens};
 use bitflags::Flags;
 use std::alloc::Global;
 use vk_model::{
@@ -121,24 +121,24 @@ impl Member for Entry {
     #[tactic(auto, unfolding(crate::specs::Trace::entry_value, crate::specs::Trace::entry_rows))]
     fn member(alloc: Global, tokens: &mut Tokens<'_>) -> Reading<Entry> {
         match word_first(tokens)? {
+            "submit" => submit_of(alloc, tokens),
+            "wait" => wait_of(alloc, tokens),
+            "semaphore" => semaphore_of(alloc, tokens),
+            "write" => write_of(alloc, tokens),
+            "read" => read_of(alloc, tokens),
+            "map" => map_of(alloc, tokens),
             "buffer" => buffer_of(alloc, tokens),
+            "destroy" => destroy_of(alloc, tokens),
+            "unmap" => unmap_of(alloc, tokens),
+            "flush" => flush_of(alloc, tokens),
+            "invalidate" => invalidate_of(alloc, tokens),
             "image" => image_of(alloc, tokens),
             "memory" => memory_of(alloc, tokens),
             "free" => free_of(alloc, tokens),
-            "destroy" => destroy_of(alloc, tokens),
+            "signal" => signal_of(alloc, tokens),
+            "event" => event_of(alloc, tokens),
             "pool" => pool_of(alloc, tokens),
             "drop_pool" => drop_pool_of(alloc, tokens),
-            "semaphore" => semaphore_of(alloc, tokens),
-            "submit" => submit_of(alloc, tokens),
-            "event" => event_of(alloc, tokens),
-            "signal" => signal_of(alloc, tokens),
-            "wait" => wait_of(alloc, tokens),
-            "map" => map_of(alloc, tokens),
-            "unmap" => unmap_of(alloc, tokens),
-            "write" => write_of(alloc, tokens),
-            "read" => read_of(alloc, tokens),
-            "flush" => flush_of(alloc, tokens),
-            "invalidate" => invalidate_of(alloc, tokens),
             "defrag" => defrag_of(alloc, tokens),
             "pass" => pass_of(alloc, tokens),
             "end_pass" => end_pass_of(alloc, tokens),

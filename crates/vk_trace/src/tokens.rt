@@ -35,7 +35,7 @@ impl<'a> Tokens<'a> {
         Tokens { reader, nesting: 0 }
     }
 
-    /// Takes a token of any kind but a bracket.
+    /// Takes the next token. A bracket that is taken so isn't counted.
     pub fn take(&mut self) -> Option<Token<'a>>
         ensures token { MatchOption result (self.old.reader ≡ []) (λ t. self.old.reader ≡ token_of t ∷ self.new.reader) }
         ensures same { self.new.nesting ≡ self.old.nesting }

@@ -1,8 +1,5 @@
 use Rattle.std.proofs.Common.{◌≡◌, [], ap, ◌∙◌, option_and_then, arith}
 use Rattle.std.proofs.lemmas.Result.{err_from_is_err_and}
-use Rattle.vk_trace.specs.declared.errors.ReadTraceError.{ReadTraceError}
-use Rattle.vk_trace.specs.declared.errors.ReadTraceError.TheVariants.{NotTrace, NoMemory}
-use Rattle.vk_trace.specs.Inner.Gives.{Fails}
 use Rattle.vk_trace.proofs.ReadLemmas.{text_is, more_than, text_fails, some_token}
 use Rattle.vk_trace.proofs.reading.meaning_of.Goals as goal
 
