@@ -121,7 +121,7 @@ impl Tallies {
         }
     }
 
-    /// The newest object of an id is none.
+    /// The newest object of an id is no semaphore.
     fn make_other(&mut self, id: u32) -> Result<(), AllocError>
         ensures { OnOk result ((other : ℕ) → let t = tally_at self.old other in
             tally_at self.new other ≡ record t { initial = if other == id then None else t.initial }) }
