@@ -6,7 +6,7 @@ use vk_model::{At, Entry, Rule};
 use vk_order::Action;
 use vk_past::{Split, points_until, split_of};
 
-/// What is told of a refused point beside its facts.
+/// What is reported of a refused point beside its facts.
 #[derive(Drop)]
 pub enum Cause<'a> {
     /// READ_UNDEFINED: the byte, and what became of it.
@@ -17,7 +17,7 @@ pub enum Cause<'a> {
     Signaled(Signaler),
 }
 
-/// What is told of the point that a trace is refused at, by this rule. None is told of other rules,
+/// What is reported of the point that a trace is refused at, by this rule. None is reported of other rules,
 /// nor where finding it would take too long. The only error is want of memory.
 pub fn cause_of<'a>(
     alloc: Global,

@@ -1,5 +1,5 @@
 //! Why a byte that the host reads is undefined, what still uses an object that ends, and what would
-//! signal the value of an endless wait: told of a point that is refused for it.
+//! signal the value of an endless wait: reported of a point that is refused for it.
 #![tactic(auto)]
 
 mod busy;

@@ -30,7 +30,7 @@ pub struct Undefined<'a> {
 /// What following a byte back through copies came to.
 #[derive(Drop)]
 enum Followed<'a> {
-    /// It is defined; so many walks over the points told so.
+    /// It is defined; so many walks over the points reported so.
     Defined(u64),
     /// It is undefined.
     Undefined(Undefined<'a>),
@@ -38,7 +38,7 @@ enum Followed<'a> {
     TooLong,
 }
 
-/// Why a read after some points finds an undefined byte: the first one. None is told where following
+/// Why a read after some points finds an undefined byte: the first one. None is reported where following
 /// its bytes would take too many steps.
 pub fn undefined_read<'a>(
     alloc: Global,

@@ -5,7 +5,7 @@ use Rattle.vk_model.specs.Memory.Allocations.{Allocated, FindsNoRoom, Changes, A
 use Rattle.vk_resources.specs.declared.applied.Applied.{Applied}
 use Rattle.vk_resources.specs.declared.applied.Applied.TheVariants as applied
 use Rattle.vk_backing.specs.Allotted.{Allotted, Fulfils}
-use Rattle.vk_resources.specs.Allocating.{allotted, Rooms, Allots, IsAllocated}
+use Rattle.vk_resources.specs.Allocating.{allotted, NoRoomIsExact, Allots, IsAllocated}
 use Rattle.vk_resources.specs.Held.{Held}
 
 -- what is allotted the same is allocated the same
@@ -13,7 +13,7 @@ same_allocated : (old new : Held) → allotted new ≡ allotted old → (d : All
 same_allocated old new same d is = subst (λ (a : Allotted). Fulfils a d) (sym same) is
 
 -- room is found before pieces run as after them
-pub rooms_before : (a : Applied) (x : Entry) (old mid : Held) → allotted mid ≡ allotted old → Rooms a mid x → Rooms a old x
+pub rooms_before : (a : Applied) (x : Entry) (old mid : Held) → allotted mid ≡ allotted old → NoRoomIsExact a mid x → NoRoomIsExact a old x
 rooms_before applied.NoRoom x old mid same rooms = λ d is. rooms d (same_allocated old mid same d is)
 rooms_before applied.Done x old mid same rooms = λ d is. rooms d (same_allocated old mid same d is)
 rooms_before (applied.Bytes bytes) x old mid same rooms = λ d is. rooms d (same_allocated old mid same d is)

@@ -22,7 +22,7 @@ use Rattle.vk_model.specs.Trace.Point.{Past, Point, Action, Run, entries}
 use Rattle.vk_model.specs.Trace.Structure.{IsOrdered}
 use Rattle.vk_model.proofs.Lists.Pairs.{Each}
 use Rattle.vk_model.proofs.Trace.Growing.{Quiet, same_entries, entries_after, entry_grows, order_grows, order_append}
-use Rattle.vk_laws.specs.DefinedRuns.{DefinedRunsStand}
+use Rattle.vk_laws.specs.DefinedRuns.{DefinedRunsFollow}
 use Rattle.vk_laws.specs.DirectRuns.{DirectRunsAreRuns}
 use Rattle.vk_order.specs.declared.point.Point.{Point as AnyPoint}
 use Rattle.vk_order.specs.PointViews.{point_of}
@@ -198,22 +198,22 @@ applied_parts s (entry.Pass d) xs none = refl
 applied_parts s (entry.EndPass d kept lost) xs none = refl
 applied_parts s _ xs none = none
 
-pub coming : (t : List Entry) (steps : List Step) (s : Stage) (x : Entry) (xs : List Entry) (d : Device) → OrderIsOrdered → OrderHasEntries → NoFaultIsSound → DirectRunsAreRuns → DefinedRunsStand → CommandsNameLive
+pub coming : (t : List Entry) (steps : List Step) (s : Stage) (x : Entry) (xs : List Entry) (d : Device) → OrderIsOrdered → OrderHasEntries → NoFaultIsSound → DirectRunsAreRuns → DefinedRunsFollow → CommandsNameLive
     → {atoms : List ℕ} → HostDone t steps s x xs atoms d → IsComing t s.count x s.front d.resources
-coming t steps s x xs d ordered has sound runs stand names {atoms = atoms} h =
+coming t steps s x xs d ordered has sound runs following names {atoms = atoms} h =
     let e : Stage = applied s 0 x xs in
     let empty : Front = record { past = []; waiting = [] } in
-    let stands = stand t (steps ++ Apply atoms 0 ∷ []) e (runs t _ e _ h.run) in
-    let rest = order_grows (0 + length stands.gone) (order_from 0 empty stands.gone) e.left in
+    let follows_trace = following t (steps ++ Apply atoms 0 ∷ []) e (runs t _ e _ h.run) in
+    let rest = order_grows (0 + length follows_trace.gone) (order_from 0 empty follows_trace.gone) e.left in
     let clean = clean_trace t sound h.sound in
     let whole : order t ≡ rest.0 ++ (after_entry s.count x s.front).past =
-    ap order stands.whole ∙ ap (λ (f : Front). f.past) (order_append 0 empty stands.gone e.left) ∙ rest.1
-    ∙ ap (λ (f : Front). rest.0 ++ f.past) (sym stands.front ∙ applied_front s 0 x xs) in
-    let count : suc (length (entries s.front.past)) ≡ length (reverse stands.gone) =
-    ap length (sym (entries_after s.count x s.front)) ∙ ap (λ (f : Front). length (entries f.past)) (sym (applied_front s 0 x xs) ∙ stands.front) ∙ ap length (has stands.gone) in
+    ap order follows_trace.whole ∙ ap (λ (f : Front). f.past) (order_append 0 empty follows_trace.gone e.left) ∙ rest.1
+    ∙ ap (λ (f : Front). rest.0 ++ f.past) (sym follows_trace.front ∙ applied_front s 0 x xs) in
+    let count : suc (length (entries s.front.past)) ≡ length (reverse follows_trace.gone) =
+    ap length (sym (entries_after s.count x s.front)) ∙ ap (λ (f : Front). length (entries f.past)) (sym (applied_front s 0 x xs) ∙ follows_trace.front) ∙ ap length (has follows_trace.gone) in
     let least = below_limit s.count x s.front (clean_newer rest.0 (after_entry s.count x s.front).past (subst (λ (l : Past). IsClean l) whole clean)) in
-    let gone : s.count + 1 ≡ length stands.gone = sym (applied_count s 0 x xs) ∙ stands.counted in
-    let long = length-reverse stands.gone in
+    let gone : s.count + 1 ≡ length follows_trace.gone = sym (applied_count s 0 x xs) ∙ follows_trace.counted in
+    let long = length-reverse follows_trace.gone in
     record {
       newer = rest.0;
       whole = whole;

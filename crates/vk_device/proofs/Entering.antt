@@ -21,7 +21,7 @@ use Rattle.vk_model.specs.World.Bytes.{Byte, in_buffer, resource_at}
 use Rattle.vk_model.specs.World.Effect.{world}
 use Rattle.vk_model.specs.World.Meaning.{read_in}
 use Rattle.vk_model.proofs.Trace.Growing.{order_append}
-use Rattle.vk_laws.specs.DefinedRuns.{DefinedRunsStand}
+use Rattle.vk_laws.specs.DefinedRuns.{DefinedRunsFollow}
 use Rattle.vk_laws.specs.DirectRuns.{DirectRun, DirectRunsAreRuns, NewMemoryHoldsAnything, EntriesGoOn, DirectRunsReadTheTrace, HostMemory, cells_of, memory_after_atoms, memory_after_entry, host_view, is_made}
 use Rattle.vk_laws.specs.PickedRuns.{PicksLeadOn}
 use Rattle.vk_resources.specs.declared.applied.Applied.{Applied}
@@ -46,15 +46,15 @@ use Rattle.vk_device.proofs.Coming.{clean_trace}
 
 -- ---- the entry that comes next breaks no rule
 
-pub clean_next : (t : List Entry) (steps : List Step) (s : Stage) (x : Entry) (xs : List Entry) (d : Device) → NoFaultIsSound → DirectRunsAreRuns → DefinedRunsStand → IsBefore t steps s x xs d → IsClean (host s.count x ∷ s.front.past)
-clean_next t steps s x xs d sound runs stand h =
+pub clean_next : (t : List Entry) (steps : List Step) (s : Stage) (x : Entry) (xs : List Entry) (d : Device) → NoFaultIsSound → DirectRunsAreRuns → DefinedRunsFollow → IsBefore t steps s x xs d → IsClean (host s.count x ∷ s.front.past)
+clean_next t steps s x xs d sound runs following h =
     let empty : Front = record { past = []; waiting = [] } in
-    let stands = stand t steps s (runs t steps s _ h.led.run) in
-    let whole : order t ≡ (order_from (0 + length stands.gone) (order_from 0 empty stands.gone) (x ∷ xs)).past =
-    ap order (stands.whole ∙ ap (λ (l : List Entry). stands.gone ++ l) h.next) ∙ ap (λ (f : Front). f.past) (order_append 0 empty stands.gone (x ∷ xs)) in
+    let follows_trace = following t steps s (runs t steps s _ h.led.run) in
+    let whole : order t ≡ (order_from (0 + length follows_trace.gone) (order_from 0 empty follows_trace.gone) (x ∷ xs)).past =
+    ap order (follows_trace.whole ∙ ap (λ (l : List Entry). follows_trace.gone ++ l) h.next) ∙ ap (λ (f : Front). f.past) (order_append 0 empty follows_trace.gone (x ∷ xs)) in
     let clean = subst IsClean whole (clean_trace t sound h.sound) in
-    let here = clean_entry (0 + length stands.gone) x (order_from 0 empty stands.gone) (clean_order _ _ xs clean) in
-    subst (λ (l : Past). IsClean l) (ap (λ (n : ℕ). host n x ∷ (order_from 0 empty stands.gone).past) (sym (stands.counted ∙ sym (zero-add (length stands.gone)))) ∙ ap (λ (f : Front). host s.count x ∷ f.past) (sym stands.front)) here
+    let here = clean_entry (0 + length follows_trace.gone) x (order_from 0 empty follows_trace.gone) (clean_order _ _ xs clean) in
+    subst (λ (l : Past). IsClean l) (ap (λ (n : ℕ). host n x ∷ (order_from 0 empty follows_trace.gone).past) (sym (follows_trace.counted ∙ sym (zero-add (length follows_trace.gone)))) ∙ ap (λ (f : Front). host s.count x ∷ f.past) (sym follows_trace.front)) here
 
 pub fits_next : (e : ℕ) (x : Entry) (past : Past) → IsClean (host e x ∷ past) → FitsEntry past x
 fits_next e x past clean = (fits_clean (host e x ∷ past) clean).0
@@ -63,8 +63,8 @@ pub next_works : (d : Device) (x : Entry) → d.failed ≡ false → IsTrue d.fa
 next_works d x works (inl failed) = absurd cc
 next_works d x works (inr next) = next
 
-pub fits_some : (d : Device) (x : Entry) → NoFaultIsSound → DirectRunsAreRuns → DefinedRunsStand → IsNext d x → (past : Past) × FitsEntry past x
-fits_some d x sound runs stand r = (r.2.front.past, fits_next r.2.count x r.2.front.past (clean_next r.0 r.1 r.2 x r.3 d sound runs stand r.4))
+pub fits_some : (d : Device) (x : Entry) → NoFaultIsSound → DirectRunsAreRuns → DefinedRunsFollow → IsNext d x → (past : Past) × FitsEntry past x
+fits_some d x sound runs following r = (r.2.front.past, fits_next r.2.count x r.2.front.past (clean_next r.0 r.1 r.2 x r.3 d sound runs following r.4))
 
 -- ---- what is new
 
@@ -294,8 +294,8 @@ module _ (answer : List ℕ → ℕ → ℕ) (next : List ℕ → ℕ → List �
   abbrev pub before : Picked
   before = before_entry answer next s held x
 
-  pub stands_before : (old mid : Device) (after : List ℕ) → DirectRunsAreRuns → PicksLeadOn → IsBefore t steps s x xs old → Picks answer next t steps s held x mid after → IsBefore t (steps ++ before.steps) before.stage x xs mid
-  stands_before old mid after runs law h picks = record {
+  pub follows_before : (old mid : Device) (after : List ℕ) → DirectRunsAreRuns → PicksLeadOn → IsBefore t steps s x xs old → Picks answer next t steps s held x mid after → IsBefore t (steps ++ before.steps) before.stage x xs mid
+  follows_before old mid after runs law h picks = record {
     led = picks.0;
     next = (law answer next t steps s held x xs (runs t steps s _ h.led.run) h.sound.faultless h.next).left ∙ h.next;
     sound = h.sound;

@@ -3,7 +3,7 @@ pub mod CleanImages
 mod CleanPools
 mod Clean
 mod Limits
-mod Standing
+mod Following
 mod Staying
 mod Sources
 mod Running

@@ -9,7 +9,7 @@ use Rattle.vk_model.specs.Run.Runs.{Step, Stage, Apply, applied, touched_by, ato
 use Rattle.vk_model.specs.Run.Picks.{Picked, before_entry, atom_picks}
 use Rattle.vk_model.specs.Trace.Order.{host}
 use Rattle.vk_model.specs.Trace.Point.{Past}
-use Rattle.vk_laws.specs.DefinedRuns.{DefinedRunsStand}
+use Rattle.vk_laws.specs.DefinedRuns.{DefinedRunsFollow}
 use Rattle.vk_laws.specs.DirectRuns.{DirectRunsAreRuns, NewMemoryHoldsAnything, EntriesGoOn, DirectRunsReadTheTrace}
 use Rattle.vk_laws.specs.PickedRuns.{PicksLeadOn}
 use Rattle.vk_resources.specs.declared.applied.Applied.{Applied}
@@ -22,7 +22,7 @@ use Rattle.vk_device.specs.declared.device.Device.{Device}
 use Rattle.vk_device.specs.Inner.Clean.{IsClean}
 use Rattle.vk_device.specs.Inner.Ready.{HostDone, Touches, Picks, AdvanceReady}
 use Rattle.vk_device.specs.Led.{Led, IsBefore, Applies, Reads, IsNext}
-use Rattle.vk_device.proofs.Entering.{clean_next, fits_next, host_done, goes_of, reads_of, before, stands_before, reads_before, picked_atoms, applies}
+use Rattle.vk_device.proofs.Entering.{clean_next, fits_next, host_done, goes_of, reads_of, before, follows_before, reads_before, picked_atoms, applies}
 
 -- where there was no room nothing was changed, and no atom was picked
 no_change : (a : Applied) (e : ℕ) (x : Entry) (past : Past) (old new : Held) → a ≡ applied.NoRoom → DoneBy a e x past old new → (new ≡ old) × (touched_by x ≡ None)
@@ -48,7 +48,7 @@ module _ (answer : List ℕ → ℕ → ℕ) (next : List ℕ → ℕ → List �
 pub record Laws : Type 0 where
   pub sound : NoFaultIsSound
   pub runs : DirectRunsAreRuns
-  pub stand : DefinedRunsStand
+  pub following : DefinedRunsFollow
   pub lead_on : PicksLeadOn
   pub anything : NewMemoryHoldsAnything
   pub entries_go : EntriesGoOn
@@ -67,24 +67,24 @@ module _ (laws : Laws) (answer : List ℕ → ℕ → ℕ) (next : List ℕ → 
     pub next_then : IsNext old x → IsNext mid x
     next_then n =
         let p = before answer next n.0 n.1 n.2 held x n.3 in
-        (n.0, n.1 ++ p.steps, p.stage, n.3, stands_before answer next n.0 n.1 n.2 held x n.3 old mid between laws.runs laws.lead_on n.4 (picked n.0 n.1 n.2 n.3 n.4))
+        (n.0, n.1 ++ p.steps, p.stage, n.3, follows_before answer next n.0 n.1 n.2 held x n.3 old mid between laws.runs laws.lead_on n.4 (picked n.0 n.1 n.2 n.3 n.4))
 
     module _ (touched : WasTouched) where
       pub entry_ready : IsNext old x → EntryReady r x
       entry_ready n =
           let now = next_then n in
           let past = now.2.front.past in
-          (past, (touched now.0 now.1 now.2 now.3 now.4).touched.matches past now.4.led.matches, fits_next now.2.count x past (clean_next now.0 now.1 now.2 x now.3 mid laws.sound laws.runs laws.stand now.4))
+          (past, (touched now.0 now.1 now.2 now.3 now.4).touched.matches past now.4.led.matches, fits_next now.2.count x past (clean_next now.0 now.1 now.2 x now.3 mid laws.sound laws.runs laws.following now.4))
 
       module _ (t : List Entry) (steps : List Step) (s : Stage) (xs : List Entry) (h : IsBefore t steps s x xs old) where
         abbrev p : Picked
         p = before_entry answer next s held x
 
         now : IsBefore t (steps ++ (before_entry answer next s held x).steps) (before_entry answer next s held x).stage x xs mid
-        now = stands_before answer next t steps s held x xs old mid between laws.runs laws.lead_on h (picked t steps s xs h)
+        now = follows_before answer next t steps s held x xs old mid between laws.runs laws.lead_on h (picked t steps s xs h)
 
         clean : IsClean (host (before_entry answer next s held x).stage.count x ∷ (before_entry answer next s held x).stage.front.past)
-        clean = clean_next t (steps ++ (before_entry answer next s held x).steps) (before_entry answer next s held x).stage x xs mid laws.sound laws.runs laws.stand now
+        clean = clean_next t (steps ++ (before_entry answer next s held x).steps) (before_entry answer next s held x).stage x xs mid laws.sound laws.runs laws.following now
 
         -- the atoms that were picked, from what the scheduler held
         touches : Touches answer next (before_entry answer next s held x).stage.front.past x (before_entry answer next s held x).held mid.resources r after

@@ -19,7 +19,7 @@ use Rattle.vk_model.specs.Run.Runs.{Step, Stage, start}
 use Rattle.vk_model.specs.Run.Runs as runs
 use Rattle.vk_model.specs.Run.Picks.{Picked, before_entry, entry_picks, trace_picks}
 use Rattle.vk_queues.specs.IsWaiting.{front_of}
-use Rattle.vk_laws.specs.DefinedRuns.{StandsIn, RunOf}
+use Rattle.vk_laws.specs.DefinedRuns.{FollowsTrace, RunOf}
 use Rattle.vk_laws.specs.PickedRuns.{PicksLeadOn}
 use Rattle.vk_device.proofs.Allocating.{applied_more}
 use Rattle.vk_resources.specs.declared.applied.Applied.{Applied}
@@ -27,7 +27,7 @@ use Rattle.vk_resources.specs.declared.applied.Applied.TheVariants as applied
 use Rattle.vk_backing.specs.Allotted as backing
 use Rattle.vk_backing.specs.Allotted.{Allotted, Fulfils}
 use Rattle.vk_backing.specs.Backed.{Backed}
-use Rattle.vk_resources.specs.Allocating.{IsAllocated, Rooms, Allots}
+use Rattle.vk_resources.specs.Allocating.{IsAllocated, NoRoomIsExact, Allots}
 use Rattle.vk_memory.specs.MemoryState.{MemoryState}
 use Rattle.vk_device.specs.Empty.{nothing_backed}
 use Rattle.vk_device.specs.declared.device.Device.{Device}
@@ -113,7 +113,7 @@ left_more (y ∷ ys) (suc i) x is lt = let more : suc i + 1 ≡ suc (i + 1) = om
 gone_is : (t gone left : List Entry) (i : ℕ) → t ≡ gone ++ left → length gone ≡ i → gone ≡ take i t
 gone_is t gone left i whole size = let all : take (length gone) (gone ++ left) ≡ gone = grind (arith, common_steps) in sym all ∙ ap (λ (n : ℕ). take n (gone ++ left)) size ∙ ap (λ (l : List Entry). take i l) (sym whole)
 
-stage_front : (t : List Entry) (s : Stage) (i : ℕ) → StandsIn t s → s.count ≡ i → s.front ≡ front_of (take i t)
+stage_front : (t : List Entry) (s : Stage) (i : ℕ) → FollowsTrace t s → s.count ≡ i → s.front ≡ front_of (take i t)
 stage_front t s i st at = st.front ∙ ap front_of (gone_is t st.gone s.left i st.whole (sym st.counted ∙ at))
 
 -- a stop at or after the next entry isn't at this one
@@ -148,11 +148,11 @@ module _ (answer : List ℕ → ℕ → ℕ) (next : List ℕ → ℕ → List �
   next_left : s.left ≡ x ∷ drop (i + 1) t
   next_left = so_far.left ∙ left_more t i x is lt
 
-  pub stands_before : IsBefore t so_far.steps s x (drop (i + 1) t) d
-  stands_before = record { led = so_far.led; next = next_left; sound = sound }
+  pub follows_before : IsBefore t so_far.steps s x (drop (i + 1) t) d
+  follows_before = record { led = so_far.led; next = next_left; sound = sound }
 
   pub entry_ready : IsTrue d.failed ⊎ IsNext d x
-  entry_ready = inr (t, so_far.steps, s, drop (i + 1) t, stands_before)
+  entry_ready = inr (t, so_far.steps, s, drop (i + 1) t, follows_before)
 
   -- the picks of the whole, by those up to the next entry
   picks_more : (stop : Option ℕ) → NotBefore (i + 1) stop
@@ -165,7 +165,7 @@ module _ (answer : List ℕ → ℕ → ℕ) (next : List ℕ → ℕ → List �
       (sym (append_assoc so_far.steps (entry_picks answer next 0 s held x (drop (i + 1) t)).steps
       (trace_picks answer next (λ e. 0) stop (entry_picks answer next 0 s held x (drop (i + 1) t)).stage (entry_picks answer next 0 s held x (drop (i + 1) t)).held (drop (i + 1) t)).steps)))
 
-  pub replays_more : PicksLeadOn → (run : RunOf t so_far.steps s) → StandsIn t s → (d' : Device) (held' : List ℕ) (new : Reads) → Led t (so_far.steps ++ (entry_picks answer next 0 s held x (drop (i + 1) t)).steps) (entry_picks answer next 0 s held x (drop (i + 1) t)).stage d'
+  pub replays_more : PicksLeadOn → (run : RunOf t so_far.steps s) → FollowsTrace t s → (d' : Device) (held' : List ℕ) (new : Reads) → Led t (so_far.steps ++ (entry_picks answer next 0 s held x (drop (i + 1) t)).steps) (entry_picks answer next 0 s held x (drop (i + 1) t)).stage d'
       → held' ≡ (entry_picks answer next 0 s held x (drop (i + 1) t)).held → read_in (world s.front.past) s.count x ≡ new
       → ((a : Allocated) → IsAllocated d.resources a → FindsNoRoom a x → ⊥)
       → ((a : Allocated) → IsAllocated d.resources a → (e : Allocated) × Changes a x e × IsAllocated d'.resources e) → d'.failed ≡ false → Replays answer next config t held0 (i + 1) (reported ++ new) d' held'
@@ -197,24 +197,24 @@ module _ (answer : List ℕ → ℕ → ℕ) (next : List ℕ → ℕ → List �
   abbrev pub ReadsAt : Applied → Type 0
   ReadsAt a = (t' : List Entry) (steps : List Step) (s' : Stage) (xs : List Entry) → IsBefore t' steps s' x xs d → led.Reads a s' x
 
-  pub after_done : PicksLeadOn → RunOf t so_far.steps s → StandsIn t s → (d' : Device) (held' : List ℕ) (a : Applied) → a ≡ applied.Done → AppliesAt a d' held' → ReadsAt a → Rooms a d.resources x → Allots a x d.resources d'.resources → d'.failed ≡ false
+  pub after_done : PicksLeadOn → RunOf t so_far.steps s → FollowsTrace t s → (d' : Device) (held' : List ℕ) (a : Applied) → a ≡ applied.Done → AppliesAt a d' held' → ReadsAt a → NoRoomIsExact a d.resources x → Allots a x d.resources d'.resources → d'.failed ≡ false
       → Replays answer next config t held0 (i + 1) reported d' held'
   after_done lead_on run st d' held' a done applies gives rooms allots works =
-      let now = subst (λ (b : Applied). AppliesAt b d' held') done applies t so_far.steps s (drop (i + 1) t) stands_before in
-      let gave = subst (λ (b : Applied). ReadsAt b) done gives t so_far.steps s (drop (i + 1) t) stands_before in
-      rw (← append-nil reported) (replays_more lead_on run st d' held' [] now.0 now.1 gave (subst (λ (b : Applied). Rooms b d.resources x) done rooms) (subst (λ (b : Applied). Allots b x d.resources d'.resources) done allots) works)
+      let now = subst (λ (b : Applied). AppliesAt b d' held') done applies t so_far.steps s (drop (i + 1) t) follows_before in
+      let gave = subst (λ (b : Applied). ReadsAt b) done gives t so_far.steps s (drop (i + 1) t) follows_before in
+      rw (← append-nil reported) (replays_more lead_on run st d' held' [] now.0 now.1 gave (subst (λ (b : Applied). NoRoomIsExact b d.resources x) done rooms) (subst (λ (b : Applied). Allots b x d.resources d'.resources) done allots) works)
 
-  pub after_bytes : PicksLeadOn → RunOf t so_far.steps s → StandsIn t s → (d' : Device) (held' : List ℕ) (a : Applied) (bytes : List ℕ) → a ≡ applied.Bytes bytes → AppliesAt a d' held' → ReadsAt a → Rooms a d.resources x → Allots a x d.resources d'.resources → d'.failed ≡ false
+  pub after_bytes : PicksLeadOn → RunOf t so_far.steps s → FollowsTrace t s → (d' : Device) (held' : List ℕ) (a : Applied) (bytes : List ℕ) → a ≡ applied.Bytes bytes → AppliesAt a d' held' → ReadsAt a → NoRoomIsExact a d.resources x → Allots a x d.resources d'.resources → d'.failed ≡ false
       → Replays answer next config t held0 (i + 1) (reported ++ (i, bytes) ∷ []) d' held'
   after_bytes lead_on run st d' held' a bytes given applies gives rooms allots works =
-      let now = subst (λ (b : Applied). AppliesAt b d' held') given applies t so_far.steps s (drop (i + 1) t) stands_before in
-      let gave = subst (λ (b : Applied). ReadsAt b) given gives t so_far.steps s (drop (i + 1) t) stands_before in
+      let now = subst (λ (b : Applied). AppliesAt b d' held') given applies t so_far.steps s (drop (i + 1) t) follows_before in
+      let gave = subst (λ (b : Applied). ReadsAt b) given gives t so_far.steps s (drop (i + 1) t) follows_before in
       subst (λ (n : ℕ). Replays answer next config t held0 (i + 1) (reported ++ (n, bytes) ∷ []) d' held') so_far.at
-      (replays_more lead_on run st d' held' ((s.count, bytes) ∷ []) now.0 now.1 gave (subst (λ (b : Applied). Rooms b d.resources x) given rooms) (subst (λ (b : Applied). Allots b x d.resources d'.resources) given allots) works)
+      (replays_more lead_on run st d' held' ((s.count, bytes) ∷ []) now.0 now.1 gave (subst (λ (b : Applied). NoRoomIsExact b d.resources x) given rooms) (subst (λ (b : Applied). Allots b x d.resources d'.resources) given allots) works)
 
-  pub stops : (d' : Device) (held' : List ℕ) (a : Applied) → a ≡ applied.NoRoom → AppliesAt a d' held' → Rooms a d.resources x → Allots a x d.resources d'.resources → Ends config t (Some i) d' × LedByPicks answer next t (Some i) held0 d' held'
+  pub stops : (d' : Device) (held' : List ℕ) (a : Applied) → a ≡ applied.NoRoom → AppliesAt a d' held' → NoRoomIsExact a d.resources x → Allots a x d.resources d'.resources → Ends config t (Some i) d' × LedByPicks answer next t (Some i) held0 d' held'
   stops d' held' a no_room applies rooms allots =
-      let now = subst (λ (b : Applied). AppliesAt b d' held') no_room applies t so_far.steps s (drop (i + 1) t) stands_before in
+      let now = subst (λ (b : Applied). AppliesAt b d' held') no_room applies t so_far.steps s (drop (i + 1) t) follows_before in
       let whole : trace_picks answer next (λ e. 0) (Some i) (start t) held0 t ≡ after_steps so_far.steps (before_entry answer next s held x) =
       so_far.rest (Some i) (omega arith) ∙ ap (λ (ys : List Entry). after_steps so_far.steps (trace_picks answer next (λ e. 0) (Some i) s held ys)) next_left ∙ rw (eq-eqb i s.count (sym so_far.at)) refl in (
         record {
@@ -224,7 +224,7 @@ module _ (answer : List ℕ → ℕ → ℕ) (next : List ℕ → ℕ → List �
             reached = so_far.reached;
             stopped = x;
             here = slice_get-get_or t i x lt ∙ ap (λ (y : Entry). Some y) (sym is);
-            no_room = subst (λ (b : Applied). Rooms b d.resources x) no_room rooms so_far.allocated so_far.has;
+            no_room = subst (λ (b : Applied). NoRoomIsExact b d.resources x) no_room rooms so_far.allocated so_far.has;
           };
         },
         subst (λ (p : Picked). Led t p.steps p.stage d' × (held' ≡ p.held)) (sym whole) now,

@@ -47,13 +47,13 @@ pub record IsSoundTrace (t : List Entry) : Type 0 where
   pub faultless : first_fault t ≡ None
   pub supported : IsTrue (is_supported (order t))
 
--- A device stands before an entry of a trace.
+-- A device is before an entry of a trace.
 pub record IsBefore (t : List Entry) (steps : List Step) (s : Stage) (x : Entry) (xs : List Entry) (d : Device) : Type 0 where
   pub led : Led t steps s d
   pub next : s.left ≡ x ∷ xs
   pub sound : IsSoundTrace t
 
--- A device stands before an entry of some trace.
+-- A device is before an entry of some trace.
 abbrev pub IsNext : Device → Entry → Type 0
 IsNext d x = (t : List Entry) × (steps : List Step) × (s : Stage) × (xs : List Entry) × IsBefore t steps s x xs d
 

@@ -4,7 +4,7 @@ ghost use Rattle.vk_model.specs.Run.Runs.{Step, Stage, Apply, applied, offered};
 ghost use Rattle.vk_memory.specs.MemoryState.{IsLive, region_of};
 ghost use Rattle.vk_heap.specs.Region.{piece};
 ghost use Rattle.vk_resources.specs.Held.{placed, spot_of, IsSpotIn};
-ghost use Rattle.vk_resources.specs.Allocating.{Rooms, Allots};
+ghost use Rattle.vk_resources.specs.Allocating.{NoRoomIsExact, Allots};
 ghost use Rattle.vk_offers.specs.IsOffers.{name_of};
 ghost use Rattle.vk_sync.specs.Ready.{ready};
 ghost use Rattle.vk_order.specs.PointViews.{point_of};
@@ -15,7 +15,7 @@ ghost use Rattle.vk_device.specs.Inner.Ready.{option_count};
 use crate::applied::ApplyError;
 use std::alloc::{AllocError, Global};
 use vk_laws::{
-    commands_name_live, defined_runs_stand, direct_runs_are_fresh, direct_runs_are_runs,
+    commands_name_live, defined_runs_follow, direct_runs_are_fresh, direct_runs_are_runs,
     direct_runs_go_on, new_memory_holds_anything, offered_are_pieces, picks_are_runs,
 };
 use vk_model::{
@@ -84,7 +84,7 @@ impl<'a> Device<'a> {
         direct_runs_go_on();
         direct_runs_are_runs();
         direct_runs_are_fresh();
-        defined_runs_stand();
+        defined_runs_follow();
         offered_are_pieces();
         no_fault_is_sound();
         commands_name_live();
@@ -117,7 +117,7 @@ impl<'a> Device<'a> {
         ensures { IfOk result (λ counts. Waited self.now entry.now counts) }
     {
         waits_go();
-        defined_runs_stand();
+        defined_runs_follow();
         direct_runs_are_runs();
         order_is_structured();
         no_fault_is_sound();
@@ -186,7 +186,7 @@ impl<'a> Device<'a> {
     {
         no_fault_is_sound();
         direct_runs_are_runs();
-        defined_runs_stand();
+        defined_runs_follow();
         let atoms = self.resources.atoms(entry);
         for atom in 0..atoms {
             if sched.pick(2) % 2 == 1 {
@@ -209,7 +209,7 @@ impl<'a> Device<'a> {
         order_is_structured();
         no_fault_is_sound();
         direct_runs_are_runs();
-        defined_runs_stand();
+        defined_runs_follow();
         commands_name_live();
         growth_keeps();
         let points = points_after(self.alloc, &mut self.waiting, self.count, entry)?;
@@ -231,7 +231,7 @@ impl<'a> Device<'a> {
         ensures applied { IfOk result (λ a. (t : List Entry) (steps : List Step) (s : Stage) (xs : List Entry) → IsBefore t steps s entry.now xs self.old
             → Applies S.answer S.next a t steps s (S.held sched.old) entry.now xs self.new (S.held sched.new)) }
         ensures reads { IfOk result (λ a. (t : List Entry) (steps : List Step) (s : Stage) (xs : List Entry) → IsBefore t steps s entry.now xs self.old → Reads a s entry.now) }
-        ensures rooms { IfOk result (λ a. Rooms a self.old.resources entry.now) }
+        ensures rooms { IfOk result (λ a. NoRoomIsExact a self.old.resources entry.now) }
         ensures allots { IfOk result (λ a. Allots a entry.now self.old.resources self.new.resources) }
         ensures failed { self.new.failed ≡ self.old.failed }
         ensures error { IfErr result (λ f. f ≡ NoMemory) }
@@ -242,7 +242,7 @@ impl<'a> Device<'a> {
         picks_are_runs();
         no_fault_is_sound();
         direct_runs_are_runs();
-        defined_runs_stand();
+        defined_runs_follow();
         self.run_picked(entry, sched)?;
         self.touch(entry, sched)?;
         match self.resources.apply(entry)? {
@@ -270,7 +270,7 @@ impl<'a> Device<'a> {
         ensures applied { IfOk result (λ a. (t : List Entry) (steps : List Step) (s : Stage) (xs : List Entry) → IsBefore t steps s entry.now xs self.old
             → Applies S.answer S.next a t steps s (S.held sched.old) entry.now xs self.new (S.held sched.new)) }
         ensures reads { IfOk result (λ a. (t : List Entry) (steps : List Step) (s : Stage) (xs : List Entry) → IsBefore t steps s entry.now xs self.old → Reads a s entry.now) }
-        ensures rooms { IfOk result (λ a. Rooms a self.old.resources entry.now) }
+        ensures rooms { IfOk result (λ a. NoRoomIsExact a self.old.resources entry.now) }
         ensures allots { IfOk result (λ a. Allots a entry.now self.old.resources self.new.resources) }
         ensures works { IfOk result (λ a. (self.old.failed ≡ false) × (self.new.failed ≡ false)) }
         ensures error { IfErr result (λ f. f ≡ (if self.old.failed then Failed else NoMemory)) }
@@ -278,7 +278,7 @@ impl<'a> Device<'a> {
     {
         no_fault_is_sound();
         direct_runs_are_runs();
-        defined_runs_stand();
+        defined_runs_follow();
         if self.failed {
             return Err(ApplyError::Failed);
         }

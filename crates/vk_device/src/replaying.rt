@@ -8,7 +8,7 @@ ghost use Rattle.vk_device.specs.declared.applied.ApplyError.TheVariants.{NoMemo
 use crate::applied::ApplyError;
 use crate::device::Device;
 use std::alloc::Global;
-use vk_laws::{defined_runs_stand, direct_runs_are_runs, picks_are_runs};
+use vk_laws::{defined_runs_follow, direct_runs_are_runs, picks_are_runs};
 use vk_model::{Config, Entry, Scheduler, Sequence};
 use vk_resources::Applied;
 use vk_validate::Accepted;
@@ -63,7 +63,7 @@ fn replay_entries<'a, S: Scheduler>(
     ensures works { IfOk result (λ r. r.device.failed ≡ false) }
     ensures error { IfErr result (λ f. f ≡ NoMemory) }
 {
-    defined_runs_stand();
+    defined_runs_follow();
     direct_runs_are_runs();
     picks_are_runs();
     let mut device = Device::new(alloc, config);

@@ -29,7 +29,7 @@ text_is entries at rule fact links p q x y t0 t1 t2 t3 t4 named so linked a b ru
   named = named;
   so = so;
   linked = linked;
-  told =
+  reported =
       let P : List ℕ → Type 0 = λ r. BeginsWith (lines_of (Refused at rule) ++ (p ++ r)) t4 in
       let Q : List ℕ → Type 0 = λ s. BeginsWith s t4 in
       subst Q (grouped (lines_of (Refused at rule)) p (rule_line rule) (fact_line fact) (links_line links)) (subst P ruled (goes_on (lines_of (Refused at rule)) p q x y t0 t1 t2 t3 t4 a b c d e));
@@ -45,5 +45,5 @@ json_is entries at rule fact links x t0 t1 so linked a b = record {
   links = links;
   so = so;
   linked = linked;
-  told = record { rest = x; whole = b ∙ ap (λ s. s ++ x) (a ∙ sym (append_assoc (json_verdict at rule) (fact_member fact) (links_member links))) };
+  reported = record { rest = x; whole = b ∙ ap (λ s. s ++ x) (a ∙ sym (append_assoc (json_verdict at rule) (fact_member fact) (links_member links))) };
 }

@@ -39,7 +39,7 @@ pub record IsRefusalText (entries : List Entry) (at : At) (rule : Rule) (text : 
   pub named : BeginsWith (kind_text at ++ at_text at) point
   pub so : IsToldOf entries at rule fact
   pub linked : AreLinksOf entries at fact links
-  pub told : BeginsWith (lines_of (RefusedBy at rule) ++ point ++ rule_line rule ++ fact_line fact ++ links_line links) text
+  pub reported : BeginsWith (lines_of (RefusedBy at rule) ++ point ++ rule_line rule ++ fact_line fact ++ links_line links) text
 
 -- The text begins with a line that says that the trace is accepted (profile).
 abbrev pub IsAcceptanceText : List ℕ → Type 0
@@ -55,7 +55,7 @@ pub record IsRefusalJson (entries : List Entry) (at : At) (rule : Rule) (text : 
   pub links : Option Links
   pub so : IsToldOf entries at rule fact
   pub linked : AreLinksOf entries at fact links
-  pub told : BeginsWith (json_verdict at rule ++ fact_member fact ++ links_member links) text
+  pub reported : BeginsWith (json_verdict at rule ++ fact_member fact ++ links_member links) text
 
 -- The text begins with the verdict (profile).
 abbrev pub IsAcceptanceJson : List ℕ → Type 0

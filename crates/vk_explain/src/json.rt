@@ -17,7 +17,7 @@ use vk_model::{At, Entry, Rule};
 use vk_notes::{Summary, note_words, notes_of, summary_of};
 use vk_words::{point_words, push_at, sentence};
 
-/// The object on a refused trace: verdict, point, rule, the fact that is told of it, the point's place in
+/// The object on a refused trace: verdict, point, rule, the fact that is reported of it, the point's place in
 /// the input and in words, and what the rule says.
 pub fn refusal_json(
     alloc: Global,
@@ -48,13 +48,13 @@ fn first_members(
     ensures { IfOk result (λ text. string_bytes text ≡ json_verdict at rule ++ (text_of_fact fact.now ++ text_of_links links.now)) }
 {
     let mut text = verdict_members(alloc, at, rule)?;
-    let told = told_members(alloc, fact, links)?;
-    text.push_str(told.as_str())?;
+    let reported = reported_members(alloc, fact, links)?;
+    text.push_str(reported.as_str())?;
     Ok(text)
 }
 
 /// The members with a fact and with its links.
-fn told_members(
+fn reported_members(
     alloc: Global,
     fact: &Option<Fact<'_>>,
     links: &Option<Links<'_>>,

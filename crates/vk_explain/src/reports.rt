@@ -19,7 +19,7 @@ use vk_trace::Outcome;
 use vk_words::{point_words, push_count, sentence};
 
 /// The lines on a refused trace: the verdict, the point in words, what the rule says, the fact that is
-/// told of it, and a repair.
+/// reported of it, and a repair.
 pub fn refusal_text(
     alloc: Global,
     input: &[u8],
@@ -54,13 +54,13 @@ fn ruled_lines(
     ensures { IfOk result (λ lines. string_bytes lines ≡ rule_line rule ++ (text_of_fact fact.now ++ text_of_links links.now)) }
 {
     let mut lines = line_of_rule(alloc, rule)?;
-    let told = told_lines(alloc, fact, links)?;
-    lines.push_str(told.as_str())?;
+    let reported = reported_lines(alloc, fact, links)?;
+    lines.push_str(reported.as_str())?;
     Ok(lines)
 }
 
 /// The lines on a fact and on its links.
-fn told_lines(
+fn reported_lines(
     alloc: Global,
     fact: &Option<Fact<'_>>,
     links: &Option<Links<'_>>,

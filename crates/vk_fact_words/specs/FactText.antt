@@ -107,12 +107,12 @@ fact_text (fact.Dead d) = named (codes "id ") d.life.id ++ (wanted_text d.wanted
 fact_text (fact.Signaled f) = counter_text (codes ", signaled value ") f
 fact_text (fact.Waited f) = counter_text (codes ", awaited value ") f
 
--- The line with a fact, where one is told (profile).
+-- The line with a fact, where one is reported (profile).
 abbrev pub fact_line : Option Fact → List ℕ
 fact_line None = []
 fact_line (Some f) = codes "  " ++ fact_text f ++ codes "\n"
 
--- The member with a fact, where one is told (profile).
+-- The member with a fact, where one is reported (profile).
 abbrev pub fact_member : Option Fact → List ℕ
 fact_member None = []
 fact_member (Some f) = codes ",\"fact\":\"" ++ fact_text f ++ codes "\""

@@ -11,13 +11,13 @@ use Rattle.vk_links.specs.declared.links.Missing.TheVariants as missing
 use Rattle.vk_links.specs.Faults.{AreLinksAt}
 use Rattle.vk_fact_words.specs.FactText.{point_called}
 
--- What is told of a fact: of a hazard its links, of another one nothing.
+-- What is reported of a fact: of a hazard its links, of another one nothing.
 abbrev pub AreLinksOfFact : List Entry → At → Fact → Option Links → Type 0
 AreLinksOfFact entries at (fact.Hazard f) None = ⊥
 AreLinksOfFact entries at (fact.Hazard f) (Some l) = AreLinksAt entries at f l
 AreLinksOfFact entries at _ found = found ≡ None
 
--- The same, where a fact is told.
+-- The same, where a fact is reported.
 abbrev pub AreLinksOf : List Entry → At → Option Fact → Option Links → Type 0
 AreLinksOf entries at None found = found ≡ None
 AreLinksOf entries at (Some f) found = AreLinksOfFact entries at f found
@@ -32,7 +32,7 @@ missing_text missing.Visible = codes "what makes the write visible to the access
 missing_text missing.Wait = codes "a wait of the host"
 missing_text missing.Invalidation = codes "an invalidation of the byte before the host's read"
 
--- The point of a node that is told, after some words (profile).
+-- The point of a node that is reported, after some words (profile).
 abbrev pub node_text : List ℕ → Option Placed → List ℕ
 node_text words None = []
 node_text words (Some p) = words ++ point_called p.row.point
@@ -53,12 +53,12 @@ shown_part l = node_text (codes "; made visible to the host by ") l.visible ++ n
 abbrev pub links_text : Links → List ℕ
 links_text l = missing_part l ++ (sent_part l ++ shown_part l)
 
--- The line with them, where they are told (profile).
+-- The line with them, where they are reported (profile).
 abbrev pub links_line : Option Links → List ℕ
 links_line None = []
 links_line (Some l) = codes "  " ++ links_text l ++ codes "\n"
 
--- The member with them, where they are told (profile).
+-- The member with them, where they are reported (profile).
 abbrev pub links_member : Option Links → List ℕ
 links_member None = []
 links_member (Some l) = codes ",\"links\":\"" ++ links_text l ++ codes "\""

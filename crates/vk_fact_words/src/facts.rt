@@ -222,7 +222,7 @@ fn kind_name(at: At) -> &'static str
     }
 }
 
-/// The line with a fact, where one is told.
+/// The line with a fact, where one is reported.
 pub fn fact_line(alloc: Global, fact: &Option<Fact<'_>>) -> Result<String, AllocError>
     ensures { IfOk result (λ line. string_bytes line ≡ text.fact_line fact.now) }
 {
@@ -235,7 +235,7 @@ pub fn fact_line(alloc: Global, fact: &Option<Fact<'_>>) -> Result<String, Alloc
     Ok(line)
 }
 
-/// The member with a fact, where one is told.
+/// The member with a fact, where one is reported.
 pub fn fact_member(alloc: Global, fact: &Option<Fact<'_>>) -> Result<String, AllocError>
     ensures { IfOk result (λ member. string_bytes member ≡ text.fact_member fact.now) }
 {

@@ -9,7 +9,7 @@ use vk_facts::{Fact, Placed};
 use vk_links::{Links, Missing, links_of_fault};
 use vk_model::{At, Entry, Rule};
 
-/// The links of the hazard that is told of the point at which a trace is refused, if one is.
+/// The links of the hazard that is reported of the point at which a trace is refused, if one is.
 pub fn links_of_fact<'a>(
     alloc: Global,
     trace: &'a [Entry],
@@ -88,7 +88,7 @@ fn push_node(out: &mut String, words: &str, node: &Option<Placed<'_>>) -> Result
     }
 }
 
-/// The line with links, where they are told.
+/// The line with links, where they are reported.
 pub fn links_line(alloc: Global, links: &Option<Links<'_>>) -> Result<String, AllocError>
     ensures { IfOk result (λ line. string_bytes line ≡ text.links_line links.now) }
 {
@@ -101,7 +101,7 @@ pub fn links_line(alloc: Global, links: &Option<Links<'_>>) -> Result<String, Al
     Ok(line)
 }
 
-/// The member with links, where they are told.
+/// The member with links, where they are reported.
 pub fn links_member(alloc: Global, links: &Option<Links<'_>>) -> Result<String, AllocError>
     ensures { IfOk result (λ member. string_bytes member ≡ text.links_member links.now) }
 {

@@ -5,7 +5,7 @@ use vk_measures::{Measure, measure_of};
 use vk_model::{At, Entry, Rule};
 use vk_past::points_until;
 
-/// The line on what the rule compares at the point that breaks it, where that is told.
+/// The line on what the rule compares at the point that breaks it, where that is reported.
 pub fn measure_line(
     alloc: Global,
     trace: &[Entry],

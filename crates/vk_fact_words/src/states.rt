@@ -11,7 +11,7 @@ use vk_state_words::state_words;
 use vk_states::state_of;
 
 /// The line on what the point finds that breaks the rule, or on which of its parts overlap, where that
-/// is told.
+/// is reported.
 pub fn state_line(
     alloc: Global,
     trace: &[Entry],

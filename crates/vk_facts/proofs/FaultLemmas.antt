@@ -22,7 +22,7 @@ use Rattle.vk_facts.specs.declared.hazards.Hazard.TheVariants.{War, Raw, Waw}
 use Rattle.vk_facts.specs.declared.hazards.HazardFact.{HazardFact}
 use Rattle.vk_facts.specs.Hazards.{rule_of}
 use Rattle.vk_facts.specs.Latest.{IsBest}
-use Rattle.vk_facts.specs.Facts.{IsHazardOf, IsTold, IsUntold, IsToldOf}
+use Rattle.vk_facts.specs.Facts.{IsHazardOf, IsReported, IsUnreported, IsToldOf}
 
 -- points of an ordered past that are reported alike are one, with the same points before it
 pub same_point : (all b : Past) (p : Point) → Comes all b p → (c : Past) (q : Point) → Comes all c q → IsOrdered all → at_of p ≡ at_of q → (b ≡ c) × (p ≡ q)
@@ -50,10 +50,10 @@ first_at t at r is = first_of_fault (order t) at r is
 pub somewhere : (t : List Entry) (at : At) (r : Rule) → first_fault t ≡ Some (at, r) → IsNowhere (order t) at → ⊥
 somewhere t at r is none = let f = first_at t at r is in none f.before f.point f.comes f.is_reported
 
--- what is told of the point that is reported so is told of the one that the trace is refused at
-pub told_of : (t : List Entry) (at : At) (r : Rule) (past : Past) (found : Option Fact) → first_fault t ≡ Some (at, r) → IsUntil (order t) at past
-    → ((before : Past) (p : Point) → past ≡ p ∷ before → IsTold r before p found) → IsToldOf t at r found
-told_of t at r past found is until told =
+-- what is reported of the point that is reported so is reported of the one that the trace is refused at
+pub reported_of : (t : List Entry) (at : At) (r : Rule) (past : Past) (found : Option Fact) → first_fault t ≡ Some (at, r) → IsUntil (order t) at past
+    → ((before : Past) (p : Point) → past ≡ p ∷ before → IsReported r before p found) → IsToldOf t at r found
+reported_of t at r past found is until reported =
     let f = first_at t at r is in
     let same = same_point (order t) f.before f.point f.comes until.before until.point until.comes (order_ordered t) (f.is_reported ∙ sym until.is_reported) in
     record {
@@ -62,25 +62,25 @@ told_of t at r past found is until told =
       comes = until.comes;
       is_reported = until.is_reported;
       broken = subst (λ (b : Past). IsTrue (breaks r b until.point)) same.0 (subst (λ (p : Point). IsTrue (breaks r f.before p)) same.1 f.broken);
-      told = told until.before until.point until.here;
+      reported = reported until.before until.point until.here;
     }
 
 -- the same where no point was found, and where one was
-pub none_told : (t : List Entry) (at : At) (r : Rule) (found : Option Past) → first_fault t ≡ Some (at, r) → found ≡ None
+pub none_reported : (t : List Entry) (at : At) (r : Rule) (found : Option Past) → first_fault t ≡ Some (at, r) → found ≡ None
     → MatchOption found (IsNowhere (order t) at) (IsUntil (order t) at) → IsToldOf t at r None
-none_told t at r found is none of = absurd (somewhere t at r is (subst (λ (o : Option Past). MatchOption o (IsNowhere (order t) at) (IsUntil (order t) at)) none of))
+none_reported t at r found is none of = absurd (somewhere t at r is (subst (λ (o : Option Past). MatchOption o (IsNowhere (order t) at) (IsUntil (order t) at)) none of))
 
-pub some_told : (t : List Entry) (at : At) (r : Rule) (found : Option Past) (past : Past) (fact : Option Fact) → first_fault t ≡ Some (at, r) → found ≡ Some past
-    → MatchOption found (IsNowhere (order t) at) (IsUntil (order t) at) → ((before : Past) (p : Point) → past ≡ p ∷ before → IsTold r before p fact) → IsToldOf t at r fact
-some_told t at r found past fact is some of told = told_of t at r past fact is (subst (λ (o : Option Past). MatchOption o (IsNowhere (order t) at) (IsUntil (order t) at)) some of) told
+pub some_reported : (t : List Entry) (at : At) (r : Rule) (found : Option Past) (past : Past) (fact : Option Fact) → first_fault t ≡ Some (at, r) → found ≡ Some past
+    → MatchOption found (IsNowhere (order t) at) (IsUntil (order t) at) → ((before : Past) (p : Point) → past ≡ p ∷ before → IsReported r before p fact) → IsToldOf t at r fact
+some_reported t at r found past fact is some of reported = reported_of t at r past fact is (subst (λ (o : Option Past). MatchOption o (IsNowhere (order t) at) (IsUntil (order t) at)) some of) reported
 
--- that there is no hazard of a kind is what is told of its rule
-hazard_untold : (h : Hazard) (past : Past) (p : Point) → IsHazardOf past p h None → IsUntold (rule_of h) past p
+-- that there is no hazard of a kind is what is reported of its rule
+hazard_untold : (h : Hazard) (past : Past) (p : Point) → IsHazardOf past p h None → IsUnreported (rule_of h) past p
 hazard_untold War past p none = none
 hazard_untold Raw past p none = none
 hazard_untold Waw past p none = none
 
-pub no_hazard_told : (h : Hazard) (now past : Past) (p : Point) (found : Option HazardFact) → now ≡ p ∷ past → found ≡ None
-    → IsBest now h (length (nodes past)) (length (nodes now)) found → IsUntold (rule_of h) past p
-no_hazard_told h now past p found is none best =
+pub no_hazard_reported : (h : Hazard) (now past : Past) (p : Point) (found : Option HazardFact) → now ≡ p ∷ past → found ≡ None
+    → IsBest now h (length (nodes past)) (length (nodes now)) found → IsUnreported (rule_of h) past p
+no_hazard_reported h now past p found is none best =
     hazard_untold h past p (subst (λ (o : Option HazardFact). IsHazardOf past p h o) none (subst (λ (l : Past). IsBest l h (length (nodes past)) (length (nodes l)) found) is best))

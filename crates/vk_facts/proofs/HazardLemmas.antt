@@ -116,13 +116,13 @@ module _ (past : Past) (h : Hazard) (low high : ℕ) (y : Node) (there : Contain
 
   pub keep : (f : HazardFact) → IsBestFact past h low high f → ((x : Node) → Contains (nodes past) x → f.earlier.number < x.number → IsFound past h x y None) → IsBestFact past h low (high + 1) f
   keep f best last = record {
-    told = best.told;
+    reported = best.reported;
     latest = λ x z cx cz lo hi lt. each (λ n. IsFound past h x n None) (λ n cn nlo nhi. best.latest x n cx cn nlo nhi lt) (last x cx lt) z cz lo hi;
   }
 
   pub take_other : (o : HazardFact) → IsFactOf past h y o → ((x z : Node) → Contains (nodes past) x → Contains (nodes past) z → low ≤ z.number → z.number < high → o.earlier.number < x.number → IsFound past h x z None) → IsBestFact past h low (high + 1) o
   take_other o fact before = record {
-    told = (y, there, omega arith, fact);
+    reported = (y, there, omega arith, fact);
     latest = λ x z cx cz lo hi lt. each (λ n. IsFound past h x n None) (λ n cn nlo nhi. before x n cx cn nlo nhi lt) (fact.latest x cx lt) z cz lo hi;
   }
 
@@ -133,4 +133,4 @@ module _ (past : Past) (h : Hazard) (low high : ℕ) (y : Node) (there : Contain
 -- what is so of the nodes below a number is so of those below a smaller one
 pub fewer : (past : Past) (h : Hazard) (low high less : ℕ) (o : Option HazardFact) → less ≤ high → IsBest past h low high o → IsBest past h low less o
 fewer past h low high less None le best = λ x y cx cy lo hi. best x y cx cy lo (omega arith)
-fewer past h low high less (Some f) le best = record { told = best.told; latest = λ x y cx cy lo hi lt. best.latest x y cx cy lo (omega arith) lt }
+fewer past h low high less (Some f) le best = record { reported = best.reported; latest = λ x y cx cy lo hi lt. best.latest x y cx cy lo (omega arith) lt }

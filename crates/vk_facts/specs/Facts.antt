@@ -1,4 +1,4 @@
--- What is told of a point and a rule that it breaks.
+-- What is reported of a point and a rule that it breaks.
 use Rattle.std.specs.Prelude.{◌≡◌, List, ◌∷◌, length, Option, Some, None, IsTrue, ⊤}
 use Rattle.vk_model.specs.declared.rule.Rule.{Rule}
 use Rattle.vk_model.specs.declared.rule.Rule.TheVariants as rule
@@ -18,11 +18,11 @@ use Rattle.vk_facts.specs.Latest.{IsBest}
 use Rattle.vk_facts.specs.Lives.{IsMade, IsDead}
 use Rattle.vk_facts.specs.Counters.{IsLow, IsEndless}
 
--- What is told of a point and a kind of hazard: the latest earlier node with which a node of the point is in hazard, or that there is none.
+-- What is reported of a point and a kind of hazard: the latest earlier node with which a node of the point is in hazard, or that there is none.
 abbrev pub IsHazardOf : Past → Point → Hazard → Option HazardFact → Type 0
 IsHazardOf past p h found = IsBest (p ∷ past) h (length (nodes past)) (length (nodes (p ∷ past))) found
 
--- A fact is so of a point that comes next, and is one that its rule is told by.
+-- A fact is so of a point that comes next, and is one that its rule is reported by.
 abbrev pub IsSo : Rule → Past → Point → Fact → Type 0
 IsSo rule.NewId past p (fact.Made l) = IsMade past p (Some l)
 IsSo rule.LiveId past p (fact.Dead d) = IsDead past p (Some d)
@@ -33,27 +33,27 @@ IsSo rule.HazardRaw past p (fact.Hazard f) = IsHazardOf past p Raw (Some f)
 IsSo rule.HazardWaw past p (fact.Hazard f) = IsHazardOf past p Waw (Some f)
 IsSo _ past p _ = ⊥
 
--- There is no fact that the rule is told by: it isn't broken, or no fact is told of it.
-abbrev pub IsUntold : Rule → Past → Point → Type 0
-IsUntold rule.NewId past p = IsMade past p None
-IsUntold rule.LiveId past p = IsDead past p None
-IsUntold rule.SignalValue past p = IsLow past p None
-IsUntold rule.WaitNever past p = IsEndless past p None
-IsUntold rule.HazardWar past p = IsHazardOf past p War None
-IsUntold rule.HazardRaw past p = IsHazardOf past p Raw None
-IsUntold rule.HazardWaw past p = IsHazardOf past p Waw None
-IsUntold _ past p = ⊤
+-- There is no fact that the rule is reported by: it isn't broken, or no fact is reported of it.
+abbrev pub IsUnreported : Rule → Past → Point → Type 0
+IsUnreported rule.NewId past p = IsMade past p None
+IsUnreported rule.LiveId past p = IsDead past p None
+IsUnreported rule.SignalValue past p = IsLow past p None
+IsUnreported rule.WaitNever past p = IsEndless past p None
+IsUnreported rule.HazardWar past p = IsHazardOf past p War None
+IsUnreported rule.HazardRaw past p = IsHazardOf past p Raw None
+IsUnreported rule.HazardWaw past p = IsHazardOf past p Waw None
+IsUnreported _ past p = ⊤
 
--- What is told of a point that comes next, and a rule.
-abbrev pub IsTold : Rule → Past → Point → Option Fact → Type 0
-IsTold r past p None = IsUntold r past p
-IsTold r past p (Some f) = IsSo r past p f
+-- What is reported of a point that comes next, and a rule.
+abbrev pub IsReported : Rule → Past → Point → Option Fact → Type 0
+IsReported r past p None = IsUnreported r past p
+IsReported r past p (Some f) = IsSo r past p f
 
--- What is told of the point that a trace is refused at: of the point of its reference order that is reported so, with what came before it, which breaks the rule.
+-- What is reported of the point that a trace is refused at: of the point of its reference order that is reported so, with what came before it, which breaks the rule.
 pub record IsToldOf (entries : List Entry) (at : At) (r : Rule) (found : Option Fact) : Type 0 where
   pub before : Past
   pub point : Point
   pub comes : Comes (order entries) before point
   pub is_reported : at_of point ≡ at
   pub broken : IsTrue (breaks r before point)
-  pub told : IsTold r before point found
+  pub reported : IsReported r before point found

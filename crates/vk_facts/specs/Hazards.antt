@@ -41,6 +41,6 @@ is_missing past Waw x y b = not (is_seen past x y Write b)
 abbrev pub in_hazard : Past → Hazard → Node → Node → Byte → Bool
 in_hazard past h x y b = is_in b (earlier_bytes past h x) && is_in b (later_bytes past h y) && is_missing past h x y b
 
--- The node that is told of.
+-- The node that is reported of.
 abbrev pub node_at : Placed → Node
 node_at p = node_of p.number p.row

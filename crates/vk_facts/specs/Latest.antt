@@ -17,7 +17,7 @@ abbrev pub IsFound : Past → Hazard → Node → Node → Option Told → Type 
 IsFound past h x y None = precedes x y ≡ true → (b : Byte) → IsNumbered b → in_hazard past h x y b ≡ false
 IsFound past h x y (Some b) = (precedes x y ≡ true) × (in_hazard past h x y (byte_of b) ≡ true)
 
--- What is told of a node: the latest one with which it is in hazard.
+-- What is reported of a node: the latest one with which it is in hazard.
 pub record IsFactOf (past : Past) (h : Hazard) (y : Node) (f : HazardFact) : Type 0 where
   pub hazard : f.hazard ≡ h
   pub earlier : Contains (nodes past) (node_at f.earlier)
@@ -31,9 +31,9 @@ abbrev pub IsLatest : Past → Hazard → Node → Option HazardFact → Type 0
 IsLatest past h y None = (x : Node) → Contains (nodes past) x → IsFound past h x y None
 IsLatest past h y (Some f) = IsFactOf past h y f
 
--- What is told of the nodes with numbers from a low one on and below a high one: the latest node with which one of them is in hazard.
+-- What is reported of the nodes with numbers from a low one on and below a high one: the latest node with which one of them is in hazard.
 pub record IsBestFact (past : Past) (h : Hazard) (low high : ℕ) (f : HazardFact) : Type 0 where
-  pub told : (y : Node) × Contains (nodes past) y × (low ≤ y.number) × IsFactOf past h y f
+  pub reported : (y : Node) × Contains (nodes past) y × (low ≤ y.number) × IsFactOf past h y f
   pub latest : (x y : Node) → Contains (nodes past) x → Contains (nodes past) y → low ≤ y.number → y.number < high → f.earlier.number < x.number → IsFound past h x y None
 
 -- The same, or that none of them is in hazard.

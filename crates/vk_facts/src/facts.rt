@@ -4,7 +4,7 @@ ghost use Rattle.vk_model.specs.declared.rule.Rule.TheVariants as rule;
 ghost use Rattle.vk_model.specs.Rules.Table.{first_fault};
 ghost use Rattle.vk_order.specs.PointViews.{point_of};
 ghost use Rattle.vk_queues.specs.PointViews.{past_of};
-ghost use Rattle.vk_facts.specs.Facts.{IsTold, IsToldOf};
+ghost use Rattle.vk_facts.specs.Facts.{IsReported, IsToldOf};
 ghost use Rattle.vk_facts.specs.Hazards.{rule_of};
 
 use crate::counters::{CounterFact, endless_wait, low_signal};
@@ -31,10 +31,10 @@ pub enum Fact<'a> {
 }
 
 impl<'a> Past<'a> {
-    /// What is so of the last point, where it breaks this rule. Rules of which no fact is told have
+    /// What is so of the last point, where it breaks this rule. Rules of which no fact is reported have
     /// none. The only error is want of memory.
     pub fn fact_of(&self, rule: Rule) -> Result<Option<Fact<'a>>, AllocError>
-        ensures { IfOk result (λ found. (past : spec.Past) (p : spec.Point) → self.now ≡ p ∷ past → IsTold rule past p found) }
+        ensures { IfOk result (λ found. (past : spec.Past) (p : spec.Point) → self.now ≡ p ∷ past → IsReported rule past p found) }
     {
         match rule {
             Rule::NewId => Ok(self.made()),
@@ -57,7 +57,7 @@ impl<'a> Past<'a> {
     }
 
     fn in_hazard(&self, hazard: Hazard) -> Result<Option<Fact<'a>>, AllocError>
-        ensures { IfOk result (λ found. (past : spec.Past) (p : spec.Point) → self.now ≡ p ∷ past → IsTold (rule_of hazard) past p found) }
+        ensures { IfOk result (λ found. (past : spec.Past) (p : spec.Point) → self.now ≡ p ∷ past → IsReported (rule_of hazard) past p found) }
     {
         match self.hazard_fact(hazard)? {
             Some(fact) => Ok(Some(Fact::Hazard(fact))),
@@ -66,7 +66,7 @@ impl<'a> Past<'a> {
     }
 
     fn made(&self) -> Option<Fact<'a>>
-        ensures { (past : spec.Past) (p : spec.Point) → self.now ≡ p ∷ past → IsTold rule.NewId past p result }
+        ensures { (past : spec.Past) (p : spec.Point) → self.now ≡ p ∷ past → IsReported rule.NewId past p result }
     {
         let split = self.split()?;
         let life = made_id(split.older, &split.point)?;
@@ -74,7 +74,7 @@ impl<'a> Past<'a> {
     }
 
     fn dead(&self) -> Result<Option<Fact<'a>>, AllocError>
-        ensures { IfOk result (λ found. (past : spec.Past) (p : spec.Point) → self.now ≡ p ∷ past → IsTold rule.LiveId past p found) }
+        ensures { IfOk result (λ found. (past : spec.Past) (p : spec.Point) → self.now ≡ p ∷ past → IsReported rule.LiveId past p found) }
     {
         let Some(split) = self.split() else {
             return Ok(None);
@@ -86,7 +86,7 @@ impl<'a> Past<'a> {
     }
 
     fn signaled(&self) -> Option<Fact<'a>>
-        ensures { (past : spec.Past) (p : spec.Point) → self.now ≡ p ∷ past → IsTold rule.SignalValue past p result }
+        ensures { (past : spec.Past) (p : spec.Point) → self.now ≡ p ∷ past → IsReported rule.SignalValue past p result }
     {
         let split = self.split()?;
         let fact = low_signal(split.older, &split.point)?;
@@ -94,7 +94,7 @@ impl<'a> Past<'a> {
     }
 
     fn waited(&self) -> Option<Fact<'a>>
-        ensures { (past : spec.Past) (p : spec.Point) → self.now ≡ p ∷ past → IsTold rule.WaitNever past p result }
+        ensures { (past : spec.Past) (p : spec.Point) → self.now ≡ p ∷ past → IsReported rule.WaitNever past p result }
     {
         let split = self.split()?;
         let fact = endless_wait(split.older, &split.point)?;

@@ -4,7 +4,7 @@ ghost use Rattle.vk_facts.specs.declared.hazards.Hazard.{Hazard as AnyHazard};
 ghost use Rattle.vk_model.specs.Sync.Node.{Node, nodes};
 ghost use Rattle.vk_facts.specs.Hazards.{node_at};
 ghost use Rattle.vk_facts.specs.Latest.{IsLatest, IsBest};
-ghost use Rattle.vk_facts.specs.Inner.Pairs.{IsPair, IsTold};
+ghost use Rattle.vk_facts.specs.Inner.Pairs.{IsPair, IsReported};
 
 use crate::pairs::Pair;
 use crate::past::Past;
@@ -66,11 +66,11 @@ impl<'a> Past<'a> {
         Ok(found)
     }
 
-    /// What is told of a pair that is in hazard at a byte.
+    /// What is reported of a pair that is in hazard at a byte.
     fn fact(&self, hazard: Hazard, pair: Pair, byte: Byte) -> HazardFact<'a>
         requires earlier { pair.earlier < length (nodes self.now) }
         requires later { pair.later < length (nodes self.now) }
-        ensures { (x y : Node) → IsPair self.now pair x y → IsTold self.now hazard x y byte result }
+        ensures { (x y : Node) → IsPair self.now pair x y → IsReported self.now hazard x y byte result }
     {
         HazardFact {
             hazard,

@@ -25,7 +25,7 @@ use std::alloc::{AllocError, Global};
 use std::collections::BTreeMap;
 use vk_image_tiles::has_bad_shape;
 use vk_model::{BufferInfo, ImageInfo, Length, SubresourceRange};
-use vk_order::{Access, Frontier, Point, Sight};
+use vk_order::{Access, Frontier, Point, NewNode};
 use vk_touches::{Bytes, ResourceAccess, Spot};
 
 /// What is known of the bytes of each resource.
@@ -76,8 +76,8 @@ impl Contents {
             Change::HostWritten(buffer, offset, size) => self.set(buffer, offset, size, spot),
             Change::Flushed(buffer, offset, size) => self.flush(buffer, offset, size, spot),
             Change::Invalidated(buffer, offset, size) => {
-                let sight = &frontier.sight(point, &act_of(point))?;
-                let by = reading(frontier, sight, buffer);
+                let new_node = &frontier.new_node(point, &act_of(point))?;
+                let by = reading(frontier, new_node, buffer);
                 self.invalidate(buffer, offset, size, &by)
             }
             Change::Written(buffer, offset, size) => self.write(buffer, offset, size, queue, spot),
@@ -219,15 +219,15 @@ impl Contents {
 }
 
 /// How a node that comes next reads a buffer.
-fn reading<'b>(frontier: &'b Frontier, sight: &'b Sight, buffer: u32) -> ResourceAccess<'b>
+fn reading<'b>(frontier: &'b Frontier, new_node: &'b NewNode, buffer: u32) -> ResourceAccess<'b>
     ensures bytes { result.bytes ≡ OfBuffer buffer }
     ensures access { result.access ≡ AsRead }
     ensures frontier { result.frontier.now ≡ frontier.now }
-    ensures sight { result.sight.now ≡ sight.now }
+    ensures new_node { result.new_node.now ≡ new_node.now }
 {
     ResourceAccess {
         frontier,
-        sight,
+        new_node,
         bytes: Bytes::Buffer(buffer),
         access: Access::Read,
     }

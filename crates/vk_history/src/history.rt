@@ -11,7 +11,7 @@ ghost use Rattle.vk_model.specs.Rules.Ids.{judged_in};
 ghost use Rattle.vk_model.specs.Rules.Mapping.{is_mapped};
 ghost use Rattle.vk_model.specs.Sync.Node.{nodes, acts};
 ghost use Rattle.vk_order.specs.PointViews.{point_of, act_of, action_of};
-ghost use Rattle.vk_order.specs.Frontiers.{IsSight};
+ghost use Rattle.vk_order.specs.Frontiers.{IsNewNode};
 ghost use Rattle.vk_order.specs.Wide.{IsApartFrom};
 ghost use Rattle.vk_history.specs.PointViews.{past};
 ghost use Rattle.vk_history.specs.Judged.{IsJudged};
@@ -36,7 +36,7 @@ use crate::tables::{Tables, note};
 use std::alloc::{AllocError, Global};
 use std::marker::Model;
 use vk_model::{BufferInfo, Entry, ImageInfo, MemoryInfo, Place, PoolInfo};
-use vk_order::{Access, Action, Point, Sight};
+use vk_order::{Access, Action, Point, NewNode};
 use vk_touches::ResourceAccess;
 
 /// What has happened: the first `count` of the points, which break no rule. What the rules ask of it
@@ -330,26 +330,26 @@ impl<'a> History<'a> {
     }
 
     /// What the node of a point that comes next has before it, and what it sees.
-    pub fn sight(&self, point: &Point<'_>) -> Result<Sight, AllocError>
+    pub fn new_node(&self, point: &Point<'_>) -> Result<NewNode, AllocError>
         ensures { IfOk result (λ s. IsApartFrom (nodes (past self.now)) (next_node (past self.now) (point_of point.now) (act_next (action_of point.now.action)))
-            → IsSight (nodes (past self.now)) (next_node (past self.now) (point_of point.now) (act_next (action_of point.now.action))) s) }
+            → IsNewNode (nodes (past self.now)) (next_node (past self.now) (point_of point.now) (act_next (action_of point.now.action))) s) }
     {
-        self.tables.frontier.sight(point, &act_of(point))
+        self.tables.frontier.new_node(point, &act_of(point))
     }
 
-    /// How the node that a sight is of accesses a resource, where it comes next.
+    /// How the node that comes next accesses a resource.
     pub fn access<'b>(
         &'b self,
-        sight: &'b Sight,
+        new_node: &'b NewNode,
         resource: u32,
         access: Access,
     ) -> ResourceAccess<'b>
-        ensures access { IsAccess (past self.now) sight.now result.bytes access result }
+        ensures access { IsAccess (past self.now) new_node.now result.bytes access result }
         ensures bytes { AreBytesOf (past self.now) resource result.bytes }
     {
         ResourceAccess {
             frontier: &self.tables.frontier,
-            sight,
+            new_node,
             bytes: self.bytes(resource),
             access,
         }

@@ -6,7 +6,7 @@ ghost use Rattle.vk_model.specs.World.Ownership.{uses, named_by};
 ghost use Rattle.vk_model.specs.Sync.Node.{Node, with_acts, command_acts, Depends, Barrier};
 ghost use Rattle.vk_model.specs.Sync.Before.{before, IsNumbered};
 ghost use Rattle.vk_order.specs.PointViews.{point_of, action_of};
-ghost use Rattle.vk_order.specs.Frontiers.{IsFrontier, IsSight};
+ghost use Rattle.vk_order.specs.Frontiers.{IsFrontier, IsNewNode};
 ghost use Rattle.vk_order.specs.Inner.Kept.{clock_at};
 ghost use Rattle.vk_model.specs.Trace.Point.{Point as AnyPoint};
 ghost use Rattle.vk_order.specs.declared.lines.Line.TheVariants.{Elements as OfElements};
@@ -19,7 +19,7 @@ use crate::used::{Used, named_by, used_by};
 use std::alloc::{AllocError, Global};
 use std::collections::BTreeMap;
 use vk_model::{Cmd, Element};
-use vk_order::{Act, Frontier, Line, Point, Sight};
+use vk_order::{Act, Frontier, Line, Point, NewNode};
 
 /// Where the last node on a line that names a resource is.
 #[derive(Clone, Copy)]
@@ -106,12 +106,12 @@ impl LastUses {
     }
 
     /// Whether a node that names a resource isn't before the one that comes next, which sees this.
-    pub fn is_unfinished(&self, resource: u32, sight: &Sight) -> bool
-        ensures { (ns : List Node) (n : Node) → IsSight ns n sight.now → AreLast (uses_in self.now resource) ns resource
+    pub fn is_unfinished(&self, resource: u32, new_node: &NewNode) -> bool
+        ensures { (ns : List Node) (n : Node) → IsNewNode ns n new_node.now → AreLast (uses_in self.now resource) ns resource
             → result ≡ list_any (λ m. names_it resource m && not (before (n ∷ ns) m n)) ns }
     {
         match self.uses.get(&resource) {
-            Some(kept) => is_some_left(kept.as_slice(), sight),
+            Some(kept) => is_some_left(kept.as_slice(), new_node),
             None => false,
         }
     }
@@ -235,11 +235,11 @@ fn on_line(kept: &[LastUse], line: Line) -> Option<usize>
     None
 }
 
-fn is_some_left(kept: &[LastUse], sight: &Sight) -> bool
-    ensures { (ns : List Node) (n : Node) (r : ℕ) → IsSight ns n sight.now → AreLast kept.now ns r → result ≡ list_any (λ m. names_it r m && not (before (n ∷ ns) m n)) ns }
+fn is_some_left(kept: &[LastUse], new_node: &NewNode) -> bool
+    ensures { (ns : List Node) (n : Node) (r : ℕ) → IsNewNode ns n new_node.now → AreLast kept.now ns r → result ≡ list_any (λ m. names_it r m && not (before (n ∷ ns) m n)) ns }
 {
     for last in kept {
-        if !sight.follows(last.line, last.place) {
+        if !new_node.follows(last.line, last.place) {
             return true;
         }
     }

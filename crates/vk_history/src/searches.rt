@@ -3,7 +3,7 @@ ghost use Rattle.vk_touches.specs.Bytes.{HaveNumbers};
 ghost use Rattle.vk_touches.specs.Conflicts.{Misses, MissesAt, MissesRead, MissesWrite, IsEarly, HasEarlyCommand, FoundIn, FoundAt};
 
 use crate::resource_contents::ResourceContents;
-use vk_order::Sight;
+use vk_order::NewNode;
 use vk_touches::{Part, ResourceAccess, TransitionAccess};
 
 impl ResourceContents {
@@ -47,20 +47,20 @@ impl ResourceContents {
 
     /// Whether one has a last read, by the host or by a command of some queue, or a last layout
     /// transition that doesn't come before a command.
-    pub fn has_early(&self, offset: u64, size: u64, sight: &Sight) -> bool
-        ensures { offset + size ≤ length self.now.touches → FoundIn (IsEarly sight.now) result self.now.touches offset (offset + size) }
+    pub fn has_early(&self, offset: u64, size: u64, new_node: &NewNode) -> bool
+        ensures { offset + size ≤ length self.now.touches → FoundIn (IsEarly new_node.now) result self.now.touches offset (offset + size) }
     {
         let part = Part::of(offset, 0, size, self.touches.len());
-        self.touches.has_early(part.low, part.high, sight)
+        self.touches.has_early(part.low, part.high, new_node)
     }
 
     /// Whether one has a last read by a command of some queue that doesn't come before an entry of
     /// the host.
-    pub fn has_early_command(&self, offset: u64, size: u64, sight: &Sight) -> bool
-        ensures { offset + size ≤ length self.now.touches → FoundIn (HasEarlyCommand sight.now) result self.now.touches offset (offset + size) }
+    pub fn has_early_command(&self, offset: u64, size: u64, new_node: &NewNode) -> bool
+        ensures { offset + size ≤ length self.now.touches → FoundIn (HasEarlyCommand new_node.now) result self.now.touches offset (offset + size) }
     {
         let part = Part::of(offset, 0, size, self.touches.len());
-        self.touches.has_early_command(part.low, part.high, sight)
+        self.touches.has_early_command(part.low, part.high, new_node)
     }
 
     /// Whether a byte of a range is undefined.

@@ -5,7 +5,7 @@ ghost use Rattle.vk_model.specs.Trace.Structure.{IsOrdered};
 ghost use Rattle.vk_model.specs.Sync.Node.{nodes, Hosts};
 ghost use Rattle.vk_model.specs.Sync.Complete as complete;
 ghost use Rattle.vk_order.specs.PointViews.{point_of};
-ghost use Rattle.vk_order.specs.Frontiers.{IsFrontier, IsSight};
+ghost use Rattle.vk_order.specs.Frontiers.{IsFrontier, IsNewNode};
 ghost use Rattle.vk_touches.specs.Touched.{next_node};
 ghost use Rattle.vk_history.specs.Counted.{count_at};
 ghost use Rattle.vk_history.specs.Uses.{AreUses, times_submitted};
@@ -15,7 +15,7 @@ use crate::last_uses::LastUses;
 use crate::used::{count_batches, discount_command};
 use std::alloc::{AllocError, Global};
 use vk_model::Entry;
-use vk_order::{Action, Frontier, Point, Sight};
+use vk_order::{Action, Frontier, Point, NewNode};
 
 /// How resources are used by commands that were submitted.
 #[derive(Drop)]
@@ -39,11 +39,11 @@ impl Uses {
 
     /// Whether a submitted command that names a resource isn't known complete at a host entry that
     /// comes next, which sees this.
-    pub fn is_busy(&self, resource: u32, sight: &Sight) -> bool
-        ensures { (past : Past) (p : AnyPoint) (x : AnyEntry) → IsOrdered past → p.action ≡ Host x → AreUses self.now past → IsSight (nodes past) (next_node past p (Hosts x)) sight.now
+    pub fn is_busy(&self, resource: u32, new_node: &NewNode) -> bool
+        ensures { (past : Past) (p : AnyPoint) (x : AnyEntry) → IsOrdered past → p.action ≡ Host x → AreUses self.now past → IsNewNode (nodes past) (next_node past p (Hosts x)) new_node.now
             → result ≡ complete.is_busy past (nodes (p ∷ past)) (next_node past p (Hosts x)) resource }
     {
-        self.waiting.has(resource) || self.last.is_unfinished(resource, sight)
+        self.waiting.has(resource) || self.last.is_unfinished(resource, new_node)
     }
 
     /// Takes the next point, by how many nodes there are on each line.

@@ -10,6 +10,6 @@ pub mod StageSteps
 pub mod StageNext
 pub mod DefinedRuns
 pub mod DefinedBytes
-pub mod Standing
+pub mod Following
 pub mod PickedSteps
 pub mod PickedRuns

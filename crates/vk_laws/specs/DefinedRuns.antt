@@ -138,15 +138,15 @@ DefinedRunsMeanTheTrace =
     (t : List Entry) (steps : List Step) (e : Stage) (run : RunOf t steps e) (first : Byte → ℕ) (c : Byte) (v : ℕ) → first_fault t ≡ None → IsOver e
     → (world (order t)).value c ≡ Some v → bytes_after (accesses_of (order t)) first (tasks_of t steps e run) c ≡ v
 
--- ---- where a run stands
+-- ---- where a run is in its trace
 
 -- Whether an entry begins a pass (VMA, "Defragmentation").
 abbrev pub begins_pass : Entry → Bool
 begins_pass (entry.Pass d) = true
 begins_pass _ = false
 
--- A stage stands in its trace after entries that were applied and before those that are left: it has what those applied lead to in reference order, and where none of them began a pass, none is open.
-pub record StandsIn (t : List Entry) (s : Stage) : Type 0 where
+-- A stage follows its trace: it comes after entries that were applied and before those that are left: it has what those applied lead to in reference order, and where none of them began a pass, none is open.
+pub record FollowsTrace (t : List Entry) (s : Stage) : Type 0 where
   pub gone : List Entry
   pub whole : t ≡ gone ++ s.left
   pub counted : s.count ≡ length gone
@@ -154,8 +154,8 @@ pub record StandsIn (t : List Entry) (s : Stage) : Type 0 where
   pub no_pass : list_any begins_pass gone ≡ false → (s.parts ≡ 0) × (s.copied ≡ [])
 
 -- The stage of each allowed run does.
-abbrev pub DefinedRunsStand : Type 0
-DefinedRunsStand = (t : List Entry) (steps : List Step) (s : Stage) → RunOf t steps s → StandsIn t s
+abbrev pub DefinedRunsFollow : Type 0
+DefinedRunsFollow = (t : List Entry) (steps : List Step) (s : Stage) → RunOf t steps s → FollowsTrace t s
 
 -- In a run of a trace without a fault, while an entry is left it may be applied, or some piece is offered.
 abbrev pub DefinedRunsGoOn : Type 0

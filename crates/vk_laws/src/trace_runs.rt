@@ -1,5 +1,5 @@
 //! The allowed runs of the definitions are runs of the machine, so the law speaks of them.
-ghost use Rattle.vk_laws.specs.DefinedRuns.{DefinedRunsAreAllowed, DefinedRunsAreFresh, DefinedRunsAreSettled, DefinedRunsAreWritten, DefinedRunsEnd, DefinedRunsGoOn, DefinedRunsMeanTheTrace, DefinedRunsStand, EarliestAreOffered, OfferedArePieces};
+ghost use Rattle.vk_laws.specs.DefinedRuns.{DefinedRunsAreAllowed, DefinedRunsAreFresh, DefinedRunsAreSettled, DefinedRunsAreWritten, DefinedRunsEnd, DefinedRunsGoOn, DefinedRunsMeanTheTrace, DefinedRunsFollow, EarliestAreOffered, OfferedArePieces};
 
 use crate::tasks::{trace_is_fresh, trace_is_hazard_free, trace_is_modelled, trace_is_settled};
 use vk_model::{
@@ -56,11 +56,11 @@ pub fn defined_runs_end()
     trace_is_fresh();
 }
 
-/// The stage of each allowed run stands in its trace: some entries were applied, in reference
+/// The stage of each allowed run follows its trace: some entries were applied, in reference
 /// order, and the others are left; it has counted those applied, and where none of them began a
 /// pass, no pass is open.
-pub fn defined_runs_stand()
-    ensures { DefinedRunsStand }
+pub fn defined_runs_follow()
+    ensures { DefinedRunsFollow }
 {
     growth_keeps();
 }

@@ -17,11 +17,11 @@ use Rattle.vk_model.proofs.Sync.Paths.{before_of_path, path_of_before, joined}
 use Rattle.vk_links.specs.declared.links.Missing.{Missing}
 use Rattle.vk_links.specs.declared.links.Missing.TheVariants as missing
 use Rattle.vk_links.specs.Links.{cached, needs_flush, flushes_after, makes_available, is_available_at, shows_host, shows_in_time, HasSome, IsMissingAfterWrite}
-use Rattle.vk_links.proofs.SendingLemmas.{is_asked, flushed}
+use Rattle.vk_links.proofs.AvailabilityLemmas.{is_asked, flushed}
 
 -- ---- the link, by what is there
 
-pick : (needed flush available by_host on_host there shown awaited : Bool) → Missing
+pick : (needed flush available by_host on_host there shows_some awaited : Bool) → Missing
 pick n f v h d t s p = cond (n && not f) missing.Flush (cond (not v) (cond h missing.Submit missing.Available) (cond d (cond (not s) missing.Visible (cond (not p) missing.Wait missing.Invalidation)) (cond t missing.Visible missing.Order)))
 
 unneeded : (n f : Bool) → (n ≡ true → f ≡ true) → (n && not f) ≡ false
@@ -50,9 +50,9 @@ module _ (n f v h d t s p : Bool) where
     unfolding pick
     pick_invisible ev ed et = rw (unneeded n f flush, ev, ed, et) refl
 
-    pick_unshown : v ≡ true → d ≡ true → s ≡ false → missing.Visible ≡ pick n f v h d t s p
+    pick_invisible_on_host : v ≡ true → d ≡ true → s ≡ false → missing.Visible ≡ pick n f v h d t s p
     unfolding pick
-    pick_unshown ev ed es = rw (unneeded n f flush, ev, ed, es) refl
+    pick_invisible_on_host ev ed es = rw (unneeded n f flush, ev, ed, es) refl
 
     pick_wait : v ≡ true → d ≡ true → s ≡ true → p ≡ false → missing.Wait ≡ pick n f v h d t s p
     unfolding pick
@@ -96,14 +96,14 @@ module _ (past : Past) (w a : Node) (k : Access) (b : Byte) (cw : Contains (node
       (p.0, p.1, (and_parts (makes_available past w b p.0) (same_node p.0 q || before all p.0 q) p.2).0)
 
   -- what an element that shows it to the host has
-  shown_host : (q : Node) → shows_host past w a k b q ≡ true → is_host a.act ≡ true
-  shown_host q h = (and_parts (is_host a.act) _ h).0
+  visible_host : (q : Node) → shows_host past w a k b q ≡ true → is_host a.act ≡ true
+  visible_host q h = (and_parts (is_host a.act) _ h).0
 
-  shown_available : (q : Node) → shows_host past w a k b q ≡ true → is_available_at past w b q ≡ true
-  shown_available q h = (and_parts (to_host q.act && makes_writes_visible (cached past) all (host_mask k) b q q.act) (is_available_at past w b q) (and_parts (is_host a.act) _ h).1).1
+  visible_available : (q : Node) → shows_host past w a k b q ≡ true → is_available_at past w b q ≡ true
+  visible_available q h = (and_parts (to_host q.act && makes_writes_visible (cached past) all (host_mask k) b q q.act) (is_available_at past w b q) (and_parts (is_host a.act) _ h).1).1
 
-  shown_of : HasSome past (shows_in_time past w a k b) → HasSome past (shows_host past w a k b)
-  shown_of q = (q.0, q.1, (and_parts (shows_host past w a k b q.0) (before all q.0 a) q.2).0)
+  visible_of : HasSome past (shows_in_time past w a k b) → HasSome past (shows_host past w a k b)
+  visible_of q = (q.0, q.1, (and_parts (shows_host past w a k b q.0) (before all q.0 a) q.2).0)
 
   abbrev chosen : Missing
   chosen = pick (needs_flush past w b) (any (flushes_after past w b)) (any (makes_available past w b)) (is_host w.act) (is_host a.act) (is_available_at past w b a) (any (shows_host past w a k b)) (any (shows_in_time past w a k b))
@@ -120,15 +120,15 @@ module _ (past : Past) (w a : Node) (k : Access) (b : Byte) (cw : Contains (node
   chosen_is missing.Visible (inl is) =
       let some = available_some a is.available in
       pick_invisible _ _ _ _ _ _ _ _ (flush_of some) (some_any (makes_available past w b) some) is.on_device is.available
-  chosen_is missing.Visible (inr is) = pick_unshown _ _ _ _ _ _ _ _ (flush_of is.available) (some_any (makes_available past w b) is.available) is.on_host (none_passes_any (shows_host past w a k b) all is.missing)
+  chosen_is missing.Visible (inr is) = pick_invisible_on_host _ _ _ _ _ _ _ _ (flush_of is.available) (some_any (makes_available past w b) is.available) is.on_host (none_passes_any (shows_host past w a k b) all is.missing)
   chosen_is missing.Wait is =
-      let q = is.shown in
-      let some = available_some q.0 (shown_available q.0 q.2) in
-      pick_wait _ _ _ _ _ _ _ _ (flush_of some) (some_any (makes_available past w b) some) (shown_host q.0 q.2) (some_any (shows_host past w a k b) q) (none_passes_any (shows_in_time past w a k b) all is.missing)
+      let q = is.shows_some in
+      let some = available_some q.0 (visible_available q.0 q.2) in
+      pick_wait _ _ _ _ _ _ _ _ (flush_of some) (some_any (makes_available past w b) some) (visible_host q.0 q.2) (some_any (shows_host past w a k b) q) (none_passes_any (shows_in_time past w a k b) all is.missing)
   chosen_is missing.Invalidation is =
-      let q = shown_of is.awaited in
-      let some = available_some q.0 (shown_available q.0 q.2) in
-      pick_invalidation _ _ _ _ _ _ _ _ (flush_of some) (some_any (makes_available past w b) some) (shown_host q.0 q.2) (some_any (shows_host past w a k b) q) (some_any (shows_in_time past w a k b) is.awaited)
+      let q = visible_of is.awaited in
+      let some = available_some q.0 (visible_available q.0 q.2) in
+      pick_invalidation _ _ _ _ _ _ _ _ (flush_of some) (some_any (makes_available past w b) some) (visible_host q.0 q.2) (some_any (shows_host past w a k b) q) (some_any (shows_in_time past w a k b) is.awaited)
 
   pub one : (m n : Missing) → IsMissingAfterWrite past w a k b m → IsMissingAfterWrite past w a k b n → m ≡ n
   one m n is other = chosen_is m is ∙ sym (chosen_is n other)
@@ -185,11 +185,11 @@ module _ (past : Past) (w a : Node) (k : Access) (b : Byte) (cw : Contains (node
     at_q : is_available_at past w b y.q ≡ true
     at_q = there_at y.p y.q y.has_p y.available y.between
 
-    shown_q : is_host a.act ≡ true → shows_host past w a k b y.q ≡ true
-    shown_q h = and_from (is_host a.act) _ h (and_from (to_host y.q.act && makes_writes_visible (cached past) all (host_mask k) b y.q y.q.act) _ (host_parts a.act h y.q y.visible).1 at_q)
+    visible_q : is_host a.act ≡ true → shows_host past w a k b y.q ≡ true
+    visible_q h = and_from (is_host a.act) _ h (and_from (to_host y.q.act && makes_writes_visible (cached past) all (host_mask k) b y.q y.q.act) _ (host_parts a.act h y.q y.visible).1 at_q)
 
     in_time_q : is_host a.act ≡ true → shows_in_time past w a k b y.q ≡ true
-    in_time_q h = and_from (shows_host past w a k b y.q) _ (shown_q h) (host_parts a.act h y.q y.visible).0
+    in_time_q h = and_from (shows_host past w a k b y.q) _ (visible_q h) (host_parts a.act h y.q y.visible).0
 
     some_p : HasSome past (makes_available past w b)
     some_p = (y.p, y.has_p, y.available)
@@ -200,10 +200,10 @@ module _ (past : Past) (w a : Node) (k : Access) (b : Byte) (cw : Contains (node
     lacks_none missing.Available is = clash y.available (is.missing y.p y.has_p)
     lacks_none missing.Order is = clash (there_at y.p a y.has_p y.available (onward y.p y.q a y.has_p y.has_q ca y.between y.reached)) is.missing
     lacks_none missing.Visible (inl is) = clash (and_from (is_available_at past w b y.q) _ at_q y.visible) (is.missing y.q y.has_q)
-    lacks_none missing.Visible (inr is) = clash (shown_q is.on_host) (is.missing y.q y.has_q)
-    lacks_none missing.Wait is = clash (in_time_q (shown_host is.shown.0 is.shown.2)) (is.missing y.q y.has_q)
+    lacks_none missing.Visible (inr is) = clash (visible_q is.on_host) (is.missing y.q y.has_q)
+    lacks_none missing.Wait is = clash (in_time_q (visible_host is.shows_some.0 is.shows_some.2)) (is.missing y.q y.has_q)
     lacks_none missing.Invalidation is =
-        let h = shown_host (shown_of is.awaited).0 (shown_of is.awaited).2 in
+        let h = visible_host (visible_of is.awaited).0 (visible_of is.awaited).2 in
         let fresh : passes (cached past) all (λ f. invalidates f b) y.q a ≡ true = ap (λ (t : Bool). not t || passes (cached past) all (λ f. invalidates f b) y.q a) (sym is.needed) ∙ (host_parts a.act h y.q y.visible).2 in
         clash (and_from (shows_in_time past w a k b y.q) _ (in_time_q h) fresh) (is.missing y.q y.has_q)
 

@@ -1,4 +1,4 @@
--- The point that a trace is refused at, and what is told of it.
+-- The point that a trace is refused at, and what is reported of it.
 use Rattle.std.proofs.Common.{◌≡◌, ◌∷◌, List, Some, None, true, Option, sym, ap, ◌∙◌, subst, ◌&&◌}
 use Rattle.std.specs.Prelude.{Contains, MatchOption}
 use Rattle.std.proofs.lemmas.Bool.{and_parts}
@@ -24,7 +24,7 @@ use Rattle.vk_links.specs.declared.links.Links.{Links}
 use Rattle.vk_links.specs.Links.{AreLinks}
 use Rattle.vk_links.specs.Faults.{AreLinksAt}
 
--- ---- what is told of a hazard
+-- ---- what is reported of a hazard
 
 -- two nodes of a past of which something is missing
 pub record IsLacking (past : Past) (f : HazardFact) : Type 0 where
@@ -34,14 +34,14 @@ pub record IsLacking (past : Past) (f : HazardFact) : Type 0 where
 
 lacking_of : (past : Past) (p : Point) (h : Hazard) (f : HazardFact) → IsHazardOf past p h (Some f) → IsLacking (p ∷ past) f
 lacking_of past p h f best =
-    let told = best.told in
-    let of = told.3 in
-    let is : is_missing (p ∷ past) h (node_at f.earlier) told.0 (byte_of f.byte) ≡ true = (and_parts (is_in (byte_of f.byte) (earlier_bytes (p ∷ past) h (node_at f.earlier)) && is_in (byte_of f.byte) (later_bytes (p ∷ past) h told.0)) _ of.found.1).1 in
+    let reported = best.reported in
+    let of = reported.3 in
+    let is : is_missing (p ∷ past) h (node_at f.earlier) reported.0 (byte_of f.byte) ≡ true = (and_parts (is_in (byte_of f.byte) (earlier_bytes (p ∷ past) h (node_at f.earlier)) && is_in (byte_of f.byte) (later_bytes (p ∷ past) h reported.0)) _ of.found.1).1 in
     record {
       earlier = of.earlier;
-      later = subst (λ (n : Node). Contains (nodes (p ∷ past)) n) (sym of.later) told.1;
+      later = subst (λ (n : Node). Contains (nodes (p ∷ past)) n) (sym of.later) reported.1;
       hazard = subst (λ (n : Node). is_missing (p ∷ past) f.hazard (node_at f.earlier) n (byte_of f.byte) ≡ true) (sym of.later)
-          (subst (λ (g : Hazard). is_missing (p ∷ past) g (node_at f.earlier) told.0 (byte_of f.byte) ≡ true) (sym of.hazard) is);
+          (subst (λ (g : Hazard). is_missing (p ∷ past) g (node_at f.earlier) reported.0 (byte_of f.byte) ≡ true) (sym of.hazard) is);
     }
 
 lacking : (r : Rule) (past : Past) (p : Point) (f : HazardFact) → IsSo r past p (fact.Hazard f) → IsLacking (p ∷ past) f
@@ -50,12 +50,12 @@ lacking rule.HazardRaw past p f so = lacking_of past p Raw f so
 lacking rule.HazardWaw past p f so = lacking_of past p Waw f so
 lacking _ past p f so = absurd so
 
--- the point that is told of is the one up to which points are
+-- the point that is reported of is the one up to which points are
 pub until_lacking : (t : List Entry) (at : At) (r : Rule) (f : HazardFact) (past : Past) → IsToldOf t at r (Some (fact.Hazard f)) → IsUntil (order t) at past → IsLacking past f
-until_lacking t at r f past told until =
-    let same = same_point (order t) told.before told.point told.comes until.before until.point until.comes (order_ordered t) (told.is_reported ∙ sym until.is_reported) in
-    let here : told.point ∷ told.before ≡ past = ap (λ (b : Past). told.point ∷ b) same.0 ∙ ap (λ (p : Point). p ∷ until.before) same.1 ∙ sym until.here in
-    subst (λ (l : Past). IsLacking l f) here (lacking r told.before told.point f told.told)
+until_lacking t at r f past reported until =
+    let same = same_point (order t) reported.before reported.point reported.comes until.before until.point until.comes (order_ordered t) (reported.is_reported ∙ sym until.is_reported) in
+    let here : reported.point ∷ reported.before ≡ past = ap (λ (b : Past). reported.point ∷ b) same.0 ∙ ap (λ (p : Point). p ∷ until.before) same.1 ∙ sym until.here in
+    subst (λ (l : Past). IsLacking l f) here (lacking r reported.before reported.point f reported.reported)
 
 pub until_links : (t : List Entry) (at : At) (f : HazardFact) (past : Past) (l : Links) → IsUntil (order t) at past → AreLinks past f.hazard (node_at f.earlier) (node_at f.later) (byte_of f.byte) l → AreLinksAt t at f l
 until_links t at f past l until are = record {
@@ -69,5 +69,5 @@ until_links t at f past l until are = record {
 pub until_some : (t : List Entry) (at : At) (found : Option Past) (past : Past) → found ≡ Some past → MatchOption found (IsNowhere (order t) at) (IsUntil (order t) at) → IsUntil (order t) at past
 until_some t at found past is of = subst (λ (o : Option Past). MatchOption o (IsNowhere (order t) at) (IsUntil (order t) at)) is of
 
-pub told_somewhere : (t : List Entry) (at : At) (r : Rule) (f : HazardFact) (found : Option Past) → found ≡ None → IsToldOf t at r (Some (fact.Hazard f)) → MatchOption found (IsNowhere (order t) at) (IsUntil (order t) at) → ⊥
-told_somewhere t at r f found is told of = (subst (λ (o : Option Past). MatchOption o (IsNowhere (order t) at) (IsUntil (order t) at)) is of) told.before told.point told.comes told.is_reported
+pub reported_somewhere : (t : List Entry) (at : At) (r : Rule) (f : HazardFact) (found : Option Past) → found ≡ None → IsToldOf t at r (Some (fact.Hazard f)) → MatchOption found (IsNowhere (order t) at) (IsUntil (order t) at) → ⊥
+reported_somewhere t at r f found is reported of = (subst (λ (o : Option Past). MatchOption o (IsNowhere (order t) at) (IsUntil (order t) at)) is of) reported.before reported.point reported.comes reported.is_reported

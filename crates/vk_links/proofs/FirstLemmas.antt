@@ -23,10 +23,10 @@ module _ (past : Past) (test : Node → Bool) where
   pub none_found : (k : ℕ) → NoneBelow past test k → length (nodes past) ≤ k → IsFirst past test None
   none_found k below le = λ n cn. below n cn (let lt = number_below (nodes past) (numbered past) n cn in omega arith)
 
-  -- what is told, by whether something is
-  pub told_none : (o : Option Placed) → IsFirst past test o → o ≡ None → HasNone past test
-  told_none o first is = subst (λ (p : Option Placed). IsFirst past test p) is first
+  -- what is reported, by whether something is
+  pub reported_none : (o : Option Placed) → IsFirst past test o → o ≡ None → HasNone past test
+  reported_none o first is = subst (λ (p : Option Placed). IsFirst past test p) is first
 
-  pub told_some : (o : Option Placed) → IsFirst past test o → is_some o ≡ true → HasSome past test
-  told_some (Some p) first is = (node_at p, first.there, first.passes)
-  told_some None first is = absurd cc
+  pub reported_some : (o : Option Placed) → IsFirst past test o → is_some o ≡ true → HasSome past test
+  reported_some (Some p) first is = (node_at p, first.there, first.passes)
+  reported_some None first is = absurd cc

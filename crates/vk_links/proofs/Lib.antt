@@ -1,7 +1,7 @@
 mod FirstLemmas
 mod EdgeLemmas
-mod SendingLemmas
-mod ShowingLemmas
+mod AvailabilityLemmas
+mod VisibilityLemmas
 mod MissingLemmas
 mod ExactLemmas
 mod FaultLemmas

@@ -1,4 +1,4 @@
 -- What only the contracts within the crate cite.
 pub mod IsKept
-pub mod Sent
+pub mod Availability
 pub mod Found

@@ -70,7 +70,7 @@ pub record IsFirstNode (past : Past) (test : Node → Bool) (n : Node) : Type 0 
   pub passes : IsTrue (test n)
   pub first : (m : Node) → Contains (nodes past) m → m.number < n.number → test m ≡ false
 
--- The node that is told is the first that does; none is told where none does.
+-- The node that is reported is the first that does; none is reported where none does.
 abbrev pub IsFirst : Past → (Node → Bool) → Option Placed → Type 0
 IsFirst past test None = HasNone past test
 IsFirst past test (Some p) = IsFirstNode past test (node_at p)
@@ -106,14 +106,14 @@ pub record IsInvisible (past : Past) (w a : Node) (k : Access) (b : Byte) : Type
   pub missing : HasNone past (makes_visible past w a k b)
 
 -- The access is the host's, some node makes the write available, and none makes it visible to the host.
-pub record IsUnshown (past : Past) (w a : Node) (k : Access) (b : Byte) : Type 0 where
+pub record IsInvisibleOnHost (past : Past) (w a : Node) (k : Access) (b : Byte) : Type 0 where
   pub on_host : IsTrue (is_host a.act)
   pub available : HasSome past (makes_available past w b)
   pub missing : HasNone past (shows_host past w a k b)
 
 -- Some node makes it visible to the host, and none that does is before the access.
 pub record IsUnawaited (past : Past) (w a : Node) (k : Access) (b : Byte) : Type 0 where
-  pub shown : HasSome past (shows_host past w a k b)
+  pub shows_some : HasSome past (shows_host past w a k b)
   pub missing : HasNone past (shows_in_time past w a k b)
 
 -- Some such node is before the access, a read of memory that the host reaches through a cache, and no invalidation of the byte is between one and the access.
@@ -128,18 +128,18 @@ IsMissingAfterWrite past w a k b missing.Flush = IsUnflushed past w b
 IsMissingAfterWrite past w a k b missing.Submit = IsUnsubmitted past w b
 IsMissingAfterWrite past w a k b missing.Available = IsUnavailable past w b
 IsMissingAfterWrite past w a k b missing.Order = IsUnordered past w a b
-IsMissingAfterWrite past w a k b missing.Visible = IsInvisible past w a k b ⊎ IsUnshown past w a k b
+IsMissingAfterWrite past w a k b missing.Visible = IsInvisible past w a k b ⊎ IsInvisibleOnHost past w a k b
 IsMissingAfterWrite past w a k b missing.Wait = IsUnawaited past w a k b
 IsMissingAfterWrite past w a k b missing.Invalidation = IsUninvalidated past w a k b
 
--- ---- what is told
+-- ---- what is reported
 
--- What is told of two nodes of which the earlier reads the byte: that it isn't before the later one, and nothing else.
+-- What is reported of two nodes of which the earlier reads the byte: that it isn't before the later one, and nothing else.
 pub record IsOrderAlone (past : Past) (x y : Node) (l : Links) : Type 0 where
   pub unordered : before (nodes past) x y ≡ false
-  pub told : l ≡ record { missing = missing.Order; flush = None; available = None; visible = None; awaited = None }
+  pub reported : l ≡ record { missing = missing.Order; flush = None; available = None; visible = None; awaited = None }
 
--- What is told of node w's write of a byte and node a's access that doesn't see it: the missing link, and the first node that each of the others is by.
+-- What is reported of node w's write of a byte and node a's access that doesn't see it: the missing link, and the first node that each of the others is by.
 pub record AreLinksOfWrite (past : Past) (w a : Node) (k : Access) (b : Byte) (l : Links) : Type 0 where
   pub missing : IsMissingAfterWrite past w a k b l.missing
   pub flush : IsFirst past (flushes_after past w b) l.flush
@@ -147,7 +147,7 @@ pub record AreLinksOfWrite (past : Past) (w a : Node) (k : Access) (b : Byte) (l
   pub visible : IsFirst past (shows_host past w a k b) l.visible
   pub awaited : IsFirst past (shows_in_time past w a k b) l.awaited
 
--- What is told of two nodes that are in hazard at a byte. After a read the order is missing, and nothing else is asked (Vulkan, "Execution and Memory Dependencies", on data hazards).
+-- What is reported of two nodes that are in hazard at a byte. After a read the order is missing, and nothing else is asked (Vulkan, "Execution and Memory Dependencies", on data hazards).
 abbrev pub AreLinks : Past → Hazard → Node → Node → Byte → Links → Type 0
 AreLinks past War x y b l = IsOrderAlone past x y l
 AreLinks past Raw x y b l = AreLinksOfWrite past x y Read b l

@@ -6,8 +6,8 @@ mod faults;
 mod laws;
 mod links;
 mod nodes;
-mod sending;
-mod showing;
+mod availability;
+mod visibility;
 
 pub use faults::links_of_fault;
 pub use laws::missing_is_one;

@@ -12,8 +12,8 @@ ghost use Rattle.vk_links.specs.Links.{needs_flush, AreLinks, AreLinksOfWrite, I
 ghost use Rattle.vk_links.specs.Inner.Found.{AreFound};
 
 use crate::nodes::Nodes;
-use crate::sending::Write;
-use crate::showing::Pair;
+use crate::availability::Write;
+use crate::visibility::Pair;
 use std::alloc::AllocError;
 use vk_facts::{Hazard, HazardFact, Placed};
 use vk_order::{Access, Byte};
@@ -121,7 +121,7 @@ impl<'a> Nodes<'a> {
         let byte = fact.byte;
         let needs_flush = self.needs_flush(&by, byte);
         let flush = self.flush_after(&by, byte, needs_flush);
-        let from = self.sent_from(&by, needs_flush, &flush);
+        let from = self.available_from(&by, needs_flush, &flush);
         let write = Write { by, from, byte };
         let firsts = self.firsts(&write)?;
         let pair = Pair {
@@ -132,8 +132,8 @@ impl<'a> Nodes<'a> {
         Ok(Found {
             needs_flush,
             flush,
-            available: self.first_sender(&write),
-            visible: self.first_shown(&pair, firsts.as_slice()),
+            available: self.first_available(&write),
+            visible: self.first_visible(&pair, firsts.as_slice()),
             awaited: self.first_in_time(&pair, firsts.as_slice()),
             is_there: self.is_available_at(&write, firsts.as_slice(), fact.later.number),
         })
@@ -169,7 +169,7 @@ fn first_missing(earlier: &Placed<'_>, later: &Placed<'_>, found: &Found<'_>) ->
         return Missing::Flush;
     }
     if found.available.is_none() {
-        return unsent(earlier);
+        return not_available(earlier);
     }
     if later.row.act.is_host() {
         unseen_by_host(found)
@@ -181,7 +181,7 @@ fn first_missing(earlier: &Placed<'_>, later: &Placed<'_>, found: &Found<'_>) ->
 }
 
 /// The link without which a write isn't available.
-fn unsent(earlier: &Placed<'_>) -> Missing
+fn not_available(earlier: &Placed<'_>) -> Missing
     ensures by_host { is_host (node_at earlier.now).act ≡ true → result ≡ Missing.Submit }
     ensures by_device { is_host (node_at earlier.now).act ≡ false → result ≡ Missing.Available }
 {
@@ -194,7 +194,7 @@ fn unsent(earlier: &Placed<'_>) -> Missing
 
 /// The link without which the host doesn't see a write that is available.
 fn unseen_by_host(found: &Found<'_>) -> Missing
-    ensures shown { found.now.visible ≡ None → result ≡ Missing.Visible }
+    ensures shows_some { found.now.visible ≡ None → result ≡ Missing.Visible }
     ensures awaited { is_some found.now.visible ≡ true → found.now.awaited ≡ None → result ≡ Missing.Wait }
     ensures rest { is_some found.now.visible ≡ true → is_some found.now.awaited ≡ true → result ≡ Missing.Invalidation }
 {

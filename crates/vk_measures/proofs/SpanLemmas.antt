@@ -12,12 +12,12 @@ use Rattle.vk_measures.specs.Inner.Subresources.{IsSpanIn}
 
 -- what isn't of what the image was made with isn't of the image
 pub of_image : (past : Past) (i : ℕ) (m : ImageInfo) (areas : Item → Option Area) (o : Outside) → Some m ≡ image past i → IsSpanIn m i areas o → IsOutsideOf past areas o
-of_image past i m areas o is told =
+of_image past i m areas o is reported =
     let numbers = λ (n : ImageInfo). option_and_then (span_in n o.axis) (areas o.item) in
-    (told.1 ∙ ap Some (sym told.0), ap (λ (k : ℕ). option_and_then numbers (image past k)) told.0 ∙ ap (option_and_then numbers) (sym is) ∙ told.2, told.3)
+    (reported.1 ∙ ap Some (sym reported.0), ap (λ (k : ℕ). option_and_then numbers (image past k)) reported.0 ∙ ap (option_and_then numbers) (sym is) ∙ reported.2, reported.3)
 
--- the same of areas that are told for each number
+-- the same of areas that are reported for each number
 pub of_image_each : (past : Past) (i : ℕ) (m : ImageInfo) (areas : ℕ → Item → Option Area) (r : Option Outside) → Some m ≡ image past i
     → IfSome r (λ o. (n : ℕ) → IsSpanIn m i (areas n) o) → IfSome r (λ o. (n : ℕ) → IsOutsideOf past (areas n) o)
-of_image_each past i m areas None is told = tt
-of_image_each past i m areas (Some o) is told = λ n. of_image past i m (areas n) o is (told n)
+of_image_each past i m areas None is reported = tt
+of_image_each past i m areas (Some o) is reported = λ n. of_image past i m (areas n) o is (reported n)

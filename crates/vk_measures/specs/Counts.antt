@@ -123,7 +123,7 @@ command_limits past (cmd.CopyImage s l d m gs) item.Only quantity.Items = Some (
 command_limits past (cmd.Barrier es) q v = elements_limits es q v
 command_limits past _ _ _ = None
 
--- ---- what is told
+-- ---- what is reported
 
 -- This is one of some numbers, and it is under its least value or over its greatest.
 abbrev pub IsAmount : (Item → Quantity → Option Limits) → Amount → Type 0
@@ -134,17 +134,17 @@ abbrev pub IsSizeOf : (Item → Quantity → Option Limits) → SizeMeasure → 
 IsSizeOf numbers (measure.Amount m) = IsAmount numbers m
 IsSizeOf numbers (measure.Block n) = ⊥
 
--- What is told of a pool: one of its numbers, or the bytes of a block, which aren't a multiple of 1,024.
+-- What is reported of a pool: one of its numbers, or the bytes of a block, which aren't a multiple of 1,024.
 abbrev pub IsPoolSize : PoolInfo → SizeMeasure → Type 0
 IsPoolSize p (measure.Amount m) = IsAmount (pool_limits p) m
 IsPoolSize p (measure.Block n) = (p.block_size ≡ n) × (n % 1024 ≢ 0)
 
--- What is told of a host entry.
+-- What is reported of a host entry.
 abbrev pub IsHostSize : Entry → SizeMeasure → Type 0
 IsHostSize (entry.Pool i p) m = IsPoolSize p m
 IsHostSize x m = IsSizeOf (host_limits x) m
 
--- What is told of an action that breaks SIZE.
+-- What is reported of an action that breaks SIZE.
 abbrev pub IsSize : Past → Action → SizeMeasure → Type 0
 IsSize past (Host x) m = IsHostSize x m
 IsSize past (Run c) m = IsSizeOf (command_limits past c) m

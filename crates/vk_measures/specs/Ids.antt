@@ -9,7 +9,7 @@ use Rattle.vk_measures.specs.declared.queues.QueueUse.{QueueUse}
 use Rattle.vk_measures.specs.declared.queues.QueueCommand.{QueueCommand}
 use Rattle.vk_measures.specs.declared.queues.QueueCommand.TheVariants as command
 
--- What is told of an action that breaks QUEUE: it submits to this queue, which is over 3.
+-- What is reported of an action that breaks QUEUE: it submits to this queue, which is over 3.
 abbrev pub IsQueue : Action → QueueNumber → Type 0
 IsQueue (Host (entry.Submit q bs)) m = (m.queue ≡ q) × (3 < m.queue)
 IsQueue _ m = ⊥
@@ -21,6 +21,6 @@ queue_command (cmd.Set v ms) = Some command.Set
 queue_command (cmd.Await v ms) = Some command.Await
 queue_command _ = None
 
--- What is told of a point that breaks QUEUE_KIND: it is on this queue, which is 2 or above, and does that.
+-- What is reported of a point that breaks QUEUE_KIND: it is on this queue, which is 2 or above, and does that.
 abbrev pub IsQueueKind : Point → QueueUse → Type 0
 IsQueueKind p m = (m.queue ≡ p.queue) × (2 ≤ m.queue) × (option_and_then queue_command (command_of p.action) ≡ Some m.command)

@@ -1,4 +1,4 @@
--- What is told of a point and a rule that it breaks.
+-- What is reported of a point and a rule that it breaks.
 use Rattle.std.specs.Prelude.{◌≡◌, Bool, true, false, Option, Some, None, IsTrue}
 use Rattle.vk_model.specs.declared.rule.Rule.{Rule}
 use Rattle.vk_model.specs.declared.rule.Rule.TheVariants as rule
@@ -18,27 +18,27 @@ use Rattle.vk_measures.specs.Owners.{IsOwnerWhole}
 use Rattle.vk_measures.specs.Passes.{IsPoolKind}
 use Rattle.vk_measures.specs.Limits.{IsLimit}
 
--- Whether it is told what a rule compares.
-abbrev pub is_told : Rule → Bool
-is_told rule.Range = true
-is_told rule.Stage = true
-is_told rule.Usage = true
-is_told rule.Subresource = true
-is_told rule.BindRange = true
-is_told rule.BindAlign = true
-is_told rule.MemoryType = true
-is_told rule.MemorySize = true
-is_told rule.PoolSize = true
-is_told rule.HostVisible = true
-is_told rule.Size = true
-is_told rule.Align = true
-is_told rule.Format = true
-is_told rule.Queue = true
-is_told rule.QueueKind = true
-is_told rule.OwnerWhole = true
-is_told rule.PoolKind = true
-is_told rule.Limit = true
-is_told _ = false
+-- Whether it is reported what a rule compares.
+abbrev pub is_reported : Rule → Bool
+is_reported rule.Range = true
+is_reported rule.Stage = true
+is_reported rule.Usage = true
+is_reported rule.Subresource = true
+is_reported rule.BindRange = true
+is_reported rule.BindAlign = true
+is_reported rule.MemoryType = true
+is_reported rule.MemorySize = true
+is_reported rule.PoolSize = true
+is_reported rule.HostVisible = true
+is_reported rule.Size = true
+is_reported rule.Align = true
+is_reported rule.Format = true
+is_reported rule.Queue = true
+is_reported rule.QueueKind = true
+is_reported rule.OwnerWhole = true
+is_reported rule.PoolKind = true
+is_reported rule.Limit = true
+is_reported _ = false
 
 -- The rule that compares these numbers.
 abbrev pub rule_of : Measure → Rule
@@ -82,7 +82,7 @@ IsSo past p (measure.OwnerWhole m) = IsOwnerWhole past p.action m
 IsSo past p (measure.PoolKind m) = OnHost p.action (λ x. IsPoolKind past x m)
 IsSo past p (measure.Limit m) = IsLimit past m
 
--- A point that comes next breaks a rule by these numbers; or it doesn't break it, if it is told of the rule at all.
+-- A point that comes next breaks a rule by these numbers; or it doesn't break it, if it is reported of the rule at all.
 abbrev pub IsMeasured : Rule → Past → Point → Option Measure → Type 0
-IsMeasured r past p None = is_told r ≡ true → breaks r past p ≡ false
+IsMeasured r past p None = is_reported r ≡ true → breaks r past p ≡ false
 IsMeasured r past p (Some m) = (rule_of m ≡ r) × IsTrue (breaks r past p) × IsSo past p m

@@ -35,7 +35,7 @@ IsPartOf past es (transfer.Subresources m) =
     (option_and_then transferred_range (slice_get es m.element) ≡ Some (m.image, m.range))
     × (option_map (λ i. i.levels) (image past m.image) ≡ Some m.levels) × (option_map (λ i. i.layers) (image past m.image) ≡ Some m.layers) × (is_whole m.levels m.layers m.range ≡ false)
 
--- What is told of an action that breaks OWNER_WHOLE.
+-- What is reported of an action that breaks OWNER_WHOLE.
 abbrev pub IsOwnerWhole : Past → Action → PartTransfer → Type 0
 IsOwnerWhole past (Run (cmd.Barrier es)) m = IsPartOf past es m
 IsOwnerWhole past _ m = ⊥

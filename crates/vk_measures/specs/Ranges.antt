@@ -122,9 +122,9 @@ side_of side.Layer g = (g.image_height, g.height)
 abbrev pub IsShort : List BufferImageCopy → ShortRows → Type 0
 IsShort gs m = (option_map (side_of m.side) (slice_get gs m.region) ≡ Some (m.length, m.extent)) × (m.length ≢ 0) × (m.length < m.extent)
 
--- ---- what is told
+-- ---- what is reported
 
--- What is told of an action that breaks RANGE.
+-- What is reported of an action that breaks RANGE.
 abbrev pub IsRange : Past → Action → RangeMeasure → Type 0
 IsRange past a (measure.Bytes m) = IsPastBytes past a m
 IsRange past (Run c) (measure.Rows m) = ArePastRows past c m
@@ -133,7 +133,7 @@ IsRange past _ _ = ⊥
 
 -- ---- ALIGN
 
--- The bytes of a length; one to the end has none that is told.
+-- The bytes of a length; one to the end has none that is reported.
 abbrev pub bytes_of : Length → Option ℕ
 bytes_of (length_of.Bytes n) = Some n
 bytes_of length_of.Whole = None
@@ -171,12 +171,12 @@ abbrev pub IsMisaligned : Past → ℕ → Cmd → Misaligned → Type 0
 IsMisaligned past queue c m =
     (aligned_number c m.item m.number ≡ Some m.value) × (command_unit past queue c m.unit ≡ Some m.multiple) × (m.value % m.multiple ≢ 0)
 
--- What is told of an action on a queue that breaks ALIGN.
+-- What is reported of an action on a queue that breaks ALIGN.
 abbrev pub IsAlignOn : Past → ℕ → Action → Misaligned → Type 0
 IsAlignOn past queue (Run c) m = IsMisaligned past queue c m
 IsAlignOn past queue _ m = ⊥
 
--- What is told of a point that breaks ALIGN.
+-- What is reported of a point that breaks ALIGN.
 abbrev pub IsAlign : Past → Point → Misaligned → Type 0
 IsAlign past p m = IsAlignOn past p.queue p.action m
 
@@ -186,7 +186,7 @@ IsAlign past p m = IsAlignOn past p.queue p.action m
 abbrev pub image_texel : Past → ℕ → Option ℕ
 image_texel past i = option_map (λ m. texel m.format) (image past i)
 
--- What is told of an action that breaks FORMAT: it copies between these images, whose texels are of these sizes, and they differ.
+-- What is reported of an action that breaks FORMAT: it copies between these images, whose texels are of these sizes, and they differ.
 abbrev pub IsFormat : Past → Action → OtherTexels → Type 0
 IsFormat past (Run (cmd.CopyImage s l d k gs)) m =
     (m.source ≡ s) × (m.destination ≡ d) × (image_texel past s ≡ Some m.source_texel) × (image_texel past d ≡ Some m.destination_texel)

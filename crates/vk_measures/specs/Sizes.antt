@@ -45,7 +45,7 @@ IsLack past c m = (needed_for c m.purpose ≡ Some (m.resource, m.needed.0)) × 
 abbrev pub made_usage : Entry → Option ℕ
 made_usage x = option_map (λ r. r.usage) (resource_in x)
 
--- What is told of an action that breaks USAGE.
+-- What is reported of an action that breaks USAGE.
 abbrev pub IsUsage : Past → Action → UsageMeasure → Type 0
 IsUsage past (Host x) (measure.Made u) = (made_usage x ≡ Some u.0) × (is_outside 3 u.0 ≡ true)
 IsUsage past (Run c) (measure.Lacks m) = IsLack past c m
@@ -53,18 +53,18 @@ IsUsage past _ _ = ⊥
 
 -- ---- what resources ask for
 
--- What is told of a host entry; of other actions nothing is.
+-- What is reported of a host entry; of other actions nothing is.
 abbrev pub OnHost : Action → (Entry → Type 0) → Type 0
-OnHost (Host x) told = told x
-OnHost _ told = ⊥
+OnHost (Host x) reported = reported x
+OnHost _ reported = ⊥
 
--- The number that is told of what a resource asks for: 2 to the power of 64 where it asks for more.
-abbrev pub told_need : ℕ → ℕ
-told_need n = min n (2 ^ 64)
+-- The number that is reported of what a resource asks for: 2 to the power of 64 where it asks for more.
+abbrev pub reported_need : ℕ → ℕ
+reported_need n = min n (2 ^ 64)
 
 -- The bytes that the resource asks for which an entry makes.
 abbrev pub needed_by : Entry → Option ℕ
-needed_by x = option_map (λ r. told_need r.size) (resource_in x)
+needed_by x = option_map (λ r. reported_need r.size) (resource_in x)
 
 -- ---- MEMORY_TYPE
 

@@ -83,7 +83,7 @@ span_in m axis.Levels (Subresources i r) = Some (span r.first_level r.levels m.l
 span_in m axis.Layers (Subresources i r) = Some (span r.first_layer r.layers m.layers)
 span_in m _ _ = None
 
--- ---- what is told
+-- ---- what is reported
 
 -- One of some areas names these numbers of its image, and they aren't numbers of it.
 abbrev pub IsOutsideOf : Past → (Item → Option Area) → Outside → Type 0
@@ -96,7 +96,7 @@ IsOutsideOf past areas o =
 abbrev pub IsOutside : Past → Cmd → Outside → Type 0
 IsOutside past c o = IsOutsideOf past (area_at c) o
 
--- What is told of an action that breaks SUBRESOURCE.
+-- What is reported of an action that breaks SUBRESOURCE.
 abbrev pub IsSubresource : Past → Action → Outside → Type 0
 IsSubresource past (Run c) o = IsOutside past c o
 IsSubresource past _ o = ⊥

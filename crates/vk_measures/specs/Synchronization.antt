@@ -57,6 +57,6 @@ bars_host (Run (cmd.Set v ms)) side.Source = true
 bars_host (Run (cmd.Await v ms)) side.Source = true
 bars_host _ _ = false
 
--- What is told of an action that breaks STAGE: these are masks that it has there, and what is wrong with them.
+-- What is reported of an action that breaks STAGE: these are masks that it has there, and what is wrong with them.
 abbrev pub IsStage : Action → BadMasks → Type 0
 IsStage a m = (action_masks a m.item m.side ≡ Some (m.stages.0, m.accesses.0)) × IsUnfit m.stages.0 m.accesses.0 m.fault × (is_barring m.fault ≡ true → bars_host a m.side ≡ true)

@@ -55,7 +55,7 @@ pub struct Misaligned {
 /// ALIGN: the number of a point that isn't a multiple of its unit.
 pub fn align_of(older: &[Point<'_>], point: &Point<'_>) -> Option<Misaligned>
     ensures broken { is_some result ≡ rules.breaks_align (past_of older.now) (point_of point.now) }
-    ensures told { IfSome result (IsAlign (past_of older.now) (point_of point.now)) }
+    ensures reported { IfSome result (IsAlign (past_of older.now) (point_of point.now)) }
 {
     match point.action {
         Action::Run(command) => of_command(older, point.queue, command),
@@ -65,7 +65,7 @@ pub fn align_of(older: &[Point<'_>], point: &Point<'_>) -> Option<Misaligned>
 
 fn of_command(older: &[Point<'_>], queue: u32, command: &Cmd) -> Option<Misaligned>
     ensures broken { is_some result ≡ rules.misaligned (past_of older.now) queue command.now }
-    ensures told { IfSome result (IsMisaligned (past_of older.now) queue command.now) }
+    ensures reported { IfSome result (IsMisaligned (past_of older.now) queue command.now) }
 {
     match command {
         Cmd::Fill { offset, size, .. } => match off_word(AlignedNumber::Offset, *offset) {
@@ -84,7 +84,7 @@ fn of_command(older: &[Point<'_>], queue: u32, command: &Cmd) -> Option<Misalign
 
 fn off_word(number: AlignedNumber, value: u64) -> Option<Misaligned>
     ensures broken { is_some result ≡ rules.off_4 value }
-    ensures told { IfSome result (IsOff number value) }
+    ensures reported { IfSome result (IsOff number value) }
 {
     if value % WORD != 0 {
         Some(Misaligned {
@@ -101,7 +101,7 @@ fn off_word(number: AlignedNumber, value: u64) -> Option<Misaligned>
 
 fn of_length(size: Length) -> Option<Misaligned>
     ensures broken { is_some result ≡ rules.off_4_length size }
-    ensures told { IfSome result (IsOffLength size) }
+    ensures reported { IfSome result (IsOffLength size) }
 {
     match size {
         Length::Bytes(bytes) => off_word(AlignedNumber::Bytes, bytes),
@@ -116,7 +116,7 @@ fn of_regions(
     regions: &[BufferImageCopy],
 ) -> Option<Misaligned>
     ensures broken { is_some result ≡ list_any (rules.off_texel (past_of older.now) queue image_id) regions.now }
-    ensures told { IfSome result (AreOffTexel (past_of older.now) queue image_id regions.now) }
+    ensures reported { IfSome result (AreOffTexel (past_of older.now) queue image_id regions.now) }
 {
     let texel = texel_of(older, image_id);
     for (index, region) in regions.iter().enumerate() {
@@ -140,7 +140,7 @@ fn texel_of(older: &[Point<'_>], image_id: u32) -> Option<u64>
 fn of_region(texel: Option<u64>, queue: u32, index: usize, offset: u64) -> Option<Misaligned>
     requires { ForSome texel (λ t. 0 < t) }
     ensures broken { is_some result ≡ (holds texel (λ t. not (offset % t == 0)) || nat_le 2 queue && rules.off_4 offset) }
-    ensures told { IfSome result (IsOffTexel texel queue index offset) }
+    ensures reported { IfSome result (IsOffTexel texel queue index offset) }
 {
     let misaligned = Misaligned {
         item: Item::Region(index),

@@ -5,7 +5,7 @@ ghost use Rattle.vk_model.specs.Trace.Objects as objects;
 ghost use Rattle.vk_model.specs.Rules.Binding as rules;
 ghost use Rattle.vk_order.specs.PointViews.{action_of, point_of};
 ghost use Rattle.vk_queues.specs.PointViews.{past_of};
-ghost use Rattle.vk_measures.specs.Sizes.{OnHost, told_need};
+ghost use Rattle.vk_measures.specs.Sizes.{OnHost, reported_need};
 ghost use Rattle.vk_measures.specs.Binding.{IsPastMemory, IsMisplaced};
 ghost use Rattle.vk_measures.specs.Inner.Binding.{ends_past_object, IsPastObject, is_misplaced_at, IsMisplacedAt};
 
@@ -62,7 +62,7 @@ pub struct Misplaced {
 /// BIND_RANGE: where a resource is bound, what it asks for, and the size of its memory object.
 pub fn bind_range_of(older: &[Point<'_>], point: &Point<'_>) -> Option<PastMemory>
     ensures broken { is_some result ≡ rules.breaks_bind_range (past_of older.now) (point_of point.now) }
-    ensures told { IfSome result (λ m. OnHost (action_of point.now.action) (λ x. IsPastMemory (past_of older.now) x m)) }
+    ensures reported { IfSome result (λ m. OnHost (action_of point.now.action) (λ x. IsPastMemory (past_of older.now) x m)) }
 {
     match point.action {
         Action::Host(Entry::Buffer { info, .. }) => {
@@ -77,8 +77,8 @@ pub fn bind_range_of(older: &[Point<'_>], point: &Point<'_>) -> Option<PastMemor
 
 fn past_object(older: &[Point<'_>], place: Place, need: u128) -> Option<PastMemory>
     requires { need ≤ 2 ^ 64 }
-    ensures broken { (n : ℕ) → need ≡ told_need n → is_some result ≡ ends_past_object (past_of older.now) place n }
-    ensures told { IfSome result (IsPastObject (past_of older.now) place need) }
+    ensures broken { (n : ℕ) → need ≡ reported_need n → is_some result ≡ ends_past_object (past_of older.now) place n }
+    ensures reported { IfSome result (IsPastObject (past_of older.now) place need) }
 {
     match place {
         Place::Memory { memory, offset } => past_memory(older, memory, offset, need),
@@ -88,8 +88,8 @@ fn past_object(older: &[Point<'_>], place: Place, need: u128) -> Option<PastMemo
 
 fn past_memory(older: &[Point<'_>], id: u32, offset: u64, need: u128) -> Option<PastMemory>
     requires { need ≤ 2 ^ 64 }
-    ensures broken { (n : ℕ) → need ≡ told_need n → is_some result ≡ holds (objects.memory (past_of older.now) id) (λ x. nat_lt x.size (offset + n)) }
-    ensures told { IfSome result (IsPastObject (past_of older.now) (place_of.Memory id offset) need) }
+    ensures broken { (n : ℕ) → need ≡ reported_need n → is_some result ≡ holds (objects.memory (past_of older.now) id) (λ x. nat_lt x.size (offset + n)) }
+    ensures reported { IfSome result (IsPastObject (past_of older.now) (place_of.Memory id offset) need) }
 {
     let object = memory(older, id)?;
     if u128::from(offset) + need > u128::from(object.size) {
@@ -107,7 +107,7 @@ fn past_memory(older: &[Point<'_>], id: u32, offset: u64, need: u128) -> Option<
 /// BIND_ALIGN: where a resource is bound, and of what the offset must be a multiple.
 pub fn bind_align_of(older: &[Point<'_>], point: &Point<'_>) -> Option<Misplaced>
     ensures broken { is_some result ≡ rules.breaks_bind_align (past_of older.now) (point_of point.now) }
-    ensures told { IfSome result (λ m. OnHost (action_of point.now.action) (λ x. IsMisplaced (past_of older.now) x m)) }
+    ensures reported { IfSome result (λ m. OnHost (action_of point.now.action) (λ x. IsMisplaced (past_of older.now) x m)) }
 {
     match point.action {
         Action::Host(Entry::Buffer { info, .. }) => misplaced_at(older, info.place, BUFFER_ALIGN),
@@ -121,7 +121,7 @@ pub fn bind_align_of(older: &[Point<'_>], point: &Point<'_>) -> Option<Misplaced
 fn misplaced_at(older: &[Point<'_>], place: Place, align: u64) -> Option<Misplaced>
     requires { 0 < align }
     ensures broken { is_some result ≡ is_misplaced_at (past_of older.now) place align }
-    ensures told { IfSome result (IsMisplacedAt (past_of older.now) place align) }
+    ensures reported { IfSome result (IsMisplacedAt (past_of older.now) place align) }
 {
     match place {
         Place::Memory { memory, offset } => {

@@ -14,7 +14,7 @@ use vk_overlaps::TexelBox;
 /// The numbers of a box that aren't of an image.
 pub fn box_outside(info: &ImageInfo, image: u32, item: Item, texels: TexelBox) -> Option<Outside>
     ensures broken { is_some result ≡ rules.bad_box info.now (box_of texels) }
-    ensures told { IfSome result (IsSpanOf info.now item image (areas.Texels image (box_of texels))) }
+    ensures reported { IfSome result (IsSpanOf info.now item image (areas.Texels image (box_of texels))) }
 {
     match layers_outside(info, image, item, texels) {
         Some(found) => Some(found),
@@ -24,7 +24,7 @@ pub fn box_outside(info: &ImageInfo, image: u32, item: Item, texels: TexelBox) -
 
 fn layers_outside(info: &ImageInfo, image: u32, item: Item, texels: TexelBox) -> Option<Outside>
     ensures broken { is_some result ≡ (rules.is_beyond info.now.levels texels.level 1 || rules.is_beyond info.now.layers texels.first_layer texels.layers) }
-    ensures told { IfSome result (IsSpanOf info.now item image (areas.Texels image (box_of texels))) }
+    ensures reported { IfSome result (IsSpanOf info.now item image (areas.Texels image (box_of texels))) }
 {
     let levels = Outside {
         item,
@@ -50,7 +50,7 @@ fn layers_outside(info: &ImageInfo, image: u32, item: Item, texels: TexelBox) ->
 
 fn plane_outside(info: &ImageInfo, image: u32, item: Item, texels: TexelBox) -> Option<Outside>
     ensures broken { is_some result ≡ (rules.is_beyond (shape.level_width info.now texels.level) texels.x texels.width || rules.is_beyond (shape.level_height info.now texels.level) texels.y texels.height) }
-    ensures told { IfSome result (IsSpanOf info.now item image (areas.Texels image (box_of texels))) }
+    ensures reported { IfSome result (IsSpanOf info.now item image (areas.Texels image (box_of texels))) }
 {
     let columns = Outside {
         item,

@@ -83,7 +83,7 @@ pub enum SizeMeasure {
 /// SIZE: the number of a point that is 0 or over its limit.
 pub fn size_of(older: &[Point<'_>], point: &Point<'_>) -> Option<SizeMeasure>
     ensures broken { is_some result ≡ rules.breaks_size (past_of older.now) (point_of point.now) }
-    ensures told { IfSome result (IsSize (past_of older.now) (action_of point.now.action)) }
+    ensures reported { IfSome result (IsSize (past_of older.now) (action_of point.now.action)) }
 {
     match point.action {
         Action::Host(entry) => of_host(entry),
@@ -94,7 +94,7 @@ pub fn size_of(older: &[Point<'_>], point: &Point<'_>) -> Option<SizeMeasure>
 
 fn of_host(entry: &Entry) -> Option<SizeMeasure>
     ensures broken { is_some result ≡ rules.bad_entry_size entry.now }
-    ensures told { IfSome result (IsHostSize entry.now) }
+    ensures reported { IfSome result (IsHostSize entry.now) }
 {
     match entry {
         Entry::Pool { info, .. } => of_pool(info),
@@ -112,7 +112,7 @@ fn of_host(entry: &Entry) -> Option<SizeMeasure>
 /// A number that must not be 0, where it is.
 fn at_least_one(item: Item, quantity: Quantity, value: u64) -> Option<SizeMeasure>
     ensures broken { is_some result ≡ (value == 0) }
-    ensures told { IfSome result (λ m. m ≡ SizeMeasure.Amount (record { item = item; quantity = quantity; value = value; least = 1; most = None })) }
+    ensures reported { IfSome result (λ m. m ≡ SizeMeasure.Amount (record { item = item; quantity = quantity; value = value; least = 1; most = None })) }
 {
     if value == 0 {
         Some(SizeMeasure::Amount(Amount {
@@ -130,7 +130,7 @@ fn at_least_one(item: Item, quantity: Quantity, value: u64) -> Option<SizeMeasur
 /// A number that must be from 1 to a limit, where it isn't.
 fn limited(quantity: Quantity, value: u64, most: u64) -> Option<SizeMeasure>
     ensures broken { is_some result ≡ rules.is_outside most value }
-    ensures told { IfSome result (λ m. m ≡ SizeMeasure.Amount (record { item = Item.Only; quantity = quantity; value = value; least = 1; most = Some most })) }
+    ensures reported { IfSome result (λ m. m ≡ SizeMeasure.Amount (record { item = Item.Only; quantity = quantity; value = value; least = 1; most = Some most })) }
     ensures out { IfSome result (λ m. is_out value 1 (Some most) ≡ true) }
 {
     if value == 0 || value > most {
@@ -148,7 +148,7 @@ fn limited(quantity: Quantity, value: u64, most: u64) -> Option<SizeMeasure>
 
 fn of_length(item: Item, size: Length) -> Option<SizeMeasure>
     ensures broken { is_some result ≡ rules.is_zero size }
-    ensures told { IfSome result (IsLength item size) }
+    ensures reported { IfSome result (IsLength item size) }
 {
     match size {
         Length::Bytes(bytes) => at_least_one(item, Quantity::Bytes, bytes),
@@ -158,7 +158,7 @@ fn of_length(item: Item, size: Length) -> Option<SizeMeasure>
 
 fn of_pool(info: &PoolInfo) -> Option<SizeMeasure>
     ensures broken { is_some result ≡ rules.bad_pool info.now }
-    ensures told { IfSome result (IsPoolSize info.now) }
+    ensures reported { IfSome result (IsPoolSize info.now) }
 {
     if info.block_size % BLOCK_UNIT != 0 {
         return Some(SizeMeasure::Block(info.block_size));
@@ -171,7 +171,7 @@ fn of_pool(info: &PoolInfo) -> Option<SizeMeasure>
 
 fn of_image(info: &ImageInfo) -> Option<SizeMeasure>
     ensures broken { is_some result ≡ rules.bad_image info.now }
-    ensures told { IfSome result (IsSizeOf (image_limits info.now)) }
+    ensures reported { IfSome result (IsSizeOf (image_limits info.now)) }
 {
     match of_sides(info) {
         Some(amount) => Some(amount),
@@ -181,7 +181,7 @@ fn of_image(info: &ImageInfo) -> Option<SizeMeasure>
 
 fn of_sides(info: &ImageInfo) -> Option<SizeMeasure>
     ensures broken { is_some result ≡ (rules.is_outside 4096 info.now.width || rules.is_outside 4096 info.now.height) }
-    ensures told { IfSome result (IsSizeOf (image_limits info.now)) }
+    ensures reported { IfSome result (IsSizeOf (image_limits info.now)) }
 {
     match limited(Quantity::Columns, u64::from(info.width), LONGEST_SIDE) {
         Some(amount) => Some(amount),
@@ -191,7 +191,7 @@ fn of_sides(info: &ImageInfo) -> Option<SizeMeasure>
 
 fn of_levels(info: &ImageInfo) -> Option<SizeMeasure>
     ensures broken { is_some result ≡ (rules.is_outside 256 info.now.layers || rules.bad_levels info.now.tiling info.now) }
-    ensures told { IfSome result (IsSizeOf (image_limits info.now)) }
+    ensures reported { IfSome result (IsSizeOf (image_limits info.now)) }
 {
     let layers = u64::from(info.layers);
     let levels = u64::from(info.levels);
@@ -226,7 +226,7 @@ fn count_up_to(sides: &[u32], most: u32) -> usize
 
 fn of_command(older: &[Point<'_>], command: &Cmd) -> Option<SizeMeasure>
     ensures broken { is_some result ≡ rules.bad_command_size (past_of older.now) command.now }
-    ensures told { IfSome result (IsSizeOf (command_limits (past_of older.now) command.now)) }
+    ensures reported { IfSome result (IsSizeOf (command_limits (past_of older.now) command.now)) }
 {
     match command {
         Cmd::Fill {
@@ -261,7 +261,7 @@ fn of_command(older: &[Point<'_>], command: &Cmd) -> Option<SizeMeasure>
 /// The bytes that a fill has, where it writes no word.
 fn of_fill(older: &[Point<'_>], buffer: u32, offset: u64, bytes: Length) -> Option<SizeMeasure>
     ensures broken { is_some result ≡ rules.fills_none (buffer_size (past_of older.now) buffer) offset bytes }
-    ensures told { IfSome result (IsSizeOf (fill_limits (buffer_size (past_of older.now) buffer) offset bytes)) }
+    ensures reported { IfSome result (IsSizeOf (fill_limits (buffer_size (past_of older.now) buffer) offset bytes)) }
 {
     match bytes {
         Length::Bytes(bytes) => at_least_one(Item::Only, Quantity::Bytes, bytes),
@@ -272,7 +272,7 @@ fn of_fill(older: &[Point<'_>], buffer: u32, offset: u64, bytes: Length) -> Opti
 /// The bytes that are left in a buffer of a size, where they are some and no word.
 fn of_rest(size: u64, offset: u64) -> Option<SizeMeasure>
     ensures broken { is_some result ≡ rules.fills_none size offset length_of.Whole }
-    ensures told { IfSome result (IsSizeOf (fill_limits size offset length_of.Whole)) }
+    ensures reported { IfSome result (IsSizeOf (fill_limits size offset length_of.Whole)) }
 {
     if offset < size && size - offset < 4 {
         Some(SizeMeasure::Amount(Amount {
@@ -289,7 +289,7 @@ fn of_rest(size: u64, offset: u64) -> Option<SizeMeasure>
 
 fn of_copy(regions: &[BufferCopy]) -> Option<SizeMeasure>
     ensures broken { is_some result ≡ (rules.is_empty_list regions.now || list_any (λ g. g.size == 0) regions.now) }
-    ensures told { IfSome result (IsSizeOf (copy_limits regions.now)) }
+    ensures reported { IfSome result (IsSizeOf (copy_limits regions.now)) }
 {
     match at_least_one(Item::Only, Quantity::Items, regions.len() as u64) {
         Some(amount) => Some(amount),
@@ -300,7 +300,7 @@ fn of_copy(regions: &[BufferCopy]) -> Option<SizeMeasure>
 /// The first region of no byte.
 fn empty_region(regions: &[BufferCopy]) -> Option<SizeMeasure>
     ensures broken { is_some result ≡ list_any (λ g. g.size == 0) regions.now }
-    ensures told { IfSome result (IsSizeOf (copy_limits regions.now)) }
+    ensures reported { IfSome result (IsSizeOf (copy_limits regions.now)) }
 {
     for (index, region) in regions.iter().enumerate() {
         if let Some(amount) = at_least_one(Item::Region(index), Quantity::Bytes, region.size) {
@@ -313,7 +313,7 @@ fn empty_region(regions: &[BufferCopy]) -> Option<SizeMeasure>
 /// The first element of no byte.
 fn of_elements(elements: &[Element]) -> Option<SizeMeasure>
     ensures broken { is_some result ≡ list_any rules.is_empty_element elements.now }
-    ensures told { IfSome result (IsSizeOf (elements_limits elements.now)) }
+    ensures reported { IfSome result (IsSizeOf (elements_limits elements.now)) }
 {
     for (index, element) in elements.iter().enumerate() {
         if let Some(amount) = of_element(Item::Element(index), element) {
@@ -325,7 +325,7 @@ fn of_elements(elements: &[Element]) -> Option<SizeMeasure>
 
 fn of_element(item: Item, element: &Element) -> Option<SizeMeasure>
     ensures broken { is_some result ≡ rules.is_empty_element element.now }
-    ensures told { IfSome result (IsElementSize item element.now) }
+    ensures reported { IfSome result (IsElementSize item element.now) }
 {
     match element {
         Element::Buffer(on_buffer) => of_length(item, on_buffer.size),

@@ -29,7 +29,7 @@ pub struct OtherTexels {
 /// FORMAT: the sizes of the texels that a point copies, where they differ.
 pub fn format_of(older: &[Point<'_>], point: &Point<'_>) -> Option<OtherTexels>
     ensures broken { is_some result ≡ rules.breaks_format (past_of older.now) (point_of point.now) }
-    ensures told { IfSome result (IsFormat (past_of older.now) (action_of point.now.action)) }
+    ensures reported { IfSome result (IsFormat (past_of older.now) (action_of point.now.action)) }
 {
     match point.action {
         Action::Run(
@@ -45,7 +45,7 @@ pub fn format_of(older: &[Point<'_>], point: &Point<'_>) -> Option<OtherTexels>
 
 fn of_copy(older: &[Point<'_>], source: u32, destination: u32) -> Option<OtherTexels>
     ensures broken { is_some result ≡ texels_differ (past_of older.now) source destination }
-    ensures told { IfSome result (AreOtherTexels (past_of older.now) source destination) }
+    ensures reported { IfSome result (AreOtherTexels (past_of older.now) source destination) }
 {
     let source_texel = texel_of(older, source)?;
     let destination_texel = texel_of(older, destination)?;

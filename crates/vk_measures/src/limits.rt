@@ -20,7 +20,7 @@ pub struct PointNumber {
 #[tactic(auto, using(crate::proofs::PastLengths::length_past))]
 pub fn limit_of(older: &[Point<'_>]) -> Option<PointNumber>
     ensures broken { is_some result ≡ nat_le 131072 (length (past_of older.now)) }
-    ensures told { IfSome result (IsLimit (past_of older.now)) }
+    ensures reported { IfSome result (IsLimit (past_of older.now)) }
 {
     if older.len() >= MOST_POINTS {
         Some(PointNumber {

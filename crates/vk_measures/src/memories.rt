@@ -8,7 +8,7 @@ ghost use Rattle.vk_order.specs.PointViews.{action_of, point_of};
 ghost use Rattle.vk_queues.specs.PointViews.{past_of};
 ghost use Rattle.vk_measures.specs.Mapping.{IsHidden};
 ghost use Rattle.vk_measures.specs.Inner.Sizes.{is_over_half, IsOverHalfOf};
-ghost use Rattle.vk_measures.specs.Sizes.{OnHost, IsBadType, IsBadSize, IsOverHalf, is_type_allowed, told_need};
+ghost use Rattle.vk_measures.specs.Sizes.{OnHost, IsBadType, IsBadSize, IsOverHalf, is_type_allowed, reported_need};
 
 use crate::needs::{buffer_need, image_need};
 use vk_model::{Entry, Kind, Place};
@@ -62,7 +62,7 @@ pub struct Hidden {
 /// MEMORY_TYPE: the memory type that a point names, and for what.
 pub fn memory_type_of(older: &[Point<'_>], point: &Point<'_>) -> Option<BadType>
     ensures broken { is_some result ≡ rules.breaks_memory_type (past_of older.now) (point_of point.now) }
-    ensures told { IfSome result (λ m. OnHost (action_of point.now.action) (λ x. IsBadType (past_of older.now) x m)) }
+    ensures reported { IfSome result (λ m. OnHost (action_of point.now.action) (λ x. IsBadType (past_of older.now) x m)) }
 {
     match point.action {
         Action::Host(Entry::Pool { info, .. }) => bad_type(info.memory_type, None),
@@ -75,7 +75,7 @@ pub fn memory_type_of(older: &[Point<'_>], point: &Point<'_>) -> Option<BadType>
 
 fn type_for(older: &[Point<'_>], place: Place, kind: Kind) -> Option<BadType>
     ensures broken { is_some result ≡ holds (objects.type_at (past_of older.now) place) (λ t. not (rules.allows kind t)) }
-    ensures told { IfSome result (λ m. (objects.type_at (past_of older.now) place ≡ Some m.memory_type) × (m.kind ≡ Some kind) × (is_type_allowed m.kind m.memory_type ≡ false)) }
+    ensures reported { IfSome result (λ m. (objects.type_at (past_of older.now) place ≡ Some m.memory_type) × (m.kind ≡ Some kind) × (is_type_allowed m.kind m.memory_type ≡ false)) }
 {
     let memory_type = type_at(older, place)?;
     bad_type(memory_type, Some(kind))
@@ -83,7 +83,7 @@ fn type_for(older: &[Point<'_>], place: Place, kind: Kind) -> Option<BadType>
 
 fn bad_type(memory_type: u32, kind: Option<Kind>) -> Option<BadType>
     ensures broken { is_some result ≡ not (is_type_allowed kind memory_type) }
-    ensures told { IfSome result (λ m. m ≡ record { memory_type = memory_type; kind = kind }) }
+    ensures reported { IfSome result (λ m. m ≡ record { memory_type = memory_type; kind = kind }) }
 {
     if is_allowed(kind, memory_type) {
         None
@@ -104,7 +104,7 @@ fn is_allowed(kind: Option<Kind>, memory_type: u32) -> bool
 /// MEMORY_SIZE: the bytes that a point asks for.
 pub fn memory_size_of(point: &Point<'_>) -> Option<BadSize>
     ensures broken { is_some result ≡ on_host rules.bad_memory_size (point_of point.now) }
-    ensures told { IfSome result (λ m. OnHost (action_of point.now.action) (λ x. IsBadSize x m)) }
+    ensures reported { IfSome result (λ m. OnHost (action_of point.now.action) (λ x. IsBadSize x m)) }
 {
     match point.action {
         Action::Host(Entry::Memory { info, .. }) => bad_size(u128::from(info.size)),
@@ -116,7 +116,7 @@ pub fn memory_size_of(point: &Point<'_>) -> Option<BadSize>
 
 fn bad_size(need: u128) -> Option<BadSize>
     ensures broken { is_some result ≡ rules.is_outside 67108864 need }
-    ensures told { IfSome result (λ m. m ≡ record { need = need }) }
+    ensures reported { IfSome result (λ m. m ≡ record { need = need }) }
 {
     if need == 0 || need > GREATEST_MEMORY {
         Some(BadSize { need })
@@ -127,7 +127,7 @@ fn bad_size(need: u128) -> Option<BadSize>
 
 fn large(need: u128) -> Option<BadSize>
     ensures broken { is_some result ≡ nat_lt 67108864 need }
-    ensures told { IfSome result (λ m. m ≡ record { need = need }) }
+    ensures reported { IfSome result (λ m. m ≡ record { need = need }) }
 {
     if need > GREATEST_MEMORY {
         Some(BadSize { need })
@@ -139,7 +139,7 @@ fn large(need: u128) -> Option<BadSize>
 /// POOL_SIZE: what a resource asks for, and the size of a block of its pool.
 pub fn pool_size_of(older: &[Point<'_>], point: &Point<'_>) -> Option<OverHalf>
     ensures broken { is_some result ≡ rules.breaks_pool_size (past_of older.now) (point_of point.now) }
-    ensures told { IfSome result (λ m. OnHost (action_of point.now.action) (λ x. IsOverHalf (past_of older.now) x m)) }
+    ensures reported { IfSome result (λ m. OnHost (action_of point.now.action) (λ x. IsOverHalf (past_of older.now) x m)) }
 {
     match point.action {
         Action::Host(Entry::Buffer { info, .. }) => over_half(older, info.place, buffer_need(info)),
@@ -150,8 +150,8 @@ pub fn pool_size_of(older: &[Point<'_>], point: &Point<'_>) -> Option<OverHalf>
 
 fn over_half(older: &[Point<'_>], place: Place, need: u128) -> Option<OverHalf>
     requires { need ≤ 2 ^ 64 }
-    ensures broken { (n : ℕ) → need ≡ told_need n → is_some result ≡ is_over_half (past_of older.now) place n }
-    ensures told { IfSome result (IsOverHalfOf (past_of older.now) place need) }
+    ensures broken { (n : ℕ) → need ≡ reported_need n → is_some result ≡ is_over_half (past_of older.now) place n }
+    ensures reported { IfSome result (IsOverHalfOf (past_of older.now) place need) }
 {
     let id = pool_at(place)?;
     let info = pool(older, id)?;
@@ -169,7 +169,7 @@ fn over_half(older: &[Point<'_>], place: Place, need: u128) -> Option<OverHalf>
 /// HOST_VISIBLE: the buffer that a point maps, and its memory type.
 pub fn host_visible_of(older: &[Point<'_>], point: &Point<'_>) -> Option<Hidden>
     ensures broken { is_some result ≡ mapping.breaks_host_visible (past_of older.now) (point_of point.now) }
-    ensures told { IfSome result (λ m. OnHost (action_of point.now.action) (λ x. IsHidden (past_of older.now) x m)) }
+    ensures reported { IfSome result (λ m. OnHost (action_of point.now.action) (λ x. IsHidden (past_of older.now) x m)) }
 {
     match point.action {
         Action::Host(Entry::Map { buffer }) => of_map(older, *buffer),
@@ -179,7 +179,7 @@ pub fn host_visible_of(older: &[Point<'_>], point: &Point<'_>) -> Option<Hidden>
 
 fn of_map(older: &[Point<'_>], buffer: u32) -> Option<Hidden>
     ensures broken { is_some result ≡ objects.is_of_type (past_of older.now) 0 buffer }
-    ensures told { IfSome result (λ m. (m.buffer ≡ buffer) × (objects.type_of (past_of older.now) buffer ≡ Some m.memory_type) × (m.memory_type ≡ 0)) }
+    ensures reported { IfSome result (λ m. (m.buffer ≡ buffer) × (objects.type_of (past_of older.now) buffer ≡ Some m.memory_type) × (m.memory_type ≡ 0)) }
 {
     let memory_type = type_of(older, buffer)?;
     if memory_type == 0 {

@@ -1,16 +1,16 @@
 ghost use Rattle.std.specs.Prelude.{◌≡◌, ◌≤◌, ◌^◌};
 ghost use Rattle.vk_model.specs.Trace.Objects.{of_buffer, of_image};
-ghost use Rattle.vk_measures.specs.Sizes.{told_need};
+ghost use Rattle.vk_measures.specs.Sizes.{reported_need};
 
 use vk_image_tiles::asks_more;
 use vk_model::{BufferInfo, ImageInfo};
 
-/// The greatest number of bytes that is told of what a resource asks for.
+/// The greatest number of bytes that is reported of what a resource asks for.
 const GREATEST: u128 = 18_446_744_073_709_551_616;
 
 /// The bytes that a buffer asks for, its size rounded up to 16.
 pub fn buffer_need(info: &BufferInfo) -> u128
-    ensures need { result ≡ told_need (of_buffer info.now).size }
+    ensures need { result ≡ reported_need (of_buffer info.now).size }
     ensures within { result ≤ 2 ^ 64 }
 {
     (u128::from(info.size) + 15) / 16 * 16
@@ -18,7 +18,7 @@ pub fn buffer_need(info: &BufferInfo) -> u128
 
 /// The bytes that an image asks for; 2 to the power of 64 where it asks for more.
 pub fn image_need(info: &ImageInfo) -> u128
-    ensures need { result ≡ told_need (of_image info.now).size }
+    ensures need { result ≡ reported_need (of_image info.now).size }
     ensures within { result ≤ 2 ^ 64 }
 {
     let mut low = 0;

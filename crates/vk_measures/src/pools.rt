@@ -37,7 +37,7 @@ pub struct PoolUse {
 /// POOL_KIND: what a point asks of a pool, where the pool can't do it.
 pub fn pool_kind_of(older: &[Point<'_>], point: &Point<'_>) -> Option<PoolUse>
     ensures broken { is_some result ≡ rules.breaks_pool_kind (past_of older.now) (point_of point.now) }
-    ensures told { IfSome result (λ m. OnHost (action_of point.now.action) (λ x. IsPoolKind (past_of older.now) x m)) }
+    ensures reported { IfSome result (λ m. OnHost (action_of point.now.action) (λ x. IsPoolKind (past_of older.now) x m)) }
 {
     match point.action {
         Action::Host(Entry::Defrag { pool, .. }) => of_defrag(older, *pool),
@@ -49,7 +49,7 @@ pub fn pool_kind_of(older: &[Point<'_>], point: &Point<'_>) -> Option<PoolUse>
 
 fn of_defrag(older: &[Point<'_>], id: u32) -> Option<PoolUse>
     ensures broken { is_some result ≡ holds (objects.pool (past_of older.now) id) (λ x. rules.is_linear_kind x.kind) }
-    ensures told { IfSome result (IsUnable (past_of older.now) PoolAsked.Defragments id) }
+    ensures reported { IfSome result (IsUnable (past_of older.now) PoolAsked.Defragments id) }
 {
     let info = pool(older, id)?;
     if is_linear(info.kind) {
@@ -66,7 +66,7 @@ fn of_defrag(older: &[Point<'_>], id: u32) -> Option<PoolUse>
 
 fn of_place(older: &[Point<'_>], place: Place) -> Option<PoolUse>
     ensures broken { is_some result ≡ holds (option_and_then (objects.pool (past_of older.now)) (rules.upper_pool place)) rules.has_no_upper }
-    ensures told { IfSome result (IsUnableAt (past_of older.now) place) }
+    ensures reported { IfSome result (IsUnableAt (past_of older.now) place) }
 {
     match place {
         Place::PoolUpper { pool } => of_upper(older, pool),
@@ -76,7 +76,7 @@ fn of_place(older: &[Point<'_>], place: Place) -> Option<PoolUse>
 
 fn of_upper(older: &[Point<'_>], id: u32) -> Option<PoolUse>
     ensures broken { is_some result ≡ holds (objects.pool (past_of older.now) id) rules.has_no_upper }
-    ensures told { IfSome result (IsUnable (past_of older.now) PoolAsked.UpperEnd id) }
+    ensures reported { IfSome result (IsUnable (past_of older.now) PoolAsked.UpperEnd id) }
 {
     let info = pool(older, id)?;
     if is_linear(info.kind) && info.block_limit == 1 {

@@ -40,7 +40,7 @@ pub struct QueueUse {
 /// QUEUE: the queue that a point submits to, where there is none of this number.
 pub fn queue_of(point: &Point<'_>) -> Option<QueueNumber>
     ensures broken { is_some result ≡ on_host rules.is_over_3 (point_of point.now) }
-    ensures told { IfSome result (IsQueue (action_of point.now.action)) }
+    ensures reported { IfSome result (IsQueue (action_of point.now.action)) }
 {
     match point.action {
         Action::Host(Entry::Submit { queue, .. }) if *queue > GREATEST_QUEUE => {
@@ -53,7 +53,7 @@ pub fn queue_of(point: &Point<'_>) -> Option<QueueNumber>
 /// QUEUE_KIND: the command of a point, where its queue doesn't have it.
 pub fn queue_kind_of(point: &Point<'_>) -> Option<QueueUse>
     ensures broken { is_some result ≡ (on_command rules.needs_family_0 (point_of point.now) && nat_le 2 point.now.queue) }
-    ensures told { IfSome result (IsQueueKind (point_of point.now)) }
+    ensures reported { IfSome result (IsQueueKind (point_of point.now)) }
 {
     let command = command_of_queue(point)?;
     if point.queue >= 2 {

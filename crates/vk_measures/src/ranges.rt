@@ -47,7 +47,7 @@ pub enum RangeMeasure {
 /// RANGE: what a point names past its buffer, or which of its rows are too short.
 pub fn range_of(older: &[Point<'_>], point: &Point<'_>) -> Option<RangeMeasure>
     ensures broken { is_some result ≡ rules.breaks_range (past_of older.now) (point_of point.now) }
-    ensures told { IfSome result (IsRange (past_of older.now) (action_of point.now.action)) }
+    ensures reported { IfSome result (IsRange (past_of older.now) (action_of point.now.action)) }
 {
     match point.action {
         Action::Host(entry) => of_host(older, entry),
@@ -58,7 +58,7 @@ pub fn range_of(older: &[Point<'_>], point: &Point<'_>) -> Option<RangeMeasure>
 
 fn of_host(older: &[Point<'_>], entry: &Entry) -> Option<RangeMeasure>
     ensures broken { is_some result ≡ rules.host_past (past_of older.now) entry.now }
-    ensures told { IfSome result (IsRange (past_of older.now) (spec.Host entry.now)) }
+    ensures reported { IfSome result (IsRange (past_of older.now) (spec.Host entry.now)) }
 {
     match entry {
         Entry::Write {
@@ -88,7 +88,7 @@ fn of_host(older: &[Point<'_>], entry: &Entry) -> Option<RangeMeasure>
 /// What is compared where an entry or a command names one range of a buffer.
 fn of_bytes(older: &[Point<'_>], buffer: u32, offset: u64, bytes: Length) -> Option<RangeMeasure>
     ensures broken { is_some result ≡ rules.ends_past (buffer_size (past_of older.now) buffer) offset bytes }
-    ensures told { IfSome result (λ m. m ≡ RangeMeasure.Bytes (record { item = Item.Only; buffer = buffer; offset = offset; bytes = bytes; size = buffer_size (past_of older.now) buffer })) }
+    ensures reported { IfSome result (λ m. m ≡ RangeMeasure.Bytes (record { item = Item.Only; buffer = buffer; offset = offset; bytes = bytes; size = buffer_size (past_of older.now) buffer })) }
 {
     let past = past_bytes(size(older, buffer), Item::Only, buffer, offset, bytes)?;
     Some(RangeMeasure::Bytes(past))
@@ -97,7 +97,7 @@ fn of_bytes(older: &[Point<'_>], buffer: u32, offset: u64, bytes: Length) -> Opt
 /// Bytes of a buffer of a size, where they end past it.
 fn past_bytes(size: u64, item: Item, buffer: u32, offset: u64, bytes: Length) -> Option<PastBytes>
     ensures broken { is_some result ≡ rules.ends_past size offset bytes }
-    ensures told { IfSome result (λ m. m ≡ record { item = item; buffer = buffer; offset = offset; bytes = bytes; size = size }) }
+    ensures reported { IfSome result (λ m. m ≡ record { item = item; buffer = buffer; offset = offset; bytes = bytes; size = size }) }
 {
     if ends_past(size, offset, bytes) {
         Some(PastBytes {
@@ -124,7 +124,7 @@ fn ends_past(size: u64, offset: u64, bytes: Length) -> bool
 
 fn of_command(older: &[Point<'_>], command: &Cmd) -> Option<RangeMeasure>
     ensures broken { is_some result ≡ rules.command_past (past_of older.now) command.now }
-    ensures told { IfSome result (IsRange (past_of older.now) (spec.Run command.now)) }
+    ensures reported { IfSome result (IsRange (past_of older.now) (spec.Run command.now)) }
 {
     match command {
         Cmd::Fill {
@@ -170,7 +170,7 @@ fn of_copy(
     regions: &[BufferCopy],
 ) -> Option<RangeMeasure>
     ensures broken { is_some result ≡ (list_any (λ g. nat_lt (buffer_size (past_of older.now) source) (g.source_offset + g.size)) regions.now || list_any (λ g. nat_lt (buffer_size (past_of older.now) destination) (g.destination_offset + g.size)) regions.now) }
-    ensures told { IfSome result (IsRange (past_of older.now) (spec.Run (cmd.Copy source destination regions.now))) }
+    ensures reported { IfSome result (IsRange (past_of older.now) (spec.Run (cmd.Copy source destination regions.now))) }
 {
     match source_past(size(older, source), source, regions) {
         Some(past) => Some(RangeMeasure::Bytes(past)),
@@ -184,7 +184,7 @@ fn of_copy(
 /// The first region that reads past a buffer of a size.
 fn source_past(size: u64, buffer: u32, regions: &[BufferCopy]) -> Option<PastBytes>
     ensures broken { is_some result ≡ list_any (λ g. nat_lt size (g.source_offset + g.size)) regions.now }
-    ensures told { IfSome result (λ m. (m.buffer ≡ buffer) × ((d : ℕ) → IsPastOf size (command_bytes (cmd.Copy buffer d regions.now)) m)) }
+    ensures reported { IfSome result (λ m. (m.buffer ≡ buffer) × ((d : ℕ) → IsPastOf size (command_bytes (cmd.Copy buffer d regions.now)) m)) }
 {
     for (index, region) in regions.iter().enumerate() {
         let bytes = Length::Bytes(region.size);
@@ -199,7 +199,7 @@ fn source_past(size: u64, buffer: u32, regions: &[BufferCopy]) -> Option<PastByt
 /// The first region that writes past a buffer of a size.
 fn destination_past(size: u64, buffer: u32, regions: &[BufferCopy]) -> Option<PastBytes>
     ensures broken { is_some result ≡ list_any (λ g. nat_lt size (g.destination_offset + g.size)) regions.now }
-    ensures told { IfSome result (λ m. (m.buffer ≡ buffer) × ((s : ℕ) → IsPastOf size (command_bytes (cmd.Copy s buffer regions.now)) m)) }
+    ensures reported { IfSome result (λ m. (m.buffer ≡ buffer) × ((s : ℕ) → IsPastOf size (command_bytes (cmd.Copy s buffer regions.now)) m)) }
 {
     for (index, region) in regions.iter().enumerate() {
         let bytes = Length::Bytes(region.size);
@@ -219,7 +219,7 @@ fn of_regions(
     regions: &[BufferImageCopy],
 ) -> Option<RangeMeasure>
     ensures broken { is_some result ≡ (holds (objects.image (past_of older.now) image_id) (λ m. list_any (rules.region_past (buffer_size (past_of older.now) buffer) (texel m.format)) regions.now) || list_any rules.is_short regions.now) }
-    ensures told { IfSome result (IsRowOf (past_of older.now) buffer image_id regions.now) }
+    ensures reported { IfSome result (IsRowOf (past_of older.now) buffer image_id regions.now) }
 {
     if let Some(info) = image(older, image_id)
         && let Some(past) = past_rows(size(older, buffer), buffer, info.format, regions)
@@ -232,7 +232,7 @@ fn of_regions(
 
 fn of_elements(older: &[Point<'_>], elements: &[Element]) -> Option<RangeMeasure>
     ensures broken { is_some result ≡ list_any (rules.element_past (past_of older.now)) elements.now }
-    ensures told { IfSome result (IsRange (past_of older.now) (spec.Run (cmd.Barrier elements.now))) }
+    ensures reported { IfSome result (IsRange (past_of older.now) (spec.Run (cmd.Barrier elements.now))) }
 {
     for (index, element) in elements.iter().enumerate() {
         if let Some(past) = of_element(older, index, element) {
@@ -244,7 +244,7 @@ fn of_elements(older: &[Point<'_>], elements: &[Element]) -> Option<RangeMeasure
 
 fn of_element(older: &[Point<'_>], index: usize, element: &Element) -> Option<PastBytes>
     ensures broken { is_some result ≡ rules.element_past (past_of older.now) element.now }
-    ensures told { IfSome result (IsElementPast (past_of older.now) index element.now) }
+    ensures reported { IfSome result (IsElementPast (past_of older.now) index element.now) }
 {
     match element {
         Element::Buffer(on_buffer) => {

@@ -51,7 +51,7 @@ pub fn past_rows(
     regions: &[BufferImageCopy],
 ) -> Option<PastRows>
     ensures broken { is_some result ≡ list_any (rules.region_past size (texel format)) regions.now }
-    ensures told { IfSome result (AreRowsPast size buffer (texel format) regions.now) }
+    ensures reported { IfSome result (AreRowsPast size buffer (texel format) regions.now) }
 {
     for (index, region) in regions.iter().enumerate() {
         if let Some(end) = end_past(size, format, region) {
@@ -69,7 +69,7 @@ pub fn past_rows(
 /// Where the last texel of a region ends, if that's past a buffer of a size.
 fn end_past(size: u64, format: Format, region: &BufferImageCopy) -> Option<u128>
     ensures broken { is_some result ≡ rules.region_past size (texel format) region.now }
-    ensures told { IfSome result (λ end. (end_of (texel format) region.now ≡ Some end) × (size < end)) }
+    ensures reported { IfSome result (λ end. (end_of (texel format) region.now ≡ Some end) × (size < end)) }
 {
     let end = last_end(region, format)?;
     if end > u128::from(size) {
@@ -94,7 +94,7 @@ fn last_end(region: &BufferImageCopy, format: Format) -> Option<u128>
 /// The first region with a row length or an image height that isn't 0 and is under its extent.
 pub fn short_rows(regions: &[BufferImageCopy]) -> Option<ShortRows>
     ensures broken { is_some result ≡ list_any rules.is_short regions.now }
-    ensures told { IfSome result (IsShort regions.now) }
+    ensures reported { IfSome result (IsShort regions.now) }
 {
     for (index, region) in regions.iter().enumerate() {
         if let Some(short) = short_row(index, region) {
@@ -106,7 +106,7 @@ pub fn short_rows(regions: &[BufferImageCopy]) -> Option<ShortRows>
 
 fn short_row(index: usize, region: &BufferImageCopy) -> Option<ShortRows>
     ensures broken { is_some result ≡ rules.is_short region.now }
-    ensures told { IfSome result (IsShortAt index region.now) }
+    ensures reported { IfSome result (IsShortAt index region.now) }
 {
     match short_side(index, RowSide::Row, region.row_length, region.width) {
         Some(short) => Some(short),
@@ -116,7 +116,7 @@ fn short_row(index: usize, region: &BufferImageCopy) -> Option<ShortRows>
 
 fn short_side(region: usize, side: RowSide, length: u32, extent: u32) -> Option<ShortRows>
     ensures broken { is_some result ≡ (not (length == 0) && nat_lt length extent) }
-    ensures told { IfSome result (λ m. m ≡ record { region = region; side = side; length = length; extent = extent }) }
+    ensures reported { IfSome result (λ m. m ≡ record { region = region; side = side; length = length; extent = extent }) }
 {
     if length != 0 && length < extent {
         Some(ShortRows {

@@ -44,7 +44,7 @@ pub fn range_outside(
     range: &SubresourceRange,
 ) -> Option<Outside>
     ensures broken { is_some result ≡ rules.bad_range info.now range.now }
-    ensures told { IfSome result (IsSpanOf info.now item image (Subresources image range.now)) }
+    ensures reported { IfSome result (IsSpanOf info.now item image (Subresources image range.now)) }
 {
     let levels = Outside {
         item,
@@ -71,7 +71,7 @@ pub fn range_outside(
 /// Numbers, where they are none or some are past the last one of the image.
 pub fn refused(numbers: Outside) -> Option<Outside>
     ensures broken { is_some result ≡ rules.is_beyond numbers.limit numbers.first numbers.count }
-    ensures told { IfSome result (λ m. m ≡ numbers) }
+    ensures reported { IfSome result (λ m. m ≡ numbers) }
 {
     let end = u64::from(numbers.first) + u64::from(numbers.count);
     if numbers.count == 0 || end > u64::from(numbers.limit) {

@@ -78,7 +78,7 @@ pub struct BadMasks {
 /// STAGE: the first masks of a point that are wrong.
 pub fn stage_of(point: &Point<'_>) -> Option<BadMasks>
     ensures broken { is_some result ≡ rules.action_stages (action_of point.now.action) }
-    ensures told { IfSome result (IsStage (action_of point.now.action)) }
+    ensures reported { IfSome result (IsStage (action_of point.now.action)) }
 {
     match point.action {
         Action::Host(_) => None,
@@ -90,7 +90,7 @@ pub fn stage_of(point: &Point<'_>) -> Option<BadMasks>
 
 fn of_submit(stages: Stages) -> Option<BadMasks>
     ensures broken { is_some result ≡ (not (has_bits known_stages stages.0) || has_some stages.0 host_stage) }
-    ensures told { IfSome result (AreMasks Item.Only Side.Submit stages.0 0) }
+    ensures reported { IfSome result (AreMasks Item.Only Side.Submit stages.0 0) }
 {
     let fault = submit_fault(stages)?;
     Some(BadMasks {
@@ -104,7 +104,7 @@ fn of_submit(stages: Stages) -> Option<BadMasks>
 
 fn submit_fault(stages: Stages) -> Option<MaskFault>
     ensures broken { is_some result ≡ (not (has_bits known_stages stages.0) || has_some stages.0 host_stage) }
-    ensures told { IfSome result (IsUnfit stages.0 0) }
+    ensures reported { IfSome result (IsUnfit stages.0 0) }
 {
     if !KNOWN_STAGES.contains(stages) {
         Some(MaskFault::UnknownStage)
@@ -117,7 +117,7 @@ fn submit_fault(stages: Stages) -> Option<MaskFault>
 
 fn of_command(command: &Cmd) -> Option<BadMasks>
     ensures broken { is_some result ≡ rules.bad_stages command.now }
-    ensures told { IfSome result (IsStage (spec.Run command.now)) }
+    ensures reported { IfSome result (IsStage (spec.Run command.now)) }
 {
     match command {
         Cmd::Barrier { elements } => of_elements(elements.as_slice()),
@@ -129,7 +129,7 @@ fn of_command(command: &Cmd) -> Option<BadMasks>
 
 fn of_elements(elements: &[Element]) -> Option<BadMasks>
     ensures broken { is_some result ≡ list_any (λ e. rules.bad_dependency (dependency_of e)) elements.now }
-    ensures told { IfSome result (IsStage (spec.Run (cmd.Barrier elements.now))) }
+    ensures reported { IfSome result (IsStage (spec.Run (cmd.Barrier elements.now))) }
 {
     for (index, element) in elements.iter().enumerate() {
         if let Some(masks) = of_dependency(index, dependency(element)) {
@@ -152,7 +152,7 @@ fn dependency(element: &Element) -> &Dependency
 /// The same of the elements of an event.
 fn of_dependencies(elements: &[Dependency]) -> Option<BadMasks>
     ensures broken { is_some result ≡ list_any rules.bad_event_element elements.now }
-    ensures told { IfSome result (AreEventMasks elements.now) }
+    ensures reported { IfSome result (AreEventMasks elements.now) }
 {
     for (index, element) in elements.iter().enumerate() {
         if let Some(masks) = of_event_element(index, element) {
@@ -164,7 +164,7 @@ fn of_dependencies(elements: &[Dependency]) -> Option<BadMasks>
 
 fn of_event_element(index: usize, element: &Dependency) -> Option<BadMasks>
     ensures broken { is_some result ≡ rules.bad_event_element element.now }
-    ensures told { IfSome result (AreEventMasksAt index element.now) }
+    ensures reported { IfSome result (AreEventMasksAt index element.now) }
 {
     match of_dependency(index, element) {
         Some(masks) => Some(masks),
@@ -181,7 +181,7 @@ fn of_event_element(index: usize, element: &Dependency) -> Option<BadMasks>
 
 fn of_dependency(index: usize, dependency: &Dependency) -> Option<BadMasks>
     ensures broken { is_some result ≡ rules.bad_dependency dependency.now }
-    ensures told { IfSome result (AreMasksAt index dependency.now) }
+    ensures reported { IfSome result (AreMasksAt index dependency.now) }
     ensures host { IfSome result (λ m. is_barring m.fault ≡ false) }
 {
     let source = of_scope(
@@ -203,7 +203,7 @@ fn of_dependency(index: usize, dependency: &Dependency) -> Option<BadMasks>
 
 fn of_scope(index: usize, side: Side, stages: Stages, accesses: Accesses) -> Option<BadMasks>
     ensures broken { is_some result ≡ rules.bad_masks stages.0 accesses.0 }
-    ensures told { IfSome result (AreMasks (Item.Element index) side stages.0 accesses.0) }
+    ensures reported { IfSome result (AreMasks (Item.Element index) side stages.0 accesses.0) }
     ensures host { IfSome result (λ m. is_barring m.fault ≡ false) }
 {
     let fault = scope_fault(stages, accesses)?;
@@ -218,7 +218,7 @@ fn of_scope(index: usize, side: Side, stages: Stages, accesses: Accesses) -> Opt
 
 fn scope_fault(stages: Stages, accesses: Accesses) -> Option<MaskFault>
     ensures broken { is_some result ≡ rules.bad_masks stages.0 accesses.0 }
-    ensures told { IfSome result (IsUnfit stages.0 accesses.0) }
+    ensures reported { IfSome result (IsUnfit stages.0 accesses.0) }
     ensures host { IfSome result (λ f. is_barring f ≡ false) }
 {
     if !KNOWN_STAGES.contains(stages) {

@@ -21,7 +21,7 @@ use vk_past::image;
 /// SUBRESOURCE: which numbers of a point aren't of their image.
 pub fn subresource_of(older: &[Point<'_>], point: &Point<'_>) -> Option<Outside>
     ensures broken { is_some result ≡ rules.breaks_subresource (past_of older.now) (point_of point.now) }
-    ensures told { IfSome result (IsSubresource (past_of older.now) (action_of point.now.action)) }
+    ensures reported { IfSome result (IsSubresource (past_of older.now) (action_of point.now.action)) }
 {
     match point.action {
         Action::Run(command) => of_command(older, command),
@@ -31,7 +31,7 @@ pub fn subresource_of(older: &[Point<'_>], point: &Point<'_>) -> Option<Outside>
 
 fn of_command(older: &[Point<'_>], command: &Cmd) -> Option<Outside>
     ensures broken { is_some result ≡ rules.bad_subresource (past_of older.now) command.now }
-    ensures told { IfSome result (IsOutside (past_of older.now) command.now) }
+    ensures reported { IfSome result (IsOutside (past_of older.now) command.now) }
 {
     match command {
         Cmd::Clear { image, ranges, .. } => of_clear(older, *image, ranges.as_slice()),
@@ -54,7 +54,7 @@ fn of_command(older: &[Point<'_>], command: &Cmd) -> Option<Outside>
 
 fn of_clear(older: &[Point<'_>], image_id: u32, ranges: &[SubresourceRange]) -> Option<Outside>
     ensures broken { is_some result ≡ holds (objects.image (past_of older.now) image_id) (λ m. list_any (rules.bad_range m) ranges.now) }
-    ensures told { IfSome result (IsOutsideOf (past_of older.now) (ranges_at image_id ranges.now)) }
+    ensures reported { IfSome result (IsOutsideOf (past_of older.now) (ranges_at image_id ranges.now)) }
 {
     let info = image(older, image_id)?;
     outside_ranges(&info, image_id, ranges)
@@ -63,7 +63,7 @@ fn of_clear(older: &[Point<'_>], image_id: u32, ranges: &[SubresourceRange]) -> 
 /// The first range that isn't of an image.
 fn outside_ranges(info: &ImageInfo, image: u32, ranges: &[SubresourceRange]) -> Option<Outside>
     ensures broken { is_some result ≡ list_any (rules.bad_range info.now) ranges.now }
-    ensures told { IfSome result (IsSpanIn info.now image (ranges_at image ranges.now)) }
+    ensures reported { IfSome result (IsSpanIn info.now image (ranges_at image ranges.now)) }
 {
     for (index, range) in ranges.iter().enumerate() {
         if let Some(outside) = range_outside(info, image, Item::Range(index), range) {
@@ -75,7 +75,7 @@ fn outside_ranges(info: &ImageInfo, image: u32, ranges: &[SubresourceRange]) -> 
 
 fn of_regions(older: &[Point<'_>], image_id: u32, regions: &[BufferImageCopy]) -> Option<Outside>
     ensures broken { is_some result ≡ holds (objects.image (past_of older.now) image_id) (λ m. list_any (λ g. rules.bad_box m (region_box g)) regions.now) }
-    ensures told { IfSome result (IsOutsideOf (past_of older.now) (regions_at image_id regions.now)) }
+    ensures reported { IfSome result (IsOutsideOf (past_of older.now) (regions_at image_id regions.now)) }
 {
     let info = image(older, image_id)?;
     outside_regions(&info, image_id, regions)
@@ -84,7 +84,7 @@ fn of_regions(older: &[Point<'_>], image_id: u32, regions: &[BufferImageCopy]) -
 /// The first region of a copy between a buffer and an image that isn't of the image.
 fn outside_regions(info: &ImageInfo, image: u32, regions: &[BufferImageCopy]) -> Option<Outside>
     ensures broken { is_some result ≡ list_any (λ g. rules.bad_box info.now (region_box g)) regions.now }
-    ensures told { IfSome result (IsSpanIn info.now image (regions_at image regions.now)) }
+    ensures reported { IfSome result (IsSpanIn info.now image (regions_at image regions.now)) }
 {
     for (index, region) in regions.iter().enumerate() {
         let item = Item::Region(index);
@@ -102,7 +102,7 @@ fn of_copy(
     regions: &[ImageCopy],
 ) -> Option<Outside>
     ensures broken { is_some result ≡ (holds (objects.image (past_of older.now) source) (λ m. list_any (λ g. rules.bad_box m (source_box g)) regions.now) || holds (objects.image (past_of older.now) destination) (λ m. list_any (λ g. rules.bad_box m (destination_box g)) regions.now)) }
-    ensures told { IfSome result (IsOutsideOf (past_of older.now) (copies_at source destination regions.now)) }
+    ensures reported { IfSome result (IsOutsideOf (past_of older.now) (copies_at source destination regions.now)) }
 {
     match of_source(older, source, regions) {
         Some(outside) => Some(outside),
@@ -112,7 +112,7 @@ fn of_copy(
 
 fn of_source(older: &[Point<'_>], image_id: u32, regions: &[ImageCopy]) -> Option<Outside>
     ensures broken { is_some result ≡ holds (objects.image (past_of older.now) image_id) (λ m. list_any (λ g. rules.bad_box m (source_box g)) regions.now) }
-    ensures told { IfSome result (λ o. (d : ℕ) → IsOutsideOf (past_of older.now) (copies_at image_id d regions.now) o) }
+    ensures reported { IfSome result (λ o. (d : ℕ) → IsOutsideOf (past_of older.now) (copies_at image_id d regions.now) o) }
 {
     let info = image(older, image_id)?;
     outside_sources(&info, image_id, regions)
@@ -121,7 +121,7 @@ fn of_source(older: &[Point<'_>], image_id: u32, regions: &[ImageCopy]) -> Optio
 /// The first region that reads what isn't of an image.
 fn outside_sources(info: &ImageInfo, image: u32, regions: &[ImageCopy]) -> Option<Outside>
     ensures broken { is_some result ≡ list_any (λ g. rules.bad_box info.now (source_box g)) regions.now }
-    ensures told { IfSome result (λ o. (d : ℕ) → IsSpanIn info.now image (copies_at image d regions.now) o) }
+    ensures reported { IfSome result (λ o. (d : ℕ) → IsSpanIn info.now image (copies_at image d regions.now) o) }
 {
     for (index, region) in regions.iter().enumerate() {
         let item = Item::Source(index);
@@ -134,7 +134,7 @@ fn outside_sources(info: &ImageInfo, image: u32, regions: &[ImageCopy]) -> Optio
 
 fn of_destination(older: &[Point<'_>], image_id: u32, regions: &[ImageCopy]) -> Option<Outside>
     ensures broken { is_some result ≡ holds (objects.image (past_of older.now) image_id) (λ m. list_any (λ g. rules.bad_box m (destination_box g)) regions.now) }
-    ensures told { IfSome result (λ o. (s : ℕ) → IsOutsideOf (past_of older.now) (copies_at s image_id regions.now) o) }
+    ensures reported { IfSome result (λ o. (s : ℕ) → IsOutsideOf (past_of older.now) (copies_at s image_id regions.now) o) }
 {
     let info = image(older, image_id)?;
     outside_destinations(&info, image_id, regions)
@@ -143,7 +143,7 @@ fn of_destination(older: &[Point<'_>], image_id: u32, regions: &[ImageCopy]) -> 
 /// The first region that writes what isn't of an image.
 fn outside_destinations(info: &ImageInfo, image: u32, regions: &[ImageCopy]) -> Option<Outside>
     ensures broken { is_some result ≡ list_any (λ g. rules.bad_box info.now (destination_box g)) regions.now }
-    ensures told { IfSome result (λ o. (s : ℕ) → IsSpanIn info.now image (copies_at s image regions.now) o) }
+    ensures reported { IfSome result (λ o. (s : ℕ) → IsSpanIn info.now image (copies_at s image regions.now) o) }
 {
     for (index, region) in regions.iter().enumerate() {
         let item = Item::Destination(index);
@@ -156,7 +156,7 @@ fn outside_destinations(info: &ImageInfo, image: u32, regions: &[ImageCopy]) -> 
 
 fn of_elements(older: &[Point<'_>], elements: &[Element]) -> Option<Outside>
     ensures broken { is_some result ≡ list_any (rules.bad_element (past_of older.now)) elements.now }
-    ensures told { IfSome result (IsOutside (past_of older.now) (cmd.Barrier elements.now)) }
+    ensures reported { IfSome result (IsOutside (past_of older.now) (cmd.Barrier elements.now)) }
 {
     for (index, element) in elements.iter().enumerate() {
         if let Some(outside) = of_element(older, index, element) {
@@ -168,7 +168,7 @@ fn of_elements(older: &[Point<'_>], elements: &[Element]) -> Option<Outside>
 
 fn of_element(older: &[Point<'_>], index: usize, element: &Element) -> Option<Outside>
     ensures broken { is_some result ≡ rules.bad_element (past_of older.now) element.now }
-    ensures told { IfSome result (IsElementOutside (past_of older.now) index element.now) }
+    ensures reported { IfSome result (IsElementOutside (past_of older.now) index element.now) }
 {
     match element {
         Element::Image(on_image) => {

@@ -54,7 +54,7 @@ pub enum PartTransfer {
 /// OWNER_WHOLE: what a point transfers, where it isn't a whole resource.
 pub fn owner_whole_of(older: &[Point<'_>], point: &Point<'_>) -> Option<PartTransfer>
     ensures broken { is_some result ≡ rules.breaks_owner_whole (past_of older.now) (point_of point.now) }
-    ensures told { IfSome result (IsOwnerWhole (past_of older.now) (action_of point.now.action)) }
+    ensures reported { IfSome result (IsOwnerWhole (past_of older.now) (action_of point.now.action)) }
 {
     match point.action {
         Action::Run(Cmd::Barrier { elements }) => of_elements(older, elements.as_slice()),
@@ -64,7 +64,7 @@ pub fn owner_whole_of(older: &[Point<'_>], point: &Point<'_>) -> Option<PartTran
 
 fn of_elements(older: &[Point<'_>], elements: &[Element]) -> Option<PartTransfer>
     ensures broken { is_some result ≡ list_any (rules.is_partial_transfer (past_of older.now)) elements.now }
-    ensures told { IfSome result (IsPartOf (past_of older.now) elements.now) }
+    ensures reported { IfSome result (IsPartOf (past_of older.now) elements.now) }
 {
     for (index, element) in elements.iter().enumerate() {
         if let Some(part) = of_element(older, index, element) {
@@ -76,7 +76,7 @@ fn of_elements(older: &[Point<'_>], elements: &[Element]) -> Option<PartTransfer
 
 fn of_element(older: &[Point<'_>], index: usize, element: &Element) -> Option<PartTransfer>
     ensures broken { is_some result ≡ rules.is_partial_transfer (past_of older.now) element.now }
-    ensures told { IfSome result (IsPartAt (past_of older.now) index element.now) }
+    ensures reported { IfSome result (IsPartAt (past_of older.now) index element.now) }
 {
     match element {
         Element::Memory(_) => None,
@@ -87,7 +87,7 @@ fn of_element(older: &[Point<'_>], index: usize, element: &Element) -> Option<Pa
 
 fn of_buffer(older: &[Point<'_>], index: usize, on_buffer: &BufferElement) -> Option<PartTransfer>
     ensures broken { is_some result ≡ rules.is_partial_transfer (past_of older.now) (element_of.Buffer on_buffer.now) }
-    ensures told { IfSome result (IsPartAt (past_of older.now) index (element_of.Buffer on_buffer.now)) }
+    ensures reported { IfSome result (IsPartAt (past_of older.now) index (element_of.Buffer on_buffer.now)) }
 {
     if !differ(on_buffer.families) {
         return None;
@@ -108,7 +108,7 @@ fn of_buffer(older: &[Point<'_>], index: usize, on_buffer: &BufferElement) -> Op
 
 fn of_image(older: &[Point<'_>], index: usize, on_image: &ImageElement) -> Option<PartTransfer>
     ensures broken { is_some result ≡ rules.is_partial_transfer (past_of older.now) (element_of.Image on_image.now) }
-    ensures told { IfSome result (IsPartAt (past_of older.now) index (element_of.Image on_image.now)) }
+    ensures reported { IfSome result (IsPartAt (past_of older.now) index (element_of.Image on_image.now)) }
 {
     if !differ(on_image.families) {
         return None;

@@ -54,7 +54,7 @@ pub enum UsageMeasure {
 /// USAGE: with which usage a point makes a resource, or which usage a resource lacks that it names.
 pub fn usage_of(older: &[Point<'_>], point: &Point<'_>) -> Option<UsageMeasure>
     ensures broken { is_some result ≡ rules.breaks_usage (past_of older.now) (point_of point.now) }
-    ensures told { IfSome result (IsUsage (past_of older.now) (action_of point.now.action)) }
+    ensures reported { IfSome result (IsUsage (past_of older.now) (action_of point.now.action)) }
 {
     match point.action {
         Action::Host(Entry::Buffer { info, .. }) => of_made(info.usage),
@@ -69,7 +69,7 @@ pub fn usage_of(older: &[Point<'_>], point: &Point<'_>) -> Option<UsageMeasure>
 
 fn of_made(usage: Usage) -> Option<UsageMeasure>
     ensures broken { is_some result ≡ rules.is_outside 3 usage.0 }
-    ensures told { IfSome result (λ m. m ≡ UsageMeasure.Made usage) }
+    ensures reported { IfSome result (λ m. m ≡ UsageMeasure.Made usage) }
 {
     if usage.bits() == 0 || usage.bits() > KNOWN_USAGES {
         Some(UsageMeasure::Made(usage))
@@ -80,7 +80,7 @@ fn of_made(usage: Usage) -> Option<UsageMeasure>
 
 fn of_command(older: &[Point<'_>], command: &Cmd) -> Option<UsageLack>
     ensures broken { is_some result ≡ rules.bad_usage (past_of older.now) command.now }
-    ensures told { IfSome result (IsLack (past_of older.now) command.now) }
+    ensures reported { IfSome result (IsLack (past_of older.now) command.now) }
 {
     match command {
         Cmd::Fill { buffer, .. } => of_destination(older, *buffer),
@@ -105,7 +105,7 @@ fn of_command(older: &[Point<'_>], command: &Cmd) -> Option<UsageLack>
 
 fn of_copy(older: &[Point<'_>], source: u32, destination: u32) -> Option<UsageLack>
     ensures broken { is_some result ≡ (rules.lacks (past_of older.now) 1 source || rules.lacks (past_of older.now) 2 destination) }
-    ensures told { IfSome result (AreLacks (past_of older.now) source destination) }
+    ensures reported { IfSome result (AreLacks (past_of older.now) source destination) }
 {
     match lack(older, Purpose::Source, source, Usage::TRANSFER_SRC) {
         Some(lack) => Some(lack),
@@ -115,7 +115,7 @@ fn of_copy(older: &[Point<'_>], source: u32, destination: u32) -> Option<UsageLa
 
 fn of_destination(older: &[Point<'_>], resource: u32) -> Option<UsageLack>
     ensures broken { is_some result ≡ rules.lacks (past_of older.now) 2 resource }
-    ensures told { IfSome result (IsLackOf (past_of older.now) Purpose.Destination resource 2) }
+    ensures reported { IfSome result (IsLackOf (past_of older.now) Purpose.Destination resource 2) }
 {
     lack(older, Purpose::Destination, resource, Usage::TRANSFER_DST)
 }
@@ -123,7 +123,7 @@ fn of_destination(older: &[Point<'_>], resource: u32) -> Option<UsageLack>
 /// The usage that a resource lacks.
 fn lack(older: &[Point<'_>], purpose: Purpose, resource: u32, needed: Usage) -> Option<UsageLack>
     ensures broken { is_some result ≡ rules.lacks (past_of older.now) needed.0 resource }
-    ensures told { IfSome result (IsLackOf (past_of older.now) purpose resource needed.0) }
+    ensures reported { IfSome result (IsLackOf (past_of older.now) purpose resource needed.0) }
 {
     let usage = usage(older, resource);
     if has(usage, needed) {
@@ -149,7 +149,7 @@ fn has(usage: Option<Usage>, needed: Usage) -> bool
 
 fn of_elements(older: &[Point<'_>], elements: &[Element]) -> Option<UsageLack>
     ensures broken { is_some result ≡ list_any (rules.layout_lacks (past_of older.now)) elements.now }
-    ensures told { IfSome result (IsLack (past_of older.now) (cmd.Barrier elements.now)) }
+    ensures reported { IfSome result (IsLack (past_of older.now) (cmd.Barrier elements.now)) }
 {
     for (index, element) in elements.iter().enumerate() {
         if let Some(lack) = of_element(older, index, element) {
@@ -161,7 +161,7 @@ fn of_elements(older: &[Point<'_>], elements: &[Element]) -> Option<UsageLack>
 
 fn of_element(older: &[Point<'_>], index: usize, element: &Element) -> Option<UsageLack>
     ensures broken { is_some result ≡ rules.layout_lacks (past_of older.now) element.now }
-    ensures told { IfSome result (IsElementLack (past_of older.now) index element.now) }
+    ensures reported { IfSome result (IsElementLack (past_of older.now) index element.now) }
 {
     match element {
         Element::Image(on_image) => of_transition(older, index, on_image),
@@ -172,7 +172,7 @@ fn of_element(older: &[Point<'_>], index: usize, element: &Element) -> Option<Us
 /// The usage that an image lacks for the layout that it goes to.
 fn of_transition(older: &[Point<'_>], index: usize, on_image: &ImageElement) -> Option<UsageLack>
     ensures broken { is_some result ≡ rules.layout_lacks (past_of older.now) (element.Image on_image.now) }
-    ensures told { IfSome result (IsElementLack (past_of older.now) index (element.Image on_image.now)) }
+    ensures reported { IfSome result (IsElementLack (past_of older.now) index (element.Image on_image.now)) }
 {
     let code = on_image.new_layout.code();
     if on_image.old_layout.code() == code {

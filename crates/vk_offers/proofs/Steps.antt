@@ -55,7 +55,7 @@ counts_of ns n counts leads numbers first there = record { first = all; there = 
     ]
 
 module _ (ns : List Node) (n : Node) (leads : BeforeLeadsOn) (numbers : IsNumbered (n ∷ ns)) where
-  -- what a sight says of one queue
+  -- what a new node says of one queue
   pub record CountOf (q count : ℕ) : Type 0 where
     pub first : (m : Node) → Contains ns m → line_of m ≡ Some (OfCommands q) → before (n ∷ ns) m n ≡ nat_lt (place ns (OfCommands q) m.number) count
     pub there : count ≤ place ns (OfCommands q) (length ns)

@@ -4,14 +4,14 @@ ghost use Rattle.vk_model.specs.Sync.Node.{Node, nodes};
 ghost use Rattle.vk_model.specs.Run.Runs.{Name, offered};
 ghost use Rattle.vk_order.specs.PointViews.{point_of};
 ghost use Rattle.vk_sync.specs.Ready.{ready};
-ghost use Rattle.vk_order.specs.Frontiers.{IsSight};
+ghost use Rattle.vk_order.specs.Frontiers.{IsNewNode};
 ghost use Rattle.vk_offers.specs.IsOffers.{IsOffers, ComesNext, IsPieceOf, name_of, host_node, is_free_next, CountsBefore};
 ghost use Rattle.vk_offers.specs.IsOffers.{is_run};
 ghost use Rattle.vk_offers.specs.Inner.Starting.{StartReady, Starts, Passes, is_run_in_pieces};
 
 use std::alloc::{AllocError, Global};
 use vk_model::{Cmd, Entry, before_is_order, growth_keeps};
-use vk_order::{Act, Action, Frontier, Point, Sight, commands_follow};
+use vk_order::{Act, Action, Frontier, Point, NewNode, commands_follow};
 use vk_sync::{Piece, Ready};
 
 /// The points so far, as far as they decide what may run next: the commands that were started,
@@ -67,11 +67,11 @@ impl<'a> Offers<'a> {
         before_is_order();
         commands_follow();
         let act = Act::Runs(command);
-        let sight = self.frontier.sight(point, &act)?;
+        let new_node = self.frontier.new_node(point, &act)?;
         self.commands.push(command)?;
         self.ready
-            .add(point.queue, commands_before(&sight), pieces)?;
-        self.frontier.add_seen(point, &act, sight)
+            .add(point.queue, commands_before(&new_node), pieces)?;
+        self.frontier.add_seen(point, &act, new_node)
     }
 
     /// How many pieces may run next.
@@ -129,8 +129,8 @@ impl<'a> Offers<'a> {
             queue: 0,
             action: Action::Host(entry),
         };
-        let sight = self.frontier.sight(&point, &Act::Hosts(entry))?;
-        Ok(commands_before(&sight))
+        let new_node = self.frontier.new_node(&point, &Act::Hosts(entry))?;
+        Ok(commands_before(&new_node))
     }
 
     /// Whether all pieces of the first so many commands of each queue have run.
@@ -154,15 +154,15 @@ pub fn run_at<'a>(point: &Point<'a>) -> Option<&'a Cmd>
     }
 }
 
-/// How many commands of each queue are before the node of a sight.
-fn commands_before(sight: &Sight) -> [usize; 4]
-    ensures { (ns : List Node) (n : Node) → IsSight ns n sight.now → CountsBefore (n ∷ ns) n result }
+/// How many commands of each queue are before the node that comes next.
+fn commands_before(new_node: &NewNode) -> [usize; 4]
+    ensures { (ns : List Node) (n : Node) → IsNewNode ns n new_node.now → CountsBefore (n ∷ ns) n result }
 {
     before_is_order();
     [
-        sight.commands_before(0),
-        sight.commands_before(1),
-        sight.commands_before(2),
-        sight.commands_before(3),
+        new_node.commands_before(0),
+        new_node.commands_before(1),
+        new_node.commands_before(2),
+        new_node.commands_before(3),
     ]
 }

@@ -20,7 +20,7 @@ use Rattle.vk_order.specs.Lines.{has_transfer, has_host, element_class, line_on,
 use Rattle.vk_order.specs.Prefixes.{from_transfer}
 use Rattle.vk_order.specs.Inner.Clocks.{place, Clock, IsClock}
 use Rattle.vk_order.specs.Inner.Leads.{is_of_host, is_of_barriers}
-use Rattle.vk_order.specs.Inner.Rows.{sends_all, sends, receives_on_host, makes_available, shows, Knowledge, Available, Visible, OnHost, IsAvailable, IsKnown, Knows, KnowsOne, IsRow, IsKnownRow, IsRowJoin, sends_line}
+use Rattle.vk_order.specs.Inner.Rows.{makes_all_available, makes_queue_available, makes_all_visible_on_host, makes_available, shows, Knowledge, Available, Visible, OnHost, IsAvailable, IsKnown, Knows, KnowsOne, IsRow, IsKnownRow, IsRowJoin, makes_line_available}
 use Rattle.vk_order.proofs.LinePrefixes.{linked, node, of_linked, to_linked, host_line, command_line, signal_line, element_line, wait_line, no_set_line, host_edge}
 use Rattle.vk_order.proofs.Arrange.{and-true, and-false, or-false, scopes}
 use Rattle.vk_order.proofs.ByEdges.{old_before, by_last, by_edge}
@@ -37,17 +37,17 @@ command_takes ns i p x n = simp (scopes, and-true, and-false, or-false)
 
 -- whether a node makes the writes of the commands of queue q available
 abbrev pub takes_all : ℕ → Node → Bool
-takes_all q n = sends n.act && q == n.point.queue
+takes_all q n = makes_queue_available n.act && q == n.point.queue
 
-sends_takes : (q : ℕ) (i : ℕ) (p : Point) (a : Act) → (sends_all a && takes q (node i p a)) ≡ (sends a && q == p.queue)
-sends_takes q i p (Hosts x) = refl
-sends_takes q i p (Waits s) = refl
-sends_takes q i p (Runs c) = refl
-sends_takes q i p (Signals s) = go (q == p.queue) (from_transfer (Signals s))
+makes_available_takes : (q : ℕ) (i : ℕ) (p : Point) (a : Act) → (makes_all_available a && takes q (node i p a)) ≡ (makes_queue_available a && q == p.queue)
+makes_available_takes q i p (Hosts x) = refl
+makes_available_takes q i p (Waits s) = refl
+makes_available_takes q i p (Runs c) = refl
+makes_available_takes q i p (Signals s) = go (q == p.queue) (from_transfer (Signals s))
   where
     go : (a b : Bool) → (a && true && b) ≡ (b && a)
     go a b = grind arith
-sends_takes q i p (Depends r e) = go (sends_all (Depends r e)) (q == p.queue) (from_transfer (Depends r e))
+makes_available_takes q i p (Depends r e) = go (makes_all_available (Depends r e)) (q == p.queue) (from_transfer (Depends r e))
   where
     go : (s a b : Bool) → (s && (a && true && b)) ≡ (s && b && a)
     go s a b = grind arith
@@ -126,14 +126,14 @@ module _ (ns : List Node) (n : Node) (numbers : IsNumbered (n ∷ ns)) where
 
   -- nothing is made available by what comes earlier
   made_later : (c p : Node) (a : Act) → Contains (n ∷ ns) c → Contains (n ∷ ns) p → IsTrue (makes_available (n ∷ ns) c a p) → c.number < p.number
-  made_later c p (Runs x) hc hp h = edge_forward (n ∷ ns) c p (and_parts (edge (n ∷ ns) c p) (sends_all p.act) h).0
+  made_later c p (Runs x) hc hp h = edge_forward (n ∷ ns) c p (and_parts (edge (n ∷ ns) c p) (makes_all_available p.act) h).0
   made_later c p (Hosts x) hc hp h = forward (n ∷ ns) c p (path_of_before (n ∷ ns) numbers c p hc hp (and_parts (is_submit p.act) (before (n ∷ ns) c p) h).1)
   made_later c p (Depends r e) hc hp h = no h
   made_later c p (Waits s) hc hp h = no h
   made_later c p (Signals s) hc hp h = no h
 
   made_old : (c p : Node) (a : Act) → Contains ns p → makes_available (n ∷ ns) c a p ≡ makes_available ns c a p
-  made_old c p (Runs x) hp = ap (λ (t : Bool). t && sends_all p.act) (old_edge c p hp)
+  made_old c p (Runs x) hp = ap (λ (t : Bool). t && makes_all_available p.act) (old_edge c p hp)
   made_old c p (Hosts x) hp = ap (λ (t : Bool). is_submit p.act && t) (old_before n ns numbers c p hp)
   made_old c p (Depends r e) hp = refl
   made_old c p (Waits s) hp = refl
@@ -158,27 +158,27 @@ module _ (ns : List Node) (n : Node) (numbers : IsNumbered (n ∷ ns)) where
   unknown (Visible a) k ck s = unheard k ck s.1
   unknown (OnHost a) k ck (q, cq, r, way, s) = unheard q cq s
 
-  pub sent_old : (c k : Node) → Contains ns k → IsAvailable (n ∷ ns) c k → IsAvailable ns c k
-  sent_old c k hk (p, cp, s, inl same) =
+  pub available_old : (c k : Node) → Contains ns k → IsAvailable (n ∷ ns) c k → IsAvailable ns c k
+  available_old c k hk (p, cp, s, inl same) =
       let there = subst (λ (x : Node). Contains ns x) (sym same) hk in (p, there, sym (made_old c p c.act there) ∙ s, inl same)
-  sent_old c k hk (p, cp, s, inr h) =
+  available_old c k hk (p, cp, s, inr h) =
       let there = older_of p k cp (contains-tail n ns k hk) h in
       (p, there, sym (made_old c p c.act there) ∙ s, inr (sym (old_before n ns numbers p k hk) ∙ h))
 
-  pub sent_new : (c k : Node) → Contains ns k → IsAvailable ns c k → IsAvailable (n ∷ ns) c k
-  sent_new c k hk (p, cp, s, way) =
+  pub available_new : (c k : Node) → Contains ns k → IsAvailable ns c k → IsAvailable (n ∷ ns) c k
+  available_new c k hk (p, cp, s, way) =
       (p, contains-tail n ns p cp, made_old c p c.act cp ∙ s, ⊎_elim (λ f. inl f) (λ h. inr (old_before n ns numbers p k hk ∙ h)) way)
 
   pub heard_old : (c k : Node) → Contains ns k → IsKnown (n ∷ ns) c k → IsKnown ns c k
-  heard_old c k hk (inl s) = inl (sent_old c k hk s)
+  heard_old c k hk (inl s) = inl (available_old c k hk s)
   heard_old c k hk (inr (e, h)) = inr (e, sym (old_before n ns numbers c k hk) ∙ h)
 
   pub heard_new : (c k : Node) → Contains ns k → IsKnown ns c k → IsKnown (n ∷ ns) c k
-  heard_new c k hk (inl s) = inl (sent_new c k hk s)
+  heard_new c k hk (inl s) = inl (available_new c k hk s)
   heard_new c k hk (inr (e, h)) = inr (e, old_before n ns numbers c k hk ∙ h)
 
   pub known_old : (g : Knowledge) (c k : Node) → Contains ns k → Knows g (n ∷ ns) c k → Knows g ns c k
-  known_old Available c k hk s = sent_old c k hk s
+  known_old Available c k hk s = available_old c k hk s
   known_old (Visible a) c k hk s = (s.0, heard_old c k hk s.1)
   known_old (OnHost a) c k hk (q, cq, r, inl same, s) =
       let there = subst (λ (x : Node). Contains ns x) (sym same) hk in (q, there, r, inl same, heard_old c q there s)
@@ -187,7 +187,7 @@ module _ (ns : List Node) (n : Node) (numbers : IsNumbered (n ∷ ns)) where
       (q, there, r, inr (sym (old_before n ns numbers q k hk) ∙ h), heard_old c q there s)
 
   pub known_new : (g : Knowledge) (c k : Node) → Contains ns k → Knows g ns c k → Knows g (n ∷ ns) c k
-  known_new Available c k hk s = sent_new c k hk s
+  known_new Available c k hk s = available_new c k hk s
   known_new (Visible a) c k hk s = (s.0, heard_new c k hk s.1)
   known_new (OnHost a) c k hk (q, cq, r, way, s) =
       (q, contains-tail n ns q cq, r, ⊎_elim (λ f. inl f) (λ h. inr (old_before n ns numbers q k hk ∙ h)) way, heard_new c q cq s)
@@ -208,40 +208,40 @@ module _ (ns : List Node) (n : Node) (numbers : IsNumbered (n ∷ ns)) where
   }
 
   -- what is available there
-  module _ (row own : Clock) (j : IsRowJoin Available ns (λ k. edge ns k n) row) (is : (l : Line) → own l ≡ (if sends_line n.point.queue n.act l then place ns l (length ns) else row l)) where
-    abbrev sending : Line → Bool
-    sending l = sends_line n.point.queue n.act l
+  module _ (row own : Clock) (j : IsRowJoin Available ns (λ k. edge ns k n) row) (is : (l : Line) → own l ≡ (if makes_line_available n.point.queue n.act l then place ns l (length ns) else row l)) where
+    abbrev availability : Line → Bool
+    availability l = makes_line_available n.point.queue n.act l
 
     -- no less than before, and no more than there is
     kept : (l : Line) → row l ≤ own l
-    kept l = go (sending l) (is l) (j.bounded l)
+    kept l = go (availability l) (is l) (j.bounded l)
       where
         go : (t : Bool) → own l ≡ (if t then place ns l (length ns) else row l) → row l ≤ place ns l (length ns) → row l ≤ own l
         go true e le = omega arith
         go false e le = omega arith
 
     fits : (l : Line) → own l ≤ place ns l (length ns)
-    fits l = go (sending l) (is l) (j.bounded l)
+    fits l = go (availability l) (is l) (j.bounded l)
       where
         go : (t : Bool) → own l ≡ (if t then place ns l (length ns) else row l) → row l ≤ place ns l (length ns) → own l ≤ place ns l (length ns)
         go true e le = omega arith
         go false e le = omega arith
 
     -- made available by the new node
-    sent_here : (l : Line) (c : Node) → Contains ns c → line_of c ≡ Some l → IsTrue (makes_available (n ∷ ns) c c.act n) → IsTrue (sends_line n.point.queue n.act l)
-    sent_here OfHost c hc on h =
+    available_here : (l : Line) (c : Node) → Contains ns c → line_of c ≡ Some l → IsTrue (makes_available (n ∷ ns) c c.act n) → IsTrue (makes_line_available n.point.queue n.act l)
+    available_here OfHost c hc on h =
         let of = host_line c.point.queue c.act on in
         (and_parts (is_submit n.act) (before (n ∷ ns) c n) (subst (λ (a : Act). IsTrue (makes_available (n ∷ ns) c a n)) of.1 h)).0
-    sent_here (OfCommands q) c hc on h =
+    available_here (OfCommands q) c hc on h =
         let of = command_line c.point.queue q c.act on in
-        let parts = and_parts (edge (n ∷ ns) c n) (sends_all n.act) (subst (λ (a : Act). IsTrue (makes_available (n ∷ ns) c a n)) of.1 h) in
-        sym (sends_takes q n.number n.point n.act) ∙ and_from (sends_all n.act) (takes q n) parts.1 (edge_takes q c hc on parts.0)
-    sent_here (OfElements q t u) c hc on h = let of = element_line c.point.queue q t u c.act on in no (subst (λ (a : Act). IsTrue (makes_available (n ∷ ns) c a n)) of.2 h)
-    sent_here (OfSignals q) c hc on h = let of = signal_line c.point.queue q c.act on in no (subst (λ (a : Act). IsTrue (makes_available (n ∷ ns) c a n)) of.1 h)
-    sent_here (OfSets q) c hc on h = absurd (no_set_line c.point.queue q c.act on)
-    sent_here (OfWaits q t u a) c hc on h = let of = wait_line c.point.queue q t u a c.act on in no (subst (λ (x : Act). IsTrue (makes_available (n ∷ ns) c x n)) of.1 h)
+        let parts = and_parts (edge (n ∷ ns) c n) (makes_all_available n.act) (subst (λ (a : Act). IsTrue (makes_available (n ∷ ns) c a n)) of.1 h) in
+        sym (makes_available_takes q n.number n.point n.act) ∙ and_from (makes_all_available n.act) (takes q n) parts.1 (edge_takes q c hc on parts.0)
+    available_here (OfElements q t u) c hc on h = let of = element_line c.point.queue q t u c.act on in no (subst (λ (a : Act). IsTrue (makes_available (n ∷ ns) c a n)) of.2 h)
+    available_here (OfSignals q) c hc on h = let of = signal_line c.point.queue q c.act on in no (subst (λ (a : Act). IsTrue (makes_available (n ∷ ns) c a n)) of.1 h)
+    available_here (OfSets q) c hc on h = absurd (no_set_line c.point.queue q c.act on)
+    available_here (OfWaits q t u a) c hc on h = let of = wait_line c.point.queue q t u a c.act on in no (subst (λ (x : Act). IsTrue (makes_available (n ∷ ns) c x n)) of.1 h)
 
-    made_here : (l : Line) (c : Node) → Contains ns c → line_of c ≡ Some l → IsTrue (sends_line n.point.queue n.act l) → IsTrue (makes_available (n ∷ ns) c c.act n)
+    made_here : (l : Line) (c : Node) → Contains ns c → line_of c ≡ Some l → IsTrue (makes_line_available n.point.queue n.act l) → IsTrue (makes_available (n ∷ ns) c c.act n)
     made_here OfHost c hc on submit =
         let of = host_line c.point.queue c.act on in
         let up : c.number < n.number = (let less = low c hc in let at = new in omega arith) in
@@ -250,8 +250,8 @@ module _ (ns : List Node) (n : Node) (numbers : IsNumbered (n ∷ ns)) where
         subst (λ (a : Act). IsTrue (makes_available (n ∷ ns) c a n)) (sym of.1) (and_from (is_submit n.act) (before (n ∷ ns) c n) submit h)
     made_here (OfCommands q) c hc on sent =
         let of = command_line c.point.queue q c.act on in
-        let parts = and_parts (sends_all n.act) (takes q n) (sends_takes q n.number n.point n.act ∙ sent) in
-        subst (λ (a : Act). IsTrue (makes_available (n ∷ ns) c a n)) (sym of.1) (and_from (edge (n ∷ ns) c n) (sends_all n.act) (takes_edge q c hc on parts.1) parts.0)
+        let parts = and_parts (makes_all_available n.act) (takes q n) (makes_available_takes q n.number n.point n.act ∙ sent) in
+        subst (λ (a : Act). IsTrue (makes_available (n ∷ ns) c a n)) (sym of.1) (and_from (edge (n ∷ ns) c n) (makes_all_available n.act) (takes_edge q c hc on parts.1) parts.0)
     made_here (OfElements q t u) c hc on h = no h
     made_here (OfSignals q) c hc on h = no h
     made_here (OfSets q) c hc on h = no h
@@ -259,7 +259,7 @@ module _ (ns : List Node) (n : Node) (numbers : IsNumbered (n ∷ ns)) where
 
     forth : (l : Line) (c : Node) → Contains ns c → line_of c ≡ Some l → IsAvailable (n ∷ ns) c n → place ns l c.number < own l
     forth l c hc on (p, cp, s, inl same) =
-        let sent = sent_here l c hc on (subst (λ (x : Node). IsTrue (makes_available (n ∷ ns) c c.act x)) same s) in
+        let sent = available_here l c hc on (subst (λ (x : Node). IsTrue (makes_available (n ∷ ns) c c.act x)) same s) in
         let all : own l ≡ place ns l (length ns) = is l ∙ rw sent refl in
         let less = place-less ns numbers.1 l c (length ns) hc on (low c hc) in omega arith
     forth l c hc on (p, cp, s, inr h) =
@@ -274,12 +274,12 @@ module _ (ns : List Node) (n : Node) (numbers : IsNumbered (n ∷ ns)) where
         go : KnowsOne Available ns (λ k. edge ns k n) c → IsAvailable (n ∷ ns) c n
         go (k, ck, t, (p, cp, s, way)) = (p, contains-tail n ns p cp, made_old c p c.act cp ∙ s, inr (by_edge n ns numbers p cp (k, ck, t, way)))
 
-    back : (l : Line) (c : Node) → Contains ns c → line_of c ≡ Some l → (t : Bool) → sends_line n.point.queue n.act l ≡ t → place ns l c.number < own l → IsAvailable (n ∷ ns) c n
+    back : (l : Line) (c : Node) → Contains ns c → line_of c ≡ Some l → (t : Bool) → makes_line_available n.point.queue n.act l ≡ t → place ns l c.number < own l → IsAvailable (n ∷ ns) c n
     back l c hc on true e lt = (n, contains-head n ns, made_here l c hc on e, inl refl)
     back l c hc on false e lt = from_row l c hc on (let same : own l ≡ row l = is l ∙ rw e refl in omega arith)
 
     pub available_row : IsRow Available (n ∷ ns) n own
-    available_row = row_from Available own (λ l c hc on. ((λ h. forth l c hc on h), (λ lt. back l c hc on (sends_line n.point.queue n.act l) refl lt))) fits
+    available_row = row_from Available own (λ l c hc on. ((λ h. forth l c hc on h), (λ lt. back l c hc on (makes_line_available n.point.queue n.act l) refl lt))) fits
 
   -- and known there
   pub known_row : (clock sent : Clock) → IsClock (n ∷ ns) n clock → IsRow Available (n ∷ ns) n sent → IsKnownRow (n ∷ ns) n (λ l. if is_of_barriers l then clock l else sent l)
@@ -327,14 +327,14 @@ module _ (ns : List Node) (n : Node) (numbers : IsNumbered (n ∷ ns)) where
 
     -- and on the host
     module _ (k : Access) (row own : Clock) (j : IsRowJoin (OnHost k) ns (λ m. edge ns m n) row)
-        (same : (l : Line) → own l ≡ (if receives_on_host k n.act then max (row l) (sent l) else row l)) where
+        (same : (l : Line) → own l ≡ (if makes_all_visible_on_host k n.act then max (row l) (sent l) else row l)) where
       bound : (l : Line) (t : Bool) → own l ≡ (if t then max (row l) (sent l) else row l) → own l ≤ place ns l (length ns)
       bound l true e = let a = j.bounded l in let b = is.bounded l in let c = at_new l in omega arith
       bound l false e = let a = j.bounded l in omega arith
 
       into : (l : Line) (c : Node) → Contains ns c → line_of c ≡ Some l → Knows (OnHost k) (n ∷ ns) c n → place ns l c.number < own l
       into l c hc on (x, cx, r, inl e, s) =
-          let r_n : receives_on_host k n.act ≡ true = ap (λ (y : Node). receives_on_host k y.act) (sym e) ∙ r in
+          let r_n : makes_all_visible_on_host k n.act ≡ true = ap (λ (y : Node). makes_all_visible_on_host k y.act) (sym e) ∙ r in
           let at : own l ≡ max (row l) (sent l) = same l ∙ rw r_n refl in
           let lt = (is.counts l c (contains-tail n ns c hc) on).0 (subst (λ (y : Node). IsKnown (n ∷ ns) c y) e s) in
           let old = at_old l c hc in omega arith
@@ -342,7 +342,7 @@ module _ (ns : List Node) (n : Node) (numbers : IsNumbered (n ∷ ns)) where
           let there = older_of x n cx (contains-head n ns) h in
           let last = by_last n ns numbers x there h in
           let less = (j.counts l c hc on).0 (last.0, last.1, last.2, (x, there, r, last.3, heard_old c x there s)) in
-          go (receives_on_host k n.act) (same l) less
+          go (makes_all_visible_on_host k n.act) (same l) less
         where
           go : (t : Bool) → own l ≡ (if t then max (row l) (sent l) else row l) → place ns l c.number < row l → place ns l c.number < own l
           go true e lt = omega arith
@@ -354,7 +354,7 @@ module _ (ns : List Node) (n : Node) (numbers : IsNumbered (n ∷ ns)) where
           go : KnowsOne (OnHost k) ns (λ m. edge ns m n) c → Knows (OnHost k) (n ∷ ns) c n
           go (m, hm, t, (x, hx, r, way, s)) = (x, contains-tail n ns x hx, r, inr (by_edge n ns numbers x hx (m, hm, t, way)), heard_new c x hx s)
 
-      out : (l : Line) (c : Node) → Contains ns c → line_of c ≡ Some l → (t u : Bool) → receives_on_host k n.act ≡ t → nat_lt (place ns l c.number) (row l) ≡ u → place ns l c.number < own l → Knows (OnHost k) (n ∷ ns) c n
+      out : (l : Line) (c : Node) → Contains ns c → line_of c ≡ Some l → (t u : Bool) → makes_all_visible_on_host k n.act ≡ t → nat_lt (place ns l c.number) (row l) ≡ u → place ns l c.number < own l → Knows (OnHost k) (n ∷ ns) c n
       out l c hc on t true e f lt = from_kept l c hc on (ltb-true _ _ f)
       out l c hc on true false e f lt =
           let at : own l ≡ max (row l) (sent l) = same l ∙ rw e refl in
@@ -366,5 +366,5 @@ module _ (ns : List Node) (n : Node) (numbers : IsNumbered (n ∷ ns)) where
           let ge = ltb-false _ _ f in absurd (omega arith)
 
       pub host_row : IsRow (OnHost k) (n ∷ ns) n own
-      host_row = row_from (OnHost k) own (λ l c hc on. ((λ h. into l c hc on h), (λ lt. out l c hc on (receives_on_host k n.act) (nat_lt (place ns l c.number) (row l)) refl refl lt)))
-          (λ l. bound l (receives_on_host k n.act) (same l))
+      host_row = row_from (OnHost k) own (λ l c hc on. ((λ h. into l c hc on h), (λ lt. out l c hc on (makes_all_visible_on_host k n.act) (nat_lt (place ns l c.number) (row l)) refl refl lt)))
+          (λ l. bound l (makes_all_visible_on_host k n.act) (same l))

@@ -26,7 +26,7 @@ mod WaitLemmas
 mod OwnLemmas
 mod OwnCounts
 mod TallyLemmas
-mod SightLemmas
+mod NewNodeLemmas
 mod LimitedLemmas
 mod CachedLemmas
 mod PartLemmas
@@ -39,6 +39,6 @@ mod BarrierLemmas
 mod StampedLemmas
 pub mod PlaceLemmas
 mod SubmissionLemmas
-mod SendingLemmas
+mod AvailabilityLemmas
 mod AfterLemmas
 mod SeenLemmas

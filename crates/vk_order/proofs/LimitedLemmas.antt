@@ -16,10 +16,10 @@ use Rattle.vk_model.proofs.Sync.Numbers.{unique, edge-new}
 use Rattle.vk_model.proofs.Sync.Paths.{before_of_path}
 use Rattle.vk_order.specs.Wide.{is_wide}
 use Rattle.vk_order.specs.Limited.{is_limited, IsMark, Reaches, IsWrite, SeenByCommand, SeenByHost, SeenByTransition}
-use Rattle.vk_order.specs.Inner.Rows.{sends_all, makes_available, shows, Visible, OnHost, IsAvailable, IsKnown, KnowsOne}
+use Rattle.vk_order.specs.Inner.Rows.{makes_all_available, makes_available, shows, Visible, OnHost, IsAvailable, IsKnown, KnowsOne}
 use Rattle.vk_order.proofs.ByEdges.{by_last, by_edge}
 use Rattle.vk_order.proofs.KnownRows.{older_of, old_edge, heard_old, heard_new, unmade}
-use Rattle.vk_order.proofs.SightLemmas.{sent_wide, receives_each, received_wide, on_host_each, on_host_wide, made_each}
+use Rattle.vk_order.proofs.NewNodeLemmas.{available_wide, makes_visible_each, made_visible_wide, on_host_each, on_host_wide, made_each}
 use Rattle.vk_order.proofs.Visibility.{parts_of, seen_by}
 
 -- ---- acts
@@ -46,23 +46,23 @@ command_device (Signals s) h = no h
 command_device (Depends r e) h = no h
 
 -- a dependency makes visible by its masks alone
-shown_part : (cached : Byte → Bool) (ns : List Node) (mask : ℕ) (b : Byte) (q : Node) (z : Bool) (a : Act) → is_limited a ≡ true → (makes_writes_visible cached ns mask b q a || is_wait a || z && is_submit a) ≡ true → makes_writes_visible cached ns mask b q a ≡ true
-shown_part cached ns mask b q z (Depends r e) lim h = three (makes_writes_visible cached ns mask b q (Depends r e)) z h
+visible_of_part : (cached : Byte → Bool) (ns : List Node) (mask : ℕ) (b : Byte) (q : Node) (z : Bool) (a : Act) → is_limited a ≡ true → (makes_writes_visible cached ns mask b q a || is_wait a || z && is_submit a) ≡ true → makes_writes_visible cached ns mask b q a ≡ true
+visible_of_part cached ns mask b q z (Depends r e) lim h = three (makes_writes_visible cached ns mask b q (Depends r e)) z h
   where
     three : (x z : Bool) → (x || false || z && false) ≡ true → x ≡ true
     three true z h = refl
     three false true h = h
     three false false h = h
-shown_part cached ns mask b q z (Hosts x) lim h = no lim
-shown_part cached ns mask b q z (Waits s) lim h = no lim
-shown_part cached ns mask b q z (Signals s) lim h = no lim
-shown_part cached ns mask b q z (Runs c) lim h = no lim
+visible_of_part cached ns mask b q z (Hosts x) lim h = no lim
+visible_of_part cached ns mask b q z (Waits s) lim h = no lim
+visible_of_part cached ns mask b q z (Signals s) lim h = no lim
+visible_of_part cached ns mask b q z (Runs c) lim h = no lim
 
 -- ---- marks
 
 mark_host : (cached : Byte → Bool) (ns : List Node) (b : Byte) (w m : Node) → IsMark cached ns b w m → is_host m.act ≡ is_host w.act
 mark_host cached ns b w m (inl e) = ap (λ (x : Node). is_host x.act) e
-mark_host cached ns b w m (inr (command, there, lim, sends, e)) = limited_device m.act lim ∙ sym (command_device w.act command)
+mark_host cached ns b w m (inr (command, there, lim, makes, e)) = limited_device m.act lim ∙ sym (command_device w.act command)
 
 module _ (ns : List Node) (numbers : IsNumbered ns) (cached : Byte → Bool) (w : Node) (b : Byte) (is_write : IsWrite cached ns w b) where
   -- a write that is made available reaches a node by one of its marks
@@ -73,11 +73,11 @@ module _ (ns : List Node) (numbers : IsNumbered ns) (cached : Byte → Bool) (w 
       way = ⊎_elim (λ e. inl (unique ns numbers p q hp hq (eqb-true p.number q.number e))) (λ h. inr h) (or_cases (same_node p q) (before ns p q) between)
 
       by_command : (c : Cmd) → w.act ≡ Runs c → IsTrue (edge ns w p) → IsTrue (makes_writes_available cached ns p b p.act) → (t : Bool) → is_wide p.act ≡ t → (m : Node) × IsMark cached ns b w m × Reaches ns m q
-      by_command c is e sends true wide =
-          (w, inl refl, inl (inl (p, hp, subst (λ (a : Act). IsTrue (makes_available ns w a p)) (sym is) (and_from (edge ns w p) (sends_all p.act) e (sent_wide cached ns p b p.act wide sends)), way)))
-      by_command c is e sends false wide =
+      by_command c is e makes true wide =
+          (w, inl refl, inl (inl (p, hp, subst (λ (a : Act). IsTrue (makes_available ns w a p)) (sym is) (and_from (edge ns w p) (makes_all_available p.act) e (available_wide cached ns p b p.act wide makes)), way)))
+      by_command c is e makes false wide =
           let lim : is_limited p.act ≡ true = ap not wide in
-          (p, inr (ap is_command is, hp, lim, sends, e), ⊎_elim (λ same. inr (same, lim)) (λ h. inl (inr (limited_element p.act lim, h))) way)
+          (p, inr (ap is_command is, hp, lim, makes, e), ⊎_elim (λ same. inr (same, lim)) (λ h. inl (inr (limited_element p.act lim, h))) way)
 
       itself : (r : Role) (e : Element) → w.act ≡ Depends r e → w ≡ p → ((p ≡ q) ⊎ IsTrue (before ns p q)) → (m : Node) × IsMark cached ns b w m × Reaches ns m q
       itself r e is same (inl here) = (w, inl refl, inr (same ∙ here, ap not (sym (ap (λ (a : Act). is_element a && is_wide w.act) is) ∙ is_write.limited)))
@@ -125,10 +125,10 @@ module _ (ns : List Node) (numbers : IsNumbered ns) (cached : Byte → Bool) (w 
       by_itself (Waits s) is = no is
       by_itself (Signals s) is = no is
       by_itself (Runs c) is = no is
-  leave m q hq (inr (command, there, lim, sends, e)) r = (m, there, by_command w.act command, between r)
+  leave m q hq (inr (command, there, lim, makes, e)) r = (m, there, by_command w.act command, between r)
     where
       by_command : (a : Act) → is_command a ≡ true → IsTrue (available_by cached ns w a b m)
-      by_command (Runs c) is = and_from (edge ns w m) (makes_writes_available cached ns m b m.act) e sends
+      by_command (Runs c) is = and_from (edge ns w m) (makes_writes_available cached ns m b m.act) e makes
       by_command (Hosts x) is = no is
       by_command (Waits s) is = no is
       by_command (Signals s) is = no is
@@ -155,7 +155,7 @@ module _ (ns : List Node) (n : Node) (numbers : IsNumbered (n ∷ ns)) (cached :
 
   mark_old : (m q : Node) → Contains ns q → IsMark cached (n ∷ ns) b w m → Reaches (n ∷ ns) m q → IsMark cached ns b w m
   mark_old m q hq (inl e) r = inl e
-  mark_old m q hq (inr (command, hm, lim, sends, e)) r = inr (command, there r, lim, sends, sym (old_edge ns n numbers w m (there r)) ∙ e)
+  mark_old m q hq (inr (command, hm, lim, makes, e)) r = inr (command, there r, lim, makes, sym (old_edge ns n numbers w m (there r)) ∙ e)
     where
       there : Reaches (n ∷ ns) m q → Contains ns m
       there (inl (inl known)) = absurd (unmade (n ∷ ns) m known.0 m.act (limited_element m.act lim) known.2)
@@ -164,7 +164,7 @@ module _ (ns : List Node) (n : Node) (numbers : IsNumbered (n ∷ ns)) (cached :
 
   mark_new : (m : Node) → IsMark cached ns b w m → IsMark cached (n ∷ ns) b w m
   mark_new m (inl e) = inl e
-  mark_new m (inr (command, hm, lim, sends, e)) = inr (command, contains-tail n ns m hm, lim, sends, old_edge ns n numbers w m hm ∙ e)
+  mark_new m (inr (command, hm, lim, makes, e)) = inr (command, contains-tail n ns m hm, lim, makes, old_edge ns n numbers w m hm ∙ e)
 
   -- one of its marks reaches an older node that makes it visible
   from_mark : (m q : Node) → Contains ns q → IsMark cached ns b w m → Reaches ns m q → IsTrue (visible_by cached (n ∷ ns) w n n.act k b q) → IsTrue (before (n ∷ ns) q n) → IsTrue (seen cached (n ∷ ns) w n k b)
@@ -191,8 +191,8 @@ module _ (ns : List Node) (n : Node) (numbers : IsNumbered (n ∷ ns)) (cached :
     edge_back : (q : Node) → Contains ns q → IsTrue (edge ns q n) → IsTrue (before (n ∷ ns) q n)
     edge_back q hq e = before_of_path (n ∷ ns) numbers q n (contains-tail n ns q hq) (contains-head n ns) (direct (contains-tail n ns q hq) (contains-head n ns) (edge-new n ns q ∙ e))
 
-    shown : (q : Node) → IsTrue (edge ns q n) → (makes_writes_visible cached (n ∷ ns) (command_mask k) b q q.act || is_wait q.act || is_host w.act && is_submit q.act) ≡ true → IsTrue (visible_by cached (n ∷ ns) w n n.act k b q)
-    shown q e v = subst (λ (u : Act). IsTrue (visible_by cached (n ∷ ns) w n u k b q)) (sym is)
+    made_visible : (q : Node) → IsTrue (edge ns q n) → (makes_writes_visible cached (n ∷ ns) (command_mask k) b q q.act || is_wait q.act || is_host w.act && is_submit q.act) ≡ true → IsTrue (visible_by cached (n ∷ ns) w n n.act k b q)
+    made_visible q e v = subst (λ (u : Act). IsTrue (visible_by cached (n ∷ ns) w n u k b q)) (sym is)
         (and_from (edge (n ∷ ns) q n) (makes_writes_visible cached (n ∷ ns) (command_mask k) b q q.act || is_wait q.act || is_host w.act && is_submit q.act) (edge-new n ns q ∙ e) v)
 
     pub seen_by_command : SeenByCommand ns n cached w k b
@@ -214,20 +214,20 @@ module _ (ns : List Node) (n : Node) (numbers : IsNumbered (n ∷ ns)) (cached :
                 → (t : Bool) → is_wide q.act ≡ t → (m : Node) × IsMark cached ns b w m × (KnowsOne (Visible k) ns (λ q. edge ns q n) m
                 ⊎ ((q : Node) × Contains ns q × IsTrue (is_limited q.act) × IsTrue (makes_writes_visible cached ns (command_mask k) b q q.act) × IsTrue (edge ns q n) × Reaches ns m q))
             go q hq e v m mark reach true wide =
-                (m, mark, inl (q, hq, e, (ap (λ (t : Bool). shows k t q.act) (mark_host cached ns b w m mark) ∙ received_wide cached (n ∷ ns) q k b q.act (is_host w.act) wide v, known_wide m q wide reach)))
+                (m, mark, inl (q, hq, e, (ap (λ (t : Bool). shows k t q.act) (mark_host cached ns b w m mark) ∙ made_visible_wide cached (n ∷ ns) q k b q.act (is_host w.act) wide v, known_wide m q wide reach)))
             go q hq e v m mark reach false wide =
                 let lim : is_limited q.act ≡ true = ap not wide in
-                (m, mark, inr (q, hq, lim, shown_part cached (n ∷ ns) (command_mask k) b q (is_host w.act) q.act lim v, e, reach))
+                (m, mark, inr (q, hq, lim, visible_of_part cached (n ∷ ns) (command_mask k) b q (is_host w.act) q.act lim v, e, reach))
 
         back : ((m : Node) × IsMark cached ns b w m × (KnowsOne (Visible k) ns (λ q. edge ns q n) m
             ⊎ ((q : Node) × Contains ns q × IsTrue (is_limited q.act) × IsTrue (makes_writes_visible cached ns (command_mask k) b q q.act) × IsTrue (edge ns q n) × Reaches ns m q))) → IsTrue (seen cached (n ∷ ns) w n k b)
         back (m, mark, inl (q, hq, e, (s, known))) =
             from_mark m q hq mark (inl known)
-            (shown q e (receives_each cached (n ∷ ns) q k b q.act (is_host w.act) (sym (ap (λ (t : Bool). shows k t q.act) (mark_host cached ns b w m mark)) ∙ s)))
+            (made_visible q e (makes_visible_each cached (n ∷ ns) q k b q.act (is_host w.act) (sym (ap (λ (t : Bool). shows k t q.act) (mark_host cached ns b w m mark)) ∙ s)))
             (edge_back q hq e)
         back (m, mark, inr (q, hq, lim, v, e, r)) =
             from_mark m q hq mark r
-            (shown q e (or_left (makes_writes_visible cached (n ∷ ns) (command_mask k) b q q.act || is_wait q.act) (is_host w.act && is_submit q.act) (or_left (makes_writes_visible cached (n ∷ ns) (command_mask k) b q q.act) (is_wait q.act) v)))
+            (made_visible q e (or_left (makes_writes_visible cached (n ∷ ns) (command_mask k) b q q.act || is_wait q.act) (is_host w.act && is_submit q.act) (or_left (makes_writes_visible cached (n ∷ ns) (command_mask k) b q q.act) (is_wait q.act) v)))
             (edge_back q hq e)
 
   -- by the host

@@ -16,18 +16,18 @@ use Rattle.vk_order.specs.declared.tallies.LineTally.{LineTally}
 use Rattle.vk_order.specs.PointViews.{act_of}
 use Rattle.vk_order.specs.Lines.{line_of}
 use Rattle.vk_order.specs.Inner.Clocks.{on_line, place}
-use Rattle.vk_order.specs.Inner.Counts.{zero_counts, count_in, counts_on, known_on, shows_of, shown_by, with_clock, with_available, AreSent, AreShown, AreCounted}
+use Rattle.vk_order.specs.Inner.Counts.{zero_counts, count_in, counts_on, known_on, shows_of, made_visible_by, with_clock, with_available, AreSent, AreVisible, AreCounted}
 use Rattle.vk_order.specs.Inner.Fronts.{clock_in, row_in, IsOwnFront}
 use Rattle.vk_order.specs.Inner.Kept.{clock_at, IsOwn}
 use Rattle.vk_order.specs.Inner.Leads.{is_of_host, is_of_barriers}
 use Rattle.vk_order.specs.Inner.Places.{index_in}
-use Rattle.vk_order.specs.Inner.Rows.{Knowledge, Available, Visible, OnHost, receives_on_host, shows, sends_line, IsOwnAvailable, IsOwnVisible, IsOwnOnHost}
+use Rattle.vk_order.specs.Inner.Rows.{Knowledge, Available, Visible, OnHost, makes_all_visible_on_host, shows, makes_line_available, IsOwnAvailable, IsOwnVisible, IsOwnOnHost}
 use Rattle.vk_order.specs.Inner.Tallies.{lines_of, IsComing}
 use Rattle.vk_order.proofs.CountLemmas.{zero_in, each_at, at_line}
 use Rattle.vk_order.proofs.KeptLemmas.{own_line, own_none}
 use Rattle.vk_order.proofs.OwnLemmas.{tally_at, own_is}
 
--- ---- what is shown
+-- ---- what is made visible
 
 abbrev either : Bool → ℕ → ℕ → ℕ
 either b m n = if b then m else n
@@ -50,34 +50,34 @@ none_visible r w x y a b c d =
     ap (λ (n : ℕ). visible_alone n w x y) a ∙ ap (λ (n : ℕ). visible_alone 0 n x y) b ∙ ap (λ (n : ℕ). visible_alone 0 0 n y) c ∙ ap (λ (n : ℕ). visible_alone 0 0 0 n) d
 
 -- of no node nothing is
-shown_zero : (s : Shows) (l : Line) → shown_by s l zero_counts ≡ zero_counts
-shown_zero s l = none_visible _ _ _ _
+visible_zero : (s : Shows) (l : Line) → made_visible_by s l zero_counts ≡ zero_counts
+visible_zero s l = none_visible _ _ _ _
     (zero_if (s.reads || is_of_host l && s.is_submit) (is_of_barriers l)) (zero_if (s.writes || is_of_host l && s.is_submit) (is_of_barriers l))
     (zero_max s.host_reads (is_of_barriers l)) (zero_max s.host_writes (is_of_barriers l))
 
 -- the counts of the first lines are done, and there are no more lines or no more counts
-pub all_shown : (ts : List LineTally) (s : Shows) (before own : List Counts) (k : ℕ) → (length ts ≤ k) ⊎ (length before ≤ k) → length own ≡ length before
-    → ((i : ℕ) (t : LineTally) → i < k → slice_get ts i ≡ Some t → slice_index_or own i zero_counts ≡ shown_by s t.line (slice_index_or before i zero_counts))
-    → ((i : ℕ) → k ≤ i → slice_index_or own i zero_counts ≡ slice_index_or before i zero_counts) → AreShown (lines_of ts) s before own
-all_shown ts s before own k ends long done rest = record { counts = λ l. go l (index_in (lines_of ts) l) refl; long = long }
+pub all_visible : (ts : List LineTally) (s : Shows) (before own : List Counts) (k : ℕ) → (length ts ≤ k) ⊎ (length before ≤ k) → length own ≡ length before
+    → ((i : ℕ) (t : LineTally) → i < k → slice_get ts i ≡ Some t → slice_index_or own i zero_counts ≡ made_visible_by s t.line (slice_index_or before i zero_counts))
+    → ((i : ℕ) → k ≤ i → slice_index_or own i zero_counts ≡ slice_index_or before i zero_counts) → AreVisible (lines_of ts) s before own
+all_visible ts s before own k ends long done rest = record { counts = λ l. go l (index_in (lines_of ts) l) refl; long = long }
   where
-    past : (i : ℕ) (t : LineTally) → slice_get ts i ≡ Some t → k ≤ i → slice_index_or own i zero_counts ≡ shown_by s t.line (slice_index_or before i zero_counts)
+    past : (i : ℕ) (t : LineTally) → slice_get ts i ≡ Some t → k ≤ i → slice_index_or own i zero_counts ≡ made_visible_by s t.line (slice_index_or before i zero_counts)
     past i t e le = ⊎_elim
         (λ short. absurd (let lt = slice_get_within ts i t e in omega arith))
         (λ short.
         let none : slice_index_or before i zero_counts ≡ zero_counts = get_or_past before i zero_counts (omega arith) in
-        rest i le ∙ none ∙ sym (shown_zero s t.line) ∙ ap (shown_by s t.line) (sym none))
+        rest i le ∙ none ∙ sym (visible_zero s t.line) ∙ ap (made_visible_by s t.line) (sym none))
         ends
 
-    each : (i : ℕ) (t : LineTally) → slice_get ts i ≡ Some t → slice_index_or own i zero_counts ≡ shown_by s t.line (slice_index_or before i zero_counts)
+    each : (i : ℕ) (t : LineTally) → slice_get ts i ≡ Some t → slice_index_or own i zero_counts ≡ made_visible_by s t.line (slice_index_or before i zero_counts)
     each i t e = ⊎_elim (λ lt. done i t lt e) (λ ge. past i t e ge) (cases_lt i k)
 
     go : (l : Line) (o : Option ℕ) → index_in (lines_of ts) l ≡ o
-        → option_map_or (λ i. slice_index_or own i zero_counts) o zero_counts ≡ shown_by s l (option_map_or (λ i. slice_index_or before i zero_counts) o zero_counts)
-    go l None e = sym (shown_zero s l)
+        → option_map_or (λ i. slice_index_or own i zero_counts) o zero_counts ≡ made_visible_by s l (option_map_or (λ i. slice_index_or before i zero_counts) o zero_counts)
+    go l None e = sym (visible_zero s l)
     go l (Some i) e =
         let r = tally_at ts l i e in
-        each i r.0 r.1 ∙ ap (λ (m : Line). shown_by s m (slice_index_or before i zero_counts)) r.2
+        each i r.0 r.1 ∙ ap (λ (m : Line). made_visible_by s m (slice_index_or before i zero_counts)) r.2
 
 -- ---- the node itself
 
@@ -126,16 +126,16 @@ module _ (ns : List Node) (ls : List Line) (n : Node) (before own : List Counts)
 
 -- ---- all of it
 
-shown_rows : (k : Access) (l : Line) (a : Act) (c : Counts) → count_in (Visible k) (shown_by (shows_of a) l c) ≡ (if shows k (is_of_host l) a then known_on l c else 0)
-shown_rows Read l a c = refl
-shown_rows Write l a c = refl
+visible_rows : (k : Access) (l : Line) (a : Act) (c : Counts) → count_in (Visible k) (made_visible_by (shows_of a) l c) ≡ (if shows k (is_of_host l) a then known_on l c else 0)
+visible_rows Read l a c = refl
+visible_rows Write l a c = refl
 
-shown_on_host : (k : Access) (l : Line) (a : Act) (c : Counts) → count_in (OnHost k) (shown_by (shows_of a) l c) ≡ (if receives_on_host k a then max (count_in (OnHost k) c) (known_on l c) else count_in (OnHost k) c)
-shown_on_host Read l a c = refl
-shown_on_host Write l a c = refl
+visible_on_host : (k : Access) (l : Line) (a : Act) (c : Counts) → count_in (OnHost k) (made_visible_by (shows_of a) l c) ≡ (if makes_all_visible_on_host k a then max (count_in (OnHost k) c) (known_on l c) else count_in (OnHost k) c)
+visible_on_host Read l a c = refl
+visible_on_host Write l a c = refl
 
-module _ (ns : List Node) (ls : List Line) (n : Node) (row : Row) (known own : Front) (coming : IsComing ns ls n row known) (sent shown : List Counts)
-    (are_sent : AreSent ns ls row.point.queue (act_of row.act) known.counts.items sent) (are_shown : AreShown ls (shows_of (act_of row.act)) sent shown) (are_counted : AreCounted ns ls n shown own.counts.items) where
+module _ (ns : List Node) (ls : List Line) (n : Node) (row : Row) (known own : Front) (coming : IsComing ns ls n row known) (sent made_visible : List Counts)
+    (are_sent : AreSent ns ls row.point.queue (act_of row.act) known.counts.items sent) (are_visible : AreVisible ls (shows_of (act_of row.act)) sent made_visible) (are_counted : AreCounted ns ls n made_visible own.counts.items) where
   abbrev act : Act
   act = act_of row.act
 
@@ -150,26 +150,26 @@ module _ (ns : List Node) (ls : List Line) (n : Node) (row : Row) (known own : F
 
   -- what is sent changes what is available alone
   same_clock : (l : Line) → (second l).clock ≡ (first l).clock
-  same_clock l = ap (λ (c : Counts). c.clock) (are_sent.counts l) ∙ split (sends_line row.point.queue act l)
+  same_clock l = ap (λ (c : Counts). c.clock) (are_sent.counts l) ∙ split (makes_line_available row.point.queue act l)
     where
       split : (b : Bool) → (if b then with_available (first l) (place ns l (length ns)) else first l).clock ≡ (first l).clock
       split true = refl
       split false = refl
 
   same_on_host : (k : Access) (l : Line) → count_in (OnHost k) (second l) ≡ count_in (OnHost k) (first l)
-  same_on_host k l = ap (count_in (OnHost k)) (are_sent.counts l) ∙ split k (sends_line row.point.queue act l)
+  same_on_host k l = ap (count_in (OnHost k)) (are_sent.counts l) ∙ split k (makes_line_available row.point.queue act l)
     where
       split : (k : Access) (b : Bool) → count_in (OnHost k) (if b then with_available (first l) (place ns l (length ns)) else first l) ≡ count_in (OnHost k) (first l)
       split Read true = refl
       split Write true = refl
       split k false = refl
 
-  clock_then : (l : Line) → clock_at ls (map (λ c. c.clock) shown) l ≡ clock_at ls (clock_in known) l
+  clock_then : (l : Line) → clock_at ls (map (λ c. c.clock) made_visible) l ≡ clock_at ls (clock_in known) l
   clock_then l =
-      at_line (λ c. c.clock) refl ls shown l ∙ ap (λ (c : Counts). c.clock) (are_shown.counts l) ∙ same_clock l ∙ sym (at_line (λ c. c.clock) refl ls known.counts.items l)
+      at_line (λ c. c.clock) refl ls made_visible l ∙ ap (λ (c : Counts). c.clock) (are_visible.counts l) ∙ same_clock l ∙ sym (at_line (λ c. c.clock) refl ls known.counts.items l)
 
-  row_then : (g : Knowledge) (l : Line) → clock_at ls (row_in g own) l ≡ count_in g (shown_by (shows_of act) l (second l))
-  row_then g l = are_counted.rows g l ∙ at_line (count_in g) (zero_in g) ls shown l ∙ ap (count_in g) (are_shown.counts l)
+  row_then : (g : Knowledge) (l : Line) → clock_at ls (row_in g own) l ≡ count_in g (made_visible_by (shows_of act) l (second l))
+  row_then g l = are_counted.rows g l ∙ at_line (count_in g) (zero_in g) ls made_visible l ∙ ap (count_in g) (are_visible.counts l)
 
   known_then : (l : Line) → known_on l (second l) ≡ (if is_of_barriers l then clock_at ls (clock_in known) l else clock_at ls (row_in Available own) l)
   known_then l =
@@ -185,8 +185,8 @@ module _ (ns : List Node) (ls : List Line) (n : Node) (row : Row) (known own : F
   available : IsOwnAvailable ns ls row.point.queue act (row_in Available known) (row_in Available own)
   available = record {
     counts = λ l.
-        row_then Available l ∙ ap (λ (c : Counts). c.available) (are_sent.counts l) ∙ split l (sends_line row.point.queue act l)
-        ∙ ap (λ (m : ℕ). if sends_line row.point.queue act l then place ns l (length ns) else m) (sym (at_line (count_in Available) refl ls known.counts.items l));
+        row_then Available l ∙ ap (λ (c : Counts). c.available) (are_sent.counts l) ∙ split l (makes_line_available row.point.queue act l)
+        ∙ ap (λ (m : ℕ). if makes_line_available row.point.queue act l then place ns l (length ns) else m) (sym (at_line (count_in Available) refl ls known.counts.items l));
     short = short (count_in Available);
   }
     where
@@ -196,7 +196,7 @@ module _ (ns : List Node) (ls : List Line) (n : Node) (row : Row) (known own : F
 
   visible : (k : Access) → IsOwnVisible k ls act (clock_in known) (row_in Available own) (row_in (Visible k) own)
   visible k = record {
-    counts = λ l. row_then (Visible k) l ∙ shown_rows k l act (second l) ∙ ap (λ (m : ℕ). if shows k (is_of_host l) act then m else 0) (known_then l);
+    counts = λ l. row_then (Visible k) l ∙ visible_rows k l act (second l) ∙ ap (λ (m : ℕ). if shows k (is_of_host l) act then m else 0) (known_then l);
     short = short (count_in (Visible k));
   }
 
@@ -204,9 +204,9 @@ module _ (ns : List Node) (ls : List Line) (n : Node) (row : Row) (known own : F
   hosted k = record {
     counts = λ l.
         let before : count_in (OnHost k) (second l) ≡ clock_at ls (row_in (OnHost k) known) l = same_on_host k l ∙ sym (at_line (count_in (OnHost k)) (zero_in (OnHost k)) ls known.counts.items l) in
-        row_then (OnHost k) l ∙ shown_on_host k l act (second l)
-        ∙ ap (λ (m : ℕ). if receives_on_host k act then max m (known_on l (second l)) else m) before
-        ∙ ap (λ (m : ℕ). if receives_on_host k act then max (clock_at ls (row_in (OnHost k) known) l) m else clock_at ls (row_in (OnHost k) known) l) (known_then l);
+        row_then (OnHost k) l ∙ visible_on_host k l act (second l)
+        ∙ ap (λ (m : ℕ). if makes_all_visible_on_host k act then max m (known_on l (second l)) else m) before
+        ∙ ap (λ (m : ℕ). if makes_all_visible_on_host k act then max (clock_at ls (row_in (OnHost k) known) l) m else clock_at ls (row_in (OnHost k) known) l) (known_then l);
     short = short (count_in (OnHost k));
   }
 

@@ -21,7 +21,7 @@ use Rattle.vk_order.specs.Inner.Counts.{zero_counts, counts_on, with_available, 
 use Rattle.vk_order.specs.Inner.Kept.{clock_at, IsOwn}
 use Rattle.vk_order.specs.Inner.Leads.{is_of_host, is_of_barriers}
 use Rattle.vk_order.specs.Inner.Places.{index_in}
-use Rattle.vk_order.specs.Inner.Rows.{Knowledge, Available, Visible, OnHost, sends, receives_on_host, shows, sends_line, IsRow, IsKnownRow, IsOwnAvailable, IsMerged, IsOwnVisible, IsOwnOnHost}
+use Rattle.vk_order.specs.Inner.Rows.{Knowledge, Available, Visible, OnHost, makes_queue_available, makes_all_visible_on_host, shows, makes_line_available, IsRow, IsKnownRow, IsOwnAvailable, IsMerged, IsOwnVisible, IsOwnOnHost}
 use Rattle.vk_order.specs.Inner.Fronts.{clock_in, row_in, IsOwnFront}
 use Rattle.vk_order.specs.Inner.Tallies.{lines_of, IsTallied, IsComing}
 use Rattle.vk_order.proofs.ClockLemmas.{edges_join, line_same, line_itself, of_on}
@@ -73,13 +73,13 @@ count_there ns ts tallied l i t at here =
 
 module _ (ns : List Node) (ts : List LineTally) (tallied : IsTallied ns ts) (queue : ℕ) (act : Act) (row own : List Counts) where
   -- where all nodes of a line are sent
-  pub sent_counted : (line : Line) (at count : ℕ) (t : LineTally) → ((l : Line) → same_line l line ≡ sends_line queue act l) → index_in (lines_of ts) line ≡ Some at → slice_get ts at ≡ Some t → count ≡ t.count
+  pub available_counted : (line : Line) (at count : ℕ) (t : LineTally) → ((l : Line) → same_line l line ≡ makes_line_available queue act l) → index_in (lines_of ts) line ≡ Some at → slice_get ts at ≡ Some t → count ≡ t.count
       → ((i : ℕ) → slice_index_or own i zero_counts ≡ (if i == at then with_available (slice_index_or row at zero_counts) count else slice_index_or row i zero_counts))
       → length own ≡ max (length row) (at + 1) → length row ≤ length ts → AreSent ns (lines_of ts) queue act row own
-  sent_counted line at count t sends found here is counts len short = record {
+  available_counted line at count t makes found here is counts len short = record {
     counts = λ l.
         go l (same_line l line) refl (index_in (lines_of ts) l) refl
-        ∙ ap (λ (b : Bool). if b then with_available (counts_on (lines_of ts) row l) (place ns l (length ns)) else counts_on (lines_of ts) row l) (sends l);
+        ∙ ap (λ (b : Bool). if b then with_available (counts_on (lines_of ts) row l) (place ns l (length ns)) else counts_on (lines_of ts) row l) (makes l);
     short = let lt = slice_get_within ts at t here in let e = lines_length ts in omega arith;
   }
     where
@@ -104,11 +104,11 @@ module _ (ns : List Node) (ts : List LineTally) (tallied : IsTallied ns ts) (que
           no (sym e ∙ ap (same_line l) (sym same) ∙ line_itself l))) refl
 
   -- where the line has no node yet
-  pub sent_none : (line : Line) → ((l : Line) → same_line l line ≡ sends_line queue act l) → index_in (lines_of ts) line ≡ None → own ≡ row → length row ≤ length ts → AreSent ns (lines_of ts) queue act row own
-  sent_none line sends none same short = record {
+  pub available_none : (line : Line) → ((l : Line) → same_line l line ≡ makes_line_available queue act l) → index_in (lines_of ts) line ≡ None → own ≡ row → length row ≤ length ts → AreSent ns (lines_of ts) queue act row own
+  available_none line makes none same short = record {
     counts = λ l.
         ap (λ (r : List Counts). counts_on (lines_of ts) r l) same ∙ go l (same_line l line) refl
-        ∙ ap (λ (b : Bool). if b then with_available (counts_on (lines_of ts) row l) (place ns l (length ns)) else counts_on (lines_of ts) row l) (sends l);
+        ∙ ap (λ (b : Bool). if b then with_available (counts_on (lines_of ts) row l) (place ns l (length ns)) else counts_on (lines_of ts) row l) (makes_queue_available l);
     short = let e = lines_length ts in let f = ap length same in omega arith;
   }
     where
@@ -123,17 +123,17 @@ module _ (ns : List Node) (ts : List LineTally) (tallied : IsTallied ns ts) (que
       go l false e = refl
 
   -- where nothing is sent
-  pub sent_same : ((l : Line) → false ≡ sends_line queue act l) → own ≡ row → length row ≤ length ts → AreSent ns (lines_of ts) queue act row own
-  sent_same sends same short = record {
+  pub available_as_well : ((l : Line) → false ≡ makes_line_available queue act l) → own ≡ row → length row ≤ length ts → AreSent ns (lines_of ts) queue act row own
+  available_as_well makes same short = record {
     counts = λ l.
         ap (λ (r : List Counts). counts_on (lines_of ts) r l) same
-        ∙ ap (λ (b : Bool). if b then with_available (counts_on (lines_of ts) row l) (place ns l (length ns)) else counts_on (lines_of ts) row l) (sends l);
+        ∙ ap (λ (b : Bool). if b then with_available (counts_on (lines_of ts) row l) (place ns l (length ns)) else counts_on (lines_of ts) row l) (makes l);
     short = let e = lines_length ts in let f = ap length same in omega arith;
   }
 
 -- ---- which line is sent
 
-pub host_sent : (q : ℕ) (a : Act) → is_submit a ≡ true → (l : Line) → same_line l OfHost ≡ sends_line q a l
+pub host_sent : (q : ℕ) (a : Act) → is_submit a ≡ true → (l : Line) → same_line l OfHost ≡ makes_line_available q a l
 host_sent q (Hosts x) e OfHost = sym e
 host_sent q (Hosts x) e (OfCommands r) = refl
 host_sent q (Hosts x) e (OfSignals r) = refl
@@ -145,7 +145,7 @@ host_sent q (Signals s) e l = no e
 host_sent q (Runs c) e l = no e
 host_sent q (Depends r x) e l = no e
 
-pub commands_sent : (q : ℕ) (a : Act) → is_submit a ≡ false → sends a ≡ true → (l : Line) → same_line l (OfCommands q) ≡ sends_line q a l
+pub commands_sent : (q : ℕ) (a : Act) → is_submit a ≡ false → makes_queue_available a ≡ true → (l : Line) → same_line l (OfCommands q) ≡ makes_line_available q a l
 commands_sent q a s e OfHost = sym s
 commands_sent q a s e (OfCommands r) = rw e refl
 commands_sent q a s e (OfSignals r) = refl
@@ -153,7 +153,7 @@ commands_sent q a s e (OfElements r t h) = refl
 commands_sent q a s e (OfSets r) = refl
 commands_sent q a s e (OfWaits r t h b) = refl
 
-pub none_sent : (q : ℕ) (a : Act) → is_submit a ≡ false → sends a ≡ false → (l : Line) → false ≡ sends_line q a l
+pub none_sent : (q : ℕ) (a : Act) → is_submit a ≡ false → makes_queue_available a ≡ false → (l : Line) → false ≡ makes_line_available q a l
 none_sent q a s e OfHost = sym s
 none_sent q a s e (OfCommands r) = rw e refl
 none_sent q a s e (OfSignals r) = refl
@@ -191,7 +191,7 @@ module _ (ns : List Node) (ls : List Line) (n : Node) (row : Row) (known own : F
   sent : IsRow Available (n ∷ ns) n (clock_at ls (row_in Available own))
   sent = available_row ns n coming.numbers (clock_at ls (row_in Available known)) (clock_at ls (row_in Available own)) (coming.front.rows Available).join
       (λ l. available.counts l ∙ ap (λ (b : Bool). if b then place ns l (length ns) else clock_at ls (row_in Available known) l)
-      (ap (λ (a : Act). sends_line row.point.queue a l) (sym coming.act) ∙ ap (λ (q : ℕ). sends_line q n.act l) (sym queue_is)))
+      (ap (λ (a : Act). makes_line_available row.point.queue a l) (sym coming.act) ∙ ap (λ (q : ℕ). makes_line_available q n.act l) (sym queue_is)))
 
   clock_there : IsClock (n ∷ ns) n (clock_at ls (clock_in known))
   clock_there = edges_join n ns coming.numbers (clock_at ls (clock_in known)) coming.front.clock.join
@@ -208,7 +208,7 @@ module _ (ns : List Node) (ls : List Line) (n : Node) (row : Row) (known own : F
 
   on_host : (k : Access) → IsRow (OnHost k) (n ∷ ns) n (clock_at ls (row_in (OnHost k) own))
   on_host k = host_row ns n coming.numbers (λ l. heard l) heard_there k (clock_at ls (row_in (OnHost k) known)) (clock_at ls (row_in (OnHost k) own)) (coming.front.rows (OnHost k)).join
-      (λ l. (hosted k).counts l ∙ ap (λ (a : Act). if receives_on_host k a then max (clock_at ls (row_in (OnHost k) known) l) (heard l) else clock_at ls (row_in (OnHost k) known) l) (sym coming.act))
+      (λ l. (hosted k).counts l ∙ ap (λ (a : Act). if makes_all_visible_on_host k a then max (clock_at ls (row_in (OnHost k) known) l) (heard l) else clock_at ls (row_in (OnHost k) known) l) (sym coming.act))
 
   shorter : (g : Knowledge) → length (row_in g own) ≤ length ls
   shorter Available = available.short

@@ -25,7 +25,7 @@ use Rattle.vk_order.specs.Limited.{is_limited}
 use Rattle.vk_order.specs.Inner.Clocks.{same_line, place, Clock}
 use Rattle.vk_order.specs.Inner.Kept.{clock_at, IsKeptJoin, IsLonger}
 use Rattle.vk_order.specs.Inner.Leads.{is_of_barriers}
-use Rattle.vk_order.specs.Inner.Rows.{Available, sends, IsKnown, IsRow, IsKnownRow, IsKeptRow, IsMerged}
+use Rattle.vk_order.specs.Inner.Rows.{Available, makes_queue_available, IsKnown, IsRow, IsKnownRow, IsKeptRow, IsMerged}
 use Rattle.vk_order.specs.Inner.Parts.{part_of, IsPart, parts_at, AreInOrder, AreBelow, AreFrom, AreParts}
 use Rattle.vk_order.proofs.LinePrefixes.{node, linked, of_linked, to_linked, command_line}
 use Rattle.vk_order.proofs.ClockLemmas.{line_same, line_itself, place-grows, place-less, edges_join}
@@ -142,7 +142,7 @@ part_stays ns n ls m x numbers is = record {
   short = is.short;
 }
 
-part_element : (e : Element) (id : ℕ) → named_by e ≡ Some id → (is_limited (Depends Barrier e) ≡ true) × (sends (Depends Barrier e) ≡ false)
+part_element : (e : Element) (id : ℕ) → named_by e ≡ Some id → (is_limited (Depends Barrier e) ≡ true) × (makes_queue_available (Depends Barrier e) ≡ false)
 part_element (element.Memory d) id h = absurd cc
 part_element (element.Buffer e) id h = (refl, refl)
 part_element (element.Image e) id h = (refl, refl)
@@ -152,7 +152,7 @@ pub part_new : (ns : List Node) (n : Node) (ls : List Line) (x : Part) (id : ℕ
     → x.place ≡ place ns x.line (length ns) → x.earlier ≡ place ns (OfCommands x.queue) (length ns) → IsMerged ls clock row x.heard.items → IsKeptJoin ns ls (λ k. edge ns k n) clock → IsKeptRow Available ns ls (λ k. edge ns k n) row → IsPart (n ∷ ns) ls n x
 part_new ns n ls x id clock row numbers act named number queue line at earlier merged kept sent =
     let of = part_element x.element id named in
-    let quiet : sends n.act ≡ false = ap sends act ∙ of.1 in
+    let quiet : makes_queue_available n.act ≡ false = ap makes_queue_available act ∙ of.1 in
     let device : is_submit n.act ≡ false = ap is_submit act in
     let available : IsRow Available (n ∷ ns) n (clock_at ls row) = available_row ns n numbers (clock_at ls row) (clock_at ls row) sent.join (λ l. ap (λ (t : Bool). if t then place ns l (length ns) else clock_at ls row l) (none_sent n.point.queue n.act device quiet l)) in
     record {

@@ -1,4 +1,4 @@
--- Places in lines, when nodes come, and what has no siblings: what callers show of sights.
+-- Places in lines, when nodes come, and what has no siblings: what callers show of new node.
 use Rattle.std.proofs.Common.{◌≡◌, ℕ, ◌≤◌, Some, List, [], ◌∷◌, length, Bool, true, false, ◌&&◌, refl, ap, ◌∙◌, arith}
 use Rattle.std.specs.Prelude.{Contains}
 use Rattle.vk_model.specs.Trace.Point.{Point}
@@ -8,8 +8,8 @@ use Rattle.vk_order.specs.declared.lines.Line.{Line}
 use Rattle.vk_order.specs.Wide.{IsApartFrom}
 use Rattle.vk_order.specs.Inner.Clocks.{place}
 pub use Rattle.vk_order.proofs.ClockLemmas.{place-older, place-grows, line_itself, line_same}
-use Rattle.vk_order.specs.declared.sights.Sight.{Sight}
-use Rattle.vk_order.specs.Frontiers.{IsSight}
+use Rattle.vk_order.specs.declared.new_node.NewNode.{NewNode}
+use Rattle.vk_order.specs.Frontiers.{IsNewNode}
 use Rattle.vk_order.specs.Lines.{line_of}
 use Rattle.vk_model.specs.Sync.Before.{before}
 use Rattle.vk_order.proofs.ByEdges.{by_last, by_edge}
@@ -30,9 +30,9 @@ apart_from ns n none k c = ap (λ (t : Bool). is_element k.act && t && same_plac
     go false = refl
 
 -- what is before the next node is the first of each line
-pub first_on_line : (ns : List Node) (n : Node) (s : Sight) → IsSight ns n s → (l : Line) (m d : Node) → Contains ns m → Contains ns d → line_of m ≡ Some l → line_of d ≡ Some l → place ns l m.number ≤ place ns l d.number
+pub first_on_line : (ns : List Node) (n : Node) (s : NewNode) → IsNewNode ns n s → (l : Line) (m d : Node) → Contains ns m → Contains ns d → line_of m ≡ Some l → line_of d ≡ Some l → place ns l m.number ≤ place ns l d.number
     → before (n ∷ ns) d n ≡ true → before (n ∷ ns) m n ≡ true
-first_on_line ns n s sight l m d hm hd lm ld le h =
-    let join = sight.front.clock.join in
-    let lt = (join.counts l d hd ld).0 (by_last n ns sight.numbers d hd h) in
-    by_edge n ns sight.numbers m hm ((join.counts l m hm lm).1 (omega (arith, lt, le)))
+first_on_line ns n s new_node l m d hm hd lm ld le h =
+    let join = new_node.front.clock.join in
+    let lt = (join.counts l d hd ld).0 (by_last n ns new_node.numbers d hd h) in
+    by_edge n ns new_node.numbers m hm ((join.counts l m hm lm).1 (omega (arith, lt, le)))

@@ -16,7 +16,7 @@ use Rattle.vk_model.proofs.Sync.Paths.{before_of_path, path_of_before, joined, l
 use Rattle.vk_order.specs.declared.acts.Row.{Row}
 use Rattle.vk_order.specs.PointViews.{act_of, node_of, nodes_after}
 use Rattle.vk_order.specs.Inner.Links.{unsignaled}
-use Rattle.vk_order.specs.Inner.Sending.{makes_available, makes_visible, sent_by, ends_by, is_after, IsUntil, IsLastInvalidation, IsFrom, IsInTime}
+use Rattle.vk_order.specs.Inner.Availability.{makes_available, makes_visible, made_available_by, ends_by, is_after, IsUntil, IsLastInvalidation, IsFrom, IsInTime}
 use Rattle.vk_order.proofs.Arrange.{or-false, holds-false}
 use Rattle.vk_order.proofs.LinePrefixes.{node, host_edge}
 use Rattle.vk_order.proofs.RowLemmas.{numbered_after}
@@ -129,7 +129,7 @@ module _ (rows : List Row) where
                   (λ high. lt-ltb from p.number (omega arith))
                   (cases_lt f.0.number from)
 
-      available_same : (a : Act) → w.act ≡ a → (p : Node) → Contains all p → sent_by w a from b p ≡ available_by cached all w a b p
+      available_same : (a : Act) → w.act ≡ a → (p : Node) → Contains all p → made_available_by w a from b p ≡ available_by cached all w a b p
       available_same (Runs c) is p cp =
           let own = node_row rows p p.number cp refl in
           let silent : by_semaphore (first_nodes p.number rows) w (node_of p.number own.0) ≡ false = rw (ap signaled_by is) refl in
@@ -187,7 +187,7 @@ module _ (rows : List Row) where
 
     pub seen_way : (sent served : Node → Bool) → ((p : Node) → Contains all p → sent p ≡ available_by cached all w w.act b p) → ((q : Node) → Contains all q → served q ≡ visible_by cached all w a a.act k b q)
         → list_any (λ n. served n && is_after all sent n) all ≡ seen cached all w a k b
-    seen_way sent served sent_same served_same = bool_same (list_any (λ n. served n && is_after all sent n) all) (seen cached all w a k b) on back
+    seen_way sent served available_as_well served_same = bool_same (list_any (λ n. served n && is_after all sent n) all) (seen cached all w a k b) on back
       where
         on : list_any (λ n. served n && is_after all sent n) all ≡ true → IsTrue (seen cached all w a k b)
         on h =
@@ -196,13 +196,13 @@ module _ (rows : List Row) where
             let p = some_member (λ p. sent p && (same_node p q.0 || before all p q.0)) all parts.1 in
             let two = and_parts (sent p.0) (same_node p.0 q.0 || before all p.0 q.0) p.2 in
             let visible : IsTrue (visible_by cached all w a a.act k b q.0) = sym (served_same q.0 q.1) ∙ parts.0 in
-            seen_by cached all w a k b (record { p = p.0; q = q.0; has_p = p.1; has_q = q.1; available = sym (sent_same p.0 p.1) ∙ two.0; between = two.1; visible = visible; reached = visible_reaches a.act q.0 q.1 visible })
+            seen_by cached all w a k b (record { p = p.0; q = q.0; has_p = p.1; has_q = q.1; available = sym (available_as_well p.0 p.1) ∙ two.0; between = two.1; visible = visible; reached = visible_reaches a.act q.0 q.1 visible })
 
         back : IsTrue (seen cached all w a k b) → list_any (λ n. served n && is_after all sent n) all ≡ true
         back h =
             let s = parts_of cached all w a k b h in
             member_passes (λ n. served n && is_after all sent n) all s.q s.has_q (and_from (served s.q) (is_after all sent s.q) (served_same s.q s.has_q ∙ s.visible)
-            (member_passes (λ p. sent p && (same_node p s.q || before all p s.q)) all s.p s.has_p (and_from (sent s.p) (same_node s.p s.q || before all s.p s.q) (sent_same s.p s.has_p ∙ s.available) s.between)))
+            (member_passes (λ p. sent p && (same_node p s.q || before all p s.q)) all s.p s.has_p (and_from (sent s.p) (same_node s.p s.q || before all s.p s.q) (available_as_well s.p s.has_p ∙ s.available) s.between)))
 
     -- ---- which nodes serve a host access
 
@@ -287,7 +287,7 @@ until_some rows j r b false Read (Some u) at h = let e : u ≡ j = cc in (λ q. 
 until_some rows j r b false Write (Some u) at h = let e : u ≡ j = cc in (λ q. before (nodes_after [] rows) q (node_of u r), (r, ap (slice_get rows) e ∙ at, λ n cn. refl))
 
 pub seen_rows : (rows : List Row) (cached : Byte → Bool) (b : Byte) (k : Access) (i j : ℕ) (q r : Row) → slice_get rows i ≡ Some q → slice_get rows j ≡ Some r → (from : ℕ) → IsFrom rows i b (cached b) from → (until : Option ℕ) → IsInTime rows j b (cached b) k until
-    → (sees : Bool) → ((g : Node → Bool) → IsUntil rows until g → sees ≡ list_any (λ n. ends_by g (is_host (act_of q.act)) (node_of j r) (act_of r.act) k b n && is_after (nodes_after [] rows) (λ p. sent_by (node_of i q) (act_of q.act) from b p) n) (nodes_after [] rows))
+    → (sees : Bool) → ((g : Node → Bool) → IsUntil rows until g → sees ≡ list_any (λ n. ends_by g (is_host (act_of q.act)) (node_of j r) (act_of r.act) k b n && is_after (nodes_after [] rows) (λ p. made_available_by (node_of i q) (act_of q.act) from b p) n) (nodes_after [] rows))
     → sees ≡ seen cached (nodes_after [] rows) (node_of i q) (node_of j r) k b
 seen_rows rows cached b k i j q r at_i at_j from is_from until is_until sees is = go (is_host (act_of r.act)) refl
   where
@@ -304,7 +304,7 @@ seen_rows rows cached b k i j q r at_i at_j from is_from until is_until sees is 
     ca = node_there rows j r at_j
 
     with_test : (g : Node → Bool) → IsUntil rows until g → (is_host (act_of r.act) ≡ true → (q : Node) → Contains (nodes_after [] rows) q → g q ≡ in_time rows cached b k w a ca q) → sees ≡ seen cached (nodes_after [] rows) w a k b
-    with_test g u same = is g u ∙ seen_way rows cached b k w a ca (λ p. sent_by w (act_of q.act) from b p) (λ n. ends_by g (is_host (act_of q.act)) a (act_of r.act) k b n)
+    with_test g u same = is g u ∙ seen_way rows cached b k w a ca (λ p. made_available_by w (act_of q.act) from b p) (λ n. ends_by g (is_host (act_of q.act)) a (act_of r.act) k b n)
         (λ p cp. available_same rows cached b w cw from is_from (act_of q.act) refl p cp)
         (λ n cn. visible_same rows cached b k w a ca g (act_of r.act) refl same n cn)
 

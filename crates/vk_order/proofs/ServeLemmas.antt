@@ -17,7 +17,7 @@ use Rattle.vk_model.proofs.Lists.Truths.{no}
 use Rattle.vk_model.proofs.Sync.Numbers.{unique}
 use Rattle.vk_model.proofs.Sync.Paths.{edge_forward, leads_on}
 use Rattle.vk_order.specs.declared.lines.Line.{Line}
-use Rattle.vk_order.specs.declared.sights.Sight.{Sight}
+use Rattle.vk_order.specs.declared.new_node.NewNode.{NewNode}
 use Rattle.vk_order.specs.declared.parts.Part.{Part}
 use Rattle.vk_order.specs.Lines.{line_of, class_of}
 use Rattle.vk_order.specs.Limited.{is_limited, IsMark, Reaches, IsWrite}
@@ -25,17 +25,17 @@ use Rattle.vk_order.specs.Wide.{is_answered}
 use Rattle.vk_order.specs.Inner.Clocks.{same_line, place}
 use Rattle.vk_order.specs.Inner.Kept.{clock_at}
 use Rattle.vk_order.specs.Inner.Leads.{ends_in_transfer}
-use Rattle.vk_order.specs.Inner.Rows.{sends_all, makes_available, Visible, OnHost, KnowsOne}
+use Rattle.vk_order.specs.Inner.Rows.{makes_all_available, makes_available, Visible, OnHost, KnowsOne}
 use Rattle.vk_order.specs.Inner.Fronts.{row_in}
 use Rattle.vk_order.specs.Inner.Parts.{part_of, IsPart, asked_of, opens, Serves}
-use Rattle.vk_order.specs.Frontiers.{IsSight}
+use Rattle.vk_order.specs.Frontiers.{IsNewNode}
 use Rattle.vk_order.proofs.Arrange.{or-false}
 use Rattle.vk_order.proofs.LinePrefixes.{node}
 use Rattle.vk_order.proofs.ClockLemmas.{line_same, line_itself, place-less}
 use Rattle.vk_order.proofs.KeptLemmas.{line_class}
 use Rattle.vk_order.proofs.LineTests.{edge_split}
 use Rattle.vk_order.proofs.PlaceLemmas.{apart_from}
-use Rattle.vk_order.proofs.SightLemmas.{asked_of_host}
+use Rattle.vk_order.proofs.NewNodeLemmas.{asked_of_host}
 use Rattle.vk_order.proofs.LimitedLemmas.{seen_by_command, seen_by_host}
 
 -- ---- the law, for commands and the host at once
@@ -93,20 +93,20 @@ seen_served ns n w cached k b numbers is_write asked = go n.act refl asked
 abbrev pub by_any : Act → Bool
 by_any a = is_command a || is_host a
 
-pub shown : (s : Sight) (ns : List Node) (n m : Node) (l : Line) (k : Access) → IsSight ns n s → Contains ns m → line_of m ≡ Some l → by_any n.act ≡ true
+pub made_visible : (s : NewNode) (ns : List Node) (n m : Node) (l : Line) (k : Access) → IsNewNode ns n s → Contains ns m → line_of m ≡ Some l → by_any n.act ≡ true
     → IsTrue (nat_lt (place ns l m.number) (clock_at s.lines.items (row_in (if s.is_host then OnHost k else Visible k) s.front) l)) ↔ KnowsOne (asked_of n.act k) ns (λ q. edge ns q n) m
-shown s ns n m l k sight hm on any = go n.act refl any
+made_visible s ns n m l k new_node hm on any = go n.act refl any
   where
     go : (a : Act) → n.act ≡ a → by_any a ≡ true → IsTrue (nat_lt (place ns l m.number) (clock_at s.lines.items (row_in (if s.is_host then OnHost k else Visible k) s.front) l)) ↔ KnowsOne (asked_of n.act k) ns (λ q. edge ns q n) m
     go (Runs x) is any =
-        let host : s.is_host ≡ false = sight.is_host ∙ ap is_host is in
-        let j = (sight.front.rows (Visible k)).join.counts l m hm on in
+        let host : s.is_host ≡ false = new_node.is_host ∙ ap is_host is in
+        let j = (new_node.front.rows (Visible k)).join.counts l m hm on in
         subst (λ (a : Act). IsTrue (nat_lt (place ns l m.number) (clock_at s.lines.items (row_in (if s.is_host then OnHost k else Visible k) s.front) l)) ↔ KnowsOne (asked_of a k) ns (λ q. edge ns q n) m) (sym is)
         (subst (λ (t : Bool). IsTrue (nat_lt (place ns l m.number) (clock_at s.lines.items (row_in (if t then OnHost k else Visible k) s.front) l)) ↔ KnowsOne (Visible k) ns (λ q. edge ns q n) m) (sym host)
         ((λ h. j.1 (ltb-true _ _ h)), (λ h. lt-ltb _ _ (j.0 h))))
     go (Hosts x) is any =
-        let host : s.is_host ≡ true = sight.is_host ∙ ap is_host is in
-        let j = (sight.front.rows (OnHost k)).join.counts l m hm on in
+        let host : s.is_host ≡ true = new_node.is_host ∙ ap is_host is in
+        let j = (new_node.front.rows (OnHost k)).join.counts l m hm on in
         subst (λ (a : Act). IsTrue (nat_lt (place ns l m.number) (clock_at s.lines.items (row_in (if s.is_host then OnHost k else Visible k) s.front) l)) ↔ KnowsOne (asked_of a k) ns (λ q. edge ns q n) m) (sym is)
         (subst (λ (t : Bool). IsTrue (nat_lt (place ns l m.number) (clock_at s.lines.items (row_in (if t then OnHost k else Visible k) s.front) l)) ↔ KnowsOne (OnHost k) ns (λ q. edge ns q n) m) (sym host)
         ((λ h. j.1 (ltb-true _ _ h)), (λ h. lt-ltb _ _ (j.0 h))))
@@ -126,28 +126,28 @@ element_covers r (element.Image e) (in_image j a l u v p) lim h =
     (and_parts (e.image == j && Rattle.vk_model.specs.Basics.within e.range.first_level e.range.levels a) (Rattle.vk_model.specs.Basics.within e.range.first_layer e.range.layers l) h).0).0)
 
 -- a part that serves a byte is of the byte's resource
-pub shown_covers : (cached : Byte → Bool) (ns : List Node) (mask : ℕ) (b : Byte) (q : Node) (a : Act) → is_limited a ≡ true → IsTrue (makes_writes_visible cached ns mask b q a) → part_of a ≡ Some (resource_at b)
-shown_covers cached ns mask b q (Depends r e) lim h =
+pub visible_covers : (cached : Byte → Bool) (ns : List Node) (mask : ℕ) (b : Byte) (q : Node) (a : Act) → is_limited a ≡ true → IsTrue (makes_writes_visible cached ns mask b q a) → part_of a ≡ Some (resource_at b)
+visible_covers cached ns mask b q (Depends r e) lim h =
     element_covers r e b lim (and_parts (not (Rattle.vk_model.specs.Sync.Seen.is_set r) && not (is_release q.point.queue e) && has_some (dependency_of e).destination_accesses.0 mask) (covers e b) h).1
-shown_covers cached ns mask b q (Hosts x) lim h = no lim
-shown_covers cached ns mask b q (Waits x) lim h = no lim
-shown_covers cached ns mask b q (Signals x) lim h = no lim
-shown_covers cached ns mask b q (Runs x) lim h = no lim
+visible_covers cached ns mask b q (Hosts x) lim h = no lim
+visible_covers cached ns mask b q (Waits x) lim h = no lim
+visible_covers cached ns mask b q (Signals x) lim h = no lim
+visible_covers cached ns mask b q (Runs x) lim h = no lim
 
-pub sent_covers : (cached : Byte → Bool) (ns : List Node) (b : Byte) (q : Node) (a : Act) → is_limited a ≡ true → IsTrue (makes_writes_available cached ns q b a) → part_of a ≡ Some (resource_at b)
-sent_covers cached ns b q (Depends r e) lim h =
+pub available_covers : (cached : Byte → Bool) (ns : List Node) (b : Byte) (q : Node) (a : Act) → is_limited a ≡ true → IsTrue (makes_writes_available cached ns q b a) → part_of a ≡ Some (resource_at b)
+available_covers cached ns b q (Depends r e) lim h =
     element_covers r e b lim (and_parts (not (Rattle.vk_model.specs.Sync.Seen.is_await r) && not (Rattle.vk_model.specs.World.Ownership.is_acquire q.point.queue e) && has_some (dependency_of e).source_accesses.0 (command_mask Rattle.vk_model.specs.Sync.Seen.Write)) (covers e b) h).1
-sent_covers cached ns b q (Hosts x) lim h = no lim
-sent_covers cached ns b q (Waits x) lim h = no lim
-sent_covers cached ns b q (Signals x) lim h = no lim
-sent_covers cached ns b q (Runs x) lim h = no lim
+available_covers cached ns b q (Hosts x) lim h = no lim
+available_covers cached ns b q (Waits x) lim h = no lim
+available_covers cached ns b q (Signals x) lim h = no lim
+available_covers cached ns b q (Runs x) lim h = no lim
 
 pub open_covers : (cached : Byte → Bool) (ns : List Node) (n q : Node) (k : Access) (b : Byte) → is_limited q.act ≡ true → IsTrue (opens cached ns n n.act k b q) → part_of q.act ≡ Some (resource_at b)
 open_covers cached ns n q k b lim h = go n.act h
   where
     go : (a : Act) → IsTrue (opens cached ns n a k b q) → part_of q.act ≡ Some (resource_at b)
-    go (Runs c) o = shown_covers cached ns (command_mask k) b q q.act lim (and_parts (edge ns q n) (makes_writes_visible cached ns (command_mask k) b q q.act) o).1
-    go (Hosts y) o = shown_covers cached ns (host_mask k) b q q.act lim (and_parts (to_host q.act) (makes_writes_visible cached ns (host_mask k) b q q.act) (and_parts (before (n ∷ ns) q n) (to_host q.act && makes_writes_visible cached ns (host_mask k) b q q.act) o).1).1
+    go (Runs c) o = visible_covers cached ns (command_mask k) b q q.act lim (and_parts (edge ns q n) (makes_writes_visible cached ns (command_mask k) b q q.act) o).1
+    go (Hosts y) o = visible_covers cached ns (host_mask k) b q q.act lim (and_parts (to_host q.act) (makes_writes_visible cached ns (host_mask k) b q q.act) (and_parts (before (n ∷ ns) q n) (to_host q.act && makes_writes_visible cached ns (host_mask k) b q q.act) o).1).1
     go (Waits s) o = no o
     go (Signals s) o = no o
     go (Depends r e) o = no o
@@ -222,7 +222,7 @@ module _ (ns : List Node) (numbers : IsNumbered ns) (ls : List Line) (q : Node) 
           or_right (nat_lt i (clock_at ls x.heard.items l)) (same_line x.line l && x.place == i)
           (and_from (same_line x.line l) (x.place == i) (ap (λ (k : Line). same_line k l) is ∙ line_itself l) (eq-eqb x.place i here))
 
--- ---- what a sight says of a part
+-- ---- what a new node says of a part
 
 command_of : (a : Act) → by_any a ≡ true → is_host a ≡ false → (c : Cmd) × (a ≡ Runs c)
 command_of (Runs c) any h = (c, refl)
@@ -238,19 +238,19 @@ host_of (Waits s) h = no h
 host_of (Signals s) h = no h
 host_of (Depends r e) h = no h
 
-module _ (s : Sight) (ns : List Node) (ls : List Line) (n q : Node) (x : Part) (cached : Byte → Bool) (k : Access) (b : Byte) (sight : IsSight ns n s) (part : IsPart ns ls q x) where
-  pub sight_of_command : by_any n.act ≡ true → s.is_host ≡ false → (e v : Bool) → e ≡ ends_in_transfer s.queue x.line
+module _ (s : NewNode) (ns : List Node) (ls : List Line) (n q : Node) (x : Part) (cached : Byte → Bool) (k : Access) (b : Byte) (new_node : IsNewNode ns n s) (part : IsPart ns ls q x) where
+  pub new_command : by_any n.act ≡ true → s.is_host ≡ false → (e v : Bool) → e ≡ ends_in_transfer s.queue x.line
       → v ≡ (not (is_release x.queue x.element) && has_some (dependency_of x.element).destination_accesses.0 (command_mask k) && covers x.element b) → (e && v) ≡ opens cached ns n n.act k b q
-  sight_of_command any device e v is_e is_v =
-      let of = command_of n.act any (sym sight.is_host ∙ device) in
-      ap (λ (t : Bool). t && v) (is_e ∙ ap (λ (i : ℕ). ends_in_transfer i x.line) sight.queue) ∙ ap (λ (t : Bool). ends_in_transfer n.point.queue x.line && t) is_v
-      ∙ open_to_command ns n sight.numbers ls q x part cached k b of.0 of.1
+  new_command any device e v is_e is_v =
+      let of = command_of n.act any (sym new_node.is_host ∙ device) in
+      ap (λ (t : Bool). t && v) (is_e ∙ ap (λ (i : ℕ). ends_in_transfer i x.line) new_node.queue) ∙ ap (λ (t : Bool). ends_in_transfer n.point.queue x.line && t) is_v
+      ∙ open_to_command ns n new_node.numbers ls q x part cached k b of.0 of.1
 
-  pub sight_of_host : s.is_host ≡ true → (f v : Bool) → f ≡ before (n ∷ ns) q n
+  pub new_host_entry : s.is_host ≡ true → (f v : Bool) → f ≡ before (n ∷ ns) q n
       → v ≡ (to_host (Depends Barrier x.element) && (not (is_release x.queue x.element) && has_some (dependency_of x.element).destination_accesses.0 (host_mask k) && covers x.element b)) → (f && v) ≡ opens cached ns n n.act k b q
-  sight_of_host host f v is_f is_v =
-      let of = host_of n.act (sym sight.is_host ∙ host) in
-      ap (λ (t : Bool). t && v) is_f ∙ ap (λ (t : Bool). before (n ∷ ns) q n && t) is_v ∙ open_to_host ns n sight.numbers ls q x part cached k b of.0 of.1
+  new_host_entry host f v is_f is_v =
+      let of = host_of n.act (sym new_node.is_host ∙ host) in
+      ap (λ (t : Bool). t && v) is_f ∙ ap (λ (t : Bool). before (n ∷ ns) q n && t) is_v ∙ open_to_host ns n new_node.numbers ls q x part cached k b of.0 of.1
 
 pub answered_any : (cached : Byte → Bool) (a : Act) (k : Access) (b : Byte) → IsTrue (is_answered cached a k b) → by_any a ≡ true
 answered_any cached (Runs c) k b h = refl
@@ -262,7 +262,7 @@ answered_any cached (Depends r e) k b h = no h
 -- ---- numbers
 
 made_up : (ns : List Node) (c p : Node) (a : Act) → IsTrue (makes_available ns c a p) → c.number < p.number
-made_up ns c p (Runs x) h = edge_forward ns c p (and_parts (edge ns c p) (sends_all p.act) h).0
+made_up ns c p (Runs x) h = edge_forward ns c p (and_parts (edge ns c p) (makes_all_available p.act) h).0
 made_up ns c p (Hosts x) h = leads_on ns c p (and_parts (is_submit p.act) (before ns c p) h).1
 made_up ns c p (Depends r e) h = no h
 made_up ns c p (Waits s) h = no h

@@ -20,10 +20,10 @@ use Rattle.vk_order.specs.declared.access.Access.{Access}
 use Rattle.vk_order.specs.declared.frontier.Frontier.{Frontier}
 use Rattle.vk_order.specs.declared.parts.Part.{Part}
 use Rattle.vk_order.specs.declared.parts.Spot.{Spot}
-use Rattle.vk_order.specs.declared.sights.Sight.{Sight}
+use Rattle.vk_order.specs.declared.new_node.NewNode.{NewNode}
 use Rattle.vk_order.specs.declared.units.Units.{Units}
 use Rattle.vk_order.specs.declared.units.Units.TheVariants as units
-use Rattle.vk_order.specs.Frontiers.{IsFrontier, IsSight}
+use Rattle.vk_order.specs.Frontiers.{IsFrontier, IsNewNode}
 use Rattle.vk_order.specs.Limited.{IsMark, IsWrite}
 use Rattle.vk_order.specs.SeenWrites.{SaysSeen, SaysSeenAt}
 use Rattle.vk_order.specs.Units.{unit_byte, units_resource, IsOfUnit}
@@ -36,7 +36,7 @@ use Rattle.vk_order.specs.Inner.Alone.{AlwaysShows, AlwaysMarks}
 use Rattle.vk_order.specs.Inner.Rows.{KnowsOne}
 use Rattle.vk_order.proofs.KnownRows.{at_old, old_edge}
 use Rattle.vk_order.proofs.LimitedLemmas.{seen_by_transition}
-use Rattle.vk_order.proofs.ServeLemmas.{seen_served, answered_any, sent_covers, open_covers, part_reached, reach_later}
+use Rattle.vk_order.proofs.ServeLemmas.{seen_served, answered_any, available_covers, open_covers, part_reached, reach_later}
 
 abbrev uncached : Byte → Bool
 uncached b = false
@@ -58,11 +58,11 @@ abbrev IsAlike : (b c : Byte) → Node → Type 0
 IsAlike b c q = (e : Element) × (q.act ≡ Depends Barrier e) × (covers e c ≡ covers e b)
 
 module _ (ns : List Node) (n q : Node) (k : seen.Access) (b c : Byte) (was cached : Byte → Bool) (e : IsAlike b c q) where
-  sends_alike : IsTrue (makes_writes_available was ns q b q.act) → IsTrue (makes_writes_available cached ns q c q.act)
-  sends_alike sends =
+  makes_available_alike : IsTrue (makes_writes_available was ns q b q.act) → IsTrue (makes_writes_available cached ns q c q.act)
+  makes_available_alike makes =
       ap (λ (a : Act). makes_writes_available cached ns q c a) e.1
       ∙ ap (λ (t : Bool). (not (is_acquire q.point.queue e.0) && has_some (dependency_of e.0).source_accesses.0 (command_mask seen.Write)) && t) e.2
-      ∙ sym (ap (λ (a : Act). makes_writes_available was ns q b a) e.1) ∙ sends
+      ∙ sym (ap (λ (a : Act). makes_writes_available was ns q b a) e.1) ∙ makes
 
   shows_alike : (mask : ℕ) → makes_writes_visible cached ns mask c q q.act ≡ makes_writes_visible was ns mask b q q.act
   shows_alike mask =
@@ -83,13 +83,13 @@ module _ (ns : List Node) (n q : Node) (k : seen.Access) (b c : Byte) (was cache
 module _ (ns : List Node) (n w : Node) (k : seen.Access) (b c : Byte) (was cached : Byte → Bool) (alike : (q : Node) → Contains ns q → w.number ≤ q.number → part_of q.act ≡ Some (resource_at b) → IsAlike b c q) where
   marks_alike : (m : Node) → IsMark was ns b w m → IsMark cached ns c w m
   marks_alike m (inl e) = inl e
-  marks_alike m (inr (command, hm, lim, sends, e)) =
-      let on = alike m hm (let lt = edge_forward ns w m e in omega arith) (sent_covers was ns b m m.act lim sends) in
-      inr (command, hm, lim, sends_alike ns n m k b c was cached on sends, e)
+  marks_alike m (inr (command, hm, lim, makes, e)) =
+      let on = alike m hm (let lt = edge_forward ns w m e in omega arith) (available_covers was ns b m m.act lim makes) in
+      inr (command, hm, lim, makes_available_alike ns n m k b c was cached on makes, e)
 
   mark_later : (m : Node) → IsMark was ns b w m → w.number ≤ m.number
   mark_later m (inl e) = let same : m.number ≡ w.number = ap (λ (x : Node). x.number) e in omega arith
-  mark_later m (inr (command, hm, lim, sends, e)) = let lt = edge_forward ns w m e in omega arith
+  mark_later m (inr (command, hm, lim, makes, e)) = let lt = edge_forward ns w m e in omega arith
 
   serves_alike : (m : Node) → w.number ≤ m.number → Serves was ns n k b m → Serves cached ns n k c m
   serves_alike m later (inl known) = inl known
@@ -114,53 +114,53 @@ turned : (f : Frontier) (from : ℕ) (b c : Byte) → resource_at c ≡ resource
 turned f from b c same alike = λ ns w is le q hq later on. let h = alike ns w is le q hq later (on ∙ ap Some same) in (h.0, h.1, sym h.2)
 
 -- a write that is seen at one byte is seen at another on which the same parts are
-seen_too : (f : Frontier) (s : Sight) (from : ℕ) (k : seen.Access) (b c : Byte) → AreAlike f from b c → (ns : List Node) (n w : Node) (was cached : Byte → Bool) → IsFrontier f ns → IsSight ns n s → from ≤ w.number
+seen_too : (f : Frontier) (s : NewNode) (from : ℕ) (k : seen.Access) (b c : Byte) → AreAlike f from b c → (ns : List Node) (n w : Node) (was cached : Byte → Bool) → IsFrontier f ns → IsNewNode ns n s → from ≤ w.number
     → IsWrite was ns w b → IsTrue (is_answered was n.act k b) → IsWrite cached ns w c → IsTrue (is_answered cached n.act k c)
     → IsTrue (seen.seen was (n ∷ ns) w n k b) → IsTrue (seen.seen cached (n ∷ ns) w n k c)
-seen_too f s from k b c alike ns n w was cached is sight le wrote_at asked_at wrote asked h =
-    let g = (seen_served ns n w was k b sight.numbers wrote_at asked_at).0 h in
+seen_too f s from k b c alike ns n w was cached is new_node le wrote_at asked_at wrote asked h =
+    let g = (seen_served ns n w was k b new_node.numbers wrote_at asked_at).0 h in
     let parts_alike = alike ns w is le in
     let later = mark_later ns n w k b c was cached parts_alike g.0 g.1 in
-    (seen_served ns n w cached k c sight.numbers wrote asked).1 (g.0, marks_alike ns n w k b c was cached parts_alike g.0 g.1, serves_alike ns n w k b c was cached parts_alike g.0 later g.2)
+    (seen_served ns n w cached k c new_node.numbers wrote asked).1 (g.0, marks_alike ns n w k b c was cached parts_alike g.0 g.1, serves_alike ns n w k b c was cached parts_alike g.0 later g.2)
 
 -- a byte that the same parts are on is seen alike
-pub says_alike : (f : Frontier) (s : Sight) (write : Spot) (from : ℕ) (access : Access) (b c : Byte) → resource_at c ≡ resource_at b → (kept parts : List Part) → kept ≡ parts_at f.parts (resource_at b) → (AreInOrder kept → AreFrom from kept parts)
+pub says_alike : (f : Frontier) (s : NewNode) (write : Spot) (from : ℕ) (access : Access) (b c : Byte) → resource_at c ≡ resource_at b → (kept parts : List Part) → kept ≡ parts_at f.parts (resource_at b) → (AreInOrder kept → AreFrom from kept parts)
     → ((x : Part) → Contains parts x → covers x.element c ≡ covers x.element b)
     → (answer : Bool) → SaysSeen f s write from access b answer → SaysSeen f s write from access c answer
-says_alike f s write from access b c same kept parts is_kept are_from alike answer says = λ ns n w cached is sight wrote on place le asked.
+says_alike f s write from access b c same kept parts is_kept are_from alike answer says = λ ns n w cached is new_node wrote on place le asked.
     let k = access_of access in
     let asked_at = asked_uncached cached n.act k c b asked in
     let wrote_at = write_uncached cached ns w c b wrote in
     let parts_alike = alike_at f from b c kept parts is_kept are_from alike in
-    says ns n w uncached is sight wrote_at on place le asked_at ∙ bool_same (seen.seen uncached (n ∷ ns) w n k b) (seen.seen cached (n ∷ ns) w n k c)
-    (seen_too f s from k b c parts_alike ns n w uncached cached is sight le wrote_at asked_at wrote asked)
-    (seen_too f s from k c b (turned f from b c same parts_alike) ns n w cached uncached is sight le wrote asked wrote_at asked_at)
+    says ns n w uncached is new_node wrote_at on place le asked_at ∙ bool_same (seen.seen uncached (n ∷ ns) w n k b) (seen.seen cached (n ∷ ns) w n k c)
+    (seen_too f s from k b c parts_alike ns n w uncached cached is new_node le wrote_at asked_at wrote asked)
+    (seen_too f s from k c b (turned f from b c same parts_alike) ns n w cached uncached is new_node le wrote asked wrote_at asked_at)
 
 -- what a node that serves all memory shows is seen at each byte
-pub shown_each : (f : Frontier) (s : Sight) (write : Spot) (from : ℕ) (access : Access) (b : Byte)
-    → ((ns : List Node) (n w : Node) (cached : Byte → Bool) → IsSight ns n s → IsWrite cached ns w b → Rattle.vk_order.specs.Lines.line_of w ≡ Some write.line → Rattle.vk_order.specs.Inner.Clocks.place ns write.line w.number ≡ write.place
+pub visible_each : (f : Frontier) (s : NewNode) (write : Spot) (from : ℕ) (access : Access) (b : Byte)
+    → ((ns : List Node) (n w : Node) (cached : Byte → Bool) → IsNewNode ns n s → IsWrite cached ns w b → Rattle.vk_order.specs.Lines.line_of w ≡ Some write.line → Rattle.vk_order.specs.Inner.Clocks.place ns write.line w.number ≡ write.place
     → IsTrue (is_answered cached n.act (access_of access) b) → KnowsOne (asked_of n.act (access_of access)) ns (λ q. edge ns q n) w)
     → SaysSeen f s write from access b true
-shown_each f s write from access b known = λ ns n w cached is sight wrote on place le asked.
-    sym ((seen_served ns n w cached (access_of access) b sight.numbers wrote asked).1 (w, inl refl, inl (known ns n w cached sight wrote on place asked)))
+visible_each f s write from access b known = λ ns n w cached is new_node wrote on place le asked.
+    sym ((seen_served ns n w cached (access_of access) b new_node.numbers wrote asked).1 (w, inl refl, inl (known ns n w cached new_node wrote on place asked)))
 
 -- a byte that one part is on as on one for which it shows the write by itself
-pub shown_alone : (f : Frontier) (s : Sight) (write : Spot) (from : ℕ) (access : Access) (b c : Byte) (x : Part) → (AreInOrder (parts_at f.parts (resource_at b)) → Contains (parts_at f.parts (resource_at b)) x)
+pub visible_by_itself : (f : Frontier) (s : NewNode) (write : Spot) (from : ℕ) (access : Access) (b c : Byte) (x : Part) → (AreInOrder (parts_at f.parts (resource_at b)) → Contains (parts_at f.parts (resource_at b)) x)
     → covers x.element c ≡ covers x.element b → AlwaysShows f s write (access_of access) b x → SaysSeen f s write from access c true
-shown_alone f s write from access b c x kept same shows = λ ns n w cached is sight wrote on place le asked.
+visible_by_itself f s write from access b c x kept same shows = λ ns n w cached is new_node wrote on place le asked.
     let k = access_of access in
     let any = answered_any cached n.act k c asked in
     let of = is.parts.each (resource_at b) x (kept (is.parts.ordered (resource_at b))) in
-    let alone = shows ns n w of.0 uncached sight any of.1 wrote.there on place in
+    let alone = shows ns n w of.0 uncached new_node any of.1 wrote.there on place in
     let on_both : IsAlike b c of.0 = (x.element, of.1.act, same) in
     let opened = opens_alike ns n of.0 k b c uncached cached on_both alone.0 in
-    let law = seen_served ns n w cached k c sight.numbers wrote asked in
+    let law = seen_served ns n w cached k c new_node.numbers wrote asked in
     sym (⊎_elim
     (λ known. law.1 (w, inl refl, inr (of.0, of.1.there, of.1.limited, opened, known)))
     (λ mark.
     let first = and_parts (is_command w.act && makes_writes_available uncached ns of.0 b of.0.act) (edge ns w of.0) mark in
     let second = and_parts (is_command w.act) (makes_writes_available uncached ns of.0 b of.0.act) first.0 in
-    law.1 (of.0, inr (second.0, of.1.there, of.1.limited, sends_alike ns n of.0 k b c uncached cached on_both second.1, first.1), inr (of.0, of.1.there, of.1.limited, opened, inr (refl, of.1.limited))))
+    law.1 (of.0, inr (second.0, of.1.there, of.1.limited, makes_available_alike ns n of.0 k b c uncached cached on_both second.1, first.1), inr (of.0, of.1.there, of.1.limited, opened, inr (refl, of.1.limited))))
     alone.1)
 
 -- ---- what a transition sees
@@ -182,19 +182,19 @@ marked_alone f part write from b c x kept same marks = λ ns n w cached k number
     let alone = marks ns n w of.0 uncached numbers own of.1 wrote.there on at in
     let first = and_parts (is_command w.act && makes_writes_available uncached ns of.0 b of.0.act) (edge ns w of.0) alone.0 in
     let second = and_parts (is_command w.act) (makes_writes_available uncached ns of.0 b of.0.act) first.0 in
-    let sends = sends_alike (n ∷ ns) n of.0 k b c uncached cached (x.element, of.1.act, same) second.1 in
-    sym ((seen_by_transition ns n numbers cached w k c wrote Barrier part.element own.act).1 (of.0, inr (second.0, contains-tail n ns of.0 of.1.there, of.1.limited, sends, old_edge ns n numbers w of.0 of.1.there ∙ first.1), alone.1))
+    let makes = makes_available_alike (n ∷ ns) n of.0 k b c uncached cached (x.element, of.1.act, same) second.1 in
+    sym ((seen_by_transition ns n numbers cached w k c wrote Barrier part.element own.act).1 (of.0, inr (second.0, contains-tail n ns of.0 of.1.there, of.1.limited, makes, old_edge ns n numbers w of.0 of.1.there ∙ first.1), alone.1))
 
 module _ (f : Frontier) (part : Part) (from : ℕ) (b c : Byte) (alike : AreAlike f from b c) (own_alike : covers part.element c ≡ covers part.element b)
     (ns : List Node) (n w : Node) (k : seen.Access) (numbers : IsNumbered (n ∷ ns)) (is : IsFrontier f ns) (own : IsPart (n ∷ ns) (lines_of f.tallies.items) n part) (le : from ≤ w.number) where
   mark_alike : (was cached : Byte → Bool) (m : Node) → IsMark was (n ∷ ns) b w m → IsMark cached (n ∷ ns) c w m
   mark_alike was cached m (inl e) = inl e
-  mark_alike was cached m (inr (command, hm, lim, sends, e)) =
+  mark_alike was cached m (inr (command, hm, lim, makes, e)) =
       let on : IsAlike b c m = ⊎_elim
       (λ same. (part.element, ap (λ (x : Node). x.act) (sym same) ∙ own.act, own_alike))
-      (λ old. alike ns w is le m old (let lt = edge_forward (n ∷ ns) w m e in omega arith) (sent_covers was (n ∷ ns) b m m.act lim sends))
+      (λ old. alike ns w is le m old (let lt = edge_forward (n ∷ ns) w m e in omega arith) (available_covers was (n ∷ ns) b m m.act lim makes))
       (contains-cons n ns m hm) in
-      inr (command, hm, lim, sends_alike (n ∷ ns) n m k b c was cached on sends, e)
+      inr (command, hm, lim, makes_available_alike (n ∷ ns) n m k b c was cached on makes, e)
 
   sees_alike : (was cached : Byte → Bool) → IsWrite was ns w b → IsWrite cached ns w c → IsTrue (seen.seen was (n ∷ ns) w n k b) → IsTrue (seen.seen cached (n ∷ ns) w n k c)
   sees_alike was cached wrote_b wrote_c h =
@@ -216,7 +216,7 @@ says_alike_at f part write from b c same kept parts is_kept are_from each own_al
 -- ---- the same of units
 
 -- a unit that the same parts are on is seen alike
-pub units_alike : (f : Frontier) (s : Sight) (write : Spot) (from : ℕ) (access : Access) (u : Units) (at next : ℕ) (kept parts : List Part) → kept ≡ parts_at f.parts (units_resource u) → (AreInOrder kept → AreFrom from kept parts)
+pub units_alike : (f : Frontier) (s : NewNode) (write : Spot) (from : ℕ) (access : Access) (u : Units) (at next : ℕ) (kept parts : List Part) → kept ≡ parts_at f.parts (units_resource u) → (AreInOrder kept → AreFrom from kept parts)
     → ((x : Part) → Contains parts x → covers x.element (unit_byte u next) ≡ covers x.element (unit_byte u at))
     → (answer : Bool) → SaysSeen f s write from access (unit_byte u at) answer → SaysSeen f s write from access (unit_byte u next) answer
 units_alike f s write from access (units.Bytes b) at next kept parts = says_alike f s write from access (in_buffer b at) (in_buffer b next) refl kept parts
@@ -224,11 +224,11 @@ units_alike f s write from access (units.Subresources i levels) at next kept par
     says_alike f s write from access (in_image i (at % levels) (at / levels) 0 0 0) (in_image i (next % levels) (next / levels) 0 0 0) refl kept parts
 
 -- a unit that one part is on as on one for which it shows the write by itself
-pub units_shown : (f : Frontier) (s : Sight) (write : Spot) (from : ℕ) (access : Access) (u : Units) (at next : ℕ) (x : Part) → (AreInOrder (parts_at f.parts (units_resource u)) → Contains (parts_at f.parts (units_resource u)) x)
+pub units_visible : (f : Frontier) (s : NewNode) (write : Spot) (from : ℕ) (access : Access) (u : Units) (at next : ℕ) (x : Part) → (AreInOrder (parts_at f.parts (units_resource u)) → Contains (parts_at f.parts (units_resource u)) x)
     → covers x.element (unit_byte u next) ≡ covers x.element (unit_byte u at) → AlwaysShows f s write (access_of access) (unit_byte u at) x → SaysSeen f s write from access (unit_byte u next) true
-units_shown f s write from access (units.Bytes b) at next x = shown_alone f s write from access (in_buffer b at) (in_buffer b next) x
-units_shown f s write from access (units.Subresources i levels) at next x =
-    shown_alone f s write from access (in_image i (at % levels) (at / levels) 0 0 0) (in_image i (next % levels) (next / levels) 0 0 0) x
+units_visible f s write from access (units.Bytes b) at next x = visible_by_itself f s write from access (in_buffer b at) (in_buffer b next) x
+units_visible f s write from access (units.Subresources i levels) at next x =
+    visible_by_itself f s write from access (in_image i (at % levels) (at / levels) 0 0 0) (in_image i (next % levels) (next / levels) 0 0 0) x
 
 -- a unit that one part is on as on one of which it makes the write available, where that is known at the transition
 pub units_marked : (f : Frontier) (part : Part) (write : Spot) (from : ℕ) (u : Units) (at next : ℕ) (x : Part) → (AreInOrder (parts_at f.parts (units_resource u)) → Contains (parts_at f.parts (units_resource u)) x)
@@ -257,7 +257,7 @@ of_unit (units.Bytes b) k c is = ap resource_at is
 of_unit (units.Subresources i levels) k c is = ap resource_at is.3
 
 -- so the bytes of a unit are seen alike
-pub unit_seen : (f : Frontier) (s : Sight) (write : Spot) (from : ℕ) (access : Access) (u : Units) (k : ℕ) (c : Byte) → IsOfUnit u k c → (answer : Bool) → SaysSeen f s write from access (unit_byte u k) answer → SaysSeen f s write from access c answer
+pub unit_seen : (f : Frontier) (s : NewNode) (write : Spot) (from : ℕ) (access : Access) (u : Units) (k : ℕ) (c : Byte) → IsOfUnit u k c → (answer : Bool) → SaysSeen f s write from access (unit_byte u k) answer → SaysSeen f s write from access c answer
 unit_seen f s write from access u k c is =
     let kept = parts_at f.parts (resource_at (unit_byte u k)) in
     says_alike f s write from access (unit_byte u k) c (of_unit u k c is) kept kept refl (λ ordered. record { within = λ x has. has; newer = λ x has le. has }) (λ x has. covers_unit u k c is x.element)

@@ -4,7 +4,7 @@ use Rattle.vk_model.specs.Sync.Node.{Node}
 use Rattle.vk_model.specs.Sync.Edge.{edge, is_host}
 use Rattle.vk_model.specs.Sync.Before.{IsNumbered}
 use Rattle.vk_order.specs.declared.frontier.Frontier.{Frontier}
-use Rattle.vk_order.specs.declared.sights.Sight.{Sight}
+use Rattle.vk_order.specs.declared.new_node.NewNode.{NewNode}
 use Rattle.vk_order.specs.Inner.Fronts.{IsFront}
 use Rattle.vk_order.specs.Inner.Tallies.{lines_of, IsTallied}
 use Rattle.vk_order.specs.Inner.Names.{IsNames}
@@ -18,13 +18,13 @@ pub record IsFrontier (f : Frontier) (ns : List Node) : Type 0 where
   pub names : IsNames ns (lines_of f.tallies.items) f.names
   pub parts : AreParts ns (lines_of f.tallies.items) f.parts
 
--- A sight is that of node n, which comes next after the nodes so far: what is before it, and what it sees.
-pub record IsSight (ns : List Node) (n : Node) (s : Sight) : Type 0 where
+-- The new node is node n, which comes next after the nodes so far: what is before it, and what it sees.
+pub record IsNewNode (ns : List Node) (n : Node) (s : NewNode) : Type 0 where
   pub numbers : IsNumbered (n ∷ ns)
   pub front : IsFront ns s.lines.items (λ k. edge ns k n) s.front
   pub is_host : s.is_host ≡ is_host n.act
   pub queue : s.queue ≡ n.point.queue
 
--- A sight knows the lines that a frontier has.
-abbrev pub IsFrom : Frontier → Sight → Type 0
+-- A new node knows the lines that a frontier has.
+abbrev pub IsFrom : Frontier → NewNode → Type 0
 IsFrom f s = s.lines.items ≡ lines_of f.tallies.items

@@ -13,4 +13,4 @@ pub mod Places
 pub mod Ready
 pub mod Parts
 pub mod Alone
-pub mod Sending
+pub mod Availability

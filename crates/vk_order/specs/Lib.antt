@@ -6,7 +6,7 @@ pub mod Wide
 pub mod Frontiers
 pub mod Limited
 pub mod SeenWrites
-pub mod Shown
+pub mod VisiblePrefix
 pub mod Cached
 pub mod Lines
 pub mod Places

@@ -1,4 +1,4 @@
--- What is asked of sights, where all dependencies are on all memory.
+-- What is asked of new node, where all dependencies are on all memory.
 use Rattle.std.specs.Prelude.{◌≡◌, List, Bool, true, false, not, IsTrue, Contains}
 use Rattle.vk_model.specs.declared.command.Element.TheVariants as element
 use Rattle.vk_model.specs.World.Bytes.{Byte}
@@ -23,7 +23,7 @@ is_wide _ = true
 abbrev pub AreWide : List Node → Type 0
 AreWide ns = (n : Node) → Contains ns n → IsTrue (is_wide n.act)
 
--- Whether a sight answers for an access of a byte by an act: any access by a command, and one by the host that needs no invalidation (Vulkan, "Host Access to Device Memory Objects").
+-- Whether a new node answers for an access of a byte by an act: any access by a command, and one by the host that needs no invalidation (Vulkan, "Host Access to Device Memory Objects").
 abbrev pub is_answered : (Byte → Bool) → Act → seen.Access → Byte → Bool
 is_answered cached (Runs c) k b = true
 is_answered cached (Hosts x) seen.Read b = not (cached b)

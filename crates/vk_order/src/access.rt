@@ -4,7 +4,7 @@ ghost use Rattle.vk_order.specs.Lines.{has_transfer, has_host};
 ghost use Rattle.vk_model.specs.Sync.Seen.{Write, command_mask, host_mask};
 ghost use Rattle.vk_order.specs.PointViews.{act_of};
 ghost use Rattle.vk_order.specs.Wide.{access_of};
-ghost use Rattle.vk_order.specs.Inner.Rows.{sends, receives, receives_on_host};
+ghost use Rattle.vk_order.specs.Inner.Rows.{makes_queue_available, makes_all_visible, makes_all_visible_on_host};
 
 use crate::acts::TRANSFERS;
 use crate::point::Act;
@@ -44,20 +44,20 @@ impl Access {
 
 impl Act<'_> {
     /// Whether it makes the writes of all bytes by the commands before it on its queue available.
-    pub fn sends(&self) -> bool
-        ensures { result ≡ sends (act_of self.now) }
+    pub fn makes_queue_available(&self) -> bool
+        ensures { result ≡ makes_queue_available (act_of self.now) }
     {
         match self {
             Act::Signals(signal) => signal.stages.intersects(TRANSFERS),
-            Act::Barrier(Element::Memory(dependency)) => sends_writes(dependency),
-            Act::Set(_, _, dependency) => sends_writes(dependency),
+            Act::Barrier(Element::Memory(dependency)) => makes_writes_of_all_available(dependency),
+            Act::Set(_, _, dependency) => makes_writes_of_all_available(dependency),
             _ => false,
         }
     }
 
     /// Whether it makes available writes of all bytes visible to an access by commands after it.
-    pub fn receives(&self, access: Access) -> bool
-        ensures { result ≡ receives (access_of access) (act_of self.now) }
+    pub fn makes_all_visible(&self, access: Access) -> bool
+        ensures { result ≡ makes_all_visible (access_of access) (act_of self.now) }
     {
         match self {
             Act::Waits(_) => true,
@@ -68,8 +68,8 @@ impl Act<'_> {
     }
 
     /// The same to an access by the host.
-    pub fn receives_on_host(&self, access: Access) -> bool
-        ensures { result ≡ receives_on_host (access_of access) (act_of self.now) }
+    pub fn makes_all_visible_on_host(&self, access: Access) -> bool
+        ensures { result ≡ makes_all_visible_on_host (access_of access) (act_of self.now) }
     {
         match self {
             Act::Barrier(Element::Memory(dependency)) => ends_on_host(dependency, access),
@@ -80,7 +80,7 @@ impl Act<'_> {
 }
 
 /// Whether a dependency makes commands' writes available.
-fn sends_writes(dependency: &Dependency) -> bool
+fn makes_writes_of_all_available(dependency: &Dependency) -> bool
     ensures { result ≡ (has_some dependency.now.source_accesses.0 (command_mask Write) && has_transfer dependency.now.source_stages.0) }
 {
     dependency

@@ -1,6 +1,6 @@
 ghost use Rattle.std.specs.Prelude.{◌≡◌, ◌<◌, ◌≤◌, ◌+◌, ◌^◌, ◌==◌, ℕ, IfOk, OnOk, max, length, slice_index_or, if◌then◌else◌, vec_len};
 ghost use Rattle.vk_order.specs.PointViews.{act_of};
-ghost use Rattle.vk_order.specs.Inner.Counts.{zero_counts, joined_counts, known_in, known_on, shows_of, shown_on, AreJoinedCounts};
+ghost use Rattle.vk_order.specs.Inner.Counts.{zero_counts, joined_counts, known_in, known_on, shows_of, made_visible_on, AreJoinedCounts};
 
 use crate::access::Access;
 use crate::lines::Line;
@@ -45,10 +45,10 @@ pub fn shows_of(act: &Act<'_>) -> Shows
     ensures { result ≡ shows_of (act_of act.now) }
 {
     Shows {
-        reads: act.receives(Access::Read),
-        writes: act.receives(Access::Write),
-        host_reads: act.receives_on_host(Access::Read),
-        host_writes: act.receives_on_host(Access::Write),
+        reads: act.makes_all_visible(Access::Read),
+        writes: act.makes_all_visible(Access::Write),
+        host_reads: act.makes_all_visible_on_host(Access::Read),
+        host_writes: act.makes_all_visible_on_host(Access::Write),
         is_submit: act.is_submit(),
     }
 }
@@ -92,9 +92,9 @@ impl Counts {
         }
     }
 
-    /// The counts for a line after what is shown.
-    pub fn shown(self, line: Line, shows: Shows) -> Counts
-        ensures { result ≡ shown_on shows line self }
+    /// The counts for a line after what is made visible.
+    pub fn made_visible(self, line: Line, shows: Shows) -> Counts
+        ensures { result ≡ made_visible_on shows line self }
     {
         let known = self.known(line);
         let by_host = line.is_of_host() && shows.is_submit;

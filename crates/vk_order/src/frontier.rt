@@ -18,7 +18,7 @@ ghost use Rattle.vk_order.specs.Inner.Fronts.{IsFront};
 ghost use Rattle.vk_order.specs.Inner.Kept.{clock_at, IsLonger};
 ghost use Rattle.vk_order.specs.Inner.Parts.{parts_at, AreFrom, IsPart, IsNewPart, opens, Serves};
 ghost use Rattle.vk_order.specs.Inner.Tallies.{lines_of, CanFollow, AreOnLines, AreFronts};
-ghost use Rattle.vk_order.specs.Frontiers.{IsFrontier, IsSight, IsFrom};
+ghost use Rattle.vk_order.specs.Frontiers.{IsFrontier, IsNewNode, IsFrom};
 ghost use Rattle.vk_order.specs.SeenWrites.{SaysSeen};
 
 use crate::access::Access;
@@ -28,11 +28,11 @@ use crate::clocks::count_at;
 use crate::fronts::Front;
 use crate::lines::Line;
 use crate::names::Names;
+use crate::new_node::NewNode;
 use crate::owning::{heard, own_front};
 use crate::parts::{Part, Parts, Spot, parts_from};
 use crate::point::{Act, Point, single_act};
 use crate::rows::rows_of;
-use crate::sights::Sight;
 use crate::tallies::{LineTally, join_of, line_index, lines_copied, list_line, tally};
 use std::alloc::{AllocError, Global};
 
@@ -83,9 +83,9 @@ impl Frontier {
     }
 
     /// What a node that comes next, with this act, has before it and sees.
-    pub fn sight(&self, point: &Point<'_>, act: &Act<'_>) -> Result<Sight, AllocError>
+    pub fn new_node(&self, point: &Point<'_>, act: &Act<'_>) -> Result<NewNode, AllocError>
         ensures from_here { IfOk result (λ s. IsFrom self.now s) }
-        ensures sight { IfOk result (λ s. (ns : List Node) (n : Node) → IsFrontier self.now ns → n ≡ record { number = length ns; point = point_of point.now; act = act_of act.now } → IsApartFrom ns n → IsSight ns n s) }
+        ensures new_node { IfOk result (λ s. (ns : List Node) (n : Node) → IsFrontier self.now ns → n ≡ record { number = length ns; point = point_of point.now; act = act_of act.now } → IsApartFrom ns n → IsNewNode ns n s) }
     {
         let row = Row {
             point: *point,
@@ -93,7 +93,7 @@ impl Frontier {
         };
         let front = self.front_of(Front::new(self.alloc), &row)?;
         let lines = self.lines()?;
-        Ok(Sight::new(lines, front, act.is_host(), point.queue))
+        Ok(NewNode::new(lines, front, act.is_host(), point.queue))
     }
 
     /// The lines so far.
@@ -128,23 +128,23 @@ impl Frontier {
         }
     }
 
-    /// Adds the node of a point that comes next, which has this act alone, by its sight. The errors
+    /// Adds the node of a point that comes next, which has this act alone, as a new node. The errors
     /// are those of `advance`.
     pub fn add_seen(
         &mut self,
         point: &Point<'_>,
         act: &Act<'_>,
-        sight: Sight,
+        new_node: NewNode,
     ) -> Result<(), AllocError>
-        requires { IsFrom self.old sight }
-        ensures { OnOk result ((ns : List Node) (n : Node) → IsFrontier self.old ns → n ≡ record { number = length ns; point = point_of point.now; act = act_of act.now } → IsSight ns n sight → IsFrontier self.new (n ∷ ns)) }
+        requires { IsFrom self.old new_node }
+        ensures { OnOk result ((ns : List Node) (n : Node) → IsFrontier self.old ns → n ≡ record { number = length ns; point = point_of point.now; act = act_of act.now } → IsNewNode ns n new_node → IsFrontier self.new (n ∷ ns)) }
     {
         let row = Row {
             point: *point,
             act: *act,
         };
         let at = self.list_line(Line::of(point.queue, act))?;
-        self.add_at(&row, at, sight.into_front())?;
+        self.add_at(&row, at, new_node.into_front())?;
         Ok(())
     }
 
@@ -277,22 +277,22 @@ impl Frontier {
         Ok(Some((id, part)))
     }
 
-    /// Whether an access of a byte by the node that a sight is of, a command or a host entry that
+    /// Whether an access of a byte by the node that comes next, a command or a host entry that
     /// needs no invalidation, sees the write of it by a node, before which at least `from` nodes
     /// came: the search is among what came since. Dependencies may be on parts of memory.
     pub fn is_seen(
         &self,
-        sight: &Sight,
+        new_node: &NewNode,
         write: Spot,
         from: usize,
         byte: Byte,
         access: Access,
     ) -> bool
-        ensures { SaysSeen self.now sight.now write from access (byte_of byte) result }
+        ensures { SaysSeen self.now new_node.now write from access (byte_of byte) result }
     {
         let parts = parts_from(self.parts_of(byte), from);
-        self.is_served(sight, parts, write, byte, access)
-            || self.is_marked(sight, parts, write, byte, access)
+        self.is_served(new_node, parts, write, byte, access)
+            || self.is_marked(new_node, parts, write, byte, access)
     }
 
     /// The parts of the resource of a byte.
@@ -313,18 +313,18 @@ impl Frontier {
     /// makes the byte visible to the access.
     fn is_marked(
         &self,
-        sight: &Sight,
+        new_node: &NewNode,
         parts: &[Part],
         write: Spot,
         byte: Byte,
         access: Access,
     ) -> bool
-        ensures { (ns : List Node) (n w : Node) (cached : world.Byte → Bool) (from : ℕ) → IsFrontier self.now ns → IsSight ns n sight.now → (is_command n.act || is_host n.act) ≡ true → AreFrom from (parts_at self.now.parts (world.resource_at (byte_of byte))) parts.now
+        ensures { (ns : List Node) (n w : Node) (cached : world.Byte → Bool) (from : ℕ) → IsFrontier self.now ns → IsNewNode ns n new_node.now → (is_command n.act || is_host n.act) ≡ true → AreFrom from (parts_at self.now.parts (world.resource_at (byte_of byte))) parts.now
             → from ≤ w.number → Contains ns w → line_of w ≡ Some write.line → place ns write.line w.number ≡ write.place
             → IsTrue result ↔ ((m : Node) × Contains ns m × IsTrue (is_limited m.act) × IsTrue (is_command w.act && makes_writes_available cached ns m (byte_of byte) m.act && edge ns w m) × Serves cached ns n (access_of access) (byte_of byte) m) }
     {
         for part in parts {
-            if self.is_mark(sight, parts, part, write, byte, access) {
+            if self.is_mark(new_node, parts, part, write, byte, access) {
                 return true;
             }
         }
@@ -334,37 +334,37 @@ impl Frontier {
     /// Whether one part makes a write available, and what it marks is known at such a node.
     fn is_mark(
         &self,
-        sight: &Sight,
+        new_node: &NewNode,
         parts: &[Part],
         part: &Part,
         write: Spot,
         byte: Byte,
         access: Access,
     ) -> bool
-        ensures { (ns : List Node) (n w m : Node) (cached : world.Byte → Bool) (from : ℕ) → IsFrontier self.now ns → IsSight ns n sight.now → (is_command n.act || is_host n.act) ≡ true → AreFrom from (parts_at self.now.parts (world.resource_at (byte_of byte))) parts.now
+        ensures { (ns : List Node) (n w m : Node) (cached : world.Byte → Bool) (from : ℕ) → IsFrontier self.now ns → IsNewNode ns n new_node.now → (is_command n.act || is_host n.act) ≡ true → AreFrom from (parts_at self.now.parts (world.resource_at (byte_of byte))) parts.now
             → from ≤ w.number → Contains ns w → line_of w ≡ Some write.line → place ns write.line w.number ≡ write.place → IsPart ns (lines_of self.now.tallies.items) m part.now
             → IsTrue result ↔ (IsTrue (is_command w.act && makes_writes_available cached ns m (byte_of byte) m.act && edge ns w m) × Serves cached ns n (access_of access) (byte_of byte) m) }
     {
-        part.marks(write, byte) && self.is_served(sight, parts, part.spot(), byte, access)
+        part.marks(write, byte) && self.is_served(new_node, parts, part.spot(), byte, access)
     }
 
     /// Whether what a node marks is known at a node that makes a byte visible to the access.
     fn is_served(
         &self,
-        sight: &Sight,
+        new_node: &NewNode,
         parts: &[Part],
         spot: Spot,
         byte: Byte,
         access: Access,
     ) -> bool
-        ensures { (ns : List Node) (n m : Node) (cached : world.Byte → Bool) (from : ℕ) → IsFrontier self.now ns → IsSight ns n sight.now → (is_command n.act || is_host n.act) ≡ true → AreFrom from (parts_at self.now.parts (world.resource_at (byte_of byte))) parts.now
+        ensures { (ns : List Node) (n m : Node) (cached : world.Byte → Bool) (from : ℕ) → IsFrontier self.now ns → IsNewNode ns n new_node.now → (is_command n.act || is_host n.act) ≡ true → AreFrom from (parts_at self.now.parts (world.resource_at (byte_of byte))) parts.now
             → from ≤ m.number → Contains ns m → line_of m ≡ Some spot.line → place ns spot.line m.number ≡ spot.place → IsTrue result ↔ Serves cached ns n (access_of access) (byte_of byte) m }
     {
-        if sight.shows(spot, access) {
+        if new_node.shows(spot, access) {
             return true;
         }
         for part in parts {
-            if self.gives(sight, part, spot, byte, access) {
+            if self.gives(new_node, part, spot, byte, access) {
                 return true;
             }
         }
@@ -373,11 +373,11 @@ impl Frontier {
 
     /// Whether one part makes the byte visible to the access, and what the node marks is known
     /// there.
-    fn gives(&self, sight: &Sight, part: &Part, spot: Spot, byte: Byte, access: Access) -> bool
-        ensures { (ns : List Node) (n m q : Node) (cached : world.Byte → Bool) → IsSight ns n sight.now → (is_command n.act || is_host n.act) ≡ true → IsPart ns (lines_of self.now.tallies.items) q part.now
+    fn gives(&self, new_node: &NewNode, part: &Part, spot: Spot, byte: Byte, access: Access) -> bool
+        ensures { (ns : List Node) (n m q : Node) (cached : world.Byte → Bool) → IsNewNode ns n new_node.now → (is_command n.act || is_host n.act) ≡ true → IsPart ns (lines_of self.now.tallies.items) q part.now
             → Contains ns m → line_of m ≡ Some spot.line → place ns spot.line m.number ≡ spot.place → IsTrue result ↔ (IsTrue (opens cached ns n n.act (access_of access) (byte_of byte) q) × Reaches ns m q) }
     {
-        sight.is_open(part, byte, access) && self.reaches(part, spot)
+        new_node.is_open(part, byte, access) && self.reaches(part, spot)
     }
 
     /// Whether what a node marks is known at a part, or it is the part itself.

@@ -15,6 +15,7 @@ mod keyed;
 mod laws;
 mod lines;
 mod names;
+mod new_node;
 mod owning;
 mod parts;
 mod places;
@@ -23,12 +24,11 @@ mod points;
 mod reads;
 mod rows;
 mod seen;
-mod shown;
-mod sights;
 mod tallies;
 mod transitions;
 mod units;
 mod unseen;
+mod visible_prefix;
 mod writes;
 
 pub use access::Access;
@@ -41,12 +41,12 @@ pub use laws::{
     seen_through,
 };
 pub use lines::Line;
+pub use new_node::NewNode;
 pub use parts::{Part, Spot};
 pub use point::{Act, Action, Point};
 pub use points::Points;
 pub use rows::rows_of;
-pub use shown::Shown;
-pub use sights::Sight;
 pub use units::Units;
 pub use unseen::SeenUntil;
+pub use visible_prefix::VisiblePrefix;
 pub use writes::{is_acquire, is_release};

@@ -5,9 +5,9 @@ ghost use Rattle.vk_order.specs.declared.lines.Line.{Line as AnyLine};
 ghost use Rattle.vk_order.specs.PointViews.{act_of};
 ghost use Rattle.vk_order.specs.Lines.{class_of, class_on};
 ghost use Rattle.vk_order.specs.Inner.Clocks.{same_line, place};
-ghost use Rattle.vk_order.specs.Inner.Counts.{AreSent, AreShown, AreCounted};
+ghost use Rattle.vk_order.specs.Inner.Counts.{AreSent, AreVisible, AreCounted};
 ghost use Rattle.vk_order.specs.Inner.Places.{index_in};
-ghost use Rattle.vk_order.specs.Inner.Rows.{sends_line, IsMerged};
+ghost use Rattle.vk_order.specs.Inner.Rows.{makes_line_available, IsMerged};
 ghost use Rattle.vk_order.specs.Inner.Fronts.{IsOwnFront};
 ghost use Rattle.vk_order.specs.Inner.Tallies.{lines_of, IsTallied, IsComing};
 
@@ -29,7 +29,7 @@ pub fn own_front(
     ensures { IfOk result (λ own. (ns : List Node) (n : Node) → IsComing ns (lines_of tallies.now) n row.now front → IsTallied ns tallies.now → IsOwnFront ns (lines_of tallies.now) n own) }
 {
     let Front { counts } = front;
-    let mut sent = with_sent(tallies, row, counts)?;
+    let mut sent = with_line_available(tallies, row, counts)?;
     show(tallies, shows_of(&row.act), &mut sent);
     let tally = &tallies[at];
     let counts = with_own(sent, tally.line, at, tally.count)?;
@@ -59,7 +59,7 @@ fn with_own(
 }
 
 /// The counts with what is available after a row that comes next.
-fn with_sent(
+fn with_line_available(
     tallies: &[LineTally],
     row: &Row<'_>,
     before: Vec<Counts>,
@@ -67,7 +67,7 @@ fn with_sent(
     ensures { IfOk result (λ own. (ns : List Node) → IsTallied ns tallies.now → length before.items ≤ length tallies.now
         → AreSent ns (lines_of tallies.now) row.now.point.queue (act_of row.now.act) before.items own.items) }
 {
-    let Some(line) = sent_line(row) else {
+    let Some(line) = available_line(row) else {
         return Ok(before);
     };
     let Some(at) = line_index(tallies, line) else {
@@ -82,27 +82,27 @@ fn with_sent(
 }
 
 /// The line of which a row makes the writes of all nodes so far available, if there is one.
-fn sent_line(row: &Row<'_>) -> Option<Line>
-    ensures { (l : AnyLine) → holds result (same_line l) ≡ sends_line row.now.point.queue (act_of row.now.act) l }
+fn available_line(row: &Row<'_>) -> Option<Line>
+    ensures { (l : AnyLine) → holds result (same_line l) ≡ makes_line_available row.now.point.queue (act_of row.now.act) l }
 {
     if row.is_submit() {
         return Some(Line::Host);
     }
-    if row.act.sends() {
+    if row.act.makes_queue_available() {
         return Some(Line::Commands(row.point.queue));
     }
     None
 }
 
-/// Counts what is shown.
+/// Counts what is made visible.
 fn show(tallies: &[LineTally], shows: Shows, counts: &mut Vec<Counts>)
-    ensures { AreShown (lines_of tallies.now) shows counts.old.items counts.new.items }
+    ensures { AreVisible (lines_of tallies.now) shows counts.old.items counts.new.items }
 {
     for (index, tally) in tallies.iter().enumerate() {
         if index >= counts.len() {
             return;
         }
-        counts[index] = counts[index].shown(tally.line, shows);
+        counts[index] = counts[index].made_visible(tally.line, shows);
     }
 }
 

@@ -8,7 +8,7 @@ ghost use Rattle.vk_order.specs.PointViews.{act_of, node_of, nodes_after};
 ghost use Rattle.vk_order.specs.Bytes.{byte_of};
 ghost use Rattle.vk_order.specs.Wide.{access_of};
 ghost use Rattle.vk_order.specs.Inner.Kept.{IsStamped};
-ghost use Rattle.vk_order.specs.Inner.Sending.{serves, IsUntil, IsFirstFlush, IsLastInvalidation};
+ghost use Rattle.vk_order.specs.Inner.Availability.{serves, IsUntil, IsFirstFlush, IsLastInvalidation};
 
 use crate::access::Access;
 use crate::acts::{Row, destination_stages};

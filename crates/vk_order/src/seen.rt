@@ -11,7 +11,7 @@ ghost use Rattle.vk_order.specs.PointViews.{act_of, node_of, nodes_after};
 ghost use Rattle.vk_order.specs.Bytes.{byte_of};
 ghost use Rattle.vk_order.specs.Wide.{access_of};
 ghost use Rattle.vk_order.specs.Inner.Kept.{IsStamped};
-ghost use Rattle.vk_order.specs.Inner.Sending.{sends, serves, is_marked, is_after, HasSets, AreFirsts, IsUntil, IsInTime, IsFrom};
+ghost use Rattle.vk_order.specs.Inner.Availability.{makes_write_available, serves, is_marked, is_after, HasSets, AreFirsts, IsUntil, IsInTime, IsFrom};
 
 use crate::access::Access;
 use crate::acts::Row;
@@ -42,7 +42,7 @@ pub fn is_seen(
     let write = Write {
         number: writer,
         row: rows[writer],
-        from: sent_from(rows, writer, access),
+        from: available_from(rows, writer, access),
         byte: access.byte,
     };
     let read = Reader {
@@ -57,7 +57,7 @@ pub fn is_seen(
 
 /// After which node a submit makes a write by the host available: the write, or the first flush
 /// after it where the memory is cached.
-fn sent_from(rows: &[Row<'_>], writer: usize, access: ByteAccess) -> usize
+fn available_from(rows: &[Row<'_>], writer: usize, access: ByteAccess) -> usize
     ensures { IsFrom rows.now writer (byte_of access.byte) access.is_cached result }
 {
     if access.is_cached {
@@ -90,7 +90,7 @@ fn is_way(
 ) -> Result<bool, AllocError>
     requires { length stamps.now ≡ length rows.now }
     ensures { IfOk result (λ is. (in_time : Node → Bool) → IsUntil rows.now read.now.until in_time → IsStamped rows.now stamps.now lines.now
-        → is ≡ list_any (λ n. serves in_time (is_host (act_of write.now.row.act)) read.now n && is_after (nodes_after [] rows.now) (sends write.now) n) (nodes_after [] rows.now)) }
+        → is ≡ list_any (λ n. serves in_time (is_host (act_of write.now.row.act)) read.now n && is_after (nodes_after [] rows.now) (makes_write_available write.now) n) (nodes_after [] rows.now)) }
 {
     let by_host = write.row.act.is_host();
     let sets = write.sets(alloc, rows)?;
@@ -99,7 +99,7 @@ fn is_way(
         let is_served = read.is_served_by(rows, stamps, lines, by_host, number, row);
         let sets = sets.as_slice();
         let list = firsts.as_slice();
-        if is_served && is_sent_before(rows, stamps, lines, write, sets, list, number, row) {
+        if is_served && is_available_before(rows, stamps, lines, write, sets, list, number, row) {
             return Ok(true);
         }
     }
@@ -107,7 +107,7 @@ fn is_way(
 }
 
 /// Whether a node makes the write available, or is after one that does.
-fn is_sent_before(
+fn is_available_before(
     rows: &[Row<'_>],
     stamps: &[Stamp],
     lines: &[Line],
@@ -121,8 +121,8 @@ fn is_sent_before(
     requires sets { (s : ℕ) → Contains sets.now s → s < length rows.now }
     requires within { (f : AnyFirst) → Contains firsts.now f → f.number < length stamps.now }
     requires number { number < length rows.now }
-    ensures { HasSets rows.now (sends write.now) sets.now → AreFirsts rows.now (is_marked (nodes_after [] rows.now) (sends write.now)) firsts.now → IsStamped rows.now stamps.now lines.now → slice_get rows.now number ≡ Some row.now
-        → result ≡ is_after (nodes_after [] rows.now) (sends write.now) (node_of number row.now) }
+    ensures { HasSets rows.now (makes_write_available write.now) sets.now → AreFirsts rows.now (is_marked (nodes_after [] rows.now) (makes_write_available write.now)) firsts.now → IsStamped rows.now stamps.now lines.now → slice_get rows.now number ≡ Some row.now
+        → result ≡ is_after (nodes_after [] rows.now) (makes_write_available write.now) (node_of number row.now) }
 {
     write.is_marked_by(rows, sets, number, row) || is_after_some(stamps, lines, firsts, number)
 }

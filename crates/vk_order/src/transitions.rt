@@ -13,37 +13,37 @@ ghost use Rattle.vk_order.specs.Inner.Alone.{AlwaysMarks, NeverMarks};
 ghost use Rattle.vk_order.specs.Inner.Clocks.{place};
 ghost use Rattle.vk_order.specs.Inner.Parts.{parts_at, AreInOrder, AreFrom, IsPart, IsOwnPart};
 ghost use Rattle.vk_order.specs.Inner.Tallies.{lines_of};
-ghost use Rattle.vk_order.specs.Frontiers.{IsFrontier, IsSight, IsFrom};
+ghost use Rattle.vk_order.specs.Frontiers.{IsFrontier, IsNewNode, IsFrom};
 ghost use Rattle.vk_order.specs.SeenWrites.{SaysSeenAt};
 ghost use Rattle.vk_order.specs.Units.{HaveNumbers, unit_byte, units_resource};
 
 use crate::acts::Row;
 use crate::bytes::Byte;
 use crate::frontier::Frontier;
+use crate::new_node::NewNode;
 use crate::parts::{Part, Spot, parts_from};
 use crate::point::{Act, Point};
-use crate::sights::Sight;
 use crate::units::{Units, element_until};
 use crate::unseen::parts_until;
 use std::alloc::AllocError;
 
 impl Frontier {
-    /// What is known at a node that comes next, with this act and by its sight, where it is a
+    /// What is known at a node that comes next, with this act and as a new node, where it is a
     /// dependency on a part of memory.
     pub fn part(
         &self,
         point: &Point<'_>,
         act: &Act<'_>,
-        sight: &Sight,
+        new_node: &NewNode,
     ) -> Result<Option<Part>, AllocError>
-        requires { IsFrom self.now sight.now }
-        ensures { IfOk result (λ part. (ns : List Node) (n : Node) → IsFrontier self.now ns → n ≡ record { number = length ns; point = point_of point.now; act = act_of act.now } → IsSight ns n sight.now → IsOwnPart ns (lines_of self.now.tallies.items) n part) }
+        requires { IsFrom self.now new_node.now }
+        ensures { IfOk result (λ part. (ns : List Node) (n : Node) → IsFrontier self.now ns → n ≡ record { number = length ns; point = point_of point.now; act = act_of act.now } → IsNewNode ns n new_node.now → IsOwnPart ns (lines_of self.now.tallies.items) n part) }
     {
         let row = Row {
             point: *point,
             act: *act,
         };
-        let Some((_, part)) = self.new_part(&row, sight.front())? else {
+        let Some((_, part)) = self.new_part(&row, new_node.front())? else {
             return Ok(None);
         };
         Ok(Some(part))

@@ -19,8 +19,8 @@ ghost use Rattle.vk_order.specs.Inner.Tallies.{lines_of};
 use crate::access::Access;
 use crate::bytes::Byte;
 use crate::frontier::Frontier;
+use crate::new_node::NewNode;
 use crate::parts::{Part, Spot, parts_from};
-use crate::sights::Sight;
 use crate::units::{Units, element_until};
 
 /// Up to where, and at most to an end, each of some parts is on the units as on one, or on none of
@@ -52,11 +52,11 @@ pub struct SeenUntil {
 }
 
 impl Frontier {
-    /// Whether an access of unit `low` by the node that a sight is of sees the write by a node, and
+    /// Whether an access of unit `low` by the node that comes next sees the write by a node, and
     /// up to where, and at most to `high`, this is so. It is asked as `is_seen` is.
     pub fn seen_until(
         &self,
-        sight: &Sight,
+        new_node: &NewNode,
         write: Spot,
         from: usize,
         units: Units,
@@ -68,9 +68,9 @@ impl Frontier {
         requires numbers { HaveNumbers units high }
         ensures further { low < result.end }
         ensures within { result.end ≤ high }
-        ensures seen { (k : ℕ) → low ≤ k → k < result.end → SaysSeen self.now sight.now write from access (unit_byte units k) result.is_seen }
+        ensures seen { (k : ℕ) → low ≤ k → k < result.end → SaysSeen self.now new_node.now write from access (unit_byte units k) result.is_seen }
     {
-        if sight.shows(write, access) {
+        if new_node.shows(write, access) {
             return SeenUntil {
                 end: high,
                 is_seen: true,
@@ -80,16 +80,16 @@ impl Frontier {
         let parts = parts_from(self.parts_on(units.resource()), from);
         SeenUntil {
             end: parts_until(parts, units, low, high),
-            is_seen: self.is_seen(sight, write, from, byte, access),
+            is_seen: self.is_seen(new_node, write, from, byte, access),
         }
     }
 
     /// The first unit, from `low` on and before `high`, of which an access
-    /// by the node that a sight is of doesn't see the write by a node. It is asked as `is_seen` is,
+    /// by the node that comes next doesn't see the write by a node. It is asked as `is_seen` is,
     /// and once for the units in a row that one part shows, or that the same parts are on.
     pub fn first_unseen(
         &self,
-        sight: &Sight,
+        new_node: &NewNode,
         write: Spot,
         from: usize,
         units: Units,
@@ -99,24 +99,24 @@ impl Frontier {
     ) -> Option<u64>
         requires { HaveNumbers units high }
         ensures within { IfSome result (λ k. (low ≤ k) × (k < high)) }
-        ensures unseen { IfSome result (λ k. SaysSeen self.now sight.now write from access (unit_byte units k) false) }
-        ensures seen { IfNone result ((k : ℕ) → low ≤ k → k < high → SaysSeen self.now sight.now write from access (unit_byte units k) true) }
+        ensures unseen { IfSome result (λ k. SaysSeen self.now new_node.now write from access (unit_byte units k) false) }
+        ensures seen { IfNone result ((k : ℕ) → low ≤ k → k < high → SaysSeen self.now new_node.now write from access (unit_byte units k) true) }
     {
-        if sight.shows(write, access) {
+        if new_node.shows(write, access) {
             return None;
         }
         let parts = parts_from(self.parts_on(units.resource()), from);
         let mut at = low;
         let mut near = 0;
         while at < high {
-            match self.shown_until(sight, parts, near, write, units, at, high, access) {
+            match self.visible_until(new_node, parts, near, write, units, at, high, access) {
                 Some((index, until)) => {
                     near = index;
                     at = until;
                 }
                 None => {
                     let byte = units.byte(at);
-                    if !self.is_seen(sight, write, from, byte, access) {
+                    if !self.is_seen(new_node, write, from, byte, access) {
                         return Some(at);
                     }
                     at = parts_until(parts, units, at, high);
@@ -128,9 +128,9 @@ impl Frontier {
 
     /// Up to where, and at most to an end, a part shows the write by itself from a unit on; and the
     /// part's index, of those that do one that is near another.
-    fn shown_until(
+    fn visible_until(
         &self,
-        sight: &Sight,
+        new_node: &NewNode,
         parts: &[Part],
         near: usize,
         write: Spot,
@@ -143,18 +143,18 @@ impl Frontier {
         requires numbers { HaveNumbers units end }
         ensures further { IfSome result (λ r. at < r.1) }
         ensures seen { IfSome result (λ r. (from : ℕ) → (AreInOrder (parts_at self.now.parts (units_resource units)) → AreFrom from (parts_at self.now.parts (units_resource units)) parts.now)
-            → (k : ℕ) → at ≤ k → k < r.1 → SaysSeen self.now sight.now write from access (unit_byte units k) true) }
+            → (k : ℕ) → at ≤ k → k < r.1 → SaysSeen self.now new_node.now write from access (unit_byte units k) true) }
     {
         let byte = units.byte(at);
-        let index = self.shown_by(sight, parts, near, write, byte, access)?;
+        let index = self.made_visible_by(new_node, parts, near, write, byte, access)?;
         let until = element_until(&parts[index].element, units, at, end);
         Some((index, until))
     }
 
     /// The index of a part that shows the write of a byte by itself, one that is near another.
-    fn shown_by(
+    fn made_visible_by(
         &self,
-        sight: &Sight,
+        new_node: &NewNode,
         parts: &[Part],
         near: usize,
         write: Spot,
@@ -162,16 +162,16 @@ impl Frontier {
         access: Access,
     ) -> Option<usize>
         ensures within { IfSome result (λ i. i < length parts.now) }
-        ensures shows { IfSome result (λ i. (x : AnyPart) → slice_get parts.now i ≡ Some x → AlwaysShows self.now sight.now write (access_of access) (byte_of byte) x) }
+        ensures shows { IfSome result (λ i. (x : AnyPart) → slice_get parts.now i ≡ Some x → AlwaysShows self.now new_node.now write (access_of access) (byte_of byte) x) }
     {
         for step in 0..parts.len() {
             if let Some(index) = near.checked_sub(step)
-                && self.shows_at(sight, parts, index, write, byte, access)
+                && self.shows_at(new_node, parts, index, write, byte, access)
             {
                 return Some(index);
             }
             if let Some(index) = near.checked_add(step)
-                && self.shows_at(sight, parts, index, write, byte, access)
+                && self.shows_at(new_node, parts, index, write, byte, access)
             {
                 return Some(index);
             }
@@ -182,7 +182,7 @@ impl Frontier {
     /// Whether there is a part of an index, and it shows the write of a byte by itself.
     fn shows_at(
         &self,
-        sight: &Sight,
+        new_node: &NewNode,
         parts: &[Part],
         index: usize,
         write: Spot,
@@ -190,24 +190,24 @@ impl Frontier {
         access: Access,
     ) -> bool
         ensures within { result ≡ true → index < length parts.now }
-        ensures shows { result ≡ true → (x : AnyPart) → slice_get parts.now index ≡ Some x → AlwaysShows self.now sight.now write (access_of access) (byte_of byte) x }
+        ensures shows { result ≡ true → (x : AnyPart) → slice_get parts.now index ≡ Some x → AlwaysShows self.now new_node.now write (access_of access) (byte_of byte) x }
     {
-        index < parts.len() && self.shows_alone(sight, &parts[index], write, byte, access)
+        index < parts.len() && self.shows_alone(new_node, &parts[index], write, byte, access)
     }
 
     /// Whether a part makes a byte visible to the access, and the write of it is known there or
     /// made available by it.
     fn shows_alone(
         &self,
-        sight: &Sight,
+        new_node: &NewNode,
         part: &Part,
         write: Spot,
         byte: Byte,
         access: Access,
     ) -> bool
-        ensures { result ≡ true → AlwaysShows self.now sight.now write (access_of access) (byte_of byte) part.now }
+        ensures { result ≡ true → AlwaysShows self.now new_node.now write (access_of access) (byte_of byte) part.now }
     {
-        sight.is_open(part, byte, access) && self.tells_of(part, write, byte)
+        new_node.is_open(part, byte, access) && self.tells_of(part, write, byte)
     }
 
     /// Whether the write of a byte is known at a part, or made available by it.

@@ -7,7 +7,7 @@ ghost use Rattle.vk_order.specs.Bytes.{byte_of};
 ghost use Rattle.vk_order.specs.Lines.{line_of};
 ghost use Rattle.vk_order.specs.Inner.Clocks.{same_line};
 ghost use Rattle.vk_order.specs.Inner.Links.{unsignaled};
-ghost use Rattle.vk_order.specs.Inner.Sending.{makes_available, makes_visible, sends, is_carried, is_marked, is_set_element, comes_after_sets, HasSets, AreFirsts};
+ghost use Rattle.vk_order.specs.Inner.Availability.{makes_available, makes_visible, makes_write_available, is_carried, is_marked, is_set_element, comes_after_sets, HasSets, AreFirsts};
 
 use crate::access::Access;
 use crate::acts::Row;
@@ -145,8 +145,8 @@ pub struct Write<'a> {
 
 impl Write<'_> {
     /// Whether a node makes it available.
-    pub fn is_sent_by(&self, number: usize, row: &Row<'_>) -> bool
-        ensures { result ≡ sends self.now (node_of number row.now) }
+    pub fn is_made_available_by(&self, number: usize, row: &Row<'_>) -> bool
+        ensures { result ≡ makes_write_available self.now (node_of number row.now) }
     {
         match self.row.act {
             Act::Runs(_) => {
@@ -159,27 +159,27 @@ impl Write<'_> {
     }
 
     /// Whether it is an element of a set, and makes it available.
-    fn is_sent_by_set(&self, number: usize, row: &Row<'_>) -> bool
-        ensures { result ≡ (is_set_element (act_of row.now.act) && sends self.now (node_of number row.now)) }
+    fn is_made_available_by_set(&self, number: usize, row: &Row<'_>) -> bool
+        ensures { result ≡ (is_set_element (act_of row.now.act) && makes_write_available self.now (node_of number row.now)) }
     {
-        matches!(row.act, Act::Set(..)) && self.is_sent_by(number, row)
+        matches!(row.act, Act::Set(..)) && self.is_made_available_by(number, row)
     }
 
     /// Whether such an element leads to another node by one edge.
     fn is_carried_by(&self, set: usize, from: &Row<'_>, number: usize, to: &Row<'_>) -> bool
-        ensures { result ≡ (is_set_element (act_of from.now.act) && sends self.now (node_of set from.now) && (nat_lt set number && unsignaled (node_of set from.now) (node_of number to.now))) }
+        ensures { result ≡ (is_set_element (act_of from.now.act) && makes_write_available self.now (node_of set from.now) && (nat_lt set number && unsignaled (node_of set from.now) (node_of number to.now))) }
     {
-        self.is_sent_by_set(set, from) && (set < number && from.leads_to(to))
+        self.is_made_available_by_set(set, from) && (set < number && from.leads_to(to))
     }
 
     /// The numbers of these elements.
     pub fn sets(&self, alloc: Global, rows: &[Row<'_>]) -> Result<Vec<usize>, AllocError>
         ensures within { IfOk result (λ sets. (s : ℕ) → Contains sets.items s → s < length rows.now) }
-        ensures sets { IfOk result (λ sets. HasSets rows.now (sends self.now) sets.items) }
+        ensures sets { IfOk result (λ sets. HasSets rows.now (makes_write_available self.now) sets.items) }
     {
         let mut sets = Vec::new(alloc);
         for (number, row) in rows.iter().enumerate() {
-            if self.is_sent_by_set(number, row) {
+            if self.is_made_available_by_set(number, row) {
                 sets.push(number)?;
             }
         }
@@ -189,7 +189,7 @@ impl Write<'_> {
     /// Whether one of them leads to a node by one edge.
     fn is_carried(&self, rows: &[Row<'_>], sets: &[usize], number: usize, row: &Row<'_>) -> bool
         requires { (s : ℕ) → Contains sets.now s → s < length rows.now }
-        ensures { HasSets rows.now (sends self.now) sets.now → result ≡ is_carried (nodes_after [] rows.now) (sends self.now) (node_of number row.now) }
+        ensures { HasSets rows.now (makes_write_available self.now) sets.now → result ≡ is_carried (nodes_after [] rows.now) (makes_write_available self.now) (node_of number row.now) }
     {
         if !row.act.comes_after_sets() {
             return false;
@@ -211,9 +211,9 @@ impl Write<'_> {
         row: &Row<'_>,
     ) -> bool
         requires { (s : ℕ) → Contains sets.now s → s < length rows.now }
-        ensures { HasSets rows.now (sends self.now) sets.now → result ≡ is_marked (nodes_after [] rows.now) (sends self.now) (node_of number row.now) }
+        ensures { HasSets rows.now (makes_write_available self.now) sets.now → result ≡ is_marked (nodes_after [] rows.now) (makes_write_available self.now) (node_of number row.now) }
     {
-        self.is_sent_by(number, row) || self.is_carried(rows, sets, number, row)
+        self.is_made_available_by(number, row) || self.is_carried(rows, sets, number, row)
     }
 
     /// The first such node of each line.
@@ -225,7 +225,7 @@ impl Write<'_> {
     ) -> Result<Vec<First>, AllocError>
         requires { (s : ℕ) → Contains sets.now s → s < length rows.now }
         ensures within { IfOk result (λ firsts. (f : AnyFirst) → Contains firsts.items f → f.number < length rows.now) }
-        ensures firsts { IfOk result (λ firsts. HasSets rows.now (sends self.now) sets.now → AreFirsts rows.now (is_marked (nodes_after [] rows.now) (sends self.now)) firsts.items) }
+        ensures firsts { IfOk result (λ firsts. HasSets rows.now (makes_write_available self.now) sets.now → AreFirsts rows.now (is_marked (nodes_after [] rows.now) (makes_write_available self.now)) firsts.items) }
     {
         let mut firsts = Vec::new(alloc);
         for (number, row) in rows.iter().enumerate() {
@@ -247,8 +247,8 @@ impl Write<'_> {
     ) -> Option<First>
         requires { (s : ℕ) → Contains sets.now s → s < length rows.now }
         ensures number { IfSome result (λ f. f.number ≡ number) }
-        ensures some { IfSome result (λ f. HasSets rows.now (sends self.now) sets.now → (line_of (node_of number row.now) ≡ Some f.line) × IsTrue (is_marked (nodes_after [] rows.now) (sends self.now) (node_of number row.now))) }
-        ensures none { result ≡ None → HasSets rows.now (sends self.now) sets.now → IsTrue (is_marked (nodes_after [] rows.now) (sends self.now) (node_of number row.now)) → is_set_element (act_of row.now.act) ≡ false
+        ensures some { IfSome result (λ f. HasSets rows.now (makes_write_available self.now) sets.now → (line_of (node_of number row.now) ≡ Some f.line) × IsTrue (is_marked (nodes_after [] rows.now) (makes_write_available self.now) (node_of number row.now))) }
+        ensures none { result ≡ None → HasSets rows.now (makes_write_available self.now) sets.now → IsTrue (is_marked (nodes_after [] rows.now) (makes_write_available self.now) (node_of number row.now)) → is_set_element (act_of row.now.act) ≡ false
             → (f : AnyFirst) × Contains firsts.now f × (line_of (node_of number row.now) ≡ Some f.line) }
     {
         let line = Line::of(row.point.queue, &row.act);

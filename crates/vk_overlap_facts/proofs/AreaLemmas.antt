@@ -117,17 +117,17 @@ ids a b = and_true (nat_eq a b)
 
 -- ---- areas
 
--- where two areas are told, some overlap
-pub areas_told : (written read : List Area) (one other : Part) (c : Common) → AreMeetingAreas written read one other c → writes_overlap written read ≡ true
-areas_told written read (part.Written i) (part.Written j) c told =
-    or_left (some_pair areas_meet written) (list_any (λ w. list_any (areas_meet w) read) written) (pair_made areas_meet written i j told.1.one told.1.other told.1.one_is told.1.other_is told.0 told.1.meet)
-areas_told written read (part.Written i) (part.Read j) c told =
-    or_right (some_pair areas_meet written) (list_any (λ w. list_any (areas_meet w) read) written) (cross_made areas_meet written read i j told.one told.other told.one_is told.other_is told.meet)
-areas_told written read (part.Written i) (part.Transition j) c told = absurd told
-areas_told written read (part.Written i) (part.Listed j) c told = absurd told
-areas_told written read (part.Read i) other c told = absurd told
-areas_told written read (part.Transition i) other c told = absurd told
-areas_told written read (part.Listed i) other c told = absurd told
+-- where two areas are reported, some overlap
+pub areas_reported : (written read : List Area) (one other : Part) (c : Common) → AreMeetingAreas written read one other c → writes_overlap written read ≡ true
+areas_reported written read (part.Written i) (part.Written j) c reported =
+    or_left (some_pair areas_meet written) (list_any (λ w. list_any (areas_meet w) read) written) (pair_made areas_meet written i j reported.1.one reported.1.other reported.1.one_is reported.1.other_is reported.0 reported.1.meet)
+areas_reported written read (part.Written i) (part.Read j) c reported =
+    or_right (some_pair areas_meet written) (list_any (λ w. list_any (areas_meet w) read) written) (cross_made areas_meet written read i j reported.one reported.other reported.one_is reported.other_is reported.meet)
+areas_reported written read (part.Written i) (part.Transition j) c reported = absurd reported
+areas_reported written read (part.Written i) (part.Listed j) c reported = absurd reported
+areas_reported written read (part.Read i) other c reported = absurd reported
+areas_reported written read (part.Transition i) other c reported = absurd reported
+areas_reported written read (part.Listed i) other c reported = absurd reported
 
 -- ---- what pairs of areas tell
 
@@ -137,13 +137,13 @@ of_transitions es areas b laid is = is ∙ ap (some_pair areas_meet) laid ∙ pa
 pub of_ids : (listed : List ℕ) (areas : List Area) (b : Bool) → areas ≡ map id_area listed → b ≡ some_pair areas_meet areas → b ≡ some_pair nat_eq listed
 of_ids listed areas b laid is = is ∙ ap (some_pair areas_meet) laid ∙ pairs_of id_area nat_eq ids listed
 
-pub transitions_told : (es : List Element) (areas : List Area) (q : Pair) (o : Overlap) → areas ≡ map transition_area es → IsRising areas q → o ≡ record { one = part.Transition q.one; other = part.Transition q.other; common = q.common } → IsOfElements es o
-transitions_told es areas q o laid rising is =
+pub transitions_reported : (es : List Element) (areas : List Area) (q : Pair) (o : Overlap) → areas ≡ map transition_area es → IsRising areas q → o ≡ record { one = part.Transition q.one; other = part.Transition q.other; common = q.common } → IsOfElements es o
+transitions_reported es areas q o laid rising is =
     let r = subst (λ (l : List Area). IsRising l q) laid rising in
     subst (IsOfElements es) (sym is) (r.0, met_of transition_area transitions_meet transitions IsNamedBy es q.one q.other q.common q.common (named q.common) r.1)
 
-pub ids_told : (listed : List ℕ) (areas : List Area) (q : Pair) (o : Overlap) → areas ≡ map id_area listed → IsRising areas q → o.one ≡ part.Listed q.one → o.other ≡ part.Listed q.other → ((id : ℕ) → IsIn (id_area id) q.common → IsId id o.common) → IsOfIds listed o
-ids_told listed areas q o laid rising one other has =
+pub ids_reported : (listed : List ℕ) (areas : List Area) (q : Pair) (o : Overlap) → areas ≡ map id_area listed → IsRising areas q → o.one ≡ part.Listed q.one → o.other ≡ part.Listed q.other → ((id : ℕ) → IsIn (id_area id) q.common → IsId id o.common) → IsOfIds listed o
+ids_reported listed areas q o laid rising one other has =
     let r = subst (λ (l : List Area). IsRising l q) laid rising in
     subst (λ (p : Part). AreEqualIds listed p o.other o.common) (sym one)
     (subst (λ (p : Part). AreEqualIds listed (part.Listed q.one) p o.common) (sym other) (r.0, met_of id_area nat_eq ids IsId listed q.one q.other q.common o.common has r.1))

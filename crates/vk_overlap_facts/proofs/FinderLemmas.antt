@@ -13,11 +13,11 @@ use Rattle.vk_overlap_facts.specs.Inner.Found.{IsMetFrom, IsPair, IsRising}
 use Rattle.vk_overlap_facts.proofs.Walks.{item_of, any_later, pair_later, pair_made, cross_made}
 
 -- a pair of two lists shows that some items of them meet
-pub pair_told : (xs ys : List Area) (q : Pair) → IsPair xs ys q → list_any (λ w. list_any (areas_meet w) ys) xs ≡ true
-pair_told xs ys q m = cross_made areas_meet xs ys q.one q.other m.one m.other m.one_is m.other_is m.meet
+pub pair_reported : (xs ys : List Area) (q : Pair) → IsPair xs ys q → list_any (λ w. list_any (areas_meet w) ys) xs ≡ true
+pair_reported xs ys q m = cross_made areas_meet xs ys q.one q.other m.one m.other m.one_is m.other_is m.meet
 
-pub rising_told : (xs : List Area) (q : Pair) → IsRising xs q → some_pair areas_meet xs ≡ true
-rising_told xs q m = pair_made areas_meet xs q.one q.other m.1.one m.1.other m.1.one_is m.1.other_is m.0 m.1.meet
+pub rising_reported : (xs : List Area) (q : Pair) → IsRising xs q → some_pair areas_meet xs ≡ true
+rising_reported xs q m = pair_made areas_meet xs q.one q.other m.1.one m.1.other m.1.one_is m.1.other_is m.0 m.1.meet
 
 -- what an area meets makes a pair
 pub pair_of_met : (xs ys : List Area) (k from : ℕ) (a : Area) (m : Met) (q : Pair) → slice_get xs k ≡ Some a → IsMetFrom a ys from m → q ≡ record { one = k; other = m.number; common = m.common } → IsPair xs ys q

@@ -1,4 +1,4 @@
--- What is told of a point and OVERLAP.
+-- What is reported of a point and OVERLAP.
 use Rattle.std.specs.Prelude.{◌≡◌, false, Option, Some, None, IsTrue}
 use Rattle.vk_model.specs.declared.rule.Rule.TheVariants as rule
 use Rattle.vk_model.specs.Trace.Point.{Past, Point}

@@ -62,7 +62,7 @@ pub fn other_at(number: usize, ones: &[Area], others: &[Area]) -> Option<Pair>
 /// The first of some areas that meets a later one.
 pub fn pair_within(areas: &[Area]) -> Option<Pair>
     ensures meet { is_some result ≡ some_pair areas_meet (map area_of areas.now) }
-    ensures told { IfSome result (IsRising (map area_of areas.now)) }
+    ensures reported { IfSome result (IsRising (map area_of areas.now)) }
 {
     for number in 0..areas.len() {
         if let Some(met) = first_met(&areas[number], areas, number + 1) {
@@ -75,7 +75,7 @@ pub fn pair_within(areas: &[Area]) -> Option<Pair>
 /// The first of some areas that meets one of others.
 pub fn pair_between(ones: &[Area], others: &[Area]) -> Option<Pair>
     ensures meet { is_some result ≡ list_any (λ w. list_any (areas_meet w) (map area_of others.now)) (map area_of ones.now) }
-    ensures told { IfSome result (IsPair (map area_of ones.now) (map area_of others.now)) }
+    ensures reported { IfSome result (IsPair (map area_of ones.now) (map area_of others.now)) }
 {
     for number in 0..ones.len() {
         if let Some(met) = first_met(&ones[number], others, 0) {

@@ -16,7 +16,7 @@ use vk_model::Entry;
 /// An id that an end of a pass lists twice.
 pub fn listed_twice(alloc: Global, entry: &Entry) -> Result<Option<Overlap>, AllocError>
     ensures meet { IfOk result (λ found. is_some found ≡ rules.lists_twice entry.now) }
-    ensures told { IfOk result (λ found. IfSome found (IsListedTwice entry.now)) }
+    ensures reported { IfOk result (λ found. IfSome found (IsListedTwice entry.now)) }
 {
     match entry {
         Entry::EndPass {
@@ -34,7 +34,7 @@ pub fn listed_twice(alloc: Global, entry: &Entry) -> Result<Option<Overlap>, All
 
 fn ids_overlap(alloc: Global, ids: &[u32]) -> Result<Option<Overlap>, AllocError>
     ensures meet { IfOk result (λ found. is_some found ≡ some_pair nat_eq ids.now) }
-    ensures told { IfOk result (λ found. IfSome found (IsOfIds ids.now)) }
+    ensures reported { IfOk result (λ found. IfSome found (IsOfIds ids.now)) }
 {
     let areas = areas_of(alloc, ids)?;
     match pair_among(alloc, areas.as_slice())? {

@@ -50,7 +50,7 @@ fn of_action(
     point: &Point<'_>,
 ) -> Result<Option<Overlap>, AllocError>
     ensures meet { IfOk result (λ found. is_some found ≡ rules.breaks_overlap (past_of older.now) (point_of point.now)) }
-    ensures told { IfOk result (λ found. IfSome found (IsOverlap (past_of older.now) (action_of point.now.action))) }
+    ensures reported { IfOk result (λ found. IfSome found (IsOverlap (past_of older.now) (action_of point.now.action))) }
 {
     match point.action {
         Action::Host(entry) => listed_twice(alloc, entry),
@@ -65,7 +65,7 @@ fn of_command(
     command: &Cmd,
 ) -> Result<Option<Overlap>, AllocError>
     ensures meet { IfOk result (λ found. is_some found ≡ rules.command_overlaps (past_of older.now) command.now) }
-    ensures told { IfOk result (λ found. IfSome found (IsOverlapIn (past_of older.now) command.now)) }
+    ensures reported { IfOk result (λ found. IfSome found (IsOverlapIn (past_of older.now) command.now)) }
 {
     match of_areas(alloc, older, command)? {
         Some(overlap) => Ok(Some(overlap)),
@@ -80,7 +80,7 @@ fn of_areas(
 ) -> Result<Option<Overlap>, AllocError>
     ensures meet { IfOk result (λ found. is_some found
         ≡ rules.writes_overlap (areas.areas_written (past_of older.now) command.now) (areas.areas_read (past_of older.now) command.now)) }
-    ensures told { IfOk result (λ found. IfSome found
+    ensures reported { IfOk result (λ found. IfSome found
         (IsAmong (areas.areas_written (past_of older.now) command.now) (areas.areas_read (past_of older.now) command.now))) }
 {
     let written = areas_written(alloc, older, command)?;

@@ -43,7 +43,7 @@ pub fn overlap_among(
     read: &[Area],
 ) -> Result<Option<Overlap>, AllocError>
     ensures meet { IfOk result (λ found. is_some found ≡ writes_overlap (map area_of written.now) (map area_of read.now)) }
-    ensures told { IfOk result (λ found. IfSome found (IsAmong (map area_of written.now) (map area_of read.now))) }
+    ensures reported { IfOk result (λ found. IfSome found (IsAmong (map area_of written.now) (map area_of read.now))) }
 {
     match overlap_hinted(alloc, written, read)? {
         Some(overlap) => Ok(Some(overlap)),
@@ -79,7 +79,7 @@ fn overlap_at(number: usize, written: &[Area], read: &[Area]) -> Option<Overlap>
 /// The same by comparing each with each.
 fn by_pairs(written: &[Area], read: &[Area]) -> Option<Overlap>
     ensures meet { is_some result ≡ writes_overlap (map area_of written.now) (map area_of read.now) }
-    ensures told { IfSome result (IsAmong (map area_of written.now) (map area_of read.now)) }
+    ensures reported { IfSome result (IsAmong (map area_of written.now) (map area_of read.now)) }
 {
     if let Some(pair) = pair_within(written) {
         return Some(two_written(pair));
@@ -91,7 +91,7 @@ fn by_pairs(written: &[Area], read: &[Area]) -> Option<Overlap>
 /// Two of some areas that meet, found in the same way.
 pub fn pair_among(alloc: Global, areas: &[Area]) -> Result<Option<Pair>, AllocError>
     ensures meet { IfOk result (λ found. is_some found ≡ some_pair areas_meet (map area_of areas.now)) }
-    ensures told { IfOk result (λ found. IfSome found (IsRising (map area_of areas.now))) }
+    ensures reported { IfOk result (λ found. IfSome found (IsRising (map area_of areas.now))) }
 {
     match pair_hinted(alloc, areas)? {
         Some(pair) => Ok(Some(pair)),

@@ -17,7 +17,7 @@ pub fn transitions_overlap(
     elements: &[Element],
 ) -> Result<Option<Overlap>, AllocError>
     ensures meet { IfOk result (λ found. is_some found ≡ some_pair transitions_meet elements.now) }
-    ensures told { IfOk result (λ found. IfSome found (IsOfElements elements.now)) }
+    ensures reported { IfOk result (λ found. IfSome found (IsOfElements elements.now)) }
 {
     let areas = areas_of(alloc, elements)?;
     match pair_among(alloc, areas.as_slice())? {

@@ -42,19 +42,19 @@ module _ (past : Past) (q : ℕ) (f : ℕ → Bool) where
     command_writes (cmd.CopyOut i l b gs) other of = one_act (cmd.CopyOut i l b gs) of refl
     command_writes (cmd.CopyImage s l d m gs) other of = one_act (cmd.CopyImage s l d m gs) of refl
 
--- ---- what is told of a resource
+-- ---- what is reported of a resource
 
 module _ (past : Past) (q : ℕ) where
   -- of a barrier
-  pub barrier_told : (c : Cmd) (es slice : List Element) (r : Option MovingResource) → c ≡ cmd.Barrier es → slice ≡ es
+  pub barrier_reported : (c : Cmd) (es slice : List Element) (r : Option MovingResource) → c ≡ cmd.Barrier es → slice ≡ es
       → IfSome r (λ m. IsTrue (list_any (λ e. list_any (λ b. resource_at b == m.resource) (transition_bytes past q e)) slice)) → IfSome r (λ m. IsTrue (acts_write past q (λ k. k == m.resource) (command_acts c)))
-  barrier_told c es slice None is value told = tt
-  barrier_told c es slice (Some m) is value told =
+  barrier_reported c es slice None is value reported = tt
+  barrier_reported c es slice (Some m) is value reported =
       ap (λ (x : Cmd). acts_write past q (λ k. k == m.resource) (command_acts x)) is ∙ sym (barrier_writes past q (λ k. k == m.resource) es)
-      ∙ ap (λ (xs : List Element). list_any (λ e. list_any (λ b. resource_at b == m.resource) (transition_bytes past q e)) xs) (sym value) ∙ told
+      ∙ ap (λ (xs : List Element). list_any (λ e. list_any (λ b. resource_at b == m.resource) (transition_bytes past q e)) xs) (sym value) ∙ reported
 
   -- of another command
-  pub command_told : (c : Cmd) (w : Option ℕ) (r : Option MovingResource) → ((es : List Element) → c ≡ cmd.Barrier es → ⊥) → IsResourceOf w (targets (byte_writes past c))
+  pub command_reported : (c : Cmd) (w : Option ℕ) (r : Option MovingResource) → ((es : List Element) → c ≡ cmd.Barrier es → ⊥) → IsResourceOf w (targets (byte_writes past c))
       → IfSome r (λ m. IsTrue (holds w (λ k. k == m.resource))) → IfSome r (λ m. IsTrue (acts_write past q (λ k. k == m.resource) (command_acts c)))
-  command_told c w None other of told = tt
-  command_told c w (Some m) other of told = sym (command_writes past q (λ k. k == m.resource) w c other of) ∙ told
+  command_reported c w None other of reported = tt
+  command_reported c w (Some m) other of reported = sym (command_writes past q (λ k. k == m.resource) w c other of) ∙ reported

@@ -1,4 +1,4 @@
--- What is told of a busy resource breaks PASS_BUSY.
+-- What is reported of a busy resource breaks PASS_BUSY.
 use Rattle.std.proofs.Common.{◌≡◌, ℕ, List, [], ◌∷◌, Bool, true, false, ◌&&◌, not, IsTrue, Option, Some, None, refl, ap, sym, ◌∙◌, subst}
 use Rattle.std.specs.Prelude.{Contains, ◌==◌, IfSome, is_some, option_and_then, if◌then◌else◌}
 use Rattle.std.specs.List.{list_any, filter_map}
@@ -69,13 +69,13 @@ busy_breaks past p b is =
     ∙ ap (λ (o : Option ℕ). holds (option_and_then (pool_of_defrag past) o) (λ q. some_busy past p (λ r. holds (pool_of past r) (λ s. q == s)))) pass
     ∙ ap (λ (o : Option ℕ). holds o (λ q. some_busy past p (λ r. holds (pool_of past r) (λ s. q == s)))) is.pool ∙ some
 
--- ---- what is told
+-- ---- what is reported
 
-pub busy_told : (past : Past) (t : Timeline) (defrag pool r : ℕ) (s : Spot) (started : Bool) → pool_of past r ≡ Some pool → is_some (option_and_then resource_in (live past r)) ≡ true → IsSubmitted past s r
+pub busy_reported : (past : Past) (t : Timeline) (defrag pool r : ℕ) (s : Spot) (started : Bool) → pool_of past r ≡ Some pool → is_some (option_and_then resource_in (live past r)) ≡ true → IsSubmitted past s r
     → ((q : Past) (p : Point) (x : Entry) → p.action ≡ Host x → IsTimeline t (p ∷ q) → IsIncomplete q p s r started)
     → (p : Point) → option_and_then pass_of (host_of p.action) ≡ Some defrag → pool_of_defrag past defrag ≡ Some pool → IsTimeline t (p ∷ past)
     → IsBusyResource past p (record { resource = r; pool = pool; defrag = defrag; command = at.Command s.entry s.batch s.place; is_started = started })
-busy_told past t defrag pool r s started lies lives user incomplete p pass of timeline =
+busy_reported past t defrag pool r s started lies lives user incomplete p pass of timeline =
     let host = pass_host p.action defrag pass in
     let open_use = incomplete past p host.0 host.1 timeline user.point user.is_at in
     record {
@@ -88,11 +88,11 @@ busy_told past t defrag pool r s started lies lives user incomplete p pass of ti
       uses = record { submits = user.there; naming = user.naming; incomplete = open_use.0; has_started = open_use.1 };
     }
 
--- a busy resource that is told, by the past under another name
-pub told_broken : (past before all : Past) (p : Point) (found : Option BusyResource) (b : BusyResource) → before ≡ past → found ≡ Some b → (all ≡ p ∷ before → IfSome found (IsBusyResource before p)) → all ≡ p ∷ past
+-- a busy resource that is reported, by the past under another name
+pub reported_broken : (past before all : Past) (p : Point) (found : Option BusyResource) (b : BusyResource) → before ≡ past → found ≡ Some b → (all ≡ p ∷ before → IfSome found (IsBusyResource before p)) → all ≡ p ∷ past
     → (rule.PassBusy ≡ rule.PassBusy) × IsTrue (breaks rule.PassBusy past p) × IsBusyResource past p b
 unfolding breaks
-told_broken past before all p found b same is told e =
-    let here : IfSome found (IsBusyResource before p) = told (e ∙ ap (λ (q : Past). p ∷ q) (sym same)) in
+reported_broken past before all p found b same is reported e =
+    let here : IfSome found (IsBusyResource before p) = reported (e ∙ ap (λ (q : Past). p ∷ q) (sym same)) in
     let so : IsBusyResource past p b = subst (λ (q : Past). IsBusyResource q p b) same (subst (λ (o : Option BusyResource). IfSome o (IsBusyResource before p)) is here) in
     (refl, busy_breaks past p b so, so)

@@ -39,13 +39,13 @@ open_more past seen p f = go (host_of p.action)
 module _ (past : Past) (ps : List Told) (k : ℕ) (p : Told) (lt : k < length ps) (is : p ≡ get_or ps k p) (list : List OpenDefrag) (are : AreDefrags past (past_of (take k ps)) list) where
   -- one that hasn't ended
   pub defrags_more : (o : OpenDefrag) → made_at (point_of p) ≡ Some o.defrag → IsOpenDefrag past o → AreDefrags past (past_of (take (k + 1) ps)) (list ++ o ∷ [])
-  defrags_more o id told = record {
+  defrags_more o id reported = record {
     all = λ f.
         list_any-append (λ (o : OpenDefrag). f o.defrag) list (o ∷ []) ∙ ap (λ (b : Bool). b || (f o.defrag || false)) (are.all f) ∙ turn (list_any f (open_among past (past_of (take k ps)))) (f o.defrag)
         ∙ sym (ap (λ (seen : Past). list_any f (open_among past seen)) (past_item ps k p lt is) ∙ open_more past (past_of (take k ps)) (point_of p) f
         ∙ ap (λ (m : Option ℕ). holds m (λ i. is_some (pool_of_defrag past i) && f i) || list_any f (open_among past (past_of (take k ps)))) id
-        ∙ ap (λ (m : Option ℕ). (is_some m && f o.defrag) || list_any f (open_among past (past_of (take k ps)))) told.pool);
-    each = λ q c. ⊎_elim (λ old. are.each q old) (λ new. subst (λ (r : OpenDefrag). IsOpenDefrag past r) (only_one o q new) told) (Contains-append_cases list (o ∷ []) q c);
+        ∙ ap (λ (m : Option ℕ). (is_some m && f o.defrag) || list_any f (open_among past (past_of (take k ps)))) reported.pool);
+    each = λ q c. ⊎_elim (λ old. are.each q old) (λ new. subst (λ (r : OpenDefrag). IsOpenDefrag past r) (only_one o q new) reported) (Contains-append_cases list (o ∷ []) q c);
   } where
     turn : (a b : Bool) → (a || (b || false)) ≡ ((true && b) || a)
     turn true true = refl

@@ -17,9 +17,9 @@ module _ (past : Past) (i : ℕ) (m : Option Told) (unended : ended past i ≡ f
   pub open_is : pool_begun (option_map point_of m) ≡ pool_of_defrag past i
   open_is = ap pool_begun is ∙ ap (option_and_then defrag_in) (made_is past i ∙ rw unended refl)
 
-  pub open_told : (r : Option OpenDefrag) → IfSome r (λ o. o.defrag ≡ i) → IfSome r (λ o. pool_begun (option_map point_of m) ≡ Some o.pool) → IfSome r (λ o. option_map point_of m ≡ Some (point_of o.begun)) → IfSome r (IsOpenDefrag past)
-  open_told None id pool begun = tt
-  open_told (Some o) id pool begun = record {
+  pub open_reported : (r : Option OpenDefrag) → IfSome r (λ o. o.defrag ≡ i) → IfSome r (λ o. pool_begun (option_map point_of m) ≡ Some o.pool) → IfSome r (λ o. option_map point_of m ≡ Some (point_of o.begun)) → IfSome r (IsOpenDefrag past)
+  open_reported None id pool begun = tt
+  open_reported (Some o) id pool begun = record {
     pool = ap (pool_of_defrag past) id ∙ sym open_is ∙ pool;
     begun = ap (λ (j : ℕ). find (on_host (makes j)) past) id ∙ sym is ∙ begun;
   }

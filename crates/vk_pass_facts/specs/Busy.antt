@@ -14,7 +14,7 @@ pub record IsUser (past : Past) (p user : Point) (r : ℕ) (started : Bool) : Ty
   pub incomplete : (n : Node) → Contains (next_nodes past p) n → is_complete (nodes (p ∷ past)) n user r ≡ false
   pub has_started : started ≡ nat_lt 0 (length (nodes_for (nodes (p ∷ past)) user r))
 
--- What is told of a point that begins or ends a pass: a live resource of the pool, and a command that uses it. It isn't said that one is told of each point that breaks PASS_BUSY.
+-- What is reported of a point that begins or ends a pass: a live resource of the pool, and a command that uses it. It isn't said that one is reported of each point that breaks PASS_BUSY.
 pub record IsBusyResource (past : Past) (p : Point) (b : BusyResource) : Type 0 where
   pub pass : option_and_then pass_of (host_of p.action) ≡ Some b.defrag
   pub pool : pool_of_defrag past b.defrag ≡ Some b.pool

@@ -1,4 +1,4 @@
--- What is told of a point and a rule that it breaks.
+-- What is reported of a point and a rule that it breaks.
 use Rattle.std.specs.Prelude.{◌≡◌, Bool, true, false, Option, Some, None, IsTrue}
 use Rattle.vk_model.specs.declared.rule.Rule.{Rule}
 use Rattle.vk_model.specs.declared.rule.Rule.TheVariants as rule
@@ -10,13 +10,13 @@ use Rattle.vk_pass_facts.specs.PassStates.{IsPassState}
 use Rattle.vk_pass_facts.specs.Busy.{IsBusyResource}
 use Rattle.vk_pass_facts.specs.Writes.{IsPassWrite}
 
--- Whether a fact is told of a rule wherever it is broken.
-abbrev pub is_told : Rule → Bool
-is_told rule.PassState = true
-is_told rule.PassWrite = true
-is_told _ = false
+-- Whether a fact is reported of a rule wherever it is broken.
+abbrev pub is_reported : Rule → Bool
+is_reported rule.PassState = true
+is_reported rule.PassWrite = true
+is_reported _ = false
 
--- The rule that a fact is told of.
+-- The rule that a fact is reported of.
 abbrev pub rule_of : PassFact → Rule
 rule_of (fact.State s) = rule.PassState
 rule_of (fact.Busy b) = rule.PassBusy
@@ -28,7 +28,7 @@ IsSo past p (fact.State s) = IsPassState past p.action s
 IsSo past p (fact.Busy b) = IsBusyResource past p b
 IsSo past p (fact.Write m) = IsPassWrite past p.queue p.action m
 
--- What is told of a rule and a point that comes next: a fact of this rule is so, and the rule is broken. Where none is told of PASS_STATE or PASS_WRITE, it isn't broken; of PASS_BUSY that isn't said.
+-- What is reported of a rule and a point that comes next: a fact of this rule is so, and the rule is broken. Where none is reported of PASS_STATE or PASS_WRITE, it isn't broken; of PASS_BUSY that isn't said.
 abbrev pub IsFound : Rule → Past → Point → Option PassFact → Type 0
-IsFound r past p None = is_told r ≡ true → breaks r past p ≡ false
+IsFound r past p None = is_reported r ≡ true → breaks r past p ≡ false
 IsFound r past p (Some f) = (rule_of f ≡ r) × IsTrue (breaks r past p) × IsSo past p f

@@ -13,7 +13,7 @@ abbrev pub IsNoPass : Past → ℕ → PassState → Type 0
 IsNoPass past d (state.NoPass e) = (e ≡ d) × (in_pass past d ≡ false)
 IsNoPass past d _ = ⊥
 
--- What is told of an entry that breaks PASS_STATE: a defragmentation of its pool that hasn't ended, a pass that is open, or that none is of its defragmentation (VMA, "Defragmentation").
+-- What is reported of an entry that breaks PASS_STATE: a defragmentation of its pool that hasn't ended, a pass that is open, or that none is of its defragmentation (VMA, "Defragmentation").
 abbrev pub IsPassStateBy : Past → Entry → PassState → Type 0
 IsPassStateBy past (entry.Defrag i p b m) (state.Defrag o) = (o.pool ≡ p) × IsOpenDefrag past o
 IsPassStateBy past (entry.DropPool p) (state.Defrag o) = (o.pool ≡ p) × IsOpenDefrag past o
@@ -23,7 +23,7 @@ IsPassStateBy past (entry.EndPass d kept lost) s = IsNoPass past d s
 IsPassStateBy past (entry.Destroy r) (state.Moving m) = (m.resource ≡ r) × IsMoving past m
 IsPassStateBy past _ s = ⊥
 
--- What is told of an action that breaks it.
+-- What is reported of an action that breaks it.
 abbrev pub IsPassState : Past → Action → PassState → Type 0
 IsPassState past (Host x) s = IsPassStateBy past x s
 IsPassState past _ s = ⊥

@@ -12,7 +12,7 @@ use Rattle.vk_pass_facts.specs.Defrags.{IsMoving}
 abbrev pub writes_some : Past → ℕ → (ℕ → Bool) → Action → Bool
 writes_some past q test d = list_any (λ a. list_any (λ b. test (resource_at b)) (writes_of past q a)) (acts d)
 
--- What is told of an action on a queue that breaks PASS_WRITE: a resource that it writes bytes of, and the open pass of its pool (VMA, "Defragmentation").
+-- What is reported of an action on a queue that breaks PASS_WRITE: a resource that it writes bytes of, and the open pass of its pool (VMA, "Defragmentation").
 pub record IsPassWrite (past : Past) (q : ℕ) (d : Action) (m : MovingResource) : Type 0 where
   pub written : IsTrue (writes_some past q (λ r. r == m.resource) d)
   pub moving : IsMoving past m

@@ -51,7 +51,7 @@ impl<'b, 'a> Before<'b, 'a> {
     /// The defragmentation of a pool that hasn't ended.
     pub fn defrag_of_pool(&self, pool: u32) -> Option<OpenDefrag<'a>>
         ensures found { is_some result ≡ passes.has_defrag self.now pool }
-        ensures told { IfSome result (λ o. (o.pool ≡ pool) × IsOpenDefrag self.now o) }
+        ensures reported { IfSome result (λ o. (o.pool ≡ pool) × IsOpenDefrag self.now o) }
     {
         defrag_among(self.defrags.as_slice(), pool)
     }
@@ -59,7 +59,7 @@ impl<'b, 'a> Before<'b, 'a> {
     /// A pass that is open, of any defragmentation.
     pub fn any_pass(&self) -> Option<OpenPass<'a>>
         ensures found { is_some result ≡ passes.some_pass self.now }
-        ensures told { IfSome result (λ o. IsTrue (is_some (passes.pool_of_defrag self.now o.defrag)) × IsOpenPass self.now o) }
+        ensures reported { IfSome result (λ o. IsTrue (is_some (passes.pool_of_defrag self.now o.defrag)) × IsOpenPass self.now o) }
     {
         let found = pass_among(self.points, self.defrags.as_slice())?;
         Some(found.pass)
@@ -68,7 +68,7 @@ impl<'b, 'a> Before<'b, 'a> {
     /// The open pass of a defragmentation.
     pub fn pass_of_defrag(&self, defrag: u32) -> Option<OpenPass<'a>>
         ensures found { is_some result ≡ passes.in_pass self.now defrag }
-        ensures told { IfSome result (λ o. (o.defrag ≡ defrag) × IsOpenPass self.now o) }
+        ensures reported { IfSome result (λ o. (o.defrag ≡ defrag) × IsOpenPass self.now o) }
     {
         open_pass(self.points, defrag)
     }
@@ -79,7 +79,7 @@ impl<'b, 'a> Before<'b, 'a> {
         ensures pool { IfSome result (λ f. f.of.pool ≡ pool) }
         ensures same { IfSome result (λ f. f.pass.defrag ≡ f.of.defrag) }
         ensures of { IfSome result (λ f. IsOpenDefrag self.now f.of) }
-        ensures told { IfSome result (λ f. IsOpenPass self.now f.pass) }
+        ensures reported { IfSome result (λ f. IsOpenPass self.now f.pass) }
     {
         pass_of_pool(self.points, self.defrags.as_slice(), pool)
     }
@@ -87,7 +87,7 @@ impl<'b, 'a> Before<'b, 'a> {
     /// A resource, where a pass of its pool is open.
     pub fn moving(&self, resource: u32) -> Option<MovingResource<'a>>
         ensures found { is_some result ≡ passes.moves_now self.now resource }
-        ensures told { IfSome result (λ m. (m.resource ≡ resource) × IsMoving self.now m) }
+        ensures reported { IfSome result (λ m. (m.resource ≡ resource) × IsMoving self.now m) }
     {
         let pool = self.objects.pool_of(resource)?;
         let found = self.pass_in_pool(pool)?;
@@ -108,7 +108,7 @@ impl<'b, 'a> Before<'b, 'a> {
     /// The defragmentation of an id, if it hasn't ended.
     pub fn open_defrag(&self, id: u32) -> Option<OpenDefrag<'a>>
         ensures id { IfSome result (λ o. o.defrag ≡ id) }
-        ensures told { IfSome result (IsOpenDefrag self.now) }
+        ensures reported { IfSome result (IsOpenDefrag self.now) }
     {
         self.objects.open_defrag(id)
     }

@@ -58,7 +58,7 @@ pub fn busy_of<'a>(
         return Ok(None);
     };
     match candidate_of(alloc, before, &timeline, pass.pool)? {
-        Some(candidate) => Ok(told(before, &timeline, pass, candidate)),
+        Some(candidate) => Ok(reported(before, &timeline, pass, candidate)),
         None => Ok(None),
     }
 }
@@ -87,7 +87,7 @@ fn pass_of(point: &Point<'_>) -> Option<u32>
 }
 
 /// A candidate, where it is as it says.
-fn told(
+fn reported(
     before: &Before<'_, '_>,
     timeline: &Timeline<'_>,
     pass: PassPoint,

@@ -64,7 +64,7 @@ pub fn open_defrags<'a>(
 fn defrag_by<'a>(point: &Point<'a>, objects: &Objects<'a>) -> Option<OpenDefrag<'a>>
     ensures found { (past : Past) → AreObjects objects.now past → is_some result ≡ holds (made_at (point_of point.now)) (λ i. is_some (pool_of_defrag past i)) }
     ensures id { IfSome result (λ o. made_at (point_of point.now) ≡ Some o.defrag) }
-    ensures told { (past : Past) → AreObjects objects.now past → IfSome result (IsOpenDefrag past) }
+    ensures reported { (past : Past) → AreObjects objects.now past → IfSome result (IsOpenDefrag past) }
 {
     match point.action {
         Action::Host(entry) => match entry.made_id() {
@@ -78,7 +78,7 @@ fn defrag_by<'a>(point: &Point<'a>, objects: &Objects<'a>) -> Option<OpenDefrag<
 /// The first of some defragmentations that is of a pool.
 pub fn defrag_among<'a>(defrags: &[OpenDefrag<'a>], pool: u32) -> Option<OpenDefrag<'a>>
     ensures found { is_some result ≡ list_any (λ o. pool == o.pool) defrags.now }
-    ensures told { IfSome result (λ o. Contains defrags.now o × (o.pool ≡ pool)) }
+    ensures reported { IfSome result (λ o. Contains defrags.now o × (o.pool ≡ pool)) }
 {
     for defrag in defrags {
         if pool == defrag.pool {

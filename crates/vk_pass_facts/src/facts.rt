@@ -28,7 +28,7 @@ pub enum PassFact<'a> {
 
 /// What is so of the last of some points, where it breaks this rule; nothing of a rule that has no
 /// variant of `PassFact`. The points are those of a trace in reference order, from the first one on; of
-/// others nothing may be told of PASS_BUSY. The only error is want of memory.
+/// others nothing may be reported of PASS_BUSY. The only error is want of memory.
 pub fn pass_fact_of<'a>(
     alloc: Global,
     points: &[Point<'a>],

@@ -64,7 +64,7 @@ impl<'a> Objects<'a> {
     pub fn open_defrag(&self, id: u32) -> Option<OpenDefrag<'a>>
         ensures found { (past : Past) → AreObjects self.now past → is_some result ≡ is_some (pool_of_defrag past id) }
         ensures id { IfSome result (λ o. o.defrag ≡ id) }
-        ensures told { (past : Past) → AreObjects self.now past → IfSome result (IsOpenDefrag past) }
+        ensures reported { (past : Past) → AreObjects self.now past → IfSome result (IsOpenDefrag past) }
     {
         if self.ended.has(id) {
             None

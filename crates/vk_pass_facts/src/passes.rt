@@ -44,7 +44,7 @@ pub fn pass_among<'a>(points: &[Point<'a>], defrags: &[OpenDefrag<'a>]) -> Optio
     ensures found { is_some result ≡ list_any (λ o. in_pass (past_of points.now) o.defrag) defrags.now }
     ensures of { IfSome result (λ f. Contains defrags.now f.of) }
     ensures same { IfSome result (λ f. f.pass.defrag ≡ f.of.defrag) }
-    ensures told { IfSome result (λ f. IsOpenPass (past_of points.now) f.pass) }
+    ensures reported { IfSome result (λ f. IsOpenPass (past_of points.now) f.pass) }
 {
     for defrag in defrags {
         if let Some(pass) = open_pass(points, defrag.defrag) {
@@ -64,7 +64,7 @@ pub fn pass_of_pool<'a>(
     ensures of { IfSome result (λ f. Contains defrags.now f.of) }
     ensures pool { IfSome result (λ f. f.of.pool ≡ pool) }
     ensures same { IfSome result (λ f. f.pass.defrag ≡ f.of.defrag) }
-    ensures told { IfSome result (λ f. IsOpenPass (past_of points.now) f.pass) }
+    ensures reported { IfSome result (λ f. IsOpenPass (past_of points.now) f.pass) }
 {
     for defrag in defrags {
         if let Some(pass) = pass_where(pool == defrag.pool, points, defrag.defrag) {
@@ -78,7 +78,7 @@ pub fn pass_of_pool<'a>(
 fn pass_where<'a>(is_asked: bool, points: &[Point<'a>], defrag: u32) -> Option<OpenPass<'a>>
     ensures asked { IfSome result (λ o. is_asked ≡ true) }
     ensures found { is_some result ≡ (is_asked && in_pass (past_of points.now) defrag) }
-    ensures told { IfSome result (λ o. (o.defrag ≡ defrag) × IsOpenPass (past_of points.now) o) }
+    ensures reported { IfSome result (λ o. (o.defrag ≡ defrag) × IsOpenPass (past_of points.now) o) }
 {
     if is_asked {
         open_pass(points, defrag)
@@ -90,7 +90,7 @@ fn pass_where<'a>(is_asked: bool, points: &[Point<'a>], defrag: u32) -> Option<O
 /// The open pass of a defragmentation. It walks over the points three times.
 pub fn open_pass<'a>(points: &[Point<'a>], defrag: u32) -> Option<OpenPass<'a>>
     ensures found { is_some result ≡ in_pass (past_of points.now) defrag }
-    ensures told { IfSome result (λ o. (o.defrag ≡ defrag) × IsOpenPass (past_of points.now) o) }
+    ensures reported { IfSome result (λ o. (o.defrag ≡ defrag) × IsOpenPass (past_of points.now) o) }
 {
     if !is_in_pass(points, defrag) {
         return None;

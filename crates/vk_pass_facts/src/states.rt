@@ -26,7 +26,7 @@ pub enum PassState<'a> {
 /// PASS_STATE: what a point doesn't fit, where it breaks the rule.
 pub fn pass_state_of<'a>(before: &Before<'_, 'a>, point: &Point<'a>) -> Option<PassState<'a>>
     ensures broken { is_some result ≡ rules.breaks_pass_state before.now (point_of point.now) }
-    ensures told { IfSome result (IsPassState before.now (action_of point.now.action)) }
+    ensures reported { IfSome result (IsPassState before.now (action_of point.now.action)) }
 {
     match point.action {
         Action::Host(entry) => state_by(before, entry),
@@ -36,7 +36,7 @@ pub fn pass_state_of<'a>(before: &Before<'_, 'a>, point: &Point<'a>) -> Option<P
 
 fn state_by<'a>(before: &Before<'_, 'a>, entry: &Entry) -> Option<PassState<'a>>
     ensures broken { is_some result ≡ rules.bad_pass before.now entry.now }
-    ensures told { IfSome result (IsPassStateBy before.now entry.now) }
+    ensures reported { IfSome result (IsPassStateBy before.now entry.now) }
 {
     match entry {
         Entry::Defrag { pool, .. } => Some(PassState::Defrag(before.defrag_of_pool(*pool)?)),
@@ -52,7 +52,7 @@ fn state_by<'a>(before: &Before<'_, 'a>, entry: &Entry) -> Option<PassState<'a>>
 /// That no pass of a defragmentation is open.
 fn no_pass_of<'a>(before: &Before<'_, 'a>, defrag: u32) -> Option<PassState<'a>>
     ensures broken { is_some result ≡ not (rules.in_pass before.now defrag) }
-    ensures told { IfSome result (IsNoPass before.now defrag) }
+    ensures reported { IfSome result (IsNoPass before.now defrag) }
 {
     match before.pass_of_defrag(defrag) {
         Some(_) => None,

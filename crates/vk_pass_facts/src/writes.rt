@@ -19,7 +19,7 @@ use vk_order::{Action, Point};
 /// PASS_WRITE: the first resource that a point writes while a pass of its pool is open.
 pub fn pass_write_of<'a>(before: &Before<'_, 'a>, point: &Point<'a>) -> Option<MovingResource<'a>>
     ensures broken { is_some result ≡ rules.breaks_pass_write before.now (point_of point.now) }
-    ensures told { IfSome result (IsPassWrite before.now point.now.queue (action_of point.now.action)) }
+    ensures reported { IfSome result (IsPassWrite before.now point.now.queue (action_of point.now.action)) }
 {
     match point.action {
         Action::Host(entry) => moving(before, written_by_host(entry)),
@@ -35,7 +35,7 @@ fn moved_by_command<'a>(
 ) -> Option<MovingResource<'a>>
     ensures broken { is_some result ≡ acts_write before.now queue (rules.moves_now before.now) (command_acts command.now) }
     ensures written { IfSome result (λ m. IsTrue (acts_write before.now queue (λ r. r == m.resource) (command_acts command.now))) }
-    ensures told { IfSome result (IsMoving before.now) }
+    ensures reported { IfSome result (IsMoving before.now) }
 {
     match command {
         Cmd::Barrier { elements } => moved_by_some(before, queue, elements.as_slice()),
@@ -50,7 +50,7 @@ fn moved_by_some<'a>(
 ) -> Option<MovingResource<'a>>
     ensures broken { is_some result ≡ list_any (λ e. list_any (λ b. rules.moves_now before.now (resource_at b)) (transition_bytes before.now queue e)) elements.now }
     ensures written { IfSome result (λ m. IsTrue (list_any (λ e. list_any (λ b. resource_at b == m.resource) (transition_bytes before.now queue e)) elements.now)) }
-    ensures told { IfSome result (IsMoving before.now) }
+    ensures reported { IfSome result (IsMoving before.now) }
 {
     for element in elements {
         if let Some(found) = moving(before, written_by_element(before, queue, element)) {
@@ -64,7 +64,7 @@ fn moved_by_some<'a>(
 fn moving<'a>(before: &Before<'_, 'a>, resource: Option<u32>) -> Option<MovingResource<'a>>
     ensures found { is_some result ≡ holds resource (rules.moves_now before.now) }
     ensures same { IfSome result (λ m. IsTrue (holds resource (λ r. r == m.resource))) }
-    ensures told { IfSome result (IsMoving before.now) }
+    ensures reported { IfSome result (IsMoving before.now) }
 {
     before.moving(resource?)
 }

@@ -15,10 +15,10 @@ use Rattle.vk_repairs.specs.Inner.Offers.{IsMeasured, Helps}
 use Rattle.vk_repairs.proofs.Starts.{length_past}
 
 module _ (r : Refused) (measured : IsMeasured r) (changed : List Entry) (place : At) (j : Judged) (size : ℕ) (is_size : size ≡ all_points changed)
-    (told : j.next ≡ first_fault changed) (start : past_of j.sound.items ≡ sound_start (order changed)) where
+    (answered : j.next ≡ first_fault changed) (start : past_of j.sound.items ≡ sound_start (order changed)) where
   pub helps : r.sound + size < length j.sound.items + r.size → IsAmong (past_of j.sound.items) place → Helps r.trace.now changed place j.next
   helps later among = record {
-    next = told;
+    next = answered;
     later =
         let long : length (sound_start (order changed)) ≡ length j.sound.items = ap length (sym start) ∙ length_past j.sound.items in
         let was = measured.sound in

@@ -131,7 +131,7 @@ module _ (t : List Entry) (ps : List Given) (laid : past_of ps ≡ order t) wher
 
   pub fault_of_points : (f : Option (At × Rule)) → f ≡ first_fault t → f ≡ fault (past_of ps)
   unfolding first_fault
-  fault_of_points f told = told ∙ ap fault (sym laid)
+  fault_of_points f answered = answered ∙ ap fault (sym laid)
 
   pub length_start : (start : List Given) → past_of start ≡ sound_start (past_of ps) → length start ≡ length (sound_start (order t))
   length_start start is = sym (length_past start) ∙ ap length (is ∙ ap sound_start laid)

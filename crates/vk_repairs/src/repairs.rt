@@ -70,11 +70,11 @@ pub fn repair(
         sound: start.sound.len(),
         size,
     };
-    told(alloc, &refused, start.sound.as_slice(), rule)
+    answered(alloc, &refused, start.sound.as_slice(), rule)
 }
 
-/// The repair that is told: the one that is chosen, without what can go.
-fn told(
+/// The repair that is answered: the one that is chosen, without what can go.
+fn answered(
     alloc: Global,
     refused: &Refused<'_>,
     earlier: &[Point<'_>],

@@ -16,7 +16,7 @@ use Rattle.vk_backing.specs.Allotted.{Allotted, Fulfils}
 use Rattle.vk_resources.specs.declared.applied.Applied.{Applied}
 use Rattle.vk_resources.specs.declared.applied.Applied.TheVariants as applied
 use Rattle.vk_resources.specs.Held.{Held}
-use Rattle.vk_resources.specs.Allocating.{allotted, IsAllocated, Rooms, Allots}
+use Rattle.vk_resources.specs.Allocating.{allotted, IsAllocated, NoRoomIsExact, Allots}
 use Rattle.vk_resources.specs.Fits.{FitsEntry}
 use Rattle.vk_resources.specs.Inner.Steps.{MemoryMade, ResourceMade, Ends, PoolMade, PoolDropped}
 use Rattle.vk_resources.proofs.Applying.{IsMaker}
@@ -24,21 +24,21 @@ use Rattle.vk_resources.proofs.Resting.{IsRest}
 
 -- ---- room for what an entry asks for
 
-pub memory_rooms : (old new : Held) (y : Entry) (i : ℕ) (info : MemoryInfo) → y ≡ entry.Memory i info → (a : Applied) → MemoryMade a old new i info.memory_type info.size → Rooms a old y
-memory_rooms old new y i info is a made = subst (λ (x : Entry). Rooms a old x) (sym is) (go a made)
+pub memory_rooms : (old new : Held) (y : Entry) (i : ℕ) (info : MemoryInfo) → y ≡ entry.Memory i info → (a : Applied) → MemoryMade a old new i info.memory_type info.size → NoRoomIsExact a old y
+memory_rooms old new y i info is a made = subst (λ (x : Entry). NoRoomIsExact a old x) (sym is) (go a made)
   where
-    go : (a : Applied) → MemoryMade a old new i info.memory_type info.size → Rooms a old (entry.Memory i info)
+    go : (a : Applied) → MemoryMade a old new i info.memory_type info.size → NoRoomIsExact a old (entry.Memory i info)
     go applied.Done made = λ d al none. (made.0.allots d al).0 none
     go (applied.Bytes bytes) made = absurd made
     go applied.NoRoom made = λ d al. made.2 d al
 
 module _ (old new : Held) (x : Entry) (i : ℕ) (r : Resource) (size : ℕ) (shape : Option ImageInfo) (maker : IsMaker x i r size shape) where
-  pub resource_rooms : (t : ℕ) → r.place ≡ place.Dedicated t → (a : Applied) → ResourceMade a old new i t size r.size shape → Rooms a old x
+  pub resource_rooms : (t : ℕ) → r.place ≡ place.Dedicated t → (a : Applied) → ResourceMade a old new i t size r.size shape → NoRoomIsExact a old x
   resource_rooms t own applied.Done made = λ d al none. (made.0.allots d al).0 (subst (λ (q : Place). FindsNoneAt d q r) own (maker.found d none))
   resource_rooms t own (applied.Bytes bytes) made = absurd made
   resource_rooms t own applied.NoRoom made = λ d al. maker.finds d (subst (λ (q : Place). FindsNoneAt d q r) (sym own) (made.2 d al))
 
-  pub bound_rooms : (k o : ℕ) → r.place ≡ place.Memory k o → Rooms applied.Done old x
+  pub bound_rooms : (k o : ℕ) → r.place ≡ place.Memory k o → NoRoomIsExact applied.Done old x
   bound_rooms k o at = λ d al none. subst (λ (q : Place). FindsNoneAt d q r) at (maker.found d none)
 
 -- ---- as each entry asks
@@ -86,13 +86,13 @@ pool_allots old new y p info is made = subst (λ (x : Entry). Allots applied.Don
 pub drop_allots : (old new : Held) (y : Entry) (p : ℕ) → y ≡ entry.DropPool p → PoolDropped old new p → Allots applied.Done y old new
 drop_allots old new y p is dropped = subst (λ (x : Entry). Allots applied.Done x old new) (sym is) (λ d al. (_, refl, dropped.allots d al))
 
-pub pool_rooms : (s : Held) (y : Entry) (p : ℕ) (info : PoolInfo) → y ≡ entry.Pool p info → Rooms applied.Done s y
-pool_rooms s y p info is = subst (λ (x : Entry). Rooms applied.Done s x) (sym is) (λ d al none. none)
+pub pool_rooms : (s : Held) (y : Entry) (p : ℕ) (info : PoolInfo) → y ≡ entry.Pool p info → NoRoomIsExact applied.Done s y
+pool_rooms s y p info is = subst (λ (x : Entry). NoRoomIsExact applied.Done s x) (sym is) (λ d al none. none)
 
-pub drop_rooms : (s : Held) (y : Entry) (p : ℕ) → y ≡ entry.DropPool p → Rooms applied.Done s y
-drop_rooms s y p is = subst (λ (x : Entry). Rooms applied.Done s x) (sym is) (λ d al none. none)
+pub drop_rooms : (s : Held) (y : Entry) (p : ℕ) → y ≡ entry.DropPool p → NoRoomIsExact applied.Done s y
+drop_rooms s y p is = subst (λ (x : Entry). NoRoomIsExact applied.Done s x) (sym is) (λ d al none. none)
 
-pub rest_rooms : (s : Held) (y : Entry) → IsRest y → (past : Past) → FitsEntry past y → Rooms applied.Done s y
+pub rest_rooms : (s : Held) (y : Entry) → IsRest y → (past : Past) → FitsEntry past y → NoRoomIsExact applied.Done s y
 rest_rooms s (entry.Memory i info) rest past fit = absurd rest
 rest_rooms s (entry.Buffer i info) rest past fit = absurd rest
 rest_rooms s (entry.Image i info) rest past fit = absurd rest

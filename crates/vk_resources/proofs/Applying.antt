@@ -29,7 +29,7 @@ use Rattle.vk_model.specs.World.Bytes.{Byte, in_buffer, in_image, resource_at}
 use Rattle.vk_resources.specs.declared.applied.Applied.{Applied}
 use Rattle.vk_resources.specs.declared.applied.Applied.TheVariants as applied
 use Rattle.vk_resources.specs.declared.resources.Placed.{Placed}
-use Rattle.vk_resources.specs.Held.{Held, IsApart, Stands, placed, placed_in, shape_in, shape_of, object_of, host_at, holding_in, IsThere, HasCell}
+use Rattle.vk_resources.specs.Held.{Held, IsApart, IsConsistent, placed, placed_in, shape_in, shape_of, object_of, host_at, holding_in, IsThere, HasCell}
 use Rattle.vk_model.specs.declared.resource.Spot.{Spot}
 use Rattle.vk_backing.specs.Backed as backing
 use Rattle.vk_backing.specs.Backed.{Backed, number_in, pool_of, allocation_of, info_by, LiesIn, IsBacked, IsWhole}
@@ -272,16 +272,16 @@ module _ (old new : Held) (x : Entry) (i : ℕ) (r : Resource) (size : ℕ) (sha
     none,
   )
 
-  pub resource_done : (t : ℕ) → r.place ≡ place.Dedicated t → Stands old → (a : Applied) → ResourceMade a old new i t size r.size shape → (e : ℕ) (past : Past) → MatchesLive past old → IsUnused past i → DoneBy a e x past old new
-  resource_done t own stands a made e past m unused = go a made
+  pub resource_done : (t : ℕ) → r.place ≡ place.Dedicated t → IsConsistent old → (a : Applied) → ResourceMade a old new i t size r.size shape → (e : ℕ) (past : Past) → MatchesLive past old → IsUnused past i → DoneBy a e x past old new
+  resource_done t own consistent a made e past m unused = go a made
     where
       go : (a : Applied) → ResourceMade a old new i t size r.size shape → DoneBy a e x past old new
       go applied.Done made =
           let makes = made.0 in
           let p : Placed = record { size = size; object = length old.memory.objects; offset = 0 } in
-          let g = resource_grows past e p stands.0 made.1 refl (rw own (ap is_some makes.here)) makes.others
+          let g = resource_grows past e p consistent.0 made.1 refl (rw own (ap is_some makes.here)) makes.others
           (rw own (makes.here, refl)) (made_kept old new i t r.size makes) (type makes) (type_kept old new i t r.size makes) (made_pools old new i t r.size makes past x m unused) unused in (
-            resource_goes past e g m stands.0 (made_kept old new i t r.size makes) made.3 (new_unheld p made.1 made.3 none),
+            resource_goes past e g m consistent.0 (made_kept old new i t r.size makes) made.3 (new_unheld p made.1 made.3 none),
             maker.reads,
           )
         where
@@ -294,22 +294,22 @@ module _ (old new : Held) (x : Entry) (i : ℕ) (r : Resource) (size : ℕ) (sha
           -- no resource lies in an object that is new
           none : (k : ℕ) → k < size → IsSome (held_at old.cache (length old.memory.objects) (0 + k)) → ⊥
           none k lt held =
-              let w = stands.1.only (length old.memory.objects) (0 + k) held in
-              let low = live_below old.memory w.place.object (inside_of old.memory old.backed old.resources stands.0 w.id w.place w.here).live in
+              let w = consistent.1.only (length old.memory.objects) (0 + k) held in
+              let low = live_below old.memory w.place.object (inside_of old.memory old.backed old.resources consistent.0 w.id w.place w.here).live in
               let at = w.object in
               omega (arith, low, at)
       go (applied.Bytes bytes) made = absurd made
       go applied.NoRoom made = (made.0, maker.untouched)
 
-  pub bound_done : (k o : ℕ) → r.place ≡ place.Memory k o → Stands old → BindReady old k o size → Binds old new i k o size shape → (e : ℕ) (past : Past) → MatchesLive past old → IsUnused past i → FitsPlace past r (place.Memory k o) → DoneBy applied.Done e x past old new
-  bound_done k o at stands ready binds e past m unused fits =
+  pub bound_done : (k o : ℕ) → r.place ≡ place.Memory k o → IsConsistent old → BindReady old k o size → Binds old new i k o size shape → (e : ℕ) (past : Past) → MatchesLive past old → IsUnused past i → FitsPlace past r (place.Memory k o) → DoneBy applied.Done e x past old new
+  bound_done k o at consistent ready binds e past m unused fits =
       let none = not_live past i unused in
       let has_none : object_of old i ≡ None = unowned (live past) old i m (ap (λ (o : Option Entry). holds o has_memory) none) in
       let alone : is_some (object_of new i) ≡ is_own r.place = rw at (ap is_some (objects i ∙ has_none)) in
       let lives : IsTrue (holds (live (host e x ∷ past) k) is_memory) = rw (live_new past e x i maker.makes maker.ends unused k, other_entry fits.0 none) fits.0 in
       let kept : (number : ℕ) → IsLive old.memory number → region_of new.memory number ≡ region_of old.memory number = λ number lives. ap (λ (n : MemoryState). region_of n number) binds.0 in
-      let g = resource_grows past e p stands.0 puts refl alone (λ j other. objects j) (subst (λ (q : Place). LiesAt (live (host e x ∷ past)) new i q p) (sym at) (lives, objects k ∙ ready.has, refl)) kept (type has_none) (λ number lives. ap (λ (n : MemoryState). type_of n number) binds.0) (bound_pools past m unused) unused in
-      (resource_goes past e g m stands.0 kept binds.3 (new_unheld p puts binds.3 bare), maker.reads)
+      let g = resource_grows past e p consistent.0 puts refl alone (λ j other. objects j) (subst (λ (q : Place). LiesAt (live (host e x ∷ past)) new i q p) (sym at) (lives, objects k ∙ ready.has, refl)) kept (type has_none) (λ number lives. ap (λ (n : MemoryState). type_of n number) binds.0) (bound_pools past m unused) unused in
+      (resource_goes past e g m consistent.0 kept binds.3 (new_unheld p puts binds.3 bare), maker.reads)
     where
       p : Placed
       p = record { size = size; object = ready.number; offset = o }
@@ -336,10 +336,10 @@ module _ (old new : Held) (x : Entry) (i : ℕ) (r : Resource) (size : ℕ) (sha
       -- what is held there would be of a resource that shares an atom with this one
       bare : (j : ℕ) → j < size → IsSome (held_at old.cache ready.number (o + j)) → ⊥
       bare j lt held =
-          let w = stands.1.only ready.number (o + j) held in
-          let inside = inside_of old.memory old.backed old.resources stands.0 w.id w.place w.here in
+          let w = consistent.1.only ready.number (o + j) held in
+          let inside = inside_of old.memory old.backed old.resources consistent.0 w.id w.place w.here in
           let cached : type_of old.memory ready.number ≡ 2 = eqb-true (type_of old.memory ready.number) 2 (subst (λ (n : ℕ). (type_of old.memory n == 2) ≡ true) w.object w.cached) in
-          clear_atoms w.place (record { size = size; object = ready.number; offset = o }) j (stands.1.aligned w.id w.place w.here w.cached) (ready.aligned cached) inside.some
+          clear_atoms w.place (record { size = size; object = ready.number; offset = o }) j (consistent.1.aligned w.id w.place w.here w.cached) (ready.aligned cached) inside.some
           (turned o w.place.offset size w.place.size (ready.apart w.id w.place w.here w.object)) lt w.atom
 
       other_entry : IsTrue (holds (live past k) is_memory) → live past i ≡ None → (k == i) ≡ false

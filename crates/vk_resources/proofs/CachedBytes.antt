@@ -18,7 +18,7 @@ use Rattle.vk_transfer.specs.Ran.{AreApart}
 use Rattle.vk_backing.specs.Backed.{Backed}
 use Rattle.vk_backing.specs.Steps.{Grows}
 use Rattle.vk_resources.specs.declared.resources.Placed.{Placed}
-use Rattle.vk_resources.specs.Held.{Held, IsApart, IsInside, IsCaching, IsCachedByte, IsInAtoms, Stands, is_cached_in, placed, placed_in, shape_of, flat, flat_in, host_at, byte_at, IsThere, HasCell}
+use Rattle.vk_resources.specs.Held.{Held, IsApart, IsInside, IsCaching, IsCachedByte, IsInAtoms, IsConsistent, is_cached_in, placed, placed_in, shape_of, flat, flat_in, host_at, byte_at, IsThere, HasCell}
 use Rattle.vk_resources.specs.Inner.Steps.{MayReach, MayReachTo, cached_at, changed_of, length_to}
 use Rattle.vk_resources.proofs.Placing.{inside_of, grown_object}
 use Rattle.vk_resources.proofs.Lying.{byte_lies, buffer_lies, where_lies, where_is, where_image, lies_within, byte_stays}
@@ -105,7 +105,7 @@ caching_put memory old new cache id p absent here others begins c = record { ali
         other : w.id ≡ id → ⊥
         other is = let both : Some w.place ≡ None = sym w.here ∙ ap (λ (i : ℕ). placed_in old i) is ∙ absent in cc
 
-module _ (s : Held) (stands : Stands s) (b : ℕ) (p : Placed) (here : placed s b ≡ Some p) (cached : is_cached_in s.memory p ≡ true) (memory : MemoryState) (cache : Holdings)
+module _ (s : Held) (consistent : IsConsistent s) (b : ℕ) (p : Placed) (here : placed s b ≡ Some p) (cached : is_cached_in s.memory p ≡ true) (memory : MemoryState) (cache : Holdings)
     (types : (q : ℕ) → type_of memory q ≡ type_of s.memory q) (elsewhere : (q : ℕ) → (q ≡ p.object → ⊥) → region_of memory q ≡ region_of s.memory q)
     (f : ℕ → Cell → Cell) (done : Changes f p.object s.cache cache (region_of s.memory p.object) (region_of memory p.object)) (outside : (k : ℕ) (cell : Cell) → (IsInAtoms p k → ⊥) → f k cell ≡ cell)
   where
@@ -113,7 +113,7 @@ module _ (s : Held) (stands : Stands s) (b : ℕ) (p : Placed) (here : placed s 
     changed = record s { memory = memory; cache = cache }
 
     inside : IsInside s.memory p
-    inside = inside_of s.memory s.backed s.resources stands.0 b p here
+    inside = inside_of s.memory s.backed s.resources consistent.0 b p here
 
     -- what is held outside of its atoms stays
     held_outside : (k : ℕ) → (IsInAtoms p k → ⊥) → held_at cache p.object k ≡ held_at s.cache p.object k
@@ -126,7 +126,7 @@ module _ (s : Held) (stands : Stands s) (b : ℕ) (p : Placed) (here : placed s 
     changed_caching = record { aligned = typed.aligned; only = λ number k held. only number k held (eqb number p.object) refl }
       where
         typed : IsCaching memory s.resources s.cache
-        typed = caching_typed s.memory memory s.resources s.cache (λ c q at. types q.object) stands.1
+        typed = caching_typed s.memory memory s.resources s.cache (λ c q at. types q.object) consistent.1
 
         only : (number k : ℕ) → IsSome (held_at cache number k) → (t : Bool) → eqb number p.object ≡ t → IsCachedByte memory s.resources number k
         only number k held false e = typed.only number k (subst (λ (h : Option caches.Held). IsSome h) (done.others number k (eqb-false number p.object e)) held)
@@ -144,7 +144,7 @@ module _ (s : Held) (stands : Stands s) (b : ℕ) (p : Placed) (here : placed s 
       clear same in_it =
           let also : is_cached_in s.memory q ≡ true = ap (λ (o : ℕ). type_of s.memory o == 2) same ∙ cached in
           let some = inside.some in
-          clear_atoms p q k (stands.1.aligned b p here cached) (stands.1.aligned c q at also) some (stands.0.apart b c p q other here at (sym same)) lt in_it
+          clear_atoms p q k (consistent.1.aligned b p here cached) (consistent.1.aligned c q at also) some (consistent.0.apart b c p q other here at (sym same)) lt in_it
 
       -- what is held of its byte, and what memory has there
       pub byte_kept : (cell : Cell) → IsByte s.cache q.object (region_of s.memory q.object) (q.offset + k) cell → IsByte cache q.object (region_of memory q.object) (q.offset + k) cell
@@ -183,7 +183,7 @@ module _ (s : Held) (stands : Stands s) (b : ℕ) (p : Placed) (here : placed s 
         let other : b ≡ i → ⊥ = λ (same : b ≡ i). clash_shape m.0 (sym flat_is ∙ ap (λ (j : ℕ). shape_of s j) same ∙ m.1) in
         record {
           held = has.held;
-          region = has.region ∙ sym (byte_stays s changed (in_image i l a x y z) refl refl (λ v. value_kept i v.place v.here other v.at (lies_within s stands.2 (in_image i l a x y z) v)));
+          region = has.region ∙ sym (byte_stays s changed (in_image i l a x y z) refl refl (λ v. value_kept i v.place v.here other v.at (lies_within s consistent.2 (in_image i l a x y z) v)));
         }
       where
         clash_shape : (m : ImageInfo) → ◌≡◌ {A = Option ImageInfo} None (Some m) → ⊥

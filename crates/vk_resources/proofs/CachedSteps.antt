@@ -19,7 +19,7 @@ use Rattle.vk_backing.specs.Allotted as backing
 use Rattle.vk_backing.specs.Backed.{Backed, IsBacked, IsWhole}
 use Rattle.vk_backing.specs.Steps.{Releases, ReleaseAllots}
 use Rattle.vk_backing.proofs.Spots.{are_spots}
-use Rattle.vk_resources.specs.Held.{Held, IsInside, IsInAtoms, IsCachedByte, Stands, is_cached_in, placed, placed_in, shape_in, shape_of, host_at, holding_in}
+use Rattle.vk_resources.specs.Held.{Held, IsInside, IsInAtoms, IsCachedByte, IsConsistent, is_cached_in, placed, placed_in, shape_in, shape_of, host_at, holding_in}
 use Rattle.vk_resources.specs.Inner.Steps.{KeepsPlaces, HasChanged, Forgets, LiesElsewhere, IsEmpty, Ends, cached_at, length_to}
 use Rattle.vk_resources.proofs.Placing.{inside_of, apart_rewritten, still_long, released_object, released_dead, apart_ended}
 use Rattle.vk_model.specs.declared.resource.ImageInfo.{ImageInfo}
@@ -32,14 +32,14 @@ pub keeps_same : (s : Held) (cache : Holdings) → KeepsPlaces s (record s { cac
 keeps_same s cache = record { resources = refl; shapes = refl; same = refl; lengths = λ n. refl; types = λ n. refl }
 
 -- the same is held of every byte
-pub same_stands : (s : Held) (cache : Holdings) → Stands s → HoldsSame s.cache cache → Stands (record s { cache = cache })
-same_stands s cache stands same = (
-  stands.0,
+pub same_consistent : (s : Held) (cache : Holdings) → IsConsistent s → HoldsSame s.cache cache → IsConsistent (record s { cache = cache })
+same_consistent s cache consistent same = (
+  consistent.0,
   record {
-    aligned = stands.1.aligned;
-    only = λ number k held. stands.1.only number k (subst (λ (h : Option caches.Held). IsSome h) (same number k) held);
+    aligned = consistent.1.aligned;
+    only = λ number k held. consistent.1.only number k (subst (λ (h : Option caches.Held). IsSome h) (same number k) held);
   },
-  stands.2,
+  consistent.2,
 )
 
 -- a change of a buffer that isn't in cached memory
@@ -49,7 +49,7 @@ uncached_kept s b test f none =
 
 -- ---- a change of the host's cache alone
 
-module _ (s : Held) (stands : Stands s) (b : ℕ) (p : Placed) (is : cached_at s b ≡ Some p) where
+module _ (s : Held) (consistent : IsConsistent s) (b : ℕ) (p : Placed) (is : cached_at s b ≡ Some p) where
   here : placed s b ≡ Some p
   here = (cached_here s b p is).0
 
@@ -57,17 +57,17 @@ module _ (s : Held) (stands : Stands s) (b : ℕ) (p : Placed) (is : cached_at s
   cached = (cached_here s b p is).1
 
   inside : IsInside s.memory p
-  inside = inside_of s.memory s.backed s.resources stands.0 b p here
+  inside = inside_of s.memory s.backed s.resources consistent.0 b p here
 
   aligned : p.offset % 64 ≡ 0
-  aligned = stands.1.aligned b p here cached
+  aligned = consistent.1.aligned b p here cached
 
   -- what is so of the cache with memory as it is
   in_cache : shape_of s b ≡ None → (f g : ℕ → Cell → Cell) (cache : Holdings) → Changes f p.object s.cache cache (region_of s.memory p.object) (region_of s.memory p.object) → ((k : ℕ) (cell : Cell) → (IsInAtoms p k → ⊥) → f k cell ≡ cell)
-      → ((k : ℕ) (cell : Cell) → k < p.size → f (p.offset + k) cell ≡ g k cell) → Stands (record s { cache = cache }) × HasChanged s (record s { cache = cache }) b g
+      → ((k : ℕ) (cell : Cell) → k < p.size → f (p.offset + k) cell ≡ g k cell) → IsConsistent (record s { cache = cache }) × HasChanged s (record s { cache = cache }) b g
   in_cache flat_is f g cache done outside same = (
-    (stands.0, changed_caching s stands b p here cached s.memory cache (λ q. refl) (λ q other. refl) f done outside, stands.2),
-    (keeps_same s cache, changed_cells s stands b p here cached s.memory cache (λ q. refl) (λ q other. refl) f done outside flat_is g same),
+    (consistent.0, changed_caching s consistent b p here cached s.memory cache (λ q. refl) (λ q other. refl) f done outside, consistent.2),
+    (keeps_same s cache, changed_cells s consistent b p here cached s.memory cache (λ q. refl) (λ q other. refl) f done outside flat_is g same),
   )
 
   -- memory with other bytes in its memory object
@@ -88,20 +88,20 @@ module _ (s : Held) (stands : Stands s) (b : ℕ) (p : Placed) (is : cached_at s
     }
 
     -- where the same is held
-    pub rewritten_stands : HoldsSame s.cache cache → Stands rewritten
-    rewritten_stands same = (
-      apart_rewritten s.memory p.object after inside.live long s.backed s.resources stands.0,
-      caching_typed s.memory rewritten.memory s.resources cache (λ c q at. types q.object) (same_stands s cache stands same).1,
-      stands.2,
+    pub rewritten_consistent : HoldsSame s.cache cache → IsConsistent rewritten
+    rewritten_consistent same = (
+      apart_rewritten s.memory p.object after inside.live long s.backed s.resources consistent.0,
+      caching_typed s.memory rewritten.memory s.resources cache (λ c q at. types q.object) (same_consistent s cache consistent same).1,
+      consistent.2,
     )
 
   -- and with other bytes in its memory object
   in_both : shape_of s b ≡ None → (f g : ℕ → Cell → Cell) (cache : Holdings) (after : List ℕ) → Changes f p.object s.cache cache (region_of s.memory p.object) after → ((k : ℕ) (cell : Cell) → (IsInAtoms p k → ⊥) → f k cell ≡ cell)
       → ((k : ℕ) (cell : Cell) → k < p.size → f (p.offset + k) cell ≡ g k cell)
-      → Stands (record s { memory = with_region s.memory p.object after; cache = cache }) × HasChanged s (record s { memory = with_region s.memory p.object after; cache = cache }) b g
+      → IsConsistent (record s { memory = with_region s.memory p.object after; cache = cache }) × HasChanged s (record s { memory = with_region s.memory p.object after; cache = cache }) b g
   in_both flat_is f g cache after done outside same = (
-    (apart_rewritten s.memory p.object after inside.live done.size s.backed s.resources stands.0, changed_caching s stands b p here cached memory cache (types cache after done.size) elsewhere f now outside, stands.2),
-    (rewritten_keeps cache after done.size, changed_cells s stands b p here cached memory cache (types cache after done.size) elsewhere f now outside flat_is g same),
+    (apart_rewritten s.memory p.object after inside.live done.size s.backed s.resources consistent.0, changed_caching s consistent b p here cached memory cache (types cache after done.size) elsewhere f now outside, consistent.2),
+    (rewritten_keeps cache after done.size, changed_cells s consistent b p here cached memory cache (types cache after done.size) elsewhere f now outside flat_is g same),
   )
     where
       memory : MemoryState
@@ -116,14 +116,14 @@ module _ (s : Held) (stands : Stands s) (b : ℕ) (p : Placed) (is : cached_at s
   -- ---- the calls
 
   pub wrote : shape_of s b ≡ None → (o : ℕ) (bytes region : List ℕ) (cache : Holdings) → o + length bytes ≤ p.size → region ≡ region_of s.memory p.object → Changes (λ k. after_host_write true (given (p.offset + o) bytes k)) p.object s.cache cache region region
-      → Stands (record s { cache = cache }) × HasChanged s (record s { cache = cache }) b (λ k. after_host_write true (given o bytes k))
+      → IsConsistent (record s { cache = cache }) × HasChanged s (record s { cache = cache }) b (λ k. after_host_write true (given o bytes k))
   wrote flat_is o bytes region cache fits at done =
       in_cache flat_is (λ k. after_host_write true (given (p.offset + o) bytes k)) (λ k. after_host_write true (given o bytes k)) cache
       (subst (λ (r : List ℕ). Changes (λ k. after_host_write true (given (p.offset + o) bytes k)) p.object s.cache cache r r) at done) (write_outside p o bytes fits) (write_inside p o bytes fits)
 
   module _ (flat_is : shape_of s b ≡ None) (o : ℕ) (n : Length) (fits : FitsIn p.size o n) where
     pub flushed : (region after : List ℕ) (cache : Holdings) → region ≡ region_of s.memory p.object → Changes (only_where (is_reached (length region) (p.offset + o) (length_to p.size o n)) (written_back 0)) p.object s.cache cache region after
-        → Stands (record s { memory = with_region s.memory p.object after; cache = cache })
+        → IsConsistent (record s { memory = with_region s.memory p.object after; cache = cache })
         × HasChanged s (record s { memory = with_region s.memory p.object after; cache = cache }) b (only_where (λ k. is_some (cached_at s b) && in_atoms o n k) (written_back 0))
     flushed region after cache at done =
         in_both flat_is (only_where (is_reached (length (region_of s.memory p.object)) (p.offset + o) (length_to p.size o n)) (written_back 0)) (only_where (λ k. is_some (cached_at s b) && in_atoms o n k) (written_back 0)) cache after
@@ -132,13 +132,13 @@ module _ (s : Held) (stands : Stands s) (b : ℕ) (p : Placed) (is : cached_at s
         (λ k cell lt. tested (written_back 0) _ _ cell (flush_inside s b p here cached aligned o n fits (length (region_of s.memory p.object)) inside.room k lt))
 
     pub invalidated : (cache : Holdings) → ((region : List ℕ) → Changes (only_where (in_atoms (p.offset + o) (length_of.Bytes (length_to p.size o n))) (forgotten 0)) p.object s.cache cache region region)
-        → Stands (record s { cache = cache }) × HasChanged s (record s { cache = cache }) b (only_where (λ k. is_some (cached_at s b) && in_atoms o n k) (forgotten 0))
+        → IsConsistent (record s { cache = cache }) × HasChanged s (record s { cache = cache }) b (only_where (λ k. is_some (cached_at s b) && in_atoms o n k) (forgotten 0))
     invalidated cache done =
         in_cache flat_is (only_where (in_atoms (p.offset + o) (length_of.Bytes (length_to p.size o n))) (forgotten 0)) (only_where (λ k. is_some (cached_at s b) && in_atoms o n k) (forgotten 0)) cache (done (region_of s.memory p.object))
         (λ k cell out. tested (forgotten 0) _ false cell (range_outside s b p here cached aligned o n fits k out)) (λ k cell lt. tested (forgotten 0) _ _ cell (range_inside s b p here cached aligned o n fits k lt))
 
   pub turned_atom : shape_of s b ≡ None → (j : ℕ) (region after : List ℕ) (cache : Holdings) → j ≤ (p.size - 1) / 64 → region ≡ region_of s.memory p.object → Changes (only_where (is_in_atom (length region) (p.offset / 64 + j)) turned_over) p.object s.cache cache region after
-      → Stands (record s { memory = with_region s.memory p.object after; cache = cache })
+      → IsConsistent (record s { memory = with_region s.memory p.object after; cache = cache })
       × HasChanged s (record s { memory = with_region s.memory p.object after; cache = cache }) b (only_where (λ k. is_some (cached_at s b) && k / 64 == j) turned_over)
   turned_atom flat_is j region after cache below at done =
       in_both flat_is (only_where (is_in_atom (length (region_of s.memory p.object)) (p.offset / 64 + j)) turned_over) (only_where (λ k. is_some (cached_at s b) && k / 64 == j) turned_over) cache after
@@ -154,8 +154,8 @@ module _ (s : Held) (stands : Stands s) (b : ℕ) (p : Placed) (is : cached_at s
         let start : p.offset + 0 ≡ p.offset = omega arith in
         tested (forgotten 0) _ false cell (subst (λ (o : ℕ). in_atoms o (length_of.Bytes p.size) k ≡ false) start (reached_outside p aligned 0 p.size (omega arith) k out))
 
-    pub forgot_stands : Stands (record s { cache = cache })
-    forgot_stands = (stands.0, changed_caching s stands b p here cached s.memory cache (λ q. refl) (λ q other. refl) _ (done (region_of s.memory p.object)) out_of_it, stands.2)
+    pub forgot_consistent : IsConsistent (record s { cache = cache })
+    forgot_consistent = (consistent.0, changed_caching s consistent b p here cached s.memory cache (λ q. refl) (λ q other. refl) _ (done (region_of s.memory p.object)) out_of_it, consistent.2)
 
     gone_at : (k : ℕ) → IsInAtoms p k → held_at cache p.object k ≡ None
     gone_at k at =
@@ -178,7 +178,7 @@ module _ (s : Held) (stands : Stands s) (b : ℕ) (p : Placed) (is : cached_at s
         at_place : (c k : ℕ) (q : Placed) → placed s c ≡ Some q → (b ≡ c → ⊥) → (t : Bool) → nat_lt k q.size ≡ t → (if t then held_at cache q.object (q.offset + k) else None) ≡ (if t then held_at s.cache q.object (q.offset + k) else None)
         at_place c k q at ne false e = refl
         at_place c k q at ne true e =
-            held_kept s stands b p here cached s.memory cache (λ q. refl) (λ q other. refl) _ (done (region_of s.memory p.object)) out_of_it c q at ne k (ltb-true k q.size e)
+            held_kept s consistent b p here cached s.memory cache (λ q. refl) (λ q other. refl) _ (done (region_of s.memory p.object)) out_of_it c q at ne k (ltb-true k q.size e)
 
         others : (c k : ℕ) → (c ≡ b → ⊥) → (o : Option Placed) → placed s c ≡ o → host_at (record s { cache = cache }) (in_buffer c k) ≡ host_at s (in_buffer c k)
         others c k ne None at = rw at refl
@@ -214,7 +214,7 @@ lives_elsewhere s id backed' memory' freed releases is b p other (inl own) = is.
 lives_elsewhere s id backed' memory' freed releases is b p other (inr shared) =
     let l = shared.1 in subst (λ (n : ℕ). IsLive memory' n) l.object ((are_spots backed' memory' is).live b shared.0 l.spot (releases.keeps b shared.0 l.spot other l.lies))
 
-module _ (s : Held) (id : ℕ) (cache : Holdings) (stands : Stands s) (mid : Stands (record s { cache = cache })) (forgets : Forgets s (record s { cache = cache }) id) (gone : Option ℕ)
+module _ (s : Held) (id : ℕ) (cache : Holdings) (consistent : IsConsistent s) (mid : IsConsistent (record s { cache = cache })) (forgets : Forgets s (record s { cache = cache }) id) (gone : Option ℕ)
     (stays : (b : ℕ) (p : Placed) → (b ≡ id → ⊥) → placed s b ≡ Some p → IsLive (released s.memory gone) p.object) where
   -- nothing is held any more of a memory object that goes
   pub object_bare : (number k : ℕ) → gone ≡ Some number → held_at cache number k ≡ None
@@ -250,17 +250,17 @@ module _ (s : Held) (id : ℕ) (cache : Holdings) (stands : Stands s) (mid : Sta
       type_kept : (b : ℕ) (p : Placed) → (b ≡ id → ⊥) → placed s b ≡ Some p → type_of (released s.memory gone) p.object ≡ type_of s.memory p.object
       type_kept b p ne at = ap type_in (released_object s.memory gone p.object (stays b p ne at))
 
-      pub ended_stands : Stands ended
-      ended_stands = (
-        apart_ended s.memory gone s.backed backed' s.resources resources' id no_buffer places stays is stands.0,
+      pub ended_consistent : IsConsistent ended
+      ended_consistent = (
+        apart_ended s.memory gone s.backed backed' s.resources resources' id no_buffer places stays is consistent.0,
         record {
           aligned = λ b p at cached.
               let ne = other b p at in
               let was = sym (places b ne) ∙ at in
-              stands.1.aligned b p was (ap (λ (t : ℕ). t == 2) (sym (type_kept b p ne was)) ∙ cached);
+              consistent.1.aligned b p was (ap (λ (t : ℕ). t == 2) (sym (type_kept b p ne was)) ∙ cached);
           only = λ number k held. only number k held (mid.1.only number k (subst (λ (h : Option caches.Held). IsSome h) (same number k) held));
         },
-        record { each = λ i m p is at. let ne = other i p at in stands.2.each i m p (sym (shapes i ne) ∙ is) (sym (places i ne) ∙ at) },
+        record { each = λ i m p is at. let ne = other i p at in consistent.2.each i m p (sym (shapes i ne) ∙ is) (sym (places i ne) ∙ at) },
       )
         where
           only : (number k : ℕ) → IsSome (held_at final number k) → IsCachedByte s.memory s.resources number k → IsCachedByte ended.memory resources' number k
@@ -300,7 +300,7 @@ module _ (s : Held) (id : ℕ) (cache : Holdings) (stands : Stands s) (mid : Sta
               in_final (Some p) = ap (λ (h : Option caches.Held). if nat_lt k p.size then h else None) (same p.object (p.offset + k))
 
 -- the same of what is held when it is forgotten
-module _ (s n : Held) (id : ℕ) (memory : n.memory ≡ s.memory) (backed : n.backed ≡ s.backed) (resources : n.resources ≡ s.resources) (shapes_same : n.shapes ≡ s.shapes) (stands : Stands s) (mid : Stands n) (forgets : Forgets s n id) (empty : IsEmpty s id)
+module _ (s n : Held) (id : ℕ) (memory : n.memory ≡ s.memory) (backed : n.backed ≡ s.backed) (resources : n.resources ≡ s.resources) (shapes_same : n.shapes ≡ s.shapes) (consistent : IsConsistent s) (mid : IsConsistent n) (forgets : Forgets s n id) (empty : IsEmpty s id)
     (backed' : Backed) (memory' : MemoryState) (gone : Option ℕ) (releases : Releases n.backed backed' n.memory memory' id gone) (is : IsBacked backed' memory') where
   as_cache : n ≡ record s { cache = n.cache }
   as_cache =
@@ -308,8 +308,8 @@ module _ (s n : Held) (id : ℕ) (memory : n.memory ≡ s.memory) (backed : n.ba
       ∙ ap (λ (b : List (ℕ × Placed)). record n { memory = s.memory; backed = s.backed; resources = b }) resources
       ∙ ap (λ (b : List (ℕ × ImageInfo)). record n { memory = s.memory; backed = s.backed; resources = s.resources; shapes = b }) shapes_same
 
-  stands_mid : Stands (record s { cache = n.cache })
-  stands_mid = subst Stands as_cache mid
+  consistent_mid : IsConsistent (record s { cache = n.cache })
+  consistent_mid = subst IsConsistent as_cache mid
 
   forgets_mid : Forgets s (record s { cache = n.cache }) id
   forgets_mid = subst (λ (h : Held). Forgets s h id) as_cache forgets
@@ -321,7 +321,7 @@ module _ (s n : Held) (id : ℕ) (memory : n.memory ≡ s.memory) (backed : n.ba
   stays b p other at = subst (λ (m : MemoryState). IsLive m p.object) releases_old.memory (lives_elsewhere s id backed' memory' gone releases_old is b p other (empty b p other at))
 
   pub bare_object : (number : ℕ) → gone ≡ Some number → (k : ℕ) → held_at n.cache number k ≡ None
-  bare_object number has k = object_bare s id n.cache stands stands_mid forgets_mid gone stays number k has
+  bare_object number has k = object_bare s id n.cache consistent consistent_mid forgets_mid gone stays number k has
 
   module _ (resources' : List (ℕ × Placed)) (shapes' : List (ℕ × ImageInfo)) (final : Holdings) (same : HoldsSame n.cache final)
       (no_buffer : placed_in resources' id ≡ None) (places : (b : ℕ) → (b ≡ id → ⊥) → placed_in resources' b ≡ placed_in n.resources b)
@@ -331,7 +331,7 @@ module _ (s n : Held) (id : ℕ) (memory : n.memory ≡ s.memory) (backed : n.ba
       abbrev final_of : MemoryState → Held
       final_of m = record { memory = m; backed = backed'; resources = resources'; shapes = shapes'; cache = final }
 
-      pub all_ended : Stands (final_of memory') × Ends s (final_of memory') id
+      pub all_ended : IsConsistent (final_of memory') × Ends s (final_of memory') id
       all_ended =
           let places' : (b : ℕ) → (b ≡ id → ⊥) → placed_in resources' b ≡ placed_in s.resources b = λ b ne. places b ne ∙ ap (λ (l : List (ℕ × Placed)). placed_in l b) resources in
           let shapes'' : (b : ℕ) → (b ≡ id → ⊥) → shape_in shapes' b ≡ shape_in s.shapes b = λ b ne. shapes b ne ∙ ap (λ (l : List (ℕ × ImageInfo)). shape_in l b) shapes_same in
@@ -340,7 +340,7 @@ module _ (s n : Held) (id : ℕ) (memory : n.memory ≡ s.memory) (backed : n.ba
           let whole' = subst (λ (b : Backed). IsWhole b → IsWhole backed') backed whole in
           let allots' = subst (λ (m : MemoryState). ReleaseAllots (allotted s) (backing.allotted backed' m) id) left (subst (λ (b : Backed). ReleaseAllots (backing.allotted b s.memory) (backing.allotted backed' memory') id) backed (subst (λ (m : MemoryState). ReleaseAllots (backing.allotted n.backed m) (backing.allotted backed' memory') id) memory allots)) in
           let releases' = subst (λ (m : MemoryState). Releases s.backed backed' s.memory m id gone) left releases_old in
-          subst (λ (m : MemoryState). Stands (final_of m) × Ends s (final_of m) id) (sym left) (
-            ended_stands s id n.cache stands stands_mid forgets_mid gone stays backed' resources' shapes' final same is' no_buffer places' no_shape shapes'',
-            ends s id n.cache stands stands_mid forgets_mid gone stays backed' resources' shapes' final same is' no_buffer places' no_shape shapes'' releases' whole' allots',
+          subst (λ (m : MemoryState). IsConsistent (final_of m) × Ends s (final_of m) id) (sym left) (
+            ended_consistent s id n.cache consistent consistent_mid forgets_mid gone stays backed' resources' shapes' final same is' no_buffer places' no_shape shapes'',
+            ends s id n.cache consistent consistent_mid forgets_mid gone stays backed' resources' shapes' final same is' no_buffer places' no_shape shapes'' releases' whole' allots',
           )

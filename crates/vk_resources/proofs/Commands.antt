@@ -23,7 +23,7 @@ use Rattle.vk_transfer.proofs.FillPieces.{piece_writes}
 use Rattle.vk_transfer.proofs.UpdatePieces.{update_piece_writes}
 use Rattle.vk_transfer.proofs.Ranges.{writes}
 use Rattle.vk_resources.specs.declared.resources.Placed.{Placed}
-use Rattle.vk_resources.specs.Held.{Held, Stands, IsInside, placed, shape_of, flat, byte_at}
+use Rattle.vk_resources.specs.Held.{Held, IsConsistent, IsInside, placed, shape_of, flat, byte_at}
 use Rattle.vk_resources.specs.Inner.Steps.{HasRun}
 use Rattle.vk_resources.proofs.Placing.{inside_of}
 use Rattle.vk_resources.proofs.CachedBytes.{byte_of as held_byte}
@@ -34,10 +34,10 @@ use Rattle.vk_resources.proofs.Splicing.{spliced_apart, spliced_caching, spliced
 abbrev pub with_bytes : Held → ℕ → List ℕ → Held
 with_bytes s object bytes = record s { memory = with_region s.memory object bytes }
 
-module _ (s : Held) (stands : Stands s) where
-  -- bytes that were written have run, and what is held stands as before
+module _ (s : Held) (consistent : IsConsistent s) where
+  -- bytes that were written have run, and what is held is consistent as before
   abbrev pub Runs : ℕ → List ℕ → List ByteWrite → Type 0
-  Runs object new ms = Stands (with_bytes s object new) × HasRun s (with_bytes s object new) ms
+  Runs object new ms = IsConsistent (with_bytes s object new) × HasRun s (with_bytes s object new) ms
 
   module _ (b : ℕ) (p : Placed) (flat_at : flat s b ≡ Some p) where
     flat_is : shape_of s b ≡ None
@@ -49,7 +49,7 @@ module _ (s : Held) (stands : Stands s) where
     put_at : (at : ℕ) (bytes : List ℕ) (offset lo : ℕ) (source : ℕ → Source) → at + length bytes ≤ p.size → at ≡ offset + lo → ((j : ℕ) → lo ≤ j → j < lo + length bytes → slice_index bytes (j - lo) ≡ given (source j) (byte_at s))
         → Runs p.object (splice (region_of s.memory p.object) (p.offset + at) bytes) (writes b offset source lo (length bytes))
     put_at at bytes offset lo source fits place values =
-        ((spliced_apart s stands.0 stands.2 b p here flat_is at bytes fits, spliced_caching s stands.0 stands.2 b p here flat_is at bytes fits stands.1, stands.2), (spliced_keeps s stands.0 stands.2 b p here flat_is at bytes fits, spliced_ran s stands.0 stands.2 b p here flat_is at bytes fits offset lo source place values, refl))
+        ((spliced_apart s consistent.0 consistent.2 b p here flat_is at bytes fits, spliced_caching s consistent.0 consistent.2 b p here flat_is at bytes fits consistent.1, consistent.2), (spliced_keeps s consistent.0 consistent.2 b p here flat_is at bytes fits, spliced_ran s consistent.0 consistent.2 b p here flat_is at bytes fits offset lo source place values, refl))
 
     put : (offset lo n : ℕ) (source : ℕ → Source) (bytes new : List ℕ) → length bytes ≡ n → offset + lo + n ≤ p.size → new ≡ splice (region_of s.memory p.object) (p.offset + offset + lo) bytes
         → ((j : ℕ) → lo ≤ j → j < lo + n → slice_index bytes (j - lo) ≡ given (source j) (byte_at s)) → Runs p.object new (writes b offset source lo n)
@@ -104,7 +104,7 @@ module _ (s : Held) (stands : Stands s) where
         bytes = piece (region_of s.memory q.object) (q.offset + g.source_offset) g.size
 
         inside : IsInside s.memory q
-        inside = inside_of s.memory s.backed s.resources stands.0 a q there
+        inside = inside_of s.memory s.backed s.resources consistent.0 a q there
 
         place : p.offset + g.destination_offset ≡ p.offset + g.destination_offset + 0
         place = omega arith
@@ -120,11 +120,11 @@ module _ (s : Held) (stands : Stands s) where
 
     pub copy_piece_ran : (a : ℕ) (q : Placed) (g : BufferCopy) (ms : List ByteWrite) (memory : MemoryState) → flat s a ≡ Some q → (g.source_offset + g.size ≤ q.size) × (g.destination_offset + g.size ≤ p.size) → ms ≡ copy_writes a b g
         → memory ≡ with_region s.memory p.object (splice (region_of s.memory p.object) (p.offset + g.destination_offset) (piece (region_of s.memory q.object) (q.offset + g.source_offset) g.size))
-        → Stands (record s { memory = memory }) × HasRun s (record s { memory = memory }) ms
+        → IsConsistent (record s { memory = memory }) × HasRun s (record s { memory = memory }) ms
     copy_piece_ran a q g ms memory there fits same is =
         let new = splice (region_of s.memory p.object) (p.offset + g.destination_offset) (piece (region_of s.memory q.object) (q.offset + g.source_offset) g.size) in
         let ran : Runs p.object new ms = subst (λ (xs : List ByteWrite). Runs p.object new xs) (sym same) (copy_ran a q g new there fits.0 fits.1 refl) in
-        subst (λ (m : MemoryState). Stands (record s { memory = m }) × HasRun s (record s { memory = m }) ms) (sym is) ran
+        subst (λ (m : MemoryState). IsConsistent (record s { memory = m }) × HasRun s (record s { memory = m }) ms) (sym is) ran
 
 -- a piece of a region lies in both buffers
 pub piece_fits : (p q : Placed) (gs : List BufferCopy) (g : BufferCopy) (k : ℕ) (part : BufferCopy) → All (λ g. FitsBuffers g p.size q.size) gs → Contains gs g → 4096 * k < g.size

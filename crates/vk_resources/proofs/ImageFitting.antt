@@ -31,7 +31,7 @@ use Rattle.vk_image_transfer.specs.declared.regions.ImageCopyRow.{ImageCopyRow}
 use Rattle.vk_resources.specs.declared.resources.Placed.{Placed}
 use Rattle.vk_resources.specs.declared.work.Regions.{Regions}
 use Rattle.vk_resources.specs.declared.work.Regions.TheVariants.{OfBuffers, OfBoth, OfImages}
-use Rattle.vk_resources.specs.Held.{Held, Stands, shape_of, flat, byte_at}
+use Rattle.vk_resources.specs.Held.{Held, IsConsistent, shape_of, flat, byte_at}
 use Rattle.vk_resources.specs.Matches.{MatchesLive}
 use Rattle.vk_resources.specs.Fits.{FitsClear, FitsRegions, FitsImages, FitsCommand, NamesLive, KeepsApart}
 use Rattle.vk_resources.specs.Done.{PieceReady}
@@ -115,11 +115,11 @@ module _ (past : Past) (s : Held) (m : MatchesLive past s) (i : ℕ) (l : Layout
   clear_fits n is fits = subst (λ (o : Option ImageInfo). FitsClear o rs) (made_image past s m i n is) fits
 
   -- the ranges of a clear are few
-  pub clear_few : Stands s → (n : ImageInfo) → shape_of s i ≡ Some n → FitsCommand past (cmd.Clear i l color rs) → All (RangeFits n) rs × (length rs < 549755813888)
-  clear_few stands n is fits =
+  pub clear_few : IsConsistent s → (n : ImageInfo) → shape_of s i ≡ Some n → FitsCommand past (cmd.Clear i l color rs) → All (RangeFits n) rs × (length rs < 549755813888)
+  clear_few consistent n is fits =
       let f = clear_fits n is fits in
       let p = image_of_live (live past) s i n m (sym (m.shapes i) ∙ is) in
-      let good = (stands.2.each i n p.0 is p.1).shaped in
+      let good = (consistent.2.each i n p.0 is p.1).shaped in
       let product : n.levels * n.layers ≤ 14 * 256 = mul-le n.levels n.layers 14 256 (few_of n good) (counts n good).layers.few in
       let most = f.1 in
       (f.0, omega (arith, most, product))

@@ -17,7 +17,7 @@ use Rattle.vk_image_transfer.specs.declared.regions.RegionRow.{RegionRow}
 use Rattle.vk_image_transfer.specs.Pieces.{RangeFits, piece_in, all_cleared, all_copied_in, all_copied_out, copy_in_pieces, copy_out_pieces, copy_image_pieces}
 use Rattle.vk_image_transfer.specs.Rows.{AreWritten, BoxFits, RegionFits, image_row}
 use Rattle.vk_resources.specs.declared.resources.Placed.{Placed}
-use Rattle.vk_resources.specs.Held.{Held, Stands, placed, shape_of, flat}
+use Rattle.vk_resources.specs.Held.{Held, IsConsistent, placed, shape_of, flat}
 use Rattle.vk_resources.specs.Inner.Images.{IsPicture, HasPicture, ClearReady, RegionsReady, ImageRowReady}
 use Rattle.vk_resources.specs.Inner.Rows.{IsRow, SharesMemory, LiesInTwo, IsCopiedIn, IsCopiedOut, IsImageRow, SharesMemoryOfImages, ImagesInTwo, IsImageCopied}
 use Rattle.vk_resources.specs.Inner.Steps.{HasRun, IsPlaced}
@@ -26,10 +26,10 @@ use Rattle.vk_resources.proofs.WrittenRows.{picture_room, region_reaches, buffer
 
 -- what was written is what the pieces of any shape say that the image has
 abbrev pub RunsOf : (s : Held) (i : ℕ) → ℕ → List ℕ → (ImageInfo → List ByteWrite) → Type 0
-RunsOf s i object new writes = Stands (with_bytes s object new) × ((n : ImageInfo) → shape_of s i ≡ Some n → HasRun s (with_bytes s object new) (writes n))
+RunsOf s i object new writes = IsConsistent (with_bytes s object new) × ((n : ImageInfo) → shape_of s i ≡ Some n → HasRun s (with_bytes s object new) (writes n))
 
-module _ (s : Held) (stands : Stands s) where
-  runs_of : (i : ℕ) (m : ImageInfo) → shape_of s i ≡ Some m → (object : ℕ) (new : List ℕ) (ms : List ByteWrite) (writes : ImageInfo → List ByteWrite) → writes m ≡ ms → Runs s stands object new ms → RunsOf s i object new writes
+module _ (s : Held) (consistent : IsConsistent s) where
+  runs_of : (i : ℕ) (m : ImageInfo) → shape_of s i ≡ Some m → (object : ℕ) (new : List ℕ) (ms : List ByteWrite) (writes : ImageInfo → List ByteWrite) → writes m ≡ ms → Runs s consistent object new ms → RunsOf s i object new writes
   runs_of i m shaped object new ms writes same ran = (
     ran.0,
     λ n is. subst (λ (xs : List ByteWrite). HasRun s (with_bytes s object new) xs) (sym (ap writes (one_shape s i n m is shaped) ∙ same)) ran.1,
@@ -49,10 +49,10 @@ module _ (s : Held) (stands : Stands s) where
       let picture = picture_of i ready.to m p shaped here in
       let fits : RangeFits m c.range = subst (λ (n : ImageInfo). RangeFits n c.range) picture.0 (All-contains (RangeFits ready.to.image) rs c.range ready.ranges among) in
       runs_of i m shaped p.object new (piece_in (level_pieces i c.color m c.range c.level) k) (λ n. piece_in (all_cleared i color n rs) number) found
-      (clear_runs s stands apart within i m p picture.1 c.color c.range c.level k (level_fits m c.range c.level fits high) lt new written)
+      (clear_runs s consistent apart within i m p picture.1 c.color c.range c.level k (level_fits m c.range c.level fits high) lt new written)
 
   pub room_step : (i : ℕ) (m : ImageInfo) (p : Placed) → shape_of s i ≡ Some m → placed s i ≡ Some p → p.offset + image_size m m.tiling ≤ length (region_of s.memory p.object)
-  room_step i m p shaped here = picture_room s stands i m p (record { shaped = shaped; here = here })
+  room_step i m p shaped here = picture_room s consistent i m p (record { shaped = shaped; here = here })
 
   -- ---- a copy between a buffer and an image
 
@@ -69,14 +69,14 @@ module _ (s : Held) (stands : Stands s) where
     one_row = record { region = fits.0; piece = row; columns = columns }
 
     reaches : RegionFits found.region (texel m.format) (length (region_of s.memory q.object) - q.offset)
-    reaches = region_reaches s stands buffer.0 q buffer.1 found.region (texel m.format) fits.1
+    reaches = region_reaches s consistent buffer.0 q buffer.1 found.region (texel m.format) fits.1
 
     shares : (object : ℕ) → q.object ≡ object → p.object ≡ object → SharesMemory found.region found.number m q.offset p.offset (region_of s.memory object)
     shares object first second = record {
       row = one_row;
       buffer = subst (λ (o : ℕ). RegionFits found.region (texel m.format) (length (region_of s.memory o) - q.offset)) first reaches;
-      image = subst (λ (o : ℕ). p.offset + image_size m m.tiling ≤ length (region_of s.memory o)) second (picture_room s stands i m p is);
-      apart = record { bytes = q.size; fits = fits.1; apart = buffer_apart s stands buffer.0 q buffer.1 i m p is (first ∙ sym second) };
+      image = subst (λ (o : ℕ). p.offset + image_size m m.tiling ≤ length (region_of s.memory o)) second (picture_room s consistent i m p is);
+      apart = record { bytes = q.size; fits = fits.1; apart = buffer_apart s consistent buffer.0 q buffer.1 i m p is (first ∙ sym second) };
     }
 
     pub in_within : q.object ≡ p.object → SharesMemory found.region found.number m q.offset p.offset (region_of s.memory p.object)
@@ -86,32 +86,32 @@ module _ (s : Held) (stands : Stands s) where
     out_within same = shares q.object refl same
 
     pub both_between : LiesInTwo found.region found.number m q.offset p.offset (region_of s.memory q.object) (region_of s.memory p.object)
-    both_between = record { row = one_row; buffer = reaches; image = picture_room s stands i m p is }
+    both_between = record { row = one_row; buffer = reaches; image = picture_room s consistent i m p is }
 
     module _ (after : MemoryState) (apart : TexelsApart) (within : TexelsInside) where
       abbrev later : Held
       later = record s { memory = after }
 
       pub in_step : IsCopied (IsCopiedIn found.region found.number m q.offset p.offset) s.memory after q.object p.object → ((b i : ℕ) (m : ImageInfo) → piece_in (all_copied_in b i m gs) number ≡ piece_in (copy_in_pieces b i m found.region) found.number)
-          → Stands later × ((b : ℕ) (n : ImageInfo) → flat s b ≡ Some q → shape_of s i ≡ Some n → HasRun s later (piece_in (all_copied_in b i n gs) number))
+          → IsConsistent later × ((b : ℕ) (n : ImageInfo) → flat s b ≡ Some q → shape_of s i ≡ Some n → HasRun s later (piece_in (all_copied_in b i n gs) number))
       in_step copied same = (
-        subst (λ (mem : MemoryState). Stands (record s { memory = mem })) (sym copied.memory) (in_runs s stands apart within buffer.0 i q buffer.1 m p is found.region found.number fits.0 row columns fits.1 copied.bytes copied.holds).0,
+        subst (λ (mem : MemoryState). IsConsistent (record s { memory = mem })) (sym copied.memory) (in_runs s consistent apart within buffer.0 i q buffer.1 m p is found.region found.number fits.0 row columns fits.1 copied.bytes copied.holds).0,
         λ b n at shaped'.
             let is_it : piece_in (all_copied_in b i n gs) number ≡ piece_in (copy_in_pieces b i m found.region) found.number = ap (λ (x : ImageInfo). piece_in (all_copied_in b i x gs) number) (one_shape s i n m shaped' shaped) ∙ same b i m in
             subst (λ (mem : MemoryState). HasRun s (record s { memory = mem }) (piece_in (all_copied_in b i n gs) number)) (sym copied.memory)
             (subst (λ (ms : List ByteWrite). HasRun s (with_bytes s p.object copied.bytes) ms) (sym is_it)
-            (in_runs s stands apart within b i q at m p is found.region found.number fits.0 row columns fits.1 copied.bytes copied.holds).1),
+            (in_runs s consistent apart within b i q at m p is found.region found.number fits.0 row columns fits.1 copied.bytes copied.holds).1),
       )
 
       pub out_step : IsCopied (IsCopiedOut found.region found.number m p.offset q.offset) s.memory after p.object q.object → ((i b : ℕ) (m : ImageInfo) → piece_in (all_copied_out i b m gs) number ≡ piece_in (copy_out_pieces i b m found.region) found.number)
-          → Stands later × ((b : ℕ) (n : ImageInfo) → flat s b ≡ Some q → shape_of s i ≡ Some n → HasRun s later (piece_in (all_copied_out i b n gs) number))
+          → IsConsistent later × ((b : ℕ) (n : ImageInfo) → flat s b ≡ Some q → shape_of s i ≡ Some n → HasRun s later (piece_in (all_copied_out i b n gs) number))
       out_step copied same = (
-        subst (λ (mem : MemoryState). Stands (record s { memory = mem })) (sym copied.memory) (out_runs s stands apart within buffer.0 i q buffer.1 m p is found.region found.number fits.0 row columns fits.1 copied.bytes copied.holds).0,
+        subst (λ (mem : MemoryState). IsConsistent (record s { memory = mem })) (sym copied.memory) (out_runs s consistent apart within buffer.0 i q buffer.1 m p is found.region found.number fits.0 row columns fits.1 copied.bytes copied.holds).0,
         λ b n at shaped'.
             let is_it : piece_in (all_copied_out i b n gs) number ≡ piece_in (copy_out_pieces i b m found.region) found.number = ap (λ (x : ImageInfo). piece_in (all_copied_out i b x gs) number) (one_shape s i n m shaped' shaped) ∙ same i b m in
             subst (λ (mem : MemoryState). HasRun s (record s { memory = mem }) (piece_in (all_copied_out i b n gs) number)) (sym copied.memory)
             (subst (λ (ms : List ByteWrite). HasRun s (with_bytes s q.object copied.bytes) ms) (sym is_it)
-            (out_runs s stands apart within b i q at m p is found.region found.number fits.0 row columns fits.1 copied.bytes copied.holds).1),
+            (out_runs s consistent apart within b i q at m p is found.region found.number fits.0 row columns fits.1 copied.bytes copied.holds).1),
       )
 
   -- ---- a copy between images
@@ -138,23 +138,23 @@ module _ (s : Held) (stands : Stands s) where
     pub across_within : (a ≡ b → ⊥) → p.object ≡ q.object → SharesMemoryOfImages g k m n p.offset q.offset (region_of s.memory q.object)
     across_within two same = record {
       row = one_image_row;
-      source = subst (λ (o : ℕ). p.offset + image_size m m.tiling ≤ length (region_of s.memory o)) same (picture_room s stands a m p from.1);
-      destination = picture_room s stands b n q to.1;
-      apart = pictures_apart s stands a b m n p q from.1 to.1 two same;
+      source = subst (λ (o : ℕ). p.offset + image_size m m.tiling ≤ length (region_of s.memory o)) same (picture_room s consistent a m p from.1);
+      destination = picture_room s consistent b n q to.1;
+      apart = pictures_apart s consistent a b m n p q from.1 to.1 two same;
     }
 
     pub across_between : ImagesInTwo g k m n p.offset q.offset (region_of s.memory p.object) (region_of s.memory q.object)
-    across_between = record { row = one_image_row; source = picture_room s stands a m p from.1; destination = picture_room s stands b n q to.1 }
+    across_between = record { row = one_image_row; source = picture_room s consistent a m p from.1; destination = picture_room s consistent b n q to.1 }
 
     -- its row has been written
-    image_ran : TexelsApart → TexelsInside → (new : List ℕ) → IsImageCopied g k m n p.offset q.offset (region_of s.memory p.object) (region_of s.memory q.object) new → Runs s stands q.object new (piece_in (copy_image_pieces a b n g) k)
-    image_ran apart within new written = image_runs s stands apart within a b m n p q from.1 to.1 g k source_fits destination_fits texels ready.row ready.columns new written
+    image_ran : TexelsApart → TexelsInside → (new : List ℕ) → IsImageCopied g k m n p.offset q.offset (region_of s.memory p.object) (region_of s.memory q.object) new → Runs s consistent q.object new (piece_in (copy_image_pieces a b n g) k)
+    image_ran apart within new written = image_runs s consistent apart within a b m n p q from.1 to.1 g k source_fits destination_fits texels ready.row ready.columns new written
 
     pub image_step : TexelsApart → TexelsInside → (new : List ℕ) → IsImageCopied g k m n p.offset q.offset (region_of s.memory p.object) (region_of s.memory q.object) new → RunsOf s b q.object new (λ x. piece_in (copy_image_pieces a b x g) k)
     image_step apart within new written = runs_of b n shaped_to q.object new (piece_in (copy_image_pieces a b n g) k) (λ x. piece_in (copy_image_pieces a b x g) k) refl (image_ran apart within new written)
 
     pub across_step : TexelsApart → TexelsInside → (after : MemoryState) → IsCopied (IsImageCopied g k m n p.offset q.offset) s.memory after p.object q.object
-        → Stands (record s { memory = after }) × ((x : ImageInfo) → shape_of s b ≡ Some x → HasRun s (record s { memory = after }) (piece_in (copy_image_pieces a b x g) k))
+        → IsConsistent (record s { memory = after }) × ((x : ImageInfo) → shape_of s b ≡ Some x → HasRun s (record s { memory = after }) (piece_in (copy_image_pieces a b x g) k))
     across_step apart within after copied =
         let ran = image_step apart within copied.bytes copied.holds in
-        subst (λ (mem : MemoryState). Stands (record s { memory = mem }) × ((x : ImageInfo) → shape_of s b ≡ Some x → HasRun s (record s { memory = mem }) (piece_in (copy_image_pieces a b x g) k))) (sym copied.memory) ran
+        subst (λ (mem : MemoryState). IsConsistent (record s { memory = mem }) × ((x : ImageInfo) → shape_of s b ≡ Some x → HasRun s (record s { memory = mem }) (piece_in (copy_image_pieces a b x g) k))) (sym copied.memory) ran

@@ -25,7 +25,7 @@ use Rattle.vk_backing.specs.Backed.{allocation_of, allocation_by, info_by, numbe
 use Rattle.vk_backing.specs.Steps.{IsUnused}
 use Rattle.vk_resources.specs.declared.applied.Applied.TheVariants as applied
 use Rattle.vk_resources.specs.declared.resources.Placed.{Placed}
-use Rattle.vk_resources.specs.Held.{Held, Stands, placed, placed_in, shape_in, shape_of, object_of}
+use Rattle.vk_resources.specs.Held.{Held, IsConsistent, placed, placed_in, shape_in, shape_of, object_of}
 use Rattle.vk_resources.specs.Matches.{Matches, MatchesLive, LiesAt, LiesOf, in_pool, has_memory, size_made, type_made}
 use Rattle.vk_resources.specs.Fits.{FitsEntry, is_populated}
 use Rattle.vk_resources.specs.Done.{DoneBy}
@@ -83,7 +83,7 @@ numbered s b a by = go (allocation_of s.backed b) refl by
     go None e h = absurd cc
     go (Some n) e h = (n, e, h)
 
-module _ (s : Held) (past : Past) (m : MatchesLive past s) (stands : Stands s) (i : ℕ) (free : is_populated past i ≡ false) where
+module _ (s : Held) (past : Past) (m : MatchesLive past s) (consistent : IsConsistent s) (i : ℕ) (free : is_populated past i ≡ false) where
   -- a live resource lies in another pool
   other_pool : (b : ℕ) (y : Entry) (r : Resource) (q : ℕ) → live past b ≡ Some y → resource_in y ≡ Some r → pool_at r.place ≡ Some q → q ≡ i → ⊥
   other_pool b y r q alive is at same =
@@ -103,7 +103,7 @@ module _ (s : Held) (past : Past) (m : MatchesLive past s) (stands : Stands s) (
       let same : l.2.lies.allocation ≡ a = cc in
       let places : ◌≡◌ {A = Option (ℕ × PoolPlace)} (Some (l.0, l.2.lies.place)) (Some (p, spot)) = ap shared_place (sym l.2.lies.lies) ∙ ap (λ (x : Allocation). shared_place x.home) same ∙ has in
       let pool : l.0 ≡ p = pool_is l.0 p l.2.lies.place spot places in
-      other_pool b y.made y.resource y.pool y.is y.of y.at (stands.0.backed_is.one_pool y.pool i p (l.1 ∙ ap (λ (k : ℕ). Some k) pool) named)
+      other_pool b y.made y.resource y.pool y.is y.of y.at (consistent.0.backed_is.one_pool y.pool i p (l.1 ∙ ap (λ (k : ℕ). Some k) pool) named)
     where
       lies_of : (q : Place) (j : ℕ) → pool_at q ≡ Some j → (b : ℕ) (p : Placed) → LiesAt (live past) s b q p → LiesOf s.backed s.memory b j p
       lies_of (place.Pool k) j e b p lies = let same : k ≡ j = cc in subst (λ (x : ℕ). LiesOf s.backed s.memory b x p) same lies
@@ -193,12 +193,12 @@ module _ (s : Held) (past : Past) (m : MatchesLive past s) (stands : Stands s) (
 
 -- ---- as it is asked for and done
 
-module _ (s : Held) (y : Entry) (i : ℕ) (is : y ≡ entry.DropPool i) (past : Past) (m : MatchesLive past s) (fit : FitsEntry past y) (stands : Stands s) where
+module _ (s : Held) (y : Entry) (i : ℕ) (is : y ≡ entry.DropPool i) (past : Past) (m : MatchesLive past s) (fit : FitsEntry past y) (consistent : IsConsistent s) where
   fits : FitsEntry past (entry.DropPool i)
   fits = subst (λ (x : Entry). FitsEntry past x) is fit
 
   pub drop_unused : IsUnused s.backed i
-  drop_unused = unused s past m stands i fits.1
+  drop_unused = unused s past m consistent i fits.1
 
   pub drop_done : (new : Held) → PoolDropped s new i → (e : ℕ) → DoneBy applied.Done e y past s new
-  drop_done new dropped e = subst (λ (x : Entry). DoneBy applied.Done e x past s new) (sym is) (dropped_done s past m stands i fits.1 new dropped e fits.0)
+  drop_done new dropped e = subst (λ (x : Entry). DoneBy applied.Done e x past s new) (sym is) (dropped_done s past m consistent i fits.1 new dropped e fits.0)

@@ -19,7 +19,7 @@ use Rattle.vk_backing.specs.declared.backing.Own.{Own}
 use Rattle.vk_backing.specs.Backed.{number_in, pool_of, allocation_of, info_by, object_in}
 use Rattle.vk_resources.specs.declared.applied.Applied.TheVariants as applied
 use Rattle.vk_resources.specs.declared.resources.Placed.{Placed}
-use Rattle.vk_resources.specs.Held.{Held, Stands, placed, placed_in, shape_in, shape_of, object_of, HasCell}
+use Rattle.vk_resources.specs.Held.{Held, IsConsistent, placed, placed_in, shape_in, shape_of, object_of, HasCell}
 use Rattle.vk_resources.specs.Matches.{MatchesLive, has_memory, size_made}
 use Rattle.vk_resources.specs.Fits.{IsUnused, FitsEntry}
 use Rattle.vk_resources.specs.Done.{DoneBy}
@@ -38,7 +38,7 @@ same_cells old new memory resources shapes cache c cell has =
 
 -- ---- a pool is made
 
-module _ (old new : Held) (y : Entry) (i : ℕ) (info : PoolInfo) (is : y ≡ entry.Pool i info) (stands : Stands old) (made : PoolMade old new i info) where
+module _ (old new : Held) (y : Entry) (i : ℕ) (info : PoolInfo) (is : y ≡ entry.Pool i info) (consistent : IsConsistent old) (made : PoolMade old new i info) where
   pool_grows : (past : Past) (e : ℕ) → MatchesLive past old → IsUnused past i → Grows (live past) (live (host e (entry.Pool i info) ∷ past)) old new i (entry.Pool i info)
   pool_grows past e m unused =
       let none = not_live past i unused in
@@ -71,7 +71,7 @@ module _ (old new : Held) (y : Entry) (i : ℕ) (info : PoolInfo) (is : y ≡ en
     where
       number_stays : (past : Past) → MatchesLive past old → IsUnused past i → (r n : ℕ) → pool_of old.backed r ≡ Some n → pool_of new.backed r ≡ pool_of old.backed r
       number_stays past m unused r n has = made.makes.others r (λ same.
-          let k = stands.0.backed_is.named r n has in
+          let k = consistent.0.backed_is.named r n has in
           let some : info_by old.backed r ≡ Some k.0.pool.info = ap (λ (o : Option ℕ). option_map (λ (k : Kept). k.pool.info) (option_and_then (pools.pool_at old.backed.pools) o)) has ∙ ap (λ (o : Option Kept). option_map (λ (k : Kept). k.pool.info) o) k.1 in
           let both : None ≡ Some k.0.pool.info = sym (no_info past old i m unused) ∙ ap (λ (j : ℕ). info_by old.backed j) (sym same) ∙ some in cc)
 
@@ -88,8 +88,8 @@ module _ (old new : Held) (y : Entry) (i : ℕ) (info : PoolInfo) (is : y ≡ en
       )
 
 -- it has no number yet
-pub pool_absent : (s : Held) (y : Entry) (i : ℕ) (info : PoolInfo) → y ≡ entry.Pool i info → Stands s → (past : Past) → MatchesLive past s → FitsEntry past y → pool_of s.backed i ≡ None
-pool_absent s y i info is stands past m fit = go (pool_of s.backed i) refl
+pub pool_absent : (s : Held) (y : Entry) (i : ℕ) (info : PoolInfo) → y ≡ entry.Pool i info → IsConsistent s → (past : Past) → MatchesLive past s → FitsEntry past y → pool_of s.backed i ≡ None
+pool_absent s y i info is consistent past m fit = go (pool_of s.backed i) refl
   where
     unused : IsUnused past i
     unused = (subst (λ (x : Entry). FitsEntry past x) is fit).0
@@ -97,6 +97,6 @@ pool_absent s y i info is stands past m fit = go (pool_of s.backed i) refl
     go : (o : Option ℕ) → pool_of s.backed i ≡ o → o ≡ None
     go None e = refl
     go (Some n) e =
-        let k = stands.0.backed_is.named i n e in
+        let k = consistent.0.backed_is.named i n e in
         let some : info_by s.backed i ≡ Some k.0.pool.info = ap (λ (o : Option ℕ). option_map (λ (k : Kept). k.pool.info) (option_and_then (pools.pool_at s.backed.pools) o)) e ∙ ap (λ (o : Option Kept). option_map (λ (k : Kept). k.pool.info) o) k.1 in
         let both : None ≡ Some k.0.pool.info = sym (no_info past s i m unused) ∙ some in cc

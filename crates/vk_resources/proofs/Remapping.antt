@@ -19,8 +19,8 @@ use Rattle.vk_backing.proofs.Remapped as memory
 use Rattle.vk_backing.proofs.Remapped.{remapped_backed, remapped_allotted}
 use Rattle.vk_resources.specs.declared.applied.Applied.TheVariants as applied
 use Rattle.vk_resources.specs.declared.resources.Placed.{Placed}
-use Rattle.vk_resources.specs.Allocating.{allotted, Rooms, Allots}
-use Rattle.vk_resources.specs.Held.{Held, Stands, IsInside, HasCell, placed, placed_in, shape_of, shape_in, object_of}
+use Rattle.vk_resources.specs.Allocating.{allotted, NoRoomIsExact, Allots}
+use Rattle.vk_resources.specs.Held.{Held, IsConsistent, IsInside, HasCell, placed, placed_in, shape_of, shape_in, object_of}
 use Rattle.vk_resources.specs.Matches.{Matches, MatchesLive}
 use Rattle.vk_resources.specs.Done.{DoneBy, Goes, ReadsNothing}
 use Rattle.vk_resources.specs.Inner.Steps.{Remaps}
@@ -46,20 +46,20 @@ live_stays (Some n) v m k live = memory.live_stays m n v k live
 
 -- ---- what is held
 
-module _ (s : Held) (stands : Stands s) (id : ℕ) (change : ℕ → ℕ) (v : Bool) (backed' : Backed) (maps : Maps s.backed backed' id change) (is : (m : MemoryState) → IsBacked s.backed m → IsBacked backed' m) (whole : IsWhole s.backed → IsWhole backed')
+module _ (s : Held) (consistent : IsConsistent s) (id : ℕ) (change : ℕ → ℕ) (v : Bool) (backed' : Backed) (maps : Maps s.backed backed' id change) (is : (m : MemoryState) → IsBacked s.backed m → IsBacked backed' m) (whole : IsWhole s.backed → IsWhole backed')
     (allots : (m : MemoryState) → IsBacked s.backed m → KeepsAllotted (allotting.allotted s.backed m) (allotting.allotted backed' m)) where
   abbrev after : Option ℕ → Held
   after o = record s { backed = backed'; memory = mapped_at o v s.memory }
 
   backed_is : (o : Option ℕ) → IsBacked backed' (mapped_at o v s.memory)
-  backed_is None = is s.memory stands.0.backed_is
-  backed_is (Some n) = remapped_backed s.memory n v backed' (is s.memory stands.0.backed_is)
+  backed_is None = is s.memory consistent.0.backed_is
+  backed_is (Some n) = remapped_backed s.memory n v backed' (is s.memory consistent.0.backed_is)
 
-  pub remapped_stands : (o : Option ℕ) → Stands (after o)
-  remapped_stands o = (
-    record { inside = λ b. inside (placed s b) (stands.0.inside b); apart = stands.0.apart; backed_is = backed_is o },
-    caching_typed s.memory (mapped_at o v s.memory) s.resources s.cache (λ b p here. type_stays o v s.memory p.object) stands.1,
-    stands.2,
+  pub remapped_consistent : (o : Option ℕ) → IsConsistent (after o)
+  remapped_consistent o = (
+    record { inside = λ b. inside (placed s b) (consistent.0.inside b); apart = consistent.0.apart; backed_is = backed_is o },
+    caching_typed s.memory (mapped_at o v s.memory) s.resources s.cache (λ b p here. type_stays o v s.memory p.object) consistent.1,
+    consistent.2,
   )
     where
       inside : (x : Option Placed) → IfSome x (IsInside s.memory) → IfSome x (IsInside (mapped_at o v s.memory))
@@ -79,8 +79,8 @@ module _ (s : Held) (stands : Stands s) (id : ℕ) (change : ℕ → ℕ) (v : B
   }
     where
       allot : (o : Option ℕ) → KeepsAllotted (allotted s) (allotted (after o))
-      allot None = allots s.memory stands.0.backed_is
-      allot (Some n) = λ d are. remapped_allotted s.memory n v backed' d (allots s.memory stands.0.backed_is d are)
+      allot None = allots s.memory consistent.0.backed_is
+      allot (Some n) = λ d are. remapped_allotted s.memory n v backed' d (allots s.memory consistent.0.backed_is d are)
 
 -- ---- what is mapped with it
 
@@ -153,11 +153,11 @@ module _ (old new : Held) (id : ℕ) (change : ℕ → ℕ) (v : Bool) (remaps :
   pub unmap_done : (y : Entry) (b : ℕ) → y ≡ entry.Unmap b → (e : ℕ) (past : Past) → MatchesLive past old → DoneBy applied.Done e y past old new
   unmap_done y b is e past m = subst (λ (x : Entry). DoneBy applied.Done e x past old new) (sym is) (goes (entry.Unmap b) refl refl (λ past c cell. refl) (λ b o n h. absurd cc) past e m, λ b o n h. absurd cc)
 
-  pub map_rooms : (y : Entry) (b : ℕ) → y ≡ entry.Map b → Rooms applied.Done old y
-  map_rooms y b is = subst (λ (x : Entry). Rooms applied.Done old x) (sym is) (λ d al none. none)
+  pub map_rooms : (y : Entry) (b : ℕ) → y ≡ entry.Map b → NoRoomIsExact applied.Done old y
+  map_rooms y b is = subst (λ (x : Entry). NoRoomIsExact applied.Done old x) (sym is) (λ d al none. none)
 
-  pub unmap_rooms : (y : Entry) (b : ℕ) → y ≡ entry.Unmap b → Rooms applied.Done old y
-  unmap_rooms y b is = subst (λ (x : Entry). Rooms applied.Done old x) (sym is) (λ d al none. none)
+  pub unmap_rooms : (y : Entry) (b : ℕ) → y ≡ entry.Unmap b → NoRoomIsExact applied.Done old y
+  unmap_rooms y b is = subst (λ (x : Entry). NoRoomIsExact applied.Done old x) (sym is) (λ d al none. none)
 
   pub map_allots : (y : Entry) (b : ℕ) → y ≡ entry.Map b → Allots applied.Done y old new
   map_allots y b is = subst (λ (x : Entry). Allots applied.Done x old new) (sym is) (λ d al. (d, refl, remaps.allots d al))

@@ -26,8 +26,8 @@ use Rattle.vk_backing.proofs.Spots.{are_spots, spot_object}
 use Rattle.vk_resources.specs.declared.applied.Applied.{Applied}
 use Rattle.vk_resources.specs.declared.applied.Applied.TheVariants as applied
 use Rattle.vk_resources.specs.declared.resources.Placed.{Placed}
-use Rattle.vk_resources.specs.Allocating.{allotted, Rooms, Allots}
-use Rattle.vk_resources.specs.Held.{Held, Stands, placed, placed_in, shape_in, shape_of, object_of}
+use Rattle.vk_resources.specs.Allocating.{allotted, NoRoomIsExact, Allots}
+use Rattle.vk_resources.specs.Held.{Held, IsConsistent, placed, placed_in, shape_in, shape_of, object_of}
 use Rattle.vk_resources.specs.Matches.{MatchesLive, LiesAt, LiesOf, is_own, has_memory, size_made, type_of_place}
 use Rattle.vk_resources.specs.Fits.{IsUnused}
 use Rattle.vk_resources.specs.Done.{DoneBy}
@@ -80,9 +80,9 @@ module _ (old : Held) (new : Backed) (memory : MemoryState) (is : IsBacked new m
 
 -- ---- it may be put there
 
-pub shared_ready : (old n : Held) (id pool size : ℕ) (asked : Asked) (upper : Bool) (shape : Option ImageInfo) (spot : Spot) → FoundOr (Some spot) old n id pool asked upper → 0 < size → size ≤ asked.size → placed old id ≡ None → shape_of old id ≡ None → IsEmpty old id → Stands n
+pub shared_ready : (old n : Held) (id pool size : ℕ) (asked : Asked) (upper : Bool) (shape : Option ImageInfo) (spot : Spot) → FoundOr (Some spot) old n id pool asked upper → 0 < size → size ≤ asked.size → placed old id ≡ None → shape_of old id ≡ None → IsEmpty old id → IsConsistent n
     → ((object offset : ℕ) → ShapeReady shape (record { size = size; object = object; offset = offset })) → PutReady n id (record { size = size; object = spot.memory; offset = spot.offset }) shape
-shared_ready old n id pool size asked upper shape spot found some fits absent unshaped elsewhere stands shaped = record {
+shared_ready old n id pool size asked upper shape spot found some fits absent unshaped elsewhere consistent shaped = record {
   absent = ap (λ (l : List (ℕ × Placed)). placed_in l id) found.3 ∙ absent;
   unshaped = ap (λ (l : List (ℕ × ImageInfo)). shape_in l id) found.4 ∙ unshaped;
   inside = record {
@@ -153,8 +153,8 @@ module _ (old new : Held) (x : Entry) (i : ℕ) (r : Resource) (size : ℕ) (sha
   lies_of alive s p false l = l
   lies_of alive s p true l = l
 
-  pub shared_done : Stands old → (a : Applied) → SharedMade a old new i pool size asked upper shape → size ≤ asked.size → (e : ℕ) (past : Past) → MatchesLive past old → IsUnused past i → DoneBy a e x past old new
-  shared_done stands a made fits e past m unused = go a made
+  pub shared_done : IsConsistent old → (a : Applied) → SharedMade a old new i pool size asked upper shape → size ≤ asked.size → (e : ℕ) (past : Past) → MatchesLive past old → IsUnused past i → DoneBy a e x past old new
+  shared_done consistent a made fits e past m unused = go a made
     where
       go : (a : Applied) → SharedMade a old new i pool size asked upper shape → DoneBy a e x past old new
       go applied.NoRoom made = (made.0, maker.untouched)
@@ -178,29 +178,29 @@ module _ (old new : Held) (x : Entry) (i : ℕ) (r : Resource) (size : ℕ) (sha
             whole = put.whole;
             keeps = λ b q p other l. pool_keeps old new b q p put.backed (numbers q) (λ n s lies. shares.keeps b n s other lies) l;
           } in
-          let g = resource_grows old new x i r size shape maker past e p stands.0 put.puts refl object (λ j other. objects j)
+          let g = resource_grows old new x i r size shape maker past e p consistent.0 put.puts refl object (λ j other. objects j)
           (subst (λ (q : Place). LiesAt (live (host e x ∷ past)) new i q p) (sym at) (lies_of (live (host e x ∷ past)) new p upper of))
           regions (λ number u is has. absurd (no_type upper u (ap type_of_place (sym at) ∙ is))) types pools unused in
-          (resource_goes old new x i r size shape maker past e g m stands.0 regions put.cache (new_unheld old new x i r size shape maker p put.puts put.cache (bare spot put p types)), maker.reads)
+          (resource_goes old new x i r size shape maker past e g m consistent.0 regions put.cache (new_unheld old new x i r size shape maker p put.puts put.cache (bare spot put p types)), maker.reads)
         where
           bare : (spot : Spot) → PutIn old new i pool size asked upper shape spot → (p : Placed) → ((number : ℕ) → IsLive old.memory number → type_of new.memory number ≡ type_of old.memory number) → (k : ℕ) → k < size → IsSome (held_at old.cache spot.memory (spot.offset + k)) → ⊥
           bare spot put p types k lt held =
-              let w = stands.1.only spot.memory (spot.offset + k) held in
-              let inside = inside_of old.memory old.backed old.resources stands.0 w.id w.place w.here in
+              let w = consistent.1.only spot.memory (spot.offset + k) held in
+              let inside = inside_of old.memory old.backed old.resources consistent.0 w.id w.place w.here in
               let absent : placed old i ≡ None = unplaced (live past) old i m (ap (option_and_then size_made) (not_live past i unused)) in
               let ne : w.id ≡ i → ⊥ = λ (same : w.id ≡ i). (let both : Some w.place ≡ None = sym w.here ∙ ap (λ (j : ℕ). placed old j) same ∙ absent in cc) in
               let beside = spot_beside old new.backed new.memory put.backed i pool asked upper spot put.shares size fits w.id w.place ne (all_elsewhere past old i m unused w.id w.place ne w.here) w.object in
               let cached : type_of new.memory spot.memory ≡ 2 = ap (λ (n : ℕ). type_of new.memory n) (sym w.object) ∙ types w.place.object inside.live ∙ eqb-true (type_of old.memory w.place.object) 2 w.cached in
-              clear_atoms w.place (record { size = size; object = spot.memory; offset = spot.offset }) k (stands.1.aligned w.id w.place w.here w.cached)
+              clear_atoms w.place (record { size = size; object = spot.memory; offset = spot.offset }) k (consistent.1.aligned w.id w.place w.here w.cached)
               (spot_aligned old new.backed new.memory put.backed i pool asked upper spot put.shares size fits cached) inside.some (turned spot.offset w.place.offset size w.place.size beside) lt w.atom
 
   finds_in : (d : Allocated) (b : Bool) → r.place ≡ place_in b pool → FindsNoneAt d (place_in b pool) r → FindsNoneAt d r.place r
   finds_in d b e f = subst (λ (q : Place). FindsNoneAt d q r) (sym e) f
 
-  pub shared_rooms : (a : Applied) → SharedMade a old new i pool size asked upper shape → Rooms a old x
+  pub shared_rooms : (a : Applied) → SharedMade a old new i pool size asked upper shape → NoRoomIsExact a old x
   shared_rooms a made = go upper at a made
     where
-      go : (b : Bool) → r.place ≡ place_in b pool → (a : Applied) → SharedMade a old new i pool size asked b shape → Rooms a old x
+      go : (b : Bool) → r.place ≡ place_in b pool → (a : Applied) → SharedMade a old new i pool size asked b shape → NoRoomIsExact a old x
       go false e applied.Done made = λ d al none. (made.1.allots r asks d al).0 (subst (λ (q : Place). FindsNoneAt d q r) e (maker.found d none))
       go true e applied.Done made = λ d al none. (made.1.allots r asks d al).0 (subst (λ (q : Place). FindsNoneAt d q r) e (maker.found d none))
       go b e (applied.Bytes bytes) made = absurd made

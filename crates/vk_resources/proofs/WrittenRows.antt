@@ -24,7 +24,7 @@ use Rattle.vk_image_transfer.proofs.PieceRows.{box_row, level_row, layer_below, 
 use Rattle.vk_image_transfer.proofs.Clears.{clear_held}
 use Rattle.vk_image_transfer.proofs.Copies.{in_held, out_held, copied_ran}
 use Rattle.vk_resources.specs.declared.resources.Placed.{Placed}
-use Rattle.vk_resources.specs.Held.{Held, Stands, IsInside, IsShaped, placed, shape_of, flat, byte_at, lying}
+use Rattle.vk_resources.specs.Held.{Held, IsConsistent, IsInside, IsShaped, placed, shape_of, flat, byte_at, lying}
 use Rattle.vk_resources.specs.Inner.Images.{IsPicture}
 use Rattle.vk_resources.specs.Inner.Rows.{IsCopiedIn, IsCopiedOut, IsImageCopied, HoldsImage, row_in_image, row_in_buffer, row_read, row_written}
 use Rattle.vk_resources.proofs.CachedBytes.{caching_typed}
@@ -33,7 +33,7 @@ use Rattle.vk_resources.proofs.Lying.{changed_apart, changed_keeps, changed_othe
 use Rattle.vk_resources.proofs.Matching.{flat_parts}
 use Rattle.vk_resources.proofs.Placing.{inside_of}
 
-module _ (s : Held) (stands : Stands s) where
+module _ (s : Held) (consistent : IsConsistent s) where
   -- ---- a row that lies in a resource
 
   module _ (d : ℕ) (p : Placed) (here : placed s d ≡ Some p) (new : List ℕ) (w t : ℕ) (place : ℕ → ℕ) (value : ℕ → ℕ → ℕ)
@@ -43,21 +43,21 @@ module _ (s : Held) (stands : Stands s) where
     outside k (inr le) = written.kept k (λ x q lx lq is. omega (arith, le, is, inside x q lx lq))
 
     there : IsInside s.memory p
-    there = inside_of s.memory s.backed s.resources stands.0 d p here
+    there = inside_of s.memory s.backed s.resources consistent.0 d p here
 
-    written_stands : Stands (with_bytes s p.object new)
-    written_stands = (
-      changed_apart s stands.0 stands.2 d p here new written.size outside,
-      caching_typed s.memory (with_region s.memory p.object new) s.resources s.cache (λ i q at. type_of-same s.memory p.object q.object new there.live) stands.1,
-      stands.2,
+    written_consistent : IsConsistent (with_bytes s p.object new)
+    written_consistent = (
+      changed_apart s consistent.0 consistent.2 d p here new written.size outside,
+      caching_typed s.memory (with_region s.memory p.object new) s.resources s.cache (λ i q at. type_of-same s.memory p.object q.object new there.live) consistent.1,
+      consistent.2,
     )
 
     -- byte writes that its resource alone tells have been made
-    pub written_runs : (ms : List ByteWrite) → HaveRun ms (byte_at s) (byte_at (with_bytes s p.object new)) → Runs s stands p.object new ms
-    written_runs ms ran = (written_stands, (changed_keeps s stands.0 stands.2 d p here new written.size outside, ran, refl))
+    pub written_runs : (ms : List ByteWrite) → HaveRun ms (byte_at s) (byte_at (with_bytes s p.object new)) → Runs s consistent p.object new ms
+    written_runs ms ran = (written_consistent, (changed_keeps s consistent.0 consistent.2 d p here new written.size outside, ran, refl))
 
     pub written_beside : (c : Byte) → eqb d (resource_at c) ≡ false → byte_held (lying (with_bytes s p.object new) (resource_at c)) c ≡ byte_held (lying s (resource_at c)) c
-    written_beside c apart = changed_other s stands.0 stands.2 d p here new written.size outside c (eqb-false d (resource_at c) apart)
+    written_beside c apart = changed_other s consistent.0 consistent.2 d p here new written.size outside c (eqb-false d (resource_at c) apart)
 
     pub now_is : region_of (with_bytes s p.object new).memory p.object ≡ new
     now_is = region_of-same s.memory p.object new there.live
@@ -66,10 +66,10 @@ module _ (s : Held) (stands : Stands s) where
 
   module _ (i : ℕ) (m : ImageInfo) (p : Placed) (is : IsPicture s i m p) where
     pub sound : IsShaped m p
-    sound = stands.2.each i m p is.shaped is.here
+    sound = consistent.2.each i m p is.shaped is.here
 
     pub picture_inside : IsInside s.memory p
-    picture_inside = inside_of s.memory s.backed s.resources stands.0 i p is.here
+    picture_inside = inside_of s.memory s.backed s.resources consistent.0 i p is.here
 
     pub picture_room : HoldsImage m p.offset (region_of s.memory p.object)
     picture_room = let room = picture_inside.room in let size = sound.size in omega (arith, room, size)
@@ -92,7 +92,7 @@ module _ (s : Held) (stands : Stands s) where
     buffer_here = (flat_parts (shape_of s b) (placed s b) q at).1
 
     pub buffer_inside : IsInside s.memory q
-    buffer_inside = inside_of s.memory s.backed s.resources stands.0 b q buffer_here
+    buffer_inside = inside_of s.memory s.backed s.resources consistent.0 b q buffer_here
 
     buffer_held : lying s b ≡ Some (buffer_at (region_of s.memory q.object) q.offset q.size)
     buffer_held = rw (buffer_here, no_shape) refl
@@ -106,7 +106,7 @@ module _ (s : Held) (stands : Stands s) where
 
     -- it shares no byte with an image
     pub buffer_apart : (i : ℕ) (m : ImageInfo) (p : Placed) → IsPicture s i m p → q.object ≡ p.object → AreApart q.offset q.size p.offset (image_size m m.tiling)
-    buffer_apart i m p is same = subst (λ (n : ℕ). AreApart q.offset q.size p.offset n) (sound i m p is).size (stands.0.apart b i q p other buffer_here is.here same)
+    buffer_apart i m p is same = subst (λ (n : ℕ). AreApart q.offset q.size p.offset n) (sound i m p is).size (consistent.0.apart b i q p other buffer_here is.here same)
       where
         other : b ≡ i → ⊥
         other e = let both : None ≡ Some m = sym no_shape ∙ ap (shape_of s) e ∙ is.shaped in cc
@@ -114,7 +114,7 @@ module _ (s : Held) (stands : Stands s) where
   -- two images share none
   pub pictures_apart : (a b : ℕ) (m n : ImageInfo) (p q : Placed) → IsPicture s a m p → IsPicture s b n q → (a ≡ b → ⊥) → p.object ≡ q.object → AreApart p.offset (image_size m m.tiling) q.offset (image_size n n.tiling)
   pictures_apart a b m n p q is are other same =
-      subst (λ (k : ℕ). AreApart p.offset k q.offset (image_size n n.tiling)) (sound a m p is).size (subst (λ (k : ℕ). AreApart p.offset p.size q.offset k) (sound b n q are).size (stands.0.apart a b p q other is.here are.here same))
+      subst (λ (k : ℕ). AreApart p.offset k q.offset (image_size n n.tiling)) (sound a m p is).size (subst (λ (k : ℕ). AreApart p.offset p.size q.offset k) (sound b n q are).size (consistent.0.apart a b p q other is.here are.here same))
 
   -- ---- rows that have been run
 
@@ -122,7 +122,7 @@ module _ (s : Held) (stands : Stands s) where
     -- of a clear
     pub clear_runs : (i : ℕ) (m : ImageInfo) (p : Placed) (is : IsPicture s i m p) (color : List ℕ) (r : SubresourceRange) (level k : ℕ) → BoxFits m (level_box m r level) → k < r.layers * level_height m level → (new : List ℕ)
         → AreWritten (region_of s.memory p.object) new (level_width m level) (texel m.format) (image_row m p.offset level (r.first_layer + k / level_height m level) 0 (k % level_height m level)) (λ x q. color_byte m color q)
-        → Runs s stands p.object new (piece_in (level_pieces i color m r level) k)
+        → Runs s consistent p.object new (piece_in (level_pieces i color m r level) k)
     clear_runs i m p is color r level k fits lt new written =
         let row : RowThere m level (r.first_layer + k / level_height m level) 0 (k % level_height m level) (level_width m level) = level_row m r level k fits lt in
         let place : ℕ → ℕ = image_row m p.offset level (r.first_layer + k / level_height m level) 0 (k % level_height m level) in
@@ -143,7 +143,7 @@ module _ (s : Held) (stands : Stands s) where
       row = box_row m (region_box g) k box lt
 
       -- of a copy from a buffer to an image
-      pub in_runs : (new : List ℕ) → IsCopiedIn g k m q.offset p.offset (region_of s.memory q.object) (region_of s.memory p.object) new → Runs s stands p.object new (piece_in (copy_in_pieces b i m g) k)
+      pub in_runs : (new : List ℕ) → IsCopiedIn g k m q.offset p.offset (region_of s.memory q.object) (region_of s.memory p.object) new → Runs s consistent p.object new (piece_in (copy_in_pieces b i m g) k)
       in_runs new written =
           let place : ℕ → ℕ = row_in_image g k m p.offset in
           let value : ℕ → ℕ → ℕ = λ x j. slice_index (region_of s.memory q.object) (row_in_buffer g k m q.offset x + j) in
@@ -154,7 +154,7 @@ module _ (s : Held) (stands : Stands s) where
           (written_beside i p is.here new g.width (texel m.format) place value written inside) written)
 
       -- of a copy from an image to a buffer
-      pub out_runs : (new : List ℕ) → IsCopiedOut g k m p.offset q.offset (region_of s.memory p.object) (region_of s.memory q.object) new → Runs s stands q.object new (piece_in (copy_out_pieces i b m g) k)
+      pub out_runs : (new : List ℕ) → IsCopiedOut g k m p.offset q.offset (region_of s.memory p.object) (region_of s.memory q.object) new → Runs s consistent q.object new (piece_in (copy_out_pieces i b m g) k)
       out_runs new written =
           let place : ℕ → ℕ = row_in_buffer g k m q.offset in
           let value : ℕ → ℕ → ℕ = λ x j. slice_index (region_of s.memory p.object) (row_in_image g k m p.offset x + j) in
@@ -167,7 +167,7 @@ module _ (s : Held) (stands : Stands s) where
 
     -- of a copy between images, which may be one
     pub image_runs : (a b : ℕ) (m n : ImageInfo) (p q : Placed) (is : IsPicture s a m p) (are : IsPicture s b n q) (g : ImageCopy) (k : ℕ) → BoxFits m (source_box g) → BoxFits n (destination_box g) → texel m.format ≡ texel n.format → k < g.layers * g.height → 0 < g.width → (new : List ℕ)
-        → IsImageCopied g k m n p.offset q.offset (region_of s.memory p.object) (region_of s.memory q.object) new → Runs s stands q.object new (piece_in (copy_image_pieces a b n g) k)
+        → IsImageCopied g k m n p.offset q.offset (region_of s.memory p.object) (region_of s.memory q.object) new → Runs s consistent q.object new (piece_in (copy_image_pieces a b n g) k)
     image_runs a b m n p q is are g k source destination texels lt wide new written =
         let place : ℕ → ℕ = row_written g k n q.offset in
         let value : ℕ → ℕ → ℕ = λ x j. slice_index (region_of s.memory p.object) (row_read g k m p.offset x + j) in

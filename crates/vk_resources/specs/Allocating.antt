@@ -16,9 +16,9 @@ abbrev pub IsAllocated : Held → Allocated → Type 0
 IsAllocated s d = Fulfils (allotted s) d
 
 -- No room is answered exactly where the entry finds none with what is held (Vulkan, "Device Memory").
-abbrev pub Rooms : Applied → Held → Entry → Type 0
-Rooms applied.NoRoom s x = (d : Allocated) → IsAllocated s d → FindsNoRoom d x
-Rooms _ s x = (d : Allocated) → IsAllocated s d → FindsNoRoom d x → ⊥
+abbrev pub NoRoomIsExact : Applied → Held → Entry → Type 0
+NoRoomIsExact applied.NoRoom s x = (d : Allocated) → IsAllocated s d → FindsNoRoom d x
+NoRoomIsExact _ s x = (d : Allocated) → IsAllocated s d → FindsNoRoom d x → ⊥
 
 -- An entry that is applied changes what is allocated as it is to, and no more; where there was no room nothing of it changes.
 abbrev pub Allots : Applied → Entry → Held → Held → Type 0

@@ -104,8 +104,8 @@ pub record IsCaching (memory : MemoryState) (resources : List (ℕ × Placed)) (
   pub only : (number k : ℕ) → IsSome (held_at cache number k) → IsCachedByte memory resources number k
 
 -- What is held is so.
-abbrev pub Stands : Held → Type 0
-Stands s = IsApart s.memory s.backed s.resources × IsCaching s.memory s.resources s.cache × AreShaped s.resources s.shapes
+abbrev pub IsConsistent : Held → Type 0
+IsConsistent s = IsApart s.memory s.backed s.resources × IsCaching s.memory s.resources s.cache × AreShaped s.resources s.shapes
 
 -- What the host's cache holds of byte k of what lies somewhere; nothing beyond its end, and where there is none.
 abbrev pub holding_in : Holdings → Option Placed → ℕ → Option caches.Held

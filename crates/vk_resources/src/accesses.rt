@@ -14,7 +14,7 @@ use vk_model::{Entry, Sequence};
 impl Resources {
     ghost use Rattle.vk_resources.specs.Held.{flat, seen_at};
     ghost use Rattle.vk_resources.specs.Matches.{MatchesLive};
-    ghost use Rattle.vk_resources.specs.Allocating.{Rooms, Allots};
+    ghost use Rattle.vk_resources.specs.Allocating.{NoRoomIsExact, Allots};
     ghost use Rattle.vk_resources.specs.Fits.{FitsEntry};
     ghost use Rattle.vk_resources.specs.Counted.{Counts};
     ghost use Rattle.vk_resources.specs.Done.{DoneBy, EntryReady};
@@ -60,7 +60,7 @@ impl Resources {
         requires ready { EntryReady self.old entry.now }
         requires access { IsTrue (is_access entry.now) }
         ensures done { IfOk result (λ a. (e : ℕ) (past : Past) → MatchesLive past self.old → FitsEntry past entry.now → DoneBy a e entry.now past self.old self.new) }
-        ensures rooms { IfOk result (λ a. (past : Past) → FitsEntry past entry.now → Rooms a self.old entry.now) }
+        ensures rooms { IfOk result (λ a. (past : Past) → FitsEntry past entry.now → NoRoomIsExact a self.old entry.now) }
         ensures allots { IfOk result (λ a. (past : Past) → MatchesLive past self.old → FitsEntry past entry.now → Allots a entry.now self.old self.new) }
         ensures counts { OnOk result (Counts entry.now self.old self.new) }
     {
@@ -90,7 +90,7 @@ impl Resources {
         requires ready { EntryReady self.old entry.now }
         requires flush { IsTrue (is_flush entry.now) }
         ensures done { IfOk result (λ a. (e : ℕ) (past : Past) → MatchesLive past self.old → FitsEntry past entry.now → DoneBy a e entry.now past self.old self.new) }
-        ensures rooms { IfOk result (λ a. (past : Past) → FitsEntry past entry.now → Rooms a self.old entry.now) }
+        ensures rooms { IfOk result (λ a. (past : Past) → FitsEntry past entry.now → NoRoomIsExact a self.old entry.now) }
         ensures allots { IfOk result (λ a. (past : Past) → MatchesLive past self.old → FitsEntry past entry.now → Allots a entry.now self.old self.new) }
         ensures counts { OnOk result (Counts entry.now self.old self.new) }
     {

@@ -50,7 +50,7 @@ fn atoms_in(size: u64) -> u64
 }
 
 impl Resources {
-    ghost use Rattle.vk_resources.specs.Held.{shape_of, flat, seen_at, Stands};
+    ghost use Rattle.vk_resources.specs.Held.{shape_of, flat, seen_at, IsConsistent};
     ghost use Rattle.vk_resources.specs.Matches.{MatchesLive};
     ghost use Rattle.vk_resources.specs.Allocating.{allotted};
     ghost use Rattle.vk_resources.specs.Fits.{FitsEntry};
@@ -127,7 +127,7 @@ impl Resources {
         ensures resources { self.new.resources ≡ self.old.resources }
         ensures shapes { self.new.shapes ≡ self.old.shapes }
         ensures forgets { Forgets self.old self.new id }
-        ensures stands { Stands self.old }
+        ensures consistent { IsConsistent self.old }
     {
         if let Some(buffer) = self.cached(id) {
             let _size = self.memories.region(buffer.object).size();

@@ -17,9 +17,9 @@ const BUFFER_UNIT: u64 = 16;
 const WHOLE_OBJECT: u64 = 1 << 63;
 
 impl Resources {
-    ghost use Rattle.vk_resources.specs.Held.{placed, shape_of, object_of, Stands};
+    ghost use Rattle.vk_resources.specs.Held.{placed, shape_of, object_of, IsConsistent};
     ghost use Rattle.vk_resources.specs.Matches.{MatchesLive};
-    ghost use Rattle.vk_resources.specs.Allocating.{Rooms, Allots};
+    ghost use Rattle.vk_resources.specs.Allocating.{NoRoomIsExact, Allots};
     ghost use Rattle.vk_resources.specs.Fits.{FitsEntry};
     ghost use Rattle.vk_resources.specs.Counted.{Counts};
     ghost use Rattle.vk_resources.specs.Done.{DoneBy, EntryReady};
@@ -33,7 +33,7 @@ impl Resources {
         requires apart { allocation_of self.old.backed id ≡ None }
         requires some { 0 < size }
         ensures made { IfOk result (λ o. MadeOr o self.old self.new id memory_type size) }
-        ensures stands { Stands self.old }
+        ensures consistent { IsConsistent self.old }
     {
         self.backing.own(&mut self.memories, id, memory_type, size)
     }
@@ -44,7 +44,7 @@ impl Resources {
         requires apart { allocation_of self.old.backed id ≡ None }
         requires some { 0 < size }
         ensures made { IfOk result (λ a. MemoryMade a self.old self.new id memory_type size) }
-        ensures stands { Stands self.old }
+        ensures consistent { IsConsistent self.old }
     {
         match self.allocate(id, memory_type, size)? {
             Some(_) => Ok(Applied::Done),
@@ -55,12 +55,12 @@ impl Resources {
     /// Puts a new resource somewhere, an image with its shape.
     fn put(&mut self, id: u32, placed: Placed, shape: Option<Shape>) -> Result<(), AllocError>
         // What the type's invariant says may be used to show it.
-        requires ready { Stands self.old → PutReady self.old id placed shape }
+        requires ready { IsConsistent self.old → PutReady self.old id placed shape }
         ensures put { OnOk result (Puts self.old self.new id placed shape) }
         ensures memory { self.new.memory ≡ self.old.memory }
         ensures backed { self.new.backed ≡ self.old.backed }
         ensures cache { self.new.cache ≡ self.old.cache }
-        ensures stands { Stands self.old }
+        ensures consistent { IsConsistent self.old }
     {
         self.resources.insert(id, placed)?;
         if let Some(shape) = shape {
@@ -87,7 +87,7 @@ impl Resources {
         requires request { IsRequest asked.size asked.align }
         requires shaped { (object : ℕ) → ShapeReady shape (record { size = size; object = object; offset = 0 }) }
         ensures made { IfOk result (λ a. ResourceMade a self.old self.new id memory_type size asked.size shape) }
-        ensures stands { Stands self.old }
+        ensures consistent { IsConsistent self.old }
     {
         match self.dedicate(id, memory_type, asked)? {
             Some(object) => {
@@ -119,7 +119,7 @@ impl Resources {
         requires fits { IsSomeAnd (pool_by self.old.backed pool) (λ k. asked.size ≤ k.pool.info.block_size) }
         ensures found { IfOk result (λ o. FoundOr o self.old self.new id pool asked upper) }
         ensures grows { Grows self.old.memory self.new.memory }
-        ensures stands { Stands self.old }
+        ensures consistent { IsConsistent self.old }
     {
         self.backing
             .share(&mut self.memories, id, pool, asked, upper)
@@ -146,7 +146,7 @@ impl Resources {
         requires shaped { (object offset : ℕ) → ShapeReady shape (record { size = size; object = object; offset = offset }) }
         requires elsewhere { IsEmpty self.old id }
         ensures made { IfOk result (λ a. SharedMade a self.old self.new id pool size asked upper shape) }
-        ensures stands { Stands self.old }
+        ensures consistent { IsConsistent self.old }
     {
         match self.find(id, pool, asked, upper)? {
             Some(spot) => {
@@ -172,12 +172,12 @@ impl Resources {
         shape: Option<Shape>,
     ) -> Result<(), AllocError>
         // What the type's invariant says may be used to show it.
-        requires ready { Stands self.old → BindReady self.old memory offset size }
+        requires ready { IsConsistent self.old → BindReady self.old memory offset size }
         requires absent { placed self.old id ≡ None }
         requires unshaped { shape_of self.old id ≡ None }
         requires shaped { (object : ℕ) → ShapeReady shape (record { size = size; object = object; offset = offset }) }
         ensures bound { OnOk result (Binds self.old self.new id memory offset size shape) }
-        ensures stands { Stands self.old }
+        ensures consistent { IsConsistent self.old }
     {
         let Some(object) = self.backing.object(memory) else {
             return Ok(());
@@ -194,9 +194,9 @@ impl Resources {
     /// or its place in a pool. A memory object that nothing needs any more is freed, with the room that
     /// the cache has for it.
     fn end(&mut self, id: u32)
-        requires { Stands self.old → IsEmpty self.old id }
+        requires { IsConsistent self.old → IsEmpty self.old id }
         ensures ended { Ends self.old self.new id }
-        ensures stands { Stands self.old }
+        ensures consistent { IsConsistent self.old }
     {
         self.forget(id);
         self.resources.remove(&id);
@@ -210,7 +210,7 @@ impl Resources {
     fn make_buffer(&mut self, id: u32, info: &BufferInfo) -> Result<Applied, AllocError>
         requires ready { EntryReady self.old (entry.Buffer id info.now) }
         ensures done { IfOk result (λ a. (e : ℕ) (past : Past) → MatchesLive past self.old → FitsEntry past (entry.Buffer id info.now) → DoneBy a e (entry.Buffer id info.now) past self.old self.new) }
-        ensures rooms { IfOk result (λ a. (past : Past) → FitsEntry past (entry.Buffer id info.now) → Rooms a self.old (entry.Buffer id info.now)) }
+        ensures rooms { IfOk result (λ a. (past : Past) → FitsEntry past (entry.Buffer id info.now) → NoRoomIsExact a self.old (entry.Buffer id info.now)) }
         ensures allots { IfOk result (λ a. (past : Past) → MatchesLive past self.old → FitsEntry past (entry.Buffer id info.now) → Allots a (entry.Buffer id info.now) self.old self.new) }
     {
         let asked = Asked {
@@ -235,7 +235,7 @@ impl Resources {
     fn make_image(&mut self, id: u32, info: &ImageInfo) -> Result<Applied, AllocError>
         requires ready { EntryReady self.old (entry.Image id info.now) }
         ensures done { IfOk result (λ a. (e : ℕ) (past : Past) → MatchesLive past self.old → FitsEntry past (entry.Image id info.now) → DoneBy a e (entry.Image id info.now) past self.old self.new) }
-        ensures rooms { IfOk result (λ a. (past : Past) → FitsEntry past (entry.Image id info.now) → Rooms a self.old (entry.Image id info.now)) }
+        ensures rooms { IfOk result (λ a. (past : Past) → FitsEntry past (entry.Image id info.now) → NoRoomIsExact a self.old (entry.Image id info.now)) }
         ensures allots { IfOk result (λ a. (past : Past) → MatchesLive past self.old → FitsEntry past (entry.Image id info.now) → Allots a (entry.Image id info.now) self.old self.new) }
     {
         texels_inside();
@@ -267,7 +267,7 @@ impl Resources {
         requires ready { EntryReady self.old entry.now }
         requires making { IsMaking entry.now }
         ensures done { IfOk result (λ a. (e : ℕ) (past : Past) → MatchesLive past self.old → FitsEntry past entry.now → DoneBy a e entry.now past self.old self.new) }
-        ensures rooms { IfOk result (λ a. (past : Past) → FitsEntry past entry.now → Rooms a self.old entry.now) }
+        ensures rooms { IfOk result (λ a. (past : Past) → FitsEntry past entry.now → NoRoomIsExact a self.old entry.now) }
         ensures allots { IfOk result (λ a. (past : Past) → MatchesLive past self.old → FitsEntry past entry.now → Allots a entry.now self.old self.new) }
     {
         match entry {
@@ -283,7 +283,7 @@ impl Resources {
     pub fn apply(&mut self, entry: &Entry) -> Result<Applied, AllocError>
         requires { EntryReady self.old entry.now }
         ensures done { IfOk result (λ a. (e : ℕ) (past : Past) → MatchesLive past self.old → FitsEntry past entry.now → DoneBy a e entry.now past self.old self.new) }
-        ensures rooms { IfOk result (λ a. (past : Past) → FitsEntry past entry.now → Rooms a self.old entry.now) }
+        ensures rooms { IfOk result (λ a. (past : Past) → FitsEntry past entry.now → NoRoomIsExact a self.old entry.now) }
         ensures allots { IfOk result (λ a. (past : Past) → MatchesLive past self.old → FitsEntry past entry.now → Allots a entry.now self.old self.new) }
         ensures counts { OnOk result (Counts entry.now self.old self.new) }
     {

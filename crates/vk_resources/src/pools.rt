@@ -8,7 +8,7 @@ use vk_model::PoolInfo;
 use vma_pools::Asked;
 
 impl Resources {
-    ghost use Rattle.vk_resources.specs.Held.{Stands, object_of};
+    ghost use Rattle.vk_resources.specs.Held.{IsConsistent, object_of};
     ghost use Rattle.vk_resources.specs.Inner.Steps.{MadeOr, PoolMade, PoolDropped, Remaps};
     ghost use Rattle.vk_backing.specs.Backed.{allocation_of, pool_of, IsWhole};
     ghost use Rattle.vk_backing.specs.Steps.{IsUnused, one_more};
@@ -25,7 +25,7 @@ impl Resources {
         requires apart { allocation_of self.old.backed id ≡ None }
         requires request { IsRequest asked.size asked.align }
         ensures made { IfOk result (λ o. MadeOr o self.old self.new id memory_type asked.size) }
-        ensures stands { Stands self.old }
+        ensures consistent { IsConsistent self.old }
     {
         self.backing
             .dedicate(&mut self.memories, id, memory_type, asked)
@@ -35,9 +35,9 @@ impl Resources {
     pub(crate) fn make_pool(&mut self, id: u32, info: PoolInfo) -> Result<(), AllocError>
         requires info { IsPoolInfo info }
         // What the type's invariant says may be used to show it.
-        requires absent { Stands self.old → pool_of self.old.backed id ≡ None }
+        requires absent { IsConsistent self.old → pool_of self.old.backed id ≡ None }
         ensures made { OnOk result (PoolMade self.old self.new id info) }
-        ensures stands { Stands self.old }
+        ensures consistent { IsConsistent self.old }
     {
         self.backing.pool(id, info)
     }
@@ -47,9 +47,9 @@ impl Resources {
         requires there { IsSome (pool_of self.old.backed id) }
         requires whole { IsWhole self.old.backed }
         // What the type's invariant says may be used to show it.
-        requires unused { Stands self.old → IsUnused self.old.backed id }
+        requires unused { IsConsistent self.old → IsUnused self.old.backed id }
         ensures dropped { PoolDropped self.old self.new id }
-        ensures stands { Stands self.old }
+        ensures consistent { IsConsistent self.old }
     {
         self.backing.drop_pool(id)
     }

@@ -20,17 +20,17 @@ abbrev Lies : Place → ℕ → Kind → Bound → Type 0
 Lies q n k r = (bound_at q ≡ Some (r.memory, r.offset)) × (r.size ≡ n) × (r.kind ≡ k)
 
 pub bound_buffer : (x : Entry) (i : ℕ) (b : BufferInfo) (o : Option Bound) (n : ℕ) → x ≡ entry.Buffer i b → n ≡ (of_buffer b).size → IfSome o (Lies b.place n kind.Linear) → IfSome o (IsBound x)
-bound_buffer x i b None n is size told = tt
-bound_buffer x i b (Some r) n is size told = record { resource = of_buffer b; made = ap resource_in is; place = told.0; size = told.1 ∙ size; kind = told.2 }
+bound_buffer x i b None n is size reported = tt
+bound_buffer x i b (Some r) n is size reported = record { resource = of_buffer b; made = ap resource_in is; place = reported.0; size = reported.1 ∙ size; kind = reported.2 }
 
 pub bound_image : (x : Entry) (i : ℕ) (m : ImageInfo) (o : Option Bound) (n : ℕ) → x ≡ entry.Image i m → n ≡ (of_image m).size → IfSome o (Lies m.place n m.tiling) → IfSome o (IsBound x)
-bound_image x i m None n is size told = tt
-bound_image x i m (Some r) n is size told = record { resource = of_image m; made = ap resource_in is; place = told.0; size = told.1 ∙ size; kind = told.2 }
+bound_image x i m None n is size reported = tt
+bound_image x i m (Some r) n is size reported = record { resource = of_image m; made = ap resource_in is; place = reported.0; size = reported.1 ∙ size; kind = reported.2 }
 
-pub alias_told : (past : Past) (x : Entry) (own there : Bound) (other : ℕ) (meets : Bool) → IsBound x own → (y : Entry) × (live past other ≡ Some y) × IsBound y there
+pub alias_reported : (past : Past) (x : Entry) (own there : Bound) (other : ℕ) (meets : Bool) → IsBound x own → (y : Entry) × (live past other ≡ Some y) × IsBound y there
     → (there.memory == own.memory && conflict own.kind own.offset own.size there.kind there.offset there.size) ≡ true → meets ≡ ranges_meet own.offset own.size there.offset there.size
     → IsAliasedBy past x (record { memory = own.memory; offset = own.offset; size = own.size; other = other; other_offset = there.offset; other_size = there.size; by_bytes = meets })
-alias_told past x own there other meets is (y, lives, lies) beside meet =
+alias_reported past x own there other meets is (y, lives, lies) beside meet =
     let parts = and_parts (there.memory == own.memory) (conflict own.kind own.offset own.size there.kind there.offset there.size) beside in
     record {
       own = is.resource;

@@ -31,7 +31,7 @@ module _ (past : Past) (form : Entry → Option ℕ) (k : ℕ) where
       after ∙ ap (λ (t : Bool). n + (if t then 1 else 0)) on ∙ ap (λ (j : ℕ). j + (if on_host (is_form past form k) (point_of p) then 1 else 0)) before
       ∙ sym (counted_more (past_of (take i ps)) (point_of p)) ∙ ap (counted past form k) (sym (past_item ps i p lt is))
 
--- ---- what is told
+-- ---- what is reported
 
 pub mapped_is : (past : Past) (r : ℕ) (m : MapState) → IsMappedAs past r m → is_mapped past r ≡ nat_lt m.unmaps m.maps
 mapped_is past r m is =

@@ -62,10 +62,10 @@ part_named past c parts n all of = record {
   current = of.current;
 }
 
-pub parts_told : (past : Past) (c : Cmd) (parts slice : List NamedPart) (s : LayoutState) → map named_of parts ≡ layouts_named c → slice ≡ parts → AreBadParts past slice s → IsLayoutBy past c s
-parts_told past c parts slice (state.Unallowed n) all value told = (part_named past c slice n (ap (map named_of) value ∙ all) told.0, told.1)
-parts_told past c parts slice (state.Other n) all value told = (part_named past c slice n (ap (map named_of) value ∙ all) told.0, told.1)
-parts_told past c parts slice (state.Transition t) all value told = absurd told
+pub parts_reported : (past : Past) (c : Cmd) (parts slice : List NamedPart) (s : LayoutState) → map named_of parts ≡ layouts_named c → slice ≡ parts → AreBadParts past slice s → IsLayoutBy past c s
+parts_reported past c parts slice (state.Unallowed n) all value reported = (part_named past c slice n (ap (map named_of) value ∙ all) reported.0, reported.1)
+parts_reported past c parts slice (state.Other n) all value reported = (part_named past c slice n (ap (map named_of) value ∙ all) reported.0, reported.1)
+parts_reported past c parts slice (state.Transition t) all value reported = absurd reported
 
 -- where the first of two tests fails
 pub first_none : (a b x : Bool) → false ≡ a → x ≡ b → x ≡ (a || b)

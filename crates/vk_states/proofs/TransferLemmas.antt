@@ -9,8 +9,8 @@ use Rattle.vk_states.specs.Owners.{takes_by}
 use Rattle.vk_states.specs.Transfers.{AreTransfers}
 use Rattle.vk_states.specs.Inner.Transfers.{IsMisfitAt}
 
-pub misfit_told : (past : Past) (q : ℕ) (es : List Element) (x : ℕ × OwnerState) → IsMisfitAt past q es x → list_any (takes_by x.1.owned.is_exclusive q x.1.resource) (take x.0 es) ≡ false → AreTransfers past q es x.1
-misfit_told past q es x (e, is, m) none = record {
+pub misfit_reported : (past : Past) (q : ℕ) (es : List Element) (x : ℕ × OwnerState) → IsMisfitAt past q es x → list_any (takes_by x.1.owned.is_exclusive q x.1.resource) (take x.0 es) ≡ false → AreTransfers past q es x.1
+misfit_reported past q es x (e, is, m) none = record {
   element = e;
   is = subst (λ (k : ℕ). slice_get es k ≡ Some e) (sym m.index) is;
   resource = m.resource;

@@ -19,7 +19,7 @@ pub record IsAliasedBy (past : Past) (x : Entry) (a : Aliased) : Type 0 where
   pub conflicts : conflict own.kind a.offset a.size there.kind a.other_offset a.other_size ≡ true
   pub bytes : a.by_bytes ≡ ranges_meet a.offset a.size a.other_offset a.other_size
 
--- What is told of an action that breaks ALIASED.
+-- What is reported of an action that breaks ALIASED.
 abbrev pub IsAliased : Past → Action → Aliased → Type 0
 IsAliased past (Host x) a = IsAliasedBy past x a
 IsAliased past _ a = ⊥

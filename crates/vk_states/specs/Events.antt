@@ -19,7 +19,7 @@ sets_event_on q v p = p.queue == q && sets_event v p
 
 -- ---- EVENT_STATE
 
--- What is told of an action on a queue that breaks EVENT_STATE: the newest point that set its event, if one did. A set finds one; an await finds none on its queue.
+-- What is reported of an action on a queue that breaks EVENT_STATE: the newest point that set its event, if one did. A set finds one; an await finds none on its queue.
 abbrev pub IsEventState : Past → ℕ → Action → EventState → Type 0
 IsEventState past q (Run (cmd.Set v ms)) s = (s.event ≡ v) × (option_map point_of s.set ≡ find (sets_event v) past) × (is_some s.set ≡ true)
 IsEventState past q (Run (cmd.Await v ms)) s = (s.event ≡ v) × (option_map point_of s.set ≡ find (sets_event v) past) × (is_some (find (sets_event_on q v) past) ≡ false)
@@ -44,7 +44,7 @@ pub record AreAwaited (past : Past) (v : ℕ) (awaited : List Dependency) (s : E
   pub set : option_map point_of s.set ≡ find (sets_event v) past
   pub element : IfSome s.set (λ p. (es : List Dependency) → option_and_then (set_by v) (command_of (action_of p.action)) ≡ Some es → IsDifference awaited es s.element)
 
--- What is told of an action that breaks EVENT_DEPENDENCY.
+-- What is reported of an action that breaks EVENT_DEPENDENCY.
 abbrev pub IsEventDependency : Past → Action → EventDependency → Type 0
 IsEventDependency past (Run (cmd.Await v ms)) s = AreAwaited past v ms s
 IsEventDependency past _ s = ⊥

@@ -80,7 +80,7 @@ pub record IsBadTransition (c : Cmd) (t : BadTransition) : Type 0 where
   pub transition : transition_in element ≡ Some t.transition
   pub bad : bad_transition element ≡ true
 
--- What is told of a command that breaks LAYOUT.
+-- What is reported of a command that breaks LAYOUT.
 abbrev pub IsLayoutBy : Past → Cmd → LayoutState → Type 0
 IsLayoutBy past c (state.Unallowed n) = IsNamed past c n × IsUnallowed n
 IsLayoutBy past c (state.Other n) = IsNamed past c n × IsOtherIn n.part.range n.part.layout n.found
@@ -102,6 +102,6 @@ pub record IsOldLayoutBy (past : Past) (q : ℕ) (c : Cmd) (o : OldLayout) : Typ
   pub current : IsCurrent past o.transition.image o.found
   pub other : IsOtherIn o.transition.range o.transition.old_layout o.found
 
--- What is told of a point that breaks OLD_LAYOUT.
+-- What is reported of a point that breaks OLD_LAYOUT.
 abbrev pub IsOldLayout : Past → Point → OldLayout → Type 0
 IsOldLayout past p o = (c : Cmd) × (p.action ≡ Run c) × IsOldLayoutBy past p.queue c o

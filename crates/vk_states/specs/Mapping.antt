@@ -14,14 +14,14 @@ use Rattle.vk_states.specs.declared.mappings.MapState.{MapState}
 abbrev pub moves_mapping : Past → ℕ → Entry → Bool
 moves_mapping past r x = holds (maps x) (λ b. mapping past b == mapping past r) || holds (unmaps x) (λ b. mapping past b == mapping past r)
 
--- What is told of a resource: its memory object, how often what is mapped with it was mapped and unmapped, and the newest point that did so.
+-- What is reported of a resource: its memory object, how often what is mapped with it was mapped and unmapped, and the newest point that did so.
 pub record IsMapped (past : Past) (m : MapState) : Type 0 where
   pub memory : m.memory ≡ memory_of past m.resource
   pub maps : m.maps ≡ count_for past m.resource maps
   pub unmaps : m.unmaps ≡ count_for past m.resource unmaps
   pub since : option_map point_of m.since ≡ find (on_host (moves_mapping past m.resource)) past
 
--- What is told doesn't fit an entry: it maps a memory object that is mapped, accesses or unmaps what isn't, or destroys a resource whose own allocation is mapped (Vulkan, "Host Access to Device Memory Objects"; VMA, "Memory mapping").
+-- What is reported doesn't fit an entry: it maps a memory object that is mapped, accesses or unmaps what isn't, or destroys a resource whose own allocation is mapped (Vulkan, "Host Access to Device Memory Objects"; VMA, "Memory mapping").
 abbrev pub IsWrong : Entry → MapState → Type 0
 IsWrong (entry.Map b) m = (m.resource ≡ b) × IsTrue (is_some m.memory) × (m.unmaps < m.maps)
 IsWrong (entry.Unmap b) m = (m.resource ≡ b) × (m.maps ≤ m.unmaps)
@@ -33,7 +33,7 @@ IsWrong (entry.Destroy r) m = (m.resource ≡ r) × (m.memory ≡ None) × (m.un
 IsWrong (entry.EndPass d kept lost) m = Contains lost m.resource × (m.memory ≡ None) × (m.unmaps < m.maps)
 IsWrong _ m = ⊥
 
--- What is told of an action that breaks MAP_STATE.
+-- What is reported of an action that breaks MAP_STATE.
 abbrev pub IsMapState : Past → Action → MapState → Type 0
 IsMapState past (Host x) m = IsWrong x m × IsMapped past m
 IsMapState past _ m = ⊥

@@ -11,7 +11,7 @@ use Rattle.vk_states.specs.declared.signals.SignalOrder.{SignalOrder}
 abbrev pub signals : ℕ → Point → Bool
 signals s p = holds (signal_of p.action) (λ x. x.0 == s)
 
--- What is told of an action that breaks SIGNAL_ORDER: what it signals, and the newest point that signaled the semaphore, with its value. Where no earlier point breaks a rule, that one comes after all earlier signals; so it is the one that doesn't come before.
+-- What is reported of an action that breaks SIGNAL_ORDER: what it signals, and the newest point that signaled the semaphore, with its value. Where no earlier point breaks a rule, that one comes after all earlier signals; so it is the one that doesn't come before.
 pub record IsSignalOrder (past : Past) (a : Action) (s : SignalOrder) : Type 0 where
   pub signal : signal_of a ≡ Some (s.semaphore, s.value)
   pub last : find (signals s.semaphore) past ≡ Some (point_of s.last)

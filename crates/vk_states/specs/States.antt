@@ -1,4 +1,4 @@
--- What is told of a point and a rule that it breaks.
+-- What is reported of a point and a rule that it breaks.
 use Rattle.std.specs.Prelude.{◌≡◌, Bool, true, false, Option, Some, None, IsTrue}
 use Rattle.vk_model.specs.declared.rule.Rule.{Rule}
 use Rattle.vk_model.specs.declared.rule.Rule.TheVariants as rule
@@ -13,14 +13,14 @@ use Rattle.vk_states.specs.Signals.{IsSignalOrder}
 use Rattle.vk_states.specs.Transfers.{IsOwnerPair}
 use Rattle.vk_states.specs.Binding.{IsAliased}
 
--- Whether a state is told of a rule wherever it is broken, and nowhere else.
-abbrev pub is_told : Rule → Bool
-is_told rule.Layout = true
-is_told rule.OldLayout = true
-is_told rule.MapState = true
-is_told rule.EventState = true
-is_told rule.EventDependency = true
-is_told _ = false
+-- Whether a state is reported of a rule wherever it is broken, and nowhere else.
+abbrev pub is_reported : Rule → Bool
+is_reported rule.Layout = true
+is_reported rule.OldLayout = true
+is_reported rule.MapState = true
+is_reported rule.EventState = true
+is_reported rule.EventDependency = true
+is_reported _ = false
 
 -- The rule that finds a state.
 abbrev pub rule_of : State → Rule
@@ -44,7 +44,7 @@ IsSo past p (state.SignalOrder s) = IsSignalOrder past p.action s
 IsSo past p (state.OwnerPair s) = IsOwnerPair past p.queue p.action s
 IsSo past p (state.Aliased s) = IsAliased past p.action s
 
--- What is told of a rule: a point that comes next finds this. Of rules of which a state is told in each case, the rule is broken exactly where one is.
+-- What is reported of a rule: a point that comes next finds this. Of rules of which a state is reported in each case, the rule is broken exactly where one is.
 abbrev pub IsFound : Rule → Past → Point → Option State → Type 0
-IsFound r past p None = is_told r ≡ true → breaks r past p ≡ false
-IsFound r past p (Some s) = (rule_of s ≡ r) × (is_told r ≡ true → IsTrue (breaks r past p)) × IsSo past p s
+IsFound r past p None = is_reported r ≡ true → breaks r past p ≡ false
+IsFound r past p (Some s) = (rule_of s ≡ r) × (is_reported r ≡ true → IsTrue (breaks r past p)) × IsSo past p s

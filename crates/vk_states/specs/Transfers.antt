@@ -44,7 +44,7 @@ pub record AreTransfers (past : Past) (q : ℕ) (es : List Element) (s : OwnerSt
   pub first : list_any (takes_by s.owned.is_exclusive q s.resource) (take s.element es) ≡ false
   pub misfit : IsFault q element s.families s.owned.is_exclusive (holder_of s.owned.holder) s.fault
 
--- What is told of an action on a queue that breaks OWNER_PAIR.
+-- What is reported of an action on a queue that breaks OWNER_PAIR.
 abbrev pub IsOwnerPair : Past → ℕ → Action → OwnerState → Type 0
 IsOwnerPair past q (Run (cmd.Barrier es)) s = AreTransfers past q es s
 IsOwnerPair past q _ s = ⊥

@@ -55,7 +55,7 @@ struct Bound {
 }
 
 /// ALIASED: a live resource with which the one that a point makes is in conflict. Where more than 1,024
-/// that were made before are, none may be told.
+/// that were made before are, none may be reported.
 pub fn aliased_of<'a>(older: &[Point<'a>], point: &Point<'a>) -> Option<Aliased>
     ensures { IfSome result (IsAliased (past_of older.now) (action_of point.now.action)) }
 {
@@ -98,7 +98,7 @@ fn candidate(point: &Point<'_>, own: Bound) -> Option<u32> {
     }
 }
 
-/// What is told of a live resource, where it is in conflict with a new one.
+/// What is reported of a live resource, where it is in conflict with a new one.
 fn aliased_with(older: &[Point<'_>], own: Bound, other: u32) -> Option<Aliased>
     ensures { (x : AnyEntry) → IsBound x own → IfSome result (IsAliasedBy (past_of older.now) x) }
 {

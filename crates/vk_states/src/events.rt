@@ -35,7 +35,7 @@ pub struct EventDependency<'a> {
 /// EVENT_STATE: which point set the event of a point, where that doesn't fit.
 pub fn event_state_of<'a>(older: &[Point<'a>], point: &Point<'a>) -> Option<EventState<'a>>
     ensures broken { is_some result ≡ rules.breaks_event_state (past_of older.now) (point_of point.now) }
-    ensures told { IfSome result (IsEventState (past_of older.now) point.now.queue (action_of point.now.action)) }
+    ensures reported { IfSome result (IsEventState (past_of older.now) point.now.queue (action_of point.now.action)) }
 {
     match point.action {
         Action::Run(command) => state_by(older, point.queue, command),
@@ -45,7 +45,7 @@ pub fn event_state_of<'a>(older: &[Point<'a>], point: &Point<'a>) -> Option<Even
 
 fn state_by<'a>(older: &[Point<'a>], queue: u32, command: &Cmd) -> Option<EventState<'a>>
     ensures broken { is_some result ≡ rules.bad_event (past_of older.now) queue command.now }
-    ensures told { IfSome result (IsEventState (past_of older.now) queue (Run command.now)) }
+    ensures reported { IfSome result (IsEventState (past_of older.now) queue (Run command.now)) }
 {
     match command {
         Cmd::Set { event, .. } => set_again(older, *event),
@@ -142,7 +142,7 @@ pub fn event_dependency_of<'a>(
     point: &Point<'a>,
 ) -> Option<EventDependency<'a>>
     ensures broken { is_some result ≡ rules.breaks_event_dependency (past_of older.now) (point_of point.now) }
-    ensures told { IfSome result (IsEventDependency (past_of older.now) (action_of point.now.action)) }
+    ensures reported { IfSome result (IsEventDependency (past_of older.now) (action_of point.now.action)) }
 {
     match point.action {
         Action::Run(Cmd::Await { event, elements }) => {
@@ -158,7 +158,7 @@ fn awaited_otherwise<'a>(
     elements: &[Dependency],
 ) -> Option<EventDependency<'a>>
     ensures broken { is_some result ≡ not (list_any (rules.same_dependencies elements.now) (rules.sets (past_of older.now) event)) }
-    ensures told { IfSome result (AreAwaited (past_of older.now) event elements.now) }
+    ensures reported { IfSome result (AreAwaited (past_of older.now) event elements.now) }
 {
     if is_set_with(older, event, elements) {
         return None;
@@ -222,7 +222,7 @@ fn difference_from(event: u32, point: &Point<'_>, elements: &[Dependency]) -> us
 /// The first index at which two lists of elements differ, or only one of them has an element.
 fn first_difference(awaited: &[Dependency], set: &[Dependency]) -> Option<usize>
     ensures broken { is_some result ≡ not (rules.same_dependencies awaited.now set.now) }
-    ensures told { IfSome result (IsDifference awaited.now set.now) }
+    ensures reported { IfSome result (IsDifference awaited.now set.now) }
 {
     let count = awaited.len().max(set.len());
     for index in 0..count {

@@ -92,7 +92,7 @@ pub fn layout_of<'a>(
     point: &Point<'a>,
 ) -> Result<Option<LayoutState<'a>>, AllocError>
     ensures broken { IfOk result (λ found. is_some found ≡ rules.breaks_layout (past_of older.now) (point_of point.now)) }
-    ensures told { IfOk result (λ found. IfSome found (IsLayout (past_of older.now) (action_of point.now.action))) }
+    ensures reported { IfOk result (λ found. IfSome found (IsLayout (past_of older.now) (action_of point.now.action))) }
 {
     match point.action {
         Action::Run(command) => of_command(alloc, older, command),
@@ -106,7 +106,7 @@ fn of_command<'a>(
     command: &Cmd,
 ) -> Result<Option<LayoutState<'a>>, AllocError>
     ensures broken { IfOk result (λ found. is_some found ≡ rules.bad_layout (world (past_of older.now)) command.now) }
-    ensures told { IfOk result (λ found. IfSome found (IsLayoutBy (past_of older.now) command.now)) }
+    ensures reported { IfOk result (λ found. IfSome found (IsLayoutBy (past_of older.now) command.now)) }
 {
     let kept = with_transitions(alloc, older)?;
     let parts = parts_named(alloc, command)?;
@@ -118,7 +118,7 @@ fn of_command<'a>(
 
 fn by_transition<'a>(command: &Cmd) -> Option<LayoutState<'a>>
     ensures broken { is_some result ≡ list_any rules.bad_transition (elements_of command.now) }
-    ensures told { (past : Past) → IfSome result (IsLayoutBy past command.now) }
+    ensures reported { (past : Past) → IfSome result (IsLayoutBy past command.now) }
 {
     let bad = bad_transition_of(command)?;
     Some(LayoutState::Transition(bad))
@@ -127,7 +127,7 @@ fn by_transition<'a>(command: &Cmd) -> Option<LayoutState<'a>>
 /// The first part that is named wrongly.
 fn bad_part<'a>(points: &[Point<'a>], parts: &[NamedPart]) -> Option<LayoutState<'a>>
     ensures broken { (past : Past) → ShowLayouts (past_of points.now) past → is_some result ≡ list_any (λ n. rules.bad_named (world past) (named_of n)) parts.now }
-    ensures told { (past : Past) → ShowLayouts (past_of points.now) past → IfSome result (AreBadParts past parts.now) }
+    ensures reported { (past : Past) → ShowLayouts (past_of points.now) past → IfSome result (AreBadParts past parts.now) }
 {
     for (index, part) in parts.iter().enumerate() {
         if let Some(found) = bad_one(points, index, part) {
@@ -139,7 +139,7 @@ fn bad_part<'a>(points: &[Point<'a>], parts: &[NamedPart]) -> Option<LayoutState
 
 fn bad_one<'a>(points: &[Point<'a>], index: usize, part: &NamedPart) -> Option<LayoutState<'a>>
     ensures broken { (past : Past) → ShowLayouts (past_of points.now) past → is_some result ≡ rules.bad_named (world past) (named_of part.now) }
-    ensures told { (past : Past) → ShowLayouts (past_of points.now) past → IfSome result (IsBadPart past index part.now) }
+    ensures reported { (past : Past) → ShowLayouts (past_of points.now) past → IfSome result (IsBadPart past index part.now) }
 {
     if !is_allowed(part.is_written, part.layout) {
         let found = current_at(points, first_of(part));
@@ -179,7 +179,7 @@ fn is_allowed(is_written: bool, layout: u32) -> bool
 /// The first transition of a command that can't be.
 fn bad_transition_of(command: &Cmd) -> Option<BadTransition>
     ensures broken { is_some result ≡ list_any rules.bad_transition (elements_of command.now) }
-    ensures told { IfSome result (IsBadTransition command.now) }
+    ensures reported { IfSome result (IsBadTransition command.now) }
 {
     match command {
         Cmd::Barrier { elements } => bad_transition_among(elements.as_slice()),
@@ -189,7 +189,7 @@ fn bad_transition_of(command: &Cmd) -> Option<BadTransition>
 
 fn bad_transition_among(elements: &[Element]) -> Option<BadTransition>
     ensures broken { is_some result ≡ list_any rules.bad_transition elements.now }
-    ensures told { IfSome result (IsBadTransition (cmd.Barrier elements.now)) }
+    ensures reported { IfSome result (IsBadTransition (cmd.Barrier elements.now)) }
 {
     for (index, element) in elements.iter().enumerate() {
         if let Some(transition) = bad_transition(element) {
@@ -204,7 +204,7 @@ fn bad_transition_among(elements: &[Element]) -> Option<BadTransition>
 
 fn bad_transition(element: &Element) -> Option<Transition>
     ensures broken { is_some result ≡ rules.bad_transition element.now }
-    ensures told { IfSome result (λ t. transition_in element.now ≡ Some t) }
+    ensures reported { IfSome result (λ t. transition_in element.now ≡ Some t) }
 {
     match element {
         Element::Image(on_image) if is_bad(on_image) => Some(transition_of(on_image)),
@@ -251,7 +251,7 @@ pub fn old_layout_of<'a>(
     point: &Point<'a>,
 ) -> Result<Option<OldLayout<'a>>, AllocError>
     ensures broken { IfOk result (λ found. is_some found ≡ rules.breaks_old_layout (past_of older.now) (point_of point.now)) }
-    ensures told { IfOk result (λ found. IfSome found (IsOldLayout (past_of older.now) (point_of point.now))) }
+    ensures reported { IfOk result (λ found. IfSome found (IsOldLayout (past_of older.now) (point_of point.now))) }
 {
     match point.action {
         Action::Run(Cmd::Barrier { elements }) => {
@@ -264,7 +264,7 @@ pub fn old_layout_of<'a>(
 
 fn old_among<'a>(points: &[Point<'a>], queue: u32, elements: &[Element]) -> Option<OldLayout<'a>>
     ensures broken { (past : Past) → ShowLayouts (past_of points.now) past → is_some result ≡ list_any (rules.bad_old_layout (world past) queue) elements.now }
-    ensures told { (past : Past) → ShowLayouts (past_of points.now) past → IfSome result (IsOldLayoutBy past queue (cmd.Barrier elements.now)) }
+    ensures reported { (past : Past) → ShowLayouts (past_of points.now) past → IfSome result (IsOldLayoutBy past queue (cmd.Barrier elements.now)) }
 {
     for (index, element) in elements.iter().enumerate() {
         if let Some(found) = old_one(points, queue, index, element) {
@@ -281,7 +281,7 @@ fn old_one<'a>(
     element: &Element,
 ) -> Option<OldLayout<'a>>
     ensures broken { (past : Past) → ShowLayouts (past_of points.now) past → is_some result ≡ rules.bad_old_layout (world past) queue element.now }
-    ensures told { (past : Past) → ShowLayouts (past_of points.now) past → IfSome result (IsOldAt past queue index element.now) }
+    ensures reported { (past : Past) → ShowLayouts (past_of points.now) past → IfSome result (IsOldAt past queue index element.now) }
 {
     let transition = asks_for_old(queue, element)?;
     let layout = transition.old_layout;

@@ -46,7 +46,7 @@ pub fn map_state_of<'a>(
     point: &Point<'a>,
 ) -> Result<Option<MapState<'a>>, AllocError>
     ensures broken { IfOk result (λ found. is_some found ≡ rules.breaks_map_state (past_of older.now) (point_of point.now)) }
-    ensures told { IfOk result (λ found. IfSome found (IsMapState (past_of older.now) (action_of point.now.action))) }
+    ensures reported { IfOk result (λ found. IfSome found (IsMapState (past_of older.now) (action_of point.now.action))) }
 {
     match point.action {
         Action::Host(entry) => {
@@ -59,7 +59,7 @@ pub fn map_state_of<'a>(
 
 fn of_entry<'a>(bindings: &Bindings, older: &[Point<'a>], entry: &Entry) -> Option<MapState<'a>>
     ensures broken { AreBindings bindings.now (past_of older.now) → is_some result ≡ rules.bad_mapping (past_of older.now) entry.now }
-    ensures told { AreBindings bindings.now (past_of older.now) → IfSome result (λ m. IsWrong entry.now m × IsMapped (past_of older.now) m) }
+    ensures reported { AreBindings bindings.now (past_of older.now) → IfSome result (λ m. IsWrong entry.now m × IsMapped (past_of older.now) m) }
 {
     match entry {
         Entry::Map { buffer } => mapped_again(bindings, older, *buffer),
@@ -79,7 +79,7 @@ fn of_entry<'a>(bindings: &Bindings, older: &[Point<'a>], entry: &Entry) -> Opti
 /// The state of a resource that is bound to a memory object which is mapped.
 fn mapped_again<'a>(bindings: &Bindings, older: &[Point<'a>], resource: u32) -> Option<MapState<'a>>
     ensures broken { AreBindings bindings.now (past_of older.now) → is_some result ≡ (is_some (memory_of (past_of older.now) resource) && rules.is_mapped (past_of older.now) resource) }
-    ensures told { AreBindings bindings.now (past_of older.now) → IfSome result (λ m. IsMappedAs (past_of older.now) resource m × IsTrue (is_some m.memory) × (m.unmaps < m.maps)) }
+    ensures reported { AreBindings bindings.now (past_of older.now) → IfSome result (λ m. IsMappedAs (past_of older.now) resource m × IsTrue (is_some m.memory) × (m.unmaps < m.maps)) }
 {
     let state = state_of_mapping(bindings, older, resource);
     if state.memory.is_some() && state.unmaps < state.maps {
@@ -92,7 +92,7 @@ fn mapped_again<'a>(bindings: &Bindings, older: &[Point<'a>], resource: u32) -> 
 /// The state of a resource that isn't mapped.
 fn unmapped<'a>(bindings: &Bindings, older: &[Point<'a>], resource: u32) -> Option<MapState<'a>>
     ensures broken { AreBindings bindings.now (past_of older.now) → is_some result ≡ not (rules.is_mapped (past_of older.now) resource) }
-    ensures told { AreBindings bindings.now (past_of older.now) → IfSome result (λ m. IsMappedAs (past_of older.now) resource m × (m.maps ≤ m.unmaps)) }
+    ensures reported { AreBindings bindings.now (past_of older.now) → IfSome result (λ m. IsMappedAs (past_of older.now) resource m × (m.maps ≤ m.unmaps)) }
 {
     let state = state_of_mapping(bindings, older, resource);
     if state.maps <= state.unmaps {
@@ -105,7 +105,7 @@ fn unmapped<'a>(bindings: &Bindings, older: &[Point<'a>], resource: u32) -> Opti
 /// The state of a resource whose own allocation is mapped.
 fn mapped_alone<'a>(bindings: &Bindings, older: &[Point<'a>], resource: u32) -> Option<MapState<'a>>
     ensures broken { AreBindings bindings.now (past_of older.now) → is_some result ≡ rules.is_mapped_alone (past_of older.now) resource }
-    ensures told { AreBindings bindings.now (past_of older.now) → IfSome result (λ m. IsMappedAs (past_of older.now) resource m × (m.memory ≡ None) × (m.unmaps < m.maps)) }
+    ensures reported { AreBindings bindings.now (past_of older.now) → IfSome result (λ m. IsMappedAs (past_of older.now) resource m × (m.memory ≡ None) × (m.unmaps < m.maps)) }
 {
     let state = state_of_mapping(bindings, older, resource);
     if state.memory.is_none() && state.unmaps < state.maps {
@@ -122,7 +122,7 @@ fn first_mapped_alone<'a>(
     resources: &[u32],
 ) -> Option<MapState<'a>>
     ensures broken { AreBindings bindings.now (past_of older.now) → is_some result ≡ list_any (rules.is_mapped_alone (past_of older.now)) resources.now }
-    ensures told { AreBindings bindings.now (past_of older.now) → IfSome result (λ m. Contains resources.now m.resource × IsMapped (past_of older.now) m × (m.memory ≡ None) × (m.unmaps < m.maps)) }
+    ensures reported { AreBindings bindings.now (past_of older.now) → IfSome result (λ m. Contains resources.now m.resource × IsMapped (past_of older.now) m × (m.memory ≡ None) × (m.unmaps < m.maps)) }
 {
     for resource in resources {
         if let Some(found) = mapped_alone(bindings, older, *resource) {

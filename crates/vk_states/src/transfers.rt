@@ -47,7 +47,7 @@ pub struct OwnerState<'a> {
 }
 
 /// OWNER_PAIR: the first release or acquire of a point that doesn't fit the owner of its resource; or,
-/// where each does, the acquire, if the point has just one. None is told of one whose owner an earlier
+/// where each does, the acquire, if the point has just one. None is reported of one whose owner an earlier
 /// element of the point changes. For each transfer it walks over the points once.
 pub fn owner_pair_of<'a>(older: &[Point<'a>], point: &Point<'a>) -> Option<OwnerState<'a>>
     ensures { IfSome result (IsOwnerPair (past_of older.now) point.now.queue (action_of point.now.action)) }

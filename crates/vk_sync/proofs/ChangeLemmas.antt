@@ -76,7 +76,7 @@ module _ {B : Type 0} where
   get_second (x ∷ xs) ys n = let z : suc (length xs) + n ≡ suc (length xs + n) = omega arith in ap (slice_get (x ∷ (xs ++ ys))) z ∙ get_second xs ys n
 
 module _ {A B : Type 0} where
-  -- What an element gives stands after what those before it give.
+  -- What an element gives comes after what those before it give.
   pub flat_at : (f : A → List B) (xs : List A) (i j : ℕ) (x : A) (y : B) → slice_get xs i ≡ Some x → slice_get (f x) j ≡ Some y → slice_get (flat_map f xs) (length (flat_map f (take i xs)) + j) ≡ Some y
   flat_at f [] i j x y is at = cc
   flat_at f (z ∷ xs) zero j x y is at =

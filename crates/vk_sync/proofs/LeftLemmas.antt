@@ -11,7 +11,7 @@ use Rattle.std.proofs.lemmas.List.FromFn.{length-range_with_len}
 use Rattle.vk_sync.specs.Inner.Left.{all_left, IsCounted}
 use Rattle.vk_sync.specs.Inner.Sums.{AreSumsOf}
 use Rattle.vk_sync.proofs.SumLemmas.{sums_change, sums_push, sums_cover, sum_of_sums, at_most_sum, not_all}
-use Rattle.vk_sync.proofs.PlaceLemmas.{length-places, stands, Stands, place_of, places_all}
+use Rattle.vk_sync.proofs.PlaceLemmas.{length-places, has_command, HasCommand, place_of, places_all}
 
 -- So many flags have been set, with their sums.
 pub record IsMade (count : ℕ) (flags : List Bool) (groups : List ℕ) : Type 0 where
@@ -36,7 +36,7 @@ get_of xs x (k, lt, e) = (k, slice_get-get_or xs k x lt ∙ ap Some e)
 pub flag_set : (flags : List Bool) (piece : ℕ) → Contains (places is_so 0 flags) piece → (piece < length flags) × (get_or flags piece false ≡ true)
 flag_set flags piece has =
     let at = get_of (places is_so 0 flags) piece has in
-    let s : Stands is_so 0 flags false at.0 piece = stands is_so 0 flags false at.0 piece at.1 in
+    let s : HasCommand is_so 0 flags false at.0 piece = has_command is_so 0 flags false at.0 piece at.1 in
     let same : piece - 0 ≡ piece = omega arith in
     (omega (arith, s.within), rw same at s.passes)
 

@@ -7,7 +7,7 @@ use Rattle.std.proofs.lemmas.List.Sums.{sum_by-set, sum_by-cons}
 use Rattle.std.proofs.lemmas.Option.{slice_get_within}
 use Rattle.std.proofs.lemmas.Bool.{cases_lt, cases_eq, lt-ltb, le-ltb}
 use Rattle.vk_sync.specs.declared.board.Command.{Command}
-use Rattle.vk_sync.specs.Inner.Fronts.{Stands, IsLoose, IsWithin}
+use Rattle.vk_sync.specs.Inner.Fronts.{HasCommand, IsLoose, IsWithin}
 use Rattle.vk_sync.specs.Ready.{count_on}
 use Rattle.vk_sync.proofs.PlaceLemmas.{length-places}
 use Rattle.vk_sync.proofs.FrontLemmas.{on, command_at, same_command, place_within}
@@ -18,7 +18,7 @@ module _ (cs : List Command) (lines : List (List ℕ)) (done free counts : List 
   line_len q lt = ap length (loose.lines_are q lt) ∙ length-places (on q) 0 cs
 
   -- What is at a place of a queue's line is a command of that queue.
-  pub line_at : (q r j : ℕ) → q < 4 → slice_get (get_or lines q []) r ≡ Some j → (c : Command) × Stands cs q r j c
+  pub line_at : (q r j : ℕ) → q < 4 → slice_get (get_or lines q []) r ≡ Some j → (c : Command) × HasCommand cs q r j c
   line_at q r j lt e = command_at cs q r j (ap (λ (ns : List ℕ). slice_get ns r) (sym (loose.lines_are q lt)) ∙ e)
 
 -- A list at an index that a change has reached.
@@ -40,20 +40,20 @@ grown_within ns p bound lt less was q q_lt = elim (cases_eq q p) [
 ]
 
 -- A command whose place is below a number that grew by one is the one that was reached, or was below the number before.
-reached : (cs : List Command) (ns : List ℕ) (p q r i j : ℕ) (c d : Command) → p < length ns → Stands cs p (get_or ns p 0) i c → Stands cs q r j d → r < get_or (set ns p (get_or ns p 0 + 1)) q 0 → ((i ≡ j) × (c ≡ d)) ⊎ (r < get_or ns q 0)
+reached : (cs : List Command) (ns : List ℕ) (p q r i j : ℕ) (c d : Command) → p < length ns → HasCommand cs p (get_or ns p 0) i c → HasCommand cs q r j d → r < get_or (set ns p (get_or ns p 0 + 1)) q 0 → ((i ≡ j) × (c ≡ d)) ⊎ (r < get_or ns q 0)
 reached cs ns p q r i j c d lt at_i at_j below = elim (cases_eq q p) [
   | inr ne ↦ inr (omega (arith, get_or-set_other ns p q (get_or ns p 0 + 1) 0 ne))
   | inl e ↦ elim (cases_lt r (get_or ns p 0)) [
     | inl less ↦ inr (omega (arith, less, ap (λ (k : ℕ). get_or ns k 0) e))
     | inr more ↦
         let same : r ≡ get_or ns p 0 = omega (arith, more, at_same ns p q (get_or ns p 0 + 1) lt e) in
-        let s : Stands cs p (get_or ns p 0) j d = subst (λ (k : ℕ). Stands cs p k j d) same (subst (λ (k : ℕ). Stands cs k r j d) e at_j) in
+        let s : HasCommand cs p (get_or ns p 0) j d = subst (λ (k : ℕ). HasCommand cs p k j d) same (subst (λ (k : ℕ). HasCommand cs k r j d) e at_j) in
         inl (same_command cs p (get_or ns p 0) i j c d at_i s)
   ]
 ]
 
 -- A queue moves past a command that has no pieces left.
-pub passed : (cs : List Command) (lines : List (List ℕ)) (done free counts : List ℕ) (p j : ℕ) (c : Command) → IsLoose cs lines done free counts → p < 4 → Stands cs p (get_or done p 0) j c → c.left ≡ [] → IsLoose cs lines (set done p (get_or done p 0 + 1)) free counts
+pub passed : (cs : List Command) (lines : List (List ℕ)) (done free counts : List ℕ) (p j : ℕ) (c : Command) → IsLoose cs lines done free counts → p < 4 → HasCommand cs p (get_or done p 0) j c → c.left ≡ [] → IsLoose cs lines (set done p (get_or done p 0 + 1)) free counts
 passed cs lines done free counts p j c loose p_lt at_j none =
     let four = loose.done_len in
     let lt : p < length done = omega arith in
@@ -77,7 +77,7 @@ passed cs lines done free counts p j c loose p_lt at_j none =
     }
 
 -- A command has one queue and one place on it.
-pub one_place : (cs : List Command) (p k j q r i : ℕ) (c d : Command) → Stands cs p k j c → Stands cs q r i d → i ≡ j → (q ≡ p) × (r ≡ k) × (d ≡ c)
+pub one_place : (cs : List Command) (p k j q r i : ℕ) (c d : Command) → HasCommand cs p k j c → HasCommand cs q r i d → i ≡ j → (q ≡ p) × (r ≡ k) × (d ≡ c)
 one_place cs p k j q r i c d at_j at_i e =
     let is_c = at_j.is in
     let is_d = at_i.is in
@@ -89,7 +89,7 @@ one_place cs p k j q r i c d at_j at_i e =
     (queue, sym at_i.rank ∙ cut ∙ at_j.rank, same)
 
 -- Whether another command's place is below the number for its queue stays, where one grew by one.
-unreached : (cs : List Command) (ns : List ℕ) (p q r i j : ℕ) (c d : Command) → p < length ns → Stands cs p (get_or ns p 0) j c → Stands cs q r i d → i ≢ j → nat_lt r (get_or (set ns p (get_or ns p 0 + 1)) q 0) ≡ nat_lt r (get_or ns q 0)
+unreached : (cs : List Command) (ns : List ℕ) (p q r i j : ℕ) (c d : Command) → p < length ns → HasCommand cs p (get_or ns p 0) j c → HasCommand cs q r i d → i ≢ j → nat_lt r (get_or (set ns p (get_or ns p 0 + 1)) q 0) ≡ nat_lt r (get_or ns q 0)
 unreached cs ns p q r i j c d lt at_j at_i ne =
     let now = get_or (set ns p (get_or ns p 0 + 1)) q 0 in
     elim (cases_lt r (get_or ns q 0)) [
@@ -104,14 +104,14 @@ unreached cs ns p q r i j c d lt at_j at_i ne =
     ]
 
 -- The command that is next on its queue isn't counted.
-count_none : (cs : List Command) (lines : List (List ℕ)) (done free counts : List ℕ) (p j : ℕ) (c : Command) → IsLoose cs lines done free counts → Stands cs p (get_or free p 0) j c → get_or counts j 0 ≡ 0
+count_none : (cs : List Command) (lines : List (List ℕ)) (done free counts : List ℕ) (p j : ℕ) (c : Command) → IsLoose cs lines done free counts → HasCommand cs p (get_or free p 0) j c → get_or counts j 0 ≡ 0
 count_none cs lines done free counts p j c loose s =
     let e = loose.counts_are p (get_or free p 0) j c s in
     let no : nat_lt (get_or free p 0) (get_or free p 0) ≡ false = le-ltb (get_or free p 0) (get_or free p 0) (omega arith) in
     rw no at e
 
 -- The pieces of a command that waits for nothing more are counted.
-pub counted : (cs : List Command) (lines : List (List ℕ)) (done free counts : List ℕ) (p j n : ℕ) (c : Command) → IsLoose cs lines done free counts → p < 4 → Stands cs p (get_or free p 0) j c → IsWithin c.before done → n ≡ get_or counts j 0 + length c.left → IsLoose cs lines done (set free p (get_or free p 0 + 1)) (set counts j n)
+pub counted : (cs : List Command) (lines : List (List ℕ)) (done free counts : List ℕ) (p j n : ℕ) (c : Command) → IsLoose cs lines done free counts → p < 4 → HasCommand cs p (get_or free p 0) j c → IsWithin c.before done → n ≡ get_or counts j 0 + length c.left → IsLoose cs lines done (set free p (get_or free p 0 + 1)) (set counts j n)
 counted cs lines done free counts p j n c loose p_lt at_j within sum_is =
     let four = loose.free_len in
     let lt : p < length free = omega arith in
@@ -159,7 +159,7 @@ sums_le f (n ∷ ns) (x ∷ xs) e le =
 -- No more pieces of a command are counted than are left.
 pub count_le : (cs : List Command) (lines : List (List ℕ)) (done free counts : List ℕ) → IsLoose cs lines done free counts → (i : ℕ) (c : Command) → slice_get cs i ≡ Some c → get_or counts i 0 ≤ length c.left
 count_le cs lines done free counts loose i c is =
-    let s : Stands cs c.queue (count_on c.queue (take i cs)) i c = record { is = is; on = refl; rank = refl } in
+    let s : HasCommand cs c.queue (count_on c.queue (take i cs)) i c = record { is = is; on = refl; rank = refl } in
     let e = loose.counts_are c.queue (count_on c.queue (take i cs)) i c s in
     by_test (nat_lt (count_on c.queue (take i cs)) (get_or free c.queue 0)) (get_or counts i 0) (length c.left) e
   where
@@ -172,7 +172,7 @@ pub counts_small : (cs : List Command) (lines : List (List ℕ)) (done free coun
 counts_small cs lines done free counts loose = sums_le (λ (c : Command). length c.left) counts cs loose.counts_len (count_le cs lines done free counts loose)
 
 -- There is room to count the pieces of one more command.
-pub counts_fit : (cs : List Command) (lines : List (List ℕ)) (done free counts : List ℕ) (p j : ℕ) (c : Command) → IsLoose cs lines done free counts → p < 4 → Stands cs p (get_or free p 0) j c → IsWithin c.before done → sum counts + length c.left < 2 ^ 64
+pub counts_fit : (cs : List Command) (lines : List (List ℕ)) (done free counts : List ℕ) (p j : ℕ) (c : Command) → IsLoose cs lines done free counts → p < 4 → HasCommand cs p (get_or free p 0) j c → IsWithin c.before done → sum counts + length c.left < 2 ^ 64
 counts_fit cs lines done free counts p j c loose p_lt s within =
     let n = get_or counts j 0 + length c.left in
     let more = counted cs lines done free counts p j n c loose p_lt s within refl in

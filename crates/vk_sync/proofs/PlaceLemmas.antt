@@ -22,7 +22,7 @@ module _ {A : Type 0} (p : A → Bool) where
           let l : length (places p start (x ∷ xs)) ≡ length (places p (start + 1) xs) = rw e refl in
           omega (arith, sum_by-cons (λ (y : A). one_if (p y)) x xs, none, l, r)
 
-  -- An element that passes stands after the places of those before it that pass.
+  -- An element that passes comes after the places of those before it that pass.
   pub place_of : (start i : ℕ) (xs : List A) (d : A) → i < length xs → p (get_or xs i d) ≡ true → slice_get (places p start xs) (count_by p (take i xs)) ≡ Some (start + i)
   place_of start i [] d lt e = absurd (omega arith)
   place_of start zero (x ∷ xs) d lt e = let z : start ≡ start + 0 = omega arith in rw e (ap Some z)
@@ -44,14 +44,14 @@ module _ {A : Type 0} (p : A → Bool) where
           at ∙ later ∙ shift
 
   -- What is known of the element at a place.
-  pub record Stands (start : ℕ) (xs : List A) (d : A) (k place : ℕ) : Type 0 where
+  pub record HasCommand (start : ℕ) (xs : List A) (d : A) (k place : ℕ) : Type 0 where
     pub from : start ≤ place
     pub within : place < start + length xs
     pub passes : p (get_or xs (place - start) d) ≡ true
     pub rank : count_by p (take (place - start) xs) ≡ k
 
-  pub stands_later : (start : ℕ) (x : A) (xs : List A) (d : A) (k k' place : ℕ) → one_if (p x) + k ≡ k' → Stands (start + 1) xs d k place → Stands start (x ∷ xs) d k' place
-  stands_later start x xs d k k' place e s =
+  pub has_command_later : (start : ℕ) (x : A) (xs : List A) (d : A) (k k' place : ℕ) → one_if (p x) + k ≡ k' → HasCommand (start + 1) xs d k place → HasCommand start (x ∷ xs) d k' place
+  has_command_later start x xs d k k' place e s =
       let low = s.from in
       let high = s.within in
       let shift : place - start ≡ suc (place - (start + 1)) = omega arith in
@@ -63,11 +63,11 @@ module _ {A : Type 0} (p : A → Bool) where
       }
 
   -- The element at a place passes, and its rank is the place's number.
-  pub stands : (start : ℕ) (xs : List A) (d : A) (k place : ℕ) → slice_get (places p start xs) k ≡ Some place → Stands start xs d k place
-  stands start [] d k place e = cc
-  stands start (x ∷ xs) d k place e = by_test (p x) refl k e (λ j. stands (start + 1) xs d j place)
+  pub has_command : (start : ℕ) (xs : List A) (d : A) (k place : ℕ) → slice_get (places p start xs) k ≡ Some place → HasCommand start xs d k place
+  has_command start [] d k place e = cc
+  has_command start (x ∷ xs) d k place e = by_test (p x) refl k e (λ j. has_command (start + 1) xs d j place)
     where
-      by_test : (b : Bool) → p x ≡ b → (k : ℕ) → slice_get (places p start (x ∷ xs)) k ≡ Some place → ((j : ℕ) → slice_get (places p (start + 1) xs) j ≡ Some place → Stands (start + 1) xs d j place) → Stands start (x ∷ xs) d k place
+      by_test : (b : Bool) → p x ≡ b → (k : ℕ) → slice_get (places p start (x ∷ xs)) k ≡ Some place → ((j : ℕ) → slice_get (places p (start + 1) xs) j ≡ Some place → HasCommand (start + 1) xs d j place) → HasCommand start (x ∷ xs) d k place
       by_test true h zero e later =
           let at : slice_get (start ∷ places p (start + 1) xs) 0 ≡ Some place = rw h at e in
           let same : start ≡ place = cc in
@@ -75,10 +75,10 @@ module _ {A : Type 0} (p : A → Bool) where
           record { from = omega arith; within = omega arith; passes = rw none h; rank = rw none refl }
       by_test true h (suc k) e later =
           let at : slice_get (start ∷ places p (start + 1) xs) (suc k) ≡ Some place = rw h at e in
-          stands_later start x xs d k (suc k) place (rw h (omega arith)) (later k at)
+          has_command_later start x xs d k (suc k) place (rw h (omega arith)) (later k at)
       by_test false h k e later =
           let at : slice_get (places p (start + 1) xs) k ≡ Some place = rw h at e in
-          stands_later start x xs d k k place (rw h (omega arith)) (later k at)
+          has_command_later start x xs d k k place (rw h (omega arith)) (later k at)
 
   -- One more element.
   pub places_push : (start : ℕ) (xs : List A) (y : A) → places p start (xs ++ y ∷ []) ≡ places p start xs ++ (cond (p y) ((start + length xs) ∷ []) [])

@@ -9,7 +9,7 @@ use Rattle.std.proofs.lemmas.Option.{slice_get_within}
 use Rattle.std.proofs.lemmas.Bool.{cases_eq, eq-eqb, ne_eqb, le-ltb}
 use Rattle.vk_sync.specs.declared.board.Command.{Command}
 use Rattle.vk_sync.specs.Inner.Places.{one_if}
-use Rattle.vk_sync.specs.Inner.Fronts.{Stands, IsSound, IsLoose, IsWithin, IsDone, AreFronts}
+use Rattle.vk_sync.specs.Inner.Fronts.{HasCommand, IsSound, IsLoose, IsWithin, IsDone, AreFronts}
 use Rattle.vk_sync.specs.Ready.{count_on, MayCome}
 use Rattle.vk_sync.proofs.PlaceLemmas.{places_push}
 use Rattle.vk_sync.proofs.FrontLemmas.{on, numbers, place_within, in_order}
@@ -27,8 +27,8 @@ module _ (cs : List Command) (c : Command) where
   count_grows : (q : ℕ) → count_on q cs ≤ count_on q (cs ++ c ∷ [])
   count_grows q = omega (arith, sum_by_push (λ (x : Command). one_if (on q x)) cs c)
 
-  -- A command is the one that came last, or stands where it stood.
-  stood : (q r j : ℕ) (d : Command) → Stands (cs ++ c ∷ []) q r j d → (Stands cs q r j d) ⊎ (IsLast q r j d)
+  -- A command is the one that came last, or is where it was.
+  stood : (q r j : ℕ) (d : Command) → HasCommand (cs ++ c ∷ []) q r j d → (HasCommand cs q r j d) ⊎ (IsLast q r j d)
   stood q r j d s = elim (get_pushed cs c j d s.is) [
     | inl is ↦
         let lt : j < length cs = slice_get_within cs j d is in
@@ -144,13 +144,13 @@ comes_first cs q before lt known none = record {
 }
 
 -- A command may come after the last one of its queue, where it waits for all that that one waits for.
-pub comes_after : (cs : List Command) (q r j : ℕ) (before : List ℕ) (c : Command) → IsSound cs → q < 4 → ((p : ℕ) → p < 4 → get_or before p 0 ≤ count_on p cs) → Stands cs q r j c → count_on q cs ≡ r + 1 → IsWithin c.before before → MayCome cs q before
+pub comes_after : (cs : List Command) (q r j : ℕ) (before : List ℕ) (c : Command) → IsSound cs → q < 4 → ((p : ℕ) → p < 4 → get_or before p 0 ≤ count_on p cs) → HasCommand cs q r j c → count_on q cs ≡ r + 1 → IsWithin c.before before → MayCome cs q before
 comes_after cs q r j before c sound lt known s last within = record {
   on_queue = lt;
   known = known;
   rising = λ i d is on p p_lt.
       let k = count_on q (take i cs) in
-      let t : Stands cs q k i d = record { is = is; on = on; rank = refl } in
+      let t : HasCommand cs q k i d = record { is = is; on = on; rank = refl } in
       let earlier = in_order cs q k r i j d c t s (omega (arith, last, place_within cs q k i d t)) in
       omega (arith, within p p_lt, sound.rising i j d c is s.is earlier (on ∙ sym s.on) p p_lt);
 }

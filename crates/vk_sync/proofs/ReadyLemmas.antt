@@ -10,7 +10,7 @@ use Rattle.std.proofs.lemmas.Option.{slice_get_within, get_or_from_slice_get}
 use Rattle.std.proofs.lemmas.Bool.{cases_lt, lt-ltb, le-ltb, or_left, or_right, not_from_false, eq-eqb, eqb-true, false_from_ne_true, or_cases, not-true, both_ways, ltb-true}
 use Rattle.vk_sync.specs.declared.board.Command.{Command}
 use Rattle.vk_sync.specs.declared.ready.Piece.{Piece}
-use Rattle.vk_sync.specs.Inner.Fronts.{Stands, IsWithin, AreFronts}
+use Rattle.vk_sync.specs.Inner.Fronts.{HasCommand, IsWithin, AreFronts}
 use Rattle.vk_sync.specs.Ready.{count_on, is_among, is_met, pieces_of, ready}
 use Rattle.vk_sync.proofs.FrontLemmas.{command_of, in_order, place_within}
 use Rattle.vk_sync.proofs.LeftLemmas.{get_of}
@@ -25,7 +25,7 @@ module _ (cs : List Command) (lines : List (List ℕ)) (done free counts : List 
       let q = c.queue in
       let r = count_on q (take x.0 cs) in
       let number : i ≡ x.0 = let n = at.0 in omega arith in
-      let s : Stands cs q r i c = record { is = at.1; on = refl; rank = ap (λ (n : ℕ). count_on q (take n cs)) number } in
+      let s : HasCommand cs q r i c = record { is = at.1; on = refl; rank = ap (λ (n : ℕ). count_on q (take n cs)) number } in
       elim (cases_lt r (get_or before q 0)) [
         | inl lt ↦
             let none = fronts.loose.finished q r i c s (omega (arith, lt, within q (fronts.loose.sound.queues i c at.1))) in
@@ -53,7 +53,7 @@ module _ (cs : List Command) (lines : List (List ℕ)) (done free counts : List 
   ]
 
   -- A command waits for nothing more where its queue counts it as free.
-  pub free_is_met : (q r j : ℕ) (c : Command) → Stands cs q r j c → is_met c.before cs ≡ nat_lt r (get_or free q 0)
+  pub free_is_met : (q r j : ℕ) (c : Command) → HasCommand cs q r j c → is_met c.before cs ≡ nat_lt r (get_or free q 0)
   free_is_met q r j c s =
       let loose = fronts.loose in
       let q_lt : q < 4 = omega (arith, loose.sound.queues j c s.is, s.on) in
@@ -74,7 +74,7 @@ module _ (cs : List Command) (lines : List (List ℕ)) (done free counts : List 
       let at = get_enumerated 0 cs i x is in
       let c = x.1 in
       let r = count_on c.queue (take i cs) in
-      let s : Stands cs c.queue r i c = record { is = at.1; on = refl; rank = refl } in
+      let s : HasCommand cs c.queue r i c = record { is = at.1; on = refl; rank = refl } in
       let all : length (map (λ k. record { command = x.0; index = k }) c.left) ≡ length c.left = length-map c.left (λ k. record { command = x.0; index = k }) in
       fronts.loose.counts_are c.queue r i c s ∙ ap (λ (b : Bool). cond b (length c.left) 0) (sym (free_is_met c.queue r i c s)) ∙ by_test (is_met c.before cs) (map (λ k. record { command = x.0; index = k }) c.left) (length c.left) all
     where
@@ -104,7 +104,7 @@ module _ (cs : List Command) (lines : List (List ℕ)) (done free counts : List 
   pub piece_at : (place j rest index : ℕ) (c : Command) → sum (take j counts) + rest ≡ place → rest < get_or counts j 0 → slice_get cs j ≡ Some c → slice_get c.left rest ≡ Some index → slice_get (ready cs) place ≡ Some (record { command = j; index = index })
   piece_at place j rest index c is within at piece =
       let r = count_on c.queue (take j cs) in
-      let s : Stands cs c.queue r j c = record { is = at; on = refl; rank = refl } in
+      let s : HasCommand cs c.queue r j c = record { is = at; on = refl; rank = refl } in
       let met : is_met c.before cs ≡ true = free_is_met c.queue r j c s ∙ some (nat_lt r (get_or free c.queue 0)) (get_or counts j 0) (length c.left) (fronts.loose.counts_are c.queue r j c s) within in
       let number : 0 + j ≡ j = omega arith in
       let here : slice_get (enumerate_from 0 cs) j ≡ Some (j, c) = enumerated_get 0 cs j c at ∙ ap (λ (n : ℕ). Some (n, c)) number in
@@ -119,7 +119,7 @@ module _ (cs : List Command) (lines : List (List ℕ)) (done free counts : List 
 
   -- What is known of a ready piece.
   pub record IsReady (piece : Piece) (c : Command) : Type 0 where
-    pub stands : Stands cs c.queue (count_on c.queue (take piece.command cs)) piece.command c
+    pub has_command : HasCommand cs c.queue (count_on c.queue (take piece.command cs)) piece.command c
     pub free_is : count_on c.queue (take piece.command cs) < get_or free c.queue 0
     pub has : Contains c.left piece.index
 
@@ -139,10 +139,10 @@ module _ (cs : List Command) (lines : List (List ℕ)) (done free counts : List 
       let is : slice_get cs piece.command ≡ Some c = ap (slice_get cs) (sym number) ∙ at.1 in
       let in_left : slice_get c.left found.2 ≡ Some piece.index = left.1 ∙ ap (λ (k : ℕ). Some k) index in
       let r = count_on c.queue (take piece.command cs) in
-      let s : Stands cs c.queue r piece.command c = record { is = is; on = refl; rank = refl } in (
+      let s : HasCommand cs c.queue r piece.command c = record { is = is; on = refl; rank = refl } in (
         c,
         record {
-          stands = s;
+          has_command = s;
           free_is = ltb-true r (get_or free c.queue 0) (sym (free_is_met c.queue r piece.command c s) ∙ split.0);
           has = (found.2, slice_get_within c.left found.2 piece.index in_left, get_or_from_slice_get c.left found.2 piece.index piece.index in_left);
         },

@@ -8,14 +8,14 @@ use Rattle.std.proofs.lemmas.Option.{slice_get_within, get_or_from_slice_get}
 use Rattle.std.proofs.lemmas.Bool.{cases_lt, lt-ltb}
 use Rattle.vk_sync.specs.declared.board.Command.{Command}
 use Rattle.vk_sync.specs.Inner.Places.{one_if}
-use Rattle.vk_sync.specs.Inner.Fronts.{Stands, IsSound, IsLoose, IsWithin, IsDone}
+use Rattle.vk_sync.specs.Inner.Fronts.{HasCommand, IsSound, IsLoose, IsWithin, IsDone}
 use Rattle.vk_sync.specs.declared.ready.Piece.{Piece}
 use Rattle.vk_sync.specs.Ready.{count_on, after_piece, with_change, without}
 use Rattle.vk_sync.proofs.SumLemmas.{sum_past, sum_within}
 use Rattle.vk_sync.proofs.FrontLemmas.{on}
 use Rattle.vk_sync.proofs.ChangeLemmas.{get_changed, places_same}
 
-module _ (cs : List Command) (p k i : ℕ) (c : Command) (left : List ℕ) (at_i : Stands cs p k i c) where
+module _ (cs : List Command) (p k i : ℕ) (c : Command) (left : List ℕ) (at_i : HasCommand cs p k i c) where
   -- The command, with other pieces left.
   abbrev after : Command
   after = record c { left = left }
@@ -53,7 +53,7 @@ module _ (cs : List Command) (p k i : ℕ) (c : Command) (left : List ℕ) (at_i
     pub place : r ≡ k
 
   -- A command is the one that was changed, or is as it was.
-  stays : (q r j : ℕ) (d : Command) → Stands later q r j d → ((j ≢ i) × Stands cs q r j d) ⊎ (IsAfter q r j d)
+  stays : (q r j : ℕ) (d : Command) → HasCommand later q r j d → ((j ≢ i) × HasCommand cs q r j d) ⊎ (IsAfter q r j d)
   stays q r j d s = elim (get_changed cs i after j d s.is) [
     | inr h ↦ inl (h.0, record { is = h.1; on = s.on; rank = sym (count_same q j) ∙ s.rank })
     | inl h ↦
@@ -131,7 +131,7 @@ module _ (cs : List Command) (p k i : ℕ) (c : Command) (left : List ℕ) (at_i
     ]
 
 -- The pieces of a command that waits for nothing more are counted.
-pub counted_of : (cs : List Command) (lines : List (List ℕ)) (done free counts : List ℕ) (p k i : ℕ) (c : Command) → IsLoose cs lines done free counts → Stands cs p k i c → k < get_or free p 0 → get_or counts i 0 ≡ length c.left
+pub counted_of : (cs : List Command) (lines : List (List ℕ)) (done free counts : List ℕ) (p k i : ℕ) (c : Command) → IsLoose cs lines done free counts → HasCommand cs p k i c → k < get_or free p 0 → get_or counts i 0 ≡ length c.left
 counted_of cs lines done free counts p k i c loose s lt =
     let yes : nat_lt k (get_or free p 0) ≡ true = lt-ltb k (get_or free p 0) lt in
     rw yes at (loose.counts_are p k i c s)

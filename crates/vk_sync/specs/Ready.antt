@@ -4,7 +4,7 @@ use Rattle.std.specs.List.{flat_map, list_all, enumerate_from}
 use Rattle.vk_sync.specs.declared.board.Command.{Command}
 use Rattle.vk_sync.specs.declared.ready.Piece.{Piece}
 
--- How many of the commands stand on a queue.
+-- How many of the commands has_commands on a queue.
 abbrev pub count_on : ℕ → List Command → ℕ
 count_on queue cs = count_by (λ c. c.queue == queue) cs
 
@@ -37,7 +37,7 @@ with_change piece cs (Some c) = slice_set cs piece.command (without piece.index 
 abbrev pub after_piece : Piece → List Command → List Command
 after_piece piece cs = with_change piece cs (slice_get cs piece.command)
 
--- A command may come next: it stands on one of four queues, waits only for commands that are there, and for all that an earlier command of its queue waits for (Vulkan, "Implicit Synchronization Guarantees", on submission order; four: profile).
+-- A command may come next: it is on one of four queues, waits only for commands that are there, and for all that an earlier command of its queue waits for (Vulkan, "Implicit Synchronization Guarantees", on submission order; four: profile).
 pub record MayCome (cs : List Command) (queue : ℕ) (before : List ℕ) : Type 0 where
   pub on_queue : queue < 4
   pub known : (q : ℕ) → q < 4 → slice_index before q ≤ count_on q cs

@@ -4,7 +4,7 @@ ghost use Rattle.std.specs.Prelude.{IsTrue, OnOk, OnErr, IfSome, IfNone};
 ghost use Rattle.std.specs.Prelude.{true, false};
 ghost use Rattle.std.specs.List.{sum_by};
 ghost use Rattle.vk_sync.specs.Ready.{MayCome, count_on, ready, after_piece};
-ghost use Rattle.vk_sync.specs.Inner.Fronts.{IsWithin, IsDone, IsFree, Stands};
+ghost use Rattle.vk_sync.specs.Inner.Fronts.{IsWithin, IsDone, IsFree, HasCommand};
 
 use crate::left::PieceSet;
 use crate::line::Line;
@@ -15,7 +15,7 @@ use std::alloc::AllocError;
 /// A command whose pieces are run.
 #[derive(Drop)]
 pub struct Command {
-    /// The queue that it stands on, 0 to 3.
+    /// The queue that it is on, 0 to 3.
     pub queue: u32,
     /// For how many commands of each queue it waits, the first ones.
     pub before: [usize; 4],
@@ -85,7 +85,7 @@ impl Board {
         requires queue { queue < 4 }
         requires loose { IsLooseBoard self.now }
         ensures some { IfSome result (λ j. (c : Command)
-            × Stands self.now.commands.items queue place j c) }
+            × HasCommand self.now.commands.items queue place j c) }
         ensures none { IfNone result (count_on queue self.now.commands.items ≤ place) }
     {
         let line = &self.lines[queue];
@@ -96,7 +96,7 @@ impl Board {
         }
     }
 
-    /// How many commands stand on a queue.
+    /// How many commands has_commands on a queue.
     fn count_of(&self, queue: usize) -> usize
         requires queue { queue < 4 }
         requires loose { IsLooseBoard self.now }
@@ -134,7 +134,7 @@ impl Board {
         requires queue { queue < 4 }
         requires loose { IsLooseBoard self.now }
         ensures yes { result ≡ true → (j : ℕ) × (c : Command)
-            × Stands self.now.commands.items queue (slice_index self.now.done queue) j c
+            × HasCommand self.now.commands.items queue (slice_index self.now.done queue) j c
             × (c.left ≡ []) }
         ensures no { result ≡ false → IsDone self.now.commands.items self.now.done queue }
     {
@@ -149,7 +149,7 @@ impl Board {
         requires queue { queue < 4 }
         requires loose { IsLooseBoard self.now }
         ensures some { IfSome result (λ j. (c : Command)
-            × Stands self.now.commands.items queue (slice_index self.now.free queue) j c
+            × HasCommand self.now.commands.items queue (slice_index self.now.free queue) j c
             × IsWithin c.before self.now.done) }
         ensures none { IfNone result
             (IsFree self.now.commands.items self.now.done self.now.free queue) }

@@ -1,6 +1,6 @@
 //! The pieces of commands that may run next, where pieces run in any order that the rules allow.
 //!
-//! Commands come in reference order. Each stands on one of four queues and waits for commands
+//! Commands come in reference order. Each is on one of four queues and waits for commands
 //! before it: of each queue, for the first so many. It is run in pieces, each of them once. A piece
 //! is ready when it hasn't run and all pieces of all commands that its command waits for have run.
 //!

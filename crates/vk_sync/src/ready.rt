@@ -80,7 +80,7 @@ impl Ready {
         self.board.may_come(queue, &before)
     }
 
-    /// Appends a command with all its pieces left. It stands on a queue and waits for commands
+    /// Appends a command with all its pieces left. It is on a queue and waits for commands
     /// before it: of each queue, for the first so many. The only error is want of memory, or of
     /// numbers where all commands have 2^64 pieces and more; it leaves all as it was.
     pub fn add(&mut self, queue: u32, before: [usize; 4], pieces: u64) -> Result<(), AllocError>

@@ -4,7 +4,7 @@ use Rattle.std.specs.Prelude.{if◌then◌else◌}
 use Rattle.std.specs.Option.{option_map}
 use Rattle.std.proofs.lemmas.Option.{slice_get_within, slice_get-get_or}
 use Rattle.std.proofs.lemmas.Simd.{length-zip2}
-use Rattle.vk_order.specs.declared.sights.Sight.{Sight}
+use Rattle.vk_order.specs.declared.new_node.NewNode.{NewNode}
 use Rattle.vk_ranges.specs.Overlaps.{Piece, AreRunsOf}
 use Rattle.vk_touches.specs.declared.accesses.ResourceAccess.{ResourceAccess}
 use Rattle.vk_touches.specs.declared.others.OtherTouches.{OtherTouches}
@@ -140,10 +140,10 @@ module _ (ts : List OtherTouches) (hs : List (Option ℕ)) (same : length ts ≡
   found_in_others is alike false low high f = λ k from to. let m = f k from to in (with_host_read m.0 (get_or hs k None), there k m.0 m.1, alike k false m.0 (get_or hs k None) m.2)
 
 -- of a byte that remembers this else, whether it is early by the host's read of it
-abbrev pub IsEarlyAt : List (Option ℕ) → Sight → ℕ → Bool → OtherTouches → Type 0
+abbrev pub IsEarlyAt : List (Option ℕ) → NewNode → ℕ → Bool → OtherTouches → Type 0
 IsEarlyAt hs s k r t = (h : Option ℕ) × (slice_get hs k ≡ Some h) × IsEarly s r (with_host_read t h)
 
-pub found_early : (ts : List OtherTouches) (hs : List (Option ℕ)) (s : Sight) (r : Bool) (low high : ℕ) → FoundAt (IsEarlyAt hs s) r ts low high → FoundIn (IsEarly s) r (all_remembered ts hs) low high
+pub found_early : (ts : List OtherTouches) (hs : List (Option ℕ)) (s : NewNode) (r : Bool) (low high : ℕ) → FoundAt (IsEarlyAt hs s) r ts low high → FoundIn (IsEarly s) r (all_remembered ts hs) low high
 found_early ts hs s true low high f = let e = f.5 in (f.0, f.1, f.2, with_host_read f.3 e.0, both_at ts hs f.0 f.3 e.0 f.4 e.1, e.2)
 found_early ts hs s false low high f = λ k from to. let m = f k from to in let e = m.2 in (with_host_read m.0 e.0, both_at ts hs k m.0 e.0 m.1 e.1, e.2)
 
@@ -189,7 +189,7 @@ module _ (is : ℕ → Bool → LastTouches → Type 0) (all : List LastTouches)
         subst (λ (xs : List LastTouches). FoundAt is false xs low high) so_far.are (found_in_others so_far.others so_far.reads so_far.same is alike false low high
         (search_end (λ k r t. is k r (without_host_read t)) so_far.others low high (subst (λ (xs : List (Piece OtherTouches)). IsSearched (λ k r t. is k r (without_host_read t)) so_far.others low high xs) none so_far.searched)))
 
-module _ (s : Sight) (ts : List OtherTouches) (hs : List (Option ℕ)) (low high : ℕ) (left : List (Piece OtherTouches)) (so_far : IsSearched (IsEarlyAt hs s) ts low high left) where
+module _ (s : NewNode) (ts : List OtherTouches) (hs : List (Option ℕ)) (low high : ℕ) (left : List (Piece OtherTouches)) (so_far : IsSearched (IsEarlyAt hs s) ts low high left) where
   module _ (piece : Piece OtherTouches) (rest : List (Piece OtherTouches)) (next : left ≡ piece ∷ rest) where
     first_early : IsSearched (IsEarlyAt hs s) ts low high (piece ∷ rest)
     first_early = subst (λ (xs : List (Piece OtherTouches)). IsSearched (IsEarlyAt hs s) ts low high xs) next so_far

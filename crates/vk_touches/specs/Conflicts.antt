@@ -8,15 +8,15 @@ use Rattle.vk_model.specs.Rules.Hazards.{breaks_hazard_war, breaks_hazard_raw, b
 use Rattle.vk_image_bytes.specs.declared.ranges.ByteRanges.{ByteRanges}
 use Rattle.vk_order.specs.Lines.{line_of}
 use Rattle.vk_order.specs.SeenWrites as order
-use Rattle.vk_order.specs.Shown.{is_among}
-use Rattle.vk_order.specs.Frontiers.{IsFrontier, IsSight}
+use Rattle.vk_order.specs.VisiblePrefix.{is_among}
+use Rattle.vk_order.specs.Frontiers.{IsFrontier, IsNewNode}
 use Rattle.vk_order.specs.Inner.Clocks.{place}
 use Rattle.vk_order.specs.declared.access.Access.{Access}
 use Rattle.vk_order.specs.declared.lines.Line.{Line}
 use Rattle.vk_order.specs.declared.lines.Line.TheVariants.{Host as OfHost, Commands as OfCommands}
 use Rattle.vk_order.specs.declared.parts.Spot.{Spot as Placed}
-use Rattle.vk_order.specs.declared.shown.Shown.{Shown}
-use Rattle.vk_order.specs.declared.sights.Sight.{Sight}
+use Rattle.vk_order.specs.declared.visible_prefix.VisiblePrefix.{VisiblePrefix}
+use Rattle.vk_order.specs.declared.new_node.NewNode.{NewNode}
 use Rattle.vk_touches.specs.declared.accesses.ResourceAccess.{ResourceAccess}
 use Rattle.vk_touches.specs.declared.bytes.Bytes.{Bytes}
 use Rattle.vk_touches.specs.declared.found.Conflicts.{Conflicts}
@@ -28,32 +28,32 @@ use Rattle.vk_touches.specs.Bytes.{numbered_byte}
 
 -- ---- what an access sees
 
--- Of a resource, by the sight of the node that comes next.
-pub record IsAccess (past : Past) (s : Sight) (b : Bytes) (kind : Access) (x : ResourceAccess) : Type 0 where
+-- Of a resource, by the node that comes next.
+pub record IsAccess (past : Past) (s : NewNode) (b : Bytes) (kind : Access) (x : ResourceAccess) : Type 0 where
   pub frontier : IsFrontier x.frontier.now (nodes past)
-  pub sight : x.sight.now ≡ s
+  pub new_node : x.new_node.now ≡ s
   pub bytes : x.bytes ≡ b
   pub access : x.access ≡ kind
 
 -- Of the write of byte k of the resource by the node of a spot: whether the access sees it.
 abbrev pub SaysSeen : ResourceAccess → ℕ → Bool → Spot → Type 0
-SaysSeen x k answer w = order.SaysSeen x.frontier.now x.sight.now (record { line = w.line; place = w.place }) w.number x.access (numbered_byte x.bytes k) answer
+SaysSeen x k answer w = order.SaysSeen x.frontier.now x.new_node.now (record { line = w.line; place = w.place }) w.number x.access (numbered_byte x.bytes k) answer
 
 -- Each write by one of these nodes is seen.
-abbrev pub AreSeen : ResourceAccess → Shown → Type 0
-AreSeen x shown = (w : Placed) (from : ℕ) (b : Byte) → is_among shown w ≡ true → order.SaysSeen x.frontier.now x.sight.now w from x.access b true
+abbrev pub AreSeen : ResourceAccess → VisiblePrefix → Type 0
+AreSeen x visible_prefix = (w : Placed) (from : ℕ) (b : Byte) → is_among visible_prefix w ≡ true → order.SaysSeen x.frontier.now x.new_node.now w from x.access b true
 
 -- The same where the access is a transition's, by what is known at its element.
 abbrev pub SaysSeenAt : TransitionAccess → ℕ → Bool → Spot → Type 0
 SaysSeenAt x k answer w = order.SaysSeenAt x.frontier.now x.part.now (record { line = w.line; place = w.place }) w.number (numbered_byte x.bytes k) answer
 
 -- Of whether a node of a line is before.
-abbrev pub SaysFollows : Sight → Line → Bool → ℕ → Type 0
-SaysFollows s l answer k = (ns : List Node) (n m : Node) → IsSight ns n s → Contains ns m → line_of m ≡ Some l → place ns l m.number ≡ k → answer ≡ before (n ∷ ns) m n
+abbrev pub SaysFollows : NewNode → Line → Bool → ℕ → Type 0
+SaysFollows s l answer k = (ns : List Node) (n m : Node) → IsNewNode ns n s → Contains ns m → line_of m ≡ Some l → place ns l m.number ≡ k → answer ≡ before (n ∷ ns) m n
 
 -- ---- what is wrong with a byte
 
--- Whether there is one of which a sight says no.
+-- Whether there is one of which a new node says no.
 pub record IsRefused {A : Type 0} (says : Bool → A → Type 0) (answer : Bool) (last : Option A) : Type 0 where
   pub none : last ≡ None → answer ≡ false
   pub some : (a : A) → last ≡ Some a → says (not answer) a
@@ -98,7 +98,7 @@ MissesAt x k true t = IsRefused (SaysSeenAt x k) true t.write ⊎ IsRefused (Say
 MissesAt x k false t = IsRefused (SaysSeenAt x k) false t.write × IsRefused (SaysSeenAt x k) false t.transition
 
 -- Whether the last read by a command of some queue doesn't come before.
-pub record HasEarlyRead (s : Sight) (answer : Bool) (r : QueueReads) : Type 0 where
+pub record HasEarlyRead (s : NewNode) (answer : Bool) (r : QueueReads) : Type 0 where
   pub on_first : Bool
   pub on_second : Bool
   pub on_third : Bool
@@ -110,15 +110,15 @@ pub record HasEarlyRead (s : Sight) (answer : Bool) (r : QueueReads) : Type 0 wh
   pub fourth : IsRefused (SaysFollows s (OfCommands 3)) on_fourth r.fourth
 
 -- The same of a byte.
-abbrev pub HasEarlyCommand : Sight → Bool → LastTouches → Type 0
+abbrev pub HasEarlyCommand : NewNode → Bool → LastTouches → Type 0
 HasEarlyCommand s answer t = HasEarlyRead s answer t.reads
 
 -- Whether the last transition of a byte, which reads it, doesn't come before.
-abbrev pub HasEarlyTransition : Sight → Bool → LastTouches → Type 0
+abbrev pub HasEarlyTransition : NewNode → Bool → LastTouches → Type 0
 HasEarlyTransition s answer t = IsRefused (λ a w. SaysFollows s w.line a w.place) answer t.transition
 
 -- Whether the last read by the host or by a command of some queue, or the last transition, doesn't come before.
-pub record IsEarly (s : Sight) (answer : Bool) (t : LastTouches) : Type 0 where
+pub record IsEarly (s : NewNode) (answer : Bool) (t : LastTouches) : Type 0 where
   pub of_host : Bool
   pub of_commands : Bool
   pub of_transition : Bool

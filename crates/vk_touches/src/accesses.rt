@@ -7,7 +7,7 @@ use crate::bytes::Bytes;
 use crate::map::TouchMap;
 use crate::others::OtherTouches;
 use crate::touches::Spot;
-use vk_order::{Access, Frontier, Line, SeenUntil, Shown, Sight};
+use vk_order::{Access, Frontier, Line, SeenUntil, VisiblePrefix, NewNode};
 
 /// How the node of a point that comes next accesses a resource, and what it sees.
 #[derive(Clone, Copy)]
@@ -15,7 +15,7 @@ pub struct ResourceAccess<'a> {
     /// What is known of the nodes so far.
     pub frontier: &'a Frontier,
     /// What the node has before it, and what it sees.
-    pub sight: &'a Sight,
+    pub new_node: &'a NewNode,
     /// The bytes of the resource.
     pub bytes: Bytes<'a>,
     /// How it is accessed.
@@ -31,11 +31,11 @@ impl ResourceAccess<'_> {
         requires numbers { HaveNumbers self.now.bytes high }
         ensures { FoundAt (Misses is_cached self.now) result touches.now low high }
     {
-        let mut shown = self.frontier.shown(self.sight, Line::Host, self.access);
+        let mut visible_prefix = self.frontier.visible_prefix(self.new_node, Line::Host, self.access);
         for run in touches.others.overlapping(low, high) {
-            if !self.are_among(run.value, shown) {
-                shown = self.shown_for(run.value, shown);
-                if self.misses(run.start, run.end, run.value, is_cached, shown) {
+            if !self.are_among(run.value, visible_prefix) {
+                visible_prefix = self.visible_prefix_for(run.value, visible_prefix);
+                if self.misses(run.start, run.end, run.value, is_cached, visible_prefix) {
                     return true;
                 }
             }
@@ -50,11 +50,11 @@ impl ResourceAccess<'_> {
         requires numbers { HaveNumbers self.now.bytes high }
         ensures { FoundAt (MissesWrite self.now) result touches.now low high }
     {
-        let mut shown = self.frontier.shown(self.sight, Line::Host, self.access);
+        let mut visible_prefix = self.frontier.visible_prefix(self.new_node, Line::Host, self.access);
         for run in touches.others.overlapping(low, high) {
-            if !self.is_among(run.value.write, shown) {
-                shown = self.shown_for(run.value, shown);
-                if self.misses_write(run.start, run.end, run.value.write, shown) {
+            if !self.is_among(run.value.write, visible_prefix) {
+                visible_prefix = self.visible_prefix_for(run.value, visible_prefix);
+                if self.misses_write(run.start, run.end, run.value.write, visible_prefix) {
                     return true;
                 }
             }
@@ -79,21 +79,21 @@ impl ResourceAccess<'_> {
     /// Whether each last write, and the last transition, is none or by one of the nodes all of whose
     /// writes are seen. It says so of a write by a command alone.
     #[inline(always)]
-    fn are_among(&self, last: &OtherTouches, shown: Shown) -> bool
-        requires { AreSeen self.now shown }
+    fn are_among(&self, last: &OtherTouches, visible_prefix: VisiblePrefix) -> bool
+        requires { AreSeen self.now visible_prefix }
         ensures { result ≡ true → (is_cached : Bool) (k : ℕ) → Misses is_cached self.now k false (without_host_read last.now) }
     {
-        last.host_write.is_none() && last.transition.is_none() && self.is_among(last.write, shown)
+        last.host_write.is_none() && last.transition.is_none() && self.is_among(last.write, visible_prefix)
     }
 
     /// Whether there is no such write, or it is by one of the nodes all of whose writes are seen.
     #[inline(always)]
-    fn is_among(&self, last: Option<Spot>, shown: Shown) -> bool
-        requires { AreSeen self.now shown }
+    fn is_among(&self, last: Option<Spot>, visible_prefix: VisiblePrefix) -> bool
+        requires { AreSeen self.now visible_prefix }
         ensures { result ≡ true → (k : ℕ) → IsRefused (SaysSeen self.now k) false last }
     {
         match last {
-            Some(write) => shown.has(write.in_line()),
+            Some(write) => visible_prefix.has(write.in_line()),
             None => true,
         }
     }
@@ -101,15 +101,15 @@ impl ResourceAccess<'_> {
     /// The first nodes of a line as far as all their writes are seen: of the line of the last write by
     /// a command, where there is one. Most other writes are on the same line.
     #[inline(always)]
-    fn shown_for(&self, last: &OtherTouches, shown: Shown) -> Shown
-        requires { AreSeen self.now shown }
+    fn visible_prefix_for(&self, last: &OtherTouches, visible_prefix: VisiblePrefix) -> VisiblePrefix
+        requires { AreSeen self.now visible_prefix }
         ensures { AreSeen self.now result }
     {
         match last.write {
-            Some(write) if !shown.is_of(write.line) => {
-                self.frontier.shown(self.sight, write.line, self.access)
+            Some(write) if !visible_prefix.is_of(write.line) => {
+                self.frontier.visible_prefix(self.new_node, write.line, self.access)
             }
-            _ => shown,
+            _ => visible_prefix,
         }
     }
 
@@ -121,15 +121,15 @@ impl ResourceAccess<'_> {
         high: u64,
         last: &OtherTouches,
         is_cached: bool,
-        shown: Shown,
+        visible_prefix: VisiblePrefix,
     ) -> bool
         requires numbers { HaveNumbers self.now.bytes high }
-        requires shown { AreSeen self.now shown }
+        requires visible_prefix { AreSeen self.now visible_prefix }
         ensures { SomeBetween (λ k r. Misses is_cached self.now k r (without_host_read last.now)) result low high }
     {
-        self.misses_write(low, high, last.write, shown)
-            || self.misses_host_write(low, high, last, is_cached, shown)
-            || self.misses_write(low, high, last.transition, shown)
+        self.misses_write(low, high, last.write, visible_prefix)
+            || self.misses_host_write(low, high, last, is_cached, visible_prefix)
+            || self.misses_write(low, high, last.transition, visible_prefix)
     }
 
     /// The same of the last write by the host.
@@ -139,30 +139,30 @@ impl ResourceAccess<'_> {
         high: u64,
         last: &OtherTouches,
         is_cached: bool,
-        shown: Shown,
+        visible_prefix: VisiblePrefix,
     ) -> bool
         requires numbers { HaveNumbers self.now.bytes high }
-        requires shown { AreSeen self.now shown }
+        requires visible_prefix { AreSeen self.now visible_prefix }
         ensures { SomeBetween (λ k r. MissesHostWrite is_cached self.now k r (without_host_read last.now)) result low high }
     {
         if is_cached {
-            self.misses_flush(low, high, last, shown)
+            self.misses_flush(low, high, last, visible_prefix)
         } else {
-            self.misses_write(low, high, last.host_write, shown)
+            self.misses_write(low, high, last.host_write, visible_prefix)
         }
     }
 
     /// The same of the last write by the host to cached memory.
-    fn misses_flush(&self, low: u64, high: u64, last: &OtherTouches, shown: Shown) -> bool
+    fn misses_flush(&self, low: u64, high: u64, last: &OtherTouches, visible_prefix: VisiblePrefix) -> bool
         requires numbers { HaveNumbers self.now.bytes high }
-        requires shown { AreSeen self.now shown }
+        requires visible_prefix { AreSeen self.now visible_prefix }
         ensures { SomeBetween (λ k r. MissesFlush self.now k r (without_host_read last.now)) result low high }
     {
         if last.host_write.is_none() {
             return false;
         }
         match last.flush {
-            Some(flush) => self.is_some_unseen(low, high, flush, shown),
+            Some(flush) => self.is_some_unseen(low, high, flush, visible_prefix),
             None => low < high,
         }
     }
@@ -196,7 +196,7 @@ impl ResourceAccess<'_> {
         let access = self.access;
         let run = self.bytes.units(low, high);
         let seen = self.frontier.seen_until(
-            self.sight,
+            self.new_node,
             write.in_line(),
             write.number,
             run.units,
@@ -211,31 +211,31 @@ impl ResourceAccess<'_> {
     }
 
     /// The same of one write.
-    fn misses_write(&self, low: u64, high: u64, last: Option<Spot>, shown: Shown) -> bool
+    fn misses_write(&self, low: u64, high: u64, last: Option<Spot>, visible_prefix: VisiblePrefix) -> bool
         requires numbers { HaveNumbers self.now.bytes high }
-        requires shown { AreSeen self.now shown }
+        requires visible_prefix { AreSeen self.now visible_prefix }
         ensures { SomeBetween (λ k r. IsRefused (SaysSeen self.now k) r last) result low high }
     {
         match last {
-            Some(write) => self.is_some_unseen(low, high, write, shown),
+            Some(write) => self.is_some_unseen(low, high, write, visible_prefix),
             None => false,
         }
     }
 
     /// Whether the write of some byte by the node of a spot isn't seen.
-    fn is_some_unseen(&self, low: u64, high: u64, write: Spot, shown: Shown) -> bool
+    fn is_some_unseen(&self, low: u64, high: u64, write: Spot, visible_prefix: VisiblePrefix) -> bool
         requires numbers { HaveNumbers self.now.bytes high }
-        requires shown { AreSeen self.now shown }
+        requires visible_prefix { AreSeen self.now visible_prefix }
         ensures { SomeBetween (λ k r. SaysSeen self.now k (not r) write) result low high }
     {
         let spot = write.in_line();
-        if low >= high || shown.has(spot) {
+        if low >= high || visible_prefix.has(spot) {
             return false;
         }
         let from = write.number;
         let run = self.bytes.units(low, high);
         let unseen = self.frontier.first_unseen(
-            self.sight,
+            self.new_node,
             spot,
             from,
             run.units,

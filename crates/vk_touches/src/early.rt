@@ -4,46 +4,46 @@ ghost use Rattle.vk_touches.specs.TouchMaps.{with_host_read, without_host_read};
 
 use crate::others::OtherTouches;
 use crate::touches::QueueReads;
-use vk_order::{Line, Sight};
+use vk_order::{Line, NewNode};
 
 /// Whether the last read of a byte, by the host or by a command of some queue, or its last
 /// transition doesn't come before.
-pub(crate) fn is_early(others: &OtherTouches, host_read: Option<usize>, sight: &Sight) -> bool
-    ensures { IsEarly sight.now result (with_host_read others.now host_read) }
+pub(crate) fn is_early(others: &OtherTouches, host_read: Option<usize>, new_node: &NewNode) -> bool
+    ensures { IsEarly new_node.now result (with_host_read others.now host_read) }
 {
-    let of_host = is_ahead(host_read, sight, Line::Host);
-    let of_commands = has_early_read(&others.reads, sight);
-    let of_transition = has_early_transition(others, sight);
+    let of_host = is_ahead(host_read, new_node, Line::Host);
+    let of_commands = has_early_read(&others.reads, new_node);
+    let of_transition = has_early_transition(others, new_node);
     of_host || of_commands || of_transition
 }
 
 /// The same of the last reads by commands alone.
-pub(crate) fn has_early_read(reads: &QueueReads, sight: &Sight) -> bool
-    ensures { HasEarlyRead sight.now result reads.now }
+pub(crate) fn has_early_read(reads: &QueueReads, new_node: &NewNode) -> bool
+    ensures { HasEarlyRead new_node.now result reads.now }
 {
-    let on_first = is_ahead(reads.first, sight, Line::Commands(0));
-    let on_second = is_ahead(reads.second, sight, Line::Commands(1));
-    let on_third = is_ahead(reads.third, sight, Line::Commands(2));
-    let on_fourth = is_ahead(reads.fourth, sight, Line::Commands(3));
+    let on_first = is_ahead(reads.first, new_node, Line::Commands(0));
+    let on_second = is_ahead(reads.second, new_node, Line::Commands(1));
+    let on_third = is_ahead(reads.third, new_node, Line::Commands(2));
+    let on_fourth = is_ahead(reads.fourth, new_node, Line::Commands(3));
     on_first || on_second || on_third || on_fourth
 }
 
 /// The same of the last transition alone.
-fn has_early_transition(others: &OtherTouches, sight: &Sight) -> bool
-    ensures { HasEarlyTransition sight.now result (without_host_read others.now) }
+fn has_early_transition(others: &OtherTouches, new_node: &NewNode) -> bool
+    ensures { HasEarlyTransition new_node.now result (without_host_read others.now) }
 {
     match others.transition {
-        Some(spot) => !sight.follows(spot.line, spot.place),
+        Some(spot) => !new_node.follows(spot.line, spot.place),
         None => false,
     }
 }
 
 /// Whether there is a node of a line that doesn't come before.
-fn is_ahead(last: Option<usize>, sight: &Sight, line: Line) -> bool
-    ensures { IsRefused (SaysFollows sight.now line) result last }
+fn is_ahead(last: Option<usize>, new_node: &NewNode, line: Line) -> bool
+    ensures { IsRefused (SaysFollows new_node.now line) result last }
 {
     match last {
-        Some(place) => !sight.follows(line, place),
+        Some(place) => !new_node.follows(line, place),
         None => false,
     }
 }

@@ -6,7 +6,7 @@ use crate::early::{has_early_read, is_early};
 use crate::others::OtherTouches;
 use std::alloc::{AllocError, Global};
 use std::marker::Model;
-use vk_order::Sight;
+use vk_order::NewNode;
 use vk_ranges::RangeMap;
 
 /// What each byte of a resource remembers. Contracts see the list of it.
@@ -54,16 +54,16 @@ impl TouchMap {
 
     /// Whether of some byte of a range the last read, by the host or by a command of some queue, or
     /// the last layout transition doesn't come before.
-    pub fn has_early(&self, low: u64, high: u64, sight: &Sight) -> bool
+    pub fn has_early(&self, low: u64, high: u64, new_node: &NewNode) -> bool
         requires order { low ≤ high }
         requires within { high ≤ length self.now }
-        ensures { FoundIn (IsEarly sight.now) result self.now low high }
+        ensures { FoundIn (IsEarly new_node.now) result self.now low high }
     {
         for run in self.others.overlapping(low, high) {
             let early = self.host_reads.find(
                 run.start,
                 run.end,
-                |host_read| is_early(run.value, *host_read, sight),
+                |host_read| is_early(run.value, *host_read, new_node),
             );
             if early.is_some() {
                 return true;
@@ -73,13 +73,13 @@ impl TouchMap {
     }
 
     /// The same of the last reads by commands alone.
-    pub fn has_early_command(&self, low: u64, high: u64, sight: &Sight) -> bool
+    pub fn has_early_command(&self, low: u64, high: u64, new_node: &NewNode) -> bool
         requires order { low ≤ high }
         requires within { high ≤ length self.now }
-        ensures { FoundIn (HasEarlyCommand sight.now) result self.now low high }
+        ensures { FoundIn (HasEarlyCommand new_node.now) result self.now low high }
     {
         self.others
-            .find(low, high, |others| has_early_read(&others.reads, sight))
+            .find(low, high, |others| has_early_read(&others.reads, new_node))
             .is_some()
     }
 

@@ -36,9 +36,9 @@ fn a_fill_sees_one_before_a_barrier(rt: HostRuntime) -> Result<(), Fail> {
     frontier.advance(&command(0, &fill))?;
     frontier.advance(&command(1, &barrier))?;
     assert_eq!(rt; frontier.count(Line::Commands(0)), 1);
-    let sight = frontier.sight(&command(2, &fill), &Act::Runs(&fill))?;
-    assert!(rt; sight.follows(Line::Commands(0), 0));
-    assert!(rt; sight.sees(0, 0, Access::Write));
-    assert!(rt; !sight.sees(0, 0, Access::Read));
+    let new_node = frontier.new_node(&command(2, &fill), &Act::Runs(&fill))?;
+    assert!(rt; new_node.follows(Line::Commands(0), 0));
+    assert!(rt; new_node.sees(0, 0, Access::Write));
+    assert!(rt; !new_node.sees(0, 0, Access::Read));
     Ok(())
 }

@@ -43,10 +43,10 @@ abbrev pub IsMissed : Past → Hazard → Node → Node → (Byte → Bool) → 
 IsMissed past h x y among None = (b : Byte) → among b ≡ true → is_missing past h x y b ≡ false
 IsMissed past h x y among (Some b) = (among (byte_of b) ≡ true) × (is_missing past h x y (byte_of b) ≡ true)
 
--- ---- what is told
+-- ---- what is reported
 
--- What is told of two nodes and a byte.
-pub record IsTold (past : Past) (h : Hazard) (x y : Node) (b : Told) (f : HazardFact) : Type 0 where
+-- What is reported of two nodes and a byte.
+pub record IsReported (past : Past) (h : Hazard) (x y : Node) (b : Told) (f : HazardFact) : Type 0 where
   pub hazard : f.hazard ≡ h
   pub earlier : node_at f.earlier ≡ x
   pub later : node_at f.later ≡ y

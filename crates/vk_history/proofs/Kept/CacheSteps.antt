@@ -17,7 +17,7 @@ use Rattle.vk_model.specs.Sync.Edge.{is_element, is_host}
 use Rattle.vk_model.specs.Sync.Seen as seen
 use Rattle.vk_model.proofs.Lists.Members.{contains-head}
 use Rattle.vk_order.specs.Cached.{uncached}
-use Rattle.vk_order.specs.Frontiers.{IsFrontier, IsSight}
+use Rattle.vk_order.specs.Frontiers.{IsFrontier, IsNewNode}
 use Rattle.vk_order.specs.Lines.{class_of, class_on, line_on}
 use Rattle.vk_order.specs.SeenWrites as order
 use Rattle.vk_order.specs.Wide.{is_answered}
@@ -138,7 +138,7 @@ module _ (past : Past) (p : Point) (clean : fault (p ∷ past) ≡ None) (b o : 
   none_clean true = refl
   none_clean false = refl
 
-  module _ (x : ResourceAccess) (of : x.bytes ≡ bytes.Buffer b) (reads : x.access ≡ access.Read) (frontier : IsFrontier x.frontier.now (nodes past)) (sight : IsSight (nodes past) (next_node past p (act_next p.action)) x.sight.now) where
+  module _ (x : ResourceAccess) (of : x.bytes ≡ bytes.Buffer b) (reads : x.access ≡ access.Read) (frontier : IsFrontier x.frontier.now (nodes past)) (new_node : IsNewNode (nodes past) (next_node past p (act_next p.action)) x.new_node.now) where
     -- what is answered of a byte is whether the invalidation sees its last write
     answer_is : (k : ℕ) (answer : Bool) → SeesWrite x k answer (touched past (in_buffer b k)) → holds (last_touch touch.Write past (in_buffer b k)) (λ v. seen.seen uncached (nodes (p ∷ past)) v (next_node past p (act_next p.action)) seen.Read (in_buffer b k)) ≡ answer
     answer_is k answer h = go (last_touch touch.Write past byte) refl where
@@ -158,10 +158,10 @@ module _ (past : Past) (p : Point) (clean : fault (p ∷ past) ≡ None) (b o : 
       seen_is v e =
           let w = writer_is past byte v e in
           let says : SaysSeen x k answer (spot_of past v) = h.some (spot_of past v) (ap (option_map (spot_of past)) e) in
-          let here : order.SaysSeen x.frontier.now x.sight.now (record { line = class_of v; place = place (nodes past) (class_of v) v.number }) v.number access.Read byte answer =
-          subst (λ (a : Access). order.SaysSeen x.frontier.now x.sight.now (record { line = class_of v; place = place (nodes past) (class_of v) v.number }) v.number a byte answer) reads
-          (subst (λ (c : Bytes). order.SaysSeen x.frontier.now x.sight.now (record { line = class_of v; place = place (nodes past) (class_of v) v.number }) v.number x.access (numbered_byte c k) answer) of says) in
-          here (nodes past) y v uncached frontier sight
+          let here : order.SaysSeen x.frontier.now x.new_node.now (record { line = class_of v; place = place (nodes past) (class_of v) v.number }) v.number access.Read byte answer =
+          subst (λ (a : Access). order.SaysSeen x.frontier.now x.new_node.now (record { line = class_of v; place = place (nodes past) (class_of v) v.number }) v.number a byte answer) reads
+          (subst (λ (c : Bytes). order.SaysSeen x.frontier.now x.new_node.now (record { line = class_of v; place = place (nodes past) (class_of v) v.number }) v.number x.access (numbered_byte c k) answer) of says) in
+          here (nodes past) y v uncached frontier new_node
           (record { there = w.there; uncached = rw (ap is_host w.runs) refl; limited = rw (ap is_element w.runs) refl })
           (ap (line_on v.point.queue) w.runs ∙ ap Some (sym (ap (class_on v.point.queue) w.runs))) refl (omega arith) asked
 

@@ -22,9 +22,9 @@ use Rattle.vk_model.proofs.Lists.Members.{none_in, contains-cons, contains-head,
 use Rattle.vk_model.proofs.Lists.Truths.{clash}
 use Rattle.vk_model.proofs.Sync.Numbers.{number_below}
 use Rattle.vk_order.specs.declared.lines.Line.{Line}
-use Rattle.vk_order.specs.declared.sights.Sight.{Sight}
+use Rattle.vk_order.specs.declared.new_node.NewNode.{NewNode}
 use Rattle.vk_order.specs.declared.frontier.Frontier.{Frontier}
-use Rattle.vk_order.specs.Frontiers.{IsSight, IsFrontier}
+use Rattle.vk_order.specs.Frontiers.{IsNewNode, IsFrontier}
 use Rattle.vk_order.specs.declared.lines.Line.TheVariants.{Commands as OfCommands, Elements as OfElements}
 use Rattle.vk_order.specs.Lines.{line_of, line_on, class_on, has_transfer, has_host}
 use Rattle.vk_order.specs.Inner.Clocks.{place, on_line, same_bit}
@@ -95,14 +95,14 @@ pub one_left : (kept : List LastUse) (ns : List Node) (n : Node) (r : ℕ) (u : 
     → ((m : Node) → Contains ns m → line_of m ≡ Some u.line → place ns u.line m.number ≡ u.place → before (n ∷ ns) m n ≡ false) → list_any (is_left r ns n) ns ≡ true
 one_left kept ns n r u are c left = let s = are.sound u c in member_passes (is_left r ns n) ns s.0 s.1 (and_from (names_it r s.0) (not (before (n ∷ ns) s.0 n)) s.2 (ap not (left s.0 s.1 s.3 s.4)))
 
-pub none_left : (kept : List LastUse) (ns : List Node) (n : Node) (r : ℕ) (s : Sight) → IsSight ns n s → AreLast kept ns r
+pub none_left : (kept : List LastUse) (ns : List Node) (n : Node) (r : ℕ) (s : NewNode) → IsNewNode ns n s → AreLast kept ns r
     → ((u : LastUse) → Contains kept u → (m : Node) → Contains ns m → line_of m ≡ Some u.line → place ns u.line m.number ≡ u.place → before (n ∷ ns) m n ≡ true) → list_any (is_left r ns n) ns ≡ false
-none_left kept ns n r s sight are done = false_from_ne_true (list_any (is_left r ns n) ns) (λ h.
+none_left kept ns n r s new_node are done = false_from_ne_true (list_any (is_left r ns n) ns) (λ h.
     let x = some_member (is_left r ns n) ns h in
     let both = and_parts (names_it r x.0) (not (before (n ∷ ns) x.0 n)) x.2 in
     let w = are.whole x.0 x.1 both.0 in
     let d = are.sound w.0 w.1 in
-    let first = first_on_line ns n s sight w.0.line x.0 d.0 x.1 d.1 w.2 d.3 (let le = w.3 in let e = d.4 in omega (arith, le, e)) (done w.0 w.1 d.0 d.1 d.3 d.4) in
+    let first = first_on_line ns n s new_node w.0.line x.0 d.0 x.1 d.1 w.2 d.3 (let le = w.3 in let e = d.4 in omega (arith, le, e)) (done w.0 w.1 d.0 d.1 d.3 d.4) in
     clash both.1 (ap not first))
 
 -- ---- what two calls keep
@@ -126,17 +126,17 @@ contains_at xs u c = (c.0, slice_get-get_or xs c.0 u c.1 ∙ ap Some c.2)
 
 -- ---- the ones that were gone through
 
-abbrev pub IsDone : Sight → LastUse → Type 0
-IsDone s u = (ns : List Node) (n m : Node) → IsSight ns n s → Contains ns m → line_of m ≡ Some u.line → place ns u.line m.number ≡ u.place → before (n ∷ ns) m n ≡ true
+abbrev pub IsDone : NewNode → LastUse → Type 0
+IsDone s u = (ns : List Node) (n m : Node) → IsNewNode ns n s → Contains ns m → line_of m ≡ Some u.line → place ns u.line m.number ≡ u.place → before (n ∷ ns) m n ≡ true
 
-pub next_done : (kept : List LastUse) (k : ℕ) (d : LastUse) (s : Sight) → IsDone s (get_or kept k d) → ((i : ℕ) (u : LastUse) → i < k → slice_get kept i ≡ Some u → IsDone s u) → (i : ℕ) (u : LastUse) → i < k + 1 → slice_get kept i ≡ Some u → IsDone s u
+pub next_done : (kept : List LastUse) (k : ℕ) (d : LastUse) (s : NewNode) → IsDone s (get_or kept k d) → ((i : ℕ) (u : LastUse) → i < k → slice_get kept i ≡ Some u → IsDone s u) → (i : ℕ) (u : LastUse) → i < k + 1 → slice_get kept i ≡ Some u → IsDone s u
 next_done kept k d s here done i u lt is = ⊎_elim
     (λ old. done i u old is)
     (λ ge. let same : i ≡ k = omega (arith, lt, ge) in subst (IsDone s) (get_or_from_slice_get kept k u d (ap (slice_get kept) (sym same) ∙ is)) here)
     (cases_lt i k)
 
-pub nothing_left : (ns : List Node) (n : Node) (r : ℕ) (s : Sight) → IsSight ns n s → AreLast [] ns r → list_any (is_left r ns n) ns ≡ false
-nothing_left ns n r s sight are = none_left [] ns n r s sight are (λ u c. absurd (none_in u c))
+pub nothing_left : (ns : List Node) (n : Node) (r : ℕ) (s : NewNode) → IsNewNode ns n s → AreLast [] ns r → list_any (is_left r ns n) ns ≡ false
+nothing_left ns n r s new_node are = none_left [] ns n r s new_node are (λ u c. absurd (none_in u c))
 
 -- ---- how many elements there are
 

@@ -4,7 +4,7 @@ ghost use Rattle.vk_model.specs.declared.entry.Entry.{Entry as AnyEntry};
 ghost use Rattle.vk_model.specs.Sync.Node.{Node, nodes, Hosts, Depends, Barrier};
 ghost use Rattle.vk_model.specs.Sync.Before.{before};
 ghost use Rattle.vk_model.specs.Sync.Complete.{is_busy};
-ghost use Rattle.vk_order.specs.Frontiers.{IsSight};
+ghost use Rattle.vk_order.specs.Frontiers.{IsNewNode};
 ghost use Rattle.vk_touches.specs.Touched.{next_node};
 ghost use Rattle.vk_model.specs.Trace.Objects.{is_exclusive, image};
 ghost use Rattle.vk_order.specs.Inner.Clocks.{place};
@@ -23,7 +23,7 @@ use crate::history::History;
 use crate::owners::Owned;
 use std::alloc::AllocError;
 use vk_model::{Element, Layout, SubresourceRange};
-use vk_order::{Act, Point, Sight, Spot};
+use vk_order::{Act, Point, NewNode, Spot};
 use vk_touches::Bytes;
 
 impl<'a> History<'a> {
@@ -36,12 +36,12 @@ impl<'a> History<'a> {
 
     /// Whether a submitted command that names a resource isn't known complete at a host entry that
     /// comes next, which sees this.
-    pub fn is_busy(&self, resource: u32, sight: &Sight) -> bool
-        ensures { (p : AnyPoint) (x : AnyEntry) → p.action ≡ Host x → IsSight (nodes (past self.now)) (next_node (past self.now) p (Hosts x)) sight.now
+    pub fn is_busy(&self, resource: u32, new_node: &NewNode) -> bool
+        ensures { (p : AnyPoint) (x : AnyEntry) → p.action ≡ Host x → IsNewNode (nodes (past self.now)) (next_node (past self.now) p (Hosts x)) new_node.now
             → result ≡ is_busy (past self.now) (nodes (p ∷ past self.now)) (next_node (past self.now) p (Hosts x)) resource }
     {
         self.is_judged();
-        self.tables.uses.is_busy(resource, sight)
+        self.tables.uses.is_busy(resource, new_node)
     }
 
     /// Whether one queue family at a time owns a resource.
@@ -69,15 +69,15 @@ impl<'a> History<'a> {
         ensures { IfOk result (λ r. (m n : Node) → n ≡ next_node (past self.now) (point_of point.now) (Depends Barrier element.now) → IsApartFrom (nodes (past self.now)) n
             → Contains (nodes (past self.now)) m → line_of m ≡ Some spot.line → place (nodes (past self.now)) spot.line m.number ≡ spot.place → r ≡ before (n ∷ nodes (past self.now)) m n) }
     {
-        let sight = self.element_sight(point, element)?;
-        Ok(sight.follows(spot.line, spot.place))
+        let new_node = self.new_element(point, element)?;
+        Ok(new_node.follows(spot.line, spot.place))
     }
 
     /// What an element of a barrier that comes next has before it, and what it sees.
-    pub fn element_sight(&self, point: &Point<'_>, element: &Element) -> Result<Sight, AllocError>
-        ensures { IfOk result (λ s. (n : Node) → n ≡ next_node (past self.now) (point_of point.now) (Depends Barrier element.now) → IsApartFrom (nodes (past self.now)) n → IsSight (nodes (past self.now)) n s) }
+    pub fn new_element(&self, point: &Point<'_>, element: &Element) -> Result<NewNode, AllocError>
+        ensures { IfOk result (λ s. (n : Node) → n ≡ next_node (past self.now) (point_of point.now) (Depends Barrier element.now) → IsApartFrom (nodes (past self.now)) n → IsNewNode (nodes (past self.now)) n s) }
     {
-        self.tables.frontier.sight(point, &Act::Barrier(element))
+        self.tables.frontier.new_node(point, &Act::Barrier(element))
     }
 
     /// What is known at such an element, where it is on a part of memory.
@@ -89,8 +89,8 @@ impl<'a> History<'a> {
         ensures { IfOk result (λ known. (n : Node) → n ≡ next_node (past self.now) (point_of point.now) (Depends Barrier element.now) → IsApartFrom (nodes (past self.now)) n → IsKnownAt (past self.now) n known) }
     {
         let act = Act::Barrier(element);
-        let sight = self.tables.frontier.sight(point, &act)?;
-        let known = self.tables.frontier.part(point, &act, &sight)?;
+        let new_node = self.tables.frontier.new_node(point, &act)?;
+        let known = self.tables.frontier.part(point, &act, &new_node)?;
         match known {
             Some(part) => Ok(Some(ElementPart {
                 frontier: &self.tables.frontier,

@@ -23,7 +23,7 @@ use Rattle.vk_model.proofs.Lists.Truths.{clash, contradicted}
 use Rattle.vk_model.proofs.Sync.Numbers.{number_below, numbered, unique}
 use Rattle.vk_laws.proofs.Running.Stages.{From, Placed, later}
 use Rattle.vk_laws.proofs.Running.StageTasks.{Known, old_node, node_in_all}
-use Rattle.vk_laws.proofs.CachedRunning.NodesHappened.{event_task, event_at, event_is, Plain, Events, event_may, happened_from, happened_low, happened_freed}
+use Rattle.vk_laws.proofs.CachedRunning.NodesHappened.{event_task, event_at, event_is, Plain, Events, event_may, happened_from, happened_low, happened_commands_done}
 use Rattle.vk_laws.proofs.CachedRunning.LastWriters.{Last, last_other, IsNamed}
 use Rattle.vk_laws.proofs.CachedRunning.HostCaches.{HostOk}
 use Rattle.vk_laws.proofs.CachedRunning.Happening.{no_run, event_done, host_after}
@@ -136,8 +136,8 @@ module _ {t : List Entry} (known : Known t) where
       still : (n : Node) → Contains (nodes all) n → IsTrue (node_happened s n) → IsTrue (node_happened e n)
       still n cn h =
           let lt = happened_low known s q n cn h in
-          let freed = happened_freed known s q n cn h in
-          happened_from known e p n cn (omega (arith, lt, le)) (λ m c j cm act less b. more (m.number, j) (freed m c j cm act less b))
+          let commands_done = happened_commands_done known s q n cn h in
+          happened_from known e p n cn (omega (arith, lt, le)) (λ m c j cm act less b. more (m.number, j) (commands_done m c j cm act less b))
 
       parts_of : (n : Node) → Contains (happening s e) n → Due n × IsTrue (not (node_happened s n))
       parts_of n c =

@@ -148,14 +148,14 @@ module _ {t : List Entry} (known : Known t) where
       abbrev back : Bool → Cell → Cell
       back b cell = if b then written_back a cell else cell
 
-      abbrev shown : Bool → Cell → Cell
-      shown b cell = if b then dropped a cell else cell
+      abbrev made_visible_cell : Bool → Cell → Cell
+      made_visible_cell b cell = if b then dropped a cell else cell
 
       back_touched : (cell : Cell) (b : Bool) → Touched cell (back b cell)
       back_touched cell true = back_touches a cell
       back_touched cell false = unchanged cell
 
-      show_touched : (cell : Cell) (b : Bool) → Touched cell (shown b cell)
+      show_touched : (cell : Cell) (b : Bool) → Touched cell (made_visible_cell b cell)
       show_touched cell true = drop_touches a cell
       show_touched cell false = unchanged cell
 
@@ -163,7 +163,7 @@ module _ {t : List Entry} (known : Known t) where
       clean_after : (c : Byte) (u : ℕ) → makes_last_available past e.done n c ≡ true → (after c).held a ≡ Some (Dirty u) → ⊥
       clean_after c u is held = go (makes_last_available past e.done n c) (makes_byte_visible past n c) is held
         where
-          go : (k v : Bool) → k ≡ true → (shown v (back k (cells c))).held a ≡ Some (Dirty u) → ⊥
+          go : (k v : Bool) → k ≡ true → (made_visible_cell v (back k (cells c))).held a ≡ Some (Dirty u) → ⊥
           go true true is held = let w = (drop_within a (written_back a (cells c)) a).dirty u held in back_clean a (cells c) w.0 w.1
           go true false is held = back_clean a (cells c) u held
           go false v is held = cc
@@ -171,14 +171,14 @@ module _ {t : List Entry} (known : Known t) where
       gone_after : (c : Byte) (u : ℕ) → makes_byte_visible past n c ≡ true → (after c).held a ≡ Some (Clean u) → ⊥
       gone_after c u is held = go (makes_byte_visible past n c) is held
         where
-          go : (v : Bool) → v ≡ true → (shown v (back (makes_last_available past e.done n c) (cells c))).held a ≡ Some (Clean u) → ⊥
+          go : (v : Bool) → v ≡ true → (made_visible_cell v (back (makes_last_available past e.done n c) (cells c))).held a ≡ Some (Clean u) → ⊥
           go true is held = drop_gone a (back (makes_last_available past e.done n c) (cells c)) u held
           go false is held = cc
 
       pub host_after : HostOk known past after
       host_after c = go (makes_last_available past e.done n c) (makes_byte_visible past n c)
         where
-          go : (k v : Bool) → HostByte known c ((world past).dirty c) (shown v (back k (cells c)))
+          go : (k v : Bool) → HostByte known c ((world past).dirty c) (made_visible_cell v (back k (cells c)))
           go true true = byte_within known c _ (cells c) _ (within_joins _ _ _ (back_within a (cells c) 0) (drop_within a (written_back a (cells c)) 0)) (host c)
           go true false = byte_within known c _ (cells c) _ (back_within a (cells c) 0) (host c)
           go false true = byte_within known c _ (cells c) _ (drop_within a (cells c) 0) (host c)

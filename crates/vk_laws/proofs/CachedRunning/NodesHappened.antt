@@ -92,11 +92,11 @@ module _ {t : List Entry} (known : Known t) where
   -- ---- nodes that are free
 
   -- the pieces before a node have run, among all of the trace
-  abbrev pub Freed : List Name → Node → Type 0
-  Freed done n = (m : Node) (c : Cmd) (j : ℕ) → Contains (nodes all) m → m.act ≡ Runs c → j < length (pieces all c) → IsTrue (before (nodes all) m n) → IsTrue (is_done done (m.number, j))
+  abbrev pub CommandsDone : List Name → Node → Type 0
+  CommandsDone done n = (m : Node) (c : Cmd) (j : ℕ) → Contains (nodes all) m → m.act ≡ Runs c → j < length (pieces all c) → IsTrue (before (nodes all) m n) → IsTrue (is_done done (m.number, j))
 
-  free_from : (P : Point → Type 0) (past : Past) → Grows P past all → (done : List Name) (n : Node) → Contains (nodes past) n → Freed done n → IsTrue (is_free past done n)
-  free_from P past g done n cn freed = each_of (λ m. not (before (nodes past) m n) || list_all (is_done done) (node_pieces past m m.act)) (nodes past) (λ m cm. go m cm (before (nodes past) m n) refl)
+  free_from : (P : Point → Type 0) (past : Past) → Grows P past all → (done : List Name) (n : Node) → Contains (nodes past) n → CommandsDone done n → IsTrue (is_free past done n)
+  free_from P past g done n cn commands_done = each_of (λ m. not (before (nodes past) m n) || list_all (is_done done) (node_pieces past m m.act)) (nodes past) (λ m cm. go m cm (before (nodes past) m n) refl)
     where
       pieces_run : (m : Node) → Contains (nodes past) m → before (nodes past) m n ≡ true → (a : Act) → m.act ≡ a → IsTrue (list_all (is_done done) (node_pieces past m a))
       pieces_run m cm b (Runs c) act = each_of (is_done done) (node_pieces past m (Runs c)) (λ y h.
@@ -104,7 +104,7 @@ module _ {t : List Entry} (known : Known t) where
           let within = (range_from 0 (length (pieces past c)) j.0 j.1).1 in
           let count : length (pieces all c) ≡ length (pieces past c) = ap (λ (ps : List (List ByteWrite)). length ps) (pieces_same known P past g m c cm act) in
           subst (λ (z : Name). IsTrue (is_done done z)) j.2
-          (freed m c j.0 (node_in_all known P past g m cm) act (omega (arith, within, count)) (turned (sym (before_same known P past g m n cn)) b)))
+          (commands_done m c j.0 (node_in_all known P past g m cm) act (omega (arith, within, count)) (turned (sym (before_same known P past g m n cn)) b)))
       pieces_run m cm b (Hosts x) act = refl
       pieces_run m cm b (Waits x) act = refl
       pieces_run m cm b (Signals x) act = refl
@@ -115,22 +115,22 @@ module _ {t : List Entry} (known : Known t) where
       go m cm true e = pieces_run m cm e m.act refl
 
   module _ (s : Stage) (p : Placed known.keeps t s) (n : Node) (cn : Contains (nodes all) n) where
-    pub happened_from : n.number < length (nodes s.front.past) → Freed s.done n → IsTrue (node_happened s n)
-    happened_from lt freed =
+    pub happened_from : n.number < length (nodes s.front.past) → CommandsDone s.done n → IsTrue (node_happened s n)
+    happened_from lt commands_done =
         let g = later known.keeps t s p in
-        and_from _ _ (lt-ltb n.number (length (nodes s.front.past)) lt) (free_from _ s.front.past g s.done n (old_node known _ s.front.past g n cn lt) freed)
+        and_from _ _ (lt-ltb n.number (length (nodes s.front.past)) lt) (free_from _ s.front.past g s.done n (old_node known _ s.front.past g n cn lt) commands_done)
 
     pub happened_low : IsTrue (node_happened s n) → n.number < length (nodes s.front.past)
     happened_low h = ltb-true n.number (length (nodes s.front.past)) (and_parts _ _ h).0
 
-    pub happened_freed : IsTrue (node_happened s n) → Freed s.done n
-    happened_freed h =
+    pub happened_commands_done : IsTrue (node_happened s n) → CommandsDone s.done n
+    happened_commands_done h =
         let g = later known.keeps t s p in
         λ m c j cm act lt b. free_done known _ s.front.past g s.done n (old_node known _ s.front.past g n cn (happened_low h)) (and_parts _ _ h).1 m c j cm act lt b
 
   -- what comes before what is free is free
-  freed_before : (done : List Name) (k n : Node) → Contains (nodes all) k → Contains (nodes all) n → IsTrue (before (nodes all) k n) → Freed done n → Freed done k
-  freed_before done k n ck cn b freed = λ m c j cm act lt h. freed m c j cm act lt (known.joins all m k n cm ck cn h b)
+  commands_done_before : (done : List Name) (k n : Node) → Contains (nodes all) k → Contains (nodes all) n → IsTrue (before (nodes all) k n) → CommandsDone done n → CommandsDone done k
+  commands_done_before done k n ck cn b commands_done = λ m c j cm act lt h. commands_done m c j cm act lt (known.joins all m k n cm ck cn h b)
 
   -- ---- tasks of the machine where the definitions are at a stage
 
@@ -154,14 +154,14 @@ module _ {t : List Entry} (known : Known t) where
             let at_v : node_at all v.node ≡ Some e.node = ap (λ (w : Task). node_at all w.node) e.is ∙ event_at e.node e.present in
             let number : v.node ≡ e.node.number = ap (λ (w : Task). w.node) e.is in
             let lt = tasks_lead_on all v.node u.node p.1 in
-            let freed : Freed s.done e.node = λ m c j cm act less b.
+            let commands_done : CommandsDone s.done e.node = λ m c j cm act less b.
             let w : Task = piece_task (m.number, j) in
             let at_w = event_at m cm in
             let there : IsTrue (tr.has w) = has_task all w m at_w (subst (λ (a : Act). IsTrue (nat_lt j (task_count all a))) (sym act) (lt-ltb j (length (pieces all c)) less)) in
             let first : IsTrue (tr.before w.node v.node) = turned (sym (before_is all w v m e.node at_w at_v)) b in
             let present = may.after w (there, transitive known.paths known.joins known.leads all w.node v.node u.node first p.1) in
             turned (happened_is all s w m at_w (Runs c) act) ((i.happened w there (plain_is all w m at_w (Runs c) act refl)).0 present) in
-            subst (λ (w : Task). IsIn w done) (sym e.is) ((events e.node e.present e.kind).1 (happened_from s i.placed e.node e.present (omega (arith, lt, number, le)) freed))
+            subst (λ (w : Task). IsIn w done) (sym e.is) ((events e.node e.present e.kind).1 (happened_from s i.placed e.node e.present (omega (arith, lt, number, le)) commands_done))
 
         go : (v : Task) → Precedes tr v u → (b : Bool) → is_event all v ≡ b → IsIn v done
         go v p false e = (plain v p.0 e).1 ((i.happened v p.0 e).0 (may.after v p))
@@ -176,14 +176,14 @@ module _ {t : List Entry} (known : Known t) where
     after = λ v q. go v q (is_event all v) refl;
   }
     where
-      freed : Freed s.done n
-      freed = happened_freed s p n cn happened
+      commands_done : CommandsDone s.done n
+      commands_done = happened_commands_done s p n cn happened
 
       ran : (v : Task) → Precedes tr v (event_task n) → Kind all v → IsTrue (has_happened all s v)
       ran v q (piece m c at act lt) =
           let found = node_of all v.node m at in
           let b = turned (before_is all v (event_task n) m n at (event_at n cn)) q.1 in
-          turned (sym (happened_is all s v m at (Runs c) act)) (subst (λ (k : ℕ). IsTrue (is_done s.done (k, v.index))) found.1 (freed m c v.index found.0 act lt b))
+          turned (sym (happened_is all s v m at (Runs c) act)) (subst (λ (k : ℕ). IsTrue (is_done s.done (k, v.index))) found.1 (commands_done m c v.index found.0 act lt b))
       ran v q (hosts m x at act first) =
           let found = node_of all v.node m at in
           let lt = tasks_lead_on all v.node n.number q.1 in
@@ -200,4 +200,4 @@ module _ {t : List Entry} (known : Known t) where
           let b = turned (before_is all v (event_task n) k.node n at_v (event_at n cn)) q.1 in
           let lt = known.leads (nodes all) k.node n b in
           let less = happened_low s p n cn happened in
-          subst (λ (w : Task). IsIn w done) (sym k.is) (earlier k.node k.present k.kind lt (happened_from s p k.node k.present (omega (arith, lt, less)) (freed_before s.done k.node n k.present cn b freed)))
+          subst (λ (w : Task). IsIn w done) (sym k.is) (earlier k.node k.present k.kind lt (happened_from s p k.node k.present (omega (arith, lt, less)) (commands_done_before s.done k.node n k.present cn b commands_done)))

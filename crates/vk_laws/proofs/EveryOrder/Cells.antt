@@ -64,11 +64,11 @@ module _ (x : ℕ) (cell : Cell) (owner : Option ℕ) (made_available : Type 0) 
   touched_ok new (Loaded a others was is region) = loaded_ok a new others was is region
 
   -- a write, once the one before it was made available, or is by the same agent
-  pub written_ok : (a y : ℕ) (new : Cell) (freed' : Type 0) (shown' : ℕ → Type 0) → (owner ≡ Some a) ⊎ made_available → (freed' → ⊥) → ((b : ℕ) → shown' b → a ≡ b) → Wrote a y cell new → CellOk y new (Some a) freed' shown'
-  written_ok a y new freed' shown' before not_freed to_self w = record {
+  pub written_ok : (a y : ℕ) (new : Cell) (available' : Type 0) (visible' : ℕ → Type 0) → (owner ≡ Some a) ⊎ made_available → (available' → ⊥) → ((b : ℕ) → visible' b → a ≡ b) → Wrote a y cell new → CellOk y new (Some a) available' visible'
+  written_ok a y new available' visible' before not_available to_self w = record {
     dirty = λ b u e. ⊎_elim
         (λ h. let at = subst (λ (i : ℕ). new.held i ≡ Some (Dirty u)) h e in let own : Some a ≡ Some b = ap Some (sym h) in
-        ⊎_elim (λ d. (cc, own, not_freed)) (λ r. absurd (⊎_elim (λ n. cc) (λ n. cc) r.1)) w.mine)
+        ⊎_elim (λ d. (cc, own, not_available)) (λ r. absurd (⊎_elim (λ n. cc) (λ n. cc) r.1)) w.mine)
         (λ h. let was = ok.dirty b u (sym (w.others b h) ∙ e) in absurd (⊎_elim (λ own. let o = was.1 in h cc) (λ f. was.2 f) before))
         (same_or_not a b);
     home = ⊎_elim (λ d. inr (a, refl, d)) (λ r. inl r.0) w.mine;
@@ -79,9 +79,9 @@ module _ (x : ℕ) (cell : Cell) (owner : Option ℕ) (made_available : Type 0) 
   }
 
   -- a barrier, signal, wait or submit
-  pub event_ok : (freed' : Type 0) (shown' : ℕ → Type 0) → (freed' → made_available ⊎ ((a u : ℕ) → owner ≡ Some a → cell.held a ≡ Some (Dirty u) → ⊥)) → ((a : ℕ) → shown' a → made_visible a ⊎ ((u : ℕ) → cell.held a ≡ Some (Clean u) → ⊥))
-      → ((a : ℕ) → shown' a → (owner ≡ Some a) ⊎ freed') → CellOk x cell owner freed' shown'
-  event_ok freed' shown' by_free by_show is_shown' = record {
+  pub event_ok : (available' : Type 0) (visible' : ℕ → Type 0) → (available' → made_available ⊎ ((a u : ℕ) → owner ≡ Some a → cell.held a ≡ Some (Dirty u) → ⊥)) → ((a : ℕ) → visible' a → made_visible a ⊎ ((u : ℕ) → cell.held a ≡ Some (Clean u) → ⊥))
+      → ((a : ℕ) → visible' a → (owner ≡ Some a) ⊎ available') → CellOk x cell owner available' visible'
+  event_ok available' visible' by_free by_show is_shown' = record {
     dirty = λ a u e. let d = ok.dirty a u e in (d.0, d.1, λ f. ⊎_elim (λ old. d.2 old) (λ none. none a u d.1 e) (by_free f));
     home = ok.home;
     clean = λ a u s e. ⊎_elim (λ old. ok.clean a u old e) (λ none. absurd (none u e)) (by_show a s);

@@ -66,13 +66,13 @@ module _ (tr : TraceAccesses) (ca : Caching) (free : HazardFree tr) (cache : Cac
           ⊎_elim (λ self. inl (ap Some self)) (λ s. inr (s.p, may.after s.p s.before, s.available)) (cache.seen_write w t c i.0 i.1 writes)
 
   -- no task done so far makes available what is written now
-  not_freed : (done : List Task) (t : Task) (c : Byte) → IsAllowed tr done → MayRun tr done t → MadeAvailable tr ca (t ∷ done) c (Some t) → ⊥
-  not_freed done t c ok may f =
+  not_available : (done : List Task) (t : Task) (c : Byte) → IsAllowed tr done → MayRun tr done t → MadeAvailable tr ca (t ∷ done) c (Some t) → ⊥
+  not_available done t c ok may f =
       let later = cache.available_later f.0 t c f.2 in
       may.fresh (⊎_elim (λ same. may.after t (subst (λ (u : Task). Precedes tr t u) same later)) (λ h. closed tr done ok f.0 t h later) f.1)
 
   to_self : (done : List Task) (t : Task) (c : Byte) → IsAllowed tr done → MayRun tr done t → (b : ℕ) → MadeVisible tr ca (t ∷ done) c (Some t) b → ca.agent t ≡ b
-  to_self done t c ok may b s = ⊎_elim (λ self. self) (λ h. absurd (not_freed done t c ok may (h.0, h.2, h.4))) s
+  to_self done t c ok may b s = ⊎_elim (λ self. self) (λ h. absurd (not_available done t c ok may (h.0, h.2, h.4))) s
 
   event_at : (done : List Task) (t : Task) (cells : Byte → Cell) (c : Byte) (x : ℕ) → IsAllowed tr done → MayRun tr done t → Guard tr ca done cells t → (l : Option Task) → latest tr c done ≡ l
       → CellOk x (cells c) (owner_of tr ca l) (MadeAvailable tr ca done c l) (MadeVisible tr ca done c l) → CellOk x (cells c) (owner_of tr ca l) (MadeAvailable tr ca (t ∷ done) c l) (MadeVisible tr ca (t ∷ done) c l)
@@ -97,7 +97,7 @@ module _ (tr : TraceAccesses) (ca : Caching) (free : HazardFree tr) (cache : Cac
       write : (y : ℕ) → Writes tr t c → Wrote (ca.agent t) y (cells c) (new c) → CellOk y (new c) (Some (ca.agent t)) (MadeAvailable tr ca (t ∷ done) c (Some t)) (MadeVisible tr ca (t ∷ done) c (Some t))
       write y w wrote =
           written_ok (m c) (cells c) (owner_of tr ca (latest tr c done)) (MadeAvailable tr ca done c (latest tr c done)) (MadeVisible tr ca done c (latest tr c done)) (all c)
-          (ca.agent t) y (new c) (MadeAvailable tr ca (t ∷ done) c (Some t)) (MadeVisible tr ca (t ∷ done) c (Some t)) (available_for done t c ok may w) (not_freed done t c ok may) (to_self done t c ok may) wrote
+          (ca.agent t) y (new c) (MadeAvailable tr ca (t ∷ done) c (Some t)) (MadeVisible tr ca (t ∷ done) c (Some t)) (available_for done t c ok may w) (not_available done t c ok may) (to_self done t c ok may) wrote
 
       go : (o : Option (Put)) → tr.write_of t c ≡ o → (r : CellRan o (ca.agent t) cells (cells c) (new c))
           → CellOk (next o (ca.agent t) cells (cells c) (new c) r m (m c)) (new c) (owner_of tr ca (newest o t (latest tr c done))) (MadeAvailable tr ca (t ∷ done) c (newest o t (latest tr c done))) (MadeVisible tr ca (t ∷ done) c (newest o t (latest tr c done)))

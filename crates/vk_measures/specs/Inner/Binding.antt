@@ -1,4 +1,4 @@
--- Parts of what is told of binding, as single functions find them.
+-- Parts of what is reported of binding, as single functions find them.
 use Rattle.std.specs.Prelude.{◌≡◌, ℕ, ◌+◌, ◌%◌, ◌<◌, ◌≢◌, ◌==◌, ◌&&◌, ◌||◌, Bool, not, nat_lt, Option, Some, None, option_map, if◌then◌else◌}
 use Rattle.vk_model.specs.declared.resource.Place.{Place}
 use Rattle.vk_model.specs.Basics.{holds}

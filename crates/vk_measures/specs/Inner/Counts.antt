@@ -1,4 +1,4 @@
--- Parts of what is told of sizes, as single functions find them.
+-- Parts of what is reported of sizes, as single functions find them.
 use Rattle.std.specs.Prelude.{◌≡◌, true, Some}
 use Rattle.vk_model.specs.declared.command.Element.{Element}
 use Rattle.vk_model.specs.declared.command.Length.{Length}

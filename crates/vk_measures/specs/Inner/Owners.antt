@@ -1,4 +1,4 @@
--- Parts of what is told of ownership, as single functions find them.
+-- Parts of what is reported of ownership, as single functions find them.
 use Rattle.std.specs.Prelude.{◌≡◌, ℕ, ◌==◌, ◌&&◌, false, Some, option_map}
 use Rattle.vk_model.specs.declared.command.Element.{Element}
 use Rattle.vk_model.specs.Trace.Point.{Past}

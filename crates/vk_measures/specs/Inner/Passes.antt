@@ -1,4 +1,4 @@
--- Parts of what is told of pools, as single functions find them.
+-- Parts of what is reported of pools, as single functions find them.
 use Rattle.std.specs.Prelude.{◌≡◌, ℕ, true, Some, option_map}
 use Rattle.vk_model.specs.declared.resource.Place.{Place}
 use Rattle.vk_model.specs.Trace.Point.{Past}

@@ -1,4 +1,4 @@
--- Parts of what is told of ranges, as single functions find them.
+-- Parts of what is reported of ranges, as single functions find them.
 use Rattle.std.specs.Prelude.{◌≡◌, ℕ, ◌%◌, ◌<◌, ◌≢◌, ◌==◌, List, Bool, not, nat_le, Option, Some, None, option_and_then, true, slice_get, if◌then◌else◌}
 use Rattle.vk_model.specs.declared.command.BufferImageCopy.{BufferImageCopy}
 use Rattle.vk_model.specs.declared.command.Element.{Element}

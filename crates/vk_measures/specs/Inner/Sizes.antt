@@ -1,4 +1,4 @@
--- Parts of what is told of usages and pools, as single functions find them.
+-- Parts of what is reported of usages and pools, as single functions find them.
 use Rattle.std.specs.Prelude.{◌≡◌, ℕ, ◌*◌, ◌<◌, Bool, nat_lt, Option, Some, None, option_map, option_and_then}
 use Rattle.vk_model.specs.declared.command.Element.{Element}
 use Rattle.vk_model.specs.declared.resource.Place.{Place}

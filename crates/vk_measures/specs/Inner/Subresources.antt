@@ -1,4 +1,4 @@
--- Parts of what is told of subresources, as single functions find them.
+-- Parts of what is reported of subresources, as single functions find them.
 use Rattle.std.specs.Prelude.{◌≡◌, ℕ, Option, Some, option_and_then, true}
 use Rattle.vk_model.specs.declared.command.Element.{Element}
 use Rattle.vk_model.specs.declared.resource.ImageInfo.{ImageInfo}

@@ -1,4 +1,4 @@
--- Parts of what is told of masks, as single functions find them.
+-- Parts of what is reported of masks, as single functions find them.
 use Rattle.std.specs.Prelude.{◌≡◌, ℕ, List, Option, Some, None, option_and_then, true, slice_get}
 use Rattle.vk_model.specs.declared.command.Dependency.{Dependency}
 use Rattle.vk_measures.specs.declared.items.Item.{Item}

@@ -8,8 +8,8 @@ use Rattle.vk_model.specs.Sync.Seen.{Access, makes_writes_available}
 use Rattle.vk_order.specs.declared.frontier.Frontier.{Frontier}
 use Rattle.vk_order.specs.declared.parts.Part.{Part}
 use Rattle.vk_order.specs.declared.parts.Spot.{Spot}
-use Rattle.vk_order.specs.declared.sights.Sight.{Sight}
-use Rattle.vk_order.specs.Frontiers.{IsSight}
+use Rattle.vk_order.specs.declared.new_node.NewNode.{NewNode}
+use Rattle.vk_order.specs.Frontiers.{IsNewNode}
 use Rattle.vk_order.specs.Limited.{Reaches}
 use Rattle.vk_order.specs.Lines.{line_of}
 use Rattle.vk_order.specs.Inner.Clocks.{place}
@@ -20,10 +20,10 @@ use Rattle.vk_order.specs.Inner.Tallies.{lines_of}
 abbrev pub ShowsAlone : (Byte → Bool) → List Node → Node → Access → Byte → Node → Node → Type 0
 ShowsAlone cached ns n k b w m = IsTrue (opens cached ns n n.act k b m) × (Reaches ns w m ⊎ IsTrue (is_command w.act && makes_writes_available cached ns m b m.act && edge ns w m))
 
--- A part is of such a node, whatever it is that comes next with this sight.
-abbrev pub AlwaysShows : Frontier → Sight → Spot → Access → Byte → Part → Type 0
+-- A part is of such a node, whatever it is that comes next with this new node.
+abbrev pub AlwaysShows : Frontier → NewNode → Spot → Access → Byte → Part → Type 0
 AlwaysShows f s write k b x =
-    (ns : List Node) (n w m : Node) (cached : Byte → Bool) → IsSight ns n s → (is_command n.act || is_host n.act) ≡ true → IsPart ns (lines_of f.tallies.items) m x → Contains ns w → line_of w ≡ Some write.line → place ns write.line w.number ≡ write.place
+    (ns : List Node) (n w m : Node) (cached : Byte → Bool) → IsNewNode ns n s → (is_command n.act || is_host n.act) ≡ true → IsPart ns (lines_of f.tallies.items) m x → Contains ns w → line_of w ≡ Some write.line → place ns write.line w.number ≡ write.place
     → ShowsAlone cached ns n k b w m
 
 -- Node m makes the write of a byte by command w available, and what it marks is known at node n, which comes next.

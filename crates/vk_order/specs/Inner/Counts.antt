@@ -11,7 +11,7 @@ use Rattle.vk_order.specs.Inner.Clocks.{place}
 use Rattle.vk_order.specs.Inner.Kept.{clock_at, IsOwn}
 use Rattle.vk_order.specs.Inner.Leads.{is_of_host, is_of_barriers}
 use Rattle.vk_order.specs.Inner.Places.{index_in}
-use Rattle.vk_order.specs.Inner.Rows.{Knowledge, Available, Visible, OnHost, receives, receives_on_host, sends_line}
+use Rattle.vk_order.specs.Inner.Rows.{Knowledge, Available, Visible, OnHost, makes_all_visible, makes_all_visible_on_host, makes_line_available}
 
 -- Of no node.
 abbrev pub zero_counts : Counts
@@ -43,11 +43,11 @@ known_in all i l = known_on l (slice_index_or all i zero_counts)
 
 -- What an act makes visible.
 abbrev pub shows_of : Act → Shows
-shows_of a = record { reads = receives Read a; writes = receives Write a; host_reads = receives_on_host Read a; host_writes = receives_on_host Write a; is_submit = is_submit a }
+shows_of a = record { reads = makes_all_visible Read a; writes = makes_all_visible Write a; host_reads = makes_all_visible_on_host Read a; host_writes = makes_all_visible_on_host Write a; is_submit = is_submit a }
 
 -- The counts for a line after an act, where what is available after it is counted: also of what it makes visible.
-abbrev pub shown_by : Shows → Line → Counts → Counts
-shown_by s l c = record {
+abbrev pub made_visible_by : Shows → Line → Counts → Counts
+made_visible_by s l c = record {
   clock = c.clock;
   available = c.available;
   reads = if s.reads || is_of_host l && s.is_submit then known_on l c else 0;
@@ -57,8 +57,8 @@ shown_by s l c = record {
 }
 
 -- The same, for what looks no further.
-unfoldable pub shown_on : Shows → Line → Counts → Counts
-shown_on s l c = shown_by s l c
+unfoldable pub made_visible_on : Shows → Line → Counts → Counts
+made_visible_on s l c = made_visible_by s l c
 
 -- Other counts with this many before, and with this many available.
 abbrev pub with_clock : Counts → ℕ → Counts
@@ -74,12 +74,12 @@ pub record AreJoinedCounts (first second both : List Counts) : Type 0 where
 
 -- What an act on a queue, which comes next, makes available is counted too.
 pub record AreSent (ns : List Node) (ls : List Line) (queue : ℕ) (act : Act) (before own : List Counts) : Type 0 where
-  pub counts : (l : Line) → counts_on ls own l ≡ (if sends_line queue act l then with_available (counts_on ls before l) (place ns l (length ns)) else counts_on ls before l)
+  pub counts : (l : Line) → counts_on ls own l ≡ (if makes_line_available queue act l then with_available (counts_on ls before l) (place ns l (length ns)) else counts_on ls before l)
   pub short : length own ≤ length ls
 
 -- What is made visible is counted too.
-pub record AreShown (ls : List Line) (shows : Shows) (before own : List Counts) : Type 0 where
-  pub counts : (l : Line) → counts_on ls own l ≡ shown_by shows l (counts_on ls before l)
+pub record AreVisible (ls : List Line) (shows : Shows) (before own : List Counts) : Type 0 where
+  pub counts : (l : Line) → counts_on ls own l ≡ made_visible_by shows l (counts_on ls before l)
   pub long : length own ≡ length before
 
 -- The node n itself is counted too.

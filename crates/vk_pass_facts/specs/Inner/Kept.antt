@@ -35,7 +35,7 @@ pool_begun o = option_and_then defrag_in (option_and_then (λ p. host_of p.actio
 abbrev pub open_among : Past → Past → List ℕ
 open_among past seen = filter (λ i. is_some (pool_of_defrag past i)) (filter_map made_by (entries seen))
 
--- A list has these, and each is told as it is.
+-- A list has these, and each is reported as it is.
 pub record AreDefrags (past seen : Past) (list : List OpenDefrag) : Type 0 where
   pub all : (f : ℕ → Bool) → list_any (λ o. f o.defrag) list ≡ list_any f (open_among past seen)
   pub each : (o : OpenDefrag) → Contains list o → IsOpenDefrag past o

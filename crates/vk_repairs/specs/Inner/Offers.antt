@@ -14,7 +14,7 @@ pub record IsMeasured (r : Refused) : Type 0 where
   pub size : r.size ≡ all_points r.trace.now
 
 -- A changed trace has its first fault later, and the refused point, at its new place, before it.
-pub record Helps (trace changed : List Entry) (place : At) (told : Option (At × Rule)) : Type 0 where
-  pub next : told ≡ first_fault changed
+pub record Helps (trace changed : List Entry) (place : At) (answered : Option (At × Rule)) : Type 0 where
+  pub next : answered ≡ first_fault changed
   pub later : length (sound_start (order trace)) + all_points changed < length (sound_start (order changed)) + all_points trace
   pub kept : IsAmong (sound_start (order changed)) place

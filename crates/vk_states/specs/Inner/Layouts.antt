@@ -17,13 +17,13 @@ pub record IsPartAt (past : Past) (k : ℕ) (one : NamedPart) (n : NamedLayout) 
   pub part : n.part ≡ one
   pub current : IsCurrent past n.part.image n.found
 
--- What is told of a part.
+-- What is reported of a part.
 abbrev pub IsBadPart : Past → ℕ → NamedPart → LayoutState → Type 0
 IsBadPart past k part (state.Unallowed n) = IsPartAt past k part n × IsUnallowed n
 IsBadPart past k part (state.Other n) = IsPartAt past k part n × IsOtherIn n.part.range n.part.layout n.found
 IsBadPart past k part (state.Transition t) = ⊥
 
--- What is told of one of some parts.
+-- What is reported of one of some parts.
 pub record IsPartOf (past : Past) (parts : List NamedPart) (n : NamedLayout) : Type 0 where
   pub part : slice_get parts n.index ≡ Some n.part
   pub current : IsCurrent past n.part.image n.found
@@ -33,7 +33,7 @@ AreBadParts past parts (state.Unallowed n) = IsPartOf past parts n × IsUnallowe
 AreBadParts past parts (state.Other n) = IsPartOf past parts n × IsOtherIn n.part.range n.part.layout n.found
 AreBadParts past parts (state.Transition t) = ⊥
 
--- What is told of an element on a queue.
+-- What is reported of an element on a queue.
 pub record IsOldAt (past : Past) (q k : ℕ) (e : Element) (o : OldLayout) : Type 0 where
   pub index : o.element ≡ k
   pub transition : transition_in e ≡ Some o.transition

@@ -26,7 +26,7 @@ counted past form k seen = count_by (is_form past form k) (entries seen)
 abbrev pub moves : Past → ℕ → Entry → Bool
 moves past k x = is_form past maps k x || is_form past unmaps k x
 
--- What is told of this resource.
+-- What is reported of this resource.
 pub record IsMappedAs (past : Past) (r : ℕ) (m : MapState) : Type 0 where
   pub resource : m.resource ≡ r
   pub mapped : IsMapped past m

@@ -9,8 +9,8 @@ use Rattle.vk_sync.specs.Ready.{count_on}
 abbrev pub IsWithin : List ℕ → List ℕ → Type 0
 IsWithin before done = (q : ℕ) → q < 4 → slice_index before q ≤ slice_index done q
 
--- Command number j is c, and stands on a queue, after so many others of the queue. (profile)
-pub record Stands (cs : List Command) (q r j : ℕ) (c : Command) : Type 0 where
+-- Command number j is c, and is on a queue, after so many others of the queue. (profile)
+pub record HasCommand (cs : List Command) (q r j : ℕ) (c : Command) : Type 0 where
   pub is : slice_get cs j ≡ Some c
   pub on : c.queue ≡ q
   pub rank : count_on q (take j cs) ≡ r
@@ -32,17 +32,17 @@ pub record IsLoose (cs : List Command) (lines : List (List ℕ)) (done free coun
   pub lines_are : (q : ℕ) → q < 4 → slice_index_or lines q [] ≡ places (λ c. c.queue == q) 0 cs
   pub done_within : (q : ℕ) → q < 4 → slice_index done q ≤ count_on q cs
   pub free_within : (q : ℕ) → q < 4 → slice_index free q ≤ count_on q cs
-  pub finished : (q r j : ℕ) (c : Command) → Stands cs q r j c → r < slice_index done q → c.left ≡ []
-  pub freed : (q r j : ℕ) (c : Command) → Stands cs q r j c → r < slice_index free q → IsWithin c.before done
-  pub counts_are : (q r j : ℕ) (c : Command) → Stands cs q r j c → slice_index counts j ≡ (if nat_lt r (slice_index free q) then length c.left else 0)
+  pub finished : (q r j : ℕ) (c : Command) → HasCommand cs q r j c → r < slice_index done q → c.left ≡ []
+  pub freed : (q r j : ℕ) (c : Command) → HasCommand cs q r j c → r < slice_index free q → IsWithin c.before done
+  pub counts_are : (q r j : ℕ) (c : Command) → HasCommand cs q r j c → slice_index counts j ≡ (if nat_lt r (slice_index free q) then length c.left else 0)
 
 -- The first command of a queue that doesn't count as done has pieces left. (profile)
 abbrev pub IsDone : List Command → List ℕ → ℕ → Type 0
-IsDone cs done q = (j : ℕ) (c : Command) → Stands cs q (slice_index done q) j c → c.left ≢ []
+IsDone cs done q = (j : ℕ) (c : Command) → HasCommand cs q (slice_index done q) j c → c.left ≢ []
 
 -- The first command of a queue that doesn't count as free waits for more. (profile)
 abbrev pub IsFree : List Command → List ℕ → List ℕ → ℕ → Type 0
-IsFree cs done free q = (j : ℕ) (c : Command) → Stands cs q (slice_index free q) j c → ¬ (IsWithin c.before done)
+IsFree cs done free q = (j : ℕ) (c : Command) → HasCommand cs q (slice_index free q) j c → ¬ (IsWithin c.before done)
 
 -- All queues have come as far as they can. (profile)
 pub record AreFronts (cs : List Command) (lines : List (List ℕ)) (done free counts : List ℕ) : Type 0 where

@@ -16,13 +16,13 @@ use Rattle.vk_model.specs.Sync.Seen.{Access, seen}
 use Rattle.vk_order.specs.Lines.{line_of, line_on, class_of, class_on}
 use Rattle.vk_order.specs.Wide.{is_wide}
 use Rattle.vk_order.specs.Limited.{IsWrite}
-use Rattle.vk_order.specs.Frontiers.{IsFrontier, IsSight}
+use Rattle.vk_order.specs.Frontiers.{IsFrontier, IsNewNode}
 use Rattle.vk_order.specs.Inner.Clocks.{place}
 use Rattle.vk_order.specs.Inner.Parts.{IsPart}
 use Rattle.vk_order.specs.Inner.Tallies.{lines_of}
 use Rattle.vk_order.specs.declared.lines.Line.{Line}
 use Rattle.vk_order.specs.declared.lines.Line.TheVariants.{Host as OfHost, Commands as OfCommands}
-use Rattle.vk_order.specs.declared.sights.Sight.{Sight}
+use Rattle.vk_order.specs.declared.new_node.NewNode.{NewNode}
 use Rattle.vk_touches.specs.declared.touches.Touch.{Touch}
 use Rattle.vk_touches.specs.declared.touches.Touch.TheVariants as touch
 use Rattle.vk_touches.specs.declared.transitions.TransitionAccess.{TransitionAccess}
@@ -57,14 +57,14 @@ module _ (past : Past) (faultless : fault past ≡ None) (p : Point) (steady : (
 
   -- ---- what comes before it
 
-  module _ (s : Sight) (sights : IsSight (nodes past) n s) where
+  module _ (s : NewNode) (new_node : IsNewNode (nodes past) n s) where
     last_ahead : (t : Touch) (l : Line) (b : Byte) → ((v : Node) → Touches past faultless p steady t b v → (class_of v ≡ l) × (line_of v ≡ Some l)) → (r : Bool) → IsRefused (SaysFollows s l) r (last_place t past b)
         → holds (last_touch t past b) (λ v. not (before (n ∷ nodes past) v n)) ≡ r
     last_ahead t l b lined r h = refused_is (SaysFollows s l) r (last_touch t past b) (λ v. (spot_of past v).place) (λ v. before (n ∷ nodes past) v n)
         (subst (λ (o : Option ℕ). IsRefused (SaysFollows s l) r o) (fused (spot_of past) (last_touch t past b)) h) (λ v is says.
         let f = last_touch_is past faultless p steady t v b is in
         let on = lined v f.does in
-        says (nodes past) n v sights f.there on.1 (ap (λ (x : Line). place (nodes past) x v.number) (sym on.0)))
+        says (nodes past) n v new_node f.there on.1 (ap (λ (x : Line). place (nodes past) x v.number) (sym on.0)))
 
     queue_before : (q : ℕ) (b : Byte) (r : Bool) → IsRefused (SaysFollows s (OfCommands q)) r (last_place (touch.Read q) past b) → holds (last_touch (touch.Read q) past b) (λ v. not (before (n ∷ nodes past) v n)) ≡ r
     queue_before q b r h = last_ahead (touch.Read q) (OfCommands q) b (λ v d. (ap (class_on v.point.queue) d.1 ∙ ap OfCommands d.3, ap (line_on v.point.queue) d.1 ∙ ap (λ (x : ℕ). Some (OfCommands x)) d.3)) r h
@@ -82,4 +82,4 @@ module _ (past : Past) (faultless : fault past ≡ None) (p : Point) (steady : (
     pub transition_before : (b : Byte) (r : Bool) → HasEarlyTransition s r (touched past b) → holds (last_transition past b) (λ v. not (before (n ∷ nodes past) v n)) ≡ r
     transition_before b r h = refused_is (λ a w. SaysFollows s w.line a w.place) r (last_transition past b) (spot_of past) (λ v. before (n ∷ nodes past) v n) h (λ v is says.
         let t = of_images b v is in
-        says (nodes past) n v sights t.there (on_image_line past v t) refl)
+        says (nodes past) n v new_node t.there (on_image_line past v t) refl)

@@ -17,7 +17,7 @@ use Rattle.vk_image_bytes.specs.Numbers.{byte_of, byte_count}
 use Rattle.vk_image_bytes.specs.Ranges.{AreRanges}
 use Rattle.vk_order.specs.declared.access.Access.{Access}
 use Rattle.vk_order.specs.declared.access.Access.TheVariants as access
-use Rattle.vk_order.specs.declared.sights.Sight.{Sight}
+use Rattle.vk_order.specs.declared.new_node.NewNode.{NewNode}
 use Rattle.vk_touches.specs.declared.accesses.ResourceAccess.{ResourceAccess}
 use Rattle.vk_touches.specs.declared.bytes.Bytes.{Bytes}
 use Rattle.vk_touches.specs.declared.touches.LastTouches.{LastTouches}
@@ -57,7 +57,7 @@ module _ (past : Past) (p : Point) (reads writes : List Byte) (missed : Access �
     (waw_is : breaks_hazard_waw past p ≡ list_any (missed access.Write) writes)
     (war_is : breaks_hazard_war past p ≡ list_any early writes)
     (undefined_is : false ≡ breaks_read_undefined past p)
-    (s : Sight)
+    (s : NewNode)
     (missed_is : (x : ResourceAccess) (b : Bytes) (a : Access) → IsAccess past s b a x → (k : ℕ) (c : Bool) → c ≡ is_cached past (resource_at (numbered_byte b k)) → (r : Bool) → Misses c x k r (touched past (numbered_byte b k)) → missed a (numbered_byte b k) ≡ r)
     (early_is : (b : Byte) (r : Bool) → IsEarly s r (touched past b) → early b ≡ r) where
   module _ (b : Bytes) (byte : ℕ → Byte) (size : ℕ) (c : Bool) (touches : List LastTouches) (kept : IsKept past b byte size c touches) where

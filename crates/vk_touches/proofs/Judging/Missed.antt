@@ -1,4 +1,4 @@
--- What an access and a sight say of the last node that touched a byte in each way.
+-- What an access and a new node say of the last node that touched a byte in each way.
 use Rattle.std.proofs.Common.{◌≡◌, ◌<◌, ◌≤◌, ℕ, List, [], ◌∷◌, Bool, true, false, not, ◌&&◌, ◌||◌, refl, ap, sym, ◌∙◌, subst, arith, Option, Some, None, ⊎_elim}
 use Rattle.std.specs.Prelude.{Contains, IsTrue, is_some}
 use Rattle.std.proofs.lemmas.Bool.{false_from_ne_true}
@@ -26,12 +26,12 @@ use Rattle.vk_laws.proofs.Nodes.Points.{in_acts}
 use Rattle.vk_order.specs.Lines.{line_of, line_on, class_of, class_on}
 use Rattle.vk_order.specs.Wide.{is_wide, is_answered, access_of}
 use Rattle.vk_order.specs.Limited.{IsWrite}
-use Rattle.vk_order.specs.Frontiers.{IsFrontier, IsSight}
+use Rattle.vk_order.specs.Frontiers.{IsFrontier, IsNewNode}
 use Rattle.vk_order.specs.Inner.Clocks.{place}
 use Rattle.vk_order.specs.Cached.{uncached, IsFirstFlush, FlushedSeen, UnflushedSeen, InvalidatedSeen, UninvalidatedSeen}
 use Rattle.vk_order.specs.declared.lines.Line.{Line}
 use Rattle.vk_order.specs.declared.lines.Line.TheVariants.{Host as OfHost, Commands as OfCommands}
-use Rattle.vk_order.specs.declared.sights.Sight.{Sight}
+use Rattle.vk_order.specs.declared.new_node.NewNode.{NewNode}
 use Rattle.vk_touches.specs.declared.accesses.ResourceAccess.{ResourceAccess}
 use Rattle.vk_touches.specs.declared.touches.Spot.{Spot}
 use Rattle.vk_touches.specs.declared.touches.Touch.{Touch}
@@ -45,7 +45,7 @@ use Rattle.vk_touches.proofs.Touching.FirstFlushes.{IsFirst, NoneAfter, Says, fl
 use Rattle.vk_touches.proofs.Touching.LastHazards.{nodes_with, older_there}
 use Rattle.vk_touches.proofs.Touching.LastAccesses.{Touches, last_touch_is}
 
--- ---- what a sight says of the last one
+-- ---- what a new node says of the last one
 
 twice : (t : Bool) → not (not t) ≡ t
 twice true = refl
@@ -95,7 +95,7 @@ module _ (past : Past) (faultless : fault past ≡ None) (p : Point) (steady : (
   abbrev pub cached : Byte → Bool
   cached c = is_cached (p ∷ past) (resource_at c)
 
-  module _ (x : ResourceAccess) (front : IsFrontier x.frontier.now (nodes past)) (sights : IsSight (nodes past) y x.sight.now) where
+  module _ (x : ResourceAccess) (front : IsFrontier x.frontier.now (nodes past)) (new_node : IsNewNode (nodes past) y x.new_node.now) where
     -- a write by a command
     pub write_missed : (k : ℕ) → IsTrue (is_answered cached (act_next p.action) (access_of x.access) (numbered_byte x.bytes k)) → (r : Bool) → MissesWrite x k r (touched past (numbered_byte x.bytes k))
         → holds (last_touch touch.Write past (numbered_byte x.bytes k)) (λ v. not (is_seen (p ∷ past) v y (access_of x.access) (numbered_byte x.bytes k))) ≡ r
@@ -106,7 +106,7 @@ module _ (past : Past) (faultless : fault past ≡ None) (p : Point) (steady : (
           uncached = ap (λ (a : Act). is_host a && cached (numbered_byte x.bytes k)) l.does.1;
           limited = ap (λ (a : Act). is_element a && is_wide a) l.does.1;
         } in
-        says (nodes past) y v cached front sights wrote (last_line v (OfCommands v.point.queue) (ap (class_on v.point.queue) l.does.1) (ap (line_on v.point.queue) l.does.1)) refl (omega arith) answered
+        says (nodes past) y v cached front new_node wrote (last_line v (OfCommands v.point.queue) (ap (class_on v.point.queue) l.does.1) (ap (line_on v.point.queue) l.does.1)) refl (omega arith) answered
         ∙ sym (ap (λ ns. seen cached ns v y (access_of x.access) (numbered_byte x.bytes k)) (nodes_with past p (act_next p.action) alone)))
 
     -- a write by the host, of memory without a cache
@@ -119,7 +119,7 @@ module _ (past : Past) (faultless : fault past ≡ None) (p : Point) (steady : (
           uncached = ap (λ (t : Bool). is_host v.act && t) off ∙ and-false (is_host v.act);
           limited = ap (λ (a : Act). is_element a && is_wide a) l.does.1;
         } in
-        says (nodes past) y v cached front sights wrote (last_line v OfHost (ap (class_on v.point.queue) l.does.1) (ap (line_on v.point.queue) l.does.1)) refl (omega arith) answered
+        says (nodes past) y v cached front new_node wrote (last_line v OfHost (ap (class_on v.point.queue) l.does.1) (ap (line_on v.point.queue) l.does.1)) refl (omega arith) answered
         ∙ sym (ap (λ ns. seen cached ns v y (access_of x.access) (numbered_byte x.bytes k)) (nodes_with past p (act_next p.action) alone)))
 
     -- and of cached memory: its first flush is asked
@@ -165,7 +165,7 @@ module _ (past : Past) (faultless : fault past ≡ None) (p : Point) (steady : (
             first = λ g there flush lt. is.first g (flushes_old g there flush) flush lt;
           } in
           let wrote : IsWrite uncached (nodes past) f byte = record { there = is.there; uncached = and-false (is_host f.act); limited = ap (λ (a : Act). is_element a && is_wide a) is.hosts } in
-          says (nodes past) y f uncached front sights wrote (last_line f OfHost (ap (class_on f.point.queue) is.hosts) (ap (line_on f.point.queue) is.hosts)) refl (omega arith) asked
+          says (nodes past) y f uncached front new_node wrote (last_line f OfHost (ap (class_on f.point.queue) is.hosts) (ap (line_on f.point.queue) is.hosts)) refl (omega arith) asked
           ∙ sym (ap (λ ns. seen uncached ns f y (access_of x.access) byte) (nodes_with past p (act_next p.action) alone))
           ∙ sym (flushed_law (nodes (p ∷ past)) v f y cached (access_of x.access) byte (numbered (p ∷ past)) (there_now v c) (next_there past p (act_next p.action) alone) host device on first)
 
@@ -190,7 +190,7 @@ module _ (past : Past) (faultless : fault past ≡ None) (p : Point) (steady : (
         → holds (last_transition past (numbered_byte x.bytes k)) (λ v. not (is_seen (p ∷ past) v y (access_of x.access) (numbered_byte x.bytes k))) ≡ r
     transition_missed of_images k answered r h = refused_is (SaysSeen x k) r (last_transition past (numbered_byte x.bytes k)) (spot_of past) (λ v. is_seen (p ∷ past) v y (access_of x.access) (numbered_byte x.bytes k)) h (λ v is says.
         let t = of_images (numbered_byte x.bytes k) v is in
-        says (nodes past) y v cached front sights (on_image_write past v cached (numbered_byte x.bytes k) t) (on_image_line past v t) refl (omega arith) answered
+        says (nodes past) y v cached front new_node (on_image_write past v cached (numbered_byte x.bytes k) t) (on_image_line past v t) refl (omega arith) answered
         ∙ sym (ap (λ ns. seen cached ns v y (access_of x.access) (numbered_byte x.bytes k)) (nodes_with past p (act_next p.action) alone)))
 
     -- a read by the host of cached memory: its last invalidation has to see the write
@@ -228,7 +228,7 @@ module _ (past : Past) (faultless : fault past ≡ None) (p : Point) (steady : (
         by None e = refl
         by (Some v) e = ap not (seen_is v e)
 
-  module _ (s : Sight) (sights : IsSight (nodes past) y s) where
+  module _ (s : NewNode) (new_node : IsNewNode (nodes past) y s) where
     -- a read
     pub ahead_is : (t : Touch) (l : Line) (b : Byte) → ((v : Node) → Touches past faultless p steady t b v → (class_of v ≡ l) × (line_of v ≡ Some l)) → (r : Bool) → IsRefused (SaysFollows s l) r (last_place t past b)
         → holds (last_touch t past b) (λ v. not (before (nodes (p ∷ past)) v y)) ≡ r
@@ -236,7 +236,7 @@ module _ (past : Past) (faultless : fault past ≡ None) (p : Point) (steady : (
         (subst (λ (o : Option ℕ). IsRefused (SaysFollows s l) r o) (fused (spot_of past) (last_touch t past b)) h) (λ v is says.
         let f = last_touch_is past faultless p steady t v b is in
         let on = lined v f.does in
-        says (nodes past) y v sights f.there on.1 (ap (λ (x : Line). place (nodes past) x v.number) (sym on.0))
+        says (nodes past) y v new_node f.there on.1 (ap (λ (x : Line). place (nodes past) x v.number) (sym on.0))
         ∙ sym (ap (λ ns. before ns v y) (nodes_with past p (act_next p.action) alone)))
 
     pub queue_ahead : (q : ℕ) (b : Byte) (r : Bool) → IsRefused (SaysFollows s (OfCommands q)) r (last_place (touch.Read q) past b) → holds (last_touch (touch.Read q) past b) (λ v. not (before (nodes (p ∷ past)) v y)) ≡ r
@@ -250,5 +250,5 @@ module _ (past : Past) (faultless : fault past ≡ None) (p : Point) (steady : (
     pub transition_ahead : ((b : Byte) (v : Node) → last_transition past b ≡ Some v → IsOnImage past v) → (b : Byte) (r : Bool) → HasEarlyTransition s r (touched past b) → holds (last_transition past b) (λ v. not (before (nodes (p ∷ past)) v y)) ≡ r
     transition_ahead of_images b r h = refused_is (λ a w. SaysFollows s w.line a w.place) r (last_transition past b) (spot_of past) (λ v. before (nodes (p ∷ past)) v y) h (λ v is says.
         let t = of_images b v is in
-        says (nodes past) y v sights t.there (on_image_line past v t) refl
+        says (nodes past) y v new_node t.there (on_image_line past v t) refl
         ∙ sym (ap (λ ns. before ns v y) (nodes_with past p (act_next p.action) alone)))

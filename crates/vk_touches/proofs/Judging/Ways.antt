@@ -1,4 +1,4 @@
--- What an access and a sight say of the last nodes that touched a byte, all ways taken together.
+-- What an access and a new node say of the last nodes that touched a byte, all ways taken together.
 use Rattle.std.proofs.Common.{◌≡◌, ◌∷◌, ℕ, [], Bool, true, false, not, ◌&&◌, ◌||◌, refl, ap, sym, ◌∙◌, subst, Option, Some, None, inl, inr}
 use Rattle.std.specs.Prelude.{IsTrue, Contains}
 use Rattle.std.specs.Option.{option_map}
@@ -21,11 +21,11 @@ use Rattle.vk_model.proofs.Lists.Truths.{clash}
 use Rattle.vk_order.specs.Lines.{class_on, line_on}
 use Rattle.vk_order.specs.Wide.{is_answered, access_of}
 use Rattle.vk_order.specs.Cached.{FlushedSeen, UnflushedSeen, InvalidatedSeen, UninvalidatedSeen}
-use Rattle.vk_order.specs.Frontiers.{IsFrontier, IsSight}
+use Rattle.vk_order.specs.Frontiers.{IsFrontier, IsNewNode}
 use Rattle.vk_order.specs.declared.access.Access.{Access}
 use Rattle.vk_order.specs.declared.access.Access.TheVariants as access
 use Rattle.vk_order.specs.declared.lines.Line.TheVariants.{Host as OfHost}
-use Rattle.vk_order.specs.declared.sights.Sight.{Sight}
+use Rattle.vk_order.specs.declared.new_node.NewNode.{NewNode}
 use Rattle.vk_touches.specs.declared.accesses.ResourceAccess.{ResourceAccess}
 use Rattle.vk_touches.specs.declared.touches.Touch.TheVariants as touch
 use Rattle.vk_touches.specs.Bytes.{numbered_byte}
@@ -85,7 +85,7 @@ module _ (past : Past) (faultless : fault past ≡ None) (p : Point) (steady : (
     abbrev pub early_by : Byte → Bool
     early_by b = some_last past (read_ways (is_host (act_next p.action))) (early past p y) b
 
-    module _ (x : ResourceAccess) (front : IsFrontier x.frontier.now (nodes past)) (sights : IsSight (nodes past) y x.sight.now) (k : ℕ) where
+    module _ (x : ResourceAccess) (front : IsFrontier x.frontier.now (nodes past)) (new_node : IsNewNode (nodes past) y x.new_node.now) (k : ℕ) where
       abbrev unseen_of : Option Node → Bool
       unseen_of o = holds o (λ v. not (is_seen (p ∷ past) v y (access_of x.access) (numbered_byte x.bytes k)))
 
@@ -97,10 +97,10 @@ module _ (past : Past) (faultless : fault past ≡ None) (p : Point) (steady : (
         host = is ∙ sym (still (resource_at (numbered_byte x.bytes k)))
 
         by : (r : Bool) → Misses c x k r (touched past (numbered_byte x.bytes k)) → (unseen_of (last_touch touch.Write past (numbered_byte x.bytes k)) || (unseen_of (last_touch touch.HostWrite past (numbered_byte x.bytes k)) || unseen_of (last_transition past (numbered_byte x.bytes k)))) ≡ r
-        by true (inl h) = rw (write_missed past faultless p steady alone x front sights k answered true h) refl
-        by true (inr (inl h)) = rw (host_missed past faultless p steady alone x front sights f u device c k host answered true h) (or-true (unseen_of (last_touch touch.Write past (numbered_byte x.bytes k))))
-        by true (inr (inr h)) = rw (transition_missed past faultless p steady alone x front sights of_images k answered true h) (third (unseen_of (last_touch touch.Write past (numbered_byte x.bytes k))) (unseen_of (last_touch touch.HostWrite past (numbered_byte x.bytes k))))
-        by false (h, g, t) = rw (write_missed past faultless p steady alone x front sights k answered false h, host_missed past faultless p steady alone x front sights f u device c k host answered false g, transition_missed past faultless p steady alone x front sights of_images k answered false t) refl
+        by true (inl h) = rw (write_missed past faultless p steady alone x front new_node k answered true h) refl
+        by true (inr (inl h)) = rw (host_missed past faultless p steady alone x front new_node f u device c k host answered true h) (or-true (unseen_of (last_touch touch.Write past (numbered_byte x.bytes k))))
+        by true (inr (inr h)) = rw (transition_missed past faultless p steady alone x front new_node of_images k answered true h) (third (unseen_of (last_touch touch.Write past (numbered_byte x.bytes k))) (unseen_of (last_touch touch.HostWrite past (numbered_byte x.bytes k))))
+        by false (h, g, t) = rw (write_missed past faultless p steady alone x front new_node k answered false h, host_missed past faultless p steady alone x front new_node f u device c k host answered false g, transition_missed past faultless p steady alone x front new_node of_images k answered false t) refl
 
       -- by the host, which accesses buffers alone
       module _ (host : is_host (act_next p.action) ≡ true) (b : ℕ) (of_buffer : numbered_byte x.bytes k ≡ in_buffer b k) where
@@ -110,14 +110,14 @@ module _ (past : Past) (faultless : fault past ≡ None) (p : Point) (steady : (
             ∙ or-false (holds (last_touch touch.Write past (numbered_byte x.bytes k)) (λ v. not (is_seen (p ∷ past) v y a (numbered_byte x.bytes k)))))
 
         pub host_misses : IsTrue (is_answered cached (act_next p.action) (access_of x.access) (numbered_byte x.bytes k)) → (r : Bool) → MissesWrite x k r (touched past (numbered_byte x.bytes k)) → missed_by (access_of x.access) (numbered_byte x.bytes k) ≡ r
-        host_misses answered r h = of_commands (access_of x.access) ∙ write_missed past faultless p steady alone x front sights k answered r h
+        host_misses answered r h = of_commands (access_of x.access) ∙ write_missed past faultless p steady alone x front new_node k answered r h
 
         pub host_reads : InvalidatedSeen → UninvalidatedSeen → ((c : Byte) → invalidates (act_next p.action) c ≡ false) → x.access ≡ access.Read → (c : Bool) → c ≡ is_cached past (resource_at (numbered_byte x.bytes k))
             → (cached (numbered_byte x.bytes k) ≡ false → IsTrue (is_answered cached (act_next p.action) (access_of x.access) (numbered_byte x.bytes k))) → (r : Bool) → MissesRead c x k r (touched past (numbered_byte x.bytes k)) → missed_by Read (numbered_byte x.bytes k) ≡ r
         host_reads i u quiet reads false is answered r h = subst (λ (a : Access). missed_by (access_of a) (numbered_byte x.bytes k) ≡ r) reads (host_misses (answered (still (resource_at (numbered_byte x.bytes k)) ∙ sym is)) r h)
-        host_reads i u quiet reads true is answered r h = of_commands Read ∙ read_missed past faultless p steady alone x front sights i u host quiet k (still (resource_at (numbered_byte x.bytes k)) ∙ sym is) r h
+        host_reads i u quiet reads true is answered r h = of_commands Read ∙ read_missed past faultless p steady alone x front new_node i u host quiet k (still (resource_at (numbered_byte x.bytes k)) ∙ sym is) r h
 
-    module _ (s : Sight) (sights : IsSight (nodes past) y s) where
+    module _ (s : NewNode) (new_node : IsNewNode (nodes past) y s) where
       abbrev ahead_of : Option Node → Bool
       ahead_of o = holds o (λ v. not (before (nodes (p ∷ past)) v y))
 
@@ -141,10 +141,10 @@ module _ (past : Past) (faultless : fault past ≡ None) (p : Point) (steady : (
 
       pub command_early : is_host (act_next p.action) ≡ false → (b : Byte) (r : Bool) → IsEarly s r (touched past b) → early_by b ≡ r
       command_early device b r h =
-          let host : ahead_of (last_touch touch.HostRead past b) ≡ h.of_host = ahead_is past faultless p steady alone s sights touch.HostRead OfHost b (λ v d. (ap (class_on v.point.queue) d.1, ap (line_on v.point.queue) d.1)) h.of_host h.host in
-          let commands : by_commands b ≡ h.of_commands = commands_ahead past faultless p steady alone s sights b h.of_commands h.commands in
-          let moving : ahead_of (last_transition past b) ≡ h.of_transition = transition_ahead past faultless p steady alone s sights of_images b h.of_transition h.transition in
+          let host : ahead_of (last_touch touch.HostRead past b) ≡ h.of_host = ahead_is past faultless p steady alone s new_node touch.HostRead OfHost b (λ v d. (ap (class_on v.point.queue) d.1, ap (line_on v.point.queue) d.1)) h.of_host h.host in
+          let commands : by_commands b ≡ h.of_commands = commands_ahead past faultless p steady alone s new_node b h.of_commands h.commands in
+          let moving : ahead_of (last_transition past b) ≡ h.of_transition = transition_ahead past faultless p steady alone s new_node of_images b h.of_transition h.transition in
           rw device (ap (λ (t : Bool). ahead_of (last_touch touch.HostRead past b) || t) (after_commands b) ∙ rw (host, commands, moving) (in_threes h.of_host h.of_commands h.of_transition ∙ sym h.either))
 
       pub host_early : is_host (act_next p.action) ≡ true → (c k : ℕ) (r : Bool) → HasEarlyCommand s r (touched past (in_buffer c k)) → early_by (in_buffer c k) ≡ r
-      host_early host c k r h = rw host (after_commands (in_buffer c k) ∙ ap (λ (t : Bool). by_commands (in_buffer c k) || t) (none_of_buffer c k (λ v. not (before (nodes (p ∷ past)) v y))) ∙ or-false (by_commands (in_buffer c k)) ∙ commands_ahead past faultless p steady alone s sights (in_buffer c k) r h)
+      host_early host c k r h = rw host (after_commands (in_buffer c k) ∙ ap (λ (t : Bool). by_commands (in_buffer c k) || t) (none_of_buffer c k (λ v. not (before (nodes (p ∷ past)) v y))) ∙ or-false (by_commands (in_buffer c k)) ∙ commands_ahead past faultless p steady alone s new_node (in_buffer c k) r h)

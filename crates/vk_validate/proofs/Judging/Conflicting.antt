@@ -13,13 +13,13 @@ use Rattle.vk_model.specs.Sync.Access.{reads, writes}
 use Rattle.vk_model.specs.Rules.Hazards.{breaks_hazard_war, breaks_hazard_raw, breaks_hazard_waw}
 use Rattle.vk_model.proofs.Rules.Fault.{unbroken_of_none}
 use Rattle.vk_order.specs.Wide.{is_answered, access_of}
-use Rattle.vk_order.specs.Frontiers.{IsSight}
+use Rattle.vk_order.specs.Frontiers.{IsNewNode}
 use Rattle.vk_order.specs.Prefixes.{LinePrefix}
 use Rattle.vk_order.specs.Visibility.{HostSeen}
 use Rattle.vk_order.specs.Cached.{FlushedSeen, UnflushedSeen}
 use Rattle.vk_order.specs.declared.access.Access.{Access}
 use Rattle.vk_order.specs.declared.access.Access.TheVariants as access
-use Rattle.vk_order.specs.declared.sights.Sight.{Sight}
+use Rattle.vk_order.specs.declared.new_node.NewNode.{NewNode}
 use Rattle.vk_touches.specs.declared.accesses.ResourceAccess.{ResourceAccess}
 use Rattle.vk_touches.specs.declared.bytes.Bytes.{Bytes}
 use Rattle.vk_touches.specs.Bytes.{numbered_byte}
@@ -30,9 +30,9 @@ use Rattle.vk_touches.proofs.Judging.Ways as ways
 use Rattle.vk_history.specs.Judged.{IsJudged}
 use Rattle.vk_validate.proofs.Points.Queues.{queue_low}
 
--- a sight that an access has
-pub sight_of : (past : Past) (n : Node) (s : Sight) (b : Bytes) (a : Access) (x : ResourceAccess) → IsAccess past s b a x → IsSight (nodes past) n s → IsSight (nodes past) n x.sight.now
-sight_of past n s b a x by h = subst (λ (t : Sight). IsSight (nodes past) n t) (sym by.sight) h
+-- a new node that an access has
+pub new_node_of : (past : Past) (n : Node) (s : NewNode) (b : Bytes) (a : Access) (x : ResourceAccess) → IsAccess past s b a x → IsNewNode (nodes past) n s → IsNewNode (nodes past) n x.new_node.now
+new_node_of past n s b a x by h = subst (λ (t : NewNode). IsNewNode (nodes past) n t) (sym by.new_node) h
 
 module _ (past : Past) (judged : IsJudged past) (p : Point) (steady : (c : Cmd) → byte_writes (p ∷ past) c ≡ byte_writes past c) (alone : acts p.action ≡ act_next p.action ∷ []) (still : StaysCached past p) where
   abbrev y : Node
@@ -46,12 +46,12 @@ module _ (past : Past) (judged : IsJudged past) (p : Point) (steady : (c : Cmd) 
   early_by b = ways.early_by past judged.faultless p steady alone still b
 
   -- of a command
-  pub missed_is : FlushedSeen → UnflushedSeen → is_host (act_next p.action) ≡ false → ((a : Access) (b : Byte) → IsTrue (is_answered (λ c. is_cached (p ∷ past) (resource_at c)) (act_next p.action) (access_of a) b)) → (s : Sight) → IsSight (nodes past) y s
+  pub missed_is : FlushedSeen → UnflushedSeen → is_host (act_next p.action) ≡ false → ((a : Access) (b : Byte) → IsTrue (is_answered (λ c. is_cached (p ∷ past) (resource_at c)) (act_next p.action) (access_of a) b)) → (s : NewNode) → IsNewNode (nodes past) y s
       → (x : ResourceAccess) (b : Bytes) (a : Access) → IsAccess past s b a x → (k : ℕ) (c : Bool) → c ≡ is_cached past (resource_at (numbered_byte b k)) → (r : Bool) → Misses c x k r (touched past (numbered_byte b k)) → missed_by a (numbered_byte b k) ≡ r
-  missed_is f u device answered s sights x b a by k =
+  missed_is f u device answered s new_node x b a by k =
       let Is : Bytes → Access → Type 0 = λ d e. (c : Bool) → c ≡ is_cached past (resource_at (numbered_byte d k)) → (r : Bool) → Misses c x k r (touched past (numbered_byte d k)) → missed_by e (numbered_byte d k) ≡ r in
       subst (λ (d : Bytes). Is d a) by.bytes (subst (λ (e : Access). Is x.bytes e) by.access
-      (λ c is r h. ways.command_misses past judged.faultless p steady alone still x by.frontier (sight_of past y s b a x by sights) k f u device c is (answered x.access (numbered_byte x.bytes k)) r h))
+      (λ c is r h. ways.command_misses past judged.faultless p steady alone still x by.frontier (new_node_of past y s b a x by new_node) k f u device c is (answered x.access (numbered_byte x.bytes k)) r h))
 
   -- ---- the rules
 

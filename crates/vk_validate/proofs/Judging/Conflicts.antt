@@ -18,14 +18,14 @@ use Rattle.vk_model.specs.Sync.Seen.{Read, invalidates}
 use Rattle.vk_model.specs.Sync.Access.{reads, writes, reads_of, writes_of, bytes_of, targets, origins}
 use Rattle.vk_model.specs.Rules.Hazards.{breaks_hazard_war, breaks_hazard_raw, breaks_hazard_waw, breaks_read_undefined}
 use Rattle.vk_model.proofs.Lists.Members.{only_one}
-use Rattle.vk_order.specs.Frontiers.{IsSight}
+use Rattle.vk_order.specs.Frontiers.{IsNewNode}
 use Rattle.vk_order.specs.Prefixes.{LinePrefix}
 use Rattle.vk_order.specs.Cached.{FlushedSeen, UnflushedSeen, InvalidatedSeen, UninvalidatedSeen}
 use Rattle.vk_order.specs.Visibility.{HostSeen}
 use Rattle.vk_order.specs.Wide.{is_answered, access_of}
 use Rattle.vk_order.specs.declared.access.Access.{Access}
 use Rattle.vk_order.specs.declared.access.Access.TheVariants as access
-use Rattle.vk_order.specs.declared.sights.Sight.{Sight}
+use Rattle.vk_order.specs.declared.new_node.NewNode.{NewNode}
 use Rattle.vk_history.specs.declared.resource_contents.ResourceContents.{ResourceContents}
 use Rattle.vk_touches.specs.declared.accesses.ResourceAccess.{ResourceAccess}
 use Rattle.vk_touches.specs.declared.bytes.Bytes.{Bytes}
@@ -37,7 +37,7 @@ use Rattle.vk_touches.specs.Touched.{next_node, act_next, touched}
 use Rattle.vk_history.proofs.Points.Ranges.{fill-targets, fill-origins, update-targets, update-origins}
 use Rattle.vk_touches.proofs.Touching.LastHazards.{StaysCached}
 use Rattle.vk_validate.proofs.Judging.Quiet.{no_war, no_raw, no_waw}
-use Rattle.vk_validate.proofs.Judging.Conflicting.{sight_of, missed_by, early_by, missed_is, raw_rule, waw_rule, war_rule}
+use Rattle.vk_validate.proofs.Judging.Conflicting.{new_node_of, missed_by, early_by, missed_is, raw_rule, waw_rule, war_rule}
 use Rattle.vk_touches.proofs.Judging.Ways as ways
 use Rattle.vk_touches.proofs.Judging.Found.{any_found, numbers_found}
 use Rattle.vk_touches.proofs.Judging.Commands as found
@@ -71,11 +71,11 @@ module _ (past : Past) (judged : IsJudged past) (p : Point) (b o n : ℕ) (is : 
   no_writes : (a : Act) → Contains (acts p.action) a → (q : ℕ) → writes_of (p ∷ past) q a ≡ []
   no_writes a m q = subst (λ (b : Act). writes_of (p ∷ past) q b ≡ []) (only_one (Hosts (entry.Read b o n)) a (subst (λ (d : Action). Contains (acts d) a) is m)) refl
 
-  pub read_conflicts : HostSeen → InvalidatedSeen → UninvalidatedSeen → (c : ResourceContents) → AreBufferContents c past b → o + n ≤ buffer_size past b → (s : Sight) → IsSight (nodes past) (next_node past p (act_next p.action)) s
+  pub read_conflicts : HostSeen → InvalidatedSeen → UninvalidatedSeen → (c : ResourceContents) → AreBufferContents c past b → o + n ≤ buffer_size past b → (s : NewNode) → IsNewNode (nodes past) (next_node past p (act_next p.action)) s
       → (x : ResourceAccess) → IsAccess past s x.bytes access.Read x → ((k : ℕ) → numbered_byte x.bytes k ≡ in_buffer b k) → (raw undefined : Bool)
       → (o + n ≤ length c.touches → FoundAt (MissesRead c.is_cached x) raw c.touches o (o + n)) → (o + n ≤ length c.defined → FoundIn (λ r d. r ≡ not d) undefined c.defined o (o + n))
       → AreConflicts (record { war = false; raw = raw; waw = false; undefined = undefined }) past p
-  read_conflicts law invalidated uninvalidated c are fits s sights x by of raw undefined missed unknown = record {
+  read_conflicts law invalidated uninvalidated c are fits s new_node x by of raw undefined missed unknown = record {
     war = sym (no_war past p no_writes);
     raw = sym (raw_rule past judged p read_steady read_alone read_keeps law ∙ ap (list_any (missed_by past judged p read_steady read_alone read_keeps access.Read)) bytes
         ∙ numbers_found past (in_buffer b) (buffer_size past b) (MissesRead c.is_cached x) (missed_by past judged p read_steady read_alone read_keeps access.Read) same c.touches are.touches o n fits raw (missed (rw are.touches_size fits)));
@@ -89,7 +89,7 @@ module _ (past : Past) (judged : IsJudged past) (p : Point) (b o n : ℕ) (is : 
 
     same : (k : ℕ) (r : Bool) → MissesRead c.is_cached x k r (touched past (in_buffer b k)) → missed_by past judged p read_steady read_alone read_keeps access.Read (in_buffer b k) ≡ r
     same k r = subst (λ (c1 : Byte). MissesRead c.is_cached x k r (touched past c1) → missed_by past judged p read_steady read_alone read_keeps access.Read c1 ≡ r) (of k)
-        (ways.host_reads past judged.faultless p read_steady read_alone read_keeps x by.frontier (sight_of past (next_node past p (act_next p.action)) s x.bytes access.Read x by sights) k (ap (λ (d : Action). is_host (act_next d)) is) b (of k)
+        (ways.host_reads past judged.faultless p read_steady read_alone read_keeps x by.frontier (new_node_of past (next_node past p (act_next p.action)) s x.bytes access.Read x by new_node) k (ap (λ (d : Action). is_host (act_next d)) is) b (of k)
         invalidated uninvalidated read_invalidates by.access c.is_cached (are.cache ∙ ap (λ (c1 : Byte). is_cached past (resource_at c1)) (sym (of k))) (answered_as x by.access k) r)
 
     inside : (x y : Bool) → Some x ≡ Some y → x ≡ y
@@ -120,13 +120,13 @@ module _ (past : Past) (judged : IsJudged past) (p : Point) (b o : ℕ) (bytes :
   set_bytes : writes (p ∷ past) (next_node past p (act_next p.action)) ≡ bytes_of b o (length bytes)
   set_bytes = ap (λ (d : Action). writes_of (p ∷ past) p.queue (act_next d)) is
 
-  pub set_conflicts : HostSeen → LinePrefix → (c : ResourceContents) → AreBufferContents c past b → o + length bytes ≤ buffer_size past b → (s : Sight) → IsSight (nodes past) (next_node past p (act_next p.action)) s
+  pub set_conflicts : HostSeen → LinePrefix → (c : ResourceContents) → AreBufferContents c past b → o + length bytes ≤ buffer_size past b → (s : NewNode) → IsNewNode (nodes past) (next_node past p (act_next p.action)) s
       → (x : ResourceAccess) → IsAccess past s x.bytes access.Write x → ((k : ℕ) → numbered_byte x.bytes k ≡ in_buffer b k) → (war waw : Bool)
       → (o + length bytes ≤ length c.touches → FoundIn (HasEarlyCommand s) war c.touches o (o + length bytes)) → (o + length bytes ≤ length c.touches → FoundAt (MissesWrite x) waw c.touches o (o + length bytes))
       → AreConflicts (record { war = war; raw = false; waw = waw; undefined = false }) past p
-  set_conflicts law line c are fits s sights x by of war waw ahead missed = record {
+  set_conflicts law line c are fits s new_node x by of war waw ahead missed = record {
     war = sym (war_rule past judged p set_steady set_alone set_keeps line ∙ ap (list_any (early_by past judged p set_steady set_alone set_keeps)) set_bytes
-        ∙ numbers_found past (in_buffer b) (buffer_size past b) (λ k. HasEarlyCommand s) (early_by past judged p set_steady set_alone set_keeps) (λ k r h. ways.host_early past judged.faultless p set_steady set_alone set_keeps s sights host b k r h) c.touches are.touches o (length bytes) fits war (ahead (rw are.touches_size fits)));
+        ∙ numbers_found past (in_buffer b) (buffer_size past b) (λ k. HasEarlyCommand s) (early_by past judged p set_steady set_alone set_keeps) (λ k r h. ways.host_early past judged.faultless p set_steady set_alone set_keeps s new_node host b k r h) c.touches are.touches o (length bytes) fits war (ahead (rw are.touches_size fits)));
     raw = sym (no_raw past p set_reads);
     waw = sym (waw_rule past judged p set_steady set_alone set_keeps law ∙ ap (list_any (missed_by past judged p set_steady set_alone set_keeps access.Write)) set_bytes
         ∙ numbers_found past (in_buffer b) (buffer_size past b) (MissesWrite x) (missed_by past judged p set_steady set_alone set_keeps access.Write) same c.touches are.touches o (length bytes) fits waw (missed (rw are.touches_size fits)));
@@ -138,7 +138,7 @@ module _ (past : Past) (judged : IsJudged past) (p : Point) (b o : ℕ) (bytes :
     same : (k : ℕ) (r : Bool) → MissesWrite x k r (touched past (in_buffer b k)) → missed_by past judged p set_steady set_alone set_keeps access.Write (in_buffer b k) ≡ r
     same k r = subst (λ (c1 : Byte). MissesWrite x k r (touched past c1) → missed_by past judged p set_steady set_alone set_keeps access.Write c1 ≡ r) (of k)
         (subst (λ (a : Access). MissesWrite x k r (touched past (numbered_byte x.bytes k)) → missed_by past judged p set_steady set_alone set_keeps a (numbered_byte x.bytes k) ≡ r) by.access
-        (ways.host_misses past judged.faultless p set_steady set_alone set_keeps x by.frontier (sight_of past (next_node past p (act_next p.action)) s x.bytes access.Write x by sights) k host b (of k) (set_answered x by.access k) r))
+        (ways.host_misses past judged.faultless p set_steady set_alone set_keeps x by.frontier (new_node_of past (next_node past p (act_next p.action)) s x.bytes access.Write x by new_node) k host b (of k) (set_answered x by.access k) r))
 
 -- ---- a command with one act
 
@@ -173,7 +173,7 @@ module _ (past : Past) (judged : IsJudged past) (p : Point) (c : Cmd) (is : p.ac
   abbrev run_early : Byte → Bool
   run_early byte = early_by past judged p run_steady run_alone run_keeps byte
 
-  module _ (law : HostSeen) (flushed : FlushedSeen) (unflushed : UnflushedSeen) (line : LinePrefix) (s : Sight) (sights : IsSight (nodes past) (next_node past p (act_next p.action)) s) where
+  module _ (law : HostSeen) (flushed : FlushedSeen) (unflushed : UnflushedSeen) (line : LinePrefix) (s : NewNode) (new_node : IsNewNode (nodes past) (next_node past p (act_next p.action)) s) where
     raw : breaks_hazard_raw past p ≡ list_any (run_missed access.Read) (origins (byte_writes past c))
     raw = raw_rule past judged p run_steady run_alone run_keeps law ∙ ap (list_any (run_missed access.Read)) run_reads
 
@@ -184,10 +184,10 @@ module _ (past : Past) (judged : IsJudged past) (p : Point) (c : Cmd) (is : p.ac
     war = war_rule past judged p run_steady run_alone run_keeps line ∙ ap (list_any run_early) run_writes
 
     run_misses : (x : ResourceAccess) (b : Bytes) (a : Access) → IsAccess past s b a x → (k : ℕ) (c : Bool) → c ≡ is_cached past (resource_at (numbered_byte b k)) → (r : Bool) → Misses c x k r (touched past (numbered_byte b k)) → run_missed a (numbered_byte b k) ≡ r
-    run_misses = missed_is past judged p run_steady run_alone run_keeps flushed unflushed run_device run_answered s sights
+    run_misses = missed_is past judged p run_steady run_alone run_keeps flushed unflushed run_device run_answered s new_node
 
     run_ahead : (b : Byte) (r : Bool) → IsEarly s r (touched past b) → run_early b ≡ r
-    run_ahead = ways.command_early past judged.faultless p run_steady run_alone run_keeps s sights run_device
+    run_ahead = ways.command_early past judged.faultless p run_steady run_alone run_keeps s new_node run_device
 
     kept_of_buffer : (u : ResourceContents) (b : ℕ) → AreBufferContents u past b → (x : ResourceAccess) → ((k : ℕ) → numbered_byte x.bytes k ≡ in_buffer b k) → IsKept past x.bytes (in_buffer b) (buffer_size past b) u.is_cached u.touches
     kept_of_buffer u b are x of = record { named = of; remembered = are.touches; cache = λ k. are.cache }
@@ -236,16 +236,16 @@ module _ (past : Past) (judged : IsJudged past) (p : Point) (c : Cmd) (is : p.ac
 
 -- ---- fills and updates
 
-module _ (past : Past) (judged : IsJudged past) (p : Point) (law : HostSeen) (flushed : FlushedSeen) (unflushed : UnflushedSeen) (line : LinePrefix) (s : Sight) (sights : IsSight (nodes past) (next_node past p (act_next p.action)) s) where
+module _ (past : Past) (judged : IsJudged past) (p : Point) (law : HostSeen) (flushed : FlushedSeen) (unflushed : UnflushedSeen) (line : LinePrefix) (s : NewNode) (new_node : IsNewNode (nodes past) (next_node past p (act_next p.action)) s) where
   pub fill_conflicts : (b o : ℕ) (n : Length) (w : ℕ) → p.action ≡ Run (cmd.Fill b o n w) → (u : ResourceContents) → AreBufferContents u past b → o + fill_size (buffer_size past b) o n ≤ buffer_size past b
       → (x : ResourceAccess) → IsAccess past s x.bytes access.Write x → ((k : ℕ) → numbered_byte x.bytes k ≡ in_buffer b k) → (war waw : Bool)
       → (o + fill_size (buffer_size past b) o n ≤ length u.touches → FoundIn (IsEarly s) war u.touches o (o + fill_size (buffer_size past b) o n))
       → (o + fill_size (buffer_size past b) o n ≤ length u.touches → FoundAt (Misses u.is_cached x) waw u.touches o (o + fill_size (buffer_size past b) o n))
       → AreConflicts (record { war = war; raw = false; waw = waw; undefined = false }) past p
-  fill_conflicts b o n w is = values_conflicts past judged p (cmd.Fill b o n w) is refl law flushed unflushed line s sights b o (fill_size (buffer_size past b) o n) (fill-origins past b o n w) (fill-targets past b o n w)
+  fill_conflicts b o n w is = values_conflicts past judged p (cmd.Fill b o n w) is refl law flushed unflushed line s new_node b o (fill_size (buffer_size past b) o n) (fill-origins past b o n w) (fill-targets past b o n w)
 
   pub update_conflicts : (b o : ℕ) (bytes : List ℕ) → p.action ≡ Run (cmd.Update b o bytes) → (u : ResourceContents) → AreBufferContents u past b → o + length bytes ≤ buffer_size past b
       → (x : ResourceAccess) → IsAccess past s x.bytes access.Write x → ((k : ℕ) → numbered_byte x.bytes k ≡ in_buffer b k) → (war waw : Bool)
       → (o + length bytes ≤ length u.touches → FoundIn (IsEarly s) war u.touches o (o + length bytes)) → (o + length bytes ≤ length u.touches → FoundAt (Misses u.is_cached x) waw u.touches o (o + length bytes))
       → AreConflicts (record { war = war; raw = false; waw = waw; undefined = false }) past p
-  update_conflicts b o bytes is = values_conflicts past judged p (cmd.Update b o bytes) is refl law flushed unflushed line s sights b o (length bytes) (update-origins past b o bytes) (update-targets past b o bytes)
+  update_conflicts b o bytes is = values_conflicts past judged p (cmd.Update b o bytes) is refl law flushed unflushed line s new_node b o (length bytes) (update-origins past b o bytes) (update-targets past b o bytes)

@@ -29,10 +29,10 @@ use Rattle.vk_model.proofs.Rules.Fault.{unbroken_of_none}
 use Rattle.vk_model.proofs.Sync.Numbers.{numbered}
 use Rattle.vk_image_bytes.specs.Numbers.{byte_of, byte_count}
 use Rattle.vk_order.specs.Barriers.{ElementsComeAlone, ElementsSeeAlone}
-use Rattle.vk_order.specs.Frontiers.{IsSight}
+use Rattle.vk_order.specs.Frontiers.{IsNewNode}
 use Rattle.vk_order.specs.Prefixes.{LinePrefix}
 use Rattle.vk_order.specs.Visibility.{HostSeen}
-use Rattle.vk_order.specs.declared.sights.Sight.{Sight}
+use Rattle.vk_order.specs.declared.new_node.NewNode.{NewNode}
 use Rattle.vk_touches.specs.declared.touches.LastTouches.{LastTouches}
 use Rattle.vk_touches.specs.declared.touches.Touch.TheVariants as touch
 use Rattle.vk_touches.specs.declared.transitions.TransitionAccess.{TransitionAccess}
@@ -148,11 +148,11 @@ module _ (past : Past) (judged : IsJudged past) (p : Point) (ordered : IsOrdered
     abbrev by_commands : Byte → Bool
     by_commands b = ahead_of (last_touch (touch.Read 0) past b) || (ahead_of (last_touch (touch.Read 1) past b) || (ahead_of (last_touch (touch.Read 2) past b) || (ahead_of (last_touch (touch.Read 3) past b) || false)))
 
-    ahead : (s : Sight) → IsSight (nodes past) n s → (b : Byte) (r : Bool) → IsEarly s r (touched past b) → some_last past (read_ways false) (early_alone past p e) b ≡ r
-    ahead s sights b r h =
-        let host : ahead_of (last_touch touch.HostRead past b) ≡ h.of_host = host_before past judged.faultless p (steady past p es is) n images s sights b h.of_host h.host in
-        let commands : by_commands b ≡ h.of_commands = commands_before past judged.faultless p (steady past p es is) n images s sights b h.of_commands h.commands in
-        let moving : ahead_of (last_transition past b) ≡ h.of_transition = transition_before past judged.faultless p (steady past p es is) n images s sights b h.of_transition h.transition in
+    ahead : (s : NewNode) → IsNewNode (nodes past) n s → (b : Byte) (r : Bool) → IsEarly s r (touched past b) → some_last past (read_ways false) (early_alone past p e) b ≡ r
+    ahead s new_node b r h =
+        let host : ahead_of (last_touch touch.HostRead past b) ≡ h.of_host = host_before past judged.faultless p (steady past p es is) n images s new_node b h.of_host h.host in
+        let commands : by_commands b ≡ h.of_commands = commands_before past judged.faultless p (steady past p es is) n images s new_node b h.of_commands h.commands in
+        let moving : ahead_of (last_transition past b) ≡ h.of_transition = transition_before past judged.faultless p (steady past p es is) n images s new_node b h.of_transition h.transition in
         grouped (ahead_of (last_touch touch.HostRead past b)) (ahead_of (last_touch (touch.Read 0) past b)) (ahead_of (last_touch (touch.Read 1) past b)) (ahead_of (last_touch (touch.Read 2) past b)) (ahead_of (last_touch (touch.Read 3) past b)) (ahead_of (last_transition past b))
         ∙ rw (host, commands, moving) (sym h.either)
 

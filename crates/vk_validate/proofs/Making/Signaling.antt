@@ -1,4 +1,4 @@
--- What signals do: a node of their own, and SIGNAL_ORDER by what a sight says of the last one.
+-- What signals do: a node of their own, and SIGNAL_ORDER by what a new node says of the last one.
 use Rattle.std.proofs.Common.{◌≡◌, ⊎_elim, ℕ, [], ◌∷◌, Bool, true, false, not, refl, ap, sym, ◌∙◌, Option, Some, None}
 use Rattle.std.specs.Prelude.{Contains, ◌==◌}
 use Rattle.std.specs.Option.{option_map}

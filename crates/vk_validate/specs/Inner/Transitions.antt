@@ -10,11 +10,11 @@ use Rattle.vk_model.specs.World.Ownership.{is_transition, is_release}
 use Rattle.vk_model.specs.Sync.Access.{transition_bytes}
 use Rattle.vk_model.specs.Sync.Node.{Node, Depends, Barrier, nodes}
 use Rattle.vk_image_bytes.specs.Ranges.{AreRanges}
-use Rattle.vk_order.specs.Frontiers.{IsFrontier, IsSight}
+use Rattle.vk_order.specs.Frontiers.{IsFrontier, IsNewNode}
 use Rattle.vk_order.specs.Wide.{IsApartFrom}
 use Rattle.vk_order.specs.Inner.Parts.{IsPart}
 use Rattle.vk_order.specs.Inner.Tallies.{lines_of}
-use Rattle.vk_order.specs.declared.sights.Sight.{Sight}
+use Rattle.vk_order.specs.declared.new_node.NewNode.{NewNode}
 use Rattle.vk_touches.specs.declared.touches.LastTouches.{LastTouches}
 use Rattle.vk_touches.specs.declared.transitions.TransitionAccess.{TransitionAccess}
 use Rattle.vk_touches.specs.Conflicts.{FoundAt, FoundInRanges, IsEarly, MissesAt}
@@ -50,7 +50,7 @@ node_alone past p e = next_node past p (Depends Barrier e)
 abbrev pub FindsEarly : Past → Point → Bool → Element → Type 0
 FindsEarly past p answer e =
     ((transition_bytes past p.queue e ≡ []) × (answer ≡ false))
-    ⊎ ((x : Moved) × AreMoved past p.queue e x × (IsApartFrom (nodes past) (node_alone past p e) → (s : Sight) × IsSight (nodes past) (node_alone past p e) s × FoundInMoved (λ k. IsEarly s) answer x))
+    ⊎ ((x : Moved) × AreMoved past p.queue e x × (IsApartFrom (nodes past) (node_alone past p e) → (s : NewNode) × IsNewNode (nodes past) (node_alone past p e) s × FoundInMoved (λ k. IsEarly s) answer x))
 
 -- How the transition of an element on an image accesses it.
 pub record IsTransitionAccess (past : Past) (n : Node) (i : ℕ) (x : TransitionAccess) : Type 0 where

@@ -74,8 +74,8 @@ fn of_host_read(
     history.is_judged();
     match history.contents(buffer) {
         Some(contents) => {
-            let sight = history.sight(point)?;
-            let by = history.access(&sight, buffer, Access::Read);
+            let new_node = history.new_node(point)?;
+            let by = history.access(&new_node, buffer, Access::Read);
             Ok(Conflicts {
                 raw: contents.has_missed_read(offset, size, &by),
                 undefined: contents.has_undefined(offset, size),
@@ -103,10 +103,10 @@ fn of_host_write(
     history.is_judged();
     match history.contents(buffer) {
         Some(contents) => {
-            let sight = history.sight(point)?;
-            let by = history.access(&sight, buffer, Access::Write);
+            let new_node = history.new_node(point)?;
+            let by = history.access(&new_node, buffer, Access::Write);
             Ok(Conflicts {
-                war: contents.has_early_command(offset, size, &sight),
+                war: contents.has_early_command(offset, size, &new_node),
                 waw: contents.has_missed_write(offset, size, &by),
                 ..Conflicts::NONE
             })
@@ -134,10 +134,10 @@ fn of_write(
     match history.contents(buffer) {
         Some(contents) => {
             let bytes = size.filled(contents.defined.len(), offset);
-            let sight = history.sight(point)?;
-            let by = history.access(&sight, buffer, Access::Write);
+            let new_node = history.new_node(point)?;
+            let by = history.access(&new_node, buffer, Access::Write);
             Ok(Conflicts {
-                war: contents.has_early(offset, bytes, &sight),
+                war: contents.has_early(offset, bytes, &new_node),
                 waw: contents.has_missed(offset, bytes, &by),
                 ..Conflicts::NONE
             })

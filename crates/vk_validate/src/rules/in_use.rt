@@ -37,8 +37,8 @@ fn is_busy_at(history: &History<'_>, point: &Point<'_>, resource: u32) -> Result
     if !is_live_resource(history, resource) {
         return Ok(false);
     }
-    let sight = history.sight(point)?;
-    Ok(history.is_busy(resource, &sight))
+    let new_node = history.new_node(point)?;
+    Ok(history.is_busy(resource, &new_node))
 }
 
 fn is_live_resource(history: &History<'_>, id: u32) -> bool

@@ -203,8 +203,8 @@ fn is_unordered(
     history.is_judged();
     match history.last_signal(semaphore) {
         Some(last) => {
-            let sight = history.sight(point)?;
-            Ok(!sight.follows(last.line, last.place))
+            let new_node = history.new_node(point)?;
+            Ok(!new_node.follows(last.line, last.place))
         }
         None => Ok(false),
     }

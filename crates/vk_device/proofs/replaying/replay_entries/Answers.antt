@@ -22,7 +22,7 @@ returns-in-NoRoom-clause-led g c =
 pub loop-index-preserved : goal.loop-index-preserved
 loop-index-preserved g c =
     let run = c.direct_runs_are_runs.ensures c.args.entries.now c.loop-index.invariant.steps c.loop-index.invariant.stage _ c.loop-index.invariant.led.run in
-    let st = c.defined_runs_stand.ensures c.args.entries.now c.loop-index.invariant.steps c.loop-index.invariant.stage run in
+    let st = c.defined_runs_follow.ensures c.args.entries.now c.loop-index.invariant.steps c.loop-index.invariant.stage run in
     elim c.match-branch-2.branch [
       | in-Done w ↦ rw w.reads-is (after_done g.S.Scheduler.answer g.S.Scheduler.next c.args.config c.args.entries.now (g.S.Scheduler.held c.args.sched.now) c.loop-index.index c.loop-index.reads.items c.loop-index.device (g.S.Scheduler.held c.loop-index.sched) c.index-entries-index.result c.loop-index.invariant c.index-entries-index.is c.loop-index-test.true c.requires
           c.picks_are_runs.ensures.lead_on run st c.apply.new.self (g.S.Scheduler.held c.apply.new.sched) c.in_ok-apply.field-0 w.in-Done.is c.in_ok-apply.ensures.applied c.in_ok-apply.ensures.reads c.in_ok-apply.ensures.rooms c.in_ok-apply.ensures.allots c.in_ok-apply.ensures.works.1)

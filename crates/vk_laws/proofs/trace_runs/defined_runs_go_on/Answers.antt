@@ -1,4 +1,4 @@
-use Rattle.vk_laws.proofs.Running.Standing.{run_goes_on}
+use Rattle.vk_laws.proofs.Running.Following.{run_goes_on}
 use Rattle.vk_laws.proofs.trace_runs.defined_runs_go_on.Goals as goal
 
 pub returns : goal.returns

@@ -9,14 +9,14 @@ use Rattle.vk_measures.specs.Ranges.{Named, IsPastOf, command_bytes}
 use Rattle.vk_measures.proofs.ranges.of_copy.Goals as goal
 
 of_its_buffer : (past : Past) (b size : ℕ) (names : Item → Option Named) (m : PastBytes) → m.buffer ≡ b → size ≡ buffer_size past b → IsPastOf size names m → IsPastOf (buffer_size past m.buffer) names m
-of_its_buffer past b size names m its is told = (told.0, told.1 ∙ is ∙ ap (buffer_size past) (sym its), told.2)
+of_its_buffer past b size names m its is reported = (reported.0, reported.1 ∙ is ∙ ap (buffer_size past) (sym its), reported.2)
 
-pub returns-in-Some-clause-told : goal.returns-in-Some-clause-told
-returns-in-Some-clause-told c =
-    let told = c.in-Some.ensures.told in
-    of_its_buffer (past_of c.args.older.now) _ _ (command_bytes (cmd.Copy c.args.source c.args.destination c.args.regions.now)) c.in-Some.past told.0 c.size.ensures (told.1 c.args.destination)
+pub returns-in-Some-clause-reported : goal.returns-in-Some-clause-reported
+returns-in-Some-clause-reported c =
+    let reported = c.in-Some.ensures.reported in
+    of_its_buffer (past_of c.args.older.now) _ _ (command_bytes (cmd.Copy c.args.source c.args.destination c.args.regions.now)) c.in-Some.past reported.0 c.size.ensures (reported.1 c.args.destination)
 
-pub returns-in_ok-past-in-None-clause-told : goal.returns-in_ok-past-in-None-clause-told
-returns-in_ok-past-in-None-clause-told c =
-    let told = c.in_ok-past-in-None.ensures.told in
-    of_its_buffer (past_of c.args.older.now) _ _ (command_bytes (cmd.Copy c.args.source c.args.destination c.args.regions.now)) c.in_ok-past-in-None.past told.0 c.size-in-None.ensures (told.1 c.args.source)
+pub returns-in_ok-past-in-None-clause-reported : goal.returns-in_ok-past-in-None-clause-reported
+returns-in_ok-past-in-None-clause-reported c =
+    let reported = c.in_ok-past-in-None.ensures.reported in
+    of_its_buffer (past_of c.args.older.now) _ _ (command_bytes (cmd.Copy c.args.source c.args.destination c.args.regions.now)) c.in_ok-past-in-None.past reported.0 c.size-in-None.ensures (reported.1 c.args.source)

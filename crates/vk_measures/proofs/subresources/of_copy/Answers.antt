@@ -1,4 +1,4 @@
 use Rattle.vk_measures.proofs.subresources.of_copy.Goals as goal
 
-pub returns-in-Some-clause-told : goal.returns-in-Some-clause-told
-returns-in-Some-clause-told c = c.in-Some.ensures.told c.args.destination
+pub returns-in-Some-clause-reported : goal.returns-in-Some-clause-reported
+returns-in-Some-clause-reported c = c.in-Some.ensures.reported c.args.destination

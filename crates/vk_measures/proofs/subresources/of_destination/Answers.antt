@@ -4,7 +4,7 @@ use Rattle.vk_measures.specs.Subresources.{copies_at}
 use Rattle.vk_measures.proofs.SpanLemmas.{of_image_each}
 use Rattle.vk_measures.proofs.subresources.of_destination.Goals as goal
 
-pub returns-clause-told : goal.returns-clause-told
-returns-clause-told c =
+pub returns-clause-reported : goal.returns-clause-reported
+returns-clause-reported c =
     of_image_each (past_of c.args.older.now) c.args.image_id c.in_ok-info.info (λ (s : ℕ). copies_at s c.args.image_id c.args.regions.now) c.outside_destinations.result
-    (sym c.in_ok-info.was ∙ c.image.ensures) c.outside_destinations.ensures.told
+    (sym c.in_ok-info.was ∙ c.image.ensures) c.outside_destinations.ensures.reported

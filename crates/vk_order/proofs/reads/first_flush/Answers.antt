@@ -6,7 +6,7 @@ use Rattle.std.proofs.Math.Bool.{and-false}
 use Rattle.vk_model.specs.Sync.Seen.{flushes}
 use Rattle.vk_order.specs.PointViews.{act_of}
 use Rattle.vk_order.specs.Bytes.{byte_of}
-use Rattle.vk_order.proofs.SendingLemmas.{below_more}
+use Rattle.vk_order.proofs.AvailabilityLemmas.{below_more}
 use Rattle.vk_order.proofs.reads.first_flush.Goals.{else-number-flush-via-then-number-flush+else-flushes, else-number-flush-via-else-number-flush}
 use Rattle.vk_order.proofs.reads.first_flush.Goals as goal
 

@@ -1,5 +1,5 @@
 use Rattle.vk_order.specs.Bytes.{byte_of}
-use Rattle.vk_order.specs.Inner.Sending.{IsLastInvalidation}
+use Rattle.vk_order.specs.Inner.Availability.{IsLastInvalidation}
 use Rattle.vk_order.proofs.reads.last_invalidation.Given as goal
 
 abbrev pub invariant-loop-earlier : goal.invariant-loop-earlier

@@ -6,7 +6,7 @@ use Rattle.vk_order.specs.declared.acts.Row.{Row}
 use Rattle.vk_order.specs.declared.writes.First.{First}
 use Rattle.vk_order.specs.PointViews.{node_of, nodes_after}
 use Rattle.vk_order.specs.Inner.Kept.{IsStamped}
-use Rattle.vk_order.specs.Inner.Sending.{AreFirsts}
+use Rattle.vk_order.specs.Inner.Availability.{AreFirsts}
 use Rattle.vk_order.proofs.seen.is_after_some.Given as goal
 
 abbrev pub invariant-loop-first : goal.invariant-loop-first

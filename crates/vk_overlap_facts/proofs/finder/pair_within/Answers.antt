@@ -2,17 +2,17 @@ use Rattle.std.proofs.Common.{map, get_or, sym, ◌∙◌}
 use Rattle.vk_overlap_facts.specs.declared.areas.Area.TheVariants as area
 use Rattle.vk_overlap_facts.specs.Inner.Areas.{area_of}
 use Rattle.vk_overlap_facts.specs.Inner.Found.{IsRising}
-use Rattle.vk_overlap_facts.proofs.FinderLemmas.{pair_more, area_at, rising_of_met, rising_told}
+use Rattle.vk_overlap_facts.proofs.FinderLemmas.{pair_more, area_at, rising_of_met, rising_reported}
 use Rattle.vk_overlap_facts.proofs.finder.pair_within.Goals as goal
 
 pub returns-in-Some : goal.returns-in-Some
 returns-in-Some c =
     let xs = c.args.areas.now in
     let k = c.loop-number.number in
-    let told : IsRising (map area_of xs) c.pair_of.result = rising_of_met (map area_of xs) k (area_of (get_or xs k (area.Bytes 0 0 0))) c.in-Some.met c.pair_of.result (area_at xs k (area.Bytes 0 0 0) c.loop-number-test.true) c.in-Some.ensures.some c.pair_of.ensures in
+    let reported : IsRising (map area_of xs) c.pair_of.result = rising_of_met (map area_of xs) k (area_of (get_or xs k (area.Bytes 0 0 0))) c.in-Some.met c.pair_of.result (area_at xs k (area.Bytes 0 0 0) c.loop-number-test.true) c.in-Some.ensures.some c.pair_of.ensures in
     record {
-      meet = sym (rising_told (map area_of xs) c.pair_of.result told);
-      told = told;
+      meet = sym (rising_reported (map area_of xs) c.pair_of.result reported);
+      reported = reported;
     }
 
 pub loop-number-preserved : goal.loop-number-preserved

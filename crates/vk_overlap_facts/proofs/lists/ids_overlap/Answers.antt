@@ -1,6 +1,6 @@
 use Rattle.std.proofs.Common.{map, true, false, ap, ◌∙◌}
 use Rattle.vk_overlap_facts.specs.Inner.Areas.{area_of}
-use Rattle.vk_overlap_facts.proofs.AreaLemmas.{of_ids, ids_told}
+use Rattle.vk_overlap_facts.proofs.AreaLemmas.{of_ids, ids_reported}
 use Rattle.vk_overlap_facts.proofs.lists.ids_overlap.Goals as goal
 
 pub returns-in-Some : goal.returns-in-Some
@@ -10,7 +10,7 @@ returns-in-Some c =
     let laid = ap (map area_of) c.as_slice.ensures.value ∙ c.in_ok-areas.ensures in
     record {
       meet = of_ids ids areas true laid (rw c.in-Some.is at c.in_ok-pair.ensures.meet);
-      told = ids_told ids areas c.in-Some.pair c.two_listed.result laid (rw c.in-Some.is at c.in_ok-pair.ensures.told) c.two_listed.ensures.one c.two_listed.ensures.other c.two_listed.ensures.id;
+      reported = ids_reported ids areas c.in-Some.pair c.two_listed.result laid (rw c.in-Some.is at c.in_ok-pair.ensures.reported) c.two_listed.ensures.one c.two_listed.ensures.other c.two_listed.ensures.id;
     }
 
 pub returns-clause-meet : goal.returns-clause-meet

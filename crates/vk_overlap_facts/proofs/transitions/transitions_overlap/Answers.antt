@@ -1,6 +1,6 @@
 use Rattle.std.proofs.Common.{map, true, false, ap, ◌∙◌}
 use Rattle.vk_overlap_facts.specs.Inner.Areas.{area_of}
-use Rattle.vk_overlap_facts.proofs.AreaLemmas.{of_transitions, transitions_told}
+use Rattle.vk_overlap_facts.proofs.AreaLemmas.{of_transitions, transitions_reported}
 use Rattle.vk_overlap_facts.proofs.transitions.transitions_overlap.Goals as goal
 
 pub returns-in-Some : goal.returns-in-Some
@@ -10,7 +10,7 @@ returns-in-Some c =
     let laid = ap (map area_of) c.as_slice.ensures.value ∙ c.in_ok-areas.ensures in
     record {
       meet = of_transitions es areas true laid (rw c.in-Some.is at c.in_ok-pair.ensures.meet);
-      told = transitions_told es areas c.in-Some.pair c.two_transitions.result laid (rw c.in-Some.is at c.in_ok-pair.ensures.told) c.two_transitions.ensures;
+      reported = transitions_reported es areas c.in-Some.pair c.two_transitions.result laid (rw c.in-Some.is at c.in_ok-pair.ensures.reported) c.two_transitions.ensures;
     }
 
 pub returns-clause-meet : goal.returns-clause-meet

@@ -16,7 +16,7 @@ loop-point-preserved c = λ past are.
     let list = c.loop-point.defrags.items in
     elim c.match-defrag_by.branch [
       | in-Some+in_ok-push w ↦ subst (λ (xs : List OpenDefrag). AreDefrags past (past_of (take (k + 1) ps)) xs) (sym (ap (λ (v : Vec OpenDefrag Global). v.items) w.defrags-is ∙ w.in_ok-push.ensures.items))
-          (defrags_more past ps k p c.loop-point-test.true c.point-item.is list (c.loop-point.invariant past are) w.in-Some.defrag w.in-Some.ensures.id (w.in-Some.ensures.told past are))
+          (defrags_more past ps k p c.loop-point-test.true c.point-item.is list (c.loop-point.invariant past are) w.in-Some.defrag w.in-Some.ensures.id (w.in-Some.ensures.reported past are))
       | in_default w ↦ subst (λ (xs : List OpenDefrag). AreDefrags past (past_of (take (k + 1) ps)) xs) (sym (ap (λ (v : Vec OpenDefrag Global). v.items) w.defrags-is))
           (no_defrag_more past ps k p c.loop-point-test.true c.point-item.is list (c.loop-point.invariant past are) (sym (w.in_default.ensures.found past are)))
     ]

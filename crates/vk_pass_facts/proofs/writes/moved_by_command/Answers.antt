@@ -7,7 +7,7 @@ use Rattle.vk_model.specs.Rules.Passes.{moves_now}
 use Rattle.vk_model.specs.Sync.Access.{transition_bytes}
 use Rattle.vk_model.specs.Sync.Node.{command_acts}
 use Rattle.vk_pass_facts.specs.Inner.Written.{acts_write}
-use Rattle.vk_pass_facts.proofs.ActLemmas.{barrier_writes, command_writes, barrier_told, command_told}
+use Rattle.vk_pass_facts.proofs.ActLemmas.{barrier_writes, command_writes, barrier_reported, command_reported}
 use Rattle.vk_pass_facts.proofs.writes.moved_by_command.Goals as goal
 
 pub returns-in-Barrier-clause-broken : goal.returns-in-Barrier-clause-broken
@@ -18,7 +18,7 @@ returns-in-Barrier-clause-broken c =
     ∙ barrier_writes past q (moves_now past) c.in-Barrier.elements ∙ ap (λ (x : Cmd). acts_write past q (moves_now past) (command_acts x)) (sym c.in-Barrier.is)
 
 pub returns-in-Barrier-clause-written : goal.returns-in-Barrier-clause-written
-returns-in-Barrier-clause-written c = barrier_told c.args.before.now c.args.queue c.args.command.now c.in-Barrier.elements c.as_slice.result.now c.moved_by_some.result c.in-Barrier.is c.as_slice.ensures c.moved_by_some.ensures.written
+returns-in-Barrier-clause-written c = barrier_reported c.args.before.now c.args.queue c.args.command.now c.in-Barrier.elements c.as_slice.result.now c.moved_by_some.result c.in-Barrier.is c.as_slice.ensures c.moved_by_some.ensures.written
 
 pub returns-in_default : goal.returns-in_default
 returns-in_default c =
@@ -27,6 +27,6 @@ returns-in_default c =
     let w = c.written_by_command.result in
     record {
       broken = c.moving.ensures.found ∙ command_writes past q (moves_now past) w c.args.command.now c.in_default.not-Barrier c.written_by_command.ensures;
-      written = command_told past q c.args.command.now w c.moving.result c.in_default.not-Barrier c.written_by_command.ensures c.moving.ensures.same;
-      told = c.moving.ensures.told;
+      written = command_reported past q c.args.command.now w c.moving.result c.in_default.not-Barrier c.written_by_command.ensures c.moving.ensures.same;
+      reported = c.moving.ensures.reported;
     }

@@ -12,8 +12,8 @@ use Rattle.vk_states.proofs.EventLemmas.{newest_fails}
 use Rattle.vk_states.proofs.events.awaited_otherwise.Goals as goal
 use Rattle.vk_states.proofs.events.awaited_otherwise.Goals.{in-Some, in-None}
 
-pub returns-clause-told : goal.returns-clause-told
-returns-clause-told c =
+pub returns-clause-reported : goal.returns-clause-reported
+returns-clause-reported c =
     let past = past_of c.args.older.now in
     let ms = c.args.elements.now in
     let v = c.args.event in

@@ -16,8 +16,8 @@ returns-clause-broken c = λ past shows.
     let t = c.in_ok-transition.transition in
     sym (c.in_ok-transition.ensures.some.1 (world past) ∙ some_other (world past) t.image t.range t.old_layout c.in_ok-found.found c.in_ok-found.ensures.some (c.in_ok-found.ensures.current past shows).layout)
 
-pub returns-clause-told : goal.returns-clause-told
-returns-clause-told c = λ past shows.
+pub returns-clause-reported : goal.returns-clause-reported
+returns-clause-reported c = λ past shows.
     let t = c.in_ok-transition.transition in
     let current = c.in_ok-found.ensures.current past shows in
     record {

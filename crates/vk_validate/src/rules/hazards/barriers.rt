@@ -21,7 +21,7 @@ use std::alloc::AllocError;
 use vk_history::{ElementPart, History, ResourceContents, is_transition};
 use vk_image_bytes::{ByteRanges, ImageBytes};
 use vk_model::{Element, ImageElement, SubresourceRange};
-use vk_order::{Point, Sight, elements_are_alone, host_seen, prefixes};
+use vk_order::{Point, NewNode, elements_are_alone, host_seen, prefixes};
 use vk_touches::{Conflicts, TransitionAccess};
 
 /// The bytes that a layout transition reads and writes.
@@ -89,8 +89,8 @@ fn finds_early(
     let Some(moved) = moved_by(history, point.queue, element) else {
         return Ok(false);
     };
-    let sight = history.element_sight(point, element)?;
-    Ok(moved.has_early(&sight))
+    let new_node = history.new_element(point, element)?;
+    Ok(moved.has_early(&new_node))
 }
 
 /// Whether a transition of some element has a byte whose last write by a command, or last
@@ -193,13 +193,13 @@ fn ranges_of(image: &ImageBytes, range: &SubresourceRange) -> ByteRanges
 impl Moved<'_> {
     /// Whether one has a last read, by the host or by a command of some queue, or a last transition
     /// that doesn't come before.
-    fn has_early(&self, sight: &Sight) -> bool
+    fn has_early(&self, new_node: &NewNode) -> bool
         requires { AreShort self.now.ranges }
-        ensures { FoundInMoved (λ k. IsEarly sight.now) result self.now }
+        ensures { FoundInMoved (λ k. IsEarly new_node.now) result self.now }
     {
         for index in 0..self.ranges.count {
             let low = self.ranges.low(index);
-            if self.contents.has_early(low, self.ranges.size, sight) {
+            if self.contents.has_early(low, self.ranges.size, new_node) {
                 return true;
             }
         }

@@ -13,7 +13,7 @@ use std::alloc::AllocError;
 use vk_history::{History, ResourceContents};
 use vk_image_bytes::{ByteRanges, ImageBytes};
 use vk_model::SubresourceRange;
-use vk_order::{Access, Point, Sight, flushed_seen, host_seen, prefixes};
+use vk_order::{Access, Point, NewNode, flushed_seen, host_seen, prefixes};
 use vk_touches::{Conflicts, ResourceAccess};
 
 /// What a clear of levels and layers finds wrong.
@@ -37,10 +37,10 @@ pub fn of_clear(
     let Some(bytes) = &contents.image else {
         return Ok(Conflicts::NONE);
     };
-    let sight = history.sight(point)?;
-    let by = history.access(&sight, image, Access::Write);
+    let new_node = history.new_node(point)?;
+    let by = history.access(&new_node, image, Access::Write);
     Ok(Conflicts {
-        war: has_early_range(contents, bytes, ranges, &sight),
+        war: has_early_range(contents, bytes, ranges, &new_node),
         waw: has_missed_range(contents, bytes, ranges, &by),
         ..Conflicts::NONE
     })
@@ -51,14 +51,14 @@ fn has_early_range(
     contents: &ResourceContents,
     bytes: &ImageBytes,
     ranges: &[SubresourceRange],
-    sight: &Sight,
+    new_node: &NewNode,
 ) -> bool
     requires { byte_count bytes.now ≤ length contents.now.touches }
-    ensures { FoundAmong (FoundInSubresources (λ r low high. FoundIn (IsEarly sight.now) r contents.now.touches low high) bytes.now) result ranges.now }
+    ensures { FoundAmong (FoundInSubresources (λ r low high. FoundIn (IsEarly new_node.now) r contents.now.touches low high) bytes.now) result ranges.now }
 {
     for range in ranges {
         let numbers = bytes.ranges(range);
-        if has_early_number(contents, &numbers, sight) {
+        if has_early_number(contents, &numbers, new_node) {
             return true;
         }
     }
@@ -66,13 +66,13 @@ fn has_early_range(
 }
 
 /// The same of ranges of numbers.
-fn has_early_number(contents: &ResourceContents, ranges: &ByteRanges, sight: &Sight) -> bool
+fn has_early_number(contents: &ResourceContents, ranges: &ByteRanges, new_node: &NewNode) -> bool
     requires { EndWithin ranges.now (length contents.now.touches) }
-    ensures { FoundInRanges (λ r low high. FoundIn (IsEarly sight.now) r contents.now.touches low high) result ranges.now }
+    ensures { FoundInRanges (λ r low high. FoundIn (IsEarly new_node.now) r contents.now.touches low high) result ranges.now }
 {
     let _len: u64 = contents.touches.len();
     for index in 0..ranges.count {
-        if contents.has_early(ranges.low(index), ranges.size, sight) {
+        if contents.has_early(ranges.low(index), ranges.size, new_node) {
             return true;
         }
     }

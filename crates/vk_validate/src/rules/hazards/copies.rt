@@ -11,7 +11,7 @@ ghost use Rattle.vk_validate.specs.Inner.Copies.{IsCopyBy};
 use std::alloc::AllocError;
 use vk_history::{History, ResourceContents};
 use vk_model::{BufferCopy, BufferImageCopy, ImageCopy};
-use vk_order::{Access, Point, Sight, flushed_seen, host_seen, prefixes};
+use vk_order::{Access, Point, NewNode, flushed_seen, host_seen, prefixes};
 use vk_touches::{Conflicts, ResourceAccess};
 
 /// What a copy between buffers finds wrong.
@@ -103,11 +103,11 @@ fn of_numbers(
     let Some(to) = history.contents(destination) else {
         return Ok(Conflicts::NONE);
     };
-    let sight = history.sight(point)?;
-    let reads = history.access(&sight, source, Access::Read);
-    let writes = history.access(&sight, destination, Access::Write);
+    let new_node = history.new_node(point)?;
+    let reads = history.access(&new_node, source, Access::Read);
+    let writes = history.access(&new_node, destination, Access::Write);
     Ok(Conflicts {
-        war: has_early_destination(to, copies, &sight),
+        war: has_early_destination(to, copies, &new_node),
         raw: has_missed_source(from, copies, &reads),
         waw: has_missed_destination(to, copies, &writes),
         undefined: false,
@@ -149,11 +149,11 @@ fn has_missed_destination(
 }
 
 /// Whether what some copy writes has a last read that doesn't come before.
-fn has_early_destination(contents: &ResourceContents, copies: &[BufferCopy], sight: &Sight) -> bool
-    ensures { FoundAmong (λ r g. g.destination_offset + g.size ≤ length contents.now.touches → FoundIn (IsEarly sight.now) r contents.now.touches g.destination_offset (g.destination_offset + g.size)) result copies.now }
+fn has_early_destination(contents: &ResourceContents, copies: &[BufferCopy], new_node: &NewNode) -> bool
+    ensures { FoundAmong (λ r g. g.destination_offset + g.size ≤ length contents.now.touches → FoundIn (IsEarly new_node.now) r contents.now.touches g.destination_offset (g.destination_offset + g.size)) result copies.now }
 {
     for copy in copies {
-        if contents.has_early(copy.destination_offset, copy.size, sight) {
+        if contents.has_early(copy.destination_offset, copy.size, new_node) {
             return true;
         }
     }

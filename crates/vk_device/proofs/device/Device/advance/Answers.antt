@@ -16,7 +16,7 @@ pub prepare-requires : goal.prepare-requires
 prepare-requires c =
     let r = c.requires in
     let h = r.5 in
-    let come = coming r.0 r.1 r.2 c.args.entry.now r.3 c.args.self.now c.order_is_structured.ensures.ordered c.order_is_structured.ensures.entries c.no_fault_is_sound.ensures c.direct_runs_are_runs.ensures c.defined_runs_stand.ensures c.commands_name_live.ensures h in
+    let come = coming r.0 r.1 r.2 c.args.entry.now r.3 c.args.self.now c.order_is_structured.ensures.ordered c.order_is_structured.ensures.entries c.no_fault_is_sound.ensures c.direct_runs_are_runs.ensures c.defined_runs_follow.ensures c.commands_name_live.ensures h in
     let are : past_after r.2.front.past c.as_slice-point-items.result.now ≡ (after_entry r.2.count c.args.entry.now r.2.front).past =
     rw c.as_slice-point-items.ensures.value (arrived c.args.self.now r.2 c.args.entry.now c.in_ok-points.points.items h.counts (c.in_ok-points.ensures r.2.front h.waits).0) in
     prepare_ready r.0 r.2.count c.args.entry.now r.2.front c.args.self.now.resources come c.as_slice-point-items.result.now are c.loop-point.point-index c.point-item.result c.point-item.is (omega (arith, c.loop-point-test.true))
@@ -26,7 +26,7 @@ pub add-requires : goal.add-requires
 add-requires c =
     let r = c.requires in
     let h = r.5 in
-    let come = coming r.0 r.1 r.2 c.args.entry.now r.3 c.args.self.now c.order_is_structured.ensures.ordered c.order_is_structured.ensures.entries c.no_fault_is_sound.ensures c.direct_runs_are_runs.ensures c.defined_runs_stand.ensures c.commands_name_live.ensures h in
+    let come = coming r.0 r.1 r.2 c.args.entry.now r.3 c.args.self.now c.order_is_structured.ensures.ordered c.order_is_structured.ensures.entries c.no_fault_is_sound.ensures c.direct_runs_are_runs.ensures c.defined_runs_follow.ensures c.commands_name_live.ensures h in
     let are : past_after r.2.front.past c.as_slice-point-items.result.now ≡ (after_entry r.2.count c.args.entry.now r.2.front).past =
     rw c.as_slice-point-items.ensures.value (arrived c.args.self.now r.2 c.args.entry.now c.in_ok-points.points.items h.counts (c.in_ok-points.ensures r.2.front h.waits).0) in
     let low : c.loop-point.point-index < length c.as_slice-point-items.result.now = omega (arith, c.loop-point-test.true) in (
@@ -41,7 +41,7 @@ pub overflow_add-self : goal.overflow_add-self
 overflow_add-self c =
     let r = c.requires in
     let h = r.5 in
-    let come = coming r.0 r.1 r.2 c.args.entry.now r.3 c.args.self.now c.order_is_structured.ensures.ordered c.order_is_structured.ensures.entries c.no_fault_is_sound.ensures c.direct_runs_are_runs.ensures c.defined_runs_stand.ensures c.commands_name_live.ensures h in
+    let come = coming r.0 r.1 r.2 c.args.entry.now r.3 c.args.self.now c.order_is_structured.ensures.ordered c.order_is_structured.ensures.entries c.no_fault_is_sound.ensures c.direct_runs_are_runs.ensures c.defined_runs_follow.ensures c.commands_name_live.ensures h in
     let below = come.below in
     let counts = h.counts in
     let same = c.loop-point.invariant.count in
@@ -61,7 +61,7 @@ loop-point-preserved c = record {
   count = c.in_ok-pieces.ensures.prepared.count ∙ c.loop-point.invariant.count;
   failed = c.prepare.ensures.failed ∙ c.loop-point.invariant.failed;
   offers = λ t steps s xs atoms h.
-      let come = coming t steps s c.args.entry.now xs c.args.self.now c.order_is_structured.ensures.ordered c.order_is_structured.ensures.entries c.no_fault_is_sound.ensures c.direct_runs_are_runs.ensures c.defined_runs_stand.ensures c.commands_name_live.ensures h in
+      let come = coming t steps s c.args.entry.now xs c.args.self.now c.order_is_structured.ensures.ordered c.order_is_structured.ensures.entries c.no_fault_is_sound.ensures c.direct_runs_are_runs.ensures c.defined_runs_follow.ensures c.commands_name_live.ensures h in
       let are : past_after s.front.past c.as_slice-point-items.result.now ≡ (after_entry s.count c.args.entry.now s.front).past =
       rw c.as_slice-point-items.ensures.value (arrived c.args.self.now s c.args.entry.now c.in_ok-points.points.items h.counts (c.in_ok-points.ensures s.front h.waits).0) in
       let low : c.loop-point.point-index < length c.as_slice-point-items.result.now = omega (arith, c.loop-point-test.true) in

@@ -2,7 +2,7 @@ use Rattle.std.proofs.Common.{◌≡◌, refl, Some, sym, ap, ◌∙◌, arith}
 use Rattle.std.specs.Prelude.{slice_get}
 use Rattle.std.proofs.lemmas.Option.{slice_get_within, slice_get-get_or}
 use Rattle.vk_model.specs.declared.command.Cmd.{Cmd}
-use Rattle.vk_device.proofs.Standing.{fits_so_far}
+use Rattle.vk_device.proofs.Following.{fits_so_far}
 use Rattle.vk_device.proofs.Running.{has_run, has_written, work_of, its_fit, its_content, its_sources, piece_ready}
 use Rattle.vk_device.proofs.device.Device.run.Goals as goal
 
@@ -22,7 +22,7 @@ run_piece-requires c =
     let here : slice_get items c.args.piece.command ≡ Some c.index.result.now =
     slice_get-get_or items c.args.piece.command c.index.result.now (slice_get_within items c.args.piece.command work.0 work.1) ∙ ap (λ (y : Cmd). Some y) (sym c.index.ensures) in
     let run = c.direct_runs_are_runs.ensures m.t m.steps m.s _ m.led.run in
-    let fits = fits_so_far c.no_fault_is_sound.ensures m.t m.s (c.defined_runs_stand.ensures m.t m.steps m.s run) m.sound in
+    let fits = fits_so_far c.no_fault_is_sound.ensures m.t m.s (c.defined_runs_follow.ensures m.t m.steps m.s run) m.sound in
     piece_ready m.t m.steps m.s c.args.self.now m.led c.args.piece m.among c.index.result.now here run m.sound.faultless c.commands_name_live.ensures fits
 
 pub returns-clause-ran : goal.returns-clause-ran
@@ -33,7 +33,7 @@ returns-clause-ran c = λ t steps s led sound.
     let here : slice_get items c.args.piece.command ≡ Some c.index.result.now =
     slice_get-get_or items c.args.piece.command c.index.result.now (slice_get_within items c.args.piece.command work.0 work.1) ∙ ap (λ (y : Cmd). Some y) (sym c.index.ensures) in
     let run = c.direct_runs_are_runs.ensures t steps s _ led.run in
-    let fits = fits_so_far c.no_fault_is_sound.ensures t s (c.defined_runs_stand.ensures t steps s run) sound in
+    let fits = fits_so_far c.no_fault_is_sound.ensures t s (c.defined_runs_follow.ensures t steps s run) sound in
     let fit = its_fit t steps s c.args.self.now led c.args.piece among c.index.result.now here run sound.faultless c.commands_name_live.ensures fits in
     let content = its_content t steps s c.args.self.now led c.args.piece among c.index.result.now here run sound.faultless c.commands_name_live.ensures fits c.offered_are_pieces.ensures.pieces in
     let sources = its_sources t steps s c.args.self.now led c.args.piece among c.index.result.now here run sound.faultless c.commands_name_live.ensures fits c.offered_are_pieces.ensures.pieces c.pieces_are_byte_writes.ensures in
@@ -48,7 +48,7 @@ returns-clause-written c = λ t steps s b w v led sound.
     let here : slice_get items c.args.piece.command ≡ Some c.index.result.now =
     slice_get-get_or items c.args.piece.command c.index.result.now (slice_get_within items c.args.piece.command work.0 work.1) ∙ ap (λ (y : Cmd). Some y) (sym c.index.ensures) in
     let run = c.direct_runs_are_runs.ensures t steps s _ led.run in
-    let fits = fits_so_far c.no_fault_is_sound.ensures t s (c.defined_runs_stand.ensures t steps s run) sound in
+    let fits = fits_so_far c.no_fault_is_sound.ensures t s (c.defined_runs_follow.ensures t steps s run) sound in
     let fit = its_fit t steps s c.args.self.now led c.args.piece among c.index.result.now here run sound.faultless c.commands_name_live.ensures fits in
     let content = its_content t steps s c.args.self.now led c.args.piece among c.index.result.now here run sound.faultless c.commands_name_live.ensures fits c.offered_are_pieces.ensures.pieces in
     let sources = its_sources t steps s c.args.self.now led c.args.piece among c.index.result.now here run sound.faultless c.commands_name_live.ensures fits c.offered_are_pieces.ensures.pieces c.pieces_are_byte_writes.ensures in

@@ -13,7 +13,7 @@ pub turn_over-requires : goal.turn_over-requires
 turn_over-requires g c =
     let r = c.requires in
     let past = r.2.front.past in
-    let fits = fits_next r.2.count c.args.entry.now past (clean_next r.0 r.1 r.2 c.args.entry.now r.3 c.args.self.now c.no_fault_is_sound.ensures c.direct_runs_are_runs.ensures c.defined_runs_stand.ensures r.4) in
+    let fits = fits_next r.2.count c.args.entry.now past (clean_next r.0 r.1 r.2 c.args.entry.now r.3 c.args.self.now c.no_fault_is_sound.ensures c.direct_runs_are_runs.ensures c.defined_runs_follow.ensures r.4) in
     (past, c.loop-atom.invariant.so_far.touched.matches past r.4.led.matches, fits, rw (sym (c.atoms-atoms.ensures past r.4.led.matches fits)) c.loop-atom-test.true)
 
 pub loop-atom-preserved : goal.loop-atom-preserved
@@ -43,7 +43,7 @@ returns-in_err-turn_over-clause-allotted g c = c.turn_over.ensures.allotted ∙ 
 
 pub returns-clause-touched : goal.returns-clause-touched
 returns-clause-touched g c t steps s xs h =
-    let fits = fits_next s.count c.args.entry.now s.front.past (clean_next t steps s c.args.entry.now xs c.args.self.now c.no_fault_is_sound.ensures c.direct_runs_are_runs.ensures c.defined_runs_stand.ensures h) in
+    let fits = fits_next s.count c.args.entry.now s.front.past (clean_next t steps s c.args.entry.now xs c.args.self.now c.no_fault_is_sound.ensures c.direct_runs_are_runs.ensures c.defined_runs_follow.ensures h) in
     touches_all g.S.Scheduler.answer g.S.Scheduler.next s.front.past c.args.entry.now c.atoms-atoms.result c.loop-atom.atom (g.S.Scheduler.held c.args.sched.now) (g.S.Scheduler.held c.loop-atom.sched) c.args.self.now.resources c.loop-atom.self.resources
     (c.atoms-atoms.ensures s.front.past h.led.matches fits) c.loop-atom-test.false c.loop-atom.invariant.so_far
 

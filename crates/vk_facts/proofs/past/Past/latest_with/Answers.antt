@@ -44,14 +44,14 @@ returns-in-Some c = λ y cy is.
     let areas : AreAreas c.as_slice.result.now (later_bytes past h y) =
     subst (λ (l : List Area). AreAreas l (later_bytes past h y)) (sym c.as_slice.ensures.value) (subst (λ (n : Node). AreAreas c.in_ok-areas.areas.items (later_bytes past h n)) is_y (c.in_ok-areas.ensures c.args.later)) in
     let pair : IsPair past (record { earlier = c.args.later - 1 - c.loop-back.back; later = c.args.later }) node.0 y = record { earlier = node.1; later = cy; earlier_number = node.2; later_number = is } in
-    let told = c.fact.ensures node.0 y pair in
+    let reported = c.fact.ensures node.0 y pair in
     let found : IsFound past h node.0 y (Some c.in-Some.byte) = subst (λ (o : Option Told). IsFound past h node.0 y o) c.in-Some.is (c.in_ok-byte.ensures node.0 y pair areas) in
-    let number : c.fact.result.earlier.number ≡ c.args.later - 1 - c.loop-back.back = ap (λ (n : Node). n.number) told.earlier ∙ node.2 in
+    let number : c.fact.result.earlier.number ≡ c.args.later - 1 - c.loop-back.back = ap (λ (n : Node). n.number) reported.earlier ∙ node.2 in
     record {
-      hazard = told.hazard;
-      earlier = subst (λ (n : Node). Contains (nodes past) n) (sym told.earlier) node.1;
-      later = told.later;
-      found = subst (λ (b : Told). IsFound past h (node_at c.fact.result.earlier) y (Some b)) (sym told.byte) (subst (λ (n : Node). IsFound past h n y (Some c.in-Some.byte)) (sym told.earlier) found);
-      ordered = told.ordered ∙ ap (λ (n : Node). before (nodes past) n y) (sym told.earlier);
+      hazard = reported.hazard;
+      earlier = subst (λ (n : Node). Contains (nodes past) n) (sym reported.earlier) node.1;
+      later = reported.later;
+      found = subst (λ (b : Told). IsFound past h (node_at c.fact.result.earlier) y (Some b)) (sym reported.byte) (subst (λ (n : Node). IsFound past h n y (Some c.in-Some.byte)) (sym reported.earlier) found);
+      ordered = reported.ordered ∙ ap (λ (n : Node). before (nodes past) n y) (sym reported.earlier);
       latest = λ z cz lt. c.loop-back.invariant z y cz cy is (omega (arith, number, c.loop-back-test.true));
     }

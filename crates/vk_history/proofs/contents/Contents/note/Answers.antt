@@ -6,8 +6,8 @@ use Rattle.vk_model.specs.Sync.Node.{nodes}
 use Rattle.vk_model.specs.Sync.Edge.{is_element}
 use Rattle.vk_order.proofs.PlaceLemmas.{apart_from}
 use Rattle.vk_order.specs.declared.frontier.Frontier.{Frontier}
-use Rattle.vk_order.specs.declared.sights.Sight.{Sight}
-use Rattle.vk_order.specs.Frontiers.{IsFrontier, IsSight}
+use Rattle.vk_order.specs.declared.new_node.NewNode.{NewNode}
+use Rattle.vk_order.specs.Frontiers.{IsFrontier, IsNewNode}
 use Rattle.vk_order.specs.PointViews.{point_of}
 use Rattle.vk_touches.specs.declared.touches.Spot.{Spot}
 use Rattle.std.specs.Ordering.{nat_cmp}
@@ -68,16 +68,16 @@ returns-in-Flushed c = on_three c.flush.result c.flush.ensures.here c.flush.ensu
     flush_change past p clean c.in-Flushed.buffer c.in-Flushed.offset c.in-Flushed.size c.in-Flushed.ensures c.args.self.now c.flush.new.self
     (subst (λ (s : Spot). BecomesIn (λ u v. IsFlushed u v c.in-Flushed.offset c.in-Flushed.size s) old new) spot_is here) others are)
 
-pub returns-in_ok-sight-in-Invalidated : goal.returns-in_ok-sight-in-Invalidated
-returns-in_ok-sight-in-Invalidated c = on_three c.invalidate.result c.invalidate.ensures.here c.invalidate.ensures.others c.invalidate.ensures.here (λ here others more past clean spot_is objects frontier are.
+pub returns-in_ok-new_node-in-Invalidated : goal.returns-in_ok-new_node-in-Invalidated
+returns-in_ok-new_node-in-Invalidated c = on_three c.invalidate.result c.invalidate.ensures.here c.invalidate.ensures.others c.invalidate.ensures.here (λ here others more past clean spot_is objects frontier are.
     let p = point_of c.args.point.now in
     let is = c.in-Invalidated.ensures in
-    let sight = c.in_ok-sight-in-Invalidated.ensures.sight (nodes past) (next_node past p (act_next p.action)) frontier (ap (next_node past p) (sym c.act_of.ensures))
+    let new_node = c.in_ok-new_node-in-Invalidated.ensures.new_node (nodes past) (next_node past p (act_next p.action)) frontier (ap (next_node past p) (sym c.act_of.ensures))
     (apart_from (nodes past) (next_node past p (act_next p.action)) (ap (λ (d : Action). is_element (act_next d)) is)) in
     let x = c.reading-by.result in
     invalidation_change past p clean c.in-Invalidated.buffer c.in-Invalidated.offset c.in-Invalidated.size is x c.reading-by.ensures.bytes c.reading-by.ensures.access
     (subst (λ (f : Frontier). IsFrontier f (nodes past)) (sym c.reading-by.ensures.frontier) frontier)
-    (subst (λ (s : Sight). IsSight (nodes past) (next_node past p (act_next p.action)) s) (sym c.reading-by.ensures.sight) sight)
+    (subst (λ (s : NewNode). IsNewNode (nodes past) (next_node past p (act_next p.action)) s) (sym c.reading-by.ensures.new_node) new_node)
     c.args.self.now c.invalidate.new.self here others are)
 
 pub returns-in-Passed : goal.returns-in-Passed

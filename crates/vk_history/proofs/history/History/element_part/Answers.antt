@@ -10,10 +10,10 @@ pub returns-in-Some : goal.returns-in-Some
 returns-in-Some c =
     let now = rw c.self.view_is at c.self.invariant in
     let earlier = past c.args.self.now in
-    λ n is apart. (now.1.frontier, subst (λ (o : Option Part). IsOwnPart (nodes earlier) (lines_of c.self.inside.tables.frontier.tallies.items) n o) c.in-Some.is (c.in_ok-known.ensures (nodes earlier) n now.1.frontier is (c.in_ok-sight.ensures.sight (nodes earlier) n now.1.frontier is apart)))
+    λ n is apart. (now.1.frontier, subst (λ (o : Option Part). IsOwnPart (nodes earlier) (lines_of c.self.inside.tables.frontier.tallies.items) n o) c.in-Some.is (c.in_ok-known.ensures (nodes earlier) n now.1.frontier is (c.in_ok-new_node.ensures.new_node (nodes earlier) n now.1.frontier is apart)))
 
 pub returns : goal.returns
 returns c =
     let now = rw c.self.view_is at c.self.invariant in
     let earlier = past c.args.self.now in
-    λ n is apart. subst (λ (o : Option Part). IsOwnPart (nodes earlier) (lines_of c.self.inside.tables.frontier.tallies.items) n o) c.in-None.is (c.in_ok-known.ensures (nodes earlier) n now.1.frontier is (c.in_ok-sight.ensures.sight (nodes earlier) n now.1.frontier is apart))
+    λ n is apart. subst (λ (o : Option Part). IsOwnPart (nodes earlier) (lines_of c.self.inside.tables.frontier.tallies.items) n o) c.in-None.is (c.in_ok-known.ensures (nodes earlier) n now.1.frontier is (c.in_ok-new_node.ensures.new_node (nodes earlier) n now.1.frontier is apart))

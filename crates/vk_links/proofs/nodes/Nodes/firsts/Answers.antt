@@ -8,10 +8,10 @@ use Rattle.vk_model.specs.Trace.Point.{Past}
 use Rattle.vk_order.specs.Bytes.{byte_of}
 use Rattle.vk_order.specs.Lines.{class_of, IsPlaced}
 use Rattle.vk_facts.specs.Hazards.{node_at}
-use Rattle.vk_links.specs.declared.sending.First.{First}
+use Rattle.vk_links.specs.declared.availability.First.{First}
 use Rattle.vk_links.specs.Links.{makes_available}
-use Rattle.vk_links.specs.Inner.Sent.{IsSender, IsListed}
-use Rattle.vk_links.proofs.SendingLemmas.{Each, AllBelow, each_more, all_more, all_listed}
+use Rattle.vk_links.specs.Inner.Availability.{MakesAvailable, IsListed}
+use Rattle.vk_links.proofs.AvailabilityLemmas.{Each, AllBelow, each_more, all_more, all_listed}
 use Rattle.vk_links.proofs.nodes.Nodes.firsts.Goals.{in-Some+in_ok-push, in_default}
 use Rattle.vk_links.proofs.nodes.Nodes.firsts.Goals as goal
 
@@ -27,7 +27,7 @@ loop-number-preserved c =
       | in-Some+in_ok-push v ↦
           let own : First = v.in-Some.first in
           let is : c.new_first.result ≡ Some own = search rules in
-          let some = subst (λ (o : Option First). IfSome o (λ f. (n : Node) × (n.number ≡ k) × IsSender past w b f n)) is c.new_first.ensures.some in
+          let some = subst (λ (o : Option First). IfSome o (λ f. (n : Node) × (n.number ≡ k) × MakesAvailable past w b f n)) is c.new_first.ensures.some in
           let at = some.1 in
           let number = some.2.number in
           let items : c.match-new_first.firsts.items ≡ old ++ own ∷ [] = search rules in

@@ -2,8 +2,8 @@ use Rattle.std.proofs.Common.{◌<◌}
 use Rattle.std.specs.Prelude.{Contains}
 use Rattle.vk_order.specs.Bytes.{byte_of}
 use Rattle.vk_facts.specs.Hazards.{node_at}
-use Rattle.vk_links.specs.declared.sending.First.{First}
-use Rattle.vk_links.proofs.SendingLemmas.{Each, AllBelow}
+use Rattle.vk_links.specs.declared.availability.First.{First}
+use Rattle.vk_links.proofs.AvailabilityLemmas.{Each, AllBelow}
 use Rattle.vk_links.proofs.nodes.Nodes.firsts.Given as goal
 
 abbrev pub invariant-loop-number : goal.invariant-loop-number

@@ -3,7 +3,7 @@ use Rattle.vk_order.specs.Bytes.{byte_of}
 use Rattle.vk_facts.specs.Hazards.{node_at}
 use Rattle.vk_links.specs.Links.{needs_flush, flushes_after}
 use Rattle.vk_links.proofs.FirstLemmas.{below_next, first_found, none_found}
-use Rattle.vk_links.proofs.SendingLemmas.{no_early_flush, flush_same}
+use Rattle.vk_links.proofs.AvailabilityLemmas.{no_early_flush, flush_same}
 use Rattle.vk_links.proofs.nodes.Nodes.flush_after.Goals as goal
 
 pub loop-number-init : goal.loop-number-init

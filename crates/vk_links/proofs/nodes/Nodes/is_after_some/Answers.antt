@@ -4,7 +4,7 @@ use Rattle.std.proofs.lemmas.Bool.{cases_lt}
 use Rattle.std.proofs.lemmas.List.Elements.{Contains-get_or}
 use Rattle.std.proofs.lemmas.Option.{slice_get-get_or}
 use Rattle.vk_order.specs.declared.lines.Line.TheVariants.{Host}
-use Rattle.vk_links.specs.declared.sending.First.{First}
+use Rattle.vk_links.specs.declared.availability.First.{First}
 use Rattle.vk_links.proofs.nodes.Nodes.is_after_some.Goals as goal
 
 abbrev none : First

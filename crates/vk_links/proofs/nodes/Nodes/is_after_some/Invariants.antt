@@ -2,7 +2,7 @@ use Rattle.std.proofs.Common.{◌≡◌, ◌<◌, ℕ, Some, false}
 use Rattle.std.specs.Prelude.{slice_get, Contains}
 use Rattle.vk_model.specs.Sync.Node.{Node, nodes}
 use Rattle.vk_model.specs.Sync.Before.{before}
-use Rattle.vk_links.specs.declared.sending.First.{First}
+use Rattle.vk_links.specs.declared.availability.First.{First}
 use Rattle.vk_links.proofs.nodes.Nodes.is_after_some.Given as goal
 
 abbrev pub invariant-loop-first : goal.invariant-loop-first

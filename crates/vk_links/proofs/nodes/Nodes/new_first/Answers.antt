@@ -1,7 +1,7 @@
 use Rattle.std.proofs.Common.{ap, ◌∙◌, subst}
 use Rattle.vk_order.specs.declared.lines.Line.{Line}
 use Rattle.vk_order.specs.Lines.{class_of}
-use Rattle.vk_links.specs.Inner.Sent.{IsListed}
+use Rattle.vk_links.specs.Inner.Availability.{IsListed}
 use Rattle.vk_links.proofs.nodes.Nodes.new_first.Goals as goal
 
 pub returns-then-is_listed-clause-none : goal.returns-then-is_listed-clause-none

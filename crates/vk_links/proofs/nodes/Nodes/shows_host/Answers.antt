@@ -7,7 +7,7 @@ use Rattle.vk_order.specs.PointViews.{node_of}
 use Rattle.vk_facts.specs.Hazards.{node_at}
 use Rattle.vk_facts.proofs.RowNodes.{row_count, same_row}
 use Rattle.vk_links.specs.Links.{is_available_at, shows_host}
-use Rattle.vk_links.proofs.ShowingLemmas.{shows_is}
+use Rattle.vk_links.proofs.VisibilityLemmas.{shows_is}
 use Rattle.vk_links.proofs.nodes.Nodes.shows_host.Goals as goal
 
 pub index-requires : goal.index-requires

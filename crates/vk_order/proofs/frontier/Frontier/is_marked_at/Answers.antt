@@ -21,7 +21,7 @@ use Rattle.vk_order.specs.Inner.Alone.{AlwaysMarks, NeverMarks}
 use Rattle.vk_order.specs.Inner.Clocks.{place}
 use Rattle.vk_order.specs.Inner.Parts.{IsPart, AreFrom, parts_at}
 use Rattle.vk_order.specs.Inner.Tallies.{lines_of}
-use Rattle.vk_order.proofs.ServeLemmas.{sent_covers}
+use Rattle.vk_order.proofs.ServeLemmas.{available_covers}
 use Rattle.vk_order.proofs.frontier.Frontier.is_marked_at.Goals as goal
 
 module _ (f : Frontier) (part : Part) (write : Spot) (b : Byte) (xs : List Part) (ns : List Node) (n w : Node) (cached : Byte → Bool) (from : ℕ) (numbers : IsNumbered (n ∷ ns)) (is : IsFrontier f ns) (own : IsPart (n ∷ ns) (lines_of f.tallies.items) n part)
@@ -42,8 +42,8 @@ module _ (f : Frontier) (part : Part) (write : Spot) (b : Byte) (xs : List Part)
     (λ h. no h),
     (λ (m, hm, lim, marked, reached).
         let e = and_parts (is_command w.act && makes_writes_available cached ns m b m.act) (edge ns w m) marked in
-        let sends = (and_parts (is_command w.act) (makes_writes_available cached ns m b m.act) e.0).1 in
-        let kept = is.parts.all (resource_at b) m hm (sent_covers cached ns b m m.act lim sends) in
+        let makes = (and_parts (is_command w.act) (makes_writes_available cached ns m b m.act) e.0).1 in
+        let kept = is.parts.all (resource_at b) m hm (available_covers cached ns b m m.act lim makes) in
         let up = edge_forward ns w m e.1 in
         let has : Contains xs kept.0 = among.newer kept.0 kept.1 (let of = kept.2.number in omega arith) in
         absurd (none kept.0 has ns n w m cached numbers own kept.2 hw on at (marked, reached))),

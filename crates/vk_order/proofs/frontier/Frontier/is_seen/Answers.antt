@@ -19,23 +19,23 @@ from_slice : {from : ℕ} {all some kept : List Part} → all ≡ kept → AreIn
 from_slice {from} {all} {some} {kept} e ordered is = subst (λ (l : List Part). AreFrom from l some) e (is (subst (λ (l : List Part). AreInOrder l) (sym e) ordered))
 
 pub returns-then-is_served : goal.returns-then-is_served
-returns-then-is_served c = λ ns n w cached is sight write on at le asked.
+returns-then-is_served c = λ ns n w cached is new_node write on at le asked.
     let k = access_of c.args.access in
     let b = byte_of c.args.byte in
     let any = answered_any cached n.act k b asked in
     let parts = from_slice c.parts_of.ensures (is.parts.ordered (resource_at b)) c.parts_from-parts.ensures in
-    let serves = (c.is_served.ensures ns n w cached c.args.from is sight any parts le write.there on at).0 c.if-is_served.true in
-    c.if-is_served.true ∙ sym ((seen_served ns n w cached k b sight.numbers write asked).1 (w, inl refl, serves))
+    let serves = (c.is_served.ensures ns n w cached c.args.from is new_node any parts le write.there on at).0 c.if-is_served.true in
+    c.if-is_served.true ∙ sym ((seen_served ns n w cached k b new_node.numbers write asked).1 (w, inl refl, serves))
 
 pub returns-else-is_served : goal.returns-else-is_served
-returns-else-is_served c = λ ns n w cached is sight write on at le asked.
+returns-else-is_served c = λ ns n w cached is new_node write on at le asked.
     let k = access_of c.args.access in
     let b = byte_of c.args.byte in
     let any = answered_any cached n.act k b asked in
     let parts = from_slice c.parts_of.ensures (is.parts.ordered (resource_at b)) c.parts_from-parts.ensures in
-    let law = seen_served ns n w cached k b sight.numbers write asked in
-    let served = c.is_served.ensures ns n w cached c.args.from is sight any parts le write.there on at in
-    let marked = c.is_marked.ensures ns n w cached c.args.from is sight any parts le write.there on at in
+    let law = seen_served ns n w cached k b new_node.numbers write asked in
+    let served = c.is_served.ensures ns n w cached c.args.from is new_node any parts le write.there on at in
+    let marked = c.is_marked.ensures ns n w cached c.args.from is new_node any parts le write.there on at in
     let into : (m : Node) → IsMark cached ns b w m → Serves cached ns n k b m → c.is_marked.result ≡ true = (λ m mark s. by_mark ns n w m cached k b (c.is_marked.result)
     (λ e. clash (served.1 (subst (λ (x : Node). Serves cached ns n k b x) e s)) c.if-is_served.false)
     (λ hm lim all. marked.1 (m, hm, lim, all, s)) mark) in
@@ -49,5 +49,5 @@ returns-else-is_served c = λ ns n w cached is sight write on at le asked.
     by_mark : (ns : Rattle.std.proofs.Common.List Node) (n w m : Node) (cached : Rattle.vk_model.specs.World.Bytes.Byte → Rattle.std.proofs.Common.Bool) (k : Rattle.vk_model.specs.Sync.Seen.Access) (b : Rattle.vk_model.specs.World.Bytes.Byte) (t : Rattle.std.proofs.Common.Bool)
         → (m ≡ w → t ≡ true) → (Rattle.std.specs.Prelude.Contains ns m → IsTrue (Rattle.vk_order.specs.Limited.is_limited m.act) → IsTrue (is_command w.act && makes_writes_available cached ns m b m.act && edge ns w m) → t ≡ true) → IsMark cached ns b w m → t ≡ true
     by_mark ns n w m cached k b t same other (inl e) = same e
-    by_mark ns n w m cached k b t same other (inr (command, hm, lim, sends, e)) =
-        other hm lim (and_from (is_command w.act && makes_writes_available cached ns m b m.act) (edge ns w m) (and_from (is_command w.act) (makes_writes_available cached ns m b m.act) command sends) e)
+    by_mark ns n w m cached k b t same other (inr (command, hm, lim, makes, e)) =
+        other hm lim (and_from (is_command w.act && makes_writes_available cached ns m b m.act) (edge ns w m) (and_from (is_command w.act) (makes_writes_available cached ns m b m.act) command makes) e)

@@ -67,8 +67,8 @@ returns c = λ ns n w cached k numbers is part write on at le.
     by_mark : (ns : List Node) (n w m : Node) (cached : Byte → Bool) (b : Byte) → IsNumbered (n ∷ ns) → (t : Bool) → (m ≡ w → t ≡ true) → (n ≡ m → IsTrue (is_command w.act && makes_writes_available cached (n ∷ ns) m b m.act && edge (n ∷ ns) w m) → t ≡ true)
         → (Contains ns m → IsTrue (Rattle.vk_order.specs.Limited.is_limited m.act) → IsTrue (is_command w.act && makes_writes_available cached ns m b m.act && edge ns w m) → t ≡ true) → IsMark cached (n ∷ ns) b w m → t ≡ true
     by_mark ns n w m cached b numbers t same new old (inl e) = same e
-    by_mark ns n w m cached b numbers t same new old (inr (command, hm, lim, sends, e)) =
-        let both = and_from (is_command w.act) (makes_writes_available cached ns m b m.act) command sends in
+    by_mark ns n w m cached b numbers t same new old (inr (command, hm, lim, makes, e)) =
+        let both = and_from (is_command w.act) (makes_writes_available cached ns m b m.act) command makes in
         ⊎_elim
         (λ f. new f (and_from (is_command w.act && makes_writes_available cached (n ∷ ns) m b m.act) (edge (n ∷ ns) w m) both e))
         (λ there. old there lim (and_from (is_command w.act && makes_writes_available cached ns m b m.act) (edge ns w m) both (sym (old_edge ns n numbers w m there) ∙ e)))

@@ -15,4 +15,4 @@ returns-then-index-parts-clause-shows c = λ yes x at.
     let xs = c.args.parts.now in
     let one = c.index-parts-index.result in
     let here : slice_get c.args.parts.now c.args.index ≡ Some c.index-parts-index.result = slice_get_read xs (length xs) c.args.index one refl c.if-index-parts.true c.index-parts-index.is in
-    subst (λ (y : Part). AlwaysShows c.args.self.now c.args.sight.now c.args.write (access_of c.args.access) (byte_of c.args.byte) y) (sym (inside x one (sym at ∙ here))) (c.shows_alone.ensures yes)
+    subst (λ (y : Part). AlwaysShows c.args.self.now c.args.new_node.now c.args.write (access_of c.args.access) (byte_of c.args.byte) y) (sym (inside x one (sym at ∙ here))) (c.shows_alone.ensures yes)

@@ -2,7 +2,7 @@ use Rattle.std.proofs.Common.{◌≡◌, Some, false, ap, sym, ◌∙◌}
 use Rattle.vk_order.specs.PointViews.{act_of}
 use Rattle.vk_order.specs.Inner.Leads.{is_of_sets}
 use Rattle.vk_order.proofs.ClockLemmas.{line_same}
-use Rattle.vk_order.proofs.SendingLemmas.{lined}
+use Rattle.vk_order.proofs.AvailabilityLemmas.{lined}
 use Rattle.vk_order.proofs.writes.Write.first_at.Goals as goal
 
 pub returns-then-is_listed-clause-none : goal.returns-then-is_listed-clause-none

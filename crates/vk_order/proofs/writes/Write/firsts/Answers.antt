@@ -9,7 +9,7 @@ use Rattle.vk_order.specs.declared.acts.Row.{Row}
 use Rattle.vk_order.specs.declared.writes.First.{First}
 use Rattle.vk_order.specs.PointViews.{act_of, node_of, nodes_after}
 use Rattle.vk_order.specs.Lines.{line_of}
-use Rattle.vk_order.specs.Inner.Sending.{sends, is_marked, is_set_element, HasSets}
+use Rattle.vk_order.specs.Inner.Availability.{makes_write_available, is_marked, is_set_element, HasSets}
 use Rattle.vk_order.proofs.writes.Write.firsts.Goals.{in-Some+in_ok-push, in_default}
 use Rattle.vk_order.proofs.writes.Write.firsts.Goals as goal
 
@@ -62,7 +62,7 @@ loop-number-preserved c =
     let k = c.loop-number.number in
     let row = c.index-rows-number.result in
     let old = c.loop-number.firsts.items in
-    let test = is_marked (nodes_after [] rows) (sends c.args.self.now) in
+    let test = is_marked (nodes_after [] rows) (makes_write_available c.args.self.now) in
     let lt = c.loop-number-test.true in
     let at : slice_get rows k ≡ Some row = slice_get_read rows (length rows) k row refl lt c.index-rows-number.is in
     elim c.match-first_at.branch [
@@ -71,7 +71,7 @@ loop-number-preserved c =
           let is : c.first_at.result ≡ Some own = search rules in
           let number : own.number ≡ k = some_at (λ f. f.number ≡ k) c.first_at.result own is c.first_at.ensures.number in
           let items : c.match-first_at.firsts.items ≡ old ++ own ∷ [] = search rules in
-          let some = some_at (λ f. HasSets rows (sends c.args.self.now) c.args.sets.now → (line_of (node_of k row) ≡ Some f.line) × IsTrue (test (node_of k row))) c.first_at.result own is c.first_at.ensures.some in
+          let some = some_at (λ f. HasSets rows (makes_write_available c.args.self.now) c.args.sets.now → (line_of (node_of k row) ≡ Some f.line) × IsTrue (test (node_of k row))) c.first_at.result own is c.first_at.ensures.some in
           record {
             within = λ f has. ⊎_elim (λ low. let less = c.loop-number.invariant.within f low in omega arith) (λ new. let same : own.number ≡ f.number = ap (λ (f : First). f.number) (only_one own f new) in omega arith)
                 (Contains-append_cases old (own ∷ []) f (subst (λ (l : List First). Contains l f) items has));

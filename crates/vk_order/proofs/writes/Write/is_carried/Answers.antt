@@ -6,14 +6,14 @@ use Rattle.std.proofs.lemmas.Option.{slice_get_read, slice_get-get_or}
 use Rattle.vk_order.specs.declared.acts.Row.{Row}
 use Rattle.vk_order.specs.PointViews.{act_of, node_of}
 use Rattle.vk_order.specs.Inner.Links.{unsignaled}
-use Rattle.vk_order.specs.Inner.Sending.{sends, is_set_element}
-use Rattle.vk_order.proofs.SendingLemmas.{some_carried, none_carried, not_after_sets}
+use Rattle.vk_order.specs.Inner.Availability.{makes_write_available, is_set_element}
+use Rattle.vk_order.proofs.AvailabilityLemmas.{some_carried, none_carried, not_after_sets}
 use Rattle.vk_order.proofs.writes.Write.is_carried.Goals as goal
 
 pub returns-then-not-comes_after_sets : goal.returns-then-not-comes_after_sets
 returns-then-not-comes_after_sets c = λ has.
     let off : c.comes_after_sets.result ≡ false = search rules in
-    sym (not_after_sets c.args.rows.now (sends c.args.self.now) c.args.number c.args.row.now (sym c.comes_after_sets.ensures ∙ off))
+    sym (not_after_sets c.args.rows.now (makes_write_available c.args.self.now) c.args.number c.args.row.now (sym c.comes_after_sets.ensures ∙ off))
 
 pub offset_bounds-rows-set : goal.offset_bounds-rows-set
 offset_bounds-rows-set c =
@@ -30,7 +30,7 @@ returns-then-is_carried_by c = λ has.
     let row = c.index-rows-set.result in
     let lt : get_or c.args.sets.now c.loop-set.set-index 0 < length rows = c.requires k (Contains-get_or c.args.sets.now c.loop-set.set-index 0 c.loop-set-test.true) in
     let at : slice_get rows k ≡ Some row = slice_get_read rows (length rows) k row refl lt c.index-rows-set.is in
-    sym (some_carried rows (sends c.args.self.now) c.args.number c.args.row.now k row at (sym c.is_carried_by.ensures ∙ c.if-is_carried_by.true))
+    sym (some_carried rows (makes_write_available c.args.self.now) c.args.number c.args.row.now k row at (sym c.is_carried_by.ensures ∙ c.if-is_carried_by.true))
 
 pub loop-set-preserved : goal.loop-set-preserved
 loop-set-preserved c = λ i j x lt e at_x. ⊎_elim
@@ -46,8 +46,8 @@ loop-set-preserved c = λ i j x lt e at_x. ⊎_elim
     let same : i ≡ n = omega arith in
     let is : k ≡ j = inside k j (sym (slice_get-get_or sets n 0 c.loop-set-test.true) ∙ ap (slice_get sets) (sym same) ∙ e) in
     let one : row ≡ x = one_row row x (sym at ∙ ap (slice_get rows) is ∙ at_x) in
-    ap (λ (y : Row). is_set_element (act_of y.act) && sends c.args.self.now (node_of j y) && (nat_lt j c.args.number && unsignaled (node_of j y) (node_of c.args.number c.args.row.now))) (sym one)
-    ∙ ap (λ (m : ℕ). is_set_element (act_of row.act) && sends c.args.self.now (node_of m row) && (nat_lt m c.args.number && unsignaled (node_of m row) (node_of c.args.number c.args.row.now))) (sym is)
+    ap (λ (y : Row). is_set_element (act_of y.act) && makes_write_available c.args.self.now (node_of j y) && (nat_lt j c.args.number && unsignaled (node_of j y) (node_of c.args.number c.args.row.now))) (sym one)
+    ∙ ap (λ (m : ℕ). is_set_element (act_of row.act) && makes_write_available c.args.self.now (node_of m row) && (nat_lt m c.args.number && unsignaled (node_of m row) (node_of c.args.number c.args.row.now))) (sym is)
     ∙ sym c.is_carried_by.ensures ∙ c.if-is_carried_by.false)
     (cases_lt i c.loop-set.set-index)
   where
@@ -58,7 +58,7 @@ loop-set-preserved c = λ i j x lt e at_x. ⊎_elim
     one_row x y e = cc
 
 pub returns : goal.returns
-returns c = λ has. sym (none_carried c.args.rows.now (sends c.args.self.now) c.args.number c.args.row.now c.args.sets.now has
+returns c = λ has. sym (none_carried c.args.rows.now (makes_write_available c.args.self.now) c.args.number c.args.row.now c.args.sets.now has
     (λ j x there at.
     let at_i : slice_get c.args.sets.now there.0 ≡ Some j = slice_get-get_or c.args.sets.now there.0 j there.1 ∙ ap Some there.2 in
     c.loop-set.invariant there.0 j x (let a = there.1 in let b = c.loop-set-test.false in omega arith) at_i at))

@@ -7,8 +7,8 @@ use Rattle.vk_model.proofs.Lists.Members.{contains-head, only_one}
 use Rattle.vk_model.proofs.Lists.Truths.{clash}
 use Rattle.vk_order.specs.declared.acts.Row.{Row}
 use Rattle.vk_order.specs.PointViews.{act_of, node_of}
-use Rattle.vk_order.specs.Inner.Sending.{sends, is_set_element}
-use Rattle.vk_order.proofs.writes.Write.sets.Goals.{then-is_sent_by_set+in_ok-push, else-is_sent_by_set}
+use Rattle.vk_order.specs.Inner.Availability.{makes_write_available, is_set_element}
+use Rattle.vk_order.proofs.writes.Write.sets.Goals.{then-is_made_available_by_set+in_ok-push, else-is_made_available_by_set}
 use Rattle.vk_order.proofs.writes.Write.sets.Goals as goal
 
 pub loop-number-preserved : goal.loop-number-preserved
@@ -18,9 +18,9 @@ loop-number-preserved c =
     let row = c.index-rows-number.result in
     let old = c.loop-number.sets.items in
     let at : slice_get rows k ≡ Some row = slice_get_read rows (length rows) k row refl c.loop-number-test.true c.index-rows-number.is in
-    elim c.if-is_sent_by_set.branch [
-      | then-is_sent_by_set+in_ok-push w ↦
-          let items : c.if-is_sent_by_set.sets.items ≡ old ++ k ∷ [] = search rules in
+    elim c.if-is_made_available_by_set.branch [
+      | then-is_made_available_by_set+in_ok-push w ↦
+          let items : c.if-is_made_available_by_set.sets.items ≡ old ++ k ∷ [] = search rules in
           record {
             within = λ s has. ⊎_elim (λ low. let less = c.loop-number.invariant.within s low in omega arith) (λ new. let same = only_one k s new in omega arith)
                 (Contains-append_cases old (k ∷ []) s (subst (λ (l : List ℕ). Contains l s) items has));
@@ -29,16 +29,16 @@ loop-number-preserved c =
                 (λ high. let same : k ≡ j = omega arith in subst (λ (i : ℕ). Contains (old ++ k ∷ []) i) same (Contains-append_right old (k ∷ []) k (contains-head k [])))
                 (cases_lt j k));
           }
-      | else-is_sent_by_set w ↦
-          let items : c.if-is_sent_by_set.sets.items ≡ old = search rules in
+      | else-is_made_available_by_set w ↦
+          let items : c.if-is_made_available_by_set.sets.items ≡ old = search rules in
           record {
             within = λ s has. let less = c.loop-number.invariant.within s (subst (λ (l : List ℕ). Contains l s) items has) in omega arith;
             all = λ j x e lt t. subst (λ (l : List ℕ). Contains l j) (sym items) (⊎_elim
                 (λ low. c.loop-number.invariant.all j x e low t)
                 (λ high. let same : j ≡ k = omega arith in
                 let is : x ≡ row = one_row x row (sym e ∙ ap (slice_get rows) same ∙ at) in
-                clash (ap (λ (i : ℕ). is_set_element (act_of x.act) && sends c.args.self.now (node_of i x)) (sym same) ∙ t)
-                (ap (λ (y : Row). is_set_element (act_of y.act) && sends c.args.self.now (node_of k y)) is ∙ sym c.is_sent_by_set.ensures ∙ w.if-is_sent_by_set.false))
+                clash (ap (λ (i : ℕ). is_set_element (act_of x.act) && makes_write_available c.args.self.now (node_of i x)) (sym same) ∙ t)
+                (ap (λ (y : Row). is_set_element (act_of y.act) && makes_write_available c.args.self.now (node_of k y)) is ∙ sym c.is_made_available_by_set.ensures ∙ w.if-is_made_available_by_set.false))
                 (cases_lt j k));
           }
     ]

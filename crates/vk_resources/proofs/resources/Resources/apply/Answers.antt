@@ -13,19 +13,19 @@ use Rattle.vk_resources.proofs.resources.Resources.apply.Goals as goal
 -- ---- what ends
 
 pub end-requires : goal.end-requires
-end-requires c = λ stands. free_empty c.args.self.now c.args.entry.now c.in-Free.memory c.in-Free.is c.requires.0 c.requires.1 c.requires.2 stands
+end-requires c = λ consistent. free_empty c.args.self.now c.args.entry.now c.in-Free.memory c.in-Free.is c.requires.0 c.requires.1 c.requires.2 consistent
 
 pub returns-in-Free-clause-done : goal.returns-in-Free-clause-done
-returns-in-Free-clause-done c = λ e past m fit. free_done c.args.self.now c.args.entry.now c.in-Free.memory c.in-Free.is past m fit c.end.ensures.stands c.end.new.self c.end.ensures.ended e
+returns-in-Free-clause-done c = λ e past m fit. free_done c.args.self.now c.args.entry.now c.in-Free.memory c.in-Free.is past m fit c.end.ensures.consistent c.end.new.self c.end.ensures.ended e
 
 pub returns-in-Free-clause-allots : goal.returns-in-Free-clause-allots
 returns-in-Free-clause-allots c = λ past m fit. free_allots c.args.self.now c.end.new.self c.args.entry.now c.in-Free.memory c.in-Free.is c.end.ensures.ended
 
 pub end-requires-in-Destroy : goal.end-requires-in-Destroy
-end-requires-in-Destroy c = λ stands. destroy_empty c.args.self.now c.args.entry.now c.in-Destroy.resource c.in-Destroy.is c.requires.0 c.requires.1 c.requires.2 stands
+end-requires-in-Destroy c = λ consistent. destroy_empty c.args.self.now c.args.entry.now c.in-Destroy.resource c.in-Destroy.is c.requires.0 c.requires.1 c.requires.2 consistent
 
 pub returns-in-Destroy-clause-done : goal.returns-in-Destroy-clause-done
-returns-in-Destroy-clause-done c = λ e past m fit. destroy_done c.args.self.now c.args.entry.now c.in-Destroy.resource c.in-Destroy.is past m fit c.end-in-Destroy.ensures.stands c.end-in-Destroy.new.self c.end-in-Destroy.ensures.ended e
+returns-in-Destroy-clause-done c = λ e past m fit. destroy_done c.args.self.now c.args.entry.now c.in-Destroy.resource c.in-Destroy.is past m fit c.end-in-Destroy.ensures.consistent c.end-in-Destroy.new.self c.end-in-Destroy.ensures.ended e
 
 pub returns-in-Destroy-clause-allots : goal.returns-in-Destroy-clause-allots
 returns-in-Destroy-clause-allots c = λ past m fit. destroy_allots c.args.self.now c.end-in-Destroy.new.self c.args.entry.now c.in-Destroy.resource c.in-Destroy.is c.end-in-Destroy.ensures.ended
@@ -33,18 +33,18 @@ returns-in-Destroy-clause-allots c = λ past m fit. destroy_allots c.args.self.n
 -- ---- pools
 
 pub make_pool-requires-clause-absent : goal.make_pool-requires-clause-absent
-make_pool-requires-clause-absent c = λ stands. pool_absent c.args.self.now c.args.entry.now c.in-Pool.id c.in-Pool.info c.in-Pool.is stands c.requires.0 c.requires.1 c.requires.2
+make_pool-requires-clause-absent c = λ consistent. pool_absent c.args.self.now c.args.entry.now c.in-Pool.id c.in-Pool.info c.in-Pool.is consistent c.requires.0 c.requires.1 c.requires.2
 
 pub returns-in_ok-make_pool-in-Pool-clause-done : goal.returns-in_ok-make_pool-in-Pool-clause-done
 returns-in_ok-make_pool-in-Pool-clause-done c = λ e past m fit.
-    pool_done c.args.self.now c.make_pool.new.self c.args.entry.now c.in-Pool.id c.in-Pool.info c.in-Pool.is c.make_pool.ensures.stands c.in_ok-make_pool-in-Pool.ensures.made e past m fit
+    pool_done c.args.self.now c.make_pool.new.self c.args.entry.now c.in-Pool.id c.in-Pool.info c.in-Pool.is c.make_pool.ensures.consistent c.in_ok-make_pool-in-Pool.ensures.made e past m fit
 
 pub drop_pool-requires-clause-unused : goal.drop_pool-requires-clause-unused
-drop_pool-requires-clause-unused c = λ stands. drop_unused c.args.self.now c.args.entry.now c.in-DropPool.pool c.in-DropPool.is c.requires.0 c.requires.1 c.requires.2 stands
+drop_pool-requires-clause-unused c = λ consistent. drop_unused c.args.self.now c.args.entry.now c.in-DropPool.pool c.in-DropPool.is c.requires.0 c.requires.1 c.requires.2 consistent
 
 pub returns-in-DropPool-clause-done : goal.returns-in-DropPool-clause-done
 returns-in-DropPool-clause-done c = λ e past m fit.
-    drop_done c.args.self.now c.args.entry.now c.in-DropPool.pool c.in-DropPool.is past m fit c.drop_pool.ensures.stands c.drop_pool.new.self c.drop_pool.ensures.dropped e
+    drop_done c.args.self.now c.args.entry.now c.in-DropPool.pool c.in-DropPool.is past m fit c.drop_pool.ensures.consistent c.drop_pool.new.self c.drop_pool.ensures.dropped e
 
 -- ---- mappings
 

@@ -14,11 +14,11 @@ invariant_of-self c =
     let resources : n.resources ≡ s.resources = ap (λ (h : Held). h.resources) c.self.view_is ∙ c.forget.ensures.resources in
     let shapes : n.shapes ≡ s.shapes = ap (λ (h : Held). h.shapes) c.self.view_is ∙ c.forget.ensures.shapes in
     let forgets : Forgets s n c.args.id = subst (λ (h : Held). Forgets s h c.args.id) (sym c.self.view_is) c.forget.ensures.forgets in
-    let empty : IsEmpty s c.args.id = c.requires c.forget.ensures.stands in
+    let empty : IsEmpty s c.args.id = c.requires c.forget.ensures.consistent in
     let gone = c.remove.ensures.updates in
     let bare = c.remove-2.ensures.updates in
-    let none = bare_object s n c.args.id memory backed resources shapes c.forget.ensures.stands c.self.invariant forgets empty c.release.new.self c.release.new.memories c.release.result c.release.ensures.releases c.release.ensures.backed c.in-Some.object c.in-Some.is in
-    (all_ended s n c.args.id memory backed resources shapes c.forget.ensures.stands c.self.invariant forgets empty c.release.new.self c.release.new.memories c.release.result c.release.ensures.releases c.release.ensures.backed
+    let none = bare_object s n c.args.id memory backed resources shapes c.forget.ensures.consistent c.self.invariant forgets empty c.release.new.self c.release.new.memories c.release.result c.release.ensures.releases c.release.ensures.backed c.in-Some.object c.in-Some.is in
+    (all_ended s n c.args.id memory backed resources shapes c.forget.ensures.consistent c.self.invariant forgets empty c.release.new.self c.release.new.memories c.release.result c.release.ensures.releases c.release.ensures.backed
     c.remove.new.self.entries c.remove-2.new.self.entries c.drop_range.new.self (all_none c.in-Some.object 0 9223372036854775808 n.cache c.drop_range.new.self c.drop_range.ensures none)
     gone.1 (λ b other. gone.2 b (other_id c.args.id b other)) bare.1 (λ b other. bare.2 b (other_id c.args.id b other)) c.release.ensures.whole c.release.ensures.allots).0
 
@@ -31,11 +31,11 @@ returns-in-Some-clause-ended c =
     let resources : n.resources ≡ s.resources = ap (λ (h : Held). h.resources) c.self.view_is ∙ c.forget.ensures.resources in
     let shapes : n.shapes ≡ s.shapes = ap (λ (h : Held). h.shapes) c.self.view_is ∙ c.forget.ensures.shapes in
     let forgets : Forgets s n c.args.id = subst (λ (h : Held). Forgets s h c.args.id) (sym c.self.view_is) c.forget.ensures.forgets in
-    let empty : IsEmpty s c.args.id = c.requires c.forget.ensures.stands in
+    let empty : IsEmpty s c.args.id = c.requires c.forget.ensures.consistent in
     let gone = c.remove.ensures.updates in
     let bare = c.remove-2.ensures.updates in
-    let none = bare_object s n c.args.id memory backed resources shapes c.forget.ensures.stands c.self.invariant forgets empty c.release.new.self c.release.new.memories c.release.result c.release.ensures.releases c.release.ensures.backed c.in-Some.object c.in-Some.is in
-    (all_ended s n c.args.id memory backed resources shapes c.forget.ensures.stands c.self.invariant forgets empty c.release.new.self c.release.new.memories c.release.result c.release.ensures.releases c.release.ensures.backed
+    let none = bare_object s n c.args.id memory backed resources shapes c.forget.ensures.consistent c.self.invariant forgets empty c.release.new.self c.release.new.memories c.release.result c.release.ensures.releases c.release.ensures.backed c.in-Some.object c.in-Some.is in
+    (all_ended s n c.args.id memory backed resources shapes c.forget.ensures.consistent c.self.invariant forgets empty c.release.new.self c.release.new.memories c.release.result c.release.ensures.releases c.release.ensures.backed
     c.remove.new.self.entries c.remove-2.new.self.entries c.drop_range.new.self (all_none c.in-Some.object 0 9223372036854775808 n.cache c.drop_range.new.self c.drop_range.ensures none)
     gone.1 (λ b other. gone.2 b (other_id c.args.id b other)) bare.1 (λ b other. bare.2 b (other_id c.args.id b other)) c.release.ensures.whole c.release.ensures.allots).1
 
@@ -48,10 +48,10 @@ invariant_of-self-in_default c =
     let resources : n.resources ≡ s.resources = ap (λ (h : Held). h.resources) c.self.view_is ∙ c.forget.ensures.resources in
     let shapes : n.shapes ≡ s.shapes = ap (λ (h : Held). h.shapes) c.self.view_is ∙ c.forget.ensures.shapes in
     let forgets : Forgets s n c.args.id = subst (λ (h : Held). Forgets s h c.args.id) (sym c.self.view_is) c.forget.ensures.forgets in
-    let empty : IsEmpty s c.args.id = c.requires c.forget.ensures.stands in
+    let empty : IsEmpty s c.args.id = c.requires c.forget.ensures.consistent in
     let gone = c.remove.ensures.updates in
     let bare = c.remove-2.ensures.updates in
-    (all_ended s n c.args.id memory backed resources shapes c.forget.ensures.stands c.self.invariant forgets empty c.release.new.self c.release.new.memories c.release.result c.release.ensures.releases c.release.ensures.backed
+    (all_ended s n c.args.id memory backed resources shapes c.forget.ensures.consistent c.self.invariant forgets empty c.release.new.self c.release.new.memories c.release.result c.release.ensures.releases c.release.ensures.backed
     c.remove.new.self.entries c.remove-2.new.self.entries c.self.inside.cache (λ number k. refl)
     gone.1 (λ b other. gone.2 b (other_id c.args.id b other)) bare.1 (λ b other. bare.2 b (other_id c.args.id b other)) c.release.ensures.whole c.release.ensures.allots).0
 
@@ -64,9 +64,9 @@ returns-in_default-clause-ended c =
     let resources : n.resources ≡ s.resources = ap (λ (h : Held). h.resources) c.self.view_is ∙ c.forget.ensures.resources in
     let shapes : n.shapes ≡ s.shapes = ap (λ (h : Held). h.shapes) c.self.view_is ∙ c.forget.ensures.shapes in
     let forgets : Forgets s n c.args.id = subst (λ (h : Held). Forgets s h c.args.id) (sym c.self.view_is) c.forget.ensures.forgets in
-    let empty : IsEmpty s c.args.id = c.requires c.forget.ensures.stands in
+    let empty : IsEmpty s c.args.id = c.requires c.forget.ensures.consistent in
     let gone = c.remove.ensures.updates in
     let bare = c.remove-2.ensures.updates in
-    (all_ended s n c.args.id memory backed resources shapes c.forget.ensures.stands c.self.invariant forgets empty c.release.new.self c.release.new.memories c.release.result c.release.ensures.releases c.release.ensures.backed
+    (all_ended s n c.args.id memory backed resources shapes c.forget.ensures.consistent c.self.invariant forgets empty c.release.new.self c.release.new.memories c.release.result c.release.ensures.releases c.release.ensures.backed
     c.remove.new.self.entries c.remove-2.new.self.entries c.self.inside.cache (λ number k. refl)
     gone.1 (λ b other. gone.2 b (other_id c.args.id b other)) bare.1 (λ b other. bare.2 b (other_id c.args.id b other)) c.release.ensures.whole c.release.ensures.allots).1

@@ -9,8 +9,8 @@ put-requires c =
     let found : FoundOr (Some c.in-Some.spot) c.args.self.now c.find.new.self c.args.id c.args.pool c.args.asked c.args.upper =
     subst (λ (o : Option Spot). FoundOr o c.args.self.now c.find.new.self c.args.id c.args.pool c.args.asked c.args.upper) c.in-Some.is c.in_ok-spot.ensures.found in
     record {
-      ready = λ stands.
-          shared_ready c.args.self.now c.find.new.self c.args.id c.args.pool c.args.size c.args.asked c.args.upper c.args.shape c.in-Some.spot found c.requires.some c.requires.room c.requires.unplaced c.requires.unshaped (c.requires.elsewhere) stands c.requires.shaped;
+      ready = λ consistent.
+          shared_ready c.args.self.now c.find.new.self c.args.id c.args.pool c.args.size c.args.asked c.args.upper c.args.shape c.in-Some.spot found c.requires.some c.requires.room c.requires.unplaced c.requires.unshaped (c.requires.elsewhere) consistent c.requires.shaped;
     }
 
 pub returns-in_ok-put-in-Some-clause-made : goal.returns-in_ok-put-in-Some-clause-made

@@ -4,9 +4,9 @@ use Rattle.vk_memory.specs.MemoryState.{MemoryState, with_mapped}
 use Rattle.vk_backing.specs.Steps.{one_more}
 use Rattle.vk_backing.proofs.Remapped.{map_leaves}
 use Rattle.vk_resources.specs.declared.resources.Placed.{Placed}
-use Rattle.vk_resources.specs.Held.{Held, Stands, placed}
+use Rattle.vk_resources.specs.Held.{Held, IsConsistent, placed}
 use Rattle.vk_resources.specs.Inner.Steps.{Remaps}
-use Rattle.vk_resources.proofs.Remapping.{remapped_stands, remapped, bound_none, bound_is}
+use Rattle.vk_resources.proofs.Remapping.{remapped_consistent, remapped, bound_none, bound_is}
 use Rattle.vk_resources.proofs.resources.Resources.map.Goals as goal
 
 pub returns-then-map : goal.returns-then-map
@@ -20,8 +20,8 @@ invariant_of-self-in-Some c =
     let s : Held = record { memory = c.self.inside.memories; backed = c.self.inside.backing; resources = c.self.inside.resources.entries; shapes = c.self.inside.shapes.entries; cache = c.self.inside.cache } in
     let n = c.in-Some.placed.now.object in
     let is : c.map-in-Some.new.self ≡ with_mapped s.memory n true = map_leaves s.memory c.map-in-Some.new.self n c.map-in-Some.result c.map-in-Some.ensures.ok c.map-in-Some.ensures.state c.map-in-Some.ensures.err in
-    subst (λ (m : MemoryState). Stands (record s { backed = c.map.new.self; memory = m })) (sym is)
-    (remapped_stands s c.self.invariant c.args.id one_more true c.map.new.self c.map.ensures.maps c.map.ensures.backed c.map.ensures.whole c.map.ensures.allots (Some n))
+    subst (λ (m : MemoryState). IsConsistent (record s { backed = c.map.new.self; memory = m })) (sym is)
+    (remapped_consistent s c.self.invariant c.args.id one_more true c.map.new.self c.map.ensures.maps c.map.ensures.backed c.map.ensures.whole c.map.ensures.allots (Some n))
 
 pub returns-in-Some : goal.returns-in-Some
 returns-in-Some c =

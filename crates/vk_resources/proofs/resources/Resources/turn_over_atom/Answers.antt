@@ -6,7 +6,7 @@ use Rattle.vk_model.specs.Run.CachedRuns.{turned_over}
 use Rattle.vk_resources.specs.declared.resources.Placed.{Placed}
 use Rattle.vk_resources.specs.Held.{Held, shape_of}
 use Rattle.vk_resources.specs.Inner.Steps.{HasAtom, HasChanged, KeepsPlaces, cached_at}
-use Rattle.vk_resources.proofs.CachedSteps.{turned_atom, rewritten_keeps, rewritten_stands}
+use Rattle.vk_resources.proofs.CachedSteps.{turned_atom, rewritten_keeps, rewritten_consistent}
 use Rattle.vk_resources.proofs.resources.Resources.turn_over_atom.Goals as goal
 
 pub invariant_of-self : goal.invariant_of-self
@@ -21,7 +21,7 @@ pub invariant_of-self-in_err-turn_over : goal.invariant_of-self-in_err-turn_over
 invariant_of-self-in_err-turn_over c =
     let s : Held = record { memory = c.self.inside.memories; backed = c.self.inside.backing; resources = c.self.inside.resources.entries; shapes = c.self.inside.shapes.entries; cache = c.self.inside.cache } in
     let here : cached_at s c.args.id ≡ Some c.in-Some.buffer = ap (λ (h : Held). cached_at h c.args.id) c.self.view_is ∙ sym c.cached.ensures ∙ c.in-Some.is in
-    rewritten_stands s c.self.invariant c.args.id c.in-Some.buffer here c.turn_over.new.self c.turn_over.new.region (ap length (c.in_err-turn_over.ensures.kept ∙ c.region_mut-region.ensures.value)) c.in_err-turn_over.ensures.err
+    rewritten_consistent s c.self.invariant c.args.id c.in-Some.buffer here c.turn_over.new.self c.turn_over.new.region (ap length (c.in_err-turn_over.ensures.kept ∙ c.region_mut-region.ensures.value)) c.in_err-turn_over.ensures.err
 
 pub returns-in_ok-turn_over-clause-turned : goal.returns-in_ok-turn_over-clause-turned
 returns-in_ok-turn_over-clause-turned c =

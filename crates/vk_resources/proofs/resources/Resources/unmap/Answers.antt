@@ -3,9 +3,9 @@ use Rattle.std.specs.Option.{option_copied}
 use Rattle.vk_memory.specs.MemoryState.{MemoryState, with_mapped}
 use Rattle.vk_backing.proofs.Remapped.{unmap_leaves}
 use Rattle.vk_resources.specs.declared.resources.Placed.{Placed}
-use Rattle.vk_resources.specs.Held.{Held, Stands, placed}
+use Rattle.vk_resources.specs.Held.{Held, IsConsistent, placed}
 use Rattle.vk_resources.specs.Inner.Steps.{Remaps}
-use Rattle.vk_resources.proofs.Remapping.{remapped_stands, remapped, bound_none, bound_is}
+use Rattle.vk_resources.proofs.Remapping.{remapped_consistent, remapped, bound_none, bound_is}
 use Rattle.vk_resources.proofs.resources.Resources.unmap.Goals as goal
 
 pub returns-then-unmap : goal.returns-then-unmap
@@ -19,8 +19,8 @@ invariant_of-self-in-Some c =
     let s : Held = record { memory = c.self.inside.memories; backed = c.self.inside.backing; resources = c.self.inside.resources.entries; shapes = c.self.inside.shapes.entries; cache = c.self.inside.cache } in
     let n = c.in-Some.placed.now.object in
     let is : c.unmap-in-Some.new.self ≡ with_mapped s.memory n false = unmap_leaves s.memory c.unmap-in-Some.new.self n c.unmap-in-Some.result c.unmap-in-Some.ensures.ok c.unmap-in-Some.ensures.state c.unmap-in-Some.ensures.err in
-    subst (λ (m : MemoryState). Stands (record s { backed = c.unmap.new.self; memory = m })) (sym is)
-    (remapped_stands s c.self.invariant c.args.id (λ n. n - 1) false c.unmap.new.self c.unmap.ensures.maps c.unmap.ensures.backed c.unmap.ensures.whole c.unmap.ensures.allots (Some n))
+    subst (λ (m : MemoryState). IsConsistent (record s { backed = c.unmap.new.self; memory = m })) (sym is)
+    (remapped_consistent s c.self.invariant c.args.id (λ n. n - 1) false c.unmap.new.self c.unmap.ensures.maps c.unmap.ensures.backed c.unmap.ensures.whole c.unmap.ensures.allots (Some n))
 
 pub returns-in-Some : goal.returns-in-Some
 returns-in-Some c =

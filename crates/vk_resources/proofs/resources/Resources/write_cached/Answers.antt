@@ -4,7 +4,7 @@ use Rattle.vk_resources.specs.Held.{Held, shape_of}
 use Rattle.vk_resources.specs.Inner.Steps.{MayReach, cached_at, HasChanged}
 use Rattle.vk_model.specs.Run.CachedRuns.{after_host_write}
 use Rattle.vk_map_cache.specs.Holdings.{given}
-use Rattle.vk_resources.proofs.CachedSteps.{wrote, same_stands}
+use Rattle.vk_resources.proofs.CachedSteps.{wrote, same_consistent}
 use Rattle.vk_resources.proofs.resources.Resources.write_cached.Goals as goal
 
 pub invariant_of-self : goal.invariant_of-self
@@ -30,4 +30,4 @@ returns-in_default c = absurd (subst (λ (x : Option Placed). MayReach x c.args.
 pub invariant_of-self-in_err-write : goal.invariant_of-self-in_err-write
 invariant_of-self-in_err-write c =
     let s : Held = record { memory = c.self.inside.memories; backed = c.self.inside.backing; resources = c.self.inside.resources.entries; shapes = c.self.inside.shapes.entries; cache = c.self.inside.cache } in
-    same_stands s c.write.new.self c.self.invariant c.in_err-write.ensures.err
+    same_consistent s c.write.new.self c.self.invariant c.in_err-write.ensures.err

@@ -4,7 +4,7 @@ use Rattle.vk_map_cache.specs.Holdings.{given}
 use Rattle.vk_memory.specs.MemoryState.{region_of}
 use Rattle.vk_model.specs.Run.CachedRuns.{after_host_write}
 use Rattle.vk_resources.specs.declared.resources.Placed.{Placed}
-use Rattle.vk_resources.specs.Held.{Held, Stands, placed, shape_of, flat}
+use Rattle.vk_resources.specs.Held.{Held, IsConsistent, placed, shape_of, flat}
 use Rattle.vk_resources.specs.Inner.Steps.{MayReach, HasChanged}
 use Rattle.vk_resources.proofs.Splicing.{spliced_apart, spliced_caching, spliced_written}
 use Rattle.vk_resources.proofs.Matching.{flat_parts}
@@ -18,7 +18,7 @@ invariant_of-self c =
     let parts = flat_parts (shape_of s c.args.id) (placed s c.args.id) c.in-Some.buffer (ap (λ (h : Held). flat h c.args.id) c.self.view_is ∙ here) in
     let fits : c.args.offset + length c.args.bytes.now ≤ c.in-Some.buffer.size = subst (λ (x : Option Placed). MayReach x c.args.offset (length c.args.bytes.now)) here c.requires in
     let is : c.write.new.self ≡ splice (region_of s.memory c.in-Some.buffer.object) (c.in-Some.buffer.offset + c.args.offset) c.args.bytes.now = rw c.region_mut-region.ensures.value at c.write.ensures in
-    subst (λ (r : List ℕ). Stands (with_bytes s c.in-Some.buffer.object r)) (sym is)
+    subst (λ (r : List ℕ). IsConsistent (with_bytes s c.in-Some.buffer.object r)) (sym is)
     (spliced_apart s c.self.invariant.0 c.self.invariant.2 c.args.id c.in-Some.buffer parts.1 parts.0 c.args.offset c.args.bytes.now fits, spliced_caching s c.self.invariant.0 c.self.invariant.2 c.args.id c.in-Some.buffer parts.1 parts.0 c.args.offset c.args.bytes.now fits c.self.invariant.1, c.self.invariant.2)
 
 pub returns-in-Some : goal.returns-in-Some

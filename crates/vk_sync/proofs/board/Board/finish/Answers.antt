@@ -13,7 +13,7 @@ index_mut-command-requires c =
     let piece = c.args.piece in
     let fronts = c.requires.board in
     let found = ready_piece cs b.lines b.done b.free b.counts fronts piece c.requires.ready in
-    let lt : piece.command < length cs = slice_get_within cs piece.command found.0 found.1.stands.is in
+    let lt : piece.command < length cs = slice_get_within cs piece.command found.0 found.1.has_command.is in
     omega arith
 
 pub remove-requires : goal.remove-requires
@@ -24,7 +24,7 @@ remove-requires c =
     let fronts = c.requires.board in
     let found = ready_piece cs b.lines b.done b.free b.counts fronts piece c.requires.ready in
     let now = c.index_mut-command.result.now in
-    let read = read_command cs _ _ piece.command found.0 now found.1.stands c.index_mut-command.ensures.value in
+    let read = read_command cs _ _ piece.command found.0 now found.1.has_command c.index_mut-command.ensures.value in
     let r : IsReady cs b.lines b.done b.free b.counts fronts piece now = subst (λ (x : Command). IsReady cs b.lines b.done b.free b.counts fronts piece x) read found.1 in
     r.has
 
@@ -36,9 +36,9 @@ subtract-requires-clause-there c =
     let fronts = c.requires.board in
     let found = ready_piece cs b.lines b.done b.free b.counts fronts piece c.requires.ready in
     let now = c.index_mut-command.result.now in
-    let read = read_command cs _ _ piece.command found.0 now found.1.stands c.index_mut-command.ensures.value in
+    let read = read_command cs _ _ piece.command found.0 now found.1.has_command c.index_mut-command.ensures.value in
     let r : IsReady cs b.lines b.done b.free b.counts fronts piece now = subst (λ (x : Command). IsReady cs b.lines b.done b.free b.counts fronts piece x) read found.1 in
-    omega (arith, slice_get_within cs piece.command now r.stands.is, fronts.loose.counts_len)
+    omega (arith, slice_get_within cs piece.command now r.has_command.is, fronts.loose.counts_len)
 
 pub subtract-requires-clause-enough : goal.subtract-requires-clause-enough
 subtract-requires-clause-enough c =
@@ -48,9 +48,9 @@ subtract-requires-clause-enough c =
     let fronts = c.requires.board in
     let found = ready_piece cs b.lines b.done b.free b.counts fronts piece c.requires.ready in
     let now = c.index_mut-command.result.now in
-    let read = read_command cs _ _ piece.command found.0 now found.1.stands c.index_mut-command.ensures.value in
+    let read = read_command cs _ _ piece.command found.0 now found.1.has_command c.index_mut-command.ensures.value in
     let r : IsReady cs b.lines b.done b.free b.counts fronts piece now = subst (λ (x : Command). IsReady cs b.lines b.done b.free b.counts fronts piece x) read found.1 in
-    let counted = counted_of cs b.lines b.done b.free b.counts _ _ piece.command now fronts.loose r.stands r.free_is in
+    let counted = counted_of cs b.lines b.done b.free b.counts _ _ piece.command now fronts.loose r.has_command r.free_is in
     let some = r.has.1 in
     omega (arith, counted)
 
@@ -62,9 +62,9 @@ settle-requires-clause-queue c =
     let fronts = c.requires.board in
     let found = ready_piece cs b.lines b.done b.free b.counts fronts piece c.requires.ready in
     let now = c.index_mut-command.result.now in
-    let read = read_command cs _ _ piece.command found.0 now found.1.stands c.index_mut-command.ensures.value in
+    let read = read_command cs _ _ piece.command found.0 now found.1.has_command c.index_mut-command.ensures.value in
     let r : IsReady cs b.lines b.done b.free b.counts fronts piece now = subst (λ (x : Command). IsReady cs b.lines b.done b.free b.counts fronts piece x) read found.1 in
-    fronts.loose.sound.queues piece.command now r.stands.is
+    fronts.loose.sound.queues piece.command now r.has_command.is
 
 pub settle-requires-clause-loose : goal.settle-requires-clause-loose
 settle-requires-clause-loose c =
@@ -74,12 +74,12 @@ settle-requires-clause-loose c =
     let fronts = c.requires.board in
     let found = ready_piece cs b.lines b.done b.free b.counts fronts piece c.requires.ready in
     let now = c.index_mut-command.result.now in
-    let read = read_command cs _ _ piece.command found.0 now found.1.stands c.index_mut-command.ensures.value in
+    let read = read_command cs _ _ piece.command found.0 now found.1.has_command c.index_mut-command.ensures.value in
     let r : IsReady cs b.lines b.done b.free b.counts fronts piece now = subst (λ (x : Command). IsReady cs b.lines b.done b.free b.counts fronts piece x) read found.1 in
-    let counted = counted_of cs b.lines b.done b.free b.counts _ _ piece.command now fronts.loose r.stands r.free_is in
+    let counted = counted_of cs b.lines b.done b.free b.counts _ _ piece.command now fronts.loose r.has_command r.free_is in
     let some = r.has.1 in
     let n = get_or b.counts piece.command 0 - 1 in
-    rw c.subtract.ensures (ran cs now.queue _ piece.command now c.remove.new.self r.stands b.lines b.done b.free b.counts fronts.loose n r.free_is c.remove.ensures.len (omega (arith, counted)))
+    rw c.subtract.ensures (ran cs now.queue _ piece.command now c.remove.new.self r.has_command b.lines b.done b.free b.counts fronts.loose n r.free_is c.remove.ensures.len (omega (arith, counted)))
 
 pub settle-requires-clause-others : goal.settle-requires-clause-others
 settle-requires-clause-others c =
@@ -89,9 +89,9 @@ settle-requires-clause-others c =
     let fronts = c.requires.board in
     let found = ready_piece cs b.lines b.done b.free b.counts fronts piece c.requires.ready in
     let now = c.index_mut-command.result.now in
-    let read = read_command cs _ _ piece.command found.0 now found.1.stands c.index_mut-command.ensures.value in
+    let read = read_command cs _ _ piece.command found.0 now found.1.has_command c.index_mut-command.ensures.value in
     let r : IsReady cs b.lines b.done b.free b.counts fronts piece now = subst (λ (x : Command). IsReady cs b.lines b.done b.free b.counts fronts piece x) read found.1 in
-    ran_done cs now.queue _ piece.command now c.remove.new.self r.stands b.lines b.done b.free b.counts fronts.done_are
+    ran_done cs now.queue _ piece.command now c.remove.new.self r.has_command b.lines b.done b.free b.counts fronts.done_are
 
 pub returns-clause-commands : goal.returns-clause-commands
 returns-clause-commands c =
@@ -101,6 +101,6 @@ returns-clause-commands c =
     let fronts = c.requires.board in
     let found = ready_piece cs b.lines b.done b.free b.counts fronts piece c.requires.ready in
     let now = c.index_mut-command.result.now in
-    let read = read_command cs _ _ piece.command found.0 now found.1.stands c.index_mut-command.ensures.value in
+    let read = read_command cs _ _ piece.command found.0 now found.1.has_command c.index_mut-command.ensures.value in
     let r : IsReady cs b.lines b.done b.free b.counts fronts piece now = subst (λ (x : Command). IsReady cs b.lines b.done b.free b.counts fronts piece x) read found.1 in
-    ap (λ (v : _). v.items) c.settle.ensures.commands ∙ after_at cs piece now c.remove.new.self r.stands.is c.remove.ensures.others
+    ap (λ (v : _). v.items) c.settle.ensures.commands ∙ after_at cs piece now c.remove.new.self r.has_command.is c.remove.ensures.others

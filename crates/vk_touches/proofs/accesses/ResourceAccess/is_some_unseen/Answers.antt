@@ -14,7 +14,7 @@ returns c =
     let number = c.args.write.number in
     let spot = c.in_line-spot.result in
     let unseen = c.first_unseen-unseen in
-    subst (λ (w : Spot). SomeBetween (λ k r. SaysSeen x.frontier.now x.sight.now w number x.access (numbered_byte x.bytes k) (not r)) c.is_some.result c.args.low c.args.high) c.in_line-spot.ensures
-    (some_of_units x.bytes c.args.low c.args.high run c.units-run.ensures.units (λ b r. SaysSeen x.frontier.now x.sight.now spot number x.access b r)
-    (unit_seen x.frontier.now x.sight.now spot number x.access run.units)
+    subst (λ (w : Spot). SomeBetween (λ k r. SaysSeen x.frontier.now x.new_node.now w number x.access (numbered_byte x.bytes k) (not r)) c.is_some.result c.args.low c.args.high) c.in_line-spot.ensures
+    (some_of_units x.bytes c.args.low c.args.high run c.units-run.ensures.units (λ b r. SaysSeen x.frontier.now x.new_node.now spot number x.access b r)
+    (unit_seen x.frontier.now x.new_node.now spot number x.access run.units)
     unseen.result unseen.ensures.within unseen.ensures.unseen unseen.ensures.seen c.is_some.result c.is_some.ensures)

@@ -6,5 +6,5 @@ use Rattle.vk_touches.proofs.accesses.ResourceAccess.misses_some_write.Given as 
 abbrev pub invariant-loop-run : goal.invariant-loop-run
 invariant-loop-run l = record {
   searched : AreSearched (MissesWrite l.self) l.touches l.low l.high (pieces_left l.run-iterator);
-  shown : AreSeen l.self l.shown;
+  visible_prefix : AreSeen l.self l.visible_prefix;
 }

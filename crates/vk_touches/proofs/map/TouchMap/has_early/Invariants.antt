@@ -4,4 +4,4 @@ use Rattle.vk_touches.proofs.TouchMaps.{IsEarlyAt}
 use Rattle.vk_touches.proofs.map.TouchMap.has_early.Given as goal
 
 abbrev pub invariant-loop-run : goal.invariant-loop-run
-invariant-loop-run l = IsSearched (IsEarlyAt l.self-inside.host_reads l.sight) l.self-inside.others l.low l.high (pieces_left l.run-iterator)
+invariant-loop-run l = IsSearched (IsEarlyAt l.self-inside.host_reads l.new_node) l.self-inside.others l.low l.high (pieces_left l.run-iterator)

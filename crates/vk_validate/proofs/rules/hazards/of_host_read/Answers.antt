@@ -20,15 +20,15 @@ use Rattle.vk_validate.proofs.rules.hazards.of_host_read.Goals as goal
 pub has_missed_read-requires : goal.has_missed_read-requires
 has_missed_read-requires c = kept_numbers (past c.args.history.now) c.args.buffer c.in-Some.contents.now c.in-Some.ensures c.access-by.result.bytes c.access-by.ensures.bytes
 
-pub returns-in_ok-sight-in-Some : goal.returns-in_ok-sight-in-Some
-returns-in_ok-sight-in-Some c =
+pub returns-in_ok-new_node-in-Some : goal.returns-in_ok-new_node-in-Some
+returns-in_ok-new_node-in-Some c =
     let earlier = past c.args.history.now in
     let p = point_of c.args.point.now in
     let is = c.requires.reads in
     let fits : c.args.offset + c.args.size ≤ buffer_size earlier c.args.buffer = read_fits earlier p c.is_judged.ensures.faultless (early_live earlier p c.requires.early) (early_range earlier p c.requires.early) c.args.buffer c.args.offset c.args.size is in
     let there = host_there earlier p c.is_judged.ensures.faultless (early_live earlier p c.requires.early) (early_range earlier p c.requires.early) (entry.Read c.args.buffer c.args.offset c.args.size) is c.args.buffer (contains-head _ []) in
-    let sights = c.in_ok-sight-in-Some.ensures (apart_from (nodes earlier) (next_node earlier p (act_next p.action)) (ap (λ (d : Action). is_element (act_next d)) is)) in
-    read_conflicts earlier c.is_judged.ensures p c.args.buffer c.args.offset c.args.size is c.host_seen.ensures c.invalidated_seen.ensures.invalidated c.invalidated_seen.ensures.uninvalidated c.in-Some.contents.now (of_buffer earlier c.args.buffer there c.in-Some.contents.now c.in-Some.ensures) fits c.in_ok-sight-in-Some.sight sights c.access-by.result c.access-by.ensures.access (buffer_bytes earlier c.args.buffer there c.access-by.result.bytes c.access-by.ensures.bytes) c.has_missed_read.result c.has_undefined.result c.has_missed_read.ensures c.has_undefined.ensures
+    let new_node = c.in_ok-new_node-in-Some.ensures (apart_from (nodes earlier) (next_node earlier p (act_next p.action)) (ap (λ (d : Action). is_element (act_next d)) is)) in
+    read_conflicts earlier c.is_judged.ensures p c.args.buffer c.args.offset c.args.size is c.host_seen.ensures c.invalidated_seen.ensures.invalidated c.invalidated_seen.ensures.uninvalidated c.in-Some.contents.now (of_buffer earlier c.args.buffer there c.in-Some.contents.now c.in-Some.ensures) fits c.in_ok-new_node-in-Some.new_node new_node c.access-by.result c.access-by.ensures.access (buffer_bytes earlier c.args.buffer there c.access-by.result.bytes c.access-by.ensures.bytes) c.has_missed_read.result c.has_undefined.result c.has_missed_read.ensures c.has_undefined.ensures
 
 pub returns-in-None : goal.returns-in-None
 returns-in-None c =

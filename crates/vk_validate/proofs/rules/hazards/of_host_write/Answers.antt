@@ -20,8 +20,8 @@ use Rattle.vk_validate.proofs.rules.hazards.of_host_write.Goals as goal
 pub has_missed_write-requires : goal.has_missed_write-requires
 has_missed_write-requires c = kept_numbers (past c.args.history.now) c.args.buffer c.in-Some.contents.now c.in-Some.ensures c.access-by.result.bytes c.access-by.ensures.bytes
 
-pub returns-in_ok-sight-in-Some : goal.returns-in_ok-sight-in-Some
-returns-in_ok-sight-in-Some c =
+pub returns-in_ok-new_node-in-Some : goal.returns-in_ok-new_node-in-Some
+returns-in_ok-new_node-in-Some c =
     let earlier = past c.args.history.now in
     let p = point_of c.args.point.now in
     let bytes = c.requires.writes.0 in
@@ -30,9 +30,9 @@ returns-in_ok-sight-in-Some c =
     let touches = c.in-Some.contents.now.touches in
     let fits = set_fits earlier p c.is_judged.ensures.faultless (early_live earlier p c.requires.early) (early_range earlier p c.requires.early) c.args.buffer c.args.offset bytes is in
     let there = host_there earlier p c.is_judged.ensures.faultless (early_live earlier p c.requires.early) (early_range earlier p c.requires.early) (entry.Write c.args.buffer c.args.offset bytes) is c.args.buffer (contains-head _ []) in
-    let sights = c.in_ok-sight-in-Some.ensures (apart_from (nodes earlier) (next_node earlier p (act_next p.action)) (ap (λ (d : Action). is_element (act_next d)) is)) in
-    let s = c.in_ok-sight-in-Some.sight in
-    set_conflicts earlier c.is_judged.ensures p c.args.buffer c.args.offset bytes is c.host_seen.ensures c.prefixes.ensures.line c.in-Some.contents.now (of_buffer earlier c.args.buffer there c.in-Some.contents.now c.in-Some.ensures) fits s sights c.access-by.result c.access-by.ensures.access (buffer_bytes earlier c.args.buffer there c.access-by.result.bytes c.access-by.ensures.bytes) c.has_early_command.result c.has_missed_write.result
+    let new_node = c.in_ok-new_node-in-Some.ensures (apart_from (nodes earlier) (next_node earlier p (act_next p.action)) (ap (λ (d : Action). is_element (act_next d)) is)) in
+    let s = c.in_ok-new_node-in-Some.new_node in
+    set_conflicts earlier c.is_judged.ensures p c.args.buffer c.args.offset bytes is c.host_seen.ensures c.prefixes.ensures.line c.in-Some.contents.now (of_buffer earlier c.args.buffer there c.in-Some.contents.now c.in-Some.ensures) fits s new_node c.access-by.result c.access-by.ensures.access (buffer_bytes earlier c.args.buffer there c.access-by.result.bytes c.access-by.ensures.bytes) c.has_early_command.result c.has_missed_write.result
     (subst (λ (n : ℕ). c.args.offset + n ≤ length touches → FoundIn (HasEarlyCommand s) c.has_early_command.result touches c.args.offset (c.args.offset + n)) size_is c.has_early_command.ensures)
     (subst (λ (n : ℕ). c.args.offset + n ≤ length touches → FoundAt (MissesWrite c.access-by.result) c.has_missed_write.result touches c.args.offset (c.args.offset + n)) size_is c.has_missed_write.ensures)
 

@@ -2,7 +2,7 @@ use Rattle.std.proofs.Common.{◌∷◌, ◌&&◌, ap, sym, ◌∙◌, subst}
 use Rattle.vk_model.specs.Sync.Node.{Act, Hosts, nodes}
 use Rattle.vk_model.specs.Sync.Edge.{is_element}
 use Rattle.vk_model.specs.Sync.Complete.{is_busy}
-use Rattle.vk_order.specs.Frontiers.{IsSight}
+use Rattle.vk_order.specs.Frontiers.{IsNewNode}
 use Rattle.vk_order.specs.PointViews.{point_of}
 use Rattle.vk_order.proofs.PlaceLemmas.{apart_from}
 use Rattle.vk_history.specs.PointViews.{past}
@@ -21,5 +21,5 @@ returns c = λ x is.
     let before = past c.args.history.now in
     let p = point_of c.args.point.now in
     let its = ap act_next is in
-    let sight = subst (λ (a : Act). IsSight (nodes before) (next_node before p a) c.in_ok-sight.sight) its (c.in_ok-sight.ensures (apart_from (nodes before) (next_node before p (act_next p.action)) (ap (λ (a : Act). is_element a) its))) in
-    c.is_busy.ensures p x is sight ∙ sym (destroyed_busy before p x c.args.resource is ∙ ap (λ b. b && is_busy before (nodes (p ∷ before)) (next_node before p (Hosts x)) c.args.resource) (sym c.is_live_resource.ensures ∙ c.if-not-is_live_resource.false))
+    let new_node = subst (λ (a : Act). IsNewNode (nodes before) (next_node before p a) c.in_ok-new_node.new_node) its (c.in_ok-new_node.ensures (apart_from (nodes before) (next_node before p (act_next p.action)) (ap (λ (a : Act). is_element a) its))) in
+    c.is_busy.ensures p x is new_node ∙ sym (destroyed_busy before p x c.args.resource is ∙ ap (λ b. b && is_busy before (nodes (p ∷ before)) (next_node before p (Hosts x)) c.args.resource) (sym c.is_live_resource.ensures ∙ c.if-not-is_live_resource.false))

@@ -9,12 +9,12 @@ pub has_early_number-requires : goal.has_early_number-requires
 has_early_number-requires c = ends_within c.args.bytes.now _ c.ranges-numbers.result (length c.args.contents.now.touches) c.ranges-numbers.ensures c.requires
 
 pub loop-range-preserved : goal.loop-range-preserved
-loop-range-preserved c = none_next (FoundInSubresources (λ (r : Bool) (low high : ℕ). FoundIn (IsEarly c.args.sight.now) r c.args.contents.now.touches low high) c.args.bytes.now) c.args.ranges.now c.loop-range.range-index _ c.loop-range-test.true c.loop-range.invariant
+loop-range-preserved c = none_next (FoundInSubresources (λ (r : Bool) (low high : ℕ). FoundIn (IsEarly c.args.new_node.now) r c.args.contents.now.touches low high) c.args.bytes.now) c.args.ranges.now c.loop-range.range-index _ c.loop-range-test.true c.loop-range.invariant
     (c.ranges-numbers.result, c.ranges-numbers.ensures, rw c.if-has_early_number.false at c.has_early_number.ensures)
 
 pub returns-then-has_early_number : goal.returns-then-has_early_number
-returns-then-has_early_number c = some_here (FoundInSubresources (λ (r : Bool) (low high : ℕ). FoundIn (IsEarly c.args.sight.now) r c.args.contents.now.touches low high) c.args.bytes.now) c.args.ranges.now c.loop-range.range-index _ c.loop-range-test.true
+returns-then-has_early_number c = some_here (FoundInSubresources (λ (r : Bool) (low high : ℕ). FoundIn (IsEarly c.args.new_node.now) r c.args.contents.now.touches low high) c.args.bytes.now) c.args.ranges.now c.loop-range.range-index _ c.loop-range-test.true
     (c.ranges-numbers.result, c.ranges-numbers.ensures, rw c.if-has_early_number.true at c.has_early_number.ensures)
 
 pub returns : goal.returns
-returns c = none_at_all (FoundInSubresources (λ (r : Bool) (low high : ℕ). FoundIn (IsEarly c.args.sight.now) r c.args.contents.now.touches low high) c.args.bytes.now) c.args.ranges.now c.loop-range.range-index c.loop-range.auto.range-index-end c.loop-range-test.false c.loop-range.invariant
+returns c = none_at_all (FoundInSubresources (λ (r : Bool) (low high : ℕ). FoundIn (IsEarly c.args.new_node.now) r c.args.contents.now.touches low high) c.args.bytes.now) c.args.ranges.now c.loop-range.range-index c.loop-range.auto.range-index-end c.loop-range-test.false c.loop-range.invariant

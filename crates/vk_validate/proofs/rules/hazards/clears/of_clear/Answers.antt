@@ -52,7 +52,7 @@ returns c =
     let clears = c.requires.clears in
     let is = clears.2 in
     let of = sym c.in-Some.ensures.image ∙ c.in-Some-image.is in
-    let sights = c.in_ok-sight.ensures (apart_from (nodes earlier) (next_node earlier p (act_next p.action)) (ap (λ (d : Action). is_element (act_next d)) is)) in
-    cleared_conflicts earlier c.is_judged.ensures p (cmd.Clear i clears.0 clears.1 rs) is refl c.host_seen.ensures c.flushed_seen.ensures.flushed c.flushed_seen.ensures.unflushed c.prefixes.ensures.line c.in_ok-sight.sight sights
+    let new_node = c.in_ok-new_node.ensures (apart_from (nodes earlier) (next_node earlier p (act_next p.action)) (ap (λ (d : Action). is_element (act_next d)) is)) in
+    cleared_conflicts earlier c.is_judged.ensures p (cmd.Clear i clears.0 clears.1 rs) is refl c.host_seen.ensures c.flushed_seen.ensures.flushed c.flushed_seen.ensures.unflushed c.prefixes.ensures.line c.in_ok-new_node.new_node new_node
     m i rs of (cleared_ranges earlier p fit i clears.0 clears.1 rs is m of) (clear_origins earlier i clears.0 clears.1 rs m of) (clear_targets earlier i clears.0 clears.1 rs m of)
     u c.in-Some.ensures c.access-by.result c.access-by.ensures.access c.access-by.ensures.bytes c.has_early_range.result c.has_missed_range.result c.has_early_range.ensures c.has_missed_range.ensures

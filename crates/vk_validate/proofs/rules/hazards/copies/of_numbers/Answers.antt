@@ -28,8 +28,8 @@ returns c =
     let earlier = past c.args.history.now in
     let p = point_of c.args.point.now in
     let copies = c.requires in
-    let sights = c.in_ok-sight.ensures (apart_from (nodes earlier) (next_node earlier p (act_next p.action)) (ap (λ (d : Action). is_element (act_next d)) copies.runs)) in
-    numbers_conflicts earlier c.is_judged.ensures p copies.command copies.runs copies.alone c.host_seen.ensures c.flushed_seen.ensures.flushed c.flushed_seen.ensures.unflushed c.prefixes.ensures.line c.in_ok-sight.sight sights
+    let new_node = c.in_ok-new_node.ensures (apart_from (nodes earlier) (next_node earlier p (act_next p.action)) (ap (λ (d : Action). is_element (act_next d)) copies.runs)) in
+    numbers_conflicts earlier c.is_judged.ensures p copies.command copies.runs copies.alone c.host_seen.ensures c.flushed_seen.ensures.flushed c.flushed_seen.ensures.unflushed c.prefixes.ensures.line c.in_ok-new_node.new_node new_node
     c.args.source c.args.destination c.args.copies.now copies.writes c.in-Some.from.now c.in-Some-contents.to.now c.in-Some.ensures c.in-Some-contents.ensures copies.reads_fit copies.writes_fit
     c.access-reads.result c.access-reads.ensures.access c.access-reads.ensures.bytes c.access-writes.result c.access-writes.ensures.access c.access-writes.ensures.bytes
     c.has_early_destination.result c.has_missed_source.result c.has_missed_destination.result c.has_early_destination.ensures c.has_missed_source.ensures c.has_missed_destination.ensures

@@ -1,9 +1,0 @@
--- Nodes whose writes are seen whatever the byte.
-use Rattle.std.specs.Prelude.{Bool, ◌&&◌, nat_lt}
-use Rattle.vk_order.specs.declared.parts.Spot.{Spot}
-use Rattle.vk_order.specs.declared.shown.Shown.{Shown}
-use Rattle.vk_order.specs.Inner.Clocks.{same_line}
-
--- Whether the node of a spot is one of the first of a line.
-abbrev pub is_among : Shown → Spot → Bool
-is_among s w = same_line s.line w.line && nat_lt w.place s.count
