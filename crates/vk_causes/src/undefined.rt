@@ -30,7 +30,7 @@ pub struct Undefined<'a> {
 /// What following a byte back through copies came to.
 #[derive(Drop)]
 enum Followed<'a> {
-    /// It is defined; so many walks over the points reported so.
+    /// It is defined; so many walks over the points showed it.
     Defined(u64),
     /// It is undefined.
     Undefined(Undefined<'a>),

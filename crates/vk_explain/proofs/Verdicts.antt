@@ -19,6 +19,6 @@ explains form input text entries None trace same said = explained_by form input 
 explains form input text entries (Some fault) trace same said = explained_by form input text entries (Some fault) trace same said
 
 -- a text that is a trace, with the verdict by its first fault, answers what is asked of an input after repairs
-pub stands : (input text : List ℕ) → (entries : List Entry) → (fault : Option (At × Rule)) → IsTrace text entries → fault ≡ first_fault entries → Answers Repaired input text (judgment_of fault)
-stands input text entries None trace same = record { entries = entries; trace = trace; judged = ap judgment_of same }
-stands input text entries (Some fault) trace same = record { entries = entries; trace = trace; judged = ap judgment_of same }
+pub judges : (input text : List ℕ) → (entries : List Entry) → (fault : Option (At × Rule)) → IsTrace text entries → fault ≡ first_fault entries → Answers Repaired input text (judgment_of fault)
+judges input text entries None trace same = record { entries = entries; trace = trace; judged = ap judgment_of same }
+judges input text entries (Some fault) trace same = record { entries = entries; trace = trace; judged = ap judgment_of same }

@@ -60,7 +60,7 @@ fn judged(alloc: Global, text: &[u8]) -> Result<Option<Judgment>, AllocError>
 }
 
 /// The input as it is, with the verdict by its first fault.
-#[tactic(auto, using(crate::proofs::Verdicts::stands))]
+#[tactic(auto, using(crate::proofs::Verdicts::judges))]
 fn unchanged(
     alloc: Global,
     input: &[u8],

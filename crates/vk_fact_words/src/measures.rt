@@ -38,7 +38,7 @@ pub fn measure_member(
     Ok(member)
 }
 
-/// What the rule compares at the first point that is reported so.
+/// What the rule compares at the first point of this kind.
 fn measure_at(
     alloc: Global,
     trace: &[Entry],

@@ -42,7 +42,7 @@ pub fn state_member(
     Ok(member)
 }
 
-/// What the first point finds that is reported so, or which of its parts overlap, in words.
+/// What the first point of this kind finds, or which of its parts overlap, in words.
 fn state_at(
     alloc: Global,
     trace: &[Entry],

@@ -50,7 +50,7 @@ first_at t at r is = first_of_fault (order t) at r is
 pub somewhere : (t : List Entry) (at : At) (r : Rule) → first_fault t ≡ Some (at, r) → IsNowhere (order t) at → ⊥
 somewhere t at r is none = let f = first_at t at r is in none f.before f.point f.comes f.is_reported
 
--- what is reported of the point that is reported so is reported of the one that the trace is refused at
+-- what is reported of the point at this place is reported of the one that the trace is refused at
 pub reported_of : (t : List Entry) (at : At) (r : Rule) (past : Past) (found : Option Fact) → first_fault t ≡ Some (at, r) → IsUntil (order t) at past
     → ((before : Past) (p : Point) → past ≡ p ∷ before → IsReported r before p found) → IsToldOf t at r found
 reported_of t at r past found is until reported =

@@ -8,7 +8,7 @@ use vk_model::{At, Entry};
 use vk_past::points_until;
 
 impl<'a> Past<'a> {
-    /// The points of a trace in reference order, up to and with the one that is reported so; none
+    /// The points of a trace in reference order, up to and with the one at this place; none
     /// where no point is. The only error is want of memory.
     pub fn until(
         alloc: Global,

@@ -11,7 +11,7 @@ use Rattle.vk_facts.specs.Hazards.{node_at}
 use Rattle.vk_links.specs.declared.links.Links.{Links}
 use Rattle.vk_links.specs.Links.{AreLinks}
 
--- What is reported of a hazard of the point of a trace's reference order that is reported so: of the points up to and with it.
+-- What is reported of a hazard of the point at this place of a trace's reference order: of the points up to and with it.
 pub record AreLinksAt (entries : List Entry) (at : At) (f : HazardFact) (l : Links) : Type 0 where
   pub before : Past
   pub point : Point

@@ -32,7 +32,7 @@ pub fn links_of_fault<'a>(
 }
 
 impl<'a> Nodes<'a> {
-    /// Of the points of a trace in reference order, up to and with the one that is reported so; none
+    /// Of the points of a trace in reference order, up to and with the one at this place; none
     /// where no point is. The only error is want of memory.
     pub fn until(
         alloc: Global,

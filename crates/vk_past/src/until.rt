@@ -14,7 +14,7 @@ use vk_model::{At, Entry};
 use vk_order::{Action, Point};
 use vk_queues::reference_order;
 
-/// The points of a trace in reference order, up to and with the one that is reported so; none where
+/// The points of a trace in reference order, up to and with the one at this place; none where
 /// no point is. Each is new after the ones before it, and no two commands are at one place. The only
 /// error is want of memory.
 pub fn points_until<'a>(
@@ -34,7 +34,7 @@ pub fn points_until<'a>(
     Ok(Some(points))
 }
 
-/// The index of the first point that is reported so.
+/// The index of the first point of this kind.
 fn index_of(points: &[Point<'_>], at: At) -> Option<usize>
     ensures within { IfSome result (λ i. i < length points.now) }
     ensures found { IfSome result (λ i. (p : AnyPoint) → slice_get points.now i ≡ Some p → spec.at_of (point_of p) ≡ at) }

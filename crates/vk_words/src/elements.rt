@@ -4,7 +4,7 @@ use crate::ranges::{push_length, push_more, push_subresources};
 use std::alloc::AllocError;
 use vk_model::{BufferElement, Dependency, Element, Families, ImageElement};
 
-/// How many elements of a command are reported one by one.
+/// How many elements of a command are named one by one.
 const MOST_ELEMENTS: usize = 4;
 
 /// The two scopes: stages, with accesses in parentheses.

@@ -7,7 +7,7 @@ use vk_model::{
     BufferInfo, Entry, ImageInfo, Place, PoolInfo, PoolKind, SemaphoreValue, Sharing, Usage,
 };
 
-/// How many semaphores of a wait are reported one by one.
+/// How many semaphores of a wait are named one by one.
 const MOST_WAITS: usize = 4;
 
 /// What an entry does. The trace says of which kind a resource is that is named by its id alone.

@@ -79,7 +79,7 @@ pub fn push_subresources(out: &mut String, range: SubresourceRange) -> Result<()
     push_some(out, "layer", range.first_layer, range.layers)
 }
 
-/// That there are more in a list than were reported, each one named by the word.
+/// That there are more in a list than were named, each one named by the word.
 pub fn push_more(out: &mut String, reported: usize, all: usize, what: &str) -> Result<(), AllocError> {
     let more = all.saturating_sub(reported);
     match more {
