@@ -95,7 +95,7 @@ def main():
                 name = f"{options.seed}_{number}.json"
                 (options.failing / name).write_text(json.dumps(refused))
         number += 1
-    print("| Rule | Refused | A repair is told | Accepted after it | Accepted in the end |")
+    print("| Rule | Refused | A repair is reported | Accepted after it | Accepted in the end |")
     print("|---|---|---|---|---|")
     kinds = ("told", "accepted", "in the end")
     for rule, of_rule in tried.most_common():

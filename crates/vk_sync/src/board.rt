@@ -96,7 +96,7 @@ impl Board {
         }
     }
 
-    /// How many commands has_commands on a queue.
+    /// How many commands are on a queue.
     fn count_of(&self, queue: usize) -> usize
         requires queue { queue < 4 }
         requires loose { IsLooseBoard self.now }
