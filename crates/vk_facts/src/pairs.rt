@@ -65,7 +65,7 @@ impl Past<'_> {
         requires later { pair.later < length (nodes self.now) }
         ensures { IfOk result (λ sees. (x y : Node) → IsPair self.now pair x y → sees ≡ is_seen self.now x y (access_of access) (byte_of byte)) }
     {
-        let is_cached = self.makers.is_cached(byte.resource());
+        let is_cached = self.creators.is_cached(byte.resource());
         let access = ByteAccess {
             byte,
             access,

@@ -5,12 +5,12 @@ ghost use Rattle.vk_order.specs.declared.point.Point.{Point as AnyPoint};
 ghost use Rattle.vk_order.specs.PointViews.{point_of};
 ghost use Rattle.vk_order.specs.Queries.{IsNew};
 ghost use Rattle.vk_queues.specs.PointViews.{past_of};
-ghost use Rattle.vk_past.specs.Makers.{AreMakers};
+ghost use Rattle.vk_past.specs.Creators.{AreCreators};
 
 use std::alloc::{AllocError, Global};
 use std::marker::Model;
 use vk_order::{Point, Points, Row};
-use vk_past::{Makers, all_rows};
+use vk_past::{Creators, all_rows};
 
 /// The points of a trace up to and with the last one of which facts are asked, as nodes, with what
 /// they made. Contracts see the points, the newest first.
@@ -20,7 +20,7 @@ pub struct Past<'a> {
     pub(crate) points: Vec<Point<'a>>,
     pub(crate) rows: Vec<Row<'a>>,
     pub(crate) order: Points<'a>,
-    pub(crate) makers: Makers<'a>,
+    pub(crate) creators: Creators<'a>,
     /// How many nodes come before those of the last point.
     pub(crate) before: usize,
 }
@@ -34,7 +34,7 @@ impl<'a> Model for Past<'a> {
 
     ghost view = { λ p. past_of p.points.items };
 
-    ghost invariant = { λ p. IsRead (past_of p.points.items) p.rows.items p.order p.makers p.before };
+    ghost invariant = { λ p. IsRead (past_of p.points.items) p.rows.items p.order p.creators p.before };
 }
 
 impl<'a> Past<'a> {
@@ -45,28 +45,28 @@ impl<'a> Past<'a> {
         ensures { IfOk result (λ past. past ≡ past_of points.entry.items) }
     {
         let rows = all_rows(alloc, points.as_slice())?;
-        let makers = makers_of(alloc, points.as_slice())?;
+        let creators = creators_of(alloc, points.as_slice())?;
         let Ordered { order, before } = order_of(alloc, points.as_slice())?;
         Ok(Past {
             alloc,
             points,
             rows,
             order,
-            makers,
+            creators,
             before,
         })
     }
 }
 
 /// What points made.
-fn makers_of<'a>(alloc: Global, points: &[Point<'a>]) -> Result<Makers<'a>, AllocError>
-    ensures { IfOk result (λ makers. AreMakers makers (past_of points.now)) }
+fn creators_of<'a>(alloc: Global, points: &[Point<'a>]) -> Result<Creators<'a>, AllocError>
+    ensures { IfOk result (λ creators. AreCreators creators (past_of points.now)) }
 {
-    let mut makers = Makers::new(alloc);
+    let mut creators = Creators::new(alloc);
     for point in points {
-        makers.note(point)?;
+        creators.note(point)?;
     }
-    Ok(makers)
+    Ok(creators)
 }
 
 /// The order of the nodes of points.

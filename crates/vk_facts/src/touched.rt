@@ -179,7 +179,7 @@ impl Past<'_> {
     fn buffer_size(&self, buffer: u32) -> u64
         ensures { result ≡ buffer_size self.now buffer }
     {
-        match self.makers.buffer(buffer) {
+        match self.creators.buffer(buffer) {
             Some(info) => info.size,
             None => 0,
         }
@@ -189,7 +189,7 @@ impl Past<'_> {
     fn image(&self, id: u32) -> Option<ImageInfo>
         ensures { result ≡ objects.image self.now id }
     {
-        self.makers.image(id)
+        self.creators.image(id)
     }
 
     /// What a layout transition reads and writes, which it does of all that it covers.

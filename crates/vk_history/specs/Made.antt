@@ -18,9 +18,9 @@ abbrev pub makes : ℕ → ℕ → Entry → Option Numbered
 makes i e x = if holds (made_by x) (λ j. i == j) then Some (record { entry = x; number = e }) else None
 
 -- The last entry that made an id.
-abbrev pub last_maker : Past → ℕ → Option Numbered
-last_maker [] i = None
-last_maker (p ∷ past) i = option_or (option_and_then (makes i p.entry) (host_of p.action)) (last_maker past i)
+abbrev pub last_creator : Past → ℕ → Option Numbered
+last_creator [] i = None
+last_creator (p ∷ past) i = option_or (option_and_then (makes i p.entry) (host_of p.action)) (last_creator past i)
 
 -- An entry, where its number is below another.
 abbrev pub earlier_than : ℕ → Numbered → Option Entry

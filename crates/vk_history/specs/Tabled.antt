@@ -12,7 +12,7 @@ use Rattle.vk_order.specs.declared.lines.Line.{Line}
 use Rattle.vk_order.specs.Frontiers.{IsFrontier}
 use Rattle.vk_history.specs.declared.tables.Tables.{Tables}
 use Rattle.vk_history.specs.Contents.{AreContents}
-use Rattle.vk_history.specs.declared.objects.Maker.{Maker}
+use Rattle.vk_history.specs.declared.objects.Creator.{Creator}
 use Rattle.vk_history.specs.declared.objects.Objects.{Objects}
 use Rattle.vk_history.specs.declared.semaphores.Signals.{Signals}
 use Rattle.vk_history.specs.declared.semaphores.Semaphores.{Semaphores}
@@ -22,18 +22,18 @@ use Rattle.vk_history.specs.Bound.{AreBound}
 use Rattle.vk_history.specs.Counted.{AreMappings, AreOccupants, AreDefrags}
 use Rattle.vk_history.specs.Ended.{AreEndings}
 use Rattle.vk_history.specs.Layouts.{AreCurrent}
-use Rattle.vk_history.specs.Made.{Numbered, last_maker, Set, last_set}
+use Rattle.vk_history.specs.Made.{Numbered, last_creator, Set, last_set}
 use Rattle.vk_touches.specs.Touched.{last_signaler, signal_spot}
 use Rattle.vk_history.specs.Uses.{AreUses}
 use Rattle.vk_history.specs.Owners.{AreOwners}
 
 -- The entry that a table keeps, with its number.
-abbrev pub maker_view : Maker → Numbered
-maker_view m = record { entry = m.entry.now; number = m.number }
+abbrev pub creator_view : Creator → Numbered
+creator_view m = record { entry = m.entry.now; number = m.number }
 
--- The last maker of each id.
+-- The last creator of each id.
 abbrev pub AreObjects : Objects → Past → Type 0
-AreObjects objects past = (i : ℕ) → option_map maker_view (value_of objects.makers i) ≡ last_maker past i
+AreObjects objects past = (i : ℕ) → option_map creator_view (value_of objects.creators i) ≡ last_creator past i
 
 -- The set that a table keeps.
 abbrev pub set_view : EventSet → Set

@@ -16,11 +16,11 @@ ghost use Rattle.vk_order.specs.Wide.{IsApartFrom};
 ghost use Rattle.vk_history.specs.PointViews.{past};
 ghost use Rattle.vk_history.specs.Judged.{IsJudged};
 ghost use Rattle.vk_history.specs.Ended.{first_end};
-ghost use Rattle.vk_history.specs.Made.{last_maker, last_set, earlier_than};
+ghost use Rattle.vk_history.specs.Made.{last_creator, last_set, earlier_than};
 ghost use Rattle.vk_touches.specs.Touched.{last_signaler, signal_spot, next_node, act_next};
 ghost use Rattle.vk_touches.specs.Conflicts.{IsAccess};
 ghost use Rattle.vk_history.specs.Contents.{AreContentsIn, AreBytesOf};
-ghost use Rattle.vk_history.specs.Tabled.{spot_view, set_view, maker_view};
+ghost use Rattle.vk_history.specs.Tabled.{spot_view, set_view, creator_view};
 
 mod copies;
 mod pools;
@@ -28,7 +28,7 @@ mod resources;
 
 use crate::acts::act_of;
 use crate::events::EventSet;
-use crate::objects::Maker;
+use crate::objects::Creator;
 use crate::places::pool_at;
 use crate::resource_contents::ResourceContents;
 use crate::semaphores::Signals;
@@ -96,10 +96,10 @@ impl<'a> History<'a> {
     }
 
     /// The last entry that made an id.
-    fn maker(&self, id: u32) -> Option<Maker<'a>>
-        ensures { option_map maker_view result ≡ last_maker (past self.now) id }
+    fn creator(&self, id: u32) -> Option<Creator<'a>>
+        ensures { option_map creator_view result ≡ last_creator (past self.now) id }
     {
-        self.tables.objects.maker(id)
+        self.tables.objects.creator(id)
     }
 
     /// The entry that made an object.
@@ -126,10 +126,10 @@ impl<'a> History<'a> {
 
     /// The entry below a number that made an object.
     fn made_before(&self, number: usize, id: u32) -> Option<&'a Entry>
-        ensures { option_map (λ x. x.now) result ≡ option_and_then (earlier_than number) (last_maker (past self.now) id) }
+        ensures { option_map (λ x. x.now) result ≡ option_and_then (earlier_than number) (last_creator (past self.now) id) }
     {
-        match self.maker(id) {
-            Some(maker) if maker.number < number => Some(maker.entry),
+        match self.creator(id) {
+            Some(creator) if creator.number < number => Some(creator.entry),
             _ => None,
         }
     }

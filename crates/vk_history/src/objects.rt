@@ -6,8 +6,8 @@ ghost use Rattle.vk_model.specs.Trace.Objects as objects;
 ghost use Rattle.vk_model.specs.Trace.Objects.{made, memory, pool, memory_of, pool_of, defrag_in, resource, type_at, type_of, is_cached, is_exclusive, is_exclusive_mode};
 ghost use Rattle.vk_model.specs.Rules.Mapping.{mapping};
 ghost use Rattle.vk_order.specs.PointViews.{point_of};
-ghost use Rattle.vk_history.specs.Made.{last_maker};
-ghost use Rattle.vk_history.specs.Tabled.{AreObjects, maker_view};
+ghost use Rattle.vk_history.specs.Made.{last_creator};
+ghost use Rattle.vk_history.specs.Tabled.{AreObjects, creator_view};
 
 use crate::places::{bound_at, memory_at, pool_at};
 use std::alloc::{AllocError, Global};
@@ -17,7 +17,7 @@ use vk_order::{Action, Point};
 
 /// An entry that made an object, with its number.
 #[derive(Clone, Copy)]
-pub struct Maker<'a> {
+pub struct Creator<'a> {
     /// The entry.
     pub entry: &'a Entry,
     /// How many entries come before it.
@@ -27,7 +27,7 @@ pub struct Maker<'a> {
 /// Which entry made each object.
 #[derive(Drop)]
 pub struct Objects<'a> {
-    makers: IdMap<Maker<'a>>,
+    creators: IdMap<Creator<'a>>,
 }
 
 impl<'a> Objects<'a> {
@@ -36,23 +36,23 @@ impl<'a> Objects<'a> {
         ensures { AreObjects result [] }
     {
         Objects {
-            makers: IdMap::new(alloc),
+            creators: IdMap::new(alloc),
         }
     }
 
     /// The last entry that made an id.
-    pub fn maker(&self, id: u32) -> Option<Maker<'a>>
-        ensures { (past : Past) → AreObjects self.now past → option_map maker_view result ≡ last_maker past id }
+    pub fn creator(&self, id: u32) -> Option<Creator<'a>>
+        ensures { (past : Past) → AreObjects self.now past → option_map creator_view result ≡ last_creator past id }
     {
-        self.makers.get(id).copied()
+        self.creators.get(id).copied()
     }
 
     /// The entry that made an object.
     pub fn made(&self, id: u32) -> Option<&'a Entry>
         ensures { (past : Past) → AreObjects self.now past → option_map (λ x. x.now) result ≡ made past id }
     {
-        match self.maker(id) {
-            Some(maker) => Some(maker.entry),
+        match self.creator(id) {
+            Some(creator) => Some(creator.entry),
             None => None,
         }
     }
@@ -183,7 +183,7 @@ impl<'a> Objects<'a> {
             Action::Host(entry) => match entry.made_id() {
                 Some(id) => self.set(
                     id,
-                    Maker {
+                    Creator {
                         entry,
                         number: point.entry,
                     },
@@ -194,11 +194,11 @@ impl<'a> Objects<'a> {
         }
     }
 
-    fn set(&mut self, id: u32, maker: Maker<'a>) -> Result<(), AllocError>
-        ensures { OnOk result ((other : ℕ) → option_map maker_view (value_of self.new.makers other)
-            ≡ (if other == id then Some (maker_view maker.entry) else option_map maker_view (value_of self.old.makers other))) }
+    fn set(&mut self, id: u32, creator: Creator<'a>) -> Result<(), AllocError>
+        ensures { OnOk result ((other : ℕ) → option_map creator_view (value_of self.new.creators other)
+            ≡ (if other == id then Some (creator_view creator.entry) else option_map creator_view (value_of self.old.creators other))) }
     {
-        self.makers.put(id, maker)?;
+        self.creators.put(id, creator)?;
         Ok(())
     }
 }

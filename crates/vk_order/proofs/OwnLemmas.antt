@@ -108,7 +108,7 @@ module _ (ns : List Node) (ts : List LineTally) (tallied : IsTallied ns ts) (que
   available_none line makes none same short = record {
     counts = λ l.
         ap (λ (r : List Counts). counts_on (lines_of ts) r l) same ∙ go l (same_line l line) refl
-        ∙ ap (λ (b : Bool). if b then with_available (counts_on (lines_of ts) row l) (place ns l (length ns)) else counts_on (lines_of ts) row l) (makes_queue_available l);
+        ∙ ap (λ (b : Bool). if b then with_available (counts_on (lines_of ts) row l) (place ns l (length ns)) else counts_on (lines_of ts) row l) (makes l);
     short = let e = lines_length ts in let f = ap length same in omega arith;
   }
     where

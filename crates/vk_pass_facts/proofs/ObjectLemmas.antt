@@ -7,12 +7,12 @@ use Rattle.vk_model.specs.Trace.Objects.{ended, defrag_in}
 use Rattle.vk_model.specs.Rules.Passes.{pool_of_defrag}
 use Rattle.vk_order.specs.declared.point.Point.{Point as Told}
 use Rattle.vk_order.specs.PointViews.{point_of}
-use Rattle.vk_past.proofs.MakerLemmas.{made_is}
+use Rattle.vk_past.proofs.CreatorLemmas.{made_is}
 use Rattle.vk_pass_facts.specs.declared.defrags.OpenDefrag.{OpenDefrag}
 use Rattle.vk_pass_facts.specs.Defrags.{IsOpenDefrag, makes}
 use Rattle.vk_pass_facts.specs.Inner.Kept.{pool_begun}
 
--- the defragmentation of an id that hasn't ended, by its maker
+-- the defragmentation of an id that hasn't ended, by its creator
 module _ (past : Past) (i : ℕ) (m : Option Told) (unended : ended past i ≡ false) (is : option_map point_of m ≡ find (on_host (makes i)) past) where
   pub open_is : pool_begun (option_map point_of m) ≡ pool_of_defrag past i
   open_is = ap pool_begun is ∙ ap (option_and_then defrag_in) (made_is past i ∙ rw unended refl)

@@ -25,13 +25,13 @@ pub struct OpenDefrag<'a> {
 }
 
 /// The defragmentation of an id that a point made, where it made one.
-pub fn defrag_made<'a>(defrag: u32, maker: Option<Point<'a>>) -> Option<OpenDefrag<'a>>
-    ensures found { is_some result ≡ is_some (pool_begun (option_map point_of maker.entry)) }
+pub fn defrag_made<'a>(defrag: u32, creator: Option<Point<'a>>) -> Option<OpenDefrag<'a>>
+    ensures found { is_some result ≡ is_some (pool_begun (option_map point_of creator.entry)) }
     ensures id { IfSome result (λ o. o.defrag ≡ defrag) }
-    ensures pool { IfSome result (λ o. pool_begun (option_map point_of maker.entry) ≡ Some o.pool) }
-    ensures begun { IfSome result (λ o. option_map point_of maker.entry ≡ Some (point_of o.begun)) }
+    ensures pool { IfSome result (λ o. pool_begun (option_map point_of creator.entry) ≡ Some o.pool) }
+    ensures begun { IfSome result (λ o. option_map point_of creator.entry ≡ Some (point_of o.begun)) }
 {
-    let begun = maker?;
+    let begun = creator?;
     match begun.action {
         Action::Host(Entry::Defrag { pool, .. }) => Some(OpenDefrag {
             defrag,

@@ -13,12 +13,12 @@ use crate::ended::Ended;
 use std::alloc::{AllocError, Global};
 use vk_model::{Entry, Place};
 use vk_order::Point;
-use vk_past::{Makers, pool_at};
+use vk_past::{Creators, pool_at};
 
 /// Of each id the last point that made it, and whether it ended.
 #[derive(Drop)]
 pub struct Objects<'a> {
-    makers: Makers<'a>,
+    creators: Creators<'a>,
     ended: Ended,
 }
 
@@ -28,7 +28,7 @@ impl<'a> Objects<'a> {
         ensures { AreObjects result [] }
     {
         Objects {
-            makers: Makers::new(alloc),
+            creators: Creators::new(alloc),
             ended: Ended::new(alloc),
         }
     }
@@ -48,7 +48,7 @@ impl<'a> Objects<'a> {
     fn note(&mut self, point: &Point<'a>) -> Result<(), AllocError>
         ensures { OnOk result ((past : Past) → AreObjects self.old past → AreObjects self.new (point_of point.now ∷ past)) }
     {
-        self.makers.note(point)?;
+        self.creators.note(point)?;
         self.ended.note(point)?;
         Ok(())
     }
@@ -57,7 +57,7 @@ impl<'a> Objects<'a> {
     fn made(&self, id: u32) -> Option<&'a Entry>
         ensures { (past : Past) → AreObjects self.now past → option_map (λ x. x.now) result ≡ spec.made past id }
     {
-        self.makers.made(id)
+        self.creators.made(id)
     }
 
     /// The defragmentation of an id, if it hasn't ended.
@@ -69,7 +69,7 @@ impl<'a> Objects<'a> {
         if self.ended.has(id) {
             None
         } else {
-            defrag_made(id, self.makers.maker(id))
+            defrag_made(id, self.creators.creator(id))
         }
     }
 

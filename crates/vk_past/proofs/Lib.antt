@@ -1,4 +1,4 @@
 pub mod PastLemmas
-pub mod MakerLemmas
+pub mod CreatorLemmas
 pub mod DoingLemmas
 pub mod UntilLemmas

@@ -6,7 +6,7 @@ use Rattle.vk_model.specs.Trace.Objects.{ended_by}
 use Rattle.vk_model.specs.Trace.Order.{signal_of}
 use Rattle.vk_past.specs.declared.doings.Doing.{Doing}
 use Rattle.vk_past.specs.declared.doings.Doing.TheVariants.{Makes, Ends, Signals}
-use Rattle.vk_past.specs.Makers.{makes}
+use Rattle.vk_past.specs.Creators.{makes}
 
 -- Whether a point does this with an object.
 abbrev pub does : Doing → ℕ → Point → Bool

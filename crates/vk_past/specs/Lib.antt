@@ -1,3 +1,3 @@
-pub mod Makers
+pub mod Creators
 pub mod Doings
 pub mod Until

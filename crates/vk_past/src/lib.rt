@@ -3,14 +3,14 @@
 #![tactic(auto)]
 
 mod doings;
-mod makers;
+mod creators;
 mod nodes;
 mod objects;
 mod split;
 mod until;
 
 pub use doings::{Doing, entry_of, is_ended, latest, live, made, signal_of};
-pub use makers::Makers;
+pub use creators::Creators;
 pub use nodes::{all_rows, order_of};
 pub use objects::{buffer, image, is_cached, memory, pool, pool_at, size, type_at, type_of, usage};
 pub use split::{Split, split_of};

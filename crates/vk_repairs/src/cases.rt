@@ -148,7 +148,7 @@ impl<'a> Case<'a> {
         let mut id: u32 = 0;
         let mut left = others;
         for _ in 0..self.trace.len() {
-            if self.maker(id).is_none() {
+            if self.creator(id).is_none() {
                 if left == 0 {
                     return id;
                 }
@@ -160,7 +160,7 @@ impl<'a> Case<'a> {
     }
 
     /// The entry that makes an id, with its number.
-    pub fn maker(&self, id: u32) -> Option<(usize, &'a Entry)> {
+    pub fn creator(&self, id: u32) -> Option<(usize, &'a Entry)> {
         for (number, entry) in self.trace.iter().enumerate() {
             if entry.made_id() == Some(id) {
                 return Some((number, entry));

@@ -20,7 +20,7 @@ pub fn made_up(
     found: &mut Candidates,
 ) -> Result<(), AllocError> {
     for id in resources {
-        match case.maker(*id) {
+        match case.creator(*id) {
             Some((number, Entry::Buffer { info, .. })) => {
                 let memory_type = type_at(case, info.place);
                 if memory_type != 0 && info.size <= MOST {
@@ -176,7 +176,7 @@ fn type_at(case: &Case<'_>, place: Place) -> u32 {
         Place::Pool { pool } | Place::PoolUpper { pool } => pool,
         Place::Memory { memory, .. } => memory,
     };
-    match case.maker(id) {
+    match case.creator(id) {
         Some((_, Entry::Memory { info, .. })) => info.memory_type,
         Some((_, Entry::Pool { info, .. })) => info.memory_type,
         _ => 0,

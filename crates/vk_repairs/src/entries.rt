@@ -85,8 +85,8 @@ pub fn usage(case: &Case<'_>, found: &mut Candidates) -> Result<(), AllocError> 
     for bits in [Usage::TRANSFER_SRC, Usage::TRANSFER_DST, Usage(3)] {
         let uses = uses_of(case.alloc, case.refused.action)?;
         for one in uses.as_slice() {
-            if let Some((number, maker)) = case.maker(one.resource) {
-                replaced(case, number, with_usage(maker, bits)?, found)?;
+            if let Some((number, creator)) = case.creator(one.resource) {
+                replaced(case, number, with_usage(creator, bits)?, found)?;
             }
         }
         all_usages(case, bits, found)?;
@@ -99,8 +99,8 @@ fn all_usages(case: &Case<'_>, bits: Usage, found: &mut Candidates) -> Result<()
     let uses = uses_of(case.alloc, case.refused.action)?;
     let mut edits = case.edits();
     for one in uses.as_slice() {
-        if let Some((number, maker)) = case.maker(one.resource) {
-            edits.replace(number, with_usage(maker, bits)?)?;
+        if let Some((number, creator)) = case.creator(one.resource) {
+            edits.replace(number, with_usage(creator, bits)?)?;
         }
     }
     found.add(edits)

@@ -113,7 +113,7 @@ fn with_image_regions(command: &Cmd, regions: Sequence<ImageCopy>) -> Option<Cmd
 fn cut(case: &Case<'_>, command: &Cmd) -> Result<Option<Cmd>, AllocError> {
     match command {
         Cmd::CopyIn { image, regions, .. } | Cmd::CopyOut { image, regions, .. } => {
-            let Some((_, Entry::Image { info, .. })) = case.maker(*image) else {
+            let Some((_, Entry::Image { info, .. })) = case.creator(*image) else {
                 return Ok(None);
             };
             let mut all = Vec::new(case.alloc);
@@ -128,10 +128,10 @@ fn cut(case: &Case<'_>, command: &Cmd) -> Result<Option<Cmd>, AllocError> {
             regions,
             ..
         } => {
-            let Some((_, Entry::Image { info: from, .. })) = case.maker(*source) else {
+            let Some((_, Entry::Image { info: from, .. })) = case.creator(*source) else {
                 return Ok(None);
             };
-            let Some((_, Entry::Image { info: to, .. })) = case.maker(*destination) else {
+            let Some((_, Entry::Image { info: to, .. })) = case.creator(*destination) else {
                 return Ok(None);
             };
             let mut all = Vec::new(case.alloc);

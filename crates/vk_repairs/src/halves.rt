@@ -88,7 +88,7 @@ pub fn whole_half(
     destination: Scope,
 ) -> Option<Element> {
     let dependency = between(source, destination);
-    match case.maker(id) {
+    match case.creator(id) {
         Some((_, Entry::Buffer { .. })) => Some(Element::Buffer(BufferElement {
             dependency,
             families,

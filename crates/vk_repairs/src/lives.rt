@@ -10,7 +10,7 @@ use vk_model::Entry;
 pub fn live_id(case: &Case<'_>, found: &mut Candidates) -> Result<(), AllocError> {
     let all = ids_of(case.alloc, case.refused.action)?;
     for one in all.as_slice() {
-        match case.maker(one.id) {
+        match case.creator(one.id) {
             Some((number, entry)) if number > case.refused.entry => {
                 made_earlier(case, number, entry, found)?;
             }

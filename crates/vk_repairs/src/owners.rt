@@ -73,7 +73,7 @@ fn whole_image(case: &Case<'_>, element: ImageElement) -> ImageElement {
     if element.families.source == element.families.destination {
         return element;
     }
-    match case.maker(element.image) {
+    match case.creator(element.image) {
         Some((_, Entry::Image { info, .. })) => ImageElement {
             range: all_of(info),
             ..element

@@ -115,7 +115,7 @@ pub fn is_transition(element: &Element) -> bool {
 
 /// Whether one family at a time owns a resource.
 pub fn is_exclusive(case: &Case<'_>, resource: u32) -> bool {
-    match case.maker(resource) {
+    match case.creator(resource) {
         Some((_, Entry::Buffer { info, .. })) => matches!(info.sharing, Sharing::Exclusive),
         Some((_, Entry::Image { info, .. })) => matches!(info.sharing, Sharing::Exclusive),
         _ => false,

@@ -10,7 +10,7 @@ const MOST_STARTS: usize = 36;
 /// Other memory types: of what the entry makes, or of what is mapped.
 pub fn memory_type(case: &Case<'_>, found: &mut Candidates) -> Result<(), AllocError> {
     let number = match case.refused.action {
-        Action::Host(Entry::Map { buffer }) => case.maker(*buffer),
+        Action::Host(Entry::Map { buffer }) => case.creator(*buffer),
         Action::Host(_) => case
             .trace
             .get(case.refused.entry)
@@ -22,8 +22,8 @@ pub fn memory_type(case: &Case<'_>, found: &mut Candidates) -> Result<(), AllocE
     };
     for memory_type in [1, 0, 2] {
         replaced(case, number, with_type(entry, memory_type)?, found)?;
-        if let Some((memory, maker)) = case.maker(memory_of(entry)) {
-            replaced(case, memory, with_type(maker, memory_type)?, found)?;
+        if let Some((memory, creator)) = case.creator(memory_of(entry)) {
+            replaced(case, memory, with_type(creator, memory_type)?, found)?;
         }
     }
     dedicated(case, number, entry, found)
@@ -85,11 +85,11 @@ fn with_place(entry: &Entry, id: u32, place: Place) -> Result<Entry, AllocError>
 
 /// The entry that puts a buffer into memory that the host sees, and its number.
 pub fn visible(case: &Case<'_>, buffer: u32) -> Result<Option<(usize, Entry)>, AllocError> {
-    let Some((number, entry)) = case.maker(buffer) else {
+    let Some((number, entry)) = case.creator(buffer) else {
         return Ok(None);
     };
-    if let Some((memory, maker)) = case.maker(memory_of(entry)) {
-        return Ok(Some((memory, with_type(maker, 1)?)));
+    if let Some((memory, creator)) = case.creator(memory_of(entry)) {
+        return Ok(Some((memory, with_type(creator, 1)?)));
     }
     Ok(Some((number, with_type(entry, 1)?)))
 }
@@ -201,7 +201,7 @@ fn larger_memory(
     memory: u32,
     found: &mut Candidates,
 ) -> Result<(), AllocError> {
-    let Some((number, Entry::Memory { id, info })) = case.maker(memory) else {
+    let Some((number, Entry::Memory { id, info })) = case.creator(memory) else {
         return Ok(());
     };
     let mut size = info.size;
@@ -234,7 +234,7 @@ pub fn pool_size(case: &Case<'_>, found: &mut Candidates) -> Result<(), AllocErr
     let Action::Host(entry) = case.refused.action else {
         return Ok(());
     };
-    let Some((number, Entry::Pool { id, info })) = case.maker(memory_of(entry)) else {
+    let Some((number, Entry::Pool { id, info })) = case.creator(memory_of(entry)) else {
         return Ok(());
     };
     let mut block_size = info.block_size;
@@ -262,7 +262,7 @@ pub fn pool_kind(case: &Case<'_>, found: &mut Candidates) -> Result<(), AllocErr
         let lower = with_place(entry, id, Place::Pool { pool })?;
         replaced(case, case.refused.entry, lower, found)?;
     }
-    if let Some((number, Entry::Pool { id, info })) = case.maker(pool) {
+    if let Some((number, Entry::Pool { id, info })) = case.creator(pool) {
         let linear = Entry::Pool {
             id: *id,
             info: PoolInfo {

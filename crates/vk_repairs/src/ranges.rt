@@ -49,7 +49,7 @@ fn shorter_read(
     offset: u64,
     found: &mut Candidates,
 ) -> Result<(), AllocError> {
-    if let Some((_, Entry::Buffer { info, .. })) = case.maker(buffer) {
+    if let Some((_, Entry::Buffer { info, .. })) = case.creator(buffer) {
         let size = info.size.saturating_sub(offset);
         let read = Entry::Read {
             buffer,
@@ -161,7 +161,7 @@ fn tight(
 pub fn larger_buffers(case: &Case<'_>, found: &mut Candidates) -> Result<(), AllocError> {
     let uses = uses_of(case.alloc, case.refused.action)?;
     for one in uses.as_slice() {
-        if let Some((number, Entry::Buffer { id, info })) = case.maker(one.resource) {
+        if let Some((number, Entry::Buffer { id, info })) = case.creator(one.resource) {
             let mut size = info.size;
             for _ in 0..8 {
                 size = size.saturating_mul(2);
@@ -225,7 +225,7 @@ fn element_within(case: &Case<'_>, element: Element) -> Element {
 }
 
 fn range_within(case: &Case<'_>, image: u32, range: SubresourceRange) -> SubresourceRange {
-    match case.maker(image) {
+    match case.creator(image) {
         Some((_, Entry::Image { info, .. })) => clamped(info, range),
         _ => range,
     }

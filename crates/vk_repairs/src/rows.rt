@@ -21,7 +21,7 @@ pub struct Rows {
 
 /// The bytes of a texel of an image; 1 where nothing makes it.
 pub fn texel_bytes(case: &Case<'_>, image: u32) -> u64 {
-    match case.maker(image) {
+    match case.creator(image) {
         Some((_, Entry::Image { info, .. })) => texel_size(info.format) as u64,
         _ => 1,
     }

@@ -57,9 +57,9 @@ module _ (k : ℕ) where
   only (entry.Defrag i q b m) h = refl
   only _ h = absurd cc
 
-  makers : (y : Entry) → is_some (defrag_in y) ≡ true → is_some (made_by y) ≡ true
-  makers (entry.Defrag i q b m) h = refl
-  makers _ h = absurd cc
+  creators : (y : Entry) → is_some (defrag_in y) ≡ true → is_some (made_by y) ≡ true
+  creators (entry.Defrag i q b m) h = refl
+  creators _ h = absurd cc
 
   no_memory : (y : Entry) → is_memory y ≡ true → of_pool (Some y) ≡ false
   no_memory (entry.Memory i m) h = refl
@@ -88,7 +88,7 @@ module _ (k : ℕ) where
 
     host_pools : (x : Entry) → p.action ≡ Host x → (old new : ℕ) → old ≡ count_by (is_of_pool past k) (passes.defrags past) → new ≡ old + cond (of_pool (Some x)) 1 0 - ended_here x → new ≡ count_by (is_of_pool (p ∷ past) k) (passes.defrags (p ∷ past))
     host_pools x is old new was now =
-        let next = count_next past p j x is defrag_in makers of_pool refl only in
+        let next = count_next past p j x is defrag_in creators of_pool refl only in
         let same = ended_count x is in
         let before = pool_count past in
         let after = pool_count (p ∷ past) in

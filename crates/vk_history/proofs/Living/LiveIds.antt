@@ -250,7 +250,7 @@ module _ (past : Past) (p : Point) (j : IsJudged (p ∷ past)) where
       live_apart = apart_filter (lives past) (ids past) (ids_apart past (λ b q c. all_new b q (older c)))
 
       -- how many live objects of the kind pass a test that only such objects pass
-      module _ (makers : (y : Entry) → is_some (kind y) ≡ true → is_some (made_by y) ≡ true) (test : Option Entry → Bool) (none : test None ≡ false) (only : (y : Entry) → test (Some y) ≡ true → is_some (kind y) ≡ true) where
+      module _ (creators : (y : Entry) → is_some (kind y) ≡ true → is_some (made_by y) ≡ true) (test : Option Entry → Bool) (none : test None ≡ false) (only : (y : Entry) → test (Some y) ≡ true → is_some (kind y) ≡ true) where
         abbrev passes : Past → ℕ → Bool
         passes b i = test (made b i)
 
@@ -277,7 +277,7 @@ module _ (past : Past) (p : Point) (j : IsJudged (p ∷ past)) where
             by_kind false k o by left =
                 let fails : test (Some x) ≡ false = false_from_ne_true (test (Some x)) (λ h. clash (only x h) k) in
                 rw fails (let same = same_old in omega (arith, left, same))
-            by_kind true k None by left = absurd (let some = makers x k in let bad : false ≡ true = rw by at some in cc)
+            by_kind true k None by left = absurd (let some = creators x k in let bad : false ≡ true = rw by at some in cc)
             by_kind true k (Some i) by left =
                 let first = count-cons (passes (p ∷ past)) i stay in
                 let passes_here : ◌≡◌ {A = ℕ} (cond (passes (p ∷ past) i) 1 0) (cond (test (Some x)) 1 0) = ap (λ (o : Option Entry). cond (test o) 1 0) (made_new i by) in

@@ -23,7 +23,7 @@ use Rattle.vk_laws.proofs.Nodes.Steady.{made_until, new_ids, IsNew}
 use Rattle.vk_order.specs.declared.point.Action.{Action as AnyAction}
 use Rattle.vk_order.specs.declared.point.Action.TheVariants as action
 use Rattle.vk_order.specs.PointViews.{action_of}
-use Rattle.vk_history.specs.Made.{Numbered, makes, last_maker, earlier_than}
+use Rattle.vk_history.specs.Made.{Numbered, makes, last_creator, earlier_than}
 
 -- a point of a batch is no host entry
 pub no_host : (a : AnyAction) → ((x : _) → a ≡ action.Host x → ⊥) → host_of (action_of a) ≡ None
@@ -32,36 +32,36 @@ no_host (action.Wait s) none = refl
 no_host (action.Run c) none = refl
 no_host (action.Signal s) none = refl
 
--- what made an id is the last maker's entry
-pub made_is : (past : Past) (i : ℕ) → made past i ≡ option_map (λ m. m.entry) (last_maker past i)
+-- what made an id is the last creator's entry
+pub made_is : (past : Past) (i : ℕ) → made past i ≡ option_map (λ m. m.entry) (last_creator past i)
 made_is [] i = refl
 made_is (p ∷ past) i = go (host_of p.action) (made_is past i) where
-  pick : (x : Entry) (t : Bool) → made past i ≡ option_map (λ m. m.entry) (last_maker past i)
-      → cond t (Some x) (made past i) ≡ option_map (λ m. m.entry) (option_or (if t then Some (record { entry = x; number = p.entry }) else None) (last_maker past i))
+  pick : (x : Entry) (t : Bool) → made past i ≡ option_map (λ m. m.entry) (last_creator past i)
+      → cond t (Some x) (made past i) ≡ option_map (λ m. m.entry) (option_or (if t then Some (record { entry = x; number = p.entry }) else None) (last_creator past i))
   pick x true rest = refl
   pick x false rest = rest
 
-  go : (o : Option Entry) → made past i ≡ option_map (λ m. m.entry) (last_maker past i)
-      → find (λ x. holds (made_by x) (λ j. i == j)) (cons_option o (entries past)) ≡ option_map (λ m. m.entry) (option_or (option_and_then (makes i p.entry) o) (last_maker past i))
+  go : (o : Option Entry) → made past i ≡ option_map (λ m. m.entry) (last_creator past i)
+      → find (λ x. holds (made_by x) (λ j. i == j)) (cons_option o (entries past)) ≡ option_map (λ m. m.entry) (option_or (option_and_then (makes i p.entry) o) (last_creator past i))
   go None rest = rest
   go (Some x) rest = pick x (holds (made_by x) (λ j. i == j)) rest
 
--- a maker is one of the entries so far
-pub maker_below : (past : Past) → IsOrdered past → (i : ℕ) (m : Numbered) → last_maker past i ≡ Some m → m.number < length (entries past)
-maker_below [] o i m is = absurd cc
-maker_below (p ∷ past) o i m is = go p.action refl o.0 is (maker_below past o.1 i m) where
-  one : (x : Entry) (t : Bool) → p ≡ host (length (entries past)) x → option_or (if t then Some (record { entry = x; number = p.entry }) else None) (last_maker past i) ≡ Some m → (last_maker past i ≡ Some m → m.number < length (entries past)) → m.number < length (x ∷ entries past)
+-- a creator is one of the entries so far
+pub creator_below : (past : Past) → IsOrdered past → (i : ℕ) (m : Numbered) → last_creator past i ≡ Some m → m.number < length (entries past)
+creator_below [] o i m is = absurd cc
+creator_below (p ∷ past) o i m is = go p.action refl o.0 is (creator_below past o.1 i m) where
+  one : (x : Entry) (t : Bool) → p ≡ host (length (entries past)) x → option_or (if t then Some (record { entry = x; number = p.entry }) else None) (last_creator past i) ≡ Some m → (last_creator past i ≡ Some m → m.number < length (entries past)) → m.number < length (x ∷ entries past)
   one x true f e rest = let n : p.entry ≡ length (entries past) = ap (λ (q : Point). q.entry) f in let same : p.entry ≡ m.number = cc in omega (arith, n, same)
   one x false f e rest = let lt = rest e in omega (arith, lt)
 
-  go : (d : Action) → p.action ≡ d → Follows past p d → option_or (option_and_then (makes i p.entry) (host_of d)) (last_maker past i) ≡ Some m → (last_maker past i ≡ Some m → m.number < length (entries past)) → m.number < length (cons_option (host_of d) (entries past))
+  go : (d : Action) → p.action ≡ d → Follows past p d → option_or (option_and_then (makes i p.entry) (host_of d)) (last_creator past i) ≡ Some m → (last_creator past i ≡ Some m → m.number < length (entries past)) → m.number < length (cons_option (host_of d) (entries past))
   go (Host x) is f e rest = one x (holds (made_by x) (λ j. i == j)) f e rest
   go (Wait s) is f e rest = rest e
   go (Run c) is f e rest = rest e
   go (Signal s) is f e rest = rest e
 
 abbrev Judges : Past → ℕ → ℕ → Type 0
-Judges past e i = made (until e past) i ≡ option_and_then (earlier_than e) (last_maker past i)
+Judges past e i = made (until e past) i ≡ option_and_then (earlier_than e) (last_creator past i)
 
 module _ (e i : ℕ) (q : ℕ) (bs : List Batch) where
   abbrev submit : Point
@@ -82,7 +82,7 @@ module _ (e i : ℕ) (q : ℕ) (bs : List Batch) where
         let there : x ≡ entry.Submit q bs = (let a : Host x ≡ Host (entry.Submit q bs) = sym is ∙ ap (λ (r : Point). r.action) same in cc) in
         let number : p.entry ≡ e = ap (λ (r : Point). r.entry) same in
         let count : p.entry ≡ length (entries past) = ap (λ (r : Point). r.entry) f in
-        rw (is, there, eq-eqb p.entry e number) (made_is past i ∙ all_below (last_maker past i) (λ m at. let lt = maker_below past o.1 i m at in omega (arith, lt, number, count)))
+        rw (is, there, eq-eqb p.entry e number) (made_is past i ∙ all_below (last_creator past i) (λ m at. let lt = creator_below past o.1 i m at in omega (arith, lt, number, count)))
     by_host x is f (inr c) rest =
         let lt : e < length (entries past) = entry_below past o.1 submit c in
         let count : p.entry ≡ length (entries past) = ap (λ (r : Point). r.entry) f in
@@ -101,10 +101,10 @@ module _ (e i : ℕ) (q : ℕ) (bs : List Batch) where
                 let was : made past i ≡ Some y = made_until e past i y (λ b r comes h. new b r (older comes) h) at in
                 absurd (new past p newest (rw (is, by) (subst (λ k. is_some (made past k) ≡ true) (eqb-true i j same) (rw was refl))))
 
-          by_id : (u : Option ℕ) → made_by x ≡ u → made (until e past) i ≡ option_and_then (earlier_than e) (option_or (if holds u (λ j. i == j) then Some (record { entry = x; number = p.entry }) else None) (last_maker past i))
+          by_id : (u : Option ℕ) → made_by x ≡ u → made (until e past) i ≡ option_and_then (earlier_than e) (option_or (if holds u (λ j. i == j) then Some (record { entry = x; number = p.entry }) else None) (last_creator past i))
           by_id None by = rest c
           by_id (Some j) by = pick (i == j) refl where
-            pick : (t : Bool) → (i == j) ≡ t → made (until e past) i ≡ option_and_then (earlier_than e) (option_or (if t then Some (record { entry = x; number = p.entry }) else None) (last_maker past i))
+            pick : (t : Bool) → (i == j) ≡ t → made (until e past) i ≡ option_and_then (earlier_than e) (option_or (if t then Some (record { entry = x; number = p.entry }) else None) (last_creator past i))
             pick true same = rw late (unmade j by same)
             pick false same = rest c
 
@@ -118,7 +118,7 @@ module _ (e i : ℕ) (q : ℕ) (bs : List Batch) where
     go (Signal s) is f (inr c) rest = skip (Signal s) is refl (rest c)
 
 -- what is judged of a point of a batch was made before its submit
-pub judged_made : (past : Past) (p : Point) (i : ℕ) → fault past ≡ None → IsOrdered (p ∷ past) → host_of p.action ≡ None → made (judged_in past p) i ≡ option_and_then (earlier_than p.entry) (last_maker past i)
+pub judged_made : (past : Past) (p : Point) (i : ℕ) → fault past ≡ None → IsOrdered (p ∷ past) → host_of p.action ≡ None → made (judged_in past p) i ≡ option_and_then (earlier_than p.entry) (last_creator past i)
 judged_made past p i none o quiet =
     let f = is_of_batch past p p.action quiet o.0 in
     rw quiet (judges p.entry i p.queue f.batches past o.1 (new_ids past (unbroken_of_none past none)) f.submitted)

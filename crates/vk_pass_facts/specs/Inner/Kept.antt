@@ -7,8 +7,8 @@ use Rattle.vk_model.specs.Trace.Point.{Past, Point, entries, host_of}
 use Rattle.vk_model.specs.Trace.Objects as objects
 use Rattle.vk_model.specs.Trace.Objects.{made_by, defrag_in}
 use Rattle.vk_model.specs.Rules.Passes.{pool_of_defrag}
-use Rattle.vk_past.specs.declared.makers.Makers.{Makers}
-use Rattle.vk_past.specs.Makers.{AreMakers}
+use Rattle.vk_past.specs.declared.creators.Creators.{Creators}
+use Rattle.vk_past.specs.Creators.{AreCreators}
 use Rattle.vk_pass_facts.specs.declared.ended.Ended.{Ended}
 use Rattle.vk_pass_facts.specs.declared.objects.Objects.{Objects}
 use Rattle.vk_pass_facts.specs.declared.defrags.OpenDefrag.{OpenDefrag}
@@ -20,7 +20,7 @@ AreEnded e past = (i : ℕ) → contains nat_cmp e.ids i ≡ objects.ended past 
 
 -- Both are those of a past.
 pub record AreObjects (o : Objects) (past : Past) : Type 0 where
-  pub makers : AreMakers o.makers past
+  pub creators : AreCreators o.creators past
   pub ended : AreEnded o.ended past
 
 -- The id that a point makes.

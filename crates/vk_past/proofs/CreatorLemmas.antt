@@ -6,7 +6,7 @@ use Rattle.vk_model.specs.declared.entry.Entry.{Entry}
 use Rattle.vk_model.specs.Basics.{holds}
 use Rattle.vk_model.specs.Trace.Point.{Past, Point, host_of, entries, on_host}
 use Rattle.vk_model.specs.Trace.Objects.{made, made_by}
-use Rattle.vk_past.specs.Makers.{maker}
+use Rattle.vk_past.specs.Creators.{creator}
 
 -- the entry of the newest point that passes a test is the newest entry that does
 pub newest_entry : (f : Entry → Bool) (past : Past) → option_and_then (λ (q : Point). host_of q.action) (find (on_host f) past) ≡ find f (entries past)
@@ -23,6 +23,6 @@ newest_entry f (p ∷ past) = go (host_of p.action) refl (newest_entry f past)
     go None e rest = rest
     go (Some x) e rest = by x (f x) e rest
 
--- the entry that made an id is that of its maker
-pub made_is : (past : Past) (i : ℕ) → option_and_then (λ (p : Point). host_of p.action) (maker past i) ≡ made past i
+-- the entry that made an id is that of its creator
+pub made_is : (past : Past) (i : ℕ) → option_and_then (λ (p : Point). host_of p.action) (creator past i) ≡ made past i
 made_is past i = newest_entry (λ x. holds (made_by x) (λ j. i == j)) past

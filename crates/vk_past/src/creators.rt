@@ -4,7 +4,7 @@ ghost use Rattle.std.specs.BTreeMap.{get};
 ghost use Rattle.vk_model.specs.Trace.Point.{Past};
 ghost use Rattle.vk_model.specs.Trace.Objects.{made, buffer, image, memory, pool, type_at, type_of, is_cached};
 ghost use Rattle.vk_order.specs.PointViews.{point_of};
-ghost use Rattle.vk_past.specs.Makers.{AreMakers, maker};
+ghost use Rattle.vk_past.specs.Creators.{AreCreators, creator};
 
 use crate::doings::entry_of;
 use std::alloc::{AllocError, Global};
@@ -14,32 +14,32 @@ use vk_order::{Action, Point};
 
 /// The point that made each id, the last one where there are several.
 #[derive(Drop)]
-pub struct Makers<'a> {
+pub struct Creators<'a> {
     by_id: BTreeMap<u32, Point<'a>>,
 }
 
-impl<'a> Makers<'a> {
+impl<'a> Creators<'a> {
     /// Before the first point.
-    pub fn new(alloc: Global) -> Makers<'a>
-        ensures { AreMakers result [] }
+    pub fn new(alloc: Global) -> Creators<'a>
+        ensures { AreCreators result [] }
     {
-        Makers {
+        Creators {
             by_id: BTreeMap::new(alloc),
         }
     }
 
     /// The point that made an id.
-    pub fn maker(&self, id: u32) -> Option<Point<'a>>
-        ensures { (past : Past) → AreMakers self.now past → option_map point_of result ≡ maker past id }
+    pub fn creator(&self, id: u32) -> Option<Point<'a>>
+        ensures { (past : Past) → AreCreators self.now past → option_map point_of result ≡ creator past id }
     {
         self.by_id.get(&id).copied()
     }
 
     /// The entry that made an id.
     pub fn made(&self, id: u32) -> Option<&'a Entry>
-        ensures { (past : Past) → AreMakers self.now past → option_map (λ x. x.now) result ≡ made past id }
+        ensures { (past : Past) → AreCreators self.now past → option_map (λ x. x.now) result ≡ made past id }
     {
-        match self.maker(id) {
+        match self.creator(id) {
             Some(point) => entry_of(&point),
             None => None,
         }
@@ -47,7 +47,7 @@ impl<'a> Makers<'a> {
 
     /// The buffer of an id.
     pub fn buffer(&self, id: u32) -> Option<BufferInfo>
-        ensures { (past : Past) → AreMakers self.now past → result ≡ buffer past id }
+        ensures { (past : Past) → AreCreators self.now past → result ≡ buffer past id }
     {
         match self.made(id) {
             Some(Entry::Buffer { info, .. }) => Some(*info),
@@ -57,7 +57,7 @@ impl<'a> Makers<'a> {
 
     /// The image of an id.
     pub fn image(&self, id: u32) -> Option<ImageInfo>
-        ensures { (past : Past) → AreMakers self.now past → result ≡ image past id }
+        ensures { (past : Past) → AreCreators self.now past → result ≡ image past id }
     {
         match self.made(id) {
             Some(Entry::Image { info, .. }) => Some(*info),
@@ -67,7 +67,7 @@ impl<'a> Makers<'a> {
 
     /// The memory type of a pool.
     fn pool_type(&self, id: u32) -> Option<u32>
-        ensures { (past : Past) → AreMakers self.now past → result ≡ option_map (λ x. x.memory_type) (pool past id) }
+        ensures { (past : Past) → AreCreators self.now past → result ≡ option_map (λ x. x.memory_type) (pool past id) }
     {
         match self.made(id) {
             Some(Entry::Pool { info, .. }) => Some(info.memory_type),
@@ -77,7 +77,7 @@ impl<'a> Makers<'a> {
 
     /// The memory type of a memory object.
     fn object_type(&self, id: u32) -> Option<u32>
-        ensures { (past : Past) → AreMakers self.now past → result ≡ option_map (λ x. x.memory_type) (memory past id) }
+        ensures { (past : Past) → AreCreators self.now past → result ≡ option_map (λ x. x.memory_type) (memory past id) }
     {
         match self.made(id) {
             Some(Entry::Memory { info, .. }) => Some(info.memory_type),
@@ -87,7 +87,7 @@ impl<'a> Makers<'a> {
 
     /// The memory type of a place; none where its pool or memory object was never made.
     fn type_at(&self, place: Place) -> Option<u32>
-        ensures { (past : Past) → AreMakers self.now past → result ≡ type_at past place }
+        ensures { (past : Past) → AreCreators self.now past → result ≡ type_at past place }
     {
         match place {
             Place::Dedicated { memory_type } => Some(memory_type),
@@ -99,7 +99,7 @@ impl<'a> Makers<'a> {
 
     /// The memory type of a resource.
     fn type_of(&self, id: u32) -> Option<u32>
-        ensures { (past : Past) → AreMakers self.now past → result ≡ type_of past id }
+        ensures { (past : Past) → AreCreators self.now past → result ≡ type_of past id }
     {
         match self.made(id) {
             Some(Entry::Buffer { info, .. }) => self.type_at(info.place),
@@ -110,7 +110,7 @@ impl<'a> Makers<'a> {
 
     /// Whether the host reaches a resource through a cache: it is in memory of type 2.
     pub fn is_cached(&self, id: u32) -> bool
-        ensures { (past : Past) → AreMakers self.now past → result ≡ is_cached past id }
+        ensures { (past : Past) → AreCreators self.now past → result ≡ is_cached past id }
     {
         match self.type_of(id) {
             Some(memory_type) => memory_type == 2,
@@ -120,7 +120,7 @@ impl<'a> Makers<'a> {
 
     /// Takes the next point.
     pub fn note(&mut self, point: &Point<'a>) -> Result<(), AllocError>
-        ensures { OnOk result ((past : Past) → AreMakers self.old past → AreMakers self.new (point_of point.now ∷ past)) }
+        ensures { OnOk result ((past : Past) → AreCreators self.old past → AreCreators self.new (point_of point.now ∷ past)) }
     {
         match point.action {
             Action::Host(entry) => match entry.made_id() {

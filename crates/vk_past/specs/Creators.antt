@@ -7,16 +7,16 @@ use Rattle.vk_model.specs.Basics.{holds}
 use Rattle.vk_model.specs.Trace.Point.{Past, Point, on_host}
 use Rattle.vk_model.specs.Trace.Objects.{made_by}
 use Rattle.vk_order.specs.PointViews.{point_of}
-use Rattle.vk_past.specs.declared.makers.Makers.{Makers}
+use Rattle.vk_past.specs.declared.creators.Creators.{Creators}
 
 -- Whether a point makes an id.
 abbrev pub makes : ℕ → Point → Bool
 makes i p = on_host (λ x. holds (made_by x) (λ j. i == j)) p
 
 -- The newest point that makes an id: the entry there is the object (profile).
-abbrev pub maker : Past → ℕ → Option Point
-maker past i = find (makes i) past
+abbrev pub creator : Past → ℕ → Option Point
+creator past i = find (makes i) past
 
 -- The points that are kept are those that made each id.
-abbrev pub AreMakers : Makers → Past → Type 0
-AreMakers makers past = (i : ℕ) → option_map point_of (get nat_cmp makers.by_id i) ≡ maker past i
+abbrev pub AreCreators : Creators → Past → Type 0
+AreCreators creators past = (i : ℕ) → option_map point_of (get nat_cmp creators.by_id i) ≡ creator past i
