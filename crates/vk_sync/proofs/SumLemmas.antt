@@ -1,6 +1,6 @@
 -- Sums over 64 elements in a row, and what a change of one element makes of them.
 use Rattle.std.proofs.Common.{◌≡◌, ◌<◌, ◌≤◌, ◌+◌, ◌*◌, ◌/◌, ℕ, List, [], ◌∷◌, ◌++◌, length, refl, ap, ◌∙◌, sym, inl, inr, arith, get_or, set}
-use Rattle.std.specs.Prelude.{take, sum}
+use Rattle.std.specs.Prelude.{take, sum, min}
 use Rattle.std.specs.List.{sum_by}
 use Rattle.std.proofs.Math.Seq.{take-set-lt, take-length}
 use Rattle.std.proofs.lemmas.List.{take-set-le, take_all, get_or-take, length-set, length-take, take-append-le, length_push, take-take}
@@ -119,3 +119,18 @@ in_block leaves groups blocks total leaf t lt =
 -- The sums of the sums are the sum of all.
 pub sum_of_blocks : (leaves groups blocks : List ℕ) (total : ℕ) → IsTree leaves groups blocks total → sum blocks ≡ sum leaves
 sum_of_blocks leaves groups blocks total t = let id = λ (x : ℕ). x in sum_of_sums id blocks groups t.by_block ∙ sum_of_sums id groups leaves t.by_group
+
+-- Where the numbers before one are all 0, those are that come before a changed number too.
+pub zeros_before : (xs : List ℕ) (first leaf y : ℕ) → sum (take first xs) ≡ 0 → sum (take (min first leaf) (set xs leaf y)) ≡ 0
+zeros_before xs first leaf y zeros =
+    let id = λ (x : ℕ). x in
+    omega (arith, sum_past id xs (min first leaf) leaf y (omega arith), sum_grows id xs (min first leaf) first (omega arith))
+
+-- They stay so where a number gets less.
+pub zeros_less : (xs : List ℕ) (first leaf y : ℕ) → leaf < length xs → y ≤ get_or xs leaf 0 → sum (take first xs) ≡ 0 → sum (take first (set xs leaf y)) ≡ 0
+zeros_less xs first leaf y there less zeros =
+    let id = λ (x : ℕ). x in
+    elim (cases_lt leaf first) [
+      | inl lt ↦ omega (arith, sum_within id xs first leaf y 0 lt there)
+      | inr le ↦ sum_past id xs first leaf y le ∙ zeros
+    ]

@@ -77,6 +77,7 @@ impl Board {
         let queue = command.queue as usize;
         command.left.remove(piece.index);
         self.counts.subtract(piece.command, 1);
+        self.counts.skip_zero();
         self.settle(queue);
     }
 

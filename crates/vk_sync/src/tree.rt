@@ -19,24 +19,28 @@ pub(crate) struct Place {
 /// Numbers, with their sums by 64 and by 4,096. Contracts see the list of the numbers.
 ///
 /// A change costs three sums. A search goes past at most 64 numbers, 64 sums of 64, and the sums of
-/// 4,096: of those there are 32 where there are 131,072 numbers.
+/// 4,096: of those there are 32 where there are 131,072 numbers. Where numbers become 0 from the first
+/// one on, as they do when commands are run one after another, it ends at once.
 #[derive(Drop)]
 pub(crate) struct SumTree {
     leaves: Vec<u64>,
     groups: Vec<u64>,
     blocks: Vec<u64>,
     total: u64,
+    /// All numbers before this one are 0.
+    first: usize,
 }
 
 impl Model for SumTree {
-    ghost use Rattle.std.specs.Prelude.{List, ℕ};
+    ghost use Rattle.std.specs.Prelude.{List, ℕ, ◌≡◌, sum, take};
     ghost use Rattle.vk_sync.specs.Inner.Sums.{IsTree};
 
     ghost Value = { List ℕ };
 
     ghost view = { λ t. t.leaves.items };
 
-    ghost invariant = { λ t. IsTree t.leaves.items t.groups.items t.blocks.items t.total };
+    ghost invariant = { λ t. IsTree t.leaves.items t.groups.items t.blocks.items t.total
+        × (sum (take t.first t.leaves.items) ≡ 0) };
 }
 
 impl SumTree {
@@ -49,6 +53,7 @@ impl SumTree {
             groups: Vec::new(alloc),
             blocks: Vec::new(alloc),
             total: 0,
+            first: 0,
         }
     }
 
@@ -82,6 +87,7 @@ impl SumTree {
         self.groups[group] += amount;
         self.blocks[block] += amount;
         self.total += amount;
+        self.first = self.first.min(leaf);
     }
 
     /// Takes from a number.
@@ -98,6 +104,15 @@ impl SumTree {
         self.total -= amount;
     }
 
+    /// Where no number before one is more than 0, and neither is this one, searches begin after it.
+    pub(crate) fn skip_zero(&mut self)
+        ensures { self.new ≡ self.old }
+    {
+        if self.first < self.leaves.len() && self.leaves[self.first] == 0 {
+            self.first += 1;
+        }
+    }
+
     /// Where a place is, counted through all numbers.
     pub(crate) fn find(&self, place: u64) -> Place
         requires { place < sum self.now }
@@ -105,6 +120,12 @@ impl SumTree {
         ensures before { sum (take result.leaf self.now) + result.rest ≡ place }
         ensures within { result.rest < slice_index self.now result.leaf }
     {
+        if self.first < self.leaves.len() && place < self.leaves[self.first] {
+            return Place {
+                leaf: self.first,
+                rest: place,
+            };
+        }
         let block = walk(self.blocks.as_slice(), 0, place);
         let group = walk(self.groups.as_slice(), block.leaf * FANOUT, block.rest);
         walk(self.leaves.as_slice(), group.leaf * FANOUT, group.rest)

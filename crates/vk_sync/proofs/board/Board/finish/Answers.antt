@@ -79,7 +79,7 @@ settle-requires-clause-loose c =
     let counted = counted_of cs b.lines b.done b.free b.counts _ _ piece.command now fronts.loose r.has_command r.free_is in
     let some = r.has.1 in
     let n = get_or b.counts piece.command 0 - 1 in
-    rw c.subtract.ensures (ran cs now.queue _ piece.command now c.remove.new.self r.has_command b.lines b.done b.free b.counts fronts.loose n r.free_is c.remove.ensures.len (omega (arith, counted)))
+    rw (c.skip_zero.ensures ∙ c.subtract.ensures) (ran cs now.queue _ piece.command now c.remove.new.self r.has_command b.lines b.done b.free b.counts fronts.loose n r.free_is c.remove.ensures.len (omega (arith, counted)))
 
 pub settle-requires-clause-others : goal.settle-requires-clause-others
 settle-requires-clause-others c =

@@ -6,5 +6,5 @@ use Rattle.vk_sync.proofs.tree.SumTree.find.Goals as goal
 pub walk-block-requires : goal.walk-block-requires
 walk-block-requires c =
     let t = c.self.inside in
-    let e : sum c.as_slice.result.now ≡ sum c.args.self.now = ap sum c.as_slice.ensures.value ∙ sum_of_blocks t.leaves.items t.groups.items t.blocks.items t.total c.self.invariant ∙ ap sum c.self.view_is in
+    let e : sum c.as_slice.result.now ≡ sum c.args.self.now = ap sum c.as_slice.ensures.value ∙ sum_of_blocks t.leaves.items t.groups.items t.blocks.items t.total c.self.invariant.0 ∙ ap sum c.self.view_is in
     omega (arith, e)

@@ -1,12 +1,12 @@
 use Rattle.std.proofs.Common.{arith, get_or, ◌<◌, ◌≤◌, ◌/◌, ℕ, length}
 use Rattle.std.proofs.lemmas.List.{get_or_read}
 use Rattle.std.proofs.lemmas.List.Sums.{get_or-le-sum_by}
-use Rattle.vk_sync.proofs.SumLemmas.{tree_changes, has_sum, in_group, in_block}
+use Rattle.vk_sync.proofs.SumLemmas.{tree_changes, has_sum, in_group, in_block, zeros_less}
 use Rattle.vk_sync.proofs.tree.SumTree.subtract.Goals as goal
 
 pub overflow_sub-index_mut-2 : goal.overflow_sub-index_mut-2
 overflow_sub-index_mut-2 c =
-    let t = c.self.invariant in
+    let t = c.self.invariant.0 in
     let leaves = c.self.inside.leaves.items in
     let groups = c.self.inside.groups.items in
     let leaf = c.args.leaf in
@@ -19,7 +19,7 @@ overflow_sub-index_mut-2 c =
 pub overflow_sub-index_mut-3 : goal.overflow_sub-index_mut-3
 overflow_sub-index_mut-3 c =
     let id = λ (x : ℕ). x in
-    let t = c.self.invariant in
+    let t = c.self.invariant.0 in
     let leaves = c.self.inside.leaves.items in
     let groups = c.self.inside.groups.items in
     let blocks = c.self.inside.blocks.items in
@@ -34,7 +34,7 @@ overflow_sub-index_mut-3 c =
 pub invariant_of-self : goal.invariant_of-self
 invariant_of-self c =
     let id = λ (x : ℕ). x in
-    let t = c.self.invariant in
+    let t = c.self.invariant.0 in
     let leaves = c.self.inside.leaves.items in
     let groups = c.self.inside.groups.items in
     let blocks = c.self.inside.blocks.items in
@@ -49,4 +49,4 @@ invariant_of-self c =
     let ly = in_group leaves groups blocks c.self.inside.total leaf t lt in
     let lz = in_block leaves groups blocks c.self.inside.total leaf t lt in
     let lw = get_or-le-sum_by id leaves leaf 0 lt in
-    tree_changes leaves groups blocks c.self.inside.total leaf _ _ _ _ 0 c.args.amount t lt (omega arith) (omega arith) (omega arith) (omega (arith, t.all))
+    (tree_changes leaves groups blocks c.self.inside.total leaf _ _ _ _ 0 c.args.amount t lt (omega arith) (omega arith) (omega arith) (omega (arith, t.all)), zeros_less leaves c.self.inside.first leaf _ lt (omega arith) c.self.invariant.1)
