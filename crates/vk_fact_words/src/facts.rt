@@ -1,5 +1,4 @@
 ghost use Rattle.std.specs.Prelude.{◌≡◌, ◌++◌, OnOk, IfOk, string_bytes, codes};
-ghost use Rattle.vk_words.specs.Points.{kind_text};
 ghost use Rattle.vk_fact_words.specs.FactText as text;
 
 use std::alloc::{AllocError, Global};
@@ -7,7 +6,7 @@ use vk_facts::{CounterFact, Fact, HazardFact, Life, ObjectKind};
 use vk_model::{At, Entry};
 use vk_order::{Byte, Point};
 use vk_past::at_of;
-use vk_words::{point_words, push_at, push_number};
+use vk_words::{kind_name, point_words, push_at, push_number};
 
 /// Adds what is said of a fact.
 pub fn push_fact(out: &mut String, fact: &Fact<'_>) -> Result<(), AllocError>
@@ -208,18 +207,6 @@ fn push_called(out: &mut String, at: At) -> Result<(), AllocError>
 {
     out.push_str(kind_name(at))?;
     push_at(out, at)
-}
-
-/// What kind of point it is, and a space.
-fn kind_name(at: At) -> &'static str
-    ensures { result.now ≡ kind_text at }
-{
-    match at {
-        At::Entry(_) => "entry ",
-        At::Command(_, _, _) => "command ",
-        At::Wait(_, _, _) => "wait ",
-        At::Signal(_, _, _) => "signal ",
-    }
 }
 
 /// The line with a fact, where one is reported.

@@ -14,5 +14,5 @@ mod rules;
 pub use counts::push_count;
 pub use masks::push_mask;
 pub use names::{format_name, sharing_name, tiling_name};
-pub use points::{point_words, push_at, push_number};
+pub use points::{kind_name, point_words, push_at, push_number};
 pub use rules::sentence;

@@ -24,8 +24,8 @@ pub fn point_words(alloc: Global, trace: &[Entry], at: At) -> Result<String, All
     Ok(words)
 }
 
-/// What kind of point it is.
-fn kind_name(at: At) -> &'static str
+/// What kind of point it is, as `command`, with a space after it.
+pub fn kind_name(at: At) -> &'static str
     ensures { result.now ≡ kind_text at }
 {
     match at {
