@@ -16,7 +16,7 @@ use Rattle.vk_queues.specs.declared.lines.Candidate.{Candidate}
 use Rattle.vk_queues.specs.declared.tallies.Tally.{Tally}
 use Rattle.vk_queues.specs.declared.tallies.Tallies.{Tallies}
 use Rattle.vk_queues.specs.Inner.Tallied.{IsTallied, tally_at, after_entry}
-use Rattle.vk_queues.specs.Inner.Lined.{Queued, queued, batches_on, turns, count_of, IsLined, IsBest, AreAllMet, AreFirstMet}
+use Rattle.vk_queues.specs.Inner.Lined.{Queued, queued, batches_on, submissions, count_of, IsLined, IsBest, AreAllMet, AreFirstMet}
 use Rattle.vk_queues.specs.Inner.AreWaiting.{AreWaiting}
 use Rattle.vk_queues.proofs.Counting.{after_signals, tally_of_host, tally_of_started, met_once_started, met_after_host, makes_again}
 use Rattle.vk_queues.proofs.NextBatch.{without, rising_filter, rising_append}
@@ -97,24 +97,24 @@ entered_again t now lines fresh count e x f w step same met = record {
 
 -- what the choice of a line tells
 pub chosen_waiting : (t : Tallies) (old here new : List Line) (count : ℕ) (f : Front) (best : Option Candidate) → AreWaiting t old count f → here ≡ old → map queued new ≡ map queued here
-    → (AreAllMet f.past here → AreAllMet f.past new × IsBest (turns f.past (map queued here)) (length here) best) → AreWaiting t new count f × IsBest (turns f.past (map queued new)) (length new) best
+    → (AreAllMet f.past here → AreAllMet f.past new × IsBest (submissions f.past (map queued here)) (length here) best) → AreWaiting t new count f × IsBest (submissions f.past (map queued new)) (length new) best
 chosen_waiting t old here new count f best w is same next =
     let at = next (subst (AreAllMet f.past) (sym is) w.met) in (
       other_lines t old new count f w (subst (λ (v : List Queued). IsLined v f.waiting) (sym (same ∙ ap (map queued) is)) w.lined) at.0,
-      subst (λ (n : ℕ). IsBest (turns f.past (map queued new)) n best) (sym (length-map here queued) ∙ sym (ap length same) ∙ length-map new queued)
-          (subst (λ (v : List Queued). IsBest (turns f.past v) (length here) best) (sym same) at.1),
+      subst (λ (n : ℕ). IsBest (submissions f.past (map queued new)) n best) (sym (length-map here queued) ∙ sym (ap length same) ∙ length-map new queued)
+          (subst (λ (v : List Queued). IsBest (submissions f.past v) (length here) best) (sym same) at.1),
     )
 
 -- no line is ready
-pub idle_waiting : (t : Tallies) (lines : List Line) (count : ℕ) (f : Front) → AreWaiting t lines count f → IsBest (turns f.past (map queued lines)) (length lines) None
+pub idle_waiting : (t : Tallies) (lines : List Line) (count : ℕ) (f : Front) → AreWaiting t lines count f → IsBest (submissions f.past (map queued lines)) (length lines) None
     → (None ≡ next_batch f.past [] f.waiting) × AreWaiting t lines count (start_batch (next_batch f.past [] f.waiting) f)
 idle_waiting t lines count f w none =
-    let next : next_batch f.past [] f.waiting ≡ None = none_is_next f.past (map queued lines) f.waiting w.lined (subst (λ (n : ℕ). IsBest (turns f.past (map queued lines)) n None) (sym (length-map lines queued)) none) in
+    let next : next_batch f.past [] f.waiting ≡ None = none_is_next f.past (map queued lines) f.waiting w.lined (subst (λ (n : ℕ). IsBest (submissions f.past (map queued lines)) n None) (sym (length-map lines queued)) none) in
     (sym next, subst (λ (o : Option SubmittedBatch). AreWaiting t lines count (start_batch o f)) (sym next) w)
 
-module _ (t now : Tallies) (lines : List Line) (count : ℕ) (f : Front) (w : AreWaiting t lines count f) (c : Candidate) (best : IsBest (turns f.past (map queued lines)) (length lines) (Some c)) (l : Line) (at : slice_get lines c.line ≡ Some l) where
+module _ (t now : Tallies) (lines : List Line) (count : ℕ) (f : Front) (w : AreWaiting t lines count f) (c : Candidate) (best : IsBest (submissions f.past (map queued lines)) (length lines) (Some c)) (l : Line) (at : slice_get lines c.line ≡ Some l) where
   found : (b : SubmittedBatch) × (rest : List SubmittedBatch) × (batches_on l ≡ b ∷ rest) × (next_batch f.past [] f.waiting ≡ Some b)
-  found = best_is_next f.past (map queued lines) f.waiting w.lined w.rising c (subst (λ (n : ℕ). IsBest (turns f.past (map queued lines)) n (Some c)) (sym (length-map lines queued)) best) (queued l) (queued_at lines c.line l at)
+  found = best_is_next f.past (map queued lines) f.waiting w.lined w.rising c (subst (λ (n : ℕ). IsBest (submissions f.past (map queued lines)) n (Some c)) (sym (length-map lines queued)) best) (queued l) (queued_at lines c.line l at)
 
   pub some_batch : batches_on l ≡ [] → ⊥
   some_batch none = let is = found.2 in cc

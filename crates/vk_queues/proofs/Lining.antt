@@ -11,12 +11,12 @@ use Rattle.vk_model.specs.declared.entry.SemaphoreSubmit.{SemaphoreSubmit}
 use Rattle.vk_model.specs.Trace.Point.{Past}
 use Rattle.vk_model.specs.Trace.Order.{SubmittedBatch, is_met, next_batch, same_batch, batches_from, submitted_batch}
 use Rattle.vk_model.proofs.Lists.Members.{none_in, contains-cons, contains-head, filtered}
-use Rattle.vk_queues.specs.declared.lines.Turn.{Turn}
+use Rattle.vk_queues.specs.declared.lines.Submission.{Submission}
 use Rattle.vk_queues.specs.declared.lines.Line.{Line}
 use Rattle.vk_queues.specs.declared.lines.Candidate.{Candidate}
-use Rattle.vk_queues.specs.Inner.Lined.{Precedes, turn_of, IsRising, ready_turn, Queued, IsLined, IsBest, AreFirstMet, AreMet, AreAllMet, batches_on, queued, turns}
+use Rattle.vk_queues.specs.Inner.Lined.{Precedes, submission_of, IsRising, ready_submission, Queued, IsLined, IsBest, AreFirstMet, AreMet, AreAllMet, batches_on, queued, submissions}
 use Rattle.vk_queues.proofs.Lists.{set_cases, set_here, set_there, push_cases, push_old, get_below, filter_none, filter_each, filter_wider, filter_swap, list_all_wider}
-use Rattle.vk_queues.proofs.NextBatch.{on, without, without_first, none_next, some_next, rising_filter, one_of_turn}
+use Rattle.vk_queues.proofs.NextBatch.{on, without, without_first, none_next, some_next, rising_filter, one_of_submission}
 
 -- ---- one line changes
 
@@ -98,7 +98,7 @@ module _ (lines : List Queued) (k : ℕ) (v : Queued) (waiting : List SubmittedB
     other : (u : SubmittedBatch) → Contains waiting u → on q u ≡ true → same_batch t u ≡ false
     other u c of_q = go (same_batch t u) refl where
       go : (b : Bool) → same_batch t u ≡ b → b ≡ false
-      go true e = absurd (ne (sym (eqb-true u.queue q of_q) ∙ ap (λ (x : SubmittedBatch). x.queue) (one_of_turn waiting t u rising its_place.0 c e) ∙ its_queue))
+      go true e = absurd (ne (sym (eqb-true u.queue q of_q) ∙ ap (λ (x : SubmittedBatch). x.queue) (one_of_submission waiting t u rising its_place.0 c e) ∙ its_queue))
       go false e = refl
 
   pub lined_taken : (w : Queued) → w.queue ≡ v.queue → w.batches ≡ rest → IsLined (set lines k w) (without t waiting)
@@ -130,48 +130,48 @@ lined_submit lines k v w waiting past e bs there queue lined is =
 
 -- ---- the line that is next
 
-pub turn_at : (past : Past) (lines : List Queued) (k : ℕ) (v : Queued) → slice_get lines k ≡ Some v → slice_get (turns past lines) k ≡ Some (ready_turn past v.batches)
-turn_at past lines k v at = slice_get-map (λ (x : Queued). ready_turn past x.batches) lines k ∙ ap (Rattle.std.specs.Option.option_map (λ (x : Queued). ready_turn past x.batches)) at
+pub submission_at : (past : Past) (lines : List Queued) (k : ℕ) (v : Queued) → slice_get lines k ≡ Some v → slice_get (submissions past lines) k ≡ Some (ready_submission past v.batches)
+submission_at past lines k v at = slice_get-map (λ (x : Queued). ready_submission past x.batches) lines k ∙ ap (Rattle.std.specs.Option.option_map (λ (x : Queued). ready_submission past x.batches)) at
 
--- the queue of a batch that is ready has a line, whose turn it is
+-- the queue of a batch that is ready has a line, whose first it is
 module _ (past : Past) (lines : List Queued) (waiting : List SubmittedBatch) (lined : IsLined lines waiting) where
-  ready_line : (q : ℕ) (u : Turn) → ready_turn past (filter (on q) waiting) ≡ Some u → (k : ℕ) × (v : Queued) × (slice_get lines k ≡ Some v) × (ready_turn past v.batches ≡ Some u)
+  ready_line : (q : ℕ) (u : Submission) → ready_submission past (filter (on q) waiting) ≡ Some u → (k : ℕ) × (v : Queued) × (slice_get lines k ≡ Some v) × (ready_submission past v.batches ≡ Some u)
   ready_line q u ready = go (filter (on q) waiting) refl ready where
-    go : (ts : List SubmittedBatch) → filter (on q) waiting ≡ ts → ready_turn past ts ≡ Some u → (k : ℕ) × (v : Queued) × (slice_get lines k ≡ Some v) × (ready_turn past v.batches ≡ Some u)
+    go : (ts : List SubmittedBatch) → filter (on q) waiting ≡ ts → ready_submission past ts ≡ Some u → (k : ℕ) × (v : Queued) × (slice_get lines k ≡ Some v) × (ready_submission past v.batches ≡ Some u)
     go [] is bad = absurd cc
-    go (t ∷ ts) is turn =
+    go (t ∷ ts) is submission =
         let place = filtered (on q) waiting t (subst (λ (l : List SubmittedBatch). Contains l t) (sym is) (contains-head t ts)) in
         let x = lined.all t place.0 in
         let of_q : x.1.queue ≡ q = x.3 ∙ eqb-true t.queue q place.1 in
-        (x.0, x.1, x.2, ap (ready_turn past) (sym (lined.each x.0 x.1 x.2) ∙ ap (λ (r : ℕ). filter (on r) waiting) of_q ∙ is) ∙ turn)
+        (x.0, x.1, x.2, ap (ready_submission past) (sym (lined.each x.0 x.1 x.2) ∙ ap (λ (r : ℕ). filter (on r) waiting) of_q ∙ is) ∙ submission)
 
-  pub none_is_next : IsBest (turns past lines) (length lines) None → next_batch past [] waiting ≡ None
-  none_is_next none = none_next past [] waiting (λ q free. go q (ready_turn past (filter (on q) waiting)) refl) where
-    go : (q : ℕ) (o : Option Turn) → ready_turn past (filter (on q) waiting) ≡ o → o ≡ None
+  pub none_is_next : IsBest (submissions past lines) (length lines) None → next_batch past [] waiting ≡ None
+  none_is_next none = none_next past [] waiting (λ q free. go q (ready_submission past (filter (on q) waiting)) refl) where
+    go : (q : ℕ) (o : Option Submission) → ready_submission past (filter (on q) waiting) ≡ o → o ≡ None
     go q None e = refl
-    go q (Some u) e = absurd (let x = ready_line q u e in none x.0 u (get_below lines x.0 x.1 x.2) (turn_at past lines x.0 x.1 x.2 ∙ ap Some x.3))
+    go q (Some u) e = absurd (let x = ready_line q u e in none x.0 u (get_below lines x.0 x.1 x.2) (submission_at past lines x.0 x.1 x.2 ∙ ap Some x.3))
 
-  module _ (rising : IsRising waiting) (c : Candidate) (best : IsBest (turns past lines) (length lines) (Some c)) (v : Queued) (there : slice_get lines c.line ≡ Some v) where
-    its_turn : ready_turn past v.batches ≡ Some c.turn
-    its_turn = let is : Some (ready_turn past v.batches) ≡ Some (Some c.turn) = sym (turn_at past lines c.line v there) ∙ best.0 in cc
+  module _ (rising : IsRising waiting) (c : Candidate) (best : IsBest (submissions past lines) (length lines) (Some c)) (v : Queued) (there : slice_get lines c.line ≡ Some v) where
+    its_submission : ready_submission past v.batches ≡ Some c.submission
+    its_submission = let is : Some (ready_submission past v.batches) ≡ Some (Some c.submission) = sym (submission_at past lines c.line v there) ∙ best.0 in cc
 
     -- the first batch of the line that is best is started next
     pub best_is_next : (t : SubmittedBatch) × (rest : List SubmittedBatch) × (v.batches ≡ t ∷ rest) × (next_batch past [] waiting ≡ Some t)
-    best_is_next = go v.batches refl its_turn where
-      go : (ts : List SubmittedBatch) → v.batches ≡ ts → ready_turn past ts ≡ Some c.turn → (t : SubmittedBatch) × (rest : List SubmittedBatch) × (v.batches ≡ t ∷ rest) × (next_batch past [] waiting ≡ Some t)
-      go [] is turn = absurd cc
-      go (t ∷ rest) is turn = ready (list_all (is_met past) t.waits) refl turn where
-        ready : (b : Bool) → list_all (is_met past) t.waits ≡ b → (if b then Some (turn_of t) else None) ≡ Some c.turn → (t : SubmittedBatch) × (rest : List SubmittedBatch) × (v.batches ≡ t ∷ rest) × (next_batch past [] waiting ≡ Some t)
+    best_is_next = go v.batches refl its_submission where
+      go : (ts : List SubmittedBatch) → v.batches ≡ ts → ready_submission past ts ≡ Some c.submission → (t : SubmittedBatch) × (rest : List SubmittedBatch) × (v.batches ≡ t ∷ rest) × (next_batch past [] waiting ≡ Some t)
+      go [] is submission = absurd cc
+      go (t ∷ rest) is submission = ready (list_all (is_met past) t.waits) refl submission where
+        ready : (b : Bool) → list_all (is_met past) t.waits ≡ b → (if b then Some (submission_of t) else None) ≡ Some c.submission → (t : SubmittedBatch) × (rest : List SubmittedBatch) × (v.batches ≡ t ∷ rest) × (next_batch past [] waiting ≡ Some t)
         ready false met bad = absurd cc
-        ready true met same_turn =
-            let same : turn_of t ≡ c.turn = cc in
+        ready true met same_submission =
+            let same : submission_of t ≡ c.submission = cc in
             let queue : t.queue ≡ v.queue = its_queue lines c.line v waiting t rest there is lined rising in (
               t,
               rest,
               is,
               some_next past [] waiting t rest rising refl (ap (λ (q : ℕ). filter (on q) waiting) queue ∙ lined.each c.line v there ∙ is) met
-                  (λ q u free turn before. let x = ready_line q u turn in
-                  best.1 x.0 u (get_below lines x.0 x.1 x.2) (turn_at past lines x.0 x.1 x.2 ∙ ap Some x.3) (subst (Precedes u) same before)),
+                  (λ q u free submission before. let x = ready_line q u submission in
+                  best.1 x.0 u (get_below lines x.0 x.1 x.2) (submission_at past lines x.0 x.1 x.2 ∙ ap Some x.3) (subst (Precedes u) same before)),
             )
 
 -- ---- what is known to be met

@@ -9,41 +9,41 @@ use Rattle.vk_model.specs.Trace.Point.{Past}
 use Rattle.vk_model.specs.Trace.Order.{SubmittedBatch, is_met, next_batch, same_batch}
 use Rattle.vk_model.proofs.Lists.Members.{none_in, contains-cons, contains-head, contains-tail, filtered}
 use Rattle.vk_model.proofs.Trace.Orders.{its_own}
-use Rattle.vk_queues.specs.declared.lines.Turn.{Turn}
-use Rattle.vk_queues.specs.Inner.Lined.{Precedes, turn_of, IsRising, ready_turn}
+use Rattle.vk_queues.specs.declared.lines.Submission.{Submission}
+use Rattle.vk_queues.specs.Inner.Lined.{Precedes, submission_of, IsRising, ready_submission}
 use Rattle.vk_queues.proofs.Lists.{filter_each}
 
 -- ---- the order of submission
 
-pub not_before_itself : (t u : Turn) → Precedes t u → t.entry ≡ u.entry → t.batch ≡ u.batch → ⊥
+pub not_before_itself : (t u : Submission) → Precedes t u → t.entry ≡ u.entry → t.batch ≡ u.batch → ⊥
 not_before_itself t u (inl lt) e b = omega arith
 not_before_itself t u (inr s) e b = let lt = s.1 in omega arith
 
 -- of two batches in their order, the same one is the same
-pub same_turn : (t u : SubmittedBatch) → same_batch t u ≡ true → (t.entry ≡ u.entry) × (t.batch ≡ u.batch)
-same_turn t u e = let parts = and_parts (t.entry == u.entry) (t.batch == u.batch) e in (eqb-true t.entry u.entry parts.0, eqb-true t.batch u.batch parts.1)
+pub same_submission : (t u : SubmittedBatch) → same_batch t u ≡ true → (t.entry ≡ u.entry) × (t.batch ≡ u.batch)
+same_submission t u e = let parts = and_parts (t.entry == u.entry) (t.batch == u.batch) e in (eqb-true t.entry u.entry parts.0, eqb-true t.batch u.batch parts.1)
 
-pub other_batch : (t u : SubmittedBatch) → Precedes (turn_of t) (turn_of u) → same_batch t u ≡ false
+pub other_batch : (t u : SubmittedBatch) → Precedes (submission_of t) (submission_of u) → same_batch t u ≡ false
 other_batch t u before = go (same_batch t u) refl where
   go : (b : Bool) → same_batch t u ≡ b → b ≡ false
-  go true e = let same = same_turn t u e in absurd (not_before_itself (turn_of t) (turn_of u) before same.0 same.1)
+  go true e = let same = same_submission t u e in absurd (not_before_itself (submission_of t) (submission_of u) before same.0 same.1)
   go false e = refl
 
-pub other_before : (t u : SubmittedBatch) → Precedes (turn_of u) (turn_of t) → same_batch t u ≡ false
+pub other_before : (t u : SubmittedBatch) → Precedes (submission_of u) (submission_of t) → same_batch t u ≡ false
 other_before t u before = go (same_batch t u) refl where
   go : (b : Bool) → same_batch t u ≡ b → b ≡ false
-  go true e = let same = same_turn t u e in absurd (not_before_itself (turn_of u) (turn_of t) before (sym same.0) (sym same.1))
+  go true e = let same = same_submission t u e in absurd (not_before_itself (submission_of u) (submission_of t) before (sym same.0) (sym same.1))
   go false e = refl
 
--- a batch is found by its turn
-pub one_of_turn : (ts : List SubmittedBatch) (t u : SubmittedBatch) → IsRising ts → Contains ts t → Contains ts u → same_batch t u ≡ true → u ≡ t
-one_of_turn [] t u rising c d same = absurd (none_in t c)
-one_of_turn (x ∷ xs) t u rising c d same = go (contains-cons x xs t c) (contains-cons x xs u d) (λ a b. one_of_turn xs t u rising.1 a b same)
+-- a batch is found by when it was submitted
+pub one_of_submission : (ts : List SubmittedBatch) (t u : SubmittedBatch) → IsRising ts → Contains ts t → Contains ts u → same_batch t u ≡ true → u ≡ t
+one_of_submission [] t u rising c d same = absurd (none_in t c)
+one_of_submission (x ∷ xs) t u rising c d same = go (contains-cons x xs t c) (contains-cons x xs u d) (λ a b. one_of_submission xs t u rising.1 a b same)
   where
     go : (x ≡ t) ⊎ Contains xs t → (x ≡ u) ⊎ Contains xs u → (Contains xs t → Contains xs u → u ≡ t) → u ≡ t
     go (inl a) (inl b) rest = sym b ∙ a
-    go (inl a) (inr b) rest = absurd (let no : same_batch t u ≡ false = other_batch t u (subst (λ (v : SubmittedBatch). Precedes (turn_of v) (turn_of u)) a (rising.0 u b)) in cc)
-    go (inr a) (inl b) rest = absurd (let no : same_batch t u ≡ false = other_before t u (subst (λ (v : SubmittedBatch). Precedes (turn_of v) (turn_of t)) b (rising.0 t a)) in cc)
+    go (inl a) (inr b) rest = absurd (let no : same_batch t u ≡ false = other_batch t u (subst (λ (v : SubmittedBatch). Precedes (submission_of v) (submission_of u)) a (rising.0 u b)) in cc)
+    go (inr a) (inl b) rest = absurd (let no : same_batch t u ≡ false = other_before t u (subst (λ (v : SubmittedBatch). Precedes (submission_of v) (submission_of t)) b (rising.0 t a)) in cc)
     go (inr a) (inr b) rest = rest a b
 
 pub rising_filter : (f : SubmittedBatch → Bool) (ts : List SubmittedBatch) → IsRising ts → IsRising (filter f ts)
@@ -53,7 +53,7 @@ rising_filter f (t ∷ ts) rising = go (f t) (rising_filter f ts rising.1) where
   go true rest = (λ u c. rising.0 u (filtered f ts u c).0, rest)
   go false rest = rest
 
-pub rising_append : (ts us : List SubmittedBatch) → IsRising ts → IsRising us → ((t u : SubmittedBatch) → Contains ts t → Contains us u → Precedes (turn_of t) (turn_of u)) → IsRising (ts ++ us)
+pub rising_append : (ts us : List SubmittedBatch) → IsRising ts → IsRising us → ((t u : SubmittedBatch) → Contains ts t → Contains us u → Precedes (submission_of t) (submission_of u)) → IsRising (ts ++ us)
 rising_append [] us a b across = b
 rising_append (t ∷ ts) us a b across = (
   λ u c. ⊎_elim (λ early. a.0 u early) (λ late. across t u (contains-head t ts) late) (Contains-append_cases ts us u c),
@@ -66,11 +66,11 @@ abbrev pub on : ℕ → SubmittedBatch → Bool
 on q t = t.queue == q
 
 -- where no first batch of a queue can be started, none is
-pub none_next : (past : Past) (queues : List ℕ) (ts : List SubmittedBatch) → ((q : ℕ) → among q queues ≡ false → ready_turn past (filter (on q) ts) ≡ None) → next_batch past queues ts ≡ None
+pub none_next : (past : Past) (queues : List ℕ) (ts : List SubmittedBatch) → ((q : ℕ) → among q queues ≡ false → ready_submission past (filter (on q) ts) ≡ None) → next_batch past queues ts ≡ None
 none_next past queues [] none = refl
 none_next past queues (u ∷ us) none = go (among u.queue queues) (list_all (is_met past) u.waits) refl refl (none_next past (u.queue ∷ queues) us later)
   where
-    later : (q : ℕ) → among q (u.queue ∷ queues) ≡ false → ready_turn past (filter (on q) us) ≡ None
+    later : (q : ℕ) → among q (u.queue ∷ queues) ≡ false → ready_submission past (filter (on q) us) ≡ None
     later q free =
         let parts = or_parts (q == u.queue) (among q queues) free in
         let apart : (u.queue == q) ≡ false = ne_eqb u.queue q (λ same. eqb-false q u.queue parts.0 (sym same)) in
@@ -80,12 +80,12 @@ none_next past queues (u ∷ us) none = go (among u.queue queues) (list_all (is_
         → (if not b && d then Some u else next_batch past (u.queue ∷ queues) us) ≡ None
     go true d e h rest = rest
     go false false e h rest = rest
-    go false true e h rest = absurd (let bad : Some (turn_of u) ≡ None = rw (eq-eqb u.queue u.queue refl, h) at (none u.queue e) in cc)
+    go false true e h rest = absurd (let bad : Some (submission_of u) ≡ None = rw (eq-eqb u.queue u.queue refl, h) at (none u.queue e) in cc)
 
 -- the first batch of a queue that can be started, and before which none can be, is
 pub some_next : (past : Past) (queues : List ℕ) (ts : List SubmittedBatch) (t : SubmittedBatch) (rest : List SubmittedBatch) → IsRising ts → among t.queue queues ≡ false
     → filter (on t.queue) ts ≡ t ∷ rest → list_all (is_met past) t.waits ≡ true
-    → ((q : ℕ) (u : Turn) → among q queues ≡ false → ready_turn past (filter (on q) ts) ≡ Some u → Precedes u (turn_of t) → ⊥) → next_batch past queues ts ≡ Some t
+    → ((q : ℕ) (u : Submission) → among q queues ≡ false → ready_submission past (filter (on q) ts) ≡ Some u → Precedes u (submission_of t) → ⊥) → next_batch past queues ts ≡ Some t
 some_next past queues [] t rest rising free is met least = absurd cc
 some_next past queues (u ∷ us) t rest rising free is met least = by_queue (u.queue == t.queue) refl is (some_next past (u.queue ∷ queues) us t rest rising.1)
   where
@@ -96,7 +96,7 @@ some_next past queues (u ∷ us) t rest rising free is met least = by_queue (u.q
 
     by_queue : (b : Bool) → (u.queue == t.queue) ≡ b → cond b (u ∷ filter (on t.queue) us) (filter (on t.queue) us) ≡ t ∷ rest
         → (among t.queue (u.queue ∷ queues) ≡ false → filter (on t.queue) us ≡ t ∷ rest → list_all (is_met past) t.waits ≡ true
-        → ((q : ℕ) (v : Turn) → among q (u.queue ∷ queues) ≡ false → ready_turn past (filter (on q) us) ≡ Some v → Precedes v (turn_of t) → ⊥) → next_batch past (u.queue ∷ queues) us ≡ Some t)
+        → ((q : ℕ) (v : Submission) → among q (u.queue ∷ queues) ≡ false → ready_submission past (filter (on q) us) ≡ Some v → Precedes v (submission_of t) → ⊥) → next_batch past (u.queue ∷ queues) us ≡ Some t)
         → next_batch past queues (u ∷ us) ≡ Some t
     by_queue true e here next =
         let same : u ≡ t = cc in
@@ -111,7 +111,7 @@ some_next past queues (u ∷ us) t rest rising free is met least = by_queue (u.q
             → (if not b && d then Some u else next_batch past (u.queue ∷ queues) us) ≡ Some t
         go true d f h there found = found
         go false false f h there found = found
-        go false true f h there found = absurd (least u.queue (turn_of u) f (rw (eq-eqb u.queue u.queue refl, h) refl) (rising.0 t there))
+        go false true f h there found = absurd (least u.queue (submission_of u) f (rw (eq-eqb u.queue u.queue refl, h) refl) (rising.0 t there))
 
 -- ---- one batch less
 

@@ -3,7 +3,7 @@ ghost use Rattle.vk_model.specs.Trace.Point.{Past};
 ghost use Rattle.vk_model.specs.Trace.Order.{SubmittedBatch};
 ghost use Rattle.vk_queues.specs.declared.lines.Line.{Line as AnyLine};
 ghost use Rattle.vk_queues.specs.Inner.Tallied.{IsTallied};
-ghost use Rattle.vk_queues.specs.Inner.Lined.{AreAllMet, IsBest, IsLined, queued, turns, HasLine};
+ghost use Rattle.vk_queues.specs.Inner.Lined.{AreAllMet, IsBest, IsLined, queued, submissions, HasLine};
 
 use crate::lines::{Candidate, Line, better};
 use crate::tallies::Tallies;
@@ -14,13 +14,13 @@ pub fn next_line(lines: &mut [Line<'_>], tallies: &Tallies) -> Option<Candidate>
     ensures lines { map queued lines.new ≡ map queued lines.old }
     ensures within { IfSome result (λ c. c.line < length lines.old) }
     ensures next { (past : Past) → IsTallied tallies.now past → AreAllMet past lines.old
-        → AreAllMet past lines.new × IsBest (turns past (map queued lines.old)) (length lines.old) result }
+        → AreAllMet past lines.new × IsBest (submissions past (map queued lines.old)) (length lines.old) result }
 {
     let mut best = None;
     for k in 0..lines.len() {
         let line = &mut lines[k];
-        let turn = line.ready_turn(tallies);
-        best = better(best, k, turn);
+        let submission = line.ready_submission(tallies);
+        best = better(best, k, submission);
     }
     best
 }

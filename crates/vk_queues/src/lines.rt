@@ -4,8 +4,8 @@ ghost use Rattle.vk_model.specs.Trace.Point.{Past};
 ghost use Rattle.vk_model.specs.Trace.Order.{is_met, batches_from};
 ghost use Rattle.vk_queues.specs.Inner.Tallied.{IsTallied};
 ghost use Rattle.vk_queues.specs.PointViews.{batch_of};
-ghost use Rattle.vk_queues.specs.Inner.Lined.{AreMet, ready_turn, Precedes, batches_on, IsBest};
-ghost use Rattle.vk_queues.specs.declared.lines.Turn.{Turn as AnyTurn};
+ghost use Rattle.vk_queues.specs.Inner.Lined.{AreMet, ready_submission, Precedes, batches_on, IsBest};
+ghost use Rattle.vk_queues.specs.declared.lines.Submission.{Submission as AnySubmission};
 
 use crate::submitted::{Submitted, live_waits};
 use crate::tallies::Tallies;
@@ -15,13 +15,15 @@ use vk_model::{Batch, SemaphoreSubmit};
 
 /// When a batch was submitted: its entry, and its number in the submit.
 #[derive(Clone, Copy)]
-pub struct Turn {
+pub struct Submission {
+    /// The entry that submits it.
     pub entry: usize,
+    /// The number of the batch in it.
     pub batch: usize,
 }
 
-impl Turn {
-    fn precedes(self, other: Turn) -> bool
+impl Submission {
+    fn precedes(self, other: Submission) -> bool
         ensures { IsTrue result ↔ Precedes self other }
     {
         self.entry < other.entry || self.entry == other.entry && self.batch < other.batch
@@ -33,19 +35,25 @@ impl Turn {
 pub struct Candidate {
     /// The index of the line.
     pub line: usize,
-    /// The turn of the batch.
-    pub turn: Turn,
+    /// When the batch was submitted.
+    pub submission: Submission,
 }
 
 /// The best candidate, with one line more.
-pub fn better(best: Option<Candidate>, line: usize, turn: Option<Turn>) -> Option<Candidate>
+pub fn better(
+    best: Option<Candidate>,
+    line: usize,
+    submission: Option<Submission>,
+) -> Option<Candidate>
     ensures within { IfSome best (λ c. c.line < line) → IfSome result (λ c. c.line < line + 1) }
-    ensures best { (turns : List (Option AnyTurn)) → slice_get turns line ≡ Some turn → IsBest turns line best → IsBest turns (line + 1) result }
+    ensures best { (submissions : List (Option AnySubmission)) → slice_get submissions line ≡ Some submission → IsBest submissions line best → IsBest submissions (line + 1) result }
 {
-    let Some(turn) = turn else { return best };
+    let Some(submission) = submission else {
+        return best
+    };
     match best {
-        Some(known) if !turn.precedes(known.turn) => best,
-        _ => Some(Candidate { line, turn }),
+        Some(known) if !submission.precedes(known.submission) => best,
+        _ => Some(Candidate { line, submission }),
     }
 }
 
@@ -87,25 +95,25 @@ impl<'a> Line<'a> {
         }
     }
 
-    /// The turn of the first batch, where its waits are met. What is known of them is kept.
-    pub fn ready_turn(&mut self, tallies: &Tallies) -> Option<Turn>
+    /// When the first batch was submitted, where its waits are met. What is known of them is kept.
+    pub fn ready_submission(&mut self, tallies: &Tallies) -> Option<Submission>
         ensures queue { self.new.queue ≡ self.old.queue }
         ensures batches { self.new.batches ≡ self.old.batches }
         ensures kept { self.old.met ≤ self.new.met }
-        ensures turn { (past : Past) → IsTallied tallies.now past → AreMet past self.old
-            → AreMet past self.new × (result ≡ ready_turn past (batches_on self.old)) }
+        ensures submission { (past : Past) → IsTallied tallies.now past → AreMet past self.old
+            → AreMet past self.new × (result ≡ ready_submission past (batches_on self.old)) }
     {
         let Some(first) = self.batches.front() else {
             return None;
         };
-        let turn = Turn {
+        let submission = Submission {
             entry: first.entry,
             batch: first.batch,
         };
         let met = count_met(tallies, first.waits.as_slice(), self.met);
         let is_ready = first.waits.len() <= met;
         self.met = met;
-        if is_ready { Some(turn) } else { None }
+        if is_ready { Some(submission) } else { None }
     }
 
     /// Adds the batches of a submit.

@@ -3,7 +3,7 @@ use Rattle.std.specs.Prelude.{◌≡◌, ⊤, ◌+◌, ◌<◌, ◌⊎◌, ℕ, 
 use Rattle.std.specs.List.{list_all, filter}
 use Rattle.vk_model.specs.Trace.Point.{Past}
 use Rattle.vk_model.specs.Trace.Order.{SubmittedBatch, is_met}
-use Rattle.vk_queues.specs.declared.lines.Turn.{Turn}
+use Rattle.vk_queues.specs.declared.lines.Submission.{Submission}
 use Rattle.vk_queues.specs.declared.lines.Line.{Line}
 use Rattle.vk_queues.specs.declared.lines.Candidate.{Candidate}
 use Rattle.vk_queues.specs.PointViews.{batch_of}
@@ -11,17 +11,17 @@ use Rattle.vk_queues.specs.PointViews.{batch_of}
 -- ---- when batches were submitted
 
 -- One batch was submitted before another: by an earlier entry, or earlier in it (Vulkan, "Implicit Synchronization Guarantees").
-abbrev pub Precedes : Turn → Turn → Type 0
+abbrev pub Precedes : Submission → Submission → Type 0
 Precedes t u = (t.entry < u.entry) ⊎ (t.entry ≡ u.entry) × (t.batch < u.batch)
 
 -- When a batch was submitted.
-abbrev pub turn_of : SubmittedBatch → Turn
-turn_of t = record { entry = t.entry; batch = t.batch }
+abbrev pub submission_of : SubmittedBatch → Submission
+submission_of t = record { entry = t.entry; batch = t.batch }
 
 -- The batches are in the order of their submission.
 abbrev pub IsRising : List SubmittedBatch → Type 0
 IsRising [] = ⊤
-IsRising (t ∷ ts) = ((u : SubmittedBatch) → Contains ts u → Precedes (turn_of t) (turn_of u)) × IsRising ts
+IsRising (t ∷ ts) = ((u : SubmittedBatch) → Contains ts u → Precedes (submission_of t) (submission_of u)) × IsRising ts
 
 -- ---- the batches of one queue
 
@@ -29,10 +29,10 @@ IsRising (t ∷ ts) = ((u : SubmittedBatch) → Contains ts u → Precedes (turn
 abbrev pub batches_on : Line → List SubmittedBatch
 batches_on l = map batch_of l.batches.items
 
--- The turn of the first batch, where its waits are met (Vulkan, "Semaphore Waiting").
-abbrev pub ready_turn : Past → List SubmittedBatch → Option Turn
-ready_turn past [] = None
-ready_turn past (t ∷ ts) = if list_all (is_met past) t.waits then Some (turn_of t) else None
+-- When the first batch was submitted, where its waits are met (Vulkan, "Semaphore Waiting").
+abbrev pub ready_submission : Past → List SubmittedBatch → Option Submission
+ready_submission past [] = None
+ready_submission past (t ∷ ts) = if list_all (is_met past) t.waits then Some (submission_of t) else None
 
 -- So many waits of the first batch are met.
 abbrev pub AreFirstMet : Past → ℕ → List SubmittedBatch → Type 0
@@ -75,11 +75,11 @@ HasLine queue k lines = (l : Line) × (slice_get lines k ≡ Some l) × (l.queue
 
 -- ---- which line is next
 
--- The turns of the lines whose first batch can be started.
-abbrev pub turns : Past → List Queued → List (Option Turn)
-turns past lines = map (λ v. ready_turn past v.batches) lines
+-- When the first batches were submitted, of the lines whose first batch can be started.
+abbrev pub submissions : Past → List Queued → List (Option Submission)
+submissions past lines = map (λ v. ready_submission past v.batches) lines
 
--- Of the first lines, which one has the first turn; none where none has a turn.
-abbrev pub IsBest : List (Option Turn) → ℕ → Option Candidate → Type 0
-IsBest turns count None = (k : ℕ) (u : Turn) → k < count → slice_get turns k ≡ Some (Some u) → ⊥
-IsBest turns count (Some c) = (slice_get turns c.line ≡ Some (Some c.turn)) × ((k : ℕ) (u : Turn) → k < count → slice_get turns k ≡ Some (Some u) → Precedes u c.turn → ⊥)
+-- Of the first lines, which one has the batch that was submitted first; none where none can be started.
+abbrev pub IsBest : List (Option Submission) → ℕ → Option Candidate → Type 0
+IsBest submissions count None = (k : ℕ) (u : Submission) → k < count → slice_get submissions k ≡ Some (Some u) → ⊥
+IsBest submissions count (Some c) = (slice_get submissions c.line ≡ Some (Some c.submission)) × ((k : ℕ) (u : Submission) → k < count → slice_get submissions k ≡ Some (Some u) → Precedes u c.submission → ⊥)
