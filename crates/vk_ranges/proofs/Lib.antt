@@ -3,6 +3,8 @@ pub mod TilingLemmas
 pub mod OrderLemmas
 pub mod JoinLemmas
 pub mod EdgeLemmas
+pub mod RisingLemmas
+pub mod ChunkLemmas
 pub mod PlanLemmas
 pub mod Walking
 pub mod Beginning

@@ -22,6 +22,12 @@ module _ {T : Type 0} where
         let start : piece.start ≡ so_far.cursor = so_far.runs.0 in
         subst (λ (o : Option T). IsSomeAnd o P) (sym (so_far.runs.3 index (omega arith) to)) holds
 
+    pub search_found : (P : T → Type 0) → P piece.value → HasAt values P piece.start
+    search_found P holds =
+        let start : piece.start ≡ so_far.cursor = so_far.runs.0 in
+        let some = so_far.runs.1 in
+        at_piece P holds piece.start (omega arith) (omega arith)
+
     pub search_next : fails piece.value → IsSearched values fails low high rest
     search_next failed =
         let above = so_far.above in

@@ -3,3 +3,4 @@ pub mod Joins
 pub mod Plans
 pub mod Edges
 pub mod Walks
+pub mod Chunks

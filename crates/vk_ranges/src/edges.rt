@@ -3,12 +3,11 @@ ghost use Rattle.std.specs.Option.{option_copied};
 ghost use Rattle.vk_ranges.specs.Runs.{IsTiling, after};
 ghost use Rattle.vk_ranges.specs.Inner.Edges.{Begins, IsEdgeBefore, IsEdgeAfter};
 
+use crate::after::RunsAfter;
 use crate::changes::Edge;
+use crate::sorted::SortedRuns;
 use crate::value::RangeValue;
 use std::alloc::AllocError;
-use std::collections::BTreeMap;
-use std::collections::btree_map::Range;
-use std::ops::Bound;
 
 /// Where a range begins in the runs.
 #[derive(Drop)]
@@ -22,20 +21,20 @@ pub(crate) struct Start<'a, T> {
     /// The value of that run.
     pub(crate) value: &'a T,
     /// The runs after that one.
-    pub(crate) rest: Range<'a, u64, T>,
+    pub(crate) rest: RunsAfter<'a, T>,
 }
 
 /// The runs that end after an index.
-pub(crate) fn runs_after<T>(runs: &BTreeMap<u64, T>, index: u64) -> Range<'_, u64, T>
-    ensures { result ≡ after index runs.now.entries }
+pub(crate) fn runs_after<T>(runs: &SortedRuns<T>, index: u64) -> RunsAfter<'_, T>
+    ensures { result ≡ after index runs.now }
 {
-    runs.range((Bound::Excluded(index), Bound::Unbounded))
+    runs.after(index)
 }
 
 /// Where a range that begins at an index begins in the runs.
-pub(crate) fn start_of<T: RangeValue>(runs: &BTreeMap<u64, T>, low: u64) -> Start<'_, T>
-    requires { (len : ℕ) × IsTiling 0 len runs.now.entries × (low < len) }
-    ensures { Begins low runs.now.entries (option_copied result.left) result.is_end (result.end, result.value.now) result.rest }
+pub(crate) fn start_of<T: RangeValue>(runs: &SortedRuns<T>, low: u64) -> Start<'_, T>
+    requires { (len : ℕ) × IsTiling 0 len runs.now × (low < len) }
+    ensures { Begins low runs.now (option_copied result.left) result.is_end (result.end, result.value.now) result.rest }
 {
     let mut rest = runs_after(runs, low.saturating_sub(1));
     let Some((end, value)) = rest.next() else {
@@ -45,16 +44,16 @@ pub(crate) fn start_of<T: RangeValue>(runs: &BTreeMap<u64, T>, low: u64) -> Star
         return Start {
             left: None,
             is_end: true,
-            end: *end,
+            end: end,
             value,
             rest,
         };
     }
-    if *end != low {
+    if end != low {
         return Start {
             left: Some(value),
             is_end: false,
-            end: *end,
+            end: end,
             value,
             rest,
         };
@@ -66,7 +65,7 @@ pub(crate) fn start_of<T: RangeValue>(runs: &BTreeMap<u64, T>, low: u64) -> Star
     Start {
         left: Some(left),
         is_end: true,
-        end: *end,
+        end: end,
         value,
         rest,
     }

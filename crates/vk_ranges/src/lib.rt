@@ -2,8 +2,10 @@
 //!
 //! A `RangeMap<T>` has a value for each of the indices `0..len`, as the bytes of a buffer have
 //! what is remembered of them. Neighbours of one value are one run, so a map costs nothing for its
-//! length, and an operation costs the runs that it touches: a search of the tree and a walk from
-//! there, and one search for each end of a run that is new, goes, or gets another value.
+//! length, and an operation costs the runs that it touches: a binary search and a walk from there,
+//! and one search for each end of a run that is new, goes, or gets another value. The runs lie in
+//! order in chunks of at most 64, so a new one moves those of its chunk, and the list of the chunks
+//! where that is full.
 //!
 //! ```text
 //! let mut map = RangeMap::new(alloc, 10, 0)?;     // 0 0 0 0 0 0 0 0 0 0
@@ -19,12 +21,16 @@
 //! comparison that keeps values apart.
 #![tactic(auto)]
 
+mod after;
 mod changes;
+mod chunk;
+mod chunks;
 mod edges;
 mod map;
 mod plan;
 mod planning;
 mod runs;
+mod sorted;
 mod value;
 
 pub use map::RangeMap;

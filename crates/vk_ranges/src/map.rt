@@ -8,9 +8,9 @@ use crate::edges::runs_after;
 use crate::plan::carry_out;
 use crate::planning::{overlapping, plan_of_each, plan_of_one};
 use crate::runs::Overlapping;
+use crate::sorted::SortedRuns;
 use crate::value::RangeValue;
 use std::alloc::{AllocError, Global};
-use std::collections::BTreeMap;
 use std::marker::Model;
 
 /// One value for each index of `0..len`. Contracts see the list of the values.
@@ -19,7 +19,7 @@ pub struct RangeMap<T> {
     alloc: Global,
     len: u64,
     /// The runs in order, by the index after the last one of each.
-    runs: BTreeMap<u64, T>,
+    runs: SortedRuns<T>,
 }
 
 impl<T> Model for RangeMap<T> {
@@ -28,9 +28,9 @@ impl<T> Model for RangeMap<T> {
 
     ghost Value = { List T };
 
-    ghost view = { λ m. values_from 0 m.runs.entries };
+    ghost view = { λ m. values_from 0 m.runs };
 
-    ghost invariant = { λ m. AreRuns m.len m.runs.entries };
+    ghost invariant = { λ m. AreRuns m.len m.runs };
 }
 
 impl<T: RangeValue> RangeMap<T> {
@@ -40,7 +40,7 @@ impl<T: RangeValue> RangeMap<T> {
         ensures values { IfOk result (λ map. (index : ℕ) → index < len
             → slice_get map index ≡ Some value) }
     {
-        let mut runs = BTreeMap::new(alloc);
+        let mut runs = SortedRuns::new(alloc)?;
         if len > 0 {
             runs.insert(len, value)?;
         }

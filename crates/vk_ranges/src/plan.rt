@@ -6,20 +6,20 @@ ghost use Rattle.vk_ranges.specs.declared.changes.Edge.TheVariants.{New};
 ghost use Rattle.vk_ranges.specs.Inner.Plans.{applied, edged, both_edged, carried_out, CanBeUndone};
 
 use crate::changes::{Change, Edge, Plan};
+use crate::sorted::SortedRuns;
 use crate::value::RangeValue;
 use std::alloc::AllocError;
-use std::collections::BTreeMap;
 
 /// Carries out a plan for the range `low..high`. An error leaves the runs as they were.
 pub(crate) fn carry_out<T: RangeValue>(
-    runs: &mut BTreeMap<u64, T>,
+    runs: &mut SortedRuns<T>,
     low: u64,
     high: u64,
     plan: Plan<T>,
 ) -> Result<(), AllocError>
-    requires { CanBeUndone high plan.at_high runs.old.entries }
-    ensures ok { OnOk result (runs.new.entries ≡ carried_out low high plan runs.old.entries) }
-    ensures err { OnErr result (runs.new.entries ≡ runs.old.entries) }
+    requires { CanBeUndone high plan.at_high runs.old }
+    ensures ok { OnOk result (runs.new ≡ carried_out low high plan runs.old) }
+    ensures err { OnErr result (runs.new ≡ runs.old) }
 {
     let Plan {
         at_low,
@@ -33,21 +33,21 @@ pub(crate) fn carry_out<T: RangeValue>(
 
 /// Changes both edges of a range, new ends first: only they can want memory.
 fn change_edges<T: RangeValue>(
-    runs: &mut BTreeMap<u64, T>,
+    runs: &mut SortedRuns<T>,
     low: u64,
     at_low: Edge<T>,
     high: u64,
     at_high: Edge<T>,
 ) -> Result<(), AllocError>
-    requires { CanBeUndone high at_high runs.old.entries }
-    ensures ok { OnOk result (runs.new.entries ≡ both_edged low at_low high at_high runs.old.entries) }
-    ensures err { OnErr result (runs.new.entries ≡ runs.old.entries) }
+    requires { CanBeUndone high at_high runs.old }
+    ensures ok { OnOk result (runs.new ≡ both_edged low at_low high at_high runs.old) }
+    ensures err { OnErr result (runs.new ≡ runs.old) }
 {
     match at_high {
         Edge::Stays => change_edge(runs, low, at_low),
         Edge::Goes => {
             change_edge(runs, low, at_low)?;
-            runs.remove(&high);
+            runs.remove(high);
             Ok(())
         }
         Edge::Becomes(value) => {
@@ -61,19 +61,19 @@ fn change_edges<T: RangeValue>(
 
 /// Makes an index the end of a run, and changes an edge before it.
 fn insert_and_change<T: RangeValue>(
-    runs: &mut BTreeMap<u64, T>,
+    runs: &mut SortedRuns<T>,
     low: u64,
     at_low: Edge<T>,
     high: u64,
     value: T,
 ) -> Result<(), AllocError>
-    requires { CanBeUndone high (New value) runs.old.entries }
-    ensures ok { OnOk result (runs.new.entries ≡ edged low at_low (insert_entry nat_cmp runs.old.entries high value)) }
-    ensures err { OnErr result (runs.new.entries ≡ runs.old.entries) }
+    requires { CanBeUndone high (New value) runs.old }
+    ensures ok { OnOk result (runs.new ≡ edged low at_low (insert_entry nat_cmp runs.old high value)) }
+    ensures err { OnErr result (runs.new ≡ runs.old) }
 {
     runs.insert(high, value)?;
     if let Err(error) = change_edge(runs, low, at_low) {
-        runs.remove(&high);
+        runs.remove(high);
         return Err(error);
     }
     Ok(())
@@ -81,17 +81,17 @@ fn insert_and_change<T: RangeValue>(
 
 /// Changes an edge. An error leaves the runs as they were.
 fn change_edge<T: RangeValue>(
-    runs: &mut BTreeMap<u64, T>,
+    runs: &mut SortedRuns<T>,
     at: u64,
     edge: Edge<T>,
 ) -> Result<(), AllocError>
-    ensures ok { OnOk result (runs.new.entries ≡ edged at edge runs.old.entries) }
-    ensures err { OnErr result (runs.new.entries ≡ runs.old.entries) }
+    ensures ok { OnOk result (runs.new ≡ edged at edge runs.old) }
+    ensures err { OnErr result (runs.new ≡ runs.old) }
 {
     match edge {
         Edge::Stays => Ok(()),
         Edge::Goes => {
-            runs.remove(&at);
+            runs.remove(at);
             Ok(())
         }
         Edge::Becomes(value) => {
@@ -106,25 +106,23 @@ fn change_edge<T: RangeValue>(
 }
 
 /// Gives each end that changes speak of its new value, or takes it away.
-fn apply<T: RangeValue>(runs: &mut BTreeMap<u64, T>, changes: Vec<Change<T>>)
-    ensures { runs.new.entries ≡ applied changes.items runs.old.entries }
+fn apply<T: RangeValue>(runs: &mut SortedRuns<T>, changes: Vec<Change<T>>)
+    ensures { runs.new ≡ applied changes.items runs.old }
 {
     for change in changes {
         let Change { end, value } = change;
         match value {
             Some(value) => set(runs, end, value),
             None => {
-                runs.remove(&end);
+                runs.remove(end);
             }
         }
     }
 }
 
 /// Gives a run another value, by its end.
-fn set<T: RangeValue>(runs: &mut BTreeMap<u64, T>, end: u64, value: T)
-    ensures { runs.new.entries ≡ set_value (is_at (nat_cmp end)) runs.old.entries value }
+fn set<T: RangeValue>(runs: &mut SortedRuns<T>, end: u64, value: T)
+    ensures { runs.new ≡ set_value (is_at (nat_cmp end)) runs.old value }
 {
-    if let Some(slot) = runs.get_mut(&end) {
-        *slot = value;
-    }
+    runs.set(end, value);
 }

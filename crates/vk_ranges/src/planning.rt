@@ -7,22 +7,22 @@ ghost use Rattle.vk_ranges.specs.Inner.Plans.{Makes, IsKept, runs_of};
 ghost use Rattle.vk_ranges.specs.Inner.Edges.{IsClosed, IsEdgeAfter, first_value};
 ghost use Rattle.vk_ranges.specs.Inner.Walks.{Walked, IsMapped, Gives};
 
+use crate::after::RunsAfter;
 use crate::changes::{Change, Edge, Plan};
 use crate::edges::{Start, edge_after, edge_before, runs_after, start_of};
 use crate::runs::Overlapping;
+use crate::sorted::SortedRuns;
 use crate::value::RangeValue;
 use std::alloc::{AllocError, Global};
-use std::collections::BTreeMap;
-use std::collections::btree_map::Range;
 
 /// The runs that overlap `low..high`, in order, each cut to it.
 pub(crate) fn overlapping<T: RangeValue>(
-    runs: &BTreeMap<u64, T>,
+    runs: &SortedRuns<T>,
     low: u64,
     high: u64,
 ) -> Overlapping<'_, T>
     ensures left { pieces_left result
-        ≡ with_starts low (upto low high (after low runs.now.entries)) }
+        ≡ with_starts low (upto low high (after low runs.now)) }
     ensures start { result.start ≡ low }
     ensures end { result.end ≡ high }
 {
@@ -36,15 +36,15 @@ pub(crate) fn overlapping<T: RangeValue>(
 /// The plan that makes one run of `low..high`.
 pub(crate) fn plan_of_one<T: RangeValue>(
     alloc: Global,
-    runs: &BTreeMap<u64, T>,
+    runs: &SortedRuns<T>,
     low: u64,
     high: u64,
     value: T,
 ) -> Result<Plan<T>, AllocError>
     requires some { low < high }
-    requires tiling { (len : ℕ) × IsTiling 0 len runs.now.entries × (high ≤ len) }
-    requires maximal { IsMaximal runs.now.entries }
-    ensures { IfOk result (λ plan. Makes low high runs.now.entries plan ((high, value) ∷ [])) }
+    requires tiling { (len : ℕ) × IsTiling 0 len runs.now × (high ≤ len) }
+    requires maximal { IsMaximal runs.now }
+    ensures { IfOk result (λ plan. Makes low high runs.now plan ((high, value) ∷ [])) }
 {
     let Start {
         left,
@@ -74,7 +74,7 @@ fn merged<'a, T: RangeValue>(
     alloc: Global,
     first_end: u64,
     first: &'a T,
-    rest: Range<'a, u64, T>,
+    rest: RunsAfter<'a, T>,
     high: u64,
     value: T,
 ) -> Result<Tail<T>, AllocError>
@@ -95,7 +95,7 @@ fn merged<'a, T: RangeValue>(
             return Ok(Tail { changes, at_high });
         }
         changes.push(Change { end, value: None })?;
-        end = *next_end;
+        end = next_end;
         here = next;
     }
     let at_high = last_edge(end, here, None, high, value);
@@ -133,20 +133,20 @@ fn last_edge<'a, T: RangeValue>(
 /// The plan that gives each run of `low..high` what `f` answers for its value.
 pub(crate) fn plan_of_each<T: RangeValue, F: Fn(&T) -> Result<T, AllocError>>(
     alloc: Global,
-    runs: &BTreeMap<u64, T>,
+    runs: &SortedRuns<T>,
     low: u64,
     high: u64,
     f: F,
 ) -> Result<Plan<T>, AllocError>
     requires callable { F.IsAlwaysCallable f }
     requires some { low < high }
-    requires tiling { (len : ℕ) × IsTiling 0 len runs.now.entries × (high ≤ len) }
-    requires maximal { IsMaximal runs.now.entries }
+    requires tiling { (len : ℕ) × IsTiling 0 len runs.now × (high ≤ len) }
+    requires maximal { IsMaximal runs.now }
     ensures { IfOk result (λ plan. (news : List (ℕ × T))
-        × Makes low high runs.now.entries plan news
+        × Makes low high runs.now plan news
         × ((index : ℕ) → low ≤ index → index < high
         → Gives (λ before after. FnReturnsAt F.Fn f before (Ok after))
-        runs.now.entries news index)) }
+        runs.now news index)) }
 {
     let Start {
         left,
@@ -170,7 +170,7 @@ fn mapped<'a, T: RangeValue, F: Fn(&T) -> Result<T, AllocError>>(
     alloc: Global,
     first_end: u64,
     first: &'a T,
-    rest: Range<'a, u64, T>,
+    rest: RunsAfter<'a, T>,
     high: u64,
     answer: T,
     f: F,
@@ -196,7 +196,7 @@ fn mapped<'a, T: RangeValue, F: Fn(&T) -> Result<T, AllocError>>(
         }
         let next_value = f(next)?;
         changes.push(kept_before(end, value, &next_value))?;
-        end = *next_end;
+        end = next_end;
         here = next;
         value = next_value;
     }

@@ -1,5 +1,5 @@
+use crate::after::RunsAfter;
 use crate::value::RangeValue;
-use std::collections::btree_map::Range;
 
 /// Indices in a row that have one value, as `overlapping` gives them.
 #[derive(Drop)]
@@ -15,7 +15,7 @@ pub struct Run<'a, T> {
 /// The runs that overlap a range, in order, each cut to it.
 #[derive(Drop)]
 pub struct Overlapping<'a, T> {
-    pub(crate) runs: Range<'a, u64, T>,
+    pub(crate) runs: RunsAfter<'a, T>,
     pub(crate) start: u64,
     pub(crate) end: u64,
 }
@@ -36,7 +36,7 @@ impl<'a, T: RangeValue> Iterator for Overlapping<'a, T> {
         }
         let (end, value) = self.runs.next()?;
         let start = self.start;
-        self.start = self.end.min(*end);
+        self.start = self.end.min(end);
         Some(Run {
             start,
             end: self.start,

@@ -46,7 +46,7 @@ pub loop-next_end-preserved : goal.loop-next_end-preserved
 loop-next_end-preserved g c = λ low len t lt le.
     let gives = λ (before after : g.row.T.Denot). FnReturnsAt g.F.Fn c.args.f before (Ok after) in
     let next = c.in-Some.next.now in
-    mapping_next gives low c.args.high len ((c.args.first_end, c.args.first.now) ∷ c.args.rest) c.loop-next_end.changes.items (c.loop-next_end.end, c.loop-next_end.here.now) (c.in-Some.next_end.now, next)
+    mapping_next gives low c.args.high len ((c.args.first_end, c.args.first.now) ∷ c.args.rest) c.loop-next_end.changes.items (c.loop-next_end.end, c.loop-next_end.here.now) (c.in-Some.next_end, next)
     c.loop-next_end.next_end-iterator c.next.new.self c.loop-next_end.value c.in_ok-next_value.next_value c.args.answer t (c.loop-next_end.invariant low len t lt le) c.in-Some.ensures.steps c.if-end-high.false
     c.kept_before.result c.push.new.self.items c.kept_before.ensures.end c.kept_before.ensures.kept c.in_ok-push.ensures.items (says_at g.F.Fn c.in_ok-next_value.ensures refl)
 

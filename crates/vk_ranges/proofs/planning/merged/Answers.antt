@@ -38,7 +38,7 @@ loop-next_end-preserved g c =
     record {
       walks = λ low len t lt le.
           walk_next low c.args.high len ((c.args.first_end, c.args.first.now) ∷ c.args.rest) c.loop-next_end.changes.items (c.loop-next_end.end, c.loop-next_end.here.now) c.loop-next_end.next_end-iterator t
-          (c.loop-next_end.invariant.walks low len t lt le) (c.in-Some.next_end.now, c.in-Some.next.now) c.next.new.self c.in-Some.ensures.steps c.if-end-high.false
+          (c.loop-next_end.invariant.walks low len t lt le) (c.in-Some.next_end, c.in-Some.next.now) c.next.new.self c.in-Some.ensures.steps c.if-end-high.false
           (record { end = c.loop-next_end.end; value = None }) c.push.new.self.items refl c.in_ok-push.ensures.items;
       none =
           ap (λ xs. runs_of xs) c.in_ok-push.ensures.items ∙ runs_append c.loop-next_end.changes.items (record { end = c.loop-next_end.end; value = None } ∷ [])

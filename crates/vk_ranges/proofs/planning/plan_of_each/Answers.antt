@@ -13,7 +13,7 @@ mapped-requires-clause-given g c = says_at g.F.Fn c.in_ok-first.ensures refl
 pub returns : goal.returns
 returns g c =
     let gives = λ (before after : g.row.T.Denot). FnReturnsAt g.F.Fn c.args.f before (Ok after) in
-    let runs = c.args.runs.now.entries in
+    let runs = c.args.runs.now in
     let low = c.args.low in
     let high = c.args.high in
     let first = c.in_ok-first.first in

@@ -5,7 +5,7 @@ use Rattle.vk_ranges.proofs.planning.plan_of_one.Goals as goal
 
 pub returns : goal.returns
 returns g c =
-    let runs = c.args.runs.now.entries in
+    let runs = c.args.runs.now in
     let low = c.args.low in
     let high = c.args.high in
     let value = c.args.value in

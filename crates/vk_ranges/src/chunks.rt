@@ -1,0 +1,118 @@
+ghost use Rattle.std.specs.Prelude.{◌≡◌, ◌<◌, length, slice_index_or, OnOk, OnErr, IfOk};
+ghost use Rattle.std.specs.Ordering.{nat_cmp};
+ghost use Rattle.std.specs.Map.{remove_entry, set_value};
+ghost use Rattle.std.specs.BTreeMap.{is_at, insert_entry};
+ghost use Rattle.vk_ranges.specs.Runs.{after};
+ghost use Rattle.vk_ranges.specs.declared.chunk.Chunk.{Chunk};
+ghost use Rattle.vk_ranges.specs.Inner.Chunks.{AreChunks, IsChunkOf, joined};
+
+use crate::after::RunsAfter;
+use crate::chunk::{Chunk, rest_after};
+use std::alloc::AllocError;
+
+/// The chunk that a run which ends at an index belongs to.
+fn chunk_of<T>(chunks: &[Chunk<T>], index: u64) -> usize
+    requires { AreChunks 0 chunks.now }
+    ensures within { result < length chunks.now }
+    ensures first { IsChunkOf index result chunks.now }
+{
+    chunks.partition_point(|chunk| chunk.last < index)
+}
+
+/// The runs that end after an index.
+pub(crate) fn runs_after<T>(chunks: &[Chunk<T>], index: u64) -> RunsAfter<'_, T>
+    requires { AreChunks 0 chunks.now }
+    ensures { result ≡ after index (joined chunks.now) }
+{
+    let at = chunk_of(chunks, index);
+    let here = rest_after(&chunks[at].runs, index);
+    let later = &chunks[at + 1..];
+    RunsAfter { here, later }
+}
+
+/// Gives the run that ends at an index the value, which is a new run where none ends there. An
+/// error, for want of memory, leaves the runs as they were.
+pub(crate) fn insert_run<T: Drop>(
+    chunks: &mut Vec<Chunk<T>>,
+    end: u64,
+    value: T,
+) -> Result<(), AllocError>
+    requires { AreChunks 0 chunks.old.items }
+    ensures chunks { AreChunks 0 chunks.new.items }
+    ensures ok { OnOk result (joined chunks.new.items ≡ insert_entry nat_cmp (joined chunks.old.items) end value) }
+    ensures err { OnErr result (joined chunks.new.items ≡ joined chunks.old.items) }
+{
+    let at = room_for(chunks, end)?;
+    match chunks[at].insert(end, value) {
+        Ok(()) => Ok(()),
+        Err(error) => Err(error),
+    }
+}
+
+/// The chunk that a run which ends at an index belongs to, with room for one more run.
+fn room_for<T: Drop>(chunks: &mut Vec<Chunk<T>>, end: u64) -> Result<usize, AllocError>
+    requires { AreChunks 0 chunks.old.items }
+    ensures chunks { AreChunks 0 chunks.new.items }
+    ensures runs { joined chunks.new.items ≡ joined chunks.old.items }
+    ensures within { IfOk result (λ at. at < length chunks.new.items) }
+    ensures first { IfOk result (λ at. IsChunkOf end at chunks.new.items) }
+{
+    let at = chunk_of(chunks, end);
+    if !chunks[at].is_full() {
+        return Ok(at);
+    }
+    split(chunks, at)?;
+    Ok(chunk_of(chunks, end))
+}
+
+/// Makes two chunks of one. An error leaves them as they were.
+fn split<T: Drop>(chunks: &mut Vec<Chunk<T>>, at: usize) -> Result<(), AllocError>
+    requires chunks { AreChunks 0 chunks.old.items }
+    requires within { at < length chunks.old.items }
+    requires some { (d : Chunk T) → 1 < length (slice_index_or chunks.old.items at d).runs.items }
+    ensures chunks { AreChunks 0 chunks.new.items }
+    ensures runs { joined chunks.new.items ≡ joined chunks.old.items }
+{
+    chunks.reserve(1)?;
+    let more = chunks[at].halve()?;
+    match chunks.insert(at + 1, more) {
+        Ok(()) => Ok(()),
+        Err(_) => unreachable!(),
+    }
+}
+
+/// Takes away the run that ends at an index, if there is one.
+pub(crate) fn remove_run<T: Drop>(chunks: &mut Vec<Chunk<T>>, end: u64)
+    requires { AreChunks 0 chunks.old.items }
+    ensures chunks { AreChunks 0 chunks.new.items }
+    ensures runs { joined chunks.new.items ≡ remove_entry (is_at (nat_cmp end)) (joined chunks.old.items) }
+{
+    let at = chunk_of(chunks, end);
+    chunks[at].remove(end);
+    drop_empty(chunks, at);
+}
+
+/// Takes away a chunk with no runs, unless it is the last one.
+fn drop_empty<T: Drop>(chunks: &mut Vec<Chunk<T>>, at: usize)
+    requires chunks { AreChunks 0 chunks.old.items }
+    requires within { at < length chunks.old.items }
+    ensures chunks { AreChunks 0 chunks.new.items }
+    ensures runs { joined chunks.new.items ≡ joined chunks.old.items }
+{
+    if !chunks[at].runs.is_empty() {
+        return;
+    }
+    if at + 1 < chunks.len() {
+        chunks.remove(at);
+    }
+}
+
+/// Gives the run that ends at an index another value, if there is one.
+pub(crate) fn set_run<T: Drop>(chunks: &mut Vec<Chunk<T>>, end: u64, value: T)
+    requires { AreChunks 0 chunks.old.items }
+    ensures chunks { AreChunks 0 chunks.new.items }
+    ensures runs { joined chunks.new.items ≡ set_value (is_at (nat_cmp end)) (joined chunks.old.items) value }
+{
+    let at = chunk_of(chunks, end);
+    chunks[at].set(end, value);
+}

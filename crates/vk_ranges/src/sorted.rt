@@ -1,0 +1,76 @@
+ghost use Rattle.std.specs.Prelude.{◌≡◌, [], OnOk, OnErr, IfOk};
+ghost use Rattle.std.specs.Ordering.{nat_cmp};
+ghost use Rattle.std.specs.Map.{remove_entry, set_value};
+ghost use Rattle.std.specs.BTreeMap.{is_at, insert_entry};
+ghost use Rattle.vk_ranges.specs.Runs.{after};
+
+use crate::after::RunsAfter;
+use crate::chunk::Chunk;
+use crate::chunks::{insert_run, remove_run, runs_after, set_run};
+use std::alloc::{AllocError, Global};
+use std::marker::Model;
+
+/// Runs in the order of their ends, in chunks. Contracts see the list of the runs.
+#[derive(Drop)]
+pub(crate) struct SortedRuns<T> {
+    /// Each chunk has the ends after those of the one before it, up to its last one. There is at
+    /// least one, and the last one takes all up to the greatest index: no other is empty.
+    chunks: Vec<Chunk<T>>,
+}
+
+impl<T> Model for SortedRuns<T> {
+    ghost use Rattle.std.specs.Prelude.{List, ℕ};
+    ghost use Rattle.vk_ranges.specs.Inner.Chunks.{AreChunks, joined};
+
+    ghost Value = { List (ℕ × T) };
+
+    ghost view = { λ m. joined m.chunks.items };
+
+    ghost invariant = { λ m. AreChunks 0 m.chunks.items };
+}
+
+impl<T> SortedRuns<T> {
+    /// The runs that end after an index.
+    pub(crate) fn after(&self, index: u64) -> RunsAfter<'_, T>
+        ensures { result ≡ after index self.now }
+    {
+        runs_after(&self.chunks, index)
+    }
+}
+
+impl<T: Drop> SortedRuns<T> {
+    /// No runs. The only error is want of memory.
+    pub(crate) fn new(alloc: Global) -> Result<SortedRuns<T>, AllocError>
+        ensures { IfOk result (λ runs. runs ≡ []) }
+    {
+        let mut chunks = Vec::new(alloc);
+        chunks.push(Chunk {
+            last: u64::MAX,
+            runs: Vec::new(alloc),
+        })?;
+        Ok(SortedRuns { chunks })
+    }
+
+    /// Gives the run that ends at an index the value, which is a new run where none ends there. An
+    /// error, for want of memory, leaves the runs as they were.
+    pub(crate) fn insert(&mut self, end: u64, value: T) -> Result<(), AllocError>
+        ensures ok { OnOk result (self.new ≡ insert_entry nat_cmp self.old end value) }
+        ensures err { OnErr result (self.new ≡ self.old) }
+    {
+        insert_run(&mut self.chunks, end, value)
+    }
+
+    /// Takes away the run that ends at an index, if there is one.
+    pub(crate) fn remove(&mut self, end: u64)
+        ensures { self.new ≡ remove_entry (is_at (nat_cmp end)) self.old }
+    {
+        remove_run(&mut self.chunks, end);
+    }
+
+    /// Gives the run that ends at an index another value, if there is one.
+    pub(crate) fn set(&mut self, end: u64, value: T)
+        ensures { self.new ≡ set_value (is_at (nat_cmp end)) self.old value }
+    {
+        set_run(&mut self.chunks, end, value);
+    }
+}
