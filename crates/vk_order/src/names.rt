@@ -1,8 +1,7 @@
 ghost use Rattle.std.specs.Prelude.{◌≡◌, ◌∷◌, ◌||◌, [], ℕ, Bool, List, IfOk, OnOk, nat_le};
 ghost use Rattle.std.specs.List.{list_any};
-ghost use Rattle.std.specs.Ordering.{nat_cmp};
-ghost use Rattle.std.specs.BTreeMap.{get};
 ghost use Rattle.std.specs.Option.{option_copied};
+ghost use Rattle.vk_ids.specs.Ids.{value_of};
 ghost use Rattle.vk_model.specs.Basics.{holds};
 ghost use Rattle.vk_model.specs.Sync.Node.{Node, Hosts};
 ghost use Rattle.vk_model.specs.Sync.Edge.{pairs, by_semaphore};
@@ -19,6 +18,7 @@ use crate::keyed::Keyed;
 use crate::point::Act;
 use std::alloc::{AllocError, Global};
 use std::collections::BTreeMap;
+use vk_ids::IdMap;
 use vk_model::{Entry, SemaphoreValue};
 
 /// What comes after the nodes that lead to later ones by a name.
@@ -31,7 +31,7 @@ pub struct Names {
     /// After signals, by their semaphores and values.
     signals: Keyed,
     /// The greatest initial value of each semaphore.
-    initials: BTreeMap<u32, u64>,
+    initials: IdMap<u64>,
 }
 
 impl Names {
@@ -43,7 +43,7 @@ impl Names {
             submits: BTreeMap::new(alloc),
             sets: Keyed::new(alloc),
             signals: Keyed::new(alloc),
-            initials: BTreeMap::new(alloc),
+            initials: IdMap::new(alloc),
         }
     }
 
@@ -91,9 +91,9 @@ impl Names {
 
     /// Whether the initial value of a semaphore is enough for a wait.
     fn is_enough(&self, semaphore: u32, value: u64) -> bool
-        ensures { result ≡ holds (get nat_cmp self.now.initials semaphore) (nat_le value) }
+        ensures { result ≡ holds (value_of self.now.initials semaphore) (nat_le value) }
     {
-        match self.initials.get(&semaphore) {
+        match self.initials.get(semaphore) {
             Some(initial) => value <= *initial,
             None => false,
         }
@@ -188,17 +188,17 @@ fn add_signal(
     Ok(())
 }
 
-fn add_initial(initials: &mut BTreeMap<u32, u64>, row: &Row<'_>) -> Result<(), AllocError>
+fn add_initial(initials: &mut IdMap<u64>, row: &Row<'_>) -> Result<(), AllocError>
     ensures { OnOk result ((ns : List Node) (n : Node) → n.act ≡ act_of row.now.act → AreInitials ns initials.old → AreInitials (n ∷ ns) initials.new) }
 {
     let Act::Hosts(Entry::Semaphore { id, initial }) = row.act else {
         return Ok(());
     };
-    let Some(before) = initials.insert(*id, *initial)? else {
+    let Some(before) = initials.put(*id, *initial)? else {
         return Ok(());
     };
     if before > *initial {
-        initials.insert(*id, before)?;
+        initials.put(*id, before)?;
     }
     Ok(())
 }

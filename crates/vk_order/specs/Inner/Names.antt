@@ -2,6 +2,8 @@
 use Rattle.std.specs.Prelude.{◌≡◌, ◌∷◌, ◌&&◌, ◌==◌, ℕ, Bool, false, not, List, Some, Contains, nat_le}
 use Rattle.std.specs.Ordering.{nat_cmp}
 use Rattle.std.specs.BTreeMap.{BTreeMap, get}
+use Rattle.vk_ids.specs.declared.map.IdMap.{IdMap}
+use Rattle.vk_ids.specs.Ids.{value_of}
 use Rattle.vk_model.specs.Basics.{holds}
 use Rattle.vk_model.specs.Sync.Node.{Node, Act, Depends, SetOf}
 use Rattle.vk_model.specs.Sync.Edge.{signaled_by, is_least, is_enough}
@@ -43,8 +45,8 @@ pub record AreSignals (ns : List Node) (ls : List Line) (fronts : Keyed) : Type 
   pub some : (s u : ℕ) (f : Front) → front_at fronts s u ≡ Some f → (k : Node) × Contains ns k × (signaled_by k.act ≡ Some (s, u))
 
 -- The greatest initial values of semaphores.
-abbrev pub AreInitials : List Node → BTreeMap ℕ ℕ → Type 0
-AreInitials ns values = (s v : ℕ) → is_enough ns s v ≡ holds (get nat_cmp values s) (nat_le v)
+abbrev pub AreInitials : List Node → IdMap ℕ → Type 0
+AreInitials ns values = (s v : ℕ) → is_enough ns s v ≡ holds (value_of values s) (nat_le v)
 
 -- What is known of the nodes that have names.
 pub record IsNames (ns : List Node) (ls : List Line) (names : Names) : Type 0 where
