@@ -46,11 +46,22 @@ row_same g ns ls f h row same j = record { join = rows_same g ns f h (clock_at l
 pub front_same : (ns : List Node) (ls : List Line) (f h : Node → Bool) (x : Front) → ((k : Node) → Contains ns k → f k ≡ h k) → IsFront ns ls f x → IsFront ns ls h x
 front_same ns ls f h x same is = record { clock = same_kept ns ls f h (clock_in x) same is.clock; rows = λ g. row_same g ns ls f h (row_in g x) same (is.rows g) }
 
+pub front_items : (ns : List Node) (ls : List Line) (test : Node → Bool) (x y : Front) → y.counts.items ≡ x.counts.items → IsFront ns ls test x → IsFront ns ls test y
+front_items ns ls test x y e is = record {
+  clock = subst (λ (c : List Counts). IsKeptJoin ns ls test (map (λ d. d.clock) c)) (sym e) is.clock;
+  rows = λ g. subst (λ (c : List Counts). IsKeptRow g ns ls test (map (count_in g) c)) (sym e) (is.rows g);
+}
+
 pub front_none : (ns : List Node) (ls : List Line) (x : Front) → x.counts.items ≡ [] → IsFront ns ls (λ k. false) x
 front_none ns ls x e = record {
   clock = subst (λ (c : List Counts). IsKeptJoin ns ls (λ k. false) (map (λ d. d.clock) c)) (sym e) (join_none ns ls);
   rows = λ g. subst (λ (c : List Counts). IsKeptRow g ns ls (λ k. false) (map (count_in g) c)) (sym e) (rows_none g ns ls);
 }
+
+-- a front that comes after the nodes of two tests, or after those of the second alone where there are none of the first
+pub front_taken : (ns : List Node) (ls : List Line) (f h : Node → Bool) (x : Front) (first : Bool) → (first ≡ true → (k : Node) → f k ≡ false) → (first ≡ true → IsFront ns ls h x) → (first ≡ false → IsFront ns ls (λ k. f k || h k) x) → IsFront ns ls (λ k. f k || h k) x
+front_taken ns ls f h x true none alone both = front_same ns ls h (λ k. f k || h k) x (λ k there. sym (ap (λ (t : Bool). t || h k) (none refl k))) (alone refl)
+front_taken ns ls f h x false none alone both = both refl
 
 pub fronts_both : (ns : List Node) (ls : List Line) (f h : Node → Bool) (first second both : Front) → AreJoinedFronts first second both → IsFront ns ls f first → IsFront ns ls h second → IsFront ns ls (λ k. f k || h k) both
 fronts_both ns ls f h first second both are i j = record {

@@ -1,23 +1,27 @@
 -- Nodes that have names, and one more.
 use Rattle.std.proofs.Common.{◌≡◌, ◌≢◌, ◌⊎◌, inl, inr, ℕ, List, ◌∷◌, Bool, true, false, ◌&&◌, IsTrue, Option, Some, None, refl, ap, sym, ◌∙◌, subst}
-use Rattle.std.specs.Prelude.{◌==◌, Contains}
+use Rattle.std.specs.Prelude.{◌==◌, ◌||◌, nat_le, Contains}
+use Rattle.std.specs.Ordering.{nat_cmp}
+use Rattle.std.specs.BTreeMap.{get}
 use Rattle.std.proofs.lemmas.Bool.{eqb-true, ne_eqb, and_parts, and_from}
 use Rattle.vk_model.specs.Basics.{holds}
 use Rattle.vk_model.specs.declared.command.Element.{Element}
 use Rattle.vk_model.specs.Sync.Node.{Node, Act, Hosts, Waits, Signals, Runs, Depends, Barrier, SetOf, AwaitOf}
-use Rattle.vk_model.specs.Sync.Edge.{is_submit, signaled_by}
+use Rattle.vk_model.specs.Sync.Edge.{is_submit, signaled_by, initial_by, is_enough}
 use Rattle.vk_model.specs.Sync.Before.{IsNumbered}
 use Rattle.vk_model.proofs.Lists.Members.{contains-head, contains-tail}
 use Rattle.vk_model.proofs.Lists.Truths.{no}
 use Rattle.vk_order.specs.declared.acts.Row.{Row}
 use Rattle.vk_order.specs.declared.lines.Line.{Line}
 use Rattle.vk_order.specs.declared.fronts.Front.{Front}
+use Rattle.vk_order.specs.declared.names.Names.{Names}
 use Rattle.vk_order.specs.PointViews.{act_of}
 use Rattle.vk_order.specs.Prefixes.{submits}
 use Rattle.vk_order.specs.Inner.Clocks.{IsWhole}
 use Rattle.vk_order.specs.Inner.Kept.{is_alone}
 use Rattle.vk_order.specs.Inner.Fronts.{IsNamed}
-use Rattle.vk_order.specs.Inner.Names.{is_set_of, signals_value, IsNext}
+use Rattle.vk_order.specs.Inner.Keyed.{front_at}
+use Rattle.vk_order.specs.Inner.Names.{is_set_of, signals_value, IsNameless, IsNames, IsNext}
 use Rattle.vk_order.proofs.NamedLemmas.{after_earlier}
 use Rattle.vk_order.proofs.FrontLemmas.{named_stays}
 
@@ -138,3 +142,15 @@ module _ (ns : List Node) (ls : List Line) (n : Node) (row : Row) (own : Front) 
   pub some_same : (old : ℕ → ℕ → Option Front) → ((i u : ℕ) (f : Front) → old i u ≡ Some f → (k : Node) × Contains ns k × (signaled_by k.act ≡ Some (i, u)))
       → (i u : ℕ) (f : Front) → old i u ≡ Some f → (k : Node) × Contains (n ∷ ns) k × (signaled_by k.act ≡ Some (i, u))
   some_same old each i u f found = let r = each i u f found in (r.0, contains-tail n ns r.0 r.1, r.2)
+
+  -- a node without a name changes nothing
+  pub names_same : (names : Names) → IsNameless (act_of row.act) → IsNames ns ls names → IsNames (n ∷ ns) ls names
+  names_same names none are = record {
+    submits = submits_same (get nat_cmp names.submits) none.submit are.submits;
+    sets = sets_same none.set (front_at names.sets) are.sets;
+    signals = record {
+      each = signals_same none.signal (front_at names.signals) are.signals.each;
+      some = some_same (front_at names.signals) are.signals.some;
+    };
+    initials = λ s v. ap (λ (o : Option ℕ). holds o (nat_le v) || is_enough ns s v) (ap (initial_by s) next.act ∙ none.initial s) ∙ are.initials s v;
+  }

@@ -12,11 +12,12 @@ use Rattle.vk_order.specs.declared.counts.Counts.{Counts}
 use Rattle.vk_order.specs.declared.counts.Shows.{Shows}
 use Rattle.vk_order.specs.declared.fronts.Front.{Front}
 use Rattle.vk_order.specs.declared.lines.Line.{Line}
+use Rattle.vk_order.specs.declared.lines.Line.TheVariants.{Host as OfHost, Commands as OfCommands, Signals as OfSignals, Elements as OfElements, Sets as OfSets, Waits as OfWaits}
 use Rattle.vk_order.specs.declared.tallies.LineTally.{LineTally}
 use Rattle.vk_order.specs.PointViews.{act_of}
 use Rattle.vk_order.specs.Lines.{line_of}
 use Rattle.vk_order.specs.Inner.Clocks.{on_line, place}
-use Rattle.vk_order.specs.Inner.Counts.{zero_counts, count_in, counts_on, known_on, shows_of, made_visible_by, with_clock, with_available, AreSent, AreVisible, AreCounted}
+use Rattle.vk_order.specs.Inner.Counts.{zero_counts, count_in, counts_on, known_on, shows_of, made_visible_by, no_shows, hidden, with_clock, with_available, AreSent, AreVisible, AreCounted}
 use Rattle.vk_order.specs.Inner.Fronts.{clock_in, row_in, IsOwnFront}
 use Rattle.vk_order.specs.Inner.Kept.{clock_at, IsOwn}
 use Rattle.vk_order.specs.Inner.Leads.{is_of_host, is_of_barriers}
@@ -78,6 +79,23 @@ all_visible ts s before own k ends long done rest = record { counts = λ l. go l
     go l (Some i) e =
         let r = tally_at ts l i e in
         each i r.0 r.1 ∙ ap (λ (m : Line). made_visible_by s m (slice_index_or before i zero_counts)) r.2
+
+shown_not : (l : Line) (c : Counts) → made_visible_by no_shows l c ≡ hidden c
+shown_not OfHost c = refl
+shown_not (OfCommands q) c = refl
+shown_not (OfSignals q) c = refl
+shown_not (OfElements q t h) c = refl
+shown_not (OfSets q) c = refl
+shown_not (OfWaits q t h a) c = refl
+
+-- an act that makes nothing visible hides all
+pub all_hidden : (ts : List LineTally) (s : Shows) (before own : List Counts) → s ≡ no_shows → length own ≡ length before
+    → ((i : ℕ) → slice_index_or own i zero_counts ≡ hidden (slice_index_or before i zero_counts)) → AreVisible (lines_of ts) s before own
+all_hidden ts s before own nothing long each = subst (λ (x : Shows). AreVisible (lines_of ts) x before own) (sym nothing) (record { counts = λ l. go l (index_in (lines_of ts) l); long = long })
+  where
+    go : (l : Line) (o : Option ℕ) → option_map_or (λ i. slice_index_or own i zero_counts) o zero_counts ≡ made_visible_by no_shows l (option_map_or (λ i. slice_index_or before i zero_counts) o zero_counts)
+    go l None = sym (shown_not l zero_counts)
+    go l (Some i) = each i ∙ sym (shown_not l (slice_index_or before i zero_counts))
 
 -- ---- the node itself
 

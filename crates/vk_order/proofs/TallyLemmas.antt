@@ -39,6 +39,10 @@ use Rattle.vk_order.proofs.OwnLemmas.{lines_length, tally_at, none_there, no_pla
 abbrev pub of_first : (Line → Bool) → List LineTally → ℕ → Node → Bool
 of_first passes ts i k = list_any (λ t. passes t.line && same_line t.line (class_of k)) (take i ts)
 
+pub none_past : (ts : List LineTally) (passes : Line → Bool) (i : ℕ) (d : LineTally) (k : Node) → i < length ts → passes (get_or ts i d).line ≡ false → of_first passes ts i k ≡ false → of_first passes ts (i + 1) k ≡ false
+none_past ts passes i d k lt is none =
+    any-step (λ t. passes t.line && same_line t.line (class_of k)) ts i d lt ∙ ap (λ (b : Bool). of_first passes ts i k || (b && same_line (get_or ts i d).line (class_of k))) is ∙ or-false (of_first passes ts i k) ∙ none
+
 module _ (ns : List Node) (ts : List LineTally) (passes : Line → Bool) where
   pub front_on : (i : ℕ) (d : LineTally) (x : Front) → i < length ts → passes (get_or ts i d).line ≡ true
       → IsFront ns (lines_of ts) (λ k. of_first passes ts i k || same_line (get_or ts i d).line (class_of k)) x → IsFront ns (lines_of ts) (of_first passes ts (i + 1)) x

@@ -1,6 +1,6 @@
-ghost use Rattle.std.specs.Prelude.{◌≡◌, ◌<◌, ◌≤◌, ◌+◌, ◌^◌, ◌==◌, ℕ, IfOk, OnOk, max, length, slice_index_or, if◌then◌else◌, vec_len};
+ghost use Rattle.std.specs.Prelude.{◌≡◌, true, ◌<◌, ◌≤◌, ◌+◌, ◌^◌, ◌==◌, ℕ, IfOk, OnOk, max, length, slice_index_or, if◌then◌else◌, vec_len};
 ghost use Rattle.vk_order.specs.PointViews.{act_of};
-ghost use Rattle.vk_order.specs.Inner.Counts.{zero_counts, joined_counts, known_in, known_on, shows_of, made_visible_on, AreJoinedCounts};
+ghost use Rattle.vk_order.specs.Inner.Counts.{zero_counts, joined_counts, known_in, known_on, shows_of, made_visible_on, with_clock, with_available, hidden, covers, AreJoinedCounts};
 
 use crate::access::Access;
 use crate::lines::Line;
@@ -68,16 +68,32 @@ impl Counts {
         }
     }
 
-    /// Makes each count the greater one of the two.
-    fn join(&mut self, other: &Counts)
-        ensures { self.new ≡ joined_counts self.old other.now }
+    /// Whether each count is at least as great as that of the other one.
+    #[inline(always)]
+    fn covers(self, other: Counts) -> bool
+        ensures { result ≡ covers self other }
     {
-        raise(&mut self.clock, other.clock);
-        raise(&mut self.available, other.available);
-        raise(&mut self.reads, other.reads);
-        raise(&mut self.writes, other.writes);
-        raise(&mut self.host_reads, other.host_reads);
-        raise(&mut self.host_writes, other.host_writes);
+        other.clock <= self.clock
+            && other.available <= self.available
+            && other.reads <= self.reads
+            && other.writes <= self.writes
+            && other.host_reads <= self.host_reads
+            && other.host_writes <= self.host_writes
+    }
+
+    /// The greater one of each two counts.
+    #[inline(always)]
+    fn joined(self, other: Counts) -> Counts
+        ensures { result ≡ joined_counts self other }
+    {
+        Counts {
+            clock: self.clock.max(other.clock),
+            available: self.available.max(other.available),
+            reads: self.reads.max(other.reads),
+            writes: self.writes.max(other.writes),
+            host_reads: self.host_reads.max(other.host_reads),
+            host_writes: self.host_writes.max(other.host_writes),
+        }
     }
 
     /// Of how many nodes of a line the writes are known: of elements of barriers those before, of
@@ -117,16 +133,6 @@ impl Counts {
     }
 }
 
-/// Makes a count the greater one of two. Most are already, so it writes only where it has to.
-#[inline(always)]
-fn raise(count: &mut usize, other: usize)
-    ensures { count.new ≡ max count.old other }
-{
-    if *count < other {
-        *count = other;
-    }
-}
-
 /// The counts at an index.
 pub fn counts_at(all: &[Counts], index: usize) -> Counts
     ensures { result ≡ slice_index_or all.now index zero_counts }
@@ -159,8 +165,36 @@ fn join_shared(all: &mut Vec<Counts>, other: &[Counts])
     ensures counts { (i : ℕ) → i < vec_len all.old → slice_index_or all.new.items i zero_counts ≡ joined_counts (slice_index_or all.old.items i zero_counts) (slice_index_or other.now i zero_counts) }
 {
     for index in 0..all.len().min(other.len()) {
-        all[index].join(&other[index]);
+        all[index] = all[index].joined(other[index]);
     }
+}
+
+/// Whether counts are those of what comes after other ones' nodes too.
+pub fn cover(all: &[Counts], other: &[Counts]) -> bool
+    ensures { result ≡ true → AreJoinedCounts other.now all.now all.now }
+{
+    if all.len() < other.len() {
+        return false;
+    }
+    for index in 0..other.len() {
+        if !all[index].covers(other[index]) {
+            return false;
+        }
+    }
+    true
+}
+
+/// Makes counts the same as other ones.
+pub fn copy_in(all: &mut Vec<Counts>, other: &[Counts]) -> Result<(), AllocError>
+    ensures { OnOk result (all.new.items ≡ other.now) }
+{
+    if all.len() == other.len() {
+        all.as_mut_slice().copy_from_slice(other);
+        return Ok(());
+    }
+    all.clear();
+    all.extend_from_slice(other)?;
+    Ok(())
 }
 
 /// Adds those of the other ones that are past the end.
@@ -176,25 +210,50 @@ fn take_rest(all: &mut Vec<Counts>, other: &[Counts]) -> Result<(), AllocError>
     Ok(())
 }
 
-/// The same with other counts at an index, up to which the list grows. It is changed in its place.
-pub fn with_counts(all: Vec<Counts>, at: usize, counts: Counts) -> Result<Vec<Counts>, AllocError>
+/// Puts a clock at an index, up to which the list grows.
+pub fn put_clock(all: &mut Vec<Counts>, at: usize, clock: usize) -> Result<(), AllocError>
     requires { at < 2 ^ 63 }
-    ensures counts { IfOk result (λ new. (i : ℕ) → slice_index_or new.items i zero_counts ≡ (if i == at then counts else slice_index_or all.items i zero_counts)) }
-    ensures len { IfOk result (λ new. vec_len new ≡ max (vec_len all) (at + 1)) }
+    ensures counts { OnOk result ((i : ℕ) → slice_index_or all.new.items i zero_counts ≡ (if i == at then with_clock (slice_index_or all.old.items at zero_counts) clock else slice_index_or all.old.items i zero_counts)) }
+    ensures len { OnOk result (vec_len all.new ≡ max (vec_len all.old) (at + 1)) }
 {
-    let mut new = lengthened(all, at + 1)?;
-    new[at] = counts;
-    Ok(new)
+    lengthen(all, at + 1)?;
+    all[at].clock = clock;
+    Ok(())
 }
 
-/// Counts of this length at least, with those of no node at the end.
-fn lengthened(all: Vec<Counts>, length: usize) -> Result<Vec<Counts>, AllocError>
-    ensures counts { IfOk result (λ new. (i : ℕ) → slice_index_or new.items i zero_counts ≡ slice_index_or all.items i zero_counts) }
-    ensures len { IfOk result (λ new. vec_len new ≡ max (vec_len all) length) }
+/// The same of what is available.
+pub fn put_available(all: &mut Vec<Counts>, at: usize, available: usize) -> Result<(), AllocError>
+    requires { at < 2 ^ 63 }
+    ensures counts { OnOk result ((i : ℕ) → slice_index_or all.new.items i zero_counts ≡ (if i == at then with_available (slice_index_or all.old.items at zero_counts) available else slice_index_or all.old.items i zero_counts)) }
+    ensures len { OnOk result (vec_len all.new ≡ max (vec_len all.old) (at + 1)) }
 {
-    let mut new = all;
-    for _missing in new.len()..length {
-        new.push(Counts::zero())?;
+    lengthen(all, at + 1)?;
+    all[at].available = available;
+    Ok(())
+}
+
+/// Makes a list of counts this long at least, with those of no node at the end.
+fn lengthen(all: &mut Vec<Counts>, length: usize) -> Result<(), AllocError>
+    ensures counts { OnOk result ((i : ℕ) → slice_index_or all.new.items i zero_counts ≡ slice_index_or all.old.items i zero_counts) }
+    ensures len { OnOk result (vec_len all.new ≡ max (vec_len all.old) length) }
+{
+    for _missing in all.len()..length {
+        all.push(Counts::zero())?;
     }
-    Ok(new)
+    Ok(())
+}
+
+/// Makes nothing visible to commands.
+pub fn hide(all: &mut Vec<Counts>)
+    ensures len { vec_len all.new ≡ vec_len all.old }
+    ensures counts { (i : ℕ) → slice_index_or all.new.items i zero_counts ≡ hidden (slice_index_or all.old.items i zero_counts) }
+{
+    for index in 0..all.len() {
+        let counts = all[index];
+        all[index] = Counts {
+            reads: 0,
+            writes: 0,
+            ..counts
+        };
+    }
 }

@@ -1,14 +1,12 @@
-ghost use Rattle.std.specs.Prelude.{◌≡◌, ◌∷◌, ◌||◌, ◌&&◌, ◌==◌, ◌<◌, ◌≤◌, ◌↔◌, [], ℕ, Bool, List, true, false, nat_lt, IfOk, OnOk, IsTrue, is_some, Contains, Some, length, slice_get};
+ghost use Rattle.std.specs.Prelude.{◌≡◌, ◌∷◌, ◌||◌, ◌&&◌, ◌==◌, ◌<◌, [], ℕ, List, nat_lt, IfOk, OnOk, IsTrue, is_some, Some, length};
 ghost use Rattle.vk_model.specs.World.Bytes as world;
 ghost use Rattle.vk_model.specs.Sync.Node.{Node, acts, with_acts};
-ghost use Rattle.vk_model.specs.Sync.Edge.{edge, is_command, is_host};
-ghost use Rattle.vk_model.specs.Sync.Seen.{seen, makes_writes_available};
+ghost use Rattle.vk_model.specs.Sync.Edge.{edge};
 ghost use Rattle.vk_order.specs.declared.lines.Line.{Line as AnyLine};
 ghost use Rattle.vk_order.specs.PointViews.{action_of, act_of, point_of, node_of, nodes_after};
-ghost use Rattle.vk_order.specs.Lines.{class_of, class_on, line_of};
+ghost use Rattle.vk_order.specs.Lines.{class_of, class_on};
 ghost use Rattle.vk_order.specs.Queries.{IsNew};
-ghost use Rattle.vk_order.specs.Wide.{IsApartFrom, access_of, is_answered};
-ghost use Rattle.vk_order.specs.Limited.{is_limited, Reaches, IsWrite};
+ghost use Rattle.vk_order.specs.Wide.{IsApartFrom};
 ghost use Rattle.vk_order.specs.Bytes.{byte_of};
 ghost use Rattle.vk_order.specs.Inner.Clocks.{place, same_line};
 ghost use Rattle.vk_order.specs.Inner.Leads.{line_leads};
@@ -16,12 +14,10 @@ ghost use Rattle.vk_order.specs.Inner.Links.{by_name};
 ghost use Rattle.vk_order.specs.Inner.Places.{index_in};
 ghost use Rattle.vk_order.specs.Inner.Fronts.{IsFront};
 ghost use Rattle.vk_order.specs.Inner.Kept.{clock_at, IsLonger};
-ghost use Rattle.vk_order.specs.Inner.Parts.{parts_at, AreFrom, IsPart, IsNewPart, opens, Serves};
+ghost use Rattle.vk_order.specs.Inner.Parts.{parts_at, AreParts, IsNewPart};
 ghost use Rattle.vk_order.specs.Inner.Tallies.{lines_of, CanFollow, AreOnLines, AreFronts};
 ghost use Rattle.vk_order.specs.Frontiers.{IsFrontier, IsNewNode, IsFrom};
-ghost use Rattle.vk_order.specs.SeenWrites.{SaysSeen};
 
-use crate::access::Access;
 use crate::acts::Row;
 use crate::bytes::Byte;
 use crate::clocks::count_at;
@@ -30,7 +26,7 @@ use crate::lines::Line;
 use crate::names::Names;
 use crate::new_node::NewNode;
 use crate::owning::{heard, own_front};
-use crate::parts::{Part, Parts, Spot, parts_from};
+use crate::parts::{Part, Parts, Spot};
 use crate::point::{Act, Point, single_act};
 use crate::rows::rows_of;
 use crate::tallies::{LineTally, join_of, line_index, lines_copied, list_line, tally};
@@ -109,8 +105,8 @@ impl Frontier {
         ensures { IfOk result (λ f. (ns : List Node) (j : ℕ) → IsFrontier self.now ns
             → IsFront ns (lines_of self.now.tallies.items) (λ k. line_leads row.now.point.queue (act_of row.now.act) (class_of k) || by_name ns k (node_of j row.now)) f) }
     {
-        let front = join_of(room, self.tallies.as_slice(), row)?;
-        let front = self.names.with_names(front, row)?;
+        let mut front = join_of(room, self.tallies.as_slice(), row)?;
+        self.names.join_names(&mut front, row)?;
         Ok(front)
     }
 
@@ -241,13 +237,28 @@ impl Frontier {
         let Some(nodes) = self.nodes.checked_add(1) else {
             return Err(AllocError);
         };
-        let part = self.new_part(row, &front)?;
-        let own = own_front(self.tallies.as_slice(), row, at, front)?;
+        self.keep_part(row, &front)?;
+        let mut own = front;
+        own_front(self.tallies.as_slice(), row, at, &mut own)?;
         self.names.add(self.alloc, row, &own)?;
-        self.parts.keep(self.alloc, part)?;
-        tally(&mut self.tallies, at, &own)?;
+        tally(&mut self.tallies, at, &mut own)?;
         self.room = own;
         self.nodes = nodes;
+        Ok(())
+    }
+
+    /// Keeps a row that comes next, where it is a dependency on a part of memory.
+    fn keep_part(&mut self, row: &Row<'_>, front: &Front) -> Result<(), AllocError>
+        ensures nodes { OnOk result (self.new.nodes ≡ self.old.nodes) }
+        ensures tallies { OnOk result (self.new.tallies ≡ self.old.tallies) }
+        ensures names { OnOk result (self.new.names ≡ self.old.names) }
+        ensures parts { OnOk result ((ns : List Node) (n : Node) → n ≡ node_of (length ns) row.now → IsFront ns (lines_of self.old.tallies.items) (λ k. edge ns k n) front.now → IsFrontier self.old ns → AreParts (n ∷ ns) (lines_of self.old.tallies.items) self.new.parts) }
+    {
+        if !row.act.is_limited() {
+            return Ok(());
+        }
+        let part = self.new_part(row, front)?;
+        self.parts.keep(self.alloc, part)?;
         Ok(())
     }
 
@@ -277,24 +288,6 @@ impl Frontier {
         Ok(Some((id, part)))
     }
 
-    /// Whether an access of a byte by the node that comes next, a command or a host entry that
-    /// needs no invalidation, sees the write of it by a node, before which at least `from` nodes
-    /// came: the search is among what came since. Dependencies may be on parts of memory.
-    pub fn is_seen(
-        &self,
-        new_node: &NewNode,
-        write: Spot,
-        from: usize,
-        byte: Byte,
-        access: Access,
-    ) -> bool
-        ensures { SaysSeen self.now new_node.now write from access (byte_of byte) result }
-    {
-        let parts = parts_from(self.parts_of(byte), from);
-        self.is_served(new_node, parts, write, byte, access)
-            || self.is_marked(new_node, parts, write, byte, access)
-    }
-
     /// The parts of the resource of a byte.
     pub(crate) fn parts_of(&self, byte: Byte) -> &[Part]
         ensures { result.now ≡ parts_at self.now.parts (world.resource_at (byte_of byte)) }
@@ -307,77 +300,6 @@ impl Frontier {
         ensures { result.now ≡ parts_at self.now.parts resource }
     {
         self.parts.of(resource)
-    }
-
-    /// Whether parts make a write available, and what one of them marks is known at a node that
-    /// makes the byte visible to the access.
-    fn is_marked(
-        &self,
-        new_node: &NewNode,
-        parts: &[Part],
-        write: Spot,
-        byte: Byte,
-        access: Access,
-    ) -> bool
-        ensures { (ns : List Node) (n w : Node) (cached : world.Byte → Bool) (from : ℕ) → IsFrontier self.now ns → IsNewNode ns n new_node.now → (is_command n.act || is_host n.act) ≡ true → AreFrom from (parts_at self.now.parts (world.resource_at (byte_of byte))) parts.now
-            → from ≤ w.number → Contains ns w → line_of w ≡ Some write.line → place ns write.line w.number ≡ write.place
-            → IsTrue result ↔ ((m : Node) × Contains ns m × IsTrue (is_limited m.act) × IsTrue (is_command w.act && makes_writes_available cached ns m (byte_of byte) m.act && edge ns w m) × Serves cached ns n (access_of access) (byte_of byte) m) }
-    {
-        for part in parts {
-            if self.is_mark(new_node, parts, part, write, byte, access) {
-                return true;
-            }
-        }
-        false
-    }
-
-    /// Whether one part makes a write available, and what it marks is known at such a node.
-    fn is_mark(
-        &self,
-        new_node: &NewNode,
-        parts: &[Part],
-        part: &Part,
-        write: Spot,
-        byte: Byte,
-        access: Access,
-    ) -> bool
-        ensures { (ns : List Node) (n w m : Node) (cached : world.Byte → Bool) (from : ℕ) → IsFrontier self.now ns → IsNewNode ns n new_node.now → (is_command n.act || is_host n.act) ≡ true → AreFrom from (parts_at self.now.parts (world.resource_at (byte_of byte))) parts.now
-            → from ≤ w.number → Contains ns w → line_of w ≡ Some write.line → place ns write.line w.number ≡ write.place → IsPart ns (lines_of self.now.tallies.items) m part.now
-            → IsTrue result ↔ (IsTrue (is_command w.act && makes_writes_available cached ns m (byte_of byte) m.act && edge ns w m) × Serves cached ns n (access_of access) (byte_of byte) m) }
-    {
-        part.marks(write, byte) && self.is_served(new_node, parts, part.spot(), byte, access)
-    }
-
-    /// Whether what a node marks is known at a node that makes a byte visible to the access.
-    fn is_served(
-        &self,
-        new_node: &NewNode,
-        parts: &[Part],
-        spot: Spot,
-        byte: Byte,
-        access: Access,
-    ) -> bool
-        ensures { (ns : List Node) (n m : Node) (cached : world.Byte → Bool) (from : ℕ) → IsFrontier self.now ns → IsNewNode ns n new_node.now → (is_command n.act || is_host n.act) ≡ true → AreFrom from (parts_at self.now.parts (world.resource_at (byte_of byte))) parts.now
-            → from ≤ m.number → Contains ns m → line_of m ≡ Some spot.line → place ns spot.line m.number ≡ spot.place → IsTrue result ↔ Serves cached ns n (access_of access) (byte_of byte) m }
-    {
-        if new_node.shows(spot, access) {
-            return true;
-        }
-        for part in parts {
-            if self.gives(new_node, part, spot, byte, access) {
-                return true;
-            }
-        }
-        false
-    }
-
-    /// Whether one part makes the byte visible to the access, and what the node marks is known
-    /// there.
-    fn gives(&self, new_node: &NewNode, part: &Part, spot: Spot, byte: Byte, access: Access) -> bool
-        ensures { (ns : List Node) (n m q : Node) (cached : world.Byte → Bool) → IsNewNode ns n new_node.now → (is_command n.act || is_host n.act) ≡ true → IsPart ns (lines_of self.now.tallies.items) q part.now
-            → Contains ns m → line_of m ≡ Some spot.line → place ns spot.line m.number ≡ spot.place → IsTrue result ↔ (IsTrue (opens cached ns n n.act (access_of access) (byte_of byte) q) × Reaches ns m q) }
-    {
-        new_node.is_open(part, byte, access) && self.reaches(part, spot)
     }
 
     /// Whether what a node marks is known at a part, or it is the part itself.

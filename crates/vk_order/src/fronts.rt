@@ -6,7 +6,7 @@ ghost use Rattle.vk_order.specs.declared.lines.Line.{Line as AnyLine};
 ghost use Rattle.vk_order.specs.Inner.Clocks.{IsWhole};
 ghost use Rattle.vk_order.specs.Inner.Fronts.{clock_in, IsFront, IsNamed, IsOwnFront};
 
-use crate::counts::{Counts, join_in};
+use crate::counts::{Counts, copy_in, cover, join_in};
 use std::alloc::{AllocError, Global};
 
 /// What comes after some nodes: the counts for each line, in the order of the lines, where those of
@@ -36,6 +36,19 @@ impl Front {
         Front { counts }
     }
 
+    /// Comes after the nodes of another one too; where it is the first one, after these alone.
+    pub fn take_in(&mut self, is_first: bool, other: &Front) -> Result<(), AllocError>
+        ensures first { is_first ≡ true → OnOk result ((ns : List Node) (ls : List AnyLine) (g : Node → Bool) → IsFront ns ls g other.now → IsFront ns ls g self.new) }
+        ensures both { is_first ≡ false → OnOk result ((ns : List Node) (ls : List AnyLine) (f g : Node → Bool) → IsFront ns ls f self.old → IsFront ns ls g other.now → IsFront ns ls (λ k. f k || g k) self.new) }
+    {
+        if is_first {
+            copy_in(&mut self.counts, other.counts.as_slice())?;
+            return Ok(());
+        }
+        self.join(other)?;
+        Ok(())
+    }
+
     /// Comes after the nodes of another one too.
     pub fn join(&mut self, other: &Front) -> Result<(), AllocError>
         ensures both { OnOk result ((ns : List Node) (ls : List AnyLine) (f g : Node → Bool) → IsFront ns ls f self.old → IsFront ns ls g other.now → IsFront ns ls (λ k. f k || g k) self.new) }
@@ -45,14 +58,28 @@ impl Front {
         Ok(())
     }
 
-    /// What comes after the nodes of both.
-    pub fn joined(self, other: &Front) -> Result<Front, AllocError>
-        ensures both { IfOk result (λ both. (ns : List Node) (ls : List AnyLine) (f g : Node → Bool) → IsFront ns ls f self → IsFront ns ls g other.now → IsFront ns ls (λ k. f k || g k) both) }
-        ensures grown { IfOk result (λ both. (ns : List Node) (ls : List AnyLine) (test : Node → Bool) (n : Node) → IsNumbered (n ∷ ns) → test n ≡ true → IsWhole (n ∷ ns) test → IsFront ns ls test self → IsOwnFront ns ls n other.now → IsFront (n ∷ ns) ls test both) }
+    /// Comes after a node that comes next too, of which this is the front: the one of the two that
+    /// comes after the other one is taken as it is, and its room is left to the other one.
+    pub fn grow(&mut self, own: &mut Front) -> Result<(), AllocError>
+        ensures { OnOk result ((ns : List Node) (ls : List AnyLine) (test : Node → Bool) (n : Node) → IsNumbered (n ∷ ns) → test n ≡ true → IsWhole (n ∷ ns) test → IsFront ns ls test self.old → IsOwnFront ns ls n own.old → IsFront (n ∷ ns) ls test self.new) }
     {
-        let mut both = self;
-        both.join(other)?;
-        Ok(both)
+        if cover(own.counts.as_slice(), self.counts.as_slice()) {
+            std::mem::swap(self, own);
+            return Ok(());
+        }
+        self.join(own)?;
+        Ok(())
+    }
+
+    /// Comes after the nodes of another one too, if there is one.
+    pub fn join_named(&mut self, named: Option<&Front>) -> Result<(), AllocError>
+        ensures { OnOk result ((ns : List Node) (ls : List AnyLine) (f g : Node → Bool) → IsFront ns ls f self.old → IsNamed ns ls g (option_copied named.entry) → IsFront ns ls (λ k. f k || g k) self.new) }
+    {
+        let Some(other) = named else {
+            return Ok(());
+        };
+        self.join(other)?;
+        Ok(())
     }
 
     /// The clock of it.
@@ -67,21 +94,10 @@ impl Front {
     pub fn copied(&self, alloc: Global) -> Result<Front, AllocError>
         ensures { IfOk result (λ copy. (ns : List Node) (ls : List AnyLine) (test : Node → Bool) → IsFront ns ls test self.now → IsFront ns ls test copy) }
     {
-        let none = Front::new(alloc);
-        let copy = none.joined(self)?;
+        let mut copy = Front::new(alloc);
+        copy.join(self)?;
         Ok(copy)
     }
-}
-
-/// What comes after the nodes of a front, and of another one if there is one.
-pub fn with_named(front: Front, named: Option<&Front>) -> Result<Front, AllocError>
-    ensures { IfOk result (λ both. (ns : List Node) (ls : List AnyLine) (f g : Node → Bool) → IsFront ns ls f front → IsNamed ns ls g (option_copied named.entry) → IsFront ns ls (λ k. f k || g k) both) }
-{
-    let Some(other) = named else {
-        return Ok(front);
-    };
-    let both = front.joined(other)?;
-    Ok(both)
 }
 
 /// What comes after the nodes of a name, and after one more that is of the name.
@@ -89,11 +105,11 @@ pub fn named_with(alloc: Global, named: Option<&Front>, own: &Front) -> Result<F
     ensures { IfOk result (λ more. (ns : List Node) (ls : List AnyLine) (test : Node → Bool) (n : Node) → IsNumbered (n ∷ ns) → test n ≡ true → IsWhole (n ∷ ns) test → IsNamed ns ls test (option_copied named.entry) → IsOwnFront ns ls n own.now → IsNamed (n ∷ ns) ls test (Some more)) }
 {
     let Some(front) = named else {
-        let none = Front::new(alloc);
-        let more = none.joined(own)?;
+        let mut more = Front::new(alloc);
+        more.join(own)?;
         return Ok(more);
     };
-    let copy = front.copied(alloc)?;
-    let more = copy.joined(own)?;
+    let mut more = front.copied(alloc)?;
+    more.join(own)?;
     Ok(more)
 }

@@ -24,6 +24,7 @@ mod points;
 mod reads;
 mod rows;
 mod seen;
+mod serving;
 mod tallies;
 mod transitions;
 mod units;

@@ -1,4 +1,4 @@
-ghost use Rattle.std.specs.Prelude.{◌≡◌, ◌∷◌, ◌||◌, [], ℕ, Bool, List, IfOk, OnOk, nat_le};
+ghost use Rattle.std.specs.Prelude.{◌≡◌, ◌∷◌, ◌||◌, [], ℕ, Bool, false, List, OnOk, nat_le};
 ghost use Rattle.std.specs.List.{list_any};
 ghost use Rattle.std.specs.Option.{option_copied};
 ghost use Rattle.vk_ids.specs.Ids.{value_of};
@@ -9,11 +9,11 @@ ghost use Rattle.vk_order.specs.declared.lines.Line.{Line as AnyLine};
 ghost use Rattle.vk_order.specs.PointViews.{act_of, node_of};
 ghost use Rattle.vk_order.specs.Inner.Links.{by_name};
 ghost use Rattle.vk_order.specs.Inner.Fronts.{IsFront, IsNamed};
-ghost use Rattle.vk_order.specs.Inner.Names.{is_awaited_for, AreSubmits, AreSets, AreSignals, AreInitials, IsNames, IsNext};
+ghost use Rattle.vk_order.specs.Inner.Names.{is_awaited_for, IsNameless, AreSubmits, AreSets, AreSignals, AreInitials, IsNames, IsNext};
 
 use crate::acts::Row;
 use crate::awaiting::signal_of;
-use crate::fronts::{Front, named_with, with_named};
+use crate::fronts::{Front, named_with};
 use crate::keyed::Keyed;
 use crate::point::Act;
 use std::alloc::{AllocError, Global};
@@ -51,6 +51,9 @@ impl Names {
     pub fn add(&mut self, alloc: Global, row: &Row<'_>, own: &Front) -> Result<(), AllocError>
         ensures { OnOk result ((ns : List Node) (ls : List AnyLine) (n : Node) → IsNext ns ls n row.now own.now → IsNames ns ls self.old → IsNames (n ∷ ns) ls self.new) }
     {
+        if !row.act.has_name() {
+            return Ok(());
+        }
         add_submit(alloc, &mut self.submits, row, own)?;
         add_set(alloc, &mut self.sets, row, own)?;
         add_signal(alloc, &mut self.signals, row, own)?;
@@ -58,15 +61,14 @@ impl Names {
         Ok(())
     }
 
-    /// What comes after the nodes of a front, and after those that lead to a row by a name.
-    pub fn with_names(&self, front: Front, row: &Row<'_>) -> Result<Front, AllocError>
-        ensures { IfOk result (λ both. (ns : List Node) (ls : List AnyLine) (f : Node → Bool) (j : ℕ) → IsNames ns ls self.now → IsFront ns ls f front → IsFront ns ls (λ k. f k || by_name ns k (node_of j row.now)) both) }
+    /// Makes a front come after the nodes that lead to a row by a name too.
+    pub fn join_names(&self, front: &mut Front, row: &Row<'_>) -> Result<(), AllocError>
+        ensures { OnOk result ((ns : List Node) (ls : List AnyLine) (f : Node → Bool) (j : ℕ) → IsNames ns ls self.now → IsFront ns ls f front.old → IsFront ns ls (λ k. f k || by_name ns k (node_of j row.now)) front.new) }
     {
-        let submit = self.submits.get(&row.point.entry);
-        let front = with_named(front, submit)?;
-        let front = with_named(front, self.set_of(&row.act))?;
-        let front = self.with_signals(front, &row.act)?;
-        Ok(front)
+        front.join_named(self.submits.get(&row.point.entry))?;
+        front.join_named(self.set_of(&row.act))?;
+        self.join_signals(front, &row.act)?;
+        Ok(())
     }
 
     /// The front of the elements of sets that lead to an element of an await.
@@ -99,47 +101,53 @@ impl Names {
         }
     }
 
-    /// What comes after the nodes of a front, and after the signals that an act waits for.
-    fn with_signals(&self, front: Front, act: &Act<'_>) -> Result<Front, AllocError>
-        ensures { IfOk result (λ both. (ns : List Node) (ls : List AnyLine) (f : Node → Bool) (n : Node) → n.act ≡ act_of act.now → IsNames ns ls self.now → IsFront ns ls f front → IsFront ns ls (λ k. f k || by_semaphore ns k n) both) }
+    /// Makes a front come after the signals that an act waits for too.
+    fn join_signals(&self, front: &mut Front, act: &Act<'_>) -> Result<(), AllocError>
+        ensures { OnOk result ((ns : List Node) (ls : List AnyLine) (f : Node → Bool) (n : Node) → n.act ≡ act_of act.now → IsNames ns ls self.now → IsFront ns ls f front.old → IsFront ns ls (λ k. f k || by_semaphore ns k n) front.new) }
     {
         match act {
             Act::Waits(wait) => {
-                let signal = self.signal_for(wait.semaphore, wait.value);
-                let both = with_named(front, signal)?;
-                Ok(both)
+                front.join_named(self.signal_for(wait.semaphore, wait.value))?;
+                Ok(())
             }
             Act::Hosts(entry) => {
-                let both = self.with_waits(front, entry)?;
-                Ok(both)
+                self.join_waits(front, entry)?;
+                Ok(())
             }
-            _ => Ok(front),
+            _ => Ok(()),
         }
     }
 
     /// The same of a host entry.
-    fn with_waits(&self, front: Front, entry: &Entry) -> Result<Front, AllocError>
-        ensures { IfOk result (λ both. (ns : List Node) (ls : List AnyLine) (f : Node → Bool) (n : Node) → n.act ≡ Hosts entry.now → IsNames ns ls self.now → IsFront ns ls f front → IsFront ns ls (λ k. f k || by_semaphore ns k n) both) }
+    fn join_waits(&self, front: &mut Front, entry: &Entry) -> Result<(), AllocError>
+        ensures { OnOk result ((ns : List Node) (ls : List AnyLine) (f : Node → Bool) (n : Node) → n.act ≡ Hosts entry.now → IsNames ns ls self.now → IsFront ns ls f front.old → IsFront ns ls (λ k. f k || by_semaphore ns k n) front.new) }
     {
         match entry {
             Entry::Wait { waits } => {
-                let both = self.with_each(front, waits.as_slice())?;
-                Ok(both)
+                self.join_each(front, waits.as_slice())?;
+                Ok(())
             }
-            _ => Ok(front),
+            _ => Ok(()),
         }
     }
 
     /// The same of its waits.
-    fn with_each(&self, front: Front, waits: &[SemaphoreValue]) -> Result<Front, AllocError>
-        ensures { IfOk result (λ both. (ns : List Node) (ls : List AnyLine) (f : Node → Bool) → IsNames ns ls self.now → IsFront ns ls f front → IsFront ns ls (λ k. f k || list_any (λ w. is_awaited_for ns w.semaphore w.value k) waits.now) both) }
+    fn join_each(&self, front: &mut Front, waits: &[SemaphoreValue]) -> Result<(), AllocError>
+        ensures { OnOk result ((ns : List Node) (ls : List AnyLine) (f : Node → Bool) → IsNames ns ls self.now → IsFront ns ls f front.old → IsFront ns ls (λ k. f k || list_any (λ w. is_awaited_for ns w.semaphore w.value k) waits.now) front.new) }
     {
-        let mut both = front;
         for wait in waits {
-            let signal = self.signal_for(wait.semaphore, wait.value);
-            both = with_named(both, signal)?;
+            front.join_named(self.signal_for(wait.semaphore, wait.value))?;
         }
-        Ok(both)
+        Ok(())
+    }
+}
+
+impl Act<'_> {
+    /// Whether it is an act of those that may lead to later ones by a name, or make a semaphore.
+    fn has_name(&self) -> bool
+        ensures { result ≡ false → IsNameless (act_of self.now) }
+    {
+        matches!(self, Act::Hosts(_) | Act::Signals(_) | Act::Set(..))
     }
 }
 

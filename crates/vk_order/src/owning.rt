@@ -1,84 +1,77 @@
-ghost use Rattle.std.specs.Prelude.{◌≡◌, ◌∷◌, ◌+◌, ◌<◌, ◌≤◌, ◌^◌, ℕ, List, IfOk, Some, length, map};
+ghost use Rattle.std.specs.Prelude.{◌≡◌, ◌∷◌, ◌+◌, ◌<◌, ◌≤◌, ◌^◌, ℕ, true, List, IfOk, OnOk, Some, length, map};
 ghost use Rattle.vk_model.specs.Basics.{holds};
 ghost use Rattle.vk_model.specs.Sync.Node.{Node};
 ghost use Rattle.vk_order.specs.declared.lines.Line.{Line as AnyLine};
 ghost use Rattle.vk_order.specs.PointViews.{act_of};
 ghost use Rattle.vk_order.specs.Lines.{class_of, class_on};
 ghost use Rattle.vk_order.specs.Inner.Clocks.{same_line, place};
-ghost use Rattle.vk_order.specs.Inner.Counts.{AreSent, AreVisible, AreCounted};
+ghost use Rattle.vk_order.specs.Inner.Counts.{shows_of, no_shows, AreSent, AreVisible, AreCounted};
 ghost use Rattle.vk_order.specs.Inner.Places.{index_in};
 ghost use Rattle.vk_order.specs.Inner.Rows.{makes_line_available, IsMerged};
 ghost use Rattle.vk_order.specs.Inner.Fronts.{IsOwnFront};
 ghost use Rattle.vk_order.specs.Inner.Tallies.{lines_of, IsTallied, IsComing};
 
 use crate::acts::Row;
-use crate::counts::{Counts, Shows, counts_at, known_at, shows_of, with_counts};
+use crate::counts::{Counts, Shows, hide, known_at, put_available, put_clock, shows_of};
 use crate::fronts::Front;
 use crate::lines::Line;
+use crate::point::Act;
 use crate::tallies::{LineTally, line_index};
 use std::alloc::{AllocError, Global};
+use vk_model::Entry;
 
-/// What comes after a row that comes next, of which this is before. It is changed in its place.
+/// Makes what comes before a row that comes next what comes after it.
 pub fn own_front(
     tallies: &[LineTally],
     row: &Row<'_>,
     at: usize,
-    front: Front,
-) -> Result<Front, AllocError>
+    front: &mut Front,
+) -> Result<(), AllocError>
     requires { index_in (lines_of tallies.now) (class_on row.now.point.queue (act_of row.now.act)) ≡ Some at }
-    ensures { IfOk result (λ own. (ns : List Node) (n : Node) → IsComing ns (lines_of tallies.now) n row.now front → IsTallied ns tallies.now → IsOwnFront ns (lines_of tallies.now) n own) }
+    ensures { OnOk result ((ns : List Node) (n : Node) → IsComing ns (lines_of tallies.now) n row.now front.old → IsTallied ns tallies.now → IsOwnFront ns (lines_of tallies.now) n front.new) }
 {
-    let Front { counts } = front;
-    let mut sent = with_line_available(tallies, row, counts)?;
-    show(tallies, shows_of(&row.act), &mut sent);
+    count_available(tallies, row, &mut front.counts)?;
+    show(tallies, &row.act, &mut front.counts);
     let tally = &tallies[at];
-    let counts = with_own(sent, tally.line, at, tally.count)?;
-    Ok(Front { counts })
+    count_own(&mut front.counts, tally.line, at, tally.count)?;
+    Ok(())
 }
 
-/// The counts of what comes after a node of a line, from those before it, the index of the line and
-/// how many nodes of the line came earlier: the node is counted too.
-fn with_own(
-    before: Vec<Counts>,
+/// Makes the counts of what is before a node of a line those of what comes after it, from the index
+/// of the line and how many nodes of the line came earlier: the node is counted too.
+fn count_own(
+    counts: &mut Vec<Counts>,
     line: Line,
     at: usize,
     count: usize,
-) -> Result<Vec<Counts>, AllocError>
+) -> Result<(), AllocError>
     requires { at < 2 ^ 63 }
-    ensures { IfOk result (λ own. (ns : List Node) (ls : List AnyLine) (n : Node) → class_of n ≡ line → index_in ls line ≡ Some at → count ≡ place ns line n.number → count + 1 < 2 ^ 64 → length before.items ≤ length ls → AreCounted ns ls n before.items own.items) }
+    ensures { OnOk result ((ns : List Node) (ls : List AnyLine) (n : Node) → class_of n ≡ line → index_in ls line ≡ Some at → count ≡ place ns line n.number → count + 1 < 2 ^ 64 → length counts.old.items ≤ length ls → AreCounted ns ls n counts.old.items counts.new.items) }
 {
     if line.is_of_sets() {
-        return Ok(before);
+        return Ok(());
     }
-    let counts = Counts {
-        clock: count.saturating_add(1),
-        ..counts_at(before.as_slice(), at)
-    };
-    let own = with_counts(before, at, counts)?;
-    Ok(own)
+    put_clock(counts, at, count.saturating_add(1))?;
+    Ok(())
 }
 
-/// The counts with what is available after a row that comes next.
-fn with_line_available(
+/// Counts what is available after a row that comes next.
+fn count_available(
     tallies: &[LineTally],
     row: &Row<'_>,
-    before: Vec<Counts>,
-) -> Result<Vec<Counts>, AllocError>
-    ensures { IfOk result (λ own. (ns : List Node) → IsTallied ns tallies.now → length before.items ≤ length tallies.now
-        → AreSent ns (lines_of tallies.now) row.now.point.queue (act_of row.now.act) before.items own.items) }
+    counts: &mut Vec<Counts>,
+) -> Result<(), AllocError>
+    ensures { OnOk result ((ns : List Node) → IsTallied ns tallies.now → length counts.old.items ≤ length tallies.now
+        → AreSent ns (lines_of tallies.now) row.now.point.queue (act_of row.now.act) counts.old.items counts.new.items) }
 {
     let Some(line) = available_line(row) else {
-        return Ok(before);
+        return Ok(());
     };
     let Some(at) = line_index(tallies, line) else {
-        return Ok(before);
+        return Ok(());
     };
-    let counts = Counts {
-        available: tallies[at].count,
-        ..counts_at(before.as_slice(), at)
-    };
-    let own = with_counts(before, at, counts)?;
-    Ok(own)
+    put_available(counts, at, tallies[at].count)?;
+    Ok(())
 }
 
 /// The line of which a row makes the writes of all nodes so far available, if there is one.
@@ -94,8 +87,19 @@ fn available_line(row: &Row<'_>) -> Option<Line>
     None
 }
 
+/// Counts what an act makes visible. Most acts are commands, which make nothing visible.
+fn show(tallies: &[LineTally], act: &Act<'_>, counts: &mut Vec<Counts>)
+    ensures { AreVisible (lines_of tallies.now) (shows_of (act_of act.now)) counts.old.items counts.new.items }
+{
+    if act.shows_nothing() {
+        hide(counts);
+        return;
+    }
+    show_all(tallies, shows_of(act), counts);
+}
+
 /// Counts what is made visible.
-fn show(tallies: &[LineTally], shows: Shows, counts: &mut Vec<Counts>)
+fn show_all(tallies: &[LineTally], shows: Shows, counts: &mut Vec<Counts>)
     ensures { AreVisible (lines_of tallies.now) shows counts.old.items counts.new.items }
 {
     for (index, tally) in tallies.iter().enumerate() {
@@ -103,6 +107,19 @@ fn show(tallies: &[LineTally], shows: Shows, counts: &mut Vec<Counts>)
             return;
         }
         counts[index] = counts[index].made_visible(tally.line, shows);
+    }
+}
+
+impl Act<'_> {
+    /// Whether it is an act of those that make nothing visible.
+    fn shows_nothing(&self) -> bool
+        ensures { result ≡ true → shows_of (act_of self.now) ≡ no_shows }
+    {
+        match self {
+            Act::Runs(_) | Act::Signals(_) => true,
+            Act::Hosts(entry) => !matches!(entry, Entry::Submit { .. }),
+            _ => false,
+        }
     }
 }
 

@@ -1,4 +1,4 @@
-ghost use Rattle.std.specs.Prelude.{◌≡◌, ◌≢◌, ◌++◌, ◌∷◌, ◌&&◌, ◌↔◌, ℕ, Bool, List, [], OnOk, IfSome, Some, option_map, not, nat_lt, IsTrue, Contains, length, ◌≤◌};
+ghost use Rattle.std.specs.Prelude.{◌≡◌, ◌≢◌, ◌++◌, ◌∷◌, ◌&&◌, ◌↔◌, ℕ, Bool, false, List, [], OnOk, IfSome, Some, None, option_map, not, nat_lt, IsTrue, Contains, length, ◌≤◌};
 ghost use Rattle.vk_model.specs.Basics.{has_some};
 ghost use Rattle.vk_model.specs.World.Bytes as world;
 ghost use Rattle.vk_model.specs.World.Ownership.{dependency_of, is_acquire, is_release};
@@ -111,6 +111,16 @@ impl Part {
 }
 
 impl Act<'_> {
+    /// Whether it is a dependency on a part of a resource.
+    pub fn is_limited(&self) -> bool
+        ensures { result ≡ false → part_of (act_of self.now) ≡ None }
+    {
+        match self {
+            Act::Barrier(element) => !matches!(element, Element::Memory(_)),
+            _ => false,
+        }
+    }
+
     /// The resource on a part of which it is a dependency, and the element that says so.
     pub fn limited(&self) -> Option<(u32, Element)>
         ensures resource { option_map (λ p. p.0) result ≡ part_of (act_of self.now) }

@@ -55,11 +55,16 @@ pub fn lines_copied(alloc: Global, tallies: &[LineTally]) -> Result<Vec<Line>, A
 pub fn join_of(room: Front, tallies: &[LineTally], row: &Row<'_>) -> Result<Front, AllocError>
     ensures { IfOk result (λ front. (ns : List Node) → IsTallied ns tallies.now → IsFront ns (lines_of tallies.now) (λ k. line_leads row.now.point.queue (act_of row.now.act) (class_of k)) front) }
 {
-    let mut front = room.emptied();
+    let mut front = room;
+    let mut is_first = true;
     for tally in tallies {
         if tally.line.leads(row.point.queue, &row.act) {
-            front.join(&tally.front)?;
+            front.take_in(is_first, &tally.front)?;
+            is_first = false;
         }
+    }
+    if is_first {
+        return Ok(front.emptied());
     }
     Ok(front)
 }
@@ -87,13 +92,13 @@ pub fn list_line(
 }
 
 /// Counts a row that comes next, after which this comes, at the index of its line.
-pub fn tally(tallies: &mut Vec<LineTally>, at: usize, own: &Front) -> Result<(), AllocError>
+pub fn tally(tallies: &mut Vec<LineTally>, at: usize, own: &mut Front) -> Result<(), AllocError>
     requires { at < vec_len tallies.old }
     ensures lines { OnOk result (lines_of tallies.new.items ≡ lines_of tallies.old.items) }
-    ensures kept { OnOk result ((ns : List Node) (n : Node) (row : AnyRow) (known : Front) → index_in (lines_of tallies.old.items) (class_on row.point.queue (act_of row.act)) ≡ Some at → IsComing ns (lines_of tallies.old.items) n row known → IsTallied ns tallies.old.items → IsOwnFront ns (lines_of tallies.old.items) n own.now → IsTallied (n ∷ ns) tallies.new.items) }
+    ensures kept { OnOk result ((ns : List Node) (n : Node) (row : AnyRow) (known : Front) → index_in (lines_of tallies.old.items) (class_on row.point.queue (act_of row.act)) ≡ Some at → IsComing ns (lines_of tallies.old.items) n row known → IsTallied ns tallies.old.items → IsOwnFront ns (lines_of tallies.old.items) n own.old → IsTallied (n ∷ ns) tallies.new.items) }
 {
     let tally = &mut tallies[at];
-    tally.front.join(own)?;
+    tally.front.grow(own)?;
     let count = if tally.line.is_of_sets() {
         tally.count
     } else {

@@ -1,5 +1,5 @@
 -- Counts for a line of what is known of its nodes: how many are before, and of how many the writes are available, and visible where.
-use Rattle.std.specs.Prelude.{◌≡◌, ℕ, ◌≤◌, ◌&&◌, ◌||◌, max, List, length, map, slice_index_or, if◌then◌else◌}
+use Rattle.std.specs.Prelude.{◌≡◌, ℕ, Bool, false, nat_le, ◌≤◌, ◌&&◌, ◌||◌, max, List, length, map, slice_index_or, if◌then◌else◌}
 use Rattle.std.specs.Option.{option_map_or}
 use Rattle.vk_model.specs.Sync.Node.{Node, Act}
 use Rattle.vk_model.specs.Sync.Seen.{Read, Write}
@@ -20,6 +20,10 @@ zero_counts = record { clock = 0; available = 0; reads = 0; writes = 0; host_rea
 -- The greater of each count.
 abbrev pub joined_counts : Counts → Counts → Counts
 joined_counts c d = record { clock = max c.clock d.clock; available = max c.available d.available; reads = max c.reads d.reads; writes = max c.writes d.writes; host_reads = max c.host_reads d.host_reads; host_writes = max c.host_writes d.host_writes }
+
+-- Whether each count of the one is at least as great as that of the other one.
+abbrev pub covers : Counts → Counts → Bool
+covers c d = nat_le d.clock c.clock && nat_le d.available c.available && nat_le d.reads c.reads && nat_le d.writes c.writes && nat_le d.host_reads c.host_reads && nat_le d.host_writes c.host_writes
 
 -- How many nodes are known in a way.
 abbrev pub count_in : Knowledge → Counts → ℕ
@@ -45,6 +49,10 @@ known_in all i l = known_on l (slice_index_or all i zero_counts)
 abbrev pub shows_of : Act → Shows
 shows_of a = record { reads = makes_all_visible Read a; writes = makes_all_visible Write a; host_reads = makes_all_visible_on_host Read a; host_writes = makes_all_visible_on_host Write a; is_submit = is_submit a }
 
+-- That nothing is made visible.
+abbrev pub no_shows : Shows
+no_shows = record { reads = false; writes = false; host_reads = false; host_writes = false; is_submit = false }
+
 -- The counts for a line after an act, where what is available after it is counted: also of what it makes visible.
 abbrev pub made_visible_by : Shows → Line → Counts → Counts
 made_visible_by s l c = record {
@@ -66,6 +74,10 @@ with_clock c n = record { clock = n; available = c.available; reads = c.reads; w
 
 abbrev pub with_available : Counts → ℕ → Counts
 with_available c n = record { clock = c.clock; available = n; reads = c.reads; writes = c.writes; host_reads = c.host_reads; host_writes = c.host_writes }
+
+-- Counts of what nothing of is visible to commands.
+abbrev pub hidden : Counts → Counts
+hidden c = record { clock = c.clock; available = c.available; reads = 0; writes = 0; host_reads = c.host_reads; host_writes = c.host_writes }
 
 -- A list has the greater of two others' counts at each place.
 pub record AreJoinedCounts (first second both : List Counts) : Type 0 where

@@ -1,12 +1,12 @@
 -- Nodes that lead to later ones by a name: submits, elements of sets, signals.
-use Rattle.std.specs.Prelude.{◌≡◌, ◌∷◌, ◌&&◌, ◌==◌, ℕ, Bool, false, not, List, Some, Contains, nat_le}
+use Rattle.std.specs.Prelude.{◌≡◌, ◌∷◌, ◌&&◌, ◌==◌, ℕ, Bool, false, not, List, Some, None, Contains, nat_le}
 use Rattle.std.specs.Ordering.{nat_cmp}
 use Rattle.std.specs.BTreeMap.{BTreeMap, get}
 use Rattle.vk_ids.specs.declared.map.IdMap.{IdMap}
 use Rattle.vk_ids.specs.Ids.{value_of}
 use Rattle.vk_model.specs.Basics.{holds}
 use Rattle.vk_model.specs.Sync.Node.{Node, Act, Depends, SetOf}
-use Rattle.vk_model.specs.Sync.Edge.{signaled_by, is_least, is_enough}
+use Rattle.vk_model.specs.Sync.Edge.{is_submit, signaled_by, initial_by, is_least, is_enough}
 use Rattle.vk_model.specs.Sync.Before.{IsNumbered}
 use Rattle.vk_order.specs.declared.acts.Row.{Row}
 use Rattle.vk_order.specs.declared.lines.Line.{Line}
@@ -54,6 +54,13 @@ pub record IsNames (ns : List Node) (ls : List Line) (names : Names) : Type 0 wh
   pub sets : AreSets ns ls names.sets
   pub signals : AreSignals ns ls names.signals
   pub initials : AreInitials ns names.initials
+
+-- An act leads to no later one by a name, and gives no semaphore a value.
+pub record IsNameless (a : Act) : Type 0 where
+  pub submit : is_submit a ≡ false
+  pub set : (v k : ℕ) → is_set_of v k a ≡ false
+  pub signal : signaled_by a ≡ None
+  pub initial : (s : ℕ) → initial_by s a ≡ None
 
 -- A row comes next, as node n, with its own front.
 pub record IsNext (ns : List Node) (ls : List Line) (n : Node) (row : Row) (own : Front) : Type 0 where

@@ -2,7 +2,6 @@ use Rattle.std.proofs.Common.{◌≡◌, ◌+◌, ◌^◌, ◌<◌, ◌≤◌, S
 use Rattle.std.specs.Prelude.{slice_get}
 use Rattle.std.proofs.lemmas.List.{length-map}
 use Rattle.std.proofs.lemmas.Option.{slice_get_read}
-use Rattle.vk_order.specs.declared.counts.Shows.{Shows}
 use Rattle.vk_order.specs.declared.fronts.Front.{Front}
 use Rattle.vk_order.specs.declared.lines.Line.{Line}
 use Rattle.vk_order.specs.declared.tallies.LineTally.{LineTally}
@@ -23,7 +22,7 @@ returns c = λ ns n coming tallied.
     let ts = c.args.tallies.now in
     let ls = lines_of ts in
     let row = c.args.row.now in
-    let known = c.args.front in
+    let known = c.args.front.now in
     let line : Line = class_on row.point.queue (act_of row.act) in
     let class : class_of n ≡ line = class_coming ns ls n row known coming in
     let t : LineTally = c.index-tallies-at.result in
@@ -33,9 +32,8 @@ returns c = λ ns n coming tallied.
     let count : t.count ≡ place ns line n.number = total ∙ ap (place ns line) (sym coming.numbers.0) in
     let low : t.count + 1 < 2 ^ 64 = (let le = place_within ns line (length ns) in let few = coming.few in omega arith) in
     let short : length known.counts.items ≤ length ls = (let le = coming.front.clock.short in let e = length-map known.counts.items (λ d. d.clock) in omega arith) in
-    let sent : AreSent ns ls row.point.queue (act_of row.act) known.counts.items c.in_ok-sent.sent.items = c.in_ok-sent.ensures ns tallied (let e = lines_length ts in omega arith) in
-    let made_visible : AreVisible ls (shows_of (act_of row.act)) c.in_ok-sent.sent.items c.show.new.counts.items =
-    subst (λ (s : Shows). AreVisible ls s c.in_ok-sent.sent.items c.show.new.counts.items) c.shows_of.ensures c.show.ensures in
-    let own : Front = record { counts = c.in_ok-counts.counts } in
-    own_made ns ls n row known own coming c.in_ok-sent.sent.items c.show.new.counts.items sent made_visible
-    (c.in_ok-counts.ensures ns ls n (class ∙ sym own_line) (ap (index_in ls) own_line ∙ c.requires) (count ∙ ap (λ (l : Line). place ns l n.number) (sym own_line)) low (let e = made_visible.long in let le = sent.short in omega arith))
+    let sent : AreSent ns ls row.point.queue (act_of row.act) known.counts.items c.count_available.new.counts.items = c.in_ok-count_available.ensures ns tallied (let e = lines_length ts in omega arith) in
+    let made_visible : AreVisible ls (shows_of (act_of row.act)) c.count_available.new.counts.items c.show.new.counts.items = c.show.ensures in
+    let own : Front = record { counts = c.count_own.new.counts } in
+    own_made ns ls n row known own coming c.count_available.new.counts.items c.show.new.counts.items sent made_visible
+    (c.in_ok-count_own.ensures ns ls n (class ∙ sym own_line) (ap (index_in ls) own_line ∙ c.requires) (count ∙ ap (λ (l : Line). place ns l n.number) (sym own_line)) low (let e = made_visible.long in let le = sent.short in omega arith))

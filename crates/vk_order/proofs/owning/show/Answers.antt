@@ -1,14 +1,14 @@
-use Rattle.std.proofs.Common.{inl, inr, arith}
-use Rattle.vk_order.specs.Inner.Counts.{made_visible_on}
-use Rattle.vk_order.proofs.OwnCounts.{all_visible}
+use Rattle.std.proofs.Common.{subst, arith}
+use Rattle.vk_order.specs.declared.counts.Shows.{Shows}
+use Rattle.vk_order.specs.Inner.Counts.{AreVisible}
+use Rattle.vk_order.specs.Inner.Tallies.{lines_of}
+use Rattle.vk_order.proofs.OwnCounts.{all_hidden}
 use Rattle.vk_order.proofs.owning.show.Goals as goal
 
-pub returns-then-index-len : goal.returns-then-index-len
-unfolding made_visible_on
-returns-then-index-len c =
-    all_visible c.args.tallies.now c.args.shows c.args.counts.now.items c.loop-index.counts.items c.loop-index.index (inr (omega arith)) (omega arith) c.loop-index.invariant.done c.loop-index.invariant.rest
+pub returns-then-shows_nothing : goal.returns-then-shows_nothing
+returns-then-shows_nothing c =
+    all_hidden c.args.tallies.now _ c.args.counts.now.items c.hide.new.all.items (c.shows_nothing.ensures c.if-shows_nothing.true) (let e = c.hide.ensures.len in omega arith) c.hide.ensures.counts
 
 pub returns : goal.returns
-unfolding made_visible_on
 returns c =
-    all_visible c.args.tallies.now c.args.shows c.args.counts.now.items c.loop-index.counts.items c.loop-index.index (inl (omega arith)) (omega arith) c.loop-index.invariant.done c.loop-index.invariant.rest
+    subst (λ (s : Shows). AreVisible (lines_of c.args.tallies.now) s c.args.counts.now.items c.show_all.new.counts.items) c.shows_of.ensures c.show_all.ensures

@@ -1,4 +1,4 @@
-use Rattle.std.proofs.Common.{List}
+use Rattle.std.proofs.Common.{◌≡◌, List, true, false}
 use Rattle.vk_model.specs.Sync.Node.{Node}
 use Rattle.vk_order.specs.PointViews.{act_of}
 use Rattle.vk_order.specs.Inner.Leads.{line_leads}
@@ -8,4 +8,7 @@ use Rattle.vk_order.proofs.TallyLemmas.{of_first}
 use Rattle.vk_order.proofs.tallies.join_of.Given as goal
 
 abbrev pub invariant-loop-tally : goal.invariant-loop-tally
-invariant-loop-tally l = (ns : List Node) → IsTallied ns l.tallies → IsFront ns (lines_of l.tallies) (of_first (line_leads l.row.point.queue (act_of l.row.act)) l.tallies l.tally-index) l.front
+invariant-loop-tally l = record {
+  none : l.is_first ≡ true → (k : Node) → of_first (line_leads l.row.point.queue (act_of l.row.act)) l.tallies l.tally-index k ≡ false;
+  some : l.is_first ≡ false → (ns : List Node) → IsTallied ns l.tallies → IsFront ns (lines_of l.tallies) (of_first (line_leads l.row.point.queue (act_of l.row.act)) l.tallies l.tally-index) l.front;
+}

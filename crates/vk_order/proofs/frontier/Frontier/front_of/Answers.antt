@@ -13,5 +13,5 @@ returns c = λ ns j is.
     let ts = c.args.self.now.tallies.items in
     let row = c.args.row.now in
     let passes : Node → Bool = (λ k. line_leads row.point.queue (act_of row.act) (class_of k)) in
-    c.in_ok-front-2.ensures ns (lines_of ts) passes j is.names
+    c.in_ok-join_names.ensures ns (lines_of ts) passes j is.names
     (subst (λ (l : List LineTally). IsTallied ns l → IsFront ns (lines_of l) passes c.in_ok-front.front) c.as_slice.ensures.value (c.in_ok-front.ensures ns) is.tallied)

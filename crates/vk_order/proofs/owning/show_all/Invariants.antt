@@ -2,7 +2,7 @@ use Rattle.std.proofs.Common.{◌≡◌, ◌<◌, ◌≤◌, ℕ, Some, vec_len}
 use Rattle.std.specs.Prelude.{slice_get, slice_index_or}
 use Rattle.vk_order.specs.declared.tallies.LineTally.{LineTally}
 use Rattle.vk_order.specs.Inner.Counts.{zero_counts, made_visible_on}
-use Rattle.vk_order.proofs.owning.show.Given as goal
+use Rattle.vk_order.proofs.owning.show_all.Given as goal
 
 abbrev pub invariant-loop-index : goal.invariant-loop-index
 invariant-loop-index l = record {

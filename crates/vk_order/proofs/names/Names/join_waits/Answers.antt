@@ -7,16 +7,16 @@ use Rattle.vk_order.specs.Inner.Names.{is_awaited_for}
 use Rattle.vk_order.proofs.Arrange.{or-false}
 use Rattle.vk_order.proofs.FrontLemmas.{front_same}
 use Rattle.vk_order.proofs.WaitLemmas.{each_wait, no_wait, waits_of_none}
-use Rattle.vk_order.proofs.names.Names.with_waits.Goals as goal
+use Rattle.vk_order.proofs.names.Names.join_waits.Goals as goal
 
-pub returns-in_ok-both-in-Wait : goal.returns-in_ok-both-in-Wait
-returns-in_ok-both-in-Wait c = λ ns ls f n act names is.
-    front_same ns ls (λ k. f k || list_any (λ (w : SemaphoreValue). is_awaited_for ns w.semaphore w.value k) c.in-Wait.waits) (λ k. f k || by_semaphore ns k n) c.in_ok-both-in-Wait.both
+pub returns-in_ok-join_each-in-Wait : goal.returns-in_ok-join_each-in-Wait
+returns-in_ok-join_each-in-Wait c = λ ns ls f n act names is.
+    front_same ns ls (λ k. f k || list_any (λ (w : SemaphoreValue). is_awaited_for ns w.semaphore w.value k) c.in-Wait.waits) (λ k. f k || by_semaphore ns k n) c.join_each.new.front
     (λ k there. ap (λ (t : Bool). f k || t) (each_wait ns k n c.in-Wait.waits (act ∙ ap Hosts c.in-Wait.is)))
-    (subst (λ (l : List SemaphoreValue). Rattle.vk_order.specs.Inner.Fronts.IsFront ns ls (λ k. f k || list_any (λ (w : SemaphoreValue). is_awaited_for ns w.semaphore w.value k) l) c.in_ok-both-in-Wait.both)
-    c.as_slice.ensures (c.in_ok-both-in-Wait.ensures ns ls f names is))
+    (subst (λ (l : List SemaphoreValue). Rattle.vk_order.specs.Inner.Fronts.IsFront ns ls (λ k. f k || list_any (λ (w : SemaphoreValue). is_awaited_for ns w.semaphore w.value k) l) c.join_each.new.front)
+    c.as_slice.ensures (c.in_ok-join_each-in-Wait.ensures ns ls f names is))
 
 pub returns-in_default : goal.returns-in_default
 returns-in_default c = λ ns ls f n act names is.
-    front_same ns ls f (λ k. f k || by_semaphore ns k n) c.args.front
+    front_same ns ls f (λ k. f k || by_semaphore ns k n) c.args.front.now
     (λ k there. sym (ap (λ (t : Bool). f k || t) (no_wait ns k n (ap waited_by act ∙ waits_of_none c.args.entry.now c.in_default.not-Wait)) ∙ or-false (f k))) is

@@ -9,7 +9,7 @@ use Rattle.vk_order.specs.Inner.Names.{is_awaited_for}
 use Rattle.vk_order.proofs.Arrange.{or-false}
 use Rattle.vk_order.proofs.FrontLemmas.{front_same}
 use Rattle.vk_order.proofs.WaitLemmas.{one_wait, no_wait}
-use Rattle.vk_order.proofs.names.Names.with_signals.Goals as goal
+use Rattle.vk_order.proofs.names.Names.join_signals.Goals as goal
 use denote.Ref.{Bor}
 
 no_waits : (a : Act) → ((x : Bor Entry) → a ≡ act.Hosts x → ⊥) → ((x : Bor SemaphoreSubmit) → a ≡ act.Waits x → ⊥) → waited_by (act_of a) ≡ []
@@ -21,17 +21,17 @@ no_waits (act.Barrier x) h w = refl
 no_waits (act.Set v k d) h w = refl
 no_waits (act.Await v k d) h w = refl
 
-pub returns-in_ok-both-in-Waits : goal.returns-in_ok-both-in-Waits
-returns-in_ok-both-in-Waits c = λ ns ls f n is names front.
+pub returns-in_ok-join_named-in-Waits : goal.returns-in_ok-join_named-in-Waits
+returns-in_ok-join_named-in-Waits c = λ ns ls f n is names front.
     let w = c.in-Waits.wait.now in
-    front_same ns ls (λ k. f k || is_awaited_for ns w.semaphore w.value k) (λ k. f k || by_semaphore ns k n) c.in_ok-both-in-Waits.both
+    front_same ns ls (λ k. f k || is_awaited_for ns w.semaphore w.value k) (λ k. f k || by_semaphore ns k n) c.join_named.new.self
     (λ k there. ap (λ (t : Bool). f k || t) (one_wait ns k n w (is ∙ ap act_of c.in-Waits.is)))
-    (c.in_ok-both-in-Waits.ensures ns ls f (is_awaited_for ns w.semaphore w.value) front (c.signal_for-signal.ensures ns ls names))
+    (c.in_ok-join_named-in-Waits.ensures ns ls f (is_awaited_for ns w.semaphore w.value) front (c.signal_for.ensures ns ls names))
 
-pub returns-in_ok-both-in-Hosts : goal.returns-in_ok-both-in-Hosts
-returns-in_ok-both-in-Hosts c = λ ns ls f n is names front. c.in_ok-both-in-Hosts.ensures ns ls f n (is ∙ ap act_of c.in-Hosts.is) names front
+pub returns-in_ok-join_waits-in-Hosts : goal.returns-in_ok-join_waits-in-Hosts
+returns-in_ok-join_waits-in-Hosts c = λ ns ls f n is names front. c.in_ok-join_waits-in-Hosts.ensures ns ls f n (is ∙ ap act_of c.in-Hosts.is) names front
 
 pub returns-in_default : goal.returns-in_default
 returns-in_default c = λ ns ls f n is names front.
-    front_same ns ls f (λ k. f k || by_semaphore ns k n) c.args.front
+    front_same ns ls f (λ k. f k || by_semaphore ns k n) c.args.front.now
     (λ k there. sym (ap (λ (t : Bool). f k || t) (no_wait ns k n (ap waited_by is ∙ no_waits c.args.act.now c.in_default.not-Hosts c.in_default.not-Waits)) ∙ or-false (f k))) front

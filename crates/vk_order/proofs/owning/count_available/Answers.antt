@@ -1,26 +1,23 @@
 use Rattle.std.proofs.Common.{◌≡◌, List, Option, Some, None, refl, ap, sym, ◌∙◌, get_or, rules}
-use Rattle.std.specs.Prelude.{◌==◌, if◌then◌else◌, slice_index_or}
 use Rattle.std.proofs.lemmas.Option.{slice_get-get_or}
 use Rattle.vk_model.specs.Basics.{holds}
-use Rattle.vk_order.specs.declared.counts.Counts.{Counts}
 use Rattle.vk_order.specs.declared.lines.Line.{Line}
 use Rattle.vk_order.specs.declared.tallies.LineTally.{LineTally}
 use Rattle.vk_order.specs.PointViews.{act_of}
 use Rattle.vk_order.specs.Inner.Clocks.{same_line}
-use Rattle.vk_order.specs.Inner.Counts.{zero_counts, with_available}
 use Rattle.vk_order.proofs.OwnLemmas.{index_low, available_counted, available_none, available_as_well}
-use Rattle.vk_order.proofs.owning.with_line_available.Goals as goal
+use Rattle.vk_order.proofs.owning.count_available.Goals as goal
 
 pub returns-in_default : goal.returns-in_default
 returns-in_default c = λ ns tallied short.
     let none : c.available_line.result ≡ None = search rules in
-    available_as_well ns c.args.tallies.now tallied c.args.row.now.point.queue (act_of c.args.row.now.act) c.args.before.items c.args.before.items
+    available_as_well ns c.args.tallies.now tallied c.args.row.now.point.queue (act_of c.args.row.now.act) c.args.counts.now.items c.args.counts.now.items
     (λ l. ap (λ (o : Option Line). holds o (same_line l)) (sym none) ∙ c.available_line.ensures l) refl short
 
 pub returns-in_default-line_index : goal.returns-in_default-line_index
 returns-in_default-line_index c = λ ns tallied short.
     let some : c.available_line.result ≡ Some c.in-Some.line = search rules in
-    available_none ns c.args.tallies.now tallied c.args.row.now.point.queue (act_of c.args.row.now.act) c.args.before.items c.args.before.items c.in-Some.line
+    available_none ns c.args.tallies.now tallied c.args.row.now.point.queue (act_of c.args.row.now.act) c.args.counts.now.items c.args.counts.now.items c.in-Some.line
     (λ l. ap (λ (o : Option Line). holds o (same_line l)) (sym some) ∙ c.available_line.ensures l) (sym c.in_default-line_index.ensures) refl short
 
 pub returns : goal.returns
@@ -29,8 +26,7 @@ returns c = λ ns tallied short.
     let at = c.in-Some-line_index.at in
     let t : LineTally = get_or ts at c.index-tallies-at.result in
     let some : c.available_line.result ≡ Some c.in-Some.line = search rules in
-    let there : c.counts_at.result ≡ slice_index_or c.args.before.items at zero_counts = c.counts_at.ensures ∙ ap (λ (l : List Counts). slice_index_or l at zero_counts) c.as_slice.ensures.value in
-    available_counted ns ts tallied c.args.row.now.point.queue (act_of c.args.row.now.act) c.args.before.items c.in_ok-own.own.items c.in-Some.line at t.count t
+    available_counted ns ts tallied c.args.row.now.point.queue (act_of c.args.row.now.act) c.args.counts.now.items c.put_available.new.all.items c.in-Some.line at t.count t
     (λ l. ap (λ (o : Option Line). holds o (same_line l)) (sym some) ∙ c.available_line.ensures l) (sym c.in-Some-line_index.ensures)
     (slice_get-get_or ts at c.index-tallies-at.result (index_low ts c.in-Some.line at (sym c.in-Some-line_index.ensures))) refl
-    (λ i. c.in_ok-own.ensures.counts i ∙ ap (λ (x : Counts). if i == at then with_available x t.count else slice_index_or c.args.before.items i zero_counts) there) (search rules) short
+    (λ i. c.in_ok-put_available.ensures.counts i) (search rules) short
