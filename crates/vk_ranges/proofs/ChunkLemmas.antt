@@ -1,7 +1,8 @@
 -- Runs in chunks: where an end is, and what a change of one chunk does to all runs.
-use Rattle.std.proofs.Common.{◌≡◌, ◌<◌, ◌≤◌, ◌+◌, ◌^◌, ℕ, zero, suc, List, [], ◌∷◌, ◌++◌, length, drop, set, get_or, refl, sym, ap, ◌∙◌, subst, inl, inr, arith, append_assoc}
+use Rattle.std.proofs.Common.{◌≡◌, ◌<◌, ◌≤◌, ◌+◌, ◌-◌, ◌^◌, ◌⊎◌, ℕ, zero, suc, List, [], ◌∷◌, ◌++◌, length, drop, set, get_or, refl, sym, ap, ◌∙◌, subst, inl, inr, arith, append_assoc}
 use Rattle.std.specs.List.{insert, remove}
 use Rattle.std.proofs.lemmas.Bool.{cases_lt}
+use Rattle.std.proofs.lemmas.List.{get_or_default}
 use Rattle.vk_ranges.specs.declared.chunk.Chunk.{Chunk}
 use Rattle.vk_ranges.specs.Runs.{after}
 use Rattle.vk_ranges.specs.Inner.Chunks.{AreRising, AreChunks, IsChunkOf, IsHalved, joined}
@@ -14,6 +15,10 @@ module _ {T : Type 0} where
   chunks_rising low (chunk ∷ chunks) c = rising_append low (chunk.last + 1) (2 ^ 64) chunk.runs.items (joined chunks) c.0 (chunks_rising (chunk.last + 1) chunks c.1)
 
   -- ---- where an end is
+
+  pub chunks_some : (low : ℕ) (chunks : List (Chunk T)) → AreChunks low chunks → low < 2 ^ 64 → 0 < length chunks
+  chunks_some low [] c lt = absurd (omega arith)
+  chunks_some low (chunk ∷ chunks) c lt = omega arith
 
   pub chunk_is : (end at : ℕ) (chunks : List (Chunk T)) → at < length chunks → ((k : ℕ) (d : Chunk T) → k < at → (get_or chunks k d).last < end)
       → ((d : Chunk T) → end ≤ (get_or chunks at d).last) → IsChunkOf end at chunks
@@ -42,6 +47,21 @@ module _ {T : Type 0} where
   chunks_sorted low (chunk ∷ chunks) c zero (suc j) d le lt = let next = chunks_up (chunk.last + 1) chunks c.1 j d (omega arith) in omega arith
   chunks_sorted low (chunk ∷ chunks) c (suc i) zero d le lt = absurd (omega arith)
   chunks_sorted low (chunk ∷ chunks) c (suc i) (suc j) d le lt = chunks_sorted (chunk.last + 1) chunks c.1 i j d (omega arith) (omega arith)
+
+  -- the chunk before ends below
+  pub chunk_after : (low end at : ℕ) (chunks : List (Chunk T)) (chunk front : Chunk T) → AreChunks low chunks → at < length chunks → chunk ≡ get_or chunks at chunk → end ≤ chunk.last → at ≡ 0 ⊎ ((front ≡ get_or chunks (at - 1) front) × (front.last < end))
+      → IsChunkOf end at chunks
+  chunk_after low end at chunks chunk front c lt found le before =
+      chunk_is end at chunks lt
+      (λ k d less. elim before [
+        | inl none ↦ absurd (omega arith)
+        | inr b ↦
+            let below = b.1 in
+            let up = chunks_sorted low chunks c k (at - 1) d (omega arith) (omega arith) in
+            let same : front.last ≡ (get_or chunks (at - 1) d).last = ap (λ (x : Chunk T). x.last) (b.0 ∙ get_or_default chunks (at - 1) front d (omega arith)) in
+            omega arith
+      ])
+      (λ d. let same : chunk.last ≡ (get_or chunks at d).last = ap (λ (x : Chunk T). x.last) (found ∙ get_or_default chunks at chunk d lt) in omega arith)
 
   -- one chunk of them
   pub chunk_rising : (low at : ℕ) (chunks : List (Chunk T)) (chunk : Chunk T) → AreChunks low chunks → at < length chunks → chunk ≡ get_or chunks at chunk → (from : ℕ) × (to : ℕ) × AreRising from to chunk.runs.items

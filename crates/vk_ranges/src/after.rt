@@ -19,6 +19,14 @@ impl<'a, T> Model for RunsAfter<'a, T> {
     ghost view = { λ m. m.here.now ++ joined m.later.now };
 }
 
+impl<'a, T> RunsAfter<'a, T> {
+    /// How many chunks come after the one that the next run is in: where to look first for an end
+    /// near it.
+    pub(crate) fn chunks_later(&self) -> usize {
+        self.later.len()
+    }
+}
+
 impl<'a, T> Iterator for RunsAfter<'a, T> {
     ghost use Rattle.std.specs.Iterator.{YieldsFirstBy, item_count};
 

@@ -22,6 +22,8 @@ pub(crate) enum Edge<T> {
 /// What becomes of the runs of a range: at its two edges, and of the ends between them.
 #[derive(Drop)]
 pub(crate) struct Plan<T> {
+    /// How many chunks of runs come after the one that the range begins in.
+    pub(crate) later: usize,
     pub(crate) at_low: Edge<T>,
     pub(crate) changes: Vec<Change<T>>,
     pub(crate) at_high: Edge<T>,

@@ -1,4 +1,4 @@
-ghost use Rattle.std.specs.Prelude.{◌≡◌, ◌<◌, length, slice_index_or, OnOk, OnErr, IfOk};
+ghost use Rattle.std.specs.Prelude.{◌≡◌, ◌<◌, length, slice_index_or, IsTrue, OnOk, OnErr, IfOk};
 ghost use Rattle.std.specs.Ordering.{nat_cmp};
 ghost use Rattle.std.specs.Map.{remove_entry, set_value};
 ghost use Rattle.std.specs.BTreeMap.{is_at, insert_entry};
@@ -19,6 +19,32 @@ fn chunk_of<T>(chunks: &[Chunk<T>], index: u64) -> usize
     chunks.partition_point(|chunk| chunk.last < index)
 }
 
+/// The chunk that a run which ends at an index belongs to, found at once where that many chunks
+/// come after it.
+fn chunk_at<T>(chunks: &[Chunk<T>], later: usize, index: u64) -> usize
+    requires { AreChunks 0 chunks.now }
+    ensures within { result < length chunks.now }
+    ensures first { IsChunkOf index result chunks.now }
+{
+    let at = chunks.len().saturating_sub(later).saturating_sub(1);
+    if is_chunk_of(chunks, at, index) {
+        return at;
+    }
+    chunk_of(chunks, index)
+}
+
+/// Whether a run which ends at an index belongs to this chunk.
+fn is_chunk_of<T>(chunks: &[Chunk<T>], at: usize, index: u64) -> bool
+    requires chunks { AreChunks 0 chunks.now }
+    requires within { at < length chunks.now }
+    ensures { IsTrue result → IsChunkOf index at chunks.now }
+{
+    if index > chunks[at].last {
+        return false;
+    }
+    at == 0 || chunks[at - 1].last < index
+}
+
 /// The runs that end after an index.
 pub(crate) fn runs_after<T>(chunks: &[Chunk<T>], index: u64) -> RunsAfter<'_, T>
     requires { AreChunks 0 chunks.now }
@@ -34,6 +60,7 @@ pub(crate) fn runs_after<T>(chunks: &[Chunk<T>], index: u64) -> RunsAfter<'_, T>
 /// error, for want of memory, leaves the runs as they were.
 pub(crate) fn insert_run<T: Drop>(
     chunks: &mut Vec<Chunk<T>>,
+    later: usize,
     end: u64,
     value: T,
 ) -> Result<(), AllocError>
@@ -42,7 +69,7 @@ pub(crate) fn insert_run<T: Drop>(
     ensures ok { OnOk result (joined chunks.new.items ≡ insert_entry nat_cmp (joined chunks.old.items) end value) }
     ensures err { OnErr result (joined chunks.new.items ≡ joined chunks.old.items) }
 {
-    let at = room_for(chunks, end)?;
+    let at = room_for(chunks, later, end)?;
     match chunks[at].insert(end, value) {
         Ok(()) => Ok(()),
         Err(error) => Err(error),
@@ -50,14 +77,18 @@ pub(crate) fn insert_run<T: Drop>(
 }
 
 /// The chunk that a run which ends at an index belongs to, with room for one more run.
-fn room_for<T: Drop>(chunks: &mut Vec<Chunk<T>>, end: u64) -> Result<usize, AllocError>
+fn room_for<T: Drop>(
+    chunks: &mut Vec<Chunk<T>>,
+    later: usize,
+    end: u64,
+) -> Result<usize, AllocError>
     requires { AreChunks 0 chunks.old.items }
     ensures chunks { AreChunks 0 chunks.new.items }
     ensures runs { joined chunks.new.items ≡ joined chunks.old.items }
     ensures within { IfOk result (λ at. at < length chunks.new.items) }
     ensures first { IfOk result (λ at. IsChunkOf end at chunks.new.items) }
 {
-    let at = chunk_of(chunks, end);
+    let at = chunk_at(chunks, later, end);
     if !chunks[at].is_full() {
         return Ok(at);
     }
@@ -82,12 +113,12 @@ fn split<T: Drop>(chunks: &mut Vec<Chunk<T>>, at: usize) -> Result<(), AllocErro
 }
 
 /// Takes away the run that ends at an index, if there is one.
-pub(crate) fn remove_run<T: Drop>(chunks: &mut Vec<Chunk<T>>, end: u64)
+pub(crate) fn remove_run<T: Drop>(chunks: &mut Vec<Chunk<T>>, later: usize, end: u64)
     requires { AreChunks 0 chunks.old.items }
     ensures chunks { AreChunks 0 chunks.new.items }
     ensures runs { joined chunks.new.items ≡ remove_entry (is_at (nat_cmp end)) (joined chunks.old.items) }
 {
-    let at = chunk_of(chunks, end);
+    let at = chunk_at(chunks, later, end);
     chunks[at].remove(end);
     drop_empty(chunks, at);
 }
@@ -108,11 +139,11 @@ fn drop_empty<T: Drop>(chunks: &mut Vec<Chunk<T>>, at: usize)
 }
 
 /// Gives the run that ends at an index another value, if there is one.
-pub(crate) fn set_run<T: Drop>(chunks: &mut Vec<Chunk<T>>, end: u64, value: T)
+pub(crate) fn set_run<T: Drop>(chunks: &mut Vec<Chunk<T>>, later: usize, end: u64, value: T)
     requires { AreChunks 0 chunks.old.items }
     ensures chunks { AreChunks 0 chunks.new.items }
     ensures runs { joined chunks.new.items ≡ set_value (is_at (nat_cmp end)) (joined chunks.old.items) value }
 {
-    let at = chunk_of(chunks, end);
+    let at = chunk_at(chunks, later, end);
     chunks[at].set(end, value);
 }

@@ -42,7 +42,7 @@ impl<T: RangeValue> RangeMap<T> {
     {
         let mut runs = SortedRuns::new(alloc)?;
         if len > 0 {
-            runs.insert(len, value)?;
+            runs.insert(0, len, value)?;
         }
         Ok(RangeMap { alloc, len, runs })
     }

@@ -1,7 +1,6 @@
 ghost use Rattle.std.specs.Prelude.{◌≡◌, OnOk, OnErr};
 ghost use Rattle.std.specs.Ordering.{nat_cmp};
-ghost use Rattle.std.specs.Map.{set_value};
-ghost use Rattle.std.specs.BTreeMap.{is_at, insert_entry};
+ghost use Rattle.std.specs.BTreeMap.{insert_entry};
 ghost use Rattle.vk_ranges.specs.declared.changes.Edge.TheVariants.{New};
 ghost use Rattle.vk_ranges.specs.Inner.Plans.{applied, edged, both_edged, carried_out, CanBeUndone};
 
@@ -22,18 +21,20 @@ pub(crate) fn carry_out<T: RangeValue>(
     ensures err { OnErr result (runs.new ≡ runs.old) }
 {
     let Plan {
+        later,
         at_low,
         changes,
         at_high,
     } = plan;
-    change_edges(runs, low, at_low, high, at_high)?;
-    apply(runs, changes);
+    change_edges(runs, later, low, at_low, high, at_high)?;
+    apply(runs, later, changes);
     Ok(())
 }
 
 /// Changes both edges of a range, new ends first: only they can want memory.
 fn change_edges<T: RangeValue>(
     runs: &mut SortedRuns<T>,
+    later: usize,
     low: u64,
     at_low: Edge<T>,
     high: u64,
@@ -44,24 +45,25 @@ fn change_edges<T: RangeValue>(
     ensures err { OnErr result (runs.new ≡ runs.old) }
 {
     match at_high {
-        Edge::Stays => change_edge(runs, low, at_low),
+        Edge::Stays => change_edge(runs, later, low, at_low),
         Edge::Goes => {
-            change_edge(runs, low, at_low)?;
-            runs.remove(high);
+            change_edge(runs, later, low, at_low)?;
+            runs.remove(later, high);
             Ok(())
         }
         Edge::Becomes(value) => {
-            change_edge(runs, low, at_low)?;
-            set(runs, high, value);
+            change_edge(runs, later, low, at_low)?;
+            runs.set(later, high, value);
             Ok(())
         }
-        Edge::New(value) => insert_and_change(runs, low, at_low, high, value),
+        Edge::New(value) => insert_and_change(runs, later, low, at_low, high, value),
     }
 }
 
 /// Makes an index the end of a run, and changes an edge before it.
 fn insert_and_change<T: RangeValue>(
     runs: &mut SortedRuns<T>,
+    later: usize,
     low: u64,
     at_low: Edge<T>,
     high: u64,
@@ -71,9 +73,9 @@ fn insert_and_change<T: RangeValue>(
     ensures ok { OnOk result (runs.new ≡ edged low at_low (insert_entry nat_cmp runs.old high value)) }
     ensures err { OnErr result (runs.new ≡ runs.old) }
 {
-    runs.insert(high, value)?;
-    if let Err(error) = change_edge(runs, low, at_low) {
-        runs.remove(high);
+    runs.insert(later, high, value)?;
+    if let Err(error) = change_edge(runs, later, low, at_low) {
+        runs.remove(later, high);
         return Err(error);
     }
     Ok(())
@@ -82,6 +84,7 @@ fn insert_and_change<T: RangeValue>(
 /// Changes an edge. An error leaves the runs as they were.
 fn change_edge<T: RangeValue>(
     runs: &mut SortedRuns<T>,
+    later: usize,
     at: u64,
     edge: Edge<T>,
 ) -> Result<(), AllocError>
@@ -91,38 +94,31 @@ fn change_edge<T: RangeValue>(
     match edge {
         Edge::Stays => Ok(()),
         Edge::Goes => {
-            runs.remove(at);
+            runs.remove(later, at);
             Ok(())
         }
         Edge::Becomes(value) => {
-            set(runs, at, value);
+            runs.set(later, at, value);
             Ok(())
         }
         Edge::New(value) => {
-            runs.insert(at, value)?;
+            runs.insert(later, at, value)?;
             Ok(())
         }
     }
 }
 
 /// Gives each end that changes speak of its new value, or takes it away.
-fn apply<T: RangeValue>(runs: &mut SortedRuns<T>, changes: Vec<Change<T>>)
+fn apply<T: RangeValue>(runs: &mut SortedRuns<T>, later: usize, changes: Vec<Change<T>>)
     ensures { runs.new ≡ applied changes.items runs.old }
 {
     for change in changes {
         let Change { end, value } = change;
         match value {
-            Some(value) => set(runs, end, value),
+            Some(value) => runs.set(later, end, value),
             None => {
-                runs.remove(end);
+                runs.remove(later, end);
             }
         }
     }
-}
-
-/// Gives a run another value, by its end.
-fn set<T: RangeValue>(runs: &mut SortedRuns<T>, end: u64, value: T)
-    ensures { runs.new ≡ set_value (is_at (nat_cmp end)) runs.old value }
-{
-    runs.set(end, value);
 }

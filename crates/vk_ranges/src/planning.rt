@@ -53,9 +53,11 @@ pub(crate) fn plan_of_one<T: RangeValue>(
         value: first,
         rest,
     } = start_of(runs, low);
+    let later = rest.chunks_later();
     let at_low = edge_before(is_end, left, &value)?;
     let Tail { changes, at_high } = merged(alloc, end, first, rest, high, value)?;
     Ok(Plan {
+        later,
         at_low,
         changes,
         at_high,
@@ -155,10 +157,12 @@ pub(crate) fn plan_of_each<T: RangeValue, F: Fn(&T) -> Result<T, AllocError>>(
         value,
         rest,
     } = start_of(runs, low);
+    let later = rest.chunks_later();
     let first = f(value)?;
     let at_low = edge_before(is_end, left, &first)?;
     let Tail { changes, at_high } = mapped(alloc, end, value, rest, high, first, f)?;
     Ok(Plan {
+        later,
         at_low,
         changes,
         at_high,

@@ -10,7 +10,9 @@ use crate::chunks::{insert_run, remove_run, runs_after, set_run};
 use std::alloc::{AllocError, Global};
 use std::marker::Model;
 
-/// Runs in the order of their ends, in chunks. Contracts see the list of the runs.
+/// Runs in the order of their ends, in chunks. Contracts see the list of the runs. A change at an
+/// end is told how many chunks may come `later` than the one of the end: there it is looked for
+/// first, and any number is right.
 #[derive(Drop)]
 pub(crate) struct SortedRuns<T> {
     /// Each chunk has the ends after those of the one before it, up to its last one. There is at
@@ -53,24 +55,24 @@ impl<T: Drop> SortedRuns<T> {
 
     /// Gives the run that ends at an index the value, which is a new run where none ends there. An
     /// error, for want of memory, leaves the runs as they were.
-    pub(crate) fn insert(&mut self, end: u64, value: T) -> Result<(), AllocError>
+    pub(crate) fn insert(&mut self, later: usize, end: u64, value: T) -> Result<(), AllocError>
         ensures ok { OnOk result (self.new ≡ insert_entry nat_cmp self.old end value) }
         ensures err { OnErr result (self.new ≡ self.old) }
     {
-        insert_run(&mut self.chunks, end, value)
+        insert_run(&mut self.chunks, later, end, value)
     }
 
     /// Takes away the run that ends at an index, if there is one.
-    pub(crate) fn remove(&mut self, end: u64)
+    pub(crate) fn remove(&mut self, later: usize, end: u64)
         ensures { self.new ≡ remove_entry (is_at (nat_cmp end)) self.old }
     {
-        remove_run(&mut self.chunks, end);
+        remove_run(&mut self.chunks, later, end);
     }
 
     /// Gives the run that ends at an index another value, if there is one.
-    pub(crate) fn set(&mut self, end: u64, value: T)
+    pub(crate) fn set(&mut self, later: usize, end: u64, value: T)
         ensures { self.new ≡ set_value (is_at (nat_cmp end)) self.old value }
     {
-        set_run(&mut self.chunks, end, value);
+        set_run(&mut self.chunks, later, end, value);
     }
 }
