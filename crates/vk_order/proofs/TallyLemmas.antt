@@ -16,9 +16,11 @@ use Rattle.vk_order.specs.declared.acts.Row.{Row}
 use Rattle.vk_order.specs.declared.lines.Line.{Line}
 use Rattle.vk_order.specs.declared.fronts.Front.{Front}
 use Rattle.vk_order.specs.declared.tallies.LineTally.{LineTally}
-use Rattle.vk_order.specs.PointViews.{act_of}
+use Rattle.vk_order.specs.declared.names.Names.{Names}
+use Rattle.vk_order.specs.PointViews.{act_of, node_of}
 use Rattle.vk_order.specs.Lines.{line_of, class_of, class_on}
-use Rattle.vk_order.specs.Inner.Leads.{is_of_sets}
+use Rattle.vk_order.specs.Inner.Leads.{is_of_sets, line_leads}
+use Rattle.vk_order.specs.Inner.Links.{by_name}
 use Rattle.vk_order.specs.Inner.Clocks.{same_line, on_line, place, IsWhole}
 use Rattle.vk_order.specs.Inner.Kept.{clock_at}
 use Rattle.vk_order.specs.Inner.Places.{index_in}
@@ -38,6 +40,10 @@ use Rattle.vk_order.proofs.OwnLemmas.{lines_length, tally_at, none_there, no_pla
 -- the nodes of the first lines, of those that pass
 abbrev pub of_first : (Line → Bool) → List LineTally → ℕ → Node → Bool
 of_first passes ts i k = list_any (λ t. passes t.line && same_line t.line (class_of k)) (take i ts)
+
+-- what comes after the nodes that lead to a row
+abbrev pub Found : List LineTally → Names → Row → Front → Type 0
+Found ts names row x = (ns : List Node) (j : ℕ) → IsTallied ns ts → IsNames ns (lines_of ts) names → IsFront ns (lines_of ts) (λ k. line_leads row.point.queue (act_of row.act) (class_of k) || by_name ns k (node_of j row)) x
 
 pub none_past : (ts : List LineTally) (passes : Line → Bool) (i : ℕ) (d : LineTally) (k : Node) → i < length ts → passes (get_or ts i d).line ≡ false → of_first passes ts i k ≡ false → of_first passes ts (i + 1) k ≡ false
 none_past ts passes i d k lt is none =

@@ -15,7 +15,8 @@ ghost use Rattle.vk_order.specs.Inner.Places.{index_in};
 ghost use Rattle.vk_order.specs.Inner.Fronts.{IsFront};
 ghost use Rattle.vk_order.specs.Inner.Kept.{clock_at, IsLonger};
 ghost use Rattle.vk_order.specs.Inner.Parts.{parts_at, AreParts, IsNewPart};
-ghost use Rattle.vk_order.specs.Inner.Tallies.{lines_of, CanFollow, AreOnLines, AreFronts};
+ghost use Rattle.vk_order.specs.Inner.Tallies.{lines_of, IsTallied, CanFollow, AreOnLines, AreFronts};
+ghost use Rattle.vk_order.specs.Inner.Names.{IsNames};
 ghost use Rattle.vk_order.specs.Frontiers.{IsFrontier, IsNewNode, IsFrom};
 
 use crate::acts::Row;
@@ -29,7 +30,9 @@ use crate::owning::{heard, own_front};
 use crate::parts::{Part, Parts, Spot};
 use crate::point::{Act, Point, single_act};
 use crate::rows::rows_of;
-use crate::tallies::{LineTally, join_of, line_index, lines_copied, list_line, tally};
+use crate::tallies::{
+    LineTally, index_of_act, join_of, line_index, lines_copied, list_line, tally,
+};
 use std::alloc::{AllocError, Global};
 
 /// What is known of the nodes so far, for those that come next: of each line how many there are,
@@ -42,8 +45,8 @@ pub struct Frontier {
     tallies: Vec<LineTally>,
     names: Names,
     parts: Parts,
-    /// A front that is done with: the next one takes its room.
-    room: Front,
+    /// The front at hand: what a row that is added comes after, or one that is done with.
+    front: Front,
 }
 
 impl Frontier {
@@ -57,7 +60,7 @@ impl Frontier {
             tallies: Vec::new(alloc),
             names: Names::new(alloc),
             parts: Parts::new(alloc),
-            room: Front::new(alloc),
+            front: Front::new(alloc),
         }
     }
 
@@ -87,7 +90,7 @@ impl Frontier {
             point: *point,
             act: *act,
         };
-        let front = self.front_of(Front::new(self.alloc), &row)?;
+        let front = self.front_of(&row)?;
         let lines = self.lines()?;
         Ok(NewNode::new(lines, front, act.is_host(), point.queue))
     }
@@ -100,13 +103,13 @@ impl Frontier {
         Ok(lines)
     }
 
-    /// What comes after the nodes that lead to a row that comes next, in the room of a front.
-    fn front_of(&self, room: Front, row: &Row<'_>) -> Result<Front, AllocError>
+    /// What comes after the nodes that lead to a row that comes next.
+    fn front_of(&self, row: &Row<'_>) -> Result<Front, AllocError>
         ensures { IfOk result (λ f. (ns : List Node) (j : ℕ) → IsFrontier self.now ns
             → IsFront ns (lines_of self.now.tallies.items) (λ k. line_leads row.now.point.queue (act_of row.now.act) (class_of k) || by_name ns k (node_of j row.now)) f) }
     {
-        let mut front = join_of(room, self.tallies.as_slice(), row)?;
-        self.names.join_names(&mut front, row)?;
+        let mut front = Front::new(self.alloc);
+        find_front(&mut front, self.tallies.as_slice(), &self.names, row)?;
         Ok(front)
     }
 
@@ -139,8 +142,9 @@ impl Frontier {
             point: *point,
             act: *act,
         };
-        let at = self.list_line(Line::of(point.queue, act))?;
-        self.add_at(&row, at, new_node.into_front())?;
+        let at = self.list_row(&row)?;
+        self.front = new_node.into_front();
+        self.add_at(&row, at)?;
         Ok(())
     }
 
@@ -148,10 +152,9 @@ impl Frontier {
     fn add_single(&mut self, row: &Row<'_>) -> Result<(), AllocError>
         ensures { OnOk result ((ns : List Node) → CanFollow ns (row.now ∷ []) → IsFrontier self.old ns → IsFrontier self.new (node_of (length ns) row.now ∷ ns)) }
     {
-        let at = self.list_line(Line::of(row.point.queue, &row.act))?;
-        let room = std::mem::replace(&mut self.room, Front::new(self.alloc));
-        let front = self.front_of(room, row)?;
-        self.add_at(row, at, front)?;
+        let at = self.list_row(row)?;
+        find_front(&mut self.front, self.tallies.as_slice(), &self.names, row)?;
+        self.add_at(row, at)?;
         Ok(())
     }
 
@@ -178,6 +181,19 @@ impl Frontier {
         Ok(())
     }
 
+    /// Lists the line of a row. Answers its index.
+    fn list_row(&mut self, row: &Row<'_>) -> Result<usize, AllocError>
+        ensures listed { IfOk result (λ at. index_in (lines_of self.new.tallies.items) (class_on row.now.point.queue (act_of row.now.act)) ≡ Some at) }
+        ensures kept { OnOk result ((ns : List Node) → IsFrontier self.old ns → IsFrontier self.new ns) }
+        ensures longer { OnOk result (IsLonger (lines_of self.old.tallies.items) (lines_of self.new.tallies.items)) }
+    {
+        if let Some(at) = index_of_act(self.tallies.as_slice(), row.point.queue, &row.act) {
+            return Ok(at);
+        }
+        let at = self.list_line(Line::of(row.point.queue, &row.act))?;
+        Ok(at)
+    }
+
     /// Lists a line. Answers its index.
     fn list_line(&mut self, line: Line) -> Result<usize, AllocError>
         ensures listed { IfOk result (λ at. index_in (lines_of self.new.tallies.items) line ≡ Some at) }
@@ -196,7 +212,7 @@ impl Frontier {
     {
         let mut fronts = Vec::new(self.alloc);
         for row in rows {
-            let front = self.front_of(Front::new(self.alloc), row)?;
+            let front = self.front_of(row)?;
             fronts.push(front)?;
         }
         Ok(fronts)
@@ -225,39 +241,40 @@ impl Frontier {
         let Some(at) = line_index(self.tallies.as_slice(), line) else {
             unreachable!()
         };
-        self.add_at(row, at, front)
+        self.front = front;
+        self.add_at(row, at)?;
+        Ok(())
     }
 
-    /// The same at the index of its line.
-    fn add_at(&mut self, row: &Row<'_>, at: usize, front: Front) -> Result<(), AllocError>
+    /// The same at the index of its line, where the front at hand is what it comes after.
+    fn add_at(&mut self, row: &Row<'_>, at: usize) -> Result<(), AllocError>
         requires { index_in (lines_of self.old.tallies.items) (class_on row.now.point.queue (act_of row.now.act)) ≡ Some at }
         ensures lines { OnOk result (lines_of self.new.tallies.items ≡ lines_of self.old.tallies.items) }
-        ensures kept { OnOk result ((ns : List Node) (n : Node) → n ≡ node_of (length ns) row.now → IsFront ns (lines_of self.old.tallies.items) (λ k. edge ns k n) front → IsFrontier self.old ns → IsFrontier self.new (n ∷ ns)) }
+        ensures kept { OnOk result ((ns : List Node) (n : Node) → n ≡ node_of (length ns) row.now → IsFront ns (lines_of self.old.tallies.items) (λ k. edge ns k n) self.old.front → IsFrontier self.old ns → IsFrontier self.new (n ∷ ns)) }
     {
         let Some(nodes) = self.nodes.checked_add(1) else {
             return Err(AllocError);
         };
-        self.keep_part(row, &front)?;
-        let mut own = front;
-        own_front(self.tallies.as_slice(), row, at, &mut own)?;
-        self.names.add(self.alloc, row, &own)?;
-        tally(&mut self.tallies, at, &mut own)?;
-        self.room = own;
+        self.keep_part(row)?;
+        own_front(self.tallies.as_slice(), row, at, &mut self.front)?;
+        self.names.add(self.alloc, row, &self.front)?;
+        tally(&mut self.tallies, at, &mut self.front)?;
         self.nodes = nodes;
         Ok(())
     }
 
     /// Keeps a row that comes next, where it is a dependency on a part of memory.
-    fn keep_part(&mut self, row: &Row<'_>, front: &Front) -> Result<(), AllocError>
+    fn keep_part(&mut self, row: &Row<'_>) -> Result<(), AllocError>
         ensures nodes { OnOk result (self.new.nodes ≡ self.old.nodes) }
         ensures tallies { OnOk result (self.new.tallies ≡ self.old.tallies) }
         ensures names { OnOk result (self.new.names ≡ self.old.names) }
-        ensures parts { OnOk result ((ns : List Node) (n : Node) → n ≡ node_of (length ns) row.now → IsFront ns (lines_of self.old.tallies.items) (λ k. edge ns k n) front.now → IsFrontier self.old ns → AreParts (n ∷ ns) (lines_of self.old.tallies.items) self.new.parts) }
+        ensures front { OnOk result (self.new.front ≡ self.old.front) }
+        ensures parts { OnOk result ((ns : List Node) (n : Node) → n ≡ node_of (length ns) row.now → IsFront ns (lines_of self.old.tallies.items) (λ k. edge ns k n) self.old.front → IsFrontier self.old ns → AreParts (n ∷ ns) (lines_of self.old.tallies.items) self.new.parts) }
     {
         if !row.act.is_limited() {
             return Ok(());
         }
-        let part = self.new_part(row, front)?;
+        let part = self.new_part(row, &self.front)?;
         self.parts.keep(self.alloc, part)?;
         Ok(())
     }
@@ -319,4 +336,19 @@ impl Frontier {
         };
         count_at(part.heard.as_slice(), at)
     }
+}
+
+/// Makes a front what comes after the nodes that lead to a row that comes next, whatever it was.
+fn find_front(
+    front: &mut Front,
+    tallies: &[LineTally],
+    names: &Names,
+    row: &Row<'_>,
+) -> Result<(), AllocError>
+    ensures { OnOk result ((ns : List Node) (j : ℕ) → IsTallied ns tallies.now → IsNames ns (lines_of tallies.now) names.now
+        → IsFront ns (lines_of tallies.now) (λ k. line_leads row.now.point.queue (act_of row.now.act) (class_of k) || by_name ns k (node_of j row.now)) front.new) }
+{
+    join_of(front, tallies, row)?;
+    names.join_names(front, row)?;
+    Ok(())
 }

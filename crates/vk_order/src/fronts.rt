@@ -27,13 +27,11 @@ impl Front {
         }
     }
 
-    /// What comes after no node, in the room of this one.
-    pub fn emptied(self) -> Front
-        ensures { (ns : List Node) (ls : List AnyLine) → IsFront ns ls (λ k. false) result }
+    /// Comes after no node.
+    pub fn empty(&mut self)
+        ensures { (ns : List Node) (ls : List AnyLine) → IsFront ns ls (λ k. false) self.new }
     {
-        let Front { mut counts } = self;
-        counts.clear();
-        Front { counts }
+        self.counts.clear();
     }
 
     /// Comes after the nodes of another one too; where it is the first one, after these alone.

@@ -1,4 +1,5 @@
 ghost use Rattle.std.specs.Prelude.{◌≡◌, IsTrue};
+ghost use Rattle.vk_order.specs.declared.lines.Line.TheVariants.{Commands as OfCommands};
 ghost use Rattle.vk_order.specs.PointViews.{act_of};
 ghost use Rattle.vk_order.specs.Lines.{class_on, element_class};
 ghost use Rattle.vk_order.specs.Inner.Clocks.{same_line};
@@ -214,10 +215,18 @@ pub fn index_among(lines: &[Line], line: Line) -> Option<usize>
 {
     let mut owns = lines.iter().map(|own| *own);
     match line {
-        Line::Commands(queue) => owns.position(|own| is_commands(own, queue)),
+        Line::Commands(queue) => index_of_commands(lines, queue),
         Line::Elements(queue, transfer, host) => {
             owns.position(|own| is_elements(own, queue, transfer, host))
         }
         _ => owns.position(|own| own.is(line)),
     }
+}
+
+/// The index of the commands of a queue among lines.
+pub fn index_of_commands(lines: &[Line], queue: u32) -> Option<usize>
+    ensures { result ≡ index_in lines.now (OfCommands queue) }
+{
+    let mut owns = lines.iter().map(|own| *own);
+    owns.position(|own| is_commands(own, queue))
 }

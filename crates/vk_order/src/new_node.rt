@@ -19,7 +19,7 @@ use crate::access::Access;
 use crate::bytes::Byte;
 use crate::counts::{Counts, counts_at};
 use crate::fronts::Front;
-use crate::lines::{Line, index_among};
+use crate::lines::{Line, index_among, index_of_commands};
 use crate::parts::{Part, Spot};
 
 /// What a node that comes next has before it, and what it sees.
@@ -70,7 +70,7 @@ impl NewNode {
         ensures first { (ns : List Node) (n m : Node) → IsNewNode ns n self.now → Contains ns m → line_of m ≡ Some (OfCommands queue) → before (n ∷ ns) m n ≡ nat_lt (place ns (OfCommands queue) m.number) result }
         ensures there { (ns : List Node) (n : Node) → IsNewNode ns n self.now → result ≤ place ns (OfCommands queue) (length ns) }
     {
-        self.counts(Line::Commands(queue)).clock
+        self.counts_of_commands(queue).clock
     }
 
     /// Whether an access of this kind by the node sees the writes of the command of a queue before
@@ -124,6 +124,16 @@ impl NewNode {
             (false, Access::Write) => counts.writes,
             (true, Access::Read) => counts.host_reads,
             (true, Access::Write) => counts.host_writes,
+        }
+    }
+
+    /// The counts for the commands of a queue.
+    fn counts_of_commands(&self, queue: u32) -> Counts
+        ensures { result ≡ counts_on self.now.lines.items self.now.front.counts.items (OfCommands queue) }
+    {
+        match index_of_commands(self.lines.as_slice(), queue) {
+            Some(at) => counts_at(self.front.counts.as_slice(), at),
+            None => Counts::zero(),
         }
     }
 

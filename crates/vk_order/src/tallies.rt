@@ -1,6 +1,7 @@
 ghost use Rattle.std.specs.Prelude.{◌≡◌, ◌⊎◌, ◌∷◌, ◌++◌, ◌<◌, [], ℕ, Bool, List, IfOk, OnOk, IsTrue, is_some, Some, length, map, vec_len};
 ghost use Rattle.vk_model.specs.Sync.Node.{Node};
 ghost use Rattle.vk_order.specs.declared.acts.Row.{Row as AnyRow};
+ghost use Rattle.vk_order.specs.declared.lines.Line.TheVariants.{Commands as OfCommands};
 ghost use Rattle.vk_order.specs.PointViews.{act_of};
 ghost use Rattle.vk_order.specs.Lines.{class_of, class_on};
 ghost use Rattle.vk_order.specs.Inner.Leads.{line_leads};
@@ -12,6 +13,7 @@ use crate::acts::Row;
 use crate::fronts::Front;
 use crate::lines::Line;
 use crate::places::{is_commands, is_elements};
+use crate::point::Act;
 use std::alloc::{AllocError, Global};
 
 /// What is known of a line.
@@ -31,11 +33,30 @@ pub fn line_index(tallies: &[LineTally], line: Line) -> Option<usize>
 {
     let mut owns = tallies.iter().map(|tally| tally.line);
     match line {
-        Line::Commands(queue) => owns.position(|own| is_commands(own, queue)),
+        Line::Commands(queue) => commands_index(tallies, queue),
         Line::Elements(queue, transfer, host) => {
             owns.position(|own| is_elements(own, queue, transfer, host))
         }
         _ => owns.position(|own| own.is(line)),
+    }
+}
+
+/// The index of the commands of a queue.
+fn commands_index(tallies: &[LineTally], queue: u32) -> Option<usize>
+    ensures { result ≡ index_in (lines_of tallies.now) (OfCommands queue) }
+{
+    let mut owns = tallies.iter().map(|tally| tally.line);
+    owns.position(|own| is_commands(own, queue))
+}
+
+/// The index of the line of an act on a queue. Most acts are commands, of which the line is known at
+/// once.
+pub fn index_of_act(tallies: &[LineTally], queue: u32, act: &Act<'_>) -> Option<usize>
+    ensures { result ≡ index_in (lines_of tallies.now) (class_on queue (act_of act.now)) }
+{
+    match act {
+        Act::Runs(_) => commands_index(tallies, queue),
+        _ => line_index(tallies, Line::of(queue, act)),
     }
 }
 
@@ -50,23 +71,23 @@ pub fn lines_copied(alloc: Global, tallies: &[LineTally]) -> Result<Vec<Line>, A
     Ok(lines)
 }
 
-/// What comes after all nodes of the lines that lead to a row, in the room of a front that is done
-/// with.
-pub fn join_of(room: Front, tallies: &[LineTally], row: &Row<'_>) -> Result<Front, AllocError>
-    ensures { IfOk result (λ front. (ns : List Node) → IsTallied ns tallies.now → IsFront ns (lines_of tallies.now) (λ k. line_leads row.now.point.queue (act_of row.now.act) (class_of k)) front) }
+/// Makes a front what comes after all nodes of the lines that lead to a row, whatever it was.
+pub fn join_of(front: &mut Front, tallies: &[LineTally], row: &Row<'_>) -> Result<(), AllocError>
+    ensures { OnOk result ((ns : List Node) → IsTallied ns tallies.now → IsFront ns (lines_of tallies.now) (λ k. line_leads row.now.point.queue (act_of row.now.act) (class_of k)) front.new) }
 {
-    let mut front = room;
+    let queue = row.point.queue;
+    let act = row.act;
     let mut is_first = true;
     for tally in tallies {
-        if tally.line.leads(row.point.queue, &row.act) {
+        if tally.line.leads(queue, &act) {
             front.take_in(is_first, &tally.front)?;
             is_first = false;
         }
     }
     if is_first {
-        return Ok(front.emptied());
+        front.empty();
     }
-    Ok(front)
+    Ok(())
 }
 
 /// Lists a line, if it isn't yet. Answers its index.

@@ -43,9 +43,9 @@ pub returns-then-is_first : goal.returns-then-is_first
 returns-then-is_first c = λ ns tallied.
     let ts = c.args.tallies.now in
     let passes = line_leads c.args.row.now.point.queue (act_of c.args.row.now.act) in
-    front_all ns ts passes c.loop-tally.tally-index c.emptied.result tallied c.loop-tally-test.false
-    (front_same ns (lines_of ts) (λ k. false) (of_first passes ts c.loop-tally.tally-index) c.emptied.result (λ k there. sym (c.loop-tally.invariant.none c.if-is_first.true k)) (c.emptied.ensures ns (lines_of ts)))
+    front_all ns ts passes c.loop-tally.tally-index c.empty.new.self tallied c.loop-tally-test.false
+    (front_same ns (lines_of ts) (λ k. false) (of_first passes ts c.loop-tally.tally-index) c.empty.new.self (λ k there. sym (c.loop-tally.invariant.none c.if-is_first.true k)) (c.empty.ensures ns (lines_of ts)))
 
-pub returns : goal.returns
-returns c = λ ns tallied.
+pub returns-else-is_first : goal.returns-else-is_first
+returns-else-is_first c = λ ns tallied.
     front_all ns c.args.tallies.now (line_leads c.args.row.now.point.queue (act_of c.args.row.now.act)) c.loop-tally.tally-index c.loop-tally.front tallied c.loop-tally-test.false (c.loop-tally.invariant.some c.if-is_first.false ns tallied)

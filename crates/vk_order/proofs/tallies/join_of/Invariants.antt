@@ -9,6 +9,6 @@ use Rattle.vk_order.proofs.tallies.join_of.Given as goal
 
 abbrev pub invariant-loop-tally : goal.invariant-loop-tally
 invariant-loop-tally l = record {
-  none : l.is_first ≡ true → (k : Node) → of_first (line_leads l.row.point.queue (act_of l.row.act)) l.tallies l.tally-index k ≡ false;
-  some : l.is_first ≡ false → (ns : List Node) → IsTallied ns l.tallies → IsFront ns (lines_of l.tallies) (of_first (line_leads l.row.point.queue (act_of l.row.act)) l.tallies l.tally-index) l.front;
+  none : l.is_first ≡ true → (k : Node) → of_first (line_leads l.queue (act_of l.act)) l.tallies l.tally-index k ≡ false;
+  some : l.is_first ≡ false → (ns : List Node) → IsTallied ns l.tallies → IsFront ns (lines_of l.tallies) (of_first (line_leads l.queue (act_of l.act)) l.tallies l.tally-index) l.front;
 }

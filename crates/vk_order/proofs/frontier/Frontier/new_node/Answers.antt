@@ -26,4 +26,4 @@ returns-clause-new_node c = λ ns n is node apart.
     subst (λ (ls : List Line). IsFront ns ls (λ k. edge ns k n) c.in_ok-front.front) (sym lines)
     (front_same ns (lines_of c.args.self.now.tallies.items) (λ k. line_leads row.point.queue (act_of row.act) (class_of k) || by_name ns k (node_of (length ns) row)) (λ k. edge ns k n) c.in_ok-front.front
     (λ k there. ap (λ (m : Node). line_leads m.point.queue m.act (class_of k) || by_name ns k m) (sym node) ∙ sym (edge_split n ns numbers k there (apart k there))) known) in
-    subst (λ (s : NewNode). IsNewNode ns n s) (sym c.new-2.ensures) (record { numbers = numbers; front = front; is_host = c.is_host.ensures ∙ ap (λ (m : Node). is_host m.act) (sym node); queue = ap (λ (m : Node). m.point.queue) (sym node) })
+    subst (λ (s : NewNode). IsNewNode ns n s) (sym c.new.ensures) (record { numbers = numbers; front = front; is_host = c.is_host.ensures ∙ ap (λ (m : Node). is_host m.act) (sym node); queue = ap (λ (m : Node). m.point.queue) (sym node) })
