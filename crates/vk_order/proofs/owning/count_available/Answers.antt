@@ -1,4 +1,4 @@
-use Rattle.std.proofs.Common.{◌≡◌, List, Option, Some, None, refl, ap, sym, ◌∙◌, get_or, rules}
+use Rattle.std.proofs.Common.{◌≡◌, Option, Some, None, refl, ap, sym, ◌∙◌, get_or, rules}
 use Rattle.std.proofs.lemmas.Option.{slice_get-get_or}
 use Rattle.vk_model.specs.Basics.{holds}
 use Rattle.vk_order.specs.declared.lines.Line.{Line}

@@ -1,16 +1,5 @@
-use Rattle.std.proofs.Common.{◌≡◌, ◌||◌, ℕ, List, subst}
-use Rattle.vk_model.specs.Sync.Node.{Node}
-use Rattle.vk_order.specs.declared.acts.Row.{Row}
-use Rattle.vk_order.specs.declared.fronts.Front.{Front}
-use Rattle.vk_order.specs.declared.names.Names.{Names}
+use Rattle.std.proofs.Common.{List, subst}
 use Rattle.vk_order.specs.declared.tallies.LineTally.{LineTally}
-use Rattle.vk_order.specs.PointViews.{act_of, node_of}
-use Rattle.vk_order.specs.Lines.{class_of}
-use Rattle.vk_order.specs.Inner.Fronts.{IsFront}
-use Rattle.vk_order.specs.Inner.Leads.{line_leads}
-use Rattle.vk_order.specs.Inner.Links.{by_name}
-use Rattle.vk_order.specs.Inner.Names.{IsNames}
-use Rattle.vk_order.specs.Inner.Tallies.{lines_of, IsTallied}
 use Rattle.vk_order.proofs.TallyLemmas.{Found}
 use Rattle.vk_order.proofs.frontier.Frontier.front_of.Goals as goal
 

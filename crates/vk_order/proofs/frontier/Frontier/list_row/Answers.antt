@@ -1,4 +1,4 @@
-use Rattle.std.proofs.Common.{◌≡◌, ◌∙◌, List, Some, refl, ap, sym}
+use Rattle.std.proofs.Common.{◌∙◌, List, refl, ap, sym}
 use Rattle.vk_order.specs.declared.tallies.LineTally.{LineTally}
 use Rattle.vk_order.specs.PointViews.{act_of}
 use Rattle.vk_order.specs.Lines.{class_on}

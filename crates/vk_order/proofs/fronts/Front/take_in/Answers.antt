@@ -1,5 +1,4 @@
 use Rattle.std.proofs.Common.{◌∙◌}
-use Rattle.vk_model.proofs.Lists.Truths.{no, clash}
 use Rattle.vk_order.proofs.FrontLemmas.{front_items}
 use Rattle.vk_order.proofs.fronts.Front.take_in.Goals as goal
 
