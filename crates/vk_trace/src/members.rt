@@ -1,4 +1,4 @@
-ghost use Rattle.std.specs.Prelude.{◌≡◌, Option, Some, OnOk};
+ghost use Rattle.std.specs.Prelude.{◌≡◌, Option, Some, OnOk, bytes_eq};
 ghost use Rattle.serde_json.specs.Data.{Data};
 ghost use Rattle.vk_trace.specs.Members.{first_member, word_and_members, each_member, list_of, bytes_value, u64_value, u32_value};
 ghost use Rattle.vk_trace.specs.Inner.Gives.{Gives};
@@ -36,6 +36,24 @@ pub fn word_first<'a>(tokens: &mut Tokens<'a>) -> Reading<&'a str>
 {
     tokens.begin()?;
     tokens.text()
+}
+
+/// Whether a word is the one of this name. At a literal name it becomes a comparison or two.
+#[inline(always)]
+pub fn is(word: &str, name: &str) -> bool
+    ensures { result ≡ bytes_eq word.now name.now }
+{
+    let (word, name) = (word.as_bytes(), name.as_bytes());
+    if word.len() != name.len() {
+        return false;
+    }
+    let mut same = true;
+    let mut at = name.len();
+    while at > 0 {
+        at -= 1;
+        same = (name[at] == word[at]) & same;
+    }
+    same
 }
 
 /// The bytes that a text in hex of either case means, two digits a byte.

@@ -22,7 +22,7 @@ pub fn read_trace(alloc: Global, bytes: &[u8]) -> Result<Vec<Entry>, ReadTraceEr
     ensures ok { IfOk result (λ v. IsTrace bytes.now v.items) }
     ensures none { result ≡ Err ReadTraceError.NotTrace → (t : List Entry) → IsTrace bytes.now t → ⊥ }
 {
-    let Ok(text) = str::from_utf8(bytes) else {
+    let Ok(text) = simdutf8::from_utf8_baseline(bytes) else {
         return Err(ReadTraceError::NotTrace);
     };
     let entries: Sequence<Entry> = meaning_of(alloc, text)?;

@@ -1,5 +1,6 @@
 //! The tokens of a text of JSON, taken one after the other as the forms of a trace want them.
-ghost use Rattle.std.specs.Prelude.{◌≡◌, ◌∷◌, [], Some, None, MatchOption, OnOk, option_and_then};
+ghost use Rattle.std.specs.Prelude.{◌≡◌, ◌∷◌, [], Some, None, MatchOption, IfSome, OnOk, option_and_then};
+ghost use Rattle.std.specs.Str.Parse.{digits_value, IsNumeral};
 ghost use Rattle.std.specs.Bool.{MatchBool};
 ghost use Rattle.json.specs.Json.{after_end_array};
 ghost use Rattle.json.specs.Reads.{token_of};
@@ -18,6 +19,9 @@ pub type Reading<T> = Result<T, ReadTraceError>;
 
 /// How deep arrays may be nested in a text.
 const MAX_DEPTH: usize = 127;
+
+/// So many digits always write a number below 2 ^ 64.
+const MOST_DIGITS: usize = 19;
 
 /// The tokens of a text that are still to come, and how many arrays they are in.
 #[derive(Drop)]
@@ -120,8 +124,30 @@ impl<'a> Tokens<'a> {
 pub fn whole_number(text: &str) -> Reading<u64>
     ensures { Gives (λ x. x) result (option_and_then as_u64 (number_of text.now)) }
 {
-    match Numeral::scan(text.as_bytes()).to_u64() {
+    let bytes = text.as_bytes();
+    if let Some(number) = few_digits(bytes) {
+        return Ok(number);
+    }
+    match Numeral::scan(bytes).to_u64() {
         Some(number) => Ok(number),
         None => Err(ReadTraceError::NotTrace),
     }
+}
+
+/// The number that digits write, if there is nothing else and no more than 19 of them.
+fn few_digits(digits: &[u8]) -> Option<u64>
+    ensures { IfSome result (λ n. IsNumeral 10 digits.now × (digits_value 10 digits.now ≡ n)) }
+{
+    if digits.is_empty() || digits.len() > MOST_DIGITS {
+        return None;
+    }
+    let mut number = 0;
+    for byte in digits {
+        let digit = byte.wrapping_sub(b'0');
+        if digit > 9 {
+            return None;
+        }
+        number = number * 10 + digit as u64;
+    }
+    Some(number)
 }
