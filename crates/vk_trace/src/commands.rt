@@ -8,7 +8,7 @@ ghost use Rattle.vk_trace.specs.Inner.Ahead.{ahead, whole};
 
 use crate::errors::ReadTraceError;
 use crate::images::{clear_of, copy_image_of, copy_in_of, copy_out_of};
-use crate::members::{Member, first, first_bytes, is, word_first};
+use crate::members::{Member, first, first_bytes, is_named, word_first};
 use crate::tokens::{Reading, Tokens, whole_number};
 use bitflags::Flags;
 use json::Token;
@@ -124,16 +124,16 @@ impl Member for Cmd {
     #[tactic(auto, unfolding(crate::specs::Trace::command_value, crate::specs::Trace::command_rows))]
     fn member(alloc: Global, tokens: &mut Tokens<'_>) -> Reading<Cmd> {
         match word_first(tokens)? {
-            word if is(word, "fill") => fill_of(alloc, tokens),
-            word if is(word, "update") => update_of(alloc, tokens),
-            word if is(word, "copy") => copy_of(alloc, tokens),
-            word if is(word, "clear") => clear_of(alloc, tokens),
-            word if is(word, "copy_in") => copy_in_of(alloc, tokens),
-            word if is(word, "copy_out") => copy_out_of(alloc, tokens),
-            word if is(word, "copy_image") => copy_image_of(alloc, tokens),
-            word if is(word, "barrier") => barrier_of(alloc, tokens),
-            word if is(word, "set") => set_of(alloc, tokens),
-            word if is(word, "await") => await_of(alloc, tokens),
+            word if is_named(word, "fill") => fill_of(alloc, tokens),
+            word if is_named(word, "update") => update_of(alloc, tokens),
+            word if is_named(word, "copy") => copy_of(alloc, tokens),
+            word if is_named(word, "clear") => clear_of(alloc, tokens),
+            word if is_named(word, "copy_in") => copy_in_of(alloc, tokens),
+            word if is_named(word, "copy_out") => copy_out_of(alloc, tokens),
+            word if is_named(word, "copy_image") => copy_image_of(alloc, tokens),
+            word if is_named(word, "barrier") => barrier_of(alloc, tokens),
+            word if is_named(word, "set") => set_of(alloc, tokens),
+            word if is_named(word, "await") => await_of(alloc, tokens),
             _ => Err(ReadTraceError::NotTrace),
         }
     }

@@ -7,7 +7,7 @@ ghost use Rattle.vk_trace.specs.Inner.Ahead.{ahead, whole};
 use crate::defrags::{defrag_of, end_defrag_of, end_pass_of, pass_of};
 use crate::errors::ReadTraceError;
 use crate::images::image_of;
-use crate::members::{Member, first, first_bytes, is, word_first};
+use crate::members::{Member, first, first_bytes, is_named, word_first};
 use crate::pools::{drop_pool_of, in_pool_of, pool_of, upper_of};
 use crate::tokens::{Reading, Tokens};
 use bitflags::Flags;
@@ -121,28 +121,28 @@ impl Member for Entry {
     #[tactic(auto, unfolding(crate::specs::Trace::entry_value, crate::specs::Trace::entry_rows))]
     fn member(alloc: Global, tokens: &mut Tokens<'_>) -> Reading<Entry> {
         match word_first(tokens)? {
-            word if is(word, "submit") => submit_of(alloc, tokens),
-            word if is(word, "wait") => wait_of(alloc, tokens),
-            word if is(word, "semaphore") => semaphore_of(alloc, tokens),
-            word if is(word, "write") => write_of(alloc, tokens),
-            word if is(word, "read") => read_of(alloc, tokens),
-            word if is(word, "map") => map_of(alloc, tokens),
-            word if is(word, "buffer") => buffer_of(alloc, tokens),
-            word if is(word, "destroy") => destroy_of(alloc, tokens),
-            word if is(word, "unmap") => unmap_of(alloc, tokens),
-            word if is(word, "flush") => flush_of(alloc, tokens),
-            word if is(word, "invalidate") => invalidate_of(alloc, tokens),
-            word if is(word, "image") => image_of(alloc, tokens),
-            word if is(word, "memory") => memory_of(alloc, tokens),
-            word if is(word, "free") => free_of(alloc, tokens),
-            word if is(word, "signal") => signal_of(alloc, tokens),
-            word if is(word, "event") => event_of(alloc, tokens),
-            word if is(word, "pool") => pool_of(alloc, tokens),
-            word if is(word, "drop_pool") => drop_pool_of(alloc, tokens),
-            word if is(word, "defrag") => defrag_of(alloc, tokens),
-            word if is(word, "pass") => pass_of(alloc, tokens),
-            word if is(word, "end_pass") => end_pass_of(alloc, tokens),
-            word if is(word, "end_defrag") => end_defrag_of(alloc, tokens),
+            word if is_named(word, "submit") => submit_of(alloc, tokens),
+            word if is_named(word, "wait") => wait_of(alloc, tokens),
+            word if is_named(word, "semaphore") => semaphore_of(alloc, tokens),
+            word if is_named(word, "write") => write_of(alloc, tokens),
+            word if is_named(word, "read") => read_of(alloc, tokens),
+            word if is_named(word, "map") => map_of(alloc, tokens),
+            word if is_named(word, "buffer") => buffer_of(alloc, tokens),
+            word if is_named(word, "destroy") => destroy_of(alloc, tokens),
+            word if is_named(word, "unmap") => unmap_of(alloc, tokens),
+            word if is_named(word, "flush") => flush_of(alloc, tokens),
+            word if is_named(word, "invalidate") => invalidate_of(alloc, tokens),
+            word if is_named(word, "image") => image_of(alloc, tokens),
+            word if is_named(word, "memory") => memory_of(alloc, tokens),
+            word if is_named(word, "free") => free_of(alloc, tokens),
+            word if is_named(word, "signal") => signal_of(alloc, tokens),
+            word if is_named(word, "event") => event_of(alloc, tokens),
+            word if is_named(word, "pool") => pool_of(alloc, tokens),
+            word if is_named(word, "drop_pool") => drop_pool_of(alloc, tokens),
+            word if is_named(word, "defrag") => defrag_of(alloc, tokens),
+            word if is_named(word, "pass") => pass_of(alloc, tokens),
+            word if is_named(word, "end_pass") => end_pass_of(alloc, tokens),
+            word if is_named(word, "end_defrag") => end_defrag_of(alloc, tokens),
             _ => Err(ReadTraceError::NotTrace),
         }
     }

@@ -40,7 +40,7 @@ pub fn word_first<'a>(tokens: &mut Tokens<'a>) -> Reading<&'a str>
 
 /// Whether a word is the one of this name. At a literal name it becomes a comparison or two.
 #[inline(always)]
-pub fn is(word: &str, name: &str) -> bool
+pub fn is_named(word: &str, name: &str) -> bool
     ensures { result ≡ bytes_eq word.now name.now }
 {
     let (word, name) = (word.as_bytes(), name.as_bytes());

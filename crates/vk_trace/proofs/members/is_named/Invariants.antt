@@ -1,6 +1,6 @@
 use Rattle.std.proofs.Common.{◌≡◌, ◌≤◌, length, drop}
 use Rattle.std.specs.Str.{bytes_eq}
-use Rattle.vk_trace.proofs.members.is.Given as goal
+use Rattle.vk_trace.proofs.members.is_named.Given as goal
 
 abbrev pub invariant-loop-at : goal.invariant-loop-at
 invariant-loop-at l =
