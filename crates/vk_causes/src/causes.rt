@@ -17,8 +17,8 @@ pub enum Cause<'a> {
     Signaled(Signaler),
 }
 
-/// What is reported of the point that a trace is refused at, by this rule. None is reported of other rules,
-/// nor where finding it would take too long. The only error is want of memory.
+/// What is reported of the point that a trace is refused at, by this rule. None is reported of
+/// other rules, nor where finding it would take too long. The only error is want of memory.
 pub fn cause_of<'a>(
     alloc: Global,
     entries: &'a [Entry],

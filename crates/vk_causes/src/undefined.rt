@@ -22,8 +22,8 @@ pub struct Undefined<'a> {
     pub byte: Byte,
     /// The copies that brought it there, the last one first.
     pub copies: Vec<Copied<'a>>,
-    /// What made the byte that was copied first undefined, or the byte itself where none was copied,
-    /// and at which point; where there is nothing, it was never written.
+    /// What made the byte that was copied first undefined, or the byte itself where none was
+    /// copied, and at which point; where there is nothing, it was never written.
     pub loss: Option<(Loss, Point<'a>)>,
 }
 
@@ -38,8 +38,8 @@ enum Followed<'a> {
     TooLong,
 }
 
-/// Why a read after some points finds an undefined byte: the first one. None is reported where following
-/// its bytes would take too many steps.
+/// Why a read after some points finds an undefined byte: the first one. None is reported where
+/// following its bytes would take too many steps.
 pub fn undefined_read<'a>(
     alloc: Global,
     points: &[Point<'a>],

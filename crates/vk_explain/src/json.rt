@@ -17,8 +17,8 @@ use vk_model::{At, Entry, Rule};
 use vk_notes::{Summary, note_words, notes_of, summary_of};
 use vk_words::{point_words, push_at, sentence};
 
-/// The object on a refused trace: verdict, point, rule, the fact that is reported of it, the point's place in
-/// the input and in words, and what the rule says.
+/// The object on a refused trace: verdict, point, rule, the fact that is reported of it, the
+/// point's place in the input and in words, and what the rule says.
 pub fn refusal_json(
     alloc: Global,
     input: &[u8],

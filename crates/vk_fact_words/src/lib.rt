@@ -1,5 +1,6 @@
-//! Facts of refused traces in words, as lines of a text and as members of an object: the fact that is reported
-//! of the rule, the links of a hazard, what the rule compares, what the point finds, and why.
+//! Facts of refused traces in words, as lines of a text and as members of an object: the fact that
+//! is reported of the rule, the links of a hazard, what the rule compares, what the point finds,
+//! and why.
 #![tactic(auto)]
 
 mod causes;

@@ -21,7 +21,7 @@ has (area.Texels t) (in_image i a l x y p) = t.image == i && t.level == a && is_
 abbrev pub have : List Area → Byte → Bool
 have areas b = list_any (λ a. has a b) areas
 
--- A byte whose place is reported by numbers below the greatest ones of 64 and 32 bits, as that of every byte inside a resource is.
+-- A byte whose place is given by numbers below the greatest ones of 64 and 32 bits, as that of every byte inside a resource is.
 abbrev pub IsNumbered : Byte → Type 0
 IsNumbered (in_buffer b k) = k < 2 ^ 64 - 1
 IsNumbered (in_image i a l x y p) = (a < 2 ^ 32) × (l < 2 ^ 32 - 1) × (x < 2 ^ 32 - 1) × (y < 2 ^ 32 - 1)

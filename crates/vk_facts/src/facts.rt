@@ -31,8 +31,8 @@ pub enum Fact<'a> {
 }
 
 impl<'a> Past<'a> {
-    /// What is so of the last point, where it breaks this rule. Rules of which no fact is reported have
-    /// none. The only error is want of memory.
+    /// What is so of the last point, where it breaks this rule. Rules of which no fact is reported
+    /// have none. The only error is want of memory.
     pub fn fact_of(&self, rule: Rule) -> Result<Option<Fact<'a>>, AllocError>
         ensures { IfOk result (λ found. (past : spec.Past) (p : spec.Point) → self.now ≡ p ∷ past → IsReported rule past p found) }
     {
@@ -102,8 +102,8 @@ impl<'a> Past<'a> {
     }
 }
 
-/// What is so of the point that a trace is refused at, and of the rule that it breaks there. The only
-/// error is want of memory.
+/// What is so of the point that a trace is refused at, and of the rule that it breaks there. The
+/// only error is want of memory.
 pub fn fact_of_fault<'a>(
     alloc: Global,
     entries: &'a [Entry],

@@ -25,7 +25,7 @@ use std::alloc::{AllocError, Global};
 use std::collections::BTreeMap;
 use vk_image_tiles::has_bad_shape;
 use vk_model::{BufferInfo, ImageInfo, Length, SubresourceRange};
-use vk_order::{Access, Frontier, Point, NewNode};
+use vk_order::{Access, Frontier, NewNode, Point};
 use vk_touches::{Bytes, ResourceAccess, Spot};
 
 /// What is known of the bytes of each resource.

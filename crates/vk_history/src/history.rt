@@ -36,7 +36,7 @@ use crate::tables::{Tables, note};
 use std::alloc::{AllocError, Global};
 use std::marker::Model;
 use vk_model::{BufferInfo, Entry, ImageInfo, MemoryInfo, Place, PoolInfo};
-use vk_order::{Access, Action, Point, NewNode};
+use vk_order::{Access, Action, NewNode, Point};
 use vk_touches::ResourceAccess;
 
 /// What has happened: the first `count` of the points, which break no rule. What the rules ask of it

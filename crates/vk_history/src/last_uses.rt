@@ -19,7 +19,7 @@ use crate::used::{Used, named_by, used_by};
 use std::alloc::{AllocError, Global};
 use std::collections::BTreeMap;
 use vk_model::{Cmd, Element};
-use vk_order::{Act, Frontier, Line, Point, NewNode};
+use vk_order::{Act, Frontier, Line, NewNode, Point};
 
 /// Where the last node on a line that names a resource is.
 #[derive(Clone, Copy)]

@@ -60,7 +60,8 @@ impl ResourceContents {
         ensures { offset + size ≤ length self.now.touches → FoundIn (HasEarlyCommand new_node.now) result self.now.touches offset (offset + size) }
     {
         let part = Part::of(offset, 0, size, self.touches.len());
-        self.touches.has_early_command(part.low, part.high, new_node)
+        self.touches
+            .has_early_command(part.low, part.high, new_node)
     }
 
     /// Whether a byte of a range is undefined.

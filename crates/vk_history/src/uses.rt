@@ -15,7 +15,7 @@ use crate::last_uses::LastUses;
 use crate::used::{count_batches, discount_command};
 use std::alloc::{AllocError, Global};
 use vk_model::Entry;
-use vk_order::{Action, Frontier, Point, NewNode};
+use vk_order::{Action, Frontier, NewNode, Point};
 
 /// How resources are used by commands that were submitted.
 #[derive(Drop)]

@@ -34,6 +34,6 @@ pub use tasks::{
 };
 pub use trace::{accesses_in_order, commands_stay, host_in_order, no_hazard, seen_is_before};
 pub use trace_runs::{
-    defined_runs_are_allowed, defined_runs_are_fresh, defined_runs_end, defined_runs_go_on,
-    defined_runs_follow, offered_are_pieces,
+    defined_runs_are_allowed, defined_runs_are_fresh, defined_runs_end, defined_runs_follow,
+    defined_runs_go_on, offered_are_pieces,
 };

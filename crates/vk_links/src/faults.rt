@@ -12,8 +12,8 @@ use vk_facts::HazardFact;
 use vk_model::{At, Entry, Rule};
 use vk_past::points_until;
 
-/// Which link of a hazard is missing that is reported of the point at which a trace is refused, and which
-/// nodes the others are by. The only error is want of memory.
+/// Which link of a hazard is missing that is reported of the point at which a trace is refused, and
+/// which nodes the others are by. The only error is want of memory.
 pub fn links_of_fault<'a>(
     alloc: Global,
     entries: &'a [Entry],

@@ -2,11 +2,11 @@
 //! the write is made available, comes before the access, and is made visible to it.
 #![tactic(auto)]
 
+mod availability;
 mod faults;
 mod laws;
 mod links;
 mod nodes;
-mod availability;
 mod visibility;
 
 pub use faults::links_of_fault;

@@ -11,8 +11,8 @@ ghost use Rattle.vk_facts.specs.Hazards.{is_missing, node_at};
 ghost use Rattle.vk_links.specs.Links.{needs_flush, AreLinks, AreLinksOfWrite, IsMissingAfterWrite};
 ghost use Rattle.vk_links.specs.Inner.Found.{AreFound};
 
-use crate::nodes::Nodes;
 use crate::availability::Write;
+use crate::nodes::Nodes;
 use crate::visibility::Pair;
 use std::alloc::AllocError;
 use vk_facts::{Hazard, HazardFact, Placed};

@@ -11,8 +11,8 @@ ghost use Rattle.vk_facts.specs.Hazards.{node_at};
 ghost use Rattle.vk_links.specs.Links.{shows_host, shows_in_time, IsFirst};
 ghost use Rattle.vk_links.specs.Inner.Availability.{IsPair, AreFirsts};
 
-use crate::nodes::Nodes;
 use crate::availability::{First, Write};
+use crate::nodes::Nodes;
 use bitflags::Flags;
 use vk_facts::Placed;
 use vk_model::{Accesses, Element, Stages};

@@ -11,7 +11,7 @@ ghost use Rattle.vk_offers.specs.Inner.Starting.{StartReady, Starts, Passes, is_
 
 use std::alloc::{AllocError, Global};
 use vk_model::{Cmd, Entry, before_is_order, growth_keeps};
-use vk_order::{Act, Action, Frontier, Point, NewNode, commands_follow};
+use vk_order::{Act, Action, Frontier, NewNode, Point, commands_follow};
 use vk_sync::{Piece, Ready};
 
 /// The points so far, as far as they decide what may run next: the commands that were started,

@@ -1,4 +1,4 @@
--- Places in lines, when nodes come, and what has no siblings: what callers show of new node.
+-- Places in lines, when nodes come, and what has no siblings: what callers show of a new node.
 use Rattle.std.proofs.Common.{◌≡◌, ℕ, ◌≤◌, Some, List, [], ◌∷◌, length, Bool, true, false, ◌&&◌, refl, ap, ◌∙◌, arith}
 use Rattle.std.specs.Prelude.{Contains}
 use Rattle.vk_model.specs.Trace.Point.{Point}

@@ -1,4 +1,4 @@
--- What is asked of new node, where all dependencies are on all memory.
+-- What is asked of a new node, where all dependencies are on all memory.
 use Rattle.std.specs.Prelude.{◌≡◌, List, Bool, true, false, not, IsTrue, Contains}
 use Rattle.vk_model.specs.declared.command.Element.TheVariants as element
 use Rattle.vk_model.specs.World.Bytes.{Byte}

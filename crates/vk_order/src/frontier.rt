@@ -127,8 +127,8 @@ impl Frontier {
         }
     }
 
-    /// Adds the node of a point that comes next, which has this act alone, as a new node. The errors
-    /// are those of `advance`.
+    /// Adds the node of a point that comes next, which has this act alone, as a new node. The
+    /// errors are those of `advance`.
     pub fn add_seen(
         &mut self,
         point: &Point<'_>,

@@ -49,8 +49,8 @@ fn commands_index(tallies: &[LineTally], queue: u32) -> Option<usize>
     owns.position(|own| is_commands(own, queue))
 }
 
-/// The index of the line of an act on a queue. Most acts are commands, of which the line is known at
-/// once.
+/// The index of the line of an act on a queue. Most acts are commands, of which the line is known
+/// at once.
 pub fn index_of_act(tallies: &[LineTally], queue: u32, act: &Act<'_>) -> Option<usize>
     ensures { result ≡ index_in (lines_of tallies.now) (class_on queue (act_of act.now)) }
 {

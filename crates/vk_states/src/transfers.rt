@@ -27,7 +27,8 @@ pub enum OwnerFault {
     Unreleased,
     /// It acquires what is released to other families or with other layouts.
     OtherHalf,
-    /// It acquires what its other half has released: only that this one comes before can be missing.
+    /// It acquires what its other half has released: only that this one comes before can be
+    /// missing.
     Unordered,
 }
 
@@ -46,9 +47,9 @@ pub struct OwnerState<'a> {
     pub owned: Ownership<'a>,
 }
 
-/// OWNER_PAIR: the first release or acquire of a point that doesn't fit the owner of its resource; or,
-/// where each does, the acquire, if the point has just one. None is reported of one whose owner an earlier
-/// element of the point changes. For each transfer it walks over the points once.
+/// OWNER_PAIR: the first release or acquire of a point that doesn't fit the owner of its resource;
+/// or, where each does, the acquire, if the point has just one. None is reported of one whose owner
+/// an earlier element of the point changes. For each transfer it walks over the points once.
 pub fn owner_pair_of<'a>(older: &[Point<'a>], point: &Point<'a>) -> Option<OwnerState<'a>>
     ensures { IfSome result (IsOwnerPair (past_of older.now) point.now.queue (action_of point.now.action)) }
 {

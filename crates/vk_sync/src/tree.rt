@@ -19,8 +19,8 @@ pub(crate) struct Place {
 /// Numbers, with their sums by 64 and by 4,096. Contracts see the list of the numbers.
 ///
 /// A change costs three sums. A search goes past at most 64 numbers, 64 sums of 64, and the sums of
-/// 4,096: of those there are 32 where there are 131,072 numbers. Where numbers become 0 from the first
-/// one on, as they do when commands are run one after another, it ends at once.
+/// 4,096: of those there are 32 where there are 131,072 numbers. Where numbers become 0 from the
+/// first one on, as they do when commands are run one after another, it ends at once.
 #[derive(Drop)]
 pub(crate) struct SumTree {
     leaves: Vec<u64>,

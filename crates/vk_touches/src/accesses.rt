@@ -7,7 +7,7 @@ use crate::bytes::Bytes;
 use crate::map::TouchMap;
 use crate::others::OtherTouches;
 use crate::touches::Spot;
-use vk_order::{Access, Frontier, Line, SeenUntil, VisiblePrefix, NewNode};
+use vk_order::{Access, Frontier, Line, NewNode, SeenUntil, VisiblePrefix};
 
 /// How the node of a point that comes next accesses a resource, and what it sees.
 #[derive(Clone, Copy)]
@@ -31,7 +31,9 @@ impl ResourceAccess<'_> {
         requires numbers { HaveNumbers self.now.bytes high }
         ensures { FoundAt (Misses is_cached self.now) result touches.now low high }
     {
-        let mut visible_prefix = self.frontier.visible_prefix(self.new_node, Line::Host, self.access);
+        let mut visible_prefix = self
+            .frontier
+            .visible_prefix(self.new_node, Line::Host, self.access);
         for run in touches.others.overlapping(low, high) {
             if !self.are_among(run.value, visible_prefix) {
                 visible_prefix = self.visible_prefix_for(run.value, visible_prefix);
@@ -50,7 +52,9 @@ impl ResourceAccess<'_> {
         requires numbers { HaveNumbers self.now.bytes high }
         ensures { FoundAt (MissesWrite self.now) result touches.now low high }
     {
-        let mut visible_prefix = self.frontier.visible_prefix(self.new_node, Line::Host, self.access);
+        let mut visible_prefix = self
+            .frontier
+            .visible_prefix(self.new_node, Line::Host, self.access);
         for run in touches.others.overlapping(low, high) {
             if !self.is_among(run.value.write, visible_prefix) {
                 visible_prefix = self.visible_prefix_for(run.value, visible_prefix);
@@ -83,7 +87,9 @@ impl ResourceAccess<'_> {
         requires { AreSeen self.now visible_prefix }
         ensures { result ≡ true → (is_cached : Bool) (k : ℕ) → Misses is_cached self.now k false (without_host_read last.now) }
     {
-        last.host_write.is_none() && last.transition.is_none() && self.is_among(last.write, visible_prefix)
+        last.host_write.is_none()
+            && last.transition.is_none()
+            && self.is_among(last.write, visible_prefix)
     }
 
     /// Whether there is no such write, or it is by one of the nodes all of whose writes are seen.
@@ -101,13 +107,18 @@ impl ResourceAccess<'_> {
     /// The first nodes of a line as far as all their writes are seen: of the line of the last write by
     /// a command, where there is one. Most other writes are on the same line.
     #[inline(always)]
-    fn visible_prefix_for(&self, last: &OtherTouches, visible_prefix: VisiblePrefix) -> VisiblePrefix
+    fn visible_prefix_for(
+        &self,
+        last: &OtherTouches,
+        visible_prefix: VisiblePrefix,
+    ) -> VisiblePrefix
         requires { AreSeen self.now visible_prefix }
         ensures { AreSeen self.now result }
     {
         match last.write {
             Some(write) if !visible_prefix.is_of(write.line) => {
-                self.frontier.visible_prefix(self.new_node, write.line, self.access)
+                self.frontier
+                    .visible_prefix(self.new_node, write.line, self.access)
             }
             _ => visible_prefix,
         }
@@ -153,7 +164,13 @@ impl ResourceAccess<'_> {
     }
 
     /// The same of the last write by the host to cached memory.
-    fn misses_flush(&self, low: u64, high: u64, last: &OtherTouches, visible_prefix: VisiblePrefix) -> bool
+    fn misses_flush(
+        &self,
+        low: u64,
+        high: u64,
+        last: &OtherTouches,
+        visible_prefix: VisiblePrefix,
+    ) -> bool
         requires numbers { HaveNumbers self.now.bytes high }
         requires visible_prefix { AreSeen self.now visible_prefix }
         ensures { SomeBetween (λ k r. MissesFlush self.now k r (without_host_read last.now)) result low high }
@@ -211,7 +228,13 @@ impl ResourceAccess<'_> {
     }
 
     /// The same of one write.
-    fn misses_write(&self, low: u64, high: u64, last: Option<Spot>, visible_prefix: VisiblePrefix) -> bool
+    fn misses_write(
+        &self,
+        low: u64,
+        high: u64,
+        last: Option<Spot>,
+        visible_prefix: VisiblePrefix,
+    ) -> bool
         requires numbers { HaveNumbers self.now.bytes high }
         requires visible_prefix { AreSeen self.now visible_prefix }
         ensures { SomeBetween (λ k r. IsRefused (SaysSeen self.now k) r last) result low high }
@@ -223,7 +246,13 @@ impl ResourceAccess<'_> {
     }
 
     /// Whether the write of some byte by the node of a spot isn't seen.
-    fn is_some_unseen(&self, low: u64, high: u64, write: Spot, visible_prefix: VisiblePrefix) -> bool
+    fn is_some_unseen(
+        &self,
+        low: u64,
+        high: u64,
+        write: Spot,
+        visible_prefix: VisiblePrefix,
+    ) -> bool
         requires numbers { HaveNumbers self.now.bytes high }
         requires visible_prefix { AreSeen self.now visible_prefix }
         ensures { SomeBetween (λ k r. SaysSeen self.now k (not r) write) result low high }

@@ -80,7 +80,12 @@ pub fn push_subresources(out: &mut String, range: SubresourceRange) -> Result<()
 }
 
 /// That there are more in a list than were named, each one named by the word.
-pub fn push_more(out: &mut String, reported: usize, all: usize, what: &str) -> Result<(), AllocError> {
+pub fn push_more(
+    out: &mut String,
+    reported: usize,
+    all: usize,
+    what: &str,
+) -> Result<(), AllocError> {
     let more = all.saturating_sub(reported);
     match more {
         0 => Ok(()),

@@ -23,7 +23,7 @@ use crate::history::History;
 use crate::owners::Owned;
 use std::alloc::AllocError;
 use vk_model::{Element, Layout, SubresourceRange};
-use vk_order::{Act, Point, NewNode, Spot};
+use vk_order::{Act, NewNode, Point, Spot};
 use vk_touches::Bytes;
 
 impl<'a> History<'a> {

@@ -20,7 +20,7 @@ use Rattle.vk_order.specs.Inner.Tallies.{lines_of}
 abbrev pub ShowsAlone : (Byte → Bool) → List Node → Node → Access → Byte → Node → Node → Type 0
 ShowsAlone cached ns n k b w m = IsTrue (opens cached ns n n.act k b m) × (Reaches ns w m ⊎ IsTrue (is_command w.act && makes_writes_available cached ns m b m.act && edge ns w m))
 
--- A part is of such a node, whatever it is that comes next with this new node.
+-- A part is of such a node, whatever node it is that comes next.
 abbrev pub AlwaysShows : Frontier → NewNode → Spot → Access → Byte → Part → Type 0
 AlwaysShows f s write k b x =
     (ns : List Node) (n w m : Node) (cached : Byte → Bool) → IsNewNode ns n s → (is_command n.act || is_host n.act) ≡ true → IsPart ns (lines_of f.tallies.items) m x → Contains ns w → line_of w ≡ Some write.line → place ns write.line w.number ≡ write.place

@@ -21,7 +21,7 @@ use std::alloc::AllocError;
 use vk_history::{ElementPart, History, ResourceContents, is_transition};
 use vk_image_bytes::{ByteRanges, ImageBytes};
 use vk_model::{Element, ImageElement, SubresourceRange};
-use vk_order::{Point, NewNode, elements_are_alone, host_seen, prefixes};
+use vk_order::{NewNode, Point, elements_are_alone, host_seen, prefixes};
 use vk_touches::{Conflicts, TransitionAccess};
 
 /// The bytes that a layout transition reads and writes.

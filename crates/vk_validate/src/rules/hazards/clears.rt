@@ -13,7 +13,7 @@ use std::alloc::AllocError;
 use vk_history::{History, ResourceContents};
 use vk_image_bytes::{ByteRanges, ImageBytes};
 use vk_model::SubresourceRange;
-use vk_order::{Access, Point, NewNode, flushed_seen, host_seen, prefixes};
+use vk_order::{Access, NewNode, Point, flushed_seen, host_seen, prefixes};
 use vk_touches::{Conflicts, ResourceAccess};
 
 /// What a clear of levels and layers finds wrong.

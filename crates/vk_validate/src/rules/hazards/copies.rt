@@ -11,7 +11,7 @@ ghost use Rattle.vk_validate.specs.Inner.Copies.{IsCopyBy};
 use std::alloc::AllocError;
 use vk_history::{History, ResourceContents};
 use vk_model::{BufferCopy, BufferImageCopy, ImageCopy};
-use vk_order::{Access, Point, NewNode, flushed_seen, host_seen, prefixes};
+use vk_order::{Access, NewNode, Point, flushed_seen, host_seen, prefixes};
 use vk_touches::{Conflicts, ResourceAccess};
 
 /// What a copy between buffers finds wrong.
@@ -149,7 +149,11 @@ fn has_missed_destination(
 }
 
 /// Whether what some copy writes has a last read that doesn't come before.
-fn has_early_destination(contents: &ResourceContents, copies: &[BufferCopy], new_node: &NewNode) -> bool
+fn has_early_destination(
+    contents: &ResourceContents,
+    copies: &[BufferCopy],
+    new_node: &NewNode,
+) -> bool
     ensures { FoundAmong (λ r g. g.destination_offset + g.size ≤ length contents.now.touches → FoundIn (IsEarly new_node.now) r contents.now.touches g.destination_offset (g.destination_offset + g.size)) result copies.now }
 {
     for copy in copies {
