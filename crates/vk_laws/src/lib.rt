@@ -1,4 +1,5 @@
-//! The law that every allowed order of a trace's pieces gives the model's bytes.
+//! The law that every allowed order of a trace's pieces gives the model's bytes. Beside the laws
+//! stand the tests that two crates above need, of which resource bytes are written.
 #![tactic(auto)]
 
 mod cached_runs;
@@ -10,6 +11,7 @@ mod reader;
 mod tasks;
 mod trace;
 mod trace_runs;
+mod written;
 
 pub use cached_runs::{
     cached_premises_can_be_met, cached_runs_are_fresh, cached_runs_are_reached, cached_runs_end,
@@ -36,4 +38,7 @@ pub use trace::{accesses_in_order, commands_stay, host_in_order, no_hazard, seen
 pub use trace_runs::{
     defined_runs_are_allowed, defined_runs_are_fresh, defined_runs_end, defined_runs_follow,
     defined_runs_go_on, offered_are_pieces,
+};
+pub use written::{
+    has_any, has_bytes, has_copied_texel, has_subresource, has_texel, only_if, written_by_host,
 };

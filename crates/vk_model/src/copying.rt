@@ -11,7 +11,8 @@ use std::alloc::{AllocError, Global};
 
 /// A value of which an equal one can be made. What it keeps on the heap is copied with the allocator
 /// that it was made with.
-trait Duplicate: Drop {
+pub trait Duplicate: Drop {
+    /// The equal one. The only error is want of memory.
     fn duplicate(&self) -> Result<Self, AllocError>
         ensures { IfOk result (λ copy. copy ≡ self.now) };
 }
@@ -226,11 +227,8 @@ impl Duplicate for Batch {
     }
 }
 
-impl Entry {
-    /// An equal entry, with lists of its own. The only error is want of memory.
-    pub fn copy(&self) -> Result<Entry, AllocError>
-        ensures { IfOk result (λ copy. copy ≡ self.now) }
-    {
+impl Duplicate for Entry {
+    fn duplicate(&self) -> Result<Entry, AllocError> {
         match self {
             Entry::Free { memory } => Ok(Entry::Free { memory: *memory }),
             Entry::Destroy { resource } => Ok(Entry::Destroy {

@@ -23,6 +23,7 @@ pub use command::{
     ImageElement, Length, SubresourceRange,
 };
 pub use config::Config;
+pub use copying::Duplicate;
 pub use entry::{Batch, Entry, SemaphoreSubmit, SemaphoreValue};
 pub use laws::{
     before_is_order, before_is_path, fault_is_first, fault_of_past_is_first, growth_keeps,

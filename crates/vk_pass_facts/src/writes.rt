@@ -12,7 +12,8 @@ ghost use Rattle.vk_pass_facts.specs.Writes.{IsPassWrite};
 
 use crate::before::Before;
 use crate::moving::MovingResource;
-use crate::written::{written_by_command, written_by_element, written_by_host};
+use crate::written::{written_by_command, written_by_element};
+use vk_laws::written_by_host;
 use vk_model::{Cmd, Element};
 use vk_order::{Action, Point};
 

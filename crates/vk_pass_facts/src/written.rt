@@ -1,27 +1,15 @@
-ghost use Rattle.std.specs.Prelude.{◌≡◌, ◌&&◌, ℕ, Bool, nat_lt, is_some, not};
-ghost use Rattle.vk_model.specs.Basics.{holds};
+ghost use Rattle.std.specs.Prelude.{◌≡◌, ◌&&◌, nat_lt, is_some, not};
 ghost use Rattle.vk_model.specs.Trace.Objects.{image};
 ghost use Rattle.vk_model.specs.World.ByteWrites.{byte_writes};
 ghost use Rattle.vk_model.specs.World.Ownership as ownership;
-ghost use Rattle.vk_model.specs.Sync.Access.{targets, transition_bytes, host_writes};
+ghost use Rattle.vk_model.specs.Sync.Access.{targets, transition_bytes};
 ghost use Rattle.vk_laws.specs.Written as parts;
 ghost use Rattle.vk_laws.specs.Written.{IsResourceOf};
 
 use crate::before::Before;
-use vk_model::{
-    BufferCopy, BufferImageCopy, Cmd, Element, Entry, ImageCopy, ImageElement, SubresourceRange,
-};
+use vk_laws::{has_any, has_bytes, has_copied_texel, has_subresource, has_texel, only_if};
+use vk_model::{BufferImageCopy, Cmd, Element, ImageCopy, ImageElement, SubresourceRange};
 use vk_order::is_release;
-
-/// The resource that a host entry writes bytes of.
-pub fn written_by_host(entry: &Entry) -> Option<u32>
-    ensures { IsResourceOf result (host_writes entry.now) }
-{
-    match entry {
-        Entry::Write { buffer, bytes, .. } => only_if(!bytes.is_empty(), *buffer),
-        _ => None,
-    }
-}
 
 /// The resource that a clear or copy command writes bytes of.
 pub fn written_by_command(before: &Before<'_, '_>, command: &Cmd) -> Option<u32>
@@ -83,12 +71,6 @@ pub fn written_by_element(before: &Before<'_, '_>, queue: u32, element: &Element
     }
 }
 
-fn only_if(is_written: bool, resource: u32) -> Option<u32>
-    ensures { (f : ℕ → Bool) → holds result f ≡ (is_written && f resource) }
-{
-    if is_written { Some(resource) } else { None }
-}
-
 fn clears_some(before: &Before<'_, '_>, id: u32, ranges: &[SubresourceRange]) -> bool
     ensures { result ≡ (is_some (image before.now id) && parts.some_subresource ranges.now) }
 {
@@ -137,34 +119,4 @@ fn is_transition(on_image: &ImageElement) -> bool
     ensures { result ≡ ownership.is_transition on_image.now }
 {
     on_image.old_layout != on_image.new_layout
-}
-
-fn has_bytes(regions: &[BufferCopy]) -> bool
-    ensures { result ≡ parts.some_bytes regions.now }
-{
-    regions.iter().any(|region| region.size > 0)
-}
-
-fn has_subresource(ranges: &[SubresourceRange]) -> bool
-    ensures { result ≡ parts.some_subresource ranges.now }
-{
-    ranges.iter().any(|range| has_any(range))
-}
-
-fn has_any(range: &SubresourceRange) -> bool
-    ensures { result ≡ (nat_lt 0 range.now.levels && nat_lt 0 range.now.layers) }
-{
-    range.levels > 0 && range.layers > 0
-}
-
-fn has_texel(regions: &[BufferImageCopy]) -> bool
-    ensures { result ≡ parts.some_texel regions.now }
-{
-    regions.iter().any(|region| region.layers > 0 && region.height > 0 && region.width > 0)
-}
-
-fn has_copied_texel(regions: &[ImageCopy]) -> bool
-    ensures { result ≡ parts.some_copied regions.now }
-{
-    regions.iter().any(|region| region.layers > 0 && region.height > 0 && region.width > 0)
 }

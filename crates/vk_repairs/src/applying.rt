@@ -2,10 +2,9 @@ ghost use Rattle.std.specs.Prelude.{◌≡◌, IfOk, insert, remove};
 ghost use Rattle.vk_repairs.specs.Edits as spec;
 ghost use Rattle.vk_repairs.specs.Edits.{after_change, at_index, at_batch, batch_after};
 
-use crate::commands::copy_of;
 use crate::edits::{Change, Edit, InBatch, Member};
 use std::alloc::{AllocError, Global};
-use vk_model::{Batch, Entry, Sequence};
+use vk_model::{Batch, Duplicate, Entry, Sequence};
 
 /// The trace that edits make of a trace, the last of them made first. The only error is want of
 /// memory.
@@ -26,7 +25,7 @@ fn copies(alloc: Global, entries: &[Entry]) -> Result<Vec<Entry>, AllocError>
 {
     let mut trace = Vec::new(alloc);
     for entry in entries {
-        trace.push(entry.copy()?)?;
+        trace.push(entry.duplicate()?)?;
     }
     Ok(trace)
 }
@@ -40,7 +39,7 @@ fn edited_once(trace: Vec<Entry>, edit: &Edit) -> Result<Vec<Entry>, AllocError>
             change,
             number,
             entry,
-        } => changed(trace, *change, *number, entry.copy()?),
+        } => changed(trace, *change, *number, entry.duplicate()?),
         Edit::Remove { number } => Ok(without(trace, *number)),
         Edit::Member { change, at, member } => with_member(trace, *change, *at, member),
     }
@@ -180,7 +179,7 @@ fn batch_after(
             })
         }
         Member::Command(command) => {
-            let commands = sequence_after(commands, change, place, copy_of(command)?)?;
+            let commands = sequence_after(commands, change, place, command.duplicate()?)?;
             Ok(Batch {
                 waits,
                 commands,

@@ -2,7 +2,7 @@ use crate::cases::{Candidates, Case};
 use crate::places::visible;
 use crate::uses::uses_of;
 use std::alloc::AllocError;
-use vk_model::{BufferInfo, Entry, ImageInfo, Usage};
+use vk_model::{BufferInfo, Duplicate, Entry, ImageInfo, Usage};
 use vk_order::Action;
 
 /// A resource is mapped fewer times than this.
@@ -58,7 +58,7 @@ pub fn queue(case: &Case<'_>, most: u32, found: &mut Candidates) -> Result<(), A
         return Ok(());
     };
     for other in 0..most {
-        if let Entry::Submit { batches, .. } = entry.copy()? {
+        if let Entry::Submit { batches, .. } = entry.duplicate()? {
             let submit = Entry::Submit {
                 queue: other,
                 batches,
@@ -123,7 +123,7 @@ fn with_usage(entry: &Entry, bits: Usage) -> Result<Entry, AllocError> {
                 ..*info
             },
         }),
-        other => other.copy(),
+        other => other.duplicate(),
     }
 }
 

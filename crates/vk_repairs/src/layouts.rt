@@ -1,10 +1,9 @@
 use crate::cases::{Candidates, Case, family_of, place_of};
-use crate::commands::copy_of;
 use crate::pieces::{Piece, add_pieces, one_layout};
 use crate::sides::{Side, named, named_in, ranges_of};
 use std::alloc::AllocError;
 use vk_model::{
-    Accesses, Cmd, Dependency, Element, Families, ImageElement, Layout, Sequence, Stages,
+    Accesses, Cmd, Dependency, Duplicate, Element, Families, ImageElement, Layout, Sequence, Stages,
 };
 use vk_order::Action;
 
@@ -33,7 +32,7 @@ fn is_allowed(side: Side, layout: Layout) -> bool {
 
 /// The command, with the current layouts where they are allowed.
 fn in_current(case: &Case<'_>, command: &Cmd, found: &mut Candidates) -> Result<(), AllocError> {
-    let mut changed = copy_of(command)?;
+    let mut changed = command.duplicate()?;
     for side in [Side::Source, Side::Destination] {
         if let Some((image, _)) = named(command, side) {
             let mut pieces = Vec::new(case.alloc);
@@ -73,7 +72,7 @@ fn after_transitions(
     is_general: bool,
     found: &mut Candidates,
 ) -> Result<(), AllocError> {
-    let mut changed = copy_of(command)?;
+    let mut changed = command.duplicate()?;
     let mut elements = Vec::new(case.alloc);
     for side in [Side::Source, Side::Destination] {
         if let Some((image, layout)) = named(command, side) {

@@ -4,7 +4,6 @@
 mod applying;
 mod candidates;
 mod cases;
-mod commands;
 mod contents;
 mod counting;
 mod edits;

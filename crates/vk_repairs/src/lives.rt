@@ -3,7 +3,7 @@ use crate::ids::{Kind, Named, ids_of, names};
 use crate::renaming::Renaming;
 use crate::stand_ins::{stand_in, with_made};
 use std::alloc::AllocError;
-use vk_model::Entry;
+use vk_model::{Duplicate, Entry};
 
 /// Each object that the point names is there: what is made later is made before, what has ended ends
 /// after its last use, and semaphores and events that nothing makes are made.
@@ -32,7 +32,7 @@ fn made_earlier(
     found: &mut Candidates,
 ) -> Result<(), AllocError> {
     let mut edits = case.edits();
-    edits.insert(case.refused.entry, entry.copy()?)?;
+    edits.insert(case.refused.entry, entry.duplicate()?)?;
     edits.remove(number)?;
     found.add(edits)
 }
@@ -51,7 +51,7 @@ fn ended_later(case: &Case<'_>, id: u32, found: &mut Candidates) -> Result<(), A
     for place in [last.saturating_add(1), case.trace.len()] {
         let mut edits = case.edits();
         edits.remove(number)?;
-        edits.insert(place, entry.copy()?)?;
+        edits.insert(place, entry.duplicate()?)?;
         found.add(edits)?;
     }
     Ok(())

@@ -1,9 +1,8 @@
 use crate::cases::{Candidates, Case, place_of};
-use crate::commands::copy_of;
 use crate::edits::InBatch;
 use crate::hazards::barrier;
 use std::alloc::AllocError;
-use vk_model::{Accesses, Cmd, Dependency, Length, Sequence, Stages};
+use vk_model::{Accesses, Cmd, Dependency, Duplicate, Length, Sequence, Stages};
 use vk_order::Action;
 
 /// A command is taken apart into at most so many.
@@ -125,7 +124,7 @@ fn image_part(case: &Case<'_>, command: &Cmd, number: usize) -> Result<Cmd, Allo
             destination_layout: *destination_layout,
             regions: only(case, regions.as_slice(), number)?,
         }),
-        other => copy_of(other),
+        other => other.duplicate(),
     }
 }
 

@@ -1,7 +1,7 @@
 use crate::cases::{Candidates, Case};
 use crate::entries::replaced;
 use std::alloc::AllocError;
-use vk_model::{BufferInfo, Entry, ImageInfo, MemoryInfo, Place, PoolInfo, PoolKind};
+use vk_model::{BufferInfo, Duplicate, Entry, ImageInfo, MemoryInfo, Place, PoolInfo, PoolKind};
 use vk_order::Action;
 
 /// So many places are tried at most.
@@ -65,7 +65,7 @@ fn with_type(entry: &Entry, memory_type: u32) -> Result<Entry, AllocError> {
         Entry::Image { id, info } if matches!(info.place, Place::Dedicated { .. }) => {
             with_place(entry, *id, Place::Dedicated { memory_type })
         }
-        other => other.copy(),
+        other => other.duplicate(),
     }
 }
 
@@ -79,7 +79,7 @@ fn with_place(entry: &Entry, id: u32, place: Place) -> Result<Entry, AllocError>
             id,
             info: ImageInfo { place, ..*info },
         }),
-        other => other.copy(),
+        other => other.duplicate(),
     }
 }
 

@@ -1,9 +1,10 @@
 use crate::cases::{Case, place_of};
-use crate::commands::copy_of;
 use crate::edits::Change;
 use crate::lists::EditList;
 use std::alloc::AllocError;
-use vk_model::{BufferElement, Cmd, Element, Entry, ImageElement, SemaphoreSubmit, Sequence};
+use vk_model::{
+    BufferElement, Cmd, Duplicate, Element, Entry, ImageElement, SemaphoreSubmit, Sequence,
+};
 use vk_order::Action;
 
 /// An id in place of another one.
@@ -47,7 +48,7 @@ fn renamed_submit(submit: SemaphoreSubmit, renaming: Renaming) -> SemaphoreSubmi
 }
 
 fn renamed_entry(entry: &Entry, renaming: Renaming) -> Result<Entry, AllocError> {
-    let mut changed = entry.copy()?;
+    let mut changed = entry.duplicate()?;
     match &mut changed {
         Entry::Map { buffer }
         | Entry::Unmap { buffer }
@@ -63,7 +64,7 @@ fn renamed_entry(entry: &Entry, renaming: Renaming) -> Result<Entry, AllocError>
 }
 
 fn renamed_command(case: &Case<'_>, command: &Cmd, renaming: Renaming) -> Result<Cmd, AllocError> {
-    match copy_of(command)? {
+    match command.duplicate()? {
         Cmd::Fill {
             buffer,
             offset,

@@ -1,7 +1,6 @@
-use crate::commands::copy_of;
 use crate::edits::{Change, Edit, Member};
 use std::alloc::{AllocError, Global};
-use vk_model::{Accesses, Cmd, Dependency, Element, Sequence};
+use vk_model::{Accesses, Cmd, Dependency, Duplicate, Element, Sequence};
 
 /// In so many ways a barrier is made less.
 pub const STEPS: usize = 3;
@@ -24,7 +23,7 @@ fn copy_of_edit(edit: &Edit) -> Result<Edit, AllocError> {
         } => Ok(Edit::Entry {
             change: *change,
             number: *number,
-            entry: entry.copy()?,
+            entry: entry.duplicate()?,
         }),
         Edit::Remove { number } => Ok(Edit::Remove { number: *number }),
         Edit::Member { change, at, member } => Ok(Edit::Member {
@@ -38,7 +37,7 @@ fn copy_of_edit(edit: &Edit) -> Result<Edit, AllocError> {
 fn copy_of_member(member: &Member) -> Result<Member, AllocError> {
     match member {
         Member::Wait(wait) => Ok(Member::Wait(*wait)),
-        Member::Command(command) => Ok(Member::Command(copy_of(command)?)),
+        Member::Command(command) => Ok(Member::Command(command.duplicate()?)),
         Member::Signal(signal) => Ok(Member::Signal(*signal)),
     }
 }

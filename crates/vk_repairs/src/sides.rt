@@ -1,7 +1,6 @@
 use crate::cases::Case;
-use crate::commands::{copy_of, list};
 use std::alloc::AllocError;
-use vk_model::{Cmd, Layout, SubresourceRange};
+use vk_model::{Cmd, Duplicate, Layout, SubresourceRange};
 
 /// A side of a copy.
 #[derive(Clone, Copy, PartialEq, Eq)]
@@ -27,7 +26,7 @@ pub fn named_in(command: &Cmd, side: Side, layout: Layout) -> Result<Cmd, AllocE
             image: *image,
             layout,
             color: *color,
-            ranges: list(ranges)?,
+            ranges: ranges.duplicate()?,
         }),
         _ => copied_by_buffer_in(command, side, layout),
     }
@@ -48,7 +47,7 @@ fn copied_by_buffer_in(command: &Cmd, side: Side, layout: Layout) -> Result<Cmd,
             buffer: *buffer,
             image: *image,
             layout,
-            regions: list(regions)?,
+            regions: regions.duplicate()?,
         }),
         (
             Cmd::CopyOut {
@@ -62,7 +61,7 @@ fn copied_by_buffer_in(command: &Cmd, side: Side, layout: Layout) -> Result<Cmd,
             image: *image,
             layout,
             buffer: *buffer,
-            regions: list(regions)?,
+            regions: regions.duplicate()?,
         }),
         _ => copied_in(command, side, layout),
     }
@@ -78,7 +77,7 @@ fn copied_in(command: &Cmd, side: Side, layout: Layout) -> Result<Cmd, AllocErro
         regions,
     } = command
     else {
-        return copy_of(command);
+        return command.duplicate();
     };
     let (source_layout, destination_layout) = match side {
         Side::Source => (layout, *destination_layout),
@@ -89,7 +88,7 @@ fn copied_in(command: &Cmd, side: Side, layout: Layout) -> Result<Cmd, AllocErro
         source_layout,
         destination: *destination,
         destination_layout,
-        regions: list(regions)?,
+        regions: regions.duplicate()?,
     })
 }
 

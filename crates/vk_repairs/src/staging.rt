@@ -1,5 +1,4 @@
 use crate::cases::{Candidates, Case, place_of};
-use crate::commands::copy_of;
 use crate::edits::InBatch;
 use crate::hazards::barrier;
 use crate::overlaps::{MOST, part, parts};
@@ -7,8 +6,8 @@ use crate::reaches::TEXEL;
 use crate::rows::{Rows, rows_of, texel_bytes};
 use std::alloc::AllocError;
 use vk_model::{
-    Accesses, BufferCopy, BufferImageCopy, BufferInfo, Cmd, Dependency, Entry, ImageCopy, Layout,
-    Place, Sequence, Sharing, Stages, Usage,
+    Accesses, BufferCopy, BufferImageCopy, BufferInfo, Cmd, Dependency, Duplicate, Entry,
+    ImageCopy, Layout, Place, Sequence, Sharing, Stages, Usage,
 };
 use vk_order::Action;
 
@@ -75,10 +74,10 @@ fn taken(
         info: private(detour.size),
     };
     edits.insert(at.entry, made)?;
-    edits.replace_command(at, copy_of(&detour.first)?)?;
+    edits.replace_command(at, detour.first.duplicate()?)?;
     for number in 0..count {
         let one = if count == 1 {
-            copy_of(&detour.second)?
+            detour.second.duplicate()?
         } else {
             part(case, &detour.second, number)?
         };

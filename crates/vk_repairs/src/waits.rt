@@ -4,7 +4,7 @@ use crate::lists::EditList;
 use crate::orders::covering;
 use crate::semaphores::{host_wait, last_value};
 use std::alloc::AllocError;
-use vk_model::{Batch, Entry, SemaphoreValue, Sequence};
+use vk_model::{Batch, Duplicate, Entry, SemaphoreValue, Sequence};
 use vk_order::{Action, Point};
 
 /// Repairs of a wait that is never met: what signals later comes before, the host signals what
@@ -109,7 +109,7 @@ pub fn signal_earlier(
     }
     for (number, entry) in case.trace.iter().enumerate() {
         if moved.contains(&number) {
-            edits.insert(case.refused.entry, entry.copy()?)?;
+            edits.insert(case.refused.entry, entry.duplicate()?)?;
             edits.remove(number)?;
         }
     }

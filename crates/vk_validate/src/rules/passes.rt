@@ -9,8 +9,9 @@ ghost use Rattle.vk_model.specs.Sync.Access.{transition_bytes};
 ghost use Rattle.vk_history.specs.PointViews.{past};
 ghost use Rattle.vk_validate.specs.Inner.RuleParts as parts;
 
-use crate::written::{written, written_by_element, written_by_host};
+use crate::written::{written, written_by_element};
 use vk_history::History;
+use vk_laws::written_by_host;
 use vk_model::{Cmd, Element, Entry, Place, PoolInfo, PoolKind};
 use vk_order::{Action, Point};
 

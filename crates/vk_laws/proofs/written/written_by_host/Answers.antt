@@ -1,6 +1,6 @@
 use Rattle.std.proofs.Common.{◌∙◌, ◌&&◌, ap, sym, length}
 use Rattle.vk_laws.proofs.Forms.Written.{range_written, not_empty}
-use Rattle.vk_pass_facts.proofs.written.written_by_host.Goals as goal
+use Rattle.vk_laws.proofs.written.written_by_host.Goals as goal
 
 pub returns-in-Write : goal.returns-in-Write
 returns-in-Write c = λ f.
