@@ -12,7 +12,7 @@ use Rattle.vk_model.proofs.Lists.Members.{member_passes, some_member, place_has,
 use Rattle.std.proofs.lemmas.List.{take_more}
 use Rattle.std.proofs.lemmas.List.Elements.{Contains-append_cases}
 use Rattle.std.proofs.lemmas.Option.{slice_get-get_or}
-use Rattle.vk_order.specs.declared.bytes.Byte.{Byte as Told}
+use Rattle.vk_order.specs.declared.bytes.Byte.{Byte as ProgramByte}
 use Rattle.vk_order.specs.Bytes.{byte_of}
 use Rattle.vk_facts.specs.declared.areas.Area.{Area}
 use Rattle.vk_facts.specs.declared.areas.Area.TheVariants as area
@@ -43,16 +43,16 @@ none_of_texels past h x y t layer end none (in_image i a l u v p) there =
 
 module _ (past : Past) (h : Hazard) (x y : Node) where
   -- among the same bytes
-  pub missed_as : (f g : Byte → Bool) → ((b : Byte) → f b ≡ g b) → (o : Option Told) → IsMissed past h x y f o → IsMissed past h x y g o
+  pub missed_as : (f g : Byte → Bool) → ((b : Byte) → f b ≡ g b) → (o : Option ProgramByte) → IsMissed past h x y f o → IsMissed past h x y g o
   missed_as f g same None is = λ b there. is b (same b ∙ there)
   missed_as f g same (Some b) is = (sym (same (byte_of b)) ∙ is.0, is.1)
 
   -- what was found, and that nothing was
-  pub found_at : (f : Byte → Bool) (o : Option Told) (b : Told) → o ≡ Some b → IsMissed past h x y f o → (f (byte_of b) ≡ true) × (is_missing past h x y (byte_of b) ≡ true)
-  found_at f o b e is = subst (λ (p : Option Told). IsMissed past h x y f p) e is
+  pub found_at : (f : Byte → Bool) (o : Option ProgramByte) (b : ProgramByte) → o ≡ Some b → IsMissed past h x y f o → (f (byte_of b) ≡ true) × (is_missing past h x y (byte_of b) ≡ true)
+  found_at f o b e is = subst (λ (p : Option ProgramByte). IsMissed past h x y f p) e is
 
-  pub none_at : (f : Byte → Bool) (o : Option Told) → o ≡ None → IsMissed past h x y f o → (b : Byte) → f b ≡ true → is_missing past h x y b ≡ false
-  none_at f o e is = subst (λ (p : Option Told). IsMissed past h x y f p) e is
+  pub none_at : (f : Byte → Bool) (o : Option ProgramByte) → o ≡ None → IsMissed past h x y f o → (b : Byte) → f b ≡ true → is_missing past h x y b ≡ false
+  none_at f o e is = subst (λ (p : Option ProgramByte). IsMissed past h x y f p) e is
 
   -- one area of some has the byte
   pub one_has : (areas : List Area) (i : ℕ) (d : Area) (b : Byte) → i < length areas → has (get_or areas i d) b ≡ true → have areas b ≡ true
@@ -83,7 +83,7 @@ module _ (past : Past) (h : Hazard) (x y : Node) where
 
   -- what is missing where both access a byte is a hazard
   pub found_of : (own areas : List Area) → AreAreas own (earlier_bytes past h x) → AreAreas areas (later_bytes past h y) → precedes x y ≡ true
-      → (o : Option Told) → IsMissed past h x y (λ b. have own b && have areas b) o → IsFound past h x y o
+      → (o : Option ProgramByte) → IsMissed past h x y (λ b. have own b && have areas b) o → IsFound past h x y o
   found_of own areas first second order None is = λ ordered b numbered. false_from_ne_true (in_hazard past h x y b) (λ e.
       let p = and_parts (is_in b (earlier_bytes past h x) && is_in b (later_bytes past h y)) (is_missing past h x y b) e in
       let q = and_parts (is_in b (earlier_bytes past h x)) (is_in b (later_bytes past h y)) p.0 in

@@ -5,7 +5,7 @@ use Rattle.vk_model.specs.World.Bytes.{Byte}
 use Rattle.vk_model.specs.Sync.Node.{Node, nodes}
 use Rattle.vk_model.specs.Sync.Before.{before}
 use Rattle.vk_model.specs.Sync.Access.{precedes}
-use Rattle.vk_order.specs.declared.bytes.Byte.{Byte as Told}
+use Rattle.vk_order.specs.declared.bytes.Byte.{Byte as ProgramByte}
 use Rattle.vk_order.specs.Bytes.{byte_of}
 use Rattle.vk_facts.specs.declared.hazards.Hazard.{Hazard}
 use Rattle.vk_facts.specs.declared.hazards.HazardFact.{HazardFact}
@@ -13,7 +13,7 @@ use Rattle.vk_facts.specs.Areas.{IsNumbered}
 use Rattle.vk_facts.specs.Hazards.{in_hazard, node_at}
 
 -- A byte at which a node is in hazard with an earlier one, or that there is none with a number.
-abbrev pub IsFound : Past → Hazard → Node → Node → Option Told → Type 0
+abbrev pub IsFound : Past → Hazard → Node → Node → Option ProgramByte → Type 0
 IsFound past h x y None = precedes x y ≡ true → (b : Byte) → IsNumbered b → in_hazard past h x y b ≡ false
 IsFound past h x y (Some b) = (precedes x y ≡ true) × (in_hazard past h x y (byte_of b) ≡ true)
 

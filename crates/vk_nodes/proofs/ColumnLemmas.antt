@@ -32,8 +32,8 @@ module _ (slots all : List Slot) (v : Columns) (view : columns slots ≡ v) (is 
   names-kept e = map-set_same entry all k x empty_slot e ∙ ap (λ (l : List Slot). map entry l) is ∙ ap (λ (w : Columns). w.names) view
 
 -- a record that is seen to hold a node
-shown : (x : Slot) (n : Node) → seen x ≡ Some n → (x.is_held ≡ true) × (x.node ≡ n)
-shown x n h = cases x.is_held h
+seen_held : (x : Slot) (n : Node) → seen x ≡ Some n → (x.is_held ≡ true) × (x.node ≡ n)
+seen_held x n h = cases x.is_held h
   where
     cases : (b : Bool) → cond b (Some x.node) None ≡ Some n → (b ≡ true) × (x.node ≡ n)
     cases true h = (refl, cc)
@@ -57,7 +57,7 @@ module _ (slots all : List Slot) (v : Columns) (view : columns slots ≡ v) (is 
 
   pub nodes-changed : (n : Node) → get_or v.nodes k None ≡ Some n → map seen (set all k (record x { node = m })) ≡ set v.nodes k (Some (changed n change))
   nodes-changed n there =
-      let two = shown x n (here (Some n) there) in
+      let two = seen_held x n (here (Some n) there) in
       let new : cond x.is_held (Some m) None ≡ Some (changed n change) = rw two.0 (ap Some (applied ∙ ap (λ (z : Node). changed z change) two.1)) in
       nodes-set slots all v view is k (record x { node = m }) ∙ ap (λ (o : Option Node). set v.nodes k o) new
 

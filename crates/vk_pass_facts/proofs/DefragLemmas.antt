@@ -10,7 +10,7 @@ use Rattle.vk_model.specs.Trace.Point.{Past, Point, entries, host_of}
 use Rattle.vk_model.specs.Trace.Objects.{made_by}
 use Rattle.vk_model.specs.Rules.Passes.{pool_of_defrag, is_of_pool, has_defrag, some_pass, pool_in_pass, in_pass}
 use Rattle.vk_model.proofs.Lists.Members.{any_same, only_one}
-use Rattle.vk_order.specs.declared.point.Point.{Point as Told}
+use Rattle.vk_order.specs.declared.point.Point.{Point as ProgramPoint}
 use Rattle.vk_order.specs.PointViews.{point_of}
 use Rattle.vk_queues.specs.PointViews.{past_of}
 use Rattle.vk_past.proofs.PastLemmas.{past_item}
@@ -36,7 +36,7 @@ open_more past seen p f = go (host_of p.action)
     go None = refl
     go (Some x) = by (made_by x)
 
-module _ (past : Past) (ps : List Told) (k : ℕ) (p : Told) (lt : k < length ps) (is : p ≡ get_or ps k p) (list : List OpenDefrag) (are : AreDefrags past (past_of (take k ps)) list) where
+module _ (past : Past) (ps : List ProgramPoint) (k : ℕ) (p : ProgramPoint) (lt : k < length ps) (is : p ≡ get_or ps k p) (list : List OpenDefrag) (are : AreDefrags past (past_of (take k ps)) list) where
   -- one that hasn't ended
   pub defrags_more : (o : OpenDefrag) → made_at (point_of p) ≡ Some o.defrag → IsOpenDefrag past o → AreDefrags past (past_of (take (k + 1) ps)) (list ++ o ∷ [])
   defrags_more o id reported = record {

@@ -5,7 +5,7 @@ use Rattle.std.specs.List.{find}
 use Rattle.vk_model.specs.Trace.Point.{Past, on_host}
 use Rattle.vk_model.specs.Trace.Objects.{ended, defrag_in}
 use Rattle.vk_model.specs.Rules.Passes.{pool_of_defrag}
-use Rattle.vk_order.specs.declared.point.Point.{Point as Told}
+use Rattle.vk_order.specs.declared.point.Point.{Point as ProgramPoint}
 use Rattle.vk_order.specs.PointViews.{point_of}
 use Rattle.vk_past.proofs.CreatorLemmas.{made_is}
 use Rattle.vk_pass_facts.specs.declared.defrags.OpenDefrag.{OpenDefrag}
@@ -13,7 +13,7 @@ use Rattle.vk_pass_facts.specs.Defrags.{IsOpenDefrag, makes}
 use Rattle.vk_pass_facts.specs.Inner.Kept.{pool_begun}
 
 -- the defragmentation of an id that hasn't ended, by its creator
-module _ (past : Past) (i : ℕ) (m : Option Told) (unended : ended past i ≡ false) (is : option_map point_of m ≡ find (on_host (makes i)) past) where
+module _ (past : Past) (i : ℕ) (m : Option ProgramPoint) (unended : ended past i ≡ false) (is : option_map point_of m ≡ find (on_host (makes i)) past) where
   pub open_is : pool_begun (option_map point_of m) ≡ pool_of_defrag past i
   open_is = ap pool_begun is ∙ ap (option_and_then defrag_in) (made_is past i ∙ rw unended refl)
 

@@ -8,7 +8,7 @@ use Rattle.vk_model.specs.declared.entry.Entry.{Entry}
 use Rattle.vk_model.specs.Basics.{holds}
 use Rattle.vk_model.specs.Trace.Point.{Past, Point, host_of, entries, on_host}
 use Rattle.vk_model.specs.Rules.Passes.{count_of, in_pass, begins, finishes}
-use Rattle.vk_order.specs.declared.point.Point.{Point as Told}
+use Rattle.vk_order.specs.declared.point.Point.{Point as ProgramPoint}
 use Rattle.vk_order.specs.PointViews.{point_of}
 use Rattle.vk_queues.specs.PointViews.{past_of}
 use Rattle.vk_past.proofs.PastLemmas.{past_item}
@@ -23,7 +23,7 @@ module _ (form : Entry → Option ℕ) (d : ℕ) where
       go None = sym (add-zero _)
       go (Some x) = sum_by-cons (λ y. cond (is_form form d y) 1 0) x (entries seen) ∙ add_comm _ _
 
-  pub count_step : (ps : List Told) (i : ℕ) (p : Told) (b : Bool) (n m : ℕ) → i < length ps → p ≡ get_or ps i p → b ≡ on_host (is_form form d) (point_of p)
+  pub count_step : (ps : List ProgramPoint) (i : ℕ) (p : ProgramPoint) (b : Bool) (n m : ℕ) → i < length ps → p ≡ get_or ps i p → b ≡ on_host (is_form form d) (point_of p)
       → n ≡ count_of (past_of (take i ps)) d form → m ≡ n + (if b then 1 else 0) → m ≡ count_of (past_of (take (i + 1) ps)) d form
   count_step ps i p b n m lt is on before after =
       after ∙ ap (λ (t : Bool). n + (if t then 1 else 0)) on ∙ ap (λ (j : ℕ). j + (if on_host (is_form form d) (point_of p) then 1 else 0)) before
@@ -47,9 +47,9 @@ pass_begun past d open_now = go (is_some (find (on_host (begins_pass d)) past)) 
     go false e = let none = none_begun past d e in let below : count_of past d finishes < count_of past d begins = grind (arith, nat_tests) in absurd (omega arith)
 
 -- where none was begun, none is open
-pub not_begun : (past : Past) (d : ℕ) (found : Option Told) → option_map point_of found ≡ find (on_host (begins_pass d)) past → found ≡ None → in_pass past d ≡ true → false ≡ in_pass past d
+pub not_begun : (past : Past) (d : ℕ) (found : Option ProgramPoint) → option_map point_of found ≡ find (on_host (begins_pass d)) past → found ≡ None → in_pass past d ≡ true → false ≡ in_pass past d
 not_begun past d found is none open_now =
     let begun = pass_begun past d open_now in
     let same : is_some (option_map point_of found) ≡ true = ap is_some is ∙ begun in
-    let bad : false ≡ true = ap (λ (o : Option Told). is_some (option_map point_of o)) (sym none) ∙ same in
+    let bad : false ≡ true = ap (λ (o : Option ProgramPoint). is_some (option_map point_of o)) (sym none) ∙ same in
     absurd cc

@@ -14,7 +14,7 @@ use Rattle.vk_model.specs.World.ByteWrites.{byte_writes}
 use Rattle.vk_model.specs.World.Effect.{world, used, after_writes, after_element, after_buffer_element, after_image_element, after_action}
 use Rattle.vk_model.specs.World.Ownership.{Transfer, Stays, Release, Acquire, Neither, transfer, acquires, is_transition, family_of, uses, elements_of}
 use Rattle.vk_laws.proofs.Forms.Unchanged.{used_layout, ready_layout, host_layout}
-use Rattle.vk_order.specs.declared.point.Point.{Point as Told}
+use Rattle.vk_order.specs.declared.point.Point.{Point as ProgramPoint}
 use Rattle.vk_order.specs.PointViews.{point_of}
 use Rattle.vk_queues.specs.PointViews.{past_of}
 use Rattle.vk_past.proofs.PastLemmas.{past_item, past_push}
@@ -147,18 +147,18 @@ keep_less kept past p none have = record {
   since = λ i k l. have.since i k l ∙ ap (λ (b : Bool). cond b (Some p) (find (transitions i k l) past)) (sym (quiet i k l p none));
 }
 
-pub shown : (kept past : Past) → KeepLayouts kept past → ShowLayouts kept past
-shown kept past have = record { layouts = λ i k l. have.layouts i k l ∙ world_layout i k l past; since = have.since }
+pub show_layouts : (kept past : Past) → KeepLayouts kept past → ShowLayouts kept past
+show_layouts kept past have = record { layouts = λ i k l. have.layouts i k l ∙ world_layout i k l past; since = have.since }
 
 -- ---- a walk over points
 
-pub keep_pushed : (ps ks more : List Told) (k : ℕ) (p : Told) → k < length ps → p ≡ get_or ps k p → more ≡ ks ++ p ∷ [] → KeepLayouts (past_of ks) (past_of (take k ps)) → KeepLayouts (past_of more) (past_of (take (k + 1) ps))
+pub keep_pushed : (ps ks more : List ProgramPoint) (k : ℕ) (p : ProgramPoint) → k < length ps → p ≡ get_or ps k p → more ≡ ks ++ p ∷ [] → KeepLayouts (past_of ks) (past_of (take k ps)) → KeepLayouts (past_of more) (past_of (take (k + 1) ps))
 keep_pushed ps ks more k p lt is same have =
     let pushed : past_of more ≡ point_of p ∷ past_of ks = ap past_of same ∙ past_push ks p in
     rw (pushed, past_item ps k p lt is) (keep_more (past_of ks) (past_of (take k ps)) (point_of p) have)
 
-pub keep_passed : (ps ks : List Told) (k : ℕ) (p : Told) → k < length ps → p ≡ get_or ps k p → takes_some (point_of p) ≡ false → KeepLayouts (past_of ks) (past_of (take k ps)) → KeepLayouts (past_of ks) (past_of (take (k + 1) ps))
+pub keep_passed : (ps ks : List ProgramPoint) (k : ℕ) (p : ProgramPoint) → k < length ps → p ≡ get_or ps k p → takes_some (point_of p) ≡ false → KeepLayouts (past_of ks) (past_of (take k ps)) → KeepLayouts (past_of ks) (past_of (take (k + 1) ps))
 keep_passed ps ks k p lt is none have = rw (past_item ps k p lt is) (keep_less (past_of ks) (past_of (take k ps)) (point_of p) none have)
 
-pub all_shown : (ps ks : List Told) (k : ℕ) → length ps ≤ k → KeepLayouts (past_of ks) (past_of (take k ps)) → ShowLayouts (past_of ks) (past_of ps)
-all_shown ps ks k le have = shown (past_of ks) (past_of ps) (subst (λ (xs : List Told). KeepLayouts (past_of ks) (past_of xs)) (take_all k ps le) have)
+pub show_all_layouts : (ps ks : List ProgramPoint) (k : ℕ) → length ps ≤ k → KeepLayouts (past_of ks) (past_of (take k ps)) → ShowLayouts (past_of ks) (past_of ps)
+show_all_layouts ps ks k le have = show_layouts (past_of ks) (past_of ps) (subst (λ (xs : List ProgramPoint). KeepLayouts (past_of ks) (past_of xs)) (take_all k ps le) have)

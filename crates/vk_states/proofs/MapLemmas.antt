@@ -8,7 +8,7 @@ use Rattle.vk_model.specs.Basics.{holds}
 use Rattle.vk_model.specs.Trace.Point.{Past, Point, host_of, entries, on_host}
 use Rattle.vk_model.specs.Trace.Objects.{memory_of}
 use Rattle.vk_model.specs.Rules.Mapping.{is_mapped, maps, count_for}
-use Rattle.vk_order.specs.declared.point.Point.{Point as Told}
+use Rattle.vk_order.specs.declared.point.Point.{Point as ProgramPoint}
 use Rattle.vk_order.specs.PointViews.{point_of}
 use Rattle.vk_queues.specs.PointViews.{past_of}
 use Rattle.vk_past.proofs.PastLemmas.{past_item}
@@ -25,7 +25,7 @@ module _ (past : Past) (form : Entry → Option ℕ) (k : ℕ) where
       go None = sym (add-zero _)
       go (Some x) = sum_by-cons (λ y. cond (is_form past form k y) 1 0) x (entries seen) ∙ add_comm _ _
 
-  pub count_step : (ps : List Told) (i : ℕ) (p : Told) (b : Bool) (n m : ℕ) → i < length ps → p ≡ get_or ps i p → b ≡ on_host (is_form past form k) (point_of p)
+  pub count_step : (ps : List ProgramPoint) (i : ℕ) (p : ProgramPoint) (b : Bool) (n m : ℕ) → i < length ps → p ≡ get_or ps i p → b ≡ on_host (is_form past form k) (point_of p)
       → n ≡ counted past form k (past_of (take i ps)) → m ≡ n + (if b then 1 else 0) → m ≡ counted past form k (past_of (take (i + 1) ps))
   count_step ps i p b n m lt is on before after =
       after ∙ ap (λ (t : Bool). n + (if t then 1 else 0)) on ∙ ap (λ (j : ℕ). j + (if on_host (is_form past form k) (point_of p) then 1 else 0)) before

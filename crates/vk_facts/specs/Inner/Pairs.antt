@@ -5,7 +5,7 @@ use Rattle.vk_model.specs.World.Bytes.{Byte}
 use Rattle.vk_model.specs.Sync.Node.{Node, Act, Depends, nodes}
 use Rattle.vk_model.specs.Sync.Before.{before}
 use Rattle.vk_model.specs.Sync.Seen.{covers, flushes, invalidates}
-use Rattle.vk_order.specs.declared.bytes.Byte.{Byte as Told}
+use Rattle.vk_order.specs.declared.bytes.Byte.{Byte as ProgramByte}
 use Rattle.vk_order.specs.Bytes.{byte_of}
 use Rattle.vk_facts.specs.declared.hazards.Hazard.{Hazard}
 use Rattle.vk_facts.specs.declared.hazards.HazardFact.{HazardFact}
@@ -39,14 +39,14 @@ AreAlike ns b c = (n : Node) → Contains ns n → IsAlike n.act b c
 -- ---- what is found
 
 -- Of the bytes that two areas have, one at which something is missing, or that there is none.
-abbrev pub IsMissed : Past → Hazard → Node → Node → (Byte → Bool) → Option Told → Type 0
+abbrev pub IsMissed : Past → Hazard → Node → Node → (Byte → Bool) → Option ProgramByte → Type 0
 IsMissed past h x y among None = (b : Byte) → among b ≡ true → is_missing past h x y b ≡ false
 IsMissed past h x y among (Some b) = (among (byte_of b) ≡ true) × (is_missing past h x y (byte_of b) ≡ true)
 
 -- ---- what is reported
 
 -- What is reported of two nodes and a byte.
-pub record IsReported (past : Past) (h : Hazard) (x y : Node) (b : Told) (f : HazardFact) : Type 0 where
+pub record IsReported (past : Past) (h : Hazard) (x y : Node) (b : ProgramByte) (f : HazardFact) : Type 0 where
   pub hazard : f.hazard ≡ h
   pub earlier : node_at f.earlier ≡ x
   pub later : node_at f.later ≡ y

@@ -1,6 +1,6 @@
 use Rattle.std.proofs.Common.{◌≡◌, ◌+◌, List, take, Vec, Global, ap, sym, ◌∙◌, subst, arith}
 use Rattle.std.proofs.lemmas.List.{take_all}
-use Rattle.vk_order.specs.declared.point.Point.{Point as Told}
+use Rattle.vk_order.specs.declared.point.Point.{Point as ProgramPoint}
 use Rattle.vk_queues.specs.PointViews.{past_of}
 use Rattle.vk_pass_facts.specs.declared.defrags.OpenDefrag.{OpenDefrag}
 use Rattle.vk_pass_facts.specs.Inner.Kept.{AreDefrags}
@@ -26,4 +26,4 @@ returns c = λ past are.
     let ps = c.args.points.now in
     let k = c.loop-point.point-index in
     let all : take k ps ≡ ps = take_all k ps (omega arith) in
-    subst (λ (qs : List Told). AreDefrags past (past_of qs) c.loop-point.defrags.items) all (c.loop-point.invariant past are)
+    subst (λ (qs : List ProgramPoint). AreDefrags past (past_of qs) c.loop-point.defrags.items) all (c.loop-point.invariant past are)

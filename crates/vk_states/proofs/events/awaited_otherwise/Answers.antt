@@ -4,7 +4,7 @@ use Rattle.std.specs.List.{list_any}
 use Rattle.vk_model.specs.declared.command.Dependency.{Dependency}
 use Rattle.vk_model.specs.Trace.Point.{command_of}
 use Rattle.vk_model.specs.Rules.Synchronization.{set_by, sets, same_dependencies}
-use Rattle.vk_order.specs.declared.point.Point.{Point as Told}
+use Rattle.vk_order.specs.declared.point.Point.{Point as ProgramPoint}
 use Rattle.vk_order.specs.PointViews.{action_of, point_of}
 use Rattle.vk_queues.specs.PointViews.{past_of}
 use Rattle.vk_states.specs.Events.{IsDifference}
@@ -24,8 +24,8 @@ returns-clause-reported c =
       element = elim c.match-set.branch [
         | in-Some w ↦ (
             let newest = sym c.last_set-set.ensures ∙ ap (option_map point_of) w.in-Some.is in
-            subst (λ (o : Option Told). IfSome o (λ p. (es : List Dependency) → option_and_then (set_by v) (command_of (action_of p.action)) ≡ Some es → IsDifference ms es c.match-set.element)) (sym w.in-Some.is)
+            subst (λ (o : Option ProgramPoint). IfSome o (λ p. (es : List Dependency) → option_and_then (set_by v) (command_of (action_of p.action)) ≡ Some es → IsDifference ms es c.match-set.element)) (sym w.in-Some.is)
             (λ es is. subst (λ (k : ℕ). IsDifference ms es k) (sym w.element-is) (w.difference_from-element.ensures es is (newest_fails (same_dependencies ms) past v _ es newest is none))))
-        | in-None w ↦ subst (λ (o : Option Told). IfSome o (λ p. (es : List Dependency) → option_and_then (set_by v) (command_of (action_of p.action)) ≡ Some es → IsDifference ms es c.match-set.element)) (sym w.in-None.is) tt
+        | in-None w ↦ subst (λ (o : Option ProgramPoint). IfSome o (λ p. (es : List Dependency) → option_and_then (set_by v) (command_of (action_of p.action)) ≡ Some es → IsDifference ms es c.match-set.element)) (sym w.in-None.is) tt
       ];
     }

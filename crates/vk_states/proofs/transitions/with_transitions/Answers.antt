@@ -1,9 +1,9 @@
 use Rattle.std.proofs.Common.{◌≡◌, ◌+◌, ◌∷◌, ◌++◌, [], List, false, take, rules, sym, subst}
-use Rattle.vk_order.specs.declared.point.Point.{Point as Told}
+use Rattle.vk_order.specs.declared.point.Point.{Point as ProgramPoint}
 use Rattle.vk_order.specs.PointViews.{point_of}
 use Rattle.vk_queues.specs.PointViews.{past_of}
 use Rattle.vk_states.specs.Inner.LayoutSteps.{takes_some}
-use Rattle.vk_states.proofs.LayoutLemmas.{KeepLayouts, keep_pushed, keep_passed, all_shown}
+use Rattle.vk_states.proofs.LayoutLemmas.{KeepLayouts, keep_pushed, keep_passed, show_all_layouts}
 use Rattle.vk_states.proofs.transitions.with_transitions.Goals as goal
 use Rattle.vk_states.proofs.transitions.with_transitions.Goals.{then-has_transition+in_ok-push, else-has_transition}
 
@@ -20,9 +20,9 @@ loop-point-preserved c =
       | else-has_transition w ↦ (
           let same : c.if-has_transition.kept.items ≡ ks = search rules in
           let none : takes_some (point_of p) ≡ false = search rules in
-          subst (λ (xs : List Told). KeepLayouts (past_of xs) (past_of (take (k + 1) ps))) (sym same)
+          subst (λ (xs : List ProgramPoint). KeepLayouts (past_of xs) (past_of (take (k + 1) ps))) (sym same)
           (keep_passed ps ks k p c.loop-point-test.true c.point-item.is none c.loop-point.invariant))
     ]
 
 pub returns : goal.returns
-returns c = all_shown c.args.points.now c.loop-point.kept.items c.loop-point.point-index c.loop-point-test.false c.loop-point.invariant
+returns c = show_all_layouts c.args.points.now c.loop-point.kept.items c.loop-point.point-index c.loop-point-test.false c.loop-point.invariant

@@ -2,7 +2,7 @@ use Rattle.std.proofs.Common.{◌≡◌, ◌+◌, ◌-◌, ◌<◌, ◌≤◌, L
 use Rattle.std.specs.Prelude.{Contains}
 use Rattle.vk_model.specs.Sync.Node.{Node, nodes}
 use Rattle.vk_model.specs.Sync.Before.{before}
-use Rattle.vk_order.specs.declared.bytes.Byte.{Byte as Told}
+use Rattle.vk_order.specs.declared.bytes.Byte.{Byte as ProgramByte}
 use Rattle.vk_facts.specs.declared.areas.Area.{Area}
 use Rattle.vk_facts.specs.Areas.{AreAreas}
 use Rattle.vk_facts.specs.Hazards.{later_bytes, node_at}
@@ -29,7 +29,7 @@ loop-back-preserved c = λ x y cx cy is le.
     subst (λ (l : List Area). AreAreas l (later_bytes past h y)) (sym c.as_slice.ensures.value) (subst (λ (n : Node). AreAreas c.in_ok-areas.areas.items (later_bytes past h n)) is_y (c.in_ok-areas.ensures c.args.later)) in
     ⊎_elim
     (λ (late : x.number + c.loop-back.back < c.args.later).
-    subst (λ (o : Option Told). IsFound past h x y o) c.in_default.is
+    subst (λ (o : Option ProgramByte). IsFound past h x y o) c.in_default.is
     (c.in_ok-byte.ensures x y (record { earlier = cx; later = cy; earlier_number = omega (arith, c.loop-back-test.true); later_number = is }) areas))
     (λ (early : c.args.later ≤ x.number + c.loop-back.back). c.loop-back.invariant x y cx cy is early)
     (below_or_from (x.number + c.loop-back.back) c.args.later)
@@ -45,13 +45,13 @@ returns-in-Some c = λ y cy is.
     subst (λ (l : List Area). AreAreas l (later_bytes past h y)) (sym c.as_slice.ensures.value) (subst (λ (n : Node). AreAreas c.in_ok-areas.areas.items (later_bytes past h n)) is_y (c.in_ok-areas.ensures c.args.later)) in
     let pair : IsPair past (record { earlier = c.args.later - 1 - c.loop-back.back; later = c.args.later }) node.0 y = record { earlier = node.1; later = cy; earlier_number = node.2; later_number = is } in
     let reported = c.fact.ensures node.0 y pair in
-    let found : IsFound past h node.0 y (Some c.in-Some.byte) = subst (λ (o : Option Told). IsFound past h node.0 y o) c.in-Some.is (c.in_ok-byte.ensures node.0 y pair areas) in
+    let found : IsFound past h node.0 y (Some c.in-Some.byte) = subst (λ (o : Option ProgramByte). IsFound past h node.0 y o) c.in-Some.is (c.in_ok-byte.ensures node.0 y pair areas) in
     let number : c.fact.result.earlier.number ≡ c.args.later - 1 - c.loop-back.back = ap (λ (n : Node). n.number) reported.earlier ∙ node.2 in
     record {
       hazard = reported.hazard;
       earlier = subst (λ (n : Node). Contains (nodes past) n) (sym reported.earlier) node.1;
       later = reported.later;
-      found = subst (λ (b : Told). IsFound past h (node_at c.fact.result.earlier) y (Some b)) (sym reported.byte) (subst (λ (n : Node). IsFound past h n y (Some c.in-Some.byte)) (sym reported.earlier) found);
+      found = subst (λ (b : ProgramByte). IsFound past h (node_at c.fact.result.earlier) y (Some b)) (sym reported.byte) (subst (λ (n : Node). IsFound past h n y (Some c.in-Some.byte)) (sym reported.earlier) found);
       ordered = reported.ordered ∙ ap (λ (n : Node). before (nodes past) n y) (sym reported.earlier);
       latest = λ z cz lt. c.loop-back.invariant z y cz cy is (omega (arith, number, c.loop-back-test.true));
     }
