@@ -51,6 +51,7 @@ fn push_commands<'a>(
 ) -> Result<(), AllocError>
     ensures { OnOk result ((past : Past) → past_after past points.new.items ≡ actions Run (batch_of batch.now) 0 commands.now (past_after past points.old.items)) }
 {
+    points.reserve(commands.len())?;
     for (place, command) in commands.iter().enumerate() {
         points.push(point_at(batch, place, Action::Run(command)))?;
     }
