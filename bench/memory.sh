@@ -12,6 +12,8 @@
 #   entry that is refused, so that it reads all of it and does nothing, and memcpy moves the bytes
 #   four times, as into the staging buffer, to the device, back, and to the host. What is written of
 #   the bytes that were read is not in the second. Time is that of the processor.
+# - What a small copy with its barrier costs, one of 10,000: all of it, to read its text, which is
+#   found in the same way, and the rest, which is to judge the two commands and to run them.
 # - What moves cost: `memory_steps` makes turns on two regions, bytes of the host and a cache, and a
 #   plain C program the same with memcpy and memset, between buffers of as many bytes. Either looks at
 #   the clock before and after each turn; the shortest turns of all runs are compared. Copies, fills,
@@ -262,6 +264,24 @@ trace_row() {
         "$(milliseconds "$moved")" "$(quotient "$all" $((alone + moved)))" "${fault:-as wanted}"
 }
 
+# N: the row of what a small copy with its barrier costs, where there are so many.
+copies_row() {
+    local run all= alone= fault=
+    small_copies "$1" >"$folder/trace"
+    { printf '[["unmap",2],'; tail -c +2 "$folder/trace"; } >"$folder/refused"
+    for run in $(seq "$runs"); do
+        took all "$PROGRAM" "${ARGUMENTS[@]}" <"$folder/trace"
+        if [ "$ended" -ne 0 ] || ! small_copies_answer | cmp -s - "$folder/answer"; then
+            fault="WRONG: status $ended, $(head -c 60 "$folder/answer")"
+        fi
+        took alone "$PROGRAM" "${ARGUMENTS[@]}" <"$folder/refused"
+        [ "$(cat "$folder/answer")" = "refused 0 LIVE_ID" ] || fault="WRONG: $(head -c 60 "$folder/answer")"
+    done
+    [ -z "$fault" ] || wrong=$((wrong + 1))
+    print_copies "one of $1" "$(wc -c <"$folder/trace")" "$(quotient "$all" "$1")" \
+        "$(quotient "$alone" "$1")" "$(quotient $((all - alone)) "$1")" "${fault:-as wanted}"
+}
+
 # N BYTES: what is written where so many bytes are read back.
 staged_answer() {
     awk -v entry="$((8 + $1))" -v bytes="$2" 'BEGIN {
@@ -271,6 +291,10 @@ staged_answer() {
         for (; bytes >= 65536; bytes -= 65536) printf "%s", text
         printf "%s\n", substr(text, 1, 2 * bytes)
     }'
+}
+
+print_copies() {
+    printf '%-28s %10s %10s %12s %14s  %s\n' "$@"
 }
 
 print_trace() {
@@ -307,6 +331,10 @@ echo
 print_trace "trace, best of $runs" bytes "all, ms" "reading, ms" "moving, ms" ratio ""
 trace_row staged_and_4_bytes_read 4
 trace_row staged_and_all_read $((127 * 65536))
+echo
+print_copies "small copies, best of $runs" bytes "all, us" "reading, us" "the rest, us" ""
+copies_row 10000
+copies_row 20000
 echo
 print_moves "shortest turns, $runs runs" bytes "ours, ns" "plain C, ns" ratio ""
 for bytes in 65536 1048576 16777216; do
