@@ -1,6 +1,7 @@
 pub mod PartChanges
 pub mod ByteUnits
 pub mod Searches
+pub mod Zips
 pub mod TouchMaps
 pub mod RegionTouches
 pub mod Invalidating

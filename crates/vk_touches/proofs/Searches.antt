@@ -96,3 +96,52 @@ module _ {T : Type 0} (is : ℕ → Bool → T → Type 0) (values : List T) (lo
       let start : piece.start ≡ so_far.cursor = so_far.runs.0 in
       let some = so_far.runs.1 in
       (omega (arith, start, some), so_far.runs.2)
+
+-- ---- of what is found in a list, what is found in another
+
+-- the runs of a list that come before the ones that are left have no such index, and what is found in it is found in the other
+pub record AreSearched {T S : Type 0} (is : ℕ → Bool → T → Type 0) (of : ℕ → Bool → S → Type 0) (all : List S) (low high : ℕ) (left : List (Piece T)) : Type 0 where
+  pub values : List T
+  pub found : (r : Bool) → FoundAt is r values low high → FoundAt of r all low high
+  pub searched : IsSearched is values low high left
+
+module _ {T S : Type 0} {is : ℕ → Bool → T → Type 0} {of : ℕ → Bool → S → Type 0} {all : List S} {low high : ℕ} where
+  pub walk_start : (values : List T) → ((r : Bool) → FoundAt is r values low high → FoundAt of r all low high) → (left : List (Piece T)) → AreRunsOf values low high left → AreSearched is of all low high left
+  walk_start values found left runs = record { values = values; found = found; searched = search_start is values low high left runs }
+
+  module _ {left : List (Piece T)} (so_far : AreSearched is of all low high left) where
+    pub walk_end : left ≡ [] → FoundAt of false all low high
+    walk_end none = so_far.found false (search_end is so_far.values low high (subst (IsSearched is so_far.values low high) none so_far.searched))
+
+    module _ {piece : Piece T} {rest : List (Piece T)} (next : left ≡ piece ∷ rest) where
+      first : IsSearched is so_far.values low high (piece ∷ rest)
+      first = subst (IsSearched is so_far.values low high) next so_far.searched
+
+      pub walk_within : (piece.start ≤ piece.end) × (piece.end ≤ high)
+      walk_within = search_within is so_far.values low high piece rest first
+
+      pub walk_next : (r : Bool) → SomeBetween (λ k r. is k r piece.value) r piece.start piece.end → r ≡ false → AreSearched is of all low high rest
+      walk_next r h fails = record {
+        values = so_far.values;
+        found = so_far.found;
+        searched = search_next is so_far.values low high piece rest first (subst (λ (b : Bool). SomeBetween (λ k r. is k r piece.value) b piece.start piece.end) fails h);
+      }
+
+      pub walk_found : (r : Bool) → SomeBetween (λ k r. is k r piece.value) r piece.start piece.end → r ≡ true → FoundAt of true all low high
+      walk_found r h passes = so_far.found true (search_found is so_far.values low high piece rest first (subst (λ (b : Bool). SomeBetween (λ k r. is k r piece.value) b piece.start piece.end) passes h))
+
+-- ---- one of two things
+
+-- where the first isn't found
+pub found_either : {A : Type 0} (is also either : ℕ → Bool → A → Type 0) → ((k : ℕ) (a : A) → also k true a → either k true a) → ((k : ℕ) (a : A) → is k false a → also k false a → either k false a) → (xs : List A) (low high : ℕ) (s : Bool) → s ≡ false
+    → FoundAt is s xs low high → (r : Bool) → FoundAt also r xs low high → FoundAt either r xs low high
+found_either {A} is also either one neither xs low high s fails f r g = go (subst (λ (b : Bool). FoundAt is b xs low high) fails f) r g where
+  inside : (a b : A) → Some a ≡ Some b → a ≡ b
+  inside a b e = cc
+
+  go : FoundAt is false xs low high → (r : Bool) → FoundAt also r xs low high → FoundAt either r xs low high
+  go f true g = (g.0, g.1, g.2, g.3, g.4, one g.0 g.3 g.5)
+  go f false g = λ k from to.
+      let m = f k from to in
+      let n = g k from to in
+      (m.0, m.1, neither k m.0 m.2 (subst (also k false) (inside n.0 m.0 (sym n.1 ∙ m.1)) n.2))

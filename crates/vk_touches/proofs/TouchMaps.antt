@@ -1,8 +1,8 @@
--- What bytes remember, by the two lists that are kept of it.
-use Rattle.std.proofs.Common.{◌≡◌, ◌<◌, ◌≤◌, ℕ, zero, suc, List, [], ◌∷◌, length, slice_get, get_or, Bool, true, false, refl, ap, sym, ◌∙◌, arith, subst, Option, Some, None, inl, inr}
+-- What bytes remember, by the three lists that are kept of it.
+use Rattle.std.proofs.Common.{◌≡◌, ◌<◌, ◌≤◌, ℕ, List, length, slice_get, Bool, true, false, refl, ap, sym, ◌∙◌, subst, Option, Some, None, inl, inr}
 use Rattle.std.specs.Prelude.{if◌then◌else◌}
 use Rattle.std.specs.Option.{option_map}
-use Rattle.std.proofs.lemmas.Option.{slice_get_within, slice_get-get_or}
+use Rattle.std.specs.Simd.Lanes.{zip2}
 use Rattle.std.proofs.lemmas.Simd.{length-zip2}
 use Rattle.vk_order.specs.declared.new_node.NewNode.{NewNode}
 use Rattle.vk_ranges.specs.Overlaps.{Piece, AreRunsOf}
@@ -12,226 +12,181 @@ use Rattle.vk_touches.specs.declared.touches.LastTouches.{LastTouches}
 use Rattle.vk_touches.specs.declared.touches.Spot.{Spot}
 use Rattle.vk_touches.specs.declared.touches.Touch.{Touch}
 use Rattle.vk_touches.specs.declared.touches.Touch.TheVariants as touch
-use Rattle.vk_touches.specs.declared.transitions.TransitionAccess.{TransitionAccess}
-use Rattle.vk_touches.specs.Conflicts.{FoundAt, FoundIn, IsEarly, Misses, MissesAt, MissesHostWrite, SeesWrite, SomeBetween}
-use Rattle.vk_touches.specs.Remembered.{with_touch, with_invalidation}
+use Rattle.vk_touches.specs.declared.writes.LastWrite.{LastWrite}
+use Rattle.vk_touches.specs.Conflicts.{FoundAt, FoundIn, IsEarly, MissesHostWrite, MissesOther, SeesWrite, SomeBetween}
+use Rattle.vk_touches.specs.Remembered.{untouched, with_touch, with_invalidation}
 use Rattle.vk_touches.specs.TouchedRanges.{AreInvalidated}
-use Rattle.vk_touches.specs.TouchMaps.{with_host_read, without_host_read, others_of, all_remembered}
-use Rattle.vk_touches.proofs.Searches.{IsSearched, search_start, search_within, search_next, search_found, search_end}
+use Rattle.vk_touches.specs.TouchMaps.{with_host_read, without_host_read, others_of, with_write, with_write_alone, write_of, all_remembered, HaveOneLength}
+use Rattle.vk_touches.proofs.Searches.{AreSearched, walk_start}
+use Rattle.vk_touches.proofs.Zips.{both, at_both, both_at, first_updated, second_updated, found_in_first, found_in_second}
 
--- ---- what is at an index
+-- ---- what the other lists have no part in
 
-abbrev both : Option OtherTouches → Option (Option ℕ) → Option LastTouches
-both None h = None
-both (Some t) None = None
-both (Some t) (Some h) = Some (with_host_read t h)
+pub host_write_alike : (cached : Bool) (x : ResourceAccess) (k : ℕ) (r : Bool) (w : LastWrite) (t : OtherTouches) (h : Option ℕ) → MissesHostWrite cached x k r (without_host_read t) → MissesHostWrite cached x k r (with_write w (with_host_read t h))
+host_write_alike false x k r w t h m = m
+host_write_alike true x k r w t h m = record { none = m.none; unflushed = m.unflushed; flushed = m.flushed }
 
-none_read : (o : Option OtherTouches) → None ≡ both o None
-none_read None = refl
-none_read (Some t) = refl
-
-at_both : (ts : List OtherTouches) (hs : List (Option ℕ)) (k : ℕ) → slice_get (all_remembered ts hs) k ≡ both (slice_get ts k) (slice_get hs k)
-unfolding all_remembered
-at_both [] hs k = refl
-at_both (t ∷ ts) [] k = none_read (slice_get (t ∷ ts) k)
-at_both (t ∷ ts) (h ∷ hs) zero = refl
-at_both (t ∷ ts) (h ∷ hs) (suc k) = at_both ts hs k
-
-pub both_at : (ts : List OtherTouches) (hs : List (Option ℕ)) (k : ℕ) (t : OtherTouches) (h : Option ℕ) → slice_get ts k ≡ Some t → slice_get hs k ≡ Some h → slice_get (all_remembered ts hs) k ≡ Some (with_host_read t h)
-both_at ts hs k t h one other = at_both ts hs k ∙ ap (λ (o : Option OtherTouches). both o (slice_get hs k)) one ∙ ap (both (Some t)) other
-
-pub remembered_len : (ts : List OtherTouches) (hs : List (Option ℕ)) → length ts ≡ length hs → length (all_remembered ts hs) ≡ length ts
-unfolding all_remembered
-remembered_len ts hs same = length-zip2 with_host_read ts hs same
-
--- there are as many of each
-pub others_len : (ts : List OtherTouches) (hs : List (Option ℕ)) (all : List LastTouches) → length ts ≡ length hs → all_remembered ts hs ≡ all → length ts ≡ length all
-others_len ts hs all same are = sym (remembered_len ts hs same) ∙ ap length are
-
--- ---- a change of one of the lists
-
-pub others_changed_len : (old new : List OtherTouches) (hs : List (Option ℕ)) (all : List LastTouches) → length old ≡ length hs → all_remembered old hs ≡ all → length new ≡ length old → length (all_remembered new hs) ≡ length all
-others_changed_len old new hs all same are is = remembered_len new hs (is ∙ same) ∙ is ∙ others_len old hs all same are
-
-pub reads_changed_len : (ts : List OtherTouches) (old new : List (Option ℕ)) (all : List LastTouches) → length ts ≡ length old → all_remembered ts old ≡ all → length new ≡ length old → length (all_remembered ts new) ≡ length all
-reads_changed_len ts old new all same are is = remembered_len ts new (same ∙ sym is) ∙ others_len ts old all same are
-
-module _ (g : ℕ → LastTouches → LastTouches) where
-  pub others_changed : (f : ℕ → OtherTouches → OtherTouches) → ((k : ℕ) (t : OtherTouches) (h : Option ℕ) → with_host_read (f k t) h ≡ g k (with_host_read t h)) → (old new : List OtherTouches) (hs : List (Option ℕ))
-      → ((k : ℕ) → slice_get new k ≡ option_map (f k) (slice_get old k)) → (k : ℕ) → slice_get (all_remembered new hs) k ≡ option_map (g k) (slice_get (all_remembered old hs) k)
-  others_changed f is old new hs changed k =
-      at_both new hs k ∙ ap (λ (o : Option OtherTouches). both o (slice_get hs k)) (changed k) ∙ go (slice_get old k) (slice_get hs k) ∙ ap (option_map (g k)) (sym (at_both old hs k))
-    where
-      go : (o : Option OtherTouches) (r : Option (Option ℕ)) → both (option_map (f k) o) r ≡ option_map (g k) (both o r)
-      go None r = refl
-      go (Some t) None = refl
-      go (Some t) (Some h) = ap Some (is k t h)
-
-  pub reads_changed : (f : ℕ → Option ℕ → Option ℕ) → ((k : ℕ) (t : OtherTouches) (h : Option ℕ) → with_host_read t (f k h) ≡ g k (with_host_read t h)) → (ts : List OtherTouches) (old new : List (Option ℕ))
-      → ((k : ℕ) → slice_get new k ≡ option_map (f k) (slice_get old k)) → (k : ℕ) → slice_get (all_remembered ts new) k ≡ option_map (g k) (slice_get (all_remembered ts old) k)
-  reads_changed f is ts old new changed k =
-      at_both ts new k ∙ ap (both (slice_get ts k)) (changed k) ∙ go (slice_get ts k) (slice_get old k) ∙ ap (option_map (g k)) (sym (at_both ts old k))
-    where
-      go : (o : Option OtherTouches) (r : Option (Option ℕ)) → both o (option_map (f k) r) ≡ option_map (g k) (both o r)
-      go None r = refl
-      go (Some t) None = refl
-      go (Some t) (Some h) = ap Some (is k t h)
-
--- where a test says so
-module _ (g : LastTouches → LastTouches) (test : ℕ → Bool) where
-  pub others_updated : (f : OtherTouches → OtherTouches) → ((t : OtherTouches) (h : Option ℕ) → with_host_read (f t) h ≡ g (with_host_read t h)) → (old new : List OtherTouches) (hs : List (Option ℕ)) (all : List LastTouches) → all_remembered old hs ≡ all
-      → ((k : ℕ) → slice_get new k ≡ option_map (λ t. if test k then f t else t) (slice_get old k)) → (k : ℕ) → slice_get (all_remembered new hs) k ≡ option_map (λ t. if test k then g t else t) (slice_get all k)
-  others_updated f is old new hs all are changed k =
-      others_changed (λ k t. if test k then g t else t) (λ k t. if test k then f t else t) (λ k. where_it_is (test k)) old new hs changed k
-      ∙ ap (λ (xs : List LastTouches). option_map (λ t. if test k then g t else t) (slice_get xs k)) are
-    where
-      where_it_is : (b : Bool) (t : OtherTouches) (h : Option ℕ) → with_host_read (if b then f t else t) h ≡ (if b then g (with_host_read t h) else with_host_read t h)
-      where_it_is true t h = is t h
-      where_it_is false t h = refl
-
-  pub reads_updated : (f : Option ℕ → Option ℕ) → ((t : OtherTouches) (h : Option ℕ) → with_host_read t (f h) ≡ g (with_host_read t h)) → (ts : List OtherTouches) (old new : List (Option ℕ)) (all : List LastTouches) → all_remembered ts old ≡ all
-      → ((k : ℕ) → slice_get new k ≡ option_map (λ h. if test k then f h else h) (slice_get old k)) → (k : ℕ) → slice_get (all_remembered ts new) k ≡ option_map (λ t. if test k then g t else t) (slice_get all k)
-  reads_updated f is ts old new all are changed k =
-      reads_changed (λ k t. if test k then g t else t) (λ k h. if test k then f h else h) (λ k. where_it_is (test k)) ts old new changed k
-      ∙ ap (λ (xs : List LastTouches). option_map (λ t. if test k then g t else t) (slice_get xs k)) are
-    where
-      where_it_is : (b : Bool) (t : OtherTouches) (h : Option ℕ) → with_host_read t (if b then f h else h) ≡ (if b then g (with_host_read t h) else with_host_read t h)
-      where_it_is true t h = is t h
-      where_it_is false t h = refl
-
--- a touch that isn't a read by the host
-pub with_other_touch : (w : Touch) → (w ≡ touch.HostRead → ⊥) → (s : Spot) (t : OtherTouches) (h : Option ℕ) → with_host_read (others_of (with_touch (without_host_read t) w s)) h ≡ with_touch (with_host_read t h) w s
-with_other_touch touch.Write ne s t h = refl
-with_other_touch touch.HostWrite ne s t h = refl
-with_other_touch touch.HostRead ne s t h = absurd (ne refl)
-with_other_touch (touch.Read q) ne s t h = refl
-
--- ---- what the host's reads have no part in
-
-pub sees_alike : (x : ResourceAccess) (k : ℕ) (r : Bool) (t : OtherTouches) (h : Option ℕ) → SeesWrite x k r (without_host_read t) → SeesWrite x k r (with_host_read t h)
-sees_alike x k r t h m = record { none = m.none; some = m.some }
-
-host_write_alike : (cached : Bool) (x : ResourceAccess) (k : ℕ) (r : Bool) (t : OtherTouches) (h : Option ℕ) → MissesHostWrite cached x k r (without_host_read t) → MissesHostWrite cached x k r (with_host_read t h)
-host_write_alike false x k r t h m = m
-host_write_alike true x k r t h m = record { none = m.none; unflushed = m.unflushed; flushed = m.flushed }
-
-pub missed_alike : (cached : Bool) (x : ResourceAccess) (k : ℕ) (r : Bool) (t : OtherTouches) (h : Option ℕ) → Misses cached x k r (without_host_read t) → Misses cached x k r (with_host_read t h)
-missed_alike cached x k true t h (inl m) = inl m
-missed_alike cached x k true t h (inr (inl m)) = inr (inl (host_write_alike cached x k true t h m))
-missed_alike cached x k true t h (inr (inr m)) = inr (inr m)
-missed_alike cached x k false t h m = (m.0, host_write_alike cached x k false t h m.1, m.2)
-
-pub missed_at_alike : (x : TransitionAccess) (k : ℕ) (r : Bool) (t : OtherTouches) (h : Option ℕ) → MissesAt x k r (without_host_read t) → MissesAt x k r (with_host_read t h)
-missed_at_alike x k true t h m = m
-missed_at_alike x k false t h m = m
-
--- ---- what is found
-
-module _ (ts : List OtherTouches) (hs : List (Option ℕ)) (same : length ts ≡ length hs) where
-  there : (k : ℕ) (t : OtherTouches) → slice_get ts k ≡ Some t → slice_get (all_remembered ts hs) k ≡ Some (with_host_read t (get_or hs k None))
-  there k t is =
-      let lt = slice_get_within ts k t is in
-      both_at ts hs k t (get_or hs k None) is (slice_get-get_or hs k None (omega (arith, same, lt)))
-
-  -- where the host's reads have no part in it, it is found in the other list
-  pub found_in_others : (is : ℕ → Bool → LastTouches → Type 0) → ((k : ℕ) (r : Bool) (t : OtherTouches) (h : Option ℕ) → is k r (without_host_read t) → is k r (with_host_read t h)) → (r : Bool) (low high : ℕ)
-      → FoundAt (λ k r t. is k r (without_host_read t)) r ts low high → FoundAt is r (all_remembered ts hs) low high
-  found_in_others is alike true low high f = (f.0, f.1, f.2, with_host_read f.3 (get_or hs f.0 None), there f.0 f.3 f.4, alike f.0 true f.3 (get_or hs f.0 None) f.5)
-  found_in_others is alike false low high f = λ k from to. let m = f k from to in (with_host_read m.0 (get_or hs k None), there k m.0 m.1, alike k false m.0 (get_or hs k None) m.2)
+pub other_alike : (cached : Bool) (x : ResourceAccess) (k : ℕ) (r : Bool) (w : LastWrite) (t : OtherTouches) (h : Option ℕ) → MissesOther cached x k r (without_host_read t) → MissesOther cached x k r (with_write w (with_host_read t h))
+other_alike cached x k true w t h (inl m) = inl (host_write_alike cached x k true w t h m)
+other_alike cached x k true w t h (inr m) = inr m
+other_alike cached x k false w t h m = (host_write_alike cached x k false w t h m.0, m.1)
 
 -- of a byte that remembers this else, whether it is early by the host's read of it
 abbrev pub IsEarlyAt : List (Option ℕ) → NewNode → ℕ → Bool → OtherTouches → Type 0
 IsEarlyAt hs s k r t = (h : Option ℕ) × (slice_get hs k ≡ Some h) × IsEarly s r (with_host_read t h)
 
-pub found_early : (ts : List OtherTouches) (hs : List (Option ℕ)) (s : NewNode) (r : Bool) (low high : ℕ) → FoundAt (IsEarlyAt hs s) r ts low high → FoundIn (IsEarly s) r (all_remembered ts hs) low high
-found_early ts hs s true low high f = let e = f.5 in (f.0, f.1, f.2, with_host_read f.3 e.0, both_at ts hs f.0 f.3 e.0 f.4 e.1, e.2)
-found_early ts hs s false low high f = λ k from to. let m = f k from to in let e = m.2 in (with_host_read m.0 e.0, both_at ts hs k m.0 e.0 m.1 e.1, e.2)
+pub early_between : (hs : List (Option ℕ)) (s : NewNode) (t : OtherTouches) (low high : ℕ) (r : Bool) → FoundIn (λ r h. IsEarly s r (with_host_read t h)) r hs low high → SomeBetween (λ k r. IsEarlyAt hs s k r t) r low high
+early_between hs s t low high true f = (f.0, f.1, f.2, (f.3, f.4, f.5))
+early_between hs s t low high false f = f
 
--- ---- run by run
+-- a touch that is neither a write by a command nor a read by the host
+pub with_other_touch : (v : Touch) → (v ≡ touch.Write → ⊥) → (v ≡ touch.HostRead → ⊥) → (s : Spot) (t : OtherTouches) (h : Option ℕ) → with_host_read (others_of (with_touch (without_host_read t) v s)) h ≡ with_touch (with_host_read t h) v s
+with_other_touch touch.Write write read s t h = absurd (write refl)
+with_other_touch touch.HostWrite write read s t h = refl
+with_other_touch touch.HostRead write read s t h = absurd (read refl)
+with_other_touch (touch.Read q) write read s t h = refl
 
-module _ (is : ℕ → Bool → LastTouches → Type 0) (all : List LastTouches) (low high : ℕ) where
-  -- the runs of all but the host's reads that come before the ones that are left have no such index
-  pub record AreSearched (left : List (Piece OtherTouches)) : Type 0 where
-    pub others : List OtherTouches
-    pub reads : List (Option ℕ)
-    pub same : length others ≡ length reads
-    pub are : all_remembered others reads ≡ all
-    pub searched : IsSearched (λ k r t. is k r (without_host_read t)) others low high left
+-- the last write by a command has no part in it
+pub write_apart : (v : Touch) → (v ≡ touch.Write → ⊥) → (s : Spot) (w : LastWrite) (t : LastTouches) → with_write w (with_touch t v s) ≡ with_touch (with_write w t) v s
+write_apart touch.Write write s w t = absurd (write refl)
+write_apart touch.HostWrite write s w t = refl
+write_apart touch.HostRead write s w t = refl
+write_apart (touch.Read q) write s w t = refl
 
-  pub others_start : (ts : List OtherTouches) (hs : List (Option ℕ)) → length ts ≡ length hs → all_remembered ts hs ≡ all → (left : List (Piece OtherTouches)) → AreRunsOf ts low high left → AreSearched left
-  others_start ts hs same are left runs = record { others = ts; reads = hs; same = same; are = are; searched = search_start (λ k r t. is k r (without_host_read t)) ts low high left runs }
+-- ---- how many there are
 
-  module _ (left : List (Piece OtherTouches)) (so_far : AreSearched left) where
-    module _ (piece : Piece OtherTouches) (rest : List (Piece OtherTouches)) (next : left ≡ piece ∷ rest) where
-      first : IsSearched (λ k r t. is k r (without_host_read t)) so_far.others low high (piece ∷ rest)
-      first = subst (λ (xs : List (Piece OtherTouches)). IsSearched (λ k r t. is k r (without_host_read t)) so_far.others low high xs) next so_far.searched
+rest_len : {ws : List LastWrite} {ts : List OtherTouches} {hs : List (Option ℕ)} → HaveOneLength ws ts hs → length ws ≡ length (zip2 with_host_read ts hs)
+rest_len {ws} {ts} {hs} same = same.writes ∙ sym (length-zip2 with_host_read ts hs same.reads)
 
-      pub others_within : piece.end ≤ high
-      others_within = (search_within (λ k r t. is k r (without_host_read t)) so_far.others low high piece rest first).1
+pub remembered_len : {ws : List LastWrite} {ts : List OtherTouches} {hs : List (Option ℕ)} → HaveOneLength ws ts hs → length (all_remembered ws ts hs) ≡ length ws
+unfolding all_remembered
+remembered_len {ws} {ts} {hs} same = length-zip2 with_write ws (zip2 with_host_read ts hs) (rest_len same)
 
-      module _ (r : Bool) (h : SomeBetween (λ k r. is k r (without_host_read piece.value)) r piece.start piece.end) where
-        pub others_next : r ≡ false → AreSearched rest
-        others_next fails = record {
-          others = so_far.others;
-          reads = so_far.reads;
-          same = so_far.same;
-          are = so_far.are;
-          searched = search_next (λ k r t. is k r (without_host_read t)) so_far.others low high piece rest first (subst (λ (b : Bool). SomeBetween (λ k r. is k r (without_host_read piece.value)) b piece.start piece.end) fails h);
-        }
+pub all_at : (ws : List LastWrite) (ts : List OtherTouches) (hs : List (Option ℕ)) (k : ℕ) (w : LastWrite) (t : OtherTouches) (h : Option ℕ) → slice_get ws k ≡ Some w → slice_get ts k ≡ Some t → slice_get hs k ≡ Some h
+    → slice_get (all_remembered ws ts hs) k ≡ Some (with_write w (with_host_read t h))
+unfolding all_remembered
+all_at ws ts hs k w t h written other read = both_at with_write ws (zip2 with_host_read ts hs) k w (with_host_read t h) written (both_at with_host_read ts hs k t h other read)
 
-        pub others_found : ((k : ℕ) (r : Bool) (t : OtherTouches) (h : Option ℕ) → is k r (without_host_read t) → is k r (with_host_read t h)) → r ≡ true → FoundAt is true all low high
-        others_found alike passes =
-            subst (λ (xs : List LastTouches). FoundAt is true xs low high) so_far.are (found_in_others so_far.others so_far.reads so_far.same is alike true low high
-            (search_found (λ k r t. is k r (without_host_read t)) so_far.others low high piece rest first (subst (λ (b : Bool). SomeBetween (λ k r. is k r (without_host_read piece.value)) b piece.start piece.end) passes h)))
+module _ {ws : List LastWrite} {ts : List OtherTouches} {hs : List (Option ℕ)} (same : HaveOneLength ws ts hs) {all : List LastTouches} (are : all_remembered ws ts hs ≡ all) where
+  pub writes_len : length ws ≡ length all
+  writes_len = sym (remembered_len same) ∙ ap length are
 
-    pub others_end : ((k : ℕ) (r : Bool) (t : OtherTouches) (h : Option ℕ) → is k r (without_host_read t) → is k r (with_host_read t h)) → left ≡ [] → FoundAt is false all low high
-    others_end alike none =
-        subst (λ (xs : List LastTouches). FoundAt is false xs low high) so_far.are (found_in_others so_far.others so_far.reads so_far.same is alike false low high
-        (search_end (λ k r t. is k r (without_host_read t)) so_far.others low high (subst (λ (xs : List (Piece OtherTouches)). IsSearched (λ k r t. is k r (without_host_read t)) so_far.others low high xs) none so_far.searched)))
+  pub others_len : length ts ≡ length all
+  others_len = sym same.writes ∙ writes_len
 
-module _ (s : NewNode) (ts : List OtherTouches) (hs : List (Option ℕ)) (low high : ℕ) (left : List (Piece OtherTouches)) (so_far : IsSearched (IsEarlyAt hs s) ts low high left) where
-  module _ (piece : Piece OtherTouches) (rest : List (Piece OtherTouches)) (next : left ≡ piece ∷ rest) where
-    first_early : IsSearched (IsEarlyAt hs s) ts low high (piece ∷ rest)
-    first_early = subst (λ (xs : List (Piece OtherTouches)). IsSearched (IsEarlyAt hs s) ts low high xs) next so_far
+  pub host_reads_len : length hs ≡ length all
+  host_reads_len = sym same.reads ∙ others_len
 
-    pub early_within : (piece.start ≤ piece.end) × (piece.end ≤ high)
-    early_within = search_within (IsEarlyAt hs s) ts low high piece rest first_early
+  -- ---- a change of one of the lists
 
-    pub early_next : FoundIn (λ r h. IsEarly s r (with_host_read piece.value h)) false hs piece.start piece.end → IsSearched (IsEarlyAt hs s) ts low high rest
-    early_next h = search_next (IsEarlyAt hs s) ts low high piece rest first_early h
+  pub writes_changed_len : (new : List LastWrite) → length new ≡ length ws → length (all_remembered new ts hs) ≡ length all
+  writes_changed_len new is = remembered_len (record { writes = is ∙ same.writes; reads = same.reads }) ∙ is ∙ writes_len
 
-    pub early_found : FoundIn (λ r h. IsEarly s r (with_host_read piece.value h)) true hs piece.start piece.end → (all : List LastTouches) → all_remembered ts hs ≡ all → FoundIn (IsEarly s) true all low high
-    early_found h all are =
-        subst (λ (xs : List LastTouches). FoundIn (IsEarly s) true xs low high) are (found_early ts hs s true low high
-        (search_found (IsEarlyAt hs s) ts low high piece rest first_early (h.0, h.1, h.2, (h.3, h.4, h.5))))
+  pub others_changed_len : (new : List OtherTouches) → length new ≡ length ts → length (all_remembered ws new hs) ≡ length all
+  others_changed_len new is = remembered_len (record { writes = same.writes ∙ sym is; reads = is ∙ same.reads }) ∙ writes_len
 
-  pub early_end : left ≡ [] → (all : List LastTouches) → all_remembered ts hs ≡ all → FoundIn (IsEarly s) false all low high
-  early_end none all are =
-      subst (λ (xs : List LastTouches). FoundIn (IsEarly s) false xs low high) are (found_early ts hs s false low high
-      (search_end (IsEarlyAt hs s) ts low high (subst (λ (xs : List (Piece OtherTouches)). IsSearched (IsEarlyAt hs s) ts low high xs) none so_far)))
+  pub host_reads_changed_len : (new : List (Option ℕ)) → length new ≡ length hs → length (all_remembered ws ts new) ≡ length all
+  host_reads_changed_len new is = remembered_len (record { writes = same.writes; reads = same.reads ∙ sym is }) ∙ writes_len
 
--- ---- an invalidation
+  -- where a test says so
+  module _ (g : LastTouches → LastTouches) (test : ℕ → Bool) where
+    on_all : (o : Option LastTouches) (k : ℕ) → o ≡ option_map (λ t. if test k then g t else t) (slice_get (all_remembered ws ts hs) k) → o ≡ option_map (λ t. if test k then g t else t) (slice_get all k)
+    on_all o k is = is ∙ ap (λ (xs : List LastTouches). option_map (λ t. if test k then g t else t) (slice_get xs k)) are
 
-pub others_invalidated : (x : ResourceAccess) (ts new : List OtherTouches) (hs : List (Option ℕ)) (all : List LastTouches) → all_remembered ts hs ≡ all → (low high : ℕ) → low < high → (t : OtherTouches) (r : Bool)
-    → ((k : ℕ) → low ≤ k → k < high → slice_get ts k ≡ Some t) → ((k : ℕ) → low ≤ k → k < high → SeesWrite x k r (without_host_read t))
-    → ((k : ℕ) → low ≤ k → k < high → slice_get new k ≡ Some (others_of (with_invalidation (without_host_read t) r))) → ((k : ℕ) → k < low → slice_get new k ≡ slice_get ts k) → ((k : ℕ) → high ≤ k → slice_get new k ≡ slice_get ts k)
-    → AreInvalidated (SeesWrite x) all (all_remembered new hs) low high
-others_invalidated x ts new hs all are low high further t r has sees inside before after =
-    subst (λ (xs : List LastTouches). AreInvalidated (SeesWrite x) xs (all_remembered new hs) low high) are (record {
+    pub writes_updated : (f : LastWrite → LastWrite) → ((w : LastWrite) (t : LastTouches) → with_write (f w) t ≡ g (with_write w t)) → (new : List LastWrite) → ((k : ℕ) → slice_get new k ≡ option_map (λ w. if test k then f w else w) (slice_get ws k))
+        → (k : ℕ) → slice_get (all_remembered new ts hs) k ≡ option_map (λ t. if test k then g t else t) (slice_get all k)
+    unfolding all_remembered
+    writes_updated f is new changed k = on_all (slice_get (all_remembered new ts hs) k) k (first_updated with_write g test f is ws new (zip2 with_host_read ts hs) changed k)
+
+    module _ (apart : (w : LastWrite) (t : LastTouches) → with_write w (g t) ≡ g (with_write w t)) where
+      pub others_updated : (f : OtherTouches → OtherTouches) → ((t : OtherTouches) (h : Option ℕ) → with_host_read (f t) h ≡ g (with_host_read t h)) → (new : List OtherTouches) → ((k : ℕ) → slice_get new k ≡ option_map (λ t. if test k then f t else t) (slice_get ts k))
+          → (k : ℕ) → slice_get (all_remembered ws new hs) k ≡ option_map (λ t. if test k then g t else t) (slice_get all k)
+      unfolding all_remembered
+      others_updated f is new changed k =
+          on_all (slice_get (all_remembered ws new hs) k) k (second_updated with_write g test g apart ws (zip2 with_host_read ts hs) (zip2 with_host_read new hs) (first_updated with_host_read g test f is ts new hs changed) k)
+
+      pub host_reads_updated : (f : Option ℕ → Option ℕ) → ((t : OtherTouches) (h : Option ℕ) → with_host_read t (f h) ≡ g (with_host_read t h)) → (new : List (Option ℕ)) → ((k : ℕ) → slice_get new k ≡ option_map (λ h. if test k then f h else h) (slice_get hs k))
+          → (k : ℕ) → slice_get (all_remembered ws ts new) k ≡ option_map (λ t. if test k then g t else t) (slice_get all k)
+      unfolding all_remembered
+      host_reads_updated f is new changed k =
+          on_all (slice_get (all_remembered ws ts new) k) k (second_updated with_write g test g apart ws (zip2 with_host_read ts hs) (zip2 with_host_read ts new) (second_updated with_host_read g test f is ts hs new changed) k)
+
+  -- ---- what is found
+
+  -- what the last write by a command alone decides
+  pub found_in_writes : (is : ℕ → Bool → LastTouches → Type 0) → ((k : ℕ) (r : Bool) (w : LastWrite) (t : LastTouches) → is k r (with_write_alone w) → is k r (with_write w t)) → (low high : ℕ) (r : Bool)
+      → FoundAt (λ k r w. is k r (with_write_alone w)) r ws low high → FoundAt is r all low high
+  unfolding all_remembered
+  found_in_writes is alike low high r h =
+      subst (λ (xs : List LastTouches). FoundAt is r xs low high) are (found_in_first with_write ws (zip2 with_host_read ts hs) (rest_len same) is (λ k r w. is k r (with_write_alone w)) alike untouched r low high h)
+
+  found_in_rest : (is : ℕ → Bool → LastTouches → Type 0) (low high : ℕ) (r : Bool) → FoundAt (λ k r t. (w : LastWrite) → is k r (with_write w t)) r (zip2 with_host_read ts hs) low high → FoundAt is r all low high
+  unfolding all_remembered
+  found_in_rest is low high r h =
+      subst (λ (xs : List LastTouches). FoundAt is r xs low high) are
+      (found_in_second with_write ws (zip2 with_host_read ts hs) (rest_len same) is (λ k r t. (w : LastWrite) → is k r (with_write w t)) (λ k r w t m. m w) (write_of untouched) r low high h)
+
+  -- what all but that and the last read by the host decides
+  pub found_in_others : (is : ℕ → Bool → LastTouches → Type 0) → ((k : ℕ) (r : Bool) (w : LastWrite) (t : OtherTouches) (h : Option ℕ) → is k r (without_host_read t) → is k r (with_write w (with_host_read t h))) → (low high : ℕ) (r : Bool)
+      → FoundAt (λ k r t. is k r (without_host_read t)) r ts low high → FoundAt is r all low high
+  found_in_others is alike low high r found =
+      found_in_rest is low high r
+      (found_in_first with_host_read ts hs same.reads (λ k r t. (w : LastWrite) → is k r (with_write w t)) (λ k r t. is k r (without_host_read t)) (λ k r t h m w. alike k r w t h m) None r low high found)
+
+  -- what it decides with the last read by the host
+  pub found_early : (s : NewNode) (low high : ℕ) (r : Bool) → FoundAt (IsEarlyAt hs s) r ts low high → FoundIn (IsEarly s) r all low high
+  found_early s low high r found = found_in_rest (λ k. IsEarly s) low high r (at_read r found) where
+    any_write : (r : Bool) (t : LastTouches) → IsEarly s r t → (w : LastWrite) → IsEarly s r (with_write w t)
+    any_write r t m w = record { of_host = m.of_host; of_commands = m.of_commands; of_transition = m.of_transition; either = m.either; host = m.host; commands = m.commands; transition = m.transition }
+
+    at_read : (r : Bool) → FoundAt (IsEarlyAt hs s) r ts low high → FoundAt (λ k r t. (w : LastWrite) → IsEarly s r (with_write w t)) r (zip2 with_host_read ts hs) low high
+    at_read true f = let e = f.5 in (f.0, f.1, f.2, with_host_read f.3 e.0, both_at with_host_read ts hs f.0 f.3 e.0 f.4 e.1, any_write true (with_host_read f.3 e.0) e.2)
+    at_read false f = λ k from to.
+        let m = f k from to in
+        let e = m.2 in
+        (with_host_read m.0 e.0, both_at with_host_read ts hs k m.0 e.0 m.1 e.1, any_write false (with_host_read m.0 e.0) e.2)
+
+  -- run by run
+  module _ {low high : ℕ} {left : List (Piece LastWrite)} where
+    pub writes_start : (is : ℕ → Bool → LastTouches → Type 0) → ((k : ℕ) (r : Bool) (w : LastWrite) (t : LastTouches) → is k r (with_write_alone w) → is k r (with_write w t)) → AreRunsOf ws low high left → AreSearched (λ k r w. is k r (with_write_alone w)) is all low high left
+    writes_start is alike runs = walk_start ws (found_in_writes is alike low high) left runs
+
+  module _ {low high : ℕ} {left : List (Piece OtherTouches)} where
+    pub others_start : (is : ℕ → Bool → LastTouches → Type 0) → ((k : ℕ) (r : Bool) (w : LastWrite) (t : OtherTouches) (h : Option ℕ) → is k r (without_host_read t) → is k r (with_write w (with_host_read t h))) → AreRunsOf ts low high left
+        → AreSearched (λ k r t. is k r (without_host_read t)) is all low high left
+    others_start is alike runs = walk_start ts (found_in_others is alike low high) left runs
+
+    pub early_start : (s : NewNode) → AreRunsOf ts low high left → AreSearched (IsEarlyAt hs s) (λ k. IsEarly s) all low high left
+    early_start s runs = walk_start ts (found_early s low high) left runs
+
+  -- ---- an invalidation
+
+  module _ (x : ResourceAccess) (new : List LastWrite) (low high : ℕ) (further : low < high) (w : LastWrite) (r : Bool) (has : (k : ℕ) → low ≤ k → k < high → slice_get ws k ≡ Some w) (sees : (k : ℕ) → low ≤ k → k < high → SeesWrite x k r (with_write_alone w))
+      (inside : (k : ℕ) → low ≤ k → k < high → slice_get new k ≡ Some (write_of (with_invalidation (with_write_alone w) r))) (before : (k : ℕ) → k < low → slice_get new k ≡ slice_get ws k) (after : (k : ℕ) → high ≤ k → slice_get new k ≡ slice_get ws k) where
+    rest : ℕ → Option LastTouches
+    rest k = slice_get (zip2 with_host_read ts hs) k
+
+    at : (xs : List LastWrite) (k : ℕ) (o : Option LastWrite) → slice_get xs k ≡ o → slice_get (all_remembered xs ts hs) k ≡ both with_write o (rest k)
+    unfolding all_remembered rest
+    at xs k o is = at_both with_write xs (zip2 with_host_read ts hs) k ∙ ap (λ (o : Option LastWrite). both with_write o (rest k)) is
+
+    unchanged : (k : ℕ) → slice_get new k ≡ slice_get ws k → slice_get (all_remembered new ts hs) k ≡ slice_get (all_remembered ws ts hs) k
+    unchanged k is = at new k (slice_get ws k) is ∙ sym (at ws k (slice_get ws k) refl)
+
+    there : (k : ℕ) → low ≤ k → k < high → (o : Option LastTouches) → rest k ≡ o → (v : LastTouches) → slice_get (all_remembered ws ts hs) k ≡ Some v → (answer : Bool) × (slice_get (all_remembered new ts hs) k ≡ Some (with_invalidation v answer)) × SeesWrite x k answer v
+    there k from to None is v was = absurd (let bad : None ≡ Some v = sym (at ws k (Some w) (has k from to) ∙ ap (both with_write (Some w)) is) ∙ was in cc)
+    there k from to (Some t) is v was =
+        let one : Some (with_write w t) ≡ Some v = sym (at ws k (Some w) (has k from to) ∙ ap (both with_write (Some w)) is) ∙ was in
+        let v_is : with_write w t ≡ v = cc in
+        let seen_or_not = write_of (with_invalidation (with_write_alone w) r) in
+        let now : slice_get (all_remembered new ts hs) k ≡ Some (with_invalidation (with_write w t) r) = at new k (Some seen_or_not) (inside k from to) ∙ ap (both with_write (Some seen_or_not)) is in
+        let seen = sees k from to in
+        subst (λ (u : LastTouches). (answer : Bool) × (slice_get (all_remembered new ts hs) k ≡ Some (with_invalidation u answer)) × SeesWrite x k answer u) v_is (r, now, record { none = seen.none; some = seen.some })
+
+    pub writes_invalidated : AreInvalidated (SeesWrite x) all (all_remembered new ts hs) low high
+    writes_invalidated = subst (λ (xs : List LastTouches). AreInvalidated (SeesWrite x) xs (all_remembered new ts hs) low high) are (record {
       further = further;
-      inside = λ k v from to was. at k from to (slice_get hs k) refl v was;
+      inside = λ k v from to was. there k from to (rest k) refl v was;
       before = λ k lt. unchanged k (before k lt);
       after = λ k ge. unchanged k (after k ge);
     })
-  where
-    unchanged : (k : ℕ) → slice_get new k ≡ slice_get ts k → slice_get (all_remembered new hs) k ≡ slice_get (all_remembered ts hs) k
-    unchanged k is = at_both new hs k ∙ ap (λ (o : Option OtherTouches). both o (slice_get hs k)) is ∙ sym (at_both ts hs k)
-
-    at : (k : ℕ) → low ≤ k → k < high → (o : Option (Option ℕ)) → slice_get hs k ≡ o → (v : LastTouches) → slice_get (all_remembered ts hs) k ≡ Some v
-        → (answer : Bool) × (slice_get (all_remembered new hs) k ≡ Some (with_invalidation v answer)) × SeesWrite x k answer v
-    at k from to None is v was = absurd (let bad : None ≡ Some v = sym (at_both ts hs k ∙ ap (λ (o : Option OtherTouches). both o (slice_get hs k)) (has k from to) ∙ ap (both (Some t)) is) ∙ was in cc)
-    at k from to (Some h) is v was =
-        let one : Some (with_host_read t h) ≡ Some v = sym (both_at ts hs k t h (has k from to) is) ∙ was in
-        let v_is : with_host_read t h ≡ v = cc in
-        subst (λ (u : LastTouches). (answer : Bool) × (slice_get (all_remembered new hs) k ≡ Some (with_invalidation u answer)) × SeesWrite x k answer u) v_is
-        (r, both_at new hs k (others_of (with_invalidation (without_host_read t) r)) h (inside k from to) is, sees_alike x k r t h (sees k from to))

@@ -87,10 +87,23 @@ MissesHostWrite true x k answer t = MissesFlush x k answer t
 abbrev pub MissesTransition : ResourceAccess → ℕ → Bool → LastTouches → Type 0
 MissesTransition x k answer t = IsRefused (SaysSeen x k) answer t.transition
 
+-- Whether one of these two isn't seen.
+abbrev pub MissesOther : Bool → ResourceAccess → ℕ → Bool → LastTouches → Type 0
+MissesOther cached x k true t = MissesHostWrite cached x k true t ⊎ MissesTransition x k true t
+MissesOther cached x k false t = MissesHostWrite cached x k false t × MissesTransition x k false t
+
 -- Whether one of the three isn't seen.
 abbrev pub Misses : Bool → ResourceAccess → ℕ → Bool → LastTouches → Type 0
 Misses cached x k true t = MissesWrite x k true t ⊎ (MissesHostWrite cached x k true t ⊎ MissesTransition x k true t)
 Misses cached x k false t = MissesWrite x k false t × MissesHostWrite cached x k false t × MissesTransition x k false t
+
+-- Whether the last write by a command isn't seen by a transition.
+abbrev pub MissesWriteAt : TransitionAccess → ℕ → Bool → LastTouches → Type 0
+MissesWriteAt x k answer t = IsRefused (SaysSeenAt x k) answer t.write
+
+-- Whether the last transition isn't.
+abbrev pub MissesTransitionAt : TransitionAccess → ℕ → Bool → LastTouches → Type 0
+MissesTransitionAt x k answer t = IsRefused (SaysSeenAt x k) answer t.transition
 
 -- Whether the last write by a command, or the last transition, isn't seen by a transition.
 abbrev pub MissesAt : TransitionAccess → ℕ → Bool → LastTouches → Type 0

@@ -1,12 +1,13 @@
 ghost use Rattle.std.specs.Prelude.{◌≡◌, ◌<◌, ◌≤◌, ℕ, Bool, true, false, length, not};
 ghost use Rattle.vk_touches.specs.Bytes.{HaveNumbers};
-ghost use Rattle.vk_touches.specs.Conflicts.{AreSeen, FoundAt, IsRefused, Misses, MissesFlush, MissesHostWrite, MissesRead, MissesWrite, SaysSeen, SeesWrite, SomeBetween};
-ghost use Rattle.vk_touches.specs.TouchMaps.{without_host_read};
+ghost use Rattle.vk_touches.specs.Conflicts.{AreSeen, FoundAt, IsRefused, Misses, MissesFlush, MissesHostWrite, MissesOther, MissesRead, MissesWrite, SaysSeen, SeesWrite, SomeBetween};
+ghost use Rattle.vk_touches.specs.TouchMaps.{without_host_read, with_write_alone};
 
 use crate::bytes::Bytes;
 use crate::map::TouchMap;
 use crate::others::OtherTouches;
 use crate::touches::Spot;
+use crate::writes::LastWrite;
 use vk_order::{Access, Frontier, Line, NewNode, SeenUntil, VisiblePrefix};
 
 /// How the node of a point that comes next accesses a resource, and what it sees.
@@ -31,18 +32,8 @@ impl ResourceAccess<'_> {
         requires numbers { HaveNumbers self.now.bytes high }
         ensures { FoundAt (Misses is_cached self.now) result touches.now low high }
     {
-        let mut visible_prefix = self
-            .frontier
-            .visible_prefix(self.new_node, Line::Host, self.access);
-        for run in touches.others.overlapping(low, high) {
-            if !self.are_among(run.value, visible_prefix) {
-                visible_prefix = self.visible_prefix_for(run.value, visible_prefix);
-                if self.misses(run.start, run.end, run.value, is_cached, visible_prefix) {
-                    return true;
-                }
-            }
-        }
-        false
+        self.misses_some_write(touches, low, high)
+            || self.misses_some_other(touches, low, high, is_cached)
     }
 
     /// The same of the last writes by commands alone.
@@ -55,7 +46,7 @@ impl ResourceAccess<'_> {
         let mut visible_prefix = self
             .frontier
             .visible_prefix(self.new_node, Line::Host, self.access);
-        for run in touches.others.overlapping(low, high) {
+        for run in touches.writes.overlapping(low, high) {
             if !self.is_among(run.value.write, visible_prefix) {
                 visible_prefix = self.visible_prefix_for(run.value, visible_prefix);
                 if self.misses_write(run.start, run.end, run.value.write, visible_prefix) {
@@ -80,19 +71,25 @@ impl ResourceAccess<'_> {
         }
     }
 
-    /// Whether each last write, and the last transition, is none or by one of the nodes all of whose
-    /// writes are seen. It says so of a write by a command alone.
-    #[inline(always)]
-    fn are_among(&self, last: &OtherTouches, visible_prefix: VisiblePrefix) -> bool
-        requires { AreSeen self.now visible_prefix }
-        ensures { result ≡ true → (is_cached : Bool) (k : ℕ) → Misses is_cached self.now k false (without_host_read last.now) }
+    /// Whether of some byte of a range the last write by the host or the last transition isn't seen.
+    fn misses_some_other(&self, touches: &TouchMap, low: u64, high: u64, is_cached: bool) -> bool
+        requires order { low ≤ high }
+        requires within { high ≤ length touches.now }
+        requires numbers { HaveNumbers self.now.bytes high }
+        ensures { FoundAt (MissesOther is_cached self.now) result touches.now low high }
     {
-        last.host_write.is_none()
-            && last.transition.is_none()
-            && self.is_among(last.write, visible_prefix)
+        let visible_prefix = self
+            .frontier
+            .visible_prefix(self.new_node, Line::Host, self.access);
+        for run in touches.others.overlapping(low, high) {
+            if self.misses_other(run.start, run.end, run.value, is_cached, visible_prefix) {
+                return true;
+            }
+        }
+        false
     }
 
-    /// Whether there is no such write, or it is by one of the nodes all of whose writes are seen.
+    /// Whether there is no last write, or it is by one of the nodes all of whose writes are seen.
     #[inline(always)]
     fn is_among(&self, last: Option<Spot>, visible_prefix: VisiblePrefix) -> bool
         requires { AreSeen self.now visible_prefix }
@@ -107,11 +104,7 @@ impl ResourceAccess<'_> {
     /// The first nodes of a line as far as all their writes are seen: of the line of the last write by
     /// a command, where there is one. Most other writes are on the same line.
     #[inline(always)]
-    fn visible_prefix_for(
-        &self,
-        last: &OtherTouches,
-        visible_prefix: VisiblePrefix,
-    ) -> VisiblePrefix
+    fn visible_prefix_for(&self, last: &LastWrite, visible_prefix: VisiblePrefix) -> VisiblePrefix
         requires { AreSeen self.now visible_prefix }
         ensures { AreSeen self.now result }
     {
@@ -124,9 +117,9 @@ impl ResourceAccess<'_> {
         }
     }
 
-    /// Whether of some byte from `low` on and below `high` the last write by a command or by the
-    /// host or the last transition, which are the same for all of them, isn't seen.
-    fn misses(
+    /// Whether of some byte from `low` on and below `high` the last write by the host or the last
+    /// transition, which are the same for all of them, isn't seen.
+    fn misses_other(
         &self,
         low: u64,
         high: u64,
@@ -136,10 +129,9 @@ impl ResourceAccess<'_> {
     ) -> bool
         requires numbers { HaveNumbers self.now.bytes high }
         requires visible_prefix { AreSeen self.now visible_prefix }
-        ensures { SomeBetween (λ k r. Misses is_cached self.now k r (without_host_read last.now)) result low high }
+        ensures { SomeBetween (λ k r. MissesOther is_cached self.now k r (without_host_read last.now)) result low high }
     {
-        self.misses_write(low, high, last.write, visible_prefix)
-            || self.misses_host_write(low, high, last, is_cached, visible_prefix)
+        self.misses_host_write(low, high, last, is_cached, visible_prefix)
             || self.misses_write(low, high, last.transition, visible_prefix)
     }
 
@@ -186,12 +178,12 @@ impl ResourceAccess<'_> {
 
     /// Whether the last write by a command is there and is seen, and up to where, and at most to
     /// `high`, this is so.
-    pub(crate) fn sees_until(&self, low: u64, high: u64, last: &OtherTouches) -> SeenUntil
+    pub(crate) fn sees_until(&self, low: u64, high: u64, last: &LastWrite) -> SeenUntil
         requires order { low < high }
         requires numbers { HaveNumbers self.now.bytes high }
         ensures further { low < result.end }
         ensures within { result.end ≤ high }
-        ensures seen { (k : ℕ) → low ≤ k → k < result.end → SeesWrite self.now k result.is_seen (without_host_read last.now) }
+        ensures seen { (k : ℕ) → low ≤ k → k < result.end → SeesWrite self.now k result.is_seen (with_write_alone last.now) }
     {
         match last.write {
             Some(write) => self.sees_write_until(low, high, write),
@@ -227,7 +219,8 @@ impl ResourceAccess<'_> {
         }
     }
 
-    /// The same of one write.
+    /// Whether of some byte from `low` on and below `high` a write, which is the same for all of them,
+    /// isn't seen.
     fn misses_write(
         &self,
         low: u64,

@@ -8,8 +8,8 @@ ghost use Rattle.vk_touches.specs.TouchedRanges.{AreInvalidated, invalidating, s
 
 use crate::accesses::ResourceAccess;
 use crate::map::TouchMap;
-use crate::others::OtherTouches;
 use crate::parts::Part;
+use crate::writes::LastWrite;
 use std::alloc::AllocError;
 use vk_model::Length;
 use vk_ranges::RangeMap;
@@ -49,17 +49,17 @@ fn invalidate_next(
     ensures len { length touches.new ≡ length touches.old }
     ensures next { IfOk result (λ end. AreInvalidated (SeesWrite by.now) touches.old touches.new low end × (end ≤ high)) }
 {
-    let (last, end) = next_run(&touches.others, low, high);
+    let (last, end) = next_run(&touches.writes, low, high);
     let seen = by.sees_until(low, end, &last);
     touches
-        .others
+        .writes
         .assign(low, seen.end, last.invalidated(seen.is_seen))?;
     Ok(seen.end)
 }
 
-/// What the bytes from `low` on and below an end, which is at most `high`, all remember but for the
-/// last reads by the host, and that end.
-fn next_run(touches: &RangeMap<OtherTouches>, low: u64, high: u64) -> (OtherTouches, u64)
+/// What the bytes from `low` on and below an end, which is at most `high`, all remember of writes by
+/// commands, and that end.
+fn next_run(touches: &RangeMap<LastWrite>, low: u64, high: u64) -> (LastWrite, u64)
     requires order { low < high }
     requires within { high ≤ length touches.now }
     ensures further { low < result.1 }

@@ -17,6 +17,7 @@ mod parts;
 mod ranges;
 mod touches;
 mod transitions;
+mod writes;
 
 pub use accesses::ResourceAccess;
 pub use bytes::Bytes;

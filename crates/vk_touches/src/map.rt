@@ -4,6 +4,7 @@ ghost use Rattle.vk_touches.specs.Remembered.{untouched};
 
 use crate::early::{has_early_read, is_early};
 use crate::others::OtherTouches;
+use crate::writes::LastWrite;
 use std::alloc::{AllocError, Global};
 use std::marker::Model;
 use vk_order::NewNode;
@@ -11,25 +12,27 @@ use vk_ranges::RangeMap;
 
 /// What each byte of a resource remembers. Contracts see the list of it.
 ///
-/// The last reads by the host are runs of their own, so that a read of many bytes by the host, which
-/// remember different writes, is one run.
+/// The last writes by commands are runs of their own, as they often differ where nothing else does,
+/// and so are the last reads by the host, so that a read of many bytes by the host, which remember
+/// different writes, is one run.
 #[derive(Drop)]
 pub struct TouchMap {
+    pub(crate) writes: RangeMap<LastWrite>,
     pub(crate) host_reads: RangeMap<Option<usize>>,
     pub(crate) others: RangeMap<OtherTouches>,
 }
 
 impl Model for TouchMap {
-    ghost use Rattle.std.specs.Prelude.{List, ◌≡◌, length};
+    ghost use Rattle.std.specs.Prelude.{List};
     ghost use Rattle.vk_touches.specs.declared.touches.LastTouches.{LastTouches};
 
     ghost Value = { List LastTouches };
 
-    ghost use Rattle.vk_touches.specs.TouchMaps.{all_remembered};
+    ghost use Rattle.vk_touches.specs.TouchMaps.{all_remembered, HaveOneLength};
 
-    ghost view = { λ m. all_remembered m.others m.host_reads };
+    ghost view = { λ m. all_remembered m.writes m.others m.host_reads };
 
-    ghost invariant = { λ m. length m.others ≡ length m.host_reads };
+    ghost invariant = { λ m. HaveOneLength m.writes m.others m.host_reads };
 }
 
 impl TouchMap {
@@ -40,6 +43,7 @@ impl TouchMap {
             → slice_get map index ≡ Some untouched) }
     {
         Ok(TouchMap {
+            writes: RangeMap::new(alloc, len, LastWrite::none())?,
             host_reads: RangeMap::new(alloc, len, None)?,
             others: RangeMap::new(alloc, len, OtherTouches::none())?,
         })
@@ -90,9 +94,9 @@ impl TouchMap {
         requires within { high ≤ length self.now }
         ensures { FoundIn (λ r t. r ≡ (is_some t.write && not t.is_invalidated)) result self.now low high }
     {
-        self.others
-            .find(low, high, |others| {
-                others.write.is_some() && !others.is_invalidated
+        self.writes
+            .find(low, high, |last| {
+                last.write.is_some() && !last.is_invalidated
             })
             .is_some()
     }

@@ -6,13 +6,9 @@ use crate::touches::{QueueReads, Spot, Touch};
 use std::alloc::AllocError;
 use vk_ranges::RangeValue;
 
-/// What a byte remembers but for the last read by the host.
+/// What a byte remembers but for the last read by the host and writes by commands.
 #[derive(Clone, Copy)]
 pub(crate) struct OtherTouches {
-    /// The last command that wrote it.
-    pub(crate) write: Option<Spot>,
-    /// Whether the last invalidation of it sees that command's write.
-    pub(crate) is_invalidated: bool,
     /// The last host entry that wrote it.
     pub(crate) host_write: Option<Spot>,
     /// The first host entry that flushed it since then.
@@ -29,8 +25,6 @@ impl OtherTouches {
         ensures { result ≡ others_of remembered.untouched }
     {
         OtherTouches {
-            write: None,
-            is_invalidated: false,
             host_write: None,
             flush: None,
             transition: None,
@@ -48,17 +42,12 @@ impl OtherTouches {
         ensures { result ≡ others_of (remembered.with_touch (without_host_read self) touch spot) }
     {
         match touch {
-            Touch::Write => OtherTouches {
-                write: Some(spot),
-                is_invalidated: false,
-                ..self
-            },
             Touch::HostWrite => OtherTouches {
                 host_write: Some(spot),
                 flush: None,
                 ..self
             },
-            Touch::HostRead => self,
+            Touch::Write | Touch::HostRead => self,
             Touch::Read(queue) => OtherTouches {
                 reads: self.reads.with(queue, spot.place),
                 ..self
@@ -85,16 +74,6 @@ impl OtherTouches {
             ..self
         }
     }
-
-    /// After a host entry has invalidated the byte, which sees the last write by a command or not.
-    pub(crate) fn invalidated(self, is_invalidated: bool) -> OtherTouches
-        ensures { result ≡ others_of (remembered.with_invalidation (without_host_read self) is_invalidated) }
-    {
-        OtherTouches {
-            is_invalidated,
-            ..self
-        }
-    }
 }
 
 impl RangeValue for OtherTouches {
@@ -103,12 +82,6 @@ impl RangeValue for OtherTouches {
     }
 
     fn is_same(&self, other: &OtherTouches) -> bool {
-        if !self.write.is_same(&other.write) {
-            return false;
-        }
-        if self.is_invalidated != other.is_invalidated {
-            return false;
-        }
         if !self.host_write.is_same(&other.host_write) || !self.flush.is_same(&other.flush) {
             return false;
         }

@@ -7,6 +7,7 @@ ghost use Rattle.vk_touches.specs.TouchedRanges.{touching, flushing, transitioni
 use crate::map::TouchMap;
 use crate::parts::Part;
 use crate::touches::{Spot, Touch};
+use crate::writes::LastWrite;
 use std::alloc::AllocError;
 use vk_model::{BufferCopy, Length};
 
@@ -23,6 +24,9 @@ pub fn touch(
 {
     let part = Part::of(offset, 0, size, touches.len());
     match way {
+        Touch::Write => touches
+            .writes
+            .assign(part.low, part.high, LastWrite::by(spot)),
         Touch::HostRead => touches
             .host_reads
             .assign(part.low, part.high, Some(spot.place)),

@@ -1,11 +1,9 @@
 ghost use Rattle.std.specs.Prelude.{◌<◌, ◌≤◌, ℕ, length, not};
 ghost use Rattle.vk_touches.specs.Bytes.{HaveNumbers};
-ghost use Rattle.vk_touches.specs.Conflicts.{FoundAt, IsRefused, MissesAt, SaysSeenAt, SomeBetween};
-ghost use Rattle.vk_touches.specs.TouchMaps.{without_host_read};
+ghost use Rattle.vk_touches.specs.Conflicts.{FoundAt, IsRefused, MissesAt, MissesTransitionAt, MissesWriteAt, SaysSeenAt, SomeBetween};
 
 use crate::bytes::Bytes;
 use crate::map::TouchMap;
-use crate::others::OtherTouches;
 use crate::touches::Spot;
 use vk_order::{Frontier, Part};
 
@@ -30,24 +28,42 @@ impl TransitionAccess<'_> {
         requires numbers { HaveNumbers self.now.bytes high }
         ensures { FoundAt (MissesAt self.now) result touches.now low high }
     {
-        for run in touches.others.overlapping(low, high) {
-            if self.misses(run.start, run.end, run.value) {
+        self.misses_some_write(touches, low, high)
+            || self.misses_some_transition(touches, low, high)
+    }
+
+    /// The same of the last writes by commands alone.
+    fn misses_some_write(&self, touches: &TouchMap, low: u64, high: u64) -> bool
+        requires order { low ≤ high }
+        requires within { high ≤ length touches.now }
+        requires numbers { HaveNumbers self.now.bytes high }
+        ensures { FoundAt (MissesWriteAt self.now) result touches.now low high }
+    {
+        for run in touches.writes.overlapping(low, high) {
+            if self.misses_write(run.start, run.end, run.value.write) {
                 return true;
             }
         }
         false
     }
 
-    /// Whether of some byte from `low` on and below `high` the last write by a command or the last
-    /// transition, which are the same for all of them, isn't seen.
-    fn misses(&self, low: u64, high: u64, last: &OtherTouches) -> bool
-        requires { HaveNumbers self.now.bytes high }
-        ensures { SomeBetween (λ k r. MissesAt self.now k r (without_host_read last.now)) result low high }
+    /// The same of the last transitions alone.
+    fn misses_some_transition(&self, touches: &TouchMap, low: u64, high: u64) -> bool
+        requires order { low ≤ high }
+        requires within { high ≤ length touches.now }
+        requires numbers { HaveNumbers self.now.bytes high }
+        ensures { FoundAt (MissesTransitionAt self.now) result touches.now low high }
     {
-        self.misses_write(low, high, last.write) || self.misses_write(low, high, last.transition)
+        for run in touches.others.overlapping(low, high) {
+            if self.misses_write(run.start, run.end, run.value.transition) {
+                return true;
+            }
+        }
+        false
     }
 
-    /// The same of one write.
+    /// Whether of some byte from `low` on and below `high` a write, which is the same for all of them,
+    /// isn't seen.
     fn misses_write(&self, low: u64, high: u64, last: Option<Spot>) -> bool
         requires { HaveNumbers self.now.bytes high }
         ensures { SomeBetween (λ k r. IsRefused (SaysSeenAt self.now k) r last) result low high }

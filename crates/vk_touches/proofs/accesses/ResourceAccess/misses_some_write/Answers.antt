@@ -1,28 +1,29 @@
 use Rattle.std.proofs.Common.{arith, rules, refl, ◌≡◌, true, false}
 use Rattle.vk_touches.specs.Conflicts.{MissesWrite}
 use Rattle.vk_touches.proofs.ByteUnits.{fewer_numbers}
-use Rattle.vk_touches.proofs.TouchMaps.{others_len, others_start, others_within, others_next, others_found, others_end}
+use Rattle.vk_touches.proofs.Searches.{walk_within, walk_next, walk_found, walk_end}
+use Rattle.vk_touches.proofs.TouchMaps.{writes_len, writes_start}
 use Rattle.vk_touches.proofs.accesses.ResourceAccess.misses_some_write.Goals as goal
 
 pub overlapping-run-items-requires-clause-within : goal.overlapping-run-items-requires-clause-within
-overlapping-run-items-requires-clause-within c = omega (arith, others_len c.touches.inside.others c.touches.inside.host_reads c.args.touches.now c.touches.invariant c.touches.view_is)
+overlapping-run-items-requires-clause-within c = omega (arith, writes_len c.touches.invariant c.touches.view_is)
 
 pub loop-run-init : goal.loop-run-init
-loop-run-init c = record { searched = others_start (MissesWrite c.args.self.now) c.args.touches.now c.args.low c.args.high c.touches.inside.others c.touches.inside.host_reads c.touches.invariant c.touches.view_is _ (rw c.into_iter-run-iterator.ensures.into_iter_gives c.overlapping-run-items.ensures); visible_prefix = c.visible_prefix-visible_prefix.ensures }
+loop-run-init c = record { searched = writes_start c.touches.invariant c.touches.view_is (MissesWrite c.args.self.now) (λ k r w t m. m) (rw c.into_iter-run-iterator.ensures.into_iter_gives c.overlapping-run-items.ensures); visible_prefix = c.visible_prefix-visible_prefix.ensures }
 
 pub misses_write-requires-clause-numbers : goal.misses_write-requires-clause-numbers
-misses_write-requires-clause-numbers c = fewer_numbers c.args.self.now.bytes _ c.args.high (others_within (MissesWrite c.args.self.now) c.args.touches.now c.args.low c.args.high _ c.loop-run.invariant.searched _ _ c.in-Some.ensures.steps) c.requires.numbers
+misses_write-requires-clause-numbers c = fewer_numbers c.args.self.now.bytes _ c.args.high (walk_within c.loop-run.invariant.searched c.in-Some.ensures.steps).1 c.requires.numbers
 
 pub loop-run-preserved-else-misses_write : goal.loop-run-preserved-else-misses_write
-loop-run-preserved-else-misses_write c = record { searched = others_next (MissesWrite c.args.self.now) c.args.touches.now c.args.low c.args.high _ c.loop-run.invariant.searched _ _ c.in-Some.ensures.steps _ c.misses_write.ensures c.if-misses_write.false; visible_prefix = c.visible_prefix_for-visible_prefix.ensures }
+loop-run-preserved-else-misses_write c = record { searched = walk_next c.loop-run.invariant.searched c.in-Some.ensures.steps _ c.misses_write.ensures c.if-misses_write.false; visible_prefix = c.visible_prefix_for-visible_prefix.ensures }
 
 pub loop-run-preserved : goal.loop-run-preserved
 loop-run-preserved c =
     let is : c.is_among.result ≡ true = search rules in
-    record { searched = others_next (MissesWrite c.args.self.now) c.args.touches.now c.args.low c.args.high _ c.loop-run.invariant.searched _ _ c.in-Some.ensures.steps false (λ k from to. c.is_among.ensures is k) refl; visible_prefix = c.loop-run.invariant.visible_prefix }
+    record { searched = walk_next c.loop-run.invariant.searched c.in-Some.ensures.steps false (λ k from to. c.is_among.ensures is k) refl; visible_prefix = c.loop-run.invariant.visible_prefix }
 
 pub returns-then-misses_write : goal.returns-then-misses_write
-returns-then-misses_write c = others_found (MissesWrite c.args.self.now) c.args.touches.now c.args.low c.args.high _ c.loop-run.invariant.searched _ _ c.in-Some.ensures.steps _ c.misses_write.ensures (λ k r t h m. m) c.if-misses_write.true
+returns-then-misses_write c = walk_found c.loop-run.invariant.searched c.in-Some.ensures.steps _ c.misses_write.ensures c.if-misses_write.true
 
 pub returns : goal.returns
-returns c = others_end (MissesWrite c.args.self.now) c.args.touches.now c.args.low c.args.high _ c.loop-run.invariant.searched (λ k r t h m. m) c.in-None.ensures.steps.0
+returns c = walk_end c.loop-run.invariant.searched c.in-None.ensures.steps.0

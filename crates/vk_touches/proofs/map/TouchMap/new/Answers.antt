@@ -1,13 +1,11 @@
-use Rattle.std.proofs.Common.{◌∙◌, sym, ap, Some, None}
-use Rattle.vk_touches.specs.TouchMaps.{with_host_read}
-use Rattle.vk_touches.specs.declared.others.OtherTouches.{OtherTouches}
-use Rattle.vk_touches.proofs.TouchMaps.{both_at, remembered_len}
+use Rattle.std.proofs.Common.{◌∙◌, sym, refl, None}
+use Rattle.vk_touches.proofs.TouchMaps.{all_at, remembered_len}
 use Rattle.vk_touches.proofs.map.TouchMap.new.Goals as goal
 
 pub returns-clause-len : goal.returns-clause-len
-returns-clause-len c = remembered_len c.in_ok-new-2.field-0 c.in_ok-new.field-0 (c.in_ok-new-2.ensures.len ∙ sym c.in_ok-new.ensures.len) ∙ c.in_ok-new-2.ensures.len
+returns-clause-len c = remembered_len (record { writes = c.in_ok-new.ensures.len ∙ sym c.in_ok-new-3.ensures.len; reads = c.in_ok-new-3.ensures.len ∙ sym c.in_ok-new-2.ensures.len }) ∙ c.in_ok-new.ensures.len
 
 pub returns-clause-values : goal.returns-clause-values
 returns-clause-values c = λ k lt.
-    both_at c.in_ok-new-2.field-0 c.in_ok-new.field-0 k c.none.result None (c.in_ok-new-2.ensures.values k lt) (c.in_ok-new.ensures.values k lt)
-    ∙ ap (λ (t : OtherTouches). Some (with_host_read t None)) c.none.ensures
+    all_at c.in_ok-new.field-0 c.in_ok-new-3.field-0 c.in_ok-new-2.field-0 k c.none.result c.none-2.result None (c.in_ok-new.ensures.values k lt) (c.in_ok-new-3.ensures.values k lt) (c.in_ok-new-2.ensures.values k lt)
+    ∙ rw (c.none.ensures, c.none-2.ensures) refl

@@ -1,23 +1,10 @@
-use Rattle.std.proofs.Common.{arith}
-use Rattle.vk_touches.specs.Conflicts.{MissesAt}
-use Rattle.vk_touches.proofs.ByteUnits.{fewer_numbers}
-use Rattle.vk_touches.proofs.TouchMaps.{others_len, others_start, others_within, others_next, others_found, others_end, missed_at_alike}
+use Rattle.std.proofs.Common.{inr}
+use Rattle.vk_touches.specs.Conflicts.{MissesAt, MissesTransitionAt, MissesWriteAt}
+use Rattle.vk_touches.proofs.Searches.{found_either}
 use Rattle.vk_touches.proofs.transitions.TransitionAccess.misses_some.Goals as goal
 
-pub overlapping-run-items-requires-clause-within : goal.overlapping-run-items-requires-clause-within
-overlapping-run-items-requires-clause-within c = omega (arith, others_len c.touches.inside.others c.touches.inside.host_reads c.args.touches.now c.touches.invariant c.touches.view_is)
-
-pub loop-run-init : goal.loop-run-init
-loop-run-init c = others_start (MissesAt c.args.self.now) c.args.touches.now c.args.low c.args.high c.touches.inside.others c.touches.inside.host_reads c.touches.invariant c.touches.view_is _ (rw c.into_iter-run-iterator.ensures.into_iter_gives c.overlapping-run-items.ensures)
-
-pub misses-requires : goal.misses-requires
-misses-requires c = fewer_numbers c.args.self.now.bytes _ c.args.high (others_within (MissesAt c.args.self.now) c.args.touches.now c.args.low c.args.high _ c.loop-run.invariant _ _ c.in-Some.ensures.steps) c.requires.numbers
-
-pub loop-run-preserved : goal.loop-run-preserved
-loop-run-preserved c = others_next (MissesAt c.args.self.now) c.args.touches.now c.args.low c.args.high _ c.loop-run.invariant _ _ c.in-Some.ensures.steps _ c.misses.ensures c.if-misses.false
-
-pub returns-then-misses : goal.returns-then-misses
-returns-then-misses c = others_found (MissesAt c.args.self.now) c.args.touches.now c.args.low c.args.high _ c.loop-run.invariant _ _ c.in-Some.ensures.steps _ c.misses.ensures (missed_at_alike c.args.self.now) c.if-misses.true
-
-pub returns : goal.returns
-returns c = others_end (MissesAt c.args.self.now) c.args.touches.now c.args.low c.args.high _ c.loop-run.invariant (missed_at_alike c.args.self.now) c.in-None.ensures.steps.0
+pub returns-else-misses_some_write : goal.returns-else-misses_some_write
+returns-else-misses_some_write c =
+    let x = c.args.self.now in
+    found_either (MissesWriteAt x) (MissesTransitionAt x) (MissesAt x) (λ k t m. inr m) (λ k t m n. (m, n)) c.args.touches.now c.args.low c.args.high
+    c.misses_some_write.result c.if-misses_some_write.false c.misses_some_write.ensures c.misses_some_transition.result c.misses_some_transition.ensures
