@@ -198,7 +198,8 @@ fn barrier_of(alloc: Global, tokens: &mut Tokens<'_>) -> Reading<Cmd>
     let buffers = first::<Sequence<BufferElement>>(alloc, tokens)?;
     let images = first::<Sequence<ImageElement>>(alloc, tokens)?;
     tokens.end()?;
-    let mut elements = Vec::new(alloc);
+    let count = memory.len().saturating_add(buffers.len());
+    let mut elements = Vec::with_capacity(alloc, count.saturating_add(images.len()))?;
     push_memory(&mut elements, memory.as_slice())?;
     push_buffers(&mut elements, buffers.as_slice())?;
     push_images(&mut elements, images.as_slice())?;

@@ -1,4 +1,4 @@
-ghost use Rattle.std.specs.Prelude.{◌≡◌, Option, Some, OnOk, bytes_eq};
+ghost use Rattle.std.specs.Prelude.{◌≡◌, ◌++◌, ◌∷◌, [], Option, Some, OnOk, bytes_eq};
 ghost use Rattle.serde_json.specs.Data.{Data};
 ghost use Rattle.vk_trace.specs.Members.{first_member, word_and_members, each_member, list_of, bytes_value, u64_value, u32_value};
 ghost use Rattle.vk_trace.specs.Inner.Gives.{Gives};
@@ -7,7 +7,7 @@ ghost use Rattle.vk_trace.specs.Inner.Ahead.{next, after, ahead, whole};
 use crate::errors::ReadTraceError;
 use crate::tokens::{Reading, Tokens};
 use hex::FromHexError;
-use std::alloc::Global;
+use std::alloc::{AllocError, Global};
 use vk_model::Sequence;
 
 /// A type whose values are written in a trace as a value of JSON.
@@ -85,9 +85,21 @@ fn each<T: Member>(alloc: Global, tokens: &mut Tokens<'_>) -> Reading<Vec<T>>
 {
     let mut list = Vec::new(alloc);
     'members: while !tokens.take_end() {
-        list.push(T::member(alloc, tokens)?)?;
+        push_member(&mut list, T::member(alloc, tokens)?)?;
     }
     Ok(list)
+}
+
+/// Adds a member to a list. Most lists have one, and take memory for no more then.
+#[inline(always)]
+fn push_member<T: Drop>(list: &mut Vec<T>, member: T) -> Result<(), AllocError>
+    ensures { OnOk result (list.new.items ≡ list.old.items ++ member ∷ []) }
+{
+    if list.is_empty() {
+        list.reserve_exact(1)?;
+    }
+    list.push(member)?;
+    Ok(())
 }
 
 impl<T: Member> Member for Sequence<T> {

@@ -36,7 +36,7 @@ members-preserved g c =
     let one = taken now left c.in_ok-member.ensures.rest in
     let split : ahead l.tokens ≡ next now ∷ ahead left = ap ahead (sym going.0) ∙ one.ahead_is in
     record {
-      value = rw c.in_ok-push.ensures.items (goes_on means l.list.items (next now) (ahead left) c.in_ok-member.field-0 (each_member means (ahead c.args.tokens.now)) c.in_ok-member.ensures.value
+      value = rw c.in_ok-push_member.ensures (goes_on means l.list.items (next now) (ahead left) c.in_ok-member.field-0 (each_member means (ahead c.args.tokens.now)) c.in_ok-member.ensures.value
           (ap (λ (ds : List Data). with_front l.list.items (each_member means ds)) (sym split) ∙ l.invariant.value));
       rest = sym one.whole_is ∙ ap whole going.0 ∙ l.invariant.rest;
     }
