@@ -1,5 +1,7 @@
 -- Runs in chunks: where an end is, and what a change of one chunk does to all runs.
 use Rattle.std.proofs.Common.{◌≡◌, ◌<◌, ◌≤◌, ◌+◌, ◌-◌, ◌^◌, ◌⊎◌, ℕ, zero, suc, List, [], ◌∷◌, ◌++◌, length, drop, set, get_or, refl, sym, ap, ◌∙◌, subst, inl, inr, arith, append_assoc}
+use Rattle.std.specs.Ordering.{nat_cmp}
+use Rattle.std.specs.BTreeMap.{insert_entry}
 use Rattle.std.specs.List.{insert, remove}
 use Rattle.std.proofs.lemmas.Bool.{cases_lt}
 use Rattle.std.proofs.lemmas.List.{get_or_default}
@@ -7,7 +9,7 @@ use Rattle.vk_ranges.specs.declared.chunk.Chunk.{Chunk}
 use Rattle.vk_ranges.specs.Runs.{after}
 use Rattle.vk_ranges.specs.Inner.Chunks.{AreRising, AreChunks, IsChunkOf, IsHalved, joined}
 use Rattle.vk_ranges.proofs.TilingLemmas.{after_here, after_later}
-use Rattle.vk_ranges.proofs.RisingLemmas.{IsLocal, rising_le, rising_from, rising_append, rising_below}
+use Rattle.vk_ranges.proofs.RisingLemmas.{IsLocal, local_both, rising_le, rising_from, rising_append, rising_below}
 
 module _ {T : Type 0} where
   pub chunks_rising : (low : ℕ) (chunks : List (Chunk T)) → AreChunks low chunks → AreRising low (2 ^ 64) (joined chunks)
@@ -63,6 +65,12 @@ module _ {T : Type 0} where
       ])
       (λ d. let same : chunk.last ≡ (get_or chunks at d).last = ap (λ (x : Chunk T). x.last) (found ∙ get_or_default chunks at chunk d lt) in omega arith)
 
+  -- a later end of the same chunk
+  pub chunk_later : (first last at : ℕ) (chunks : List (Chunk T)) (chunk : Chunk T) → IsChunkOf first at chunks → first ≤ last → chunk ≡ get_or chunks at chunk → last ≤ chunk.last → IsChunkOf last at chunks
+  chunk_later first last at [] chunk is le found to = absurd is
+  chunk_later first last zero (x ∷ chunks) chunk is le found to = let same : chunk.last ≡ x.last = ap (λ (y : Chunk T). y.last) found in omega arith
+  chunk_later first last (suc at) (x ∷ chunks) chunk is le found to = let below = is.0 in ((omega arith), chunk_later first last at chunks chunk is.1 le found to)
+
   -- one chunk of them
   pub chunk_rising : (low at : ℕ) (chunks : List (Chunk T)) (chunk : Chunk T) → AreChunks low chunks → at < length chunks → chunk ≡ get_or chunks at chunk → (from : ℕ) × (to : ℕ) × AreRising from to chunk.runs.items
   chunk_rising low at [] chunk c lt found = absurd (omega arith)
@@ -101,29 +109,39 @@ module _ {T : Type 0} where
 
   -- ---- a chunk with other runs
 
-  module _ (end : ℕ) (change : List (ℕ × T) → List (ℕ × T)) (local : IsLocal end change) where
-    pub changed_joined : (low at : ℕ) (chunks : List (Chunk T)) (old new : Chunk T) → AreChunks low chunks → IsChunkOf end at chunks → old ≡ get_or chunks at old → new.runs.items ≡ change old.runs.items
+  module _ (first last : ℕ) (change : List (ℕ × T) → List (ℕ × T)) (local : IsLocal first last change) where
+    pub changed_joined : (low at : ℕ) (chunks : List (Chunk T)) (old new : Chunk T) → AreChunks low chunks → IsChunkOf first at chunks → IsChunkOf last at chunks → old ≡ get_or chunks at old → new.runs.items ≡ change old.runs.items
         → joined (set chunks at new) ≡ change (joined chunks)
-    changed_joined low at [] old new c is found made = absurd is
-    changed_joined low zero (chunk ∷ chunks) old new c is found made =
+    changed_joined low at [] old new c is ends found made = absurd is
+    changed_joined low zero (chunk ∷ chunks) old new c is ends found made =
         ap (λ (xs : List (ℕ × T)). xs ++ joined chunks) (made ∙ ap (λ (x : Chunk T). change x.runs.items) found)
-        ∙ sym (local.back (2 ^ 64) chunk.runs.items (joined chunks) (rising_from (chunk.last + 1) (end + 1) (2 ^ 64) (joined chunks) (omega arith) (chunks_rising (chunk.last + 1) chunks c.1)))
-    changed_joined low (suc at) (chunk ∷ chunks) old new c is found made =
+        ∙ sym (local.back (2 ^ 64) chunk.runs.items (joined chunks) (rising_from (chunk.last + 1) (last + 1) (2 ^ 64) (joined chunks) (omega arith) (chunks_rising (chunk.last + 1) chunks c.1)))
+    changed_joined low (suc at) (chunk ∷ chunks) old new c is ends found made =
         let below = is.0 in
-        ap (λ (xs : List (ℕ × T)). chunk.runs.items ++ xs) (changed_joined (chunk.last + 1) at chunks old new c.1 is.1 found made)
-        ∙ sym (local.front chunk.runs.items (joined chunks) (rising_below low (chunk.last + 1) end chunk.runs.items c.0 (omega arith)))
+        ap (λ (xs : List (ℕ × T)). chunk.runs.items ++ xs) (changed_joined (chunk.last + 1) at chunks old new c.1 is.1 ends.1 found made)
+        ∙ sym (local.front chunk.runs.items (joined chunks) (rising_below low (chunk.last + 1) first chunk.runs.items c.0 (omega arith)))
 
-    pub changed_chunks : (low at : ℕ) (chunks : List (Chunk T)) (old new : Chunk T) → AreChunks low chunks → low ≤ end → IsChunkOf end at chunks → old ≡ get_or chunks at old → new.last ≡ old.last
+    pub changed_chunks : (low at : ℕ) (chunks : List (Chunk T)) (old new : Chunk T) → AreChunks low chunks → low ≤ first → IsChunkOf first at chunks → IsChunkOf last at chunks → old ≡ get_or chunks at old → new.last ≡ old.last
         → new.runs.items ≡ change old.runs.items → AreChunks low (set chunks at new)
-    changed_chunks low at [] old new c le is found last made = absurd is
-    changed_chunks low zero (chunk ∷ chunks) old new c le is found last made =
-        let to : end < chunk.last + 1 = omega arith in
-        let same_last : new.last ≡ chunk.last = last ∙ ap (λ (x : Chunk T). x.last) found in
+    changed_chunks low at [] old new c le is ends found last_is made = absurd is
+    changed_chunks low zero (chunk ∷ chunks) old new c le is ends found last_is made =
+        let to : last < chunk.last + 1 = omega arith in
+        let same_last : new.last ≡ chunk.last = last_is ∙ ap (λ (x : Chunk T). x.last) found in
         let same_runs : new.runs.items ≡ change chunk.runs.items = made ∙ ap (λ (x : Chunk T). change x.runs.items) found in
         rw (same_last, same_runs) (local.rising low (chunk.last + 1) chunk.runs.items c.0 le to, c.1)
-    changed_chunks low (suc at) (chunk ∷ chunks) old new c le is found last made =
+    changed_chunks low (suc at) (chunk ∷ chunks) old new c le is ends found last_is made =
         let below = is.0 in
-        (c.0, changed_chunks (chunk.last + 1) at chunks old new c.1 (omega arith) is.1 found last made)
+        (c.0, changed_chunks (chunk.last + 1) at chunks old new c.1 (omega arith) is.1 ends.1 found last_is made)
+
+  pub inserted_both : (low high : ℕ × T) (at : ℕ) (chunks : List (Chunk T)) (seen old new : Chunk T) → AreChunks 0 chunks → IsChunkOf low.0 at chunks → low.0 < high.0 → seen ≡ get_or chunks at seen → high.0 ≤ seen.last → old ≡ get_or chunks at old → new.last ≡ old.last
+      → new.runs.items ≡ insert_entry nat_cmp (insert_entry nat_cmp old.runs.items high.0 high.1) low.0 low.1
+      → AreChunks 0 (set chunks at new) × (joined (set chunks at new) ≡ insert_entry nat_cmp (insert_entry nat_cmp (joined chunks) high.0 high.1) low.0 low.1)
+  inserted_both low high at chunks seen old new c is lt saw to found last made =
+      let both = λ (runs : List (ℕ × T)). insert_entry nat_cmp (insert_entry nat_cmp runs high.0 high.1) low.0 low.1 in
+      let ends = chunk_later low.0 high.0 at chunks seen is (omega arith) saw to in (
+        changed_chunks low.0 high.0 both (local_both low high lt) 0 at chunks old new c (omega arith) is ends found last made,
+        changed_joined low.0 high.0 both (local_both low high lt) 0 at chunks old new c is ends found made,
+      )
 
   -- ---- a chunk with the same runs
 

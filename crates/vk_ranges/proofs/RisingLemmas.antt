@@ -1,5 +1,5 @@
 -- Runs whose ends rise, and what a change of one end does to them.
-use Rattle.std.proofs.Common.{◌≡◌, ◌≢◌, ◌<◌, ◌≤◌, ◌+◌, ℕ, zero, suc, List, [], ◌∷◌, ◌++◌, length, drop, set, get_or, refl, sym, ap, ◌∙◌, inl, inr, arith}
+use Rattle.std.proofs.Common.{◌≡◌, ◌≢◌, ◌<◌, ◌≤◌, ◌+◌, ℕ, zero, suc, List, [], ◌∷◌, ◌++◌, length, take, drop, set, get_or, refl, sym, ap, ◌∙◌, inl, inr, arith}
 use Rattle.std.specs.Ordering.{nat_cmp}
 use Rattle.std.specs.Map.{remove_entry, set_value}
 use Rattle.std.specs.BTreeMap.{insert_entry, is_at}
@@ -8,10 +8,10 @@ use Rattle.std.specs.List.Sorted.{IsNonDecreasingBy}
 use Rattle.std.proofs.lemmas.Bool.{cases_order}
 use Rattle.std.proofs.lemmas.List.{get_or_default}
 use Rattle.vk_ranges.specs.Runs.{after}
-use Rattle.vk_ranges.specs.Inner.Chunks.{AreRising, IsPlaceOf}
+use Rattle.vk_ranges.specs.Inner.Chunks.{AreRising, IsGapOf, IsPlaceOf}
 use Rattle.vk_ranges.proofs.TilingLemmas.{after_here, after_later}
 use Rattle.vk_ranges.proofs.OrderLemmas.{less, same, more}
-use Rattle.vk_ranges.proofs.EdgeLemmas.{Below}
+use Rattle.vk_ranges.proofs.EdgeLemmas.{Below, below_weaker}
 
 module _ {T : Type 0} where
   pub rising_le : (low high : ℕ) (runs : List (ℕ × T)) → AreRising low high runs → low ≤ high
@@ -42,13 +42,22 @@ module _ {T : Type 0} where
   rising_sorted low high (run ∷ runs) r (suc i) zero d le lt = absurd (omega arith)
   rising_sorted low high (run ∷ runs) r (suc i) (suc j) d le lt = rising_sorted (run.0 + 1) high runs r.1 i j d (omega arith) (omega arith)
 
-  -- ---- a change of one end
+  -- ---- a change of the ends in a range
 
-  -- What a change of one end does: nothing to the runs below it, nothing to those above it, and the ends still rise.
-  pub record IsLocal (end : ℕ) (change : List (ℕ × T) → List (ℕ × T)) : Type 0 where
-    pub front : (xs ys : List (ℕ × T)) → Below end xs → change (xs ++ ys) ≡ xs ++ change ys
-    pub back : (high : ℕ) (xs ys : List (ℕ × T)) → AreRising (end + 1) high ys → change (xs ++ ys) ≡ change xs ++ ys
-    pub rising : (low high : ℕ) (runs : List (ℕ × T)) → AreRising low high runs → low ≤ end → end < high → AreRising low high (change runs)
+  -- What a change of the ends from one to another does: nothing to the runs below them, nothing to those above them, and the ends still rise.
+  pub record IsLocal (first last : ℕ) (change : List (ℕ × T) → List (ℕ × T)) : Type 0 where
+    pub front : (xs ys : List (ℕ × T)) → Below first xs → change (xs ++ ys) ≡ xs ++ change ys
+    pub back : (high : ℕ) (xs ys : List (ℕ × T)) → AreRising (last + 1) high ys → change (xs ++ ys) ≡ change xs ++ ys
+    pub rising : (low high : ℕ) (runs : List (ℕ × T)) → AreRising low high runs → low ≤ first → last < high → AreRising low high (change runs)
+
+  -- one change after another
+  local_then : (first last : ℕ) (f g : List (ℕ × T) → List (ℕ × T)) → first ≤ last → IsLocal first first f → IsLocal last last g → IsLocal first last (λ runs. f (g runs))
+  local_then first last f g le before after =
+      record {
+        front = λ xs ys below. ap f (after.front xs ys (below_weaker first last xs le below)) ∙ before.front xs (g ys) below;
+        back = λ high xs ys r. ap f (after.back high xs ys r) ∙ before.back high (g xs) ys (rising_from (last + 1) (first + 1) high ys (omega arith) r);
+        rising = λ low high runs r from to. before.rising low high (g runs) (after.rising low high runs r (omega arith) to) from (omega arith);
+      }
 
   module _ (end : ℕ) (value : T) where
     insert_front : (xs ys : List (ℕ × T)) → Below end xs → insert_entry nat_cmp (xs ++ ys) end value ≡ xs ++ insert_entry nat_cmp ys end value
@@ -74,7 +83,7 @@ module _ {T : Type 0} where
           | inr (inr above) ↦ rw (more end run.0 above) (r.0, insert_rising (run.0 + 1) high runs r.1 (omega arith) to)
         ]
 
-    pub local_insert : IsLocal end (λ runs. insert_entry nat_cmp runs end value)
+    pub local_insert : IsLocal end end (λ runs. insert_entry nat_cmp runs end value)
     local_insert = record { front = insert_front; back = insert_back; rising = insert_rising }
 
     set_none : (high : ℕ) (runs : List (ℕ × T)) → AreRising (end + 1) high runs → set_value (is_at (nat_cmp end)) runs value ≡ runs
@@ -105,8 +114,12 @@ module _ {T : Type 0} where
           | inr (inr above) ↦ rw (more end run.0 above) (r.0, set_rising (run.0 + 1) high runs r.1)
         ]
 
-    pub local_set : IsLocal end (λ runs. set_value (is_at (nat_cmp end)) runs value)
+    pub local_set : IsLocal end end (λ runs. set_value (is_at (nat_cmp end)) runs value)
     local_set = record { front = set_front; back = set_back; rising = λ low high runs r from to. set_rising low high runs r }
+
+  pub local_both : (low high : ℕ × T) → low.0 < high.0 → IsLocal low.0 high.0 (λ runs. insert_entry nat_cmp (insert_entry nat_cmp runs high.0 high.1) low.0 low.1)
+  local_both low high lt =
+      local_then low.0 high.0 (λ runs. insert_entry nat_cmp runs low.0 low.1) (λ runs. insert_entry nat_cmp runs high.0 high.1) (omega arith) (local_insert low.0 low.1) (local_insert high.0 high.1)
 
   module _ (end : ℕ) where
     remove_none : (high : ℕ) (runs : List (ℕ × T)) → AreRising (end + 1) high runs → remove_entry (is_at (nat_cmp end)) runs ≡ runs
@@ -138,7 +151,7 @@ module _ {T : Type 0} where
           | inr (inr above) ↦ rw (more end run.0 above) (r.0, remove_rising (run.0 + 1) high runs r.1)
         ]
 
-    pub local_remove : IsLocal end (λ runs. remove_entry (is_at (nat_cmp end)) runs)
+    pub local_remove : IsLocal end end (λ runs. remove_entry (is_at (nat_cmp end)) runs)
     local_remove = record { front = remove_front; back = remove_back; rising = λ low high runs r from to. remove_rising low high runs r }
 
   -- ---- a change at a place
@@ -210,6 +223,31 @@ module _ {T : Type 0} where
   insert_missing end zero (run ∷ runs) value is missing = let ne = missing run (omega arith) in rw (less end run.0 (omega arith)) refl
   insert_missing end (suc place) (run ∷ runs) value is missing =
       rw (more end run.0 is.0) (ap (λ (rest : List (ℕ × T)). run ∷ rest) (insert_missing end place runs value is.1 (missing_next end place run runs missing)))
+
+  -- ---- a gap for two new runs
+
+  pub gap_is : (low high place : ℕ) (runs : List (ℕ × T)) → IsPlaceOf low place runs → ((d : ℕ × T) → place < length runs → high < (get_or runs place d).0) → IsGapOf low high place runs
+  gap_is low high zero [] is above = tt
+  gap_is low high zero (run ∷ runs) is above = above run (omega arith)
+  gap_is low high (suc place) [] is above = absurd is
+  gap_is low high (suc place) (run ∷ runs) is above = (is.0, gap_is low high place runs is.1 (λ d lt. above d (omega arith)))
+
+  pub above_read : (high place : ℕ) (runs : List (ℕ × T)) (x : ℕ × T) → x ≡ get_or runs place x → high < x.0 → (d : ℕ × T) → place < length runs → high < (get_or runs place d).0
+  above_read high place runs x found above d lt = let same : x.0 ≡ (get_or runs place d).0 = ap (λ (run : ℕ × T). run.0) (found ∙ get_or_default runs place x d lt) in omega arith
+
+  pub gap_within : (low high place : ℕ) (runs : List (ℕ × T)) → IsGapOf low high place runs → place ≤ length runs
+  gap_within low high zero runs is = omega arith
+  gap_within low high (suc place) [] is = absurd is
+  gap_within low high (suc place) (run ∷ runs) is = let le = gap_within low high place runs is.1 in omega arith
+
+  pub insert_both : (place : ℕ) (low high : ℕ × T) (runs : List (ℕ × T)) → low.0 < high.0 → IsGapOf low.0 high.0 place runs
+      → take place runs ++ low ∷ high ∷ drop place runs ≡ insert_entry nat_cmp (insert_entry nat_cmp runs high.0 high.1) low.0 low.1
+  insert_both zero low high [] lt is = rw (less low.0 high.0 lt) refl
+  insert_both zero low high (run ∷ runs) lt is = rw (less high.0 run.0 is) (rw (less low.0 high.0 lt) refl)
+  insert_both (suc place) low high [] lt is = absurd is
+  insert_both (suc place) low high (run ∷ runs) lt is =
+      let below = is.0 in
+      rw (more high.0 run.0 (omega arith)) (rw (more low.0 run.0 below) (ap (λ (rest : List (ℕ × T)). run ∷ rest) (insert_both place low high runs lt is.1)))
 
   above_missing : (end low high : ℕ) (run : ℕ × T) (runs : List (ℕ × T)) → AreRising low high (run ∷ runs) → end ≤ run.0 → run.0 ≢ end → AreRising (end + 1) high (run ∷ runs)
   above_missing end low high run runs r le ne = ((omega arith), r.1)

@@ -1,11 +1,12 @@
-ghost use Rattle.std.specs.Prelude.{◌≡◌, ◌≤◌, ◌<◌, length, drop, IsTrue, OnOk, OnErr, IfOk};
+ghost use Rattle.std.specs.Prelude.{◌≡◌, ◌≤◌, ◌<◌, ◌∷◌, ◌++◌, [], length, take, drop, IsTrue, OnOk, OnErr, IfOk, IfSome};
 ghost use Rattle.std.specs.Ordering.{nat_cmp};
 ghost use Rattle.std.specs.Map.{remove_entry, set_value};
 ghost use Rattle.std.specs.BTreeMap.{is_at, insert_entry};
 ghost use Rattle.vk_ranges.specs.Runs.{after};
-ghost use Rattle.vk_ranges.specs.Inner.Chunks.{AreSorted, IsHalved, IsPlaceOf};
+ghost use Rattle.vk_ranges.specs.Inner.Chunks.{AreSorted, IsGapOf, IsHalved, IsPlaceOf};
 
 use std::alloc::AllocError;
+use std::mem::replace;
 
 /// Runs that follow each other, in one block of memory.
 #[derive(Drop)]
@@ -45,6 +46,28 @@ pub(crate) fn rest_after<T>(runs: &[(u64, T)], index: u64) -> &[(u64, T)]
     &runs[count..]
 }
 
+/// Puts two runs in front of those from a place on, and gives the last two, which have no place
+/// left.
+fn shift_from<T>(
+    runs: &mut [(u64, T)],
+    place: usize,
+    low: (u64, T),
+    high: (u64, T),
+) -> ((u64, T), (u64, T))
+    requires { place ≤ length runs.old }
+    ensures len { length runs.new ≡ length runs.old }
+    ensures runs { runs.new ++ result.0 ∷ result.1 ∷ [] ≡ take place runs.old ++ low ∷ high ∷ drop place runs.old }
+{
+    let mut first = low;
+    let mut second = high;
+    for at in place..runs.len() {
+        let shifted = replace(&mut runs[at], first);
+        first = second;
+        second = shifted;
+    }
+    (first, second)
+}
+
 impl<T: Drop> Chunk<T> {
     /// Whether a new run needs another chunk.
     pub(crate) fn is_full(&self) -> bool
@@ -66,6 +89,46 @@ impl<T: Drop> Chunk<T> {
             return Ok(());
         }
         self.runs.insert(place, (end, value))?;
+        Ok(())
+    }
+
+    /// How many of the runs end before `low`, where both ends are of this chunk, it takes two more
+    /// runs, and none of its own ends from `low` to `high`.
+    pub(crate) fn gap(&self, low: u64, high: u64) -> Option<usize>
+        requires { AreSorted self.now.runs.items }
+        ensures rising { IfSome result (λ place. low < high) }
+        ensures within { IfSome result (λ place. high ≤ self.now.last) }
+        ensures gap { IfSome result (λ place. IsGapOf low high place self.now.runs.items) }
+    {
+        if low >= high || high > self.last || self.runs.len() + 1 >= FULL {
+            return None;
+        }
+        let place = count_before(&self.runs, low);
+        if place < self.runs.len() && self.runs[place].0 <= high {
+            return None;
+        }
+        Some(place)
+    }
+
+    /// Puts two new runs in their place, which no run lies in, at the cost of one move of the runs
+    /// after it. An error leaves the runs as they were.
+    pub(crate) fn insert_both(
+        &mut self,
+        place: usize,
+        low: (u64, T),
+        high: (u64, T),
+    ) -> Result<(), AllocError>
+        requires rising { low.0 < high.0 }
+        requires gap { IsGapOf low.0 high.0 place self.old.runs.items }
+        ensures last { self.new.last ≡ self.old.last }
+        ensures ok { OnOk result (self.new.runs.items
+            ≡ insert_entry nat_cmp (insert_entry nat_cmp self.old.runs.items high.0 high.1) low.0 low.1) }
+        ensures err { OnErr result (self.new.runs.items ≡ self.old.runs.items) }
+    {
+        self.runs.reserve(2)?;
+        let (first, second) = shift_from(&mut self.runs, place, low, high);
+        self.runs.push(first)?;
+        self.runs.push(second)?;
         Ok(())
     }
 

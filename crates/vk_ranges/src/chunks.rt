@@ -76,6 +76,57 @@ pub(crate) fn insert_run<T: Drop>(
     }
 }
 
+/// Gives two indices the values, as `insert_run` does, where a run that is new at the second one
+/// can be taken back. An error, for want of memory, leaves the runs as they were.
+pub(crate) fn insert_both<T: Drop>(
+    chunks: &mut Vec<Chunk<T>>,
+    later: usize,
+    low: (u64, T),
+    high: (u64, T),
+) -> Result<(), AllocError>
+    requires chunks { AreChunks 0 chunks.old.items }
+    requires undone { remove_entry (is_at (nat_cmp high.0)) (insert_entry nat_cmp (joined chunks.old.items) high.0 high.1)
+        ≡ joined chunks.old.items }
+    ensures chunks { AreChunks 0 chunks.new.items }
+    ensures ok { OnOk result (joined chunks.new.items
+        ≡ insert_entry nat_cmp (insert_entry nat_cmp (joined chunks.old.items) high.0 high.1) low.0 low.1) }
+    ensures err { OnErr result (joined chunks.new.items ≡ joined chunks.old.items) }
+{
+    let at = chunk_at(chunks, later, low.0);
+    let Some(place) = chunks[at].gap(low.0, high.0) else {
+        return insert_each(chunks, later, low, high);
+    };
+    match chunks[at].insert_both(place, low, high) {
+        Ok(()) => Ok(()),
+        Err(error) => Err(error),
+    }
+}
+
+/// Does the work of `insert_both` in two steps.
+fn insert_each<T: Drop>(
+    chunks: &mut Vec<Chunk<T>>,
+    later: usize,
+    low: (u64, T),
+    high: (u64, T),
+) -> Result<(), AllocError>
+    requires chunks { AreChunks 0 chunks.old.items }
+    requires undone { remove_entry (is_at (nat_cmp high.0)) (insert_entry nat_cmp (joined chunks.old.items) high.0 high.1)
+        ≡ joined chunks.old.items }
+    ensures chunks { AreChunks 0 chunks.new.items }
+    ensures ok { OnOk result (joined chunks.new.items
+        ≡ insert_entry nat_cmp (insert_entry nat_cmp (joined chunks.old.items) high.0 high.1) low.0 low.1) }
+    ensures err { OnErr result (joined chunks.new.items ≡ joined chunks.old.items) }
+{
+    let (high, high_value) = high;
+    let (low, low_value) = low;
+    insert_run(chunks, later, high, high_value)?;
+    if let Err(error) = insert_run(chunks, later, low, low_value) {
+        remove_run(chunks, later, high);
+        return Err(error);
+    }
+    Ok(())
+}
+
 /// The chunk that a run which ends at an index belongs to, with room for one more run.
 fn room_for<T: Drop>(
     chunks: &mut Vec<Chunk<T>>,

@@ -73,12 +73,20 @@ fn insert_and_change<T: RangeValue>(
     ensures ok { OnOk result (runs.new ≡ edged low at_low (insert_entry nat_cmp runs.old high value)) }
     ensures err { OnErr result (runs.new ≡ runs.old) }
 {
-    runs.insert(later, high, value)?;
-    if let Err(error) = change_edge(runs, later, low, at_low) {
-        runs.remove(later, high);
-        return Err(error);
+    match at_low {
+        Edge::Stays => runs.insert(later, high, value),
+        Edge::Goes => {
+            runs.insert(later, high, value)?;
+            runs.remove(later, low);
+            Ok(())
+        }
+        Edge::Becomes(low_value) => {
+            runs.insert(later, high, value)?;
+            runs.set(later, low, low_value);
+            Ok(())
+        }
+        Edge::New(low_value) => runs.insert_both(later, (low, low_value), (high, value)),
     }
-    Ok(())
 }
 
 /// Changes an edge. An error leaves the runs as they were.

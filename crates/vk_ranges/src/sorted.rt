@@ -6,7 +6,7 @@ ghost use Rattle.vk_ranges.specs.Runs.{after};
 
 use crate::after::RunsAfter;
 use crate::chunk::Chunk;
-use crate::chunks::{insert_run, remove_run, runs_after, set_run};
+use crate::chunks::{insert_both, insert_run, remove_run, runs_after, set_run};
 use std::alloc::{AllocError, Global};
 use std::marker::Model;
 
@@ -60,6 +60,22 @@ impl<T: Drop> SortedRuns<T> {
         ensures err { OnErr result (self.new ≡ self.old) }
     {
         insert_run(&mut self.chunks, later, end, value)
+    }
+
+    /// Gives two indices the values, as `insert` does, where a run that is new at the second one can
+    /// be taken back. An error, for want of memory, leaves the runs as they were.
+    pub(crate) fn insert_both(
+        &mut self,
+        later: usize,
+        low: (u64, T),
+        high: (u64, T),
+    ) -> Result<(), AllocError>
+        requires { remove_entry (is_at (nat_cmp high.0)) (insert_entry nat_cmp self.old high.0 high.1) ≡ self.old }
+        ensures ok { OnOk result (self.new
+            ≡ insert_entry nat_cmp (insert_entry nat_cmp self.old high.0 high.1) low.0 low.1) }
+        ensures err { OnErr result (self.new ≡ self.old) }
+    {
+        insert_both(&mut self.chunks, later, low, high)
     }
 
     /// Takes away the run that ends at an index, if there is one.

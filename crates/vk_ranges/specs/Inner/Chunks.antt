@@ -35,6 +35,13 @@ module _ {T : Type 0} where
   IsPlaceOf end (suc place) [] = ⊥
   IsPlaceOf end (suc place) (run ∷ runs) = (run.0 < end) × IsPlaceOf end place runs
 
+  -- That many runs end before `low`, and those after them after `high`. (profile)
+  abbrev pub IsGapOf : ℕ → ℕ → ℕ → List (ℕ × T) → Type 0
+  IsGapOf low high zero [] = Unit {0}
+  IsGapOf low high zero (run ∷ runs) = high < run.0
+  IsGapOf low high (suc place) [] = ⊥
+  IsGapOf low high (suc place) (run ∷ runs) = (run.0 < low) × IsGapOf low high place runs
+
   -- A chunk became two: it kept the first runs, and the others are in one after it. (profile)
   pub record IsHalved (old kept more : Chunk T) : Type 0 where
     pub whole : old.runs.items ≡ kept.runs.items ++ more.runs.items

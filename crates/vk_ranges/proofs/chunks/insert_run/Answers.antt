@@ -10,13 +10,13 @@ insert-requires g c = chunk_rising 0 c.in_ok-at.at c.room_for.new.chunks.items c
 
 pub returns-in-Ok-clause-chunks : goal.returns-in-Ok-clause-chunks
 returns-in-Ok-clause-chunks g c =
-    changed_chunks c.args.end (λ runs. insert_entry nat_cmp runs c.args.end c.args.value) (local_insert c.args.end c.args.value) 0 c.in_ok-at.at c.room_for.new.chunks.items c.index_mut.result.now c.insert.new.self
-    c.in_ok-at.ensures.chunks (omega arith) c.in_ok-at.ensures.first c.index_mut.ensures.value c.in-Ok.ensures.last c.in-Ok.ensures.ok
+    changed_chunks c.args.end c.args.end (λ runs. insert_entry nat_cmp runs c.args.end c.args.value) (local_insert c.args.end c.args.value) 0 c.in_ok-at.at c.room_for.new.chunks.items c.index_mut.result.now c.insert.new.self
+    c.in_ok-at.ensures.chunks (omega arith) c.in_ok-at.ensures.first c.in_ok-at.ensures.first c.index_mut.ensures.value c.in-Ok.ensures.last c.in-Ok.ensures.ok
 
 pub returns-in-Ok-clause-ok : goal.returns-in-Ok-clause-ok
 returns-in-Ok-clause-ok g c =
-    changed_joined c.args.end (λ runs. insert_entry nat_cmp runs c.args.end c.args.value) (local_insert c.args.end c.args.value) 0 c.in_ok-at.at c.room_for.new.chunks.items c.index_mut.result.now c.insert.new.self
-    c.in_ok-at.ensures.chunks c.in_ok-at.ensures.first c.index_mut.ensures.value c.in-Ok.ensures.ok
+    changed_joined c.args.end c.args.end (λ runs. insert_entry nat_cmp runs c.args.end c.args.value) (local_insert c.args.end c.args.value) 0 c.in_ok-at.at c.room_for.new.chunks.items c.index_mut.result.now c.insert.new.self
+    c.in_ok-at.ensures.chunks c.in_ok-at.ensures.first c.in_ok-at.ensures.first c.index_mut.ensures.value c.in-Ok.ensures.ok
     ∙ ap (λ (runs : List (ℕ × g.row.T.Denot)). insert_entry nat_cmp runs c.args.end c.args.value) c.in_ok-at.ensures.runs
 
 pub returns-in-Err-clause-chunks : goal.returns-in-Err-clause-chunks

@@ -18,12 +18,12 @@ pub returns-clause-chunks : goal.returns-clause-chunks
 returns-clause-chunks g c =
     let chunks = c.args.chunks.now.items in
     let first = subst (λ (xs : List (Chunk g.row.T.Denot)). IsChunkOf c.args.end c.chunk_at-at.result xs) c.deref.ensures.value c.chunk_at-at.ensures.first in
-    changed_chunks c.args.end (λ runs. set_value (is_at (nat_cmp c.args.end)) runs c.args.value) (local_set c.args.end c.args.value) 0 c.chunk_at-at.result chunks c.index_mut.result.now c.set.new.self
-    c.requires (omega arith) first c.index_mut.ensures.value c.set.ensures.last c.set.ensures.runs
+    changed_chunks c.args.end c.args.end (λ runs. set_value (is_at (nat_cmp c.args.end)) runs c.args.value) (local_set c.args.end c.args.value) 0 c.chunk_at-at.result chunks c.index_mut.result.now c.set.new.self
+    c.requires (omega arith) first first c.index_mut.ensures.value c.set.ensures.last c.set.ensures.runs
 
 pub returns-clause-runs : goal.returns-clause-runs
 returns-clause-runs g c =
     let chunks = c.args.chunks.now.items in
     let first = subst (λ (xs : List (Chunk g.row.T.Denot)). IsChunkOf c.args.end c.chunk_at-at.result xs) c.deref.ensures.value c.chunk_at-at.ensures.first in
-    changed_joined c.args.end (λ runs. set_value (is_at (nat_cmp c.args.end)) runs c.args.value) (local_set c.args.end c.args.value) 0 c.chunk_at-at.result chunks c.index_mut.result.now c.set.new.self
-    c.requires first c.index_mut.ensures.value c.set.ensures.runs
+    changed_joined c.args.end c.args.end (λ runs. set_value (is_at (nat_cmp c.args.end)) runs c.args.value) (local_set c.args.end c.args.value) 0 c.chunk_at-at.result chunks c.index_mut.result.now c.set.new.self
+    c.requires first first c.index_mut.ensures.value c.set.ensures.runs
