@@ -196,3 +196,28 @@ module _ {T : Type 0} where
       let last : more.last ≡ x.last = halved.last ∙ ap (λ (y : Chunk T). y.last) found in
       (both.0, (subst (λ (n : ℕ). AreRising (kept.last + 1) (n + 1) more.runs.items) (sym halved.last) both.1, subst (λ (n : ℕ). AreChunks (n + 1) chunks) (sym last) c.1))
   halved_chunks low (suc at) (x ∷ chunks) old kept more c lt found halved = (c.0, halved_chunks (x.last + 1) at chunks old kept more c.1 (omega arith) found halved)
+
+  pub halved_either : (end at : ℕ) (chunks : List (Chunk T)) (old kept more : Chunk T) → IsChunkOf end at chunks → old ≡ get_or chunks at old → IsHalved old kept more
+      → IsChunkOf end at (with_more chunks at kept more) ⊎ IsChunkOf end (suc at) (with_more chunks at kept more)
+  halved_either end at [] old kept more is found halved = absurd is
+  halved_either end zero (x ∷ chunks) old kept more is found halved =
+      let last : more.last ≡ x.last = halved.last ∙ ap (λ (y : Chunk T). y.last) found in
+      elim (cases_lt kept.last end) [
+        | inl after ↦ inr (after, omega arith)
+        | inr here ↦ inl here
+      ]
+  halved_either end (suc at) (x ∷ chunks) old kept more is found halved =
+      elim (halved_either end at chunks old kept more is.1 found halved) [
+        | inl here ↦ inl (is.0, here)
+        | inr after ↦ inr (is.0, after)
+      ]
+
+  pub chunk_to : (end at : ℕ) (chunks : List (Chunk T)) (chunk : Chunk T) → IsChunkOf end at chunks → chunk ≡ get_or chunks at chunk → end ≤ chunk.last
+  chunk_to end at [] chunk is found = absurd is
+  chunk_to end zero (x ∷ chunks) chunk is found = let same : chunk.last ≡ x.last = ap (λ (y : Chunk T). y.last) found in omega arith
+  chunk_to end (suc at) (x ∷ chunks) chunk is found = chunk_to end at chunks chunk is.1 found
+
+  pub chunk_past : (end at : ℕ) (chunks : List (Chunk T)) (chunk : Chunk T) → IsChunkOf end (suc at) chunks → chunk ≡ get_or chunks at chunk → chunk.last < end
+  chunk_past end at [] chunk is found = absurd is
+  chunk_past end zero (x ∷ chunks) chunk is found = let same : chunk.last ≡ x.last = ap (λ (y : Chunk T). y.last) found in let below = is.0 in omega arith
+  chunk_past end (suc at) (x ∷ chunks) chunk is found = chunk_past end at chunks chunk is.1 found

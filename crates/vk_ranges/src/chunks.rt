@@ -1,4 +1,4 @@
-ghost use Rattle.std.specs.Prelude.{◌≡◌, ◌<◌, length, slice_index_or, IsTrue, OnOk, OnErr, IfOk};
+ghost use Rattle.std.specs.Prelude.{◌≡◌, ◌<◌, ◌+◌, ◌⊎◌, ℕ, length, slice_index_or, IsTrue, OnOk, OnErr, IfOk};
 ghost use Rattle.std.specs.Ordering.{nat_cmp};
 ghost use Rattle.std.specs.Map.{remove_entry, set_value};
 ghost use Rattle.std.specs.BTreeMap.{is_at, insert_entry};
@@ -144,7 +144,10 @@ fn room_for<T: Drop>(
         return Ok(at);
     }
     split(chunks, at)?;
-    Ok(chunk_of(chunks, end))
+    if end <= chunks[at].last {
+        return Ok(at);
+    }
+    Ok(at + 1)
 }
 
 /// Makes two chunks of one. An error leaves them as they were.
@@ -154,6 +157,9 @@ fn split<T: Drop>(chunks: &mut Vec<Chunk<T>>, at: usize) -> Result<(), AllocErro
     requires some { (d : Chunk T) → 1 < length (slice_index_or chunks.old.items at d).runs.items }
     ensures chunks { AreChunks 0 chunks.new.items }
     ensures runs { joined chunks.new.items ≡ joined chunks.old.items }
+    ensures within { OnOk result (at + 1 < length chunks.new.items) }
+    ensures either { OnOk result ((end : ℕ) → IsChunkOf end at chunks.old.items
+        → IsChunkOf end at chunks.new.items ⊎ IsChunkOf end (at + 1) chunks.new.items) }
 {
     chunks.reserve(1)?;
     let more = chunks[at].halve()?;
