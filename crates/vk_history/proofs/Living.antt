@@ -1,3 +1,4 @@
+pub mod Changing
 pub mod Counting
 pub mod LiveIds
 pub mod Mappings

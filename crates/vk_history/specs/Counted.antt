@@ -1,7 +1,6 @@
 -- What is counted by ids: mappings, the live resources of memory objects and pools, and defragmentations.
 use Rattle.std.specs.Prelude.{◌≡◌, ℕ, ◌+◌, ◌-◌, List, [], ◌∷◌, Bool, ◌==◌, if◌then◌else◌, Option, Some, None, option_map, option_and_then, unwrap_or, count_by}
-use Rattle.std.specs.Ordering.{nat_cmp}
-use Rattle.std.specs.BTreeMap.{get}
+use Rattle.vk_ids.specs.Ids.{value_of}
 use Rattle.vk_model.specs.declared.entry.Entry.{Entry}
 use Rattle.vk_model.specs.declared.entry.Entry.TheVariants as entry
 use Rattle.vk_model.specs.declared.resource.Place.{Place}
@@ -19,7 +18,7 @@ use Rattle.vk_history.specs.declared.occupants.Occupants.{Occupants}
 
 -- How many a table has for an id.
 abbrev pub count_at : Counts → ℕ → ℕ
-count_at counts i = unwrap_or (get nat_cmp counts.counts i) 0
+count_at counts i = unwrap_or (value_of counts.counts i) 0
 
 -- ---- mappings
 

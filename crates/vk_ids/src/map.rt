@@ -1,6 +1,8 @@
 ghost use Rattle.std.specs.Prelude.{◌≡◌, ◌<◌, ◌≤◌, ◌==◌, ℕ, length, Some, None, IfOk, OnOk, if◌then◌else◌};
-ghost use Rattle.std.specs.Option.{option_copied};
+ghost use Rattle.std.specs.Borrow.{sem};
+ghost use Rattle.std.specs.Option.{option_copied, option_copied_mut};
 ghost use Rattle.vk_ids.specs.Ids.{value_of};
+ghost use Rattle.vk_ids.specs.Lent.{lends_at};
 
 use std::alloc::{AllocError, Global};
 use std::collections::BTreeMap;
@@ -41,6 +43,19 @@ impl<T: Drop> IdMap<T> {
         match self.low.as_slice().get(id as usize) {
             Some(value) => value.as_ref(),
             None => self.high.get(&id),
+        }
+    }
+
+    /// The value of an id, to change.
+    pub fn get_mut(&mut self, id: u32) -> Option<&mut T>
+        ensures* writes_back { sem 𝓛 (lends_at T.row self.entry id result) }
+        ensures value { option_copied_mut result ≡ value_of self.old id }
+    {
+        let place = id as usize;
+        if place < self.low.len() {
+            self.low[place].as_mut()
+        } else {
+            self.high.get_mut(&id)
         }
     }
 
