@@ -1,4 +1,5 @@
 pub mod Times
+pub mod Keeping
 pub mod Lasts
 pub mod Waiting
 pub mod Busy

@@ -1,8 +1,7 @@
 -- Which resources submitted commands use: how often those that still wait name each, and where the last nodes that name it are.
 use Rattle.std.specs.Prelude.{◌≡◌, ◌⊎◌, ◌≤◌, ◌==◌, ℕ, List, [], Bool, true, false, IsTrue, Contains, length, nat_lt, count_by, Some, None, if◌then◌else◌}
 use Rattle.std.specs.List.{flat_map, sum_by}
-use Rattle.std.specs.Ordering.{nat_cmp}
-use Rattle.std.specs.BTreeMap.{get}
+use Rattle.vk_ids.specs.Ids.{value_of}
 use Rattle.vk_model.specs.declared.command.Cmd.{Cmd}
 use Rattle.vk_model.specs.declared.command.Element.{Element}
 use Rattle.vk_model.specs.declared.entry.Batch.{Batch}
@@ -61,7 +60,7 @@ names_it r m = among r (named_by_act m.act)
 
 -- The uses that are kept of a resource.
 abbrev pub uses_in : LastUses → ℕ → List LastUse
-uses_in uses r = elim (get nat_cmp uses.uses r) [ None ↦ [] | Some kept ↦ kept.items ]
+uses_in uses r = elim (value_of uses.uses r) [ None ↦ [] | Some kept ↦ kept.items ]
 
 -- What is kept of a resource: each is where a node that names it is, and no node that names it is later on its line than what is kept of the line.
 pub record AreLast (kept : List LastUse) (ns : List Node) (r : ℕ) : Type 0 where

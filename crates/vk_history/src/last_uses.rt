@@ -17,7 +17,7 @@ ghost use Rattle.vk_history.specs.Uses.{uses_in, AreLast, IsKeptNow, AreKeptNow,
 use crate::elements::is_memory_alone;
 use crate::used::{Used, named_by, used_by};
 use std::alloc::{AllocError, Global};
-use std::collections::BTreeMap;
+use vk_ids::IdMap;
 use vk_model::{Cmd, Element};
 use vk_order::{Act, Frontier, Line, NewNode, Point};
 
@@ -91,7 +91,7 @@ impl ElementCounts {
 #[derive(Drop)]
 pub struct LastUses {
     alloc: Global,
-    uses: BTreeMap<u32, Vec<LastUse>>,
+    uses: IdMap<Vec<LastUse>>,
 }
 
 impl LastUses {
@@ -101,7 +101,7 @@ impl LastUses {
     {
         LastUses {
             alloc,
-            uses: BTreeMap::new(alloc),
+            uses: IdMap::new(alloc),
         }
     }
 
@@ -110,7 +110,7 @@ impl LastUses {
         ensures { (ns : List Node) (n : Node) → IsNewNode ns n new_node.now → AreLast (uses_in self.now resource) ns resource
             → result ≡ list_any (λ m. names_it resource m && not (before (n ∷ ns) m n)) ns }
     {
-        match self.uses.get(&resource) {
+        match self.uses.get(resource) {
             Some(kept) => is_some_left(kept.as_slice(), new_node),
             None => false,
         }
@@ -195,12 +195,12 @@ impl LastUses {
     fn keep(&mut self, id: u32, last: LastUse) -> Result<(), AllocError>
         ensures { OnOk result (AreKeptNow self.old self.new (id ∷ []) last) }
     {
-        match self.uses.get_mut(&id) {
+        match self.uses.get_mut(id) {
             Some(kept) => keep_in(kept, last),
             None => {
                 let mut kept = Vec::new(self.alloc);
                 kept.push(last)?;
-                self.uses.insert(id, kept)?;
+                self.uses.put(id, kept)?;
                 Ok(())
             }
         }
