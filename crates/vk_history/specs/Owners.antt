@@ -1,8 +1,7 @@
 -- Who owns each resource, and where its last release is.
 use Rattle.std.specs.Prelude.{◌≡◌, ℕ, List, ◌&&◌, Bool, true, false, Option, Some, None, option_map, if◌then◌else◌}
 use Rattle.std.specs.List.{find}
-use Rattle.std.specs.Ordering.{nat_cmp}
-use Rattle.std.specs.BTreeMap.{get}
+use Rattle.vk_ids.specs.Ids.{value_of}
 use Rattle.vk_model.specs.declared.command.Element.{Element}
 use Rattle.vk_model.specs.declared.command.Element.TheVariants as element
 use Rattle.vk_model.specs.declared.command.Families.{Families}
@@ -33,7 +32,7 @@ kept_of (owned.Family f) = record { owner = world.Family f; release = None }
 kept_of (owned.Released r) = record { owner = world.Released r.family r.element.now; release = Some r.spot }
 
 abbrev pub kept_at : Owners → ℕ → Option Kept
-kept_at owners r = option_map kept_of (get nat_cmp owners.owned r)
+kept_at owners r = option_map kept_of (value_of owners.owned r)
 
 -- The owner; nobody is where nothing is kept.
 abbrev pub owner_now : Option Kept → world.Owner

@@ -22,7 +22,7 @@ use crate::last_uses::ElementCounts;
 use crate::objects::Objects;
 use crate::used::{Used, used_by};
 use std::alloc::{AllocError, Global};
-use std::collections::BTreeMap;
+use vk_ids::IdMap;
 use vk_layouts::Transfer;
 use vk_model::{Cmd, Element};
 use vk_order::{Act, Action, Frontier, Line, Point, Spot};
@@ -50,7 +50,7 @@ pub struct Release<'a> {
 /// Who owns each resource that was used, released or acquired.
 #[derive(Drop)]
 pub struct Owners<'a> {
-    owned: BTreeMap<u32, Owned<'a>>,
+    owned: IdMap<Owned<'a>>,
 }
 
 impl<'a> Owners<'a> {
@@ -59,7 +59,7 @@ impl<'a> Owners<'a> {
         ensures { AreOwners result [] }
     {
         Owners {
-            owned: BTreeMap::new(alloc),
+            owned: IdMap::new(alloc),
         }
     }
 
@@ -67,7 +67,7 @@ impl<'a> Owners<'a> {
     pub fn of(&self, resource: u32) -> Option<Owned<'a>>
         ensures { option_map owners.kept_of result ≡ kept_at self.now resource }
     {
-        self.owned.get(&resource).copied()
+        self.owned.get(resource).copied()
     }
 
     /// Takes the next point, by the objects so far and by how many nodes there are on each line.
@@ -236,7 +236,7 @@ impl<'a> Owners<'a> {
     fn set(&mut self, id: u32, owned: Owned<'a>) -> Result<(), AllocError>
         ensures { OnOk result ((other : ℕ) → kept_at self.new other ≡ (if other == id then Some (owners.kept_of owned.entry) else kept_at self.old other)) }
     {
-        self.owned.insert(id, owned)?;
+        self.owned.put(id, owned)?;
         Ok(())
     }
 }
