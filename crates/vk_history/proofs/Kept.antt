@@ -9,6 +9,7 @@ pub mod CacheSteps
 pub mod CopySteps
 pub mod ImageRanges
 pub mod Moving
+pub mod Becoming
 pub mod ImageSteps
 pub mod ImageCopies
 pub mod Barriers

@@ -2,8 +2,7 @@
 use Rattle.std.specs.Prelude.{◌≢◌, ◌*◌, ◌^◌, ◌≡◌, ◌≤◌, ◌<◌, ◌+◌, ◌-◌, ℕ, List, length, slice_get, Bool, true, false, not, ◌&&◌, ◌==◌, nat_le, nat_lt, if◌then◌else◌, Option, Some, None, is_some, is_none, unwrap_or, option_and_then, Contains}
 use Rattle.std.specs.Option.{option_map}
 use Rattle.std.specs.List.{list_any, find}
-use Rattle.std.specs.Ordering.{nat_cmp}
-use Rattle.std.specs.BTreeMap.{get}
+use Rattle.vk_ids.specs.Ids.{value_of}
 use Rattle.vk_model.specs.declared.command.BufferCopy.{BufferCopy}
 use Rattle.vk_model.specs.declared.command.Length.{Length}
 use Rattle.vk_model.specs.declared.command.SubresourceRange.{SubresourceRange}
@@ -199,14 +198,14 @@ IsLentWith gs ss q s old new = IsLent old new gs q s × AreCopied ss new.defined
 pub record AreCopiedNumbers (old new : Contents) (s d : ℕ) (gs : List BufferCopy) (q : ℕ) (t : Spot) : Type 0 where
   pub lent : Contents
   pub stretches : List Stretch
-  pub source : BecomesIn (IsLentWith gs stretches q t) (get nat_cmp old.resources s) (get nat_cmp lent.resources s)
-  pub source_alone : (other : ℕ) → other ≢ s → get nat_cmp lent.resources other ≡ get nat_cmp old.resources other
-  pub destination : BecomesIn (λ u v. IsPasted u v gs stretches (family_of q) t) (get nat_cmp lent.resources d) (get nat_cmp new.resources d)
-  pub destination_alone : (other : ℕ) → other ≢ d → get nat_cmp new.resources other ≡ get nat_cmp lent.resources other
+  pub source : BecomesIn (IsLentWith gs stretches q t) (value_of old.resources s) (value_of lent.resources s)
+  pub source_alone : (other : ℕ) → other ≢ s → value_of lent.resources other ≡ value_of old.resources other
+  pub destination : BecomesIn (λ u v. IsPasted u v gs stretches (family_of q) t) (value_of lent.resources d) (value_of new.resources d)
+  pub destination_alone : (other : ℕ) → other ≢ d → value_of new.resources other ≡ value_of lent.resources other
 
 -- The image that some contents are of, by which its bytes are numbered.
 abbrev pub image_kept : Contents → ℕ → Option ImageInfo
-image_kept contents i = option_and_then (λ c. c.image) (get nat_cmp contents.resources i)
+image_kept contents i = option_and_then (λ c. c.image) (value_of contents.resources i)
 
 -- ---- what it says of a past
 
@@ -291,7 +290,7 @@ AreContentsIn o past r = AreContentsInAt o past (world past) (touched past) r
 
 -- The contents of all resources, in a world.
 abbrev pub AreAllAt : Contents → Past → World → (Byte → LastTouches) → Type 0
-AreAllAt contents past w t = (r : ℕ) → AreContentsInAt (get nat_cmp contents.resources r) past w t r
+AreAllAt contents past w t = (r : ℕ) → AreContentsInAt (value_of contents.resources r) past w t r
 
 -- The contents of all resources.
 abbrev pub AreContents : Contents → Past → Type 0

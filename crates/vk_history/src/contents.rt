@@ -1,7 +1,6 @@
 ghost use Rattle.std.specs.Prelude.{◌≡◌, ◌≢◌, ◌∷◌, [], ℕ, OnOk, IfSome, IsSome, IsTrue, None, false, Some};
 ghost use Rattle.std.specs.Option.{option_map};
-ghost use Rattle.std.specs.Ordering.{nat_cmp};
-ghost use Rattle.std.specs.BTreeMap.{get};
+ghost use Rattle.vk_ids.specs.Ids.{value_of};
 ghost use Rattle.vk_model.specs.Trace.Point.{Past};
 ghost use Rattle.vk_model.specs.Rules.Sizes.{bad_image};
 ghost use Rattle.vk_model.specs.Rules.Table.{fault};
@@ -22,7 +21,7 @@ use crate::families::family_of;
 use crate::objects::Objects;
 use crate::resource_contents::{ResourceContents, write_all};
 use std::alloc::{AllocError, Global};
-use std::collections::BTreeMap;
+use vk_ids::IdMap;
 use vk_image_tiles::has_bad_shape;
 use vk_model::{BufferInfo, ImageInfo, Length, SubresourceRange};
 use vk_order::{Access, Frontier, NewNode, Point};
@@ -32,7 +31,7 @@ use vk_touches::{Bytes, ResourceAccess, Spot};
 #[derive(Drop)]
 pub struct Contents {
     pub(crate) alloc: Global,
-    pub(crate) resources: BTreeMap<u32, ResourceContents>,
+    pub(crate) resources: IdMap<ResourceContents>,
 }
 
 impl Contents {
@@ -42,15 +41,15 @@ impl Contents {
     {
         Contents {
             alloc,
-            resources: BTreeMap::new(alloc),
+            resources: IdMap::new(alloc),
         }
     }
 
     /// What is known of the bytes of a resource.
     pub fn of(&self, resource: u32) -> Option<&ResourceContents>
-        ensures { option_map (λ c. c.now) result ≡ get nat_cmp self.now.resources resource }
+        ensures { option_map (λ c. c.now) result ≡ value_of self.now.resources resource }
     {
-        self.resources.get(&resource)
+        self.resources.get(resource)
     }
 
     /// Takes the next point, whose node has this spot, by the objects after it and what is known of
@@ -102,12 +101,12 @@ impl Contents {
     }
 
     fn make(&mut self, buffer: u32, info: &BufferInfo, is_cached: bool) -> Result<(), AllocError>
-        ensures here { OnOk result (IfSome (get nat_cmp self.new.resources buffer) (λ contents. IsMade contents info.now.size info.now.sharing is_cached None)) }
-        ensures present { OnOk result (IsSome (get nat_cmp self.new.resources buffer)) }
-        ensures others { OnOk result ((other : ℕ) → other ≢ buffer → get nat_cmp self.new.resources other ≡ get nat_cmp self.old.resources other) }
+        ensures here { OnOk result (IfSome (value_of self.new.resources buffer) (λ contents. IsMade contents info.now.size info.now.sharing is_cached None)) }
+        ensures present { OnOk result (IsSome (value_of self.new.resources buffer)) }
+        ensures others { OnOk result ((other : ℕ) → other ≢ buffer → value_of self.new.resources other ≡ value_of self.old.resources other) }
     {
         let contents = ResourceContents::of_buffer(self.alloc, info, is_cached)?;
-        self.resources.insert(buffer, contents)?;
+        self.resources.put(buffer, contents)?;
         Ok(())
     }
 
@@ -118,33 +117,33 @@ impl Contents {
         info: &ImageInfo,
         is_cached: bool,
     ) -> Result<(), AllocError>
-        ensures here { OnOk result (bad_image info.now ≡ false → IfSome (get nat_cmp self.new.resources image) (λ contents. IsMade contents (byte_count info.now) info.now.sharing is_cached (Some info.now))) }
-        ensures present { OnOk result (bad_image info.now ≡ false → IsSome (get nat_cmp self.new.resources image)) }
-        ensures others { OnOk result ((other : ℕ) → other ≢ image → get nat_cmp self.new.resources other ≡ get nat_cmp self.old.resources other) }
+        ensures here { OnOk result (bad_image info.now ≡ false → IfSome (value_of self.new.resources image) (λ contents. IsMade contents (byte_count info.now) info.now.sharing is_cached (Some info.now))) }
+        ensures present { OnOk result (bad_image info.now ≡ false → IsSome (value_of self.new.resources image)) }
+        ensures others { OnOk result ((other : ℕ) → other ≢ image → value_of self.new.resources other ≡ value_of self.old.resources other) }
     {
         if has_bad_shape(info) {
             return Ok(());
         }
         let contents = ResourceContents::of_image(self.alloc, info, is_cached)?;
-        self.resources.insert(image, contents)?;
+        self.resources.put(image, contents)?;
         Ok(())
     }
 
     fn read(&mut self, buffer: u32, offset: u64, size: u64, spot: Spot) -> Result<(), AllocError>
-        ensures here { OnOk result (BecomesIn (λ old new. IsRead old new offset size spot) (get nat_cmp self.old.resources buffer) (get nat_cmp self.new.resources buffer)) }
-        ensures others { OnOk result ((other : ℕ) → other ≢ buffer → get nat_cmp self.new.resources other ≡ get nat_cmp self.old.resources other) }
+        ensures here { OnOk result (BecomesIn (λ old new. IsRead old new offset size spot) (value_of self.old.resources buffer) (value_of self.new.resources buffer)) }
+        ensures others { OnOk result ((other : ℕ) → other ≢ buffer → value_of self.new.resources other ≡ value_of self.old.resources other) }
     {
-        match self.resources.get_mut(&buffer) {
+        match self.resources.get_mut(buffer) {
             Some(contents) => contents.read(offset, size, spot),
             None => Ok(()),
         }
     }
 
     fn set(&mut self, buffer: u32, offset: u64, size: u64, spot: Spot) -> Result<(), AllocError>
-        ensures here { OnOk result (BecomesIn (λ old new. IsSet old new offset size spot) (get nat_cmp self.old.resources buffer) (get nat_cmp self.new.resources buffer)) }
-        ensures others { OnOk result ((other : ℕ) → other ≢ buffer → get nat_cmp self.new.resources other ≡ get nat_cmp self.old.resources other) }
+        ensures here { OnOk result (BecomesIn (λ old new. IsSet old new offset size spot) (value_of self.old.resources buffer) (value_of self.new.resources buffer)) }
+        ensures others { OnOk result ((other : ℕ) → other ≢ buffer → value_of self.new.resources other ≡ value_of self.old.resources other) }
     {
-        match self.resources.get_mut(&buffer) {
+        match self.resources.get_mut(buffer) {
             Some(contents) => contents.set(offset, size, spot),
             None => Ok(()),
         }
@@ -157,10 +156,10 @@ impl Contents {
         size: Length,
         spot: Spot,
     ) -> Result<(), AllocError>
-        ensures here { OnOk result (BecomesIn (λ old new. IsFlushed old new offset size spot) (get nat_cmp self.old.resources buffer) (get nat_cmp self.new.resources buffer)) }
-        ensures others { OnOk result ((other : ℕ) → other ≢ buffer → get nat_cmp self.new.resources other ≡ get nat_cmp self.old.resources other) }
+        ensures here { OnOk result (BecomesIn (λ old new. IsFlushed old new offset size spot) (value_of self.old.resources buffer) (value_of self.new.resources buffer)) }
+        ensures others { OnOk result ((other : ℕ) → other ≢ buffer → value_of self.new.resources other ≡ value_of self.old.resources other) }
     {
-        match self.resources.get_mut(&buffer) {
+        match self.resources.get_mut(buffer) {
             Some(contents) => contents.flush(offset, size, spot),
             None => Ok(()),
         }
@@ -175,10 +174,10 @@ impl Contents {
         by: &ResourceAccess<'_>,
     ) -> Result<(), AllocError>
         requires { by.now.bytes ≡ OfBuffer buffer }
-        ensures here { OnOk result (BecomesIn (λ old new. IsInvalidated (SeesWrite by.now) old new offset size) (get nat_cmp self.old.resources buffer) (get nat_cmp self.new.resources buffer)) }
-        ensures others { OnOk result ((other : ℕ) → other ≢ buffer → get nat_cmp self.new.resources other ≡ get nat_cmp self.old.resources other) }
+        ensures here { OnOk result (BecomesIn (λ old new. IsInvalidated (SeesWrite by.now) old new offset size) (value_of self.old.resources buffer) (value_of self.new.resources buffer)) }
+        ensures others { OnOk result ((other : ℕ) → other ≢ buffer → value_of self.new.resources other ≡ value_of self.old.resources other) }
     {
-        match self.resources.get_mut(&buffer) {
+        match self.resources.get_mut(buffer) {
             Some(contents) => contents.invalidate(offset, size, by),
             None => Ok(()),
         }
@@ -192,10 +191,10 @@ impl Contents {
         queue: u32,
         spot: Spot,
     ) -> Result<(), AllocError>
-        ensures here { OnOk result (BecomesIn (IsWrittenBy offset size queue spot) (get nat_cmp self.old.resources buffer) (get nat_cmp self.new.resources buffer)) }
-        ensures others { OnOk result ((other : ℕ) → other ≢ buffer → get nat_cmp self.new.resources other ≡ get nat_cmp self.old.resources other) }
+        ensures here { OnOk result (BecomesIn (IsWrittenBy offset size queue spot) (value_of self.old.resources buffer) (value_of self.new.resources buffer)) }
+        ensures others { OnOk result ((other : ℕ) → other ≢ buffer → value_of self.new.resources other ≡ value_of self.old.resources other) }
     {
-        match self.resources.get_mut(&buffer) {
+        match self.resources.get_mut(buffer) {
             Some(contents) => write_all(contents, offset, size, queue, spot),
             None => Ok(()),
         }
@@ -208,10 +207,10 @@ impl Contents {
         queue: u32,
         spot: Spot,
     ) -> Result<(), AllocError>
-        ensures here { OnOk result (BecomesIn (IsClearedBy ranges.now queue spot) (get nat_cmp self.old.resources image) (get nat_cmp self.new.resources image)) }
-        ensures others { OnOk result ((other : ℕ) → other ≢ image → get nat_cmp self.new.resources other ≡ get nat_cmp self.old.resources other) }
+        ensures here { OnOk result (BecomesIn (IsClearedBy ranges.now queue spot) (value_of self.old.resources image) (value_of self.new.resources image)) }
+        ensures others { OnOk result ((other : ℕ) → other ≢ image → value_of self.new.resources other ≡ value_of self.old.resources other) }
     {
-        match self.resources.get_mut(&image) {
+        match self.resources.get_mut(image) {
             Some(contents) => contents.clear(ranges, family_of(queue), spot),
             None => Ok(()),
         }

@@ -1,8 +1,7 @@
 ghost use Rattle.std.specs.Prelude.{◌≡◌, ◌≢◌, ◌<◌, ◌^◌, ℕ, OnOk, IfOk, Some};
 ghost use Rattle.std.specs.Option.{option_map};
 ghost use Rattle.std.specs.List.{flat_map};
-ghost use Rattle.std.specs.Ordering.{nat_cmp};
-ghost use Rattle.std.specs.BTreeMap.{get};
+ghost use Rattle.vk_ids.specs.Ids.{value_of};
 ghost use Rattle.vk_model.specs.declared.resource.ImageInfo.{ImageInfo as AnyImage};
 ghost use Rattle.vk_model.specs.World.Bytes.{in_buffer};
 ghost use Rattle.vk_model.specs.World.ByteWrites.{copy_in_writes, copy_out_writes, copy_image_writes};
@@ -88,7 +87,7 @@ impl Contents {
     pub(crate) fn image(&self, id: u32) -> Option<&ImageBytes>
         ensures { option_map (λ m. m.now) result ≡ image_kept self.now id }
     {
-        match self.resources.get(&id) {
+        match self.resources.get(id) {
             Some(contents) => contents.image.as_ref(),
             None => None,
         }
@@ -102,11 +101,11 @@ impl Contents {
         queue: u32,
         spot: Spot,
     ) -> Result<Vec<Stretch>, AllocError>
-        ensures here { IfOk result (λ stretches. BecomesIn (IsLentWith regions.now stretches.items queue spot) (get nat_cmp self.old.resources source) (get nat_cmp self.new.resources source)) }
-        ensures others { OnOk result ((other : ℕ) → other ≢ source → get nat_cmp self.new.resources other ≡ get nat_cmp self.old.resources other) }
+        ensures here { IfOk result (λ stretches. BecomesIn (IsLentWith regions.now stretches.items queue spot) (value_of self.old.resources source) (value_of self.new.resources source)) }
+        ensures others { OnOk result ((other : ℕ) → other ≢ source → value_of self.new.resources other ≡ value_of self.old.resources other) }
     {
         let alloc = self.alloc;
-        match self.resources.get_mut(&source) {
+        match self.resources.get_mut(source) {
             Some(contents) => lend_all(contents, alloc, regions, queue, spot),
             None => Ok(Vec::new(alloc)),
         }
@@ -121,10 +120,10 @@ impl Contents {
         queue: u32,
         spot: Spot,
     ) -> Result<(), AllocError>
-        ensures here { OnOk result (BecomesIn (λ old new. IsPasted old new regions.now stretches.items (family_of queue) spot) (get nat_cmp self.old.resources destination) (get nat_cmp self.new.resources destination)) }
-        ensures others { OnOk result ((other : ℕ) → other ≢ destination → get nat_cmp self.new.resources other ≡ get nat_cmp self.old.resources other) }
+        ensures here { OnOk result (BecomesIn (λ old new. IsPasted old new regions.now stretches.items (family_of queue) spot) (value_of self.old.resources destination) (value_of self.new.resources destination)) }
+        ensures others { OnOk result ((other : ℕ) → other ≢ destination → value_of self.new.resources other ≡ value_of self.old.resources other) }
     {
-        match self.resources.get_mut(&destination) {
+        match self.resources.get_mut(destination) {
             Some(contents) => contents.paste(regions, stretches, family_of(queue), spot),
             None => Ok(()),
         }

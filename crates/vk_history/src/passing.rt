@@ -1,7 +1,6 @@
 ghost use Rattle.std.specs.Prelude.{◌≢◌, ◌≡◌, ℕ, OnOk, IsTrue};
 ghost use Rattle.std.specs.List.{fold};
-ghost use Rattle.std.specs.Ordering.{nat_cmp};
-ghost use Rattle.std.specs.BTreeMap.{get};
+ghost use Rattle.vk_ids.specs.Ids.{value_of};
 ghost use Rattle.vk_model.specs.Trace.Point.{Past, Point as AnyPoint};
 ghost use Rattle.vk_model.specs.Sync.Node.{nodes};
 ghost use Rattle.vk_model.specs.World.Bytes.{Byte, World};
@@ -68,10 +67,10 @@ impl Contents {
         family: u32,
         transfer: Transfer,
     ) -> Result<(), AllocError>
-        ensures here { OnOk result (BecomesIn (IsPassed family (transfer_of transfer)) (get nat_cmp self.old.resources buffer) (get nat_cmp self.new.resources buffer)) }
-        ensures others { OnOk result ((other : ℕ) → other ≢ buffer → get nat_cmp self.new.resources other ≡ get nat_cmp self.old.resources other) }
+        ensures here { OnOk result (BecomesIn (IsPassed family (transfer_of transfer)) (value_of self.old.resources buffer) (value_of self.new.resources buffer)) }
+        ensures others { OnOk result ((other : ℕ) → other ≢ buffer → value_of self.new.resources other ≡ value_of self.old.resources other) }
     {
-        match self.resources.get_mut(&buffer) {
+        match self.resources.get_mut(buffer) {
             Some(contents) => contents.pass(family, transfer),
             None => Ok(()),
         }
@@ -83,10 +82,10 @@ impl Contents {
         element: &ImageElement,
         spot: Spot,
     ) -> Result<(), AllocError>
-        ensures here { OnOk result (BecomesIn (IsImagePassed queue element.now spot) (get nat_cmp self.old.resources element.now.image) (get nat_cmp self.new.resources element.now.image)) }
-        ensures others { OnOk result ((other : ℕ) → other ≢ element.now.image → get nat_cmp self.new.resources other ≡ get nat_cmp self.old.resources other) }
+        ensures here { OnOk result (BecomesIn (IsImagePassed queue element.now spot) (value_of self.old.resources element.now.image) (value_of self.new.resources element.now.image)) }
+        ensures others { OnOk result ((other : ℕ) → other ≢ element.now.image → value_of self.new.resources other ≡ value_of self.old.resources other) }
     {
-        match self.resources.get_mut(&element.image) {
+        match self.resources.get_mut(element.image) {
             Some(contents) => contents.pass_image(queue, element, spot),
             None => Ok(()),
         }

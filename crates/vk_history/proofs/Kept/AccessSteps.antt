@@ -2,8 +2,7 @@
 use Rattle.std.proofs.Common.{arith, ◌≡◌, ◌≢◌, ◌≤◌, ◌<◌, ◌+◌, ℕ, List, [], ◌∷◌, map, length, Bool, true, false, not, ◌&&◌, ◌==◌, refl, ap, sym, ◌∙◌, subst, Option, Some, None, inl, inr, ◌⊎◌}
 use Rattle.std.specs.Prelude.{is_some, is_none, if◌then◌else◌, ◌-◌, ◌%◌, nat_le, slice_get}
 use Rattle.std.specs.Option.{option_or}
-use Rattle.std.specs.Ordering.{nat_cmp}
-use Rattle.std.specs.BTreeMap.{get}
+use Rattle.vk_ids.specs.Ids.{value_of}
 use Rattle.std.proofs.lemmas.Bool.{eq-eqb, cases_lt, lt-ltb, le-ltb, le-leb, lt-leb}
 use Rattle.std.proofs.Math.Bool.{and-false}
 use Rattle.std.proofs.lemmas.Option.{slice_get-get_or, slice_get_past}
@@ -120,7 +119,7 @@ module _ (past : Past) (p : Point) where
 
     -- what makes no resource, and neither reads nor writes one, leaves all
     pub quiet_step : is_quiet p.action ≡ true → (contents : Contents) → AreContents contents past → AreContents contents (p ∷ past)
-    quiet_step q contents are b = untouched past p clean (get nat_cmp contents.resources b) b (still_here past p clean p.action refl (still p.action q) b) (are b)
+    quiet_step q contents are b = untouched past p clean (value_of contents.resources b) b (still_here past p clean p.action refl (still p.action q) b) (are b)
 
 -- ---- accesses by the host
 
@@ -132,8 +131,8 @@ module _ (past : Past) (p : Point) (clean : fault (p ∷ past) ≡ None) (b o n 
   read_there : is_some (buffer past b) ≡ true
   read_there = there_on_host past p clean (entry.Read b o n) is b (contains-head _ [])
 
-  pub read_step : (old new : Contents) → BecomesIn (λ u v. IsRead u v o n (next_spot past p)) (get nat_cmp old.resources b) (get nat_cmp new.resources b)
-      → ((other : ℕ) → other ≢ b → get nat_cmp new.resources other ≡ get nat_cmp old.resources other) → AreContents old past → AreContents new (p ∷ past)
+  pub read_step : (old new : Contents) → BecomesIn (λ u v. IsRead u v o n (next_spot past p)) (value_of old.resources b) (value_of new.resources b)
+      → ((other : ℕ) → other ≢ b → value_of new.resources other ≡ value_of old.resources other) → AreContents old past → AreContents new (p ∷ past)
   read_step old new here others = one_changed past p clean b (buffer_is_resource past b read_there) (λ u v. IsRead u v o n (next_spot past p)) old new here others
       (λ u v a h. next_of past p clean b u v u.owner as_before as_before (touching (within o n) touch.HostRead (next_spot past p)) a h (a.owner ∙ sym (ap holder_of (owned b))) (λ k lt. sym (valued (byte_at past b k))) (λ k lt. sym (soiled (byte_at past b k)))
       (λ k lt. sym (seen (byte_at past b k) (within o n k) (in_own past b o n read_there k))))
@@ -177,8 +176,8 @@ module _ (past : Past) (p : Point) (clean : fault (p ∷ past) ≡ None) (b o : 
   set_there : is_some (buffer past b) ≡ true
   set_there = there_on_host past p clean (entry.Write b o bytes) is b (contains-head _ [])
 
-  pub set_step : (old new : Contents) → BecomesIn (λ u v. IsSet u v o (length bytes) (next_spot past p)) (get nat_cmp old.resources b) (get nat_cmp new.resources b)
-      → ((other : ℕ) → other ≢ b → get nat_cmp new.resources other ≡ get nat_cmp old.resources other) → AreContents old past → AreContents new (p ∷ past)
+  pub set_step : (old new : Contents) → BecomesIn (λ u v. IsSet u v o (length bytes) (next_spot past p)) (value_of old.resources b) (value_of new.resources b)
+      → ((other : ℕ) → other ≢ b → value_of new.resources other ≡ value_of old.resources other) → AreContents old past → AreContents new (p ∷ past)
   set_step old new here others = one_changed past p clean b (buffer_is_resource past b set_there) (λ u v. IsSet u v o (length bytes) (next_spot past p)) old new here others
       (λ u v a h. next_of past p clean b u v u.owner (defines (within o (length bytes))) (assigns (within o (length bytes)) u.is_cached) (touching (within o (length bytes)) touch.HostWrite (next_spot past p)) a h (a.owner ∙ sym (ap holder_of (owned b)))
       (λ k lt. sym (valued (byte_at past b k) (within o (length bytes) k) (in_own past b o (length bytes) set_there k)))
@@ -257,8 +256,8 @@ module _ (past : Past) (p : Point) (clean : fault (p ∷ past) ≡ None) (c : Cm
       touched_by_command past p byte c is (gives.unmoved byte) t false (ap (λ ms. is_in byte (targets ms)) gives.writes_now ∙ e) (ap (λ ms. is_in byte (origins ms)) gives.writes_now ∙ ap (is_in byte) gives.reads_none)
       ∙ merged_command t false p.queue (touched past byte) (next_spot past p)
 
-  pub values_step : (hits : ℕ → Bool) → ((k : ℕ) → k < size_at past r → writes_byte past c (byte_at past r k) ≡ hits k) → (old new : Contents) → BecomesIn (λ u v. IsWritten u v hits family (next_spot past p)) (get nat_cmp old.resources r) (get nat_cmp new.resources r)
-      → ((other : ℕ) → other ≢ r → get nat_cmp new.resources other ≡ get nat_cmp old.resources other) → AreContents old past → AreContents new (p ∷ past)
+  pub values_step : (hits : ℕ → Bool) → ((k : ℕ) → k < size_at past r → writes_byte past c (byte_at past r k) ≡ hits k) → (old new : Contents) → BecomesIn (λ u v. IsWritten u v hits family (next_spot past p)) (value_of old.resources r) (value_of new.resources r)
+      → ((other : ℕ) → other ≢ r → value_of new.resources other ≡ value_of old.resources other) → AreContents old past → AreContents new (p ∷ past)
   values_step hits hit old new here others = one_changed past p clean r gives.there (λ u v. IsWritten u v hits family (next_spot past p)) old new here others
       (λ u v a h. next_of past p clean r u v (owner_after u family) (λ k d. defines hits k (left_of u family k d)) as_before (touching hits touch.Write (next_spot past p)) a h
       (taken_owner past family (world past) r u (of_contents past r u a) ∙ sym (ap holder_of (owned r)))
@@ -310,16 +309,16 @@ sized past p b o n size there e (Some u) (Some v) a h = subst (λ (m : ℕ). IsW
 
 -- a fill or an update
 pub written_step : (past : Past) (p : Point) (clean : fault (p ∷ past) ≡ None) (b o : ℕ) (n : Length) → Fits (change.Written b o n) p.action → (old new : Contents)
-    → BecomesIn (IsWrittenBy o n p.queue (next_spot past p)) (get nat_cmp old.resources b) (get nat_cmp new.resources b)
-    → ((other : ℕ) → other ≢ b → get nat_cmp new.resources other ≡ get nat_cmp old.resources other) → AreContents old past → AreContents new (p ∷ past)
+    → BecomesIn (IsWrittenBy o n p.queue (next_spot past p)) (value_of old.resources b) (value_of new.resources b)
+    → ((other : ℕ) → other ≢ b → value_of new.resources other ≡ value_of old.resources other) → AreContents old past → AreContents new (p ∷ past)
 written_step past p clean b o n (inl fill) old new here others are =
     let size : ℕ = fill_size (buffer_size past b) o n in
     let there = there_for_command past p clean (cmd.Fill b o n fill.0) fill.1 b (contains-head _ []) in
     values_step past p clean (cmd.Fill b o n fill.0) b fill.1 (fill_gives past p clean b o n fill.0 fill.1) (within o size)
     (λ k lt. ap (is_in (byte_at past b k)) (fill-targets past b o n fill.0) ∙ in_bytes_is b o size (byte_at past b k) ∙ in_own past b o size there k)
-    old new (sized past p b o n size there refl (get nat_cmp old.resources b) (get nat_cmp new.resources b) (are b) here) others are
+    old new (sized past p b o n size there refl (value_of old.resources b) (value_of new.resources b) (are b) here) others are
 written_step past p clean b o n (inr update) old new here others are =
     let there = there_for_command past p clean (cmd.Update b o update.0) update.1 b (contains-head _ []) in
     values_step past p clean (cmd.Update b o update.0) b update.1 (update_gives past p clean b o update.0 update.1) (within o (length update.0))
     (λ k lt. ap (is_in (byte_at past b k)) (update-targets past b o update.0) ∙ in_bytes_is b o (length update.0) (byte_at past b k) ∙ in_own past b o (length update.0) there k)
-    old new (sized past p b o n (length update.0) there (ap (fill_size (buffer_size past b) o) update.2) (get nat_cmp old.resources b) (get nat_cmp new.resources b) (are b) here) others are
+    old new (sized past p b o n (length update.0) there (ap (fill_size (buffer_size past b) o) update.2) (value_of old.resources b) (value_of new.resources b) (are b) here) others are

@@ -2,8 +2,7 @@
 use Rattle.std.proofs.Common.{◌≡◌, ◌≢◌, ◌<◌, ℕ, List, [], ◌∷◌, Bool, true, false, not, ◌&&◌, ◌==◌, refl, ap, sym, ◌∙◌, subst, arith, Option, Some, None}
 use Rattle.std.specs.Prelude.{is_some, is_none, if◌then◌else◌}
 use Rattle.std.specs.Option.{option_map}
-use Rattle.std.specs.Ordering.{nat_cmp}
-use Rattle.std.specs.BTreeMap.{get}
+use Rattle.vk_ids.specs.Ids.{value_of}
 use Rattle.std.proofs.lemmas.Bool.{eq-eqb}
 use Rattle.vk_model.specs.declared.command.Length.{Length}
 use Rattle.vk_model.specs.declared.entry.Entry.TheVariants as entry
@@ -88,8 +87,8 @@ module _ (past : Past) (p : Point) (clean : fault (p ∷ past) ≡ None) (b o : 
   flush_there : is_some (buffer past b) ≡ true
   flush_there = there_on_host past p clean (entry.Flush b o n) is b (contains-head _ [])
 
-  pub flush_change : (old new : Contents) → BecomesIn (λ u v. IsFlushed u v o n (next_spot past p)) (get nat_cmp old.resources b) (get nat_cmp new.resources b)
-      → ((other : ℕ) → other ≢ b → get nat_cmp new.resources other ≡ get nat_cmp old.resources other) → AreContents old past → AreContents new (p ∷ past)
+  pub flush_change : (old new : Contents) → BecomesIn (λ u v. IsFlushed u v o n (next_spot past p)) (value_of old.resources b) (value_of new.resources b)
+      → ((other : ℕ) → other ≢ b → value_of new.resources other ≡ value_of old.resources other) → AreContents old past → AreContents new (p ∷ past)
   flush_change old new here others = one_changed past p clean b (buffer_is_resource past b flush_there) (λ u v. IsFlushed u v o n (next_spot past p)) old new here others
       (λ u v a h. next_of past p clean b u v u.owner as_before (assigns (λ k. u.is_cached && in_atoms o n k) false) (flushing (in_atoms o n) (next_spot past p)) a h (a.owner ∙ sym (ap holder_of (flush_owned b))) (λ k lt. sym (flush_valued (byte_at past b k)))
       (λ k lt. ap (λ (t : Bool). if t && in_atoms o n k then false else (world past).dirty (byte_at past b k)) a.cache ∙ sym (flush_dirty (byte_at past b k) (in_atoms o n k) (in_own b o n past flush_there k)))
@@ -181,8 +180,8 @@ module _ (past : Past) (p : Point) (clean : fault (p ∷ past) ≡ None) (b o : 
         subst (λ (c : Byte). holds (last_touch touch.Write past c) (λ v. seen.seen uncached (nodes (p ∷ past)) v (next_node past p (act_next p.action)) seen.Read c) ≡ answer) (sym (byte_of_buffer past b there k))
         (answer_is k answer (subst (λ (c : Byte). SeesWrite x k answer (touched past c)) (byte_of_buffer past b there k) h))
 
-    pub invalidation_change : (old new : Contents) → BecomesIn (λ u v. IsInvalidated (SeesWrite x) u v o n) (get nat_cmp old.resources b) (get nat_cmp new.resources b)
-        → ((other : ℕ) → other ≢ b → get nat_cmp new.resources other ≡ get nat_cmp old.resources other) → AreContents old past → AreContents new (p ∷ past)
+    pub invalidation_change : (old new : Contents) → BecomesIn (λ u v. IsInvalidated (SeesWrite x) u v o n) (value_of old.resources b) (value_of new.resources b)
+        → ((other : ℕ) → other ≢ b → value_of new.resources other ≡ value_of old.resources other) → AreContents old past → AreContents new (p ∷ past)
     invalidation_change old new here others = one_changed past p clean b (buffer_is_resource past b there) (λ u v. IsInvalidated (SeesWrite x) u v o n) old new
         here others
         (λ u v a h. next_of past p clean b u v u.owner (assigns (λ k. u.is_cached && in_atoms o n k && is_on u.dirty k) false) (assigns (λ k. u.is_cached && in_atoms o n k) false) (invalidating (in_atoms o n) (sees_at v.touches)) a h.changed (a.owner ∙ sym (ap holder_of (invalidation_owned b)))

@@ -3,8 +3,7 @@ use Rattle.std.proofs.Common.{◌≡◌, ◌≢◌, ◌<◌, ℕ, [], ◌∷◌,
 use Rattle.std.specs.Prelude.{is_some, is_none, if◌then◌else◌, option_and_then, IfSome, IsSome}
 use Rattle.std.specs.Option.{option_map}
 use Rattle.std.specs.List.{find, cons_option}
-use Rattle.std.specs.Ordering.{nat_cmp}
-use Rattle.std.specs.BTreeMap.{get}
+use Rattle.vk_ids.specs.Ids.{value_of}
 use Rattle.std.proofs.lemmas.Bool.{eqb-true, eqb-false, eq-eqb}
 use Rattle.std.proofs.Math.Bool.{and-false}
 use Rattle.vk_model.specs.declared.entry.Entry.{Entry}
@@ -208,8 +207,8 @@ module _ (past : Past) (p : Point) (clean : fault (p ∷ past) ≡ None) where
 
   -- ---- points that change one resource
 
-  pub one_changed : (b : ℕ) → is_some (resource past b) ≡ true → (becomes : ResourceContents → ResourceContents → Type 0) (old new : Contents) → BecomesIn becomes (get nat_cmp old.resources b) (get nat_cmp new.resources b)
-      → ((other : ℕ) → other ≢ b → get nat_cmp new.resources other ≡ get nat_cmp old.resources other)
+  pub one_changed : (b : ℕ) → is_some (resource past b) ≡ true → (becomes : ResourceContents → ResourceContents → Type 0) (old new : Contents) → BecomesIn becomes (value_of old.resources b) (value_of new.resources b)
+      → ((other : ℕ) → other ≢ b → value_of new.resources other ≡ value_of old.resources other)
       → ((u v : ResourceContents) → AreContentsOf u past b → becomes u v → AreContentsOf v (p ∷ past) b) → ((c : ℕ) → (c == b) ≡ false → IsUntouched c)
       → AreContents old past → AreContents new (p ∷ past)
   one_changed b some becomes old new here others next apart are c = at (c == b) refl where
@@ -218,16 +217,16 @@ module _ (past : Past) (p : Point) (clean : fault (p ∷ past) ≡ None) where
     known (Some u) None h a = absurd h
     known (Some u) (Some v) h a = next u v a h
 
-    at : (t : Bool) → (c == b) ≡ t → AreContentsIn (get nat_cmp new.resources c) (p ∷ past) c
-    at true e = subst (λ (x : ℕ). AreContentsIn (get nat_cmp new.resources x) (p ∷ past) x) (sym (eqb-true c b e)) (known (get nat_cmp old.resources b) (get nat_cmp new.resources b) here (are b))
-    at false e = subst (λ (x : Option ResourceContents). AreContentsIn x (p ∷ past) c) (sym (others c (eqb-false c b e))) (untouched (get nat_cmp old.resources c) c (apart c e) (are c))
+    at : (t : Bool) → (c == b) ≡ t → AreContentsIn (value_of new.resources c) (p ∷ past) c
+    at true e = subst (λ (x : ℕ). AreContentsIn (value_of new.resources x) (p ∷ past) x) (sym (eqb-true c b e)) (known (value_of old.resources b) (value_of new.resources b) here (are b))
+    at false e = subst (λ (x : Option ResourceContents). AreContentsIn x (p ∷ past) c) (sym (others c (eqb-false c b e))) (untouched (value_of old.resources c) c (apart c e) (are c))
 
   -- ---- a resource is made
 
   -- by an entry that makes one, with so many bytes that are numbered
   pub resource_made : (i : ℕ) (x : Entry) (size : ℕ) (sharing : Sharing) → p.action ≡ Host x → made_by x ≡ Some i → is_some (resource_in x) ≡ true → holds (resource_in x) (λ r. is_exclusive_mode r.sharing) ≡ is_exclusive_mode sharing
       → size_at (p ∷ past) i ≡ size → (of : Option ImageInfo) → image (p ∷ past) i ≡ of → IsStillFor x → (old new : Contents)
-      → (cached : Bool) → cached ≡ is_cached (p ∷ past) i → IfSome (get nat_cmp new.resources i) (λ c. IsMade c size sharing cached of) → IsSome (get nat_cmp new.resources i) → ((other : ℕ) → other ≢ i → get nat_cmp new.resources other ≡ get nat_cmp old.resources other)
+      → (cached : Bool) → cached ≡ is_cached (p ∷ past) i → IfSome (value_of new.resources i) (λ c. IsMade c size sharing cached of) → IsSome (value_of new.resources i) → ((other : ℕ) → other ≢ i → value_of new.resources other ≡ value_of old.resources other)
       → AreContents old past → AreContents new (p ∷ past)
   resource_made i x size sharing is makes some mode sized of imaged still old new cached is_cache here present others are b = at (b == i) refl where
     owned : (b : ℕ) → (world (p ∷ past)).owner b ≡ (world past).owner b
@@ -249,7 +248,7 @@ module _ (past : Past) (p : Point) (clean : fault (p ∷ past) ≡ None) where
     entry_now = rw (is, makes, eq-eqb i i refl) refl
 
     fresh : IsFresh past i
-    fresh = go (get nat_cmp old.resources i) (are i) where
+    fresh = go (value_of old.resources i) (are i) where
       go : (o : Option ResourceContents) → AreContentsIn o past i → IsFresh past i
       go None f = f
       go (Some c) a = clash a.made unmade
@@ -276,10 +275,10 @@ module _ (past : Past) (p : Point) (clean : fault (p ∷ past) ≡ None) where
     other_kept : (b : ℕ) → (b == i) ≡ false → resource (p ∷ past) b ≡ resource past b
     other_kept b e = rw (is, makes, e) refl
 
-    at : (t : Bool) → (b == i) ≡ t → AreContentsIn (get nat_cmp new.resources b) (p ∷ past) b
-    at true e = subst (λ (c : ℕ). AreContentsIn (get nat_cmp new.resources c) (p ∷ past) c) (sym (eqb-true b i e)) (new_one (get nat_cmp new.resources i) present here)
+    at : (t : Bool) → (b == i) ≡ t → AreContentsIn (value_of new.resources b) (p ∷ past) b
+    at true e = subst (λ (c : ℕ). AreContentsIn (value_of new.resources c) (p ∷ past) c) (sym (eqb-true b i e)) (new_one (value_of new.resources i) present here)
     at false e = subst (λ (o : Option ResourceContents). AreContentsIn o (p ∷ past) b) (sym (others b (eqb-false b i e)))
-        (untouched (get nat_cmp old.resources b) b (record { unmade = λ none. ap is_some (other_kept b e) ∙ none; owner = owned b; defined = λ c own. valued c; dirty = λ c own. soiled c; touches = λ c own. kept c }) (are b))
+        (untouched (value_of old.resources b) b (record { unmade = λ none. ap is_some (other_kept b e) ∙ none; owner = owned b; defined = λ c own. valued c; dirty = λ c own. soiled c; touches = λ c own. kept c }) (are b))
 
   pub no_touch : (x : Entry) → host_writes x ≡ [] → host_reads x ≡ [] → (t : Touch) (c : Byte) → touches t c past p (Host x) ≡ false
   no_touch x w r touch.Write c = refl
@@ -288,7 +287,7 @@ module _ (past : Past) (p : Point) (clean : fault (p ∷ past) ≡ None) where
   no_touch x w r touch.HostRead c = ap (is_in c) r
 
   pub buffer_made : (i : ℕ) (info : BufferInfo) → p.action ≡ Host (entry.Buffer i info) → (old new : Contents)
-      → (cached : Bool) → cached ≡ is_cached (p ∷ past) i → IfSome (get nat_cmp new.resources i) (λ c. IsMade c info.size info.sharing cached None) → IsSome (get nat_cmp new.resources i) → ((other : ℕ) → other ≢ i → get nat_cmp new.resources other ≡ get nat_cmp old.resources other)
+      → (cached : Bool) → cached ≡ is_cached (p ∷ past) i → IfSome (value_of new.resources i) (λ c. IsMade c info.size info.sharing cached None) → IsSome (value_of new.resources i) → ((other : ℕ) → other ≢ i → value_of new.resources other ≡ value_of old.resources other)
       → AreContents old past → AreContents new (p ∷ past)
   buffer_made i info is =
       let made_now : buffer (p ∷ past) i ≡ Some info = rw (is, eq-eqb i i refl) refl in
@@ -297,7 +296,7 @@ module _ (past : Past) (p : Point) (clean : fault (p ∷ past) ≡ None) where
       (record { owner = λ b. refl; value = λ c. refl; dirty = λ c. refl; touches = no_touch (entry.Buffer i info) refl refl; unflushed = λ c. refl; valid = λ c. refl })
 
   pub image_made : (i : ℕ) (m : ImageInfo) → p.action ≡ Host (entry.Image i m) → (old new : Contents)
-      → (cached : Bool) → cached ≡ is_cached (p ∷ past) i → IfSome (get nat_cmp new.resources i) (λ c. IsMade c (byte_count m) m.sharing cached (Some m)) → IsSome (get nat_cmp new.resources i) → ((other : ℕ) → other ≢ i → get nat_cmp new.resources other ≡ get nat_cmp old.resources other)
+      → (cached : Bool) → cached ≡ is_cached (p ∷ past) i → IfSome (value_of new.resources i) (λ c. IsMade c (byte_count m) m.sharing cached (Some m)) → IsSome (value_of new.resources i) → ((other : ℕ) → other ≢ i → value_of new.resources other ≡ value_of old.resources other)
       → AreContents old past → AreContents new (p ∷ past)
   image_made i m is =
       let made_now : image (p ∷ past) i ≡ Some m = rw (is, eq-eqb i i refl) refl in

@@ -3,8 +3,7 @@ use Rattle.std.proofs.Common.{◌≡◌, ◌≢◌, ◌<◌, ◌≤◌, ◌+◌,
 use Rattle.std.specs.Prelude.{Contains, is_some, is_none, if◌then◌else◌, unwrap_or, option_and_then, nat_le, nat_lt}
 use Rattle.std.specs.Option.{option_map}
 use Rattle.std.specs.List.{find, flat_map}
-use Rattle.std.specs.Ordering.{nat_cmp}
-use Rattle.std.specs.BTreeMap.{get}
+use Rattle.vk_ids.specs.Ids.{value_of}
 use Rattle.std.proofs.lemmas.Bool.{eq-eqb, eqb-true, eqb-false, and_parts, leb-true, ltb-true}
 use Rattle.vk_model.specs.declared.command.BufferCopy.{BufferCopy}
 use Rattle.vk_model.specs.declared.command.Cmd.{Cmd}
@@ -237,18 +236,18 @@ module _ (past : Past) (p : Point) (clean : fault (p ∷ past) ≡ None) (c : Cm
 
   -- ---- between two resources
 
-  pub between : (s == d) ≡ false → (d == s) ≡ false → (ss : List Stretch) (old mid new : Contents) → BecomesIn (IsLentWith gs ss p.queue (next_spot past p)) (get nat_cmp old.resources s) (get nat_cmp mid.resources s)
-      → ((other : ℕ) → other ≢ s → get nat_cmp mid.resources other ≡ get nat_cmp old.resources other)
-      → BecomesIn (λ u v. IsPasted u v gs ss family (next_spot past p)) (get nat_cmp mid.resources d) (get nat_cmp new.resources d)
-      → ((other : ℕ) → other ≢ d → get nat_cmp new.resources other ≡ get nat_cmp mid.resources other) → AreContents old past → AreContents new (p ∷ past)
+  pub between : (s == d) ≡ false → (d == s) ≡ false → (ss : List Stretch) (old mid new : Contents) → BecomesIn (IsLentWith gs ss p.queue (next_spot past p)) (value_of old.resources s) (value_of mid.resources s)
+      → ((other : ℕ) → other ≢ s → value_of mid.resources other ≡ value_of old.resources other)
+      → BecomesIn (λ u v. IsPasted u v gs ss family (next_spot past p)) (value_of mid.resources d) (value_of new.resources d)
+      → ((other : ℕ) → other ≢ d → value_of new.resources other ≡ value_of mid.resources other) → AreContents old past → AreContents new (p ∷ past)
   between sd ds ss old mid new lends kept pastes left are b = by (b == d) refl (b == s) refl where
     source : (u v : Option ResourceContents) → BecomesIn (IsLentWith gs ss p.queue (next_spot past p)) u v → AreContentsIn u past s → (x : ResourceContents) × (y : ResourceContents) × (v ≡ Some y) × AreContentsOf x past s × IsLentWith gs ss p.queue (next_spot past p) x y
     source None v h fresh = clash copies.source_there fresh.unmade
     source (Some u) None h a = absurd h
     source (Some u) (Some v) h a = (u, v, refl, a, h)
 
-    here : (x : ResourceContents) × (y : ResourceContents) × (get nat_cmp mid.resources s ≡ Some y) × AreContentsOf x past s × IsLentWith gs ss p.queue (next_spot past p) x y
-    here = source (get nat_cmp old.resources s) (get nat_cmp mid.resources s) lends (are s)
+    here : (x : ResourceContents) × (y : ResourceContents) × (value_of mid.resources s ≡ Some y) × AreContentsOf x past s × IsLentWith gs ss p.queue (next_spot past p) x y
+    here = source (value_of old.resources s) (value_of mid.resources s) lends (are s)
 
     lent_of : IsOf past here.1 lent s
     lent_of = taken_of past family s (world past) here.0 here.1 (touching (reads_at gs) (touch.Read p.queue) (next_spot past p)) (of_contents past s here.0 here.3) here.4.0
@@ -258,13 +257,13 @@ module _ (past : Past) (p : Point) (clean : fault (p ∷ past) ≡ None) (c : Cm
     destination (Some u) None h a = absurd h
     destination (Some u) (Some x) h a = destination_next ds here.1 lent_of (here.4.0.defined_size ∙ here.3.defined_size) ss here.4.1 u x a h
 
-    same_mid : get nat_cmp mid.resources d ≡ get nat_cmp old.resources d
+    same_mid : value_of mid.resources d ≡ value_of old.resources d
     same_mid = kept d (eqb-false d s ds)
 
-    by : (t : Bool) → (b == d) ≡ t → (r : Bool) → (b == s) ≡ r → AreContentsIn (get nat_cmp new.resources b) (p ∷ past) b
-    by true e r g = subst (λ (x : ℕ). AreContentsIn (get nat_cmp new.resources x) (p ∷ past) x) (sym (eqb-true b d e)) (destination (get nat_cmp mid.resources d) (get nat_cmp new.resources d) pastes (subst (λ (o : Option ResourceContents). AreContentsIn o past d) (sym same_mid) (are d)))
-    by false e true g = subst (λ (x : ℕ). AreContentsIn (get nat_cmp new.resources x) (p ∷ past) x) (sym (eqb-true b s g)) (subst (λ (o : Option ResourceContents). AreContentsIn o (p ∷ past) s) (sym (left s (eqb-false s d sd) ∙ here.2)) (source_next sd here.0 here.1 here.3 here.4.0))
-    by false e false g = subst (λ (o : Option ResourceContents). AreContentsIn o (p ∷ past) b) (sym (left b (eqb-false b d e) ∙ kept b (eqb-false b s g))) (untouched past p clean (get nat_cmp old.resources b) b (apart b g e) (are b))
+    by : (t : Bool) → (b == d) ≡ t → (r : Bool) → (b == s) ≡ r → AreContentsIn (value_of new.resources b) (p ∷ past) b
+    by true e r g = subst (λ (x : ℕ). AreContentsIn (value_of new.resources x) (p ∷ past) x) (sym (eqb-true b d e)) (destination (value_of mid.resources d) (value_of new.resources d) pastes (subst (λ (o : Option ResourceContents). AreContentsIn o past d) (sym same_mid) (are d)))
+    by false e true g = subst (λ (x : ℕ). AreContentsIn (value_of new.resources x) (p ∷ past) x) (sym (eqb-true b s g)) (subst (λ (o : Option ResourceContents). AreContentsIn o (p ∷ past) s) (sym (left s (eqb-false s d sd) ∙ here.2)) (source_next sd here.0 here.1 here.3 here.4.0))
+    by false e false g = subst (λ (o : Option ResourceContents). AreContentsIn o (p ∷ past) b) (sym (left b (eqb-false b d e) ∙ kept b (eqb-false b s g))) (untouched past p clean (value_of old.resources b) b (apart b g e) (are b))
 
 -- ---- within one resource
 
@@ -282,10 +281,10 @@ module _ (past : Past) (p : Point) (clean : fault (p ∷ past) ≡ None) (c : Cm
       (λ k lt. sym (soiled past p clean c s s gs is copies (byte_at past s k)))
       (λ k lt. sym (remembers past p clean c s s gs is copies (byte_at past s k) (writes_at gs k) (reads_at gs k) (writes_to past p clean c s s gs is copies k lt) (reads_from past p clean c s s gs is copies k lt)))
 
-  pub within_one : (old mid new : Contents) → BecomesIn (IsLentWith gs ss p.queue (next_spot past p)) (get nat_cmp old.resources s) (get nat_cmp mid.resources s)
-      → ((other : ℕ) → other ≢ s → get nat_cmp mid.resources other ≡ get nat_cmp old.resources other)
-      → BecomesIn (λ u v. IsPasted u v gs ss (family_of p.queue) (next_spot past p)) (get nat_cmp mid.resources s) (get nat_cmp new.resources s)
-      → ((other : ℕ) → other ≢ s → get nat_cmp new.resources other ≡ get nat_cmp mid.resources other) → AreContents old past → AreContents new (p ∷ past)
+  pub within_one : (old mid new : Contents) → BecomesIn (IsLentWith gs ss p.queue (next_spot past p)) (value_of old.resources s) (value_of mid.resources s)
+      → ((other : ℕ) → other ≢ s → value_of mid.resources other ≡ value_of old.resources other)
+      → BecomesIn (λ u v. IsPasted u v gs ss (family_of p.queue) (next_spot past p)) (value_of mid.resources s) (value_of new.resources s)
+      → ((other : ℕ) → other ≢ s → value_of new.resources other ≡ value_of mid.resources other) → AreContents old past → AreContents new (p ∷ past)
   within_one old mid new lends kept pastes left are b = by (b == s) refl where
     known : (u v x : Option ResourceContents) → AreContentsIn u past s → BecomesIn (IsLentWith gs ss p.queue (next_spot past p)) u v → BecomesIn (λ u v. IsPasted u v gs ss (family_of p.queue) (next_spot past p)) v x → AreContentsIn x (p ∷ past) s
     known None v x fresh h g = clash copies.source_there fresh.unmade
@@ -293,24 +292,24 @@ module _ (past : Past) (p : Point) (clean : fault (p ∷ past) ≡ None) (c : Cm
     known (Some u) (Some v) None a h g = absurd g
     known (Some u) (Some v) (Some x) a h g = both_next u v x a h g
 
-    by : (t : Bool) → (b == s) ≡ t → AreContentsIn (get nat_cmp new.resources b) (p ∷ past) b
-    by true e = subst (λ (x : ℕ). AreContentsIn (get nat_cmp new.resources x) (p ∷ past) x) (sym (eqb-true b s e)) (known (get nat_cmp old.resources s) (get nat_cmp mid.resources s) (get nat_cmp new.resources s) (are s) lends pastes)
-    by false e = subst (λ (o : Option ResourceContents). AreContentsIn o (p ∷ past) b) (sym (left b (eqb-false b s e) ∙ kept b (eqb-false b s e))) (untouched past p clean (get nat_cmp old.resources b) b (apart past p clean c s s gs is copies b e e) (are b))
+    by : (t : Bool) → (b == s) ≡ t → AreContentsIn (value_of new.resources b) (p ∷ past) b
+    by true e = subst (λ (x : ℕ). AreContentsIn (value_of new.resources x) (p ∷ past) x) (sym (eqb-true b s e)) (known (value_of old.resources s) (value_of mid.resources s) (value_of new.resources s) (are s) lends pastes)
+    by false e = subst (λ (o : Option ResourceContents). AreContentsIn o (p ∷ past) b) (sym (left b (eqb-false b s e) ∙ kept b (eqb-false b s e))) (untouched past p clean (value_of old.resources b) b (apart past p clean c s s gs is copies b e e) (are b))
 
 -- ---- a copy
 
 pub copies_step : (past : Past) (p : Point) (clean : fault (p ∷ past) ≡ None) (c : Cmd) (s d : ℕ) (gs : List BufferCopy) → p.action ≡ Run c → CopiesNumbers past p c s d gs → (ss : List Stretch) (old mid new : Contents)
-    → BecomesIn (IsLentWith gs ss p.queue (next_spot past p)) (get nat_cmp old.resources s) (get nat_cmp mid.resources s)
-    → ((other : ℕ) → other ≢ s → get nat_cmp mid.resources other ≡ get nat_cmp old.resources other)
-    → BecomesIn (λ u v. IsPasted u v gs ss (family_of p.queue) (next_spot past p)) (get nat_cmp mid.resources d) (get nat_cmp new.resources d)
-    → ((other : ℕ) → other ≢ d → get nat_cmp new.resources other ≡ get nat_cmp mid.resources other) → AreContents old past → AreContents new (p ∷ past)
+    → BecomesIn (IsLentWith gs ss p.queue (next_spot past p)) (value_of old.resources s) (value_of mid.resources s)
+    → ((other : ℕ) → other ≢ s → value_of mid.resources other ≡ value_of old.resources other)
+    → BecomesIn (λ u v. IsPasted u v gs ss (family_of p.queue) (next_spot past p)) (value_of mid.resources d) (value_of new.resources d)
+    → ((other : ℕ) → other ≢ d → value_of new.resources other ≡ value_of mid.resources other) → AreContents old past → AreContents new (p ∷ past)
 copies_step past p clean c s d gs is copies ss old mid new lends kept pastes left are = by (s == d) refl where
   by : (t : Bool) → (s == d) ≡ t → AreContents new (p ∷ past)
   by true e =
       let same : d ≡ s = sym (eqb-true s d e) in
       within_one past p clean c s gs is (subst (λ (x : ℕ). CopiesNumbers past p c s x gs) same copies) ss old mid new lends kept
-      (subst (λ (x : ℕ). BecomesIn (λ u v. IsPasted u v gs ss (family_of p.queue) (next_spot past p)) (get nat_cmp mid.resources x) (get nat_cmp new.resources x)) same pastes)
-      (subst (λ (x : ℕ). (other : ℕ) → other ≢ x → get nat_cmp new.resources other ≡ get nat_cmp mid.resources other) same left) are
+      (subst (λ (x : ℕ). BecomesIn (λ u v. IsPasted u v gs ss (family_of p.queue) (next_spot past p)) (value_of mid.resources x) (value_of new.resources x)) same pastes)
+      (subst (λ (x : ℕ). (other : ℕ) → other ≢ x → value_of new.resources other ≡ value_of mid.resources other) same left) are
   by false e = between past p clean c s d gs is copies e (turned_about d s ∙ e) ss old mid new lends kept pastes left are
 
 -- the same of what a command of its queue copies

@@ -4,8 +4,7 @@ use Rattle.std.proofs.Common.{arith, ◌≡◌, ◌<◌, ◌+◌, ◌^◌, ℕ, 
 use Rattle.std.specs.Prelude.{is_some, option_and_then}
 use Rattle.std.specs.Option.{option_map}
 use Rattle.std.specs.List.{flat_map}
-use Rattle.std.specs.Ordering.{nat_cmp}
-use Rattle.std.specs.BTreeMap.{get}
+use Rattle.vk_ids.specs.Ids.{value_of}
 use Rattle.vk_model.specs.declared.command.BufferCopy.{BufferCopy}
 use Rattle.vk_model.specs.declared.command.BufferImageCopy.{BufferImageCopy}
 use Rattle.vk_model.specs.declared.command.Cmd.TheVariants as cmd
@@ -33,7 +32,7 @@ use Rattle.vk_history.proofs.Kept.CopySteps.{CopiesNumbers}
 
 -- the image that is kept of a resource is its own
 pub kept_image : (contents : Contents) (past : Past) → AreContents contents past → (i : ℕ) → image_kept contents i ≡ image past i
-kept_image contents past are i = go (get nat_cmp contents.resources i) (are i) where
+kept_image contents past are i = go (value_of contents.resources i) (are i) where
   no_image : (o : Option Entry) → is_some (option_and_then resource_in o) ≡ false → None ≡ option_and_then image_in o
   no_image None e = refl
   no_image (Some x) e = by x e where

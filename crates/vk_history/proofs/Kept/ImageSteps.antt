@@ -3,8 +3,7 @@ use Rattle.std.proofs.Common.{◌≡◌, ◌≢◌, ◌<◌, ℕ, List, [], ◌�
 use Rattle.std.specs.Prelude.{is_some, if◌then◌else◌}
 use Rattle.std.specs.Option.{option_map}
 use Rattle.std.specs.List.{list_any, flat_map}
-use Rattle.std.specs.Ordering.{nat_cmp}
-use Rattle.std.specs.BTreeMap.{get}
+use Rattle.vk_ids.specs.Ids.{value_of}
 use Rattle.std.proofs.lemmas.Bool.{false_from_ne_true}
 use Rattle.std.proofs.lemmas.List.Folds.{list_any-append}
 use Rattle.std.proofs.lemmas.List.Elements.{filter_map-append}
@@ -118,15 +117,15 @@ module _ (past : Past) (p : Point) (clean : fault (p ∷ past) ≡ None) (i l : 
       ∙ ap (λ (c : Byte). list_any (λ r. is_in c (bytes i color m r)) rs) (byte_of_image past i m of.1 k)
       ∙ numbers_cleared i color m (image_good past (fault_rest past p clean) i m of.1) k (rw (← size_of_image past i m of.1) lt) rs
 
-  pub cleared_step : (old new : Contents) → BecomesIn (IsClearedBy rs p.queue (next_spot past p)) (get nat_cmp old.resources i) (get nat_cmp new.resources i)
-      → ((other : ℕ) → other ≢ i → get nat_cmp new.resources other ≡ get nat_cmp old.resources other) → AreContents old past → AreContents new (p ∷ past)
-  cleared_step old new here others are = go (get nat_cmp old.resources i) (get nat_cmp new.resources i) refl refl here (are i) where
-    go : (u v : Option ResourceContents) → get nat_cmp old.resources i ≡ u → get nat_cmp new.resources i ≡ v → BecomesIn (IsClearedBy rs p.queue (next_spot past p)) u v → AreContentsIn u past i → AreContents new (p ∷ past)
+  pub cleared_step : (old new : Contents) → BecomesIn (IsClearedBy rs p.queue (next_spot past p)) (value_of old.resources i) (value_of new.resources i)
+      → ((other : ℕ) → other ≢ i → value_of new.resources other ≡ value_of old.resources other) → AreContents old past → AreContents new (p ∷ past)
+  cleared_step old new here others are = go (value_of old.resources i) (value_of new.resources i) refl refl here (are i) where
+    go : (u v : Option ResourceContents) → value_of old.resources i ≡ u → value_of new.resources i ≡ v → BecomesIn (IsClearedBy rs p.queue (next_spot past p)) u v → AreContentsIn u past i → AreContents new (p ∷ past)
     go None v eu ev h fresh = clash clear_gives.there fresh.unmade
     go (Some u) None eu ev h a = absurd h
     go (Some u) (Some v) eu ev h a =
         values_step past p clean clear i is clear_gives h.hits (λ k lt. hit k lt ∙ sym (h.reached m (a.image ∙ of.1) i k (rw (← size_of_image past i m of.1) lt))) old new
-        (subst (λ (x : Option ResourceContents). BecomesIn (λ a b. IsWritten a b h.hits (family_of p.queue) (next_spot past p)) x (get nat_cmp new.resources i)) (sym eu)
+        (subst (λ (x : Option ResourceContents). BecomesIn (λ a b. IsWritten a b h.hits (family_of p.queue) (next_spot past p)) x (value_of new.resources i)) (sym eu)
         (subst (λ (x : Option ResourceContents). BecomesIn (λ a b. IsWritten a b h.hits (family_of p.queue) (next_spot past p)) (Some u) x) (sym ev) h.written)) others are
 
 -- ---- transitions

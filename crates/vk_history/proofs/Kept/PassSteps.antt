@@ -3,8 +3,7 @@ use Rattle.std.proofs.Common.{◌&&◌, not, ◌≡◌, ◌≢◌, ℕ, List, []
 use Rattle.std.specs.Prelude.{is_some, is_none, if◌then◌else◌, Contains, slice_index_or}
 use Rattle.std.specs.Option.{option_map}
 use Rattle.std.specs.List.{fold}
-use Rattle.std.specs.Ordering.{nat_cmp}
-use Rattle.std.specs.BTreeMap.{get}
+use Rattle.vk_ids.specs.Ids.{value_of}
 use Rattle.std.proofs.lemmas.Bool.{eq-eqb, eqb-true, eqb-false, not-true}
 use Rattle.std.proofs.lemmas.List.{get_or_default}
 use Rattle.std.proofs.Math.Bool.{and-false}
@@ -158,7 +157,7 @@ apart_from_image past f e Neither w b ne = record { owner = refl; defined = λ c
 -- an element on one resource, where it makes another world of a world, and other memories
 pub passed_one : (past : Past) (r : ℕ) (w v : World) (t u : Byte → LastTouches) (old new : Contents) → is_some (resource past r) ≡ true → ((b : ℕ) → (b == r) ≡ false → IsApart past w v b)
     → ((b : ℕ) → (b == r) ≡ false → (c : Byte) → resource_at c ≡ b → u c ≡ t c)
-    → BecomesIn (λ a b. AreContentsAt a past w t r → AreContentsAt b past v u r) (get nat_cmp old.resources r) (get nat_cmp new.resources r) → ((other : ℕ) → other ≢ r → get nat_cmp new.resources other ≡ get nat_cmp old.resources other)
+    → BecomesIn (λ a b. AreContentsAt a past w t r → AreContentsAt b past v u r) (value_of old.resources r) (value_of new.resources r) → ((other : ℕ) → other ≢ r → value_of new.resources other ≡ value_of old.resources other)
     → AreAllAt old past w t → AreAllAt new past v u
 passed_one past r w v t u old new there apart kept here others are b = by (b == r) refl where
   known : (x y : Option ResourceContents) → BecomesIn (λ a b. AreContentsAt a past w t r → AreContentsAt b past v u r) x y → AreContentsInAt x past w t r → AreContentsInAt y past v u r
@@ -166,9 +165,9 @@ passed_one past r w v t u old new there apart kept here others are b = by (b == 
   known (Some x) None h at = absurd h
   known (Some x) (Some y) h at = h at
 
-  by : (x : Bool) → (b == r) ≡ x → AreContentsInAt (get nat_cmp new.resources b) past v u b
-  by true is = subst (λ (i : ℕ). AreContentsInAt (get nat_cmp new.resources i) past v u i) (sym (eqb-true b r is)) (known (get nat_cmp old.resources r) (get nat_cmp new.resources r) here (are r))
-  by false is = subst (λ (o : Option ResourceContents). AreContentsInAt o past v u b) (sym (others b (eqb-false b r is))) (apart_at past w v t u b (apart b is) (kept b is) (get nat_cmp old.resources b) (are b))
+  by : (x : Bool) → (b == r) ≡ x → AreContentsInAt (value_of new.resources b) past v u b
+  by true is = subst (λ (i : ℕ). AreContentsInAt (value_of new.resources i) past v u i) (sym (eqb-true b r is)) (known (value_of old.resources r) (value_of new.resources r) here (are r))
+  by false is = subst (λ (o : Option ResourceContents). AreContentsInAt o past v u b) (sym (others b (eqb-false b r is))) (apart_at past w v t u b (apart b is) (kept b is) (value_of old.resources b) (are b))
 
 -- what becomes of what may be there, by what follows from it
 becomes_so : (is so : ResourceContents → ResourceContents → Type 0) → ((u v : ResourceContents) → is u v → so u v) → (a b : Option ResourceContents) → BecomesIn is a b → BecomesIn so a b
@@ -177,10 +176,10 @@ becomes_so is so f (Some u) None h = h
 becomes_so is so f (Some u) (Some v) h = f u v h
 
 pub passed_buffer : (past : Past) (f : ℕ) (e : BufferElement) (x : Transfer) (w : World) (t : Byte → LastTouches) (old new : Contents) → is_some (resource past e.buffer) ≡ true
-    → BecomesIn (IsPassed f x) (get nat_cmp old.resources e.buffer) (get nat_cmp new.resources e.buffer) → ((other : ℕ) → other ≢ e.buffer → get nat_cmp new.resources other ≡ get nat_cmp old.resources other)
+    → BecomesIn (IsPassed f x) (value_of old.resources e.buffer) (value_of new.resources e.buffer) → ((other : ℕ) → other ≢ e.buffer → value_of new.resources other ≡ value_of old.resources other)
     → AreAllAt old past w t → AreAllAt new past (after_buffer_element past f e x w) t
 passed_buffer past f e x w t old new there here others = passed_one past e.buffer w (after_buffer_element past f e x w) t t old new there (apart_from past f e x w) (λ b ne c own. refl)
-    (becomes_so (IsPassed f x) _ (λ u v h. h past w t e) (get nat_cmp old.resources e.buffer) (get nat_cmp new.resources e.buffer) here) others
+    (becomes_so (IsPassed f x) _ (λ u v h. h past w t e) (value_of old.resources e.buffer) (value_of new.resources e.buffer) here) others
 
 -- an image of a good shape is an image, and has it
 pub good_there : (past : Past) (i : ℕ) → is_good_image past i ≡ true → (m : ImageInfo) × (image past i ≡ Some m) × (bad_image m ≡ false)
@@ -190,12 +189,12 @@ good_there past i good = go (image past i) refl good where
   go (Some m) is h = (m, is, not-true (bad_image m) h)
 
 pub passed_image : (past : Past) (q : ℕ) (e : ImageElement) (s : Spot) (w : World) (t : Byte → LastTouches) (old new : Contents) → is_good_image past e.image ≡ true
-    → BecomesIn (IsImagePassed q e s) (get nat_cmp old.resources e.image) (get nat_cmp new.resources e.image) → ((other : ℕ) → other ≢ e.image → get nat_cmp new.resources other ≡ get nat_cmp old.resources other)
+    → BecomesIn (IsImagePassed q e s) (value_of old.resources e.image) (value_of new.resources e.image) → ((other : ℕ) → other ≢ e.image → value_of new.resources other ≡ value_of old.resources other)
     → AreAllAt old past w t → AreAllAt new past (after_element past (family_of q) w (element.Image e)) (touched_by past q (element.Image e) s t)
 passed_image past q e s w t old new good here others = passed_one past e.image w (after_element past (family_of q) w (element.Image e)) t (touched_by past q (element.Image e) s t) old new
     (image_is_resource past e.image (ap is_some (good_there past e.image good).1)) (apart_from_image past (family_of q) e (transfer (family_of q) e.families) w)
     (λ b ne c own. ap (λ (x : Bool). if x then with_transition (t c) s else t c) (moves_no_other past q e c (rw own ne)))
-    (becomes_so (IsImagePassed q e s) _ (λ u v h. h past w t good) (get nat_cmp old.resources e.image) (get nat_cmp new.resources e.image) here) others
+    (becomes_so (IsImagePassed q e s) _ (λ u v h. h past w t good) (value_of old.resources e.image) (value_of new.resources e.image) here) others
 
 -- ---- a barrier
 
@@ -235,5 +234,5 @@ module _ (past : Past) (p : Point) (clean : fault (p ∷ past) ≡ None) (es : L
   }
 
   pub passed_step : (old new : Contents) → (AreOnResources past es → AreAllAt old past (world past) (touched past) → AreAllAt new past (fold (after_element past (family_of p.queue)) (world past) es) (touched_by_all past p (nodes past) es (touched past))) → AreContents old past → AreContents new (p ∷ past)
-  passed_step old new passes are b = next_at (touched_by_all past p (nodes past) es (touched past)) (barrier_touched past p es is) (get nat_cmp new.resources b) b
-      (subst (λ (w : World). AreContentsInAt (get nat_cmp new.resources b) past w (touched_by_all past p (nodes past) es (touched past)) b) (sym world_is) (passes on_resources are b))
+  passed_step old new passes are b = next_at (touched_by_all past p (nodes past) es (touched past)) (barrier_touched past p es is) (value_of new.resources b) b
+      (subst (λ (w : World). AreContentsInAt (value_of new.resources b) past w (touched_by_all past p (nodes past) es (touched past)) b) (sym world_is) (passes on_resources are b))

@@ -10,8 +10,7 @@ use Rattle.vk_order.specs.declared.new_node.NewNode.{NewNode}
 use Rattle.vk_order.specs.Frontiers.{IsFrontier, IsNewNode}
 use Rattle.vk_order.specs.PointViews.{point_of}
 use Rattle.vk_touches.specs.declared.touches.Spot.{Spot}
-use Rattle.std.specs.Ordering.{nat_cmp}
-use Rattle.std.specs.BTreeMap.{get}
+use Rattle.vk_ids.specs.Ids.{value_of}
 use Rattle.vk_touches.specs.Touched.{next_spot, next_node, act_next, touched}
 use Rattle.vk_history.specs.Contents.{AreCopiedNumbers, BecomesIn, IsRead, IsSet, IsFlushed, IsWrittenBy, IsClearedBy}
 use Rattle.vk_model.specs.World.Effect.{world}
@@ -37,16 +36,16 @@ returns-in-Made c = on_three c.make.result c.make.ensures.here c.make.ensures.pr
 pub returns-in-HostRead : goal.returns-in-HostRead
 returns-in-HostRead c = on_three c.read.result c.read.ensures.here c.read.ensures.others c.read.ensures.here (λ here others more past clean spot_is objects frontier are.
     let p = point_of c.args.point.now in
-    let old = get nat_cmp c.args.self.now.resources c.in-HostRead.buffer in
-    let new = get nat_cmp c.read.new.self.resources c.in-HostRead.buffer in
+    let old = value_of c.args.self.now.resources c.in-HostRead.buffer in
+    let new = value_of c.read.new.self.resources c.in-HostRead.buffer in
     read_step past p clean c.in-HostRead.buffer c.in-HostRead.offset c.in-HostRead.size c.in-HostRead.ensures c.args.self.now c.read.new.self
     (subst (λ (s : Spot). BecomesIn (λ u v. IsRead u v c.in-HostRead.offset c.in-HostRead.size s) old new) spot_is here) others are)
 
 pub returns-in-HostWritten : goal.returns-in-HostWritten
 returns-in-HostWritten c = on_three c.set.result c.set.ensures.here c.set.ensures.others c.set.ensures.here (λ here others more past clean spot_is objects frontier are.
     let p = point_of c.args.point.now in
-    let old = get nat_cmp c.args.self.now.resources c.in-HostWritten.buffer in
-    let new = get nat_cmp c.set.new.self.resources c.in-HostWritten.buffer in
+    let old = value_of c.args.self.now.resources c.in-HostWritten.buffer in
+    let new = value_of c.set.new.self.resources c.in-HostWritten.buffer in
     let fits = c.in-HostWritten.ensures in
     set_step past p clean c.in-HostWritten.buffer c.in-HostWritten.offset fits.0 fits.1 c.args.self.now c.set.new.self
     (subst (λ (n : ℕ). BecomesIn (λ u v. IsSet u v c.in-HostWritten.offset n (next_spot past p)) old new) fits.2
@@ -55,16 +54,16 @@ returns-in-HostWritten c = on_three c.set.result c.set.ensures.here c.set.ensure
 pub returns-in-Written : goal.returns-in-Written
 returns-in-Written c = on_three c.write.result c.write.ensures.here c.write.ensures.others c.write.ensures.here (λ here others more past clean spot_is objects frontier are.
     let p = point_of c.args.point.now in
-    let old = get nat_cmp c.args.self.now.resources c.in-Written.buffer in
-    let new = get nat_cmp c.write.new.self.resources c.in-Written.buffer in
+    let old = value_of c.args.self.now.resources c.in-Written.buffer in
+    let new = value_of c.write.new.self.resources c.in-Written.buffer in
     written_step past p clean c.in-Written.buffer c.in-Written.offset c.in-Written.size c.in-Written.ensures c.args.self.now c.write.new.self
     (subst (λ (s : Spot). BecomesIn (IsWrittenBy c.in-Written.offset c.in-Written.size p.queue s) old new) spot_is here) others are)
 
 pub returns-in-Flushed : goal.returns-in-Flushed
 returns-in-Flushed c = on_three c.flush.result c.flush.ensures.here c.flush.ensures.others c.flush.ensures.here (λ here others more past clean spot_is objects frontier are.
     let p = point_of c.args.point.now in
-    let old = get nat_cmp c.args.self.now.resources c.in-Flushed.buffer in
-    let new = get nat_cmp c.flush.new.self.resources c.in-Flushed.buffer in
+    let old = value_of c.args.self.now.resources c.in-Flushed.buffer in
+    let new = value_of c.flush.new.self.resources c.in-Flushed.buffer in
     flush_change past p clean c.in-Flushed.buffer c.in-Flushed.offset c.in-Flushed.size c.in-Flushed.ensures c.args.self.now c.flush.new.self
     (subst (λ (s : Spot). BecomesIn (λ u v. IsFlushed u v c.in-Flushed.offset c.in-Flushed.size s) old new) spot_is here) others are)
 
@@ -95,8 +94,8 @@ returns-in-ImageMade c = on_three c.make_image.result c.make_image.ensures.here 
 pub returns-in-Cleared : goal.returns-in-Cleared
 returns-in-Cleared c = on_three c.clear.result c.clear.ensures.here c.clear.ensures.others c.clear.ensures.here (λ here others more past clean spot_is objects frontier are.
     let p = point_of c.args.point.now in
-    let old = get nat_cmp c.args.self.now.resources c.in-Cleared.image in
-    let new = get nat_cmp c.clear.new.self.resources c.in-Cleared.image in
+    let old = value_of c.args.self.now.resources c.in-Cleared.image in
+    let new = value_of c.clear.new.self.resources c.in-Cleared.image in
     let fits = c.in-Cleared.ensures in
     cleared_step past p clean c.in-Cleared.image fits.0 fits.1 c.in-Cleared.ranges.now fits.2 c.args.self.now c.clear.new.self
     (subst (λ (s : Spot). BecomesIn (IsClearedBy c.in-Cleared.ranges.now p.queue s) old new) spot_is here) others are)
