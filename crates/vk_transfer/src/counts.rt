@@ -1,4 +1,4 @@
-ghost use Rattle.std.specs.Prelude.{◌≡◌, ◌+◌, ◌-◌, ◌^◌, ◌<◌, ◌≤◌, [], ◌∷◌, ◌++◌, ℕ, List, length, slice_index, IfOk, OnOk, IsErrOf};
+ghost use Rattle.std.specs.Prelude.{◌≡◌, ◌+◌, ◌-◌, ◌^◌, ◌<◌, ◌≤◌, [], ◌∷◌, ◌++◌, ℕ, List, length, slice_index, IfOk, OnOk, OnErr, IsErrOf};
 ghost use Rattle.vk_transfer.specs.Counted.{all_counted};
 
 use std::alloc::{AllocError, AllocFailed, Global};
@@ -88,6 +88,7 @@ impl Counts {
     pub fn add(&mut self, pieces: u64) -> Result<(), CopyError>
         ensures more { OnOk result (self.new ≡ self.old ++ (all_counted self.old + pieces) ∷ []) }
         ensures many { IsErrOf result TooManyPieces → 2 ^ 64 ≤ all_counted self.old + pieces }
+        ensures err { OnErr result (self.new ≡ self.old) }
     {
         match self.all().checked_add(pieces) {
             Some(more) => {
