@@ -1,5 +1,6 @@
 mod Splits
 mod Sides
+mod Found
 pub mod ListPairs
 mod Places
 mod Hulls

@@ -1,5 +1,5 @@
 -- Which parts of resources overlap.
-use Rattle.std.specs.Prelude.{List, Bool, ◌&&◌, ◌||◌}
+use Rattle.std.specs.Prelude.{◌≡◌, List, ◌∷◌, ◌++◌, Bool, IsTrue, ◌&&◌, ◌||◌}
 use Rattle.std.specs.List.{list_any}
 use Rattle.vk_model.specs.Basics.{some_pair}
 use Rattle.vk_model.specs.Memory.Suballocation.{ranges_meet}
@@ -17,3 +17,10 @@ extents_meet e f = spans_meet e.resources f.resources && spans_meet e.levels f.l
 -- Whether one of the parts that are written has something in common with another one of them, or with one that is read (Vulkan, "Copy Commands": regions of a copy must not overlap).
 abbrev pub parts_overlap : List Extent → List Extent → Bool
 parts_overlap written read = some_pair extents_meet written || list_any (λ w. list_any (extents_meet w) read) written
+
+-- A part is one of those that are written, and has something in common with another one of them, or with one that is read. Equal parts at two places are two.
+pub record IsOverlapping (written read : List Extent) (part : Extent) : Type 0 where
+  pub before : List Extent
+  pub after : List Extent
+  pub whole : written ≡ before ++ part ∷ after
+  pub meets : IsTrue (list_any (extents_meet part) (before ++ (after ++ read)))

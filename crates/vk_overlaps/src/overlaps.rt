@@ -1,5 +1,5 @@
-ghost use Rattle.std.specs.Prelude.{◌≡◌, IfOk, is_some};
-ghost use Rattle.vk_overlaps.specs.Extents.{parts_overlap};
+ghost use Rattle.std.specs.Prelude.{◌≡◌, IfOk, IfSome, is_some};
+ghost use Rattle.vk_overlaps.specs.Extents.{parts_overlap, IsOverlapping};
 
 use crate::extents::Extent;
 use crate::pairs::overlapping_by_pairs;
@@ -29,7 +29,8 @@ pub fn overlapping(
     written: &[Extent],
     read: &[Extent],
 ) -> Result<Option<Extent>, AllocError>
-    ensures { IfOk result (λ found. is_some found ≡ parts_overlap written.now read.now) }
+    ensures found { IfOk result (λ found. is_some found ≡ parts_overlap written.now read.now) }
+    ensures part { IfOk result (λ found. IfSome found (IsOverlapping written.now read.now)) }
 {
     overlapping_within(alloc, written, read, DEEPEST)
 }
@@ -41,7 +42,8 @@ fn overlapping_within(
     read: &[Extent],
     depth: u32,
 ) -> Result<Option<Extent>, AllocError>
-    ensures { IfOk result (λ found. is_some found ≡ parts_overlap written.now read.now) }
+    ensures found { IfOk result (λ found. is_some found ≡ parts_overlap written.now read.now) }
+    ensures part { IfOk result (λ found. IfSome found (IsOverlapping written.now read.now)) }
 {
     if written.len() <= FEW || depth == 0 {
         return Ok(overlapping_by_pairs(written, read));
