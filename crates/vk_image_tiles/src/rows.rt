@@ -1,4 +1,5 @@
-ghost use Rattle.std.specs.Prelude.{◌≡◌, ◌≤◌, ◌<◌, ◌+◌, ◌*◌, ◌/◌, IfSome};
+ghost use Rattle.std.specs.Prelude.{◌≡◌, ◌≢◌, ◌≤◌, ◌<◌, ◌+◌, ◌*◌, ◌/◌, ◌%◌, IfSome, IfNone};
+ghost use Rattle.vk_model.specs.declared.resource.Kind.TheVariants as kind;
 ghost use Rattle.vk_model.specs.Memory.Addresses.{number_in_tile};
 ghost use Rattle.vk_image_tiles.specs.Rows.{ArePairs, IsRun, place_in};
 
@@ -82,7 +83,8 @@ impl Row {
     /// Of the eight texels from `x` on, which lie together two by two, the first byte of each pair,
     /// counted from the image's. In an optimal image they are one row of a tile, or `None`.
     pub fn pairs(&self, x: u32) -> Option<[u64; 4]>
-        ensures { IfSome result (ArePairs (place_in self.now) self.now.texel x) }
+        ensures pairs { IfSome result (ArePairs (place_in self.now) self.now.texel x) }
+        ensures none { IfNone result ((self.now.tiling ≡ kind.Optimal) × (x % 8 ≢ 0)) }
     {
         let at = self.address(x);
         let texel = self.texel;

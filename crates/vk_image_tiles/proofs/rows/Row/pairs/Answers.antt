@@ -5,8 +5,8 @@ use Rattle.vk_image_tiles.specs.Rows.{TexelRow, ArePairs, place_in}
 use Rattle.vk_image_tiles.proofs.RunLemmas.{tile_pairs}
 use Rattle.vk_image_tiles.proofs.rows.Row.pairs.Goals as goal
 
-pub returns-in-Optimal : goal.returns-in-Optimal
-returns-in-Optimal c =
+pub returns-in-Optimal-clause-pairs : goal.returns-in-Optimal-clause-pairs
+returns-in-Optimal-clause-pairs c =
     let row : TexelRow = c.args.self.now in
     let texel = c.self.inside.texel in
     let at = c.address-at.result in

@@ -30,16 +30,16 @@ module _ (l : Line) (start first : ℕ) (row : TexelRow) (x : ℕ) (starts : Lis
   all_pairs (suc (suc (suc (suc k)))) low = absurd (omega arith)
 
 pub overflow_add-result-in-Image : goal.overflow_add-result-in-Image
-overflow_add-result-in-Image c = let fits = in_bounds c.args.self.now c.in-Image.start c.in-Image.first c.in-Image.row c.args.x c.in_ok-one-in-Image.field-0 c.in-Image.is c.in_ok-one-in-Image.ensures c.requires.places 0 (omega arith) in omega (arith, fits)
+overflow_add-result-in-Image c = let fits = in_bounds c.args.self.now c.in-Image.start c.in-Image.first c.in-Image.row c.args.x c.in_ok-one-in-Image.field-0 c.in-Image.is c.in_ok-one-in-Image.ensures.pairs c.requires.places 0 (omega arith) in omega (arith, fits)
 
 pub overflow_add-result-in-Image-2 : goal.overflow_add-result-in-Image-2
-overflow_add-result-in-Image-2 c = let fits = in_bounds c.args.self.now c.in-Image.start c.in-Image.first c.in-Image.row c.args.x c.in_ok-one-in-Image.field-0 c.in-Image.is c.in_ok-one-in-Image.ensures c.requires.places 1 (omega arith) in omega (arith, fits)
+overflow_add-result-in-Image-2 c = let fits = in_bounds c.args.self.now c.in-Image.start c.in-Image.first c.in-Image.row c.args.x c.in_ok-one-in-Image.field-0 c.in-Image.is c.in_ok-one-in-Image.ensures.pairs c.requires.places 1 (omega arith) in omega (arith, fits)
 
 pub overflow_add-result-in-Image-3 : goal.overflow_add-result-in-Image-3
-overflow_add-result-in-Image-3 c = let fits = in_bounds c.args.self.now c.in-Image.start c.in-Image.first c.in-Image.row c.args.x c.in_ok-one-in-Image.field-0 c.in-Image.is c.in_ok-one-in-Image.ensures c.requires.places 2 (omega arith) in omega (arith, fits)
+overflow_add-result-in-Image-3 c = let fits = in_bounds c.args.self.now c.in-Image.start c.in-Image.first c.in-Image.row c.args.x c.in_ok-one-in-Image.field-0 c.in-Image.is c.in_ok-one-in-Image.ensures.pairs c.requires.places 2 (omega arith) in omega (arith, fits)
 
 pub overflow_add-result-in-Image-4 : goal.overflow_add-result-in-Image-4
-overflow_add-result-in-Image-4 c = let fits = in_bounds c.args.self.now c.in-Image.start c.in-Image.first c.in-Image.row c.args.x c.in_ok-one-in-Image.field-0 c.in-Image.is c.in_ok-one-in-Image.ensures c.requires.places 3 (omega arith) in omega (arith, fits)
+overflow_add-result-in-Image-4 c = let fits = in_bounds c.args.self.now c.in-Image.start c.in-Image.first c.in-Image.row c.args.x c.in_ok-one-in-Image.field-0 c.in-Image.is c.in_ok-one-in-Image.ensures.pairs c.requires.places 3 (omega arith) in omega (arith, fits)
 
 pub returns-in_ok-one-in-Image : goal.returns-in_ok-one-in-Image
-returns-in_ok-one-in-Image c = all_pairs c.args.self.now c.in-Image.start c.in-Image.first c.in-Image.row c.args.x c.in_ok-one-in-Image.field-0 c.in-Image.is c.in_ok-one-in-Image.ensures
+returns-in_ok-one-in-Image c = all_pairs c.args.self.now c.in-Image.start c.in-Image.first c.in-Image.row c.args.x c.in_ok-one-in-Image.field-0 c.in-Image.is c.in_ok-one-in-Image.ensures.pairs
