@@ -1,5 +1,5 @@
 -- Runs whose ends rise, and what a change of one end does to them.
-use Rattle.std.proofs.Common.{◌≡◌, ◌≢◌, ◌<◌, ◌≤◌, ◌+◌, ℕ, zero, suc, List, [], ◌∷◌, ◌++◌, length, take, drop, set, get_or, refl, sym, ap, ◌∙◌, inl, inr, arith}
+use Rattle.std.proofs.Common.{◌≡◌, ◌≢◌, ◌<◌, ◌≤◌, ◌+◌, ℕ, zero, suc, List, [], ◌∷◌, ◌++◌, length, drop, set, get_or, refl, sym, ap, ◌∙◌, inl, inr, arith}
 use Rattle.std.specs.Ordering.{nat_cmp}
 use Rattle.std.specs.Map.{remove_entry, set_value}
 use Rattle.std.specs.BTreeMap.{insert_entry, is_at}
@@ -241,7 +241,7 @@ module _ {T : Type 0} where
   gap_within low high (suc place) (run ∷ runs) is = let le = gap_within low high place runs is.1 in omega arith
 
   pub insert_both : (place : ℕ) (low high : ℕ × T) (runs : List (ℕ × T)) → low.0 < high.0 → IsGapOf low.0 high.0 place runs
-      → take place runs ++ low ∷ high ∷ drop place runs ≡ insert_entry nat_cmp (insert_entry nat_cmp runs high.0 high.1) low.0 low.1
+      → insert (insert runs place high) place low ≡ insert_entry nat_cmp (insert_entry nat_cmp runs high.0 high.1) low.0 low.1
   insert_both zero low high [] lt is = rw (less low.0 high.0 lt) refl
   insert_both zero low high (run ∷ runs) lt is = rw (less high.0 run.0 is) (rw (less low.0 high.0 lt) refl)
   insert_both (suc place) low high [] lt is = absurd is

@@ -1,4 +1,4 @@
-ghost use Rattle.std.specs.Prelude.{◌≡◌, ◌≤◌, ◌<◌, ◌∷◌, ◌++◌, [], length, take, drop, IsTrue, OnOk, OnErr, IfOk, IfSome};
+ghost use Rattle.std.specs.Prelude.{◌≡◌, ◌≤◌, ◌<◌, length, drop, IsTrue, OnOk, OnErr, IfOk, IfSome};
 ghost use Rattle.std.specs.Ordering.{nat_cmp};
 ghost use Rattle.std.specs.Map.{remove_entry, set_value};
 ghost use Rattle.std.specs.BTreeMap.{is_at, insert_entry};
@@ -6,7 +6,6 @@ ghost use Rattle.vk_ranges.specs.Runs.{after};
 ghost use Rattle.vk_ranges.specs.Inner.Chunks.{AreSorted, IsGapOf, IsHalved, IsPlaceOf};
 
 use std::alloc::AllocError;
-use std::mem::replace;
 
 /// Runs that follow each other, in one block of memory.
 #[derive(Drop)]
@@ -44,28 +43,6 @@ pub(crate) fn rest_after<T>(runs: &[(u64, T)], index: u64) -> &[(u64, T)]
 {
     let count = count_until(runs, index);
     &runs[count..]
-}
-
-/// Puts two runs in front of those from a place on, and gives the last two, which have no place
-/// left.
-fn shift_from<T>(
-    runs: &mut [(u64, T)],
-    place: usize,
-    low: (u64, T),
-    high: (u64, T),
-) -> ((u64, T), (u64, T))
-    requires { place ≤ length runs.old }
-    ensures len { length runs.new ≡ length runs.old }
-    ensures runs { runs.new ++ result.0 ∷ result.1 ∷ [] ≡ take place runs.old ++ low ∷ high ∷ drop place runs.old }
-{
-    let mut first = low;
-    let mut second = high;
-    for at in place..runs.len() {
-        let shifted = replace(&mut runs[at], first);
-        first = second;
-        second = shifted;
-    }
-    (first, second)
 }
 
 impl<T: Drop> Chunk<T> {
@@ -110,8 +87,7 @@ impl<T: Drop> Chunk<T> {
         Some(place)
     }
 
-    /// Puts two new runs in their place, which no run lies in, at the cost of one move of the runs
-    /// after it. An error leaves the runs as they were.
+    /// Puts two new runs in their place, which no run lies in. An error leaves the runs as they were.
     pub(crate) fn insert_both(
         &mut self,
         place: usize,
@@ -126,9 +102,8 @@ impl<T: Drop> Chunk<T> {
         ensures err { OnErr result (self.new.runs.items ≡ self.old.runs.items) }
     {
         self.runs.reserve(2)?;
-        let (first, second) = shift_from(&mut self.runs, place, low, high);
-        self.runs.push(first)?;
-        self.runs.push(second)?;
+        self.runs.insert(place, high)?;
+        self.runs.insert(place, low)?;
         Ok(())
     }
 

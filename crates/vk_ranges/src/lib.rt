@@ -5,8 +5,8 @@
 //! length, and an operation costs the runs that it touches: a binary search and a walk from there,
 //! and one search for each end of a run that is new, goes, or gets another value. The runs lie in
 //! order in chunks of at most 64, so a new one moves those of its chunk, and the list of the chunks
-//! where that is full. Two new ends within one run take one search and one move, where their chunk
-//! has room for both.
+//! where that is full. Two new ends within one run take one search, where their chunk has room for
+//! both.
 //!
 //! ```text
 //! let mut map = RangeMap::new(alloc, 10, 0)?;     // 0 0 0 0 0 0 0 0 0 0

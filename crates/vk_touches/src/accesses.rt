@@ -1,7 +1,7 @@
 ghost use Rattle.std.specs.Prelude.{◌≡◌, ◌<◌, ◌≤◌, ℕ, Bool, true, false, length, not};
 ghost use Rattle.vk_touches.specs.Bytes.{HaveNumbers};
 ghost use Rattle.vk_touches.specs.Conflicts.{AreSeen, FoundAt, IsRefused, Misses, MissesFlush, MissesHostWrite, MissesOther, MissesRead, MissesWrite, SaysSeen, SeesWrite, SomeBetween};
-ghost use Rattle.vk_touches.specs.TouchMaps.{without_host_read, with_write_alone};
+ghost use Rattle.vk_touches.specs.TouchMaps.{without_reads, with_write_alone};
 
 use crate::bytes::Bytes;
 use crate::map::TouchMap;
@@ -16,7 +16,7 @@ pub struct ResourceAccess<'a> {
     /// What is known of the nodes so far.
     pub frontier: &'a Frontier,
     /// What the node has before it, and what it sees.
-    pub new_node: &'a NewNode,
+    pub new_node: &'a NewNode<'a>,
     /// The bytes of the resource.
     pub bytes: Bytes<'a>,
     /// How it is accessed.
@@ -47,9 +47,10 @@ impl ResourceAccess<'_> {
             .frontier
             .visible_prefix(self.new_node, Line::Host, self.access);
         for run in touches.writes.overlapping(low, high) {
-            if !self.is_among(run.value.write, visible_prefix) {
-                visible_prefix = self.visible_prefix_for(run.value, visible_prefix);
-                if self.misses_write(run.start, run.end, run.value.write, visible_prefix) {
+            let write = run.value.write();
+            if !self.is_among(write, visible_prefix) {
+                visible_prefix = self.visible_prefix_for(write, visible_prefix);
+                if self.misses_write(run.start, run.end, write, visible_prefix) {
                     return true;
                 }
             }
@@ -104,11 +105,11 @@ impl ResourceAccess<'_> {
     /// The first nodes of a line as far as all their writes are seen: of the line of the last write by
     /// a command, where there is one. Most other writes are on the same line.
     #[inline(always)]
-    fn visible_prefix_for(&self, last: &LastWrite, visible_prefix: VisiblePrefix) -> VisiblePrefix
+    fn visible_prefix_for(&self, last: Option<Spot>, visible_prefix: VisiblePrefix) -> VisiblePrefix
         requires { AreSeen self.now visible_prefix }
         ensures { AreSeen self.now result }
     {
-        match last.write {
+        match last {
             Some(write) if !visible_prefix.is_of(write.line) => {
                 self.frontier
                     .visible_prefix(self.new_node, write.line, self.access)
@@ -129,7 +130,7 @@ impl ResourceAccess<'_> {
     ) -> bool
         requires numbers { HaveNumbers self.now.bytes high }
         requires visible_prefix { AreSeen self.now visible_prefix }
-        ensures { SomeBetween (λ k r. MissesOther is_cached self.now k r (without_host_read last.now)) result low high }
+        ensures { SomeBetween (λ k r. MissesOther is_cached self.now k r (without_reads last.now)) result low high }
     {
         self.misses_host_write(low, high, last, is_cached, visible_prefix)
             || self.misses_write(low, high, last.transition, visible_prefix)
@@ -146,7 +147,7 @@ impl ResourceAccess<'_> {
     ) -> bool
         requires numbers { HaveNumbers self.now.bytes high }
         requires visible_prefix { AreSeen self.now visible_prefix }
-        ensures { SomeBetween (λ k r. MissesHostWrite is_cached self.now k r (without_host_read last.now)) result low high }
+        ensures { SomeBetween (λ k r. MissesHostWrite is_cached self.now k r (without_reads last.now)) result low high }
     {
         if is_cached {
             self.misses_flush(low, high, last, visible_prefix)
@@ -165,7 +166,7 @@ impl ResourceAccess<'_> {
     ) -> bool
         requires numbers { HaveNumbers self.now.bytes high }
         requires visible_prefix { AreSeen self.now visible_prefix }
-        ensures { SomeBetween (λ k r. MissesFlush self.now k r (without_host_read last.now)) result low high }
+        ensures { SomeBetween (λ k r. MissesFlush self.now k r (without_reads last.now)) result low high }
     {
         if last.host_write.is_none() {
             return false;

@@ -9,7 +9,7 @@ ghost use Rattle.vk_touches.specs.TouchedRanges.{AreInvalidated, invalidating, s
 use crate::accesses::ResourceAccess;
 use crate::map::TouchMap;
 use crate::parts::Part;
-use crate::writes::LastWrite;
+use crate::writes::{KeptWrite, LastWrite};
 use std::alloc::AllocError;
 use vk_model::Length;
 use vk_ranges::RangeMap;
@@ -59,7 +59,7 @@ fn invalidate_next(
 
 /// What the bytes from `low` on and below an end, which is at most `high`, all remember of writes by
 /// commands, and that end.
-fn next_run(touches: &RangeMap<LastWrite>, low: u64, high: u64) -> (LastWrite, u64)
+fn next_run(touches: &RangeMap<KeptWrite>, low: u64, high: u64) -> (LastWrite, u64)
     requires order { low < high }
     requires within { high ≤ length touches.now }
     ensures further { low < result.1 }
@@ -69,5 +69,5 @@ fn next_run(touches: &RangeMap<LastWrite>, low: u64, high: u64) -> (LastWrite, u
     let Some(run) = touches.overlapping(low, high).next() else {
         unreachable!()
     };
-    (*run.value, run.end)
+    (run.value.last(), run.end)
 }

@@ -15,6 +15,7 @@ mod map;
 mod others;
 mod parts;
 mod ranges;
+mod reads;
 mod touches;
 mod transitions;
 mod writes;

@@ -4,7 +4,8 @@ ghost use Rattle.vk_touches.specs.Remembered.{untouched};
 
 use crate::early::{has_early_read, is_early};
 use crate::others::OtherTouches;
-use crate::writes::LastWrite;
+use crate::reads::LastReads;
+use crate::writes::KeptWrite;
 use std::alloc::{AllocError, Global};
 use std::marker::Model;
 use vk_order::NewNode;
@@ -13,12 +14,11 @@ use vk_ranges::RangeMap;
 /// What each byte of a resource remembers. Contracts see the list of it.
 ///
 /// The last writes by commands are runs of their own, as they often differ where nothing else does,
-/// and so are the last reads by the host, so that a read of many bytes by the host, which remember
-/// different writes, is one run.
+/// and so are the last reads, so that a read of many bytes that remember different writes is one run.
 #[derive(Drop)]
 pub struct TouchMap {
-    pub(crate) writes: RangeMap<LastWrite>,
-    pub(crate) host_reads: RangeMap<Option<usize>>,
+    pub(crate) writes: RangeMap<KeptWrite>,
+    pub(crate) reads: RangeMap<LastReads>,
     pub(crate) others: RangeMap<OtherTouches>,
 }
 
@@ -30,9 +30,9 @@ impl Model for TouchMap {
 
     ghost use Rattle.vk_touches.specs.TouchMaps.{all_remembered, HaveOneLength};
 
-    ghost view = { λ m. all_remembered m.writes m.others m.host_reads };
+    ghost view = { λ m. all_remembered m.writes m.others m.reads };
 
-    ghost invariant = { λ m. HaveOneLength m.writes m.others m.host_reads };
+    ghost invariant = { λ m. HaveOneLength m.writes m.others m.reads };
 }
 
 impl TouchMap {
@@ -43,8 +43,8 @@ impl TouchMap {
             → slice_get map index ≡ Some untouched) }
     {
         Ok(TouchMap {
-            writes: RangeMap::new(alloc, len, LastWrite::none())?,
-            host_reads: RangeMap::new(alloc, len, None)?,
+            writes: RangeMap::new(alloc, len, KeptWrite::none())?,
+            reads: RangeMap::new(alloc, len, LastReads::none())?,
             others: RangeMap::new(alloc, len, OtherTouches::none())?,
         })
     }
@@ -58,16 +58,16 @@ impl TouchMap {
 
     /// Whether of some byte of a range the last read, by the host or by a command of some queue, or
     /// the last layout transition doesn't come before.
-    pub fn has_early(&self, low: u64, high: u64, new_node: &NewNode) -> bool
+    pub fn has_early(&self, low: u64, high: u64, new_node: &NewNode<'_>) -> bool
         requires order { low ≤ high }
         requires within { high ≤ length self.now }
         ensures { FoundIn (IsEarly new_node.now) result self.now low high }
     {
         for run in self.others.overlapping(low, high) {
-            let early = self.host_reads.find(
+            let early = self.reads.find(
                 run.start,
                 run.end,
-                |host_read| is_early(run.value, *host_read, new_node),
+                |reads| is_early(run.value, reads, new_node),
             );
             if early.is_some() {
                 return true;
@@ -77,13 +77,17 @@ impl TouchMap {
     }
 
     /// The same of the last reads by commands alone.
-    pub fn has_early_command(&self, low: u64, high: u64, new_node: &NewNode) -> bool
+    pub fn has_early_command(&self, low: u64, high: u64, new_node: &NewNode<'_>) -> bool
         requires order { low ≤ high }
         requires within { high ≤ length self.now }
         ensures { FoundIn (HasEarlyCommand new_node.now) result self.now low high }
     {
-        self.others
-            .find(low, high, |others| has_early_read(&others.reads, new_node))
+        self.reads
+            .find(
+                low,
+                high,
+                |reads| has_early_read(&reads.by_queues, new_node),
+            )
             .is_some()
     }
 
@@ -95,9 +99,7 @@ impl TouchMap {
         ensures { FoundIn (λ r t. r ≡ (is_some t.write && not t.is_invalidated)) result self.now low high }
     {
         self.writes
-            .find(low, high, |last| {
-                last.write.is_some() && !last.is_invalidated
-            })
+            .find(low, high, |kept| kept.last().is_stale())
             .is_some()
     }
 }

@@ -1,12 +1,13 @@
 ghost use Rattle.std.specs.Prelude.{◌≡◌};
+ghost use Rattle.vk_touches.specs.declared.touches.Touch.TheVariants as touch;
 ghost use Rattle.vk_touches.specs.Remembered as remembered;
-ghost use Rattle.vk_touches.specs.TouchMaps.{others_of, without_host_read};
+ghost use Rattle.vk_touches.specs.TouchMaps.{others_of, without_reads};
 
-use crate::touches::{QueueReads, Spot, Touch};
+use crate::touches::Spot;
 use std::alloc::AllocError;
 use vk_ranges::RangeValue;
 
-/// What a byte remembers but for the last read by the host and writes by commands.
+/// What a byte remembers but for reads and for writes by commands.
 #[derive(Clone, Copy)]
 pub(crate) struct OtherTouches {
     /// The last host entry that wrote it.
@@ -15,8 +16,6 @@ pub(crate) struct OtherTouches {
     pub(crate) flush: Option<Spot>,
     /// The last layout transition of it.
     pub(crate) transition: Option<Spot>,
-    /// The last command of each queue that read it.
-    pub(crate) reads: QueueReads,
 }
 
 impl OtherTouches {
@@ -28,36 +27,23 @@ impl OtherTouches {
             host_write: None,
             flush: None,
             transition: None,
-            reads: QueueReads {
-                first: None,
-                second: None,
-                third: None,
-                fourth: None,
-            },
         }
     }
 
-    /// After the node of a spot has touched the byte.
-    pub(crate) fn with(self, touch: Touch, spot: Spot) -> OtherTouches
-        ensures { result ≡ others_of (remembered.with_touch (without_host_read self) touch spot) }
+    /// After the host entry of a spot has written the byte.
+    pub(crate) fn written(self, spot: Spot) -> OtherTouches
+        ensures { result ≡ others_of (remembered.with_touch (without_reads self) touch.HostWrite spot) }
     {
-        match touch {
-            Touch::HostWrite => OtherTouches {
-                host_write: Some(spot),
-                flush: None,
-                ..self
-            },
-            Touch::Write | Touch::HostRead => self,
-            Touch::Read(queue) => OtherTouches {
-                reads: self.reads.with(queue, spot.place),
-                ..self
-            },
+        OtherTouches {
+            host_write: Some(spot),
+            flush: None,
+            ..self
         }
     }
 
     /// After the host entry of a spot has flushed the byte.
     pub(crate) fn flushed(self, spot: Spot) -> OtherTouches
-        ensures { result ≡ others_of (remembered.with_flush (without_host_read self) spot) }
+        ensures { result ≡ others_of (remembered.with_flush (without_reads self) spot) }
     {
         OtherTouches {
             flush: self.flush.or(Some(spot)),
@@ -67,7 +53,7 @@ impl OtherTouches {
 
     /// After the layout transition of a spot has read and written the byte.
     pub(crate) fn transitioned(self, spot: Spot) -> OtherTouches
-        ensures { result ≡ others_of (remembered.with_transition (without_host_read self) spot) }
+        ensures { result ≡ others_of (remembered.with_transition (without_reads self) spot) }
     {
         OtherTouches {
             transition: Some(spot),
@@ -85,9 +71,6 @@ impl RangeValue for OtherTouches {
         if !self.host_write.is_same(&other.host_write) || !self.flush.is_same(&other.flush) {
             return false;
         }
-        if !self.transition.is_same(&other.transition) {
-            return false;
-        }
-        self.reads.is_same(&other.reads)
+        self.transition.is_same(&other.transition)
     }
 }

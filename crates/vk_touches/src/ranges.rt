@@ -7,7 +7,7 @@ ghost use Rattle.vk_touches.specs.TouchedRanges.{touching, flushing, transitioni
 use crate::map::TouchMap;
 use crate::parts::Part;
 use crate::touches::{Spot, Touch};
-use crate::writes::LastWrite;
+use crate::writes::KeptWrite;
 use std::alloc::AllocError;
 use vk_model::{BufferCopy, Length};
 
@@ -26,13 +26,20 @@ pub fn touch(
     match way {
         Touch::Write => touches
             .writes
-            .assign(part.low, part.high, LastWrite::by(spot)),
-        Touch::HostRead => touches
-            .host_reads
-            .assign(part.low, part.high, Some(spot.place)),
-        _ => touches
+            .assign(part.low, part.high, KeptWrite::by(spot)),
+        Touch::HostWrite => touches
             .others
-            .update(part.low, part.high, |others| Ok(others.with(way, spot))),
+            .update(part.low, part.high, |others| Ok(others.written(spot))),
+        Touch::HostRead => touches.reads.update(
+            part.low,
+            part.high,
+            |reads| Ok(reads.with_host(spot.place)),
+        ),
+        Touch::Read(queue) => touches.reads.update(
+            part.low,
+            part.high,
+            |reads| Ok(reads.with_command(queue, spot.place)),
+        ),
     }
 }
 

@@ -40,7 +40,7 @@ impl TransitionAccess<'_> {
         ensures { FoundAt (MissesWriteAt self.now) result touches.now low high }
     {
         for run in touches.writes.overlapping(low, high) {
-            if self.misses_write(run.start, run.end, run.value.write) {
+            if self.misses_write(run.start, run.end, run.value.write()) {
                 return true;
             }
         }

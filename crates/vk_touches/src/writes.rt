@@ -1,10 +1,12 @@
-ghost use Rattle.std.specs.Prelude.{◌≡◌};
+ghost use Rattle.std.specs.Prelude.{◌≡◌, ◌&&◌, is_some, not};
 ghost use Rattle.vk_touches.specs.declared.touches.Touch.TheVariants as touch;
 ghost use Rattle.vk_touches.specs.Remembered as remembered;
 ghost use Rattle.vk_touches.specs.TouchMaps.{with_write_alone, write_of};
 
 use crate::touches::Spot;
 use std::alloc::AllocError;
+use std::marker::Model;
+use vk_order::Line;
 use vk_ranges::RangeValue;
 
 /// What a byte remembers of writes by commands.
@@ -17,43 +19,120 @@ pub(crate) struct LastWrite {
 }
 
 impl LastWrite {
-    /// Of a byte that no command wrote.
-    pub(crate) fn none() -> LastWrite
-        ensures { result ≡ write_of remembered.untouched }
+    /// Whether a command wrote it, and the last invalidation of it doesn't see that.
+    pub(crate) fn is_stale(self) -> bool
+        ensures { result ≡ (is_some self.write && not self.is_invalidated) }
     {
-        LastWrite {
-            write: None,
-            is_invalidated: false,
-        }
+        self.write.is_some() && !self.is_invalidated
     }
 
-    /// After the command of a spot has written the byte.
-    pub(crate) fn by(spot: Spot) -> LastWrite
-        ensures { result ≡ write_of (remembered.with_touch remembered.untouched touch.Write spot) }
-    {
-        LastWrite {
-            write: Some(spot),
-            is_invalidated: false,
-        }
-    }
-
-    /// After a host entry has invalidated the byte, which sees the last write or not.
-    pub(crate) fn invalidated(self, is_invalidated: bool) -> LastWrite
+    /// To be kept after a host entry has invalidated the byte, which sees the last write or not.
+    pub(crate) fn invalidated(self, is_invalidated: bool) -> KeptWrite
         ensures { result ≡ write_of (remembered.with_invalidation (with_write_alone self) is_invalidated) }
     {
-        LastWrite {
-            is_invalidated,
-            ..self
+        match self.write {
+            Some(spot) => KeptWrite {
+                is_written: true,
+                is_invalidated,
+                line: spot.line,
+                place: spot.place,
+                number: spot.number,
+            },
+            None => KeptWrite {
+                is_invalidated,
+                ..KeptWrite::none()
+            },
         }
     }
 }
 
-impl RangeValue for LastWrite {
-    fn duplicate(&self) -> Result<LastWrite, AllocError> {
-        Ok(*self)
+/// A `LastWrite` in less memory than the `Option` in it takes: there is one for each run of bytes.
+/// Contracts see the `LastWrite`.
+#[derive(Drop)]
+pub(crate) struct KeptWrite {
+    is_written: bool,
+    is_invalidated: bool,
+    /// The line of the last command that wrote it, where there is one.
+    line: Line,
+    place: usize,
+    number: usize,
+}
+
+impl Model for KeptWrite {
+    ghost use Rattle.vk_touches.specs.declared.writes.LastWrite.{LastWrite as AnyWrite};
+    ghost use Rattle.vk_touches.specs.TouchMaps.{kept_spot};
+
+    ghost Value = { AnyWrite };
+
+    ghost view = { λ m. record { write = kept_spot m.is_written m.line m.place m.number; is_invalidated = m.is_invalidated } };
+}
+
+impl KeptWrite {
+    /// Of a byte that no command wrote.
+    pub(crate) fn none() -> KeptWrite
+        ensures { result ≡ write_of remembered.untouched }
+    {
+        KeptWrite {
+            is_written: false,
+            is_invalidated: false,
+            line: Line::Host,
+            place: 0,
+            number: 0,
+        }
     }
 
-    fn is_same(&self, other: &LastWrite) -> bool {
-        self.is_invalidated == other.is_invalidated && self.write.is_same(&other.write)
+    /// After the command of a spot has written the byte.
+    pub(crate) fn by(spot: Spot) -> KeptWrite
+        ensures { result ≡ write_of (remembered.with_touch remembered.untouched touch.Write spot) }
+    {
+        KeptWrite {
+            is_written: true,
+            is_invalidated: false,
+            line: spot.line,
+            place: spot.place,
+            number: spot.number,
+        }
+    }
+
+    /// What is kept.
+    #[inline(always)]
+    pub(crate) fn last(&self) -> LastWrite
+        ensures { result ≡ self.now }
+    {
+        LastWrite {
+            write: self.write(),
+            is_invalidated: self.is_invalidated,
+        }
+    }
+
+    /// The last command that wrote it.
+    #[inline(always)]
+    pub(crate) fn write(&self) -> Option<Spot>
+        ensures { result ≡ self.now.write }
+    {
+        if !self.is_written {
+            return None;
+        }
+        Some(Spot {
+            line: self.line,
+            place: self.place,
+            number: self.number,
+        })
+    }
+}
+
+impl RangeValue for KeptWrite {
+    fn duplicate(&self) -> Result<KeptWrite, AllocError> {
+        Ok(KeptWrite {
+            is_written: self.is_written,
+            is_invalidated: self.is_invalidated,
+            line: self.line,
+            place: self.place,
+            number: self.number,
+        })
+    }
+
+    fn is_same(&self, other: &KeptWrite) -> bool {
+        self.is_invalidated == other.is_invalidated && self.write().is_same(&other.write())
     }
 }

@@ -5,4 +5,4 @@ use Rattle.vk_touches.proofs.TouchMaps.{IsEarlyAt}
 use Rattle.vk_touches.proofs.map.TouchMap.has_early.Given as goal
 
 abbrev pub invariant-loop-run : goal.invariant-loop-run
-invariant-loop-run l = AreSearched (IsEarlyAt l.self-inside.host_reads l.new_node) (λ k. IsEarly l.new_node) l.self l.low l.high (pieces_left l.run-iterator)
+invariant-loop-run l = AreSearched (IsEarlyAt l.self-inside.reads l.new_node) (λ k. IsEarly l.new_node) l.self l.low l.high (pieces_left l.run-iterator)

@@ -1,8 +1,8 @@
 use Rattle.vk_ranges.specs.Overlaps.{pieces_left}
 use Rattle.vk_touches.specs.Conflicts.{MissesTransitionAt}
-use Rattle.vk_touches.specs.TouchMaps.{without_host_read}
+use Rattle.vk_touches.specs.TouchMaps.{without_reads}
 use Rattle.vk_touches.proofs.Searches.{AreSearched}
 use Rattle.vk_touches.proofs.transitions.TransitionAccess.misses_some_transition.Given as goal
 
 abbrev pub invariant-loop-run : goal.invariant-loop-run
-invariant-loop-run l = AreSearched (λ k r t. MissesTransitionAt l.self k r (without_host_read t)) (MissesTransitionAt l.self) l.touches l.low l.high (pieces_left l.run-iterator)
+invariant-loop-run l = AreSearched (λ k r t. MissesTransitionAt l.self k r (without_reads t)) (MissesTransitionAt l.self) l.touches l.low l.high (pieces_left l.run-iterator)
