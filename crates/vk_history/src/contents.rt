@@ -218,7 +218,7 @@ impl Contents {
 }
 
 /// How a node that comes next reads a buffer.
-fn reading<'b>(frontier: &'b Frontier, new_node: &'b NewNode, buffer: u32) -> ResourceAccess<'b>
+fn reading<'b>(frontier: &'b Frontier, new_node: &'b NewNode<'b>, buffer: u32) -> ResourceAccess<'b>
     ensures bytes { result.bytes ≡ OfBuffer buffer }
     ensures access { result.access ≡ AsRead }
     ensures frontier { result.frontier.now ≡ frontier.now }

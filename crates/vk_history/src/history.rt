@@ -330,7 +330,7 @@ impl<'a> History<'a> {
     }
 
     /// What the node of a point that comes next has before it, and what it sees.
-    pub fn new_node(&self, point: &Point<'_>) -> Result<NewNode, AllocError>
+    pub fn new_node(&self, point: &Point<'_>) -> Result<NewNode<'_>, AllocError>
         ensures { IfOk result (λ s. IsApartFrom (nodes (past self.now)) (next_node (past self.now) (point_of point.now) (act_next (action_of point.now.action)))
             → IsNewNode (nodes (past self.now)) (next_node (past self.now) (point_of point.now) (act_next (action_of point.now.action))) s) }
     {
@@ -340,7 +340,7 @@ impl<'a> History<'a> {
     /// How the node that comes next accesses a resource.
     pub fn access<'b>(
         &'b self,
-        new_node: &'b NewNode,
+        new_node: &'b NewNode<'b>,
         resource: u32,
         access: Access,
     ) -> ResourceAccess<'b>

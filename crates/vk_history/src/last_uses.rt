@@ -106,7 +106,7 @@ impl LastUses {
     }
 
     /// Whether a node that names a resource isn't before the one that comes next, which sees this.
-    pub fn is_unfinished(&self, resource: u32, new_node: &NewNode) -> bool
+    pub fn is_unfinished(&self, resource: u32, new_node: &NewNode<'_>) -> bool
         ensures { (ns : List Node) (n : Node) → IsNewNode ns n new_node.now → AreLast (uses_in self.now resource) ns resource
             → result ≡ list_any (λ m. names_it resource m && not (before (n ∷ ns) m n)) ns }
     {
@@ -235,7 +235,7 @@ fn on_line(kept: &[LastUse], line: Line) -> Option<usize>
     None
 }
 
-fn is_some_left(kept: &[LastUse], new_node: &NewNode) -> bool
+fn is_some_left(kept: &[LastUse], new_node: &NewNode<'_>) -> bool
     ensures { (ns : List Node) (n : Node) (r : ℕ) → IsNewNode ns n new_node.now → AreLast kept.now ns r → result ≡ list_any (λ m. names_it r m && not (before (n ∷ ns) m n)) ns }
 {
     for last in kept {

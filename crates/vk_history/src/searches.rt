@@ -47,7 +47,7 @@ impl ResourceContents {
 
     /// Whether one has a last read, by the host or by a command of some queue, or a last layout
     /// transition that doesn't come before a command.
-    pub fn has_early(&self, offset: u64, size: u64, new_node: &NewNode) -> bool
+    pub fn has_early(&self, offset: u64, size: u64, new_node: &NewNode<'_>) -> bool
         ensures { offset + size ≤ length self.now.touches → FoundIn (IsEarly new_node.now) result self.now.touches offset (offset + size) }
     {
         let part = Part::of(offset, 0, size, self.touches.len());
@@ -56,7 +56,7 @@ impl ResourceContents {
 
     /// Whether one has a last read by a command of some queue that doesn't come before an entry of
     /// the host.
-    pub fn has_early_command(&self, offset: u64, size: u64, new_node: &NewNode) -> bool
+    pub fn has_early_command(&self, offset: u64, size: u64, new_node: &NewNode<'_>) -> bool
         ensures { offset + size ≤ length self.now.touches → FoundIn (HasEarlyCommand new_node.now) result self.now.touches offset (offset + size) }
     {
         let part = Part::of(offset, 0, size, self.touches.len());

@@ -39,7 +39,7 @@ impl Uses {
 
     /// Whether a submitted command that names a resource isn't known complete at a host entry that
     /// comes next, which sees this.
-    pub fn is_busy(&self, resource: u32, new_node: &NewNode) -> bool
+    pub fn is_busy(&self, resource: u32, new_node: &NewNode<'_>) -> bool
         ensures { (past : Past) (p : AnyPoint) (x : AnyEntry) → IsOrdered past → p.action ≡ Host x → AreUses self.now past → IsNewNode (nodes past) (next_node past p (Hosts x)) new_node.now
             → result ≡ complete.is_busy past (nodes (p ∷ past)) (next_node past p (Hosts x)) resource }
     {

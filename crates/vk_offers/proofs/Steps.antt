@@ -32,7 +32,7 @@ use Rattle.vk_offers.proofs.Finishing.{piece_finished}
 
 -- ---- a sight's counts
 
-counts_of : (ns : List Node) (n : Node) (counts : List ℕ) → BeforeLeadsOn → IsNumbered (n ∷ ns)
+pub counts_of : (ns : List Node) (n : Node) (counts : List ℕ) → BeforeLeadsOn → IsNumbered (n ∷ ns)
     → ((m : Node) (q : ℕ) → q < 4 → Contains ns m → line_of m ≡ Some (OfCommands q) → before (n ∷ ns) m n ≡ nat_lt (place ns (OfCommands q) m.number) (slice_index counts q))
     → ((q : ℕ) → q < 4 → slice_index counts q ≤ place ns (OfCommands q) (length ns)) → CountsBefore (n ∷ ns) n counts
 counts_of ns n counts leads numbers first there = record { first = all; there = λ q low. bound q low }

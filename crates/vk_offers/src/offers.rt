@@ -66,12 +66,9 @@ impl<'a> Offers<'a> {
         growth_keeps();
         before_is_order();
         commands_follow();
-        let act = Act::Runs(command);
-        let new_node = self.frontier.new_node(point, &act)?;
+        let before = self.frontier.add_command(point, command)?;
         self.commands.push(command)?;
-        self.ready
-            .add(point.queue, commands_before(&new_node), pieces)?;
-        self.frontier.add_seen(point, &act, new_node)
+        self.ready.add(point.queue, before, pieces)
     }
 
     /// How many pieces may run next.
@@ -155,7 +152,7 @@ pub fn run_at<'a>(point: &Point<'a>) -> Option<&'a Cmd>
 }
 
 /// How many commands of each queue are before the node that comes next.
-fn commands_before(new_node: &NewNode) -> [usize; 4]
+fn commands_before(new_node: &NewNode<'_>) -> [usize; 4]
     ensures { (ns : List Node) (n : Node) → IsNewNode ns n new_node.now → CountsBefore (n ∷ ns) n result }
 {
     before_is_order();

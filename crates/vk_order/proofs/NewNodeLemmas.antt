@@ -1,5 +1,5 @@
 -- What a node sees, by rows.
-use Rattle.std.proofs.Common.{◌≡◌, ◌⊎◌, inl, inr, ⊎_elim, ◌<◌, List, ◌∷◌, Bool, true, false, not, ◌&&◌, ◌||◌, IsTrue, Some, refl, ap, sym, ◌∙◌, subst, arith}
+use Rattle.std.proofs.Common.{◌≡◌, ◌⊎◌, inl, inr, ⊎_elim, ◌<◌, ◌≤◌, List, length, ◌∷◌, Bool, true, false, not, ◌&&◌, ◌||◌, IsTrue, Some, refl, ap, sym, ◌∙◌, subst, arith}
 use Rattle.std.specs.Prelude.{nat_lt, Contains, if◌then◌else◌}
 use Rattle.std.proofs.lemmas.Bool.{lt-ltb, ltb-true, and_parts, and_from, or_left, or_right, or_cases, eqb-true, eq-eqb}
 use Rattle.vk_model.specs.Basics.{has_some}
@@ -15,18 +15,20 @@ use Rattle.vk_model.proofs.Lists.Members.{contains-head, contains-tail}
 use Rattle.vk_model.proofs.Lists.Truths.{no, bool_same}
 use Rattle.vk_model.proofs.Sync.Numbers.{number_below, unique}
 use Rattle.vk_model.proofs.Sync.Paths.{before_of_path}
+use Rattle.vk_order.specs.declared.fronts.Front.{Front}
 use Rattle.vk_order.specs.declared.lines.Line.{Line}
 use Rattle.vk_order.specs.declared.new_node.NewNode.{NewNode}
 use Rattle.vk_order.specs.Lines.{line_of}
 use Rattle.vk_order.specs.Wide.{is_wide, AreWide, is_answered}
 use Rattle.vk_order.specs.Inner.Clocks.{place, Clock}
 use Rattle.vk_order.specs.Inner.Kept.{clock_at}
-use Rattle.vk_order.specs.Inner.Fronts.{row_in}
+use Rattle.vk_order.specs.Inner.Fronts.{IsFront, clock_in, row_in}
 use Rattle.vk_order.specs.Frontiers.{IsNewNode}
 use Rattle.vk_order.specs.Inner.Rows.{makes_all_available, makes_all_visible, makes_all_visible_on_host, makes_available, Visible, OnHost, IsAvailable, IsKnown, KnowsOne, IsRowJoin}
 use Rattle.vk_order.proofs.Arrange.{and-true, and-false, or-false}
 use Rattle.vk_order.proofs.ByEdges.{by_last, by_edge}
 use Rattle.vk_order.proofs.KnownRows.{older_of, available_old, available_new}
+use Rattle.vk_order.specs.Inner.Tallies.{lines_of}
 use Rattle.vk_order.proofs.Visibility.{parts_of, seen_by}
 
 -- ---- acts
@@ -223,13 +225,24 @@ asked_of_host cached ns x Write b h = refl
 -- ---- the row that answers is exact
 
 pub exact_row : (s : NewNode) (l : Line) (k : Access) (ns : List Node) (n m : Node) (cached : Byte → Bool) (b : Byte) → IsNewNode ns n s → Contains ns m → line_of m ≡ Some l → is_element m.act ≡ false → (is_host m.act && cached b) ≡ false → AreWide (n ∷ ns)
-    → (a : Act) → n.act ≡ a → IsTrue (is_answered cached a k b) → nat_lt (place ns l m.number) (clock_at s.lines.items (row_in (if s.is_host then OnHost k else Visible k) s.front) l) ≡ seen cached (n ∷ ns) m n k b
+    → (a : Act) → n.act ≡ a → IsTrue (is_answered cached a k b) → nat_lt (place ns l m.number) (clock_at (lines_of s.tallies.now) (row_in (if s.is_host then OnHost k else Visible k) s.front) l) ≡ seen cached (n ∷ ns) m n k b
 exact_row s l k ns n m cached b new_node there on plain quiet wide (Runs x) is asked =
-    ap (λ (t : Bool). nat_lt (place ns l m.number) (clock_at s.lines.items (row_in (if t then OnHost k else Visible k) s.front) l)) (new_node.is_host ∙ ap is_host is)
-    ∙ seen_by_command ns n new_node.numbers cached l m k b there on plain quiet x is (clock_at s.lines.items (row_in (Visible k) s.front)) (new_node.front.rows (Visible k)).join wide
+    ap (λ (t : Bool). nat_lt (place ns l m.number) (clock_at (lines_of s.tallies.now) (row_in (if t then OnHost k else Visible k) s.front) l)) (new_node.is_host ∙ ap is_host is)
+    ∙ seen_by_command ns n new_node.numbers cached l m k b there on plain quiet x is (clock_at (lines_of s.tallies.now) (row_in (Visible k) s.front)) (new_node.front.rows (Visible k)).join wide
 exact_row s l k ns n m cached b new_node there on plain quiet wide (Hosts x) is asked =
-    ap (λ (t : Bool). nat_lt (place ns l m.number) (clock_at s.lines.items (row_in (if t then OnHost k else Visible k) s.front) l)) (new_node.is_host ∙ ap is_host is)
-    ∙ seen_by_host ns n new_node.numbers cached l m k b there on plain quiet x is (clock_at s.lines.items (row_in (OnHost k) s.front)) (new_node.front.rows (OnHost k)).join (asked_of_host cached (n ∷ ns) x k b asked) wide
+    ap (λ (t : Bool). nat_lt (place ns l m.number) (clock_at (lines_of s.tallies.now) (row_in (if t then OnHost k else Visible k) s.front) l)) (new_node.is_host ∙ ap is_host is)
+    ∙ seen_by_host ns n new_node.numbers cached l m k b there on plain quiet x is (clock_at (lines_of s.tallies.now) (row_in (OnHost k) s.front)) (new_node.front.rows (OnHost k)).join (asked_of_host cached (n ∷ ns) x k b asked) wide
 exact_row s l k ns n m cached b new_node there on plain quiet wide (Waits x) is asked = no asked
 exact_row s l k ns n m cached b new_node there on plain quiet wide (Signals x) is asked = no asked
 exact_row s l k ns n m cached b new_node there on plain quiet wide (Depends r e) is asked = no asked
+
+-- ---- which nodes of a line are before a node, by what it comes after
+
+module _ (ns : List Node) (n : Node) (ls : List Line) (l : Line) (f : Front) (numbers : IsNumbered (n ∷ ns)) (front : IsFront ns ls (λ k. edge ns k n) f) where
+  pub first_before : (m : Node) → Contains ns m → line_of m ≡ Some l → before (n ∷ ns) m n ≡ nat_lt (place ns l m.number) (clock_at ls (clock_in f) l)
+  first_before m there on =
+      let join = front.clock.join.counts l m there on in
+      bool_same _ _ (λ h. lt-ltb _ _ (join.0 (by_last n ns numbers m there h))) (λ e. by_edge n ns numbers m there (join.1 (ltb-true _ _ e)))
+
+  pub before_there : clock_at ls (clock_in f) l ≤ place ns l (length ns)
+  before_there = front.clock.join.bounded l

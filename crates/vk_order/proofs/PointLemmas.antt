@@ -20,6 +20,7 @@ use Rattle.vk_order.specs.Inner.Tallies.{CanFollow}
 use Rattle.vk_model.proofs.Lists.Members.{place_has}
 use Rattle.vk_order.proofs.Arrange.{holds-false}
 use Rattle.vk_order.proofs.ElementPlaces.{element_of}
+use Rattle.vk_order.proofs.PlaceLemmas.{apart_from}
 
 -- ---- acts of one point
 
@@ -140,3 +141,22 @@ one_follows ns row are new = can_follow ns (row ∷ []) row.point points (sym ar
     points : (i : ℕ) (r : Row) → slice_get (row ∷ []) i ≡ Some r → r.point ≡ row.point
     points zero r e = ap (λ (x : Row). x.point) (sym (inside row r e))
     points (suc i) r e = absurd cc
+
+-- a row that is no element, alone
+pub plain_follows : (ns : List Node) (row : Row) → is_element (act_of row.act) ≡ false → CanFollow ns (row ∷ [])
+plain_follows ns row plain = record { apart = apart; quiet = quiet; later = later }
+  where
+    apart : (i : ℕ) (r : Row) → slice_get (row ∷ []) i ≡ Some r → (k : Node) → Contains ns k → siblings k (node_of (length ns + i) r) ≡ false
+    apart zero r e k there =
+        let same : row ≡ r = cc in
+        let none = ap (λ (x : Row). is_element (act_of x.act)) (sym same) ∙ plain in
+        apart_from ns (node_of (length ns + 0) r) none k there
+    apart (suc i) r e k there = absurd cc
+
+    quiet : (i j : ℕ) (q r : Row) → slice_get (row ∷ []) i ≡ Some q → slice_get (row ∷ []) j ≡ Some r → i < j → (all : List Node) → edge all (node_of (length ns + i) q) (node_of (length ns + j) r) ≡ false
+    quiet i zero q r e f lt all = absurd (omega arith)
+    quiet i (suc j) q r e f lt all = absurd cc
+
+    later : (j : ℕ) (r : Row) → slice_get (row ∷ []) j ≡ Some r → 0 < j → waited_by (act_of r.act) ≡ []
+    later zero r e lt = absurd (omega arith)
+    later (suc j) r e lt = absurd cc

@@ -36,6 +36,7 @@ use Rattle.vk_order.proofs.KeptLemmas.{line_class}
 use Rattle.vk_order.proofs.LineTests.{edge_split}
 use Rattle.vk_order.proofs.PlaceLemmas.{apart_from}
 use Rattle.vk_order.proofs.NewNodeLemmas.{asked_of_host}
+use Rattle.vk_order.specs.Inner.Tallies.{lines_of}
 use Rattle.vk_order.proofs.LimitedLemmas.{seen_by_command, seen_by_host}
 
 -- ---- the law, for commands and the host at once
@@ -94,21 +95,21 @@ abbrev pub by_any : Act → Bool
 by_any a = is_command a || is_host a
 
 pub made_visible : (s : NewNode) (ns : List Node) (n m : Node) (l : Line) (k : Access) → IsNewNode ns n s → Contains ns m → line_of m ≡ Some l → by_any n.act ≡ true
-    → IsTrue (nat_lt (place ns l m.number) (clock_at s.lines.items (row_in (if s.is_host then OnHost k else Visible k) s.front) l)) ↔ KnowsOne (asked_of n.act k) ns (λ q. edge ns q n) m
+    → IsTrue (nat_lt (place ns l m.number) (clock_at (lines_of s.tallies.now) (row_in (if s.is_host then OnHost k else Visible k) s.front) l)) ↔ KnowsOne (asked_of n.act k) ns (λ q. edge ns q n) m
 made_visible s ns n m l k new_node hm on any = go n.act refl any
   where
-    go : (a : Act) → n.act ≡ a → by_any a ≡ true → IsTrue (nat_lt (place ns l m.number) (clock_at s.lines.items (row_in (if s.is_host then OnHost k else Visible k) s.front) l)) ↔ KnowsOne (asked_of n.act k) ns (λ q. edge ns q n) m
+    go : (a : Act) → n.act ≡ a → by_any a ≡ true → IsTrue (nat_lt (place ns l m.number) (clock_at (lines_of s.tallies.now) (row_in (if s.is_host then OnHost k else Visible k) s.front) l)) ↔ KnowsOne (asked_of n.act k) ns (λ q. edge ns q n) m
     go (Runs x) is any =
         let host : s.is_host ≡ false = new_node.is_host ∙ ap is_host is in
         let j = (new_node.front.rows (Visible k)).join.counts l m hm on in
-        subst (λ (a : Act). IsTrue (nat_lt (place ns l m.number) (clock_at s.lines.items (row_in (if s.is_host then OnHost k else Visible k) s.front) l)) ↔ KnowsOne (asked_of a k) ns (λ q. edge ns q n) m) (sym is)
-        (subst (λ (t : Bool). IsTrue (nat_lt (place ns l m.number) (clock_at s.lines.items (row_in (if t then OnHost k else Visible k) s.front) l)) ↔ KnowsOne (Visible k) ns (λ q. edge ns q n) m) (sym host)
+        subst (λ (a : Act). IsTrue (nat_lt (place ns l m.number) (clock_at (lines_of s.tallies.now) (row_in (if s.is_host then OnHost k else Visible k) s.front) l)) ↔ KnowsOne (asked_of a k) ns (λ q. edge ns q n) m) (sym is)
+        (subst (λ (t : Bool). IsTrue (nat_lt (place ns l m.number) (clock_at (lines_of s.tallies.now) (row_in (if t then OnHost k else Visible k) s.front) l)) ↔ KnowsOne (Visible k) ns (λ q. edge ns q n) m) (sym host)
         ((λ h. j.1 (ltb-true _ _ h)), (λ h. lt-ltb _ _ (j.0 h))))
     go (Hosts x) is any =
         let host : s.is_host ≡ true = new_node.is_host ∙ ap is_host is in
         let j = (new_node.front.rows (OnHost k)).join.counts l m hm on in
-        subst (λ (a : Act). IsTrue (nat_lt (place ns l m.number) (clock_at s.lines.items (row_in (if s.is_host then OnHost k else Visible k) s.front) l)) ↔ KnowsOne (asked_of a k) ns (λ q. edge ns q n) m) (sym is)
-        (subst (λ (t : Bool). IsTrue (nat_lt (place ns l m.number) (clock_at s.lines.items (row_in (if t then OnHost k else Visible k) s.front) l)) ↔ KnowsOne (OnHost k) ns (λ q. edge ns q n) m) (sym host)
+        subst (λ (a : Act). IsTrue (nat_lt (place ns l m.number) (clock_at (lines_of s.tallies.now) (row_in (if s.is_host then OnHost k else Visible k) s.front) l)) ↔ KnowsOne (asked_of a k) ns (λ q. edge ns q n) m) (sym is)
+        (subst (λ (t : Bool). IsTrue (nat_lt (place ns l m.number) (clock_at (lines_of s.tallies.now) (row_in (if t then OnHost k else Visible k) s.front) l)) ↔ KnowsOne (OnHost k) ns (λ q. edge ns q n) m) (sym host)
         ((λ h. j.1 (ltb-true _ _ h)), (λ h. lt-ltb _ _ (j.0 h))))
     go (Waits x) is any = no any
     go (Signals x) is any = no any

@@ -21,10 +21,10 @@ pub record IsFrontier (f : Frontier) (ns : List Node) : Type 0 where
 -- The new node is node n, which comes next after the nodes so far: what is before it, and what it sees.
 pub record IsNewNode (ns : List Node) (n : Node) (s : NewNode) : Type 0 where
   pub numbers : IsNumbered (n ∷ ns)
-  pub front : IsFront ns s.lines.items (λ k. edge ns k n) s.front
+  pub front : IsFront ns (lines_of s.tallies.now) (λ k. edge ns k n) s.front
   pub is_host : s.is_host ≡ is_host n.act
   pub queue : s.queue ≡ n.point.queue
 
 -- A new node knows the lines that a frontier has.
 abbrev pub IsFrom : Frontier → NewNode → Type 0
-IsFrom f s = s.lines.items ≡ lines_of f.tallies.items
+IsFrom f s = (lines_of s.tallies.now) ≡ lines_of f.tallies.items

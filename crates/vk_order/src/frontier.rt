@@ -42,11 +42,11 @@ use std::alloc::{AllocError, Global};
 pub struct Frontier {
     alloc: Global,
     nodes: usize,
-    tallies: Vec<LineTally>,
+    pub(crate) tallies: Vec<LineTally>,
     names: Names,
     parts: Parts,
     /// The front at hand: what a row that is added comes after, or one that is done with.
-    front: Front,
+    pub(crate) front: Front,
 }
 
 impl Frontier {
@@ -82,7 +82,7 @@ impl Frontier {
     }
 
     /// What a node that comes next, with this act, has before it and sees.
-    pub fn new_node(&self, point: &Point<'_>, act: &Act<'_>) -> Result<NewNode, AllocError>
+    pub fn new_node(&self, point: &Point<'_>, act: &Act<'_>) -> Result<NewNode<'_>, AllocError>
         ensures from_here { IfOk result (λ s. IsFrom self.now s) }
         ensures new_node { IfOk result (λ s. (ns : List Node) (n : Node) → IsFrontier self.now ns → n ≡ record { number = length ns; point = point_of point.now; act = act_of act.now } → IsApartFrom ns n → IsNewNode ns n s) }
     {
@@ -91,8 +91,8 @@ impl Frontier {
             act: *act,
         };
         let front = self.front_of(&row)?;
-        let lines = self.lines()?;
-        Ok(NewNode::new(lines, front, act.is_host(), point.queue))
+        let tallies = self.tallies.as_slice();
+        Ok(NewNode::new(tallies, front, act.is_host(), point.queue))
     }
 
     /// The lines so far.
@@ -127,35 +127,25 @@ impl Frontier {
         }
     }
 
-    /// Adds the node of a point that comes next, which has this act alone, as a new node. The
-    /// errors are those of `advance`.
-    pub fn add_seen(
-        &mut self,
-        point: &Point<'_>,
-        act: &Act<'_>,
-        new_node: NewNode,
-    ) -> Result<(), AllocError>
-        requires { IsFrom self.old new_node }
-        ensures { OnOk result ((ns : List Node) (n : Node) → IsFrontier self.old ns → n ≡ record { number = length ns; point = point_of point.now; act = act_of act.now } → IsNewNode ns n new_node → IsFrontier self.new (n ∷ ns)) }
-    {
-        let row = Row {
-            point: *point,
-            act: *act,
-        };
-        let at = self.list_row(&row)?;
-        self.front = new_node.into_front();
-        self.add_at(&row, at)?;
-        Ok(())
-    }
-
     /// Adds a row that comes next, the only one of its point.
     fn add_single(&mut self, row: &Row<'_>) -> Result<(), AllocError>
         ensures { OnOk result ((ns : List Node) → CanFollow ns (row.now ∷ []) → IsFrontier self.old ns → IsFrontier self.new (node_of (length ns) row.now ∷ ns)) }
     {
-        let at = self.list_row(row)?;
-        find_front(&mut self.front, self.tallies.as_slice(), &self.names, row)?;
+        let at = self.find_row(row)?;
         self.add_at(row, at)?;
         Ok(())
+    }
+
+    /// Makes the front at hand what a row that comes next comes after, the only one of its point, and
+    /// answers the index of its line.
+    pub(crate) fn find_row(&mut self, row: &Row<'_>) -> Result<usize, AllocError>
+        ensures listed { IfOk result (λ at. index_in (lines_of self.new.tallies.items) (class_on row.now.point.queue (act_of row.now.act)) ≡ Some at) }
+        ensures kept { OnOk result ((ns : List Node) → IsFrontier self.old ns → IsFrontier self.new ns) }
+        ensures front { OnOk result ((ns : List Node) → CanFollow ns (row.now ∷ []) → IsFrontier self.old ns → IsFront ns (lines_of self.new.tallies.items) (λ k. edge ns k (node_of (length ns) row.now)) self.new.front) }
+    {
+        let at = self.list_row(row)?;
+        find_front(&mut self.front, self.tallies.as_slice(), &self.names, row)?;
+        Ok(at)
     }
 
     /// Adds the nodes of a point that comes next.
@@ -247,7 +237,7 @@ impl Frontier {
     }
 
     /// The same at the index of its line, where the front at hand is what it comes after.
-    fn add_at(&mut self, row: &Row<'_>, at: usize) -> Result<(), AllocError>
+    pub(crate) fn add_at(&mut self, row: &Row<'_>, at: usize) -> Result<(), AllocError>
         requires { index_in (lines_of self.old.tallies.items) (class_on row.now.point.queue (act_of row.now.act)) ≡ Some at }
         ensures lines { OnOk result (lines_of self.new.tallies.items ≡ lines_of self.old.tallies.items) }
         ensures kept { OnOk result ((ns : List Node) (n : Node) → n ≡ node_of (length ns) row.now → IsFront ns (lines_of self.old.tallies.items) (λ k. edge ns k n) self.old.front → IsFrontier self.old ns → IsFrontier self.new (n ∷ ns)) }

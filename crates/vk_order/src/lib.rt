@@ -8,6 +8,7 @@ mod awaiting;
 mod before;
 mod bytes;
 mod clocks;
+mod commands;
 mod counts;
 mod frontier;
 mod fronts;

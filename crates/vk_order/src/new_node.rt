@@ -13,45 +13,48 @@ ghost use Rattle.vk_order.specs.Inner.Clocks.{place};
 ghost use Rattle.vk_order.specs.Inner.Counts.{count_in, counts_on};
 ghost use Rattle.vk_order.specs.Inner.Rows.{Visible, OnHost, KnowsOne};
 ghost use Rattle.vk_order.specs.Inner.Parts.{IsPart, asked_of, opens};
+ghost use Rattle.vk_order.specs.Inner.Tallies.{lines_of};
 ghost use Rattle.vk_order.specs.Frontiers.{IsNewNode};
 
 use crate::access::Access;
 use crate::bytes::Byte;
 use crate::counts::{Counts, counts_at};
 use crate::fronts::Front;
-use crate::lines::{Line, index_among, index_of_commands};
+use crate::lines::Line;
 use crate::parts::{Part, Spot};
+use crate::tallies::{LineTally, line_index};
 
 /// What a node that comes next has before it, and what it sees.
 #[derive(Drop)]
-pub struct NewNode {
+pub struct NewNode<'a> {
     is_host: bool,
     queue: u32,
-    lines: Vec<Line>,
+    tallies: &'a [LineTally],
     front: Front,
 }
 
-impl NewNode {
-    /// A new node from the lines so far and its front.
-    pub(crate) fn new(lines: Vec<Line>, front: Front, is_host: bool, queue: u32) -> NewNode
-        ensures { result ≡ record { is_host = is_host; queue = queue; lines = lines; front = front } }
+impl<'a> NewNode<'a> {
+    /// A new node from what is known of the lines so far and its front.
+    pub(crate) fn new(
+        tallies: &'a [LineTally],
+        front: Front,
+        is_host: bool,
+        queue: u32,
+    ) -> NewNode<'a>
+        ensures tallies { result.tallies.now ≡ tallies.now }
+        ensures front { result.front ≡ front }
+        ensures is_host { result.is_host ≡ is_host }
+        ensures queue { result.queue ≡ queue }
     {
         NewNode {
             is_host,
             queue,
-            lines,
+            tallies,
             front,
         }
     }
 
     /// What the node comes after.
-    pub(crate) fn into_front(self) -> Front
-        ensures { result ≡ self.front }
-    {
-        self.front
-    }
-
-    /// The same, to be looked at.
     pub(crate) fn front(&self) -> &Front
         ensures { result.now ≡ self.now.front }
     {
@@ -116,7 +119,7 @@ impl NewNode {
 
     /// How many nodes of a line have their writes known to the node by what answers for an access.
     pub(crate) fn known(&self, line: Line, access: Access) -> usize
-        ensures { result ≡ count_in (if self.now.is_host then OnHost (access_of access) else Visible (access_of access)) (counts_on self.now.lines.items self.now.front.counts.items line) }
+        ensures { result ≡ count_in (if self.now.is_host then OnHost (access_of access) else Visible (access_of access)) (counts_on (lines_of self.now.tallies.now) self.now.front.counts.items line) }
     {
         let counts = self.counts(line);
         match (self.is_host, access) {
@@ -129,9 +132,9 @@ impl NewNode {
 
     /// The counts for the commands of a queue.
     fn counts_of_commands(&self, queue: u32) -> Counts
-        ensures { result ≡ counts_on self.now.lines.items self.now.front.counts.items (OfCommands queue) }
+        ensures { result ≡ counts_on (lines_of self.now.tallies.now) self.now.front.counts.items (OfCommands queue) }
     {
-        match index_of_commands(self.lines.as_slice(), queue) {
+        match line_index(self.tallies, Line::Commands(queue)) {
             Some(at) => counts_at(self.front.counts.as_slice(), at),
             None => Counts::zero(),
         }
@@ -139,9 +142,9 @@ impl NewNode {
 
     /// The counts for a line.
     fn counts(&self, line: Line) -> Counts
-        ensures { result ≡ counts_on self.now.lines.items self.now.front.counts.items line }
+        ensures { result ≡ counts_on (lines_of self.now.tallies.now) self.now.front.counts.items line }
     {
-        match index_among(self.lines.as_slice(), line) {
+        match line_index(self.tallies, line) {
             Some(at) => counts_at(self.front.counts.as_slice(), at),
             None => Counts::zero(),
         }

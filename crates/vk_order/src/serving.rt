@@ -25,7 +25,7 @@ impl Frontier {
     /// came: the search is among what came since. Dependencies may be on parts of memory.
     pub fn is_seen(
         &self,
-        new_node: &NewNode,
+        new_node: &NewNode<'_>,
         write: Spot,
         from: usize,
         byte: Byte,
@@ -42,7 +42,7 @@ impl Frontier {
     /// makes the byte visible to the access.
     fn is_marked(
         &self,
-        new_node: &NewNode,
+        new_node: &NewNode<'_>,
         parts: &[Part],
         write: Spot,
         byte: Byte,
@@ -63,7 +63,7 @@ impl Frontier {
     /// Whether one part makes a write available, and what it marks is known at such a node.
     fn is_mark(
         &self,
-        new_node: &NewNode,
+        new_node: &NewNode<'_>,
         parts: &[Part],
         part: &Part,
         write: Spot,
@@ -80,7 +80,7 @@ impl Frontier {
     /// Whether what a node marks is known at a node that makes a byte visible to the access.
     fn is_served(
         &self,
-        new_node: &NewNode,
+        new_node: &NewNode<'_>,
         parts: &[Part],
         spot: Spot,
         byte: Byte,
@@ -102,7 +102,14 @@ impl Frontier {
 
     /// Whether one part makes the byte visible to the access, and what the node marks is known
     /// there.
-    fn gives(&self, new_node: &NewNode, part: &Part, spot: Spot, byte: Byte, access: Access) -> bool
+    fn gives(
+        &self,
+        new_node: &NewNode<'_>,
+        part: &Part,
+        spot: Spot,
+        byte: Byte,
+        access: Access,
+    ) -> bool
         ensures { (ns : List Node) (n m q : Node) (cached : world.Byte → Bool) → IsNewNode ns n new_node.now → (is_command n.act || is_host n.act) ≡ true → IsPart ns (lines_of self.now.tallies.items) q part.now
             → Contains ns m → line_of m ≡ Some spot.line → place ns spot.line m.number ≡ spot.place → IsTrue result ↔ (IsTrue (opens cached ns n n.act (access_of access) (byte_of byte) q) × Reaches ns m q) }
     {

@@ -34,7 +34,7 @@ impl Frontier {
         &self,
         point: &Point<'_>,
         act: &Act<'_>,
-        new_node: &NewNode,
+        new_node: &NewNode<'_>,
     ) -> Result<Option<Part>, AllocError>
         requires { IsFrom self.now new_node.now }
         ensures { IfOk result (λ part. (ns : List Node) (n : Node) → IsFrontier self.now ns → n ≡ record { number = length ns; point = point_of point.now; act = act_of act.now } → IsNewNode ns n new_node.now → IsOwnPart ns (lines_of self.now.tallies.items) n part) }

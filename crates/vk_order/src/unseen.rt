@@ -56,7 +56,7 @@ impl Frontier {
     /// up to where, and at most to `high`, this is so. It is asked as `is_seen` is.
     pub fn seen_until(
         &self,
-        new_node: &NewNode,
+        new_node: &NewNode<'_>,
         write: Spot,
         from: usize,
         units: Units,
@@ -89,7 +89,7 @@ impl Frontier {
     /// and once for the units in a row that one part shows, or that the same parts are on.
     pub fn first_unseen(
         &self,
-        new_node: &NewNode,
+        new_node: &NewNode<'_>,
         write: Spot,
         from: usize,
         units: Units,
@@ -130,7 +130,7 @@ impl Frontier {
     /// part's index, of those that do one that is near another.
     fn visible_until(
         &self,
-        new_node: &NewNode,
+        new_node: &NewNode<'_>,
         parts: &[Part],
         near: usize,
         write: Spot,
@@ -154,7 +154,7 @@ impl Frontier {
     /// The index of a part that shows the write of a byte by itself, one that is near another.
     fn made_visible_by(
         &self,
-        new_node: &NewNode,
+        new_node: &NewNode<'_>,
         parts: &[Part],
         near: usize,
         write: Spot,
@@ -182,7 +182,7 @@ impl Frontier {
     /// Whether there is a part of an index, and it shows the write of a byte by itself.
     fn shows_at(
         &self,
-        new_node: &NewNode,
+        new_node: &NewNode<'_>,
         parts: &[Part],
         index: usize,
         write: Spot,
@@ -199,7 +199,7 @@ impl Frontier {
     /// made available by it.
     fn shows_alone(
         &self,
-        new_node: &NewNode,
+        new_node: &NewNode<'_>,
         part: &Part,
         write: Spot,
         byte: Byte,

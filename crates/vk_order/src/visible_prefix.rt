@@ -41,7 +41,12 @@ impl VisiblePrefix {
 impl Frontier {
     /// The first nodes of a line of which an access of any byte by the node that comes next sees
     /// the writes, and those that `is_seen` would look no further for.
-    pub fn visible_prefix(&self, new_node: &NewNode, line: Line, access: Access) -> VisiblePrefix
+    pub fn visible_prefix(
+        &self,
+        new_node: &NewNode<'_>,
+        line: Line,
+        access: Access,
+    ) -> VisiblePrefix
         ensures { (write : AnySpot) (from : ℕ) (b : world.Byte) → is_among result write ≡ true → SaysSeen self.now new_node.now write from access b true }
     {
         VisiblePrefix {

@@ -36,7 +36,7 @@ impl<'a> History<'a> {
 
     /// Whether a submitted command that names a resource isn't known complete at a host entry that
     /// comes next, which sees this.
-    pub fn is_busy(&self, resource: u32, new_node: &NewNode) -> bool
+    pub fn is_busy(&self, resource: u32, new_node: &NewNode<'_>) -> bool
         ensures { (p : AnyPoint) (x : AnyEntry) → p.action ≡ Host x → IsNewNode (nodes (past self.now)) (next_node (past self.now) p (Hosts x)) new_node.now
             → result ≡ is_busy (past self.now) (nodes (p ∷ past self.now)) (next_node (past self.now) p (Hosts x)) resource }
     {
@@ -74,7 +74,11 @@ impl<'a> History<'a> {
     }
 
     /// What an element of a barrier that comes next has before it, and what it sees.
-    pub fn new_element(&self, point: &Point<'_>, element: &Element) -> Result<NewNode, AllocError>
+    pub fn new_element(
+        &self,
+        point: &Point<'_>,
+        element: &Element,
+    ) -> Result<NewNode<'_>, AllocError>
         ensures { IfOk result (λ s. (n : Node) → n ≡ next_node (past self.now) (point_of point.now) (Depends Barrier element.now) → IsApartFrom (nodes (past self.now)) n → IsNewNode (nodes (past self.now)) n s) }
     {
         self.tables.frontier.new_node(point, &Act::Barrier(element))

@@ -193,7 +193,7 @@ fn ranges_of(image: &ImageBytes, range: &SubresourceRange) -> ByteRanges
 impl Moved<'_> {
     /// Whether one has a last read, by the host or by a command of some queue, or a last transition
     /// that doesn't come before.
-    fn has_early(&self, new_node: &NewNode) -> bool
+    fn has_early(&self, new_node: &NewNode<'_>) -> bool
         requires { AreShort self.now.ranges }
         ensures { FoundInMoved (λ k. IsEarly new_node.now) result self.now }
     {

@@ -51,7 +51,7 @@ fn has_early_range(
     contents: &ResourceContents,
     bytes: &ImageBytes,
     ranges: &[SubresourceRange],
-    new_node: &NewNode,
+    new_node: &NewNode<'_>,
 ) -> bool
     requires { byte_count bytes.now ≤ length contents.now.touches }
     ensures { FoundAmong (FoundInSubresources (λ r low high. FoundIn (IsEarly new_node.now) r contents.now.touches low high) bytes.now) result ranges.now }
@@ -66,7 +66,11 @@ fn has_early_range(
 }
 
 /// The same of ranges of numbers.
-fn has_early_number(contents: &ResourceContents, ranges: &ByteRanges, new_node: &NewNode) -> bool
+fn has_early_number(
+    contents: &ResourceContents,
+    ranges: &ByteRanges,
+    new_node: &NewNode<'_>,
+) -> bool
     requires { EndWithin ranges.now (length contents.now.touches) }
     ensures { FoundInRanges (λ r low high. FoundIn (IsEarly new_node.now) r contents.now.touches low high) result ranges.now }
 {

@@ -152,7 +152,7 @@ fn has_missed_destination(
 fn has_early_destination(
     contents: &ResourceContents,
     copies: &[BufferCopy],
-    new_node: &NewNode,
+    new_node: &NewNode<'_>,
 ) -> bool
     ensures { FoundAmong (λ r g. g.destination_offset + g.size ≤ length contents.now.touches → FoundIn (IsEarly new_node.now) r contents.now.touches g.destination_offset (g.destination_offset + g.size)) result copies.now }
 {

@@ -12,6 +12,7 @@ use Rattle.vk_order.specs.Inner.Fronts.{row_in}
 use Rattle.vk_order.proofs.CountLemmas.{zero_in, at_line}
 use Rattle.vk_order.proofs.LinePrefixes.{host_line}
 use Rattle.vk_order.proofs.NewNodeLemmas.{exact_row}
+use Rattle.vk_order.specs.Inner.Tallies.{lines_of}
 use Rattle.vk_order.proofs.new_node.NewNode.sees_host.Goals as goal
 
 pub returns : goal.returns
@@ -19,6 +20,6 @@ returns c = λ ns n m cached b new_node there on at wide asked uncached.
     let s = c.args.self.now in
     let k = access_of c.args.access in
     let of = host_line m.point.queue m.act on in
-    let count : c.known.result ≡ clock_at s.lines.items (row_in (if s.is_host then OnHost k else Visible k) s.front) OfHost = c.known.ensures ∙ sym (at_line (count_in (if s.is_host then OnHost k else Visible k)) (zero_in (if s.is_host then OnHost k else Visible k)) s.lines.items s.front.counts.items OfHost) in
+    let count : c.known.result ≡ clock_at (lines_of s.tallies.now) (row_in (if s.is_host then OnHost k else Visible k) s.front) OfHost = c.known.ensures ∙ sym (at_line (count_in (if s.is_host then OnHost k else Visible k)) (zero_in (if s.is_host then OnHost k else Visible k)) (lines_of s.tallies.now) s.front.counts.items OfHost) in
     ap (λ (i : ℕ). nat_lt i c.known.result) (sym at) ∙ ap (nat_lt (place ns OfHost m.number)) count
     ∙ exact_row s OfHost k ns n m cached b new_node there on (ap is_element of.1) (ap (λ (a : Act). is_host a && cached b) of.1 ∙ uncached) wide n.act refl asked
