@@ -19,6 +19,7 @@ use Rattle.vk_sync.specs.declared.ready.Piece.{Piece}
 use Rattle.vk_sync.specs.Ready.{ready}
 use Rattle.vk_queues.specs.IsWaiting.{IsWaiting}
 use Rattle.vk_offers.specs.IsOffers.{IsOffers, name_of, commands_in}
+use Rattle.vk_transfer.specs.Ran.{HaveRun}
 use Rattle.vk_resources.specs.declared.applied.Applied.{Applied}
 use Rattle.vk_resources.specs.declared.applied.Applied.TheVariants as applied
 use Rattle.vk_resources.specs.Held.{byte_at, IsThere, HasCell}
@@ -73,6 +74,12 @@ abbrev pub HasRun : Device → Device → Piece → Type 0
 HasRun old new piece =
     (t : List Entry) (steps : List Step) (s : Stage) → Led t steps s old → IsSoundTrace t
     → Led t (steps ++ RunPiece (name_of s.front.past piece) ∷ []) (record s { done = name_of s.front.past piece ∷ s.done }) new
+
+-- The byte writes of the piece have been made, and every other byte of a resource is as it was.
+abbrev pub HasChanged : Device → Device → Piece → Type 0
+HasChanged old new piece =
+    (t : List Entry) (steps : List Step) (s : Stage) → Led t steps s old → IsSoundTrace t
+    → HaveRun (named_piece s.front.past (name_of s.front.past piece)) (byte_at old.resources) (byte_at new.resources)
 
 -- Each byte that it has written holds what the trace means there after the command of the piece, with commands one at a time in reference order, where that is defined.
 abbrev pub HasWritten : Device → Device → Piece → Type 0

@@ -48,7 +48,7 @@ pub struct Device<'a> {
 
 impl<'a> Device<'a> {
     ghost use Rattle.vk_model.specs.Run.Runs.{start};
-    ghost use Rattle.vk_device.specs.Led.{Led, IsBefore, IsNext, MayRun, HasRun, HasWritten, Applies, Reads};
+    ghost use Rattle.vk_device.specs.Led.{Led, IsBefore, IsNext, MayRun, HasRun, HasWritten, HasChanged, Applies, Reads};
     ghost use Rattle.vk_device.specs.Empty.{nothing_backed};
     ghost use Rattle.vk_device.specs.Inner.Ready.{PrepareReady, Prepares, Waited, MayAsk, Goes, Picks, HostDone, AdvanceReady, Touches};
     ghost use Rattle.vk_resources.specs.Allocating.{allotted};
@@ -78,6 +78,7 @@ impl<'a> Device<'a> {
         requires { MayRun self.old piece }
         ensures ran { HasRun self.old self.new piece }
         ensures written { HasWritten self.old self.new piece }
+        ensures changed { HasChanged self.old self.new piece }
         ensures allotted { allotted self.new.resources ≡ allotted self.old.resources }
         ensures failed { self.new.failed ≡ self.old.failed }
     {
@@ -275,6 +276,8 @@ impl<'a> Device<'a> {
         ensures works { IfOk result (λ a. (self.old.failed ≡ false) × (self.new.failed ≡ false)) }
         ensures error { IfErr result (λ f. f ≡ (if self.old.failed then Failed else NoMemory)) }
         ensures failed { OnErr result (self.new.failed ≡ true) }
+        // A device that has failed stays as it is, and the scheduler isn't asked.
+        ensures stays { IsTrue self.old.failed → (self.new ≡ self.old) × (S.held sched.new ≡ S.held sched.old) }
     {
         no_fault_is_sound();
         direct_runs_are_runs();
@@ -305,8 +308,11 @@ impl<'a> Device<'a> {
         requires { IsTrue self.old.failed ⊎ MayRun self.old piece }
         ensures ran { OnOk result (HasRun self.old self.new piece) }
         ensures written { OnOk result (HasWritten self.old self.new piece) }
+        ensures changed { OnOk result (HasChanged self.old self.new piece) }
         ensures allotted { allotted self.new.resources ≡ allotted self.old.resources }
         ensures error { IfErr result (λ f. (f ≡ Failed) × IsTrue self.old.failed) }
+        ensures failed { self.new.failed ≡ self.old.failed }
+        ensures err { OnErr result (self.new ≡ self.old) }
     {
         if self.failed {
             return Err(ApplyError::Failed);

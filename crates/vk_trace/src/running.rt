@@ -84,6 +84,10 @@ pub fn run<R: Read, W: Write, S: Scheduler>(
         ⊎ IfSome (R.remaining reader.old.inner) (λ input. 16777216 < length input) }
     // Bytes that are no trace leave the scheduler as it was.
     ensures view { result ≡ Err RunError.NotTrace → S.held sched.new ≡ S.held sched.old }
+    // So does an input that is not read to its end.
+    ensures unread { (result ≡ Err RunError.ReadFault) ⊎ (result ≡ Err RunError.TooLong) → S.held sched.new ≡ S.held sched.old }
+    // Every error but that of a write has not called the writer.
+    ensures uncalled { IfErr result (λ e. IsBeforeWriting e → writer.new ≡ writer.old) }
 {
     let input = read_all(alloc, reader)?;
     match answer_of(alloc, &input, config, sched) {

@@ -53,3 +53,16 @@ returns-clause-written c = λ t steps s b w v led sound.
     let content = its_content t steps s c.args.self.now led c.args.piece among c.index.result.now here run sound.faultless c.commands_name_live.ensures fits c.offered_are_pieces.ensures.pieces in
     let sources = its_sources t steps s c.args.self.now led c.args.piece among c.index.result.now here run sound.faultless c.commands_name_live.ensures fits c.offered_are_pieces.ensures.pieces c.pieces_are_byte_writes.ensures in
     has_written t steps s c.args.self.now led c.args.piece among sources c.direct_runs_are_fresh.ensures.written sound.faultless _ (c.run_piece.ensures.ran s.front.past _ led.matches fit content) b w v
+
+pub returns-clause-changed : goal.returns-clause-changed
+returns-clause-changed c = λ t steps s led sound.
+    let among = c.requires.among in
+    let items = c.args.self.now.works.items in
+    let work = work_of s.front.past s.done c.args.self.now.offers led.offers c.args.piece among items led.works in
+    let here : slice_get items c.args.piece.command ≡ Some c.index.result.now =
+    slice_get-get_or items c.args.piece.command c.index.result.now (slice_get_within items c.args.piece.command work.0 work.1) ∙ ap (λ (y : Cmd). Some y) (sym c.index.ensures) in
+    let run = c.direct_runs_are_runs.ensures t steps s _ led.run in
+    let fits = fits_so_far c.no_fault_is_sound.ensures t s (c.defined_runs_follow.ensures t steps s run) sound in
+    let fit = its_fit t steps s c.args.self.now led c.args.piece among c.index.result.now here run sound.faultless c.commands_name_live.ensures fits in
+    let content = its_content t steps s c.args.self.now led c.args.piece among c.index.result.now here run sound.faultless c.commands_name_live.ensures fits c.offered_are_pieces.ensures.pieces in
+    c.run_piece.ensures.ran s.front.past _ led.matches fit content
