@@ -28,6 +28,7 @@ pub struct LineTally {
 }
 
 /// The index of a line.
+#[inline(always)]
 pub fn line_index(tallies: &[LineTally], line: Line) -> Option<usize>
     ensures { result ≡ index_in (lines_of tallies.now) line }
 {
@@ -42,6 +43,7 @@ pub fn line_index(tallies: &[LineTally], line: Line) -> Option<usize>
 }
 
 /// The index of the commands of a queue.
+#[inline(always)]
 fn commands_index(tallies: &[LineTally], queue: u32) -> Option<usize>
     ensures { result ≡ index_in (lines_of tallies.now) (OfCommands queue) }
 {

@@ -1,4 +1,4 @@
-ghost use Rattle.std.specs.Prelude.{◌≡◌, ℕ, true};
+ghost use Rattle.std.specs.Prelude.{◌≡◌, ℕ, true, false};
 ghost use Rattle.vk_model.specs.World.Bytes as world;
 ghost use Rattle.vk_order.specs.declared.parts.Spot.{Spot as AnySpot};
 ghost use Rattle.vk_order.specs.SeenWrites.{SaysSeen};
@@ -21,6 +21,17 @@ pub struct VisiblePrefix {
 }
 
 impl VisiblePrefix {
+    /// Of no node: a search begins with it, before it is known on which line the writes are.
+    #[inline(always)]
+    pub fn none() -> VisiblePrefix
+        ensures { (write : AnySpot) → is_among result write ≡ false }
+    {
+        VisiblePrefix {
+            line: Line::Sets(0),
+            count: 0,
+        }
+    }
+
     /// Whether the line is this one.
     #[inline(always)]
     pub fn is_of(self, line: Line) -> bool

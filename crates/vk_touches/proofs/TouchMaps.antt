@@ -5,17 +5,17 @@ use Rattle.std.specs.Option.{option_map}
 use Rattle.std.specs.Simd.Lanes.{zip2}
 use Rattle.std.proofs.lemmas.Simd.{length-zip2}
 use Rattle.vk_order.specs.declared.new_node.NewNode.{NewNode}
+use Rattle.vk_order.specs.declared.parts.Spot.{Spot as Placed}
+use Rattle.vk_order.specs.declared.visible_prefix.VisiblePrefix.{VisiblePrefix}
+use Rattle.vk_order.specs.VisiblePrefix.{is_among}
 use Rattle.vk_ranges.specs.Overlaps.{Piece, AreRunsOf}
 use Rattle.vk_touches.specs.declared.accesses.ResourceAccess.{ResourceAccess}
 use Rattle.vk_touches.specs.declared.others.OtherTouches.{OtherTouches}
 use Rattle.vk_touches.specs.declared.reads.LastReads.{LastReads}
 use Rattle.vk_touches.specs.declared.touches.LastTouches.{LastTouches}
-use Rattle.vk_touches.specs.declared.touches.Spot.{Spot}
-use Rattle.vk_touches.specs.declared.touches.Touch.{Touch}
-use Rattle.vk_touches.specs.declared.touches.Touch.TheVariants as touch
 use Rattle.vk_touches.specs.declared.writes.LastWrite.{LastWrite}
-use Rattle.vk_touches.specs.Conflicts.{FoundAt, FoundIn, IsEarly, MissesHostWrite, MissesOther, SeesWrite, SomeBetween}
-use Rattle.vk_touches.specs.Remembered.{untouched, with_touch, with_invalidation}
+use Rattle.vk_touches.specs.Conflicts.{AreSeen, FoundAt, FoundIn, IsEarly, MissesHostWrite, MissesOther, SeesWrite, SomeBetween}
+use Rattle.vk_touches.specs.Remembered.{untouched, with_invalidation}
 use Rattle.vk_touches.specs.TouchedRanges.{AreInvalidated}
 use Rattle.vk_touches.specs.TouchMaps.{with_reads, without_reads, with_reads_alone, reads_of, others_of, with_write, with_write_alone, write_of, all_remembered, HaveOneLength}
 use Rattle.vk_touches.proofs.Searches.{AreSearched, walk_start}
@@ -31,6 +31,10 @@ pub other_alike : (cached : Bool) (x : ResourceAccess) (k : ℕ) (r : Bool) (w :
 other_alike cached x k true w t h (inl m) = inl (host_write_alike cached x k true w t h m)
 other_alike cached x k true w t h (inr m) = inr m
 other_alike cached x k false w t h m = (host_write_alike cached x k false w t h m.0, m.1)
+
+-- where there are no nodes all are seen
+pub seen_of_none : (x : ResourceAccess) (v : VisiblePrefix) → ((w : Placed) → is_among v w ≡ false) → AreSeen x v
+seen_of_none x v none w from b is = let both : false ≡ true = sym (none w) ∙ is in absurd cc
 
 -- of a byte that remembers this else, whether it is early by the reads of it
 abbrev pub IsEarlyAt : List LastReads → NewNode → ℕ → Bool → OtherTouches → Type 0

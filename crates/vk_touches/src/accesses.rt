@@ -8,7 +8,7 @@ use crate::map::TouchMap;
 use crate::others::OtherTouches;
 use crate::touches::Spot;
 use crate::writes::LastWrite;
-use vk_order::{Access, Frontier, Line, NewNode, SeenUntil, VisiblePrefix};
+use vk_order::{Access, Frontier, NewNode, SeenUntil, VisiblePrefix};
 
 /// How the node of a point that comes next accesses a resource, and what it sees.
 #[derive(Clone, Copy)]
@@ -43,14 +43,12 @@ impl ResourceAccess<'_> {
         requires numbers { HaveNumbers self.now.bytes high }
         ensures { FoundAt (MissesWrite self.now) result touches.now low high }
     {
-        let mut visible_prefix = self
-            .frontier
-            .visible_prefix(self.new_node, Line::Host, self.access);
+        let mut visible_prefix = VisiblePrefix::none();
         for run in touches.writes.overlapping(low, high) {
             let write = run.value.write();
             if !self.is_among(write, visible_prefix) {
                 visible_prefix = self.visible_prefix_for(write, visible_prefix);
-                if self.misses_write(run.start, run.end, write, visible_prefix) {
+                if self.misses_last(run.start, run.end, write, visible_prefix) {
                     return true;
                 }
             }
@@ -79,10 +77,9 @@ impl ResourceAccess<'_> {
         requires numbers { HaveNumbers self.now.bytes high }
         ensures { FoundAt (MissesOther is_cached self.now) result touches.now low high }
     {
-        let visible_prefix = self
-            .frontier
-            .visible_prefix(self.new_node, Line::Host, self.access);
+        let mut visible_prefix = VisiblePrefix::none();
         for run in touches.others.overlapping(low, high) {
+            visible_prefix = self.visible_prefix_for(run.value.host_write, visible_prefix);
             if self.misses_other(run.start, run.end, run.value, is_cached, visible_prefix) {
                 return true;
             }
@@ -102,8 +99,8 @@ impl ResourceAccess<'_> {
         }
     }
 
-    /// The first nodes of a line as far as all their writes are seen: of the line of the last write by
-    /// a command, where there is one. Most other writes are on the same line.
+    /// The first nodes of a line as far as all their writes are seen: of the line of the last write,
+    /// where there is one. Most other writes are on the same line.
     #[inline(always)]
     fn visible_prefix_for(&self, last: Option<Spot>, visible_prefix: VisiblePrefix) -> VisiblePrefix
         requires { AreSeen self.now visible_prefix }
@@ -218,6 +215,23 @@ impl ResourceAccess<'_> {
             end: self.bytes.before_unit(low, high, seen.end),
             is_seen: seen.is_seen,
         }
+    }
+
+    /// Whether of some byte from `low` on and below `high` the last write by a command, which is the
+    /// same for all of them, isn't seen. Most are by one of the first nodes of its line.
+    #[inline(always)]
+    fn misses_last(
+        &self,
+        low: u64,
+        high: u64,
+        last: Option<Spot>,
+        visible_prefix: VisiblePrefix,
+    ) -> bool
+        requires numbers { HaveNumbers self.now.bytes high }
+        requires visible_prefix { AreSeen self.now visible_prefix }
+        ensures { SomeBetween (λ k r. IsRefused (SaysSeen self.now k) r last) result low high }
+    {
+        !self.is_among(last, visible_prefix) && self.misses_write(low, high, last, visible_prefix)
     }
 
     /// Whether of some byte from `low` on and below `high` a write, which is the same for all of them,

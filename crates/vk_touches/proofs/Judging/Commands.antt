@@ -1,5 +1,5 @@
 -- What is wrong with the bytes that a command accesses is what searches find of what is kept of them.
-use Rattle.std.proofs.Common.{◌≡◌, ◌<◌, ◌≤◌, ◌+◌, ℕ, List, [], ◌∷◌, map, slice_get, Bool, true, false, sym, ap, ◌∙◌, subst, Some}
+use Rattle.std.proofs.Common.{◌≡◌, ◌<◌, ◌≤◌, ◌+◌, ℕ, List, [], map, slice_get, Bool, true, false, sym, ap, ◌∙◌, subst, Some}
 use Rattle.std.specs.Prelude.{Contains}
 use Rattle.std.specs.List.{list_any, flat_map}
 use Rattle.vk_model.specs.declared.command.BufferCopy.{BufferCopy}

@@ -1,18 +1,17 @@
 -- What a search finds of the numbers of levels and layers is what a test says of their bytes.
-use Rattle.std.proofs.Common.{◌≡◌, ◌<◌, ◌≤◌, ◌+◌, ◌*◌, ◌-◌, ℕ, List, [], ◌∷◌, map, slice_get, Bool, true, false, sym, ap, ◌∙◌, refl, subst, arith, Some}
+use Rattle.std.proofs.Common.{◌≡◌, ◌<◌, ◌≤◌, ◌+◌, ◌*◌, ℕ, List, map, slice_get, Bool, true, false, sym, ap, ◌∙◌, subst, arith, Some}
 use Rattle.std.specs.Prelude.{Contains}
 use Rattle.std.specs.List.{list_any}
 use Rattle.std.proofs.lemmas.Bool.{false_from_ne_true}
 use Rattle.vk_model.specs.declared.command.SubresourceRange.{SubresourceRange}
 use Rattle.vk_model.specs.declared.resource.ImageInfo.{ImageInfo}
 use Rattle.vk_model.specs.Basics.{below, within}
-use Rattle.vk_model.specs.Memory.PlaceLaws.{TexelByte, HasByte}
+use Rattle.vk_model.specs.Memory.PlaceLaws.{HasByte}
 use Rattle.vk_model.specs.Rules.Sizes.{bad_image}
 use Rattle.vk_model.specs.Trace.Image.{texel, level_width, level_height}
 use Rattle.vk_model.specs.Trace.Point.{Past}
 use Rattle.vk_model.specs.World.Bytes.{Byte, in_image, same_byte}
 use Rattle.vk_model.specs.World.ByteWrites.{subresource_bytes, level_bytes}
-use Rattle.vk_model.specs.World.Effect.{in_range}
 use Rattle.vk_model.specs.Sync.Access.{is_in}
 use Rattle.vk_model.proofs.Lists.Grids.{grid_from}
 use Rattle.vk_model.proofs.Lists.Members.{some_member, member_passes, range_from, mapped_from, flat_from}

@@ -1,5 +1,5 @@
 -- What a search finds of bytes by their numbers is what a test says of the bytes.
-use Rattle.std.proofs.Common.{◌≡◌, ◌<◌, ◌≤◌, ◌+◌, ◌-◌, ◌++◌, ℕ, List, [], ◌∷◌, map, slice_get, length, Bool, true, false, ◌||◌, sym, ap, ◌∙◌, refl, subst, arith, Some}
+use Rattle.std.proofs.Common.{◌≡◌, ◌<◌, ◌≤◌, ◌+◌, ◌-◌, ℕ, List, [], ◌∷◌, map, slice_get, Bool, true, false, ◌||◌, sym, ap, ◌∙◌, refl, subst, arith, Some}
 use Rattle.std.specs.Prelude.{Contains}
 use Rattle.std.specs.List.{list_any, flat_map}
 use Rattle.std.proofs.lemmas.List.Folds.{list_any-append}

@@ -1,17 +1,15 @@
 -- What an access and a new node say of the last nodes that touched a byte, all ways taken together.
-use Rattle.std.proofs.Common.{◌≡◌, ◌∷◌, ℕ, [], Bool, true, false, not, ◌&&◌, ◌||◌, refl, ap, sym, ◌∙◌, subst, Option, Some, None, inl, inr}
-use Rattle.std.specs.Prelude.{IsTrue, Contains}
-use Rattle.std.specs.Option.{option_map}
+use Rattle.std.proofs.Common.{◌≡◌, ◌∷◌, ℕ, [], Bool, true, false, not, ◌||◌, refl, ap, sym, ◌∙◌, subst, Option, Some, None, inl, inr}
+use Rattle.std.specs.Prelude.{IsTrue}
 use Rattle.std.proofs.Math.Bool.{or-false, or-true}
 use Rattle.vk_model.specs.declared.command.Cmd.{Cmd}
-use Rattle.vk_model.specs.declared.command.Element.TheVariants as element
 use Rattle.vk_model.specs.Basics.{holds}
 use Rattle.vk_model.specs.World.Bytes.{Byte, in_buffer, resource_at}
 use Rattle.vk_model.specs.World.ByteWrites.{byte_writes}
 use Rattle.vk_model.specs.Trace.Point.{Past, Point}
 use Rattle.vk_model.specs.Trace.Objects.{is_cached}
 use Rattle.vk_model.specs.Rules.Table.{fault}
-use Rattle.vk_model.specs.Sync.Node.{Node, Act, Depends, Barrier, nodes, acts}
+use Rattle.vk_model.specs.Sync.Node.{Node, Depends, Barrier, nodes, acts}
 use Rattle.vk_model.specs.Sync.Edge.{is_host}
 use Rattle.vk_model.specs.Sync.Before.{before}
 use Rattle.vk_model.specs.Sync.Seen.{Read, invalidates}
