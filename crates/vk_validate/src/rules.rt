@@ -12,6 +12,7 @@ ghost use Rattle.vk_validate.specs.Inner.Early.{breaks_early, AreSearched};
 ghost use Rattle.vk_touches.specs.Conflicts.{AreConflicts};
 
 mod binding;
+mod commands;
 mod hazards;
 mod ids;
 mod in_use;
@@ -32,13 +33,13 @@ use vk_touches::Conflicts;
 
 /// Whether a point breaks the rules that need memory to be judged.
 #[derive(Clone, Copy)]
-struct Searched {
+pub(crate) struct Searched {
     /// OVERLAP.
-    is_overlapping: bool,
+    pub(crate) is_overlapping: bool,
     /// SIGNAL_ORDER.
-    is_unordered: bool,
+    pub(crate) is_unordered: bool,
     /// OWNER_PAIR.
-    is_unpaired: bool,
+    pub(crate) is_unpaired: bool,
 }
 
 /// The rules that are judged before the accesses of a point, in the order of their tests.
@@ -129,37 +130,6 @@ const ON_ENTRIES: [Rule; 24] = [
     Rule::PassWrite,
 ];
 
-/// Those of them that speak of fills, updates and copies between buffers, in the same order.
-const ON_BUFFERS: [Rule; 10] = [
-    Rule::LiveId,
-    Rule::Size,
-    Rule::Usage,
-    Rule::Range,
-    Rule::Align,
-    Rule::Overlap,
-    Rule::Subresource,
-    Rule::OwnerPair,
-    Rule::SignalOrder,
-    Rule::PassWrite,
-];
-
-/// Those of them that speak of barriers, in the same order.
-const ON_BARRIERS: [Rule; 13] = [
-    Rule::LiveId,
-    Rule::Size,
-    Rule::Usage,
-    Rule::Range,
-    Rule::Overlap,
-    Rule::Subresource,
-    Rule::Stage,
-    Rule::Layout,
-    Rule::OldLayout,
-    Rule::OwnerWhole,
-    Rule::OwnerPair,
-    Rule::SignalOrder,
-    Rule::PassWrite,
-];
-
 /// Those of them that speak of a new semaphore, in the same order.
 const ON_SEMAPHORES: [Rule; 3] = [Rule::NewId, Rule::OwnerPair, Rule::SignalOrder];
 
@@ -199,7 +169,32 @@ fn first_early(history: &History<'_>, point: &Point<'_>, searched: Searched) -> 
     requires searched { AreSearched searched (past history.now) (point_of point.now) }
     ensures { result ≡ first_among early_rules (past history.now) (point_of point.now) }
 {
-    first_of(rules_on(point.action), history, point, searched)
+    match point.action {
+        Action::Run(command) => first_on_command(history, point, command, searched),
+        action => first_of(rules_on(action), history, point, searched),
+    }
+}
+
+/// The first early rule that the command of a point breaks.
+fn first_on_command(
+    history: &History<'_>,
+    point: &Point<'_>,
+    command: &Cmd,
+    searched: Searched,
+) -> Option<Rule>
+    requires supported { IsTrue (is_supported_action (action_of point.now.action)) }
+    requires ordered { IsOrdered (point_of point.now ∷ past history.now) }
+    requires searched { AreSearched searched (past history.now) (point_of point.now) }
+    requires command { action_of point.now.action ≡ Run command.now }
+    ensures { result ≡ first_among early_rules (past history.now) (point_of point.now) }
+{
+    match command {
+        Cmd::Fill { .. } => commands::first_on_buffers(history, point, searched),
+        Cmd::Update { .. } => commands::first_on_buffers(history, point, searched),
+        Cmd::Copy { .. } => commands::first_on_buffers(history, point, searched),
+        Cmd::Barrier { .. } => commands::first_on_barrier(history, point, searched),
+        _ => first_of(&ON_COMMANDS, history, point, searched),
+    }
 }
 
 /// The early rules that an action can break at all, in the order of their tests.
@@ -207,7 +202,7 @@ fn rules_on(action: Action<'_>) -> &'static [Rule]
     ensures { (past : Past) (p : AnyPoint) → p.action ≡ action_of action.entry → find (λ r. breaks_early r past p) result.now ≡ first_among early_rules past p }
 {
     match action {
-        Action::Run(command) => rules_on_command(command),
+        Action::Run(_) => &ON_COMMANDS,
         Action::Host(entry) => rules_on_entry(entry),
         Action::Wait(_) => &EARLY,
         Action::Signal(_) => &EARLY,
@@ -221,19 +216,6 @@ fn rules_on_entry(entry: &Entry) -> &'static [Rule]
     match entry {
         Entry::Semaphore { .. } => &ON_SEMAPHORES,
         _ => &ON_ENTRIES,
-    }
-}
-
-/// The early rules that a command can break at all, in the order of their tests.
-fn rules_on_command(command: &Cmd) -> &'static [Rule]
-    ensures { (past : Past) (p : AnyPoint) → p.action ≡ Run command.now → find (λ r. breaks_early r past p) result.now ≡ first_among early_rules past p }
-{
-    match command {
-        Cmd::Fill { .. } => &ON_BUFFERS,
-        Cmd::Update { .. } => &ON_BUFFERS,
-        Cmd::Copy { .. } => &ON_BUFFERS,
-        Cmd::Barrier { .. } => &ON_BARRIERS,
-        _ => &ON_COMMANDS,
     }
 }
 

@@ -1,6 +1,7 @@
 -- The table of rules, in two parts, of which the second needs the accesses of a point.
-use Rattle.std.proofs.Common.{◌≡◌, ◌≤◌, ◌<◌, ◌+◌, ℕ, List, [], ◌∷◌, ◌++◌, Bool, true, false, refl, sym, ◌∙◌, ap, drop, length, get_or, Option, Some, None, add-one, drop-cons, cond, subst}
+use Rattle.std.proofs.Common.{◌≡◌, ◌≤◌, ◌<◌, ◌+◌, ℕ, List, [], ◌∷◌, ◌++◌, Bool, true, false, refl, sym, ◌∙◌, ap, drop, length, get_or, Option, Some, None, add-one, drop-cons, cond, subst, map}
 use Rattle.std.specs.List.{find}
+use Rattle.std.specs.Option.{option_map}
 use Rattle.std.proofs.lemmas.List.{drop_all}
 use Rattle.vk_model.specs.declared.rule.Rule.{Rule}
 use Rattle.vk_model.specs.declared.rule.Rule.TheVariants as rule
@@ -18,7 +19,7 @@ use Rattle.vk_model.specs.Rules.Hazards.{breaks_hazard_war, breaks_hazard_raw, b
 use Rattle.vk_model.specs.Rules.Traces.{breaks_limit}
 use Rattle.vk_history.specs.Supported.{is_supported_action}
 use Rattle.vk_history.specs.Judged.{early_rules, late_rules, first_among}
-use Rattle.vk_validate.specs.Inner.Early.{breaks_early}
+use Rattle.vk_validate.specs.Inner.Early.{breaks_early, on_buffers, on_barriers}
 use Rattle.vk_validate.proofs.Judging.Unbroken as unbroken
 
 pub find-drop : {X : Type 0} (p : X → Bool) (xs : List X) (i : ℕ) (d : X) → i < length xs → find p (drop i xs) ≡ cond (p (get_or xs i d)) (Some (get_or xs i d)) (find p (drop (i + 1) xs))
@@ -29,6 +30,21 @@ find-all p xs i le = rw (drop_all i xs le) refl
 
 -- what the loop over the rules goes by
 pub ruleset finds = (find-drop, find-all)
+
+-- each of some rules comes with whether a test holds of it
+abbrev pub AreTests : (Rule → Bool) → List (Rule × Bool) → Type 0
+AreTests f [] = Unit {0}
+AreTests f (t ∷ ts) = (t.1 ≡ f t.0) × AreTests f ts
+
+-- so the first that comes with true is the first of which it holds
+pub tests_found : (f : Rule → Bool) (ts : List (Rule × Bool)) → AreTests f ts → option_map (λ t. t.0) (find (λ t. t.1) ts) ≡ find f (map (λ t. t.0) ts)
+tests_found f [] are = refl
+tests_found f (t ∷ ts) are = subst (λ (b : Bool). option_map (λ (u : Rule × Bool). u.0) (cond t.1 (Some t) (find (λ (u : Rule × Bool). u.1) ts)) ≡ cond b (Some t.0) (find f (map (λ (u : Rule × Bool). u.0) ts))) are.0 (go t.1 (tests_found f ts are.1))
+  where
+    go : (b : Bool) → option_map (λ (u : Rule × Bool). u.0) (find (λ (u : Rule × Bool). u.1) ts) ≡ find f (map (λ (u : Rule × Bool). u.0) ts)
+        → option_map (λ (u : Rule × Bool). u.0) (cond b (Some t) (find (λ (u : Rule × Bool). u.1) ts)) ≡ cond b (Some t.0) (find f (map (λ (u : Rule × Bool). u.0) ts))
+    go true same = refl
+    go false same = same
 
 -- what is found in two lists is found in the first, or else in the second
 found_first : {A : Type 0} (f : A → Bool) (xs ys : List A) (x : A) → find f xs ≡ Some x → Some x ≡ first_that f (xs ++ ys)
@@ -58,13 +74,7 @@ abbrev pub on_entries : List Rule
 on_entries = rule.NewId ∷ rule.LiveId ∷ rule.Queue ∷ rule.Size ∷ rule.Usage ∷ rule.MemoryType ∷ rule.MemorySize ∷ rule.PoolSize ∷ rule.BindRange ∷ rule.BindAlign ∷ rule.Aliased ∷ rule.Range ∷ rule.Overlap ∷ rule.Stage
     ∷ rule.OwnerPair ∷ rule.SignalValue ∷ rule.SignalOrder ∷ rule.WaitNever ∷ rule.MapState ∷ rule.HostVisible ∷ rule.PoolKind ∷ rule.PassState ∷ rule.PassBusy ∷ rule.PassWrite ∷ []
 
--- those on fills, updates and copies between buffers, on barriers, and on a new semaphore
-abbrev pub on_buffers : List Rule
-on_buffers = rule.LiveId ∷ rule.Size ∷ rule.Usage ∷ rule.Range ∷ rule.Align ∷ rule.Overlap ∷ rule.Subresource ∷ rule.OwnerPair ∷ rule.SignalOrder ∷ rule.PassWrite ∷ []
-
-abbrev pub on_barriers : List Rule
-on_barriers = rule.LiveId ∷ rule.Size ∷ rule.Usage ∷ rule.Range ∷ rule.Overlap ∷ rule.Subresource ∷ rule.Stage ∷ rule.Layout ∷ rule.OldLayout ∷ rule.OwnerWhole ∷ rule.OwnerPair ∷ rule.SignalOrder ∷ rule.PassWrite ∷ []
-
+-- those on a new semaphore
 abbrev pub on_semaphores : List Rule
 on_semaphores = rule.NewId ∷ rule.OwnerPair ∷ rule.SignalOrder ∷ []
 

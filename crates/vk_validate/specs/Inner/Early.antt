@@ -1,5 +1,5 @@
 -- The rules that are judged before the accesses of a point.
-use Rattle.std.specs.Prelude.{◌≡◌, Bool, true, false, if◌then◌else◌}
+use Rattle.std.specs.Prelude.{◌≡◌, Bool, true, false, if◌then◌else◌, List, [], ◌∷◌}
 use Rattle.vk_model.specs.declared.rule.Rule.{Rule}
 use Rattle.vk_model.specs.declared.rule.Rule.TheVariants as rule
 use Rattle.vk_model.specs.Trace.Point.{Past, Point}
@@ -22,6 +22,14 @@ is_late _ = false
 -- Whether a point breaks a rule that is judged before its accesses.
 unfoldable pub breaks_early : Rule → Past → Point → Bool
 breaks_early r past p = if is_late r then false else breaks r past p
+
+-- The early rules that speak of fills, updates and copies between buffers, in the order of their tests.
+abbrev pub on_buffers : List Rule
+on_buffers = rule.LiveId ∷ rule.Size ∷ rule.Usage ∷ rule.Range ∷ rule.Align ∷ rule.Overlap ∷ rule.Subresource ∷ rule.OwnerPair ∷ rule.SignalOrder ∷ rule.PassWrite ∷ []
+
+-- Those that speak of barriers, in the same order.
+abbrev pub on_barriers : List Rule
+on_barriers = rule.LiveId ∷ rule.Size ∷ rule.Usage ∷ rule.Range ∷ rule.Overlap ∷ rule.Subresource ∷ rule.Stage ∷ rule.Layout ∷ rule.OldLayout ∷ rule.OwnerWhole ∷ rule.OwnerPair ∷ rule.SignalOrder ∷ rule.PassWrite ∷ []
 
 -- What was found of the rules that need memory to be judged.
 pub record AreSearched (found : Searched) (past : Past) (p : Point) : Type 0 where

@@ -1,5 +1,10 @@
-use Rattle.vk_validate.proofs.Judging.Rules.{early_are}
+use Rattle.std.proofs.Common.{◌∙◌, ap}
+use Rattle.vk_order.specs.PointViews.{action_of}
+use Rattle.vk_validate.proofs.Judging.Rules.{commands_are, early_are}
 use Rattle.vk_validate.proofs.rules.rules_on.Goals as goal
+
+pub returns-in-Run : goal.returns-in-Run
+returns-in-Run c past p is = commands_are past p _ (is ∙ ap action_of c.in-Run.is)
 
 pub returns-in-Wait : goal.returns-in-Wait
 returns-in-Wait c past p is = early_are past p
